@@ -1,0 +1,8 @@
+/// A lent entry of a memtable or a file: the text of its key, and its value or, where there is none, an erasure.
+#[derive(Clone, Copy, Debug)]
+pub struct EntryRef<'a> {
+    /// The text of the key.
+    pub key: &'a [u8],
+    /// The value, or an erasure.
+    pub value: Option<&'a [u8]>,
+}
