@@ -1,0 +1,13 @@
+//! Files as numbers with bytes, and files in memory.
+#![tactic(auto)]
+
+mod files;
+mod memory;
+mod whole;
+
+pub use files::{FileFault, Files};
+pub use memory::MemFiles;
+pub use whole::read_whole;
+
+#[cfg(test)]
+mod tests;

@@ -1,0 +1,125 @@
+ghost use Rattle.std.specs.Prelude.{◌≡◌, ◌≤◌, ◌<◌, ◌+◌, ◌++◌, ◌∷◌, [], Some, Ok, length, option_map, vec_len, vec_capacity, IfErr, OnErr, OnOk, IsOk, IfOk};
+ghost use Rattle.std.specs.FinMap as map;
+ghost use Rattle.file_store.specs.Store.{Reads, bytes_of, part, with_front};
+
+use crate::files::{FileFault, Files};
+use std::alloc::Global;
+use std::collections::BTreeMap;
+use std::marker::Model;
+
+/// Files in memory. They tell their bytes, and no device of theirs fails.
+#[derive(Drop)]
+pub struct MemFiles {
+    alloc: Global,
+    files: BTreeMap<u64, Vec<u8>>,
+}
+
+impl Model for MemFiles {
+    ghost use Rattle.std.specs.Prelude.{List, ℕ};
+    ghost use Rattle.std.specs.Ordering.{nat_cmp};
+    ghost use Rattle.std.specs.FinMap as map;
+    ghost use Rattle.std.specs.Coded.{coded_ℕ, coded_list};
+    ghost use Rattle.file_store.specs.View.{contents_of};
+
+    ghost Value = { map.FinMap nat_cmp (List ℕ) };
+
+    ghost coded = { map.code coded_ℕ (coded_list coded_ℕ) };
+
+    ghost view = { λ a. contents_of a.files.entries };
+}
+
+impl MemFiles {
+    /// No files.
+    pub fn new(alloc: Global) -> MemFiles
+        ensures { result ≡ map.empty }
+    {
+        MemFiles {
+            alloc,
+            files: BTreeMap::new(alloc),
+        }
+    }
+}
+
+/// Appends a name.
+fn push_name(names: &mut Vec<u64>, name: u64)
+    requires { vec_len names.old < vec_capacity names.old }
+    ensures items { names.new.items ≡ names.old.items ++ name ∷ [] }
+    ensures len { vec_len names.new ≡ vec_len names.old + 1 }
+    ensures room { vec_capacity names.old ≤ vec_capacity names.new }
+{
+    names.push(name).unwrap();
+}
+
+impl Files for MemFiles {
+    ghost contents = { λ files. Some files };
+
+    ghost faults = { λ _. 0 };
+
+    fn put(&mut self, name: u64, bytes: &[u8]) -> Result<(), FileFault>
+        ensures ok { OnOk result (self.new ≡ map.insert self.old name bytes.now) }
+        ensures err { OnErr result (self.new ≡ self.old) }
+        ensures memory { IfErr result (λ fault. fault ≡ FileFault.Memory) }
+    {
+        let copy = Vec::from_slice(self.alloc, bytes)?;
+        let _ = self.files.insert(name, copy)?;
+        Ok(())
+    }
+
+    fn size(&mut self, name: u64) -> Result<Option<u64>, FileFault>
+        ensures size { result ≡ Ok (option_map length (map.get self.old name)) }
+        ensures same { self.new ≡ self.old }
+    {
+        match self.files.get(&name) {
+            Some(bytes) => Ok(Some(bytes.len() as u64)),
+            None => Ok(None),
+        }
+    }
+
+    fn read_at(&mut self, name: u64, offset: u64, out: &mut [u8]) -> Result<usize, FileFault>
+        ensures ok { IsOk result }
+        ensures within { IfOk result (λ n. n ≤ length out.old) }
+        ensures read { IfOk result (Reads (bytes_of self.old name) offset out.old out.new) }
+        ensures same { self.new ≡ self.old }
+    {
+        let Some(bytes) = self.files.get(&name) else {
+            return Ok(0);
+        };
+        Ok(read_into(bytes.as_slice(), offset, out))
+    }
+
+    fn list(&mut self, names: &mut Vec<u64>) -> Result<(), FileFault> {
+        names.reserve(self.files.len())?;
+        for name in self.files.keys() {
+            push_name(names, *name);
+        }
+        Ok(())
+    }
+
+    fn remove(&mut self, name: u64) -> Result<(), FileFault>
+        ensures ok { IsOk result }
+        ensures removed { self.new ≡ map.remove self.old name }
+    {
+        let _ = self.files.remove(&name);
+        Ok(())
+    }
+
+    fn faults(&self) -> u64 {
+        0
+    }
+}
+
+/// Copies what stands at an offset to the front of a buffer, and answers how much it is.
+fn read_into(file: &[u8], offset: u64, out: &mut [u8]) -> usize
+    ensures count { result ≡ length (part file.now offset (length out.old)) }
+    ensures read { out.new ≡ with_front (part file.now offset (length out.old)) out.old }
+{
+    let start = if offset < file.len() as u64 {
+        offset as usize
+    } else {
+        file.len()
+    };
+    let rest = &file[start..];
+    let len = rest.len().min(out.len());
+    out[..len].copy_from_slice(&rest[..len]);
+    len
+}

@@ -1,0 +1,65 @@
+use crate::{FileFault, Files, MemFiles, read_whole};
+use std::alloc::Global;
+use std::test::Fail;
+
+fn three_files(alloc: Global) -> Result<MemFiles, FileFault> {
+    let mut files = MemFiles::new(alloc);
+    for (name, bytes) in [(7, "seven"), (2, "two"), (9, ""), (2, "TWO!")] {
+        files.put(name, bytes.as_bytes())?;
+    }
+    Ok(files)
+}
+
+fn names_of<F: Files>(alloc: Global, files: &mut F) -> Result<Vec<u64>, FileFault> {
+    let mut names = Vec::new(alloc);
+    files.list(&mut names)?;
+    Ok(names)
+}
+
+#[test]
+fn lists_and_removes(rt: HostRuntime) -> Result<(), Fail> {
+    let mut files = three_files(rt.alloc())?;
+    let names = names_of(rt.alloc(), &mut files)?;
+    assert_eq!(rt; names.as_slice(), [2, 7, 9].as_slice());
+    files.remove(7)?;
+    files.remove(8)?;
+    let names = names_of(rt.alloc(), &mut files)?;
+    assert_eq!(rt; names.as_slice(), [2, 9].as_slice());
+    assert_eq!(rt; files.faults(), 0);
+    Ok(())
+}
+
+#[test]
+fn reads_to_the_end(rt: HostRuntime) -> Result<(), Fail> {
+    let mut files = three_files(rt.alloc())?;
+    assert_eq!(rt; files.size(2)?, Some(4));
+    assert_eq!(rt; files.size(3)?, None);
+    for (offset, len, expected) in [(0, 3, b"sev"), (3, 2, b"en-"), (5, 0, b"---")] {
+        let mut buffer = *b"---";
+        assert_eq!(rt; files.read_at(7, offset, &mut buffer)?, len);
+        assert_eq!(rt; &buffer, expected);
+    }
+    Ok(())
+}
+
+#[test]
+fn reads_a_whole_file(rt: HostRuntime) -> Result<(), Fail> {
+    let mut files = three_files(rt.alloc())?;
+    let Some(bytes) = read_whole(rt.alloc(), &mut files, 2)? else {
+        return Err(Fail::new("there is no file"));
+    };
+    assert_eq!(rt; bytes.as_slice(), b"TWO!".as_slice());
+    assert!(rt; read_whole(rt.alloc(), &mut files, 3)?.is_none());
+    Ok(())
+}
+
+#[test]
+fn tells_a_fault(rt: HostRuntime) -> Result<(), Fail> {
+    for (fault, text) in [
+        (FileFault::Device, "device failed"),
+        (FileFault::Memory, "no memory"),
+    ] {
+        assert_eq!(rt; fault.to_string(rt.alloc())?.as_str(), text);
+    }
+    Ok(())
+}

@@ -1,0 +1,18 @@
+-- What a mark store tells, and what its calls may do.
+use Rattle.std.specs.Prelude.{◌≡◌, ℕ, ◌+◌, ◌-◌, ◌≤◌, ◌^◌, ◌⊎◌, min, Option, option_map, IfSome}
+
+-- A count of faults has risen. At the greatest number it stays, and is taken as risen.
+abbrev pub HasRisen : ℕ → ℕ → Type 0
+HasRisen before now = min (before + 1) (2 ^ 64 - 1) ≤ now
+
+-- the mark once a number was stored, where the mark is told
+abbrev pub mark_after : ℕ → Option ℕ → Option ℕ
+mark_after number mark = option_map (λ _. number) mark
+
+-- the mark is the old one or this number, where it is told
+abbrev pub MayHold : ℕ → Option ℕ → Option ℕ → Type 0
+MayHold number old new = (new ≡ old) ⊎ (new ≡ mark_after number old)
+
+-- a number isn't past the mark, where the mark is told
+abbrev pub IsWithin : ℕ → Option ℕ → Type 0
+IsWithin number mark = IfSome mark (λ stored. number ≤ stored)

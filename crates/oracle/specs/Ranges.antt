@@ -1,0 +1,25 @@
+-- What an oracle holds, and the ranges from which it serves.
+use Rattle.std.specs.Prelude.{◌≡◌, ℕ, ◌+◌, ◌-◌, ◌^◌, min, ⊤}
+use Rattle.cell_key.specs.declared.refusals.Refusal.{Refusal}
+use Rattle.cell_key.specs.declared.refusals.Refusal.TheVariants.{Exhausted, Device}
+
+-- the mark store, the last stamp, and the end of the range from which stamps are served
+pub record OracleState (M : Type 0) : Type 0 where
+  pub marks : M
+  pub last : ℕ
+  pub range_end : ℕ
+
+-- a thousand more, up to the greatest stamp
+abbrev pub next_range_end : ℕ → ℕ
+next_range_end range_end = min (range_end + 1000) (2 ^ 63 - 1)
+
+-- the last stamp and the range stay, whatever the mark store does
+pub record SameNumbers {M : Type 0} (old new : OracleState M) : Type 0 where
+  pub last : new.last ≡ old.last
+  pub range_end : new.range_end ≡ old.range_end
+
+-- no more stamps, or a fault of the mark store
+abbrev pub IsDrawRefusal : Refusal → Type 0
+IsDrawRefusal Exhausted = ⊤
+IsDrawRefusal Device = ⊤
+IsDrawRefusal _ = ⊥

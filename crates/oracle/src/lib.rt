@@ -1,0 +1,13 @@
+//! Stamps that rise strictly, from ranges whose highest number is stored first.
+#![tactic(auto)]
+
+mod marks;
+mod memory;
+mod stamps;
+
+pub use marks::{MarkFault, MarkStore};
+pub use memory::MemMark;
+pub use stamps::Oracle;
+
+#[cfg(test)]
+mod tests;

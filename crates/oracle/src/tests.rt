@@ -1,0 +1,103 @@
+ghost use Rattle.std.specs.Prelude.{◌<◌, ◌^◌, Some};
+
+use crate::{MarkFault, MarkStore, MemMark, Oracle};
+use cell_key::{Refusal, Stamp};
+use std::test::Fail;
+
+/// A mark whose first `store` fails, where that is wanted.
+#[derive(Drop)]
+struct TestMark {
+    number: Stamp,
+    fails: bool,
+    failed: u64,
+    ghost limit: { number < 2 ^ 63 },
+}
+
+impl MarkStore for TestMark {
+    ghost mark = { λ store. Some store.number };
+
+    ghost faults = { λ store. store.failed };
+
+    fn load(&mut self) -> Result<Stamp, MarkFault> {
+        Ok(self.number)
+    }
+
+    fn store(&mut self, number: Stamp) -> Result<(), MarkFault> {
+        if self.fails {
+            self.fails = false;
+            self.failed = self.failed.saturating_add(1);
+            return Err(MarkFault);
+        }
+        self.number = number;
+        Ok(())
+    }
+
+    fn faults(&self) -> u64 {
+        self.failed
+    }
+}
+
+fn opened<M: MarkStore + Drop>(marks: M) -> Result<Oracle<M>, Refusal> {
+    match Oracle::open(marks) {
+        Ok(oracle) => Ok(oracle),
+        Err((refusal, _)) => Err(refusal),
+    }
+}
+
+#[test]
+fn goes_on_a_range_later_after_a_restart(rt: HostRuntime) -> Result<(), Fail> {
+    let mut oracle = opened(MemMark::new())?;
+    for (restarts, stamp) in [
+        (1, 1),
+        (2, 1_001),
+        (1, 2_001),
+        (0, 2_002),
+        (0, 2_003),
+        (1, 3_001),
+    ] {
+        for _ in 0..restarts {
+            oracle.restart()?;
+        }
+        assert_eq!(rt; oracle.draw()?, stamp);
+        assert_eq!(rt; oracle.last(), stamp);
+    }
+    Ok(())
+}
+
+#[test]
+fn serves_each_number_of_a_range(rt: HostRuntime) -> Result<(), Fail> {
+    let mut oracle = opened(MemMark::new())?;
+    for stamp in [1, 2, 3, 4] {
+        assert_eq!(rt; oracle.draw()?, stamp);
+    }
+    oracle.restart()?;
+    assert_eq!(rt; oracle.draw()?, 1_001);
+    Ok(())
+}
+
+#[test]
+fn ends_with_the_greatest_stamp(rt: HostRuntime) -> Result<(), Fail> {
+    let mut oracle = opened(TestMark {
+        number: 9_223_372_036_854_775_806,
+        fails: false,
+        failed: 0,
+    })?;
+    assert_eq!(rt; oracle.draw()?, 9_223_372_036_854_775_807);
+    assert!(rt; oracle.draw() == Err(Refusal::Exhausted));
+    assert_eq!(rt; oracle.into_mark().number, 9_223_372_036_854_775_807);
+    Ok(())
+}
+
+#[test]
+fn answers_the_same_stamp_after_a_fault(rt: HostRuntime) -> Result<(), Fail> {
+    let mut oracle = opened(TestMark {
+        number: 3,
+        fails: true,
+        failed: 0,
+    })?;
+    assert!(rt; oracle.draw() == Err(Refusal::Device));
+    assert_eq!(rt; oracle.faults(), 1);
+    assert_eq!(rt; oracle.last(), 3);
+    assert_eq!(rt; oracle.draw()?, 4);
+    Ok(())
+}

@@ -1,0 +1,5 @@
+pub mod Firsts
+pub mod Limits
+pub mod Places
+pub mod SlotLemmas
+pub mod Stamps

@@ -1,0 +1,13 @@
+-- What rows answer is determined by their cell map.
+use Rattle.std.specs.Prelude.{◌≡◌, ℕ, List, Option}
+use Rattle.cell_key.specs.Cells.{Cells, IsNewest}
+use Rattle.cell_key.specs.declared.keys.CellKey.{CellKey}
+use Rattle.row_atomic.specs.Places.{Place, IsNextCell}
+
+-- a range of stamps has one newest version
+abbrev pub OneNewest : Type 0
+OneNewest = (cells : Cells) (at : ℕ → CellKey) (lo hi : ℕ) (a b : Option (ℕ × List ℕ)) → IsNewest cells at lo hi a → IsNewest cells at lo hi b → a ≡ b
+
+-- a place has one next cell
+abbrev pub OneNextCell : Type 0
+OneNextCell = (cells : Cells) (after a b : Option Place) → IsNextCell cells after a → IsNextCell cells after b → a ≡ b

@@ -1,0 +1,43 @@
+-- Places of cells, and the next cell after a place.
+use Rattle.std.specs.Prelude.{◌≡◌, ℕ, List, Option, Some, None, IsSome, ⊤}
+use Rattle.std.specs.Borrow.{Bor}
+use Rattle.std.specs.declared.cmp.Ordering.{Ordering}
+use Rattle.std.specs.declared.cmp.Ordering.TheVariants.{Less}
+use Rattle.std.specs.Ordering.{on, then_cmp}
+use Rattle.std.specs.FinMap.{get}
+use Rattle.cell_key.specs.Keys.{byte_cmp}
+use Rattle.cell_key.specs.Cells.{Cells}
+use Rattle.cell_key.specs.declared.keys.CellKey.{CellKey}
+
+-- a row and a family
+abbrev pub Place : Type 0
+Place = List ℕ × List ℕ
+
+-- the place that a row and a family name
+abbrev pub place_named : Bor (List ℕ) × Bor (List ℕ) → Place
+place_named names = (names.0.now, names.1.now)
+
+-- where a key's cell is
+abbrev pub place_of : CellKey → Place
+place_of key = (key.row, key.family)
+
+-- the order of rows, and then of families
+abbrev pub place_cmp : Place → Place → Ordering
+place_cmp = then_cmp (on (λ (place : Place). place.0) byte_cmp) (on (λ (place : Place). place.1) byte_cmp)
+
+-- a place comes after another one, or after the start
+abbrev pub IsAfter : Option Place → Place → Type 0
+IsAfter None place = ⊤
+IsAfter (Some before) place = place_cmp before place ≡ Less
+
+-- a cell map has a key at a place
+pub record HasCell (cells : Cells) (place : Place) : Type 0 where
+  pub key : CellKey
+  pub at : place_of key ≡ place
+  pub some : IsSome (get cells key)
+
+-- found is the first place after the given one at which a cell map has any key
+abbrev pub IsNextCell : Cells → Option Place → Option Place → Type 0
+IsNextCell cells after None = (place : Place) → IsAfter after place → ¬ (HasCell cells place)
+IsNextCell cells after (Some found) =
+    IsAfter after found × HasCell cells found × ((place : Place) → IsAfter after place → place_cmp place found ≡ Less → ¬ (HasCell cells place))

@@ -1,0 +1,80 @@
+ghost use Rattle.std.specs.Prelude.{◌≡◌, ⊤};
+ghost use Rattle.std.specs.FinMap.{empty};
+
+use crate::rows::Rows;
+use crate::slots::{self, Slots};
+use cell_key::{Edit, Family, Qualifier, Refusal, Row, Stamp};
+use std::alloc::Global;
+use std::collections::BTreeMap;
+use std::marker::Model;
+
+/// Rows of cells in one ordered map in memory, which is never full and never damaged. A read looks
+/// at one entry of the map. Edits first make room for each of their keys, and an erased key leaves
+/// the map.
+#[derive(Drop)]
+pub struct PlainRows {
+    alloc: Global,
+    slots: Slots,
+}
+
+impl Model for PlainRows {
+    ghost use Rattle.cell_key.specs.Cells.{Cells, cells_code};
+    ghost use Rattle.row_atomic.specs.Slots.{cells_of, IsKept};
+
+    ghost Value = { Cells };
+
+    ghost coded = { cells_code };
+
+    ghost view = { λ rows. cells_of rows.slots.entries };
+
+    ghost invariant = { λ rows. IsKept rows.slots.entries };
+}
+
+impl PlainRows {
+    /// No rows. Takes no memory.
+    pub fn new(alloc: Global) -> PlainRows
+        ensures { result ≡ empty }
+    {
+        PlainRows {
+            alloc,
+            slots: BTreeMap::new(alloc),
+        }
+    }
+}
+
+impl Rows for PlainRows {
+    ghost cells = { λ rows. rows };
+
+    ghost holds = { λ _. ⊤ };
+
+    ghost faults = { λ _. 0 };
+
+    ghost overfills = { λ _ _ _. ⊥ };
+
+    fn newest(
+        &mut self,
+        row: &Row,
+        family: &Family,
+        qualifier: Qualifier,
+        lo: Stamp,
+        hi: Stamp,
+    ) -> Result<Option<(Stamp, Vec<u8>)>, Refusal> {
+        Ok(slots::newest(&self.slots, row, family, qualifier, lo, hi)?)
+    }
+
+    fn next_cell(
+        &mut self,
+        after: Option<(&Row, &Family)>,
+    ) -> Result<Option<(Row, Family)>, Refusal> {
+        Ok(slots::next_cell(&self.slots, after)?)
+    }
+
+    fn apply(&mut self, _row: &Row, edits: Vec<Edit>) -> Result<(), Refusal> {
+        slots::apply(self.alloc, &mut self.slots, edits)?;
+        Ok(())
+    }
+
+    fn faults(&self) -> u64 {
+        0
+    }
+}

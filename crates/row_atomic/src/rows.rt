@@ -1,0 +1,92 @@
+ghost use Rattle.std.specs.Prelude.{◌≡◌, ◌≤◌, ℕ, List, ⊤, IfOk, OnOk, OnErr, IfErr, IsErrOf, IfSome, option_map};
+ghost use Rattle.std.specs.List.{AllByRecursion};
+ghost use Rattle.cell_key.specs.Cells.{Cells, IsNewest, IsEditOf, after_edits, version};
+ghost use Rattle.cell_key.specs.declared.edits.Edit.{Edit as RowEdit};
+ghost use Rattle.row_atomic.specs.Faults.{HasRisen};
+ghost use Rattle.row_atomic.specs.Places.{IsNextCell, place_named};
+ghost use Rattle.row_atomic.specs.Refusals.{IsReadRefusal, IsApplyRefusal};
+ghost use Rattle.row_atomic.specs.Versions.{IsVersionIn, stamped};
+
+use cell_key::{Edit, Family, Qualifier, Refusal, Row, Stamp};
+
+/// Rows of cells. What is read or changed under one row is read or changed at once
+/// (Bigtable: reads and writes under a single row are atomic).
+///
+/// A read changes no cell, also where it is refused. Its refusals are `Device` where a device
+/// failed during the call, `NoMemory` where a growth was refused, and `Damaged` where bytes that
+/// were read are outside their form.
+pub trait Rows {
+    /// What they hold, however it is kept.
+    ghost cells: { Self → Cells };
+
+    /// The premise under which answers have a meaning, as that each file that is named is there
+    /// and in its form. Each call keeps it.
+    ghost holds: { Self → Type 0 };
+
+    /// How often a device has failed, up to the greatest number of eight bytes.
+    ghost faults: { Self → ℕ };
+
+    /// Whether edits of a row would pass a limit of what is kept in memory. By default nothing is
+    /// said of it.
+    ghost overfills: { Self → List ℕ → List RowEdit → Type 0 } = { λ _ _ _. ⊤ };
+
+    /// The version of a cell's column with the greatest stamp in `lo..=hi`: its stamp, from 1 to
+    /// 2^63 - 1, and its value of at most 65,536 bytes. `None` where there is none.
+    ///
+    /// # Errors
+    ///
+    /// `Device`, `NoMemory` or `Damaged`, as for every read.
+    fn newest(
+        &mut self,
+        row: &Row,
+        family: &Family,
+        qualifier: Qualifier,
+        lo: Stamp,
+        hi: Stamp,
+    ) -> Result<Option<(Stamp, Vec<u8>)>, Refusal>
+        ensures found { holds self.old → IfOk result (λ found. IsNewest (cells self.old) (version row.now family.now qualifier) lo hi (option_map stamped found)) }
+        ensures kept { holds self.old → cells self.new ≡ cells self.old }
+        ensures still { holds self.old → holds self.new }
+        ensures undamaged { holds self.old → ¬ (IsErrOf result Refusal.Damaged) }
+        ensures limits { IfOk result (λ found. IfSome (option_map stamped found) (IsVersionIn lo hi)) }
+        ensures refusal { IfErr result IsReadRefusal }
+        ensures device { IsErrOf result Refusal.Device → HasRisen (faults self.old) (faults self.new) }
+        ensures later { faults self.old ≤ faults self.new };
+
+    /// The next cell that has any key, in the order of rows and then of families, after the cell
+    /// of `after`, or from the start where that is `None`. `None` where no cell is left.
+    ///
+    /// # Errors
+    ///
+    /// `Device`, `NoMemory` or `Damaged`, as for every read.
+    fn next_cell(
+        &mut self,
+        after: Option<(&Row, &Family)>,
+    ) -> Result<Option<(Row, Family)>, Refusal>
+        ensures found { holds self.old → IfOk result (λ found. IsNextCell (cells self.old) (option_map place_named after.entry) found) }
+        ensures kept { holds self.old → cells self.new ≡ cells self.old }
+        ensures still { holds self.old → holds self.new }
+        ensures undamaged { holds self.old → ¬ (IsErrOf result Refusal.Damaged) }
+        ensures refusal { IfErr result IsReadRefusal }
+        ensures device { IsErrOf result Refusal.Device → HasRisen (faults self.old) (faults self.new) }
+        ensures later { faults self.old ≤ faults self.new };
+
+    /// Makes edits under one row in order, all of them or none. No device is touched.
+    ///
+    /// # Errors
+    ///
+    /// `MemtableFull` where a limit of what is kept in memory would be passed, and `NoMemory` where a
+    /// growth was refused. The cells are then as before.
+    fn apply(&mut self, row: &Row, edits: Vec<Edit>) -> Result<(), Refusal>
+        requires { AllByRecursion (IsEditOf row.now) edits.items }
+        ensures ok { holds self.old → OnOk result (cells self.new ≡ after_edits (cells self.old) edits.items) }
+        ensures err { holds self.old → OnErr result (cells self.new ≡ cells self.old) }
+        ensures still { holds self.old → holds self.new }
+        ensures refusal { IfErr result IsApplyRefusal }
+        ensures full { IsErrOf result Refusal.MemtableFull → overfills self.old row.now edits.items }
+        ensures untouched { faults self.new ≡ faults self.old };
+
+    /// How often a device has failed. A count of 2^64 - 1 stays.
+    fn faults(&self) -> u64
+        ensures { result ≡ faults self.now };
+}

@@ -1,0 +1,223 @@
+//! Slots of cells. A slot is empty only within `apply`, which makes room before it changes a cell.
+
+ghost use Rattle.std.specs.Prelude.{◌≡◌, ◌≢◌, ◌≤◌, ℕ, IsSome, OnOk, OnErr, IfOk, option_map, map, List, ◌∷◌, Some, None};
+ghost use Rattle.std.specs.List.{All, AllByRecursion};
+ghost use Rattle.std.specs.BTreeMap.{Updates};
+ghost use Rattle.std.specs.BTreeMap.Range.{IsLeBy, IsLtBy};
+ghost use Rattle.std.specs.Range.Bound.{IsForward};
+ghost use Rattle.std.specs.declared.ops.Bound.TheVariants.{Unbounded};
+ghost use Rattle.cell_key.specs.Keys.{key_cmp};
+ghost use Rattle.cell_key.specs.Cells.{after_edit, after_edits, edited_key, IsNewest, version};
+ghost use Rattle.cell_key.specs.declared.keys.CellKey.{CellKey as Key};
+ghost use Rattle.row_atomic.specs.Places.{IsNextCell, place_named};
+ghost use Rattle.row_atomic.specs.Versions.{stamped};
+ghost use Rattle.row_atomic.specs.Slots.{cells_of, slot_at, keyed, HasSlot, KeepsSlots, EmptiesNone, IsFull, IsFullBut, IsFirst, past, HasEdited};
+
+use cell_key::{CellKey, Edit, Family, Qualifier, Row, Stamp};
+use std::alloc::{AllocError, Global};
+use std::collections::BTreeMap;
+use std::ops::Bound;
+
+pub(crate) type Slots = BTreeMap<CellKey, Option<Vec<u8>>>;
+
+/// The first key from one bound to the other, with its value.
+fn first(slots: &Slots, from: Bound<CellKey>, to: Bound<CellKey>) -> Option<(&CellKey, &Vec<u8>)>
+    requires full { IsFull slots.now.entries }
+    requires forward { IsForward (IsLeBy key_cmp) (IsLtBy key_cmp) from to }
+    ensures { IsFirst (cells_of slots.now.entries) from to (option_map keyed result) }
+{
+    let (key, slot) = slots.range((from, to)).next()?;
+    let value = slot.as_ref()?;
+    Some((key, value))
+}
+
+/// The key of a version.
+fn version_key(
+    row: &Row,
+    family: &Family,
+    qualifier: Qualifier,
+    stamp: Stamp,
+) -> Result<CellKey, AllocError>
+    ensures { IfOk result (λ key. key ≡ version row.now family.now qualifier stamp) }
+{
+    Ok(CellKey {
+        row: row.clone()?,
+        family: family.clone()?,
+        qualifier,
+        stamp,
+    })
+}
+
+/// The version of a cell's column with the greatest stamp in `lo..=hi`.
+pub(crate) fn newest(
+    slots: &Slots,
+    row: &Row,
+    family: &Family,
+    qualifier: Qualifier,
+    lo: Stamp,
+    hi: Stamp,
+) -> Result<Option<(Stamp, Vec<u8>)>, AllocError>
+    requires { IsFull slots.now.entries }
+    ensures { IfOk result (λ found. IsNewest (cells_of slots.now.entries) (version row.now family.now qualifier) lo hi (option_map stamped found)) }
+{
+    if hi < lo {
+        return Ok(None);
+    }
+    let from = version_key(row, family, qualifier, hi)?;
+    let to = version_key(row, family, qualifier, lo)?;
+    match first(slots, Bound::Included(from), Bound::Included(to)) {
+        Some((key, value)) => Ok(Some((key.stamp, value.clone()?))),
+        None => Ok(None),
+    }
+}
+
+/// Where the keys after a place begin.
+fn start_after(after: Option<(&Row, &Family)>) -> Result<Bound<CellKey>, AllocError>
+    ensures { IfOk result (λ from. from ≡ past (option_map place_named after.entry)) }
+{
+    match after {
+        Some((row, family)) => {
+            let last = version_key(row, family, Qualifier::Write, 0)?;
+            Ok(Bound::Excluded(last))
+        }
+        None => Ok(Bound::Unbounded),
+    }
+}
+
+/// The next cell after a place.
+pub(crate) fn next_cell(
+    slots: &Slots,
+    after: Option<(&Row, &Family)>,
+) -> Result<Option<(Row, Family)>, AllocError>
+    requires { IsFull slots.now.entries }
+    ensures { IfOk result (λ found. IsNextCell (cells_of slots.now.entries) (option_map place_named after.entry) found) }
+{
+    let from = start_after(after)?;
+    match first(slots, from, Bound::Unbounded) {
+        Some((key, _)) => Ok(Some((key.row.clone()?, key.family.clone()?))),
+        None => Ok(None),
+    }
+}
+
+/// The key of an edit.
+fn key_of(edit: &Edit) -> &CellKey
+    ensures { result.now ≡ edited_key edit.now }
+{
+    match edit {
+        Edit::Put(key, _) => key,
+        Edit::Erase(key) => key,
+    }
+}
+
+/// The keys of edits.
+fn keys_of(alloc: Global, edits: &[Edit]) -> Result<Vec<CellKey>, AllocError>
+    ensures { IfOk result (λ keys. keys.items ≡ map edited_key edits.now) }
+{
+    let mut keys = Vec::with_capacity(alloc, edits.len())?;
+    for edit in edits {
+        let key = key_of(edit).clone()?;
+        keys.push(key)?;
+    }
+    Ok(keys)
+}
+
+/// Makes a slot for the key, an empty one where it has none.
+fn make_slot(slots: &mut Slots, key: &CellKey) -> Result<(), AllocError>
+    ensures same { cells_of slots.new.entries ≡ cells_of slots.old.entries }
+    ensures kept { KeepsSlots slots.old.entries slots.new.entries }
+    ensures slot { OnOk result (HasSlot slots.new.entries key.now) }
+    ensures empties { EmptiesNone (λ q. key.now ≢ q) slots.old.entries slots.new.entries }
+{
+    if !slots.contains_key(key) {
+        slots.insert(key.clone()?, None)?;
+    }
+    Ok(())
+}
+
+/// Makes a slot for each key.
+fn make_slots(slots: &mut Slots, keys: &[CellKey]) -> Result<(), AllocError>
+    ensures same { cells_of slots.new.entries ≡ cells_of slots.old.entries }
+    ensures slots { OnOk result (All (HasSlot slots.new.entries) keys.now) }
+    ensures empties { EmptiesNone (λ q. All (λ key. key ≢ q) keys.now) slots.old.entries slots.new.entries }
+{
+    for key in keys {
+        make_slot(slots, key)?;
+    }
+    Ok(())
+}
+
+/// Fills or empties the slot of a key that has one.
+fn set_slot(slots: &mut Slots, key: CellKey, content: Option<Vec<u8>>)
+    requires { HasSlot slots.old.entries key }
+    ensures set { Updates key_cmp slots.old slots.new key (Some content) }
+{
+    let written: Result<_, _> = slots.insert(key, content);
+    let _before = written.unwrap();
+}
+
+/// Makes an edit, whose key has a slot.
+fn write(slots: &mut Slots, edit: Edit)
+    requires { HasSlot slots.old.entries (edited_key edit) }
+    ensures cells { cells_of slots.new.entries ≡ after_edit (cells_of slots.old.entries) edit }
+    ensures kept { KeepsSlots slots.old.entries slots.new.entries }
+    ensures empties { EmptiesNone (λ q. edited_key edit ≢ q) slots.old.entries slots.new.entries }
+{
+    match edit {
+        Edit::Put(key, value) => set_slot(slots, key, Some(value)),
+        Edit::Erase(key) => set_slot(slots, key, None),
+    }
+}
+
+/// Makes edits in order. Each of their keys has a slot.
+fn write_all(slots: &mut Slots, edits: Vec<Edit>)
+    requires { AllByRecursion (HasEdited slots.old.entries) edits.items }
+    ensures cells { cells_of slots.new.entries ≡ after_edits (cells_of slots.old.entries) edits.items }
+    ensures empties { EmptiesNone (λ q. AllByRecursion (λ edit. edited_key edit ≢ q) edits.items) slots.old.entries slots.new.entries }
+{
+    for edit in edits {
+        write(slots, edit);
+    }
+}
+
+/// Frees the slot of a key, if it is empty.
+fn drop_empty(slots: &mut Slots, key: &CellKey)
+    ensures same { cells_of slots.new.entries ≡ cells_of slots.old.entries }
+    ensures empties { (keys : List Key) → IsFullBut (key.now ∷ keys) slots.old.entries → IsFullBut keys slots.new.entries }
+{
+    let is_empty = slots.get(key).is_some_and(|slot| slot.is_none());
+    if is_empty {
+        slots.remove(key);
+    }
+}
+
+/// Frees the empty slots, all of which are at these keys.
+fn drop_empties(slots: &mut Slots, keys: Vec<CellKey>)
+    requires { IsFullBut keys.items slots.old.entries }
+    ensures same { cells_of slots.new.entries ≡ cells_of slots.old.entries }
+    ensures full { IsFull slots.new.entries }
+{
+    for key in keys {
+        drop_empty(slots, &key);
+    }
+}
+
+/// Makes edits in order, all of them or none.
+pub(crate) fn apply(alloc: Global, slots: &mut Slots, edits: Vec<Edit>) -> Result<(), AllocError>
+    requires { IsFull slots.old.entries }
+    ensures ok { OnOk result (cells_of slots.new.entries ≡ after_edits (cells_of slots.old.entries) edits.items) }
+    ensures err { OnErr result (cells_of slots.new.entries ≡ cells_of slots.old.entries) }
+    ensures full { IsFull slots.new.entries }
+{
+    let keys = keys_of(alloc, &edits)?;
+    match make_slots(slots, &keys) {
+        Ok(()) => {
+            write_all(slots, edits);
+            drop_empties(slots, keys);
+            Ok(())
+        }
+        Err(error) => {
+            drop_empties(slots, keys);
+            Err(error)
+        }
+    }
+}

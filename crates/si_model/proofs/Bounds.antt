@@ -1,0 +1,165 @@
+-- The bounds of a reached state's numbers.
+use Rattle.std.proofs.Common.{◌≡◌, ℕ, ◌+◌, ◌<◌, ◌≤◌, Bool, true, false, cond, List, [], length, Some, inl, inr, sym, ap, subst, ◌∙◌, arith, refl}
+use Rattle.std.specs.Prelude.{nat_eq}
+use Rattle.std.specs.Ordering.{nat_cmp}
+use Rattle.std.specs.FinMap.{get, insert, remove, len, empty, get-empty, len-empty}
+use Rattle.std.proofs.Math.Nat.{le_trans}
+use Rattle.std.proofs.lemmas.Bool.{cases_eq, cases_lt}
+use Rattle.std.proofs.lemmas.Bool.Decides.{nat_tests}
+use Rattle.std.proofs.lemmas.Option.{none-some, slice_get_within}
+use Rattle.cell_key.specs.declared.refusals.Refusal.TheVariants.{TooManyWrites, TooManySessions}
+use Rattle.si_model.specs.Machine.{State, Value, Phase, Open, Holding, Stamped, Finishing, Request, Reply, Begin, Set, InPhase, Writes, Wrote, Sets, finishing, most_sessions, most_writes, end_of_stamps, IsAcceptable}
+use Rattle.si_model.specs.declared.replies.Cell.{Cell}
+use Rattle.si_model.specs.Refusing.{begin_full, set_full}
+use Rattle.si_model.specs.Machine.{Acts, tells, begins, reads, sets, holds, conflicts, draws, loses, commits, finishes, stops, opens, kills, learns, rolls_forward, rolls_back, finds_gone, collects, has_collected, splits, moves_tablet, Step, refuses, accepts}
+use Rattle.si_model.specs.Machine.{Run, rests, goes_on, IsReached, begins_new, runs, reopens, new_machine}
+use Rattle.si_model.specs.Laws.{Fits, Bounds}
+use Rattle.si_model.proofs.Tools.{get_other, each_insert, each_remove, same_entry, set_length, len_grows, len_stays, len_falls}
+use Rattle.si_model.proofs.Invariant.{Sound}
+use Rattle.si_model.proofs.Kept.{held_phase}
+use Rattle.si_model.proofs.Steps.{acts_sound, step_sound, reached_sound}
+
+-- a session goes on to a phase that fits
+goes_fit : (st : State) (t : ℕ) (p : Phase) (ws : Writes) → Wrote st t ws → Fits p (length ws) → Bounds st → (u : ℕ) (q : Phase) → get (insert st.active t p) u ≡ Some q → (vs : Writes) → Wrote st u vs → Fits q (length vs)
+goes_fit st t p ws w fit b = each_insert st.active t (λ u q. (vs : Writes) → Wrote st u vs → Fits q (length vs)) p
+    (λ vs w'. subst (λ (vs : Writes). Fits p (length vs)) (same_entry st.begun t ws vs w w') fit) (λ u q ne h. b.fits u q h)
+
+ends_fit : (st : State) (t : ℕ) → Bounds st → (u : ℕ) (q : Phase) → get (remove st.active t) u ≡ Some q → (vs : Writes) → Wrote st u vs → Fits q (length vs)
+ends_fit st t b = each_remove st.active t (λ u q. (vs : Writes) → Wrote st u vs → Fits q (length vs)) (λ u q ne h. b.fits u q h)
+
+late_fit : (st : State) (t c k : ℕ) (ws : Writes) → Wrote st t ws → 1 ≤ k → k ≤ length ws → Bounds st → (u : ℕ) (q : Phase) → get (finishing st.active t c k (length ws)) u ≡ Some q → (vs : Writes) → Wrote st u vs → Fits q (length vs)
+late_fit st t c k ws w some few b = by (nat_eq k (length ws)) refl
+  where
+    by : (last : Bool) → nat_eq k (length ws) ≡ last → (u : ℕ) (q : Phase) → get (cond last (remove st.active t) (insert st.active t (Finishing c k))) u ≡ Some q → (vs : Writes) → Wrote st u vs → Fits q (length vs)
+    by true e = ends_fit st t b
+    by false e = goes_fit st t (Finishing c k) ws w (some, grind (arith, nat_tests, e)) b
+
+-- the number of sessions
+goes_few : (st : State) (t : ℕ) (p p' : Phase) → InPhase st t p → Bounds st → len (insert st.active t p') ≤ most_sessions
+goes_few st t p p' h b = subst (λ n. n ≤ most_sessions) (sym (len_stays st.active t p' p h)) b.few_sessions
+
+ends_few : (st : State) (t : ℕ) → Bounds st → len (remove st.active t) ≤ most_sessions
+ends_few st t b = le_trans (len_falls st.active t) b.few_sessions
+
+late_few : (st : State) (t c k n : ℕ) (p : Phase) → InPhase st t p → Bounds st → len (finishing st.active t c k n) ≤ most_sessions
+late_few st t c k n p h b = elim (nat_eq k n) as (λ d. len (cond d (remove st.active t) (insert st.active t (Finishing c k))) ≤ most_sessions) [
+  | true ↦ ends_few st t b
+  | false ↦ goes_few st t p (Finishing c k) h b
+]
+
+begins_few : (st : State) (s : ℕ) → IsAcceptable st Begin → len (insert st.active s Open) ≤ most_sessions
+begins_few st s ok = elim (cases_lt (len st.active) most_sessions) [
+  | inl room ↦ let more = len_grows st.active s Open in omega arith
+  | inr full ↦ absurd (ok TooManySessions (begin_full full))
+]
+
+-- the number of writes
+sets_few : (st : State) (s : ℕ) (x : Cell) (v : Value) (ws ws' : Writes) → IsAcceptable st (Set s x v) → Wrote st s ws → Sets x v ws ws' → length ws ≤ most_writes → length ws' ≤ most_writes
+sets_few st s x v ws ws' ok w by few = elim (set_length by) [
+  | inl same ↦ omega arith
+  | inr (none, more) ↦ elim (cases_lt (length ws) most_writes) [
+    | inl room ↦ omega arith
+    | inr full ↦ absurd (ok TooManyWrites (set_full w none full))
+  ]
+]
+
+-- a step that begins nothing and sets nothing
+kept_bounds : {st st' : State} → Sound st' → Bounds st → st'.begun ≡ st.begun → st'.top < end_of_stamps → len st'.active ≤ most_sessions
+    → ((t : ℕ) (p : Phase) → InPhase st' t p → (ws : Writes) → Wrote st t ws → Fits p (length ws)) → Bounds st'
+kept_bounds {st} {st'} i b same top few fits = record {
+  top = top;
+  start_from = λ t ws w. b.start_from t ws (before t ws w);
+  start_to = λ t ws w. b.start_to t ws (before t ws w);
+  few_writes = λ t ws w. b.few_writes t ws (before t ws w);
+  has_begun = i.has_begun;
+  few_sessions = few;
+  fits = λ t p h ws w. fits t p h ws (before t ws w);
+}
+  where
+    before : (t : ℕ) (ws : Writes) → Wrote st' t ws → Wrote st t ws
+    before t ws w = ap (λ m. get m t) (sym same) ∙ w
+
+acts_bounds : {st st' : State} {q : Request} {r : Reply} → Sound st → Bounds st → IsAcceptable st q → Acts st q r st' → Bounds st'
+acts_bounds i b ok (tells t) = b
+acts_bounds {st} i b ok (begins {s = s} d) = record {
+  top = d.1;
+  start_from = each_insert st.begun s (λ t ws. 1 ≤ t) [] (let new = d.0 in omega arith) (λ t ws ne w. b.start_from t ws w);
+  start_to = each_insert st.begun s (λ t ws. t < end_of_stamps) [] d.1 (λ t ws ne w. b.start_to t ws w);
+  few_writes = each_insert st.begun s (λ t ws. length ws ≤ most_writes) [] (omega arith) (λ t ws ne w. b.few_writes t ws w);
+  has_begun = (acts_sound i (begins d)).has_begun;
+  few_sessions = begins_few st s ok;
+  fits = each_insert st.active s (λ u q. (vs : Writes) → get (insert st.begun s []) u ≡ Some vs → Fits q (length vs)) Open (λ vs w. tt)
+      (λ u q ne h vs w. b.fits u q h vs (sym (get_other st.begun s [] u ne) ∙ w));
+}
+acts_bounds {st} i b ok (sets {s = s} {x = x} {v = v} {ws = ws} {ws' = ws'} h w by) = record {
+  top = b.top;
+  start_from = each_insert st.begun s (λ t ws. 1 ≤ t) ws' (b.start_from s ws w) (λ t ws ne w. b.start_from t ws w);
+  start_to = each_insert st.begun s (λ t ws. t < end_of_stamps) ws' (b.start_to s ws w) (λ t ws ne w. b.start_to t ws w);
+  few_writes = each_insert st.begun s (λ t ws. length ws ≤ most_writes) ws' (sets_few st s x v ws ws' ok w by (b.few_writes s ws w)) (λ t ws ne w. b.few_writes t ws w);
+  has_begun = (acts_sound i (sets {x = x} {v = v} h w by)).has_begun;
+  few_sessions = b.few_sessions;
+  fits = λ u q h' vs w. elim (cases_eq u s) [
+    | inl e ↦ subst (λ (p : Phase). Fits p (length vs)) (same_entry st.active u Open q (subst (λ v. InPhase st v Open) (sym e) h) h') tt
+    | inr ne ↦ b.fits u q h' vs (sym (get_other st.begun s ws' u ne) ∙ w)
+  ];
+}
+acts_bounds {st} {st'} i b ok (holds {t = t} {k = k} {ws = ws} {x = x} {v = v} h w puts free) =
+    let s : Acts st _ _ st' = holds h w puts free in
+    let hp = held_phase st t k h in
+    let within = slice_get_within ws k (x, v) puts in
+    kept_bounds (acts_sound i s) b refl b.top (goes_few st t hp.p (Holding (k + 1)) hp.is b) (goes_fit st t (Holding (k + 1)) ws w (omega arith, omega arith) b)
+acts_bounds {st} {st'} i b ok (draws {t = t} {c = c} {ws = ws} h w d) =
+    let s : Acts st _ _ st' = draws h w d in
+    kept_bounds (acts_sound i s) b refl d.1 (goes_few st t (Holding (length ws)) (Stamped c) h b) (goes_fit st t (Stamped c) ws w (b.fits t (Holding (length ws)) h ws w).0 b)
+acts_bounds {st} {st'} i b ok (commits {t = t} {c = c} {ws = ws} h alive w puts less) =
+    let s : Acts st _ _ st' = commits h alive w puts less in
+    kept_bounds (acts_sound i s) b refl b.top (late_few st t c 1 (length ws) (Stamped c) h b) (late_fit st t c 1 ws w (omega arith) (b.fits t (Stamped c) h ws w) b)
+acts_bounds {st} {st'} i b ok (finishes {t = t} {c = c} {k = k} {ws = ws} h w puts less) =
+    let s : Acts st _ _ st' = finishes h w puts less in
+    let fit = (b.fits t (Finishing c k) h ws w).1 in
+    kept_bounds (acts_sound i s) b refl b.top (late_few st t c (k + 1) (length ws) (Finishing c k) h b) (late_fit st t c (k + 1) ws w (omega arith) (omega arith) b)
+acts_bounds {st} {st'} i b ok (conflicts {t = t} h w puts clash) = let s : Acts st _ _ st' = conflicts h w puts clash in kept_bounds (acts_sound i s) b refl b.top (ends_few st t b) (ends_fit st t b)
+acts_bounds {st} {st'} i b ok (loses {t = t} h d) = let s : Acts st _ _ st' = loses h d in kept_bounds (acts_sound i s) b refl b.top (ends_few st t b) (ends_fit st t b)
+acts_bounds {st} {st'} i b ok (stops {t = t} h) = let s : Acts st _ _ st' = stops h in kept_bounds (acts_sound i s) b refl b.top (ends_few st t b) (ends_fit st t b)
+acts_bounds {st} {st'} i b ok (reads h none shown) = let s : Acts st _ _ st' = reads h none shown in kept_bounds (acts_sound i s) b refl b.top b.few_sessions b.fits
+acts_bounds {st} {st'} i b ok (opens m room) = let s : Acts st _ _ st' = opens m room in kept_bounds (acts_sound i s) b refl b.top b.few_sessions b.fits
+acts_bounds {st} {st'} i b ok (kills is nc alive w puts less) = let s : Acts st _ _ st' = kills is nc alive w puts less in kept_bounds (acts_sound i s) b refl b.top b.few_sessions b.fits
+acts_bounds {st} {st'} i b ok (learns is fate) = let s : Acts st _ _ st' = learns is fate in kept_bounds (acts_sound i s) b refl b.top b.few_sessions b.fits
+acts_bounds {st} {st'} i b ok (rolls_forward is m committed less) = let s : Acts st _ _ st' = rolls_forward is m committed less in kept_bounds (acts_sound i s) b refl b.top b.few_sessions b.fits
+acts_bounds {st} {st'} i b ok (rolls_back is m nc less) = let s : Acts st _ _ st' = rolls_back is m nc less in kept_bounds (acts_sound i s) b refl b.top b.few_sessions b.fits
+acts_bounds {st} {st'} i b ok (finds_gone is m) = let s : Acts st _ _ st' = finds_gone is m in kept_bounds (acts_sound i s) b refl b.top b.few_sessions b.fits
+acts_bounds {st} {st'} i b ok (collects is_floor room) = let s : Acts st _ _ st' = collects is_floor room in kept_bounds (acts_sound i s) b refl b.top b.few_sessions b.fits
+acts_bounds {st} {st'} i b ok (has_collected {n = n} h none) = let s : Acts st _ _ st' = has_collected {n = n} h none in kept_bounds (acts_sound i s) b refl b.top b.few_sessions b.fits
+acts_bounds {st} {st'} i b ok (splits cut) = let s : Acts st _ _ st' = splits cut in kept_bounds (acts_sound i s) b refl b.top b.few_sessions b.fits
+acts_bounds {st} {st'} i b ok (moves_tablet is_moved) = let s : Acts st _ _ st' = moves_tablet is_moved in kept_bounds (acts_sound i s) b refl b.top b.few_sessions b.fits
+
+step_bounds : {st st' : State} {q : Request} {r : Reply} → Sound st → Bounds st → Step st q r st' → Bounds st'
+step_bounds i b (refuses n) = b
+step_bounds i b (accepts ok a) = acts_bounds i b ok a
+
+run_bounds : {st st' : State} {qs : List Request} {rs : List Reply} → Sound st → Bounds st → Run st qs rs st' → Bounds st'
+run_bounds i b rests = b
+run_bounds i b (goes_on s r) = run_bounds (step_sound i s) (step_bounds i b s) r
+
+none_active : (len (empty {X = Phase} {R = nat_cmp})) ≤ most_sessions
+none_active = subst (λ n. n ≤ most_sessions) (sym (len-empty nat_cmp Phase)) (omega arith)
+
+nothing : {X : Type 0} (v : X) (k : ℕ) → get (empty {X = X} {R = nat_cmp}) k ≡ Some v → ⊥
+nothing v k h = none-some v (sym (get-empty nat_cmp k) ∙ h)
+
+new_bounds : Bounds new_machine
+new_bounds = record {
+  top = omega arith;
+  start_from = λ t ws w. absurd (nothing ws t w);
+  start_to = λ t ws w. absurd (nothing ws t w);
+  few_writes = λ t ws w. absurd (nothing ws t w);
+  has_begun = λ t p h. absurd (nothing p t h);
+  few_sessions = none_active;
+  fits = λ t p h. absurd (nothing p t h);
+}
+
+pub reached_bounds : {st : State} → IsReached st → Bounds st
+reached_bounds begins_new = new_bounds
+reached_bounds (runs r run) = run_bounds (reached_sound r) (reached_bounds r) run
+reached_bounds (reopens r) =
+    kept_bounds (reached_sound (reopens r)) (reached_bounds r) refl (reached_bounds r).top none_active (λ t p h. absurd (nothing p t h))

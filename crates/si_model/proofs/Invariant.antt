@@ -1,0 +1,79 @@
+-- What holds of every reached state.
+use Rattle.std.proofs.Common.{◌≡◌, ◌≢◌, ℕ, ◌<◌, ◌≤◌, true, List, [], ◌∷◌, Some, ◌⊎◌}
+use Rattle.std.specs.FinMap.{get}
+use Rattle.si_model.specs.Sets.{◌∈◌}
+use Rattle.si_model.specs.Machine.{State, Value, Writes, Phase, Open, Holding, Stamped, Finishing, Commit, Read, Cleaner, InPhase, Wrote, Marked, Puts, Names, IsDead, CommittedAt, IsCommitted}
+use Rattle.si_model.specs.declared.replies.Cell.{Cell}
+use Rattle.si_model.specs.Laws.{IsSettled, FirstCommitterWins, OneMark}
+use Rattle.si_model.proofs.Tools.{CellsDiffer}
+
+-- the session has yet to commit
+abbrev pub IsLive : Phase → Type 0
+IsLive (Finishing c k) = ⊥
+IsLive p = Unit {0}
+
+-- the session has gone past its k-th cell
+abbrev pub Past : Phase → ℕ → Type 0
+Past Open k = ⊥
+Past (Holding n) k = k < n
+Past (Stamped c) k = Unit {0}
+Past (Finishing c n) k = Unit {0}
+
+-- t has had its chance to mark x, and never marks it again
+pub record Placed (st : State) (x : Cell) (t : ℕ) : Type 0 where
+  pub ws : Writes
+  pub k : ℕ
+  pub v : Value
+  pub wrote : Wrote st t ws
+  pub puts : Puts ws k x v
+  pub past : (p : Phase) → InPhase st t p → Past p k
+
+-- c is the commit stamp that t alone has drawn
+pub record IsOwn (st : State) (t c : ℕ) : Type 0 where
+  pub later : t < c
+  pub low : c ≤ st.top
+  pub no_start : (u : ℕ) (ws : Writes) → Wrote st u ws → u ≢ c
+  pub no_commit : (a : Commit) → a ∈ st.commits → a.stamp ≢ c
+  pub no_other : (u : ℕ) → InPhase st u (Stamped c) → u ≡ t
+
+pub record IsFair (st : State) (a : Commit) : Type 0 where
+  pub wrote : Wrote st a.start a.writes
+  pub later : a.start < a.stamp
+  pub low : a.stamp ≤ st.top
+  pub no_start : (u : ℕ) (ws : Writes) → Wrote st u ws → u ≢ a.stamp
+
+abbrev pub StartsDiffer : List Commit → Type 0
+StartsDiffer [] = Unit {0}
+StartsDiffer (a ∷ rest) = ((b : Commit) → b ∈ rest → b.start ≢ a.start) × StartsDiffer rest
+
+pub record Sound (st : State) : Type 0 where
+  -- starts
+  pub start_low : (t : ℕ) (ws : Writes) → Wrote st t ws → t ≤ st.top
+  pub cells_differ : (t : ℕ) (ws : Writes) → Wrote st t ws → CellsDiffer ws
+  -- sessions
+  pub has_begun : (t : ℕ) (p : Phase) → InPhase st t p → (ws : Writes) × Wrote st t ws
+  pub uncommitted : (t : ℕ) (p : Phase) → InPhase st t p → IsLive p → (a : Commit) → a ∈ st.commits → a.start ≢ t
+  -- the marks of a live session stand, unless it is dead
+  pub stands : (t : ℕ) (p : Phase) → InPhase st t p → IsLive p → (ws : Writes) → Wrote st t ws
+      → IsDead st t ⊎ ((k : ℕ) (x : Cell) (v : Value) → Puts ws k x v → Past p k → Marked st x t)
+  pub drawn : (t : ℕ) (p : Phase) → InPhase st t p → (c : ℕ) → p ≡ Stamped c → IsOwn st t c
+  pub finishes : (t : ℕ) (p : Phase) → InPhase st t p → (c k : ℕ) → p ≡ Finishing c k → CommittedAt st t c
+  -- marks
+  pub placed : (x : Cell) (t : ℕ) → Marked st x t → Placed st x t
+  pub one_mark : OneMark st
+  -- a mark is younger than each commit of its cell, its own aside
+  pub younger : (x : Cell) (t : ℕ) → Marked st x t → (a : Commit) → a ∈ st.commits → a.start ≢ t → Names a.writes x → a.stamp < t
+  -- commits
+  pub fair : (a : Commit) → a ∈ st.commits → IsFair st a
+  pub starts_differ : StartsDiffer st.commits
+  pub stamps_differ : (a b : Commit) → a ∈ st.commits → b ∈ st.commits → a.stamp ≡ b.stamp → a.start ≡ b.start
+  pub not_dead : (a : Commit) → a ∈ st.commits → ¬ IsDead st a.start
+  pub first_committer : FirstCommitterWins st
+  -- reads
+  pub read_low : (r : Read) → r ∈ st.reads → r.start ≤ st.top
+  pub settled : IsSettled st
+  -- what has drawn its stamp below a read and writes its cell never commits
+  pub unread : (r : Read) → r ∈ st.reads → (t : ℕ) (p : Phase) → InPhase st t p → (c : ℕ) → p ≡ Stamped c → (ws : Writes) → Wrote st t ws
+      → Names ws r.cell → c ≤ r.start → IsDead st t
+  -- cleaners
+  pub decided : (i : ℕ) (k : Cleaner) → get st.cleaners i ≡ Some k → k.decided ≡ true → IsCommitted st k.start ⊎ IsDead st k.start

@@ -1,0 +1,23 @@
+pub mod Tools
+pub mod Invariant
+pub mod Kept
+pub mod Snapshots
+pub mod Steps
+pub mod Gone
+pub mod Floors
+pub mod Refusals
+pub mod Fates
+pub mod Without
+pub mod Goes
+pub mod Bounds
+pub mod Numbers
+pub mod Acceptable
+pub mod FirstRefusals
+pub mod Told
+pub mod Decided
+pub mod Stuck
+mod Scripts
+mod Transfers
+mod Races
+mod Cleaned
+mod Placing

@@ -1,0 +1,5 @@
+use Rattle.si_model.proofs.Goes.{goes}
+use Rattle.si_model.proofs.laws.goes_on.Goals as goal
+
+pub returns : goal.returns
+returns c = λ st next q r reached s. goes reached s

@@ -1,0 +1,90 @@
+//! The laws of the machine. Each is a call that does nothing: its contract is the law.
+
+ghost use Rattle.si_model.specs.Laws.{Bounds, ClearsItsFloor, CommitSeen, FateSeen, FirstCommitterWins, Goes, GoneForGood, IsNeverStuck, IsSettled, Numbers, OneFate, OneMark, OneSnapshot, RefusesFirst, StartsLow, StaysCleared, TellsFate};
+ghost use Rattle.si_model.specs.Machine.{IsReached, Reply, Request, State, Step};
+
+/// Each answered value is the last one committed by its session's start, in the commits as they are now.
+pub fn settled()
+    ensures { (st : State) → IsReached st → IsSettled st }
+{}
+
+/// No two commits of one cell overlap.
+pub fn first_committer()
+    ensures { (st : State) → IsReached st → FirstCommitterWins st }
+{}
+
+/// No start is both dead and committed, or committed twice.
+pub fn one_fate()
+    ensures { (st : State) → IsReached st → OneFate st }
+{}
+
+/// A cell has at most one mark.
+pub fn one_mark()
+    ensures { (st : State) → IsReached st → OneMark st }
+{}
+
+/// A mark that left never comes back in the same run.
+pub fn gone_for_good()
+    ensures { (st : State) → IsReached st → GoneForGood st }
+{}
+
+/// A cell has one snapshot at a stamp.
+pub fn one_snapshot()
+    ensures { (st : State) → IsReached st → OneSnapshot st }
+{}
+
+/// Where a refusal is the first that applies, the reply is that one or one of the store, and the state stays.
+pub fn refuses_first()
+    ensures { (st : State) → RefusesFirst st }
+{}
+
+/// No session began above the top.
+pub fn starts_low()
+    ensures { (st : State) → IsReached st → StartsLow st }
+{}
+
+/// A session with its stamp may commit exactly if the mark of its first cell stands.
+pub fn commit_seen()
+    ensures { (st : State) → IsReached st → CommitSeen st }
+{}
+
+/// The fate of a start is seen at the mark of its first cell.
+pub fn fate_seen()
+    ensures { (st : State) → IsReached st → FateSeen st }
+{}
+
+/// What lies below the floor and below each mark does so from then on.
+pub fn stays_cleared()
+    ensures { (st : State) → IsReached st → StaysCleared st }
+{}
+
+/// The numbers of the machine keep to their limits, and each session that has not ended has begun.
+pub fn bounded()
+    ensures { (st : State) → IsReached st → Bounds st }
+{}
+
+/// What each step keeps of starts that are open no more, and of what is cleared.
+pub fn goes_on()
+    ensures { (st next : State) (q : Request) (r : Reply) → IsReached st → Step st q r next → Goes st next }
+{}
+
+/// What is told of a start's fate is so, and after a cleaner's second step the mark is gone.
+pub fn tells_fate()
+    ensures { (st : State) → IsReached st → TellsFate st }
+{}
+
+/// A collector that ends has cleared all below its floor.
+pub fn clears_its_floor()
+    ensures { (st : State) → IsReached st → ClearsItsFloor st }
+{}
+
+/// The next number of a cleaner or collector is above those of all open ones, and they and tablets keep to their limits.
+pub fn numbered()
+    ensures { (st : State) → IsReached st → Numbers st }
+{}
+
+/// A request of a session or a cleaner that no refusal meets has an answer that is no refusal, as long as there are
+/// stamps and numbers.
+pub fn never_stuck()
+    ensures { (st : State) → IsReached st → IsNeverStuck st }
+{}

@@ -1,0 +1,17 @@
+//! The snapshot machine: its definitions, and its laws over all that it can become.
+#![tactic(auto)]
+
+mod laws;
+mod replies;
+mod runs;
+
+pub use laws::{
+    bounded, clears_its_floor, commit_seen, fate_seen, first_committer, goes_on, gone_for_good,
+    never_stuck, numbered, one_fate, one_mark, one_snapshot, refuses_first, settled, starts_low,
+    stays_cleared, tells_fate,
+};
+pub use replies::{Cell, CleanReply, CleanStart, CollectReply, Found, Progress};
+pub use runs::{
+    commit_point, first_cell, first_holder, lost, mark_stays, rolled_back, split_tablet,
+    stranded_mark, transfer, write_skew, younger_first,
+};

@@ -1,0 +1,71 @@
+//! Cells, and what sessions, cleaners and collectors answer.
+
+use cell_key::{Family, Row, Stamp};
+
+/// A cell: a row and a family of columns.
+#[derive(Debug, PartialEq, Eq, Drop)]
+pub struct Cell {
+    pub row: Row,
+    pub family: Family,
+}
+
+/// What a read of a cell finds (Percolator, Get).
+#[derive(Debug, PartialEq, Eq, Drop)]
+pub enum Found {
+    /// The value that was committed last by the session's start.
+    Value(Vec<u8>),
+    /// No value was committed by then.
+    Nothing,
+    /// A lock at this stamp, at or below the session's start, keeps the answer back.
+    Pending(Stamp),
+}
+
+/// What a step of a session did (Percolator, Prewrite and Commit). Cells count from 1.
+#[derive(Clone, Copy, Debug, PartialEq, Eq)]
+pub enum Progress {
+    /// This cell of so many is held.
+    Held(u16, u16),
+    /// This cell is locked, or was written since the session began. The session has ended.
+    Conflict(u16),
+    /// The commit stamp was drawn.
+    Stamped(Stamp),
+    /// The session is committed at this stamp.
+    Committed(Stamp),
+    /// A cleaner has rolled the session back. It has ended.
+    Lost,
+    /// This cell of so many is clear. With the last the session has ended.
+    Finished(u16, u16),
+}
+
+/// What the beginning of a clean-up finds (Percolator, clean-up of locks).
+#[derive(Clone, Copy, Debug, PartialEq, Eq)]
+pub enum CleanStart {
+    /// No lock stands on the cell.
+    NoLock,
+    /// A cleaner was opened: its number, and the start of the lock's session.
+    Cleaner(u64, Stamp),
+}
+
+/// What a step of a cleaner did.
+#[derive(Clone, Copy, Debug, PartialEq, Eq)]
+pub enum CleanReply {
+    /// The fate of the session is decided.
+    Decided,
+    /// The lock gave way to a write record at this commit stamp.
+    RolledForward(Stamp),
+    /// The lock was erased.
+    RolledBack,
+    /// The lock was gone already.
+    Gone,
+}
+
+/// What a request of a collector came to.
+#[derive(Debug, PartialEq, Eq, Drop)]
+pub enum CollectReply {
+    /// There is more to do.
+    More,
+    /// A lock below the floor, at this stamp, stands on the cell.
+    Blocked(Cell, Stamp),
+    /// All cells are tidy, and the collector is closed.
+    Collected,
+}

@@ -1,0 +1,59 @@
+//! Scripts that the machine can follow, which show that its rules are met by something.
+//! Each is a call that does nothing: its contract is the script.
+
+ghost use Rattle.si_model.specs.Runs.{CommitPoint, FirstCell, FirstHolder, LostTransfer, MarkStays, RolledBackTransfer, SplitTablet, StrandedMark, Transfer, WriteSkew, YoungerFirst};
+
+/// One cell is set, held, committed and read.
+pub fn first_cell()
+    ensures { FirstCell }
+{}
+
+/// A session moves 7 from Bob to Joe, and the next one reads both balances.
+pub fn transfer()
+    ensures { Transfer }
+{}
+
+/// Two sessions that write different cells side by side both commit.
+pub fn write_skew()
+    ensures { WriteSkew }
+{}
+
+/// Of two sessions that write one cell, the second to hold it meets the mark of the first.
+pub fn first_holder()
+    ensures { FirstHolder }
+{}
+
+/// Of two sessions that write one cell, the older meets the commit of the younger.
+pub fn younger_first()
+    ensures { YoungerFirst }
+{}
+
+/// A session that stops before its commit is rolled back, and the old balances are read.
+pub fn rolled_back()
+    ensures { RolledBackTransfer }
+{}
+
+/// A reader waits for a session that began before it, and sees its commit at once.
+pub fn commit_point()
+    ensures { CommitPoint }
+{}
+
+/// A session that a cleaner has rolled back learns it at its next step.
+pub fn lost()
+    ensures { LostTransfer }
+{}
+
+/// A mark that is left behind stops a collector until a cleaner rolls it forward.
+pub fn stranded_mark()
+    ensures { StrandedMark }
+{}
+
+/// A tablet is split, and both parts move.
+pub fn split_tablet()
+    ensures { SplitTablet }
+{}
+
+/// A mark outlives a clean restart, until a cleaner clears it.
+pub fn mark_stays()
+    ensures { MarkStays }
+{}
