@@ -1,0 +1,128 @@
+-- How long fields are, what they tell of what they were made of, and what comes after them.
+use Rattle.std.proofs.Common.{◌≡◌, ℕ, ◌+◌, ◌^◌, ◌<◌, ◌≤◌, List, [], ◌++◌, length, get_or, take, drop, refl, sym, ap, ◌∙◌, append_assoc, append-nil, length-append, false, ◌==◌, subst, take_at, drop_at, Option, None, Some, IfSome, IfNone, ◌≢◌, arith}
+use Rattle.std.proofs.lemmas.Nat.{be_bytes_2, be_bytes_4, be_bytes_8}
+use Rattle.std.specs.Borrow.{Bor}
+use Rattle.byteorder.specs.Endian.{big_number}
+use Rattle.byteorder.specs.Numbers.{length-bytes_high_first, big_number-reads_back}
+use Rattle.si_model.specs.declared.replies.Cell.{Cell}
+use Rattle.request_codec.specs.Fields.{number, field, cell_fields, FitsField, FitsCell}
+
+-- ---- numbers
+
+pub length-number : (k n : ℕ) → length (number k n) ≡ k
+unfolding number
+length-number k n = length-bytes_high_first k n
+
+reads-number : (k n : ℕ) (rest : List ℕ) → n < 256 ^ k → big_number k (number k n ++ rest) ≡ n
+unfolding number
+reads-number k n rest fits = big_number-reads_back k n rest fits
+
+pub same_number : (k m n : ℕ) (x y : List ℕ) → m < 256 ^ k → n < 256 ^ k → number k m ++ x ≡ number k n ++ y → m ≡ n
+same_number k m n x y p q e = sym (reads-number k m x p) ∙ ap (big_number k) e ∙ reads-number k n y q
+
+pub past_number : (k m n : ℕ) (x y : List ℕ) → number k m ++ x ≡ number k n ++ y → x ≡ y
+past_number k m n x y e = sym (drop_at (number k m) x k (length-number k m)) ∙ ap (drop k) e ∙ drop_at (number k n) y k (length-number k n)
+
+-- too few bytes for a number
+pub no_number : (k n : ℕ) (bytes after : List ℕ) → length bytes < k → bytes ≡ number k n ++ after → ⊥
+no_number k n bytes after few e = omega (arith, length-append (number k n) after, length-number k n, ap length e)
+
+-- a number that was read is spelled as it stood
+pub spells_2 : (front : List ℕ) (n : ℕ) → length front ≡ 2 → ((i : ℕ) → get_or front i 0 < 256) → n ≡ big_number 2 front → front ≡ number 2 n
+unfolding number
+spells_2 front n len bytes e = sym (be_bytes_2 front n len bytes (omega arith))
+
+pub spells_4 : (front : List ℕ) (n : ℕ) → length front ≡ 4 → ((i : ℕ) → get_or front i 0 < 256) → n ≡ big_number 4 front → front ≡ number 4 n
+unfolding number
+spells_4 front n len bytes e = sym (be_bytes_4 front n len bytes (omega arith))
+
+pub spells_8 : (front : List ℕ) (n : ℕ) → length front ≡ 8 → ((i : ℕ) → get_or front i 0 < 256) → n ≡ big_number 8 front → front ≡ number 8 n
+unfolding number
+spells_8 front n len bytes e = sym (be_bytes_8 front n len bytes (omega arith))
+
+-- lists of one length before the same
+same_front : (a b x y : List ℕ) → length a ≡ length b → a ++ x ≡ b ++ y → (a ≡ b) × (x ≡ y)
+same_front a b x y size same = (
+  sym (take_at a x (length a) refl) ∙ ap (take (length a)) same ∙ take_at b y (length a) (sym size),
+  sym (drop_at a x (length a) refl) ∙ ap (drop (length a)) same ∙ drop_at b y (length a) (sym size),
+)
+
+-- ---- fields of bytes
+
+pub length-field : (bytes : List ℕ) → length (field bytes) ≡ 4 + length bytes
+unfolding field
+length-field bytes = omega (arith, length-append (number 4 (length bytes)) bytes, length-number 4 (length bytes))
+
+pub field-append : (bytes rest : List ℕ) → field bytes ++ rest ≡ number 4 (length bytes) ++ (bytes ++ rest)
+unfolding field
+field-append bytes rest = append_assoc (number 4 (length bytes)) bytes rest
+
+-- the bytes of two fields, and what comes after them
+pub same_field : (a b x y : List ℕ) → FitsField a → FitsField b → field a ++ x ≡ field b ++ y → (a ≡ b) × (x ≡ y)
+same_field a b x y p q e =
+    let whole = sym (field-append a x) ∙ e ∙ field-append b y in
+    let len = same_number 4 (length a) (length b) (a ++ x) (b ++ y) p q whole in
+    same_front a b x y len (past_number 4 (length a) (length b) (a ++ x) (b ++ y) whole)
+
+-- ---- cells
+
+pub length-cell : (cell : Cell) → length (cell_fields cell) ≡ 8 + length cell.row + length cell.family
+unfolding cell_fields
+length-cell cell = omega (arith, length-append (field cell.row) (field cell.family), length-field cell.row, length-field cell.family)
+
+pub cell-append : (cell : Cell) (rest : List ℕ) → cell_fields cell ++ rest ≡ field cell.row ++ (field cell.family ++ rest)
+unfolding cell_fields
+cell-append cell rest = append_assoc (field cell.row) (field cell.family) rest
+
+pub same_cell : (a b : Cell) (x y : List ℕ) → FitsCell a → FitsCell b → cell_fields a ++ x ≡ cell_fields b ++ y → (a ≡ b) × (x ≡ y)
+same_cell a b x y p q e =
+    let whole = sym (cell-append a x) ∙ e ∙ cell-append b y in
+    let row = same_field a.row b.row (field a.family ++ x) (field b.family ++ y) p.row q.row whole in
+    let family = same_field a.family b.family x y p.family q.family row.1 in
+    (λ i. record { row = row.0 i; family = family.0 i }, family.1)
+
+-- ---- options
+
+pub if_none : {X : Type 0} (o : Option X) {P : Type 0} → P → IfNone o P
+if_none None p = p
+if_none (Some x) p = tt
+
+-- ---- a length, and the bytes after it
+
+pub cut_field : (o : Option (Bor (List ℕ))) (old : List ℕ) (len : ℕ) (mid new : List ℕ) → old ≡ number 4 len ++ mid → IfSome o (λ front. mid ≡ front.now ++ new) → IfSome o (λ front. length front.now ≡ len)
+    → IfSome o (λ front. old ≡ field front.now ++ new)
+cut_field None old len mid new e f g = tt
+cut_field (Some front) old len mid new e f g = e ∙ ap (λ (t : List ℕ). number 4 len ++ t) f ∙ ap (λ (n : ℕ). number 4 n ++ (front.now ++ new)) (sym g) ∙ sym (field-append front.now new)
+
+pub no_bytes : (o : Option (Bor (List ℕ))) (old : List ℕ) (len : ℕ) (mid : List ℕ) → old ≡ number 4 len ++ mid → len < 2 ^ 32 → IfNone o (length mid < len)
+    → IfNone o ((bytes after : List ℕ) → FitsField bytes → old ≢ field bytes ++ after)
+no_bytes (Some front) old len mid e fits few = tt
+no_bytes None old len mid e fits few = λ bytes after p f.
+    let whole = sym e ∙ f ∙ field-append bytes after in
+    let same = same_number 4 len (length bytes) mid (bytes ++ after) fits p whole in
+    let rest = past_number 4 len (length bytes) mid (bytes ++ after) whole in
+    omega (arith, ap length rest, length-append bytes after)
+
+-- ---- nothing is left after the last field
+
+not_empty : (rest : List ℕ) → false ≡ (length rest == 0) → rest ≡ [] → ⊥
+not_empty rest f e = let g = subst (λ (t : List ℕ). false ≡ (length t == 0)) e f in cc
+
+pub left_number : (k m n : ℕ) (rest old : List ℕ) → old ≡ number k m ++ rest → false ≡ (length rest == 0) → old ≡ number k n → ⊥
+left_number k m n rest old e f g = not_empty rest f (past_number k m n rest [] (sym e ∙ g ∙ sym (append-nil (number k n))))
+
+pub left_field : (a b rest old : List ℕ) → FitsField a → FitsField b → old ≡ field a ++ rest → false ≡ (length rest == 0) → old ≡ field b → ⊥
+left_field a b rest old p q e f g = not_empty rest f (same_field a b rest [] p q (sym e ∙ g ∙ sym (append-nil (field b)))).1
+
+pub left_cell : (a b : Cell) (rest old : List ℕ) → FitsCell a → FitsCell b → old ≡ cell_fields a ++ rest → false ≡ (length rest == 0) → old ≡ cell_fields b → ⊥
+left_cell a b rest old p q e f g = not_empty rest f (same_cell a b rest [] p q (sym e ∙ g ∙ sym (append-nil (cell_fields b)))).1
+
+pub ruleset lengths = (length-number, length-field, length-cell, length-append)
+
+-- ---- the first two bytes of a body
+
+abbrev pub first : List ℕ → ℕ
+first bytes = get_or bytes 0 0
+
+abbrev pub second : List ℕ → ℕ
+second bytes = get_or bytes 1 0

@@ -1,0 +1,5 @@
+mod Fields
+mod Cutting
+mod OneRequest
+mod OneReply
+mod Longest

@@ -1,0 +1,36 @@
+-- How long the bodies of replies are.
+use Rattle.std.proofs.Common.{◌≡◌, ℕ, ◌+◌, ◌≤◌, List, ◌++◌, length, Some, None, arith, length-append}
+use Rattle.std.specs.Int.{to_be_bytes, w32}
+use Rattle.si_model.specs.Messages.{Reply, Answered, Cleaning, Collecting, Blocked, RawFound, Begun, Pending, Held, Conflict, Drawn, Committed, Finished, RolledForward, SplitOff, Swept}
+use Rattle.request_codec.specs.Fields.{number, field, cell_fields}
+use Rattle.request_codec.specs.Replies.{reply_body, IsWithinLimits}
+use Rattle.request_codec.specs.Stream.{frame}
+use Rattle.request_codec.proofs.Fields.{length-number, length-field, length-cell}
+
+pub length-frame : (body : List ℕ) → length (frame body) ≡ 4 + length body
+unfolding frame
+length-frame body = omega (arith, length-append (to_be_bytes w32 (length body)) body)
+
+length-two : (j k m n : ℕ) → length (number j m ++ number k n) ≡ j + k
+length-two j k m n = omega (arith, length-append (number j m) (number k n), length-number j m, length-number k n)
+
+pub short_body : (reply : Reply) → IsWithinLimits reply → length (reply_body reply) ≤ 65550
+short_body (Begun n) p = omega (arith, length-number 8 n)
+short_body (Answered None) p = omega arith
+short_body (Answered (Some value)) p = omega (arith, length-field value)
+short_body (Pending n) p = omega (arith, length-number 8 n)
+short_body (Held m n) p = omega (arith, length-two 2 2 m n)
+short_body (Conflict n) p = omega (arith, length-number 2 n)
+short_body (Drawn n) p = omega (arith, length-number 8 n)
+short_body (Committed n) p = omega (arith, length-number 8 n)
+short_body (Finished m n) p = omega (arith, length-two 2 2 m n)
+short_body (Cleaning m n) p = omega (arith, length-two 8 8 m n)
+short_body (RolledForward n) p = omega (arith, length-number 8 n)
+short_body (Collecting m n) p = omega (arith, length-two 8 8 m n)
+short_body (Blocked cell n) p =
+    omega (arith, p.0.few, p.1.few, length-append (cell_fields cell) (number 8 n), length-cell cell, length-number 8 n)
+short_body (SplitOff n) p = omega (arith, length-number 4 n)
+short_body (Swept n) p = omega (arith, length-number 8 n)
+short_body (RawFound None) p = omega arith
+short_body (RawFound (Some found)) p = omega (arith, length-append (number 8 found.0) (field found.1), length-number 8 found.0, length-field found.1)
+short_body other p = omega arith

@@ -1,0 +1,189 @@
+-- What a body tells of its reply.
+use Rattle.std.proofs.Common.{◌≡◌, ℕ, ◌<◌, ◌^◌, ◌-◌, List, [], ◌∷◌, ◌++◌, get_or, Some, None, refl, sym, ap, subst, drop, arith, ◌∙◌}
+use Rattle.cell_key.specs.Refusals.{refusal_number}
+use Rattle.cell_key.specs.declared.refusals.Refusal.{Refusal}
+use Rattle.cell_key.specs.declared.refusals.Refusal.TheVariants.{UnknownSession, WrongPhase, BadRow, BadColumn, BadValue, TooManyWrites, TooManySessions, EmptyCommit, UnknownCleaner, UnknownCollector, UnknownTablet, BadSplit, UnknownServer, BadCount, MemtableFull, TooManyFiles, FileTooLarge, Exhausted, Device, NoMemory, Damaged, BadRequest, FrameTooLarge}
+use Rattle.si_model.specs.Messages.{Reply, Begun, Answered, Pending, SetDone, Held, Conflict, Drawn, Committed, Lost, Finished, StopDone, RestartDone, Refused}
+use Rattle.request_codec.specs.Fields.{number, field, FitsField}
+use Rattle.request_codec.specs.Replies.{reply_body, IsReply}
+use Rattle.request_codec.proofs.Fields.{same_number, past_number, first, second}
+use Rattle.request_codec.proofs.OneRequest.{lone_number, lone_field}
+
+lone_small : (m n : ℕ) → m < 2 ^ 16 → n < 2 ^ 16 → number 2 m ≡ number 2 n → m ≡ n
+lone_small m n p q e = same_number 2 m n [] [] p q (ap (λ (t : List ℕ). t ++ []) e)
+
+-- ---- refusals of one number
+
+refusals : List Refusal
+refusals =
+    UnknownSession ∷ WrongPhase ∷ BadRow ∷ BadColumn ∷ BadValue ∷ TooManyWrites ∷ TooManySessions ∷ EmptyCommit ∷ UnknownCleaner ∷ UnknownCollector ∷ UnknownTablet
+    ∷ BadSplit ∷ UnknownServer ∷ BadCount ∷ MemtableFull ∷ TooManyFiles ∷ FileTooLarge ∷ Exhausted ∷ Device ∷ NoMemory ∷ Damaged ∷ BadRequest ∷ FrameTooLarge ∷ []
+
+numbered : ℕ → Refusal
+unfolding refusals
+numbered n = get_or refusals (n - 1) UnknownSession
+
+number-back : (r : Refusal) → numbered (refusal_number r) ≡ r
+unfolding numbered refusals
+number-back UnknownSession = refl
+number-back WrongPhase = refl
+number-back BadRow = refl
+number-back BadColumn = refl
+number-back BadValue = refl
+number-back TooManyWrites = refl
+number-back TooManySessions = refl
+number-back EmptyCommit = refl
+number-back UnknownCleaner = refl
+number-back UnknownCollector = refl
+number-back UnknownTablet = refl
+number-back BadSplit = refl
+number-back UnknownServer = refl
+number-back BadCount = refl
+number-back MemtableFull = refl
+number-back TooManyFiles = refl
+number-back FileTooLarge = refl
+number-back Exhausted = refl
+number-back Device = refl
+number-back NoMemory = refl
+number-back Damaged = refl
+number-back BadRequest = refl
+number-back FrameTooLarge = refl
+
+same_refusal : (a b : Refusal) → refusal_number a ≡ refusal_number b → a ≡ b
+same_refusal a b e = sym (number-back a) ∙ ap numbered e ∙ number-back b
+
+-- ---- the reply of each operation's number, and of each tag
+
+record AsLong (r : Reply) (made : ℕ → Reply) (f : List ℕ) : Type 0 where
+  n : ℕ
+  fits : n < 2 ^ 64
+  is : r ≡ made n
+  fields : f ≡ number 8 n
+
+record AsShort (r : Reply) (made : ℕ → Reply) (f : List ℕ) : Type 0 where
+  n : ℕ
+  fits : n < 2 ^ 16
+  is : r ≡ made n
+  fields : f ≡ number 2 n
+
+record AsPair (r : Reply) (made : ℕ → ℕ → Reply) (f : List ℕ) : Type 0 where
+  m : ℕ
+  n : ℕ
+  m_fits : m < 2 ^ 16
+  n_fits : n < 2 ^ 16
+  is : r ≡ made m n
+  fields : f ≡ number 2 m ++ number 2 n
+
+record AsValue (r : Reply) (f : List ℕ) : Type 0 where
+  value : List ℕ
+  fits : FitsField value
+  is : r ≡ Answered (Some value)
+  fields : f ≡ field value
+
+record AsRefusal (r : Reply) (f : List ℕ) : Type 0 where
+  refusal : Refusal
+  is : r ≡ Refused refusal
+  fields : f ≡ refusal_number refusal ∷ []
+
+begun_only : (r : Reply) (f : List ℕ) → IsReply r (0x81 ∷ f) → AsLong r (λ n. Begun n) f
+begun_only (Begun n) f p = record { n = n; fits = p.numbers; is = refl; fields = ap (drop 1) p.whole }
+begun_only other f p = let e = ap first p.whole in let d = ap second p.whole in absurd (omega (arith, e, d))
+
+pending_only : (r : Reply) (f : List ℕ) → IsReply r (0x82 ∷ 0x02 ∷ f) → AsLong r (λ n. Pending n) f
+pending_only (Pending n) f p = record { n = n; fits = p.numbers; is = refl; fields = ap (drop 2) p.whole }
+pending_only (Answered None) f p = let d = ap second p.whole in absurd (omega (arith, d))
+pending_only (Answered (Some value)) f p = let d = ap second p.whole in absurd (omega (arith, d))
+pending_only other f p = let e = ap first p.whole in let d = ap second p.whole in absurd (omega (arith, e, d))
+
+drawn_only : (r : Reply) (f : List ℕ) → IsReply r (0x84 ∷ 0x03 ∷ f) → AsLong r (λ n. Drawn n) f
+drawn_only (Drawn n) f p = record { n = n; fits = p.numbers; is = refl; fields = ap (drop 2) p.whole }
+drawn_only other f p = let e = ap first p.whole in let d = ap second p.whole in absurd (omega (arith, e, d))
+
+committed_only : (r : Reply) (f : List ℕ) → IsReply r (0x84 ∷ 0x04 ∷ f) → AsLong r (λ n. Committed n) f
+committed_only (Committed n) f p = record { n = n; fits = p.numbers; is = refl; fields = ap (drop 2) p.whole }
+committed_only other f p = let e = ap first p.whole in let d = ap second p.whole in absurd (omega (arith, e, d))
+
+conflict_only : (r : Reply) (f : List ℕ) → IsReply r (0x84 ∷ 0x02 ∷ f) → AsShort r (λ n. Conflict n) f
+conflict_only (Conflict n) f p = record { n = n; fits = p.numbers; is = refl; fields = ap (drop 2) p.whole }
+conflict_only other f p = let e = ap first p.whole in let d = ap second p.whole in absurd (omega (arith, e, d))
+
+held_only : (r : Reply) (f : List ℕ) → IsReply r (0x84 ∷ 0x01 ∷ f) → AsPair r (λ m n. Held m n) f
+held_only (Held m n) f p = record { m = m; n = n; m_fits = p.numbers.0; n_fits = p.numbers.1; is = refl; fields = ap (drop 2) p.whole }
+held_only other f p = let e = ap first p.whole in let d = ap second p.whole in absurd (omega (arith, e, d))
+
+finished_only : (r : Reply) (f : List ℕ) → IsReply r (0x84 ∷ 0x06 ∷ f) → AsPair r (λ m n. Finished m n) f
+finished_only (Finished m n) f p = record { m = m; n = n; m_fits = p.numbers.0; n_fits = p.numbers.1; is = refl; fields = ap (drop 2) p.whole }
+finished_only other f p = let e = ap first p.whole in let d = ap second p.whole in absurd (omega (arith, e, d))
+
+value_only : (r : Reply) (f : List ℕ) → IsReply r (0x82 ∷ 0x01 ∷ f) → AsValue r f
+value_only (Answered (Some value)) f p = record { value = value; fits = p.bytes; is = refl; fields = ap (drop 2) p.whole }
+value_only (Answered None) f p = let d = ap second p.whole in absurd (omega (arith, d))
+value_only other f p = let e = ap first p.whole in let d = ap second p.whole in absurd (omega (arith, e, d))
+
+refused_only : (r : Reply) (f : List ℕ) → IsReply r (0xFF ∷ f) → AsRefusal r f
+refused_only (Refused refusal) f p = record { refusal = refusal; is = refl; fields = ap (drop 1) p.whole }
+refused_only other f p = let e = ap first p.whole in let d = ap second p.whole in absurd (omega (arith, e, d))
+
+nothing_only : (r : Reply) → IsReply r (reply_body (Answered None)) → r ≡ Answered None
+nothing_only (Answered None) p = refl
+nothing_only (Answered (Some value)) p = let d = ap second p.whole in absurd (omega (arith, d))
+nothing_only other p = let e = ap first p.whole in let d = ap second p.whole in absurd (omega (arith, e, d))
+
+set_only : (r : Reply) → IsReply r (reply_body SetDone) → r ≡ SetDone
+set_only SetDone p = refl
+set_only other p = let e = ap first p.whole in let d = ap second p.whole in absurd (omega (arith, e, d))
+
+lost_only : (r : Reply) → IsReply r (reply_body Lost) → r ≡ Lost
+lost_only Lost p = refl
+lost_only other p = let e = ap first p.whole in let d = ap second p.whole in absurd (omega (arith, e, d))
+
+stop_only : (r : Reply) → IsReply r (reply_body StopDone) → r ≡ StopDone
+stop_only StopDone p = refl
+stop_only other p = let e = ap first p.whole in let d = ap second p.whole in absurd (omega (arith, e, d))
+
+restart_only : (r : Reply) → IsReply r (reply_body RestartDone) → r ≡ RestartDone
+restart_only RestartDone p = refl
+restart_only other p = let e = ap first p.whole in let d = ap second p.whole in absurd (omega (arith, e, d))
+
+-- ---- two replies of one body
+
+pair-same : (made : ℕ → ℕ → Reply) (m n k l : ℕ) → m < 2 ^ 16 → n < 2 ^ 16 → k < 2 ^ 16 → l < 2 ^ 16 → number 2 m ++ number 2 n ≡ number 2 k ++ number 2 l → made m n ≡ made k l
+pair-same made m n k l p q r s e =
+    let first = same_number 2 m k (number 2 n) (number 2 l) p r e in
+    let second = lone_small n l q s (past_number 2 m k (number 2 n) (number 2 l) e) in
+    ap (λ x. made x n) first ∙ ap (λ x. made k x) second
+
+pub one_reply : (a b : Reply) (body : List ℕ) → IsReply a body → IsReply b body → a ≡ b
+one_reply (Begun n) b body p q =
+    let g = begun_only b (number 8 n) (subst (IsReply b) p.whole q) in
+    ap (λ m. Begun m) (lone_number n g.n p.numbers g.fits g.fields) ∙ sym g.is
+one_reply (Pending n) b body p q =
+    let g = pending_only b (number 8 n) (subst (IsReply b) p.whole q) in
+    ap (λ m. Pending m) (lone_number n g.n p.numbers g.fits g.fields) ∙ sym g.is
+one_reply (Drawn n) b body p q =
+    let g = drawn_only b (number 8 n) (subst (IsReply b) p.whole q) in
+    ap (λ m. Drawn m) (lone_number n g.n p.numbers g.fits g.fields) ∙ sym g.is
+one_reply (Committed n) b body p q =
+    let g = committed_only b (number 8 n) (subst (IsReply b) p.whole q) in
+    ap (λ m. Committed m) (lone_number n g.n p.numbers g.fits g.fields) ∙ sym g.is
+one_reply (Conflict n) b body p q =
+    let g = conflict_only b (number 2 n) (subst (IsReply b) p.whole q) in
+    ap (λ m. Conflict m) (lone_small n g.n p.numbers g.fits g.fields) ∙ sym g.is
+one_reply (Held m n) b body p q =
+    let g = held_only b (number 2 m ++ number 2 n) (subst (IsReply b) p.whole q) in
+    pair-same (λ x y. Held x y) m n g.m g.n p.numbers.0 p.numbers.1 g.m_fits g.n_fits g.fields ∙ sym g.is
+one_reply (Finished m n) b body p q =
+    let g = finished_only b (number 2 m ++ number 2 n) (subst (IsReply b) p.whole q) in
+    pair-same (λ x y. Finished x y) m n g.m g.n p.numbers.0 p.numbers.1 g.m_fits g.n_fits g.fields ∙ sym g.is
+one_reply (Answered (Some value)) b body p q =
+    let g = value_only b (field value) (subst (IsReply b) p.whole q) in
+    ap (λ v. Answered (Some v)) (lone_field value g.value p.bytes g.fits g.fields) ∙ sym g.is
+one_reply (Refused refusal) b body p q =
+    let g = refused_only b (refusal_number refusal ∷ []) (subst (IsReply b) p.whole q) in
+    ap (λ r. Refused r) (same_refusal refusal g.refusal (ap first g.fields)) ∙ sym g.is
+one_reply (Answered None) b body p q = sym (nothing_only b (subst (IsReply b) p.whole q))
+one_reply SetDone b body p q = sym (set_only b (subst (IsReply b) p.whole q))
+one_reply Lost b body p q = sym (lost_only b (subst (IsReply b) p.whole q))
+one_reply StopDone b body p q = sym (stop_only b (subst (IsReply b) p.whole q))
+one_reply RestartDone b body p q = sym (restart_only b (subst (IsReply b) p.whole q))
+one_reply other b body p q = absurd p.spoken

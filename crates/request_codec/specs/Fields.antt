@@ -1,0 +1,25 @@
+-- The fields of messages.
+use Rattle.std.specs.Prelude.{ℕ, List, ◌++◌, ◌<◌, ◌^◌, length}
+use Rattle.byteorder.specs.Endian.{big_bytes}
+use Rattle.si_model.specs.declared.replies.Cell.{Cell}
+
+-- a number in so many bytes, the highest byte first
+unfoldable pub number : ℕ → ℕ → List ℕ
+number len n = big_bytes len n
+
+-- a field of bytes: their length in four bytes, and the bytes
+unfoldable pub field : List ℕ → List ℕ
+field bytes = number 4 (length bytes) ++ bytes
+
+-- a cell: its row, and its family
+unfoldable pub cell_fields : Cell → List ℕ
+cell_fields cell = field cell.row ++ field cell.family
+
+-- the length of the bytes fits its field
+abbrev pub FitsField : List ℕ → Type 0
+FitsField bytes = length bytes < 2 ^ 32
+
+-- likewise of both parts of a cell
+pub record FitsCell (cell : Cell) : Type 0 where
+  pub row : FitsField cell.row
+  pub family : FitsField cell.family

@@ -1,0 +1,32 @@
+-- Laws of bodies and streams.
+use Rattle.std.specs.Prelude.{◌≡◌, ℕ, List, ◌++◌, ◌<◌, ◌≤◌, length, slice_index}
+use Rattle.si_model.specs.Messages.{Request, Reply}
+use Rattle.request_codec.specs.Requests.{IsRequest}
+use Rattle.request_codec.specs.Replies.{reply_body, IsReply, IsWithinLimits}
+use Rattle.request_codec.specs.Stream.{frame, longest_reply, IsBody, IsCut}
+
+-- a stream is cut into bodies and a rest in one way
+abbrev pub OneCut : Type 0
+OneCut = (stream : List ℕ) (bodies others : List (List ℕ)) (rest other : List ℕ)
+    → IsCut stream bodies rest → IsCut stream others other → (bodies ≡ others) × (rest ≡ other)
+
+-- each stream of bytes has a cut
+abbrev pub HasCut : Type 0
+HasCut = (stream : List ℕ) → ((i : ℕ) → slice_index stream i < 256)
+    → (bodies : List (List ℕ)) × (rest : List ℕ) × IsCut stream bodies rest
+
+-- a frame that begins another one is that frame
+abbrev pub NoFrameBeginsAnother : Type 0
+NoFrameBeginsAnother = (a b more : List ℕ) → IsBody a → IsBody b → frame b ≡ frame a ++ more → a ≡ b
+
+-- two requests of one body are the same
+abbrev pub OneRequestABody : Type 0
+OneRequestABody = (a b : Request) (body : List ℕ) → IsRequest a body → IsRequest b body → a ≡ b
+
+-- two replies of one body are the same
+abbrev pub OneReplyABody : Type 0
+OneReplyABody = (a b : Reply) (body : List ℕ) → IsReply a body → IsReply b body → a ≡ b
+
+-- no reply within the limits has a longer frame
+abbrev pub RepliesFit : Type 0
+RepliesFit = (reply : Reply) → IsWithinLimits reply → length (frame (reply_body reply)) ≤ longest_reply

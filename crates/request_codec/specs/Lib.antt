@@ -1,0 +1,5 @@
+pub mod Fields
+pub mod Requests
+pub mod Replies
+pub mod Stream
+pub mod Laws

@@ -1,0 +1,134 @@
+-- The bodies of replies: an operation's number with its highest bit, and its fields. A refusal has a body of its own.
+use Rattle.std.specs.Prelude.{◌≡◌, ℕ, List, [], ◌∷◌, ◌++◌, ◌<◌, ◌≤◌, ◌^◌, length, Option, Some, None}
+use Rattle.cell_key.specs.Names.{IsRow, IsFamily}
+use Rattle.cell_key.specs.Refusals.{refusal_number}
+use Rattle.si_model.specs.Messages.{Reply, Begun, Answered, Pending, SetDone, Held, Conflict, Drawn, Committed, Lost, Finished, StopDone, NoLock, Cleaning, Decided, RolledForward, RolledBack, Gone, Collecting, More, Blocked, Collected, MinorDone, MergeDone, MajorDone, SplitOff, MoveDone, Swept, RestartDone, RawFound, CheckpointDone, Refused}
+use Rattle.si_model.specs.Replies.{found_reply, progress_reply}
+use Rattle.request_codec.specs.Fields.{number, field, cell_fields, FitsField}
+use Rattle.request_codec.specs.declared.replies.Reply.{Reply as Kept}
+use Rattle.request_codec.specs.declared.replies.Reply.TheVariants as kept
+
+-- what a reply is to the machine
+abbrev pub replied : Kept → Reply
+replied (kept.Begin start) = Begun start
+replied (kept.Get found) = found_reply found
+replied kept.Set = SetDone
+replied (kept.Step progress) = progress_reply progress
+replied kept.Stop = StopDone
+replied kept.OracleRestart = RestartDone
+replied (kept.Refused refusal) = Refused refusal
+
+-- the fields of a read's answer
+abbrev pub answer_fields : Option (List ℕ) → List ℕ
+answer_fields None = 0x00 ∷ []
+answer_fields (Some value) = 0x01 ∷ field value
+
+-- the fields of a raw read's answer: a stamp and a value
+abbrev pub raw_fields : Option (ℕ × List ℕ) → List ℕ
+raw_fields None = 0x00 ∷ []
+raw_fields (Some found) = 0x01 ∷ (number 8 found.0 ++ field found.1)
+
+-- the one body of a reply
+abbrev pub reply_body : Reply → List ℕ
+reply_body (Begun start) = 0x81 ∷ number 8 start
+reply_body (Answered answer) = 0x82 ∷ answer_fields answer
+reply_body (Pending start) = 0x82 ∷ 0x02 ∷ number 8 start
+reply_body SetDone = 0x83 ∷ []
+reply_body (Held place count) = 0x84 ∷ 0x01 ∷ (number 2 place ++ number 2 count)
+reply_body (Conflict place) = 0x84 ∷ 0x02 ∷ number 2 place
+reply_body (Drawn stamp) = 0x84 ∷ 0x03 ∷ number 8 stamp
+reply_body (Committed stamp) = 0x84 ∷ 0x04 ∷ number 8 stamp
+reply_body Lost = 0x84 ∷ 0x05 ∷ []
+reply_body (Finished place count) = 0x84 ∷ 0x06 ∷ (number 2 place ++ number 2 count)
+reply_body StopDone = 0x85 ∷ []
+reply_body NoLock = 0x86 ∷ 0x00 ∷ []
+reply_body (Cleaning cleaner start) = 0x86 ∷ 0x01 ∷ (number 8 cleaner ++ number 8 start)
+reply_body Decided = 0x87 ∷ 0x01 ∷ []
+reply_body (RolledForward stamp) = 0x87 ∷ 0x02 ∷ number 8 stamp
+reply_body RolledBack = 0x87 ∷ 0x03 ∷ []
+reply_body Gone = 0x87 ∷ 0x04 ∷ []
+reply_body (Collecting collector floor) = 0x88 ∷ (number 8 collector ++ number 8 floor)
+reply_body More = 0x89 ∷ 0x01 ∷ []
+reply_body (Blocked cell start) = 0x89 ∷ 0x02 ∷ (cell_fields cell ++ number 8 start)
+reply_body Collected = 0x89 ∷ 0x03 ∷ []
+reply_body MinorDone = 0x8A ∷ []
+reply_body MergeDone = 0x8B ∷ []
+reply_body MajorDone = 0x8C ∷ []
+reply_body (SplitOff tablet) = 0x8D ∷ number 4 tablet
+reply_body MoveDone = 0x8E ∷ []
+reply_body (Swept count) = 0x8F ∷ number 8 count
+reply_body RestartDone = 0x90 ∷ []
+reply_body (RawFound found) = 0x91 ∷ raw_fields found
+reply_body CheckpointDone = 0x92 ∷ []
+reply_body (Refused refusal) = 0xFF ∷ refusal_number refusal ∷ []
+
+-- the replies that are in the grammar so far
+abbrev pub IsSpokenReply : Reply → Type 0
+IsSpokenReply (Begun start) = Unit {0}
+IsSpokenReply (Answered answer) = Unit {0}
+IsSpokenReply (Pending start) = Unit {0}
+IsSpokenReply SetDone = Unit {0}
+IsSpokenReply (Held place count) = Unit {0}
+IsSpokenReply (Conflict place) = Unit {0}
+IsSpokenReply (Drawn stamp) = Unit {0}
+IsSpokenReply (Committed stamp) = Unit {0}
+IsSpokenReply Lost = Unit {0}
+IsSpokenReply (Finished place count) = Unit {0}
+IsSpokenReply StopDone = Unit {0}
+IsSpokenReply RestartDone = Unit {0}
+IsSpokenReply (Refused refusal) = Unit {0}
+IsSpokenReply other = ⊥
+
+-- each number fits its field
+abbrev pub ReplyNumbersFit : Reply → Type 0
+ReplyNumbersFit (Begun start) = start < 2 ^ 64
+ReplyNumbersFit (Pending start) = start < 2 ^ 64
+ReplyNumbersFit (Held place count) = (place < 2 ^ 16) × (count < 2 ^ 16)
+ReplyNumbersFit (Conflict place) = place < 2 ^ 16
+ReplyNumbersFit (Drawn stamp) = stamp < 2 ^ 64
+ReplyNumbersFit (Committed stamp) = stamp < 2 ^ 64
+ReplyNumbersFit (Finished place count) = (place < 2 ^ 16) × (count < 2 ^ 16)
+ReplyNumbersFit (Cleaning cleaner start) = (cleaner < 2 ^ 64) × (start < 2 ^ 64)
+ReplyNumbersFit (RolledForward stamp) = stamp < 2 ^ 64
+ReplyNumbersFit (Collecting collector floor) = (collector < 2 ^ 64) × (floor < 2 ^ 64)
+ReplyNumbersFit (Blocked cell start) = start < 2 ^ 64
+ReplyNumbersFit (SplitOff tablet) = tablet < 2 ^ 32
+ReplyNumbersFit (Swept count) = count < 2 ^ 64
+ReplyNumbersFit (RawFound (Some found)) = found.0 < 2 ^ 64
+ReplyNumbersFit other = Unit {0}
+
+-- each field of bytes has a length that fits; where a lock blocks a collector, the row and the family are within their limits
+abbrev pub ReplyBytesFit : Reply → Type 0
+ReplyBytesFit (Answered (Some value)) = FitsField value
+ReplyBytesFit (Blocked cell start) = IsRow cell.row × IsFamily cell.family
+ReplyBytesFit (RawFound (Some found)) = FitsField found.1
+ReplyBytesFit other = Unit {0}
+
+-- the body is that of a reply in the grammar
+pub record IsReply (reply : Reply) (body : List ℕ) : Type 0 where
+  pub spoken : IsSpokenReply reply
+  pub numbers : ReplyNumbersFit reply
+  pub bytes : ReplyBytesFit reply
+  pub whole : body ≡ reply_body reply
+
+-- the body is that of no reply
+abbrev pub IsNoReply : List ℕ → Type 0
+IsNoReply body = (reply : Reply) → IsReply reply body → ⊥
+
+-- what the reply holds is within the limits of rows, families and values
+abbrev pub IsWithinLimits : Reply → Type 0
+IsWithinLimits (Answered (Some value)) = length value ≤ 65536
+IsWithinLimits (RawFound (Some found)) = length found.1 ≤ 65536
+IsWithinLimits (Blocked cell start) = IsRow cell.row × IsFamily cell.family
+IsWithinLimits other = Unit {0}
+
+-- the reply holds bytes, which take memory
+abbrev pub HoldsBytes : Reply → Type 0
+HoldsBytes (Answered (Some value)) = Unit {0}
+HoldsBytes (Blocked cell start) = Unit {0}
+HoldsBytes (RawFound (Some found)) = Unit {0}
+HoldsBytes other = ⊥
+
+-- the body is that of such a reply
+abbrev pub NeedsMemory : List ℕ → Type 0
+NeedsMemory body = (reply : Reply) × IsReply reply body × HoldsBytes reply

@@ -1,0 +1,88 @@
+-- The bodies of requests: an operation's number, and its fields.
+use Rattle.std.specs.Prelude.{◌≡◌, ℕ, List, [], ◌∷◌, ◌++◌, ◌<◌, ◌^◌}
+use Rattle.cell_key.specs.declared.keys.Qualifier.{Qualifier}
+use Rattle.cell_key.specs.declared.keys.Qualifier.TheVariants.{Data, Lock, Write}
+use Rattle.si_model.specs.Messages.{Request, Begin, Get, Set, Advance, Stop, CleanBegin, CleanStep, CollectBegin, CollectStep, Minor, Merge, Major, Split, Move, Sweep, OracleRestart, Raw, Checkpoint}
+use Rattle.request_codec.specs.Fields.{number, field, cell_fields, FitsField, FitsCell}
+use Rattle.request_codec.specs.declared.requests.Request.{Request as Lent}
+use Rattle.request_codec.specs.declared.requests.Request.TheVariants as lent
+
+-- what a request asks of the machine
+abbrev pub asked : Lent → Request
+asked lent.Begin = Begin
+asked (lent.Get start row family) = Get start (record { row = row.now; family = family.now })
+asked (lent.Set start row family value) = Set start (record { row = row.now; family = family.now }) value.now
+asked (lent.Step start) = Advance start
+asked (lent.Stop start) = Stop start
+asked lent.OracleRestart = OracleRestart
+
+abbrev pub qualifier_number : Qualifier → ℕ
+qualifier_number Data = 1
+qualifier_number Lock = 2
+qualifier_number Write = 3
+
+-- the one body of a request
+abbrev pub request_body : Request → List ℕ
+request_body Begin = 0x01 ∷ []
+request_body (Get start cell) = 0x02 ∷ (number 8 start ++ cell_fields cell)
+request_body (Set start cell value) = 0x03 ∷ (number 8 start ++ (cell_fields cell ++ field value))
+request_body (Advance start) = 0x04 ∷ number 8 start
+request_body (Stop start) = 0x05 ∷ number 8 start
+request_body (CleanBegin cell) = 0x06 ∷ cell_fields cell
+request_body (CleanStep cleaner) = 0x07 ∷ number 8 cleaner
+request_body CollectBegin = 0x08 ∷ []
+request_body (CollectStep collector visits) = 0x09 ∷ (number 8 collector ++ number 4 visits)
+request_body (Minor tablet) = 0x0A ∷ number 4 tablet
+request_body (Merge tablet count) = 0x0B ∷ (number 4 tablet ++ number 4 count)
+request_body (Major tablet) = 0x0C ∷ number 4 tablet
+request_body (Split row) = 0x0D ∷ field row
+request_body (Move tablet server) = 0x0E ∷ (number 4 tablet ++ number 1 server)
+request_body Sweep = 0x0F ∷ []
+request_body OracleRestart = 0x10 ∷ []
+request_body (Raw cell qualifier low high) = 0x11 ∷ (cell_fields cell ++ (number 1 (qualifier_number qualifier) ++ (number 8 low ++ number 8 high)))
+request_body Checkpoint = 0x12 ∷ []
+
+-- the requests that are in the grammar so far
+abbrev pub IsSpoken : Request → Type 0
+IsSpoken Begin = Unit {0}
+IsSpoken (Get start cell) = Unit {0}
+IsSpoken (Set start cell value) = Unit {0}
+IsSpoken (Advance start) = Unit {0}
+IsSpoken (Stop start) = Unit {0}
+IsSpoken OracleRestart = Unit {0}
+IsSpoken other = ⊥
+
+-- each number fits its field
+abbrev pub NumbersFit : Request → Type 0
+NumbersFit (Get start cell) = start < 2 ^ 64
+NumbersFit (Set start cell value) = start < 2 ^ 64
+NumbersFit (Advance start) = start < 2 ^ 64
+NumbersFit (Stop start) = start < 2 ^ 64
+NumbersFit (CleanStep cleaner) = cleaner < 2 ^ 64
+NumbersFit (CollectStep collector visits) = (collector < 2 ^ 64) × (visits < 2 ^ 32)
+NumbersFit (Minor tablet) = tablet < 2 ^ 32
+NumbersFit (Merge tablet count) = (tablet < 2 ^ 32) × (count < 2 ^ 32)
+NumbersFit (Major tablet) = tablet < 2 ^ 32
+NumbersFit (Move tablet server) = (tablet < 2 ^ 32) × (server < 2 ^ 8)
+NumbersFit (Raw cell qualifier low high) = (low < 2 ^ 64) × (high < 2 ^ 64)
+NumbersFit other = Unit {0}
+
+-- each field of bytes has a length that fits
+abbrev pub BytesFit : Request → Type 0
+BytesFit (Get start cell) = FitsCell cell
+BytesFit (Set start cell value) = FitsCell cell × FitsField value
+BytesFit (CleanBegin cell) = FitsCell cell
+BytesFit (Split row) = FitsField row
+BytesFit (Raw cell qualifier low high) = FitsCell cell
+BytesFit other = Unit {0}
+
+-- the body is that of a request in the grammar
+pub record IsRequest (request : Request) (body : List ℕ) : Type 0 where
+  pub spoken : IsSpoken request
+  pub numbers : NumbersFit request
+  pub bytes : BytesFit request
+  pub whole : body ≡ request_body request
+
+-- the body is that of no request
+abbrev pub IsMalformed : List ℕ → Type 0
+IsMalformed body = (request : Request) → IsRequest request body → ⊥

@@ -1,0 +1,43 @@
+//! Laws of bodies and streams. Each is the contract of a function that does nothing.
+
+ghost use Rattle.request_codec.specs.Laws.{OneCut, HasCut, NoFrameBeginsAnother, OneRequestABody, OneReplyABody, RepliesFit};
+ghost use Rattle.request_codec.specs.Stream.{longest, longest_reply};
+ghost use Rattle.std.specs.Prelude.{◌≡◌};
+
+use crate::frames::{LONGEST_BODY, LONGEST_REPLY};
+
+/// A stream is cut into bodies and a rest in one way.
+pub fn one_cut()
+    ensures { OneCut }
+{}
+
+/// Each stream of bytes has a cut.
+pub fn has_cut()
+    ensures { HasCut }
+{}
+
+/// A frame that begins another one is that frame.
+pub fn no_frame_begins_another()
+    ensures { NoFrameBeginsAnother }
+{}
+
+/// Two requests of one body are the same.
+pub fn one_request_a_body()
+    ensures { OneRequestABody }
+{}
+
+/// Two replies of one body are the same.
+pub fn one_reply_a_body()
+    ensures { OneReplyABody }
+{}
+
+/// No reply within the limits of rows, families and values has a longer frame than `LONGEST_REPLY`.
+pub fn replies_fit()
+    ensures { RepliesFit }
+{}
+
+/// The public limits are those of the definitions.
+pub fn limits()
+    ensures body { LONGEST_BODY ≡ longest }
+    ensures reply { LONGEST_REPLY ≡ longest_reply }
+{}

@@ -1,0 +1,21 @@
+//! The bodies of requests and replies, both ways, and the cut of a stream into them.
+#![tactic(auto)]
+
+mod frames;
+mod laws;
+mod pushing;
+mod replies;
+mod requests;
+mod taking;
+mod whole;
+
+pub use frames::{LONGEST_BODY, LONGEST_REPLY};
+pub use laws::{
+    has_cut, limits, no_frame_begins_another, one_cut, one_reply_a_body, one_request_a_body,
+    replies_fit,
+};
+pub use replies::{Reply, decode_reply, encode_reply, reply_length};
+pub use requests::{Request, decode_request, encode_request};
+
+#[cfg(test)]
+mod tests;

@@ -1,0 +1,341 @@
+//! The bodies of replies.
+ghost use Rattle.std.specs.Prelude.{◌≡◌, ◌≢◌, ◌+◌, ◌≤◌, ◌++◌, ◌∷◌, [], length, vec_len, vec_capacity, IfOk, IfSome, IfNone, IfErr, OnOk, OnErr, IsOk};
+ghost use Rattle.cell_key.specs.Refusals.{refusal_number};
+ghost use Rattle.cell_key.specs.declared.refusals.Refusal.{Refusal as Refusals};
+ghost use Rattle.request_codec.specs.Replies.{replied, reply_body, ReplyBytesFit, IsReply, IsNoReply, NeedsMemory};
+ghost use Rattle.si_model.specs.Replies.{found_reply, progress_reply};
+
+use crate::pushing::{push_byte, push_field, push_u16, push_u64};
+use crate::whole::{whole_bytes, whole_u16, whole_u16_pair, whole_u64};
+use cell_key::{Refusal, Stamp};
+use si_model::{Found, Progress};
+use std::alloc::{AllocError, Global};
+
+/// What the store answers to a request. The fields are those of the operation of the same name.
+#[derive(Debug, Drop)]
+pub enum Reply {
+    /// A session began at this stamp.
+    Begin(Stamp),
+    /// What the read found.
+    Get(Found),
+    /// The write is buffered.
+    Set,
+    /// What the step did.
+    Step(Progress),
+    /// The session has ended.
+    Stop,
+    /// The oracle goes on from its stored mark.
+    OracleRestart,
+    /// The request was refused, and why.
+    Refused(Refusal),
+}
+
+const BEGIN: u8 = 0x81;
+
+const GET: u8 = 0x82;
+
+const NOTHING: u8 = 0x00;
+
+const VALUE: u8 = 0x01;
+
+const PENDING: u8 = 0x02;
+
+const SET: u8 = 0x83;
+
+const STEP: u8 = 0x84;
+
+const HELD: u8 = 0x01;
+
+const CONFLICT: u8 = 0x02;
+
+const STAMPED: u8 = 0x03;
+
+const COMMITTED: u8 = 0x04;
+
+const LOST: u8 = 0x05;
+
+const FINISHED: u8 = 0x06;
+
+const STOP: u8 = 0x85;
+
+const ORACLE_RESTART: u8 = 0x90;
+
+const REFUSED: u8 = 0xFF;
+
+/// The refusal of a number.
+fn refusal_of(number: u8) -> Option<Refusal>
+    ensures found { IfSome result (λ refusal. refusal_number refusal ≡ number) }
+    ensures none { IfNone result ((refusal : Refusals) → refusal_number refusal ≢ number) }
+{
+    Some(match number {
+        1 => Refusal::UnknownSession,
+        2 => Refusal::WrongPhase,
+        3 => Refusal::BadRow,
+        4 => Refusal::BadColumn,
+        5 => Refusal::BadValue,
+        6 => Refusal::TooManyWrites,
+        7 => Refusal::TooManySessions,
+        8 => Refusal::EmptyCommit,
+        9 => Refusal::UnknownCleaner,
+        10 => Refusal::UnknownCollector,
+        11 => Refusal::UnknownTablet,
+        12 => Refusal::BadSplit,
+        13 => Refusal::UnknownServer,
+        14 => Refusal::BadCount,
+        15 => Refusal::MemtableFull,
+        16 => Refusal::TooManyFiles,
+        17 => Refusal::FileTooLarge,
+        18 => Refusal::Exhausted,
+        19 => Refusal::Device,
+        20 => Refusal::NoMemory,
+        21 => Refusal::Damaged,
+        22 => Refusal::BadRequest,
+        23 => Refusal::FrameTooLarge,
+        _ => return None,
+    })
+}
+
+/// What a read found, from the fields of its reply.
+fn decode_found(alloc: Global, fields: &[u8]) -> Result<Option<Found>, AllocError>
+    ensures found { IfOk result (λ found. IfSome found (λ found. IsReply (found_reply found) (0x82 ∷ fields.now))) }
+    ensures none { IfOk result (λ found. IfNone found (IsNoReply (0x82 ∷ fields.now))) }
+    ensures needed { OnErr result (NeedsMemory (0x82 ∷ fields.now)) }
+{
+    let Some((tag, rest)) = fields.split_first() else {
+        return Ok(None);
+    };
+    match *tag {
+        NOTHING => Ok(rest.is_empty().then_some(Found::Nothing)),
+        VALUE => {
+            let Some(value) = whole_bytes(rest) else {
+                return Ok(None);
+            };
+            Ok(Some(Found::Value(Vec::from_slice(alloc, value)?)))
+        }
+        PENDING => {
+            let Some(start) = whole_u64(rest) else {
+                return Ok(None);
+            };
+            Ok(Some(Found::Pending(start)))
+        }
+        _ => Ok(None),
+    }
+}
+
+/// What a step did, from the fields of its reply.
+fn decode_progress(fields: &[u8]) -> Option<Progress>
+    ensures found { IfSome result (λ progress. IsReply (progress_reply progress) (0x84 ∷ fields.now)) }
+    ensures none { IfNone result (IsNoReply (0x84 ∷ fields.now)) }
+{
+    let (tag, rest) = fields.split_first()?;
+    match *tag {
+        HELD => {
+            let (place, count) = whole_u16_pair(rest)?;
+            Some(Progress::Held(place, count))
+        }
+        CONFLICT => {
+            let place = whole_u16(rest)?;
+            Some(Progress::Conflict(place))
+        }
+        STAMPED => {
+            let stamp = whole_u64(rest)?;
+            Some(Progress::Stamped(stamp))
+        }
+        COMMITTED => {
+            let stamp = whole_u64(rest)?;
+            Some(Progress::Committed(stamp))
+        }
+        LOST => rest.is_empty().then_some(Progress::Lost),
+        FINISHED => {
+            let (place, count) = whole_u16_pair(rest)?;
+            Some(Progress::Finished(place, count))
+        }
+        _ => None,
+    }
+}
+
+/// The refusal that the fields of a refusal's body name.
+fn decode_refusal(fields: &[u8]) -> Option<Refusal>
+    ensures found { IfSome result (λ refusal. fields.now ≡ refusal_number refusal ∷ []) }
+    ensures none { IfNone result ((refusal : Refusals) → fields.now ≢ refusal_number refusal ∷ []) }
+{
+    let (number, rest) = fields.split_first()?;
+    if !rest.is_empty() {
+        return None;
+    }
+    refusal_of(*number)
+}
+
+/// The reply of a body that begins with this operation's number, if it is any but a read's.
+fn decode_other(operation: u8, fields: &[u8]) -> Option<Reply>
+    requires { operation ≢ 0x82 }
+    ensures found { IfSome result (λ reply. IsReply (replied reply) (operation ∷ fields.now)) }
+    ensures none { IfNone result (IsNoReply (operation ∷ fields.now)) }
+{
+    match operation {
+        BEGIN => {
+            let start = whole_u64(fields)?;
+            Some(Reply::Begin(start))
+        }
+        SET => fields.is_empty().then_some(Reply::Set),
+        STEP => {
+            let progress = decode_progress(fields)?;
+            Some(Reply::Step(progress))
+        }
+        STOP => fields.is_empty().then_some(Reply::Stop),
+        ORACLE_RESTART => fields.is_empty().then_some(Reply::OracleRestart),
+        REFUSED => {
+            let refusal = decode_refusal(fields)?;
+            Some(Reply::Refused(refusal))
+        }
+        _ => None,
+    }
+}
+
+/// The reply whose body this is, and none where it is the body of no reply.
+/// Refused NoMemory where there is no room for a value.
+pub fn decode_reply(alloc: Global, body: &[u8]) -> Result<Option<Reply>, Refusal>
+    ensures found { IfOk result (λ found. IfSome found (λ reply. IsReply (replied reply) body.now)) }
+    ensures none { IfOk result (λ found. IfNone found (IsNoReply body.now)) }
+    ensures refusal { IfErr result (λ refusal. refusal ≡ Refusal.NoMemory) }
+    // A reply without bytes is never refused.
+    ensures needed { OnErr result (NeedsMemory body.now) }
+{
+    let Some((operation, fields)) = body.split_first() else {
+        return Ok(None);
+    };
+    if *operation != GET {
+        return Ok(decode_other(*operation, fields));
+    }
+    let Some(found) = decode_found(alloc, fields)? else {
+        return Ok(None);
+    };
+    Ok(Some(Reply::Get(found)))
+}
+
+/// How many bytes the body of a reply has.
+#[tactic(auto, using(crate::proofs::Fields::lengths))]
+pub fn reply_length(reply: &Reply) -> usize
+    requires { ReplyBytesFit (replied reply.now) }
+    ensures { result ≡ length (reply_body (replied reply.now)) }
+{
+    match reply {
+        Reply::Begin(_) => 9,
+        Reply::Get(Found::Nothing) | Reply::Refused(_) => 2,
+        Reply::Get(Found::Value(value)) => 6 + value.len(),
+        Reply::Get(Found::Pending(_)) => 10,
+        Reply::Set | Reply::Stop | Reply::OracleRestart => 1,
+        Reply::Step(progress) => progress_length(*progress),
+    }
+}
+
+/// How many bytes the body of a step's reply has.
+#[tactic(auto, using(crate::proofs::Fields::lengths))]
+fn progress_length(progress: Progress) -> usize
+    ensures { result ≡ length (reply_body (progress_reply progress)) }
+{
+    match progress {
+        Progress::Held(..) | Progress::Finished(..) => 6,
+        Progress::Conflict(_) => 4,
+        Progress::Stamped(_) | Progress::Committed(_) => 10,
+        Progress::Lost => 2,
+    }
+}
+
+/// Appends the body of a read's reply.
+#[tactic(auto, using(crate::proofs::Fields::lengths))]
+fn push_found(found: &Found, out: &mut Vec<u8>)
+    requires fits { ReplyBytesFit (found_reply found.now) }
+    requires room { vec_len out.old + length (reply_body (found_reply found.now)) ≤ vec_capacity out.old }
+    ensures items { out.new.items ≡ out.old.items ++ reply_body (found_reply found.now) }
+    ensures capacity { vec_capacity out.old ≤ vec_capacity out.new }
+{
+    push_byte(out, GET);
+    match found {
+        Found::Nothing => push_byte(out, NOTHING),
+        Found::Value(value) => {
+            push_byte(out, VALUE);
+            push_field(out, value);
+        }
+        Found::Pending(start) => {
+            push_byte(out, PENDING);
+            push_u64(out, *start);
+        }
+    }
+}
+
+/// Appends the body of a step's reply.
+#[tactic(auto, using(crate::proofs::Fields::lengths))]
+fn push_progress(progress: Progress, out: &mut Vec<u8>)
+    requires { vec_len out.old + length (reply_body (progress_reply progress)) ≤ vec_capacity out.old }
+    ensures items { out.new.items ≡ out.old.items ++ reply_body (progress_reply progress) }
+    ensures capacity { vec_capacity out.old ≤ vec_capacity out.new }
+{
+    push_byte(out, STEP);
+    match progress {
+        Progress::Held(place, count) => {
+            push_byte(out, HELD);
+            push_u16(out, place);
+            push_u16(out, count);
+        }
+        Progress::Conflict(place) => {
+            push_byte(out, CONFLICT);
+            push_u16(out, place);
+        }
+        Progress::Stamped(stamp) => {
+            push_byte(out, STAMPED);
+            push_u64(out, stamp);
+        }
+        Progress::Committed(stamp) => {
+            push_byte(out, COMMITTED);
+            push_u64(out, stamp);
+        }
+        Progress::Lost => push_byte(out, LOST),
+        Progress::Finished(place, count) => {
+            push_byte(out, FINISHED);
+            push_u16(out, place);
+            push_u16(out, count);
+        }
+    }
+}
+
+/// Appends the body of a reply.
+#[tactic(auto, using(crate::proofs::Fields::lengths))]
+fn push_reply(reply: &Reply, out: &mut Vec<u8>)
+    requires fits { ReplyBytesFit (replied reply.now) }
+    requires room { vec_len out.old + length (reply_body (replied reply.now)) ≤ vec_capacity out.old }
+    ensures items { out.new.items ≡ out.old.items ++ reply_body (replied reply.now) }
+    ensures capacity { vec_capacity out.old ≤ vec_capacity out.new }
+{
+    match reply {
+        Reply::Begin(start) => {
+            push_byte(out, BEGIN);
+            push_u64(out, *start);
+        }
+        Reply::Get(found) => push_found(found, out),
+        Reply::Set => push_byte(out, SET),
+        Reply::Step(progress) => push_progress(*progress, out),
+        Reply::Stop => push_byte(out, STOP),
+        Reply::OracleRestart => push_byte(out, ORACLE_RESTART),
+        Reply::Refused(refusal) => {
+            push_byte(out, REFUSED);
+            push_byte(out, refusal.number());
+        }
+    }
+}
+
+/// Appends the body of a reply, whose value has at most 4,294,967,295 bytes. Refused NoMemory where there is no
+/// room for it, and then `out` is as it was.
+pub fn encode_reply(reply: &Reply, out: &mut Vec<u8>) -> Result<(), Refusal>
+    requires { ReplyBytesFit (replied reply.now) }
+    ensures ok { OnOk result (out.new.items ≡ out.old.items ++ reply_body (replied reply.now)) }
+    ensures err { OnErr result (out.new.items ≡ out.old.items) }
+    ensures refusal { IfErr result (λ refusal. refusal ≡ Refusal.NoMemory) }
+    // Where there is room it succeeds.
+    ensures room { vec_len out.old + length (reply_body (replied reply.now)) ≤ vec_capacity out.old → IsOk result }
+    ensures capacity { vec_capacity out.old ≤ vec_capacity out.new }
+{
+    out.reserve(reply_length(reply))?;
+    push_reply(reply, out);
+    Ok(())
+}
