@@ -21,3 +21,6 @@ mod Transfers
 mod Races
 mod Cleaned
 mod Placing
+pub mod ShownAt
+pub mod ShownKept
+pub mod ShownTouched

@@ -6,3 +6,4 @@ pub mod Machine
 pub mod Laws
 pub mod Replies
 pub mod Runs
+pub mod ShowsCells

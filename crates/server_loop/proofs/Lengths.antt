@@ -1,0 +1,38 @@
+-- The body of a reply fits its frame.
+use Rattle.std.proofs.Common.{◌≡◌, ◌+◌, ◌≤◌, ℕ, List, length, arith, length-append}
+use Rattle.byteorder.specs.Numbers.{length-bytes_high_first}
+use Rattle.si_model.specs.declared.replies.Found.TheVariants as founds
+use Rattle.si_model.specs.declared.replies.Progress.TheVariants as steps
+use Rattle.request_codec.specs.Fields.{number, field}
+use Rattle.request_codec.specs.Replies.{replied, reply_body, ReplyBytesFit}
+use Rattle.request_codec.specs.declared.replies.Reply.{Reply}
+use Rattle.request_codec.specs.declared.replies.Reply.TheVariants as kept
+use Rattle.server_loop.specs.Runs.{HasShortValue}
+
+length-number : (k n : ℕ) → length (number k n) ≡ k
+unfolding number
+length-number k n = length-bytes_high_first k n
+
+length-field : (bytes : List ℕ) → length (field bytes) ≡ 4 + length bytes
+unfolding field
+length-field bytes = omega (arith, length-append (number 4 (length bytes)) bytes, length-number 4 (length bytes))
+
+pub record FitsFrame (reply : Reply) : Type 0 where
+  pub short : length (reply_body (replied reply)) + 4 ≤ 65554
+  pub bytes : ReplyBytesFit (replied reply)
+
+pub fits_frame : (reply : Reply) → HasShortValue reply → FitsFrame reply
+fits_frame (kept.Begin s) h = record { short = omega (arith, length-number 8 s); bytes = tt }
+fits_frame (kept.Get (founds.Value value)) h = record { short = omega (arith, length-field value.items, h); bytes = omega (arith, h) }
+fits_frame (kept.Get founds.Nothing) h = record { short = omega arith; bytes = tt }
+fits_frame (kept.Get (founds.Pending s)) h = record { short = omega (arith, length-number 8 s); bytes = tt }
+fits_frame kept.Set h = record { short = omega arith; bytes = tt }
+fits_frame (kept.Step (steps.Held k n)) h = record { short = omega (arith, length-append (number 2 k) (number 2 n), length-number 2 k, length-number 2 n); bytes = tt }
+fits_frame (kept.Step (steps.Conflict k)) h = record { short = omega (arith, length-number 2 k); bytes = tt }
+fits_frame (kept.Step (steps.Stamped s)) h = record { short = omega (arith, length-number 8 s); bytes = tt }
+fits_frame (kept.Step (steps.Committed s)) h = record { short = omega (arith, length-number 8 s); bytes = tt }
+fits_frame (kept.Step steps.Lost) h = record { short = omega arith; bytes = tt }
+fits_frame (kept.Step (steps.Finished k n)) h = record { short = omega (arith, length-append (number 2 k) (number 2 n), length-number 2 k, length-number 2 n); bytes = tt }
+fits_frame kept.Stop h = record { short = omega arith; bytes = tt }
+fits_frame kept.OracleRestart h = record { short = omega arith; bytes = tt }
+fits_frame (kept.Refused refusal) h = record { short = omega arith; bytes = tt }

@@ -1,0 +1,23 @@
+-- Runs over what was taken lead from reached states to reached states, which obey the laws.
+use Rattle.std.proofs.Common.{List, [], ◌∷◌, ◌++◌, subst}
+use Rattle.si_model.specs.Machine.{State, Request, Reply, Step, rests, goes_on, IsReached, runs}
+use Rattle.si_model.proofs.Steps.{reached_sound}
+use Rattle.si_model.proofs.Gone.{fates}
+use Rattle.server_loop.specs.Runs.{Taken, RunOver, ObeysLaws}
+
+pub RunOver-append : (a m e : State) (ts us : List Taken) (rs qs : List Reply) → RunOver a ts rs m → RunOver m us qs e → RunOver a (ts ++ us) (rs ++ qs) e
+RunOver-append a m e [] us [] qs p q = subst (λ (s : State). RunOver s us qs e) p q
+RunOver-append a m e (t ∷ ts) us (r ∷ rs) qs p q = (p.0, p.1, RunOver-append p.0 m e ts us rs qs p.2 q)
+RunOver-append a m e [] us (r ∷ rs) qs p q = absurd p
+RunOver-append a m e (t ∷ ts) us [] qs p q = absurd p
+
+pub reached_step : (st next : State) (request : Request) (reply : Reply) → IsReached st → Step st request reply next → IsReached next
+reached_step st next request reply reached step = runs reached (goes_on step rests)
+
+pub laws_of : (st : State) → IsReached st → ObeysLaws st
+laws_of st reached = record {
+  settled = (reached_sound reached).settled;
+  first_committer = (reached_sound reached).first_committer;
+  one_fate = fates st reached;
+  one_mark = (reached_sound reached).one_mark;
+}

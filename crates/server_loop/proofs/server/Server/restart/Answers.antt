@@ -1,0 +1,15 @@
+use Rattle.std.proofs.Common.{arith}
+use Rattle.server_loop.proofs.Stepping.{restart_done, restart_refused}
+use Rattle.server_loop.proofs.server.Server.restart.Goals as goal
+
+pub returns-in-Ok-clause-step : goal.returns-in-Ok-clause-step
+returns-in-Ok-clause-step g c = restart_done _ _ _ _ (λ st shown. record {
+  in_order = shown.in_order;
+  shows = record { store = shown.shows.store; sessions = shown.shows.sessions; top = omega (arith, shown.shows.top, c.in-Ok.ensures.rises) };
+})
+
+pub returns-in-Err-clause-step : goal.returns-in-Err-clause-step
+returns-in-Err-clause-step g c = restart_refused _ _ _ _ _ c.in-Err.ensures.refusal (λ st shown. record {
+  in_order = shown.in_order;
+  shows = record { store = shown.shows.store; sessions = shown.shows.sessions; top = omega (arith, shown.shows.top, c.in-Err.ensures.rises) };
+})

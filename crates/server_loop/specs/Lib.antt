@@ -1,0 +1,6 @@
+pub mod Statuses
+pub mod Refusals
+pub mod Runs
+pub mod Serve
+pub mod Server
+pub mod Filling

@@ -1,0 +1,67 @@
+-- The machine's run over what a server takes from a stream.
+use Rattle.std.specs.Prelude.{◌≡◌, ℕ, ◌≤◌, List, [], ◌∷◌, length, ◌⊎◌, ⊤}
+use Rattle.cell_key.specs.declared.refusals.Refusal.{Refusal}
+use Rattle.cell_key.specs.declared.refusals.Refusal.TheVariants.{BadRequest, FrameTooLarge, Damaged}
+use Rattle.si_model.specs.Machine.{State, Reply, Refused, Step, IsReached}
+use Rattle.si_model.specs.Laws.{IsSettled, FirstCommitterWins, OneFate, OneMark}
+use Rattle.request_codec.specs.Requests.{IsRequest, IsMalformed}
+use Rattle.si_model.specs.Machine as machine
+use Rattle.si_model.specs.declared.replies.Found.TheVariants.{Value}
+use Rattle.request_codec.specs.declared.replies.Reply.{Reply as Kept}
+use Rattle.request_codec.specs.declared.replies.Reply.TheVariants as kept
+
+-- what the machine takes from a stream: a whole body, or a length past the limit
+pub data Taken : Type 0 where
+  Body : (body : List ℕ) → Taken
+  Oversize : Taken
+
+-- A body in the grammar is a step of the machine. Any other is refused, and so is a length past the limit.
+abbrev pub Answers : State → Taken → Reply → State → Type 0
+Answers old (Body body) reply new = ((request : machine.Request) × IsRequest request body × Step old request reply new)
+    ⊎ (IsMalformed body × (reply ≡ Refused BadRequest) × (new ≡ old))
+Answers old Oversize reply new = (reply ≡ Refused FrameTooLarge) × (new ≡ old)
+
+-- one answer after the other
+abbrev pub RunOver : State → List Taken → List Reply → State → Type 0
+RunOver old [] [] new = new ≡ old
+RunOver old (taken ∷ more) (reply ∷ replies) new = (mid : State) × Answers old taken reply mid × RunOver mid more replies new
+RunOver old [] (reply ∷ replies) new = ⊥
+RunOver old (taken ∷ more) [] new = ⊥
+
+-- the laws of snapshot isolation at a state
+pub record ObeysLaws (st : State) : Type 0 where
+  -- each answered value is the last one committed by its session's start, in the commits as they are now
+  pub settled : IsSettled st
+  -- no two commits of one cell overlap
+  pub first_committer : FirstCommitterWins st
+  -- no start is both rolled back and committed, or committed twice
+  pub one_fate : OneFate st
+  -- a cell is held by at most one session
+  pub one_mark : OneMark st
+
+-- The machine went from a state by these answers to one that is shown and obeys the laws.
+pub record RunsTo (before : State) (shown : State → Type 0) (taken : List Taken) (replies : List Reply) : Type 0 where
+  pub after : State
+  pub run : RunOver before taken replies after
+  pub reached : IsReached after
+  pub laws : ObeysLaws after
+  pub shows : shown after
+
+-- These replies are those of a run, from each reached state that is shown before to one that is shown after.
+abbrev pub AnswersAs : {S : Type 0} → (S → State → Type 0) → S → S → List Taken → List Reply → Type 0
+AnswersAs shows old new taken replies = (before : State) → IsReached before → shows old before → RunsTo before (shows new) taken replies
+
+-- This reply is a step of the machine, from each reached state that is shown before to one that is shown after. It is never that bytes are damaged.
+abbrev pub StepsAs : {S : Type 0} → (S → State → Type 0) → S → S → machine.Request → Reply → Type 0
+StepsAs shows old new request reply = (before : State) → IsReached before → shows old before
+    → (after : State) × Step before request reply after × shows new after × (reply ≡ Refused Damaged → ⊥)
+
+-- a value that is answered has at most 65,536 bytes
+abbrev pub HasShortValue : Kept → Type 0
+HasShortValue (kept.Get (Value value)) = length value.items ≤ 65536
+HasShortValue other = ⊤
+
+-- what holds of a reply's refusal, if it is one
+abbrev pub IfRefused : (Refusal → Type 0) → Reply → Type 0
+IfRefused P (Refused refusal) = P refusal
+IfRefused P reply = ⊤

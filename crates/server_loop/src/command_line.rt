@@ -1,0 +1,14 @@
+//! The command line.
+
+/// How many entries a memtable has, where the command line says nothing else, before it is compacted.
+pub const DEFAULT_FLUSH: u32 = 10_000;
+
+/// The greatest number that `--flush` takes. The least is 1.
+pub const MOST_FLUSH: u32 = 100_000;
+
+/// What the command line says.
+#[derive(Clone, Copy, Debug, PartialEq, Eq)]
+pub struct Options {
+    /// How many entries a memtable has before it is compacted: 1 to 100,000.
+    pub flush: u32,
+}

@@ -1,0 +1,15 @@
+//! The server: a stream of framed requests is answered, reply by reply, as a run of the snapshot machine.
+#![tactic(auto)]
+
+mod command_line;
+mod ends;
+mod frames;
+mod operations;
+mod server;
+mod serving;
+mod words;
+
+pub use command_line::{DEFAULT_FLUSH, MOST_FLUSH, Options};
+pub use ends::{End, ServeFault, end_status, open_status};
+pub use server::Server;
+pub use words::options;

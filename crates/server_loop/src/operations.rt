@@ -1,0 +1,92 @@
+//! The operations of the server, one step of the snapshot machine each.
+
+ghost use Rattle.std.specs.Prelude.{◌≡◌, IfSome};
+ghost use Rattle.si_model.specs.Machine as machine;
+ghost use Rattle.request_codec.specs.Replies.{replied};
+ghost use Rattle.server_loop.specs.Runs.{StepsAs, HasShortValue, IfRefused};
+ghost use Rattle.txn_client.specs.Reads.{cell_of};
+ghost use Rattle.txn_client.specs.Refusals.{IsBeginRefusal, IsGetRefusal, IsSetRefusal, IsStepRefusal};
+
+use crate::server::Server;
+use cell_key::{Refusal, Stamp};
+use oracle::MarkStore;
+use request_codec::Reply;
+use row_atomic::Rows;
+
+impl<R: Rows + Drop, M: MarkStore + Drop> Server<R, M> {
+    ghost use Rattle.server_loop.specs.Server.{Shows, IsFaultSeen, last_of, marks_of};
+
+    pub(crate) fn begin(&mut self) -> Reply
+        ensures step { StepsAs (Shows R.cells R.holds) self.old self.new machine.Begin (replied result) }
+        ensures refusal { IfRefused IsBeginRefusal (replied result) }
+        ensures short { HasShortValue result }
+        ensures device { result ≡ Reply.Refused Refusal.Device → IsFaultSeen R.faults M.faults self.old self.new }
+    {
+        match self.clients.begin(&mut self.oracle) {
+            Ok(start) => Reply::Begin(start),
+            Err(refusal) => Reply::Refused(refusal),
+        }
+    }
+
+    pub(crate) fn get(&mut self, start: Stamp, row: &[u8], family: &[u8]) -> Reply
+        ensures step { StepsAs (Shows R.cells R.holds) self.old self.new (machine.Get start (cell_of row.now family.now)) (replied result) }
+        ensures refusal { IfRefused IsGetRefusal (replied result) }
+        ensures short { HasShortValue result }
+        ensures device { result ≡ Reply.Refused Refusal.Device → IsFaultSeen R.faults M.faults self.old self.new }
+    {
+        match self.clients.get(&mut self.rows, start, row, family) {
+            Ok(found) => Reply::Get(found),
+            Err(refusal) => Reply::Refused(refusal),
+        }
+    }
+
+    pub(crate) fn set(&mut self, start: Stamp, row: &[u8], family: &[u8], value: &[u8]) -> Reply
+        ensures step { StepsAs (Shows R.cells R.holds) self.old self.new (machine.Set start (cell_of row.now family.now) value.now) (replied result) }
+        ensures refusal { IfRefused IsSetRefusal (replied result) }
+        ensures short { HasShortValue result }
+        ensures device { result ≡ Reply.Refused Refusal.Device → IsFaultSeen R.faults M.faults self.old self.new }
+    {
+        match self.clients.set(start, row, family, value) {
+            Ok(()) => Reply::Set,
+            Err(refusal) => Reply::Refused(refusal),
+        }
+    }
+
+    pub(crate) fn step(&mut self, start: Stamp) -> Reply
+        ensures step { StepsAs (Shows R.cells R.holds) self.old self.new (machine.Advance start) (replied result) }
+        ensures refusal { IfRefused IsStepRefusal (replied result) }
+        ensures short { HasShortValue result }
+        ensures device { result ≡ Reply.Refused Refusal.Device → IsFaultSeen R.faults M.faults self.old self.new }
+    {
+        match self.clients.step(&mut self.rows, &mut self.oracle, start) {
+            Ok(progress) => Reply::Step(progress),
+            Err(refusal) => Reply::Refused(refusal),
+        }
+    }
+
+    pub(crate) fn stop(&mut self, start: Stamp) -> Reply
+        ensures step { StepsAs (Shows R.cells R.holds) self.old self.new (machine.Stop start) (replied result) }
+        ensures refusal { IfRefused (λ refusal. refusal ≡ Refusal.UnknownSession) (replied result) }
+        ensures short { HasShortValue result }
+        ensures device { result ≡ Reply.Refused Refusal.Device → IsFaultSeen R.faults M.faults self.old self.new }
+    {
+        match self.clients.stop(start) {
+            Ok(()) => Reply::Stop,
+            Err(refusal) => Reply::Refused(refusal),
+        }
+    }
+
+    pub(crate) fn restart(&mut self) -> Reply
+        ensures step { StepsAs (Shows R.cells R.holds) self.old self.new machine.OracleRestart (replied result) }
+        ensures refusal { IfRefused (λ refusal. refusal ≡ Refusal.Device) (replied result) }
+        // Where the mark is told, the oracle goes on from it.
+        ensures restarted { result ≡ Reply.OracleRestart → IfSome (M.mark (marks_of self.old)) (λ mark. last_of self.new ≡ mark) }
+        ensures short { HasShortValue result }
+        ensures device { result ≡ Reply.Refused Refusal.Device → IsFaultSeen R.faults M.faults self.old self.new }
+    {
+        match self.oracle.restart() {
+            Ok(()) => Reply::OracleRestart,
+            Err(refusal) => Reply::Refused(refusal),
+        }
+    }
+}

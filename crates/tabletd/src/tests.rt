@@ -1,0 +1,300 @@
+//! The store as its users meet it: streams of requests with the replies that they get.
+
+mod rows;
+mod statuses;
+mod streams;
+
+use oracle::MemMark;
+use request_codec::{Reply, Request};
+use row_atomic::PlainRows;
+use rows::Exchange;
+use server_loop::{End, ServeFault, Server, end_status};
+use std::alloc::{AllocError, Global};
+use std::cell::Cell;
+use std::test::Fail;
+use streams::{Asking, Narrow, Pieces, Telling};
+
+type MemServer = Server<PlainRows, MemMark>;
+
+/// Each row of exchanges, on a server of its own.
+const ROWS: [&[Exchange]; 9] = [
+    &rows::FIRST_CELL,
+    &rows::TRANSFER,
+    &rows::COMMIT_POINT,
+    &rows::FIRST_COMMITTER,
+    &rows::SECOND_COMMITTER,
+    &rows::ORACLE_RESTART,
+    &rows::ORACLE_RANGES,
+    &rows::WRITE_SKEW,
+    &rows::PHASES,
+];
+
+fn new_server(alloc: Global) -> Result<MemServer, Fail> {
+    match Server::new(alloc, PlainRows::new(alloc), MemMark::new()) {
+        Ok(server) => Ok(server),
+        Err((refusal, _, _)) => Err(Fail::from(refusal)),
+    }
+}
+
+fn push_frame(out: &mut Vec<u8>, body: &[u8]) -> Result<(), AllocError> {
+    let length = u32::try_from(body.len()).unwrap_or(0);
+    out.extend_from_slice(&length.to_be_bytes())?;
+    out.extend_from_slice(body)
+}
+
+fn requests_of(alloc: Global, row: &[Exchange]) -> Result<Vec<u8>, AllocError> {
+    let mut stream = Vec::new(alloc);
+    for (request, _) in row {
+        push_frame(&mut stream, request)?;
+    }
+    Ok(stream)
+}
+
+fn replies_of(alloc: Global, row: &[Exchange]) -> Result<Vec<u8>, AllocError> {
+    let mut stream = Vec::new(alloc);
+    for (_, reply) in row {
+        push_frame(&mut stream, reply)?;
+    }
+    Ok(stream)
+}
+
+/// What a new server writes for what the reader gives, where it ends cleanly.
+fn answers_to(alloc: Global, mut reader: Pieces) -> Result<Option<Vec<u8>>, Fail> {
+    let mut server = new_server(alloc)?;
+    let mut written = Vec::new(alloc);
+    match server.serve(&mut reader, &mut written, u64::MAX) {
+        Ok(End::Clean) => Ok(Some(written)),
+        _ => Ok(None),
+    }
+}
+
+#[test]
+fn rows_are_met(rt: HostRuntime) -> Result<(), Fail> {
+    for row in ROWS {
+        let requests = requests_of(rt.alloc(), row)?;
+        let reader = Pieces::new(rt.alloc(), &requests)?;
+        let written = answers_to(rt.alloc(), reader)?;
+        assert!(rt; written == Some(replies_of(rt.alloc(), row)?));
+    }
+    Ok(())
+}
+
+#[test]
+fn rows_are_met_byte_by_byte(rt: HostRuntime) -> Result<(), Fail> {
+    for row in ROWS {
+        let requests = requests_of(rt.alloc(), row)?;
+        let mut reader = Pieces::new(rt.alloc(), &requests)?;
+        reader.most = 1;
+        let written = answers_to(rt.alloc(), reader)?;
+        assert!(rt; written == Some(replies_of(rt.alloc(), row)?));
+    }
+    Ok(())
+}
+
+/// Whether the row is met where its stream is cut in two at each place.
+fn is_met_in_two(alloc: Global, row: &[Exchange]) -> Result<bool, Fail> {
+    let requests = requests_of(alloc, row)?;
+    let replies = replies_of(alloc, row)?;
+    for cut in 0..requests.len() {
+        let mut reader = Pieces::new(alloc, &requests)?;
+        reader.cut = cut;
+        let written = answers_to(alloc, reader)?;
+        if written.as_ref() != Some(&replies) {
+            return Ok(false);
+        }
+    }
+    Ok(true)
+}
+
+#[test]
+fn transfer_in_two_pieces(rt: HostRuntime) -> Result<(), Fail> {
+    assert!(rt; is_met_in_two(rt.alloc(), &rows::TRANSFER)?);
+    Ok(())
+}
+
+#[test]
+fn commit_point_in_two_pieces(rt: HostRuntime) -> Result<(), Fail> {
+    assert!(rt; is_met_in_two(rt.alloc(), &rows::COMMIT_POINT)?);
+    Ok(())
+}
+
+#[test]
+fn write_skew_in_two_pieces(rt: HostRuntime) -> Result<(), Fail> {
+    assert!(rt; is_met_in_two(rt.alloc(), &rows::WRITE_SKEW)?);
+    Ok(())
+}
+
+#[test]
+fn small_rows_in_two_pieces(rt: HostRuntime) -> Result<(), Fail> {
+    assert!(rt; is_met_in_two(rt.alloc(), &rows::FIRST_CELL)?);
+    assert!(rt; is_met_in_two(rt.alloc(), &rows::FIRST_COMMITTER)?);
+    assert!(rt; is_met_in_two(rt.alloc(), &rows::SECOND_COMMITTER)?);
+    assert!(rt; is_met_in_two(rt.alloc(), &rows::ORACLE_RESTART)?);
+    assert!(rt; is_met_in_two(rt.alloc(), &rows::ORACLE_RANGES)?);
+    assert!(rt; is_met_in_two(rt.alloc(), &rows::PHASES)?);
+    Ok(())
+}
+
+/// Input, output and the exit status.
+const ENDS: [(&[u8], &[u8], u8); 8] = [
+    // empty input
+    (b"", b"", 0),
+    // one begin
+    (b"\0\0\0\x01\x01", b"\0\0\0\x09\x81\0\0\0\0\0\0\0\x01", 0),
+    // a bad body, a begin, and then too large a frame
+    (
+        b"\0\0\0\x02\x01\0\0\0\0\x01\x01\0\x10\0\x01",
+        b"\0\0\0\x02\xFF\x16\0\0\0\x09\x81\0\0\0\0\0\0\0\x01\0\0\0\x02\xFF\x17",
+        3,
+    ),
+    // cut inside a length
+    (b"\0\0\0", b"", 2),
+    (b"\xFF\xFF\xFF", b"", 2),
+    // cut inside a body
+    (b"\0\0\0\x09\x04\0", b"", 2),
+    // an empty body
+    (b"\0\0\0\0", b"\0\0\0\x02\xFF\x16", 0),
+    // too large a frame alone
+    (b"\xFF\xFF\xFF\xFF", b"\0\0\0\x02\xFF\x17", 3),
+];
+
+#[test]
+fn ends_of_streams(rt: HostRuntime) -> Result<(), Fail> {
+    for (input, output, status) in ENDS {
+        let mut server = new_server(rt.alloc())?;
+        let mut reader = Pieces::new(rt.alloc(), input)?;
+        let mut written = Vec::new(rt.alloc());
+        let ended = server.serve(&mut reader, &mut written, u64::MAX);
+        assert_eq!(rt; written.as_slice(), output);
+        assert_eq!(rt; end_status(&ended).0, status);
+    }
+    Ok(())
+}
+
+#[test]
+fn reads_are_counted(rt: HostRuntime) -> Result<(), Fail> {
+    let mut server = new_server(rt.alloc())?;
+    let mut reader = Pieces::new(rt.alloc(), b"\0\0\0\x01\x01\0\0\0\x01\x01")?;
+    let mut written = Vec::new(rt.alloc());
+    let ended = server.serve(&mut reader, &mut written, 3);
+    assert!(rt; matches!(&ended, Ok(End::ReadsUsedUp)));
+    assert_eq!(rt;
+        written.as_slice(),
+        b"\0\0\0\x09\x81\0\0\0\0\0\0\0\x01".as_slice()
+    );
+    Ok(())
+}
+
+#[test]
+fn a_read_fails_inside_a_frame(rt: HostRuntime) -> Result<(), Fail> {
+    let mut server = new_server(rt.alloc())?;
+    let mut reader = Pieces::new(rt.alloc(), b"\0\0\0\x01\x01\0\0\0\x01\x01")?;
+    reader.most = 1;
+    reader.fails_at = 7;
+    let mut written = Vec::new(rt.alloc());
+    let ended = server.serve(&mut reader, &mut written, u64::MAX);
+    assert!(rt; matches!(&ended, Err(ServeFault::Read)));
+    assert_eq!(rt;
+        written.as_slice(),
+        b"\0\0\0\x09\x81\0\0\0\0\0\0\0\x01".as_slice()
+    );
+    Ok(())
+}
+
+/// Whether a writer that gives up after so many calls got just as many bytes of the first cell's replies.
+fn is_cut_short(alloc: Global, calls_left: usize, stalls: bool) -> Result<bool, Fail> {
+    let requests = requests_of(alloc, &rows::FIRST_CELL)?;
+    let replies = replies_of(alloc, &rows::FIRST_CELL)?;
+    let mut server = new_server(alloc)?;
+    let mut reader = Pieces::new(alloc, &requests)?;
+    let mut writer = Narrow {
+        written: Vec::new(alloc),
+        calls_left,
+        stalls,
+    };
+    let ended = server.serve(&mut reader, &mut writer, u64::MAX);
+    let Some(beginning) = replies.get(..calls_left) else {
+        return Ok(matches!(&ended, Ok(End::Clean)) && writer.written == replies);
+    };
+    let is_whole = calls_left == replies.len();
+    let is_told = match &ended {
+        Err(ServeFault::Write) => !is_whole,
+        Ok(End::Clean) => is_whole,
+        _ => false,
+    };
+    Ok(is_told && writer.written.as_slice() == beginning)
+}
+
+#[test]
+fn a_write_fails_at_each_call(rt: HostRuntime) -> Result<(), Fail> {
+    for calls_left in 0..=80 {
+        assert!(rt; is_cut_short(rt.alloc(), calls_left, false)?);
+        assert!(rt; is_cut_short(rt.alloc(), calls_left, true)?);
+    }
+    Ok(())
+}
+
+#[test]
+fn a_reply_leaves_before_the_next_read(rt: HostRuntime) -> Result<(), Fail> {
+    let left = Cell::new(false);
+    let mut server = new_server(rt.alloc())?;
+    let mut reader = Asking {
+        first: b"\0\0\0\x01\x01",
+        second: b"\0\0\0\x01\x01",
+        left: &left,
+    };
+    let mut writer = Telling {
+        written: Vec::new(rt.alloc()),
+        left: &left,
+    };
+    let ended = server.serve(&mut reader, &mut writer, u64::MAX);
+    assert!(rt; matches!(&ended, Ok(End::Clean)));
+    assert_eq!(rt; writer.written.len(), 26);
+    Ok(())
+}
+
+/// The number of the refusal of a reply, and 0 where it is none.
+fn refusal_of(reply: &Reply) -> u8 {
+    match reply {
+        Reply::Refused(refusal) => refusal.number(),
+        _ => 0,
+    }
+}
+
+fn set<'a>(row: &'a [u8], value: &'a [u8]) -> Request<'a> {
+    Request::Set {
+        start: 1,
+        row,
+        family: b"c",
+        value,
+    }
+}
+
+#[test]
+fn limits_of_a_session(rt: HostRuntime) -> Result<(), Fail> {
+    let longest = vec![in rt.alloc(); b'v'; 65_536]?;
+    let too_long = vec![in rt.alloc(); b'v'; 65_537]?;
+    let mut server = new_server(rt.alloc())?;
+    assert_eq!(rt; refusal_of(&server.answer(Request::Begin)), 0);
+    assert_eq!(rt; refusal_of(&server.answer(Request::Step { start: 1 })), 8);
+    assert_eq!(rt; refusal_of(&server.answer(set(&[0], &longest))), 0);
+    assert_eq!(rt; refusal_of(&server.answer(set(&[0], &too_long))), 5);
+    for row in 1..=255u8 {
+        assert_eq!(rt; refusal_of(&server.answer(set(&[row], b"v"))), 0);
+    }
+    assert_eq!(rt; refusal_of(&server.answer(set(b"another", b"v"))), 6);
+    assert_eq!(rt; refusal_of(&server.answer(set(&[0], b"w"))), 0);
+    Ok(())
+}
+
+#[test]
+fn at_most_1024_sessions(rt: HostRuntime) -> Result<(), Fail> {
+    let mut server = new_server(rt.alloc())?;
+    for _ in 0..1024 {
+        assert_eq!(rt; refusal_of(&server.answer(Request::Begin)), 0);
+    }
+    assert_eq!(rt; refusal_of(&server.answer(Request::Begin)), 7);
+    assert_eq!(rt; refusal_of(&server.answer(Request::Stop { start: 1 })), 0);
+    assert_eq!(rt; refusal_of(&server.answer(Request::Begin)), 0);
+    Ok(())
+}

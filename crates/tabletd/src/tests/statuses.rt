@@ -1,0 +1,80 @@
+//! Exit statuses and the command line.
+
+use cell_key::Refusal;
+use server_loop::{End, ServeFault, end_status, open_status, options};
+use std::test::Fail;
+
+#[test]
+fn statuses_of_ends(rt: HostRuntime) -> Result<(), Fail> {
+    let table = [
+        (Ok(End::Clean), 0, ""),
+        (Ok(End::Truncated), 2, "tabletd: input ends inside a frame"),
+        (Ok(End::TooLarge), 3, "tabletd: frame too large"),
+        (Err(ServeFault::Read), 6, "tabletd: read or write failed"),
+        (Err(ServeFault::Write), 6, "tabletd: read or write failed"),
+        (Err(ServeFault::NoMemory), 7, "tabletd: no memory"),
+        (Ok(End::ReadsUsedUp), 8, "tabletd: reads used up"),
+    ];
+    for (ended, status, line) in &table {
+        let told = end_status(ended);
+        assert_eq!(rt; told.0, *status);
+        assert_eq!(rt; told.1, *line);
+    }
+    Ok(())
+}
+
+#[test]
+fn statuses_of_openings(rt: HostRuntime) -> Result<(), Fail> {
+    let table = [
+        (Refusal::Device, 4, "tabletd: device failed at open"),
+        (Refusal::Damaged, 5, "tabletd: damaged at open"),
+        (Refusal::NoMemory, 7, "tabletd: no memory"),
+        (Refusal::Exhausted, 7, "tabletd: no memory"),
+    ];
+    for (refusal, status, line) in &table {
+        let told = open_status(refusal);
+        assert_eq!(rt; told.0, *status);
+        assert_eq!(rt; told.1, *line);
+    }
+    Ok(())
+}
+
+#[test]
+fn command_lines(rt: HostRuntime) -> Result<(), Fail> {
+    let alloc = rt.alloc();
+    assert_eq!(rt; options(alloc, ["tabletd"].as_slice())?.flush, 10_000);
+    assert_eq!(rt;
+        options(alloc, ["tabletd", "--flush", "1"].as_slice())?.flush,
+        1
+    );
+    assert_eq!(rt;
+        options(alloc, ["tabletd", "--flush", "100000"].as_slice())?.flush,
+        100_000
+    );
+    assert_eq!(rt;
+        options(alloc, ["tabletd", "--flush=7"].as_slice())?.flush,
+        7
+    );
+    assert!(rt; options(alloc, ["tabletd", "--flush", "0"].as_slice()).is_err());
+    assert!(rt; options(alloc, ["tabletd", "--flush", "100001"].as_slice()).is_err());
+    assert!(rt; options(alloc, ["tabletd", "--flush", "x"].as_slice()).is_err());
+    assert!(rt; options(alloc, ["tabletd", "--flush"].as_slice()).is_err());
+    assert!(rt; options(alloc, ["tabletd", "--dir", "d"].as_slice()).is_err());
+    assert!(rt; options(alloc, ["tabletd", "more"].as_slice()).is_err());
+    assert!(rt; options(alloc, ["tabletd", "--help"].as_slice()).is_err());
+    Ok(())
+}
+
+#[test]
+fn texts_of_faults(rt: HostRuntime) -> Result<(), Fail> {
+    let table = [
+        (ServeFault::Read, "read failed"),
+        (ServeFault::Write, "write failed"),
+        (ServeFault::NoMemory, "no memory"),
+    ];
+    for (fault, text) in &table {
+        let told = fault.to_string(rt.alloc())?;
+        assert_eq!(rt; told.as_str(), *text);
+    }
+    Ok(())
+}

@@ -1,0 +1,6 @@
+pub mod Advance
+pub mod Placing
+pub mod Reading
+pub mod Refused
+pub mod Sessions
+pub mod Table

@@ -1,0 +1,32 @@
+-- Refusals of the store: of rows, of the oracle, and for want of memory.
+use Rattle.std.proofs.Common.{◌≡◌, ◌⊎◌, inl, inr, refl}
+use Rattle.cell_key.specs.declared.refusals.Refusal.{Refusal}
+use Rattle.cell_key.specs.declared.refusals.Refusal.TheVariants.{EmptyCommit, MemtableFull, Exhausted, Device, NoMemory, Damaged}
+use Rattle.oracle.specs.Ranges.{IsDrawRefusal}
+use Rattle.row_atomic.specs.Refusals.{IsReadRefusal}
+use Rattle.si_model.specs.Machine.{State, Request, Refused, Step, refuses, IsStorageRefusal}
+use Rattle.si_model.specs.Refusing.Refuses.{gives_up}
+use Rattle.txn_client.specs.Refusals.{IsAdvanceRefusal}
+
+pub refused_storage : {st : State} {q : Request} {n : Refusal} → IsStorageRefusal n → Step st q (Refused n) st
+refused_storage s = refuses (gives_up s)
+
+pub read_storage : (e : Refusal) → IsReadRefusal e → IsStorageRefusal e
+read_storage Device u = tt
+read_storage NoMemory u = tt
+read_storage Damaged u = tt
+read_storage _ u = absurd u
+
+pub draw_storage : (e : Refusal) → IsDrawRefusal e → IsStorageRefusal e
+draw_storage Exhausted u = tt
+draw_storage Device u = tt
+draw_storage _ u = absurd u
+
+pub advance_storage : (P : Type 0) (e : Refusal) → IsAdvanceRefusal P e → (P × (e ≡ EmptyCommit)) ⊎ IsStorageRefusal e
+advance_storage P EmptyCommit u = inl (u, refl)
+advance_storage P MemtableFull u = inr tt
+advance_storage P Exhausted u = inr tt
+advance_storage P Device u = inr tt
+advance_storage P NoMemory u = inr tt
+advance_storage P Damaged u = inr tt
+advance_storage P _ u = absurd u

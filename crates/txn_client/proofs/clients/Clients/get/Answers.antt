@@ -1,0 +1,24 @@
+use Rattle.std.proofs.Common.{sym, subst}
+use Rattle.cell_key.specs.Names.{IsRow, IsFamily}
+use Rattle.si_model.specs.declared.replies.Cell.{Cell}
+use Rattle.si_model.specs.Machine as machine
+use Rattle.si_model.specs.Replies.{found_reply, result_reply}
+use Rattle.txn_client.specs.Reads.{cell_of}
+use Rattle.txn_client.specs.Shows.{Steps}
+use Rattle.txn_client.proofs.Table.{reads_open_at, undamaged_at, get_refused_at, as_err}
+use Rattle.txn_client.proofs.clients.Clients.get.Goals as goal
+
+pub returns-in_err-cell-clause-step : goal.returns-in_err-cell-clause-step
+returns-in_err-cell-clause-step g c = λ held last.
+    let e = as_err c.from_residual.result c.in_err-cell.field-0.0 c.from_residual.ensures.1 in
+    rw e (get_refused_at (g.R.Rows.cells c.args.rows.now) c.args.self.now last c.args.start (cell_of c.args.row.now c.args.family.now) c.in_err-cell.field-0.0 c.in_err-cell.ensures.refusal)
+
+pub returns-clause-step : goal.returns-clause-step
+returns-clause-step g c = λ held last.
+    let same = c.in_ok-cell.ensures.ok in
+    rw (c.read_cell.ensures.kept held) (subst (λ (x : Cell). Steps (g.R.Rows.cells c.args.rows.now) c.args.self.now last (machine.Get c.args.start x) (result_reply found_reply c.read_cell.result) (g.R.Rows.cells c.args.rows.now) c.args.self.now last) same
+    (reads_open_at (g.R.Rows.cells c.args.rows.now) c.args.self.now last c.args.start c.in_ok-cell.cell c.read_cell.result c.in_ok-cell.ensures.open
+    (subst (λ (x : Cell). IsRow x.row) (sym same) c.in_ok-cell.ensures.row) (subst (λ (x : Cell). IsFamily x.family) (sym same) c.in_ok-cell.ensures.family) (c.read_cell.ensures.found held) c.read_cell.ensures.refusal))
+
+pub returns-clause-undamaged : goal.returns-clause-undamaged
+returns-clause-undamaged g c = λ held. undamaged_at (g.R.Rows.cells c.args.rows.now) c.in_ok-cell.cell c.args.start c.read_cell.result (c.read_cell.ensures.damaged held)

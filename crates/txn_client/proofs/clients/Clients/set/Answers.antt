@@ -1,0 +1,39 @@
+use Rattle.std.proofs.Common.{◌≤◌, ℕ, List, length, Option, refl, sym, ap, subst}
+use Rattle.std.specs.Prelude.{IsSome}
+use Rattle.std.specs.Ordering.{nat_cmp}
+use Rattle.std.specs.BTreeMap as btree
+use Rattle.std.specs.declared.result.Result.TheVariants.{Err}
+use Rattle.cell_key.specs.Names.{IsRow, IsFamily}
+use Rattle.si_model.specs.declared.replies.Cell.{Cell}
+use Rattle.si_model.specs.Machine as machine
+use Rattle.si_model.specs.Replies.{result_reply}
+use Rattle.txn_client.specs.Reads.{cell_of}
+use Rattle.txn_client.specs.Shows.{Steps}
+use Rattle.txn_client.specs.declared.session.Session.{Session}
+use Rattle.txn_client.proofs.Table.{sets_at, set_refused_at, set_value_at, open_same, as_err}
+use Rattle.txn_client.proofs.clients.Clients.set.Goals as goal
+
+pub returns-in_err-cell-clause-step : goal.returns-in_err-cell-clause-step
+returns-in_err-cell-clause-step c = λ cells last.
+    let e = as_err c.from_residual.result c.in_err-cell.field-0.0 c.from_residual.ensures.1 in
+    rw e (set_refused_at cells c.args.self.now last c.args.start (cell_of c.args.row.now c.args.family.now) c.args.value.now c.in_err-cell.field-0.0 c.in_err-cell.ensures.refusal)
+
+pub returns-in_err-value-clause-step : goal.returns-in_err-value-clause-step
+returns-in_err-value-clause-step c = λ cells last.
+    let e = as_err c.from_residual-in_err-value.result c.in_err-value.field-0.0 c.from_residual-in_err-value.ensures.1 in
+    rw e (set_value_at cells c.args.self.now last c.args.start (cell_of c.args.row.now c.args.family.now) c.args.value.now c.in_err-value.field-0.0 c.in_ok-cell.ensures.open c.in_ok-cell.ensures.row c.in_ok-cell.ensures.family
+    c.in_err-value.ensures.refusal (λ is. c.in_err-value.ensures.bad.0 (ap Err is)))
+
+pub returns-clause-step : goal.returns-clause-step
+returns-clause-step c = λ cells last.
+    let was = sym c.in-Some.ensures.value in
+    let there : IsSome (btree.get nat_cmp c.args.self.now.sessions c.args.start) = subst (λ (o : Option Session). IsSome o) c.in-Some.ensures.value refl in
+    let w = record c.in-Some.session.now { writes = c.set.new.self } in
+    let lent = c.get_mut.follows.holds w in
+    let same = c.in_ok-cell.ensures.ok in
+    let bytes = c.in_ok-value.ensures.ok in
+    subst (λ (p : Cell × List ℕ). Steps cells c.args.self.now last (machine.Set c.args.start p.0 p.1) (result_reply (λ _. machine.SetDone) c.set.result) cells (record c.args.self.now { sessions = c.get_mut.follows.lender w }) last) (λ i. (same i, bytes i))
+    (sets_at cells c.args.self.now (record c.args.self.now { sessions = c.get_mut.follows.lender w }) last c.args.start c.in-Some.session.now w c.in_ok-cell.cell c.in_ok-value.value was (open_same c.args.self.now c.args.start c.in-Some.session.now was c.in_ok-cell.ensures.open)
+    refl refl refl (subst (λ (x : Cell). IsRow x.row) (sym same) c.in_ok-cell.ensures.row) (subst (λ (x : Cell). IsFamily x.family) (sym same) c.in_ok-cell.ensures.family)
+    (subst (λ (bs : List ℕ). length bs ≤ 65536) (sym bytes) c.in_ok-value.ensures.valid) refl (lent.3 there).0 lent.2
+    c.set.result c.set.ensures.ok c.set.ensures.room c.set.ensures.err c.set.ensures.refusal c.set.ensures.full)

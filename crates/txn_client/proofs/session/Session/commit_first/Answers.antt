@@ -1,0 +1,14 @@
+use Rattle.std.proofs.Common.{ap}
+use Rattle.std.specs.Prelude.{nat_eq}
+use Rattle.txn_client.proofs.Sessions.{advance_lost, advance_committed}
+use Rattle.txn_client.proofs.session.Session.commit_first.Goals as goal
+
+pub returns-then-not-branch-clause-step : goal.returns-then-not-branch-clause-step
+returns-then-not-branch-clause-step g c = λ held last.
+    advance_lost (g.R.Rows.cells c.args.rows.now) c.args.self.now last c.in-Some.first.now c.requires c.in-Some.ensures.found
+    (rw c.if-not-branch.true at (c.in_ok-record.ensures.gone held)) (g.R.Rows.cells c.record.new.rows) (rw c.if-not-branch.true at (c.in_ok-record.ensures.left held))
+
+pub returns-clause-step : goal.returns-clause-step
+returns-clause-step g c = λ held last.
+    rw c.stamp.ensures.stamp (advance_committed (g.R.Rows.cells c.args.rows.now) c.args.self.now last c.in-Some.first.now (nat_eq 1 c.len.result) c.requires c.in-Some.ensures.found
+    (rw c.if-not-branch.false at (c.in_ok-record.ensures.stood held)) (ap (nat_eq 1) c.len.ensures.len) (g.R.Rows.cells c.record.new.rows) (rw c.if-not-branch.false at (c.in_ok-record.ensures.recorded held)))

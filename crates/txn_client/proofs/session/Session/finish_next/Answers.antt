@@ -1,0 +1,16 @@
+use Rattle.std.proofs.Common.{◌∙◌, ◌+◌, ap, sym, Bool, true, false, inl, inr, ◌⊎◌}
+use Rattle.std.specs.Prelude.{nat_eq}
+use Rattle.std.specs.Bool.{OnTrue, OnFalse}
+use Rattle.txn_client.proofs.Sessions.{advance_finished}
+use Rattle.txn_client.proofs.session.Session.finish_next.Goals as goal
+
+either : {P Q R S : Type 0} (b : Bool) → OnTrue b P → OnFalse b Q → OnTrue b R → OnFalse b S → (P × R) ⊎ (Q × S)
+either true p q r s = inl (p, r)
+either false p q r s = inr (q, s)
+
+pub returns-clause-step : goal.returns-clause-step
+returns-clause-step g c = λ held last.
+    let e = c.in_ok-_stood.ensures in
+    let write = c.in-Some.write.now in
+    advance_finished (g.R.Rows.cells c.args.rows.now) c.args.self.now last c.args.k c.len.result write (nat_eq (c.args.k + 1) c.len-2.result) c.requires
+    c.in-Some.ensures.found c.len.ensures.len (ap (nat_eq (c.args.k + 1)) (c.len-2.ensures.len ∙ sym c.len.ensures.len)) (g.R.Rows.cells c.record.new.rows) (either c.in_ok-_stood._stood (e.stood held) (e.gone held) (e.recorded held) (e.left held))

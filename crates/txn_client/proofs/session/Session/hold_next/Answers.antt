@@ -1,0 +1,28 @@
+use Rattle.std.proofs.Common.{ℕ, ap, subst, ◌∙◌}
+use Rattle.cell_key.specs.Cells.{Cells}
+use Rattle.si_model.specs.ShowsCells.{held_cells, Touches}
+use Rattle.txn_client.specs.Reads.{IsTaken, IsFree}
+use Rattle.txn_client.proofs.Sessions.{advance_conflict, advance_held}
+use Rattle.txn_client.proofs.session.Session.hold_next.Goals as goal
+
+pub returns-then-branch-clause-step : goal.returns-then-branch-clause-step
+returns-then-branch-clause-step g c = λ held last.
+    let write = c.in-Some.write.now in
+    advance_conflict (g.R.Rows.cells c.args.rows.now) c.args.self.now last c.args.k write c.requires c.in-Some.ensures.found
+    (subst (λ (n : ℕ). IsTaken (g.R.Rows.cells c.args.rows.now) write.cell n) c.stamp-start.ensures.stamp (rw c.if-branch.true at (c.in_ok-is_taken.ensures.taken held))) (g.R.Rows.cells c.is_taken.new.rows) (c.in_ok-is_taken.ensures.kept held)
+
+pub returns-clause-step : goal.returns-clause-step
+returns-clause-step g c = λ held last.
+    let write = c.in-Some.write.now in
+    let first = c.in-Some-get.first.now in
+    let cells = g.R.Rows.cells c.args.rows.now in
+    advance_held cells c.args.self.now last c.args.k c.len.result write first c.requires c.in-Some.ensures.found c.in-Some-get.ensures.found
+    (subst (λ (n : ℕ). IsFree cells write.cell n) c.stamp-start.ensures.stamp (rw c.if-branch.false at (c.in_ok-is_taken.ensures.free held)))
+    c.len.ensures.len (g.R.Rows.cells c.hold.new.rows)
+    (c.in_ok-hold.ensures.held (c.in_ok-is_taken.ensures.still held) ∙ ap (λ (cs : Cells). held_cells cs write.cell c.args.self.now.start write.value first.cell) (c.in_ok-is_taken.ensures.kept held))
+
+pub returns-clause-touched : goal.returns-clause-touched
+returns-clause-touched g c = λ held. (
+  c.in-Some.write.now.cell.row,
+  subst (λ (cells : Cells). Touches cells (g.R.Rows.cells c.hold.new.rows) c.in-Some.write.now.cell.row c.args.self.now.start c.args.self.now.start) (c.in_ok-is_taken.ensures.kept held) (c.in_ok-hold.ensures.touched (c.in_ok-is_taken.ensures.still held)),
+)

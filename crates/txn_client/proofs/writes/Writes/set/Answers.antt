@@ -1,0 +1,25 @@
+use Rattle.std.proofs.Common.{◌++◌, ◌∷◌, [], List, length, map, inl, ap, sym, subst, ◌∙◌, arith}
+use Rattle.std.specs.Prelude.{slice_set}
+use Rattle.si_model.specs.Machine.{Sets}
+use Rattle.txn_client.specs.Writes.{write_of}
+use Rattle.txn_client.specs.declared.writes.Write.{Write}
+use Rattle.txn_client.proofs.Placing.{sets_last, sets_there, named_there, unnamed}
+use Rattle.txn_client.proofs.writes.Writes.set.Goals as goal
+
+pub returns-then-len-ge-MOST-clause-full : goal.returns-then-len-ge-MOST-clause-full
+returns-then-len-ge-MOST-clause-full c = λ e.
+    let same = ap (λ (ws : List Write). length ws) c.self.view_is in
+    (omega (arith, same, c.len.ensures, c.if-len-ge-MOST.true), unnamed c.args.self.now c.args.write.cell c.in-None.ensures)
+
+pub returns-in-Some-clause-ok : goal.returns-in-Some-clause-ok
+returns-in-Some-clause-ok c =
+    subst (λ (ws : List Write). Sets c.args.write.cell c.args.write.value (map write_of c.args.self.now) (map write_of (slice_set ws c.in-Some.place c.args.write))) (sym c.self.view_is)
+    (sets_there c.args.self.now c.in-Some.place c.args.write c.in-Some.ensures)
+
+pub returns-in-Some-clause-room : goal.returns-in-Some-clause-room
+returns-in-Some-clause-room c = inl (named_there c.args.self.now c.in-Some.place c.args.write.cell c.in-Some.ensures)
+
+pub returns-in_ok-push-in-None-clause-ok : goal.returns-in_ok-push-in-None-clause-ok
+returns-in_ok-push-in-None-clause-ok c =
+    subst (λ (ws : List Write). Sets c.args.write.cell c.args.write.value (map write_of c.args.self.now) (map write_of ws)) (sym (c.in_ok-push-in-None.ensures.items ∙ ap (λ (ws : List Write). ws ++ c.args.write ∷ []) c.self.view_is))
+    (sets_last c.args.self.now c.args.write c.in-None.ensures)

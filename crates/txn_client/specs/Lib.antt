@@ -1,0 +1,8 @@
+pub mod Limits
+pub mod Reads
+pub mod Refusals
+pub mod Shows
+pub mod Writes
+pub use Rattle.si_model.specs.Machine
+pub use Rattle.si_model.specs.Replies
+pub use Rattle.si_model.specs.ShowsCells

@@ -1,0 +1,137 @@
+-- What it means that the sessions show those of a state of the snapshot machine.
+use Rattle.std.specs.Prelude.{◌≡◌, ◌≢◌, ℕ, ◌+◌, ◌≤◌, ◌⊎◌, ⊤, cond, [], map, length, Option, Some, None}
+use Rattle.std.specs.Ordering.{nat_cmp}
+use Rattle.std.specs.BTreeMap as btree
+use Rattle.std.specs.FinMap as finmap
+use Rattle.cell_key.specs.Cells.{Cells}
+use Rattle.cell_key.specs.Names.{IsRow, IsFamily}
+use Rattle.cell_key.specs.declared.refusals.Refusal.{Refusal}
+use Rattle.cell_key.specs.declared.refusals.Refusal.TheVariants.{UnknownSession, WrongPhase, BadRow, BadColumn, NoMemory}
+use Rattle.si_model.specs.Machine as machine
+use Rattle.si_model.specs.Machine.{State, Request, Reply, Step, IsReached, InPhase, Wrote, Writes}
+use Rattle.si_model.specs.Replies.{progress_reply}
+use Rattle.si_model.specs.ShowsCells.{ShowsCells, TouchesOneRow}
+use Rattle.si_model.specs.declared.replies.Cell.{Cell}
+use Rattle.si_model.specs.declared.replies.Progress.{Progress}
+use Rattle.si_model.specs.declared.replies.Progress.TheVariants as progress
+use Rattle.txn_client.specs.Writes.{write_of}
+use Rattle.txn_client.specs.declared.clients.Clients.{Clients}
+use Rattle.txn_client.specs.declared.session.Session.{Session}
+use Rattle.txn_client.specs.declared.session.Phase.{Phase}
+use Rattle.txn_client.specs.declared.session.Phase.TheVariants.{Open, Holding, Stamped, Finishing}
+use Rattle.txn_client.specs.declared.session.Outcome.{Outcome}
+
+-- the phase of a session with this commit stamp
+abbrev pub phase_of : Phase → ℕ → machine.Phase
+phase_of Open c = machine.Open
+phase_of (Holding k) c = machine.Holding k
+phase_of Stamped c = machine.Stamped c
+phase_of (Finishing k) c = machine.Finishing c k
+
+abbrev pub writes_of : Session → Writes
+writes_of session = map write_of session.writes
+
+-- the session that began at t is this one
+pub record ShowsSession (session : Session) (t : ℕ) (st : State) : Type 0 where
+  pub start : session.start ≡ t
+  pub phase : InPhase st t (phase_of session.phase session.commit)
+  pub writes : Wrote st t (writes_of session)
+
+-- what is kept at t is the session that began at t, if one is active
+abbrev pub ShowsAt : Option Session → ℕ → State → Type 0
+ShowsAt None t st = finmap.get st.active t ≡ None
+ShowsAt (Some session) t st = ShowsSession session t st
+
+-- a session that has just begun
+abbrev pub open_session : ℕ → Session
+open_session start = record { start = start; commit = start; phase = Open; writes = [] }
+
+-- the sessions that are kept are those that are active, and the top is the greatest stamp that was answered
+pub record ShowsClients (clients : Clients) (st : State) : Type 0 where
+  pub top : clients.top ≡ st.top
+  pub sessions : (t : ℕ) → ShowsAt (btree.get nat_cmp clients.sessions t) t st
+  pub count : finmap.len st.active ≡ btree.btree_map_len clients.sessions
+
+-- Cells and sessions show the state, and the oracle has come to its top.
+pub record Shows (cells : Cells) (clients : Clients) (last : ℕ) (st : State) : Type 0 where
+  pub store : ShowsCells cells st
+  pub sessions : ShowsClients clients st
+  pub top : st.top ≤ last
+
+-- From each reached state that is shown before, the machine may answer so, and goes to a state that is shown after.
+abbrev pub Steps : Cells → Clients → ℕ → Request → Reply → Cells → Clients → ℕ → Type 0
+Steps cells clients last request reply cells' clients' last' =
+    (st : State) → IsReached st → Shows cells clients last st → (next : State) × Step st request reply next × Shows cells' clients' last' next
+
+-- c is the commit stamp that t has drawn
+abbrev pub HasDrawn : State → ℕ → ℕ → Type 0
+HasDrawn st t c = InPhase st t (machine.Stamped c) ⊎ ((k : ℕ) × InPhase st t (machine.Finishing c k))
+
+-- No key changes, or those of one row: the keys that join have the stamp of t, or the commit stamp that it has drawn.
+abbrev pub TouchesFor : State → ℕ → Cells → Cells → Type 0
+TouchesFor st t cells cells' =
+    (cells' ≡ cells) ⊎ (TouchesOneRow cells cells' t t ⊎ ((c : ℕ) × HasDrawn st t c × TouchesOneRow cells cells' t c))
+
+-- the last stamp after a step
+abbrev pub top_after : ℕ → Progress → ℕ
+top_after top (progress.Stamped c) = c
+top_after top p = top
+
+-- a stamp that a step draws is the next one
+abbrev pub DrawsNext : ℕ → Progress → Type 0
+DrawsNext last (progress.Stamped c) = c ≡ last + 1
+DrawsNext last p = ⊤
+
+-- the next step of t draws its commit stamp
+abbrev pub IsAboutToDraw : State → ℕ → Type 0
+IsAboutToDraw st t = (ws : Writes) × Wrote st t ws × InPhase st t (machine.Holding (length ws))
+
+-- a session that is kept, and takes reads and writes
+abbrev pub IsOpen : Clients → ℕ → Type 0
+IsOpen clients t = (session : Session) × (btree.get nat_cmp clients.sessions t ≡ Some session) × (session.phase ≡ Open)
+
+-- a session that is kept, and takes none
+abbrev pub IsLate : Clients → ℕ → Type 0
+IsLate clients t = (session : Session) × (btree.get nat_cmp clients.sessions t ≡ Some session) × (session.phase ≢ Open)
+
+-- why a cell's name is refused
+abbrev pub IsNameRefusal : Cell → Refusal → Type 0
+IsNameRefusal x BadRow = ¬ IsRow x.row
+IsNameRefusal x BadColumn = IsRow x.row × ¬ IsFamily x.family
+IsNameRefusal x NoMemory = ⊤
+IsNameRefusal x _ = ⊥
+
+-- why a request on a cell is refused before it is looked at further
+abbrev pub IsCellRefusal : Clients → ℕ → Cell → Refusal → Type 0
+IsCellRefusal clients t x UnknownSession = btree.get nat_cmp clients.sessions t ≡ None
+IsCellRefusal clients t x WrongPhase = IsLate clients t
+IsCellRefusal clients t x refusal = IsOpen clients t × IsNameRefusal x refusal
+
+-- what a step of one session does: the machine takes the step, and goes to a state with this session
+pub record Follows (st next : State) (session : Session) (outcome : Outcome) : Type 0 where
+  pub begun : next.begun ≡ st.begun
+  pub active : next.active ≡ cond outcome.ended (finmap.remove st.active session.start) (finmap.insert st.active session.start (phase_of session.phase session.commit))
+  pub top : next.top ≡ top_after st.top outcome.progress
+
+abbrev pub Advances : Cells → Session → ℕ → Outcome → Cells → Session → ℕ → Type 0
+Advances cells session last outcome cells' session' last' =
+    (st : State) → IsReached st → ShowsCells cells st → ShowsSession session session.start st → st.top ≤ last
+    → (next : State) × Step st (machine.Advance session.start) (progress_reply outcome.progress) next × ShowsCells cells' next × Follows st next session' outcome × (next.top ≤ last')
+
+-- the session has held k cells and has no commit stamp
+abbrev pub HasHeldSo : Phase → ℕ → Type 0
+HasHeldSo phase k = (phase ≡ Holding k) ⊎ ((phase ≡ Open) × (k ≡ 0))
+
+-- the session has no cell for its next step
+abbrev pub HasNoNext : Phase → ℕ → Type 0
+HasNoNext Open n = n ≤ 0
+HasNoNext (Holding k) n = (n ≤ k) × (k ≢ n)
+HasNoNext Stamped n = n ≤ 0
+HasNoNext (Finishing k) n = n ≤ k
+
+-- which row a step of a session in this phase changes, and at which stamps
+abbrev pub TouchesBy : Phase → Cells → Cells → ℕ → ℕ → Type 0
+TouchesBy Open cells cells' s c = TouchesOneRow cells cells' s s
+TouchesBy (Holding k) cells cells' s c = TouchesOneRow cells cells' s s
+TouchesBy Stamped cells cells' s c = TouchesOneRow cells cells' s c
+TouchesBy (Finishing k) cells cells' s c = TouchesOneRow cells cells' s c

@@ -1,0 +1,193 @@
+//! Reads of a cell, and row transactions on it.
+
+ghost use Rattle.std.specs.Prelude.{◌≡◌, ◌≢◌, ◌<◌, ◌≤◌, ◌^◌, [], ◌∷◌, ℕ, length, IfOk, OnOk, OnErr, IfErr, IsErrOf, IfSome, IfNone, OnSome};
+ghost use Rattle.std.specs.Bool.{OnTrue, OnFalse};
+ghost use Rattle.std.specs.FinMap.{insert};
+ghost use Rattle.std.specs.List.{AllByRecursion};
+ghost use Rattle.cell_key.specs.Cells.{Cells, version, after_edits, IsEditOf};
+ghost use Rattle.cell_key.specs.declared.keys.Qualifier.TheVariants.{Data as DataOf, Lock as LockOf};
+ghost use Rattle.byteorder.specs.Endian.{big_number};
+ghost use Rattle.row_atomic.specs.Faults.{HasRisen};
+ghost use Rattle.row_atomic.specs.Refusals.{IsReadRefusal};
+ghost use Rattle.si_model.specs.ShowsCells.{IsThere, Touches, held_cells, key_of, recorded_cells};
+ghost use Rattle.txn_client.specs.Reads.{IsFound, IsShort, IsDamaged, IsTaken, IsFree, IsGone};
+ghost use Rattle.txn_client.specs.Refusals.{IsRowRefusal};
+
+use crate::limits::Moment;
+use crate::writes::Write;
+use byteorder::{BigEndian, ByteOrder};
+use cell_key::{CellKey, Edit, Qualifier, Refusal, Stamp};
+use row_atomic::Rows;
+use si_model::{Cell, Found};
+use std::alloc::{AllocError, Global};
+
+fn key(cell: &Cell, qualifier: Qualifier, stamp: Stamp) -> Result<CellKey, AllocError>
+    ensures { IfOk result (λ key. key ≡ key_of cell.now qualifier stamp) }
+{
+    Ok(CellKey {
+        row: cell.row.clone()?,
+        family: cell.family.clone()?,
+        qualifier,
+        stamp,
+    })
+}
+
+/// The start that a write record names.
+fn named_start(record: &[u8]) -> Option<Stamp>
+    ensures named { IfSome result (λ start. start ≡ big_number 8 record.now) }
+    ensures length { OnSome result (length record.now ≡ 8) }
+    ensures none { IfNone result (length record.now ≢ 8) }
+{
+    if record.len() != 8 {
+        return None;
+    }
+    Some(BigEndian::read_u64(record))
+}
+
+/// What a session that began at `start` reads of a cell (Percolator, Get).
+pub(crate) fn read_cell<R: Rows>(rows: &mut R, cell: &Cell, start: Stamp) -> Result<Found, Refusal>
+    ensures found { R.holds rows.old → IfOk result (IsFound (R.cells rows.old) cell.now start) }
+    ensures damaged { R.holds rows.old → IfErr result (λ refusal. refusal ≡ Refusal.Damaged → IsDamaged (R.cells rows.old) cell.now start) }
+    ensures kept { R.holds rows.old → R.cells rows.new ≡ R.cells rows.old }
+    ensures still { R.holds rows.old → R.holds rows.new }
+    ensures short { IfOk result IsShort }
+    ensures refusal { IfErr result IsReadRefusal }
+    ensures device { IsErrOf result Refusal.Device → HasRisen (R.faults rows.old) (R.faults rows.new) }
+    ensures later { R.faults rows.old ≤ R.faults rows.new }
+{
+    let lock = rows.newest(&cell.row, &cell.family, Qualifier::Lock, 0, start)?;
+    if let Some((pending, _)) = lock {
+        return Ok(Found::Pending(pending));
+    }
+    let last = rows.newest(&cell.row, &cell.family, Qualifier::Write, 0, start)?;
+    let Some((_, record)) = last else {
+        return Ok(Found::Nothing);
+    };
+    let Some(named) = named_start(&record) else {
+        return Err(Refusal::Damaged);
+    };
+    match rows.newest(&cell.row, &cell.family, Qualifier::Data, named, named)? {
+        Some((_, value)) => Ok(Found::Value(value)),
+        None => Err(Refusal::Damaged),
+    }
+}
+
+/// Whether a session that began at `start` may not hold the cell (Percolator, Prewrite).
+pub(crate) fn is_taken<R: Rows>(rows: &mut R, cell: &Cell, start: Stamp) -> Result<bool, Refusal>
+    ensures taken { R.holds rows.old → IfOk result (λ taken. OnTrue taken (IsTaken (R.cells rows.old) cell.now start)) }
+    ensures free { R.holds rows.old → IfOk result (λ taken. OnFalse taken (IsFree (R.cells rows.old) cell.now start)) }
+    ensures undamaged { R.holds rows.old → ¬ (IsErrOf result Refusal.Damaged) }
+    ensures kept { R.holds rows.old → R.cells rows.new ≡ R.cells rows.old }
+    ensures still { R.holds rows.old → R.holds rows.new }
+    ensures refusal { IfErr result IsReadRefusal }
+    ensures device { IsErrOf result Refusal.Device → HasRisen (R.faults rows.old) (R.faults rows.new) }
+    ensures later { R.faults rows.old ≤ R.faults rows.new }
+{
+    let lock = rows.newest(&cell.row, &cell.family, Qualifier::Lock, 0, u64::MAX)?;
+    if lock.is_some() {
+        return Ok(true);
+    }
+    let later = rows.newest(&cell.row, &cell.family, Qualifier::Write, start, u64::MAX)?;
+    Ok(later.is_some())
+}
+
+/// The two edits that hold a cell.
+fn holding(
+    alloc: Global,
+    cell: &Cell,
+    start: Stamp,
+    value: Vec<u8>,
+    place: Vec<u8>,
+) -> Result<Vec<Edit>, Refusal>
+    requires from { 1 ≤ start }
+    requires to { start < 2 ^ 63 }
+    requires value { length value.items ≤ 65536 }
+    requires place { length place.items ≤ 65536 }
+    ensures edits { IfOk result (λ edits. (cells : Cells) → after_edits cells edits.items ≡ insert (insert cells (key_of cell.now DataOf start) value.items) (key_of cell.now LockOf start) place.items) }
+    ensures under { IfOk result (λ edits. AllByRecursion (IsEditOf cell.now.row) edits.items) }
+    ensures refusal { IfErr result (λ refusal. refusal ≡ Refusal.NoMemory) }
+{
+    let mut edits = Vec::new(alloc);
+    let data = key(cell, Qualifier::Data, start)?;
+    let lock = key(cell, Qualifier::Lock, start)?;
+    edits.push(Edit::Put(data, value))?;
+    edits.push(Edit::Put(lock, place))?;
+    Ok(edits)
+}
+
+/// Puts the data and the lock of a cell; the lock names the place of the first cell.
+pub(crate) fn hold<R: Rows>(
+    alloc: Global,
+    rows: &mut R,
+    write: &Write,
+    start: Moment,
+    first: &Write,
+) -> Result<(), Refusal>
+    ensures held { R.holds rows.old → OnOk result (R.cells rows.new ≡ held_cells (R.cells rows.old) write.now.cell start write.now.value first.now.cell) }
+    ensures kept { R.holds rows.old → OnErr result (R.cells rows.new ≡ R.cells rows.old) }
+    ensures touched { R.holds rows.old → Touches (R.cells rows.old) (R.cells rows.new) write.now.cell.row start start }
+    ensures still { R.holds rows.old → R.holds rows.new }
+    ensures undamaged { ¬ (IsErrOf result Refusal.Damaged) }
+    ensures refusal { IfErr result IsRowRefusal }
+    ensures no_device { ¬ (IsErrOf result Refusal.Device) }
+    ensures untouched { R.faults rows.new ≡ R.faults rows.old }
+{
+    let start = start.stamp();
+    let value = write.value.to_vec()?;
+    let place = cell_key::place(alloc, &first.cell.row, &first.cell.family)?;
+    let edits = holding(alloc, &write.cell, start, value, place)?;
+    rows.apply(&write.cell.row, edits)?;
+    Ok(())
+}
+
+/// The two edits that put a write record in the place of a lock.
+fn recording(alloc: Global, cell: &Cell, start: Stamp, commit: Stamp) -> Result<Vec<Edit>, Refusal>
+    requires from { 1 ≤ start }
+    requires to { start < 2 ^ 63 }
+    requires commit_from { 1 ≤ commit }
+    requires commit_to { commit < 2 ^ 63 }
+    ensures edits { IfOk result (λ edits. (cells : Cells) → after_edits cells edits.items ≡ recorded_cells cells cell.now start commit) }
+    ensures under { IfOk result (λ edits. AllByRecursion (IsEditOf cell.now.row) edits.items) }
+    ensures refusal { IfErr result (λ refusal. refusal ≡ Refusal.NoMemory) }
+{
+    let mut edits = Vec::new(alloc);
+    let record = key(cell, Qualifier::Write, commit)?;
+    let lock = key(cell, Qualifier::Lock, start)?;
+    let mut text = [0u8; 8];
+    BigEndian::write_u64(&mut text, start);
+    let text = Vec::from_slice(alloc, &text)?;
+    edits.push(Edit::Put(record, text))?;
+    edits.push(Edit::Erase(lock))?;
+    Ok(edits)
+}
+
+/// Puts the write record in the place of the lock, if that stands.
+pub(crate) fn record<R: Rows>(
+    alloc: Global,
+    rows: &mut R,
+    cell: &Cell,
+    start: Moment,
+    commit: Moment,
+) -> Result<bool, Refusal>
+    ensures stood { R.holds rows.old → IfOk result (λ stood. OnTrue stood (IsThere (R.cells rows.old) cell.now LockOf start)) }
+    ensures gone { R.holds rows.old → IfOk result (λ stood. OnFalse stood (IsGone (R.cells rows.old) cell.now start)) }
+    ensures recorded { R.holds rows.old → IfOk result (λ stood. OnTrue stood (R.cells rows.new ≡ recorded_cells (R.cells rows.old) cell.now start commit)) }
+    ensures left { R.holds rows.old → IfOk result (λ stood. OnFalse stood (R.cells rows.new ≡ R.cells rows.old)) }
+    ensures kept { R.holds rows.old → OnErr result (R.cells rows.new ≡ R.cells rows.old) }
+    ensures touched { R.holds rows.old → Touches (R.cells rows.old) (R.cells rows.new) cell.now.row start commit }
+    ensures still { R.holds rows.old → R.holds rows.new }
+    ensures undamaged { R.holds rows.old → ¬ (IsErrOf result Refusal.Damaged) }
+    ensures refusal { IfErr result IsRowRefusal }
+    ensures device { IsErrOf result Refusal.Device → HasRisen (R.faults rows.old) (R.faults rows.new) }
+    ensures later { R.faults rows.old ≤ R.faults rows.new }
+{
+    let start = start.stamp();
+    let commit = commit.stamp();
+    let lock = rows.newest(&cell.row, &cell.family, Qualifier::Lock, start, start)?;
+    if lock.is_none() {
+        return Ok(false);
+    }
+    let edits = recording(alloc, cell, start, commit)?;
+    rows.apply(&cell.row, edits)?;
+    Ok(true)
+}

@@ -1,0 +1,106 @@
+//! What a session writes.
+
+ghost use Rattle.std.specs.Prelude.{◌≡◌, ◌↔◌, ◌⊎◌, ◌≤◌, ◌<◌, ℕ, [], map, length, slice_get, Some, IsTrue, IfOk, IfErr, OnOk, OnErr, IsErrOf, IfSome, IfNone, OnSome};
+ghost use Rattle.si_model.specs.Machine.{Names, Sets};
+ghost use Rattle.txn_client.specs.Writes.{IsPlaceOf, write_of};
+
+use crate::limits::Value;
+use cell_key::Refusal;
+use si_model::Cell;
+use std::alloc::Global;
+use std::marker::Model;
+
+/// A value that a session writes to a cell.
+#[derive(Debug, Drop)]
+pub(crate) struct Write {
+    pub(crate) cell: Cell,
+    pub(crate) value: Value,
+}
+
+/// The writes of a session, in the order in which their cells were first set: at most 256.
+#[derive(Debug, Drop)]
+pub(crate) struct Writes {
+    entries: Vec<Write>,
+}
+
+impl Model for Writes {
+    ghost use Rattle.std.specs.Prelude.{List, length, ◌≤◌};
+    ghost use Rattle.txn_client.specs.declared.writes.Write.{Write};
+
+    ghost Value = { List Write };
+
+    ghost view = { λ writes. writes.entries.items };
+
+    ghost invariant = { λ writes. length writes.entries.items ≤ 256 };
+}
+
+fn is_same(cell: &Cell, other: &Cell) -> bool
+    ensures { IsTrue result ↔ (cell.now ≡ other.now) }
+{
+    cell == other
+}
+
+impl Writes {
+    /// The most writes of a session.
+    const MOST: usize = 256;
+
+    /// No writes.
+    pub(crate) fn new(alloc: Global) -> Writes
+        ensures { result ≡ [] }
+    {
+        Writes {
+            entries: Vec::new(alloc),
+        }
+    }
+
+    /// How many there are.
+    pub(crate) fn len(&self) -> u16
+        ensures len { result ≡ length self.now }
+        ensures few { result ≤ 256 }
+    {
+        self.entries.len() as u16
+    }
+
+    /// The write at a place, from 0 on.
+    pub(crate) fn get(&self, place: u16) -> Option<&Write>
+        ensures found { IfSome result (λ write. slice_get self.now place ≡ Some write.now) }
+        ensures few { OnSome result (place < 256) }
+        ensures none { IfNone result (length self.now ≤ place) }
+    {
+        self.entries.get(usize::from(place))
+    }
+
+    /// Where the cell's write is.
+    fn place_of(&self, cell: &Cell) -> Option<usize>
+        ensures { IsPlaceOf self.now cell.now result }
+    {
+        for (place, write) in self.entries.iter().enumerate() {
+            if is_same(&write.cell, cell) {
+                return Some(place);
+            }
+        }
+        None
+    }
+
+    /// A cell that is there keeps its place and takes the new value; another one comes last.
+    pub(crate) fn set(&mut self, write: Write) -> Result<(), Refusal>
+        ensures ok { OnOk result (Sets write.cell write.value (map write_of self.old) (map write_of self.new)) }
+        ensures full { IsErrOf result Refusal.TooManyWrites → (256 ≤ length self.old) × ¬ (Names (map write_of self.old) write.cell) }
+        ensures room { OnOk result (Names (map write_of self.old) write.cell ⊎ (length self.old < 256)) }
+        ensures err { OnErr result (self.new ≡ self.old) }
+        ensures refusal { IfErr result (λ refusal. (refusal ≡ Refusal.TooManyWrites) ⊎ (refusal ≡ Refusal.NoMemory)) }
+    {
+        match self.place_of(&write.cell) {
+            Some(place) => {
+                self.entries[place] = write;
+            }
+            None => {
+                if self.entries.len() >= Writes::MOST {
+                    return Err(Refusal::TooManyWrites);
+                }
+                self.entries.push(write)?;
+            }
+        }
+        Ok(())
+    }
+}
