@@ -1,3 +1,5 @@
+ghost use Rattle.std.specs.Prelude.{None};
+
 use crate::{FileFault, Files, MemFiles, read_whole};
 use std::alloc::Global;
 use std::test::Fail;
@@ -61,5 +63,55 @@ fn tells_a_fault(rt: HostRuntime) -> Result<(), Fail> {
     ] {
         assert_eq!(rt; fault.to_string(rt.alloc())?.as_str(), text);
     }
+    Ok(())
+}
+
+/// Files that record which bytes are asked for.
+#[derive(Drop)]
+struct Recorder {
+    files: MemFiles,
+    reads: Vec<(u64, u64, usize)>,
+}
+
+impl Files for Recorder {
+    ghost contents = { λ _. None };
+
+    ghost faults = { λ _. 0 };
+
+    fn put(&mut self, name: u64, bytes: &[u8]) -> Result<(), FileFault> {
+        self.files.put(name, bytes)
+    }
+
+    fn size(&mut self, name: u64) -> Result<Option<u64>, FileFault> {
+        self.files.size(name)
+    }
+
+    fn read_at(&mut self, name: u64, offset: u64, out: &mut [u8]) -> Result<usize, FileFault> {
+        self.reads.push((name, offset, out.len()))?;
+        self.files.read_at(name, offset, out)
+    }
+
+    fn list(&mut self, names: &mut Vec<u64>) -> Result<(), FileFault> {
+        self.files.list(names)
+    }
+
+    fn remove(&mut self, name: u64) -> Result<(), FileFault> {
+        self.files.remove(name)
+    }
+
+    fn faults(&self) -> u64 {
+        0
+    }
+}
+
+#[test]
+fn reads_a_file_once(rt: HostRuntime) -> Result<(), Fail> {
+    let mut files = Recorder {
+        files: three_files(rt.alloc())?,
+        reads: Vec::new(rt.alloc()),
+    };
+    assert!(rt; read_whole(rt.alloc(), &mut files, 7)?.is_some());
+    assert!(rt; read_whole(rt.alloc(), &mut files, 3)?.is_none());
+    assert_eq!(rt; files.reads.as_slice(), [(7, 0, 5)].as_slice());
     Ok(())
 }

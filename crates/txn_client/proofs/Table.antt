@@ -1,5 +1,5 @@
 -- The sessions in their map, before and after a step of the machine.
-use Rattle.std.proofs.Common.{◌≡◌, ◌≢◌, ℕ, ◌+◌, ◌-◌, ◌<◌, ◌≤◌, ◌^◌, ◌⊎◌, inl, inr, Bool, true, false, cond, List, [], ◌∷◌, length, map, Option, Some, None, refl, sym, ap, subst, ◌∙◌, arith}
+use Rattle.std.proofs.Common.{◌≡◌, ◌≢◌, ℕ, ◌+◌, ◌-◌, ◌<◌, ◌≤◌, ◌^◌, ◌⊎◌, inl, inr, Bool, true, false, cond, List, [], ◌∷◌, length, map, min, Option, Some, None, refl, sym, ap, subst, ◌∙◌, arith}
 use Rattle.std.specs.Prelude.{is_some, if◌then◌else◌}
 use Rattle.std.specs.Ordering.{nat_cmp, is_eq}
 use Rattle.std.specs.Cmp.{nat_cmp_total}
@@ -409,6 +409,35 @@ shows_new clients st top none empty = record {
   sessions = λ t. subst (λ es. ShowsAt (lookup (btree.is_at (nat_cmp t)) es) t st) (sym empty) (ap (λ m. finmap.get m t) none ∙ finmap.get-empty nat_cmp t);
   count = ap (λ m. finmap.len m) none ∙ (finmap.len-empty nat_cmp machine.Phase ∙ ap (λ es. length es) (sym empty));
 }
+
+-- the least start that is kept, or one more than the top
+kept_phase : (clients : Clients) (st : State) → ShowsClients clients st → (t : ℕ) (p : machine.Phase) → InPhase st t p → (o : Option Session) → btree.get nat_cmp clients.sessions t ≡ o → (session : Session) × (btree.get nat_cmp clients.sessions t ≡ Some session)
+kept_phase clients st shown t p h None e = absurd (none-some p (sym (shown_none clients t st shown e) ∙ h))
+kept_phase clients st shown t p h (Some session) e = (session, e)
+
+pub floor_least : (clients : Clients) (st : State) → ShowsClients clients st → (t : ℕ) (session : Session) → btree.get nat_cmp clients.sessions t ≡ Some session
+    → ((u : ℕ) (other : Session) → btree.get nat_cmp clients.sessions u ≡ Some other → t ≤ u) → machine.IsFloor st t
+floor_least clients st shown t session was least =
+    machine.least (shown_some clients t st session shown was).phase (λ u q h. let k = kept_phase clients st shown u q h (btree.get nat_cmp clients.sessions u) refl in least u k.0 k.1)
+
+pub floor_none : (clients : Clients) (st : State) (n : ℕ) → IsReached st → ShowsClients clients st → ((t : ℕ) → btree.get nat_cmp clients.sessions t ≡ None) → n ≡ clients.top + 1 → machine.IsFloor st n
+floor_none clients st n reached shown none e =
+    let top = shown.top in
+    subst (λ (m : ℕ). machine.IsFloor st m) (let same : st.top + 1 ≡ n = omega arith in same) (machine.none_active (λ u q h. let k = kept_phase clients st shown u q h (btree.get nat_cmp clients.sessions u) refl in none-some k.0 (sym (none u) ∙ k.1)))
+
+some_none : {X : Type 0} (xs : List X) → (0 < length xs → false ≡ true) → xs ≡ []
+some_none [] h = refl
+some_none (x ∷ xs) h = absurd (no_both (h (omega arith)))
+  where
+    no_both : false ≡ true → ⊥
+    no_both e = cc
+
+pub none_kept : (clients : Clients) → (0 < btree.btree_map_len clients.sessions → false ≡ true) → (t : ℕ) → btree.get nat_cmp clients.sessions t ≡ None
+none_kept clients h t = ap (lookup (btree.is_at (nat_cmp t))) (some_none clients.sessions.entries h)
+
+-- one more than the top is no more than a number of eight bytes holds
+pub within_words : (clients : Clients) (st : State) → IsReached st → ShowsClients clients st → min (clients.top + 1) (2 ^ 64 - 1) ≡ clients.top + 1
+within_words clients st reached shown = let low = (reached_bounds reached).top in let same = shown.top in omega arith
 
 -- with the same sessions
 pub shows_along : (clients : Clients) (st next : State) → ShowsClients clients st → next.top ≡ st.top → next.begun ≡ st.begun → next.active ≡ st.active → ShowsClients clients next

@@ -33,15 +33,15 @@ fn key(cell: &Cell, qualifier: Qualifier, stamp: Stamp) -> Result<CellKey, Alloc
 }
 
 /// The start that a write record names.
-fn named_start(record: &[u8]) -> Option<Stamp>
-    ensures named { IfSome result (λ start. start ≡ big_number 8 record.now) }
-    ensures length { OnSome result (length record.now ≡ 8) }
-    ensures none { IfNone result (length record.now ≢ 8) }
+fn named_start(text: &[u8]) -> Option<Stamp>
+    ensures named { IfSome result (λ start. start ≡ big_number 8 text.now) }
+    ensures length { OnSome result (length text.now ≡ 8) }
+    ensures none { IfNone result (length text.now ≢ 8) }
 {
-    if record.len() != 8 {
+    if text.len() != 8 {
         return None;
     }
-    Some(BigEndian::read_u64(record))
+    Some(BigEndian::read_u64(text))
 }
 
 /// What a session that began at `start` reads of a cell (Percolator, Get).

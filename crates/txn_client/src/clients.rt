@@ -84,6 +84,17 @@ impl Clients {
         self.top
     }
 
+    /// The least start of an active session, or one more than the top: no session has a start below
+    /// it, and none will have one.
+    pub fn floor(&self) -> Stamp
+        ensures { (st : State) → IsReached st → ShowsClients self.now st → machine.IsFloor st result }
+    {
+        match self.sessions.first_key_value() {
+            Some((start, _)) => *start,
+            None => self.top.saturating_add(1),
+        }
+    }
+
     /// Begins a session (Percolator, the start of a transaction): its start, which is the next
     /// stamp of the oracle and names the session.
     ///

@@ -1,0 +1,107 @@
+-- Entries put over others, and how many bytes they have.
+use Rattle.std.proofs.Common.{◌≡◌, ◌≤◌, ◌+◌, ℕ, Bool, true, false, cond, List, [], ◌∷◌, ◌++◌, Option, Some, None, refl, sym, ap, subst, ◌∙◌, arith}
+use Rattle.std.specs.List.{AllByRecursion}
+use Rattle.std.specs.declared.cmp.Ordering.{Ordering}
+use Rattle.std.specs.declared.cmp.Ordering.TheVariants.{Less, Equal, Greater}
+use Rattle.std.specs.Ordering.{eq_by_cmp}
+use Rattle.std.specs.Cmp.Lexicographic.{nat_list_cmp_total}
+use Rattle.std.specs.FinMap.Entries.{put, is_sorted-put, find-put, same_entries}
+use Rattle.cell_key.specs.Keys.{byte_cmp}
+use Rattle.cell_key.specs.Entries.{Entry, IsRising, IsEntry, or_else, entry_of_key, entry_len}
+use Rattle.memtable.specs.Edits.{bytes_of}
+use Rattle.memtable.specs.Slots.{over}
+use Rattle.memtable.proofs.Places.{one_text, find_lower, second}
+
+pub over_rising : (es base : List Entry) → IsRising base → IsRising (over es base)
+over_rising [] base r = r
+over_rising (e ∷ es) base r = is_sorted-put byte_cmp nat_list_cmp_total e.0 e.1 (over es base) (over_rising es base r)
+
+cond_or : {A : Type 0} (b : Bool) (v : A) (x y : Option A) → cond b (Some v) (or_else x y) ≡ or_else (cond b (Some v) x) y
+cond_or true v x y = refl
+cond_or false v x y = refl
+
+pub find-over : (q : List ℕ) (es base : List Entry) → entry_of_key (over es base) q ≡ or_else (entry_of_key es q) (entry_of_key base q)
+find-over q [] base = refl
+find-over q (e ∷ es) base =
+    find-put byte_cmp nat_list_cmp_total q e.0 e.1 (over es base)
+    ∙ ap (cond (eq_by_cmp byte_cmp q e.0) (Some e.1)) (find-over q es base)
+    ∙ cond_or (eq_by_cmp byte_cmp q e.0) e.1 (entry_of_key es q) (entry_of_key base q)
+
+-- an entry put among the upper ones is put over all
+pub over-put : (name : List ℕ) (v : Option (List ℕ)) (es base : List Entry) → IsRising base → over (put byte_cmp name v es) base ≡ put byte_cmp name v (over es base)
+over-put name v es base r =
+    same_entries byte_cmp nat_list_cmp_total one_text (over (put byte_cmp name v es) base) (put byte_cmp name v (over es base))
+    (over_rising (put byte_cmp name v es) base r)
+    (is_sorted-put byte_cmp nat_list_cmp_total name v (over es base) (over_rising es base r))
+    (λ q. find-over q (put byte_cmp name v es) base
+    ∙ ap (λ (o : Option (Option (List ℕ))). or_else o (entry_of_key base q)) (find-put byte_cmp nat_list_cmp_total q name v es)
+    ∙ sym (cond_or (eq_by_cmp byte_cmp q name) v (entry_of_key es q) (entry_of_key base q))
+    ∙ ap (cond (eq_by_cmp byte_cmp q name) (Some v)) (sym (find-over q es base))
+    ∙ sym (find-put byte_cmp nat_list_cmp_total q name v (over es base)))
+
+pub over-push : (es : List Entry) (e : Entry) (base : List Entry) → over (es ++ e ∷ []) base ≡ over es (put byte_cmp e.0 e.1 base)
+over-push [] e base = refl
+over-push (x ∷ es) e base = ap (put byte_cmp x.0 x.1) (over-push es e base)
+
+-- the bytes of what stood at a text
+abbrev pub stood_len : List ℕ → Option (Option (List ℕ)) → ℕ
+stood_len name None = 0
+stood_len name (Some v) = entry_len (name, v)
+
+module _ (len : Entry → ℕ) where
+  abbrev total : List Entry → ℕ
+  total [] = 0
+  total (e ∷ es) = len e + total es
+
+  abbrev stood : List ℕ → Option (Option (List ℕ)) → ℕ
+  stood name None = 0
+  stood name (Some v) = len (name, v)
+
+  total-put : (name : List ℕ) (v : Option (List ℕ)) (es : List Entry) → IsRising es → total (put byte_cmp name v es) + stood name (entry_of_key es name) ≡ total es + len (name, v)
+  total-put name v [] r = omega arith
+  total-put name v (e ∷ es) r = go (total-put name v es (second _ _ r)) (byte_cmp name e.0) refl
+    where
+      go : total (put byte_cmp name v es) + stood name (entry_of_key es name) ≡ total es + len (name, v) → (o : Ordering) → byte_cmp name e.0 ≡ o → total (put byte_cmp name v (e ∷ es)) + stood name (entry_of_key (e ∷ es) name) ≡ total (e ∷ es) + len (name, v)
+      go h Less p = rw (find_lower name e es r p, p) (omega arith)
+      go h Equal p =
+          let same : len (name, e.1) ≡ len e = ap (λ (n : List ℕ). len (n, e.1)) (one_text name e.0 p) in
+          let back : len (e.0, v) ≡ len (name, v) = ap (λ (n : List ℕ). len (n, v)) (sym (one_text name e.0 p)) in
+          rw p (omega (arith, same, back))
+      go h Greater p = rw p (omega (arith, h))
+
+  stood_below : (name : List ℕ) (es : List Entry) → stood name (entry_of_key es name) ≤ total es
+  stood_below name [] = omega arith
+  stood_below name (e ∷ es) = go (stood_below name es) (byte_cmp name e.0) refl
+    where
+      go : stood name (entry_of_key es name) ≤ total es → (o : Ordering) → byte_cmp name e.0 ≡ o → stood name (entry_of_key (e ∷ es) name) ≤ total (e ∷ es)
+      go h Less p = rw p (omega (arith, h))
+      go h Equal p = let same : len (name, e.1) ≡ len e = ap (λ (n : List ℕ). len (n, e.1)) (one_text name e.0 p) in rw p (omega (arith, same))
+      go h Greater p = rw p (omega (arith, h))
+
+bytes-total : (es : List Entry) → bytes_of es ≡ total entry_len es
+bytes-total [] = refl
+bytes-total (e ∷ es) = ap (λ (n : ℕ). entry_len e + n) (bytes-total es)
+
+stood-len : (name : List ℕ) (o : Option (Option (List ℕ))) → stood_len name o ≡ stood entry_len name o
+stood-len name None = refl
+stood-len name (Some v) = refl
+
+pub bytes-put : (name : List ℕ) (v : Option (List ℕ)) (es : List Entry) → IsRising es → bytes_of (put byte_cmp name v es) + stood_len name (entry_of_key es name) ≡ bytes_of es + entry_len (name, v)
+bytes-put name v es r =
+    rw (bytes-total (put byte_cmp name v es), bytes-total es, stood-len name (entry_of_key es name)) (total-put entry_len name v es r)
+
+pub stood_within : (name : List ℕ) (es : List Entry) → stood_len name (entry_of_key es name) ≤ bytes_of es
+stood_within name es = rw (bytes-total es, stood-len name (entry_of_key es name)) (stood_below entry_len name es)
+
+pub each-put : (name : List ℕ) (v : Option (List ℕ)) (es : List Entry) → IsEntry (name, v) → AllByRecursion IsEntry es → AllByRecursion IsEntry (put byte_cmp name v es)
+each-put name v [] one all = (one, tt)
+each-put name v (e ∷ es) one all = go (each-put name v es one all.1) (byte_cmp name e.0) refl
+  where
+    go : AllByRecursion IsEntry (put byte_cmp name v es) → (o : Ordering) → byte_cmp name e.0 ≡ o → AllByRecursion IsEntry (put byte_cmp name v (e ∷ es))
+    go h Less p = rw p (one, all)
+    go h Equal p = rw p (subst (λ (n : List ℕ). IsEntry (n, v)) (one_text name e.0 p) one, all.1)
+    go h Greater p = rw p (all.0, h)
+
+pub each-over : (es base : List Entry) → AllByRecursion IsEntry es → AllByRecursion IsEntry base → AllByRecursion IsEntry (over es base)
+each-over [] base h k = k
+each-over (e ∷ es) base h k = each-put e.0 e.1 (over es base) h.0 (each-over es base h.1 k)

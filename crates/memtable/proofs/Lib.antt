@@ -1,0 +1,4 @@
+mod EntryLists
+mod OrderLemmas
+mod Places
+mod Sizes

@@ -1,0 +1,6 @@
+pub mod Edits
+pub mod Order
+pub mod Slots
+pub use Rattle.cell_key.specs.Cells
+pub use Rattle.cell_key.specs.Entries
+pub use Rattle.cell_key.specs.Keys

@@ -1,0 +1,52 @@
+-- The entries that slots stand for.
+use Rattle.std.specs.Prelude.{◌≡◌, ◌≢◌, ℕ, zero, suc, Bool, false, List, [], ◌∷◌, map, length, Option, Some, None, option_map}
+use Rattle.std.specs.declared.boxed.Box.{Box}
+use Rattle.std.specs.declared.cmp.Ordering.TheVariants.{Greater}
+use Rattle.std.specs.Ordering.{is_eq}
+use Rattle.std.specs.FinMap.Entries.{put}
+use Rattle.cell_key.specs.Keys.{byte_cmp}
+use Rattle.cell_key.specs.Entries.{Entry, entry_len, IsEntryList}
+use Rattle.std.specs.Borrow.{Bor}
+use Rattle.memtable.specs.declared.slots.Slot.{Slot}
+use Rattle.memtable.specs.declared.staging.Size.{Size}
+use Rattle.memtable.specs.Edits.{bytes_of, IsWithinLimits}
+
+abbrev pub slot_entry : Slot → Entry
+slot_entry slot = (slot.text.items, option_map (λ value. value.items) slot.value)
+
+abbrev pub slot_entries : {A : Type 0} → List (Box Slot A) → List Entry
+slot_entries slots = map (λ slot. slot_entry slot.value) slots
+
+-- the entries before the place have texts below this one, and that at the place hasn't
+abbrev pub IsPlace : List ℕ → List Entry → ℕ → Type 0
+IsPlace name [] zero = Unit {0}
+IsPlace name [] (suc i) = ⊥
+IsPlace name (e ∷ es) zero = byte_cmp name e.0 ≢ Greater
+IsPlace name (e ∷ es) (suc i) = (byte_cmp name e.0 ≡ Greater) × IsPlace name es i
+
+-- whether the entry at the place has this text
+abbrev pub is_named : List ℕ → List Entry → ℕ → Bool
+is_named name [] i = false
+is_named name (e ∷ es) zero = is_eq (byte_cmp name e.0)
+is_named name (e ∷ es) (suc i) = is_named name es i
+
+-- entries put over others, the last of them first
+abbrev pub over : List Entry → List Entry → List Entry
+over [] base = base
+over (e ∷ es) base = put byte_cmp e.0 e.1 (over es base)
+
+-- the bytes of an entry that may be there
+abbrev pub slot_len : Option (Bor Slot) → ℕ
+slot_len None = 0
+slot_len (Some slot) = entry_len (slot_entry slot.now)
+
+-- a size is that of a list
+pub record IsSizeOf (size : Size) (es : List Entry) : Type 0 where
+  pub entries : size.entries ≡ length es
+  pub bytes : size.bytes ≡ bytes_of es
+
+-- what a memtable keeps
+pub record IsKept {A : Type 0} (slots : List (Box Slot A)) (total : ℕ) : Type 0 where
+  pub list : IsEntryList (slot_entries slots)
+  pub limits : IsWithinLimits (slot_entries slots)
+  pub bytes : total ≡ bytes_of (slot_entries slots)

@@ -1,0 +1,14 @@
+//! A sorted buffer of the recent writes of a tablet (Bigtable, tablet serving: the memtable).
+#![tactic(auto)]
+
+mod cursor;
+mod order;
+mod slots;
+mod staging;
+mod table;
+
+pub use cursor::Cursor;
+pub use table::Memtable;
+
+#[cfg(test)]
+mod tests;

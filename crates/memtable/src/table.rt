@@ -1,0 +1,128 @@
+ghost use Rattle.std.specs.Prelude.{◌≡◌, ◌↔◌, [], length, IsTrue, OnOk, OnErr, IfErr, IfSome, IsErrOf, option_map, None, ◌⊎◌};
+ghost use Rattle.std.specs.List.{AllByRecursion};
+ghost use Rattle.cell_key.specs.Keys.{text};
+ghost use Rattle.cell_key.specs.Cells.{IsEditOf};
+ghost use Rattle.cell_key.specs.Entries.{IsEntryList, lent_entry, entry_of_key, entries_from};
+ghost use Rattle.memtable.specs.Edits.{with_edits, bytes_of, IsWithinLimits, HasStoredKey};
+
+use crate::cursor::Cursor;
+use crate::slots::{self, Slot};
+use crate::staging::{self, Size};
+use cell_key::{CellKey, Edit, EntryRef, Refusal, Row};
+use std::alloc::Global;
+use std::marker::Model;
+
+/// The recent writes of a tablet: an entry for each key that was put or erased, in the byte order of the
+/// texts of keys (Bigtable, tablet serving: the memtable). An erasure is an entry.
+#[derive(Drop)]
+pub struct Memtable {
+    alloc: Global,
+    slots: Vec<Box<Slot>>,
+    bytes: usize,
+}
+
+impl Model for Memtable {
+    ghost use Rattle.std.specs.Prelude.{List};
+    ghost use Rattle.cell_key.specs.Entries.{Entry};
+    ghost use Rattle.memtable.specs.Slots.{slot_entries, IsKept};
+
+    ghost Value = { List Entry };
+
+    ghost view = { λ table. slot_entries table.slots.items };
+
+    ghost invariant = { λ table. IsKept table.slots.items table.bytes };
+}
+
+impl Memtable {
+    /// The most entries.
+    pub const MOST_ENTRIES: usize = 100_000;
+
+    /// The most bytes of all entries together, as `entry_bytes` counts them.
+    pub const MOST_BYTES: usize = 67_108_864;
+
+    /// No entries. Takes no memory.
+    pub fn new(alloc: Global) -> Memtable
+        ensures { result ≡ [] }
+    {
+        Memtable {
+            alloc,
+            slots: Vec::new(alloc),
+            bytes: 0,
+        }
+    }
+
+    /// How many entries there are, erasures among them: at most 100,000. Takes no memory.
+    pub fn len(&self) -> usize
+        ensures len { result ≡ length self.now }
+        ensures list { IsEntryList self.now }
+        ensures limits { IsWithinLimits self.now }
+    {
+        self.slots.len()
+    }
+
+    /// Whether there is no entry. Takes no memory.
+    pub fn is_empty(&self) -> bool
+        ensures { IsTrue result ↔ (self.now ≡ []) }
+    {
+        self.slots.is_empty()
+    }
+
+    /// How many bytes the entries have in a file, at most 67,108,864: of each 4 and those of its text, a
+    /// byte for whether it has a value, and 4 and those of the value. Takes no memory.
+    pub fn entry_bytes(&self) -> usize
+        ensures { result ≡ bytes_of self.now }
+    {
+        self.bytes
+    }
+
+    /// The entry of a key, if it has one: its value, or an erasure. Takes no memory.
+    pub fn lookup(&self, key: &CellKey) -> Option<EntryRef<'_>>
+        ensures found { option_map (λ lent. (lent_entry lent).1) result ≡ entry_of_key self.now (text key.now) }
+        ensures named { IfSome result (λ lent. lent.key.now ≡ text key.now) }
+        ensures list { IsEntryList self.now }
+    {
+        let slot = slots::find_key(&self.slots, key)?;
+        Some(slot.lend())
+    }
+
+    /// The entries whose texts aren't below some bytes, in order. Takes no memory.
+    pub fn cursor(&self, from: &[u8]) -> Cursor<'_>
+        ensures cursor { result ≡ (None, entries_from from.now self.now) }
+        ensures list { IsEntryList self.now }
+    {
+        let at = slots::first_from(&self.slots, from);
+        Cursor::new(self.slots.split_at(at).1)
+    }
+
+    /// Makes edits under one row in order, all of them or none: a put sets the entry of its key to the
+    /// value, and an erase to an erasure. Room for all of them is made before the first change.
+    ///
+    /// # Errors
+    ///
+    /// `MemtableFull` where the table with all edits made would have more than 100,000 entries or more than
+    /// 67,108,864 bytes of entries, and `NoMemory` where a growth was refused. The table is then as before.
+    pub fn apply(&mut self, row: &Row, edits: Vec<Edit>) -> Result<(), Refusal>
+        requires { AllByRecursion (IsEditOf row.now) edits.items }
+        ensures ok { OnOk result (self.new ≡ with_edits self.old edits.items) }
+        ensures within { OnOk result (IsWithinLimits (with_edits self.old edits.items)) }
+        ensures keys { OnOk result (AllByRecursion HasStoredKey edits.items) }
+        ensures err { OnErr result (self.new ≡ self.old) }
+        ensures full { IsErrOf result Refusal.MemtableFull → ¬ (IsWithinLimits (with_edits self.old edits.items)) }
+        ensures refusal { IfErr result (λ refusal. (refusal ≡ Refusal.MemtableFull) ⊎ (refusal ≡ Refusal.NoMemory)) }
+    {
+        let before = Size {
+            entries: self.slots.len() as u128,
+            bytes: self.bytes as u128,
+        };
+        let (staged, size) = staging::stage(self.alloc, &self.slots, before, row, edits)?;
+        if size.entries > Memtable::MOST_ENTRIES as u128
+            || size.bytes > Memtable::MOST_BYTES as u128
+        {
+            return Err(Refusal::MemtableFull);
+        }
+        self.slots.reserve(staged.len())?;
+        slots::put_all(&mut self.slots, staged);
+        self.bytes = size.bytes as usize;
+        Ok(())
+    }
+}

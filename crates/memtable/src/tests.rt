@@ -1,0 +1,173 @@
+ghost use Rattle.std.specs.Prelude.{◌≡◌, ◌<◌, ◌≤◌, ◌^◌, IfOk, length};
+ghost use Rattle.cell_key.specs.Cells.{IsEditOf};
+
+use crate::Memtable;
+use cell_key::{CellKey, Edit, Family, Qualifier, Refusal, Row, Stamp};
+use std::alloc::Global;
+use std::test::Fail;
+
+fn put(alloc: Global, row: &Row, stamp: Stamp, value: &[u8]) -> Result<Edit, Refusal>
+    requires from { 1 ≤ stamp }
+    requires to { stamp < 2 ^ 63 }
+    requires value { length value.now ≤ 65536 }
+    ensures { IfOk result (IsEditOf row.now) }
+{
+    let key = CellKey {
+        row: row.clone()?,
+        family: Family::new(alloc, b"bal")?,
+        qualifier: Qualifier::Data,
+        stamp,
+    };
+    let value = Vec::from_slice(alloc, value)?;
+    Ok(Edit::Put(key, value))
+}
+
+fn erase(alloc: Global, row: &Row, stamp: Stamp) -> Result<Edit, Refusal>
+    requires from { 1 ≤ stamp }
+    requires to { stamp < 2 ^ 63 }
+    ensures { IfOk result (IsEditOf row.now) }
+{
+    let key = CellKey {
+        row: row.clone()?,
+        family: Family::new(alloc, b"bal")?,
+        qualifier: Qualifier::Data,
+        stamp,
+    };
+    Ok(Edit::Erase(key))
+}
+
+fn apply_two(
+    alloc: Global,
+    table: &mut Memtable,
+    row: &Row,
+    first: Edit,
+    second: Edit,
+) -> Result<(), Refusal>
+    requires first { IsEditOf row.now first }
+    requires second { IsEditOf row.now second }
+{
+    let mut edits = Vec::new(alloc);
+    edits.push(first)?;
+    edits.push(second)?;
+    table.apply(row, edits)
+}
+
+// What stands at a stamp of `a bal`, by a byte for what it is and the value.
+fn found(alloc: Global, table: &Memtable, stamp: Stamp) -> Result<Vec<u8>, Refusal> {
+    let key = CellKey {
+        row: Row::new(alloc, b"a")?,
+        family: Family::new(alloc, b"bal")?,
+        qualifier: Qualifier::Data,
+        stamp,
+    };
+    let mut out = Vec::new(alloc);
+    match table.lookup(&key) {
+        None => out.push(b'-')?,
+        Some(entry) => match entry.value {
+            None => out.push(b'x')?,
+            Some(value) => out.extend_from_slice(value)?,
+        },
+    }
+    Ok(out)
+}
+
+// The texts of the entries from some bytes on, and what they hold.
+fn written(alloc: Global, table: &Memtable, from: &[u8]) -> Result<Vec<u8>, Refusal> {
+    let mut out = Vec::new(alloc);
+    let mut cursor = table.cursor(from);
+    for _ in 0..4 {
+        if !cursor.advance() {
+            return Ok(out);
+        }
+        if let Some(entry) = cursor.current() {
+            out.extend_from_slice(entry.key)?;
+            out.extend_from_slice(entry.value.unwrap_or(b"x"))?;
+        }
+    }
+    Ok(out)
+}
+
+// The row `a` has 10 at 1 and an erasure at 2.
+fn two_entries(alloc: Global) -> Result<Memtable, Refusal> {
+    let mut table = Memtable::new(alloc);
+    let row = Row::new(alloc, b"a")?;
+    let first = put(alloc, &row, 2, b"7")?;
+    apply_two(alloc, &mut table, &row, first, put(alloc, &row, 1, b"10")?)?;
+    let first = put(alloc, &row, 2, b"8")?;
+    apply_two(alloc, &mut table, &row, first, erase(alloc, &row, 2)?)?;
+    Ok(table)
+}
+
+#[test]
+fn puts_and_erases(rt: HostRuntime) -> Result<(), Fail> {
+    let alloc = rt.alloc();
+    assert!(rt; Memtable::new(alloc).is_empty());
+    let table = two_entries(alloc)?;
+    assert_eq!(rt; table.len(), 2);
+    assert_eq!(rt; table.entry_bytes(), 60);
+    assert_eq!(rt; found(alloc, &table, 1)?.as_slice(), b"10".as_slice());
+    assert_eq!(rt; found(alloc, &table, 2)?.as_slice(), b"x".as_slice());
+    assert_eq!(rt; found(alloc, &table, 3)?.as_slice(), b"-".as_slice());
+    Ok(())
+}
+
+#[test]
+fn lends_entries_in_order(rt: HostRuntime) -> Result<(), Fail> {
+    let table = two_entries(rt.alloc())?;
+    let both =
+        b"a\0\0bal\0\0data\0\0\xFF\xFF\xFF\xFF\xFF\xFF\xFF\xFDxa\0\0bal\0\0data\0\0\xFF\xFF\xFF\xFF\xFF\xFF\xFF\xFE10";
+    let last = b"a\0\0bal\0\0data\0\0\xFF\xFF\xFF\xFF\xFF\xFF\xFF\xFE";
+    assert_eq!(rt;
+        written(rt.alloc(), &table, b"")?.as_slice(),
+        both.as_slice()
+    );
+    assert_eq!(rt; written(rt.alloc(), &table, last)?.len(), 24);
+    assert!(rt; written(rt.alloc(), &table, b"b")?.is_empty());
+    Ok(())
+}
+
+fn apply_one(
+    alloc: Global,
+    table: &mut Memtable,
+    row: &Row,
+    stamp: Stamp,
+    value: &[u8],
+) -> Result<(), Refusal>
+    requires from { 1 ≤ stamp }
+    requires to { stamp < 2 ^ 63 }
+    requires value { length value.now ≤ 65536 }
+{
+    let mut edits = Vec::new(alloc);
+    edits.push(put(alloc, row, stamp, value)?)?;
+    table.apply(row, edits)
+}
+
+fn zeros(alloc: Global, len: usize) -> Result<Vec<u8>, Refusal>
+    ensures { IfOk result (λ bytes. length bytes.items ≡ len) }
+{
+    let mut bytes = Vec::new(alloc);
+    bytes.resize(len, 0)?;
+    Ok(bytes)
+}
+
+// 1,023 entries of 65,567 bytes and one of 33,823 have 67,108,864 bytes.
+#[test]
+fn full_at_its_most_bytes(rt: HostRuntime) -> Result<(), Fail> {
+    let alloc = rt.alloc();
+    let row = Row::new(alloc, b"a")?;
+    let mut table = Memtable::new(alloc);
+    let value = zeros(alloc, 65_536)?;
+    for stamp in 1..1_024u64 {
+        apply_one(alloc, &mut table, &row, stamp, &value)?;
+    }
+    let full = apply_one(alloc, &mut table, &row, 1_024, &value);
+    assert!(rt; full == Err(Refusal::MemtableFull));
+    let last = zeros(alloc, 33_792)?;
+    apply_one(alloc, &mut table, &row, 1_024, &last)?;
+    assert_eq!(rt; table.entry_bytes(), Memtable::MOST_BYTES);
+    let full = apply_one(alloc, &mut table, &row, 1_025, b"");
+    assert!(rt; full == Err(Refusal::MemtableFull));
+    apply_one(alloc, &mut table, &row, 1_023, &value)?;
+    assert_eq!(rt; table.len(), 1_024);
+    Ok(())
+}
