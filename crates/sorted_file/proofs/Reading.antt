@@ -1,0 +1,150 @@
+-- What the front of some bytes can be.
+use Rattle.std.proofs.Common.{◌≡◌, ◌≢◌, ℕ, zero, ◌+◌, ◌-◌, ◌≤◌, ◌<◌, ◌^◌, Bool, true, false, ◌&&◌, T, List, [], ◌∷◌, ◌++◌, length, take, drop, refl, sym, ap, subst, ◌∙◌, arith, length-append, append_assoc}
+use Rattle.std.specs.Prelude.{flat_map, Option, Some, None, ◌↔◌}
+use Rattle.std.specs.List.{AllByRecursion}
+use Rattle.std.specs.Int.{w32, to_be_bytes, from_be_bytes}
+use Rattle.std.proofs.lemmas.Nat.{from_be_bytes-to_be_bytes_4}
+use Rattle.std.specs.declared.cmp.Ordering.{Ordering}
+use Rattle.std.specs.declared.cmp.Ordering.TheVariants.{Less, Equal, Greater}
+use Rattle.std.specs.Ordering.{is_lt}
+use Rattle.std.specs.Cmp.Lexicographic.{nat_list_cmp_total}
+use Rattle.std.specs.FinMap.Entries.{below_all}
+use Rattle.cell_key.specs.Keys.{byte_cmp}
+use Rattle.cell_key.specs.Entries.{Entry, IsEntry, IsRising, spelled, spelled_value, field}
+use Rattle.sorted_file.specs.Grammar.{IsFile}
+use Rattle.sorted_file.proofs.Spelling.{one_spelling, field_split, field_length, spelled_split, spelled_length, short, goes_on, is_cut}
+use Rattle.sorted_file.proofs.EntryParts.{index_place, entry_bytes}
+
+-- ---- an entry
+
+-- behind the first field stands the value
+pub value_front : (bytes key rest x : List ℕ) (e : Entry) → length bytes < 2 ^ 32 → bytes ≡ field key ++ rest → bytes ≡ spelled e ++ x → rest ≡ spelled_value e.1 ++ x
+value_front bytes key rest x e small f s =
+    let l : length bytes ≡ 4 + length key + length rest = ap length f ∙ length-append (field key) rest ∙ ap (λ (n : ℕ). n + length rest) (field_length key) in
+    let is = short e x bytes s small in
+    let whole : field key ++ rest ≡ field e.0 ++ (spelled_value e.1 ++ x) = sym f ∙ s ∙ append_assoc (field e.0) (spelled_value e.1) x in
+    (field_split key e.0 rest (spelled_value e.1 ++ x) (omega (arith, l, small)) (is.key) whole).1
+
+no_value_front : (v : Option (List ℕ)) (x : List ℕ) → [] ≡ spelled_value v ++ x → ⊥
+no_value_front None x e = cc
+no_value_front (Some v) x e = cc
+
+pub no_entry_empty : (bytes key rest x : List ℕ) (e : Entry) → length bytes < 2 ^ 32 → bytes ≡ field key ++ rest → rest ≡ [] → bytes ≡ spelled e ++ x → ⊥
+no_entry_empty bytes key rest x e small f n s = no_value_front e.1 x (sym n ∙ value_front bytes key rest x e small f s)
+
+kinds : (v : Option (List ℕ)) (kind : ℕ) (after x : List ℕ) → kind ≢ 0 → kind ≢ 1 → kind ∷ after ≡ spelled_value v ++ x → ⊥
+kinds None kind after x p q e = let is : kind ≡ 0 = cc in p is
+kinds (Some v) kind after x p q e = let is : kind ≡ 1 = cc in q is
+
+pub no_entry_kind : (bytes key rest after x : List ℕ) (kind : ℕ) (e : Entry) → length bytes < 2 ^ 32 → bytes ≡ field key ++ rest → rest ≡ kind ∷ after → kind ≢ 0 → kind ≢ 1 → bytes ≡ spelled e ++ x → ⊥
+no_entry_kind bytes key rest after x kind e small f n p q s = kinds e.1 kind after x p q (sym n ∙ value_front bytes key rest x e small f s)
+
+values : (v : Option (List ℕ)) (after x : List ℕ) → length (spelled_value v) < 2 ^ 32 → ((part more : List ℕ) → length part < 2 ^ 32 → after ≢ field part ++ more) → 1 ∷ after ≡ spelled_value v ++ x → ⊥
+values None after x small h e = let is : 1 ≡ zero = cc in absurd (omega (arith, is))
+values (Some v) after x small h e = let is : after ≡ field v ++ x = cc in h v x (omega (arith, small, field_length v)) is
+
+pub no_entry_value : (bytes key rest after x : List ℕ) (kind : ℕ) (e : Entry) → length bytes < 2 ^ 32 → bytes ≡ field key ++ rest → rest ≡ kind ∷ after → kind ≡ 1 → ((part more : List ℕ) → length part < 2 ^ 32 → after ≢ field part ++ more) → bytes ≡ spelled e ++ x → ⊥
+no_entry_value bytes key rest after x kind e small f n is h s =
+    let sh = short e x bytes s small in
+    values e.1 after x sh.value h (ap (λ (k : ℕ). k ∷ after) (sym is) ∙ sym n ∙ value_front bytes key rest x e small f s)
+
+-- ---- entries, one after the other
+
+all_at : (done more : List Entry) (e : Entry) → AllByRecursion IsEntry (done ++ e ∷ more) → IsEntry e
+all_at [] more e h = h.0
+all_at (d ∷ done) more e h = all_at done more e h.1
+
+pub rest_small : (bytes front rest : List ℕ) → length bytes < 2 ^ 32 → bytes ≡ front ++ rest → length rest < 2 ^ 32
+rest_small bytes front rest small s = omega (arith, small, ap length s, length-append front rest)
+
+-- bytes that go on with no entry are those of no list
+pub stuck : (done es : List Entry) (bytes rest : List ℕ) → length bytes < 2 ^ 32 → bytes ≡ flat_map spelled done ++ rest → length rest ≢ 0 → ((e : Entry) (x : List ℕ) → rest ≢ spelled e ++ x) → bytes ≡ flat_map spelled es → ⊥
+stuck done es bytes rest small s some h t =
+    let on = goes_on done es bytes rest small s t in
+    go on.more on.bytes
+  where
+    go : (more : List Entry) → rest ≡ flat_map spelled more → ⊥
+    go [] r = some (ap length r)
+    go (e ∷ more) r = h e (flat_map spelled more) r
+
+-- nor those that go on with an entry outside the limits
+pub outside : (done es : List Entry) (bytes rest after : List ℕ) (b : Entry) → length bytes < 2 ^ 32 → bytes ≡ flat_map spelled done ++ rest → rest ≡ spelled b ++ after → ¬ IsEntry b → AllByRecursion IsEntry es → bytes ≡ flat_map spelled es → ⊥
+outside done es bytes rest after b small s r bad all t =
+    let on = goes_on done es bytes rest small s t in
+    go on.more on.list on.bytes
+  where
+    go : (more : List Entry) → es ≡ done ++ more → rest ≡ flat_map spelled more → ⊥
+    go [] l q =
+        let n : length rest ≡ length (spelled b) + length after = ap length r ∙ length-append (spelled b) after in
+        let z : length rest ≡ 0 = ap length q in
+        omega (arith, n, z, spelled_length b)
+    go (e ∷ more) l q =
+        let less = rest_small bytes (flat_map spelled done) rest small s in
+        let same = spelled_split b e after (flat_map spelled more) (short b after rest r less) (short e (flat_map spelled more) rest q less) (sym r ∙ q) in
+        bad (subst IsEntry (sym same.0) (all_at done more e (subst (AllByRecursion IsEntry) l all)))
+
+-- ---- the order
+
+both : (a b : Bool) → T a → T b → T (a && b)
+both true b p q = q
+both false b p q = p
+
+first : (a b : Bool) → T (a && b) → T a
+first true b p = tt
+first false b p = p
+
+second : (a b : Bool) → T (a && b) → T b
+second true b p = p
+second false b p = absurd p
+
+less : (o : Ordering) → T (is_lt o) → o ≡ Less
+less Less p = refl
+less Equal p = absurd p
+less Greater p = absurd p
+
+pub is_less : (o : Ordering) → is_lt o ≡ true → o ≡ Less
+is_less Less p = refl
+is_less Equal p = cc
+is_less Greater p = cc
+
+below_less : (x y : List ℕ) (es : List Entry) → byte_cmp x y ≡ Less → T (below_all byte_cmp y es) → T (below_all byte_cmp x es)
+below_less x y [] p h = tt
+below_less x y (e ∷ es) p h =
+    let lower : byte_cmp x e.0 ≡ Less = nat_list_cmp_total.trans x y e.0 p (less _ (first _ _ h)) in
+    both _ _ (subst (λ (o : Ordering). T (is_lt o)) (sym lower) tt) (below_less x y es p (second _ _ h))
+
+rise : (l n : Entry) (after : List Entry) → byte_cmp l.0 n.0 ≡ Less → IsRising (n ∷ after) → IsRising (l ∷ n ∷ after)
+rise l n after p h = both _ _ (both _ _ (subst (λ (o : Ordering). T (is_lt o)) (sym p) tt) (below_less l.0 n.0 after p (first _ _ h))) h
+
+-- a list rises from an entry on if it rises from the next one
+pub rise_step : (all : Type 0) (l n : Entry) (rest after : List Entry) → rest ≡ n ∷ after → byte_cmp l.0 n.0 ≡ Less → (all ↔ IsRising (l ∷ rest)) → (all ↔ IsRising (n ∷ after))
+rise_step all l n rest after r p i =
+    let h : all ↔ IsRising (l ∷ n ∷ after) = subst (λ (es : List Entry). all ↔ IsRising (l ∷ es)) r i in
+    (λ a. second _ _ (h.0 a), λ q. h.1 (rise l n after p q))
+
+-- ---- the place of the index
+
+pub record IsIndexPlace (n : ℕ) (es : List Entry) (image : List ℕ) : Type 0 where
+  pub exact : n ≡ 8 + length (flat_map spelled es)
+  pub within : n + 24 ≤ length image
+
+pub place_of : (es : List Entry) (image last rest : List ℕ) (n : ℕ) → n < 2 ^ 32 → IsFile es image → last ≡ drop (length image - 24) image → last ≡ to_be_bytes w32 n ++ rest → IsIndexPlace n es image
+place_of es image last rest n small f d s =
+    let c = is_cut es image f in
+    let size = c.size in
+    let is : n ≡ 8 + length (flat_map spelled es) =
+    sym (from_be_bytes-to_be_bytes_4 n small) ∙ ap (λ (l : List ℕ). from_be_bytes w32 (take 4 l)) (sym s ∙ d) ∙ index_place es image f.small c in
+    record { exact = is; within = omega (arith, is, size) }
+
+pub part_of : (es : List Entry) (image : List ℕ) (n : ℕ) → IsFile es image → IsIndexPlace n es image → take (n - 8) (drop 8 image) ≡ flat_map spelled es
+part_of es image n f p =
+    let e = p.exact in
+    ap (λ (k : ℕ). take k (drop 8 image)) (omega (arith, e)) ∙ entry_bytes es image (is_cut es image f)
+
+pub too_short : (es : List Entry) (image : List ℕ) → IsFile es image → length image < 32 → ⊥
+too_short es image f h = let c = is_cut es image f in let size = c.size in omega (arith, size, h)
+
+-- the entries that were read are those of each list of this image
+pub same_list : (es got : List Entry) (part : List ℕ) → length part < 2 ^ 32 → part ≡ flat_map spelled got → part ≡ flat_map spelled es → es ≡ got
+same_list es got part small g e =
+    one_spelling got es (omega (arith, small, ap length g)) (sym g ∙ e)

@@ -1,0 +1,64 @@
+-- A source is written as a file.
+use Rattle.std.proofs.Common.{◌≡◌, ℕ, ◌+◌, ◌≤◌, ◌<◌, List, [], ◌∷◌, ◌++◌, length, refl, sym, ap, subst, ◌∙◌, arith, length-append, append_assoc}
+use Rattle.std.specs.Prelude.{flat_map, codes, Option, Some, None, IfSome}
+use Rattle.std.proofs.lemmas.List.Concat.{flat_map-append}
+use Rattle.cell_key.specs.Entries.{Entry, spelled, entry_len, Takes}
+use Rattle.file_store.specs.Store.{Contents, KeepsOthers, HasRisen}
+use Rattle.sorted_file.specs.Grammar.{FitsIn, body}
+use Rattle.sorted_file.specs.Building.{State, IsBuilt, IsWriting, with_open}
+use Rattle.sorted_file.proofs.Spelling.{body-whole, is_cut}
+
+append-nil : {A : Type 0} (xs : List A) → xs ++ [] ≡ xs
+append-nil [] = refl
+append-nil (x ∷ xs) = ap (λ (l : List _). x ∷ l) (append-nil xs)
+
+pub writing_start : (s : State) (all : List Entry) → IsBuilt s [] → IsWriting s all all
+writing_start s all b = record { done = []; built = b; parts = refl }
+
+pub writing_step : (s t : State) (all old new : List Entry) (e : Entry) → old ≡ e ∷ new → ((es : List Entry) → IsBuilt s es → IsBuilt t (es ++ e ∷ [])) → IsWriting s all old → IsWriting t all new
+writing_step s t all old new e o f w =
+    record {
+      done = w.done ++ e ∷ [];
+      built = f w.done w.built;
+      parts = append_assoc w.done (e ∷ []) new ∙ ap (λ (l : List Entry). w.done ++ l) (sym o) ∙ w.parts;
+    }
+
+pub writing_end : (s : State) (all old : List Entry) → old ≡ [] → IsWriting s all old → IsBuilt s all
+writing_end s all old o w = subst (IsBuilt s) (sym (append-nil w.done) ∙ ap (λ (l : List Entry). w.done ++ l) (sym o) ∙ w.parts) w.built
+
+-- a list whose front and next entry are longer than the limit has no file within it
+pub too_large : (s : State) (all old new : List Entry) (e : Entry) (limit : ℕ) → old ≡ e ∷ new → IsWriting s all old → limit < length s.out + entry_len e → FitsIn limit all → ⊥
+too_large s all old new e limit o w h f =
+    let b = w.built in
+    let out : length s.out ≡ 8 + length (flat_map spelled w.done) =
+    ap length b.bytes ∙ length-append (codes "TABLET01") (body (with_open b.before b.current))
+    ∙ ap (λ (l : List ℕ). 8 + length l) (body-whole (with_open b.before b.current) ∙ ap (flat_map spelled) b.whole) in
+    let split : flat_map spelled all ≡ flat_map spelled w.done ++ (spelled e ++ flat_map spelled new) =
+    ap (flat_map spelled) (sym w.parts ∙ ap (λ (l : List Entry). w.done ++ l) o) ∙ flat_map-append spelled w.done (e ∷ new) in
+    let total : length (flat_map spelled all) ≡ length (flat_map spelled w.done) + (length (spelled e) + length (flat_map spelled new)) =
+    ap length split ∙ length-append (flat_map spelled w.done) (spelled e ++ flat_map spelled new) ∙ ap (λ (n : ℕ). length (flat_map spelled w.done) + n) (length-append (spelled e) (flat_map spelled new)) in
+    let cut = is_cut all f.image f.form in
+    let size = cut.size in
+    let within = f.within in
+    omega (arith, out, total, size, within, h)
+
+pub keeps_same : (name : ℕ) (old new : Option Contents) → new ≡ old → KeepsOthers name old new
+keeps_same name old new e = subst (KeepsOthers name old) (sym e) (itself old)
+  where
+    itself : (o : Option Contents) → KeepsOthers name o o
+    itself None = refl
+    itself (Some m) = λ other n. refl
+
+pub risen_later : (before mid now : ℕ) → before ≤ mid → HasRisen mid now → HasRisen before now
+risen_later before mid now h r = omega (arith, h, r)
+
+-- what is told of the contents goes on through a step
+pub told_step : (o p : Option Contents) → p ≡ o → (A H T B : Contents → Type 0) → ((m : Contents) → A m → H m → T m → B m) → IfSome o A → IfSome p H → IfSome p T → IfSome o B
+told_step o p e A H T B f a h t = joined o a (subst (λ (q : Option Contents). IfSome q H) e h) (subst (λ (q : Option Contents). IfSome q T) e t)
+  where
+    joined : (q : Option Contents) → IfSome q A → IfSome q H → IfSome q T → IfSome q B
+    joined None a h t = a
+    joined (Some m) a h t = f m a h t
+
+pub takes_some : (o : Option Entry) (e : Entry) (old new : List Entry) → o ≡ Some e → Takes o old new → old ≡ e ∷ new
+takes_some o e old new is t = subst (λ (q : Option Entry). Takes q old new) is t

@@ -1,0 +1,89 @@
+-- A file that is being built.
+use Rattle.std.specs.Prelude.{◌≡◌, ℕ, ◌+◌, ◌-◌, ◌≤◌, ◌<◌, ◌^◌, List, [], ◌∷◌, ◌++◌, length, flat_map, codes, ◌≢◌, ◌⊎◌}
+use Rattle.std.specs.Int.{w32, to_be_bytes}
+use Rattle.cell_key.specs.Entries.{Entry, spelled, field}
+use Rattle.sorted_file.specs.Grammar.{AreBlocks, body, index, foot}
+use Rattle.sorted_file.specs.declared.building.FileBuilder.{FileBuilder}
+
+-- what is kept of a file so far: its head and entries, the rows of the blocks that are closed, and of the
+-- block that is open its first text and where it begins
+pub record State : Type 0 where
+  pub limit : ℕ
+  pub out : List ℕ
+  pub rows : List ℕ
+  pub first : List ℕ
+  pub start : ℕ
+  pub blocks : ℕ
+  pub entries : ℕ
+
+abbrev pub state_of : FileBuilder → State
+state_of b = record { limit = b.limit; out = b.out.items; rows = b.rows.items; first = b.first.items; start = b.start; blocks = b.blocks; entries = b.entries }
+
+-- the numbers fit their four bytes
+pub record IsSound (s : State) : Type 0 where
+  pub limited : s.limit < 2 ^ 32
+  pub within : length s.out ≤ s.limit
+  pub started : s.start ≤ length s.out
+  pub counted : s.entries < length s.out
+  pub parted : s.blocks ≤ s.entries
+  pub named : length s.first < 2 ^ 32
+
+abbrev pub opened : State → List ℕ → State
+opened s key = record { limit = s.limit; out = s.out; rows = s.rows; first = key; start = length s.out; blocks = s.blocks; entries = s.entries }
+
+abbrev pub closed : State → State
+closed s = record { limit = s.limit; out = s.out; rows = s.rows ++ (to_be_bytes w32 s.start ++ (to_be_bytes w32 (length s.out - s.start) ++ field s.first)); first = s.first; start = s.start; blocks = s.blocks + 1; entries = s.entries }
+
+abbrev pub added : State → Entry → State
+added s entry = record { limit = s.limit; out = s.out ++ spelled entry; rows = s.rows; first = s.first; start = s.start; blocks = s.blocks; entries = s.entries + 1 }
+
+-- closed blocks, and an open one if it has entries
+abbrev pub with_open : List (List Entry) → List Entry → List (List Entry)
+with_open blocks [] = blocks
+with_open blocks (e ∷ es) = blocks ++ (e ∷ es) ∷ []
+
+-- the text of the first entry, if there is one
+abbrev pub IsFirst : List ℕ → List Entry → Type 0
+IsFirst name [] = Unit {0}
+IsFirst name (e ∷ es) = name ≡ e.0
+
+-- what is kept is that of these entries
+pub record IsBuilt (s : State) (es : List Entry) : Type 0 where
+  pub before : List (List Entry)
+  pub current : List Entry
+  pub whole : flat_map (λ block. block) (with_open before current) ≡ es
+  pub grammar : AreBlocks (with_open before current)
+  pub alone : current ≡ [] → before ≡ []
+  pub bytes : s.out ≡ codes "TABLET01" ++ body (with_open before current)
+  pub places : s.rows ≡ index 8 before
+  pub from : s.start ≡ 8 + length (body before)
+  pub named : IsFirst s.first current
+  pub count : s.blocks ≡ length before
+  pub total : s.entries ≡ length es
+
+-- The first block was opened, or the open block has room, or it was closed and the next one opened.
+abbrev pub HasMadeRoom : State → Entry → State → Type 0
+HasMadeRoom old e new = ((old.entries ≡ 0) × (new ≡ opened old e.0)) ⊎ ((old.entries ≢ 0) × (length old.out - old.start + length (spelled e) ≤ 4096) × (new ≡ old)) ⊎ ((old.entries ≢ 0) × (4096 < length old.out - old.start + length (spelled e)) × (new ≡ opened (closed old) e.0))
+
+-- how long the file of what is closed is, and its bytes
+abbrev pub image_len : State → ℕ
+image_len s = length s.out + length s.rows + 24
+
+abbrev pub image_from : State → List ℕ
+image_from s = s.out ++ (s.rows ++ foot (length s.out) s.blocks s.entries (image_len s))
+
+-- all blocks are closed, and what is kept is that of these entries
+pub record IsClosed (s : State) (es : List Entry) : Type 0 where
+  pub all : List (List Entry)
+  pub whole : flat_map (λ block. block) all ≡ es
+  pub grammar : AreBlocks all
+  pub bytes : s.out ≡ codes "TABLET01" ++ body all
+  pub places : s.rows ≡ index 8 all
+  pub count : s.blocks ≡ length all
+  pub total : s.entries ≡ length es
+
+-- What was written is the front of the list that a source had, and it has the rest.
+pub record IsWriting (s : State) (all rest : List Entry) : Type 0 where
+  pub done : List Entry
+  pub built : IsBuilt s done
+  pub parts : done ++ rest ≡ all

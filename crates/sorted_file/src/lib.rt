@@ -1,0 +1,20 @@
+//! Files of entries in the order of their keys, and the sources that entries come from (Bigtable, the SSTable).
+#![tactic(auto)]
+
+mod building;
+mod cursors;
+mod decoding;
+mod entries;
+mod images;
+mod laws;
+mod opened;
+mod sources;
+#[cfg(test)]
+mod tests;
+mod writing;
+
+pub use cursors::FileCursor;
+pub use laws::{one_image, one_list};
+pub use opened::SortedFile;
+pub use sources::{Source, refusal_of};
+pub use writing::write_file;

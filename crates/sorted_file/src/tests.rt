@@ -1,0 +1,183 @@
+mod slow;
+
+use crate::{SortedFile, write_file};
+use cell_key::{CellKey, Family, Qualifier, Refusal, Row};
+use file_store::{Files, MemFiles, read_whole};
+use slow::is_file;
+use std::alloc::Global;
+use std::test::Fail;
+
+/// The greatest limit of a file's bytes.
+const LIMIT: u64 = 1_073_741_824;
+
+/// The text of the key (`a`, `bal`, data, 1), but for its stamp.
+const PLACE: &[u8] = b"a\0\0bal\0\0data\0\0";
+
+/// A file of no entries.
+const EMPTY: &[u8] = b"TABLET01\0\0\0\x08\0\0\0\0\0\0\0\0\0\0\0\x20TABLETZZ";
+
+/// A file of one entry, the key (`a`, `bal`, data, 1) with the value `10`.
+const ONE: &[u8] = b"TABLET01\
+    \0\0\0\x16a\0\0bal\0\0data\0\0\xFF\xFF\xFF\xFF\xFF\xFF\xFF\xFE\x01\0\0\0\x0210\
+    \0\0\0\x08\0\0\0\x21\0\0\0\x16a\0\0bal\0\0data\0\0\xFF\xFF\xFF\xFF\xFF\xFF\xFF\xFE\
+    \0\0\0\x29\0\0\0\x01\0\0\0\x01\0\0\0\x63TABLETZZ";
+
+/// A file of two entries, at the stamps 2 and 1.
+const TWO: &[u8] = b"TABLET01\
+    \0\0\0\x16a\0\0bal\0\0data\0\0\xFF\xFF\xFF\xFF\xFF\xFF\xFF\xFD\x01\0\0\0\x0210\
+    \0\0\0\x16a\0\0bal\0\0data\0\0\xFF\xFF\xFF\xFF\xFF\xFF\xFF\xFE\x01\0\0\0\x0210\
+    \0\0\0\x08\0\0\0\x42\0\0\0\x16a\0\0bal\0\0data\0\0\xFF\xFF\xFF\xFF\xFF\xFF\xFF\xFD\
+    \0\0\0\x4A\0\0\0\x01\0\0\0\x02\0\0\0\x84TABLETZZ";
+
+/// The same entries in two blocks, where one would do.
+const SPLIT_EARLY: &[u8] = b"TABLET01\
+    \0\0\0\x16a\0\0bal\0\0data\0\0\xFF\xFF\xFF\xFF\xFF\xFF\xFF\xFD\x01\0\0\0\x0210\
+    \0\0\0\x16a\0\0bal\0\0data\0\0\xFF\xFF\xFF\xFF\xFF\xFF\xFF\xFE\x01\0\0\0\x0210\
+    \0\0\0\x08\0\0\0\x21\0\0\0\x16a\0\0bal\0\0data\0\0\xFF\xFF\xFF\xFF\xFF\xFF\xFF\xFD\
+    \0\0\0\x29\0\0\0\x21\0\0\0\x16a\0\0bal\0\0data\0\0\xFF\xFF\xFF\xFF\xFF\xFF\xFF\xFE\
+    \0\0\0\x4A\0\0\0\x02\0\0\0\x02\0\0\0\xA6TABLETZZ";
+
+/// Opens a file of these bytes under the name 1.
+fn opened(alloc: Global, files: &mut MemFiles, bytes: &[u8]) -> Result<SortedFile, Refusal> {
+    if files.put(1, bytes).is_err() {
+        return Err(Refusal::NoMemory);
+    }
+    SortedFile::open(alloc, 1, files)
+}
+
+/// Whether a file of these bytes is opened, and is written again with the same bytes.
+fn is_written_again(alloc: Global, bytes: &[u8]) -> Result<bool, Refusal> {
+    let mut files = MemFiles::new(alloc);
+    let file = opened(alloc, &mut files, bytes)?;
+    let mut cursor = file.cursor(b"");
+    write_file(alloc, &mut cursor, 2, LIMIT, &mut files)?;
+    match read_whole(alloc, &mut files, 2) {
+        Ok(Some(written)) => Ok(written.as_slice() == bytes),
+        _ => Ok(false),
+    }
+}
+
+/// Whether a file of these bytes is refused as damaged.
+fn is_damaged(alloc: Global, bytes: &[u8]) -> bool {
+    let mut files = MemFiles::new(alloc);
+    matches!(opened(alloc, &mut files, bytes), Err(Refusal::Damaged))
+}
+
+/// A file of three entries at the stamps 3, 2 and 1, with values of 2,017 bytes: two blocks.
+fn three(alloc: Global) -> Result<Vec<u8>, Refusal> {
+    let mut bytes = Vec::from_slice(alloc, b"TABLET01")?;
+    for stamp in [b"\xFC", b"\xFD", b"\xFE"] {
+        bytes.extend_from_slice(b"\0\0\0\x16")?;
+        bytes.extend_from_slice(PLACE)?;
+        bytes.extend_from_slice(b"\xFF\xFF\xFF\xFF\xFF\xFF\xFF")?;
+        bytes.extend_from_slice(stamp)?;
+        bytes.extend_from_slice(b"\x01\0\0\x07\xE1")?;
+        let value = vec![in alloc; b'v'; 2017]?;
+        bytes.extend_from_slice(&value)?;
+    }
+    for (row, stamp) in [
+        (b"\0\0\0\x08\0\0\x10\0", b"\xFC"),
+        (b"\0\0\x10\x08\0\0\x08\0", b"\xFE"),
+    ] {
+        bytes.extend_from_slice(row)?;
+        bytes.extend_from_slice(b"\0\0\0\x16")?;
+        bytes.extend_from_slice(PLACE)?;
+        bytes.extend_from_slice(b"\xFF\xFF\xFF\xFF\xFF\xFF\xFF")?;
+        bytes.extend_from_slice(stamp)?;
+    }
+    bytes.extend_from_slice(b"\0\0\x18\x08\0\0\0\x02\0\0\0\x03\0\0\x18\x64TABLETZZ")?;
+    Ok(bytes)
+}
+
+#[test]
+fn files_of_literal_bytes(rt: HostRuntime) -> Result<(), Fail> {
+    for (bytes, len) in [(EMPTY, 32), (ONE, 99), (TWO, 132)] {
+        assert_eq!(rt; bytes.len(), len);
+        assert!(rt; is_written_again(rt.alloc(), bytes)?);
+    }
+    Ok(())
+}
+
+#[test]
+fn a_file_of_two_blocks(rt: HostRuntime) -> Result<(), Fail> {
+    let bytes = three(rt.alloc())?;
+    assert_eq!(rt; bytes.len(), 6244);
+    assert!(rt; is_written_again(rt.alloc(), &bytes)?);
+    Ok(())
+}
+
+#[test]
+fn damaged_files(rt: HostRuntime) -> Result<(), Fail> {
+    assert_eq!(rt; SPLIT_EARLY.len(), 166);
+    assert!(rt; is_damaged(rt.alloc(), SPLIT_EARLY));
+    for len in 0..99 {
+        let (beginning, _) = ONE.split_at_checked(len).ok_or("too long")?;
+        assert!(rt; is_damaged(rt.alloc(), beginning));
+    }
+    let mut files = MemFiles::new(rt.alloc());
+    assert!(rt;
+        matches!(
+            SortedFile::open(rt.alloc(), 7, &mut files),
+            Err(Refusal::Damaged)
+        )
+    );
+    Ok(())
+}
+
+#[test]
+fn one_byte_changed(rt: HostRuntime) -> Result<(), Fail> {
+    for (at, byte, damaged) in [
+        (34, 2, true),
+        (34, 0, true),
+        (7, 0x32, true),
+        (39, 0x32, false),
+    ] {
+        let mut bytes = Vec::from_slice(rt.alloc(), ONE)?;
+        if let Some(place) = bytes.get_mut(at) {
+            *place = byte;
+        }
+        assert_eq!(rt; is_damaged(rt.alloc(), &bytes), damaged);
+    }
+    Ok(())
+}
+
+/// Whether the slow reader and `open` agree on each change of the byte at a place.
+fn agree_at(alloc: Global, at: usize) -> Result<bool, Refusal> {
+    let mut bytes = Vec::from_slice(alloc, ONE)?;
+    for byte in 0..=255 {
+        if let Some(place) = bytes.get_mut(at) {
+            *place = byte;
+        }
+        if is_file(alloc, &bytes)? == is_damaged(alloc, &bytes) {
+            return Ok(false);
+        }
+    }
+    Ok(true)
+}
+
+#[test]
+fn a_slow_reader_agrees(rt: HostRuntime) -> Result<(), Fail> {
+    assert!(rt; is_file(rt.alloc(), EMPTY)?);
+    assert!(rt; is_file(rt.alloc(), TWO)?);
+    for at in 0..99 {
+        assert!(rt; agree_at(rt.alloc(), at)?);
+    }
+    Ok(())
+}
+
+#[test]
+fn an_entry_is_looked_up(rt: HostRuntime) -> Result<(), Fail> {
+    let mut files = MemFiles::new(rt.alloc());
+    let file = opened(rt.alloc(), &mut files, ONE)?;
+    let mut key = CellKey {
+        row: Row::new(rt.alloc(), b"a")?,
+        family: Family::new(rt.alloc(), b"bal")?,
+        qualifier: Qualifier::Data,
+        stamp: 1,
+    };
+    let found = file.lookup(&key, &mut files)?;
+    assert!(rt; matches!(found, Some(entry) if entry.value == Some(b"10".as_slice())));
+    key.stamp = 2;
+    assert!(rt; file.lookup(&key, &mut files)?.is_none());
+    Ok(())
+}

@@ -1,0 +1,76 @@
+//! Writing a file.
+
+ghost use Rattle.std.specs.Prelude.{◌≡◌, ◌≤◌, ◌⊎◌, ℕ, List, length, IfOk, IfErr, OnOk, OnErr, IfSome, IsErrOf};
+ghost use Rattle.file_store.specs.Store.{KeepsOthers, with_file};
+ghost use Rattle.sorted_file.specs.Grammar.{IsFile, FitsIn};
+ghost use Rattle.sorted_file.specs.Sources.{HasReason, IsWriteRefusal};
+
+use crate::building::FileBuilder;
+use crate::sources::{Source, refusal_of};
+use cell_key::Refusal;
+use file_store::Files;
+use std::alloc::Global;
+
+/// The bytes of the file of the entries that remain.
+fn image_of_rest<F: Files, S: Source<F>>(
+    alloc: Global,
+    source: &mut S,
+    limit: u32,
+    files: &mut F,
+) -> Result<Vec<u8>, Refusal>
+    requires { 8 ≤ limit }
+    ensures file { IfOk result (λ image. IfSome (F.contents files.old) (λ m. S.holds m source.old → IsFile (S.remaining m source.old) image.items)) }
+    ensures within { IfOk result (λ image. length image.items ≤ limit) }
+    ensures large { IsErrOf result Refusal.FileTooLarge → IfSome (F.contents files.old) (λ m. S.holds m source.old → ¬ FitsIn limit (S.remaining m source.old)) }
+    ensures damaged { IsErrOf result Refusal.Damaged → IfSome (F.contents files.old) (λ m. ¬ S.holds m source.old) }
+    ensures refusal { IfErr result IsWriteRefusal }
+    ensures same { F.contents files.new ≡ F.contents files.old }
+    ensures reason { HasReason (F.faults files.old) (F.faults files.new) result }
+{
+    let mut builder = FileBuilder::new(alloc, limit)?;
+    'entries: while source.advance(files)? {
+        if let Some(entry) = source.current() {
+            builder.push(entry)?;
+        }
+    }
+    builder.finish()
+}
+
+/// Makes or replaces a file.
+fn put<F: Files>(files: &mut F, name: u64, bytes: &[u8]) -> Result<(), Refusal>
+    ensures ok { OnOk result (F.contents files.new ≡ with_file name bytes.now (F.contents files.old)) }
+    ensures err { OnErr result (KeepsOthers name (F.contents files.old) (F.contents files.new)) }
+    ensures refusal { IfErr result (λ refusal. (refusal ≡ Refusal.Device) ⊎ (refusal ≡ Refusal.NoMemory)) }
+    ensures reason { HasReason (F.faults files.old) (F.faults files.new) result }
+{
+    match files.put(name, bytes) {
+        Ok(()) => Ok(()),
+        Err(fault) => Err(refusal_of(fault)),
+    }
+}
+
+/// Writes the entries that remain in a source as a file (Bigtable, the SSTable), which replaces a file of
+/// this name. Refused FileTooLarge where the file would have more than `file_limit` bytes, Damaged where
+/// the source is, and Device and NoMemory. Until the whole file is in memory no file is changed; after an
+/// `Err` of the write itself the bytes under this name are open. All other files stay as they are.
+pub fn write_file<F: Files, S: Source<F>>(
+    alloc: Global,
+    source: &mut S,
+    name: u64,
+    file_limit: u64,
+    files: &mut F,
+) -> Result<(), Refusal>
+    requires least { 32 ≤ file_limit }
+    requires most { file_limit ≤ 1_073_741_824 }
+    ensures written { OnOk result ((image : List ℕ) × ((F.contents files.new ≡ with_file name image (F.contents files.old)) × (length image ≤ file_limit) × IfSome (F.contents files.old) (λ m. S.holds m source.old → IsFile (S.remaining m source.old) image))) }
+    ensures large { IsErrOf result Refusal.FileTooLarge → IfSome (F.contents files.old) (λ m. S.holds m source.old → ¬ FitsIn file_limit (S.remaining m source.old)) }
+    ensures damaged { IsErrOf result Refusal.Damaged → IfSome (F.contents files.old) (λ m. ¬ S.holds m source.old) }
+    ensures large_same { IsErrOf result Refusal.FileTooLarge → F.contents files.new ≡ F.contents files.old }
+    ensures damaged_same { IsErrOf result Refusal.Damaged → F.contents files.new ≡ F.contents files.old }
+    ensures others { OnErr result (KeepsOthers name (F.contents files.old) (F.contents files.new)) }
+    ensures refusal { IfErr result IsWriteRefusal }
+    ensures reason { HasReason (F.faults files.old) (F.faults files.new) result }
+{
+    let image = image_of_rest(alloc, source, file_limit as u32, files)?;
+    put(files, name, &image)
+}
