@@ -106,6 +106,7 @@ impl Memtable {
         ensures ok { OnOk result (self.new ≡ with_edits self.old edits.items) }
         ensures within { OnOk result (IsWithinLimits (with_edits self.old edits.items)) }
         ensures keys { OnOk result (AllByRecursion HasStoredKey edits.items) }
+        ensures list { IsEntryList self.new }
         ensures err { OnErr result (self.new ≡ self.old) }
         ensures full { IsErrOf result Refusal.MemtableFull → ¬ (IsWithinLimits (with_edits self.old edits.items)) }
         ensures refusal { IfErr result (λ refusal. (refusal ≡ Refusal.MemtableFull) ⊎ (refusal ≡ Refusal.NoMemory)) }

@@ -1,9 +1,5 @@
 -- What a mark store tells, and what its calls may do.
-use Rattle.std.specs.Prelude.{◌≡◌, ℕ, ◌+◌, ◌-◌, ◌≤◌, ◌^◌, ◌⊎◌, min, Option, option_map, IfSome}
-
--- A count of faults has risen. At the greatest number it stays, and is taken as risen.
-abbrev pub HasRisen : ℕ → ℕ → Type 0
-HasRisen before now = min (before + 1) (2 ^ 64 - 1) ≤ now
+use Rattle.std.specs.Prelude.{◌≡◌, ℕ, ◌≤◌, ◌⊎◌, Option, option_map, IfSome}
 
 -- the mark once a number was stored, where the mark is told
 abbrev pub mark_after : ℕ → Option ℕ → Option ℕ

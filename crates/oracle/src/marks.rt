@@ -1,5 +1,6 @@
 ghost use Rattle.std.specs.Prelude.{◌≡◌, ◌≤◌, ◌<◌, ◌^◌, ℕ, Option, Some, codes, OnOk, OnErr, IfOk, IfSome};
-ghost use Rattle.oracle.specs.Marks.{HasRisen, MayHold, mark_after};
+ghost use Rattle.cell_key.specs.Faults.{HasRisen};
+ghost use Rattle.oracle.specs.Marks.{MayHold, mark_after};
 
 use cell_key::{Refusal, Stamp};
 use std::error::Error;

@@ -1,5 +1,6 @@
 ghost use Rattle.std.specs.Prelude.{◌≡◌, ◌↔◌, ◌+◌, ◌-◌, ◌<◌, ◌≤◌, ◌^◌, OnOk, OnErr, IfOk, IfErr, IfSome, IsOk, IsErrOf};
-ghost use Rattle.oracle.specs.Marks.{HasRisen, MayHold, mark_after, IsWithin};
+ghost use Rattle.cell_key.specs.Faults.{HasRisen};
+ghost use Rattle.oracle.specs.Marks.{MayHold, mark_after, IsWithin};
 ghost use Rattle.oracle.specs.Ranges.{next_range_end, IsDrawRefusal, SameNumbers};
 
 use crate::marks::MarkStore;

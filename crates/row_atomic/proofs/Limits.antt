@@ -10,7 +10,7 @@ use Rattle.cell_key.specs.declared.keys.CellKey.{CellKey}
 use Rattle.cell_key.specs.declared.keys.Qualifier.{Qualifier}
 use Rattle.cell_key.specs.declared.edits.Edit.{Edit}
 use Rattle.cell_key.specs.declared.edits.Edit.TheVariants.{Put, Erase}
-use Rattle.row_atomic.specs.Versions.{IsVersion, IsVersionIn, HasLimits}
+use Rattle.cell_key.specs.Versions.{IsVersion, IsVersionIn, HasLimits}
 use Rattle.row_atomic.specs.Slots.{IsKept}
 use Rattle.row_atomic.proofs.SlotLemmas.{same_at, not_empty}
 

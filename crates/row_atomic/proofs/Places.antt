@@ -13,7 +13,7 @@ use Rattle.cell_key.specs.Cells.{Cells}
 use Rattle.cell_key.specs.declared.keys.CellKey.{CellKey}
 use Rattle.cell_key.specs.declared.keys.Qualifier.{Qualifier}
 use Rattle.cell_key.specs.declared.keys.Qualifier.TheVariants.{Data, Lock, Write}
-use Rattle.row_atomic.specs.Places.{Place, place_of, place_cmp, IsAfter, IsNextCell}
+use Rattle.cell_key.specs.Places.{Place, place_of, place_cmp, IsAfter, IsNextCell}
 use Rattle.row_atomic.specs.Slots.{IsFirst, past}
 
 place_cmp_total : IsTotalOrder place_cmp

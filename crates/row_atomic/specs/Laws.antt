@@ -2,7 +2,7 @@
 use Rattle.std.specs.Prelude.{◌≡◌, ℕ, List, Option}
 use Rattle.cell_key.specs.Cells.{Cells, IsNewest}
 use Rattle.cell_key.specs.declared.keys.CellKey.{CellKey}
-use Rattle.row_atomic.specs.Places.{Place, IsNextCell}
+use Rattle.cell_key.specs.Places.{Place, IsNextCell}
 
 -- a range of stamps has one newest version
 abbrev pub OneNewest : Type 0

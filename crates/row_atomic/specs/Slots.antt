@@ -15,8 +15,8 @@ use Rattle.cell_key.specs.Cells.{Cells, edited_key, version}
 use Rattle.cell_key.specs.declared.keys.CellKey.{CellKey}
 use Rattle.cell_key.specs.declared.keys.Qualifier.TheVariants.{Write}
 use Rattle.cell_key.specs.declared.edits.Edit.{Edit}
-use Rattle.row_atomic.specs.Places.{Place}
-use Rattle.row_atomic.specs.Versions.{HasLimits}
+use Rattle.cell_key.specs.Places.{Place}
+use Rattle.cell_key.specs.Versions.{HasLimits}
 
 -- the first slot of a key decides, and an empty one is no cell
 abbrev pub cells_of : {Z : Type 0} → List (CellKey × Option (Vec ℕ Z)) → Cells

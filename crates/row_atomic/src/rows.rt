@@ -1,11 +1,11 @@
-ghost use Rattle.std.specs.Prelude.{◌≡◌, ◌≤◌, ℕ, List, ⊤, IfOk, OnOk, OnErr, IfErr, IsErrOf, IfSome, option_map};
+ghost use Rattle.std.specs.Prelude.{◌≡◌, ◌≤◌, ℕ, List, IfOk, OnOk, OnErr, IfErr, IsErrOf, IfSome, option_map};
 ghost use Rattle.std.specs.List.{AllByRecursion};
 ghost use Rattle.cell_key.specs.Cells.{Cells, IsNewest, IsEditOf, after_edits, version};
 ghost use Rattle.cell_key.specs.declared.edits.Edit.{Edit as RowEdit};
-ghost use Rattle.row_atomic.specs.Faults.{HasRisen};
-ghost use Rattle.row_atomic.specs.Places.{IsNextCell, place_named};
+ghost use Rattle.cell_key.specs.Faults.{HasRisen};
+ghost use Rattle.cell_key.specs.Places.{IsNextCell, place_named};
 ghost use Rattle.row_atomic.specs.Refusals.{IsReadRefusal, IsApplyRefusal};
-ghost use Rattle.row_atomic.specs.Versions.{IsVersionIn, stamped};
+ghost use Rattle.cell_key.specs.Versions.{IsVersionIn, stamped};
 
 use cell_key::{Edit, Family, Qualifier, Refusal, Row, Stamp};
 
@@ -26,9 +26,8 @@ pub trait Rows {
     /// How often a device has failed, up to the greatest number of eight bytes.
     ghost faults: { Self → ℕ };
 
-    /// Whether edits of a row would pass a limit of what is kept in memory. By default nothing is
-    /// said of it.
-    ghost overfills: { Self → List ℕ → List RowEdit → Type 0 } = { λ _ _ _. ⊤ };
+    /// Whether edits of a row would pass a limit of what is kept in memory. A read doesn't change it.
+    ghost overfills: { Self → List ℕ → List RowEdit → Type 0 };
 
     /// The version of a cell's column with the greatest stamp in `lo..=hi`: its stamp, from 1 to
     /// 2^63 - 1, and its value of at most 65,536 bytes. `None` where there is none.
@@ -47,6 +46,7 @@ pub trait Rows {
         ensures found { holds self.old → IfOk result (λ found. IsNewest (cells self.old) (version row.now family.now qualifier) lo hi (option_map stamped found)) }
         ensures kept { holds self.old → cells self.new ≡ cells self.old }
         ensures still { holds self.old → holds self.new }
+        ensures same_room { (row : List ℕ) (edits : List RowEdit) → overfills self.new row edits → overfills self.old row edits }
         ensures undamaged { holds self.old → ¬ (IsErrOf result Refusal.Damaged) }
         ensures limits { IfOk result (λ found. IfSome (option_map stamped found) (IsVersionIn lo hi)) }
         ensures refusal { IfErr result IsReadRefusal }
@@ -66,6 +66,7 @@ pub trait Rows {
         ensures found { holds self.old → IfOk result (λ found. IsNextCell (cells self.old) (option_map place_named after.entry) found) }
         ensures kept { holds self.old → cells self.new ≡ cells self.old }
         ensures still { holds self.old → holds self.new }
+        ensures same_room { (row : List ℕ) (edits : List RowEdit) → overfills self.new row edits → overfills self.old row edits }
         ensures undamaged { holds self.old → ¬ (IsErrOf result Refusal.Damaged) }
         ensures refusal { IfErr result IsReadRefusal }
         ensures device { IsErrOf result Refusal.Device → HasRisen (faults self.old) (faults self.new) }

@@ -9,8 +9,8 @@ ghost use Rattle.std.specs.declared.ops.Bound.TheVariants.{Unbounded};
 ghost use Rattle.cell_key.specs.Keys.{key_cmp};
 ghost use Rattle.cell_key.specs.Cells.{after_edit, after_edits, edited_key, IsNewest, version};
 ghost use Rattle.cell_key.specs.declared.keys.CellKey.{CellKey as Key};
-ghost use Rattle.row_atomic.specs.Places.{IsNextCell, place_named};
-ghost use Rattle.row_atomic.specs.Versions.{stamped};
+ghost use Rattle.cell_key.specs.Places.{IsNextCell, place_named};
+ghost use Rattle.cell_key.specs.Versions.{stamped};
 ghost use Rattle.row_atomic.specs.Slots.{cells_of, slot_at, keyed, HasSlot, KeepsSlots, EmptiesNone, IsFull, IsFullBut, IsFirst, past, HasEdited};
 
 use cell_key::{CellKey, Edit, Family, Qualifier, Row, Stamp};

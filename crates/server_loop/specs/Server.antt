@@ -1,12 +1,15 @@
 -- What it means that a server shows a state of the machine.
 use Rattle.std.specs.Prelude.{ℕ, ◌⊎◌}
 use Rattle.cell_key.specs.Cells.{Cells}
-use Rattle.oracle.specs.Marks.{HasRisen}
+use Rattle.cell_key.specs.Faults.{HasRisen}
 use Rattle.si_model.specs.Machine.{State}
 use Rattle.txn_client.specs.Shows as clients
 use Rattle.server_loop.specs.declared.server.Server.{Server}
 
--- the mark store of its oracle, and the oracle's last stamp
+-- its rows, the mark store of its oracle, and the oracle's last stamp
+abbrev pub rows_of : {R M : Type 0} → Server R M → R
+rows_of server = server.rows
+
 abbrev pub marks_of : {R M : Type 0} → Server R M → M
 marks_of server = server.oracle.marks
 

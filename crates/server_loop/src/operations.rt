@@ -2,23 +2,27 @@
 
 ghost use Rattle.std.specs.Prelude.{◌≡◌, IfSome};
 ghost use Rattle.si_model.specs.Machine as machine;
+ghost use Rattle.si_model.specs.Machine.{State};
 ghost use Rattle.request_codec.specs.Replies.{replied};
 ghost use Rattle.server_loop.specs.Runs.{StepsAs, HasShortValue, IfRefused};
 ghost use Rattle.txn_client.specs.Reads.{cell_of};
 ghost use Rattle.txn_client.specs.Refusals.{IsBeginRefusal, IsGetRefusal, IsSetRefusal, IsStepRefusal};
+ghost use Rattle.txn_client.specs.Room.{ChangesNext, HasNoRoom};
+ghost use Rattle.txn_client.specs.Shows.{IsAboutToDraw};
 
 use crate::server::Server;
-use cell_key::{Refusal, Stamp};
+use cell_key::{MOST_STAMP, Refusal, Stamp};
 use oracle::MarkStore;
 use request_codec::Reply;
 use row_atomic::Rows;
 
 impl<R: Rows + Drop, M: MarkStore + Drop> Server<R, M> {
-    ghost use Rattle.server_loop.specs.Server.{Shows, IsFaultSeen, last_of, marks_of};
+    ghost use Rattle.server_loop.specs.Server.{Shows, IsFaultSeen, last_of, marks_of, rows_of};
 
     pub(crate) fn begin(&mut self) -> Reply
         ensures step { StepsAs (Shows R.cells R.holds) self.old self.new machine.Begin (replied result) }
         ensures refusal { IfRefused IsBeginRefusal (replied result) }
+        ensures exhausted { result ≡ Reply.Refused Refusal.Exhausted → last_of self.old ≡ MOST_STAMP }
         ensures short { HasShortValue result }
         ensures device { result ≡ Reply.Refused Refusal.Device → IsFaultSeen R.faults M.faults self.old self.new }
     {
@@ -55,6 +59,9 @@ impl<R: Rows + Drop, M: MarkStore + Drop> Server<R, M> {
     pub(crate) fn step(&mut self, start: Stamp) -> Reply
         ensures step { StepsAs (Shows R.cells R.holds) self.old self.new (machine.Advance start) (replied result) }
         ensures refusal { IfRefused IsStepRefusal (replied result) }
+        ensures exhausted { result ≡ Reply.Refused Refusal.Exhausted → last_of self.old ≡ MOST_STAMP }
+        ensures draw_only { result ≡ Reply.Refused Refusal.Exhausted → (st : State) → Shows R.cells R.holds self.old st → IsAboutToDraw st start }
+        ensures full { result ≡ Reply.Refused Refusal.MemtableFull → (st : State) → Shows R.cells R.holds self.old st → HasNoRoom R.overfills (rows_of self.old) (ChangesNext st start) }
         ensures short { HasShortValue result }
         ensures device { result ≡ Reply.Refused Refusal.Device → IsFaultSeen R.faults M.faults self.old self.new }
     {

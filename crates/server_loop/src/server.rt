@@ -2,17 +2,19 @@
 
 ghost use Rattle.std.specs.Prelude.{◌≡◌, ◌≢◌, IfOk, IfErr, IfSome};
 ghost use Rattle.std.specs.FinMap.{empty};
-ghost use Rattle.oracle.specs.Marks.{HasRisen};
-ghost use Rattle.si_model.specs.Machine.{new_machine};
+ghost use Rattle.cell_key.specs.Faults.{HasRisen};
+ghost use Rattle.si_model.specs.Machine.{State, new_machine};
 ghost use Rattle.request_codec.specs.Requests.{asked};
 ghost use Rattle.request_codec.specs.Replies.{replied};
-ghost use Rattle.server_loop.specs.Refusals.{IsRefusalOf, OnRestart};
+ghost use Rattle.server_loop.specs.Refusals.{IsRefusalOf, OnRestart, OnStep};
 ghost use Rattle.server_loop.specs.Runs.{StepsAs, HasShortValue, IfRefused};
 ghost use Rattle.server_loop.specs.Serve.{Serves, ServesStream};
+ghost use Rattle.txn_client.specs.Room.{ChangesNext, HasNoRoom};
+ghost use Rattle.txn_client.specs.Shows.{IsAboutToDraw};
 
 use crate::ends::{End, ServeFault};
 use crate::serving::{Answering, serve_all};
-use cell_key::Refusal;
+use cell_key::{MOST_STAMP, Refusal};
 use oracle::{MarkStore, Oracle};
 use request_codec::{Reply, Request};
 use row_atomic::Rows;
@@ -33,7 +35,7 @@ pub struct Server<R, M: MarkStore> {
 }
 
 impl<R: Rows + Drop, M: MarkStore + Drop> Server<R, M> {
-    ghost use Rattle.server_loop.specs.Server.{Shows, IsFaultSeen, last_of, marks_of};
+    ghost use Rattle.server_loop.specs.Server.{Shows, IsFaultSeen, last_of, marks_of, rows_of};
 
     /// A server over these rows and this mark store. Over rows without cells it shows the new machine. Where the
     /// mark cannot be read it is refused Device, and the rows and the mark store are given back.
@@ -59,6 +61,13 @@ impl<R: Rows + Drop, M: MarkStore + Drop> Server<R, M> {
     pub fn answer(&mut self, request: Request<'_>) -> Reply
         ensures step { StepsAs (Shows R.cells R.holds) self.old self.new (asked request.entry) (replied result) }
         ensures refusal { IfRefused (IsRefusalOf request.entry) (replied result) }
+        // No stamp is left: a begin is refused, and a step that draws.
+        ensures exhausted { result ≡ Reply.Refused Refusal.Exhausted → last_of self.old ≡ MOST_STAMP }
+        ensures draw_only { OnStep request.entry (λ start. result ≡ Reply.Refused Refusal.Exhausted
+            → (st : State) → Shows R.cells R.holds self.old st → IsAboutToDraw st start) }
+        // The rows have no room for the edits of the session's next step.
+        ensures full { OnStep request.entry (λ start. result ≡ Reply.Refused Refusal.MemtableFull
+            → (st : State) → Shows R.cells R.holds self.old st → HasNoRoom R.overfills (rows_of self.old) (ChangesNext st start)) }
         // Where the mark is told, a restarted oracle goes on from it.
         ensures restarted { OnRestart request.entry (result ≡ Reply.OracleRestart → IfSome (M.mark (marks_of self.old)) (λ mark. last_of self.new ≡ mark)) }
         ensures short { HasShortValue result }

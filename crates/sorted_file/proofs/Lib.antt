@@ -1,5 +1,6 @@
 mod EntryParts
 mod Growth
+mod OpenFiles
 pub mod Places
 mod Reading
 mod Rest

@@ -18,11 +18,33 @@ pub record HasFile (m : Contents) (name : ℕ) : Type 0 where
   pub there : map.get m name ≡ Some image
   pub form : IsFile entries image
 
--- Over these files an open file stands for this entry list: the file of its name is there, is that of the
--- list, and is what was read.
-pub record Opens (m : Contents) (file : SortedFile) (es : List Entry) : Type 0 where
-  pub list : IsEntryList es
+-- the entries that an open file stands for over these files
+abbrev pub listed : Contents → SortedFile → List Entry
+listed m file = kept file.entries.items
+
+-- the file of its name is there and is that of an entry list, the one that it stands for
+pub record IsOpen (m : Contents) (file : SortedFile) : Type 0 where
+  pub list : IsEntryList (listed m file)
   pub image : List ℕ
   pub there : map.get m (name_of file) ≡ Some image
-  pub form : IsFile es image
-  pub read : kept file.entries.items ≡ es
+  pub form : IsFile (listed m file) image
+
+-- An open file stays open, and stands for the same entries, while the bytes under its name stay.
+abbrev pub StaysOpen : Type 0
+StaysOpen = (m n : Contents) (file : SortedFile) → IsOpen m file → map.get n (name_of file) ≡ map.get m (name_of file) → IsOpen n file × (listed n file ≡ listed m file)
+
+-- what is open under one name stands for one list of entries
+abbrev pub OneListing : Type 0
+OneListing = (m : Contents) (f g : SortedFile) → IsOpen m f → IsOpen m g → name_of f ≡ name_of g → listed m f ≡ listed m g
+
+-- what is open is there
+abbrev pub OpenIsThere : Type 0
+OpenIsThere = (m : Contents) (file : SortedFile) → IsOpen m file → HasFile m (name_of file)
+
+-- a file of an entry list that is there can be opened
+abbrev pub WrittenIsThere : Type 0
+WrittenIsThere = (m : Contents) (name : ℕ) (entries : List Entry) (image : List ℕ) → IsEntryList entries → IsFile entries image → map.get m name ≡ Some image → HasFile m name
+
+-- what is opened of it stands for those entries
+abbrev pub WrittenIsListed : Type 0
+WrittenIsListed = (m : Contents) (file : SortedFile) (entries : List Entry) (image : List ℕ) → IsOpen m file → IsFile entries image → map.get m (name_of file) ≡ Some image → listed m file ≡ entries

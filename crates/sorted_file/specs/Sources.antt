@@ -6,11 +6,15 @@ use Rattle.file_store.specs.declared.files.FileFault.{FileFault}
 use Rattle.file_store.specs.declared.files.FileFault.TheVariants.{Device, Memory}
 use Rattle.cell_key.specs.declared.refusals.Refusal.{Refusal}
 use Rattle.cell_key.specs.declared.refusals.Refusal.TheVariants as refused
-use Rattle.cell_key.specs.Entries.{Entry}
+use Rattle.cell_key.specs.Entries.{Entry, IsEntryList}
 
 -- the entry that is lent, and those that remain
 abbrev pub pending : Option Entry → List Entry → List Entry
 pending lent remaining = option_to_list lent ++ remaining
+
+-- the entries that remain of an entry list are one
+abbrev pub RestIsList : Type 0
+RestIsList = (lent : Option Entry) (remaining : List Entry) → IsEntryList (pending lent remaining) → IsEntryList remaining
 
 -- A count never falls, and a device's fault is told only where it has risen.
 pub record HasReason {T : Type 0} (before now : ℕ) (result : Result T Refusal) : Type 0 where

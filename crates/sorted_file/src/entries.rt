@@ -1,6 +1,8 @@
 //! Entries that are kept in memory.
 
 ghost use Rattle.std.specs.Prelude.{◌≡◌, ◌≤◌, ◌<◌, ◌^◌, ◌↔◌, List, length, IsTrue, IfOk, IfErr, IfSome, IfNone, option_map};
+ghost use Rattle.std.specs.Ordering.{is_lt};
+ghost use Rattle.cell_key.specs.Keys.{byte_cmp};
 ghost use Rattle.cell_key.specs.Entries.{Entry, IsEntry, IsRising, lent_entry, entry_of_key};
 ghost use Rattle.sorted_file.specs.Kept.{file_entry, kept, IsPlace};
 
@@ -76,6 +78,13 @@ pub(crate) fn checked(alloc: Global, entry: EntryRef<'_>) -> Result<Option<FileE
     Ok(Some(copy))
 }
 
+/// Whether a text is below another.
+fn is_below(first: &[u8], second: &[u8]) -> bool
+    ensures { result ≡ is_lt (byte_cmp first.now second.now) }
+{
+    first.cmp(&second).is_lt()
+}
+
 /// Whether the texts rise.
 pub(crate) fn is_rising(entries: &[FileEntry]) -> bool
     ensures { IsTrue result ↔ IsRising (kept entries.now) }
@@ -84,7 +93,7 @@ pub(crate) fn is_rising(entries: &[FileEntry]) -> bool
         return true;
     };
     while let Some((next, after)) = rest.split_first() {
-        if last.text.as_slice().cmp(&next.text.as_slice()).is_lt() {
+        if is_below(&last.text, &next.text) {
             last = next;
             rest = after;
         } else {

@@ -1,6 +1,8 @@
-//! Laws of the form of files. Each is the contract of a function that does nothing.
+//! Laws of the form of files, of files that are open, and of sources. Each is the contract of a function that does nothing.
 
 ghost use Rattle.sorted_file.specs.Grammar.{OneImage, OneList};
+ghost use Rattle.sorted_file.specs.Sources.{RestIsList};
+ghost use Rattle.sorted_file.specs.Opened.{StaysOpen, OneListing, OpenIsThere, WrittenIsThere, WrittenIsListed};
 
 /// One list of entries has one image.
 pub fn one_image()
@@ -10,4 +12,34 @@ pub fn one_image()
 /// An image is that of one list of entries.
 pub fn one_list()
     ensures { OneList }
+{}
+
+/// An open file stays open, and stands for the same entries, while the bytes under its name stay.
+pub fn stays_open()
+    ensures { StaysOpen }
+{}
+
+/// Two open files of one name stand for the same entries.
+pub fn one_listing()
+    ensures { OneListing }
+{}
+
+/// Under the name of an open file there is the file of an entry list.
+pub fn open_is_there()
+    ensures { OpenIsThere }
+{}
+
+/// Where the file of an entry list was written, there is one, so that `open` cannot find it damaged.
+pub fn written_is_there()
+    ensures { WrittenIsThere }
+{}
+
+/// What is open under the name of a file that was written stands for the entries that were written.
+pub fn written_is_listed()
+    ensures { WrittenIsListed }
+{}
+
+/// The entries that remain in a source are an entry list.
+pub fn rest_is_list()
+    ensures { RestIsList }
 {}

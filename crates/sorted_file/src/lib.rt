@@ -14,7 +14,10 @@ mod tests;
 mod writing;
 
 pub use cursors::FileCursor;
-pub use laws::{one_image, one_list};
+pub use laws::{
+    one_image, one_list, one_listing, open_is_there, rest_is_list, stays_open, written_is_listed,
+    written_is_there,
+};
 pub use opened::SortedFile;
 pub use sources::{Source, refusal_of};
 pub use writing::write_file;

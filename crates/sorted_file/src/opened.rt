@@ -38,12 +38,12 @@ pub struct SortedFile {
 
 impl SortedFile {
     ghost use Rattle.sorted_file.specs.Cursors.{cursor_lent, cursor_remaining, CursorHolds};
-    ghost use Rattle.sorted_file.specs.Opened.{HasFile, Opens, name_of};
+    ghost use Rattle.sorted_file.specs.Opened.{HasFile, IsOpen, listed, name_of};
 
     /// Opens a file. Refused Damaged where it isn't there or is the file of no entry list, Device and
     /// NoMemory.
     pub fn open<F: Files>(alloc: Global, name: u64, files: &mut F) -> Result<SortedFile, Refusal>
-        ensures opened { IfOk result (λ file. IfSome (F.contents files.old) (λ m. (es : List Entry) × Opens m file es)) }
+        ensures opened { IfOk result (λ file. IfSome (F.contents files.old) (λ m. IsOpen m file)) }
         ensures named { IfOk result (λ file. name_of file ≡ name) }
         ensures damaged { IsErrOf result Refusal.Damaged → IfSome (F.contents files.old) (λ m. ¬ HasFile m name) }
         ensures refusal { IfErr result IsReadRefusal }
@@ -75,9 +75,9 @@ impl SortedFile {
         key: &CellKey,
         files: &mut F,
     ) -> Result<Option<EntryRef<'_>>, Refusal>
-        ensures found { IfOk result (λ found. IfSome (F.contents files.old) (λ m. (es : List Entry) → Opens m self.now es → option_map (λ lent. (lent_entry lent).1) found ≡ entry_of_key es (text key.now))) }
+        ensures found { IfOk result (λ found. IfSome (F.contents files.old) (λ m. IsOpen m self.now → option_map (λ lent. (lent_entry lent).1) found ≡ entry_of_key (listed m self.now) (text key.now))) }
         ensures named { IfOk result (λ found. IfSome found (λ lent. lent.key.now ≡ text key.now)) }
-        ensures damaged { IsErrOf result Refusal.Damaged → IfSome (F.contents files.old) (λ m. (es : List Entry) → ¬ Opens m self.now es) }
+        ensures damaged { IsErrOf result Refusal.Damaged → IfSome (F.contents files.old) (λ m. ¬ IsOpen m self.now) }
         ensures refusal { IfErr result IsReadRefusal }
         ensures same { F.contents files.new ≡ F.contents files.old }
         ensures reason { HasReason (F.faults files.old) (F.faults files.new) result }
@@ -93,8 +93,8 @@ impl SortedFile {
     /// The entries from the first text on that isn't below `from`, which is any bytes.
     pub fn cursor(&self, from: &[u8]) -> FileCursor<'_>
         ensures lent { cursor_lent result ≡ None }
-        ensures entries { (m : Contents) (es : List Entry) → Opens m self.now es → cursor_remaining result ≡ entries_from from.now es }
-        ensures holds { (m : Contents) (es : List Entry) → Opens m self.now es → CursorHolds result }
+        ensures entries { (m : Contents) → IsOpen m self.now → cursor_remaining result ≡ entries_from from.now (listed m self.now) }
+        ensures holds { (m : Contents) → IsOpen m self.now → CursorHolds result }
     {
         let at = first_from(&self.entries, from);
         FileCursor::new(self.entries.split_at(at).1)

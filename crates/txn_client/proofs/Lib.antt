@@ -2,5 +2,6 @@ pub mod Advance
 pub mod Placing
 pub mod Reading
 pub mod Refused
+pub mod Room
 pub mod Sessions
 pub mod Table

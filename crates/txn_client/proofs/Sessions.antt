@@ -24,10 +24,10 @@ use Rattle.txn_client.specs.declared.session.Phase.TheVariants.{Holding, Stamped
 use Rattle.si_model.specs.declared.replies.Progress.TheVariants as progress
 use Rattle.txn_client.proofs.Advance.{conflicts_at, holds_at, draws_at, loses_at, commits_at, finishes_gone, finishes_at}
 
-puts_of : (session : Session) (k : ℕ) (w : Write) → slice_get session.writes k ≡ Some w → Puts (writes_of session) k w.cell w.value
+pub puts_of : (session : Session) (k : ℕ) (w : Write) → slice_get session.writes k ≡ Some w → Puts (writes_of session) k w.cell w.value
 puts_of session k w e = slice_get-map write_of session.writes k ∙ ap (option_map write_of) e
 
-count_of : (session : Session) → length (writes_of session) ≡ length session.writes
+pub count_of : (session : Session) → length (writes_of session) ≡ length session.writes
 count_of session = length-map session.writes write_of
 
 held_of : (session : Session) (st : State) (k : ℕ) → ShowsSession session session.start st → HasHeldSo session.phase k → HasHeld st session.start k

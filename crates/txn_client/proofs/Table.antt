@@ -288,7 +288,7 @@ stays cells clients last q e s st reached shown = (st, s st reached shown, shown
 shown_none : (clients : Clients) (t : ℕ) (st : State) → ShowsClients clients st → btree.get nat_cmp clients.sessions t ≡ None → finmap.get st.active t ≡ None
 shown_none clients t st shown none = subst (λ (o : Option Session). ShowsAt o t st) none (shown.sessions t)
 
-shown_some : (clients : Clients) (t : ℕ) (st : State) (session : Session) → ShowsClients clients st → btree.get nat_cmp clients.sessions t ≡ Some session → ShowsSession session t st
+pub shown_some : (clients : Clients) (t : ℕ) (st : State) (session : Session) → ShowsClients clients st → btree.get nat_cmp clients.sessions t ≡ Some session → ShowsSession session t st
 shown_some clients t st session shown was = subst (λ (o : Option Session). ShowsAt o t st) was (shown.sessions t)
 
 open_phase : (clients : Clients) (t : ℕ) (st : State) → ShowsClients clients st → IsOpen clients t → InPhase st t machine.Open

@@ -1,6 +1,7 @@
 pub mod Limits
 pub mod Reads
 pub mod Refusals
+pub mod Room
 pub mod Shows
 pub mod Writes
 pub use Rattle.si_model.specs.Machine

@@ -1,17 +1,20 @@
 //! Reads of a cell, and row transactions on it.
 
-ghost use Rattle.std.specs.Prelude.{◌≡◌, ◌≢◌, ◌<◌, ◌≤◌, ◌^◌, [], ◌∷◌, ℕ, length, IfOk, OnOk, OnErr, IfErr, IsErrOf, IfSome, IfNone, OnSome};
+ghost use Rattle.std.specs.Prelude.{◌≡◌, ◌≢◌, ◌<◌, ◌≤◌, ◌^◌, [], ◌∷◌, ℕ, List, length, IfOk, OnOk, OnErr, IfErr, IsErrOf, IfSome, IfNone, OnSome};
 ghost use Rattle.std.specs.Bool.{OnTrue, OnFalse};
 ghost use Rattle.std.specs.FinMap.{insert};
 ghost use Rattle.std.specs.List.{AllByRecursion};
 ghost use Rattle.cell_key.specs.Cells.{Cells, version, after_edits, IsEditOf};
+ghost use Rattle.cell_key.specs.declared.edits.Edit.{Edit as RowEdit};
 ghost use Rattle.cell_key.specs.declared.keys.Qualifier.TheVariants.{Data as DataOf, Lock as LockOf};
 ghost use Rattle.byteorder.specs.Endian.{big_number};
-ghost use Rattle.row_atomic.specs.Faults.{HasRisen};
+ghost use Rattle.cell_key.specs.Faults.{HasRisen};
 ghost use Rattle.row_atomic.specs.Refusals.{IsReadRefusal};
-ghost use Rattle.si_model.specs.ShowsCells.{IsThere, Touches, held_cells, key_of, recorded_cells};
+ghost use Rattle.si_model.specs.ShowsCells.{IsThere, Touches, held_cells, key_of, lock_text, recorded_cells};
+ghost use Rattle.si_model.specs.declared.replies.Cell.{Cell as CellOf};
 ghost use Rattle.txn_client.specs.Reads.{IsFound, IsShort, IsDamaged, IsTaken, IsFree, IsGone};
 ghost use Rattle.txn_client.specs.Refusals.{IsRowRefusal};
+ghost use Rattle.txn_client.specs.Room.{HasNoRoom, IsHolding, IsRecording};
 
 use crate::limits::Moment;
 use crate::writes::Write;
@@ -78,6 +81,7 @@ pub(crate) fn is_taken<R: Rows>(rows: &mut R, cell: &Cell, start: Stamp) -> Resu
     ensures free { R.holds rows.old → IfOk result (λ taken. OnFalse taken (IsFree (R.cells rows.old) cell.now start)) }
     ensures undamaged { R.holds rows.old → ¬ (IsErrOf result Refusal.Damaged) }
     ensures kept { R.holds rows.old → R.cells rows.new ≡ R.cells rows.old }
+    ensures same_room { (row : List ℕ) (edits : List RowEdit) → R.overfills rows.new row edits → R.overfills rows.old row edits }
     ensures still { R.holds rows.old → R.holds rows.new }
     ensures refusal { IfErr result IsReadRefusal }
     ensures device { IsErrOf result Refusal.Device → HasRisen (R.faults rows.old) (R.faults rows.new) }
@@ -104,6 +108,7 @@ fn holding(
     requires value { length value.items ≤ 65536 }
     requires place { length place.items ≤ 65536 }
     ensures edits { IfOk result (λ edits. (cells : Cells) → after_edits cells edits.items ≡ insert (insert cells (key_of cell.now DataOf start) value.items) (key_of cell.now LockOf start) place.items) }
+    ensures holding { IfOk result (λ edits. (first : CellOf) → place.items ≡ lock_text first → IsHolding cell.now start value.items first edits.items) }
     ensures under { IfOk result (λ edits. AllByRecursion (IsEditOf cell.now.row) edits.items) }
     ensures refusal { IfErr result (λ refusal. refusal ≡ Refusal.NoMemory) }
 {
@@ -129,6 +134,7 @@ pub(crate) fn hold<R: Rows>(
     ensures still { R.holds rows.old → R.holds rows.new }
     ensures undamaged { ¬ (IsErrOf result Refusal.Damaged) }
     ensures refusal { IfErr result IsRowRefusal }
+    ensures full { IsErrOf result Refusal.MemtableFull → HasNoRoom R.overfills rows.old (λ row edits. (row ≡ write.now.cell.row) × IsHolding write.now.cell start write.now.value first.now.cell edits) }
     ensures no_device { ¬ (IsErrOf result Refusal.Device) }
     ensures untouched { R.faults rows.new ≡ R.faults rows.old }
 {
@@ -147,6 +153,7 @@ fn recording(alloc: Global, cell: &Cell, start: Stamp, commit: Stamp) -> Result<
     requires commit_from { 1 ≤ commit }
     requires commit_to { commit < 2 ^ 63 }
     ensures edits { IfOk result (λ edits. (cells : Cells) → after_edits cells edits.items ≡ recorded_cells cells cell.now start commit) }
+    ensures recording { IfOk result (λ edits. IsRecording cell.now start commit edits.items) }
     ensures under { IfOk result (λ edits. AllByRecursion (IsEditOf cell.now.row) edits.items) }
     ensures refusal { IfErr result (λ refusal. refusal ≡ Refusal.NoMemory) }
 {
@@ -178,6 +185,7 @@ pub(crate) fn record<R: Rows>(
     ensures still { R.holds rows.old → R.holds rows.new }
     ensures undamaged { R.holds rows.old → ¬ (IsErrOf result Refusal.Damaged) }
     ensures refusal { IfErr result IsRowRefusal }
+    ensures full { IsErrOf result Refusal.MemtableFull → HasNoRoom R.overfills rows.old (λ row edits. (row ≡ cell.now.row) × IsRecording cell.now start commit edits) }
     ensures device { IsErrOf result Refusal.Device → HasRisen (R.faults rows.old) (R.faults rows.new) }
     ensures later { R.faults rows.old ≤ R.faults rows.new }
 {

@@ -7,13 +7,14 @@ ghost use Rattle.std.specs.Ordering.{nat_cmp};
 ghost use Rattle.cell_key.specs.Cells.{Cells};
 ghost use Rattle.cell_key.specs.Names.{IsFamily, IsRow};
 ghost use Rattle.oracle.specs.Ranges.{IsDrawRefusal};
-ghost use Rattle.row_atomic.specs.Faults.{HasRisen};
+ghost use Rattle.cell_key.specs.Faults.{HasRisen};
 ghost use Rattle.si_model.specs.Machine as machine;
 ghost use Rattle.si_model.specs.Machine.{IsReached, State};
 ghost use Rattle.si_model.specs.Replies.{found_reply, progress_reply, result_reply};
 ghost use Rattle.si_model.specs.ShowsCells.{ShowsCells};
 ghost use Rattle.txn_client.specs.Reads.{IsShort, cell_of};
 ghost use Rattle.txn_client.specs.Refusals.{IsBeginRefusal, IsGetRefusal, IsSetRefusal, IsStepRefusal};
+ghost use Rattle.txn_client.specs.Room.{ChangesNext, HasNoRoom};
 ghost use Rattle.txn_client.specs.Shows.{DrawsNext, IsAboutToDraw, IsCellRefusal, IsNameRefusal, IsOpen, Shows, ShowsClients, Steps, TouchesFor, open_session, top_after};
 
 use crate::cells;
@@ -262,6 +263,12 @@ impl Clients {
         ensures refusal { IfErr result IsStepRefusal }
         // Where the next step draws the commit stamp, no memory is taken.
         ensures drawing { (st : State) → ShowsClients self.old st → IsAboutToDraw st start → IfErr result IsDrawRefusal }
+        // A step that draws is refused Exhausted after the greatest stamp, and no other one is.
+        ensures exhausted { IsErrOf result Refusal.Exhausted → oracle.old.last ≡ MOST_STAMP }
+        ensures exhausted_draw { IsErrOf result Refusal.Exhausted → (st : State) → ShowsClients self.old st → IsAboutToDraw st start }
+        ensures undrawn { IsErrOf result Refusal.Exhausted → oracle.new ≡ oracle.old }
+        // A step is refused MemtableFull where the rows have no room for its edits.
+        ensures full { IsErrOf result Refusal.MemtableFull → (st : State) → ShowsClients self.old st → HasNoRoom R.overfills rows.old (ChangesNext st start) }
         ensures device { IsErrOf result Refusal.Device → HasRisen (R.faults rows.old) (R.faults rows.new) ⊎ HasRisen (M.faults oracle.old.marks) (M.faults oracle.new.marks) }
         ensures later { R.faults rows.old ≤ R.faults rows.new }
         ensures mark_later { M.faults oracle.old.marks ≤ M.faults oracle.new.marks }

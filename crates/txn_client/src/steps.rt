@@ -3,16 +3,17 @@
 ghost use Rattle.std.specs.Prelude.{◌≡◌, ◌≢◌, ◌+◌, ◌≤◌, ◌⊎◌, ℕ, length, IfOk, OnErr, IfErr, IsErrOf};
 ghost use Rattle.cell_key.specs.Cells.{Cells};
 ghost use Rattle.oracle.specs.Ranges.{IsDrawRefusal};
-ghost use Rattle.row_atomic.specs.Faults.{HasRisen};
+ghost use Rattle.cell_key.specs.Faults.{HasRisen};
 ghost use Rattle.si_model.specs.ShowsCells.{TouchesOneRow};
-ghost use Rattle.txn_client.specs.Shows.{Advances, DrawsNext, HasHeldSo, HasNoNext, TouchesBy, top_after};
+ghost use Rattle.txn_client.specs.Shows.{Advances, DrawsNext, HasHeldSo, HasNoNext, TouchesBy, phase_of, top_after, writes_of};
+ghost use Rattle.txn_client.specs.Room.{ChangesIn, HasNoRoom, HoldsNext, RecordsNext};
 ghost use Rattle.txn_client.specs.Refusals.{IsAdvanceRefusal};
 ghost use Rattle.txn_client.specs.declared.session.Phase.TheVariants as phase;
 
 use crate::cells;
 use crate::limits::Moment;
 use crate::session::{Outcome, Phase, Session};
-use cell_key::Refusal;
+use cell_key::{MOST_STAMP, Refusal};
 use oracle::{MarkStore, Oracle};
 use row_atomic::Rows;
 use si_model::Progress;
@@ -37,6 +38,7 @@ impl Session {
         ensures still { R.holds rows.old → R.holds rows.new }
         ensures undamaged { R.holds rows.old → ¬ (IsErrOf result Refusal.Damaged) }
         ensures refusal { IfErr result (IsAdvanceRefusal (length self.old.writes ≤ k)) }
+        ensures full { IsErrOf result Refusal.MemtableFull → HasNoRoom R.overfills rows.old (HoldsNext (writes_of self.old) k self.old.start) }
         ensures device { IsErrOf result Refusal.Device → HasRisen (R.faults rows.old) (R.faults rows.new) }
         ensures later { R.faults rows.old ≤ R.faults rows.new }
         ensures not_exhausted { ¬ (IsErrOf result Refusal.Exhausted) }
@@ -74,7 +76,8 @@ impl Session {
         ensures refusal { IfErr result IsDrawRefusal }
         ensures device { IsErrOf result Refusal.Device → HasRisen (M.faults oracle.old.marks) (M.faults oracle.new.marks) }
         ensures later { M.faults oracle.old.marks ≤ M.faults oracle.new.marks }
-        ensures exhausted { IsErrOf result Refusal.Exhausted → oracle.new ≡ oracle.old }
+        ensures exhausted { IsErrOf result Refusal.Exhausted → oracle.old.last ≡ MOST_STAMP }
+        ensures undrawn { IsErrOf result Refusal.Exhausted → oracle.new ≡ oracle.old }
     {
         let commit = oracle.draw()?;
         self.commit = Moment::new(commit);
@@ -98,6 +101,7 @@ impl Session {
         ensures still { R.holds rows.old → R.holds rows.new }
         ensures undamaged { R.holds rows.old → ¬ (IsErrOf result Refusal.Damaged) }
         ensures refusal { IfErr result (IsAdvanceRefusal (length self.old.writes ≤ 0)) }
+        ensures full { IsErrOf result Refusal.MemtableFull → HasNoRoom R.overfills rows.old (RecordsNext (writes_of self.old) 0 self.old.start self.old.commit) }
         ensures device { IsErrOf result Refusal.Device → HasRisen (R.faults rows.old) (R.faults rows.new) }
         ensures later { R.faults rows.old ≤ R.faults rows.new }
         ensures not_exhausted { ¬ (IsErrOf result Refusal.Exhausted) }
@@ -136,6 +140,7 @@ impl Session {
         ensures still { R.holds rows.old → R.holds rows.new }
         ensures undamaged { R.holds rows.old → ¬ (IsErrOf result Refusal.Damaged) }
         ensures refusal { IfErr result (IsAdvanceRefusal (length self.old.writes ≤ k)) }
+        ensures full { IsErrOf result Refusal.MemtableFull → HasNoRoom R.overfills rows.old (RecordsNext (writes_of self.old) k self.old.start self.old.commit) }
         ensures device { IsErrOf result Refusal.Device → HasRisen (R.faults rows.old) (R.faults rows.new) }
         ensures later { R.faults rows.old ≤ R.faults rows.new }
         ensures not_exhausted { ¬ (IsErrOf result Refusal.Exhausted) }
@@ -170,6 +175,10 @@ impl Session {
         ensures undamaged { R.holds rows.old → ¬ (IsErrOf result Refusal.Damaged) }
         ensures refusal { IfErr result (IsAdvanceRefusal (HasNoNext self.old.phase (length self.old.writes))) }
         ensures drawing { self.old.phase ≡ phase.Holding (length self.old.writes) → IfErr result IsDrawRefusal }
+        ensures full { IsErrOf result Refusal.MemtableFull → HasNoRoom R.overfills rows.old (ChangesIn (phase_of self.old.phase self.old.commit) (writes_of self.old) self.old.start) }
+        ensures exhausted { IsErrOf result Refusal.Exhausted → oracle.old.last ≡ MOST_STAMP }
+        ensures draw_only { IsErrOf result Refusal.Exhausted → self.old.phase ≡ phase.Holding (length self.old.writes) }
+        ensures undrawn { IsErrOf result Refusal.Exhausted → oracle.new ≡ oracle.old }
         ensures device { IsErrOf result Refusal.Device → HasRisen (R.faults rows.old) (R.faults rows.new) ⊎ HasRisen (M.faults oracle.old.marks) (M.faults oracle.new.marks) }
         ensures later { R.faults rows.old ≤ R.faults rows.new }
         ensures mark_later { M.faults oracle.old.marks ≤ M.faults oracle.new.marks }

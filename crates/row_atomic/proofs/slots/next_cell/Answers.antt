@@ -2,7 +2,7 @@ use Rattle.std.proofs.Common.{◌≡◌, Some, sym, subst, option_map}
 use Rattle.std.specs.declared.ops.Bound.{Bound}
 use Rattle.std.specs.declared.ops.Bound.TheVariants.{Unbounded}
 use Rattle.cell_key.specs.declared.keys.CellKey.{CellKey}
-use Rattle.row_atomic.specs.Places.{Place, place_named, IsNextCell}
+use Rattle.cell_key.specs.Places.{Place, place_named, IsNextCell}
 use Rattle.row_atomic.specs.Slots.{cells_of, IsFirst}
 use Rattle.row_atomic.proofs.Places.{next_some}
 use Rattle.row_atomic.proofs.slots.next_cell.Goals as goal

@@ -7,6 +7,6 @@ use Rattle.sorted_file.proofs.entries.is_rising.Goals as goal
 
 pub loop-next-preserved : goal.loop-next-preserved
 loop-next-preserved c =
-    let order = c.cmp.ensures ∙ ap (λ (text : List ℕ). byte_cmp text c.as_slice-in-Some-split_first.result.now) c.as_slice.ensures.value ∙ ap (byte_cmp c.loop-next.last.now.text.items) c.as_slice-in-Some-split_first.ensures.value in
+    let order = ap (λ (text : List ℕ). byte_cmp text c.deref-in-Some-split_first.result.now) c.deref.ensures.value ∙ ap (byte_cmp c.loop-next.last.now.text.items) c.deref-in-Some-split_first.ensures.value in
     rise_step _ (file_entry c.loop-next.last.now) (file_entry c.in-Some-split_first.next.now) (kept c.loop-next.rest.now) (kept c.in-Some-split_first.after.now)
-    (ap kept c.in-Some-split_first.ensures.cases.0) (is_less _ (ap is_lt (sym order) ∙ sym c.if-is_lt.ensures)) c.loop-next.invariant
+    (ap kept c.in-Some-split_first.ensures.cases.0) (is_less _ (ap is_lt (sym order) ∙ sym c.if-is_below.ensures)) c.loop-next.invariant

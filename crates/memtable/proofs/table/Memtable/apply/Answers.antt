@@ -12,3 +12,12 @@ invariant_of-self-2 c =
     let edited = rw c.deref.ensures.value at c.in_ok-staged.ensures.staged in
     let size = rw c.deref.ensures.value at c.in_ok-staged.ensures.size in
     kept c.put_all.new.slots.items staged base (with_edits base c.args.edits.items) c.in_ok-staged.size made edited c.self.invariant.list c.in_ok-staged.ensures.limits size (omega (arith, c.if-size.false)) (omega (arith, c.if-size-2.false))
+
+pub returns-clause-list : goal.returns-clause-list
+returns-clause-list c =
+    let base = slot_entries c.self.inside.slots.items in
+    let staged = slot_entries c.in_ok-staged.staged.items in
+    let made = c.put_all.ensures ∙ ap (λ (xs : _). over staged (slot_entries xs)) c.in_ok-reserve.ensures.items in
+    let edited = rw c.deref.ensures.value at c.in_ok-staged.ensures.staged in
+    let size = rw c.deref.ensures.value at c.in_ok-staged.ensures.size in
+    (kept c.put_all.new.slots.items staged base (with_edits base c.args.edits.items) c.in_ok-staged.size made edited c.self.invariant.list c.in_ok-staged.ensures.limits size (omega (arith, c.if-size.false)) (omega (arith, c.if-size-2.false))).list

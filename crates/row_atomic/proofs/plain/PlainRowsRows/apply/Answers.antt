@@ -1,7 +1,7 @@
 use Rattle.std.proofs.Common.{sym, subst}
 use Rattle.cell_key.specs.Cells.{Cells}
 use Rattle.row_atomic.specs.Slots.{cells_of}
-use Rattle.row_atomic.specs.Versions.{HasLimits}
+use Rattle.cell_key.specs.Versions.{HasLimits}
 use Rattle.row_atomic.proofs.Limits.{edits_keep}
 use Rattle.row_atomic.proofs.plain.PlainRowsRows.apply.Goals as goal
 

@@ -1,6 +1,6 @@
 use Rattle.std.proofs.Common.{option_map}
 use Rattle.row_atomic.specs.Slots.{cells_of}
-use Rattle.row_atomic.specs.Versions.{stamped}
+use Rattle.cell_key.specs.Versions.{stamped}
 use Rattle.row_atomic.proofs.Limits.{answered}
 use Rattle.row_atomic.proofs.plain.PlainRowsRows.newest.Goals as goal
 

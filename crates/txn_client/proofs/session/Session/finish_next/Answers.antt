@@ -1,7 +1,8 @@
-use Rattle.std.proofs.Common.{◌∙◌, ◌+◌, ap, sym, Bool, true, false, inl, inr, ◌⊎◌}
+use Rattle.std.proofs.Common.{refl, ◌∙◌, ◌+◌, ap, sym, Bool, true, false, inl, inr, ◌⊎◌}
 use Rattle.std.specs.Prelude.{nat_eq}
 use Rattle.std.specs.Bool.{OnTrue, OnFalse}
 use Rattle.txn_client.proofs.Sessions.{advance_finished}
+use Rattle.txn_client.proofs.Room.{no_room_to_record, passed_on}
 use Rattle.txn_client.proofs.session.Session.finish_next.Goals as goal
 
 either : {P Q R S : Type 0} (b : Bool) → OnTrue b P → OnFalse b Q → OnTrue b R → OnFalse b S → (P × R) ⊎ (Q × S)
@@ -14,3 +15,8 @@ returns-clause-step g c = λ held last.
     let write = c.in-Some.write.now in
     advance_finished (g.R.Rows.cells c.args.rows.now) c.args.self.now last c.args.k c.len.result write (nat_eq (c.args.k + 1) c.len-2.result) c.requires
     c.in-Some.ensures.found c.len.ensures.len (ap (nat_eq (c.args.k + 1)) (c.len-2.ensures.len ∙ sym c.len.ensures.len)) (g.R.Rows.cells c.record.new.rows) (either c.in_ok-_stood._stood (e.stood held) (e.gone held) (e.recorded held) (e.left held))
+
+pub returns-in_err-_stood-clause-full : goal.returns-in_err-_stood-clause-full
+returns-in_err-_stood-clause-full g c = λ is.
+    no_room_to_record g.R.Rows.overfills c.args.rows.now c.args.self.now c.args.k c.in-Some.write.now c.in-Some.ensures.found
+    (c.in_err-_stood.ensures.full (passed_on c.from_residual.result _ c.in_err-_stood.field-0.0 _ c.from_residual.ensures.1 refl is))

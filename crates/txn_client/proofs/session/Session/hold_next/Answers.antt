@@ -1,8 +1,9 @@
-use Rattle.std.proofs.Common.{ℕ, ap, subst, ◌∙◌}
+use Rattle.std.proofs.Common.{refl, ℕ, ap, subst, ◌∙◌}
 use Rattle.cell_key.specs.Cells.{Cells}
 use Rattle.si_model.specs.ShowsCells.{held_cells, Touches}
 use Rattle.txn_client.specs.Reads.{IsTaken, IsFree}
 use Rattle.txn_client.proofs.Sessions.{advance_conflict, advance_held}
+use Rattle.txn_client.proofs.Room.{no_room_to_hold, passed_on}
 use Rattle.txn_client.proofs.session.Session.hold_next.Goals as goal
 
 pub returns-then-branch-clause-step : goal.returns-then-branch-clause-step
@@ -26,3 +27,8 @@ returns-clause-touched g c = λ held. (
   c.in-Some.write.now.cell.row,
   subst (λ (cells : Cells). Touches cells (g.R.Rows.cells c.hold.new.rows) c.in-Some.write.now.cell.row c.args.self.now.start c.args.self.now.start) (c.in_ok-is_taken.ensures.kept held) (c.in_ok-hold.ensures.touched (c.in_ok-is_taken.ensures.still held)),
 )
+
+pub returns-in_err-hold-clause-full : goal.returns-in_err-hold-clause-full
+returns-in_err-hold-clause-full g c = λ is.
+    no_room_to_hold g.R.Rows.overfills c.args.rows.now c.is_taken.new.rows c.is_taken.ensures.same_room c.args.self.now c.args.k c.in-Some.write.now c.in-Some-get.first.now c.in-Some.ensures.found c.in-Some-get.ensures.found
+    (c.in_err-hold.ensures.full (passed_on c.from_residual-in_err-hold.result _ c.in_err-hold.field-0.0 _ c.from_residual-in_err-hold.ensures.1 refl is))
