@@ -1,5 +1,5 @@
 -- The machine's run over what a server takes from a stream.
-use Rattle.std.specs.Prelude.{◌≡◌, ℕ, ◌≤◌, List, [], ◌∷◌, length, ◌⊎◌, ⊤}
+use Rattle.std.specs.Prelude.{◌≡◌, ℕ, ◌+◌, ◌≤◌, List, [], ◌∷◌, length, ◌⊎◌, ⊤}
 use Rattle.cell_key.specs.declared.refusals.Refusal.{Refusal}
 use Rattle.cell_key.specs.declared.refusals.Refusal.TheVariants.{BadRequest, FrameTooLarge, Damaged}
 use Rattle.si_model.specs.Machine.{State, Reply, Refused, Step, IsReached}
@@ -65,3 +65,11 @@ HasShortValue other = ⊤
 abbrev pub IfRefused : (Refusal → Type 0) → Reply → Type 0
 IfRefused P (Refused refusal) = P refusal
 IfRefused P reply = ⊤
+
+-- What a reply says of the oracle's last stamp: a stamp that is answered is the next one and becomes the last, a restart never
+-- goes back, and all else leaves it.
+abbrev pub StampsGoOn : Reply → ℕ → ℕ → Type 0
+StampsGoOn (machine.Begun start) old new = (start ≡ old + 1) × (new ≡ start)
+StampsGoOn (machine.Drawn stamp) old new = (stamp ≡ old + 1) × (new ≡ stamp)
+StampsGoOn machine.RestartDone old new = old ≤ new
+StampsGoOn reply old new = new ≡ old

@@ -4,7 +4,7 @@ ghost use Rattle.std.specs.Prelude.{◌≡◌, IfSome};
 ghost use Rattle.si_model.specs.Machine as machine;
 ghost use Rattle.si_model.specs.Machine.{State};
 ghost use Rattle.request_codec.specs.Replies.{replied};
-ghost use Rattle.server_loop.specs.Runs.{StepsAs, HasShortValue, IfRefused};
+ghost use Rattle.server_loop.specs.Runs.{StepsAs, StampsGoOn, HasShortValue, IfRefused};
 ghost use Rattle.txn_client.specs.Reads.{cell_of};
 ghost use Rattle.txn_client.specs.Refusals.{IsBeginRefusal, IsGetRefusal, IsSetRefusal, IsStepRefusal};
 ghost use Rattle.txn_client.specs.Room.{ChangesNext, HasNoRoom};
@@ -23,6 +23,7 @@ impl<R: Rows + Drop, M: MarkStore + Drop> Server<R, M> {
         ensures step { StepsAs (Shows R.cells R.holds) self.old self.new machine.Begin (replied result) }
         ensures refusal { IfRefused IsBeginRefusal (replied result) }
         ensures exhausted { result ≡ Reply.Refused Refusal.Exhausted → last_of self.old ≡ MOST_STAMP }
+        ensures last { StampsGoOn (replied result) (last_of self.old) (last_of self.new) }
         ensures short { HasShortValue result }
         ensures device { result ≡ Reply.Refused Refusal.Device → IsFaultSeen R.faults M.faults self.old self.new }
     {
@@ -35,6 +36,7 @@ impl<R: Rows + Drop, M: MarkStore + Drop> Server<R, M> {
     pub(crate) fn get(&mut self, start: Stamp, row: &[u8], family: &[u8]) -> Reply
         ensures step { StepsAs (Shows R.cells R.holds) self.old self.new (machine.Get start (cell_of row.now family.now)) (replied result) }
         ensures refusal { IfRefused IsGetRefusal (replied result) }
+        ensures last { StampsGoOn (replied result) (last_of self.old) (last_of self.new) }
         ensures short { HasShortValue result }
         ensures device { result ≡ Reply.Refused Refusal.Device → IsFaultSeen R.faults M.faults self.old self.new }
     {
@@ -47,6 +49,7 @@ impl<R: Rows + Drop, M: MarkStore + Drop> Server<R, M> {
     pub(crate) fn set(&mut self, start: Stamp, row: &[u8], family: &[u8], value: &[u8]) -> Reply
         ensures step { StepsAs (Shows R.cells R.holds) self.old self.new (machine.Set start (cell_of row.now family.now) value.now) (replied result) }
         ensures refusal { IfRefused IsSetRefusal (replied result) }
+        ensures last { StampsGoOn (replied result) (last_of self.old) (last_of self.new) }
         ensures short { HasShortValue result }
         ensures device { result ≡ Reply.Refused Refusal.Device → IsFaultSeen R.faults M.faults self.old self.new }
     {
@@ -62,6 +65,7 @@ impl<R: Rows + Drop, M: MarkStore + Drop> Server<R, M> {
         ensures exhausted { result ≡ Reply.Refused Refusal.Exhausted → last_of self.old ≡ MOST_STAMP }
         ensures draw_only { result ≡ Reply.Refused Refusal.Exhausted → (st : State) → Shows R.cells R.holds self.old st → IsAboutToDraw st start }
         ensures full { result ≡ Reply.Refused Refusal.MemtableFull → (st : State) → Shows R.cells R.holds self.old st → HasNoRoom R.overfills (rows_of self.old) (ChangesNext st start) }
+        ensures last { StampsGoOn (replied result) (last_of self.old) (last_of self.new) }
         ensures short { HasShortValue result }
         ensures device { result ≡ Reply.Refused Refusal.Device → IsFaultSeen R.faults M.faults self.old self.new }
     {
@@ -74,6 +78,7 @@ impl<R: Rows + Drop, M: MarkStore + Drop> Server<R, M> {
     pub(crate) fn stop(&mut self, start: Stamp) -> Reply
         ensures step { StepsAs (Shows R.cells R.holds) self.old self.new (machine.Stop start) (replied result) }
         ensures refusal { IfRefused (λ refusal. refusal ≡ Refusal.UnknownSession) (replied result) }
+        ensures last { StampsGoOn (replied result) (last_of self.old) (last_of self.new) }
         ensures short { HasShortValue result }
         ensures device { result ≡ Reply.Refused Refusal.Device → IsFaultSeen R.faults M.faults self.old self.new }
     {
@@ -88,6 +93,7 @@ impl<R: Rows + Drop, M: MarkStore + Drop> Server<R, M> {
         ensures refusal { IfRefused (λ refusal. refusal ≡ Refusal.Device) (replied result) }
         // Where the mark is told, the oracle goes on from it.
         ensures restarted { result ≡ Reply.OracleRestart → IfSome (M.mark (marks_of self.old)) (λ mark. last_of self.new ≡ mark) }
+        ensures last { StampsGoOn (replied result) (last_of self.old) (last_of self.new) }
         ensures short { HasShortValue result }
         ensures device { result ≡ Reply.Refused Refusal.Device → IsFaultSeen R.faults M.faults self.old self.new }
     {

@@ -7,7 +7,7 @@ ghost use Rattle.si_model.specs.Machine.{State, new_machine};
 ghost use Rattle.request_codec.specs.Requests.{asked};
 ghost use Rattle.request_codec.specs.Replies.{replied};
 ghost use Rattle.server_loop.specs.Refusals.{IsRefusalOf, OnRestart, OnStep};
-ghost use Rattle.server_loop.specs.Runs.{StepsAs, HasShortValue, IfRefused};
+ghost use Rattle.server_loop.specs.Runs.{StepsAs, StampsGoOn, HasShortValue, IfRefused};
 ghost use Rattle.server_loop.specs.Serve.{Serves, ServesStream};
 ghost use Rattle.txn_client.specs.Room.{ChangesNext, HasNoRoom};
 ghost use Rattle.txn_client.specs.Shows.{IsAboutToDraw};
@@ -70,6 +70,8 @@ impl<R: Rows + Drop, M: MarkStore + Drop> Server<R, M> {
             → (st : State) → Shows R.cells R.holds self.old st → HasNoRoom R.overfills (rows_of self.old) (ChangesNext st start)) }
         // Where the mark is told, a restarted oracle goes on from it.
         ensures restarted { OnRestart request.entry (result ≡ Reply.OracleRestart → IfSome (M.mark (marks_of self.old)) (λ mark. last_of self.new ≡ mark)) }
+        // A stamp that is answered is the oracle's next one.
+        ensures last { StampsGoOn (replied result) (last_of self.old) (last_of self.new) }
         ensures short { HasShortValue result }
         ensures device { result ≡ Reply.Refused Refusal.Device → IsFaultSeen R.faults M.faults self.old self.new }
     {

@@ -1,0 +1,9 @@
+pub mod Best
+pub mod Ending
+pub mod Falls
+pub mod Fresh
+pub mod Keeping
+pub mod Ranges
+pub mod Tied
+pub mod Turns
+pub mod Written

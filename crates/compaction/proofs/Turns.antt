@@ -1,0 +1,96 @@
+-- A loop that goes once over sources and may change each.
+use Rattle.std.proofs.Common.{◌≡◌, ℕ, ◌+◌, ◌≤◌, ◌<◌, List, [], ◌∷◌, ◌++◌, length, take, drop, set, get_or, sym, ap, subst, ◌∙◌, arith, add-one}
+use Rattle.std.proofs.lemmas.Grind.{common_steps}
+use Rattle.std.proofs.lemmas.List.Elements.{AllZip-push, All-from_recursion}
+use Rattle.std.proofs.Math.Seq.{take-suc, take-suc-set}
+use Rattle.std.proofs.lemmas.List.{drop-set-lt}
+use Rattle.std.proofs.lemmas.List.Sums.{sum_by-append}
+use Rattle.std.specs.Prelude.{Option, Some, None, IfSome, sum_by}
+use Rattle.std.specs.List.{AllByRecursion, AllZip}
+use Rattle.std.proofs.Common.{Bool, true, false, cond, ◌*◌}
+use Rattle.std.specs.Prelude.{is_some}
+use Rattle.cell_key.specs.Entries.{Entry}
+use Rattle.compaction.specs.Merging.{cost, one}
+use Rattle.file_store.specs.Store.{Contents}
+
+-- At an index a list came from another: what is before it is changed, and the rest is the same.
+pub record Progress {S F : Type 0} (contents : F → Option Contents) (faults : F → ℕ) (price bonus : S → ℕ) (before : Contents → S → Type 0) (step : Contents → S → S → Type 0) (start files : F) (xs ys : List S) (i : ℕ) : Type 0 where
+  pub same : contents files ≡ contents start
+  pub later : faults start ≤ faults files
+  pub rest : drop i ys ≡ drop i xs
+  pub paid : sum_by price (take i ys) + sum_by bonus (take i ys) ≤ sum_by price (take i xs)
+  pub steps : IfSome (contents start) (λ m. AllByRecursion (before m) xs → AllZip (step m) (take i xs) (take i ys))
+
+-- what an index has is the first of the rest
+item-rest : {S : Type 0} (xs ys : List S) (i : ℕ) (d : S) → drop i ys ≡ drop i xs → get_or ys i d ≡ get_or xs i d
+item-rest xs ys i d e = grind (arith, common_steps)
+
+one_more : {S : Type 0} (xs : List S) (i : ℕ) (s : S) → i < length xs → s ≡ get_or xs i s → take (i + 1) xs ≡ take i xs ++ s ∷ []
+one_more xs i s l e = rw add-one (take-suc xs i s l ∙ ap (λ x. take i xs ++ x ∷ []) (sym e))
+
+both_some : {A : Type 0} {P Q R : A → Type 0} (o o' : Option A) → o' ≡ o → IfSome o P → IfSome o' Q → ((m : A) → P m → Q m → R m) → IfSome o R
+both_some None o' e p q f = tt
+both_some {Q = Q} (Some m) o' e p q f = f m p (subst (λ o. IfSome o Q) e q)
+
+rest_more : {S : Type 0} (xs ys : List S) (i : ℕ) → i < length xs → drop i ys ≡ drop i xs → drop (i + 1) ys ≡ drop (i + 1) xs
+rest_more xs ys i l e = grind (arith, common_steps)
+
+-- the element at the index became t
+pub go_on : {S F : Type 0} {contents : F → Option Contents} {faults : F → ℕ} {price bonus : S → ℕ} {before : Contents → S → Type 0} {step : Contents → S → S → Type 0} {start files : F} {xs ys : List S} {i : ℕ}
+    → Progress contents faults price bonus before step start files xs ys i → (next : F) (zs : List S) (s t : S)
+    → i < length xs → s ≡ get_or ys i s → contents next ≡ contents files → faults files ≤ faults next
+    → take (i + 1) zs ≡ take i ys ++ t ∷ [] → drop (i + 1) zs ≡ drop (i + 1) ys → price t + bonus t ≤ price s
+    → IfSome (contents files) (λ m. before m s → step m s t)
+    → Progress contents faults price bonus before step start next xs zs (i + 1)
+go_on {S} {F} {contents} {faults} {price} {bonus} {before} {step} {start} {files} {xs} {ys} {i} p next zs s t l is same later front rest cheaper here =
+    let was : s ≡ get_or xs i s = is ∙ item-rest xs ys i s p.rest in
+    let old : take (i + 1) xs ≡ take i xs ++ s ∷ [] = one_more xs i s l was in
+    record {
+      same = same ∙ p.same;
+      later = omega (arith, p.later);
+      rest = rest ∙ rest_more xs ys i l p.rest;
+      paid = rw (front, old, sum_by-append price (take i ys) (t ∷ []), sum_by-append bonus (take i ys) (t ∷ []), sum_by-append price (take i xs) (s ∷ [])) (omega (arith, p.paid));
+      steps = both_some (contents start) (contents files) p.same p.steps here (λ m before_all step_now all. rw (front, old) (AllZip-push (step m) (take i xs) (take i ys) s t (before_all all) (step_now (at_place (before m) xs i s l was all))));
+    }
+  where
+    at_place : (P : S → Type 0) (xs : List S) (i : ℕ) (s : S) → i < length xs → s ≡ get_or xs i s → AllByRecursion P xs → P s
+    at_place P xs i s l is all = subst P (sym is) (All-from_recursion P xs all i s l)
+
+pub front_set : {S : Type 0} (ys : List S) (i : ℕ) (t : S) → i < length ys → take (i + 1) (set ys i t) ≡ take i ys ++ t ∷ []
+front_set ys i t l = rw add-one (take-suc-set ys i t l)
+
+pub front_same : {S : Type 0} (ys : List S) (i : ℕ) (s : S) → i < length ys → s ≡ get_or ys i s → take (i + 1) ys ≡ take i ys ++ s ∷ []
+front_same ys i s l e = one_more ys i s l e
+
+pub rest_set : {S : Type 0} (ys : List S) (i : ℕ) (t : S) → drop (i + 1) (set ys i t) ≡ drop (i + 1) ys
+rest_set ys i t = drop-set-lt (i + 1) ys i t (omega arith)
+
+pub if_both : {A : Type 0} {P Q R : A → Type 0} (o : Option A) → IfSome o P → IfSome o Q → ((m : A) → P m → Q m → R m) → IfSome o R
+if_both None p q f = tt
+if_both (Some m) p q f = f m p q
+
+pub if_each : {A : Type 0} {R : A → Type 0} (o : Option A) → ((m : A) → R m) → IfSome o R
+if_each None f = tt
+if_each (Some m) f = f m
+
+cheaper : (lt ls : ℕ) (x y : Bool) → lt + cond x 1 0 ≤ ls → (2 * lt + cond x 1 0) + cond x 1 0 ≤ 2 * ls + cond y 1 0
+cheaper lt ls true true h = omega arith
+cheaper lt ls true false h = omega arith
+cheaper lt ls false true h = omega arith
+cheaper lt ls false false h = omega arith
+
+-- what an advance costs
+pub cost_falls : (lt ls : ℕ) (b : Bool) (t s : Option Entry) → b ≡ is_some t → lt + cond b 1 0 ≤ ls → cost lt t + one t ≤ cost ls s
+cost_falls lt ls b t s e h = cheaper lt ls (is_some t) (is_some s) (subst (λ b. lt + cond b 1 0 ≤ ls) e h)
+
+paid_tied : (lt ls : ℕ) (x : Bool) → lt + cond x 1 0 ≤ ls → (2 * lt + cond x 1 0) + 1 ≤ 2 * ls + 1
+paid_tied lt ls true h = omega arith
+paid_tied lt ls false h = omega arith
+
+-- what an advance away from an entry costs
+pub cost_falls_from : (lt ls : ℕ) (b : Bool) (t s : Option Entry) → b ≡ is_some t → is_some s ≡ true → lt + cond b 1 0 ≤ ls → cost lt t + 1 ≤ cost ls s
+cost_falls_from lt ls b t s e y h = rw y (paid_tied lt ls (is_some t) (subst (λ b. lt + cond b 1 0 ≤ ls) e h))
+
+pub if_map : {A : Type 0} {P Q : A → Type 0} (o : Option A) → IfSome o P → ((m : A) → P m → Q m) → IfSome o Q
+if_map None p f = tt
+if_map (Some m) p f = f m p

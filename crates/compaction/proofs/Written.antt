@@ -1,0 +1,58 @@
+-- What is written of several lists, at each text.
+use Rattle.std.proofs.Common.{◌≡◌, ℕ, Bool, true, false, cond, T, List, [], ◌∷◌, refl, sym, ap, ◌∙◌}
+use Rattle.std.specs.Prelude.{Option, Some, None, is_some, ◌||◌}
+use Rattle.std.specs.Ordering.{eq_by_cmp}
+use Rattle.std.specs.FinMap.Entries.{below_all, same_entries}
+use Rattle.cell_key.specs.Keys.{byte_cmp}
+use Rattle.cell_key.specs.Entries.{Entry, IsRising, merged, entry_of_key, or_else, value_of}
+use Rattle.cell_key.proofs.EntryLaws.{key_of_merged, merged_rising}
+use Rattle.compaction.specs.FilterLaws.{filter-list, first, second}
+use Rattle.compaction.specs.OrderLaws.{equal, same_key, total, merged_list}
+use Rattle.compaction.specs.HeadLaws.{find_below}
+use Rattle.compaction.specs.Writing.{is_kept, kept, WritesEntryLists, KeepsOneList, NamesFirst}
+
+pub writes_entry_lists : WritesEntryLists
+writes_entry_lists keep lists h = filter-list (is_kept keep) (merged lists) (merged_list lists h)
+
+pub all_kept : (es : List Entry) → kept true es ≡ es
+all_kept [] = refl
+all_kept (e ∷ es) = ap (λ l. e ∷ l) (all_kept es)
+
+or_none : (o : Option (Option (List ℕ))) → or_else o None ≡ o
+or_none None = refl
+or_none (Some x) = refl
+
+pub keeps_one_list : KeepsOneList
+keeps_one_list es h =
+    all_kept (merged (es ∷ []))
+    ∙ same_entries byte_cmp total same_key (merged (es ∷ [])) es (merged_rising (es ∷ [])) h.rising (λ q. key_of_merged (es ∷ []) q ∙ or_none (entry_of_key es q))
+
+value_at : (name : List ℕ) (e : Entry) (es : List Entry) (b : Bool) → value_of (cond b (Some e.1) (entry_of_key es name)) ≡ cond b e.1 (value_of (entry_of_key es name))
+value_at name e es true = refl
+value_at name e es false = refl
+
+-- an erasure that is left out says of a text what no entry says of it
+erasure_out : (name : List ℕ) (e : Entry) (es : List Entry) → T (below_all byte_cmp e.0 es) → e.1 ≡ None → (b : Bool) → eq_by_cmp byte_cmp name e.0 ≡ b → value_of (entry_of_key es name) ≡ value_of (cond b (Some e.1) (entry_of_key es name))
+erasure_out name e es h n true t = ap (λ k. value_of (entry_of_key es k)) (same_key name e.0 (equal _ t)) ∙ ap value_of (find_below e.0 es h) ∙ sym n
+erasure_out name e es h n false t = refl
+
+kept_one : (keep : Bool) (name : List ℕ) (e : Entry) (es : List Entry) → T (below_all byte_cmp e.0 es) → value_of (entry_of_key (kept keep es) name) ≡ value_of (entry_of_key es name) → (b : Bool) → is_kept keep e ≡ b
+    → value_of (entry_of_key (cond b (e ∷ kept keep es) (kept keep es)) name) ≡ value_of (entry_of_key (e ∷ es) name)
+kept_one keep name e es h same true k = value_at name e (kept keep es) (eq_by_cmp byte_cmp name e.0) ∙ ap (cond (eq_by_cmp byte_cmp name e.0) e.1) same ∙ sym (value_at name e es (eq_by_cmp byte_cmp name e.0))
+kept_one keep name e es h same false k = same ∙ erasure_out name e es h (is_erasure keep e.1 k) _ refl
+  where
+    is_erasure : (keep : Bool) (o : Option (List ℕ)) → (keep || is_some o) ≡ false → o ≡ None
+    is_erasure true o k = cc
+    is_erasure false None k = refl
+    is_erasure false (Some x) k = cc
+
+-- entries that are left out change no value
+pub value-kept : (keep : Bool) (name : List ℕ) (es : List Entry) → IsRising es → value_of (entry_of_key (kept keep es) name) ≡ value_of (entry_of_key es name)
+value-kept keep name [] r = refl
+value-kept keep name (e ∷ es) r = kept_one keep name e es (first _ _ r) (value-kept keep name es (second _ _ r)) (is_kept keep e) refl
+
+pub names_first : NamesFirst
+names_first lists name = (
+  ap (λ es. entry_of_key es name) (all_kept (merged lists)) ∙ key_of_merged lists name,
+  λ keep. value-kept keep name (merged lists) (merged_rising lists) ∙ ap value_of (key_of_merged lists name),
+)

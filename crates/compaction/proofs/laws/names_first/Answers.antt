@@ -1,0 +1,5 @@
+use Rattle.compaction.proofs.Written.{names_first}
+use Rattle.compaction.proofs.laws.names_first.Goals as goal
+
+pub returns : goal.returns
+returns c = names_first

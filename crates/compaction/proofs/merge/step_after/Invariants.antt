@@ -1,0 +1,10 @@
+use Rattle.compaction.specs.Merging.{cost, StepsTo, HasStarted}
+use Rattle.compaction.proofs.Turns.{Progress}
+use Rattle.compaction.proofs.merge.step_after.Given as goal
+
+abbrev pub invariant-loop-source : goal.invariant-loop-source
+invariant-loop-source g l =
+    Progress g.F.Files.contents g.F.Files.faults (λ s. cost (g.S.Source.left s) (g.S.Source.lent s)) (λ _. 0)
+    (λ m s. g.S.Source.holds m s × HasStarted g.S.Source.lent (g.S.Source.remaining m) s)
+    (λ m. StepsTo g.S.Source.lent (g.S.Source.remaining m) (g.S.Source.holds m) (g.S.Source.lent l.least))
+    l.initial.files l.files l.initial.sources l.sources l.source-index

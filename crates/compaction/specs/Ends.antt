@@ -1,0 +1,47 @@
+-- The entries of a source up to an end.
+use Rattle.std.proofs.Common.{◌≡◌, Bool, true, false, cond, refl, subst}
+use Rattle.std.specs.Prelude.{ℕ, List, ◌∷◌, filter, map, Option, Some, None, not}
+use Rattle.std.specs.Option.{option_copied}
+use Rattle.std.specs.Ordering.{is_lt}
+use Rattle.cell_key.specs.Keys.{byte_cmp}
+use Rattle.cell_key.specs.Entries.{Entry, IsEntryList, entries_from, merged}
+use Rattle.sorted_file.specs.Sources.{pending}
+use Rattle.compaction.specs.declared.until.Until.{Until}
+use Rattle.compaction.specs.FilterLaws.{filter-list, rest-list}
+
+-- the source that a prefix is of, and the text that it ends before
+abbrev pub source_of : {S : Type 0} → Until S → S
+source_of s = s.source
+
+abbrev pub end_of : {S : Type 0} → Until S → Option (List ℕ)
+end_of s = option_copied s.end
+
+-- whether a text is below an end, if there is one
+abbrev pub is_below : Option (List ℕ) → List ℕ → Bool
+is_below None name = true
+is_below (Some end) name = is_lt (byte_cmp name end)
+
+-- the entries whose texts are below an end
+abbrev pub entries_until : Option (List ℕ) → List Entry → List Entry
+entries_until end es = filter (λ entry. is_below end entry.0) es
+
+-- A range of what lists mean together is what their ranges mean together.
+abbrev pub MergesRanges : Type 0
+MergesRanges = (from : List ℕ) (end : Option (List ℕ)) (lists : List (List Entry)) → merged (map (λ es. entries_until end (entries_from from es)) lists) ≡ entries_until end (entries_from from (merged lists))
+
+abbrev pub lent_until : Option (List ℕ) → Option Entry → Option Entry
+lent_until end None = None
+lent_until end (Some entry) = cond (is_below end entry.0) (Some entry) None
+
+-- whether there is an entry that isn't below the end
+abbrev pub is_at_end : Option (List ℕ) → Option Entry → Bool
+is_at_end end None = false
+is_at_end end (Some entry) = not (is_below end entry.0)
+
+pub until_list : (end : Option (List ℕ)) (lent : Option Entry) (es : List Entry) → IsEntryList (pending lent es) → IsEntryList (pending (lent_until end lent) (entries_until end es))
+until_list end None es h = filter-list (λ entry. is_below end entry.0) es h
+until_list end (Some entry) es h =
+    elim (is_below end entry.0) as (λ b. is_below end entry.0 ≡ b → IsEntryList (pending (cond b (Some entry) None) (entries_until end es))) [
+      | true ↦ λ t. subst (λ b. IsEntryList (cond b (entry ∷ entries_until end es) (entries_until end es))) t (filter-list (λ entry. is_below end entry.0) (entry ∷ es) h)
+      | false ↦ λ _. filter-list (λ entry. is_below end entry.0) es (rest-list entry es h)
+    ] refl

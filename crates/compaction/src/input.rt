@@ -1,0 +1,40 @@
+use cell_key::{EntryRef, Refusal};
+use file_store::Files;
+use sorted_file::{FileCursor, Source};
+
+/// The entries of a memtable or of a file, as a source.
+#[derive(Drop)]
+pub enum Input<'a> {
+    /// Those of a memtable.
+    Memtable(memtable::Cursor<'a>),
+    /// Those of an open file.
+    File(FileCursor<'a>),
+}
+
+impl<F: Files> Source<F> for Input<'_> {
+    ghost use Rattle.compaction.specs.Inputs.{input_remaining, input_lent, input_left, InputHolds, input_list};
+
+    ghost holds = { λ _ s. InputHolds s };
+
+    ghost remaining = { λ _ s. input_remaining s };
+
+    ghost lent = { input_lent };
+
+    ghost left = { input_left ⟦<FileCursor<'static> as Source<F>>⟧.left };
+
+    fn advance(&mut self, files: &mut F) -> Result<bool, Refusal> {
+        match self {
+            Input::Memtable(cursor) => Ok(cursor.advance()),
+            Input::File(cursor) => cursor.advance(files),
+        }
+    }
+
+    fn current(&self) -> Option<EntryRef<'_>> {
+        match self {
+            Input::Memtable(cursor) => cursor.current(),
+            Input::File(cursor) => Source::<F>::current(cursor),
+        }
+    }
+
+    ghost list = { λ _ s h. input_list s h };
+}

@@ -1,0 +1,196 @@
+ghost use Rattle.std.specs.Prelude.{ℕ, ◌≡◌, ◌≤◌, ◌+◌, None, length, map, is_some, sum_by, IsTrue, IsSome, OnOk, IfErr, IfSome, IsErrOf, option_and_then, option_copied};
+ghost use Rattle.std.specs.List.{AllByRecursion, AllZip};
+ghost use Rattle.file_store.specs.Store.{Contents};
+ghost use Rattle.cell_key.specs.Entries.{merged};
+ghost use Rattle.sorted_file.specs.Sources.{HasReason, IsReadRefusal};
+ghost use Rattle.compaction.specs.Least.{IsLeast};
+ghost use Rattle.compaction.specs.Merging.{AreAtStart, lent_at, StepsTo, MergeHolds, HasStarted, cost, one};
+ghost use Rattle.compaction.specs.Ties.{comes_first, ties};
+
+use cell_key::{EntryRef, Refusal};
+use file_store::Files;
+use sorted_file::Source;
+
+/// Sources, the newest first, as one (Bigtable, tablet serving: the merged view): a key has the entry of the
+/// first source that names it. Entries are lent as the sources lend them, and it takes no memory of its own.
+#[derive(Drop)]
+pub struct Merge<S> {
+    sources: Vec<S>,
+    /// The place of the source whose entry is lent, or the length where none is.
+    at: usize,
+}
+
+/// Whether both are at entries of one key.
+fn is_tied<F: Files, S: Source<F>>(a: &S, b: &S) -> bool
+    ensures { result ≡ ties (S.lent a.now) (S.lent b.now) }
+{
+    match (a.current(), b.current()) {
+        (Some(x), Some(y)) => x.key.cmp(&y.key).is_eq(),
+        _ => false,
+    }
+}
+
+/// Whether the first is at an entry, and the second is at none that comes before it.
+fn is_first<F: Files, S: Source<F>>(a: &S, b: Option<&S>) -> bool
+    ensures { result ≡ comes_first (S.lent a.now) (option_and_then S.lent (option_copied b.entry)) }
+{
+    let Some(x) = a.current() else {
+        return false;
+    };
+    match b {
+        Some(b) => match b.current() {
+            Some(y) => x.key.cmp(&y.key).is_le(),
+            None => true,
+        },
+        None => true,
+    }
+}
+
+/// The place of the first of the least entries, or the length where no source is at one.
+fn least<F: Files, S: Source<F>>(sources: &[S]) -> usize
+    ensures { IsLeast (map S.lent sources.now) result }
+{
+    let mut best = sources.len();
+    for i in (0..sources.len()).rev() {
+        if is_first(&sources[i], sources.get(best)) {
+            best = i;
+        }
+    }
+    best
+}
+
+/// Advances each source. None of them is at an entry.
+fn step_all<F: Files, S: Source<F>>(sources: &mut [S], files: &mut F) -> Result<(), Refusal>
+    ensures files { F.contents files.new ≡ F.contents files.old }
+    ensures reason { HasReason (F.faults files.old) (F.faults files.new) result }
+    ensures refusal { IfErr result IsReadRefusal }
+    ensures cost { OnOk result (sum_by (λ s. cost (S.left s) (S.lent s)) sources.new + sum_by (λ s. one (S.lent s)) sources.new
+        ≤ sum_by (λ s. cost (S.left s) (S.lent s)) sources.old) }
+    ensures steps { OnOk result (IfSome (F.contents files.old) (λ m. AreAtStart S.lent (S.holds m) sources.old
+        → AllZip (StepsTo S.lent (S.remaining m) (S.holds m) None) sources.old sources.new)) }
+    ensures damaged { IsErrOf result Refusal.Damaged → IfSome (F.contents files.old) (λ m. ¬ AllByRecursion (S.holds m) sources.old) }
+{
+    for source in sources.iter_mut() {
+        let _ = source.advance(files)?;
+    }
+    Ok(())
+}
+
+/// Advances each of the sources that is at the entry of this key.
+fn step_after<F: Files, S: Source<F>>(
+    least: &S,
+    sources: &mut [S],
+    files: &mut F,
+) -> Result<(), Refusal>
+    ensures files { F.contents files.new ≡ F.contents files.old }
+    ensures reason { HasReason (F.faults files.old) (F.faults files.new) result }
+    ensures refusal { IfErr result IsReadRefusal }
+    ensures cost { OnOk result (sum_by (λ s. cost (S.left s) (S.lent s)) sources.new
+        ≤ sum_by (λ s. cost (S.left s) (S.lent s)) sources.old) }
+    ensures steps { OnOk result (IfSome (F.contents files.old) (λ m. AllByRecursion (λ s. S.holds m s × HasStarted S.lent (S.remaining m) s) sources.old
+        → AllZip (StepsTo S.lent (S.remaining m) (S.holds m) (S.lent least.now)) sources.old sources.new)) }
+    ensures damaged { IsErrOf result Refusal.Damaged → IfSome (F.contents files.old) (λ m. ¬ AllByRecursion (S.holds m) sources.old) }
+{
+    for source in sources.iter_mut() {
+        if is_tied(least, source) {
+            let _ = source.advance(files)?;
+        }
+    }
+    Ok(())
+}
+
+/// Advances each source that is at an entry of the key at this place, which is the least.
+fn step_tied<F: Files, S: Source<F>>(
+    sources: &mut [S],
+    at: usize,
+    files: &mut F,
+) -> Result<(), Refusal>
+    requires { IsSome (lent_at S.lent sources.old at) }
+    ensures files { F.contents files.new ≡ F.contents files.old }
+    ensures reason { HasReason (F.faults files.old) (F.faults files.new) result }
+    ensures refusal { IfErr result IsReadRefusal }
+    ensures cost { OnOk result (sum_by (λ s. cost (S.left s) (S.lent s)) sources.new + 1
+        ≤ sum_by (λ s. cost (S.left s) (S.lent s)) sources.old) }
+    ensures steps { OnOk result (IfSome (F.contents files.old) (λ m.
+        MergeHolds S.lent (S.remaining m) (S.holds m) sources.old at
+        → AllZip (StepsTo S.lent (S.remaining m) (S.holds m) (lent_at S.lent sources.old at)) sources.old sources.new)) }
+    ensures damaged { IsErrOf result Refusal.Damaged → IfSome (F.contents files.old) (λ m. ¬ AllByRecursion (S.holds m) sources.old) }
+{
+    let (_before, rest) = sources.split_at_mut(at);
+    let Some((least, after)) = rest.split_first_mut() else {
+        return Ok(());
+    };
+    step_after(least, after, files)?;
+    let _ = least.advance(files)?;
+    Ok(())
+}
+
+/// Whether the source at a place is at an entry.
+fn is_at_entry<F: Files, S: Source<F>>(sources: &[S], at: usize) -> bool
+    ensures { result ≡ is_some (lent_at S.lent sources.now at) }
+{
+    match sources.get(at) {
+        Some(source) => source.current().is_some(),
+        None => false,
+    }
+}
+
+/// Takes each source past the entry of the one at this place, or to its first entry.
+fn step<F: Files, S: Source<F>>(sources: &mut [S], at: usize, files: &mut F) -> Result<(), Refusal>
+    ensures files { F.contents files.new ≡ F.contents files.old }
+    ensures reason { HasReason (F.faults files.old) (F.faults files.new) result }
+    ensures refusal { IfErr result IsReadRefusal }
+    ensures paid { OnOk result (sum_by (λ s. cost (S.left s) (S.lent s)) sources.new ≤ sum_by (λ s. cost (S.left s) (S.lent s)) sources.old) }
+    ensures lower { OnOk result ((k : ℕ) → IsSome (lent_at S.lent sources.new k)
+        → sum_by (λ s. cost (S.left s) (S.lent s)) sources.new + 1 ≤ sum_by (λ s. cost (S.left s) (S.lent s)) sources.old) }
+    ensures steps { OnOk result (IfSome (F.contents files.old) (λ m.
+        MergeHolds S.lent (S.remaining m) (S.holds m) sources.old at
+        → AllZip (StepsTo S.lent (S.remaining m) (S.holds m) (lent_at S.lent sources.old at)) sources.old sources.new)) }
+    ensures damaged { IsErrOf result Refusal.Damaged → IfSome (F.contents files.old) (λ m. ¬ AllByRecursion (S.holds m) sources.old) }
+{
+    if is_at_entry(sources, at) {
+        step_tied(sources, at, files)
+    } else {
+        step_all(sources, files)
+    }
+}
+
+impl<S> Merge<S> {
+    /// The merge of sources, the newest first, none of which has come to an entry yet.
+    pub fn new<F: Files>(sources: Vec<S>) -> Merge<S>
+    where
+        S: Source<F>,
+        ensures lent { ⟦<Merge<S> as Source<F>>⟧.lent result ≡ None }
+        ensures remaining { (m : Contents) → AreAtStart S.lent (S.holds m) sources.items → ⟦<Merge<S> as Source<F>>⟧.remaining m result ≡ merged (map (S.remaining m) sources.items) }
+        ensures holds { (m : Contents) → AreAtStart S.lent (S.holds m) sources.items → ⟦<Merge<S> as Source<F>>⟧.holds m result }
+    {
+        let at = sources.len();
+        Merge { sources, at }
+    }
+}
+
+impl<F: Files, S: Source<F>> Source<F> for Merge<S> {
+    ghost use Rattle.std.specs.Prelude.{sum_by};
+    ghost use Rattle.compaction.specs.Merging.{lent_at, merge_remaining, MergeHolds, cost};
+    ghost use Rattle.compaction.specs.MergeLaws.{merge_list};
+
+    ghost holds = { λ m s. MergeHolds S.lent (S.remaining m) (S.holds m) s.sources.items s.at };
+
+    ghost remaining = { λ m s. merge_remaining S.lent (S.remaining m) s.sources.items s.at };
+
+    ghost lent = { λ s. lent_at S.lent s.sources.items s.at };
+
+    ghost left = { λ s. sum_by (λ x. cost (S.left x) (S.lent x)) s.sources.items };
+
+    fn advance(&mut self, files: &mut F) -> Result<bool, Refusal> {
+        step(&mut self.sources, self.at, files)?;
+        self.at = least(&self.sources);
+        Ok(self.at < self.sources.len())
+    }
+
+    fn current(&self) -> Option<EntryRef<'_>> {
+        self.sources.get(self.at)?.current()
+    }
+
+    ghost list = { λ m s h. merge_list S.lent (S.remaining m) (S.holds m) (S.list m) s.sources.items s.at h };
+}

@@ -1,0 +1,49 @@
+//! Writing several sources as one file.
+
+ghost use Rattle.std.specs.Prelude.{◌≡◌, ◌≤◌, ℕ, List, length, map, IfErr, OnOk, OnErr, IfSome, IsErrOf};
+ghost use Rattle.file_store.specs.Store.{KeepsOthers, with_file};
+ghost use Rattle.sorted_file.specs.Grammar.{IsFile, FitsIn};
+ghost use Rattle.sorted_file.specs.Sources.{HasReason, IsWriteRefusal};
+ghost use Rattle.compaction.specs.Merging.{AreAtStart};
+ghost use Rattle.compaction.specs.Writing.{written};
+
+use crate::kept::Kept;
+use crate::merge::Merge;
+use cell_key::Refusal;
+use file_store::Files;
+use sorted_file::{Source, write_file};
+use std::alloc::Global;
+
+/// Writes what sources, the newest first, mean together as a file, which replaces a file of this name
+/// (Bigtable, tablet serving: minor and merging compactions keep erasures, and a major compaction, which
+/// rewrites everything there is, need not). None of the sources has come to an entry yet. Without
+/// `keep_erasures` values alone are written. No sources give the file of no entries.
+///
+/// # Errors
+///
+/// `FileTooLarge` where the file would have more than `file_limit` bytes, `Damaged` where a source is, and
+/// `Device` and `NoMemory`. Until the whole file is in memory no file is changed. After an `Err` of the
+/// write itself the bytes under this name are open. All other files stay as they are.
+pub fn merge_into<F: Files, S: Source<F> + Drop>(
+    alloc: Global,
+    sources: Vec<S>,
+    keep_erasures: bool,
+    name: u64,
+    file_limit: u64,
+    files: &mut F,
+) -> Result<(), Refusal>
+    requires least { 32 ≤ file_limit }
+    requires most { file_limit ≤ 1_073_741_824 }
+    ensures written { OnOk result ((image : List ℕ) × ((F.contents files.new ≡ with_file name image (F.contents files.old)) × (length image ≤ file_limit) × IfSome (F.contents files.old) (λ m. AreAtStart S.lent (S.holds m) sources.items → IsFile (written keep_erasures (map (S.remaining m) sources.items)) image))) }
+    ensures large { IsErrOf result Refusal.FileTooLarge → IfSome (F.contents files.old) (λ m. AreAtStart S.lent (S.holds m) sources.items → ¬ FitsIn file_limit (written keep_erasures (map (S.remaining m) sources.items))) }
+    ensures damaged { IsErrOf result Refusal.Damaged → IfSome (F.contents files.old) (λ m. ¬ AreAtStart S.lent (S.holds m) sources.items) }
+    ensures large_same { IsErrOf result Refusal.FileTooLarge → F.contents files.new ≡ F.contents files.old }
+    ensures damaged_same { IsErrOf result Refusal.Damaged → F.contents files.new ≡ F.contents files.old }
+    ensures others { OnErr result (KeepsOthers name (F.contents files.old) (F.contents files.new)) }
+    ensures refusal { IfErr result IsWriteRefusal }
+    ensures reason { HasReason (F.faults files.old) (F.faults files.new) result }
+{
+    let merge = Merge::new::<F>(sources);
+    let mut kept = Kept::new(merge, keep_erasures);
+    write_file(alloc, &mut kept, name, file_limit, files)
+}

@@ -1,0 +1,5 @@
+mod Ends
+mod Members
+mod RangeLemmas
+mod Splits
+mod Tables

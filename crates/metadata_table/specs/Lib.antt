@@ -1,0 +1,5 @@
+pub mod Places
+pub mod Positions
+pub mod Ranges
+pub mod Table
+pub use Rattle.cell_key.specs.Keys

@@ -1,0 +1,34 @@
+-- A tablet's place as clauses see it, and rows beside ends.
+use Rattle.std.specs.Prelude.{◌≡◌, ℕ, List, map, Option, None, Some, ⊤}
+use Rattle.std.specs.declared.cmp.Ordering.TheVariants.{Less}
+use Rattle.cell_key.specs.Keys.{byte_cmp}
+use Rattle.metadata_table.specs.declared.places.Place.{Place}
+
+-- a tablet's place: its number, its end (no row is the infinite one), its server, and its files' names
+pub record PlaceView : Type 0 where
+  pub tablet : ℕ
+  pub end : Option (List ℕ)
+  pub server : ℕ
+  pub files : List ℕ
+
+abbrev pub view_of : Place → PlaceView
+view_of place = record { tablet = place.tablet; end = place.end; server = place.server; files = place.files.items }
+
+abbrev pub views : List Place → List PlaceView
+views places = map view_of places
+
+-- an end is below a row; the infinite one is below none
+abbrev pub EndsBefore : Option (List ℕ) → List ℕ → Type 0
+EndsBefore None row = ⊥
+EndsBefore (Some end) row = byte_cmp end row ≡ Less
+
+-- an end is below another one; the infinite one is above all others
+abbrev pub IsLower : Option (List ℕ) → Option (List ℕ) → Type 0
+IsLower None other = ⊥
+IsLower (Some end) None = ⊤
+IsLower (Some end) (Some other) = byte_cmp end other ≡ Less
+
+-- a row comes after another one, or after the start
+abbrev pub IsAfter : Option (List ℕ) → List ℕ → Type 0
+IsAfter None row = ⊤
+IsAfter (Some before) row = byte_cmp before row ≡ Less

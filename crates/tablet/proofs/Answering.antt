@@ -1,0 +1,145 @@
+-- What a tablet answers, by what was found in its lists.
+use Rattle.std.proofs.Common.{◌≡◌, ◌+◌, ◌<◌, ◌≤◌, ◌^◌, ℕ, List, ◌∷◌, ◌⊎◌, inl, inr, map, Option, Some, None, sym, subst, ◌∙◌, arith}
+use Rattle.std.specs.Prelude.{IfSome, IfOk, IsTrue, Result, Ok, Err}
+use Rattle.std.specs.FinMap.{get}
+use Rattle.std.specs.List.{AllByRecursion}
+use Rattle.cell_key.specs.Names.{IsRow, IsFamily}
+use Rattle.cell_key.specs.Keys.{text, IsStored}
+use Rattle.cell_key.specs.Cells.{IsNewest, version}
+use Rattle.cell_key.specs.Entries.{first_naming, value_of}
+use Rattle.cell_key.specs.Places.{Place, place_of, IsNextCell}
+use Rattle.cell_key.specs.declared.keys.CellKey.{CellKey}
+use Rattle.cell_key.specs.declared.keys.Qualifier.{Qualifier}
+use Rattle.file_store.specs.Store.{Contents}
+use Rattle.sorted_file.specs.Opened.{IsOpen, listed}
+use Rattle.sorted_file.specs.declared.opened.SortedFile.{SortedFile}
+use Rattle.tablet.specs.Ranges.{has_row, upper_fence}
+use Rattle.tablet.specs.Reads.{first_value, start_of, IsPlaceOrNone}
+use Rattle.tablet.specs.Sources.{part}
+use Rattle.tablet.specs.Views.{range_of, memory_of, files_of, lists_of, cells_at, Holds}
+use Rattle.tablet.specs.declared.tablet.Tablet.{Tablet}
+use Rattle.tablet.proofs.Found.{has_none, has_first}
+use Rattle.tablet.proofs.Held.{held_lists}
+use Rattle.tablet.proofs.NextCells.{next_none, next_some}
+use Rattle.tablet.proofs.Shown.{stored_or_hidden}
+use Rattle.tablet.proofs.Versions.{newest_none, newest_some, newest_at_none, newest_at_some, version_between}
+
+pub if_one : {A : Type 0} {P Q : A → Type 0} (o : Option A) → IfSome o P → ((m : A) → P m → Q m) → IfSome o Q
+if_one None h f = tt
+if_one (Some m) h f = f m h
+
+pub if_ok_one : {T E A : Type 0} {P Q : T → A → Type 0} (r : Result T E) (o : Option A) → IfOk r (λ x. IfSome o (P x)) → ((x : T) (m : A) → P x m → Q x m) → IfOk r (λ x. IfSome o (Q x))
+if_ok_one (Ok x) None h f = tt
+if_ok_one (Ok x) (Some m) h f = f x m h
+if_ok_one (Err e) o h f = tt
+
+module _ (m : Contents) (t : Tablet) (held : Holds m t) (row family : List ℕ) (q : Qualifier) where
+  stored_or_not : (s : ℕ) → IsStored (version row family q s) ⊎ (get (cells_at m t) (version row family q s) ≡ None)
+  stored_or_not s = stored_or_hidden (range_of t) (lists_of m t) (held_lists m t held) (version row family q s)
+
+  -- no stamp of a version is between these
+  pub nothing_stored : (lo hi : ℕ) → ((s : ℕ) → 1 ≤ s → s < 2 ^ 63 → lo ≤ s → s ≤ hi → ⊥) → IsNewest (cells_at m t) (version row family q) lo hi None
+  nothing_stored lo hi out s a b = go (stored_or_not s)
+    where
+      go : IsStored (version row family q s) ⊎ (get (cells_at m t) (version row family q s) ≡ None) → get (cells_at m t) (version row family q s) ≡ None
+      go (inl stored) = absurd (out s stored.from stored.to a b)
+      go (inr e) = e
+
+  none_from : (lo first hi : ℕ) → ((s : ℕ) → 1 ≤ s → lo ≤ s → first ≤ s) → IsNewest (cells_at m t) (version row family q) first hi None → IsNewest (cells_at m t) (version row family q) lo hi None
+  none_from lo first hi up h s a b = go (stored_or_not s)
+    where
+      go : IsStored (version row family q s) ⊎ (get (cells_at m t) (version row family q s) ≡ None) → get (cells_at m t) (version row family q s) ≡ None
+      go (inl stored) = h s (up s stored.from a) b
+      go (inr e) = e
+
+  -- no version has a stamp below 1
+  pub widened : (lo first hi : ℕ) → lo ≤ first → ((s : ℕ) → 1 ≤ s → lo ≤ s → first ≤ s) → (found : Option (ℕ × List ℕ)) → IsNewest (cells_at m t) (version row family q) first hi found → IsNewest (cells_at m t) (version row family q) lo hi found
+  widened lo first hi low up None h = none_from lo first hi up h
+  widened lo first hi low up (Some found) h = (let l = h.0 in omega arith, h.1, h.2, h.3)
+
+pub nothing_held : (o : Option Contents) (t : Tablet) (row family : List ℕ) (q : Qualifier) (lo hi : ℕ) → ((s : ℕ) → 1 ≤ s → s < 2 ^ 63 → lo ≤ s → s ≤ hi → ⊥) → IfSome o (λ m. Holds m t → IsTrue (has_row (range_of t) row) → IsNewest (cells_at m t) (version row family q) lo hi None)
+nothing_held None t row family q lo hi out = tt
+nothing_held (Some m) t row family q lo hi out = λ held has. nothing_stored m t held row family q lo hi out
+
+module _ (t : Tablet) (fs : List SortedFile) (files : fs ≡ files_of t) where
+  open_files : (m : Contents) → Holds m t → AllByRecursion (IsOpen m) fs
+  open_files m h = subst (λ (gs : List SortedFile). AllByRecursion (IsOpen m) gs) (sym files) h.files
+
+  -- what isn't open isn't held
+  pub not_held : (o : Option Contents) → IfSome o (λ m. ¬ AllByRecursion (IsOpen m) fs) → IfSome o (λ m. ¬ Holds m t)
+  not_held None h = tt
+  not_held (Some m) h = λ held. h (open_files m held)
+
+  module _ (row family : List ℕ) (q : Qualifier) (stamp : ℕ) (is_row : IsRow row) (is_family : IsFamily family) (from : 1 ≤ stamp) (to : stamp < 2 ^ 63) (key : CellKey) (named : key ≡ version row family q stamp) where
+    abbrev AnswersOne : Option Contents → Option (List ℕ) → Type 0
+    AnswersOne o found = IfSome o (λ m. AllByRecursion (IsOpen m) fs → found ≡ value_of (first_naming (memory_of t ∷ map (listed m) fs) (text key)))
+
+    moved_one : (m : Contents) (found : Option (List ℕ)) → (AllByRecursion (IsOpen m) fs → found ≡ value_of (first_naming (memory_of t ∷ map (listed m) fs) (text key))) → Holds m t → value_of (first_naming (lists_of m t) (text (version row family q stamp))) ≡ found
+    moved_one m found h held = sym (h (open_files m held) ∙ λ i. value_of (first_naming (memory_of t ∷ map (listed m) (files i)) (text (named i))))
+
+    pub one_none : (o : Option Contents) → AnswersOne o None → IfSome o (λ m. Holds m t → IsTrue (has_row (range_of t) row) → IsNewest (cells_at m t) (version row family q) stamp stamp None)
+    one_none None h = tt
+    one_none (Some m) h = λ held has. newest_at_none row family q 0 stamp is_row is_family (omega arith) (omega arith) (range_of t) (lists_of m t) (held_lists m t held) has stamp (moved_one m None h held)
+
+    pub one_some : (o : Option Contents) (value : List ℕ) → AnswersOne o (Some value) → IfSome o (λ m. Holds m t → IsTrue (has_row (range_of t) row) → IsNewest (cells_at m t) (version row family q) stamp stamp (Some (stamp, value)))
+    one_some None value h = tt
+    one_some (Some m) value h =
+        λ held has.
+        newest_at_some row family q 0 stamp is_row is_family (omega arith) (omega arith) (range_of t) (lists_of m t) (held_lists m t held) has stamp value
+        (record { row = is_row; family = is_family; from = from; to = to }) (moved_one m (Some value) h held)
+
+  abbrev pub Answers : List ℕ → Option (List ℕ) → Option Contents → Option (List ℕ × List ℕ) → Type 0
+  Answers x y o found = IfSome o (λ m. AllByRecursion (IsOpen m) fs → found ≡ first_value (part x y (memory_of t ∷ map (listed m) fs)))
+
+  module _ (x from : List ℕ) (y end : Option (List ℕ)) (starts : x ≡ from) (ends : y ≡ end) where
+    moved : (m : Contents) (found : Option (List ℕ × List ℕ)) → (AllByRecursion (IsOpen m) fs → found ≡ first_value (part x y (memory_of t ∷ map (listed m) fs))) → Holds m t → first_value (part from end (lists_of m t)) ≡ found
+    moved m found h held = sym (h (open_files m held) ∙ λ i. first_value (part (starts i) (ends i) (memory_of t ∷ map (listed m) (files i))))
+
+  module _ (row family : List ℕ) (q : Qualifier) (lo before hi : ℕ) (is_row : IsRow row) (is_family : IsFamily family) (one : before + 1 ≡ lo) (small : before < 2 ^ 64) (small_hi : hi < 2 ^ 64) (x : List ℕ) (y : Option (List ℕ)) (starts : x ≡ text (version row family q hi)) (ends : y ≡ Some (text (version row family q before))) where
+    abbrev first : List ℕ
+    first = text (version row family q hi)
+
+    abbrev last : Option (List ℕ)
+    last = Some (text (version row family q before))
+
+    pub between_none : (o : Option Contents) → Answers x y o None → IfSome o (λ m. Holds m t → IsTrue (has_row (range_of t) row) → IsNewest (cells_at m t) (version row family q) lo hi None)
+    between_none None h = tt
+    between_none (Some m) h =
+        λ held has.
+        newest_none row family q before hi is_row is_family small small_hi (range_of t) (lists_of m t) (held_lists m t held) has lo (λ s least low. omega arith)
+        (has_none first last (lists_of m t) (moved x first y last starts ends m None h held))
+
+    pub between_some : (o : Option Contents) (key : CellKey) (value : List ℕ) → IsStored key → lo ≤ key.stamp → Answers x y o (Some (text key, value)) → IfSome o (λ m. Holds m t → IsTrue (has_row (range_of t) row) → IsNewest (cells_at m t) (version row family q) lo hi (Some (key.stamp, value)))
+    between_some None key value stored low h = tt
+    between_some (Some m) key value stored low h =
+        λ held has.
+        newest_some row family q before hi is_row is_family small small_hi (range_of t) (lists_of m t) (held_lists m t held) has lo key value stored low
+        (has_first first last (lists_of m t) (held_lists m t held) key value stored (moved x first y last starts ends m (Some (text key, value)) h held))
+
+    -- what is found is between the stamps
+    pub never_outside : (o : Option Contents) (key : CellKey) (value : List ℕ) → IsStored key → (key.stamp < lo) ⊎ (hi < key.stamp) → Answers x y o (Some (text key, value)) → IfSome o (λ m. ¬ Holds m t)
+    never_outside None key value stored out h = tt
+    never_outside (Some m) key value stored out h =
+        λ held.
+        let found = has_first first last (lists_of m t) (held_lists m t held) key value stored (moved x first y last starts ends m (Some (text key, value)) h held) in
+        let inside = version_between row family q before hi is_row is_family small small_hi key stored found.inside in
+        go inside.low inside.high out
+      where
+        go : before < key.stamp → key.stamp ≤ hi → (key.stamp < lo) ⊎ (hi < key.stamp) → ⊥
+        go low high (inl below) = omega arith
+        go low high (inr above) = omega arith
+
+  module _ (after : Option Place) (is : IsPlaceOrNone after) (x : List ℕ) (y : Option (List ℕ)) (starts : x ≡ start_of (range_of t) after) (ends : y ≡ upper_fence (range_of t)) where
+    pub cell_none : (o : Option Contents) → Answers x y o None → IfSome o (λ m. Holds m t → IsNextCell (cells_at m t) after None)
+    cell_none None h = tt
+    cell_none (Some m) h =
+        λ held.
+        next_none (range_of t) after is (lists_of m t) (held_lists m t held)
+        (has_none (start_of (range_of t) after) (upper_fence (range_of t)) (lists_of m t) (moved x (start_of (range_of t) after) y (upper_fence (range_of t)) starts ends m None h held))
+
+    pub cell_some : (o : Option Contents) (key : CellKey) (value : List ℕ) → IsStored key → Answers x y o (Some (text key, value)) → IfSome o (λ m. Holds m t → IsNextCell (cells_at m t) after (Some (place_of key)))
+    cell_some None key value stored h = tt
+    cell_some (Some m) key value stored h =
+        λ held.
+        next_some (range_of t) after is (lists_of m t) (held_lists m t held) key value stored
+        (has_first (start_of (range_of t) after) (upper_fence (range_of t)) (lists_of m t) (held_lists m t held) key value stored (moved x (start_of (range_of t) after) y (upper_fence (range_of t)) starts ends m (Some (text key, value)) h held))

@@ -1,0 +1,182 @@
+-- Tablets after the calls that change them.
+use Rattle.std.proofs.Common.{◌≡◌, ℕ, zero, suc, ◌+◌, ◌<◌, List, [], ◌∷◌, map, drop, get_or, refl, sym, subst, ◌∙◌, arith}
+use Rattle.std.proofs.lemmas.List.{drop-map}
+use Rattle.std.specs.Prelude.{◌≢◌, Option, Some, None, Result, Ok, Err, OnOk, IfSome, IsSomeAnd, IsTrue, length}
+use Rattle.std.proofs.Common.{inl, inr}
+use Rattle.std.specs.List.{AllByRecursion}
+use Rattle.std.specs.FinMap.{get}
+use Rattle.cell_key.specs.Cells.{IsEditOf, after_edits}
+use Rattle.cell_key.specs.Entries.{Entry, IsEntryList, cells_of}
+use Rattle.cell_key.specs.declared.edits.Edit.{Edit}
+use Rattle.cell_key.specs.declared.refusals.Refusal.{Refusal}
+use Rattle.file_store.specs.Store.{Contents, KeepsOthers}
+use Rattle.memtable.specs.Edits.{HasStoredKey, with_edits}
+use Rattle.sorted_file.specs.Opened.{HasFile, IsOpen, StaysOpen, listed, name_of}
+use Rattle.sorted_file.specs.declared.opened.SortedFile.{SortedFile}
+use Rattle.tablet.specs.Ranges.{has_row}
+use Rattle.tablet.specs.Compactions.{IsNewFile}
+use Rattle.tablet.specs.Views.{range_of, memory_of, files_of, names_of, lists_of, cells_at, Holds, IsBelow, IsUnchanged, UsesName, Keeps, MakesLists}
+use Rattle.tablet.specs.declared.tablet.Tablet.{Tablet}
+use Rattle.tablet.proofs.Seen.{shown}
+use Rattle.tablet.proofs.Showing.{edits_list, edits_shown}
+
+-- the lists of files that are open are entry lists
+pub open_lists : (m : Contents) (files : List SortedFile) → AllByRecursion (IsOpen m) files → AllByRecursion IsEntryList (map (listed m) files)
+open_lists m [] h = tt
+open_lists m (file ∷ files) h = (h.0.list, open_lists m files h.1)
+
+pub held_lists : (m : Contents) (t : Tablet) → Holds m t → AllByRecursion IsEntryList (lists_of m t)
+held_lists m t h = (h.memory, open_lists m (files_of t) h.files)
+
+-- ---- edits
+
+pub after_apply : (r : Result Unit Refusal) (row : List ℕ) (t : Tablet) (new : List Entry) (edits : List Edit) → AllByRecursion (IsEditOf row) edits → OnOk r (new ≡ with_edits (memory_of t) edits) → OnOk r (AllByRecursion HasStoredKey edits)
+    → OnOk r ((m : Contents) → Holds m t → IsTrue (has_row (range_of t) row) → cells_at m record t { memtable = new } ≡ after_edits (cells_at m t) edits)
+after_apply (Ok x) row t new edits e is k = λ m h inside. let P : List Entry → Type 0 = λ (es : List Entry). cells_at m record t { memtable = es } ≡ after_edits (cells_at m t) edits in
+    subst P (sym is) (edits_shown (range_of t) row (memory_of t) (map (listed m) (files_of t)) edits (held_lists m t h) k e inside)
+after_apply (Err x) row t new edits e is k = tt
+
+pub holds_after_apply : (r : Result Unit Refusal) (row : List ℕ) (t : Tablet) (new : List Entry) (edits : List Edit) → AllByRecursion (IsEditOf row) edits → OnOk r (new ≡ with_edits (memory_of t) edits) → OnOk r (AllByRecursion HasStoredKey edits)
+    → OnOk r ((m : Contents) → Holds m t → Holds m record t { memtable = new })
+holds_after_apply (Ok x) row t new edits e is k = λ m h. record { memory = subst IsEntryList (sym is) (edits_list row (memory_of t) edits h.memory k e); files = h.files }
+holds_after_apply (Err x) row t new edits e is k = tt
+
+-- ---- files
+
+-- all files but this one are as before
+abbrev pub OthersStay : ℕ → Contents → Contents → Type 0
+OthersStay next m n = (other : ℕ) → other ≢ next → get n other ≡ get m other
+
+apart : (a b : ℕ) → a < b → a ≢ b
+apart a b l e = omega arith
+
+one_higher : (a b : ℕ) → a < b → a < b + 1
+one_higher a b l = omega arith
+
+pub still_below : (next : ℕ) (names : List ℕ) → AllByRecursion (λ name. name < next) names → AllByRecursion (λ name. name < next + 1) names
+still_below next [] h = tt
+still_below next (name ∷ names) h = (one_higher name next h.0, still_below next names h.1)
+
+new_below : (next : ℕ) → next < next + 1
+new_below next = omega arith
+
+pub all_drop : {A : Type 0} (P : A → Type 0) (count : ℕ) (xs : List A) → AllByRecursion P xs → AllByRecursion P (drop count xs)
+all_drop P zero xs h = h
+all_drop P (suc count) [] h = tt
+all_drop P (suc count) (x ∷ xs) h = all_drop P count xs h.1
+
+-- files of names that were used stay open under a write of another name, and stand for what they did
+pub files_stay : StaysOpen → (next : ℕ) (m n : Contents) → OthersStay next m n → (files : List SortedFile) → AllByRecursion (IsOpen m) files → AllByRecursion (λ name. name < next) (map name_of files) → AllByRecursion (IsOpen n) files × (map (listed n) files ≡ map (listed m) files)
+files_stay stays next m n others [] opened below = (tt, refl)
+files_stay stays next m n others (file ∷ files) opened below =
+    let one = stays m n file opened.0 (others (name_of file) (apart (name_of file) next below.0)) in
+    let rest = files_stay stays next m n others files opened.1 below.1 in
+    ((one.0, rest.0), λ i. one.1 i ∷ rest.1 i)
+
+-- ---- compactions
+
+-- a tablet whose newest files gave way to a new one
+pub record IsMade (next : ℕ) (t u : Tablet) (file : SortedFile) (count : ℕ) (entries : List Entry) : Type 0 where
+  pub range : range_of u ≡ range_of t
+  pub memory : memory_of u ≡ entries
+  pub files : files_of u ≡ file ∷ drop count (files_of t)
+  pub named : name_of file ≡ next
+
+pub record HasMade (n : Contents) (after : ℕ) (u : Tablet) (all : List (List Entry)) : Type 0 where
+  pub holds : Holds n u
+  pub below : IsBelow after u
+  pub lists : lists_of n u ≡ all
+
+made : StaysOpen → (m n : Contents) (next after : ℕ) (t u : Tablet) (file : SortedFile) (count : ℕ) (memory es : List Entry) → IsMade next t u file count memory → after ≡ next + 1 → OthersStay next m n → IsNewFile n file es → IsEntryList memory → Holds m t → IsBelow next t
+    → HasMade n after u (memory ∷ es ∷ drop count (map (listed m) (files_of t)))
+made stays m n next after t u file count memory es is used others new list h below =
+    let old : List SortedFile = drop count (files_of t) in
+    let names : AllByRecursion (λ name. name < next) (map name_of old) = subst (AllByRecursion (λ name. name < next)) (drop-map name_of count (files_of t)) (all_drop (λ name. name < next) count (names_of t) below) in
+    let stay = files_stay stays next m n others old (all_drop (IsOpen m) count (files_of t) h.files) names in
+    record {
+      holds = record {
+        memory = subst IsEntryList (sym is.memory) list;
+        files = subst (AllByRecursion (IsOpen n)) (sym is.files) (new.opened, stay.0);
+      };
+      below = subst (λ (a : ℕ). AllByRecursion (λ name. name < a) (names_of u)) (sym used) (subst (λ (fs : List SortedFile). AllByRecursion (λ name. name < next + 1) (map name_of fs)) (sym is.files) (subst (λ (a : ℕ). a < next + 1) (sym is.named) (new_below next), still_below next (map name_of old) names));
+      lists = (λ i. is.memory i ∷ map (listed n) (is.files i)) ∙ (λ i. memory ∷ new.lists i ∷ (stay.1 ∙ sym (drop-map (listed m) count (files_of t))) i);
+    }
+
+pub made_lists : StaysOpen → (old new : Option Contents) (next after : ℕ) (t u : Tablet) (file : SortedFile) (count : ℕ) (memory : List Entry) (es : Contents → List Entry) (form : List Entry → List (List Entry) → List (List Entry)) → IsMade next t u file count memory → after ≡ next + 1 → KeepsOthers next old new
+    → IfSome old (λ m. Holds m t → IsSomeAnd new (λ n. IsNewFile n file (es m)))
+    → ((m : Contents) → Holds m t → IsEntryList memory)
+    → ((m : Contents) → Holds m t → memory ∷ es m ∷ drop count (map (listed m) (files_of t)) ≡ form (memory_of t) (map (listed m) (files_of t)))
+    → MakesLists old next t new u form
+made_lists stays None new next after t u file count memory es form is used others written list forms = tt
+made_lists stays (Some m) None next after t u file count memory es form is used others written list forms = absurd others
+made_lists stays (Some m) (Some n) next after t u file count memory es form is used others written list forms =
+    λ h below. (made stays m n next after t u file count memory (es m) is used others (written h) (list m h) h below).lists ∙ forms m h
+
+pub made_keeps : StaysOpen → (old new : Option Contents) (next after : ℕ) (t u : Tablet) (file : SortedFile) (count : ℕ) (memory : List Entry) (es : Contents → List Entry) → IsMade next t u file count memory → after ≡ next + 1 → KeepsOthers next old new
+    → IfSome old (λ m. Holds m t → IsSomeAnd new (λ n. IsNewFile n file (es m)))
+    → ((m : Contents) → Holds m t → IsEntryList memory)
+    → ((m : Contents) → Holds m t → IsEntryList (es m) → cells_of (shown (range_of t) (memory ∷ es m ∷ drop count (map (listed m) (files_of t)))) ≡ cells_at m t)
+    → Keeps old next t new after u
+made_keeps stays None new next after t u file count memory es is used others written list cells = tt
+made_keeps stays (Some m) None next after t u file count memory es is used others written list cells = absurd others
+made_keeps stays (Some m) (Some n) next after t u file count memory es is used others written list cells =
+    λ h below.
+    let has = made stays m n next after t u file count memory (es m) is used others (written h) (list m h) h below in (
+      has.holds,
+      has.below,
+      (λ i. cells_of (shown (is.range i) (has.lists i)))
+          ∙ cells m h (subst IsEntryList (written h).lists (written h).opened.list),
+    )
+
+pub still_holds : (m : Contents) (t u : Tablet) → IsUnchanged t u → Holds m t → Holds m u
+still_holds m t u same h = record { memory = subst IsEntryList (sym same.memory) h.memory; files = subst (AllByRecursion (IsOpen m)) (sym same.files) h.files }
+
+-- a tablet that is as it was keeps its cells, whether a file of a new name was written or not
+same_keeps : StaysOpen → (m n : Contents) (next after : ℕ) (t u : Tablet) → IsUnchanged t u → OthersStay next m n → after ≡ next + 1 → Holds m t → IsBelow next t → Holds n u × IsBelow after u × (cells_at n u ≡ cells_at m t)
+same_keeps stays m n next after t u same others used h below =
+    let stay = files_stay stays next m n others (files_of t) h.files below in (
+      record { memory = subst IsEntryList (sym same.memory) h.memory; files = subst (AllByRecursion (IsOpen n)) (sym same.files) stay.0 },
+      subst (λ (a : ℕ). AllByRecursion (λ name. name < a) (names_of u)) (sym used) (subst (λ (fs : List SortedFile). AllByRecursion (λ name. name < next + 1) (map name_of fs)) (sym same.files) (still_below next (names_of t) below)),
+      (λ i. cells_of (shown (same.range i) (same.memory i ∷ map (listed n) (same.files i))))
+          ∙ (λ i. cells_of (shown (range_of t) (memory_of t ∷ stay.1 i))),
+    )
+
+unchanged_keeps : (m : Contents) (next after : ℕ) (t u : Tablet) → IsUnchanged t u → after ≡ next → Holds m t → IsBelow next t → Holds m u × IsBelow after u × (cells_at m u ≡ cells_at m t)
+unchanged_keeps m next after t u same used h below = (
+  record { memory = subst IsEntryList (sym same.memory) h.memory; files = subst (AllByRecursion (IsOpen m)) (sym same.files) h.files },
+  subst (λ (a : ℕ). AllByRecursion (λ name. name < a) (names_of u)) (sym used) (subst (λ (fs : List SortedFile). AllByRecursion (λ name. name < next) (map name_of fs)) (sym same.files) below),
+  λ i. cells_of (shown (same.range i) (same.memory i ∷ map (listed m) (same.files i))),
+)
+
+pub still_keeps : StaysOpen → (old new : Option Contents) (next after : ℕ) (t u : Tablet) → IsUnchanged t u → UsesName old next new after → Keeps old next t new after u
+still_keeps stays None new next after t u same uses = tt
+still_keeps stays (Some m) new next after t u same (inl e) = subst (λ (o : Option Contents). Keeps (Some m) next t o after u) (sym e.1) (λ h below. unchanged_keeps m next after t u same e.0 h below)
+still_keeps stays (Some m) None next after t u same (inr e) = absurd e.1
+still_keeps stays (Some m) (Some n) next after t u same (inr e) = λ h below. same_keeps stays m n next after t u same e.1 e.0 h below
+
+-- ---- files that are opened one by one
+
+fewer : (i n : ℕ) → suc i < suc n → i < n
+fewer i n l = omega arith
+
+all_at : (P : ℕ → Type 0) (names : List ℕ) (i : ℕ) → i < length names → AllByRecursion P names → P (get_or names i 0)
+all_at P [] i l h = absurd (omega arith)
+all_at P (name ∷ names) zero l h = h.0
+all_at P (name ∷ names) (suc i) l h = all_at P names i (fewer i (length names) l) h.1
+
+pub missing_one : (old now : Option Contents) (names : List ℕ) (i : ℕ) → now ≡ old → i < length names → IfSome now (λ m. ¬ (HasFile m (get_or names i 0))) → IfSome old (λ m. ¬ (AllByRecursion (HasFile m) names))
+missing_one None now names i same l h = tt
+missing_one (Some m) now names i same l h =
+    let one = subst (λ (o : Option Contents). IfSome o (λ m. ¬ (HasFile m (get_or names i 0)))) same h in
+    λ all. one (all_at (HasFile m) names i l all)
+
+-- what was written of a tablet is what would be of one that is as it was
+pub made_of : (old new : Option Contents) (t u : Tablet) (file : SortedFile) (before es : Contents → List Entry) → IsUnchanged t u → ((m : Contents) → before m ≡ es m)
+    → IfSome old (λ m. Holds m u → IsSomeAnd new (λ n. IsNewFile n file (before m))) → IfSome old (λ m. Holds m t → IsSomeAnd new (λ n. IsNewFile n file (es m)))
+made_of None new t u file before es same is h = tt
+made_of (Some m) new t u file before es same is h = λ held. subst (λ (xs : List Entry). IsSomeAnd new (λ n. IsNewFile n file xs)) (is m) (h (still_holds m t u same held))
+
+pub large_of : (old : Option Contents) (t u : Tablet) (before es : Contents → List Entry) (P : List Entry → Type 0) → IsUnchanged t u → ((m : Contents) → Holds m t → before m ≡ es m)
+    → IfSome old (λ m. Holds m u → P (before m)) → IfSome old (λ m. Holds m t → P (es m))
+large_of None t u before es P same is h = tt
+large_of (Some m) t u before es P same is h = λ held. subst P (is m held) (h (still_holds m t u same held))

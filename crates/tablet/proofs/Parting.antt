@@ -1,0 +1,131 @@
+-- The two parts of a tablet that is split.
+use Rattle.std.proofs.Common.{◌≡◌, ℕ, ◌<◌, Bool, true, false, cond, ◌&&◌, List, [], ◌∷◌, map, refl, sym, ap, subst, ◌∙◌, inl, inr}
+use Rattle.std.specs.Prelude.{◌⊎◌, Option, Some, None, IfSome, IsSomeAnd, IsTrue}
+use Rattle.std.specs.List.{AllByRecursion}
+use Rattle.std.specs.Ordering.{is_le, is_lt}
+use Rattle.std.specs.declared.cmp.Ordering.{Ordering}
+use Rattle.std.specs.declared.cmp.Ordering.TheVariants.{Less, Equal, Greater}
+use Rattle.std.specs.FinMap.{get}
+use Rattle.cell_key.specs.Keys.{byte_cmp}
+use Rattle.cell_key.specs.Entries.{IsEntryList, cells_of}
+use Rattle.file_store.specs.Store.{Contents}
+use Rattle.sorted_file.specs.Opened.{HasFile, IsOpen, OneListing, OpenIsThere, listed, name_of}
+use Rattle.sorted_file.specs.declared.opened.SortedFile.{SortedFile}
+use Rattle.compaction.specs.OrderLaws.{same_key, total}
+use Rattle.tablet.specs.Ranges.{has_row, is_after, is_up_to}
+use Rattle.tablet.specs.Views.{AreParts, Holds, IsBelow, IsPart, Keeps, cells_at, files_of, lists_of, memory_of, names_of, range_of}
+use Rattle.tablet.specs.declared.ranges.RowRange.{RowRange}
+use Rattle.tablet.specs.declared.tablet.Tablet.{Tablet}
+use Rattle.tablet.proofs.Making.{held_lists}
+use Rattle.tablet.proofs.Seen.{shown}
+use Rattle.tablet.proofs.Showing.{part_of}
+
+-- ---- rows
+
+both_true : (p q : Bool) → (p && q) ≡ true → (p ≡ true) × (q ≡ true)
+both_true true q e = (refl, e)
+both_true false q e = cc
+
+and_true : (p q : Bool) → p ≡ true → q ≡ true → (p && q) ≡ true
+and_true true q e f = f
+and_true false q e f = cc
+
+less_of : (o : Ordering) → is_lt o ≡ true → o ≡ Less
+less_of Less e = refl
+less_of Equal e = cc
+less_of Greater e = cc
+
+le_cases : (o : Ordering) → is_le o ≡ true → (o ≡ Less) ⊎ (o ≡ Equal)
+le_cases Less e = inl refl
+le_cases Equal e = inr refl
+le_cases Greater e = cc
+
+below_all : (x row end : List ℕ) → (byte_cmp x row ≡ Less) ⊎ (byte_cmp x row ≡ Equal) → (byte_cmp row end ≡ Less) ⊎ (byte_cmp row end ≡ Equal) → is_le (byte_cmp x end) ≡ true
+below_all x row end (inl a) (inl b) = ap is_le (total.trans x row end a b)
+below_all x row end (inl a) (inr b) = ap (λ (r : List ℕ). is_le (byte_cmp x r)) (sym (same_key row end b)) ∙ ap is_le a
+below_all x row end (inr a) (inl b) = ap is_le (total.congr x row end a ∙ b)
+below_all x row end (inr a) (inr b) = ap is_le (total.congr x row end a ∙ b)
+
+up_to_more : (end : Option (List ℕ)) (row x : List ℕ) → is_up_to end row ≡ true → is_up_to (Some row) x ≡ true → is_up_to end x ≡ true
+up_to_more None row x e f = refl
+up_to_more (Some end) row x e f = below_all x row end (le_cases (byte_cmp x row) f) (le_cases (byte_cmp row end) e)
+
+after_more : (before : Option (List ℕ)) (row x : List ℕ) → is_after before row ≡ true → is_after (Some row) x ≡ true → is_after before x ≡ true
+after_more None row x e f = refl
+after_more (Some before) row x e f = ap is_lt (total.trans before row x (less_of (byte_cmp before row) e) (less_of (byte_cmp row x) f))
+
+-- the parts of a range at a row lie in it
+pub left_inside : (range : RowRange) (row : List ℕ) → has_row range row ≡ true → (x : List ℕ) → has_row record { after = range.after; end = Some row } x ≡ true → has_row range x ≡ true
+left_inside range row e x f =
+    let whole = both_true (is_after range.after row) (is_up_to range.end row) e in
+    let part = both_true (is_after range.after x) (is_up_to (Some row) x) f in
+    and_true (is_after range.after x) (is_up_to range.end x) part.0 (up_to_more range.end row x whole.1 part.1)
+
+pub right_inside : (range : RowRange) (row : List ℕ) → has_row range row ≡ true → (x : List ℕ) → has_row record { after = Some row; end = range.end } x ≡ true → has_row range x ≡ true
+right_inside range row e x f =
+    let whole = both_true (is_after range.after row) (is_up_to range.end row) e in
+    let part = both_true (is_after (Some row) x) (is_up_to range.end x) f in
+    and_true (is_after range.after x) (is_up_to range.end x) (after_more range.after row x whole.0 part.0) part.1
+
+-- ---- files
+
+same_names : OneListing → (n : Contents) (fs gs : List SortedFile) → AllByRecursion (IsOpen n) fs → AllByRecursion (IsOpen n) gs → map name_of fs ≡ map name_of gs → map (listed n) fs ≡ map (listed n) gs
+same_names law n [] [] a b e = refl
+same_names law n [] (g ∷ gs) a b e = cc
+same_names law n (f ∷ fs) [] a b e = cc
+same_names law n (f ∷ fs) (g ∷ gs) a b e =
+    let first : name_of f ≡ name_of g = cc in
+    let rest : map name_of fs ≡ map name_of gs = cc in
+    λ i. law n f g a.0 b.0 first i ∷ same_names law n fs gs a.1 b.1 rest i
+
+files_there : OpenIsThere → (n : Contents) (fs : List SortedFile) → AllByRecursion (IsOpen n) fs → AllByRecursion (HasFile n) (map name_of fs)
+files_there law n [] h = tt
+files_there law n (f ∷ fs) h = (law n f h.0, files_there law n fs h.1)
+
+-- ---- the parts
+
+-- a tablet of the same lists as one that has the cells of a whole, with a range inside that of the whole
+one_part : (m n : Contents) (whole middle part : Tablet) → Holds n middle → range_of middle ≡ range_of whole → cells_at n middle ≡ cells_at m whole → lists_of n part ≡ lists_of n middle → ((x : List ℕ) → has_row (range_of part) x ≡ true → has_row (range_of whole) x ≡ true) → IsPart (range_of part) (cells_at m whole) (cells_at n part)
+one_part m n whole middle part h range cells lists inside = λ key.
+    (λ i. get (cells_of (shown (range_of part) (lists i))) key)
+    ∙ part_of (range_of whole) (range_of part) (lists_of n middle) (held_lists n middle h) inside key
+    ∙ (λ i. cond (has_row (range_of part) key.row) (get (((λ j. cells_of (shown (sym range j) (lists_of n middle))) ∙ cells) i) key) None)
+
+-- what a split makes of a tablet after its minor compaction
+pub record IsSplit (whole middle left right : Tablet) (row : List ℕ) : Type 0 where
+  pub range : range_of middle ≡ range_of whole
+  pub left_range : range_of left ≡ record { after = (range_of whole).after; end = Some row }
+  pub right_range : range_of right ≡ record { after = Some row; end = (range_of whole).end }
+  pub left_memory : memory_of left ≡ memory_of middle
+  pub right_memory : memory_of right ≡ memory_of middle
+  pub left_names : names_of left ≡ names_of middle
+  pub right_files : files_of right ≡ files_of middle
+
+parts_of : OneListing → (m n : Contents) (after : ℕ) (whole middle left right : Tablet) (row : List ℕ) → IsSplit whole middle left right row → has_row (range_of whole) row ≡ true → Holds n left → Holds n middle → IsBelow after middle → cells_at n middle ≡ cells_at m whole → AreParts m whole n after left right
+parts_of law m n after whole middle left right row is inside left_holds h below cells =
+    let files = same_names law n (files_of left) (files_of middle) left_holds.files h.files is.left_names in
+    let holds : Holds n right = record { memory = subst IsEntryList (sym is.right_memory) h.memory; files = subst (AllByRecursion (IsOpen n)) (sym is.right_files) h.files } in
+    record {
+      left_holds = left_holds;
+      right_holds = holds;
+      left_below = subst (AllByRecursion (λ name. name < after)) (sym is.left_names) below;
+      right_below = subst (λ (fs : List SortedFile). AllByRecursion (λ name. name < after) (map name_of fs)) (sym is.right_files) below;
+      left_cells = one_part m n whole middle left h is.range cells (λ i. is.left_memory i ∷ files i)
+          (λ x e. left_inside (range_of whole) row inside x ((λ i. has_row (sym is.left_range i) x) ∙ e));
+      right_cells = one_part m n whole middle right h is.range cells (λ i. is.right_memory i ∷ map (listed n) (is.right_files i))
+          (λ x e. right_inside (range_of whole) row inside x ((λ i. has_row (sym is.right_range i) x) ∙ e));
+    }
+
+pub splits : OneListing → (old mid new : Option Contents) (next after : ℕ) (whole middle left right : Tablet) (row : List ℕ) → IsSplit whole middle left right row → Keeps old next whole mid after middle → IfSome mid (λ n. Holds n left) → new ≡ mid
+    → IfSome old (λ m. Holds m whole → IsBelow next whole → IsTrue (has_row (range_of whole) row) → IsSomeAnd new (λ n. AreParts m whole n after left right))
+splits law None mid new next after whole middle left right row is keeps holds same = tt
+splits law (Some m) None new next after whole middle left right row is keeps holds same = λ h below inside. absurd (keeps h below)
+splits law (Some m) (Some n) new next after whole middle left right row is keeps holds same = λ h below inside.
+    let kept = keeps h below in
+    subst (λ (o : Option Contents). IsSomeAnd o (λ n. AreParts m whole n after left right)) (sym same) (parts_of law m n after whole middle left right row is inside holds kept.0 kept.1 kept.2)
+
+-- after a minor compaction the files of a tablet are there
+pub still_there : OpenIsThere → (old mid : Option Contents) (next after : ℕ) (whole middle : Tablet) (names : List ℕ) → names ≡ names_of middle → Keeps old next whole mid after middle → IfSome mid (λ n. ¬ (AllByRecursion (HasFile n) names)) → IfSome old (λ m. Holds m whole → ¬ (IsBelow next whole))
+still_there law None mid next after whole middle names are keeps missing = tt
+still_there law (Some m) None next after whole middle names are keeps missing = λ h below. keeps h below
+still_there law (Some m) (Some n) next after whole middle names are keeps missing = λ h below. missing (subst (AllByRecursion (HasFile n)) (sym are) (files_there law n (files_of middle) (keeps h below).0.files))

@@ -1,0 +1,15 @@
+use Rattle.std.proofs.Common.{arith}
+use Rattle.std.specs.Option.{option_copied}
+use Rattle.tablet.proofs.Gathering.{first_gathered, one_gathered, all_gathered}
+use Rattle.tablet.proofs.sources.sources.Goals as goal
+
+pub loop-file-init : goal.loop-file-init
+loop-file-init g c = first_gathered c.args.from.now (option_copied c.args.end) (option_copied c.args.memtable) c.args.files.now c.in_ok-sources.sources.items c.in_ok-sources.ensures.start c.in_ok-sources.ensures.lists
+
+pub loop-file-preserved : goal.loop-file-preserved
+loop-file-preserved g c =
+    one_gathered c.args.from.now (option_copied c.args.end) (option_copied c.args.memtable) c.args.files.now c.loop-file.file-index c.loop-file.sources.items c.push.new.self.items c.file-item.result c.file_source-source.result
+    c.loop-file.invariant (omega arith) c.file-item.is c.file_source-source.ensures.start c.file_source-source.ensures.list c.in_ok-push.ensures.items
+
+pub returns-clause-lists : goal.returns-clause-lists
+returns-clause-lists g c = λ m opened. all_gathered c.args.from.now (option_copied c.args.end) (option_copied c.args.memtable) c.args.files.now c.loop-file.file-index c.loop-file.sources.items c.loop-file.invariant (omega arith) m opened

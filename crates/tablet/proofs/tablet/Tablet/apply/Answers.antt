@@ -1,0 +1,8 @@
+use Rattle.tablet.proofs.Making.{after_apply, holds_after_apply}
+use Rattle.tablet.proofs.tablet.Tablet.apply.Goals as goal
+
+pub returns-clause-ok : goal.returns-clause-ok
+returns-clause-ok c = after_apply c.apply.result c.args.row.now c.args.self.now c.apply.new.self c.args.edits.items c.requires c.apply.ensures.ok c.apply.ensures.keys
+
+pub returns-clause-still : goal.returns-clause-still
+returns-clause-still c = holds_after_apply c.apply.result c.args.row.now c.args.self.now c.apply.new.self c.args.edits.items c.requires c.apply.ensures.ok c.apply.ensures.keys

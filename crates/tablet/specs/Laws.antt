@@ -1,0 +1,31 @@
+-- Laws of tablets.
+use Rattle.std.specs.Prelude.{◌≡◌, ℕ, Some, None, false}
+use Rattle.std.specs.List.{AllByRecursion}
+use Rattle.std.specs.FinMap.{get}
+use Rattle.cell_key.specs.Entries.{IsEntryList}
+use Rattle.cell_key.specs.declared.keys.CellKey.{CellKey}
+use Rattle.file_store.specs.Store.{Contents}
+use Rattle.sorted_file.specs.Opened.{HasFile}
+use Rattle.tablet.specs.Ranges.{has_row}
+use Rattle.tablet.specs.Views.{range_of, memory_of, names_of, view_of, cells_at, Holds, IsBelow, UsesName}
+use Rattle.tablet.specs.declared.tablet.Tablet.{Tablet}
+
+-- A tablet shows an entry list, and no cell outside its range.
+abbrev pub StaysInRange : Type 0
+StaysInRange = (m : Contents) (t : Tablet) → Holds m t → IsEntryList (view_of m t) × ((key : CellKey) → has_row (range_of t) key.row ≡ false → get (cells_at m t) key ≡ None)
+
+-- A file under a name that no tablet's file has had changes nothing for a tablet.
+abbrev pub OthersStay : Type 0
+OthersStay = (m n : Contents) (before after : ℕ) (t : Tablet) → UsesName (Some m) before (Some n) after → Holds m t → IsBelow before t → Holds n t × IsBelow after t × (cells_at n t ≡ cells_at m t)
+
+-- While the bytes under the names of its files stay, nothing changes for a tablet, whatever else is removed or written.
+abbrev pub UnnamedMayGo : Type 0
+UnnamedMayGo = (m n : Contents) (t : Tablet) → Holds m t → AllByRecursion (λ name. get n name ≡ get m name) (names_of t) → Holds n t × (cells_at n t ≡ cells_at m t)
+
+-- Tablets of one range and one memtable, whose files have the same names, have the same cells.
+abbrev pub SameCells : Type 0
+SameCells = (m : Contents) (t u : Tablet) → Holds m t → Holds m u → range_of t ≡ range_of u → memory_of t ≡ memory_of u → names_of t ≡ names_of u → cells_at m t ≡ cells_at m u
+
+-- The files of a tablet are there.
+abbrev pub FilesAreThere : Type 0
+FilesAreThere = (m : Contents) (t : Tablet) → Holds m t → AllByRecursion (HasFile m) (names_of t)

@@ -1,0 +1,9 @@
+pub mod Compactions
+pub mod Laws
+pub mod Ranges
+pub mod Reads
+pub mod Sources
+pub mod Views
+pub use Rattle.cell_key.specs.Cells
+pub use Rattle.cell_key.specs.Entries
+pub use Rattle.sorted_file.specs.Opened

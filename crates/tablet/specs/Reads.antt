@@ -1,0 +1,60 @@
+-- What a read finds.
+use Rattle.std.specs.Prelude.{ℕ, ◌≤◌, length, List, [], ◌∷◌, Option, Some, None, if◌then◌else◌}
+use Rattle.std.specs.declared.vec.Vec.{Vec}
+use Rattle.std.specs.Ordering.{is_le}
+use Rattle.cell_key.specs.Names.{IsRow, IsFamily}
+use Rattle.cell_key.specs.Keys.{byte_cmp, text, IsStored}
+use Rattle.cell_key.specs.Cells.{version}
+use Rattle.cell_key.specs.Entries.{Entry}
+use Rattle.cell_key.specs.Places.{Place}
+use Rattle.cell_key.specs.declared.keys.CellKey.{CellKey}
+use Rattle.cell_key.specs.declared.keys.Qualifier.TheVariants.{Write}
+use Rattle.tablet.specs.Ranges.{lower_fence}
+use Rattle.tablet.specs.declared.ranges.RowRange.{RowRange}
+
+-- the first value of entries, with its text
+abbrev pub first_value : List Entry → Option (List ℕ × List ℕ)
+first_value [] = None
+first_value ((name, None) ∷ es) = first_value es
+first_value ((name, Some value) ∷ es) = Some (name, value)
+
+-- the value of an entry that may be there, with its text
+abbrev pub lent_value : Option Entry → Option (List ℕ × List ℕ)
+lent_value None = None
+lent_value (Some (name, None)) = None
+lent_value (Some (name, Some value)) = Some (name, value)
+
+-- the text of a key, and the bytes of its value
+abbrev pub texted : {Z : Type 0} → CellKey × Vec ℕ Z → List ℕ × List ℕ
+texted found = (text found.0, found.1.items)
+
+-- what a value keeps to
+abbrev pub IsShort : List ℕ → Type 0
+IsShort bytes = length bytes ≤ 65536
+
+-- a key and a value within the limits
+pub record IsFound (key : CellKey) (bytes : List ℕ) : Type 0 where
+  pub stored : IsStored key
+  pub value : length bytes ≤ 65536
+
+-- the later of two texts
+abbrev pub later : List ℕ → List ℕ → List ℕ
+later a b = if is_le (byte_cmp a b) then b else a
+
+-- what comes after the texts of a place and before those of later places, or before all texts
+abbrev pub past_place : Option Place → List ℕ
+past_place None = []
+past_place (Some place) = text (version place.0 place.1 Write 0)
+
+-- from where the cells of a range after a place are looked for
+abbrev pub start_of : RowRange → Option Place → List ℕ
+start_of range after = later (lower_fence range) (past_place after)
+
+-- a place within the limits
+pub record IsPlace (place : Place) : Type 0 where
+  pub row : IsRow place.0
+  pub family : IsFamily place.1
+
+abbrev pub IsPlaceOrNone : Option Place → Type 0
+IsPlaceOrNone None = Unit {0}
+IsPlaceOrNone (Some place) = IsPlace place

@@ -1,0 +1,31 @@
+-- The lists that a tablet reads, and parts of them.
+use Rattle.std.specs.Prelude.{◌≡◌, ℕ, List, ◌++◌, map, Option, None}
+use Rattle.std.specs.Option.{option_to_list}
+use Rattle.cell_key.specs.Entries.{Entry, entries_from, merged}
+use Rattle.file_store.specs.Store.{Contents}
+use Rattle.sorted_file.specs.Opened.{listed}
+use Rattle.sorted_file.specs.declared.opened.SortedFile.{SortedFile}
+use Rattle.compaction.specs.Ends.{entries_until, lent_until, source_of, end_of}
+use Rattle.compaction.specs.Inputs.{InputHolds, input_lent, input_remaining}
+use Rattle.compaction.specs.declared.input.Input.{Input}
+use Rattle.compaction.specs.declared.until.Until.{Until}
+
+-- the entries from a text on, and below another one if there is one
+abbrev pub entries_between : List ℕ → Option (List ℕ) → List Entry → List Entry
+entries_between from end es = entries_until end (entries_from from es)
+
+-- the list of a memtable, if there is one, and those of files
+abbrev pub lists_over : Contents → Option (List Entry) → List SortedFile → List (List Entry)
+lists_over m memtable files = option_to_list memtable ++ map (listed m) files
+
+-- what lists mean together from a text on, and below another one if there is one
+abbrev pub part : List ℕ → Option (List ℕ) → List (List Entry) → List Entry
+part from end lists = merged (map (entries_between from end) lists)
+
+-- a source is before its first entry
+abbrev pub IsAtStart : Until Input → Type 0
+IsAtStart s = InputHolds (source_of s) × (lent_until (end_of s) (input_lent (source_of s)) ≡ None)
+
+-- the entries that it has
+abbrev pub remaining_of : Until Input → List Entry
+remaining_of s = entries_until (end_of s) (input_remaining (source_of s))

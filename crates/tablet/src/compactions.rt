@@ -1,0 +1,314 @@
+//! Compactions (Bigtable, tablet serving): what stands in several places is written as one file. Room is made
+//! and the file is written and opened before the tablet changes. The calls of laws of lower crates, as
+//! `stays_open()`, do nothing: what is ensured here rests on them.
+
+ghost use Rattle.std.specs.Prelude.{◌≡◌, ◌≢◌, ◌≤◌, ◌<◌, ◌+◌, ◌^◌, ◌∷◌, ◌↔◌, [], length, map, drop, take, false, nat_lt, option_map, vec_len, IfOk, IfErr, OnOk, OnErr, IfSome, IsSomeAnd, IsErrOf};
+ghost use Rattle.std.specs.Option.{option_copied};
+ghost use Rattle.std.specs.List.{AllByRecursion};
+ghost use Rattle.file_store.specs.Store.{Contents, KeepsOthers};
+ghost use Rattle.sorted_file.specs.Grammar.{FitsIn};
+ghost use Rattle.sorted_file.specs.Opened.{IsOpen, listed, name_of};
+ghost use Rattle.sorted_file.specs.Sources.{HasReason};
+ghost use Rattle.compaction.specs.Merging.{AreAtStart};
+ghost use Rattle.compaction.specs.Writing.{written};
+ghost use Rattle.tablet.specs.Ranges.{seen};
+ghost use Rattle.tablet.specs.Sources.{lists_over};
+ghost use Rattle.tablet.specs.Views.{range_of, memory_of, files_of, names_of, Holds, IsUnchanged, UsesName, Keeps, MakesLists, flushed, with_name};
+ghost use Rattle.tablet.specs.Compactions.{IsNewFile, IsWithin, IsCompactionRefusal, IsMinorRefusal, IsMergeRefusal, compacted, inputs_of, keeps_erasures};
+
+use crate::sources::{fences, sources};
+use crate::tablet::Tablet;
+use cell_key::Refusal;
+use compaction::{keeps_one_list, merge_into, names_first, writes_entry_lists};
+use file_store::Files;
+use memtable::Memtable;
+use sorted_file::{SortedFile, Source, stays_open, written_is_listed, written_is_there};
+use std::alloc::Global;
+
+/// The greatest name of a file.
+const MOST_NAME: u64 = 9_223_372_036_854_775_807;
+
+/// What a compaction writes.
+#[derive(Clone, Copy)]
+pub(crate) enum Compaction {
+    /// The memtable.
+    Minor,
+    /// This many of the newest files.
+    Merge(usize),
+    /// The memtable and all files.
+    Major,
+}
+
+/// The next name of a file, which is not used again.
+fn take_name(next_name: &mut u64) -> Result<u64, Refusal>
+    ensures name { IfOk result (λ name. name ≡ next_name.old) }
+    ensures used { OnOk result (next_name.new ≡ next_name.old + 1) }
+    ensures left { OnOk result (next_name.old < 2 ^ 63) }
+    ensures err { OnErr result (next_name.new ≡ next_name.old) }
+    ensures refusal { IfErr result (λ refusal. refusal ≡ Refusal.Exhausted) }
+    ensures exhausted { OnErr result (2 ^ 63 ≤ next_name.old) }
+{
+    let name = *next_name;
+    if name > MOST_NAME {
+        return Err(Refusal::Exhausted);
+    }
+    *next_name += 1;
+    Ok(name)
+}
+
+/// The bytes that there may be, lent.
+fn lend(bytes: &Option<Vec<u8>>) -> Option<&[u8]>
+    ensures { option_copied result ≡ option_map (λ bytes. bytes.items) bytes.now }
+{
+    match bytes {
+        Some(bytes) => Some(bytes.as_slice()),
+        None => None,
+    }
+}
+
+/// Writes what sources mean together as a file of the next name, and opens it.
+fn write_new<F: Files, S: Source<F> + Drop>(
+    alloc: Global,
+    sources: Vec<S>,
+    keep_erasures: bool,
+    file_limit: u64,
+    next_name: &mut u64,
+    files: &mut F,
+) -> Result<SortedFile, Refusal>
+    requires least { 32 ≤ file_limit }
+    requires most { file_limit ≤ 1_073_741_824 }
+    ensures named { IfOk result (λ file. name_of file ≡ next_name.old) }
+    ensures made { IfOk result (λ file. IfSome (F.contents files.old) (λ m. AreAtStart S.lent (S.holds m) sources.items → IsSomeAnd (F.contents files.new) (λ n. IsNewFile n file (written keep_erasures (map (S.remaining m) sources.items))))) }
+    ensures used { OnOk result (next_name.new ≡ next_name.old + 1) }
+    ensures others { OnOk result (KeepsOthers next_name.old (F.contents files.old) (F.contents files.new)) }
+    ensures name { UsesName (F.contents files.old) next_name.old (F.contents files.new) next_name.new }
+    ensures limit { next_name.old ≤ 2 ^ 63 → next_name.new ≤ 2 ^ 63 }
+    ensures left { OnOk result (next_name.old < 2 ^ 63) }
+    ensures exhausted { IsErrOf result Refusal.Exhausted → 2 ^ 63 ≤ next_name.old }
+    ensures large { IsErrOf result Refusal.FileTooLarge → IfSome (F.contents files.old) (λ m. AreAtStart S.lent (S.holds m) sources.items → ¬ FitsIn file_limit (written keep_erasures (map (S.remaining m) sources.items))) }
+    ensures fits { OnOk result (IfSome (F.contents files.old) (λ m. AreAtStart S.lent (S.holds m) sources.items → FitsIn file_limit (written keep_erasures (map (S.remaining m) sources.items)))) }
+    ensures damaged { IsErrOf result Refusal.Damaged → IfSome (F.contents files.old) (λ m. ¬ AreAtStart S.lent (S.holds m) sources.items) }
+    ensures refusal { IfErr result IsCompactionRefusal }
+    ensures reason { HasReason (F.faults files.old) (F.faults files.new) result }
+{
+    writes_entry_lists();
+    written_is_there();
+    written_is_listed();
+    let name = take_name(next_name)?;
+    merge_into(alloc, sources, keep_erasures, name, file_limit, files)?;
+    SortedFile::open(alloc, name, files)
+}
+
+/// Puts a file in the place of the first `count` ones.
+fn replace_newest(files: &mut Vec<SortedFile>, count: usize, file: SortedFile)
+    requires some { 1 ≤ count }
+    requires within { count ≤ vec_len files.old }
+    ensures { files.new.items ≡ file ∷ drop count files.old.items }
+{
+    'newest: for _ in 0..count - 1 {
+        let _ = files.remove(0);
+    }
+    files[0] = file;
+}
+
+impl Tablet {
+    /// The memtable, if a compaction writes it, and the files that it writes.
+    fn inputs(&self, compaction: Compaction) -> (Option<&Memtable>, &[SortedFile])
+        requires { IsWithin compaction (length (files_of self.now)) }
+        ensures lists { (m : Contents) → lists_over m (option_copied result.0) result.1.now ≡ inputs_of compaction (memory_of self.now) (map (listed m) (files_of self.now)) }
+        ensures open { (m : Contents) → AllByRecursion (IsOpen m) (files_of self.now) → AllByRecursion (IsOpen m) result.1.now }
+    {
+        match compaction {
+            Compaction::Minor => (Some(&self.memtable), &[]),
+            Compaction::Merge(count) => (None, &self.files[..count]),
+            Compaction::Major => (Some(&self.memtable), &self.files),
+        }
+    }
+
+    /// Whether a compaction keeps erasures.
+    fn keeps_erasures(&self, compaction: Compaction) -> bool
+        ensures { result ≡ keeps_erasures compaction (length (files_of self.now)) }
+    {
+        match compaction {
+            Compaction::Minor => true,
+            Compaction::Merge(count) => count < self.files.len(),
+            Compaction::Major => false,
+        }
+    }
+
+    /// Writes what a compaction writes as a file of the next name, and opens it. Keys of the range alone are
+    /// written.
+    fn write<F: Files>(
+        &self,
+        compaction: Compaction,
+        file_limit: u64,
+        next_name: &mut u64,
+        files: &mut F,
+    ) -> Result<SortedFile, Refusal>
+        requires least { 32 ≤ file_limit }
+        requires most { file_limit ≤ 1_073_741_824 }
+        requires within { IsWithin compaction (length (files_of self.now)) }
+        ensures named { IfOk result (λ file. name_of file ≡ next_name.old) }
+        ensures made { IfOk result (λ file. IfSome (F.contents files.old) (λ m. Holds m self.now → IsSomeAnd (F.contents files.new) (λ n. IsNewFile n file (compacted compaction (range_of self.now) (memory_of self.now) (map (listed m) (files_of self.now)))))) }
+        ensures used { OnOk result (next_name.new ≡ next_name.old + 1) }
+        ensures others { OnOk result (KeepsOthers next_name.old (F.contents files.old) (F.contents files.new)) }
+        ensures name { UsesName (F.contents files.old) next_name.old (F.contents files.new) next_name.new }
+        ensures limit { next_name.old ≤ 2 ^ 63 → next_name.new ≤ 2 ^ 63 }
+        ensures left { OnOk result (next_name.old < 2 ^ 63) }
+        ensures exhausted { IsErrOf result Refusal.Exhausted → 2 ^ 63 ≤ next_name.old }
+        ensures large { IsErrOf result Refusal.FileTooLarge → IfSome (F.contents files.old) (λ m. Holds m self.now → ¬ FitsIn file_limit (compacted compaction (range_of self.now) (memory_of self.now) (map (listed m) (files_of self.now)))) }
+        ensures fits { OnOk result (IfSome (F.contents files.old) (λ m. Holds m self.now → FitsIn file_limit (compacted compaction (range_of self.now) (memory_of self.now) (map (listed m) (files_of self.now))))) }
+        ensures damaged { IsErrOf result Refusal.Damaged → IfSome (F.contents files.old) (λ m. ¬ Holds m self.now) }
+        ensures refusal { IfErr result IsCompactionRefusal }
+        ensures reason { HasReason (F.faults files.old) (F.faults files.new) result }
+    {
+        let (from, end) = fences(self.alloc, &self.range)?;
+        let end = lend(&end);
+        let (memtable, old) = self.inputs(compaction);
+        let sources = sources::<F>(self.alloc, memtable, old, &from, end)?;
+        let keep_erasures = self.keeps_erasures(compaction);
+        write_new(
+            self.alloc,
+            sources,
+            keep_erasures,
+            file_limit,
+            next_name,
+            files,
+        )
+    }
+
+    /// Writes the memtable as a new file (Bigtable, minor compaction). Where it is empty nothing is written.
+    ///
+    /// # Errors
+    ///
+    /// `TooManyFiles` where there are 64 files already, `FileTooLarge`, `Exhausted` where no name is left,
+    /// `Device`, `NoMemory`, and `Damaged` only where a file is no longer what was opened. The tablet is then
+    /// as before.
+    pub fn minor<F: Files>(
+        &mut self,
+        file_limit: u64,
+        next_name: &mut u64,
+        files: &mut F,
+    ) -> Result<(), Refusal>
+        requires least { 32 ≤ file_limit }
+        requires most { file_limit ≤ 1_073_741_824 }
+        ensures names { OnOk result (names_of self.new ≡ with_name next_name.old (memory_of self.old) (names_of self.old)) }
+        ensures memory { OnOk result (memory_of self.new ≡ []) }
+        ensures lists { OnOk result (MakesLists (F.contents files.old) next_name.old self.old (F.contents files.new) self.new (λ memory lists. [] ∷ flushed (range_of self.old) memory lists)) }
+        ensures keeps { Keeps (F.contents files.old) next_name.old self.old (F.contents files.new) next_name.new self.new }
+        ensures empty { OnOk result (memory_of self.old ≡ [] → IsUnchanged self.old self.new × ((next_name.new ≡ next_name.old) × (F.contents files.new ≡ F.contents files.old))) }
+        ensures range { range_of self.new ≡ range_of self.old }
+        ensures err { OnErr result (IsUnchanged self.old self.new) }
+        ensures name { UsesName (F.contents files.old) next_name.old (F.contents files.new) next_name.new }
+        ensures limit { next_name.old ≤ 2 ^ 63 → next_name.new ≤ 2 ^ 63 }
+        ensures full { IsErrOf result Refusal.TooManyFiles → (memory_of self.old ≢ []) × (64 ≤ length (names_of self.old)) }
+        ensures room { OnOk result (memory_of self.old ≢ [] → length (names_of self.old) < 64) }
+        ensures exhausted { IsErrOf result Refusal.Exhausted → (memory_of self.old ≢ []) × (2 ^ 63 ≤ next_name.old) }
+        ensures left { OnOk result (memory_of self.old ≢ [] → next_name.old < 2 ^ 63) }
+        ensures large { IsErrOf result Refusal.FileTooLarge → (memory_of self.old ≢ []) × IfSome (F.contents files.old) (λ m. Holds m self.old → ¬ FitsIn file_limit (seen (range_of self.old) (memory_of self.old))) }
+        ensures fits { OnOk result (memory_of self.old ≢ [] → IfSome (F.contents files.old) (λ m. Holds m self.old → FitsIn file_limit (seen (range_of self.old) (memory_of self.old)))) }
+        ensures damaged { IsErrOf result Refusal.Damaged → IfSome (F.contents files.old) (λ m. ¬ Holds m self.old) }
+        ensures refusal { IfErr result IsMinorRefusal }
+        ensures reason { HasReason (F.faults files.old) (F.faults files.new) result }
+    {
+        stays_open();
+        keeps_one_list();
+        if self.memtable.is_empty() {
+            return Ok(());
+        }
+        if self.files.len() >= Tablet::MOST_FILES {
+            return Err(Refusal::TooManyFiles);
+        }
+        self.files.reserve(1)?;
+        let file = self.write(Compaction::Minor, file_limit, next_name, files)?;
+        self.files.insert(0, file).unwrap();
+        self.memtable = Memtable::new(self.alloc);
+        Ok(())
+    }
+
+    /// Writes the newest `count` files as one at their place (Bigtable, merging compaction). Erasures are kept
+    /// unless `count` is all files.
+    ///
+    /// # Errors
+    ///
+    /// `BadCount` exactly where `count` is below 2 or above the number of files, `FileTooLarge`, `Exhausted`
+    /// where no name is left, `Device`, `NoMemory`, and `Damaged` only where a file is no longer what was
+    /// opened. The tablet is then as before.
+    pub fn merge<F: Files>(
+        &mut self,
+        count: u32,
+        file_limit: u64,
+        next_name: &mut u64,
+        files: &mut F,
+    ) -> Result<(), Refusal>
+        requires least { 32 ≤ file_limit }
+        requires most { file_limit ≤ 1_073_741_824 }
+        ensures names { OnOk result (names_of self.new ≡ next_name.old ∷ drop count (names_of self.old)) }
+        ensures memory { memory_of self.new ≡ memory_of self.old }
+        ensures lists { OnOk result (MakesLists (F.contents files.old) next_name.old self.old (F.contents files.new) self.new (λ memory lists. memory ∷ written (nat_lt count (length lists)) (map (seen (range_of self.old)) (take count lists)) ∷ drop count lists)) }
+        ensures keeps { Keeps (F.contents files.old) next_name.old self.old (F.contents files.new) next_name.new self.new }
+        ensures range { range_of self.new ≡ range_of self.old }
+        ensures err { OnErr result (IsUnchanged self.old self.new) }
+        ensures name { UsesName (F.contents files.old) next_name.old (F.contents files.new) next_name.new }
+        ensures limit { next_name.old ≤ 2 ^ 63 → next_name.new ≤ 2 ^ 63 }
+        ensures count { IsErrOf result Refusal.BadCount ↔ ¬ ((2 ≤ count) × (count ≤ length (names_of self.old))) }
+        ensures exhausted { IsErrOf result Refusal.Exhausted → 2 ^ 63 ≤ next_name.old }
+        ensures left { OnOk result (next_name.old < 2 ^ 63) }
+        ensures large { IsErrOf result Refusal.FileTooLarge → IfSome (F.contents files.old) (λ m. Holds m self.old → ¬ FitsIn file_limit (written (nat_lt count (length (names_of self.old))) (map (seen (range_of self.old)) (take count (map (listed m) (files_of self.old)))))) }
+        ensures fits { OnOk result (IfSome (F.contents files.old) (λ m. Holds m self.old → FitsIn file_limit (written (nat_lt count (length (names_of self.old))) (map (seen (range_of self.old)) (take count (map (listed m) (files_of self.old))))))) }
+        ensures damaged { IsErrOf result Refusal.Damaged → IfSome (F.contents files.old) (λ m. ¬ Holds m self.old) }
+        ensures refusal { IfErr result IsMergeRefusal }
+        ensures reason { HasReason (F.faults files.old) (F.faults files.new) result }
+    {
+        stays_open();
+        names_first();
+        let count = count as usize;
+        if count < 2 || count > self.files.len() {
+            return Err(Refusal::BadCount);
+        }
+        let file = self.write(Compaction::Merge(count), file_limit, next_name, files)?;
+        replace_newest(&mut self.files, count, file);
+        Ok(())
+    }
+
+    /// Writes the memtable and all files as exactly one file without erasures (Bigtable, major compaction),
+    /// also where there is nothing.
+    ///
+    /// # Errors
+    ///
+    /// `FileTooLarge`, `Exhausted` where no name is left, `Device`, `NoMemory`, and `Damaged` only where a file
+    /// is no longer what was opened. The tablet is then as before.
+    pub fn major<F: Files>(
+        &mut self,
+        file_limit: u64,
+        next_name: &mut u64,
+        files: &mut F,
+    ) -> Result<(), Refusal>
+        requires least { 32 ≤ file_limit }
+        requires most { file_limit ≤ 1_073_741_824 }
+        ensures names { OnOk result (names_of self.new ≡ next_name.old ∷ []) }
+        ensures memory { OnOk result (memory_of self.new ≡ []) }
+        ensures lists { OnOk result (MakesLists (F.contents files.old) next_name.old self.old (F.contents files.new) self.new (λ memory lists. [] ∷ written false (map (seen (range_of self.old)) (memory ∷ lists)) ∷ [])) }
+        ensures keeps { Keeps (F.contents files.old) next_name.old self.old (F.contents files.new) next_name.new self.new }
+        ensures range { range_of self.new ≡ range_of self.old }
+        ensures err { OnErr result (IsUnchanged self.old self.new) }
+        ensures name { UsesName (F.contents files.old) next_name.old (F.contents files.new) next_name.new }
+        ensures limit { next_name.old ≤ 2 ^ 63 → next_name.new ≤ 2 ^ 63 }
+        ensures exhausted { IsErrOf result Refusal.Exhausted → 2 ^ 63 ≤ next_name.old }
+        ensures left { OnOk result (next_name.old < 2 ^ 63) }
+        ensures large { IsErrOf result Refusal.FileTooLarge → IfSome (F.contents files.old) (λ m. Holds m self.old → ¬ FitsIn file_limit (written false (map (seen (range_of self.old)) (memory_of self.old ∷ map (listed m) (files_of self.old))))) }
+        ensures fits { OnOk result (IfSome (F.contents files.old) (λ m. Holds m self.old → FitsIn file_limit (written false (map (seen (range_of self.old)) (memory_of self.old ∷ map (listed m) (files_of self.old)))))) }
+        ensures damaged { IsErrOf result Refusal.Damaged → IfSome (F.contents files.old) (λ m. ¬ Holds m self.old) }
+        ensures refusal { IfErr result IsCompactionRefusal }
+        ensures reason { HasReason (F.faults files.old) (F.faults files.new) result }
+    {
+        stays_open();
+        names_first();
+        self.files.reserve(1)?;
+        let file = self.write(Compaction::Major, file_limit, next_name, files)?;
+        self.files.clear();
+        self.files.push(file).unwrap();
+        self.memtable = Memtable::new(self.alloc);
+        Ok(())
+    }
+}

@@ -1,0 +1,38 @@
+//! Laws of tablets. Each is the contract of a function that does nothing.
+
+ghost use Rattle.tablet.specs.Laws.{StaysInRange, OthersStay, UnnamedMayGo, SameCells, FilesAreThere};
+
+use sorted_file::{one_listing, open_is_there, stays_open};
+
+/// A tablet shows an entry list, and no cell outside its range.
+pub fn stays_in_range()
+    ensures { StaysInRange }
+{}
+
+/// A file under a name that no file of a tablet has changes nothing for the tablet.
+pub fn others_stay()
+    ensures { OthersStay }
+{
+    stays_open();
+}
+
+/// While the files of its names stay as they are, nothing changes for a tablet.
+pub fn unnamed_may_go()
+    ensures { UnnamedMayGo }
+{
+    stays_open();
+}
+
+/// Tablets of one range and one memtable, whose files have the same names, have the same cells.
+pub fn same_cells()
+    ensures { SameCells }
+{
+    one_listing();
+}
+
+/// The files of a tablet are there.
+pub fn files_are_there()
+    ensures { FilesAreThere }
+{
+    open_is_there();
+}

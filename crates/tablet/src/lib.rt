@@ -1,0 +1,19 @@
+//! Tablets: a range of rows, whose recent writes are in a memtable and the older ones in sorted files
+//! (Bigtable, tablet serving).
+#![tactic(auto)]
+
+mod compactions;
+mod laws;
+mod moving;
+mod ranges;
+mod reads;
+mod serving;
+mod sources;
+mod tablet;
+
+pub use laws::{files_are_there, others_stay, same_cells, stays_in_range, unnamed_may_go};
+pub use ranges::RowRange;
+pub use tablet::Tablet;
+
+#[cfg(test)]
+mod tests;

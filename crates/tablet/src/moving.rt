@@ -1,0 +1,146 @@
+//! Cutting a tablet in two, and moving it: after a minor compaction its files are all that it has, and they may
+//! be named by two tablets or opened by another server.
+
+ghost use Rattle.std.specs.Prelude.{◌≡◌, ◌≢◌, ◌≤◌, ◌<◌, ◌^◌, ◌∷◌, [], Some, length, IsTrue, IfOk, IfErr, OnOk, OnErr, IfSome, IsSomeAnd, IsErrOf};
+ghost use Rattle.std.specs.List.{AllByRecursion};
+ghost use Rattle.sorted_file.specs.Grammar.{FitsIn};
+ghost use Rattle.sorted_file.specs.Opened.{HasFile};
+ghost use Rattle.sorted_file.specs.Sources.{HasReason, IsReadRefusal};
+ghost use Rattle.tablet.specs.Ranges.{has_row, seen};
+ghost use Rattle.tablet.specs.Views.{range_of, memory_of, names_of, Holds, IsBelow, IsUnchanged, UsesName, Keeps, MakesLists, AreParts, flushed, with_name};
+ghost use Rattle.tablet.specs.Compactions.{IsMinorRefusal};
+
+use crate::ranges::RowRange;
+use crate::tablet::Tablet;
+use cell_key::{Refusal, Row};
+use file_store::Files;
+use memtable::Memtable;
+use sorted_file::{SortedFile, one_listing, open_is_there};
+use std::alloc::Global;
+
+impl Tablet {
+    /// Opens the files of these names, the newest first, as a tablet of a range with an empty memtable.
+    ///
+    /// # Errors
+    ///
+    /// `Device`, `NoMemory`, and `Damaged` only where a file is missing or is the file of no entry list.
+    pub fn load<F: Files>(
+        alloc: Global,
+        range: RowRange,
+        names: &[u64],
+        files: &mut F,
+    ) -> Result<Tablet, Refusal>
+        ensures range { IfOk result (λ t. range_of t ≡ range) }
+        ensures memory { IfOk result (λ t. memory_of t ≡ []) }
+        ensures names { IfOk result (λ t. names_of t ≡ names.now) }
+        ensures holds { IfOk result (λ t. IfSome (F.contents files.old) (λ m. Holds m t)) }
+        ensures damaged { IsErrOf result Refusal.Damaged → IfSome (F.contents files.old) (λ m. ¬ AllByRecursion (HasFile m) names.now) }
+        ensures refusal { IfErr result IsReadRefusal }
+        ensures same { F.contents files.new ≡ F.contents files.old }
+        ensures reason { HasReason (F.faults files.old) (F.faults files.new) result }
+    {
+        let mut open = Vec::new(alloc);
+        'names: for name in names {
+            let file = SortedFile::open(alloc, *name, files)?;
+            open.push(file)?;
+        }
+        Ok(Tablet {
+            alloc,
+            range,
+            memtable: Memtable::new(alloc),
+            files: open,
+        })
+    }
+
+    /// The names of the files, the newest first.
+    fn names(&self) -> Result<Vec<u64>, Refusal>
+        ensures names { IfOk result (λ names. names.items ≡ names_of self.now) }
+        ensures refusal { IfErr result (λ refusal. refusal ≡ Refusal.NoMemory) }
+    {
+        let mut names = Vec::new(self.alloc);
+        self.push_names(&mut names)?;
+        Ok(names)
+    }
+
+    /// A minor compaction, and then the names of the files, the newest first.
+    ///
+    /// # Errors
+    ///
+    /// Those of `minor`. A refused call may have done the minor compaction.
+    pub fn unload<F: Files>(
+        &mut self,
+        file_limit: u64,
+        next_name: &mut u64,
+        files: &mut F,
+    ) -> Result<Vec<u64>, Refusal>
+        requires least { 32 ≤ file_limit }
+        requires most { file_limit ≤ 1_073_741_824 }
+        ensures listed { IfOk result (λ names. names.items ≡ names_of self.new) }
+        ensures names { OnOk result (names_of self.new ≡ with_name next_name.old (memory_of self.old) (names_of self.old)) }
+        ensures memory { OnOk result (memory_of self.new ≡ []) }
+        ensures lists { OnOk result (MakesLists (F.contents files.old) next_name.old self.old (F.contents files.new) self.new (λ memory lists. [] ∷ flushed (range_of self.old) memory lists)) }
+        ensures keeps { Keeps (F.contents files.old) next_name.old self.old (F.contents files.new) next_name.new self.new }
+        ensures range { range_of self.new ≡ range_of self.old }
+        ensures err { OnErr result (memory_of self.old ≡ [] → IsUnchanged self.old self.new) }
+        ensures name { UsesName (F.contents files.old) next_name.old (F.contents files.new) next_name.new }
+        ensures limit { next_name.old ≤ 2 ^ 63 → next_name.new ≤ 2 ^ 63 }
+        ensures full { IsErrOf result Refusal.TooManyFiles → (memory_of self.old ≢ []) × (64 ≤ length (names_of self.old)) }
+        ensures exhausted { IsErrOf result Refusal.Exhausted → (memory_of self.old ≢ []) × (2 ^ 63 ≤ next_name.old) }
+        ensures large { IsErrOf result Refusal.FileTooLarge → (memory_of self.old ≢ []) × IfSome (F.contents files.old) (λ m. Holds m self.old → ¬ FitsIn file_limit (seen (range_of self.old) (memory_of self.old))) }
+        ensures damaged { IsErrOf result Refusal.Damaged → IfSome (F.contents files.old) (λ m. ¬ Holds m self.old) }
+        ensures refusal { IfErr result IsMinorRefusal }
+        ensures reason { HasReason (F.faults files.old) (F.faults files.new) result }
+    {
+        self.minor(file_limit, next_name, files)?;
+        self.names()
+    }
+
+    /// Cuts the tablet at a row of its range that isn't its end (Bigtable, tablets are split). Answers the left
+    /// part, which ends with the row; the tablet becomes the right part, which begins after it. A minor
+    /// compaction comes first, and both have the same files after it.
+    ///
+    /// # Errors
+    ///
+    /// Those of `minor`. A refused call may have done the minor compaction.
+    pub fn split<F: Files>(
+        &mut self,
+        row: &Row,
+        file_limit: u64,
+        next_name: &mut u64,
+        files: &mut F,
+    ) -> Result<Tablet, Refusal>
+        requires least { 32 ≤ file_limit }
+        requires most { file_limit ≤ 1_073_741_824 }
+        ensures left_range { IfOk result (λ left. range_of left ≡ record { after = (range_of self.old).after; end = Some row.now }) }
+        ensures right_range { OnOk result (range_of self.new ≡ record { after = Some row.now; end = (range_of self.old).end }) }
+        ensures left_names { IfOk result (λ left. names_of left ≡ with_name next_name.old (memory_of self.old) (names_of self.old)) }
+        ensures right_names { OnOk result (names_of self.new ≡ with_name next_name.old (memory_of self.old) (names_of self.old)) }
+        ensures left_memory { IfOk result (λ left. memory_of left ≡ []) }
+        ensures right_memory { OnOk result (memory_of self.new ≡ []) }
+        ensures parts { IfOk result (λ left. IfSome (F.contents files.old) (λ m. Holds m self.old → IsBelow next_name.old self.old → IsTrue (has_row (range_of self.old) row.now) → IsSomeAnd (F.contents files.new) (λ n. AreParts m self.old n next_name.new left self.new))) }
+        ensures keeps { OnErr result (Keeps (F.contents files.old) next_name.old self.old (F.contents files.new) next_name.new self.new) }
+        ensures err_range { OnErr result (range_of self.new ≡ range_of self.old) }
+        ensures err { OnErr result (memory_of self.old ≡ [] → IsUnchanged self.old self.new) }
+        ensures name { UsesName (F.contents files.old) next_name.old (F.contents files.new) next_name.new }
+        ensures limit { next_name.old ≤ 2 ^ 63 → next_name.new ≤ 2 ^ 63 }
+        ensures full { IsErrOf result Refusal.TooManyFiles → (memory_of self.old ≢ []) × (64 ≤ length (names_of self.old)) }
+        ensures exhausted { IsErrOf result Refusal.Exhausted → (memory_of self.old ≢ []) × (2 ^ 63 ≤ next_name.old) }
+        ensures large { IsErrOf result Refusal.FileTooLarge → (memory_of self.old ≢ []) × IfSome (F.contents files.old) (λ m. Holds m self.old → ¬ FitsIn file_limit (seen (range_of self.old) (memory_of self.old))) }
+        ensures damaged { IsErrOf result Refusal.Damaged → IfSome (F.contents files.old) (λ m. Holds m self.old → ¬ IsBelow next_name.old self.old) }
+        ensures refusal { IfErr result IsMinorRefusal }
+        ensures reason { HasReason (F.faults files.old) (F.faults files.new) result }
+    {
+        let range = RowRange {
+            after: self.range.after.clone()?,
+            end: Some(row.clone()?),
+        };
+        let after = row.clone()?;
+        one_listing();
+        open_is_there();
+        self.minor(file_limit, next_name, files)?;
+        let names = self.names()?;
+        let left = Tablet::load(self.alloc, range, &names, files)?;
+        self.range.after = Some(after);
+        Ok(left)
+    }
+}

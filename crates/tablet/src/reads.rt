@@ -1,0 +1,205 @@
+//! Reading the merged view of a memtable and files (Bigtable, tablet serving: read operations).
+
+ghost use Rattle.std.specs.Prelude.{◌≡◌, ◌⊎◌, ◌≤◌, ◌<◌, ◌∷◌, Some, option_map, map, length, IfOk, IfErr, IfSome, IsErrOf};
+ghost use Rattle.std.specs.Option.{option_copied};
+ghost use Rattle.std.specs.List.{AllByRecursion};
+ghost use Rattle.cell_key.specs.Names.{IsRow, IsFamily};
+ghost use Rattle.cell_key.specs.Keys.{text, IsStored};
+ghost use Rattle.cell_key.specs.Cells.{version};
+ghost use Rattle.cell_key.specs.Entries.{IsEntry, lent_entry, first_naming, value_of};
+ghost use Rattle.sorted_file.specs.Opened.{IsOpen, listed};
+ghost use Rattle.sorted_file.specs.Sources.{HasReason, IsReadRefusal};
+ghost use Rattle.tablet.specs.Sources.{part};
+ghost use Rattle.tablet.specs.Reads.{first_value, lent_value, texted, IsFound, IsShort};
+
+use crate::sources::sources;
+use cell_key::{CellKey, EntryRef, Family, Qualifier, Refusal, Row, Stamp};
+use compaction::Merge;
+use file_store::Files;
+use memtable::Memtable;
+use sorted_file::{SortedFile, Source};
+use std::alloc::Global;
+
+/// The most bytes of a value.
+const MOST_VALUE: usize = 65_536;
+
+/// A copy of a value, if there is one. Refused Damaged where it is longer than a value is, and NoMemory.
+fn copied(alloc: Global, value: Option<&[u8]>) -> Result<Option<Vec<u8>>, Refusal>
+    ensures copy { IfOk result (λ copy. option_map (λ bytes. bytes.items) copy ≡ option_copied value.entry) }
+    ensures short { IfOk result (λ copy. IfSome copy (λ bytes. length bytes.items ≤ 65536)) }
+    ensures damaged { IsErrOf result Refusal.Damaged → ¬ IfSome (option_copied value.entry) IsShort }
+    ensures refusal { IfErr result (λ refusal. (refusal ≡ Refusal.NoMemory) ⊎ (refusal ≡ Refusal.Damaged)) }
+{
+    let Some(value) = value else {
+        return Ok(None);
+    };
+    if value.len() > MOST_VALUE {
+        return Err(Refusal::Damaged);
+    }
+    let copy = Vec::from_slice(alloc, value)?;
+    Ok(Some(copy))
+}
+
+/// The key and the value of an entry, if it is no erasure. Refused Damaged where it isn't within the limits
+/// of entries, and NoMemory.
+fn keyed_value(alloc: Global, entry: EntryRef<'_>) -> Result<Option<(CellKey, Vec<u8>)>, Refusal>
+    ensures found { IfOk result (λ found. option_map texted found ≡ lent_value (Some (lent_entry entry.entry))) }
+    ensures limits { IfOk result (λ found. IfSome found (λ p. IsFound p.0 p.1.items)) }
+    ensures damaged { IsErrOf result Refusal.Damaged → ¬ IsEntry (lent_entry entry.entry) }
+    ensures refusal { IfErr result (λ refusal. (refusal ≡ Refusal.NoMemory) ⊎ (refusal ≡ Refusal.Damaged)) }
+{
+    let Some(value) = copied(alloc, entry.value)? else {
+        return Ok(None);
+    };
+    match CellKey::decode(alloc, entry.key)? {
+        Some(key) => Ok(Some((key, value))),
+        None => Err(Refusal::Damaged),
+    }
+}
+
+/// The key and the value that a source is at, if it is at a value.
+fn value_at<F: Files, S: Source<F>>(
+    alloc: Global,
+    source: &S,
+) -> Result<Option<(CellKey, Vec<u8>)>, Refusal>
+    ensures found { IfOk result (λ found. option_map texted found ≡ lent_value (S.lent source.now)) }
+    ensures limits { IfOk result (λ found. IfSome found (λ p. IsFound p.0 p.1.items)) }
+    ensures damaged { IsErrOf result Refusal.Damaged → ¬ IfSome (S.lent source.now) IsEntry }
+    ensures refusal { IfErr result (λ refusal. (refusal ≡ Refusal.NoMemory) ⊎ (refusal ≡ Refusal.Damaged)) }
+{
+    match source.current() {
+        Some(entry) => keyed_value(alloc, entry),
+        None => Ok(None),
+    }
+}
+
+/// The next value of a source, with its key. Reads up to it and not further.
+fn next_value<F: Files, S: Source<F>>(
+    alloc: Global,
+    source: &mut S,
+    store: &mut F,
+) -> Result<Option<(CellKey, Vec<u8>)>, Refusal>
+    ensures found { IfOk result (λ found. IfSome (F.contents store.old) (λ m. S.holds m source.old → option_map texted found ≡ first_value (S.remaining m source.old))) }
+    ensures limits { IfOk result (λ found. IfSome found (λ p. IsFound p.0 p.1.items)) }
+    ensures damaged { IsErrOf result Refusal.Damaged → IfSome (F.contents store.old) (λ m. ¬ S.holds m source.old) }
+    ensures refusal { IfErr result IsReadRefusal }
+    ensures same { F.contents store.new ≡ F.contents store.old }
+    ensures reason { HasReason (F.faults store.old) (F.faults store.new) result }
+{
+    while source.advance(store)? {
+        if let Some(found) = value_at::<F, S>(alloc, source)? {
+            return Ok(Some(found));
+        }
+    }
+    Ok(None)
+}
+
+/// The first value of a memtable and files together, the newest first, whose text is `from` or comes after
+/// it, and is below `end` if there is one, with its key. Reads no more of the files than that range.
+pub(crate) fn first_value<F: Files>(
+    alloc: Global,
+    memtable: &Memtable,
+    files: &[SortedFile],
+    from: &[u8],
+    end: Option<&[u8]>,
+    store: &mut F,
+) -> Result<Option<(CellKey, Vec<u8>)>, Refusal>
+    ensures found { IfOk result (λ found. IfSome (F.contents store.old) (λ m. AllByRecursion (IsOpen m) files.now → option_map texted found ≡ first_value (part from.now (option_copied end.entry) (memtable.now ∷ map (listed m) files.now)))) }
+    ensures limits { IfOk result (λ found. IfSome found (λ p. IsFound p.0 p.1.items)) }
+    ensures damaged { IsErrOf result Refusal.Damaged → IfSome (F.contents store.old) (λ m. ¬ AllByRecursion (IsOpen m) files.now) }
+    ensures refusal { IfErr result IsReadRefusal }
+    ensures same { F.contents store.new ≡ F.contents store.old }
+    ensures reason { HasReason (F.faults store.old) (F.faults store.new) result }
+{
+    let sources = sources::<F>(alloc, Some(memtable), files, from, end)?;
+    let mut merge = Merge::new::<F>(sources);
+    next_value(alloc, &mut merge, store)
+}
+
+/// The entry of a key in the first of some files that names it.
+fn find_in_files<'a, F: Files>(
+    files: &'a [SortedFile],
+    key: &CellKey,
+    store: &mut F,
+) -> Result<Option<EntryRef<'a>>, Refusal>
+    ensures found { IfOk result (λ found. IfSome (F.contents store.old) (λ m. AllByRecursion (IsOpen m) files.now → option_map (λ lent. (lent_entry lent).1) found ≡ first_naming (map (listed m) files.now) (text key.now))) }
+    ensures damaged { IsErrOf result Refusal.Damaged → IfSome (F.contents store.old) (λ m. ¬ AllByRecursion (IsOpen m) files.now) }
+    ensures refusal { IfErr result IsReadRefusal }
+    ensures same { F.contents store.new ≡ F.contents store.old }
+    ensures reason { HasReason (F.faults store.old) (F.faults store.new) result }
+{
+    let mut left = files;
+    while let Some((file, older)) = left.split_first() {
+        if let Some(entry) = file.lookup(key, store)? {
+            return Ok(Some(entry));
+        }
+        left = older;
+    }
+    Ok(None)
+}
+
+/// The value of a key in a memtable, or else in the first of some files that names it. An erasure is no
+/// value.
+pub(crate) fn lookup<F: Files>(
+    alloc: Global,
+    memtable: &Memtable,
+    files: &[SortedFile],
+    key: &CellKey,
+    store: &mut F,
+) -> Result<Option<Vec<u8>>, Refusal>
+    ensures found { IfOk result (λ found. IfSome (F.contents store.old) (λ m. AllByRecursion (IsOpen m) files.now → option_map (λ bytes. bytes.items) found ≡ value_of (first_naming (memtable.now ∷ map (listed m) files.now) (text key.now)))) }
+    ensures short { IfOk result (λ found. IfSome found (λ bytes. length bytes.items ≤ 65536)) }
+    ensures damaged { IsErrOf result Refusal.Damaged → IfSome (F.contents store.old) (λ m. ¬ AllByRecursion (IsOpen m) files.now) }
+    ensures refusal { IfErr result IsReadRefusal }
+    ensures same { F.contents store.new ≡ F.contents store.old }
+    ensures reason { HasReason (F.faults store.old) (F.faults store.new) result }
+{
+    if let Some(newest) = memtable.lookup(key) {
+        return copied(alloc, newest.value);
+    }
+    match find_in_files(files, key, store)? {
+        Some(entry) => copied(alloc, entry.value),
+        None => Ok(None),
+    }
+}
+
+/// The key of a version. Refused NoMemory.
+pub(crate) fn version_key(
+    row: &Row,
+    family: &Family,
+    qualifier: Qualifier,
+    stamp: Stamp,
+) -> Result<CellKey, Refusal>
+    ensures key { IfOk result (λ key. key ≡ version row.now family.now qualifier stamp) }
+    ensures row { IsRow row.now }
+    ensures family { IsFamily family.now }
+    ensures refusal { IfErr result (λ refusal. refusal ≡ Refusal.NoMemory) }
+{
+    let _row = row.as_bytes();
+    let _family = family.as_bytes();
+    Ok(CellKey {
+        row: row.clone()?,
+        family: family.clone()?,
+        qualifier,
+        stamp,
+    })
+}
+
+/// The text of the key of a version. Refused NoMemory.
+pub(crate) fn version_text(
+    alloc: Global,
+    row: &Row,
+    family: &Family,
+    qualifier: Qualifier,
+    stamp: Stamp,
+) -> Result<Vec<u8>, Refusal>
+    ensures text { IfOk result (λ bytes. bytes.items ≡ text (version row.now family.now qualifier stamp)) }
+    ensures row { IsRow row.now }
+    ensures family { IsFamily family.now }
+    ensures refusal { IfErr result (λ refusal. refusal ≡ Refusal.NoMemory) }
+{
+    let key = version_key(row, family, qualifier, stamp)?;
+    let mut text = Vec::new(alloc);
+    key.encode(&mut text)?;
+    Ok(text)
+}

@@ -1,0 +1,176 @@
+//! What a tablet answers.
+
+ghost use Rattle.std.specs.Prelude.{◌≡◌, ◌≤◌, ◌<◌, ◌^◌, IsTrue, option_map, IfOk, IfErr, IfSome, IsErrOf};
+ghost use Rattle.std.specs.Option.{option_copied};
+ghost use Rattle.cell_key.specs.Cells.{IsNewest, version};
+ghost use Rattle.cell_key.specs.Places.{IsNextCell, place_named};
+ghost use Rattle.cell_key.specs.Versions.{IsVersionIn, stamped};
+ghost use Rattle.sorted_file.specs.Sources.{HasReason, IsReadRefusal};
+ghost use Rattle.tablet.specs.Ranges.{has_row};
+ghost use Rattle.tablet.specs.Reads.{past_place, later, IsPlaceOrNone};
+
+use crate::reads::{first_value, lookup, version_key, version_text};
+use crate::sources::fences;
+use crate::tablet::Tablet;
+use cell_key::{Family, MOST_STAMP, Qualifier, Refusal, Row, Stamp};
+use file_store::Files;
+use std::alloc::Global;
+
+/// What comes after the texts of a place and before those of later places, or before all texts where there
+/// is no place. Refused NoMemory.
+fn past_place(alloc: Global, after: Option<(&Row, &Family)>) -> Result<Vec<u8>, Refusal>
+    ensures past { IfOk result (λ text. text.items ≡ past_place (option_map place_named after.entry)) }
+    ensures names { IsPlaceOrNone (option_map place_named after.entry) }
+    ensures refusal { IfErr result (λ refusal. refusal ≡ Refusal.NoMemory) }
+{
+    match after {
+        Some((row, family)) => version_text(alloc, row, family, Qualifier::Write, 0),
+        None => Ok(Vec::new(alloc)),
+    }
+}
+
+/// The bytes of a fence, if there is one.
+fn lent(fence: &Option<Vec<u8>>) -> Option<&[u8]>
+    ensures { option_copied result ≡ option_map (λ bytes. bytes.items) fence.now }
+{
+    match fence {
+        Some(fence) => Some(fence.as_slice()),
+        None => None,
+    }
+}
+
+/// The later of two texts.
+fn later<'a>(a: &'a [u8], b: &'a [u8]) -> &'a [u8]
+    ensures { result.now ≡ later a.now b.now }
+{
+    if a.cmp(&b).is_le() { b } else { a }
+}
+
+impl Tablet {
+    ghost use Rattle.file_store.specs.Store.{Contents};
+    ghost use Rattle.tablet.specs.Views.{range_of, cells_at, Holds};
+
+    /// The value of a version, if the tablet has it, by lookups.
+    fn version_at<F: Files>(
+        &self,
+        row: &Row,
+        family: &Family,
+        qualifier: Qualifier,
+        stamp: Stamp,
+        files: &mut F,
+    ) -> Result<Option<(Stamp, Vec<u8>)>, Refusal>
+        requires from { 1 ≤ stamp }
+        requires to { stamp < 2 ^ 63 }
+        ensures found { IfOk result (λ found. IfSome (F.contents files.old) (λ m. Holds m self.now → IsTrue (has_row (range_of self.now) row.now) → IsNewest (cells_at m self.now) (version row.now family.now qualifier) stamp stamp (option_map stamped found))) }
+        ensures limits { IfOk result (λ found. IfSome (option_map stamped found) (IsVersionIn stamp stamp)) }
+        ensures damaged { IsErrOf result Refusal.Damaged → IfSome (F.contents files.old) (λ m. ¬ Holds m self.now) }
+        ensures refusal { IfErr result IsReadRefusal }
+        ensures same { F.contents files.new ≡ F.contents files.old }
+        ensures reason { HasReason (F.faults files.old) (F.faults files.new) result }
+    {
+        let key = version_key(row, family, qualifier, stamp)?;
+        match lookup(self.alloc, &self.memtable, &self.files, &key, files)? {
+            Some(value) => Ok(Some((stamp, value))),
+            None => Ok(None),
+        }
+    }
+
+    /// The version of a cell's column with the greatest stamp in `lo..=hi`, by the range of their texts.
+    fn newest_between<F: Files>(
+        &self,
+        row: &Row,
+        family: &Family,
+        qualifier: Qualifier,
+        lo: Stamp,
+        hi: Stamp,
+        files: &mut F,
+    ) -> Result<Option<(Stamp, Vec<u8>)>, Refusal>
+        requires { 1 ≤ lo }
+        ensures found { IfOk result (λ found. IfSome (F.contents files.old) (λ m. Holds m self.now → IsTrue (has_row (range_of self.now) row.now) → IsNewest (cells_at m self.now) (version row.now family.now qualifier) lo hi (option_map stamped found))) }
+        ensures limits { IfOk result (λ found. IfSome (option_map stamped found) (IsVersionIn lo hi)) }
+        ensures damaged { IsErrOf result Refusal.Damaged → IfSome (F.contents files.old) (λ m. ¬ Holds m self.now) }
+        ensures refusal { IfErr result IsReadRefusal }
+        ensures same { F.contents files.new ≡ F.contents files.old }
+        ensures reason { HasReason (F.faults files.old) (F.faults files.new) result }
+    {
+        let from = version_text(self.alloc, row, family, qualifier, hi)?;
+        let end = version_text(self.alloc, row, family, qualifier, lo - 1)?;
+        let end = Some(end.as_slice());
+        let Some((key, value)) = first_value(
+            self.alloc,
+            &self.memtable,
+            &self.files,
+            &from,
+            end,
+            files,
+        )?
+        else {
+            return Ok(None);
+        };
+        if key.stamp < lo || hi < key.stamp {
+            return Err(Refusal::Damaged);
+        }
+        Ok(Some((key.stamp, value)))
+    }
+
+    /// The version of a cell's column with the greatest stamp in `lo..=hi` (Bigtable, timestamps), or
+    /// nothing. Where both stamps are one it is looked up, and else no more of a file is read than the range
+    /// asks for.
+    ///
+    /// # Errors
+    ///
+    /// `Damaged` only where a file is no longer what was opened, `Device` and `NoMemory`.
+    pub fn newest<F: Files>(
+        &self,
+        row: &Row,
+        family: &Family,
+        qualifier: Qualifier,
+        lo: Stamp,
+        hi: Stamp,
+        files: &mut F,
+    ) -> Result<Option<(Stamp, Vec<u8>)>, Refusal>
+        ensures found { IfOk result (λ found. IfSome (F.contents files.old) (λ m. Holds m self.now → IsTrue (has_row (range_of self.now) row.now) → IsNewest (cells_at m self.now) (version row.now family.now qualifier) lo hi (option_map stamped found))) }
+        ensures limits { IfOk result (λ found. IfSome (option_map stamped found) (IsVersionIn lo hi)) }
+        ensures damaged { IsErrOf result Refusal.Damaged → IfSome (F.contents files.old) (λ m. ¬ Holds m self.now) }
+        ensures refusal { IfErr result IsReadRefusal }
+        ensures same { F.contents files.new ≡ F.contents files.old }
+        ensures reason { HasReason (F.faults files.old) (F.faults files.new) result }
+    {
+        let first = lo.max(1);
+        if hi < first || first > MOST_STAMP {
+            return Ok(None);
+        }
+        if first == hi {
+            self.version_at(row, family, qualifier, hi, files)
+        } else {
+            self.newest_between(row, family, qualifier, first, hi, files)
+        }
+    }
+
+    /// The first cell of the tablet that has any version, after the cell of `after`, which may lie outside
+    /// the tablet's range, or from its start.
+    ///
+    /// # Errors
+    ///
+    /// `Damaged` only where a file is no longer what was opened, `Device` and `NoMemory`.
+    pub fn next_cell<F: Files>(
+        &self,
+        after: Option<(&Row, &Family)>,
+        files: &mut F,
+    ) -> Result<Option<(Row, Family)>, Refusal>
+        ensures found { IfOk result (λ found. IfSome (F.contents files.old) (λ m. Holds m self.now → IsNextCell (cells_at m self.now) (option_map place_named after.entry) found)) }
+        ensures damaged { IsErrOf result Refusal.Damaged → IfSome (F.contents files.old) (λ m. ¬ Holds m self.now) }
+        ensures refusal { IfErr result IsReadRefusal }
+        ensures same { F.contents files.new ≡ F.contents files.old }
+        ensures reason { HasReason (F.faults files.old) (F.faults files.new) result }
+    {
+        let (fence, end) = fences(self.alloc, &self.range)?;
+        let past = past_place(self.alloc, after)?;
+        let from = later(&fence, &past);
+        let end = lent(&end);
+        match first_value(self.alloc, &self.memtable, &self.files, from, end, files)? {
+            Some((key, _value)) => Ok(Some((key.row, key.family))),
+            None => Ok(None),
+        }
+    }
+}

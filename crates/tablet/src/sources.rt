@@ -1,0 +1,95 @@
+//! What a tablet reads: its memtable and its files, from a text on and up to another.
+
+ghost use Rattle.std.specs.Prelude.{◌≡◌, map, option_map, IfOk, IfErr};
+ghost use Rattle.std.specs.Option.{option_copied, option_to_list};
+ghost use Rattle.std.specs.List.{AllByRecursion};
+ghost use Rattle.file_store.specs.Store.{Contents};
+ghost use Rattle.sorted_file.specs.Opened.{IsOpen, listed};
+ghost use Rattle.compaction.specs.Merging.{AreAtStart};
+ghost use Rattle.tablet.specs.Ranges.{lower_fence, upper_fence};
+ghost use Rattle.tablet.specs.Sources.{entries_between, lists_over, IsAtStart, remaining_of};
+
+use crate::ranges::RowRange;
+use cell_key::{Refusal, Row};
+use compaction::{Input, Until};
+use file_store::Files;
+use memtable::Memtable;
+use sorted_file::{SortedFile, Source};
+use std::alloc::Global;
+
+/// What comes before the texts of a range's rows and after those of all earlier rows, and what comes after
+/// those of its rows, if its end isn't infinite. Refused NoMemory.
+pub(crate) fn fences(alloc: Global, range: &RowRange) -> Result<(Vec<u8>, Option<Vec<u8>>), Refusal>
+    ensures from { IfOk result (λ fences. fences.0.items ≡ lower_fence range.now) }
+    ensures end { IfOk result (λ fences. option_map (λ fence. fence.items) fences.1 ≡ upper_fence range.now) }
+    ensures refusal { IfErr result (λ refusal. refusal ≡ Refusal.NoMemory) }
+{
+    let from = match &range.after {
+        Some(row) => row.fence(alloc)?,
+        None => Vec::new(alloc),
+    };
+    let end = match &range.end {
+        Some(row) => Some(row.fence(alloc)?),
+        None => None,
+    };
+    Ok((from, end))
+}
+
+/// The entries of a memtable from a text on and below another.
+fn memtable_source<'a>(
+    memtable: &'a Memtable,
+    from: &[u8],
+    end: Option<&'a [u8]>,
+) -> Until<'a, Input<'a>>
+    ensures start { IsAtStart result }
+    ensures list { remaining_of result ≡ entries_between from.now (option_copied end.entry) memtable.now }
+{
+    Until::new(Input::Memtable(memtable.cursor(from)), end)
+}
+
+/// The entries of a memtable, if there is one, from a text on and below another.
+fn memtable_sources<'a>(
+    alloc: Global,
+    memtable: Option<&'a Memtable>,
+    from: &[u8],
+    end: Option<&'a [u8]>,
+) -> Result<Vec<Until<'a, Input<'a>>>, Refusal>
+    ensures start { IfOk result (λ sources. AllByRecursion IsAtStart sources.items) }
+    ensures lists { IfOk result (λ sources. map remaining_of sources.items ≡ map (entries_between from.now (option_copied end.entry)) (option_to_list (option_copied memtable.entry))) }
+    ensures refusal { IfErr result (λ refusal. refusal ≡ Refusal.NoMemory) }
+{
+    let mut sources = Vec::new(alloc);
+    if let Some(memtable) = memtable {
+        sources.push(memtable_source(memtable, from, end))?;
+    }
+    Ok(sources)
+}
+
+/// The entries of a file from a text on and below another.
+fn file_source<'a>(file: &'a SortedFile, from: &[u8], end: Option<&'a [u8]>) -> Until<'a, Input<'a>>
+    ensures start { (m : Contents) → IsOpen m file.now → IsAtStart result }
+    ensures list { (m : Contents) → IsOpen m file.now → remaining_of result ≡ entries_between from.now (option_copied end.entry) (listed m file.now) }
+{
+    Until::new(Input::File(file.cursor(from)), end)
+}
+
+/// The entries of a memtable, if there is one, and of files, from the text `from` on and below `end`, if
+/// there is one: a source of each, in this order, at its start. Refused NoMemory.
+pub(crate) fn sources<'a, F: Files>(
+    alloc: Global,
+    memtable: Option<&'a Memtable>,
+    files: &'a [SortedFile],
+    from: &[u8],
+    end: Option<&'a [u8]>,
+) -> Result<Vec<Until<'a, Input<'a>>>, Refusal>
+    ensures start { IfOk result (λ sources. (m : Contents) → AllByRecursion (IsOpen m) files.now → AreAtStart ⟦<Until<'static, Input<'static>> as Source<F>>⟧.lent (⟦<Until<'static, Input<'static>> as Source<F>>⟧.holds m) sources.items) }
+    ensures lists { IfOk result (λ sources. (m : Contents) → AllByRecursion (IsOpen m) files.now → map (⟦<Until<'static, Input<'static>> as Source<F>>⟧.remaining m) sources.items ≡ map (entries_between from.now (option_copied end.entry)) (lists_over m (option_copied memtable.entry) files.now)) }
+    ensures refusal { IfErr result (λ refusal. refusal ≡ Refusal.NoMemory) }
+{
+    let mut sources = memtable_sources(alloc, memtable, from, end)?;
+    for file in files {
+        let source = file_source(file, from, end);
+        sources.push(source)?;
+    }
+    Ok(sources)
+}

@@ -1,0 +1,124 @@
+//! A tablet: its calls that write no file.
+
+ghost use Rattle.std.specs.Prelude.{◌≡◌, ◌≤◌, ◌<◌, ◌+◌, ◌++◌, ◌∷◌, ◌⊎◌, ◌↔◌, [], None, length, vec_len, vec_capacity, IsTrue, IsOk, IfErr, OnErr, OnOk, IsErrOf};
+ghost use Rattle.std.specs.List.{AllByRecursion};
+ghost use Rattle.cell_key.specs.Cells.{IsEditOf, after_edits};
+ghost use Rattle.file_store.specs.Store.{Contents};
+ghost use Rattle.memtable.specs.Edits.{with_edits, IsWithinLimits};
+
+use crate::ranges::RowRange;
+use cell_key::{Edit, Refusal, Row};
+use memtable::Memtable;
+use sorted_file::SortedFile;
+use std::alloc::Global;
+
+/// A range of rows: a memtable with the recent writes, and immutable sorted files, the newest first. A read
+/// sees the merged view of all of them, cut to the range (Bigtable, tablet serving).
+#[derive(Drop)]
+pub struct Tablet {
+    pub(crate) alloc: Global,
+    pub(crate) range: RowRange,
+    pub(crate) memtable: Memtable,
+    /// The newest first.
+    pub(crate) files: Vec<SortedFile>,
+}
+
+impl Tablet {
+    ghost use Rattle.tablet.specs.Ranges.{has_row};
+    ghost use Rattle.tablet.specs.Views.{range_of, memory_of, files_of, names_of, cells_at, Holds};
+
+    /// The most files that a tablet has after a minor compaction.
+    pub const MOST_FILES: usize = 64;
+
+    /// A tablet of all rows, with no entries and no files. Takes no memory.
+    pub fn new(alloc: Global) -> Tablet
+        ensures range { range_of result ≡ record { after = None; end = None } }
+        ensures memory { memory_of result ≡ [] }
+        ensures files { files_of result ≡ [] }
+    {
+        Tablet {
+            alloc,
+            range: RowRange {
+                after: None,
+                end: None,
+            },
+            memtable: Memtable::new(alloc),
+            files: Vec::new(alloc),
+        }
+    }
+
+    /// The rows that the tablet holds. Takes no memory.
+    pub fn range(&self) -> &RowRange
+        ensures { result.now ≡ range_of self.now }
+    {
+        &self.range
+    }
+
+    /// How many entries the memtable has, erasures among them. Takes no memory.
+    pub fn len(&self) -> usize
+        ensures len { result ≡ length (memory_of self.now) }
+        ensures limits { IsWithinLimits (memory_of self.now) }
+    {
+        self.memtable.len()
+    }
+
+    /// Whether the memtable has no entries. Takes no memory.
+    pub fn is_empty(&self) -> bool
+        ensures { IsTrue result ↔ (memory_of self.now ≡ []) }
+    {
+        self.memtable.is_empty()
+    }
+
+    /// How many files the tablet has. Takes no memory.
+    pub fn file_count(&self) -> usize
+        ensures { result ≡ length (names_of self.now) }
+    {
+        self.files.len()
+    }
+
+    /// Appends the names of the files, the newest first. Refused NoMemory, and never where `out` has the
+    /// room. An `Err` leaves `out` as it was.
+    pub fn push_names(&self, out: &mut Vec<u64>) -> Result<(), Refusal>
+        ensures ok { OnOk result (out.new.items ≡ out.old.items ++ names_of self.now) }
+        ensures err { OnErr result (out.new.items ≡ out.old.items) }
+        ensures refusal { IfErr result (λ refusal. refusal ≡ Refusal.NoMemory) }
+        ensures room { vec_len out.old + length (names_of self.now) ≤ vec_capacity out.old → IsOk result }
+    {
+        out.reserve(self.file_count())?;
+        for file in &self.files {
+            push_name(out, file.name());
+        }
+        Ok(())
+    }
+
+    /// Makes edits under one row in order, all of them or none.
+    ///
+    /// # Errors
+    ///
+    /// `MemtableFull` where a limit of the memtable would be passed, and `NoMemory`. The tablet is then as
+    /// before.
+    pub fn apply(&mut self, row: &Row, edits: Vec<Edit>) -> Result<(), Refusal>
+        requires { AllByRecursion (IsEditOf row.now) edits.items }
+        ensures ok { OnOk result ((m : Contents) → Holds m self.old → IsTrue (has_row (range_of self.old) row.now) → cells_at m self.new ≡ after_edits (cells_at m self.old) edits.items) }
+        ensures memory { OnOk result (memory_of self.new ≡ with_edits (memory_of self.old) edits.items) }
+        ensures still { OnOk result ((m : Contents) → Holds m self.old → Holds m self.new) }
+        ensures range { range_of self.new ≡ range_of self.old }
+        ensures files { files_of self.new ≡ files_of self.old }
+        ensures err { OnErr result (self.new ≡ self.old) }
+        ensures full { IsErrOf result Refusal.MemtableFull → ¬ (IsWithinLimits (with_edits (memory_of self.old) edits.items)) }
+        ensures within { OnOk result (IsWithinLimits (with_edits (memory_of self.old) edits.items)) }
+        ensures refusal { IfErr result (λ refusal. (refusal ≡ Refusal.MemtableFull) ⊎ (refusal ≡ Refusal.NoMemory)) }
+    {
+        self.memtable.apply(row, edits)
+    }
+}
+
+/// Appends a name, where there is room.
+fn push_name(names: &mut Vec<u64>, name: u64)
+    requires { vec_len names.old < vec_capacity names.old }
+    ensures items { names.new.items ≡ names.old.items ++ name ∷ [] }
+    ensures len { vec_len names.new ≡ vec_len names.old + 1 }
+    ensures room { vec_capacity names.old ≤ vec_capacity names.new }
+{
+    names.push(name).unwrap();
+}
