@@ -1,8 +1,16 @@
+pub mod Changes
+pub mod Clusters
+pub mod Commands
 pub mod Laws
 pub mod Refusals
 pub mod Slots
+pub mod Sweeps
 pub use Rattle.cell_key.specs.Cells
 pub use Rattle.cell_key.specs.Keys
 pub use Rattle.cell_key.specs.Faults
 pub use Rattle.cell_key.specs.Places
 pub use Rattle.cell_key.specs.Versions
+pub use Rattle.file_store.specs.Store
+pub use Rattle.tablet.specs.Views
+pub use Rattle.metadata_table.specs.Table
+pub use Rattle.memtable.specs.Edits

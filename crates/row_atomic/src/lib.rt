@@ -1,11 +1,21 @@
-//! Rows of cells, each of which is read and changed alone, and a plain map of them in memory.
+//! Rows of cells, each of which is read and changed alone: a plain map of them in memory, and a cluster of tablets.
 #![tactic(auto)]
 
+mod cluster;
+mod cluster_compactions;
+mod cluster_laws;
+mod cluster_moving;
+mod cluster_rows;
+mod cluster_sweep;
+mod commands;
 mod laws;
 mod plain;
 mod rows;
 mod slots;
 
+pub use cluster::Cluster;
+pub use cluster_laws::cells_by_tablet;
+pub use commands::{Command, Outcome};
 pub use laws::{one_newest, one_next_cell};
 pub use plain::PlainRows;
 pub use rows::Rows;

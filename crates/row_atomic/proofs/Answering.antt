@@ -1,0 +1,166 @@
+-- What a cluster answers, from what the tablet of a row answers.
+use Rattle.std.proofs.Common.{◌≡◌, ◌<◌, ◌≤◌, ◌+◌, ◌-◌, ℕ, zero, suc, List, [], ◌∷◌, map, set, length, Option, Some, None, IfSome, Result, Ok, Err, IfOk, IfErr, OnOk, OnErr, IsTrue, slice_get, slice_index_or, refl, sym, ap, ◌∙◌, subst, arith}
+use Rattle.std.specs.List.{AllByRecursion}
+use Rattle.cell_key.specs.Cells.{Cells, IsEditOf, IsNewest, after_edits, version}
+use Rattle.cell_key.specs.declared.edits.Edit.{Edit}
+use Rattle.cell_key.specs.declared.keys.Qualifier.{Qualifier}
+use Rattle.cell_key.specs.declared.refusals.Refusal.{Refusal}
+use Rattle.cell_key.specs.declared.refusals.Refusal.TheVariants.{Device, NoMemory, Damaged}
+use Rattle.file_store.specs.Store.{Contents}
+use Rattle.memtable.specs.Edits.{IsWithinLimits, with_edits}
+use Rattle.metadata_table.specs.Places.{PlaceView}
+use Rattle.metadata_table.specs.Table.{IsTable, IsHolder}
+use Rattle.sorted_file.specs.Sources as sources
+use Rattle.sorted_file.specs.Opened.{name_of}
+use Rattle.tablet.specs.Ranges.{has_row}
+use Rattle.tablet.specs.Views.{Holds, IsBelow, cells_at, range_of, files_of, names_of, memory_of}
+use Rattle.tablet.specs.Laws.{StaysInRange}
+use Rattle.tablet.specs.declared.tablet.Tablet.{Tablet}
+use Rattle.row_atomic.specs.Refusals.{IsReadRefusal}
+use Rattle.row_atomic.specs.Clusters.{tablet_numbered, cells_in, InOrder, ArePlaced, IsMatched, HasTabletAt, Overfills}
+use Rattle.row_atomic.proofs.Owners.{OwnsRow, index_of, holder_owns}
+use Rattle.row_atomic.proofs.Shares.{each_at, each_set, at_told, cells_told, newest_of_row, applied}
+use Rattle.row_atomic.proofs.Placing.{is_placed, placed_set, set_same}
+use Rattle.row_atomic.proofs.Parts.{IsNumbered, at_parts}
+
+-- what stands at an index of a list
+pub slice_get_at : {A : Type 0} (xs : List A) (i : ℕ) (d : A) → i < length xs → slice_get xs i ≡ Some (slice_index_or xs i d)
+slice_get_at [] i d h = absurd (omega arith)
+slice_get_at (x ∷ xs) zero d h = refl
+slice_get_at (x ∷ xs) (suc i) d h = slice_get_at xs i d (omega arith)
+
+index_below : {A : Type 0} (xs : List A) (i : ℕ) (x : A) → slice_get xs i ≡ Some x → i < length xs
+index_below [] i x e = cc
+index_below (y ∷ xs) zero x e = omega arith
+index_below (y ∷ xs) (suc i) x e = let rest = index_below xs i x e in omega arith
+
+-- what stands at an index that is in the list
+pub found_there : {A : Type 0} (xs : List A) (i : ℕ) (v x : A) → slice_get xs i ≡ Some v → x ≡ slice_index_or xs i x → slice_get xs i ≡ Some x
+found_there xs i v x e is = slice_get_at xs i x (index_below xs i v e) ∙ ap Some (sym is)
+
+same_some : {A : Type 0} (x y : A) → Some x ≡ Some y → x ≡ y
+same_some x y e = cc
+
+-- the tablet at a row's index has the row alone
+pub owner_at : (places : List PlaceView) (ts : List Tablet) (row : List ℕ) (i : ℕ) (t : Tablet) → IsTable places → ArePlaced ts None places → length ts ≡ length places → HasTabletAt places ts row i → slice_get ts i ≡ Some t → OwnsRow ts row i t
+owner_at places ts row i t table placed as_many at there =
+    let number : at.place.tablet ≡ suc i = let number = at.number in omega arith in
+    let numbered : tablet_numbered at.place.tablet ts ≡ Some t = ap (λ (n : ℕ). tablet_numbered n ts) number ∙ there in
+    subst (λ (k : ℕ). OwnsRow ts row k t) (ap index_of number) (holder_owns ts places row at.place t table placed as_many at.holder numbered)
+
+-- what stands at the number less 1
+pub record IsIndexed (places : List PlaceView) (ts : List Tablet) (row : List ℕ) (number : ℕ) : Type 0 where
+  pub from : 1 ≤ number
+  pub at : HasTabletAt places ts row (number - 1)
+
+there_by : (ts : List Tablet) (n : ℕ) (v : Tablet) → tablet_numbered n ts ≡ Some v → (1 ≤ n) × ((n ≡ n - 1 + 1) × (slice_get ts (n - 1) ≡ Some v))
+there_by ts zero v e = cc
+there_by ts (suc i) v e =
+    let less : suc i - 1 ≡ i = omega arith in
+    (omega arith, (omega arith, subst (λ (k : ℕ). slice_get ts k ≡ Some v) (sym less) e))
+
+-- the place that holds a row leads to its tablet
+pub holder_index : (places : List PlaceView) (ts : List Tablet) (row : List ℕ) (p : PlaceView) → ArePlaced ts None places → IsHolder row places p → IsIndexed places ts row p.tablet
+holder_index places ts row p placed holder =
+    let all : AllByRecursion (λ q. IsNumbered ts q.tablet) places = is_placed (λ q. IsNumbered ts q.tablet) ts (λ before q h. record { tablet = h.tablet; numbered = h.numbered }) None places placed in
+    let one = at_parts (λ q. IsNumbered ts q.tablet) holder.before p holder.after (subst (λ (ps : List PlaceView). AllByRecursion (λ q. IsNumbered ts q.tablet) ps) holder.parts all) in
+    let by = there_by ts p.tablet one.tablet one.numbered in
+    record { from = by.0; at = record { place = p; holder = holder; number = by.1.0; tablet = one.tablet; there = by.1.1 } }
+
+-- ---- reads
+
+pub read_refusal : (x : Refusal) → sources.IsReadRefusal x → IsReadRefusal x
+read_refusal Device h = tt
+read_refusal NoMemory h = tt
+read_refusal Damaged h = tt
+read_refusal _ h = h
+
+pub if_err : {A : Type 0} (P Q : Refusal → Type 0) → ((x : Refusal) → P x → Q x) → (r : Result A Refusal) → IfErr r P → IfErr r Q
+if_err P Q h (Ok x) k = tt
+if_err P Q h (Err e) k = h e k
+
+-- files that tell the same are in order
+pub still_in_order : (old new : Option Contents) (next : ℕ) (ts : List Tablet) → new ≡ old → InOrder old next ts → InOrder new next ts
+still_in_order old new next ts e order = subst (λ (o : Option Contents). InOrder o next ts) (sym e) order
+
+pub same_cells_in : (old new : Option Contents) (ts : List Tablet) → new ≡ old → cells_in new ts ≡ cells_in old ts
+same_cells_in old new ts e = ap (λ (o : Option Contents). cells_in o ts) e
+
+module _ (o : Option Contents) (next : ℕ) (ts : List Tablet) (order : InOrder o next ts) where
+  -- what is said of told files
+  pub of_told : (P : Contents → Type 0) → IfSome o P → P order.contents
+  of_told P h = at_told P o order.contents order.are_told h
+
+  -- damage is not told under the premise
+  pub undamaged : (i : ℕ) (t : Tablet) (Told : Type 0) → slice_get ts i ≡ Some t → (Told → IfSome o (λ m. ¬ Holds m t)) → ¬ Told
+  undamaged i t Told there h told = of_told (λ m. ¬ Holds m t) (h told) (each_at (Holds order.contents) ts order.each_open i t there)
+
+  -- the newest version of the row's tablet is that of the cells
+  pub newest_answer : StaysInRange → {A : Type 0} → (seen : A → Option (ℕ × List ℕ)) (row family : List ℕ) (qualifier : Qualifier) (lo hi : ℕ) (i : ℕ) (t : Tablet) (r : Result A Refusal) → OwnsRow ts row i t
+      → IfOk r (λ found. IfSome o (λ m. Holds m t → IsTrue (has_row (range_of t) row) → IsNewest (cells_at m t) (version row family qualifier) lo hi (seen found)))
+      → IfOk r (λ found. IsNewest (cells_in o ts) (version row family qualifier) lo hi (seen found))
+  newest_answer law seen row family qualifier lo hi i t (Err e) owns h = tt
+  newest_answer law seen row family qualifier lo hi i t (Ok found) owns h =
+      let m = order.contents in
+      let newest = of_told (λ m. Holds m t → IsTrue (has_row (range_of t) row) → IsNewest (cells_at m t) (version row family qualifier) lo hi (seen found)) h (each_at (Holds m) ts order.each_open i t owns.there) owns.has in
+      subst (λ (c : Cells). IsNewest c (version row family qualifier) lo hi (seen found)) (sym (cells_told o m ts order.are_told))
+      (newest_of_row law m ts row family qualifier lo hi (seen found) i t order.each_open owns newest)
+
+  -- ---- edits
+
+  module _ (i : ℕ) (t u : Tablet) (there : slice_get ts i ≡ Some t) where
+    -- the tablet's edits are the cells'
+    pub apply_answer : StaysInRange → (row : List ℕ) (edits : List Edit) {A : Type 0} (r : Result A Refusal) → OwnsRow ts row i t → range_of u ≡ range_of t → AllByRecursion (IsEditOf row) edits
+        → OnOk r ((m : Contents) → Holds m t → IsTrue (has_row (range_of t) row) → cells_at m u ≡ after_edits (cells_at m t) edits)
+        → OnOk r ((m : Contents) → Holds m t → Holds m u)
+        → OnOk r (cells_in o (set ts i u) ≡ after_edits (cells_in o ts) edits)
+    apply_answer law row edits (Err e) owns same_range under made still = tt
+    apply_answer law row edits (Ok x) owns same_range under made still =
+        let m = order.contents in
+        let holds = each_at (Holds m) ts order.each_open i t there in
+        cells_told o m (set ts i u) order.are_told
+        ∙ applied law m ts row i t u edits order.each_open owns (still m holds) same_range under (made m holds owns.has)
+        ∙ ap (λ (c : Cells). after_edits c edits) (sym (cells_told o m ts order.are_told))
+
+    -- a refusal leaves the cells
+    pub refused_answer : {A : Type 0} (r : Result A Refusal) → OnErr r (u ≡ t) → OnErr r (cells_in o (set ts i u) ≡ cells_in o ts)
+    refused_answer (Ok x) h = tt
+    refused_answer (Err e) h = ap (cells_in o) (ap (set ts i) h ∙ set_same ts i t there)
+
+    holds_after : {A : Type 0} (r : Result A Refusal) → OnOk r ((m : Contents) → Holds m t → Holds m u) → OnErr r (u ≡ t) → Holds order.contents u
+    holds_after (Ok x) still err = still order.contents (each_at (Holds order.contents) ts order.each_open i t there)
+    holds_after (Err e) still err = subst (λ (v : Tablet). Holds order.contents v) (sym err) (each_at (Holds order.contents) ts order.each_open i t there)
+
+    -- the tablets stay in order
+    pub apply_still : {A : Type 0} (r : Result A Refusal) → files_of u ≡ files_of t → OnOk r ((m : Contents) → Holds m t → Holds m u) → OnErr r (u ≡ t) → InOrder o next (set ts i u)
+    apply_still r files still err = record {
+      contents = order.contents;
+      are_told = order.are_told;
+      each_open = each_set (Holds order.contents) ts i u order.each_open (holds_after r still err);
+      each_below = each_set (IsBelow next) ts i u order.each_below
+          (subst (λ (names : List ℕ). AllByRecursion (λ name. name < next) names) (sym (ap (λ files. map name_of files) files)) (each_at (IsBelow next) ts order.each_below i t there));
+    }
+
+-- ---- the structure
+
+length_set : {A : Type 0} (xs : List A) (i : ℕ) (x : A) → length (set xs i x) ≡ length xs
+length_set [] i x = refl
+length_set (y ∷ xs) zero x = refl
+length_set (y ∷ xs) (suc i) x = ap suc (length_set xs i x)
+
+-- a tablet of the same range and the same files comes in the place of another
+pub matched_set : (limit next : ℕ) (places : List PlaceView) (ts : List Tablet) (i : ℕ) (t u : Tablet) → slice_get ts i ≡ Some t → range_of u ≡ range_of t → names_of u ≡ names_of t → IsMatched limit next places ts → IsMatched limit next places (set ts i u)
+matched_set limit next places ts i t u there same_range same_names matched = record {
+  least = matched.least;
+  most = matched.most;
+  named_from = matched.named_from;
+  named_to = matched.named_to;
+  placed = placed_set ts i t u there same_range same_names None places matched.placed;
+  as_many = length_set ts i u ∙ matched.as_many;
+}
+
+-- the tablet of a row would be too full
+pub over_full : (places : List PlaceView) (ts : List Tablet) (row : List ℕ) (edits : List Edit) (i : ℕ) (t : Tablet) → HasTabletAt places ts row i → slice_get ts i ≡ Some t → ¬ IsWithinLimits (with_edits (memory_of t) edits) → Overfills places ts row edits
+over_full places ts row edits i t at there over =
+    let number : at.place.tablet ≡ suc i = let number = at.number in omega arith in
+    record { place = at.place; holder = at.holder; tablet = t; numbered = ap (λ (n : ℕ). tablet_numbered n ts) number ∙ there; over = over }

@@ -1,0 +1,101 @@
+-- One tablet is compacted, and its place lists its files.
+use Rattle.std.proofs.Common.{rules, refl, ap, ◌∙◌, map}
+use Rattle.std.specs.Vec.{vec_capacity}
+use Rattle.metadata_table.specs.Table.{with_files}
+use Rattle.tablet.specs.Views.{names_of}
+use Rattle.row_atomic.specs.Clusters.{spot_of}
+use Rattle.row_atomic.specs.Changes.{IsCleaned, IsFull, IsMade, IsTooLarge, MeetsBadCount}
+use Rattle.row_atomic.proofs.Answering.{found_there, undamaged}
+use Rattle.row_atomic.proofs.Changing.{at_order, has_room, if_err, in_order, is_below, is_set, matched_unchanged, matched_listed, numbered_new, numbered_old, parts_stay, remade, same_spots, stays}
+use Rattle.row_atomic.proofs.cluster.Cluster.compact_tablet.Goals as goal
+
+pub invariant_of-self : goal.invariant_of-self
+invariant_of-self g c =
+    let at = rw (← c.self.view_is) at c.position-index.ensures in
+    let there = found_there c.self.inside.tablets.items c.position-index.result at.tablet c.index_mut.result.now at.there c.index_mut.ensures.value in
+    matched_unchanged c.self.inside.file_limit (g.F.Files.contents c.self.inside.files) (g.F.Files.contents c.compact.new.files) c.self.inside.next_name c.compact.new.next_name c.self.inside.table c.self.inside.tablets.items c.position-index.result c.index_mut.result.now c.compact.new.tablet there c.compact.ensures.name c.compact.ensures.limit c.in_err-compact.ensures.err c.self.invariant
+
+pub returns-in_err-compact-clause-kept : goal.returns-in_err-compact-clause-kept
+returns-in_err-compact-clause-kept g c =
+    let at = rw (← c.self.view_is) at c.position-index.ensures in
+    let there = found_there c.self.inside.tablets.items c.position-index.result at.tablet c.index_mut.result.now at.there c.index_mut.ensures.value in
+    rw (← c.self.view_is) (λ order. stays c.self.inside.tablets.items c.position-index.result c.index_mut.result.now c.compact.new.tablet there c.others_stay.ensures (g.F.Files.contents c.self.inside.files) (g.F.Files.contents c.compact.new.files) c.self.inside.next_name c.compact.new.next_name c.compact.ensures.name c.compact.ensures.keeps order)
+
+pub returns-in_err-compact-clause-err : goal.returns-in_err-compact-clause-err
+returns-in_err-compact-clause-err g c =
+    let at = rw (← c.self.view_is) at c.position-index.ensures in
+    let there = found_there c.self.inside.tablets.items c.position-index.result at.tablet c.index_mut.result.now at.there c.index_mut.ensures.value in
+    if_err _ c.from_residual-in_err-compact.result (rw (← c.self.view_is) (record { places = refl; tablets = parts_stay c.self.inside.tablets.items c.position-index.result c.index_mut.result.now c.compact.new.tablet there c.in_err-compact.ensures.err }))
+
+pub returns-in_err-compact-clause-count : goal.returns-in_err-compact-clause-count
+returns-in_err-compact-clause-count g c =
+    let at = rw (← c.self.view_is) at c.position-index.ensures in
+    let there = found_there c.self.inside.tablets.items c.position-index.result at.tablet c.index_mut.result.now at.there c.index_mut.ensures.value in
+    λ is. rw (← c.self.view_is) (numbered_old c.self.inside.tablets.items c.position-index.result c.index_mut.result.now c.compact.new.tablet there (MeetsBadCount c.args.compaction) c.args.tablet at.number (c.compact.ensures.count (search rules)))
+
+pub returns-in_err-compact-clause-full : goal.returns-in_err-compact-clause-full
+returns-in_err-compact-clause-full g c =
+    let at = rw (← c.self.view_is) at c.position-index.ensures in
+    let there = found_there c.self.inside.tablets.items c.position-index.result at.tablet c.index_mut.result.now at.there c.index_mut.ensures.value in
+    λ is. rw (← c.self.view_is) (numbered_old c.self.inside.tablets.items c.position-index.result c.index_mut.result.now c.compact.new.tablet there IsFull c.args.tablet at.number (c.compact.ensures.full (search rules)))
+
+pub returns-in_err-compact-clause-large : goal.returns-in_err-compact-clause-large
+returns-in_err-compact-clause-large g c =
+    let at = rw (← c.self.view_is) at c.position-index.ensures in
+    let there = found_there c.self.inside.tablets.items c.position-index.result at.tablet c.index_mut.result.now at.there c.index_mut.ensures.value in
+    rw (← c.self.view_is) (λ order is. numbered_old c.self.inside.tablets.items c.position-index.result c.index_mut.result.now c.compact.new.tablet there (IsTooLarge c.self.inside.file_limit (g.F.Files.contents c.self.inside.files) c.args.compaction) c.args.tablet at.number (at_order _ (g.F.Files.contents c.self.inside.files) c.self.inside.next_name c.self.inside.tablets.items c.position-index.result c.index_mut.result.now there order (c.compact.ensures.large (search rules))))
+
+pub returns-in_err-compact-clause-undamaged : goal.returns-in_err-compact-clause-undamaged
+returns-in_err-compact-clause-undamaged g c =
+    let at = rw (← c.self.view_is) at c.position-index.ensures in
+    let there = found_there c.self.inside.tablets.items c.position-index.result at.tablet c.index_mut.result.now at.there c.index_mut.ensures.value in
+    rw (← c.self.view_is) (λ order is. undamaged (g.F.Files.contents c.self.inside.files) c.self.inside.next_name c.self.inside.tablets.items order c.position-index.result c.index_mut.result.now _ there c.compact.ensures.damaged (search rules))
+
+pub index-requires-2 : goal.index-requires-2
+index-requires-2 g c =
+    let at = rw (← c.self.view_is) at c.position-index.ensures in
+    let there = found_there c.self.inside.tablets.items c.position-index.result at.tablet c.index_mut.result.now at.there c.index_mut.ensures.value in
+    let below = is_below c.self.inside.tablets.items c.position-index.result c.index_mut.result.now there in
+    search rules
+
+pub list_files-requires-clause-room : goal.list_files-requires-clause-room
+list_files-requires-clause-room g c =
+    let at = rw (← c.self.view_is) at c.position-index.ensures in
+    let there = found_there c.self.inside.tablets.items c.position-index.result at.tablet c.index_mut.result.now at.there c.index_mut.ensures.value in
+    has_room c.self.inside.tablets.items c.position-index.result c.index_mut.result.now c.compact.new.tablet c.index.result.now c.index-2.result.now (vec_capacity c.in_ok-names.names) there c.index.ensures c.index-2.ensures c.in_ok-names.ensures.room c.in_ok-compact.ensures.few
+
+pub invariant_of-self-2 : goal.invariant_of-self-2
+invariant_of-self-2 g c =
+    let at = rw (← c.self.view_is) at c.position-index.ensures in
+    let there = found_there c.self.inside.tablets.items c.position-index.result at.tablet c.index_mut.result.now at.there c.index_mut.ensures.value in
+    matched_listed c.self.inside.file_limit (g.F.Files.contents c.self.inside.files) (g.F.Files.contents c.compact.new.files) c.self.inside.next_name c.compact.new.next_name c.self.inside.table c.list_files.new.table c.self.inside.tablets.items c.args.tablet c.position-index.result c.index_mut.result.now c.compact.new.tablet at.number there c.compact.ensures.name c.compact.ensures.limit c.compact.ensures.range (c.list_files.ensures ∙ ap (λ t. with_files c.args.tablet (names_of t) c.self.inside.table) (is_set c.self.inside.tablets.items c.position-index.result c.index_mut.result.now c.compact.new.tablet c.index-2.result.now there c.index-2.ensures)) c.self.invariant
+
+pub returns-clause-kept : goal.returns-clause-kept
+returns-clause-kept g c =
+    let at = rw (← c.self.view_is) at c.position-index.ensures in
+    let there = found_there c.self.inside.tablets.items c.position-index.result at.tablet c.index_mut.result.now at.there c.index_mut.ensures.value in
+    rw (← c.self.view_is) (λ order. stays c.self.inside.tablets.items c.position-index.result c.index_mut.result.now c.compact.new.tablet there c.others_stay.ensures (g.F.Files.contents c.self.inside.files) (g.F.Files.contents c.compact.new.files) c.self.inside.next_name c.compact.new.next_name c.compact.ensures.name c.compact.ensures.keeps order)
+
+pub returns-clause-made : goal.returns-clause-made
+returns-clause-made g c =
+    let at = rw (← c.self.view_is) at c.position-index.ensures in
+    let there = found_there c.self.inside.tablets.items c.position-index.result at.tablet c.index_mut.result.now at.there c.index_mut.ensures.value in
+    rw (← c.self.view_is) (remade c.self.inside.tablets.items c.position-index.result c.index_mut.result.now c.compact.new.tablet there (IsMade c.args.compaction) c.args.tablet at.number c.in_ok-compact.ensures.made)
+
+pub returns-clause-cleaned : goal.returns-clause-cleaned
+returns-clause-cleaned g c =
+    let at = rw (← c.self.view_is) at c.position-index.ensures in
+    let there = found_there c.self.inside.tablets.items c.position-index.result at.tablet c.index_mut.result.now at.there c.index_mut.ensures.value in
+    rw (← c.self.view_is) (λ order. numbered_new c.self.inside.tablets.items c.position-index.result c.index_mut.result.now c.compact.new.tablet there (IsCleaned c.args.compaction (g.F.Files.contents c.compact.new.files)) c.args.tablet at.number (in_order _ (g.F.Files.contents c.self.inside.files) c.self.inside.next_name c.self.inside.tablets.items c.position-index.result c.index_mut.result.now there order c.in_ok-compact.ensures.cleaned))
+
+pub returns-clause-listed : goal.returns-clause-listed
+returns-clause-listed g c =
+    let at = rw (← c.self.view_is) at c.position-index.ensures in
+    let there = found_there c.self.inside.tablets.items c.position-index.result at.tablet c.index_mut.result.now at.there c.index_mut.ensures.value in
+    rw (← c.self.view_is) (numbered_new c.self.inside.tablets.items c.position-index.result c.index_mut.result.now c.compact.new.tablet there _ c.args.tablet at.number (c.list_files.ensures ∙ ap (λ t. with_files c.args.tablet (names_of t) c.self.inside.table) (is_set c.self.inside.tablets.items c.position-index.result c.index_mut.result.now c.compact.new.tablet c.index-2.result.now there c.index-2.ensures)))
+
+pub returns-clause-spots : goal.returns-clause-spots
+returns-clause-spots g c =
+    let at = rw (← c.self.view_is) at c.position-index.ensures in
+    let there = found_there c.self.inside.tablets.items c.position-index.result at.tablet c.index_mut.result.now at.there c.index_mut.ensures.value in
+    rw (← c.self.view_is) (ap (map spot_of) (c.list_files.ensures ∙ ap (λ t. with_files c.args.tablet (names_of t) c.self.inside.table) (is_set c.self.inside.tablets.items c.position-index.result c.index_mut.result.now c.compact.new.tablet c.index-2.result.now there c.index-2.ensures)) ∙ same_spots c.args.tablet (names_of c.compact.new.tablet) c.self.inside.table)

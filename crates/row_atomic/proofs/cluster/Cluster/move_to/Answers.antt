@@ -1,0 +1,57 @@
+-- The minor compaction comes first, and then the files are opened anew.
+use Rattle.std.proofs.Common.{rules, ◌∙◌, subst, sym}
+use Rattle.metadata_table.specs.Places.{view_of}
+use Rattle.metadata_table.specs.Table.{HasTablet}
+use Rattle.row_atomic.proofs.Moving.{elsewhere, known_after, matched_assigned}
+use Rattle.row_atomic.proofs.cluster.Cluster.move_to.Goals as goal
+
+pub returns-in_err-compact_tablet-clause-full : goal.returns-in_err-compact_tablet-clause-full
+returns-in_err-compact_tablet-clause-full g c = λ is. c.compact_tablet.ensures.full (search rules)
+
+pub returns-in_err-compact_tablet-clause-large : goal.returns-in_err-compact_tablet-clause-large
+returns-in_err-compact_tablet-clause-large g c = λ order is. c.compact_tablet.ensures.large order (search rules)
+
+pub reopen-requires-clause-flushed : goal.reopen-requires-clause-flushed
+reopen-requires-clause-flushed g c =
+    let made = c.in_ok-compact_tablet.ensures.made in
+    record { tablet = made.is; numbered = made.is_numbered; such = made.made.memory }
+
+pub returns-in_err-reopen-clause-kept : goal.returns-in_err-reopen-clause-kept
+returns-in_err-reopen-clause-kept g c = λ order.
+    let first = c.compact_tablet.ensures.kept order in
+    let second = c.reopen.ensures.kept first.0 in
+    (second.0, second.1 ∙ first.1)
+
+pub invariant_of-self : goal.invariant_of-self
+invariant_of-self g c = matched_assigned c.self-2.inside.file_limit c.self-2.inside.next_name c.args.tablet c.args.server c.self-2.inside.table c.assign.new.self c.self-2.inside.tablets.items c.assign.result c.assign.ensures.ok c.assign.ensures.err c.self-2.invariant
+
+pub returns-clause-kept : goal.returns-clause-kept
+returns-clause-kept g c = λ order.
+    let first = c.compact_tablet.ensures.kept order in
+    let second = rw (← c.self-2.view_is) at (c.reopen.ensures.kept first.0) in
+    (second.0, second.1 ∙ first.1)
+
+pub reopen-requires-clause-known : goal.reopen-requires-clause-known
+reopen-requires-clause-known g c =
+    let listed = rw (← c.self.view_is) at c.in_ok-compact_tablet.ensures.listed in
+    known_after c.args.tablet c.self.inside.table c.compact_tablet.new.self.places c.compact_tablet.new.self.tablets listed (search rules)
+
+pub returns-in_err-compact_tablet-clause-same : goal.returns-in_err-compact_tablet-clause-same
+returns-in_err-compact_tablet-clause-same g c =
+    rw (← c.self.view_is) (λ on. absurd (elsewhere c.self.inside.table (view_of c.in_ok-from.field-0.now) c.args.tablet c.args.server c.in_ok-from.ensures.table c.in_ok-from.ensures.found c.in_ok-from.ensures.named c.if-server-from.false on))
+
+pub returns-in_err-reopen-clause-same : goal.returns-in_err-reopen-clause-same
+returns-in_err-reopen-clause-same g c =
+    rw (← c.self.view_is) (λ on. absurd (elsewhere c.self.inside.table (view_of c.in_ok-from.field-0.now) c.args.tablet c.args.server c.in_ok-from.ensures.table c.in_ok-from.ensures.found c.in_ok-from.ensures.named c.if-server-from.false on))
+
+pub returns-clause-same : goal.returns-clause-same
+returns-clause-same g c =
+    rw (← c.self.view_is) (λ on. absurd (elsewhere c.self.inside.table (view_of c.in_ok-from.field-0.now) c.args.tablet c.args.server c.in_ok-from.ensures.table c.in_ok-from.ensures.found c.in_ok-from.ensures.named c.if-server-from.false on))
+
+pub returns-clause-unknown : goal.returns-clause-unknown
+returns-clause-unknown g c =
+    let listed = rw (← c.self.view_is) at c.in_ok-compact_tablet.ensures.listed in
+    let has : HasTablet c.args.tablet c.self.inside.table = (view_of c.in_ok-from.field-0.now, c.in_ok-from.ensures.found, c.in_ok-from.ensures.named) in
+    let after = known_after c.args.tablet c.self.inside.table c.compact_tablet.new.self.places c.compact_tablet.new.self.tablets listed has in
+    let same = rw (← c.self-2.view_is) at c.reopen.ensures.places in
+    rw (← c.self.view_is) ((λ is known. c.assign.ensures.unknown.0 is (subst (HasTablet c.args.tablet) (sym same) after)), (λ no. absurd (no has)))

@@ -1,0 +1,24 @@
+-- The first tablet shows nothing, and has all rows.
+use Rattle.std.proofs.Common.{List, [], ◌∷◌, sym, subst, ap, ◌∙◌}
+use Rattle.metadata_table.specs.Places.{PlaceView}
+use Rattle.tablet.specs.declared.tablet.Tablet.{Tablet}
+use Rattle.row_atomic.specs.Clusters.{InOrder, IsMatched, cells_in}
+use Rattle.row_atomic.proofs.Fresh.{new_cells, new_in_order, new_matched}
+use Rattle.row_atomic.proofs.cluster.Cluster.new.Goals as goal
+
+pub invariant_of-result : goal.invariant_of-result
+invariant_of-result g c =
+    let first = c.in-Ok.ensures.tablet in
+    subst (λ (ts : List Tablet). IsMatched c.args.file_limit 1 c.in-Ok.table ts) (sym first.alone)
+    (subst (λ (ps : List PlaceView). IsMatched c.args.file_limit 1 ps (first.tablet ∷ [])) (sym c.in-Ok.ensures.table)
+    (new_matched first.tablet first.memory first.files c.args.file_limit c.requires.least c.requires.most first.range))
+
+pub returns-in-Ok-clause-cells : goal.returns-in-Ok-clause-cells
+returns-in-Ok-clause-cells g c =
+    let first = c.in-Ok.ensures.tablet in
+    ap (cells_in (g.F.Files.contents c.args.files)) first.alone ∙ new_cells first.tablet first.memory first.files (g.F.Files.contents c.args.files)
+
+pub returns-in-Ok-clause-holds : goal.returns-in-Ok-clause-holds
+returns-in-Ok-clause-holds g c =
+    let first = c.in-Ok.ensures.tablet in
+    λ told. subst (λ (ts : List Tablet). InOrder (g.F.Files.contents c.args.files) 1 ts) (sym first.alone) (new_in_order first.tablet first.memory first.files (g.F.Files.contents c.args.files) 1 told)

@@ -1,0 +1,19 @@
+-- The tablet shows what it showed.
+use Rattle.std.proofs.Common.{rules}
+use Rattle.row_atomic.proofs.Answering.{found_there, matched_set, undamaged}
+use Rattle.row_atomic.proofs.Moving.{opened_keeps}
+use Rattle.row_atomic.proofs.Splitting.{emptied_at}
+use Rattle.row_atomic.proofs.cluster.Cluster.reopen.Goals as goal
+
+pub invariant_of-self-2 : goal.invariant_of-self-2
+invariant_of-self-2 g c =
+    let at = rw (← c.self.view_is) at c.position-index.ensures in
+    let there = found_there c.self.inside.tablets.items c.position-index.result at.tablet c.index.result.now at.there c.index.ensures in
+    matched_set c.self.inside.file_limit c.self.inside.next_name c.self.inside.table c.self.inside.tablets.items c.position-index.result c.index.result.now c.in_ok-opened.opened there c.in_ok-opened.ensures.range c.in_ok-opened.ensures.names c.self.invariant
+
+pub returns-clause-kept : goal.returns-clause-kept
+returns-clause-kept g c =
+    let at = rw (← c.self.view_is) at c.position-index.ensures in
+    let there = found_there c.self.inside.tablets.items c.position-index.result at.tablet c.index.result.now at.there c.index.ensures in
+    let memory = emptied_at c.self.inside.tablets.items c.args.tablet c.position-index.result c.index.result.now at.number there (rw (← c.self.view_is) at c.requires.flushed) in
+    rw (← c.self.view_is) (opened_keeps c.same_cells.ensures c.self.inside.tablets.items c.position-index.result c.index.result.now c.in_ok-opened.opened there c.in_ok-opened.ensures.range c.in_ok-opened.ensures.names memory c.in_ok-opened.ensures.memory (g.F.Files.contents c.self.inside.files) (g.F.Files.contents c.open_again.new.files) c.self.inside.next_name c.open_again.ensures.same c.in_ok-opened.ensures.holds)

@@ -1,0 +1,19 @@
+-- What answers the commands that are left completes the answers to all, and there is room for the outcomes.
+use Rattle.std.proofs.Common.{◌≤◌, ◌+◌, length}
+use Rattle.std.specs.Prelude.{vec_len, vec_capacity}
+use Rattle.std.specs.List.{AllByRecursion}
+use Rattle.std.specs.Vec.Iter.{into_iter_items}
+use Rattle.row_atomic.specs.Changes.{Holds}
+use Rattle.row_atomic.specs.Clusters.{cells_in}
+use Rattle.row_atomic.specs.Commands.{IsUnderRow}
+use Rattle.row_atomic.proofs.Commanding.{Completes}
+use Rattle.row_atomic.proofs.cluster.Cluster.run.Given as goal
+
+abbrev pub invariant-loop-command : goal.invariant-loop-command
+invariant-loop-command g l = record {
+  room : vec_len l.outcomes + length (into_iter_items l.command-iterator) ≤ vec_capacity l.outcomes;
+  under : AllByRecursion IsUnderRow (into_iter_items l.command-iterator);
+  still : Holds g.F.Files.contents l.initial.self → Holds g.F.Files.contents l.self;
+  answers : Holds g.F.Files.contents l.initial.self
+      → Completes (cells_in (g.F.Files.contents l.initial.self.files) l.initial.self.tablets) l.fn.commands.items l.outcomes.items (cells_in (g.F.Files.contents l.self.files) l.self.tablets) (into_iter_items l.command-iterator);
+}

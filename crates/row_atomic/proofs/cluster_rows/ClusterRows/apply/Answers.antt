@@ -1,0 +1,35 @@
+-- The edits are made in the row's tablet, and in no other.
+use Rattle.std.proofs.Common.{ap, map}
+use Rattle.sorted_file.specs.Opened.{name_of}
+use Rattle.row_atomic.proofs.Answering.{apply_answer, apply_still, found_there, matched_set, over_full, owner_at}
+use Rattle.row_atomic.proofs.cluster_rows.ClusterRows.apply.Goals as goal
+
+pub invariant_of-self : goal.invariant_of-self
+invariant_of-self g c =
+    let at = rw (← c.self.view_is) at c.index_of-index.ensures.holder in
+    let ts = c.self.inside.tablets.items in
+    let there = found_there ts c.index_of-index.result at.tablet c.index_mut.result.now at.there c.index_mut.ensures.value in
+    matched_set c.self.inside.file_limit c.self.inside.next_name c.self.inside.table ts c.index_of-index.result c.index_mut.result.now c.apply.new.self there c.apply.ensures.range (ap (λ files. map name_of files) c.apply.ensures.files) c.self.invariant
+
+pub returns-clause-ok : goal.returns-clause-ok
+returns-clause-ok g c =
+    let at = rw (← c.self.view_is) at c.index_of-index.ensures.holder in
+    let table = rw (← c.self.view_is) at c.index_of-index.ensures.table in
+    let ts = c.self.inside.tablets.items in
+    let there = found_there ts c.index_of-index.result at.tablet c.index_mut.result.now at.there c.index_mut.ensures.value in
+    let owns = owner_at c.self.inside.table ts c.args.row.now c.index_of-index.result c.index_mut.result.now table c.self.invariant.placed c.self.invariant.as_many at there in
+    rw (← c.self.view_is) (λ order. apply_answer (g.F.Files.contents c.self.inside.files) c.self.inside.next_name ts order c.index_of-index.result c.index_mut.result.now c.apply.new.self there c.stays_in_range.ensures c.args.row.now c.args.edits.items c.apply.result owns c.apply.ensures.range c.requires c.apply.ensures.ok c.apply.ensures.still)
+
+pub returns-clause-still : goal.returns-clause-still
+returns-clause-still g c =
+    let at = rw (← c.self.view_is) at c.index_of-index.ensures.holder in
+    let ts = c.self.inside.tablets.items in
+    let there = found_there ts c.index_of-index.result at.tablet c.index_mut.result.now at.there c.index_mut.ensures.value in
+    rw (← c.self.view_is) (λ order. apply_still (g.F.Files.contents c.self.inside.files) c.self.inside.next_name ts order c.index_of-index.result c.index_mut.result.now c.apply.new.self there c.apply.result c.apply.ensures.files c.apply.ensures.still c.apply.ensures.err)
+
+pub returns-clause-full : goal.returns-clause-full
+returns-clause-full g c =
+    let at = rw (← c.self.view_is) at c.index_of-index.ensures.holder in
+    let ts = c.self.inside.tablets.items in
+    let there = found_there ts c.index_of-index.result at.tablet c.index_mut.result.now at.there c.index_mut.ensures.value in
+    rw (← c.self.view_is) (λ full. over_full c.self.inside.table ts c.args.row.now c.args.edits.items c.index_of-index.result c.index_mut.result.now at there (c.apply.ensures.full full))

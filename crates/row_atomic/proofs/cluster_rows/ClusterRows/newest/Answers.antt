@@ -1,0 +1,19 @@
+-- The cells of the row are those of its tablet.
+use Rattle.row_atomic.proofs.Answering.{found_there, newest_answer, owner_at, undamaged}
+use Rattle.row_atomic.proofs.cluster_rows.ClusterRows.newest.Goals as goal
+
+pub returns-clause-found : goal.returns-clause-found
+returns-clause-found g c =
+    let at = rw (← c.self.view_is) at c.index_of-index.ensures.holder in
+    let table = rw (← c.self.view_is) at c.index_of-index.ensures.table in
+    let ts = c.self.inside.tablets.items in
+    let there = found_there ts c.index_of-index.result at.tablet c.index.result.now at.there c.index.ensures in
+    let owns = owner_at c.self.inside.table ts c.args.row.now c.index_of-index.result c.index.result.now table c.self.invariant.placed c.self.invariant.as_many at there in
+    rw (← c.self.view_is) (λ order. newest_answer (g.F.Files.contents c.self.inside.files) c.self.inside.next_name ts order c.stays_in_range.ensures _ c.args.row.now c.args.family.now c.args.qualifier c.args.lo c.args.hi c.index_of-index.result c.index.result.now c.newest.result owns c.newest.ensures.found)
+
+pub returns-clause-undamaged : goal.returns-clause-undamaged
+returns-clause-undamaged g c =
+    let at = rw (← c.self.view_is) at c.index_of-index.ensures.holder in
+    let ts = c.self.inside.tablets.items in
+    let there = found_there ts c.index_of-index.result at.tablet c.index.result.now at.there c.index.ensures in
+    rw (← c.self.view_is) (λ order. undamaged (g.F.Files.contents c.self.inside.files) c.self.inside.next_name ts order c.index_of-index.result c.index.result.now _ there c.newest.ensures.damaged)

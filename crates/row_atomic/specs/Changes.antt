@@ -1,0 +1,174 @@
+-- What the calls of a cluster do to its tablets and their places.
+use Rattle.std.specs.Prelude.{◌≡◌, ◌≢◌, ◌≤◌, ◌<◌, ◌+◌, ℕ, Bool, true, false, ◌&&◌, ◌==◌, not, nat_lt, zero, suc, List, [], ◌∷◌, length, map, filter, take, Option, Some, None, IsSome, IsSomeAnd, IfSome, ⊤, ◌⊎◌, if◌then◌else◌}
+use Rattle.std.specs.List.{AllByRecursion, Contains, slice_get}
+use Rattle.std.specs.FinMap as map
+use Rattle.cell_key.specs.Entries.{Entry}
+use Rattle.cell_key.specs.declared.refusals.Refusal.{Refusal}
+use Rattle.cell_key.specs.declared.refusals.Refusal.TheVariants as refused
+use Rattle.file_store.specs.Store.{Contents}
+use Rattle.sorted_file.specs.Grammar.{FitsIn}
+use Rattle.sorted_file.specs.Opened.{listed}
+use Rattle.sorted_file.specs.declared.opened.SortedFile.{SortedFile}
+use Rattle.compaction.specs.Writing.{written}
+use Rattle.metadata_table.specs.Places.{PlaceView}
+use Rattle.metadata_table.specs.Table.{IsHolder, Cuts, moved, with_files}
+use Rattle.tablet.specs.Ranges.{seen}
+use Rattle.tablet.specs.Views.{range_of, memory_of, files_of, names_of, lists_of}
+use Rattle.tablet.specs.Compactions.{IsCompactionRefusal}
+use Rattle.tablet.specs.declared.ranges.RowRange.{RowRange}
+use Rattle.tablet.specs.declared.tablet.Tablet.{Tablet}
+use Rattle.row_atomic.specs.Clusters.{ClusterState, InOrder, cells_in, tablet_numbered}
+use Rattle.row_atomic.specs.declared.cluster_compactions.Compaction.{Compaction}
+use Rattle.row_atomic.specs.declared.cluster_compactions.Compaction.TheVariants.{Minor, Merge, Major}
+
+-- ---- all tablets
+
+-- the tablets of a cluster are in order over its files
+abbrev pub Holds : {F : Type 0} → (F → Option Contents) → ClusterState F → Type 0
+Holds contents state = InOrder (contents state.files) state.next_name state.tablets
+
+-- Where the tablets were in order they are, and the cells are as before.
+abbrev pub KeepsMap : {F : Type 0} → (F → Option Contents) → ClusterState F → ClusterState F → Type 0
+KeepsMap contents old new = Holds contents old → Holds contents new × (cells_in (contents new.files) new.tablets ≡ cells_in (contents old.files) old.tablets)
+
+-- a tablet's range, its memtable's entries and its open files
+abbrev pub parts_of : Tablet → RowRange × (List Entry × List SortedFile)
+parts_of t = (range_of t, (memory_of t, files_of t))
+
+-- the places are as before, and so are the tablets
+pub record IsAsBefore {F : Type 0} (old new : ClusterState F) : Type 0 where
+  pub places : new.places ≡ old.places
+  pub tablets : map parts_of new.tablets ≡ map parts_of old.tablets
+
+-- the tablet of a number stands at the index
+pub record IsAt (n : ℕ) (tablets : List Tablet) (index : ℕ) : Type 0 where
+  pub number : n ≡ index + 1
+  pub tablet : Tablet
+  pub there : slice_get tablets index ≡ Some tablet
+
+-- the tablet of a number is such
+pub record Numbered (P : Tablet → Type 0) (n : ℕ) (tablets : List Tablet) : Type 0 where
+  pub tablet : Tablet
+  pub numbered : tablet_numbered n tablets ≡ Some tablet
+  pub such : P tablet
+
+-- the tablet of a number became another one, which was so made of it, and all others stay
+pub record Remakes (Made : Tablet → Tablet → Type 0) (n : ℕ) (old new : List Tablet) : Type 0 where
+  pub was : Tablet
+  pub is : Tablet
+  pub was_numbered : tablet_numbered n old ≡ Some was
+  pub is_numbered : tablet_numbered n new ≡ Some is
+  pub made : Made was is
+  pub others : (other : ℕ) → other ≢ n → tablet_numbered other new ≡ tablet_numbered other old
+
+-- ---- compactions
+
+-- one more, if there are entries to be written
+abbrev pub more_by : List Entry → ℕ → ℕ
+more_by [] n = n
+more_by (e ∷ es) n = n + 1
+
+-- the memtable was emptied, into one file more if it had entries
+pub record IsFlushed (t u : Tablet) : Type 0 where
+  pub memory : memory_of u ≡ []
+  pub files : length (names_of u) ≡ more_by (memory_of t) (length (names_of t))
+
+-- this many files became one
+pub record IsMerged (count : ℕ) (t u : Tablet) : Type 0 where
+  pub memory : memory_of u ≡ memory_of t
+  pub files : length (names_of u) + count ≡ length (names_of t) + 1
+
+-- all became one file
+pub record IsWhole (t u : Tablet) : Type 0 where
+  pub memory : memory_of u ≡ []
+  pub files : length (names_of u) ≡ 1
+
+abbrev pub IsMade : Compaction → Tablet → Tablet → Type 0
+IsMade Minor t u = IsFlushed t u
+IsMade (Merge count) t u = IsMerged count t u
+IsMade Major t u = IsWhole t u
+
+-- an entry has a value
+abbrev pub HasValue : Entry → Type 0
+HasValue entry = IsSome entry.1
+
+-- none of a tablet's entries is an erasure
+abbrev pub LacksErasures : Option Contents → Tablet → Type 0
+LacksErasures told t = IsSomeAnd told (λ m. AllByRecursion (AllByRecursion HasValue) (lists_of m t))
+
+-- none is after a major compaction
+abbrev pub IsCleaned : Compaction → Option Contents → Tablet → Type 0
+IsCleaned Major told t = LacksErasures told t
+IsCleaned _ told t = ⊤
+
+-- the entries that a compaction writes
+abbrev pub written_by : Compaction → Contents → Tablet → List Entry
+written_by Minor m t = seen (range_of t) (memory_of t)
+written_by (Merge count) m t = written (nat_lt count (length (names_of t))) (map (seen (range_of t)) (take count (map (listed m) (files_of t))))
+written_by Major m t = written false (map (seen (range_of t)) (memory_of t ∷ map (listed m) (files_of t)))
+
+-- their file would have more bytes than a file may have
+abbrev pub IsTooLarge : ℕ → Option Contents → Compaction → Tablet → Type 0
+IsTooLarge limit told compaction t = IfSome told (λ m. ¬ FitsIn limit (written_by compaction m t))
+
+-- this many files can't be merged
+abbrev pub IsBadCount : ℕ → Tablet → Type 0
+IsBadCount count t = ¬ ((2 ≤ count) × (count ≤ length (names_of t)))
+
+abbrev pub MeetsBadCount : Compaction → Tablet → Type 0
+MeetsBadCount (Merge count) t = IsBadCount count t
+MeetsBadCount _ t = ⊥
+
+-- there are as many files as there may be, and one more would come
+pub record IsFull (t : Tablet) : Type 0 where
+  pub memory : memory_of t ≢ []
+  pub files : 64 ≤ length (names_of t)
+
+-- what a compaction of a known tablet may be refused
+abbrev pub IsRefusalOf : Compaction → Refusal → Type 0
+IsRefusalOf Minor refused.TooManyFiles = ⊤
+IsRefusalOf Minor refusal = IsCompactionRefusal refusal
+IsRefusalOf (Merge count) refused.BadCount = ⊤
+IsRefusalOf (Merge count) refusal = IsCompactionRefusal refusal
+IsRefusalOf Major refusal = IsCompactionRefusal refusal
+
+-- what that of a tablet by its number may be refused
+abbrev pub IsNumberedRefusal : Compaction → Refusal → Type 0
+IsNumberedRefusal compaction refused.UnknownTablet = ⊤
+IsNumberedRefusal compaction refusal = IsRefusalOf compaction refusal
+
+-- ---- splits and moves
+
+-- its memtable is empty
+abbrev pub IsEmptied : Tablet → Type 0
+IsEmptied t = memory_of t ≡ []
+
+-- the tablet of the place that holds the row is such
+pub record OfHolder (P : Tablet → Type 0) (row : List ℕ) (places : List PlaceView) (tablets : List Tablet) : Type 0 where
+  pub place : PlaceView
+  pub holder : IsHolder row places place
+  pub tablet : Numbered P place.tablet tablets
+
+-- The tablet that holds the row was cut there, after it was given files.
+pub record IsCut (row : List ℕ) (left : ℕ) (old new : List PlaceView) : Type 0 where
+  pub place : PlaceView
+  pub holder : IsHolder row old place
+  pub names : List ℕ
+  pub cut : Cuts row left (with_files place.tablet names old) new
+
+-- a tablet was put on a server, after it was given files
+pub record IsMoved (n server : ℕ) (old new : List PlaceView) : Type 0 where
+  pub names : List ℕ
+  pub moved : new ≡ moved n server (with_files n names old)
+
+-- a tablet is on a server
+abbrev pub IsOn : ℕ → ℕ → List PlaceView → Type 0
+IsOn n server places = (p : PlaceView) × Contains places p × (p.tablet ≡ n) × (p.server ≡ server)
+
+abbrev pub IsSplitRefusal : Refusal → Type 0
+IsSplitRefusal refused.BadSplit = ⊤
+IsSplitRefusal refusal = IsRefusalOf Minor refusal
+
+abbrev pub IsMoveRefusal : Refusal → Type 0
+IsMoveRefusal refused.UnknownServer = ⊤
+IsMoveRefusal refusal = IsNumberedRefusal Minor refusal

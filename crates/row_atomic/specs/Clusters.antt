@@ -1,0 +1,119 @@
+-- What a cluster of tablets holds and shows.
+use Rattle.std.specs.Prelude.{◌≡◌, ◌≤◌, ◌^◌, ◌+◌, ℕ, zero, suc, List, [], ◌∷◌, length, map, flat_map, Option, None, Some, ⊤}
+use Rattle.std.specs.List.{AllByRecursion, slice_get}
+use Rattle.std.specs.FinMap.{empty, from_entries, entries, get}
+use Rattle.cell_key.specs.Cells.{Cells}
+use Rattle.cell_key.specs.declared.edits.Edit.{Edit}
+use Rattle.cell_key.specs.declared.keys.CellKey.{CellKey}
+use Rattle.file_store.specs.Store.{Contents}
+use Rattle.memtable.specs.Edits.{IsWithinLimits, with_edits}
+use Rattle.cell_key.specs.Places.{Place}
+use Rattle.metadata_table.specs.Places.{PlaceView, EndsBefore}
+use Rattle.metadata_table.specs.Table.{IsHolder, IsTable}
+use Rattle.tablet.specs.Views.{Holds, IsBelow, cells_at, files_of, memory_of, names_of, range_of}
+use Rattle.tablet.specs.declared.tablet.Tablet.{Tablet}
+
+-- its files, the most bytes of a sorted file, the next file's name, the places of its tablets in the order of their ends, and
+-- the tablets, each at its number less 1
+pub record ClusterState (F : Type 0) : Type 0 where
+  pub files : F
+  pub file_limit : ℕ
+  pub next_name : ℕ
+  pub places : List PlaceView
+  pub tablets : List Tablet
+
+-- the tablet of a number, if there is one
+abbrev pub tablet_numbered : ℕ → List Tablet → Option Tablet
+tablet_numbered zero tablets = None
+tablet_numbered (suc i) tablets = slice_get tablets i
+
+-- ---- what it shows
+
+-- all cells of all cell maps
+abbrev pub joined : List Cells → Cells
+joined maps = from_entries (flat_map entries maps)
+
+-- the cells of tablets over files that are told: all cells of all of them
+abbrev pub cells_in : Option Contents → List Tablet → Cells
+cells_in None tablets = empty
+cells_in (Some m) tablets = joined (map (cells_at m) tablets)
+
+-- Over files that are told the files of each tablet are open, and their names come before the next one.
+pub record InOrder (told : Option Contents) (next : ℕ) (tablets : List Tablet) : Type 0 where
+  pub contents : Contents
+  pub are_told : told ≡ Some contents
+  pub each_open : AllByRecursion (Holds contents) tablets
+  pub each_below : AllByRecursion (IsBelow next) tablets
+
+-- the end of a tablet's rows, its number and its server
+abbrev pub Spot : Type 0
+Spot = Option (List ℕ) × (ℕ × ℕ)
+
+abbrev pub spot_of : PlaceView → Spot
+spot_of p = (p.end, (p.tablet, p.server))
+
+-- where the tablets are, in the order of their ends
+abbrev pub spots_of : {F : Type 0} → ClusterState F → List Spot
+spots_of state = map spot_of state.places
+
+-- With these edits the memtable of the tablet that holds the row would pass a limit.
+pub record Overfills (places : List PlaceView) (tablets : List Tablet) (row : List ℕ) (edits : List Edit) : Type 0 where
+  pub place : PlaceView
+  pub holder : IsHolder row places place
+  pub tablet : Tablet
+  pub numbered : tablet_numbered place.tablet tablets ≡ Some tablet
+  pub over : ¬ IsWithinLimits (with_edits (memory_of tablet) edits)
+
+-- ---- what is true of every cluster
+
+-- The tablet of a place is that of its number. It has the rows after this one, up to the place's end, and the files that the
+-- place lists.
+pub record IsPlaced (tablets : List Tablet) (before : Option (List ℕ)) (p : PlaceView) : Type 0 where
+  pub tablet : Tablet
+  pub numbered : tablet_numbered p.tablet tablets ≡ Some tablet
+  pub range : range_of tablet ≡ record { after = before; end = p.end }
+  pub names : names_of tablet ≡ p.files
+
+-- so is each of these places, whose rows begin after this one
+abbrev pub ArePlaced : List Tablet → Option (List ℕ) → List PlaceView → Type 0
+ArePlaced tablets before [] = ⊤
+ArePlaced tablets before (p ∷ ps) = IsPlaced tablets before p × ArePlaced tablets p.end ps
+
+-- Each tablet has a place, and the numbers are within their limits.
+pub record IsMatched (file_limit next_name : ℕ) (places : List PlaceView) (tablets : List Tablet) : Type 0 where
+  pub least : 32 ≤ file_limit
+  pub most : file_limit ≤ 1_073_741_824
+  pub named_from : 1 ≤ next_name
+  pub named_to : next_name ≤ 2 ^ 63
+  pub placed : ArePlaced tablets None places
+  pub as_many : length tablets ≡ length places
+
+-- the tablet of the place that holds a row stands at the index
+pub record HasTabletAt (places : List PlaceView) (tablets : List Tablet) (row : List ℕ) (index : ℕ) : Type 0 where
+  pub place : PlaceView
+  pub holder : IsHolder row places place
+  pub number : place.tablet ≡ index + 1
+  pub tablet : Tablet
+  pub there : slice_get tablets index ≡ Some tablet
+
+-- all rows of a place come before that of the cell after which a scan goes on
+abbrev pub PrecedesCell : PlaceView → Option Place → Type 0
+PrecedesCell p None = ⊥
+PrecedesCell p (Some cell) = EndsBefore p.end cell.0
+
+-- a tablet of all rows, with no entries and no files, stands alone
+pub record IsFirstTablet (tablets : List Tablet) : Type 0 where
+  pub tablet : Tablet
+  pub alone : tablets ≡ tablet ∷ []
+  pub range : range_of tablet ≡ record { after = None; end = None }
+  pub memory : memory_of tablet ≡ []
+  pub files : files_of tablet ≡ []
+
+-- ---- a law
+
+-- At the keys of a row the cells are those of the one tablet that holds the row.
+abbrev pub CellsByTablet : Type 0
+CellsByTablet =
+    (m : Contents) (limit next : ℕ) (places : List PlaceView) (tablets : List Tablet) (row : List ℕ) (p : PlaceView) (t : Tablet)
+    → IsTable places → IsMatched limit next places tablets → AllByRecursion (Holds m) tablets → IsHolder row places p → tablet_numbered p.tablet tablets ≡ Some t
+    → (key : CellKey) → key.row ≡ row → get (cells_in (Some m) tablets) key ≡ get (cells_at m t) key

@@ -1,0 +1,33 @@
+-- What a sweep of files removes (Bigtable: the master removes files that no tablet has by mark and sweep).
+use Rattle.std.specs.Prelude.{◌≡◌, ◌==◌, ◌||◌, ◌⊎◌, ℕ, Bool, not, false, List, [], ◌∷◌, length, filter, Option, Some, None, IsNone, IsSomeAnd}
+use Rattle.std.specs.List.{list_any}
+use Rattle.std.specs.FinMap.{get, keys, retain_keys}
+use Rattle.file_store.specs.Store.{Contents, without_file}
+use Rattle.metadata_table.specs.Places.{PlaceView}
+
+-- whether a file stays: it is the root, 0, or some tablet has it
+abbrev pub is_kept : List PlaceView → ℕ → Bool
+is_kept places name = name == 0 || list_any (λ p. list_any (λ file. file == name) p.files) places
+
+-- files without those that don't stay
+abbrev pub swept : List PlaceView → Contents → Contents
+swept places m = retain_keys m (is_kept places)
+
+-- those of names that don't stay
+abbrev pub unkept : List PlaceView → List ℕ → List ℕ
+unkept places names = filter (λ name. not (is_kept places name)) names
+
+-- contents without the files of names, one after the other
+abbrev pub without_files : List ℕ → Option Contents → Option Contents
+without_files [] told = told
+without_files (name ∷ names) told = without_files names (without_file name told)
+
+-- how many files don't stay
+abbrev pub count_swept : List PlaceView → Contents → ℕ
+count_swept places m = length (unkept places (keys m))
+
+-- Files that are told are told still, and each is as it was, or it is gone and didn't have to stay.
+abbrev pub MayLackUnkept : List PlaceView → Option Contents → Option Contents → Type 0
+MayLackUnkept places None new = IsNone new
+MayLackUnkept places (Some m) new =
+    IsSomeAnd new (λ n. (name : ℕ) → (get n name ≡ get m name) ⊎ ((is_kept places name ≡ false) × (get n name ≡ None)))

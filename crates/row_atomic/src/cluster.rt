@@ -1,0 +1,103 @@
+ghost use Rattle.std.specs.Prelude.{◌≡◌, ◌≤◌, ◌∷◌, [], IfErr, IfOk, IsSome};
+ghost use Rattle.std.specs.FinMap.{empty};
+ghost use Rattle.metadata_table.specs.Table.{first_place};
+ghost use Rattle.row_atomic.specs.Clusters.{InOrder, IsFirstTablet, cells_in};
+
+use cell_key::Refusal;
+use file_store::Files;
+use metadata_table::MetadataTable;
+use std::alloc::Global;
+use std::marker::Model;
+use tablet::Tablet;
+
+/// Tablets that together have all rows, over one store of files (Bigtable: a table is a set of tablets, each of which has the
+/// data of a range of rows).
+#[derive(Drop)]
+pub struct Cluster<F> {
+    pub(crate) alloc: Global,
+    pub(crate) files: F,
+    pub(crate) file_limit: u64,
+    pub(crate) next_name: u64,
+    pub(crate) table: MetadataTable,
+    pub(crate) tablets: Vec<Tablet>,
+}
+
+impl<F> Model for Cluster<F> {
+    ghost use Rattle.row_atomic.specs.Clusters.{ClusterState, IsMatched};
+
+    ghost Value = { ClusterState F };
+
+    ghost view = { λ cluster.
+        record { files = cluster.files; file_limit = cluster.file_limit; next_name = cluster.next_name; places = cluster.table; tablets = cluster.tablets.items } };
+
+    ghost invariant = { λ cluster.
+        IsMatched cluster.file_limit cluster.next_name cluster.table cluster.tablets.items };
+}
+
+/// The table of a new store, and its one tablet.
+fn first_tablet(alloc: Global) -> Result<(MetadataTable, Vec<Tablet>), Refusal>
+    ensures table { IfOk result (λ first. first.0 ≡ first_place ∷ []) }
+    ensures tablet { IfOk result (λ first. IsFirstTablet first.1.items) }
+    ensures refusal { IfErr result (λ refusal. refusal ≡ Refusal.NoMemory) }
+{
+    let table = MetadataTable::new(alloc)?;
+    let mut tablets = Vec::new(alloc);
+    let tablet = Tablet::new(alloc);
+    tablets.push(tablet)?;
+    Ok((table, tablets))
+}
+
+impl<F: Files> Cluster<F> {
+    /// The least number of bytes to which a sorted file may be limited.
+    pub const LEAST_FILE_LIMIT: u64 = 32;
+
+    /// The greatest number of bytes to which a sorted file may be limited.
+    pub const MOST_FILE_LIMIT: u64 = 1_073_741_824;
+
+    /// A new store over these files: tablet 1 on server 0, with all rows and no files of its own. A sorted file has at most
+    /// `file_limit` bytes.
+    ///
+    /// # Errors
+    ///
+    /// `NoMemory` where a growth was refused. The files come back.
+    pub fn new(alloc: Global, files: F, file_limit: u64) -> Result<Cluster<F>, (Refusal, F)>
+        requires least { 32 ≤ file_limit }
+        requires most { file_limit ≤ 1_073_741_824 }
+        ensures files { IfOk result (λ cluster. cluster.files ≡ files) }
+        ensures limit { IfOk result (λ cluster. cluster.file_limit ≡ file_limit) }
+        ensures name { IfOk result (λ cluster. cluster.next_name ≡ 1) }
+        ensures places { IfOk result (λ cluster. cluster.places ≡ first_place ∷ []) }
+        ensures tablet { IfOk result (λ cluster. IsFirstTablet cluster.tablets) }
+        ensures cells { IfOk result (λ cluster. cells_in (F.contents files) cluster.tablets ≡ empty) }
+        ensures holds { IfOk result (λ cluster. IsSome (F.contents files) → InOrder (F.contents files) cluster.next_name cluster.tablets) }
+        ensures refusal { IfErr result (λ refused. refused.0 ≡ Refusal.NoMemory) }
+        ensures returned { IfErr result (λ refused. refused.1 ≡ files) }
+    {
+        match first_tablet(alloc) {
+            Ok((table, tablets)) => Ok(Cluster {
+                alloc,
+                files,
+                file_limit,
+                next_name: 1,
+                table,
+                tablets,
+            }),
+            Err(refusal) => Err((refusal, files)),
+        }
+    }
+
+    /// The files, as they are.
+    pub fn into_files(self) -> F
+        ensures { result ≡ self.files }
+    {
+        let Cluster {
+            alloc: _,
+            files,
+            file_limit: _,
+            next_name: _,
+            table: _,
+            tablets: _,
+        } = self;
+        files
+    }
+}

@@ -1,0 +1,148 @@
+//! Cutting a tablet of a cluster in two, and moving one to another server. A minor compaction comes first.
+
+ghost use Rattle.std.specs.Prelude.{◌≡◌, ◌≤◌, ◌+◌, ◌^◌, ◌↔◌, ◌⊎◌, [], length, IfErr, IfOk, IfSome, IsErrOf, IsOk, OnErr, OnOk};
+ghost use Rattle.metadata_table.specs.Table.{BarsSplit, Cuts, HasTablet, most_servers};
+ghost use Rattle.sorted_file.specs.Sources.{HasReason, IsReadRefusal};
+ghost use Rattle.tablet.specs.Views.{Holds as HoldsAt, memory_of, names_of, range_of};
+ghost use Rattle.row_atomic.specs.Clusters.{spots_of};
+ghost use Rattle.row_atomic.specs.Changes.{Holds, IsCut, IsEmptied, IsFull, IsMoveRefusal, IsMoved, IsOn, IsSplitRefusal, IsTooLarge, KeepsMap, Numbered, OfHolder};
+
+use crate::cluster::Cluster;
+use crate::cluster_compactions::Compaction;
+use cell_key::{Refusal, Row};
+use file_store::Files;
+use metadata_table::MetadataTable;
+use std::alloc::Global;
+use tablet::{Tablet, files_are_there, others_stay, same_cells, stays_in_range};
+
+/// A tablet of the same rows, whose files are opened anew, with an empty memtable.
+fn open_again<F: Files>(alloc: Global, tablet: &Tablet, files: &mut F) -> Result<Tablet, Refusal>
+    ensures range { IfOk result (λ opened. range_of opened ≡ range_of tablet.now) }
+    ensures memory { IfOk result (λ opened. memory_of opened ≡ []) }
+    ensures names { IfOk result (λ opened. names_of opened ≡ names_of tablet.now) }
+    ensures holds { IfOk result (λ opened. IfSome (F.contents files.old) (λ m. HoldsAt m opened)) }
+    ensures damaged { IsErrOf result Refusal.Damaged → IfSome (F.contents files.old) (λ m. ¬ HoldsAt m tablet.now) }
+    ensures refusal { IfErr result IsReadRefusal }
+    ensures same { F.contents files.new ≡ F.contents files.old }
+    ensures reason { HasReason (F.faults files.old) (F.faults files.new) result }
+{
+    files_are_there();
+    let mut names = Vec::new(alloc);
+    tablet.push_names(&mut names)?;
+    let range = tablet.range().clone()?;
+    Tablet::load(alloc, range, &names, files)
+}
+
+impl<F: Files> Cluster<F> {
+    /// Cuts the tablet that holds a row, whose memtable is empty, in two there.
+    fn cut(&mut self, row: &Row) -> Result<u32, Refusal>
+        requires flushed { OfHolder IsEmptied row.now self.old.places self.old.tablets }
+        requires free { ¬ BarsSplit row.now self.old.places }
+        ensures kept { KeepsMap F.contents self.old self.new }
+        ensures limit { self.new.file_limit ≡ self.old.file_limit }
+        ensures number { IfOk result (λ left. left ≡ length self.old.places + 1) }
+        ensures cut { IfOk result (λ left. Cuts row.now left self.old.places self.new.places) }
+        ensures err { OnErr result (self.new.places ≡ self.old.places) }
+        ensures undamaged { Holds F.contents self.old → ¬ IsErrOf result Refusal.Damaged }
+        ensures refusal { IfErr result IsReadRefusal }
+        ensures reason { HasReason (F.faults self.old.files) (F.faults self.new.files) result }
+    {
+        others_stay();
+        stays_in_range();
+        let tablet = self.table.locate(row).tablet;
+        let index = self.position(tablet);
+        let mut table = self.table.clone()?;
+        let left = table.split_at(row)?;
+        self.tablets.reserve(1)?;
+        let part = self.tablets[index].split(
+            row,
+            self.file_limit,
+            &mut self.next_name,
+            &mut self.files,
+        )?;
+        self.tablets.push(part).unwrap();
+        self.table = table;
+        Ok(left)
+    }
+
+    /// Cuts the tablet that holds a row in two there, and answers the number of the left part, which ends with
+    /// the row and takes the next number. The right part keeps the number. Both have the server and the files
+    /// (Bigtable, tablet splits). A minor compaction of the tablet comes first.
+    ///
+    /// # Errors
+    ///
+    /// `BadSplit` where the row is already the end of its tablet, or there are 1,024 tablets, and then those of
+    /// `minor`. The places of the tablets are then as before, but the minor compaction may have been done.
+    pub fn split(&mut self, row: &Row) -> Result<u32, Refusal>
+        ensures kept { KeepsMap F.contents self.old self.new }
+        ensures limit { self.new.file_limit ≡ self.old.file_limit }
+        ensures number { IfOk result (λ left. left ≡ length self.old.places + 1) }
+        ensures cut { IfOk result (λ left. IsCut row.now left self.old.places self.new.places) }
+        ensures bad { IsErrOf result Refusal.BadSplit ↔ BarsSplit row.now self.old.places }
+        ensures err { OnErr result (spots_of self.new ≡ spots_of self.old) }
+        ensures full { IsErrOf result Refusal.TooManyFiles → OfHolder IsFull row.now self.old.places self.old.tablets }
+        ensures exhausted { IsErrOf result Refusal.Exhausted → 2 ^ 63 ≤ self.old.next_name }
+        ensures large { Holds F.contents self.old → IsErrOf result Refusal.FileTooLarge → OfHolder (IsTooLarge self.old.file_limit (F.contents self.old.files) Compaction.Minor) row.now self.old.places self.old.tablets }
+        ensures undamaged { Holds F.contents self.old → ¬ IsErrOf result Refusal.Damaged }
+        ensures refusal { IfErr result IsSplitRefusal }
+        ensures reason { HasReason (F.faults self.old.files) (F.faults self.new.files) result }
+    {
+        self.table.check_split(row)?;
+        let tablet = self.table.locate(row).tablet;
+        self.compact_tablet(tablet, Compaction::Minor)?;
+        self.cut(row)
+    }
+
+    /// Opens the files of a tablet with an empty memtable anew.
+    fn reopen(&mut self, tablet: u32) -> Result<(), Refusal>
+        requires known { HasTablet tablet self.old.places }
+        requires flushed { Numbered IsEmptied tablet self.old.tablets }
+        ensures kept { KeepsMap F.contents self.old self.new }
+        ensures limit { self.new.file_limit ≡ self.old.file_limit }
+        ensures places { self.new.places ≡ self.old.places }
+        ensures undamaged { Holds F.contents self.old → ¬ IsErrOf result Refusal.Damaged }
+        ensures refusal { IfErr result IsReadRefusal }
+        ensures reason { HasReason (F.faults self.old.files) (F.faults self.new.files) result }
+    {
+        same_cells();
+        let index = self.position(tablet);
+        let opened = open_again(self.alloc, &self.tablets[index], &mut self.files)?;
+        self.tablets[index] = opened;
+        Ok(())
+    }
+
+    /// Puts a tablet on a server: after a minor compaction its files are opened there, and the new place is
+    /// recorded. Where it is there already nothing is done.
+    ///
+    /// # Errors
+    ///
+    /// `UnknownTablet` where no tablet has the number, then `UnknownServer` where the server's number is above
+    /// 15, and then those of `minor`. The places of the tablets are then as before, but the minor compaction may
+    /// have been done.
+    pub fn move_to(&mut self, tablet: u32, server: u8) -> Result<(), Refusal>
+        ensures kept { KeepsMap F.contents self.old self.new }
+        ensures limit { self.new.file_limit ≡ self.old.file_limit }
+        ensures moved { OnOk result (((self.new ≡ self.old) × IsOn tablet server self.old.places) ⊎ IsMoved tablet server self.old.places self.new.places) }
+        ensures same { IsOn tablet server self.old.places → IsOk result × (self.new ≡ self.old) }
+        ensures unknown { IsErrOf result Refusal.UnknownTablet ↔ ¬ HasTablet tablet self.old.places }
+        ensures server { IsErrOf result Refusal.UnknownServer ↔ (HasTablet tablet self.old.places × (most_servers ≤ server)) }
+        ensures err { OnErr result (spots_of self.new ≡ spots_of self.old) }
+        ensures full { IsErrOf result Refusal.TooManyFiles → Numbered IsFull tablet self.old.tablets }
+        ensures exhausted { IsErrOf result Refusal.Exhausted → 2 ^ 63 ≤ self.old.next_name }
+        ensures large { Holds F.contents self.old → IsErrOf result Refusal.FileTooLarge → Numbered (IsTooLarge self.old.file_limit (F.contents self.old.files) Compaction.Minor) tablet self.old.tablets }
+        ensures undamaged { Holds F.contents self.old → ¬ IsErrOf result Refusal.Damaged }
+        ensures refusal { IfErr result IsMoveRefusal }
+        ensures reason { HasReason (F.faults self.old.files) (F.faults self.new.files) result }
+    {
+        let from = self.table.place(tablet)?.server;
+        if server >= MetadataTable::SERVERS {
+            return Err(Refusal::UnknownServer);
+        }
+        if server == from {
+            return Ok(());
+        }
+        self.compact_tablet(tablet, Compaction::Minor)?;
+        self.reopen(tablet)?;
+        self.table.assign(tablet, server)
+    }
+}

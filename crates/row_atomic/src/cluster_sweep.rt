@@ -1,0 +1,106 @@
+//! Removal of files that no tablet has.
+
+ghost use Rattle.std.specs.Prelude.{◌≡◌, ◌≤◌, ◌⊎◌, IfErr, IfOk, IfSome, IsErrOf, OnErr, OnOk, length, option_map};
+ghost use Rattle.std.specs.FinMap.{keys};
+ghost use Rattle.cell_key.specs.Faults.{HasRisen};
+ghost use Rattle.file_store.specs.Store.{MayLack, without_file};
+ghost use Rattle.metadata_table.specs.Table.{IsTable};
+ghost use Rattle.sorted_file.specs.Sources.{HasReason};
+ghost use Rattle.row_atomic.specs.Changes.{KeepsMap};
+ghost use Rattle.row_atomic.specs.Sweeps.{MayLackUnkept, count_swept, is_kept, swept, unkept, without_files};
+
+use crate::cluster::Cluster;
+use cell_key::Refusal;
+use file_store::Files;
+use metadata_table::MetadataTable;
+use sorted_file::refusal_of;
+use std::alloc::Global;
+use tablet::unnamed_may_go;
+
+/// Whether a file stays: it is the root, 0, or some tablet has it.
+fn is_kept(table: &MetadataTable, name: u64) -> bool
+    ensures { result ≡ is_kept table.now name }
+{
+    name == 0 || table.listed(name)
+}
+
+/// The law that a metadata table keeps to its form.
+fn keeps_form(table: &MetadataTable)
+    ensures { IsTable table.now }
+{
+    let _ = table.len();
+}
+
+/// Removes one file.
+fn remove<F: Files>(files: &mut F, name: u64) -> Result<(), Refusal>
+    ensures ok { OnOk result (F.contents files.new ≡ without_file name (F.contents files.old)) }
+    ensures err { OnErr result (MayLack name (F.contents files.old) (F.contents files.new)) }
+    ensures refusal { IfErr result (λ refusal. (refusal ≡ Refusal.Device) ⊎ (refusal ≡ Refusal.NoMemory)) }
+    ensures reason { HasReason (F.faults files.old) (F.faults files.new) result }
+{
+    match files.remove(name) {
+        Ok(()) => Ok(()),
+        Err(fault) => Err(refusal_of(fault)),
+    }
+}
+
+/// Removes those of the named files that needn't stay, and answers how many names these are.
+fn remove_unkept<F: Files>(
+    table: &MetadataTable,
+    names: Vec<u64>,
+    files: &mut F,
+) -> Result<u64, Refusal>
+    ensures removed { OnOk result (F.contents files.new ≡ without_files (unkept table.now names.items) (F.contents files.old)) }
+    ensures count { IfOk result (λ count. count ≡ length (unkept table.now names.items)) }
+    ensures lacks { MayLackUnkept table.now (F.contents files.old) (F.contents files.new) }
+    ensures refusal { IfErr result (λ refusal. (refusal ≡ Refusal.Device) ⊎ (refusal ≡ Refusal.NoMemory)) }
+    ensures reason { HasReason (F.faults files.old) (F.faults files.new) result }
+{
+    let mut count = 0;
+    for name in names {
+        if !is_kept(table, name) {
+            remove(files, name)?;
+            count += 1;
+        }
+    }
+    Ok(count)
+}
+
+/// The names of all files.
+fn names_of<F: Files>(alloc: Global, files: &mut F) -> Result<Vec<u64>, Refusal>
+    ensures names { IfOk result (λ names. IfSome (F.contents files.old) (λ m. names.items ≡ keys m)) }
+    ensures same { F.contents files.new ≡ F.contents files.old }
+    ensures refusal { IfErr result (λ refusal. (refusal ≡ Refusal.Device) ⊎ (refusal ≡ Refusal.NoMemory)) }
+    ensures reason { HasReason (F.faults files.old) (F.faults files.new) result }
+{
+    let mut names = Vec::new(alloc);
+    match files.list(&mut names) {
+        Ok(()) => Ok(names),
+        Err(fault) => Err(refusal_of(fault)),
+    }
+}
+
+impl<F: Files> Cluster<F> {
+    /// Removes the files that no tablet has, and answers how many these were. The root, 0, stays. No cell changes
+    /// (Bigtable: files that no tablet has are removed by mark and sweep).
+    ///
+    /// # Errors
+    ///
+    /// `Device` where a device failed during the call, and `NoMemory` where a growth was refused. Some of the files
+    /// may then be gone.
+    pub fn sweep(&mut self) -> Result<u64, Refusal>
+        ensures swept { OnOk result (F.contents self.new.files ≡ option_map (swept self.old.places) (F.contents self.old.files)) }
+        ensures count { IfOk result (λ count. IfSome (F.contents self.old.files) (λ m. count ≡ count_swept self.old.places m)) }
+        ensures lacks { MayLackUnkept self.old.places (F.contents self.old.files) (F.contents self.new.files) }
+        ensures kept { KeepsMap F.contents self.old self.new }
+        ensures rest { self.new ≡ record self.old { files = self.new.files } }
+        ensures refusal { IfErr result (λ refusal. (refusal ≡ Refusal.Device) ⊎ (refusal ≡ Refusal.NoMemory)) }
+        ensures device { IsErrOf result Refusal.Device → HasRisen (F.faults self.old.files) (F.faults self.new.files) }
+        ensures later { F.faults self.old.files ≤ F.faults self.new.files }
+    {
+        unnamed_may_go();
+        keeps_form(&self.table);
+        let names = names_of(self.alloc, &mut self.files)?;
+        remove_unkept(&self.table, names, &mut self.files)
+    }
+}

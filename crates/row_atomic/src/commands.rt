@@ -1,0 +1,167 @@
+//! A list of commands on a cluster, one after the other.
+
+ghost use Rattle.std.specs.Prelude.{◌≡◌, ◌<◌, ◌≤◌, ◌++◌, ◌+◌, ◌∷◌, [], IfErr, IfOk, MatchResult, OnErr, length, option_map, vec_capacity, vec_len};
+ghost use Rattle.std.specs.List.{AllByRecursion};
+ghost use Rattle.cell_key.specs.Places.{place_named};
+ghost use Rattle.row_atomic.specs.Changes.{Holds};
+ghost use Rattle.row_atomic.specs.Clusters.{cells_in};
+ghost use Rattle.row_atomic.specs.Commands.{Answers, AnswersAll, IsUnderRow};
+
+use crate::cluster::Cluster;
+use crate::rows::Rows;
+use cell_key::{Edit, Family, Qualifier, Refusal, Row, Stamp};
+use file_store::Files;
+
+/// What a cluster may be asked for.
+#[derive(Drop)]
+pub enum Command {
+    /// The version of a cell's column with the greatest stamp in `lo..=hi`.
+    Newest {
+        row: Row,
+        family: Family,
+        qualifier: Qualifier,
+        lo: Stamp,
+        hi: Stamp,
+    },
+    /// The next cell after this one, or the first one.
+    NextCell {
+        after: Option<(Row, Family)>,
+    },
+    /// Edits under one row, all of them or none.
+    Apply {
+        row: Row,
+        edits: Vec<Edit>,
+    },
+    /// A minor compaction of a tablet.
+    Minor {
+        tablet: u32,
+    },
+    /// A merging compaction of the newest `count` files of a tablet.
+    Merge {
+        tablet: u32,
+        count: u32,
+    },
+    /// A major compaction of a tablet.
+    Major {
+        tablet: u32,
+    },
+    /// A split of the tablet that holds a row.
+    Split {
+        row: Row,
+    },
+    /// A move of a tablet to another server.
+    Move {
+        tablet: u32,
+        server: u8,
+    },
+    /// A sweep of the files that no tablet has.
+    Sweep,
+}
+
+/// What a command answered.
+#[derive(Drop)]
+pub enum Outcome {
+    /// The version that was asked for, if there is one: its stamp and its value.
+    Newest(Option<(Stamp, Vec<u8>)>),
+    /// The cell that was asked for, if there is one.
+    NextCell(Option<(Row, Family)>),
+    /// An apply, a compaction or a move was done.
+    Done,
+    /// The number of the left part.
+    Split(u32),
+    /// How many files were removed.
+    Swept(u64),
+    /// The command was refused.
+    Refused(Refusal),
+}
+
+/// Appends an outcome.
+fn push_outcome(outcomes: &mut Vec<Outcome>, outcome: Outcome)
+    requires { vec_len outcomes.old < vec_capacity outcomes.old }
+    ensures items { outcomes.new.items ≡ outcomes.old.items ++ outcome ∷ [] }
+    ensures len { vec_len outcomes.new ≡ vec_len outcomes.old + 1 }
+    ensures room { vec_capacity outcomes.old ≤ vec_capacity outcomes.new }
+{
+    outcomes.push(outcome).unwrap();
+}
+
+/// The outcome of a call that answers nothing.
+fn done(call: Result<(), Refusal>) -> Outcome
+    ensures { MatchResult call (λ _. result ≡ Outcome.Done) (λ refusal. result ≡ Outcome.Refused refusal) }
+{
+    match call {
+        Ok(()) => Outcome::Done,
+        Err(reason) => Outcome::Refused(reason),
+    }
+}
+
+/// A place as a scan takes it.
+fn lent(after: &Option<(Row, Family)>) -> Option<(&Row, &Family)>
+    ensures { option_map place_named result ≡ after.now }
+{
+    match after {
+        Some((row, family)) => Some((row, family)),
+        None => None,
+    }
+}
+
+impl<F: Files> Cluster<F> {
+    /// Does one command.
+    fn answer(&mut self, command: Command) -> Outcome
+        requires { IsUnderRow command }
+        ensures still { Holds F.contents self.old → Holds F.contents self.new }
+        ensures answers { Holds F.contents self.old → Answers (cells_in (F.contents self.old.files) self.old.tablets) command result (cells_in (F.contents self.new.files) self.new.tablets) }
+    {
+        match command {
+            Command::Newest {
+                row,
+                family,
+                qualifier,
+                lo,
+                hi,
+            } => match self.newest(&row, &family, qualifier, lo, hi) {
+                Ok(found) => Outcome::Newest(found),
+                Err(refusal) => Outcome::Refused(refusal),
+            },
+            Command::NextCell { after } => match self.next_cell(lent(&after)) {
+                Ok(found) => Outcome::NextCell(found),
+                Err(refusal) => Outcome::Refused(refusal),
+            },
+            Command::Apply { row, edits } => done(self.apply(&row, edits)),
+            Command::Minor { tablet } => done(self.minor(tablet)),
+            Command::Merge { tablet, count } => done(self.merge(tablet, count)),
+            Command::Major { tablet } => done(self.major(tablet)),
+            Command::Split { row } => match self.split(&row) {
+                Ok(left) => Outcome::Split(left),
+                Err(refusal) => Outcome::Refused(refusal),
+            },
+            Command::Move { tablet, server } => done(self.move_to(tablet, server)),
+            Command::Sweep => match self.sweep() {
+                Ok(count) => Outcome::Swept(count),
+                Err(refusal) => Outcome::Refused(refusal),
+            },
+        }
+    }
+
+    /// Does commands one after the other, and answers the outcome of each. One that is refused changes no cell, and
+    /// the next ones are done all the same.
+    ///
+    /// # Errors
+    ///
+    /// `NoMemory` where the room for the outcomes was refused. Nothing is done then.
+    pub fn run(&mut self, commands: Vec<Command>) -> Result<Vec<Outcome>, Refusal>
+        requires { AllByRecursion IsUnderRow commands.items }
+        ensures still { Holds F.contents self.old → Holds F.contents self.new }
+        ensures answers { IfOk result (λ outcomes. Holds F.contents self.old → AnswersAll (cells_in (F.contents self.old.files) self.old.tablets) commands.items outcomes.items (cells_in (F.contents self.new.files) self.new.tablets)) }
+        ensures err { OnErr result (self.new ≡ self.old) }
+        ensures refusal { IfErr result (λ refusal. refusal ≡ Refusal.NoMemory) }
+    {
+        let mut outcomes = Vec::new(self.alloc);
+        outcomes.reserve(commands.len())?;
+        for command in commands {
+            let outcome = self.answer(command);
+            push_outcome(&mut outcomes, outcome);
+        }
+        Ok(outcomes)
+    }
+}
