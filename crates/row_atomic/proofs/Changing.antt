@@ -1,7 +1,6 @@
 -- What the calls that change one tablet leave of the cluster.
-use Rattle.std.proofs.Common.{◌≡◌, ◌≢◌, ◌≤◌, ◌<◌, ◌+◌, ◌-◌, ◌^◌, ◌⊎◌, inl, inr, ℕ, zero, suc, Bool, true, false, cond, nat_eq, List, [], ◌∷◌, map, set, length, get_or, Option, Some, None, IfSome, IsSomeAnd, Result, Ok, Err, OnOk, OnErr, IsErrOf, slice_get, slice_index_or, refl, sym, ap, ◌∙◌, subst, arith}
+use Rattle.std.proofs.Common.{◌≡◌, ◌≢◌, ◌≤◌, ◌<◌, ◌+◌, ◌-◌, ◌^◌, inl, inr, ℕ, zero, suc, Bool, true, false, cond, nat_eq, List, [], ◌∷◌, map, set, length, get_or, Option, Some, None, IfSome, Result, Ok, Err, OnOk, OnErr, slice_get, slice_index_or, refl, sym, ap, ◌∙◌, subst, arith}
 use Rattle.std.specs.List.{AllByRecursion, Contains}
-use borrow.Author.Tests.{eqb-true, eqb-false}
 use Rattle.cell_key.specs.Entries.{Entry, merged}
 use Rattle.cell_key.specs.declared.refusals.Refusal.{Refusal}
 use Rattle.compaction.specs.Writing.{kept, written}
@@ -9,15 +8,15 @@ use Rattle.file_store.specs.Store.{Contents}
 use Rattle.sorted_file.specs.Opened.{listed, name_of}
 use Rattle.sorted_file.specs.declared.opened.SortedFile.{SortedFile}
 use Rattle.metadata_table.specs.Places.{PlaceView}
-use Rattle.metadata_table.specs.Table.{HasTablet, with_files, moved, naming, on_server}
+use Rattle.metadata_table.specs.Table.{HasTablet, with_files, naming}
 use Rattle.tablet.specs.Ranges.{seen}
 use Rattle.tablet.specs.Views.{Holds, IsBelow, IsUnchanged, Keeps, MakesLists, UsesName, range_of, memory_of, files_of, names_of}
 use Rattle.tablet.specs.Laws.{OthersStay}
 use Rattle.tablet.specs.declared.tablet.Tablet.{Tablet}
-use Rattle.row_atomic.specs.Clusters.{ArePlaced, InOrder, IsMatched, IsPlaced, cells_in, spot_of, tablet_numbered}
+use Rattle.row_atomic.specs.Clusters.{ArePlaced, InOrder, IsMatched, cells_in, spot_of, tablet_numbered}
 use Rattle.row_atomic.specs.Changes.{HasValue, IsAt, IsBadCount, LacksErasures, Numbered, Remakes, parts_of}
 use Rattle.row_atomic.proofs.Answering.{found_there, matched_set}
-use Rattle.row_atomic.proofs.Placing.{is_placed, placed_files, set_same}
+use Rattle.row_atomic.proofs.Placing.{is_placed, placed_files}
 use Rattle.row_atomic.proofs.Shares.{each_at, keeps_cells, set_there, set_elsewhere}
 
 same_some : {A : Type 0} (x y : A) → Some x ≡ Some y → x ≡ y

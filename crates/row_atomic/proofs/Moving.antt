@@ -1,5 +1,5 @@
 -- What opening a tablet's files anew leaves of the cluster.
-use Rattle.std.proofs.Common.{◌≡◌, ◌≢◌, ◌<◌, ℕ, zero, suc, List, [], ◌∷◌, map, set, length, get_or, Result, Ok, Err, OnOk, OnErr, Option, Some, None, IfSome, slice_get, refl, sym, ap, ◌∙◌, subst, arith}
+use Rattle.std.proofs.Common.{◌≡◌, ◌≢◌, ◌<◌, ℕ, zero, suc, List, [], ◌∷◌, set, length, get_or, Result, Ok, Err, OnOk, OnErr, Option, Some, None, IfSome, slice_get, refl, sym, ap, ◌∙◌, subst, arith}
 use Rattle.std.specs.List.{AllByRecursion, Contains}
 use Rattle.file_store.specs.Store.{Contents}
 use Rattle.sorted_file.specs.Opened.{HasFile}
@@ -15,7 +15,7 @@ use Rattle.row_atomic.proofs.Numbers.{Differ, differ_of}
 use Rattle.row_atomic.proofs.Splitting.{same_tablet}
 use Rattle.row_atomic.specs.Clusters.{InOrder, IsMatched, cells_in, joined}
 use Rattle.row_atomic.proofs.Placing.{placed_moved}
-use Rattle.row_atomic.proofs.Shares.{each_at, each_map, each_set, map_set}
+use Rattle.row_atomic.proofs.Shares.{each_at, each_set, map_set}
 
 -- a file that can't be opened isn't that of a tablet in order
 pub not_there : FilesAreThere → (o : Option Contents) (names : List ℕ) (t : Tablet) → names ≡ names_of t → IfSome o (λ m. ¬ AllByRecursion (HasFile m) names) → IfSome o (λ m. ¬ Holds m t)

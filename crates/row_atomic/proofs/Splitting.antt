@@ -1,5 +1,5 @@
 -- What a split leaves of the cluster.
-use Rattle.std.proofs.Common.{◌≡◌, ◌≢◌, ◌≤◌, ◌<◌, ◌+◌, ◌^◌, ◌⊎◌, inl, inr, ℕ, zero, suc, Bool, true, false, cond, nat_eq, List, [], ◌∷◌, ◌++◌, map, set, length, get_or, Option, Some, None, IfSome, IsSomeAnd, IsTrue, Result, Err, IsErrOf, slice_get, refl, sym, ap, ◌∙◌, subst, arith}
+use Rattle.std.proofs.Common.{◌≡◌, ◌≤◌, ◌<◌, ◌+◌, ◌^◌, inl, inr, ℕ, zero, suc, Bool, true, false, cond, nat_eq, List, [], ◌∷◌, ◌++◌, map, set, length, get_or, Option, Some, None, IfSome, IsSomeAnd, IsTrue, Err, IsErrOf, slice_get, refl, sym, ap, ◌∙◌, subst, arith}
 use Rattle.std.specs.List.{AllByRecursion, Contains}
 use Rattle.cell_key.specs.declared.refusals.Refusal.{Refusal}
 use Rattle.cell_key.specs.declared.refusals.Refusal.TheVariants.{Device, NoMemory, Damaged, TooManyFiles, FileTooLarge, Exhausted}
@@ -12,7 +12,7 @@ use Rattle.tablet.specs.Views.{AreParts, Holds, IsBelow, Keeps, UsesName, cells_
 use Rattle.tablet.specs.Compactions.{IsMinorRefusal}
 use Rattle.tablet.specs.Laws.{OthersStay, StaysInRange}
 use Rattle.tablet.specs.declared.tablet.Tablet.{Tablet}
-use Rattle.row_atomic.specs.Clusters.{ArePlaced, InOrder, IsMatched, cells_in, tablet_numbered}
+use Rattle.row_atomic.specs.Clusters.{ArePlaced, InOrder, IsMatched, cells_in}
 use Rattle.row_atomic.specs.Changes.{IsEmptied, IsFlushed, Numbered, OfHolder, Remakes}
 use Rattle.row_atomic.proofs.Changing.{matched_next, numbered_at, stays}
 use Rattle.row_atomic.proofs.Cutting.{cut_placed}

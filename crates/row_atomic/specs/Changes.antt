@@ -1,7 +1,6 @@
 -- What the calls of a cluster do to its tablets and their places.
-use Rattle.std.specs.Prelude.{◌≡◌, ◌≢◌, ◌≤◌, ◌<◌, ◌+◌, ℕ, Bool, true, false, ◌&&◌, ◌==◌, not, nat_lt, zero, suc, List, [], ◌∷◌, length, map, filter, take, Option, Some, None, IsSome, IsSomeAnd, IfSome, ⊤, ◌⊎◌, if◌then◌else◌}
+use Rattle.std.specs.Prelude.{◌≡◌, ◌≢◌, ◌≤◌, ◌+◌, ℕ, false, nat_lt, List, [], ◌∷◌, length, map, take, Option, Some, IsSome, IsSomeAnd, IfSome, ⊤}
 use Rattle.std.specs.List.{AllByRecursion, Contains, slice_get}
-use Rattle.std.specs.FinMap as map
 use Rattle.cell_key.specs.Entries.{Entry}
 use Rattle.cell_key.specs.declared.refusals.Refusal.{Refusal}
 use Rattle.cell_key.specs.declared.refusals.Refusal.TheVariants as refused

@@ -62,21 +62,9 @@ fn fill<R: Rows>(alloc: Global, rows: &mut R) -> Result<(), Refusal> {
     let first = put(alloc, &bob, b"zip", 4)?;
     apply_two(alloc, rows, &bob, first, put(alloc, &bob, b"bal", 3)?)?;
     let first = put(alloc, &bob, b"bal", 7)?;
-    apply_two(
-        alloc,
-        rows,
-        &bob,
-        first,
-        erase(alloc, &bob, b"bal", 8)?,
-    )?;
+    apply_two(alloc, rows, &bob, first, erase(alloc, &bob, b"bal", 8)?)?;
     let first = erase(alloc, &joe, b"bal", 5)?;
-    apply_two(
-        alloc,
-        rows,
-        &joe,
-        first,
-        erase(alloc, &joe, b"zip", 5)?,
-    )?;
+    apply_two(alloc, rows, &joe, first, erase(alloc, &joe, b"zip", 5)?)?;
     Ok(())
 }
 

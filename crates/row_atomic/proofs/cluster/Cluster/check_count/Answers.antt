@@ -8,12 +8,14 @@ use Rattle.row_atomic.proofs.cluster.Cluster.check_count.Goals.{then-count-lt2-v
 pub returns-then-count-lt2-clause-bad : goal.returns-then-count-lt2-clause-bad
 returns-then-count-lt2-clause-bad g c =
     let at = rw (← c.self.view_is) at c.position-index.ensures in
-    rw (← c.self.view_is) (elim c.then-count-lt2.branch [ then-count-lt2-via-then-count-lt2 w ↦ too_few c.self.inside.tablets.items c.args.tablet c.position-index.result c.args.count at.tablet at.number at.there w.if-count-lt2.true
+    rw (← c.self.view_is) (elim c.then-count-lt2.branch [
+      | then-count-lt2-via-then-count-lt2 w ↦ too_few c.self.inside.tablets.items c.args.tablet c.position-index.result c.args.count at.tablet at.number at.there w.if-count-lt2.true
       | then-count-lt2-via-else-count-lt2+then-count-file_count w ↦
-        (let there = found_there c.self.inside.tablets.items c.position-index.result at.tablet w.index.result.now at.there w.index.ensures in
-        let more = w.if-count-file_count.true in
-        let is = w.file_count.ensures in
-        too_many c.self.inside.tablets.items c.args.tablet c.position-index.result c.args.count w.index.result.now at.number there (omega arith)) ])
+          (let there = found_there c.self.inside.tablets.items c.position-index.result at.tablet w.index.result.now at.there w.index.ensures in
+          let more = w.if-count-file_count.true in
+          let is = w.file_count.ensures in
+          too_many c.self.inside.tablets.items c.args.tablet c.position-index.result c.args.count w.index.result.now at.number there (omega arith))
+    ])
 
 pub returns-clause-within : goal.returns-clause-within
 returns-clause-within g c =

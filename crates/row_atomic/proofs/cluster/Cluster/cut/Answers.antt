@@ -2,7 +2,6 @@
 use Rattle.std.proofs.Common.{rules, ◌≡◌, ◌++◌, ◌∷◌, [], List, ap, ◌∙◌, set, slice_get, length, ◌+◌, subst, sym}
 use Rattle.metadata_table.specs.Places.{PlaceView, view_of}
 use Rattle.metadata_table.specs.Table.{Cuts}
-use Rattle.sorted_file.specs.Sources.{IsReadRefusal}
 use Rattle.tablet.specs.Views.{names_of, with_name}
 use Rattle.tablet.specs.declared.tablet.Tablet.{Tablet}
 use Rattle.row_atomic.specs.Clusters.{InOrder, IsMatched, cells_in}
@@ -73,11 +72,11 @@ invariant_of-self-2 g c =
     let emptied = (holder_emptied c.args.row.now c.self.inside.table c.self.inside.tablets.items (view_of c.locate.result.now) c.position-index.result c.index_mut.result.now holder at.number there_old (rw (← c.self.view_is) at c.requires.flushed)) in
     subst (λ (ys : List Tablet). IsMatched c.self.inside.file_limit c.split.new.next_name c.split_at.new.self ys) (sym pushed)
     (matched_cut c.self.inside.table c.self.inside.tablets.items c.position-index.result c.index_mut.result.now c.in_ok-part.part c.split.new.self c.args.row.now (view_of c.locate.result.now) table there_old holder at.number c.in_ok-part.ensures.left_range c.in_ok-part.ensures.right_range c.self.inside.file_limit (g.F.Files.contents c.self.inside.files) (g.F.Files.contents c.split.new.files) c.self.inside.next_name c.split.new.next_name c.split_at.new.self c.in_ok-left.left c.split.ensures.name c.split.ensures.limit
-      (c.in_ok-part.ensures.left_names ∙ ap (λ m. with_name c.self.inside.next_name m (names_of c.index_mut.result.now)) emptied)
-      (c.in_ok-part.ensures.right_names ∙ ap (λ m. with_name c.self.inside.next_name m (names_of c.index_mut.result.now)) emptied)
-      (c.in_ok-left.ensures.number ∙ ap (λ (ps : List PlaceView). length ps + 1) copied)
-      (subst (λ (ps : List PlaceView). Cuts c.args.row.now c.in_ok-left.left ps c.split_at.new.self) copied c.in_ok-left.ensures.cut)
-      c.self.invariant)
+    (c.in_ok-part.ensures.left_names ∙ ap (λ m. with_name c.self.inside.next_name m (names_of c.index_mut.result.now)) emptied)
+    (c.in_ok-part.ensures.right_names ∙ ap (λ m. with_name c.self.inside.next_name m (names_of c.index_mut.result.now)) emptied)
+    (c.in_ok-left.ensures.number ∙ ap (λ (ps : List PlaceView). length ps + 1) copied)
+    (subst (λ (ps : List PlaceView). Cuts c.args.row.now c.in_ok-left.left ps c.split_at.new.self) copied c.in_ok-left.ensures.cut)
+    c.self.invariant)
 
 pub returns-clause-kept : goal.returns-clause-kept
 returns-clause-kept g c =

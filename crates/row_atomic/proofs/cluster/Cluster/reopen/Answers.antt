@@ -1,6 +1,5 @@
 -- The tablet shows what it showed.
-use Rattle.std.proofs.Common.{rules}
-use Rattle.row_atomic.proofs.Answering.{found_there, matched_set, undamaged}
+use Rattle.row_atomic.proofs.Answering.{found_there, matched_set}
 use Rattle.row_atomic.proofs.Moving.{opened_keeps}
 use Rattle.row_atomic.proofs.Splitting.{emptied_at}
 use Rattle.row_atomic.proofs.cluster.Cluster.reopen.Goals as goal
