@@ -1,11 +1,13 @@
 -- How long fields are, what they tell of what they were made of, and what comes after them.
-use Rattle.std.proofs.Common.{◌≡◌, ℕ, ◌+◌, ◌^◌, ◌<◌, ◌≤◌, List, [], ◌++◌, length, get_or, take, drop, refl, sym, ap, ◌∙◌, append_assoc, append-nil, length-append, false, ◌==◌, subst, take_at, drop_at, Option, None, Some, IfSome, IfNone, ◌≢◌, arith}
+use Rattle.std.proofs.Common.{◌≡◌, ℕ, ◌+◌, ◌^◌, ◌-◌, ◌<◌, ◌≤◌, List, [], ◌∷◌, ◌++◌, length, get_or, take, drop, refl, sym, ap, ◌∙◌, append_assoc, append-nil, length-append, false, ◌==◌, subst, take_at, drop_at, Option, None, Some, IfSome, IfNone, Result, Ok, Err, OnErr, ◌≢◌, arith}
 use Rattle.std.proofs.lemmas.Nat.{be_bytes_2, be_bytes_4, be_bytes_8}
 use Rattle.std.specs.Borrow.{Bor}
 use Rattle.byteorder.specs.Endian.{big_number}
 use Rattle.byteorder.specs.Numbers.{length-bytes_high_first, big_number-reads_back}
+use Rattle.cell_key.specs.declared.keys.Qualifier.{Qualifier}
+use Rattle.cell_key.specs.declared.keys.Qualifier.TheVariants.{Data, Lock, Write}
 use Rattle.si_model.specs.declared.replies.Cell.{Cell}
-use Rattle.request_codec.specs.Fields.{number, field, cell_fields, FitsField, FitsCell}
+use Rattle.request_codec.specs.Fields.{number, field, cell_fields, qualifier_number, FitsField, FitsCell}
 
 -- ---- numbers
 
@@ -81,11 +83,45 @@ same_cell a b x y p q e =
     let family = same_field a.family b.family x y p.family q.family row.1 in
     (λ i. record { row = row.0 i; family = family.0 i }, family.1)
 
--- ---- options
+-- ---- qualifiers
+
+qualifier-fits : (q : Qualifier) → qualifier_number q < 256
+qualifier-fits Data = omega arith
+qualifier-fits Lock = omega arith
+qualifier-fits Write = omega arith
+
+numbered : ℕ → Qualifier
+numbered n = get_or (Data ∷ Lock ∷ Write ∷ []) (n - 1) Data
+
+numbered-back : (q : Qualifier) → numbered (qualifier_number q) ≡ q
+unfolding numbered
+numbered-back Data = refl
+numbered-back Lock = refl
+numbered-back Write = refl
+
+-- a qualifier, and what comes after it
+pub same_qualifier : (a b : Qualifier) (x y : List ℕ) → number 1 (qualifier_number a) ++ x ≡ number 1 (qualifier_number b) ++ y → (a ≡ b) × (x ≡ y)
+same_qualifier a b x y e = (
+  sym (numbered-back a) ∙ ap numbered (same_number 1 (qualifier_number a) (qualifier_number b) x y (qualifier-fits a) (qualifier-fits b) e) ∙ numbered-back b,
+  past_number 1 (qualifier_number a) (qualifier_number b) x y e,
+)
+
+-- a number that is none of a qualifier's
+pub no_qualifier : (o : Option Qualifier) (old : List ℕ) (byte : ℕ) (mid : List ℕ) → byte < 256 → old ≡ number 1 byte ++ mid → IfNone o ((q : Qualifier) → qualifier_number q ≢ byte)
+    → IfNone o ((q : Qualifier) (after : List ℕ) → old ≢ number 1 (qualifier_number q) ++ after)
+no_qualifier (Some q) old byte mid fits e none = tt
+no_qualifier None old byte mid fits e none = λ q after f.
+    none q (sym (same_number 1 byte (qualifier_number q) mid after fits (qualifier-fits q) (sym e ∙ f)))
+
+-- ---- options and results
 
 pub if_none : {X : Type 0} (o : Option X) {P : Type 0} → P → IfNone o P
 if_none None p = p
 if_none (Some x) p = tt
+
+pub on_err : {X E : Type 0} (r : Result X E) {P : Type 0} → P → OnErr r P
+on_err (Ok x) p = tt
+on_err (Err e) p = p
 
 -- ---- a length, and the bytes after it
 

@@ -4,7 +4,7 @@ use Rattle.std.specs.Int.{to_be_bytes, w32}
 use Rattle.si_model.specs.Messages.{Reply, Answered, Cleaning, Collecting, Blocked, RawFound, Begun, Pending, Held, Conflict, Drawn, Committed, Finished, RolledForward, SplitOff, Swept}
 use Rattle.request_codec.specs.Fields.{number, field, cell_fields}
 use Rattle.request_codec.specs.Replies.{reply_body, IsWithinLimits}
-use Rattle.request_codec.specs.Stream.{frame}
+use Rattle.request_codec.specs.Stream.{frame, longest_reply}
 use Rattle.request_codec.proofs.Fields.{length-number, length-field, length-cell}
 
 pub length-frame : (body : List ℕ) → length (frame body) ≡ 4 + length body
@@ -34,3 +34,12 @@ short_body (Swept n) p = omega (arith, length-number 8 n)
 short_body (RawFound None) p = omega arith
 short_body (RawFound (Some found)) p = omega (arith, length-append (number 8 found.0) (field found.1), length-number 8 found.0, length-field found.1)
 short_body other p = omega arith
+
+pub raw_frame : (stamp : ℕ) (value : List ℕ) → length value ≡ 65536 → length (frame (reply_body (RawFound (Some (stamp, value))))) ≡ longest_reply
+raw_frame stamp value size = omega (
+  arith,
+  length-frame (reply_body (RawFound (Some (stamp, value)))),
+  length-append (number 8 stamp) (field value),
+  length-number 8 stamp,
+  length-field value,
+)

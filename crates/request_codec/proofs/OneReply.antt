@@ -3,11 +3,11 @@ use Rattle.std.proofs.Common.{◌≡◌, ℕ, ◌<◌, ◌^◌, ◌-◌, List, [
 use Rattle.cell_key.specs.Refusals.{refusal_number}
 use Rattle.cell_key.specs.declared.refusals.Refusal.{Refusal}
 use Rattle.cell_key.specs.declared.refusals.Refusal.TheVariants.{UnknownSession, WrongPhase, BadRow, BadColumn, BadValue, TooManyWrites, TooManySessions, EmptyCommit, UnknownCleaner, UnknownCollector, UnknownTablet, BadSplit, UnknownServer, BadCount, MemtableFull, TooManyFiles, FileTooLarge, Exhausted, Device, NoMemory, Damaged, BadRequest, FrameTooLarge}
-use Rattle.si_model.specs.Messages.{Reply, Begun, Answered, Pending, SetDone, Held, Conflict, Drawn, Committed, Lost, Finished, StopDone, RestartDone, Refused}
+use Rattle.si_model.specs.Messages.{Reply, Begun, Answered, Pending, SetDone, Held, Conflict, Drawn, Committed, Lost, Finished, StopDone, MinorDone, MergeDone, MajorDone, SplitOff, MoveDone, Swept, RestartDone, RawFound, Refused}
 use Rattle.request_codec.specs.Fields.{number, field, FitsField}
 use Rattle.request_codec.specs.Replies.{reply_body, IsReply}
 use Rattle.request_codec.proofs.Fields.{same_number, past_number, first, second}
-use Rattle.request_codec.proofs.OneRequest.{lone_number, lone_field}
+use Rattle.request_codec.proofs.OneRequest.{lone_number, lone_tablet, lone_field}
 
 lone_small : (m n : ℕ) → m < 2 ^ 16 → n < 2 ^ 16 → number 2 m ≡ number 2 n → m ≡ n
 lone_small m n p q e = same_number 2 m n [] [] p q (ap (λ (t : List ℕ). t ++ []) e)
@@ -145,6 +145,56 @@ restart_only : (r : Reply) → IsReply r (reply_body RestartDone) → r ≡ Rest
 restart_only RestartDone p = refl
 restart_only other p = let e = ap first p.whole in let d = ap second p.whole in absurd (omega (arith, e, d))
 
+minor_only : (r : Reply) → IsReply r (reply_body MinorDone) → r ≡ MinorDone
+minor_only MinorDone p = refl
+minor_only other p = let e = ap first p.whole in let d = ap second p.whole in absurd (omega (arith, e, d))
+
+merge_only : (r : Reply) → IsReply r (reply_body MergeDone) → r ≡ MergeDone
+merge_only MergeDone p = refl
+merge_only other p = let e = ap first p.whole in let d = ap second p.whole in absurd (omega (arith, e, d))
+
+major_only : (r : Reply) → IsReply r (reply_body MajorDone) → r ≡ MajorDone
+major_only MajorDone p = refl
+major_only other p = let e = ap first p.whole in let d = ap second p.whole in absurd (omega (arith, e, d))
+
+move_only : (r : Reply) → IsReply r (reply_body MoveDone) → r ≡ MoveDone
+move_only MoveDone p = refl
+move_only other p = let e = ap first p.whole in let d = ap second p.whole in absurd (omega (arith, e, d))
+
+record AsTablet (r : Reply) (f : List ℕ) : Type 0 where
+  tablet : ℕ
+  fits : tablet < 2 ^ 32
+  is : r ≡ SplitOff tablet
+  fields : f ≡ number 4 tablet
+
+split_only : (r : Reply) (f : List ℕ) → IsReply r (0x8D ∷ f) → AsTablet r f
+split_only (SplitOff tablet) f p = record { tablet = tablet; fits = p.numbers; is = refl; fields = ap (drop 1) p.whole }
+split_only other f p = let e = ap first p.whole in absurd (omega (arith, e))
+
+swept_only : (r : Reply) (f : List ℕ) → IsReply r (0x8F ∷ f) → AsLong r (λ n. Swept n) f
+swept_only (Swept n) f p = record { n = n; fits = p.numbers; is = refl; fields = ap (drop 1) p.whole }
+swept_only other f p = let e = ap first p.whole in absurd (omega (arith, e))
+
+-- nothing found, or a stamp and a value
+raw_none_only : (r : Reply) → IsReply r (reply_body (RawFound None)) → r ≡ RawFound None
+raw_none_only (RawFound None) p = refl
+raw_none_only (RawFound (Some found)) p = let d = ap second p.whole in absurd (omega (arith, d))
+raw_none_only other p = let e = ap first p.whole in absurd (omega (arith, e))
+
+record AsVersion (r : Reply) (f : List ℕ) : Type 0 where
+  stamp : ℕ
+  value : List ℕ
+  stamp_fits : stamp < 2 ^ 64
+  value_fits : FitsField value
+  is : r ≡ RawFound (Some (stamp, value))
+  fields : f ≡ number 8 stamp ++ field value
+
+raw_some_only : (r : Reply) (f : List ℕ) → IsReply r (0x91 ∷ 0x01 ∷ f) → AsVersion r f
+raw_some_only (RawFound (Some found)) f p =
+    record { stamp = found.0; value = found.1; stamp_fits = p.numbers; value_fits = p.bytes; is = refl; fields = ap (drop 2) p.whole }
+raw_some_only (RawFound None) f p = let d = ap second p.whole in absurd (omega (arith, d))
+raw_some_only other f p = let e = ap first p.whole in absurd (omega (arith, e))
+
 -- ---- two replies of one body
 
 pair-same : (made : ℕ → ℕ → Reply) (m n k l : ℕ) → m < 2 ^ 16 → n < 2 ^ 16 → k < 2 ^ 16 → l < 2 ^ 16 → number 2 m ++ number 2 n ≡ number 2 k ++ number 2 l → made m n ≡ made k l
@@ -152,6 +202,12 @@ pair-same made m n k l p q r s e =
     let first = same_number 2 m k (number 2 n) (number 2 l) p r e in
     let second = lone_small n l q s (past_number 2 m k (number 2 n) (number 2 l) e) in
     ap (λ x. made x n) first ∙ ap (λ x. made k x) second
+
+same_version : (stamp : ℕ) (value : List ℕ) (b : Reply) → stamp < 2 ^ 64 → FitsField value → AsVersion b (number 8 stamp ++ field value) → RawFound (Some (stamp, value)) ≡ b
+same_version stamp value b stamp_fits value_fits g =
+    let s = same_number 8 stamp g.stamp (field value) (field g.value) stamp_fits g.stamp_fits g.fields in
+    let v = lone_field value g.value value_fits g.value_fits (past_number 8 stamp g.stamp (field value) (field g.value) g.fields) in
+    ap (λ n. RawFound (Some (n, value))) s ∙ ap (λ w. RawFound (Some (g.stamp, w))) v ∙ sym g.is
 
 pub one_reply : (a b : Reply) (body : List ℕ) → IsReply a body → IsReply b body → a ≡ b
 one_reply (Begun n) b body p q =
@@ -185,5 +241,18 @@ one_reply (Answered None) b body p q = sym (nothing_only b (subst (IsReply b) p.
 one_reply SetDone b body p q = sym (set_only b (subst (IsReply b) p.whole q))
 one_reply Lost b body p q = sym (lost_only b (subst (IsReply b) p.whole q))
 one_reply StopDone b body p q = sym (stop_only b (subst (IsReply b) p.whole q))
+one_reply MinorDone b body p q = sym (minor_only b (subst (IsReply b) p.whole q))
+one_reply MergeDone b body p q = sym (merge_only b (subst (IsReply b) p.whole q))
+one_reply MajorDone b body p q = sym (major_only b (subst (IsReply b) p.whole q))
+one_reply (SplitOff tablet) b body p q =
+    let g = split_only b (number 4 tablet) (subst (IsReply b) p.whole q) in
+    ap (λ n. SplitOff n) (lone_tablet tablet g.tablet p.numbers g.fits g.fields) ∙ sym g.is
+one_reply MoveDone b body p q = sym (move_only b (subst (IsReply b) p.whole q))
+one_reply (Swept n) b body p q =
+    let g = swept_only b (number 8 n) (subst (IsReply b) p.whole q) in
+    ap (λ m. Swept m) (lone_number n g.n p.numbers g.fits g.fields) ∙ sym g.is
+one_reply (RawFound None) b body p q = sym (raw_none_only b (subst (IsReply b) p.whole q))
+one_reply (RawFound (Some found)) b body p q =
+    same_version found.0 found.1 b p.numbers p.bytes (raw_some_only b (number 8 found.0 ++ field found.1) (subst (IsReply b) p.whole q))
 one_reply RestartDone b body p q = sym (restart_only b (subst (IsReply b) p.whole q))
 one_reply other b body p q = absurd p.spoken

@@ -1,14 +1,18 @@
 -- What a body tells of its request.
 use Rattle.std.proofs.Common.{◌≡◌, ℕ, ◌<◌, ◌^◌, List, [], ◌∷◌, ◌++◌, refl, sym, ap, subst, ◌∙◌, drop, arith}
+use Rattle.cell_key.specs.declared.keys.Qualifier.{Qualifier}
 use Rattle.si_model.specs.declared.replies.Cell.{Cell}
-use Rattle.si_model.specs.Messages.{Request, Begin, Get, Set, Advance, Stop, OracleRestart}
-use Rattle.request_codec.specs.Fields.{number, field, cell_fields, FitsField, FitsCell}
+use Rattle.si_model.specs.Messages.{Request, Begin, Get, Set, Advance, Stop, Minor, Merge, Major, Split, Move, Sweep, OracleRestart, Raw}
+use Rattle.request_codec.specs.Fields.{number, field, cell_fields, qualifier_number, FitsField, FitsCell}
 use Rattle.request_codec.specs.Requests.{request_body, IsRequest}
-use Rattle.request_codec.proofs.Fields.{same_number, past_number, same_field, same_cell, first}
+use Rattle.request_codec.proofs.Fields.{same_number, past_number, same_field, same_cell, same_qualifier, first}
 
 -- one number, cell or field alone
 pub lone_number : (m n : ℕ) → m < 2 ^ 64 → n < 2 ^ 64 → number 8 m ≡ number 8 n → m ≡ n
 lone_number m n p q e = same_number 8 m n [] [] p q (ap (λ (t : List ℕ). t ++ []) e)
+
+pub lone_tablet : (m n : ℕ) → m < 2 ^ 32 → n < 2 ^ 32 → number 4 m ≡ number 4 n → m ≡ n
+lone_tablet m n p q e = same_number 4 m n [] [] p q (ap (λ (t : List ℕ). t ++ []) e)
 
 lone_cell : (a b : Cell) → FitsCell a → FitsCell b → cell_fields a ≡ cell_fields b → a ≡ b
 lone_cell a b p q e = (same_cell a b [] [] p q (ap (λ (t : List ℕ). t ++ []) e)).0
@@ -67,6 +71,69 @@ stop_only : (r : Request) (f : List ℕ) → IsRequest r (0x05 ∷ f) → AsNumb
 stop_only (Stop start) f p = record { start = start; fits = p.numbers; is = refl; fields = ap (drop 1) p.whole }
 stop_only other f p = let e = ap first p.whole in absurd (omega (arith, e))
 
+record AsTablet (r : Request) (made : ℕ → Request) (f : List ℕ) : Type 0 where
+  tablet : ℕ
+  fits : tablet < 2 ^ 32
+  is : r ≡ made tablet
+  fields : f ≡ number 4 tablet
+
+minor_only : (r : Request) (f : List ℕ) → IsRequest r (0x0A ∷ f) → AsTablet r (λ tablet. Minor tablet) f
+minor_only (Minor tablet) f p = record { tablet = tablet; fits = p.numbers; is = refl; fields = ap (drop 1) p.whole }
+minor_only other f p = let e = ap first p.whole in absurd (omega (arith, e))
+
+major_only : (r : Request) (f : List ℕ) → IsRequest r (0x0C ∷ f) → AsTablet r (λ tablet. Major tablet) f
+major_only (Major tablet) f p = record { tablet = tablet; fits = p.numbers; is = refl; fields = ap (drop 1) p.whole }
+major_only other f p = let e = ap first p.whole in absurd (omega (arith, e))
+
+-- a tablet, and a number of k bytes
+record AsTwo (r : Request) (made : ℕ → ℕ → Request) (k : ℕ) (f : List ℕ) : Type 0 where
+  tablet : ℕ
+  other : ℕ
+  fits : tablet < 2 ^ 32
+  other_fits : other < 256 ^ k
+  is : r ≡ made tablet other
+  fields : f ≡ number 4 tablet ++ number k other
+
+merge_only : (r : Request) (f : List ℕ) → IsRequest r (0x0B ∷ f) → AsTwo r (λ tablet count. Merge tablet count) 4 f
+merge_only (Merge tablet count) f p =
+    record { tablet = tablet; other = count; fits = p.numbers.0; other_fits = p.numbers.1; is = refl; fields = ap (drop 1) p.whole }
+merge_only other f p = let e = ap first p.whole in absurd (omega (arith, e))
+
+move_only : (r : Request) (f : List ℕ) → IsRequest r (0x0E ∷ f) → AsTwo r (λ tablet server. Move tablet server) 1 f
+move_only (Move tablet server) f p =
+    record { tablet = tablet; other = server; fits = p.numbers.0; other_fits = p.numbers.1; is = refl; fields = ap (drop 1) p.whole }
+move_only other f p = let e = ap first p.whole in absurd (omega (arith, e))
+
+record AsSplit (r : Request) (f : List ℕ) : Type 0 where
+  row : List ℕ
+  fits : FitsField row
+  is : r ≡ Split row
+  fields : f ≡ field row
+
+split_only : (r : Request) (f : List ℕ) → IsRequest r (0x0D ∷ f) → AsSplit r f
+split_only (Split row) f p = record { row = row; fits = p.bytes; is = refl; fields = ap (drop 1) p.whole }
+split_only other f p = let e = ap first p.whole in absurd (omega (arith, e))
+
+sweep_only : (r : Request) (f : List ℕ) → IsRequest r (0x0F ∷ f) → r ≡ Sweep
+sweep_only Sweep f p = refl
+sweep_only other f p = let e = ap first p.whole in absurd (omega (arith, e))
+
+record AsRaw (r : Request) (f : List ℕ) : Type 0 where
+  cell : Cell
+  qualifier : Qualifier
+  low : ℕ
+  high : ℕ
+  cell_fits : FitsCell cell
+  low_fits : low < 2 ^ 64
+  high_fits : high < 2 ^ 64
+  is : r ≡ Raw cell qualifier low high
+  fields : f ≡ cell_fields cell ++ (number 1 (qualifier_number qualifier) ++ (number 8 low ++ number 8 high))
+
+raw_only : (r : Request) (f : List ℕ) → IsRequest r (0x11 ∷ f) → AsRaw r f
+raw_only (Raw cell qualifier low high) f p =
+    record { cell = cell; qualifier = qualifier; low = low; high = high; cell_fits = p.bytes; low_fits = p.numbers.0; high_fits = p.numbers.1; is = refl; fields = ap (drop 1) p.whole }
+raw_only other f p = let e = ap first p.whole in absurd (omega (arith, e))
+
 -- ---- two requests of one body
 
 same_get : (start : ℕ) (cell : Cell) (b : Request) → start < 2 ^ 64 → FitsCell cell → IsRequest b (request_body (Get start cell)) → Get start cell ≡ b
@@ -85,6 +152,22 @@ same_set start cell value b fits cell_fits value_fits q =
     let v = lone_field value g.value value_fits g.value_fits c.1 in
     ap (λ m. Set m cell value) n ∙ ap (λ d. Set g.start d value) c.0 ∙ ap (λ w. Set g.start g.cell w) v ∙ sym g.is
 
+same_two : (made : ℕ → ℕ → Request) (k m n : ℕ) (b : Request) → m < 2 ^ 32 → n < 256 ^ k → AsTwo b made k (number 4 m ++ number k n) → made m n ≡ b
+same_two made k m n b m_fits n_fits g =
+    let tablet = same_number 4 m g.tablet (number k n) (number k g.other) m_fits g.fits g.fields in
+    let rest = past_number 4 m g.tablet (number k n) (number k g.other) g.fields in
+    let other = same_number k n g.other [] [] n_fits g.other_fits (ap (λ (t : List ℕ). t ++ []) rest) in
+    ap (λ x. made x n) tablet ∙ ap (λ x. made g.tablet x) other ∙ sym g.is
+
+same_raw : (cell : Cell) (qualifier : Qualifier) (low high : ℕ) (b : Request) → FitsCell cell → low < 2 ^ 64 → high < 2 ^ 64 → IsRequest b (request_body (Raw cell qualifier low high)) → Raw cell qualifier low high ≡ b
+same_raw cell qualifier low high b cell_fits low_fits high_fits q =
+    let g = raw_only b (cell_fields cell ++ (number 1 (qualifier_number qualifier) ++ (number 8 low ++ number 8 high))) q in
+    let c = same_cell cell g.cell (number 1 (qualifier_number qualifier) ++ (number 8 low ++ number 8 high)) (number 1 (qualifier_number g.qualifier) ++ (number 8 g.low ++ number 8 g.high)) cell_fits g.cell_fits g.fields in
+    let s = same_qualifier qualifier g.qualifier (number 8 low ++ number 8 high) (number 8 g.low ++ number 8 g.high) c.1 in
+    let l = same_number 8 low g.low (number 8 high) (number 8 g.high) low_fits g.low_fits s.1 in
+    let h = lone_number high g.high high_fits g.high_fits (past_number 8 low g.low (number 8 high) (number 8 g.high) s.1) in
+    ap (λ d. Raw d qualifier low high) c.0 ∙ ap (λ k. Raw g.cell k low high) s.0 ∙ ap (λ n. Raw g.cell g.qualifier n high) l ∙ ap (λ n. Raw g.cell g.qualifier g.low n) h ∙ sym g.is
+
 pub one_request : (a b : Request) (body : List ℕ) → IsRequest a body → IsRequest b body → a ≡ b
 one_request Begin b body p q = sym (begin_only b [] (subst (IsRequest b) p.whole q))
 one_request (Get start cell) b body p q = same_get start cell b p.numbers p.bytes (subst (IsRequest b) p.whole q)
@@ -96,4 +179,19 @@ one_request (Stop start) b body p q =
     let g = stop_only b (number 8 start) (subst (IsRequest b) p.whole q) in
     ap (λ n. Stop n) (lone_number start g.start p.numbers g.fits g.fields) ∙ sym g.is
 one_request OracleRestart b body p q = sym (restart_only b [] (subst (IsRequest b) p.whole q))
+one_request (Minor tablet) b body p q =
+    let g = minor_only b (number 4 tablet) (subst (IsRequest b) p.whole q) in
+    ap (λ n. Minor n) (lone_tablet tablet g.tablet p.numbers g.fits g.fields) ∙ sym g.is
+one_request (Merge tablet count) b body p q =
+    same_two (λ x y. Merge x y) 4 tablet count b p.numbers.0 p.numbers.1 (merge_only b (number 4 tablet ++ number 4 count) (subst (IsRequest b) p.whole q))
+one_request (Major tablet) b body p q =
+    let g = major_only b (number 4 tablet) (subst (IsRequest b) p.whole q) in
+    ap (λ n. Major n) (lone_tablet tablet g.tablet p.numbers g.fits g.fields) ∙ sym g.is
+one_request (Split row) b body p q =
+    let g = split_only b (field row) (subst (IsRequest b) p.whole q) in
+    ap (λ r. Split r) (lone_field row g.row p.bytes g.fits g.fields) ∙ sym g.is
+one_request (Move tablet server) b body p q =
+    same_two (λ x y. Move x y) 1 tablet server b p.numbers.0 p.numbers.1 (move_only b (number 4 tablet ++ number 1 server) (subst (IsRequest b) p.whole q))
+one_request Sweep b body p q = sym (sweep_only b [] (subst (IsRequest b) p.whole q))
+one_request (Raw cell qualifier low high) b body p q = same_raw cell qualifier low high b p.bytes p.numbers.0 p.numbers.1 (subst (IsRequest b) p.whole q)
 one_request other b body p q = absurd p.spoken

@@ -1,6 +1,8 @@
 -- The fields of messages.
 use Rattle.std.specs.Prelude.{ℕ, List, ◌++◌, ◌<◌, ◌^◌, length}
 use Rattle.byteorder.specs.Endian.{big_bytes}
+use Rattle.cell_key.specs.declared.keys.Qualifier.{Qualifier}
+use Rattle.cell_key.specs.declared.keys.Qualifier.TheVariants.{Data, Lock, Write}
 use Rattle.si_model.specs.declared.replies.Cell.{Cell}
 
 -- a number in so many bytes, the highest byte first
@@ -14,6 +16,12 @@ field bytes = number 4 (length bytes) ++ bytes
 -- a cell: its row, and its family
 unfoldable pub cell_fields : Cell → List ℕ
 cell_fields cell = field cell.row ++ field cell.family
+
+-- the number of a qualifier
+abbrev pub qualifier_number : Qualifier → ℕ
+qualifier_number Data = 1
+qualifier_number Lock = 2
+qualifier_number Write = 3
 
 -- the length of the bytes fits its field
 abbrev pub FitsField : List ℕ → Type 0

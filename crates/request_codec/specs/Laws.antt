@@ -1,6 +1,6 @@
 -- Laws of bodies and streams.
-use Rattle.std.specs.Prelude.{◌≡◌, ℕ, List, ◌++◌, ◌<◌, ◌≤◌, length, slice_index}
-use Rattle.si_model.specs.Messages.{Request, Reply}
+use Rattle.std.specs.Prelude.{◌≡◌, ℕ, List, ◌++◌, ◌<◌, ◌≤◌, length, slice_index, Some}
+use Rattle.si_model.specs.Messages.{Request, Reply, RawFound}
 use Rattle.request_codec.specs.Requests.{IsRequest}
 use Rattle.request_codec.specs.Replies.{reply_body, IsReply, IsWithinLimits}
 use Rattle.request_codec.specs.Stream.{frame, longest_reply, IsBody, IsCut}
@@ -30,3 +30,7 @@ OneReplyABody = (a b : Reply) (body : List ℕ) → IsReply a body → IsReply b
 -- no reply within the limits has a longer frame
 abbrev pub RepliesFit : Type 0
 RepliesFit = (reply : Reply) → IsWithinLimits reply → length (frame (reply_body reply)) ≤ longest_reply
+
+-- the reply of a raw read that finds a value of the greatest length has the longest frame
+abbrev pub RawIsLongest : Type 0
+RawIsLongest = (stamp : ℕ) (value : List ℕ) → length value ≡ 65536 → length (frame (reply_body (RawFound (Some (stamp, value))))) ≡ longest_reply

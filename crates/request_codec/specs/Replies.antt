@@ -1,7 +1,8 @@
 -- The bodies of replies: an operation's number with its highest bit, and its fields. A refusal has a body of its own.
-use Rattle.std.specs.Prelude.{◌≡◌, ℕ, List, [], ◌∷◌, ◌++◌, ◌<◌, ◌≤◌, ◌^◌, length, Option, Some, None}
+use Rattle.std.specs.Prelude.{◌≡◌, ℕ, List, [], ◌∷◌, ◌++◌, ◌<◌, ◌≤◌, ◌^◌, length, Option, Some, None, option_map}
 use Rattle.cell_key.specs.Names.{IsRow, IsFamily}
 use Rattle.cell_key.specs.Refusals.{refusal_number}
+use Rattle.cell_key.specs.Versions.{stamped}
 use Rattle.si_model.specs.Messages.{Reply, Begun, Answered, Pending, SetDone, Held, Conflict, Drawn, Committed, Lost, Finished, StopDone, NoLock, Cleaning, Decided, RolledForward, RolledBack, Gone, Collecting, More, Blocked, Collected, MinorDone, MergeDone, MajorDone, SplitOff, MoveDone, Swept, RestartDone, RawFound, CheckpointDone, Refused}
 use Rattle.si_model.specs.Replies.{found_reply, progress_reply}
 use Rattle.request_codec.specs.Fields.{number, field, cell_fields, FitsField}
@@ -15,7 +16,14 @@ replied (kept.Get found) = found_reply found
 replied kept.Set = SetDone
 replied (kept.Step progress) = progress_reply progress
 replied kept.Stop = StopDone
+replied kept.Minor = MinorDone
+replied kept.Merge = MergeDone
+replied kept.Major = MajorDone
+replied (kept.Split tablet) = SplitOff tablet
+replied kept.Move = MoveDone
+replied (kept.Sweep count) = Swept count
 replied kept.OracleRestart = RestartDone
+replied (kept.Raw found) = RawFound (option_map stamped found)
 replied (kept.Refused refusal) = Refused refusal
 
 -- the fields of a read's answer
@@ -75,7 +83,14 @@ IsSpokenReply (Committed stamp) = Unit {0}
 IsSpokenReply Lost = Unit {0}
 IsSpokenReply (Finished place count) = Unit {0}
 IsSpokenReply StopDone = Unit {0}
+IsSpokenReply MinorDone = Unit {0}
+IsSpokenReply MergeDone = Unit {0}
+IsSpokenReply MajorDone = Unit {0}
+IsSpokenReply (SplitOff tablet) = Unit {0}
+IsSpokenReply MoveDone = Unit {0}
+IsSpokenReply (Swept count) = Unit {0}
 IsSpokenReply RestartDone = Unit {0}
+IsSpokenReply (RawFound found) = Unit {0}
 IsSpokenReply (Refused refusal) = Unit {0}
 IsSpokenReply other = ⊥
 

@@ -1,8 +1,7 @@
 -- The bodies of requests: an operation's number, and its fields.
 use Rattle.std.specs.Prelude.{◌≡◌, ℕ, List, [], ◌∷◌, ◌++◌, ◌<◌, ◌^◌}
-use Rattle.cell_key.specs.declared.keys.Qualifier.{Qualifier}
-use Rattle.cell_key.specs.declared.keys.Qualifier.TheVariants.{Data, Lock, Write}
 use Rattle.si_model.specs.Messages.{Request, Begin, Get, Set, Advance, Stop, CleanBegin, CleanStep, CollectBegin, CollectStep, Minor, Merge, Major, Split, Move, Sweep, OracleRestart, Raw, Checkpoint}
+pub use Rattle.request_codec.specs.Fields.{qualifier_number}
 use Rattle.request_codec.specs.Fields.{number, field, cell_fields, FitsField, FitsCell}
 use Rattle.request_codec.specs.declared.requests.Request.{Request as Lent}
 use Rattle.request_codec.specs.declared.requests.Request.TheVariants as lent
@@ -14,12 +13,14 @@ asked (lent.Get start row family) = Get start (record { row = row.now; family = 
 asked (lent.Set start row family value) = Set start (record { row = row.now; family = family.now }) value.now
 asked (lent.Step start) = Advance start
 asked (lent.Stop start) = Stop start
+asked (lent.Minor tablet) = Minor tablet
+asked (lent.Merge tablet count) = Merge tablet count
+asked (lent.Major tablet) = Major tablet
+asked (lent.Split row) = Split row.now
+asked (lent.Move tablet server) = Move tablet server
+asked lent.Sweep = Sweep
 asked lent.OracleRestart = OracleRestart
-
-abbrev pub qualifier_number : Qualifier → ℕ
-qualifier_number Data = 1
-qualifier_number Lock = 2
-qualifier_number Write = 3
+asked (lent.Raw row family qualifier lo hi) = Raw (record { row = row.now; family = family.now }) qualifier lo hi
 
 -- the one body of a request
 abbrev pub request_body : Request → List ℕ
@@ -49,7 +50,14 @@ IsSpoken (Get start cell) = Unit {0}
 IsSpoken (Set start cell value) = Unit {0}
 IsSpoken (Advance start) = Unit {0}
 IsSpoken (Stop start) = Unit {0}
+IsSpoken (Minor tablet) = Unit {0}
+IsSpoken (Merge tablet count) = Unit {0}
+IsSpoken (Major tablet) = Unit {0}
+IsSpoken (Split row) = Unit {0}
+IsSpoken (Move tablet server) = Unit {0}
+IsSpoken Sweep = Unit {0}
 IsSpoken OracleRestart = Unit {0}
+IsSpoken (Raw cell qualifier low high) = Unit {0}
 IsSpoken other = ⊥
 
 -- each number fits its field

@@ -1,6 +1,6 @@
 //! Laws of bodies and streams. Each is the contract of a function that does nothing.
 
-ghost use Rattle.request_codec.specs.Laws.{OneCut, HasCut, NoFrameBeginsAnother, OneRequestABody, OneReplyABody, RepliesFit};
+ghost use Rattle.request_codec.specs.Laws.{OneCut, HasCut, NoFrameBeginsAnother, OneRequestABody, OneReplyABody, RepliesFit, RawIsLongest};
 ghost use Rattle.request_codec.specs.Stream.{longest, longest_reply};
 ghost use Rattle.std.specs.Prelude.{◌≡◌};
 
@@ -34,6 +34,11 @@ pub fn one_reply_a_body()
 /// No reply within the limits of rows, families and values has a longer frame than `LONGEST_REPLY`.
 pub fn replies_fit()
     ensures { RepliesFit }
+{}
+
+/// The reply of a raw read that finds a value of 65,536 bytes has a frame of `LONGEST_REPLY` bytes.
+pub fn raw_is_longest()
+    ensures { RawIsLongest }
 {}
 
 /// The public limits are those of the definitions.

@@ -4,6 +4,7 @@
 mod frames;
 mod laws;
 mod pushing;
+mod qualifiers;
 mod replies;
 mod requests;
 mod taking;
@@ -12,7 +13,7 @@ mod whole;
 pub use frames::{LONGEST_BODY, LONGEST_REPLY};
 pub use laws::{
     has_cut, limits, no_frame_begins_another, one_cut, one_reply_a_body, one_request_a_body,
-    replies_fit,
+    raw_is_longest, replies_fit,
 };
 pub use replies::{Reply, decode_reply, encode_reply, reply_length};
 pub use requests::{Request, decode_request, encode_request};

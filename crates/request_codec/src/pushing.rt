@@ -1,8 +1,10 @@
 //! Appending fields to a buffer that has room.
 ghost use Rattle.std.specs.Prelude.{◌≡◌, ◌+◌, ◌≤◌, ◌<◌, ◌++◌, ◌∷◌, [], length, vec_len, vec_capacity};
-ghost use Rattle.request_codec.specs.Fields.{number, field, cell_fields, FitsField};
+ghost use Rattle.request_codec.specs.Fields.{number, field, cell_fields, qualifier_number, FitsField};
 
+use crate::qualifiers::number_of;
 use byteorder::{BigEndian, ByteOrder};
+use cell_key::Qualifier;
 
 /// Appends a byte.
 pub(crate) fn push_byte(out: &mut Vec<u8>, byte: u8)
@@ -24,6 +26,17 @@ fn push_bytes(out: &mut Vec<u8>, bytes: &[u8])
     out.extend_from_slice(bytes).unwrap();
 }
 
+/// Appends a number of one byte.
+#[tactic(auto, unfolding(crate::specs::Fields::number))]
+pub(crate) fn push_u8(out: &mut Vec<u8>, n: u8)
+    requires { vec_len out.old < vec_capacity out.old }
+    ensures items { out.new.items ≡ out.old.items ++ number 1 n }
+    ensures len { vec_len out.new ≡ vec_len out.old + 1 }
+    ensures capacity { vec_capacity out.old ≤ vec_capacity out.new }
+{
+    push_byte(out, n);
+}
+
 /// Appends a number of two bytes.
 #[tactic(auto, unfolding(crate::specs::Fields::number))]
 pub(crate) fn push_u16(out: &mut Vec<u8>, n: u16)
@@ -39,7 +52,7 @@ pub(crate) fn push_u16(out: &mut Vec<u8>, n: u16)
 
 /// Appends a number of four bytes.
 #[tactic(auto, unfolding(crate::specs::Fields::number))]
-fn push_u32(out: &mut Vec<u8>, n: u32)
+pub(crate) fn push_u32(out: &mut Vec<u8>, n: u32)
     requires { vec_len out.old + 4 ≤ vec_capacity out.old }
     ensures items { out.new.items ≡ out.old.items ++ number 4 n }
     ensures len { vec_len out.new ≡ vec_len out.old + 4 }
@@ -88,4 +101,14 @@ pub(crate) fn push_cell(out: &mut Vec<u8>, row: &[u8], family: &[u8])
 {
     push_field(out, row);
     push_field(out, family);
+}
+
+/// Appends the number of a qualifier.
+pub(crate) fn push_qualifier(out: &mut Vec<u8>, qualifier: Qualifier)
+    requires { vec_len out.old < vec_capacity out.old }
+    ensures items { out.new.items ≡ out.old.items ++ number 1 (qualifier_number qualifier) }
+    ensures len { vec_len out.new ≡ vec_len out.old + 1 }
+    ensures capacity { vec_capacity out.old ≤ vec_capacity out.new }
+{
+    push_u8(out, number_of(qualifier));
 }

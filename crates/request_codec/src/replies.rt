@@ -1,12 +1,14 @@
 //! The bodies of replies.
-ghost use Rattle.std.specs.Prelude.{◌≡◌, ◌≢◌, ◌+◌, ◌≤◌, ◌++◌, ◌∷◌, [], length, vec_len, vec_capacity, IfOk, IfSome, IfNone, IfErr, OnOk, OnErr, IsOk};
+ghost use Rattle.std.specs.Prelude.{◌≡◌, ◌≢◌, ◌+◌, ◌≤◌, ◌++◌, ◌∷◌, [], length, vec_len, vec_capacity, IfOk, IfSome, IfNone, IfErr, OnOk, OnErr, IsOk, option_map};
 ghost use Rattle.cell_key.specs.Refusals.{refusal_number};
+ghost use Rattle.cell_key.specs.Versions.{stamped};
 ghost use Rattle.cell_key.specs.declared.refusals.Refusal.{Refusal as Refusals};
 ghost use Rattle.request_codec.specs.Replies.{replied, reply_body, ReplyBytesFit, IsReply, IsNoReply, NeedsMemory};
+ghost use Rattle.si_model.specs.Messages.{RawFound};
 ghost use Rattle.si_model.specs.Replies.{found_reply, progress_reply};
 
-use crate::pushing::{push_byte, push_field, push_u16, push_u64};
-use crate::whole::{whole_bytes, whole_u16, whole_u16_pair, whole_u64};
+use crate::pushing::{push_byte, push_field, push_u16, push_u32, push_u64};
+use crate::whole::{whole_bytes, whole_u16, whole_u16_pair, whole_u32, whole_u64, whole_version};
 use cell_key::{Refusal, Stamp};
 use si_model::{Found, Progress};
 use std::alloc::{AllocError, Global};
@@ -24,8 +26,22 @@ pub enum Reply {
     Step(Progress),
     /// The session has ended.
     Stop,
+    /// The memtable of the tablet is a file.
+    Minor,
+    /// The files of the tablet are merged.
+    Merge,
+    /// All that the tablet has is in one file.
+    Major,
+    /// The number of the left one of the two tablets.
+    Split(u32),
+    /// The tablet is on that server.
+    Move,
+    /// How many files were removed.
+    Sweep(u64),
     /// The oracle goes on from its stored mark.
     OracleRestart,
+    /// The stamp and the value of the newest version in the range, if there is one.
+    Raw(Option<(Stamp, Vec<u8>)>),
     /// The request was refused, and why.
     Refused(Refusal),
 }
@@ -58,7 +74,23 @@ const FINISHED: u8 = 0x06;
 
 const STOP: u8 = 0x85;
 
+const MINOR: u8 = 0x8A;
+
+const MERGE: u8 = 0x8B;
+
+const MAJOR: u8 = 0x8C;
+
+const SPLIT: u8 = 0x8D;
+
+const MOVE: u8 = 0x8E;
+
+const SWEEP: u8 = 0x8F;
+
 const ORACLE_RESTART: u8 = 0x90;
+
+const RAW: u8 = 0x91;
+
+const VERSION: u8 = 0x01;
 
 const REFUSED: u8 = 0xFF;
 
@@ -122,6 +154,28 @@ fn decode_found(alloc: Global, fields: &[u8]) -> Result<Option<Found>, AllocErro
     }
 }
 
+/// The reply of a raw read, from its fields, and none where they are not those of one.
+fn decode_raw(alloc: Global, fields: &[u8]) -> Result<Option<Reply>, AllocError>
+    ensures found { IfOk result (λ found. IfSome found (λ reply. IsReply (replied reply) (0x91 ∷ fields.now))) }
+    ensures none { IfOk result (λ found. IfNone found (IsNoReply (0x91 ∷ fields.now))) }
+    ensures needed { OnErr result (NeedsMemory (0x91 ∷ fields.now)) }
+{
+    let Some((tag, rest)) = fields.split_first() else {
+        return Ok(None);
+    };
+    match *tag {
+        NOTHING => Ok(rest.is_empty().then_some(Reply::Raw(None))),
+        VERSION => {
+            let Some((stamp, value)) = whole_version(rest) else {
+                return Ok(None);
+            };
+            let value = Vec::from_slice(alloc, value)?;
+            Ok(Some(Reply::Raw(Some((stamp, value)))))
+        }
+        _ => Ok(None),
+    }
+}
+
 /// What a step did, from the fields of its reply.
 fn decode_progress(fields: &[u8]) -> Option<Progress>
     ensures found { IfSome result (λ progress. IsReply (progress_reply progress) (0x84 ∷ fields.now)) }
@@ -166,9 +220,11 @@ fn decode_refusal(fields: &[u8]) -> Option<Refusal>
     refusal_of(*number)
 }
 
-/// The reply of a body that begins with this operation's number, if it is any but a read's.
+/// The reply of a body that begins with this operation's number, neither read's, and none where it is the body of no
+/// reply.
 fn decode_other(operation: u8, fields: &[u8]) -> Option<Reply>
-    requires { operation ≢ 0x82 }
+    requires get { operation ≢ 0x82 }
+    requires raw { operation ≢ 0x91 }
     ensures found { IfSome result (λ reply. IsReply (replied reply) (operation ∷ fields.now)) }
     ensures none { IfNone result (IsNoReply (operation ∷ fields.now)) }
 {
@@ -183,6 +239,18 @@ fn decode_other(operation: u8, fields: &[u8]) -> Option<Reply>
             Some(Reply::Step(progress))
         }
         STOP => fields.is_empty().then_some(Reply::Stop),
+        MINOR => fields.is_empty().then_some(Reply::Minor),
+        MERGE => fields.is_empty().then_some(Reply::Merge),
+        MAJOR => fields.is_empty().then_some(Reply::Major),
+        SPLIT => {
+            let tablet = whole_u32(fields)?;
+            Some(Reply::Split(tablet))
+        }
+        MOVE => fields.is_empty().then_some(Reply::Move),
+        SWEEP => {
+            let count = whole_u64(fields)?;
+            Some(Reply::Sweep(count))
+        }
         ORACLE_RESTART => fields.is_empty().then_some(Reply::OracleRestart),
         REFUSED => {
             let refusal = decode_refusal(fields)?;
@@ -204,13 +272,16 @@ pub fn decode_reply(alloc: Global, body: &[u8]) -> Result<Option<Reply>, Refusal
     let Some((operation, fields)) = body.split_first() else {
         return Ok(None);
     };
-    if *operation != GET {
-        return Ok(decode_other(*operation, fields));
+    match *operation {
+        GET => {
+            let Some(found) = decode_found(alloc, fields)? else {
+                return Ok(None);
+            };
+            Ok(Some(Reply::Get(found)))
+        }
+        RAW => Ok(decode_raw(alloc, fields)?),
+        _ => Ok(decode_other(*operation, fields)),
     }
-    let Some(found) = decode_found(alloc, fields)? else {
-        return Ok(None);
-    };
-    Ok(Some(Reply::Get(found)))
 }
 
 /// How many bytes the body of a reply has.
@@ -220,12 +291,15 @@ pub fn reply_length(reply: &Reply) -> usize
     ensures { result ≡ length (reply_body (replied reply.now)) }
 {
     match reply {
-        Reply::Begin(_) => 9,
-        Reply::Get(Found::Nothing) | Reply::Refused(_) => 2,
+        Reply::Begin(_) | Reply::Sweep(_) => 9,
+        Reply::Get(Found::Nothing) | Reply::Raw(None) | Reply::Refused(_) => 2,
         Reply::Get(Found::Value(value)) => 6 + value.len(),
         Reply::Get(Found::Pending(_)) => 10,
         Reply::Set | Reply::Stop | Reply::OracleRestart => 1,
+        Reply::Minor | Reply::Merge | Reply::Major | Reply::Move => 1,
         Reply::Step(progress) => progress_length(*progress),
+        Reply::Split(_) => 5,
+        Reply::Raw(Some((_, value))) => 14 + value.len(),
     }
 }
 
@@ -260,6 +334,25 @@ fn push_found(found: &Found, out: &mut Vec<u8>)
         Found::Pending(start) => {
             push_byte(out, PENDING);
             push_u64(out, *start);
+        }
+    }
+}
+
+/// Appends the body of a raw read's reply.
+#[tactic(auto, using(crate::proofs::Fields::lengths))]
+fn push_raw(found: &Option<(Stamp, Vec<u8>)>, out: &mut Vec<u8>)
+    requires fits { ReplyBytesFit (RawFound (option_map stamped found.now)) }
+    requires room { vec_len out.old + length (reply_body (RawFound (option_map stamped found.now))) ≤ vec_capacity out.old }
+    ensures items { out.new.items ≡ out.old.items ++ reply_body (RawFound (option_map stamped found.now)) }
+    ensures capacity { vec_capacity out.old ≤ vec_capacity out.new }
+{
+    push_byte(out, RAW);
+    match found {
+        None => push_byte(out, NOTHING),
+        Some((stamp, value)) => {
+            push_byte(out, VERSION);
+            push_u64(out, *stamp);
+            push_field(out, value);
         }
     }
 }
@@ -316,7 +409,20 @@ fn push_reply(reply: &Reply, out: &mut Vec<u8>)
         Reply::Set => push_byte(out, SET),
         Reply::Step(progress) => push_progress(*progress, out),
         Reply::Stop => push_byte(out, STOP),
+        Reply::Minor => push_byte(out, MINOR),
+        Reply::Merge => push_byte(out, MERGE),
+        Reply::Major => push_byte(out, MAJOR),
+        Reply::Split(tablet) => {
+            push_byte(out, SPLIT);
+            push_u32(out, *tablet);
+        }
+        Reply::Move => push_byte(out, MOVE),
+        Reply::Sweep(count) => {
+            push_byte(out, SWEEP);
+            push_u64(out, *count);
+        }
         Reply::OracleRestart => push_byte(out, ORACLE_RESTART),
+        Reply::Raw(found) => push_raw(found, out),
         Reply::Refused(refusal) => {
             push_byte(out, REFUSED);
             push_byte(out, refusal.number());

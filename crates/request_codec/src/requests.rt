@@ -1,10 +1,17 @@
 //! The bodies of requests.
-ghost use Rattle.std.specs.Prelude.{◌≡◌, ◌+◌, ◌≤◌, ◌++◌, length, vec_len, vec_capacity, IfSome, IfNone, IfErr, OnOk, OnErr, IsOk};
+ghost use Rattle.std.specs.Prelude.{◌≡◌, ◌+◌, ◌≤◌, ◌<◌, ◌++◌, ◌∷◌, length, vec_len, vec_capacity, IfSome, IfNone, IfErr, OnOk, OnErr, IsOk};
 ghost use Rattle.request_codec.specs.Requests.{asked, request_body, BytesFit, IsRequest, IsMalformed};
+ghost use Rattle.request_codec.specs.Fields.{number, FitsField};
+ghost use Rattle.si_model.specs.Messages.{Get, Set, Split, Raw};
 
-use crate::pushing::{push_byte, push_cell, push_field, push_u64};
-use crate::whole::{whole_read, whole_u64, whole_write};
-use cell_key::{Refusal, Stamp};
+use crate::pushing::{
+    push_byte, push_cell, push_field, push_qualifier, push_u8, push_u32, push_u64,
+};
+use crate::whole::{
+    whole_bytes, whole_move, whole_raw, whole_read, whole_u32, whole_u32_pair, whole_u64,
+    whole_write,
+};
+use cell_key::{Qualifier, Refusal, Stamp};
 
 /// What is asked of the store. Rows, families and values are lent by the body that was read, and may be outside
 /// their limits.
@@ -33,8 +40,40 @@ pub enum Request<'a> {
     Stop {
         start: Stamp,
     },
+    /// Writes the memtable of a tablet as a file.
+    Minor {
+        tablet: u32,
+    },
+    /// Merges so many of a tablet's newest files.
+    Merge {
+        tablet: u32,
+        count: u32,
+    },
+    /// Merges all that a tablet has into one file.
+    Major {
+        tablet: u32,
+    },
+    /// Splits the tablet that holds a row, after the row.
+    Split {
+        row: &'a [u8],
+    },
+    /// Moves a tablet to a server.
+    Move {
+        tablet: u32,
+        server: u8,
+    },
+    /// Removes the files that no tablet names.
+    Sweep,
     /// Starts the oracle again from its stored mark.
     OracleRestart,
+    /// Reads the newest version of a cell's column in a range of stamps, both bounds included.
+    Raw {
+        row: &'a [u8],
+        family: &'a [u8],
+        qualifier: Qualifier,
+        lo: Stamp,
+        hi: Stamp,
+    },
 }
 
 const BEGIN: u8 = 0x01;
@@ -47,15 +86,30 @@ const STEP: u8 = 0x04;
 
 const STOP: u8 = 0x05;
 
+const MINOR: u8 = 0x0A;
+
+const MERGE: u8 = 0x0B;
+
+const MAJOR: u8 = 0x0C;
+
+const SPLIT: u8 = 0x0D;
+
+const MOVE: u8 = 0x0E;
+
+const SWEEP: u8 = 0x0F;
+
 const ORACLE_RESTART: u8 = 0x10;
 
-/// The request whose body this is, and none where it is the body of no request. Its fields are lent by the body.
-pub fn decode_request(body: &[u8]) -> Option<Request<'_>>
-    ensures found { IfSome result (λ request. IsRequest (asked request) body.now) }
-    ensures malformed { IfNone result (IsMalformed body.now) }
+const RAW: u8 = 0x11;
+
+/// The request of a body that begins with this operation's number, one of a session's, and none where it is the
+/// body of no request.
+fn decode_session(operation: u8, fields: &[u8]) -> Option<Request<'_>>
+    requires { operation < 0x0A }
+    ensures found { IfSome result (λ request. IsRequest (asked request) (operation ∷ fields.now)) }
+    ensures malformed { IfNone result (IsMalformed (operation ∷ fields.now)) }
 {
-    let (operation, fields) = body.split_first()?;
-    match *operation {
+    match operation {
         BEGIN => fields.is_empty().then_some(Request::Begin),
         GET => {
             let (start, row, family) = whole_read(fields)?;
@@ -78,8 +132,70 @@ pub fn decode_request(body: &[u8]) -> Option<Request<'_>>
             let start = whole_u64(fields)?;
             Some(Request::Stop { start })
         }
-        ORACLE_RESTART => fields.is_empty().then_some(Request::OracleRestart),
         _ => None,
+    }
+}
+
+/// The request of a body that begins with this operation's number, no session's, and none where it is the body of
+/// no request.
+fn decode_upkeep(operation: u8, fields: &[u8]) -> Option<Request<'_>>
+    requires { 0x0A ≤ operation }
+    ensures found { IfSome result (λ request. IsRequest (asked request) (operation ∷ fields.now)) }
+    ensures malformed { IfNone result (IsMalformed (operation ∷ fields.now)) }
+{
+    match operation {
+        MINOR => {
+            let tablet = whole_u32(fields)?;
+            Some(Request::Minor { tablet })
+        }
+        MERGE => {
+            let (tablet, count) = whole_u32_pair(fields)?;
+            Some(Request::Merge { tablet, count })
+        }
+        MAJOR => {
+            let tablet = whole_u32(fields)?;
+            Some(Request::Major { tablet })
+        }
+        SPLIT => {
+            let row = whole_bytes(fields)?;
+            Some(Request::Split { row })
+        }
+        MOVE => {
+            let (tablet, server) = whole_move(fields)?;
+            Some(Request::Move { tablet, server })
+        }
+        SWEEP => fields.is_empty().then_some(Request::Sweep),
+        ORACLE_RESTART => fields.is_empty().then_some(Request::OracleRestart),
+        RAW => decode_raw(fields),
+        _ => None,
+    }
+}
+
+/// A raw read, from its fields, and none where they are not those of one.
+fn decode_raw(fields: &[u8]) -> Option<Request<'_>>
+    ensures found { IfSome result (λ request. IsRequest (asked request) (0x11 ∷ fields.now)) }
+    ensures malformed { IfNone result (IsMalformed (0x11 ∷ fields.now)) }
+{
+    let (row, family, qualifier, lo, hi) = whole_raw(fields)?;
+    Some(Request::Raw {
+        row,
+        family,
+        qualifier,
+        lo,
+        hi,
+    })
+}
+
+/// The request whose body this is, and none where it is the body of no request. Its fields are lent by the body.
+pub fn decode_request(body: &[u8]) -> Option<Request<'_>>
+    ensures found { IfSome result (λ request. IsRequest (asked request) body.now) }
+    ensures malformed { IfNone result (IsMalformed body.now) }
+{
+    let (operation, fields) = body.split_first()?;
+    if *operation < MINOR {
+        decode_session(*operation, fields)
+    } else {
+        decode_upkeep(*operation, fields)
     }
 }
 
@@ -90,7 +206,7 @@ fn request_length(request: &Request<'_>) -> usize
     ensures { result ≡ length (request_body (asked request.now)) }
 {
     match *request {
-        Request::Begin | Request::OracleRestart => 1,
+        Request::Begin | Request::Sweep | Request::OracleRestart => 1,
         Request::Get { row, family, .. } => 17 + row.len() + family.len(),
         Request::Set {
             row,
@@ -98,8 +214,99 @@ fn request_length(request: &Request<'_>) -> usize
             value,
             ..
         } => 21 + row.len() + family.len() + value.len(),
-        Request::Step { .. } | Request::Stop { .. } => 9,
+        Request::Step { .. } | Request::Stop { .. } | Request::Merge { .. } => 9,
+        Request::Minor { .. } | Request::Major { .. } => 5,
+        Request::Split { row } => 5 + row.len(),
+        Request::Move { .. } => 6,
+        Request::Raw { row, family, .. } => 26 + row.len() + family.len(),
     }
+}
+
+/// Appends the number of an operation and a stamp.
+#[tactic(auto, using(crate::proofs::Fields::lengths))]
+fn push_stamp(out: &mut Vec<u8>, operation: u8, stamp: Stamp)
+    requires { vec_len out.old + 9 ≤ vec_capacity out.old }
+    ensures items { out.new.items ≡ out.old.items ++ operation ∷ number 8 stamp }
+    ensures len { vec_len out.new ≡ vec_len out.old + 9 }
+    ensures capacity { vec_capacity out.old ≤ vec_capacity out.new }
+{
+    push_byte(out, operation);
+    push_u64(out, stamp);
+}
+
+/// Appends the number of an operation and that of a tablet.
+#[tactic(auto, using(crate::proofs::Fields::lengths))]
+fn push_tablet(out: &mut Vec<u8>, operation: u8, tablet: u32)
+    requires { vec_len out.old + 5 ≤ vec_capacity out.old }
+    ensures items { out.new.items ≡ out.old.items ++ operation ∷ number 4 tablet }
+    ensures len { vec_len out.new ≡ vec_len out.old + 5 }
+    ensures capacity { vec_capacity out.old ≤ vec_capacity out.new }
+{
+    push_byte(out, operation);
+    push_u32(out, tablet);
+}
+
+/// Appends the body of a read.
+#[tactic(auto, using(crate::proofs::Fields::lengths))]
+fn push_get(out: &mut Vec<u8>, start: Stamp, row: &[u8], family: &[u8])
+    requires row { FitsField row.now }
+    requires family { FitsField family.now }
+    requires room { vec_len out.old + length row.now + length family.now + 17 ≤ vec_capacity out.old }
+    ensures items { out.new.items ≡ out.old.items ++ request_body (Get start (record { row = row.now; family = family.now })) }
+    ensures capacity { vec_capacity out.old ≤ vec_capacity out.new }
+{
+    push_stamp(out, GET, start);
+    push_cell(out, row, family);
+}
+
+/// Appends the body of a write.
+#[tactic(auto, using(crate::proofs::Fields::lengths))]
+fn push_set(out: &mut Vec<u8>, start: Stamp, row: &[u8], family: &[u8], value: &[u8])
+    requires row { FitsField row.now }
+    requires family { FitsField family.now }
+    requires value { FitsField value.now }
+    requires room { vec_len out.old + length row.now + length family.now + length value.now + 21 ≤ vec_capacity out.old }
+    ensures items { out.new.items ≡ out.old.items ++ request_body (Set start (record { row = row.now; family = family.now }) value.now) }
+    ensures capacity { vec_capacity out.old ≤ vec_capacity out.new }
+{
+    push_stamp(out, SET, start);
+    push_cell(out, row, family);
+    push_field(out, value);
+}
+
+/// Appends the body of a split.
+#[tactic(auto, using(crate::proofs::Fields::lengths))]
+fn push_split(out: &mut Vec<u8>, row: &[u8])
+    requires row { FitsField row.now }
+    requires room { vec_len out.old + length row.now + 5 ≤ vec_capacity out.old }
+    ensures items { out.new.items ≡ out.old.items ++ request_body (Split row.now) }
+    ensures capacity { vec_capacity out.old ≤ vec_capacity out.new }
+{
+    push_byte(out, SPLIT);
+    push_field(out, row);
+}
+
+/// Appends the body of a raw read.
+#[tactic(auto, using(crate::proofs::Fields::lengths))]
+fn push_raw(
+    out: &mut Vec<u8>,
+    row: &[u8],
+    family: &[u8],
+    qualifier: Qualifier,
+    lo: Stamp,
+    hi: Stamp,
+)
+    requires row { FitsField row.now }
+    requires family { FitsField family.now }
+    requires room { vec_len out.old + length row.now + length family.now + 26 ≤ vec_capacity out.old }
+    ensures items { out.new.items ≡ out.old.items ++ request_body (Raw (record { row = row.now; family = family.now }) qualifier lo hi) }
+    ensures capacity { vec_capacity out.old ≤ vec_capacity out.new }
+{
+    push_byte(out, RAW);
+    push_cell(out, row, family);
+    push_qualifier(out, qualifier);
+    push_u64(out, lo);
+    push_u64(out, hi);
 }
 
 /// Appends the body of a request.
@@ -112,31 +319,35 @@ fn push_request(request: &Request<'_>, out: &mut Vec<u8>)
 {
     match *request {
         Request::Begin => push_byte(out, BEGIN),
-        Request::Get { start, row, family } => {
-            push_byte(out, GET);
-            push_u64(out, start);
-            push_cell(out, row, family);
-        }
+        Request::Get { start, row, family } => push_get(out, start, row, family),
         Request::Set {
             start,
             row,
             family,
             value,
-        } => {
-            push_byte(out, SET);
-            push_u64(out, start);
-            push_cell(out, row, family);
-            push_field(out, value);
+        } => push_set(out, start, row, family, value),
+        Request::Step { start } => push_stamp(out, STEP, start),
+        Request::Stop { start } => push_stamp(out, STOP, start),
+        Request::Minor { tablet } => push_tablet(out, MINOR, tablet),
+        Request::Merge { tablet, count } => {
+            push_tablet(out, MERGE, tablet);
+            push_u32(out, count);
         }
-        Request::Step { start } => {
-            push_byte(out, STEP);
-            push_u64(out, start);
+        Request::Major { tablet } => push_tablet(out, MAJOR, tablet),
+        Request::Split { row } => push_split(out, row),
+        Request::Move { tablet, server } => {
+            push_tablet(out, MOVE, tablet);
+            push_u8(out, server);
         }
-        Request::Stop { start } => {
-            push_byte(out, STOP);
-            push_u64(out, start);
-        }
+        Request::Sweep => push_byte(out, SWEEP),
         Request::OracleRestart => push_byte(out, ORACLE_RESTART),
+        Request::Raw {
+            row,
+            family,
+            qualifier,
+            lo,
+            hi,
+        } => push_raw(out, row, family, qualifier, lo, hi),
     }
 }
 

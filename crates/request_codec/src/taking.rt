@@ -1,10 +1,13 @@
 //! Taking fields from the front of lent bytes.
 ghost use Rattle.std.specs.Prelude.{◌≡◌, ◌≢◌, ◌≤◌, ◌<◌, ◌^◌, ◌++◌, List, ℕ, length, IfSome, IfNone};
 ghost use Rattle.si_model.specs.declared.replies.Cell.{Cell as CellOf};
-ghost use Rattle.request_codec.specs.Fields.{number, field, cell_fields, FitsField, FitsCell};
+ghost use Rattle.cell_key.specs.declared.keys.Qualifier.{Qualifier as Qualifiers};
+ghost use Rattle.request_codec.specs.Fields.{number, field, cell_fields, qualifier_number, FitsField, FitsCell};
 
+use crate::qualifiers::qualifier_of;
 use byteorder::{BigEndian, ByteOrder};
 use bytes::Buf;
+use cell_key::Qualifier;
 
 /// So many bytes from the front.
 fn take_front<'a>(rest: &mut &'a [u8], len: usize) -> Option<&'a [u8]>
@@ -19,6 +22,18 @@ fn take_front<'a>(rest: &mut &'a [u8], len: usize) -> Option<&'a [u8]>
     let front = &all[..len];
     rest.advance(len);
     Some(front)
+}
+
+/// A number of one byte.
+#[tactic(auto, unfolding(crate::specs::Fields::number))]
+pub(crate) fn take_u8(rest: &mut &[u8]) -> Option<u8>
+    ensures found { IfSome result (λ n. rest.old.now ≡ number 1 n ++ rest.new.now) }
+    ensures fits { IfSome result (λ n. n < 2 ^ 8) }
+    ensures none { IfNone result ((n : ℕ) (after : List ℕ) → rest.old.now ≢ number 1 n ++ after) }
+{
+    let (byte, after) = rest.split_first()?;
+    *rest = after;
+    Some(*byte)
 }
 
 /// The number that two bytes spell.
@@ -48,7 +63,7 @@ fn u32_of(bytes: &[u8]) -> u32
 }
 
 /// A number of four bytes.
-fn take_u32(rest: &mut &[u8]) -> Option<u32>
+pub(crate) fn take_u32(rest: &mut &[u8]) -> Option<u32>
     ensures found { IfSome result (λ n. rest.old.now ≡ number 4 n ++ rest.new.now) }
     ensures fits { IfSome result (λ n. n < 2 ^ 32) }
     ensures none { IfNone result ((n : ℕ) (after : List ℕ) → rest.old.now ≢ number 4 n ++ after) }
@@ -94,4 +109,13 @@ pub(crate) fn take_cell<'a>(rest: &mut &'a [u8]) -> Option<(&'a [u8], &'a [u8])>
     let row = take_bytes(rest)?;
     let family = take_bytes(rest)?;
     Some((row, family))
+}
+
+/// The number of a qualifier.
+pub(crate) fn take_qualifier(rest: &mut &[u8]) -> Option<Qualifier>
+    ensures found { IfSome result (λ qualifier. rest.old.now ≡ number 1 (qualifier_number qualifier) ++ rest.new.now) }
+    ensures none { IfNone result ((qualifier : Qualifiers) (after : List ℕ) → rest.old.now ≢ number 1 (qualifier_number qualifier) ++ after) }
+{
+    let byte = take_u8(rest)?;
+    qualifier_of(byte)
 }

@@ -1,9 +1,11 @@
 //! Fields that are all of the lent bytes.
 ghost use Rattle.std.specs.Prelude.{◌≡◌, ◌≢◌, ◌<◌, ◌^◌, ◌++◌, List, ℕ, IfSome, IfNone};
 ghost use Rattle.si_model.specs.declared.replies.Cell.{Cell as CellOf};
-ghost use Rattle.request_codec.specs.Fields.{number, field, cell_fields, FitsField, FitsCell};
+ghost use Rattle.cell_key.specs.declared.keys.Qualifier.{Qualifier as Qualifiers};
+ghost use Rattle.request_codec.specs.Fields.{number, field, cell_fields, qualifier_number, FitsField, FitsCell};
 
-use crate::taking::{take_bytes, take_cell, take_u16, take_u64};
+use crate::taking::{take_bytes, take_cell, take_qualifier, take_u8, take_u16, take_u32, take_u64};
+use cell_key::Qualifier;
 
 /// A number of two bytes.
 pub(crate) fn whole_u16(bytes: &[u8]) -> Option<u16>
@@ -26,6 +28,52 @@ pub(crate) fn whole_u16_pair(bytes: &[u8]) -> Option<(u16, u16)>
     let first = take_u16(&mut rest)?;
     let second = whole_u16(rest)?;
     Some((first, second))
+}
+
+/// A number of one byte.
+fn whole_u8(bytes: &[u8]) -> Option<u8>
+    ensures found { IfSome result (λ n. bytes.now ≡ number 1 n) }
+    ensures fits { IfSome result (λ n. n < 2 ^ 8) }
+    ensures none { IfNone result ((n : ℕ) → bytes.now ≢ number 1 n) }
+{
+    let mut rest = bytes;
+    let n = take_u8(&mut rest)?;
+    if rest.is_empty() { Some(n) } else { None }
+}
+
+/// A number of four bytes.
+pub(crate) fn whole_u32(bytes: &[u8]) -> Option<u32>
+    ensures found { IfSome result (λ n. bytes.now ≡ number 4 n) }
+    ensures fits { IfSome result (λ n. n < 2 ^ 32) }
+    ensures none { IfNone result ((n : ℕ) → bytes.now ≢ number 4 n) }
+{
+    let mut rest = bytes;
+    let n = take_u32(&mut rest)?;
+    if rest.is_empty() { Some(n) } else { None }
+}
+
+/// Two numbers of four bytes each.
+pub(crate) fn whole_u32_pair(bytes: &[u8]) -> Option<(u32, u32)>
+    ensures found { IfSome result (λ p. bytes.now ≡ number 4 p.0 ++ number 4 p.1) }
+    ensures fits { IfSome result (λ p. (p.0 < 2 ^ 32) × (p.1 < 2 ^ 32)) }
+    ensures none { IfNone result ((m n : ℕ) → bytes.now ≢ number 4 m ++ number 4 n) }
+{
+    let mut rest = bytes;
+    let first = take_u32(&mut rest)?;
+    let second = whole_u32(rest)?;
+    Some((first, second))
+}
+
+/// A number of four bytes and one of one byte.
+pub(crate) fn whole_move(bytes: &[u8]) -> Option<(u32, u8)>
+    ensures found { IfSome result (λ p. bytes.now ≡ number 4 p.0 ++ number 1 p.1) }
+    ensures fits { IfSome result (λ p. (p.0 < 2 ^ 32) × (p.1 < 2 ^ 8)) }
+    ensures none { IfNone result ((m n : ℕ) → bytes.now ≢ number 4 m ++ number 1 n) }
+{
+    let mut rest = bytes;
+    let tablet = take_u32(&mut rest)?;
+    let server = whole_u8(rest)?;
+    Some((tablet, server))
 }
 
 /// A number of eight bytes.
@@ -81,4 +129,45 @@ pub(crate) fn whole_write(bytes: &[u8]) -> Option<(u64, &[u8], &[u8], &[u8])>
     let (row, family) = take_cell(&mut rest)?;
     let value = whole_bytes(rest)?;
     Some((start, row, family, value))
+}
+
+/// Two numbers of eight bytes each.
+fn whole_u64_pair(bytes: &[u8]) -> Option<(u64, u64)>
+    ensures found { IfSome result (λ p. bytes.now ≡ number 8 p.0 ++ number 8 p.1) }
+    ensures fits { IfSome result (λ p. (p.0 < 2 ^ 64) × (p.1 < 2 ^ 64)) }
+    ensures none { IfNone result ((m n : ℕ) → bytes.now ≢ number 8 m ++ number 8 n) }
+{
+    let mut rest = bytes;
+    let first = take_u64(&mut rest)?;
+    let second = whole_u64(rest)?;
+    Some((first, second))
+}
+
+/// The row and the family of a cell, a qualifier, and two bounds.
+pub(crate) fn whole_raw(bytes: &[u8]) -> Option<(&[u8], &[u8], Qualifier, u64, u64)>
+    ensures found { IfSome result (λ p. bytes.now ≡ cell_fields (record { row = p.0.now; family = p.1.now })
+        ++ (number 1 (qualifier_number p.2) ++ (number 8 p.3 ++ number 8 p.4))) }
+    ensures cell { IfSome result (λ p. FitsCell (record { row = p.0.now; family = p.1.now })) }
+    ensures bounds { IfSome result (λ p. (p.3 < 2 ^ 64) × (p.4 < 2 ^ 64)) }
+    ensures none { IfNone result ((cell : CellOf) (qualifier : Qualifiers) (low high : ℕ) → FitsCell cell
+        → bytes.now ≢ cell_fields cell ++ (number 1 (qualifier_number qualifier) ++ (number 8 low ++ number 8 high))) }
+{
+    let mut rest = bytes;
+    let (row, family) = take_cell(&mut rest)?;
+    let qualifier = take_qualifier(&mut rest)?;
+    let (lo, hi) = whole_u64_pair(rest)?;
+    Some((row, family, qualifier, lo, hi))
+}
+
+/// A stamp and a value.
+pub(crate) fn whole_version(bytes: &[u8]) -> Option<(u64, &[u8])>
+    ensures found { IfSome result (λ p. bytes.now ≡ number 8 p.0 ++ field p.1.now) }
+    ensures number { IfSome result (λ p. p.0 < 2 ^ 64) }
+    ensures value { IfSome result (λ p. FitsField p.1.now) }
+    ensures none { IfNone result ((stamp : ℕ) (value : List ℕ) → FitsField value → bytes.now ≢ number 8 stamp ++ field value) }
+{
+    let mut rest = bytes;
+    let stamp = take_u64(&mut rest)?;
+    let value = whole_bytes(rest)?;
+    Some((stamp, value))
 }

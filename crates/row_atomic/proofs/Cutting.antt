@@ -18,7 +18,7 @@ use Rattle.row_atomic.proofs.Shares.{set_there, set_elsewhere}
 same_some : {A : Type 0} (x y : A) → Some x ≡ Some y → x ≡ y
 same_some x y e = cc
 
-pushed_before : {A : Type 0} (xs ys : List A) (j : ℕ) (x : A) → slice_get xs j ≡ Some x → slice_get (xs ++ ys) j ≡ Some x
+pub pushed_before : {A : Type 0} (xs ys : List A) (j : ℕ) (x : A) → slice_get xs j ≡ Some x → slice_get (xs ++ ys) j ≡ Some x
 pushed_before [] ys j x e = cc
 pushed_before (z ∷ xs) ys zero x e = e
 pushed_before (z ∷ xs) ys (suc j) x e = pushed_before xs ys j x e
@@ -27,7 +27,7 @@ at_end : {A : Type 0} (zs : List A) (y : A) → slice_get (zs ++ y ∷ []) (leng
 at_end [] y = refl
 at_end (w ∷ zs) y = at_end zs y
 
-pushed_there : {A : Type 0} (xs : List A) (i : ℕ) (x y : A) → slice_get (set xs i x ++ y ∷ []) (length xs) ≡ Some y
+pub pushed_there : {A : Type 0} (xs : List A) (i : ℕ) (x y : A) → slice_get (set xs i x ++ y ∷ []) (length xs) ≡ Some y
 pushed_there [] i x y = refl
 pushed_there (z ∷ xs) zero x y = at_end xs y
 pushed_there (z ∷ xs) (suc i) x y = pushed_there xs i x y

@@ -1,5 +1,6 @@
 -- What the calls of a cluster do to its tablets and their places.
-use Rattle.std.specs.Prelude.{◌≡◌, ◌≢◌, ◌≤◌, ◌+◌, ℕ, false, nat_lt, List, [], ◌∷◌, length, map, take, Option, Some, IsSome, IsSomeAnd, IfSome, ⊤}
+use Rattle.std.specs.Prelude.{◌≡◌, ◌≢◌, ◌≤◌, ◌<◌, ◌+◌, ◌⊎◌, ℕ, false, nat_lt, List, [], ◌∷◌, length, map, take, Option, Some, None, IsSome, IsNone, IsSomeAnd, IfSome, ⊤}
+use Rattle.std.specs.FinMap.{get}
 use Rattle.std.specs.List.{AllByRecursion, Contains, slice_get}
 use Rattle.cell_key.specs.Entries.{Entry}
 use Rattle.cell_key.specs.declared.refusals.Refusal.{Refusal}
@@ -59,6 +60,18 @@ pub record Remakes (Made : Tablet → Tablet → Type 0) (n : ℕ) (old new : Li
   pub is_numbered : tablet_numbered n new ≡ Some is
   pub made : Made was is
   pub others : (other : ℕ) → other ≢ n → tablet_numbered other new ≡ tablet_numbered other old
+
+-- ---- names of files
+
+-- Files that are told are told still, and those whose names are below the first one, or not below the second, are as they were.
+abbrev pub KeepsBeside : ℕ → ℕ → Option Contents → Option Contents → Type 0
+KeepsBeside from to None new = IsNone new
+KeepsBeside from to (Some m) new = IsSomeAnd new (λ n. (name : ℕ) → (name < from) ⊎ (to ≤ name) → get n name ≡ get m name)
+
+-- Files were written under the next names alone, which are not used again.
+pub record UsesNames (old : Option Contents) (before : ℕ) (new : Option Contents) (after : ℕ) : Type 0 where
+  pub later : before ≤ after
+  pub others : KeepsBeside before after old new
 
 -- ---- compactions
 
@@ -123,6 +136,19 @@ pub record IsFull (t : Tablet) : Type 0 where
   pub memory : memory_of t ≢ []
   pub files : 64 ≤ length (names_of t)
 
+abbrev pub MeetsFull : Compaction → Tablet → Type 0
+MeetsFull Minor t = IsFull t
+MeetsFull _ t = ⊥
+
+-- its memtable is empty
+abbrev pub IsEmptied : Tablet → Type 0
+IsEmptied t = memory_of t ≡ []
+
+-- a compaction has nothing to write
+abbrev pub WritesNone : Compaction → Tablet → Type 0
+WritesNone Minor t = IsEmptied t
+WritesNone _ t = ⊥
+
 -- what a compaction of a known tablet may be refused
 abbrev pub IsRefusalOf : Compaction → Refusal → Type 0
 IsRefusalOf Minor refused.TooManyFiles = ⊤
@@ -138,10 +164,6 @@ IsNumberedRefusal compaction refusal = IsRefusalOf compaction refusal
 
 -- ---- splits and moves
 
--- its memtable is empty
-abbrev pub IsEmptied : Tablet → Type 0
-IsEmptied t = memory_of t ≡ []
-
 -- the tablet of the place that holds the row is such
 pub record OfHolder (P : Tablet → Type 0) (row : List ℕ) (places : List PlaceView) (tablets : List Tablet) : Type 0 where
   pub place : PlaceView
@@ -154,6 +176,11 @@ pub record IsCut (row : List ℕ) (left : ℕ) (old new : List PlaceView) : Type
   pub holder : IsHolder row old place
   pub names : List ℕ
   pub cut : Cuts row left (with_files place.tablet names old) new
+
+-- the same files were opened anew, with an empty memtable
+pub record IsReopened (t u : Tablet) : Type 0 where
+  pub memory : memory_of u ≡ []
+  pub names : names_of u ≡ names_of t
 
 -- a tablet was put on a server, after it was given files
 pub record IsMoved (n server : ℕ) (old new : List PlaceView) : Type 0 where

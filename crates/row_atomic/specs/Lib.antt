@@ -1,6 +1,7 @@
 pub mod Changes
 pub mod Clusters
 pub mod Commands
+pub mod Compactions
 pub mod Laws
 pub mod Refusals
 pub mod Slots

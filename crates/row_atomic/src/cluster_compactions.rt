@@ -1,12 +1,12 @@
 //! Compactions of a cluster's tablets. Room for the new list of names is made before the tablet changes.
 
-ghost use Rattle.std.specs.Prelude.{◌≡◌, ◌≤◌, ◌+◌, ◌^◌, ◌↔◌, [], length, vec_capacity, IfErr, IfOk, IfSome, IsErrOf, OnErr, OnOk};
-ghost use Rattle.metadata_table.specs.Table.{HasTablet, with_files};
+ghost use Rattle.std.specs.Prelude.{◌≡◌, ◌≤◌, ◌<◌, ◌+◌, ◌^◌, ◌↔◌, [], length, vec_capacity, IfErr, IfOk, IfSome, IsErrOf, OnErr, OnOk};
+ghost use Rattle.metadata_table.specs.Table.{HasTablet, IsTable, with_files};
 ghost use Rattle.sorted_file.specs.Grammar.{FitsIn};
 ghost use Rattle.sorted_file.specs.Sources.{HasReason};
 ghost use Rattle.tablet.specs.Views.{Holds as HoldsAt, IsBelow, IsUnchanged, Keeps, UsesName, names_of, range_of};
 ghost use Rattle.row_atomic.specs.Clusters.{spots_of};
-ghost use Rattle.row_atomic.specs.Changes.{Holds, IsAsBefore, IsAt, IsBadCount, IsCleaned, IsFlushed, IsFull, IsMade, IsMerged, IsNumberedRefusal, IsRefusalOf, IsTooLarge, IsWhole, KeepsMap, LacksErasures, MeetsBadCount, Numbered, Remakes, written_by};
+ghost use Rattle.row_atomic.specs.Changes.{Holds, IsAsBefore, IsAt, IsBadCount, IsCleaned, IsEmptied, IsFlushed, IsFull, IsMade, IsMerged, IsNumberedRefusal, IsRefusalOf, IsTooLarge, IsWhole, KeepsMap, LacksErasures, MeetsBadCount, MeetsFull, Numbered, Remakes, WritesNone, written_by};
 
 use crate::cluster::Cluster;
 use cell_key::Refusal;
@@ -46,8 +46,12 @@ fn compact<F: Files>(
     ensures limit { next_name.old ≤ 2 ^ 63 → next_name.new ≤ 2 ^ 63 }
     ensures count { IsErrOf result Refusal.BadCount → MeetsBadCount compaction tablet.old }
     ensures full { IsErrOf result Refusal.TooManyFiles → IsFull tablet.old }
+    ensures room { OnOk result (¬ MeetsFull compaction tablet.old) }
     ensures exhausted { IsErrOf result Refusal.Exhausted → 2 ^ 63 ≤ next_name.old }
+    ensures needed { IsErrOf result Refusal.Exhausted → ¬ WritesNone compaction tablet.old }
+    ensures left { OnOk result (2 ^ 63 ≤ next_name.old → WritesNone compaction tablet.old) }
     ensures large { IsErrOf result Refusal.FileTooLarge → IfSome (F.contents files.old) (λ m. HoldsAt m tablet.old → ¬ FitsIn file_limit (written_by compaction m tablet.old)) }
+    ensures fits { OnOk result (IfSome (F.contents files.old) (λ m. HoldsAt m tablet.old → FitsIn file_limit (written_by compaction m tablet.old))) }
     ensures damaged { IsErrOf result Refusal.Damaged → IfSome (F.contents files.old) (λ m. ¬ HoldsAt m tablet.old) }
     ensures refusal { IfErr result (IsRefusalOf compaction) }
     ensures reason { HasReason (F.faults files.old) (F.faults files.new) result }
@@ -88,6 +92,7 @@ impl<F: Files> Cluster<F> {
     pub(crate) fn check_tablet(&self, tablet: u32) -> Result<(), Refusal>
         ensures known { OnOk result (HasTablet tablet self.now.places) }
         ensures unknown { OnErr result (¬ HasTablet tablet self.now.places) }
+        ensures table { IsTable self.now.places }
         ensures refusal { IfErr result (λ refusal. refusal ≡ Refusal.UnknownTablet) }
     {
         self.table.place(tablet)?;
@@ -126,6 +131,7 @@ impl<F: Files> Cluster<F> {
         requires known { HasTablet tablet self.old.places }
         ensures kept { KeepsMap F.contents self.old self.new }
         ensures limit { self.new.file_limit ≡ self.old.file_limit }
+        ensures name { UsesName (F.contents self.old.files) self.old.next_name (F.contents self.new.files) self.new.next_name }
         ensures made { OnOk result (Remakes (IsMade compaction) tablet self.old.tablets self.new.tablets) }
         ensures cleaned { Holds F.contents self.old → OnOk result (Numbered (IsCleaned compaction (F.contents self.new.files)) tablet self.new.tablets) }
         ensures listed { OnOk result (Numbered (λ t. self.new.places ≡ with_files tablet (names_of t) self.old.places) tablet self.new.tablets) }
@@ -133,8 +139,12 @@ impl<F: Files> Cluster<F> {
         ensures spots { spots_of self.new ≡ spots_of self.old }
         ensures count { IsErrOf result Refusal.BadCount → Numbered (MeetsBadCount compaction) tablet self.old.tablets }
         ensures full { IsErrOf result Refusal.TooManyFiles → Numbered IsFull tablet self.old.tablets }
+        ensures room { OnOk result (¬ Numbered (MeetsFull compaction) tablet self.old.tablets) }
         ensures exhausted { IsErrOf result Refusal.Exhausted → 2 ^ 63 ≤ self.old.next_name }
+        ensures needed { IsErrOf result Refusal.Exhausted → ¬ Numbered (WritesNone compaction) tablet self.old.tablets }
+        ensures left { OnOk result (2 ^ 63 ≤ self.old.next_name → Numbered (WritesNone compaction) tablet self.old.tablets) }
         ensures large { Holds F.contents self.old → IsErrOf result Refusal.FileTooLarge → Numbered (IsTooLarge self.old.file_limit (F.contents self.old.files) compaction) tablet self.old.tablets }
+        ensures fits { Holds F.contents self.old → OnOk result (¬ Numbered (IsTooLarge self.old.file_limit (F.contents self.old.files) compaction) tablet self.old.tablets) }
         ensures undamaged { Holds F.contents self.old → ¬ IsErrOf result Refusal.Damaged }
         ensures refusal { IfErr result (IsRefusalOf compaction) }
         ensures reason { HasReason (F.faults self.old.files) (F.faults self.new.files) result }
@@ -164,13 +174,19 @@ impl<F: Files> Cluster<F> {
     pub fn minor(&mut self, tablet: u32) -> Result<(), Refusal>
         ensures kept { KeepsMap F.contents self.old self.new }
         ensures limit { self.new.file_limit ≡ self.old.file_limit }
+        ensures name { UsesName (F.contents self.old.files) self.old.next_name (F.contents self.new.files) self.new.next_name }
         ensures spots { spots_of self.new ≡ spots_of self.old }
+        ensures table { IsTable self.old.places }
         ensures made { OnOk result (Remakes IsFlushed tablet self.old.tablets self.new.tablets) }
         ensures err { OnErr result (IsAsBefore self.old self.new) }
         ensures unknown { IsErrOf result Refusal.UnknownTablet ↔ ¬ HasTablet tablet self.old.places }
         ensures full { IsErrOf result Refusal.TooManyFiles → Numbered IsFull tablet self.old.tablets }
+        ensures room { OnOk result (¬ Numbered IsFull tablet self.old.tablets) }
         ensures exhausted { IsErrOf result Refusal.Exhausted → 2 ^ 63 ≤ self.old.next_name }
+        ensures needed { IsErrOf result Refusal.Exhausted → ¬ Numbered IsEmptied tablet self.old.tablets }
+        ensures left { OnOk result (2 ^ 63 ≤ self.old.next_name → Numbered IsEmptied tablet self.old.tablets) }
         ensures large { Holds F.contents self.old → IsErrOf result Refusal.FileTooLarge → Numbered (IsTooLarge self.old.file_limit (F.contents self.old.files) Compaction.Minor) tablet self.old.tablets }
+        ensures fits { Holds F.contents self.old → OnOk result (¬ Numbered (IsTooLarge self.old.file_limit (F.contents self.old.files) Compaction.Minor) tablet self.old.tablets) }
         ensures undamaged { Holds F.contents self.old → ¬ IsErrOf result Refusal.Damaged }
         ensures refusal { IfErr result (IsNumberedRefusal Compaction.Minor) }
         ensures reason { HasReason (F.faults self.old.files) (F.faults self.new.files) result }
@@ -190,13 +206,17 @@ impl<F: Files> Cluster<F> {
     pub fn merge(&mut self, tablet: u32, count: u32) -> Result<(), Refusal>
         ensures kept { KeepsMap F.contents self.old self.new }
         ensures limit { self.new.file_limit ≡ self.old.file_limit }
+        ensures name { UsesName (F.contents self.old.files) self.old.next_name (F.contents self.new.files) self.new.next_name }
         ensures spots { spots_of self.new ≡ spots_of self.old }
+        ensures table { IsTable self.old.places }
         ensures made { OnOk result (Remakes (IsMerged count) tablet self.old.tablets self.new.tablets) }
         ensures err { OnErr result (IsAsBefore self.old self.new) }
         ensures unknown { IsErrOf result Refusal.UnknownTablet ↔ ¬ HasTablet tablet self.old.places }
         ensures count { IsErrOf result Refusal.BadCount ↔ (HasTablet tablet self.old.places × Numbered (IsBadCount count) tablet self.old.tablets) }
         ensures exhausted { IsErrOf result Refusal.Exhausted → 2 ^ 63 ≤ self.old.next_name }
+        ensures left { OnOk result (self.old.next_name < 2 ^ 63) }
         ensures large { Holds F.contents self.old → IsErrOf result Refusal.FileTooLarge → Numbered (IsTooLarge self.old.file_limit (F.contents self.old.files) (Compaction.Merge count)) tablet self.old.tablets }
+        ensures fits { Holds F.contents self.old → OnOk result (¬ Numbered (IsTooLarge self.old.file_limit (F.contents self.old.files) (Compaction.Merge count)) tablet self.old.tablets) }
         ensures undamaged { Holds F.contents self.old → ¬ IsErrOf result Refusal.Damaged }
         ensures refusal { IfErr result (IsNumberedRefusal (Compaction.Merge count)) }
         ensures reason { HasReason (F.faults self.old.files) (F.faults self.new.files) result }
@@ -216,13 +236,17 @@ impl<F: Files> Cluster<F> {
     pub fn major(&mut self, tablet: u32) -> Result<(), Refusal>
         ensures kept { KeepsMap F.contents self.old self.new }
         ensures limit { self.new.file_limit ≡ self.old.file_limit }
+        ensures name { UsesName (F.contents self.old.files) self.old.next_name (F.contents self.new.files) self.new.next_name }
         ensures spots { spots_of self.new ≡ spots_of self.old }
+        ensures table { IsTable self.old.places }
         ensures made { OnOk result (Remakes IsWhole tablet self.old.tablets self.new.tablets) }
         ensures cleaned { Holds F.contents self.old → OnOk result (Numbered (LacksErasures (F.contents self.new.files)) tablet self.new.tablets) }
         ensures err { OnErr result (IsAsBefore self.old self.new) }
         ensures unknown { IsErrOf result Refusal.UnknownTablet ↔ ¬ HasTablet tablet self.old.places }
         ensures exhausted { IsErrOf result Refusal.Exhausted → 2 ^ 63 ≤ self.old.next_name }
+        ensures left { OnOk result (self.old.next_name < 2 ^ 63) }
         ensures large { Holds F.contents self.old → IsErrOf result Refusal.FileTooLarge → Numbered (IsTooLarge self.old.file_limit (F.contents self.old.files) Compaction.Major) tablet self.old.tablets }
+        ensures fits { Holds F.contents self.old → OnOk result (¬ Numbered (IsTooLarge self.old.file_limit (F.contents self.old.files) Compaction.Major) tablet self.old.tablets) }
         ensures undamaged { Holds F.contents self.old → ¬ IsErrOf result Refusal.Damaged }
         ensures refusal { IfErr result (IsNumberedRefusal Compaction.Major) }
         ensures reason { HasReason (F.faults self.old.files) (F.faults self.new.files) result }

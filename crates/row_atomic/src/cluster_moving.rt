@@ -1,11 +1,11 @@
 //! Cutting a tablet of a cluster in two, and moving one to another server. A minor compaction comes first.
 
 ghost use Rattle.std.specs.Prelude.{◌≡◌, ◌≤◌, ◌+◌, ◌^◌, ◌↔◌, ◌⊎◌, [], length, IfErr, IfOk, IfSome, IsErrOf, IsOk, OnErr, OnOk};
-ghost use Rattle.metadata_table.specs.Table.{BarsSplit, Cuts, HasTablet, most_servers};
+ghost use Rattle.metadata_table.specs.Table.{BarsSplit, Cuts, HasTablet, IsTable, most_servers};
 ghost use Rattle.sorted_file.specs.Sources.{HasReason, IsReadRefusal};
-ghost use Rattle.tablet.specs.Views.{Holds as HoldsAt, memory_of, names_of, range_of};
+ghost use Rattle.tablet.specs.Views.{Holds as HoldsAt, UsesName, memory_of, names_of, range_of};
 ghost use Rattle.row_atomic.specs.Clusters.{spots_of};
-ghost use Rattle.row_atomic.specs.Changes.{Holds, IsCut, IsEmptied, IsFull, IsMoveRefusal, IsMoved, IsOn, IsSplitRefusal, IsTooLarge, KeepsMap, Numbered, OfHolder};
+ghost use Rattle.row_atomic.specs.Changes.{Holds, IsCut, IsEmptied, IsFlushed, IsFull, IsMoveRefusal, IsMoved, IsOn, IsReopened, IsSplitRefusal, IsTooLarge, KeepsMap, Numbered, OfHolder, Remakes, UsesNames};
 
 use crate::cluster::Cluster;
 use crate::cluster_compactions::Compaction;
@@ -40,8 +40,11 @@ impl<F: Files> Cluster<F> {
         requires free { ¬ BarsSplit row.now self.old.places }
         ensures kept { KeepsMap F.contents self.old self.new }
         ensures limit { self.new.file_limit ≡ self.old.file_limit }
+        ensures name { UsesName (F.contents self.old.files) self.old.next_name (F.contents self.new.files) self.new.next_name }
         ensures number { IfOk result (λ left. left ≡ length self.old.places + 1) }
         ensures cut { IfOk result (λ left. Cuts row.now left self.old.places self.new.places) }
+        ensures left_emptied { IfOk result (λ left. Numbered IsEmptied left self.new.tablets) }
+        ensures right_emptied { OnOk result (OfHolder IsEmptied row.now self.old.places self.new.tablets) }
         ensures err { OnErr result (self.new.places ≡ self.old.places) }
         ensures undamaged { Holds F.contents self.old → ¬ IsErrOf result Refusal.Damaged }
         ensures refusal { IfErr result IsReadRefusal }
@@ -67,7 +70,7 @@ impl<F: Files> Cluster<F> {
 
     /// Cuts the tablet that holds a row in two there, and answers the number of the left part, which ends with
     /// the row and takes the next number. The right part keeps the number. Both have the server and the files
-    /// (Bigtable, tablet splits). A minor compaction of the tablet comes first.
+    /// (Bigtable, tablet splits). A minor compaction of the tablet comes first, so that both memtables are empty.
     ///
     /// # Errors
     ///
@@ -76,20 +79,28 @@ impl<F: Files> Cluster<F> {
     pub fn split(&mut self, row: &Row) -> Result<u32, Refusal>
         ensures kept { KeepsMap F.contents self.old self.new }
         ensures limit { self.new.file_limit ≡ self.old.file_limit }
+        ensures names { UsesNames (F.contents self.old.files) self.old.next_name (F.contents self.new.files) self.new.next_name }
+        ensures table { IsTable self.old.places }
         ensures number { IfOk result (λ left. left ≡ length self.old.places + 1) }
         ensures cut { IfOk result (λ left. IsCut row.now left self.old.places self.new.places) }
+        ensures left_emptied { IfOk result (λ left. Numbered IsEmptied left self.new.tablets) }
+        ensures right_emptied { OnOk result (OfHolder IsEmptied row.now self.old.places self.new.tablets) }
         ensures bad { IsErrOf result Refusal.BadSplit ↔ BarsSplit row.now self.old.places }
         ensures err { OnErr result (spots_of self.new ≡ spots_of self.old) }
         ensures full { IsErrOf result Refusal.TooManyFiles → OfHolder IsFull row.now self.old.places self.old.tablets }
+        ensures room { OnOk result (¬ OfHolder IsFull row.now self.old.places self.old.tablets) }
         ensures exhausted { IsErrOf result Refusal.Exhausted → 2 ^ 63 ≤ self.old.next_name }
+        ensures needed { IsErrOf result Refusal.Exhausted → ¬ OfHolder IsEmptied row.now self.old.places self.old.tablets }
+        ensures left { OnOk result (2 ^ 63 ≤ self.old.next_name → OfHolder IsEmptied row.now self.old.places self.old.tablets) }
         ensures large { Holds F.contents self.old → IsErrOf result Refusal.FileTooLarge → OfHolder (IsTooLarge self.old.file_limit (F.contents self.old.files) Compaction.Minor) row.now self.old.places self.old.tablets }
+        ensures fits { Holds F.contents self.old → OnOk result (¬ OfHolder (IsTooLarge self.old.file_limit (F.contents self.old.files) Compaction.Minor) row.now self.old.places self.old.tablets) }
         ensures undamaged { Holds F.contents self.old → ¬ IsErrOf result Refusal.Damaged }
         ensures refusal { IfErr result IsSplitRefusal }
         ensures reason { HasReason (F.faults self.old.files) (F.faults self.new.files) result }
     {
+        let holder = self.table.locate(row).tablet;
         self.table.check_split(row)?;
-        let tablet = self.table.locate(row).tablet;
-        self.compact_tablet(tablet, Compaction::Minor)?;
+        self.compact_tablet(holder, Compaction::Minor)?;
         self.cut(row)
     }
 
@@ -99,7 +110,10 @@ impl<F: Files> Cluster<F> {
         requires flushed { Numbered IsEmptied tablet self.old.tablets }
         ensures kept { KeepsMap F.contents self.old self.new }
         ensures limit { self.new.file_limit ≡ self.old.file_limit }
+        ensures files { F.contents self.new.files ≡ F.contents self.old.files }
+        ensures name { self.new.next_name ≡ self.old.next_name }
         ensures places { self.new.places ≡ self.old.places }
+        ensures opened { OnOk result (Remakes IsReopened tablet self.old.tablets self.new.tablets) }
         ensures undamaged { Holds F.contents self.old → ¬ IsErrOf result Refusal.Damaged }
         ensures refusal { IfErr result IsReadRefusal }
         ensures reason { HasReason (F.faults self.old.files) (F.faults self.new.files) result }
@@ -111,8 +125,8 @@ impl<F: Files> Cluster<F> {
         Ok(())
     }
 
-    /// Puts a tablet on a server: after a minor compaction its files are opened there, and the new place is
-    /// recorded. Where it is there already nothing is done.
+    /// Puts a tablet on a server: after a minor compaction its files are opened there, with an empty memtable, and
+    /// the new place is recorded. Where it is there already nothing is done.
     ///
     /// # Errors
     ///
@@ -122,14 +136,21 @@ impl<F: Files> Cluster<F> {
     pub fn move_to(&mut self, tablet: u32, server: u8) -> Result<(), Refusal>
         ensures kept { KeepsMap F.contents self.old self.new }
         ensures limit { self.new.file_limit ≡ self.old.file_limit }
+        ensures name { UsesName (F.contents self.old.files) self.old.next_name (F.contents self.new.files) self.new.next_name }
+        ensures table { IsTable self.old.places }
         ensures moved { OnOk result (((self.new ≡ self.old) × IsOn tablet server self.old.places) ⊎ IsMoved tablet server self.old.places self.new.places) }
+        ensures flushed { OnOk result (¬ IsOn tablet server self.old.places → Remakes IsFlushed tablet self.old.tablets self.new.tablets) }
         ensures same { IsOn tablet server self.old.places → IsOk result × (self.new ≡ self.old) }
         ensures unknown { IsErrOf result Refusal.UnknownTablet ↔ ¬ HasTablet tablet self.old.places }
         ensures server { IsErrOf result Refusal.UnknownServer ↔ (HasTablet tablet self.old.places × (most_servers ≤ server)) }
         ensures err { OnErr result (spots_of self.new ≡ spots_of self.old) }
         ensures full { IsErrOf result Refusal.TooManyFiles → Numbered IsFull tablet self.old.tablets }
+        ensures room { OnOk result (¬ IsOn tablet server self.old.places → ¬ Numbered IsFull tablet self.old.tablets) }
         ensures exhausted { IsErrOf result Refusal.Exhausted → 2 ^ 63 ≤ self.old.next_name }
+        ensures needed { IsErrOf result Refusal.Exhausted → ¬ Numbered IsEmptied tablet self.old.tablets }
+        ensures left { OnOk result (¬ IsOn tablet server self.old.places → 2 ^ 63 ≤ self.old.next_name → Numbered IsEmptied tablet self.old.tablets) }
         ensures large { Holds F.contents self.old → IsErrOf result Refusal.FileTooLarge → Numbered (IsTooLarge self.old.file_limit (F.contents self.old.files) Compaction.Minor) tablet self.old.tablets }
+        ensures fits { Holds F.contents self.old → OnOk result (¬ IsOn tablet server self.old.places → ¬ Numbered (IsTooLarge self.old.file_limit (F.contents self.old.files) Compaction.Minor) tablet self.old.tablets) }
         ensures undamaged { Holds F.contents self.old → ¬ IsErrOf result Refusal.Damaged }
         ensures refusal { IfErr result IsMoveRefusal }
         ensures reason { HasReason (F.faults self.old.files) (F.faults self.new.files) result }

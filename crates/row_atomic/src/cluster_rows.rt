@@ -8,7 +8,7 @@ ghost use Rattle.metadata_table.specs.Places.{view_of, views};
 ghost use Rattle.metadata_table.specs.Table.{IsTable};
 ghost use Rattle.sorted_file.specs.Sources.{HasReason, IsReadRefusal};
 ghost use Rattle.tablet.specs.Views.{Holds};
-ghost use Rattle.row_atomic.specs.Clusters.{ArePlaced, HasTabletAt, InOrder, Overfills, PrecedesCell, cells_in};
+ghost use Rattle.row_atomic.specs.Clusters.{ArePlaced, HasTabletAt, InOrder, Overfills, PrecedesCell, cells_in, spots_of};
 
 use crate::cluster::Cluster;
 use crate::rows::Rows;
@@ -74,6 +74,8 @@ impl<F: Files> Rows for Cluster<F> {
     ghost faults = { λ cluster. F.faults cluster.files };
 
     ghost overfills = { λ cluster row edits. Overfills cluster.places cluster.tablets row edits };
+
+    ghost spots = { λ cluster. spots_of cluster };
 
     fn newest(
         &mut self,

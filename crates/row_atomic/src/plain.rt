@@ -1,4 +1,4 @@
-ghost use Rattle.std.specs.Prelude.{◌≡◌, ⊤};
+ghost use Rattle.std.specs.Prelude.{◌≡◌, [], ⊤};
 ghost use Rattle.std.specs.FinMap.{empty};
 
 use crate::rows::Rows;
@@ -50,6 +50,8 @@ impl Rows for PlainRows {
     ghost faults = { λ _. 0 };
 
     ghost overfills = { λ _ _ _. ⊥ };
+
+    ghost spots = { λ _. [] };
 
     fn newest(
         &mut self,

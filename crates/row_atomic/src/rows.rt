@@ -4,6 +4,7 @@ ghost use Rattle.cell_key.specs.Cells.{Cells, IsNewest, IsEditOf, after_edits, v
 ghost use Rattle.cell_key.specs.declared.edits.Edit.{Edit as RowEdit};
 ghost use Rattle.cell_key.specs.Faults.{HasRisen};
 ghost use Rattle.cell_key.specs.Places.{IsNextCell, place_named};
+ghost use Rattle.row_atomic.specs.Clusters.{Spot};
 ghost use Rattle.row_atomic.specs.Refusals.{IsReadRefusal, IsApplyRefusal};
 ghost use Rattle.cell_key.specs.Versions.{IsVersionIn, stamped};
 
@@ -29,6 +30,10 @@ pub trait Rows {
     /// Whether edits of a row would pass a limit of what is kept in memory. A read doesn't change it.
     ghost overfills: { Self → List ℕ → List RowEdit → Type 0 };
 
+    /// Where the rows are: the ends of the tablets that have them, with their numbers and their servers. No call
+    /// changes it.
+    ghost spots: { Self → List Spot };
+
     /// The version of a cell's column with the greatest stamp in `lo..=hi`: its stamp, from 1 to
     /// 2^63 - 1, and its value of at most 65,536 bytes. `None` where there is none.
     ///
@@ -47,6 +52,7 @@ pub trait Rows {
         ensures kept { holds self.old → cells self.new ≡ cells self.old }
         ensures still { holds self.old → holds self.new }
         ensures same_room { (row : List ℕ) (edits : List RowEdit) → overfills self.new row edits → overfills self.old row edits }
+        ensures spots { spots self.new ≡ spots self.old }
         ensures undamaged { holds self.old → ¬ (IsErrOf result Refusal.Damaged) }
         ensures limits { IfOk result (λ found. IfSome (option_map stamped found) (IsVersionIn lo hi)) }
         ensures refusal { IfErr result IsReadRefusal }
@@ -67,6 +73,7 @@ pub trait Rows {
         ensures kept { holds self.old → cells self.new ≡ cells self.old }
         ensures still { holds self.old → holds self.new }
         ensures same_room { (row : List ℕ) (edits : List RowEdit) → overfills self.new row edits → overfills self.old row edits }
+        ensures spots { spots self.new ≡ spots self.old }
         ensures undamaged { holds self.old → ¬ (IsErrOf result Refusal.Damaged) }
         ensures refusal { IfErr result IsReadRefusal }
         ensures device { IsErrOf result Refusal.Device → HasRisen (faults self.old) (faults self.new) }
@@ -85,6 +92,7 @@ pub trait Rows {
         ensures still { holds self.old → holds self.new }
         ensures refusal { IfErr result IsApplyRefusal }
         ensures full { IsErrOf result Refusal.MemtableFull → overfills self.old row.now edits.items }
+        ensures spots { spots self.new ≡ spots self.old }
         ensures untouched { faults self.new ≡ faults self.old };
 
     /// How often a device has failed. A count of 2^64 - 1 stays.

@@ -1,5 +1,5 @@
 -- The body of a reply fits its frame.
-use Rattle.std.proofs.Common.{◌≡◌, ◌+◌, ◌≤◌, ℕ, List, length, arith, length-append}
+use Rattle.std.proofs.Common.{◌≡◌, ◌+◌, ◌≤◌, ℕ, List, length, Some, None, arith, length-append}
 use Rattle.byteorder.specs.Numbers.{length-bytes_high_first}
 use Rattle.si_model.specs.declared.replies.Found.TheVariants as founds
 use Rattle.si_model.specs.declared.replies.Progress.TheVariants as steps
@@ -34,5 +34,13 @@ fits_frame (kept.Step (steps.Committed s)) h = record { short = omega (arith, le
 fits_frame (kept.Step steps.Lost) h = record { short = omega arith; bytes = tt }
 fits_frame (kept.Step (steps.Finished k n)) h = record { short = omega (arith, length-append (number 2 k) (number 2 n), length-number 2 k, length-number 2 n); bytes = tt }
 fits_frame kept.Stop h = record { short = omega arith; bytes = tt }
+fits_frame kept.Minor h = record { short = omega arith; bytes = tt }
+fits_frame kept.Merge h = record { short = omega arith; bytes = tt }
+fits_frame kept.Major h = record { short = omega arith; bytes = tt }
+fits_frame (kept.Split tablet) h = record { short = omega (arith, length-number 4 tablet); bytes = tt }
+fits_frame kept.Move h = record { short = omega arith; bytes = tt }
+fits_frame (kept.Sweep count) h = record { short = omega (arith, length-number 8 count); bytes = tt }
+fits_frame (kept.Raw (Some found)) h = record { short = omega (arith, length-append (number 8 found.0) (field found.1.items), length-number 8 found.0, length-field found.1.items, h); bytes = omega (arith, h) }
+fits_frame (kept.Raw None) h = record { short = omega arith; bytes = tt }
 fits_frame kept.OracleRestart h = record { short = omega arith; bytes = tt }
 fits_frame (kept.Refused refusal) h = record { short = omega arith; bytes = tt }

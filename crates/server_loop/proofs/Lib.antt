@@ -1,7 +1,12 @@
 mod Filled
 mod Framing
 mod Lengths
+mod Placing
 mod Reaching
+mod Refusing
+mod Relocating
+mod Replacing
 mod ServingLemmas
 mod Stepping
+mod Upkeeping
 mod Whole

@@ -1,11 +1,11 @@
 -- A server's steps, by those of its sessions.
-use Rattle.std.proofs.Common.{◌≡◌, Some, None, Result, Err, IsErrOf, refl, ap, ◌∙◌, subst, sym}
+use Rattle.std.proofs.Common.{◌≡◌, ℕ, Option, Some, None, Result, Ok, Err, IsErrOf, refl, ap, ◌∙◌, subst, sym}
+use Rattle.std.specs.Prelude.{⊤}
 use Rattle.std.specs.FinMap.{empty, get-empty}
 use Rattle.cell_key.specs.Keys.{key_cmp}
-use Rattle.cell_key.specs.Cells.{Cells}
 use Rattle.cell_key.specs.declared.refusals.Refusal.{Refusal}
 use Rattle.cell_key.specs.declared.refusals.Refusal.TheVariants.{Damaged, Device}
-use Rattle.si_model.specs.Machine.{State, Request, Reply, Refused, IsReached, OracleRestart, RestartDone, accepts, refuses, tells, restarts, new_machine}
+use Rattle.si_model.specs.Machine.{State, Request, Reply, Begun, SetDone, StopDone, Refused, IsReached, OracleRestart, RestartDone, accepts, refuses, tells, restarts, new_machine}
 use Rattle.si_model.specs.ShowsCells.{ShowsCells}
 use Rattle.si_model.specs.Refusing.{Refuses, gives_up}
 use Rattle.si_model.specs.Replies.{found_reply, progress_reply}
@@ -13,26 +13,68 @@ use Rattle.si_model.specs.declared.replies.Found.{Found}
 use Rattle.si_model.specs.declared.replies.Found.TheVariants as founds
 use Rattle.si_model.specs.declared.replies.Progress.{Progress}
 use Rattle.si_model.specs.declared.replies.Progress.TheVariants as steps
+use Rattle.file_store.specs.Store.{Contents}
+use Rattle.row_atomic.specs.Changes.{Holds}
+use Rattle.row_atomic.specs.Clusters.{cells_in, spots_of}
 use Rattle.txn_client.specs.Shows as clients
+use Rattle.request_codec.specs.declared.replies.Reply.{Reply as Kept}
+use Rattle.request_codec.specs.declared.replies.Reply.TheVariants as kept
 use Rattle.server_loop.specs.declared.server.Server.{Server}
 use Rattle.server_loop.specs.Server.{Shows}
 use Rattle.server_loop.specs.Runs.{StepsAs, IfRefused}
+use Rattle.server_loop.proofs.Replacing.{KeepsPlaces}
+use Rattle.server_loop.proofs.Relocating.{still_placed, still_next}
 
-pub steps_as : {R M : Type 0} (cells : R → Cells) (holds : R → Type 0) (old new : Server R M) (request : Request) (reply : Reply)
-    → (holds old.rows → clients.Steps (cells old.rows) old.clients old.oracle.last request reply (cells new.rows) new.clients new.oracle.last)
-    → (holds old.rows → holds new.rows)
-    → ((st : State) → IsReached st → holds old.rows → clients.Shows (cells old.rows) old.clients old.oracle.last st → reply ≡ Refused Damaged → ⊥)
-    → StepsAs (Shows cells holds) old new request reply
-steps_as cells holds old new request reply step still whole = λ before reached shown.
-    let (next, taken, shows) = step shown.in_order before reached shown.shows in
-    (next, taken, record { in_order = still shown.in_order; shows = shows }, whole before reached shown.in_order shown.shows)
+module _ {F M : Type 0} (contents : F → Option Contents) (old new : Server F M) where
+  -- a step of a session, which leaves the tablets where they are
+  pub steps_as : (request : Request) (reply : Reply) → KeepsPlaces request
+      → (Holds contents old.cluster → clients.Steps (cells_in (contents old.cluster.files) old.cluster.tablets) old.clients old.oracle.last request reply (cells_in (contents new.cluster.files) new.cluster.tablets) new.clients new.oracle.last)
+      → (Holds contents old.cluster → Holds contents new.cluster) → spots_of new.cluster ≡ spots_of old.cluster
+      → ((st : State) → IsReached st → Holds contents old.cluster → clients.Shows (cells_in (contents old.cluster.files) old.cluster.tablets) old.clients old.oracle.last st → reply ≡ Refused Damaged → ⊥)
+      → StepsAs (Shows contents) old new request reply
+  steps_as request reply keeps step still spots whole = λ before reached shown.
+      let (next, taken, shows) = step shown.in_order before reached shown.shows in
+      let after : Shows contents new next = record {
+        in_order = still shown.in_order;
+        shows = shows;
+        places = still_placed before next request reply taken keeps old.cluster.places new.cluster.places spots shown.places;
+        next = still_next before next request reply taken keeps shown.next;
+      } in
+      (next, taken, after, whole before reached shown.in_order shown.shows)
 
 -- a refusal of another kind isn't that bytes are damaged
 pub undamaged : (P : Refusal → Type 0) (refusal : Refusal) → P refusal → (P Damaged → ⊥) → Refused refusal ≡ Refused Damaged → ⊥
 undamaged P refusal holds none same = none (subst (IfRefused P) same holds)
 
+pub begun_undamaged : (start : ℕ) → Begun start ≡ Refused Damaged → ⊥
+begun_undamaged start e = cc
+
+pub set_undamaged : SetDone ≡ Refused Damaged → ⊥
+set_undamaged e = cc
+
+pub stop_undamaged : StopDone ≡ Refused Damaged → ⊥
+stop_undamaged e = cc
+
+pub name_undamaged : (refusal : Refusal) → ¬ (refusal ≡ Damaged) → Refused refusal ≡ Refused Damaged → ⊥
+name_undamaged refusal none same = none (subst (IfRefused (λ (r : Refusal). refusal ≡ r)) same refl)
+
 pub err_undamaged : {A : Type 0} (result : Result A Refusal) (refusal : Refusal) → result ≡ Err refusal → (IsErrOf result Damaged → ⊥) → Refused refusal ≡ Refused Damaged → ⊥
 err_undamaged result refusal is none same = none (is ∙ ap (λ (r : Refusal). Err r) (subst (IfRefused (λ (r : Refusal). refusal ≡ r)) same refl))
+
+abbrev IfTold : (Refusal → Type 0) → Kept → Type 0
+IfTold P (kept.Refused refusal) = P refusal
+IfTold P reply = ⊤
+
+-- what is told of a call's refusal is told of the reply, and the other way round
+pub as_err : {A : Type 0} (result : Result A Refusal) (refusal other : Refusal) → result ≡ Err refusal → kept.Refused refusal ≡ kept.Refused other → IsErrOf result other
+as_err result refusal other is same = subst (IfTold (λ (r : Refusal). IsErrOf result r)) same is
+
+abbrev reply_of : {A : Type 0} → Result A Refusal → Kept
+reply_of (Ok value) = kept.Set
+reply_of (Err refusal) = kept.Refused refusal
+
+pub as_refused : {A : Type 0} (result : Result A Refusal) (refusal other : Refusal) → result ≡ Err refusal → IsErrOf result other → kept.Refused refusal ≡ kept.Refused other
+as_refused result refusal other is err = ap reply_of (sym is ∙ err)
 
 pub found_undamaged : (found : Found) → found_reply found ≡ Refused Damaged → ⊥
 found_undamaged (founds.Value value) = λ e. cc
@@ -47,20 +89,19 @@ progress_undamaged (steps.Committed stamp) = λ e. cc
 progress_undamaged steps.Lost = λ e. cc
 progress_undamaged (steps.Finished place count) = λ e. cc
 
--- a restart of the oracle, after which the same is shown
-pub restart_done : {R M : Type 0} (cells : R → Cells) (holds : R → Type 0) (old new : Server R M) → ((st : State) → Shows cells holds old st → Shows cells holds new st)
-    → StepsAs (Shows cells holds) old new OracleRestart RestartDone
-restart_done cells holds old new still = λ before reached shown. (before, accepts (λ n applies. elim applies [ ]) (tells restarts), still before shown, λ same. cc)
+module _ {F M : Type 0} (contents : F → Option Contents) (old new : Server F M) where
+  -- a restart of the oracle, after which the same is shown
+  pub restart_done : ((st : State) → Shows contents old st → Shows contents new st) → StepsAs (Shows contents) old new OracleRestart RestartDone
+  restart_done still = λ before reached shown. (before, accepts (λ n applies. elim applies [ ]) (tells restarts), still before shown, λ same. cc)
 
--- a restart that a device's fault has kept back
-pub restart_refused : {R M : Type 0} (cells : R → Cells) (holds : R → Type 0) (old new : Server R M) (refusal : Refusal) → refusal ≡ Device → ((st : State) → Shows cells holds old st → Shows cells holds new st)
-    → StepsAs (Shows cells holds) old new OracleRestart (Refused refusal)
-restart_refused cells holds old new refusal device still = λ before reached shown. (
-  before,
-  refuses (subst (λ (r : Refusal). Refuses before OracleRestart r) (sym device) (gives_up tt)),
-  still before shown,
-  undamaged (λ (r : Refusal). r ≡ Device) refusal device (λ h. cc),
-)
+  -- a restart that a device's fault has kept back
+  pub restart_refused : (refusal : Refusal) → refusal ≡ Device → ((st : State) → Shows contents old st → Shows contents new st) → StepsAs (Shows contents) old new OracleRestart (Refused refusal)
+  restart_refused refusal device still = λ before reached shown. (
+    before,
+    refuses (subst (λ (r : Refusal). Refuses before OracleRestart r) (sym device) (gives_up tt)),
+    still before shown,
+    undamaged (λ (r : Refusal). r ≡ Device) refusal device (λ h. cc),
+  )
 
 never_some : {X P : Type 0} (x : X) → None ≡ Some x → P
 never_some x e = let none : ⊥ = cc in absurd none

@@ -1,5 +1,5 @@
 -- The machine's run over what a server takes from a stream.
-use Rattle.std.specs.Prelude.{◌≡◌, ℕ, ◌+◌, ◌≤◌, List, [], ◌∷◌, length, ◌⊎◌, ⊤}
+use Rattle.std.specs.Prelude.{◌≡◌, ℕ, ◌+◌, ◌≤◌, List, [], ◌∷◌, length, Some, ◌⊎◌, ⊤}
 use Rattle.cell_key.specs.declared.refusals.Refusal.{Refusal}
 use Rattle.cell_key.specs.declared.refusals.Refusal.TheVariants.{BadRequest, FrameTooLarge, Damaged}
 use Rattle.si_model.specs.Machine.{State, Reply, Refused, Step, IsReached}
@@ -59,6 +59,7 @@ StepsAs shows old new request reply = (before : State) → IsReached before → 
 -- a value that is answered has at most 65,536 bytes
 abbrev pub HasShortValue : Kept → Type 0
 HasShortValue (kept.Get (Value value)) = length value.items ≤ 65536
+HasShortValue (kept.Raw (Some found)) = length found.1.items ≤ 65536
 HasShortValue other = ⊤
 
 -- what holds of a reply's refusal, if it is one

@@ -1,27 +1,41 @@
 -- What it means that a server shows a state of the machine.
-use Rattle.std.specs.Prelude.{ℕ, ◌⊎◌}
-use Rattle.cell_key.specs.Cells.{Cells}
+use Rattle.std.specs.Prelude.{◌≡◌, ℕ, ◌+◌, ◌⊎◌, List, length, map, Option}
 use Rattle.cell_key.specs.Faults.{HasRisen}
+use Rattle.file_store.specs.Store.{Contents}
+use Rattle.metadata_table.specs.Places.{PlaceView}
+use Rattle.row_atomic.specs.Clusters.{ClusterState, Spot, cells_in, spot_of}
+use Rattle.row_atomic.specs.Changes.{Holds}
+use Rattle.si_model.specs.Machine as machine
 use Rattle.si_model.specs.Machine.{State}
 use Rattle.txn_client.specs.Shows as clients
 use Rattle.server_loop.specs.declared.server.Server.{Server}
 
--- its rows, the mark store of its oracle, and the oracle's last stamp
-abbrev pub rows_of : {R M : Type 0} → Server R M → R
-rows_of server = server.rows
+-- its cluster, the mark store of its oracle, and the oracle's last stamp
+abbrev pub cluster_of : {F M : Type 0} → Server F M → ClusterState F
+cluster_of server = server.cluster
 
-abbrev pub marks_of : {R M : Type 0} → Server R M → M
+abbrev pub marks_of : {F M : Type 0} → Server F M → M
 marks_of server = server.oracle.marks
 
-abbrev pub last_of : {R M : Type 0} → Server R M → ℕ
+abbrev pub last_of : {F M : Type 0} → Server F M → ℕ
 last_of server = server.oracle.last
 
--- The rows are in order, and cells, sessions and oracle show the state.
-pub record Shows {R M : Type 0} (cells : R → Cells) (holds : R → Type 0) (server : Server R M) (st : State) : Type 0 where
-  pub in_order : holds server.rows
-  pub shows : clients.Shows (cells server.rows) server.clients server.oracle.last st
+-- where a tablet is, as the machine has it
+abbrev pub machine_place : Spot → machine.Place
+machine_place spot = record { end = spot.0; tablet = spot.1.0; server = spot.1.1 }
 
--- a device of the rows or of the mark store has failed
-abbrev pub IsFaultSeen : {R M : Type 0} → (R → ℕ) → (M → ℕ) → Server R M → Server R M → Type 0
-IsFaultSeen row_faults mark_faults old new =
-    HasRisen (row_faults old.rows) (row_faults new.rows) ⊎ HasRisen (mark_faults old.oracle.marks) (mark_faults new.oracle.marks)
+abbrev pub machine_places : List PlaceView → List machine.Place
+machine_places places = map machine_place (map spot_of places)
+
+-- The tablets are in order over their files. Their cells, the sessions and the oracle show the state, and the tablets
+-- are where the state has them: the next one gets the number after theirs.
+pub record Shows {F M : Type 0} (contents : F → Option Contents) (server : Server F M) (st : State) : Type 0 where
+  pub in_order : Holds contents server.cluster
+  pub shows : clients.Shows (cells_in (contents server.cluster.files) server.cluster.tablets) server.clients server.oracle.last st
+  pub places : machine_places server.cluster.places ≡ st.places
+  pub next : st.next_tablet ≡ length st.places + 1
+
+-- a device of the files or of the mark store has failed
+abbrev pub IsFaultSeen : {F M : Type 0} → (F → ℕ) → (M → ℕ) → Server F M → Server F M → Type 0
+IsFaultSeen file_faults mark_faults old new =
+    HasRisen (file_faults old.cluster.files) (file_faults new.cluster.files) ⊎ HasRisen (mark_faults old.oracle.marks) (mark_faults new.oracle.marks)

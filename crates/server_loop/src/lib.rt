@@ -4,12 +4,13 @@
 mod command_line;
 mod ends;
 mod frames;
-mod operations;
 mod server;
 mod serving;
+mod sessions;
+mod upkeep;
 mod words;
 
 pub use command_line::{DEFAULT_FLUSH, MOST_FLUSH, Options};
 pub use ends::{End, ServeFault, end_status, open_status};
-pub use server::Server;
+pub use server::{Config, Server};
 pub use words::options;

@@ -1,79 +1,119 @@
 //! The server.
 
-ghost use Rattle.std.specs.Prelude.{◌≡◌, ◌≢◌, IfOk, IfErr, IfSome};
-ghost use Rattle.std.specs.FinMap.{empty};
+ghost use Rattle.std.specs.Prelude.{◌≡◌, ◌≢◌, ◌≤◌, ◌^◌, ◌↔◌, ◌⊎◌, IfErr, IfOk, IfSome, IsSome};
 ghost use Rattle.cell_key.specs.Faults.{HasRisen};
-ghost use Rattle.si_model.specs.Machine.{State, new_machine};
-ghost use Rattle.request_codec.specs.Requests.{asked};
+ghost use Rattle.metadata_table.specs.Table.{HasTablet};
 ghost use Rattle.request_codec.specs.Replies.{replied};
-ghost use Rattle.server_loop.specs.Refusals.{IsRefusalOf, OnRestart, OnStep};
-ghost use Rattle.server_loop.specs.Runs.{StepsAs, StampsGoOn, HasShortValue, IfRefused};
+ghost use Rattle.request_codec.specs.Requests.{asked};
+ghost use Rattle.row_atomic.specs.Changes.{Holds, IsBadCount, KeepsMap, Numbered};
+ghost use Rattle.row_atomic.specs.Clusters.{Overfills};
+ghost use Rattle.server_loop.specs.Refusals.{IsLackOf, IsRefusalOf, OnMerge, OnRestart, OnStep, OnUpkeep};
+ghost use Rattle.server_loop.specs.Runs.{HasShortValue, IfRefused, StampsGoOn, StepsAs};
 ghost use Rattle.server_loop.specs.Serve.{Serves, ServesStream};
+ghost use Rattle.server_loop.specs.Upkeep.{Maintains, MeetsFull, MeetsTooLarge};
+ghost use Rattle.si_model.specs.Machine.{State, new_machine};
 ghost use Rattle.txn_client.specs.Room.{ChangesNext, HasNoRoom};
 ghost use Rattle.txn_client.specs.Shows.{IsAboutToDraw};
 
 use crate::ends::{End, ServeFault};
 use crate::serving::{Answering, serve_all};
 use cell_key::{MOST_STAMP, Refusal};
+use file_store::Files;
 use oracle::{MarkStore, Oracle};
 use request_codec::{Reply, Request};
-use row_atomic::Rows;
+use row_atomic::Cluster;
 use std::alloc::Global;
 use std::io::{Read, Write};
 use txn_client::Clients;
 
-/// A server: rows of cells, an oracle of stamps, and the sessions that are active.
+/// The limits of a server's store.
+#[derive(Clone, Copy, Debug, PartialEq, Eq)]
+pub struct Config {
+    /// How many entries a memtable may have before it is compacted: 1 to 100,000. So far no compaction comes by itself.
+    pub flush: u32,
+    /// The most bytes of a sorted file: 32 to 1,073,741,824.
+    pub file_limit: u64,
+}
+
+/// A server: a cluster of tablets, an oracle of stamps, and the sessions that are active.
 ///
-/// It keeps nothing of the snapshot machine but the sessions: what has committed, what is locked and what was rolled
-/// back stands in the cells alone.
+/// It keeps nothing of the snapshot machine but the sessions and the places of the tablets: what has committed, what
+/// is locked and what was rolled back stands in the cells alone.
 #[derive(Drop)]
-pub struct Server<R, M: MarkStore> {
-    alloc: Global,
-    pub(crate) rows: R,
+pub struct Server<F, M: MarkStore> {
+    pub(crate) alloc: Global,
+    pub(crate) cluster: Cluster<F>,
     pub(crate) oracle: Oracle<M>,
     pub(crate) clients: Clients,
 }
 
-impl<R: Rows + Drop, M: MarkStore + Drop> Server<R, M> {
-    ghost use Rattle.server_loop.specs.Server.{Shows, IsFaultSeen, last_of, marks_of, rows_of};
+impl<F: Files + Drop, M: MarkStore + Drop> Server<F, M> {
+    ghost use Rattle.server_loop.specs.Server.{IsFaultSeen, Shows, cluster_of, last_of, marks_of};
 
-    /// A server over these rows and this mark store. Over rows without cells it shows the new machine. Where the
-    /// mark cannot be read it is refused Device, and the rows and the mark store are given back.
-    pub fn new(alloc: Global, rows: R, marks: M) -> Result<Server<R, M>, (Refusal, R, M)>
-        ensures new { R.holds rows → R.cells rows ≡ empty → IfOk result (λ server. Shows R.cells R.holds server new_machine) }
-        ensures refusal { IfErr result (λ refused. refused.0 ≡ Refusal.Device) }
-        ensures device { IfErr result (λ refused. HasRisen (M.faults marks) (M.faults refused.2)) }
-        ensures rows { IfErr result (λ refused. refused.1 ≡ rows) }
+    /// A server over these files and this mark store, with one tablet of no cells. It shows the new machine.
+    ///
+    /// # Errors
+    ///
+    /// `NoMemory` where a growth was refused, and `Device` where the mark cannot be read. The files and the mark store
+    /// are given back.
+    pub fn new(
+        alloc: Global,
+        files: F,
+        marks: M,
+        config: Config,
+    ) -> Result<Server<F, M>, (Refusal, F, M)>
+        requires flush_least { 1 ≤ config.flush }
+        requires flush_most { config.flush ≤ 100000 }
+        requires limit_least { 32 ≤ config.file_limit }
+        requires limit_most { config.file_limit ≤ 1073741824 }
+        ensures new { IsSome (F.contents files) → IfOk result (λ server. Shows F.contents server new_machine) }
+        ensures limit { IfOk result (λ server. (cluster_of server).file_limit ≡ config.file_limit) }
+        ensures refusal { IfErr result (λ refused. (refused.0 ≡ Refusal.NoMemory) ⊎ (refused.0 ≡ Refusal.Device)) }
+        ensures device { IfErr result (λ refused. refused.0 ≡ Refusal.Device → HasRisen (M.faults marks) (M.faults refused.2)) }
+        ensures files { IfErr result (λ refused. refused.1 ≡ files) }
         ensures marks { IfErr result (λ refused. M.mark refused.2 ≡ M.mark marks) }
+        ensures unread { IfErr result (λ refused. refused.0 ≡ Refusal.NoMemory → refused.2 ≡ marks) }
     {
+        let cluster = match Cluster::new(alloc, files, config.file_limit) {
+            Ok(cluster) => cluster,
+            Err((refusal, files)) => return Err((refusal, files, marks)),
+        };
         match Oracle::open(marks) {
             Ok(oracle) => Ok(Server {
                 alloc,
-                rows,
+                cluster,
                 oracle,
                 clients: Clients::new(alloc, 0),
             }),
-            Err((refusal, marks)) => Err((refusal, rows, marks)),
+            Err((refusal, marks)) => Err((refusal, cluster.into_files(), marks)),
         }
     }
 
     /// Answers a request: one step of the snapshot machine, from each reached state that is shown.
     pub fn answer(&mut self, request: Request<'_>) -> Reply
-        ensures step { StepsAs (Shows R.cells R.holds) self.old self.new (asked request.entry) (replied result) }
+        ensures step { StepsAs (Shows F.contents) self.old self.new (asked request.entry) (replied result) }
         ensures refusal { IfRefused (IsRefusalOf request.entry) (replied result) }
-        // No stamp is left: a begin is refused, and a step that draws.
-        ensures exhausted { result ≡ Reply.Refused Refusal.Exhausted → last_of self.old ≡ MOST_STAMP }
+        // No stamp is left: a begin is refused, and a step that draws. Or no name of a file is left.
+        ensures exhausted { result ≡ Reply.Refused Refusal.Exhausted
+            → IsLackOf request.entry (2 ^ 63 ≤ (cluster_of self.old).next_name) (last_of self.old ≡ MOST_STAMP) }
         ensures draw_only { OnStep request.entry (λ start. result ≡ Reply.Refused Refusal.Exhausted
-            → (st : State) → Shows R.cells R.holds self.old st → IsAboutToDraw st start) }
-        // The rows have no room for the edits of the session's next step.
+            → (st : State) → Shows F.contents self.old st → IsAboutToDraw st start) }
+        // The memtable of the row's tablet has no room for the edits of the session's next step.
         ensures full { OnStep request.entry (λ start. result ≡ Reply.Refused Refusal.MemtableFull
-            → (st : State) → Shows R.cells R.holds self.old st → HasNoRoom R.overfills (rows_of self.old) (ChangesNext st start)) }
+            → (st : State) → Shows F.contents self.old st → HasNoRoom (λ cluster row edits. Overfills cluster.places cluster.tablets row edits) (cluster_of self.old) (ChangesNext st start)) }
         // Where the mark is told, a restarted oracle goes on from it.
         ensures restarted { OnRestart request.entry (result ≡ Reply.OracleRestart → IfSome (M.mark (marks_of self.old)) (λ mark. last_of self.new ≡ mark)) }
         // A stamp that is answered is the oracle's next one.
         ensures last { StampsGoOn (replied result) (last_of self.old) (last_of self.new) }
+        // Upkeep and raw reads change no cell, also where they are refused.
+        ensures kept { OnUpkeep request.entry (KeepsMap F.contents (cluster_of self.old) (cluster_of self.new)) }
+        ensures upkeep { Maintains F.contents request.entry result (cluster_of self.old) (cluster_of self.new) }
+        ensures count { OnMerge request.entry (λ tablet count. result ≡ Reply.Refused Refusal.BadCount
+            ↔ (HasTablet tablet (cluster_of self.old).places × Numbered (IsBadCount count) tablet (cluster_of self.old).tablets)) }
+        ensures many { result ≡ Reply.Refused Refusal.TooManyFiles → MeetsFull request.entry (cluster_of self.old) }
+        ensures large { Holds F.contents (cluster_of self.old) → result ≡ Reply.Refused Refusal.FileTooLarge → MeetsTooLarge F.contents request.entry (cluster_of self.old) }
         ensures short { HasShortValue result }
-        ensures device { result ≡ Reply.Refused Refusal.Device → IsFaultSeen R.faults M.faults self.old self.new }
+        ensures device { result ≡ Reply.Refused Refusal.Device → IsFaultSeen F.faults M.faults self.old self.new }
     {
         match request {
             Request::Begin => self.begin(),
@@ -86,7 +126,20 @@ impl<R: Rows + Drop, M: MarkStore + Drop> Server<R, M> {
             } => self.set(start, row, family, value),
             Request::Step { start } => self.step(start),
             Request::Stop { start } => self.stop(start),
+            Request::Minor { tablet } => self.minor(tablet),
+            Request::Merge { tablet, count } => self.merge(tablet, count),
+            Request::Major { tablet } => self.major(tablet),
+            Request::Split { row } => self.split(row),
+            Request::Move { tablet, server } => self.move_to(tablet, server),
+            Request::Sweep => self.sweep(),
             Request::OracleRestart => self.restart(),
+            Request::Raw {
+                row,
+                family,
+                qualifier,
+                lo,
+                hi,
+            } => self.raw(row, family, qualifier, lo, hi),
         }
     }
 
@@ -103,21 +156,21 @@ impl<R: Rows + Drop, M: MarkStore + Drop> Server<R, M> {
         writer: &mut O,
         most_reads: u64,
     ) -> Result<End, ServeFault>
-        ensures served { Serves (Shows R.cells R.holds) self.old self.new (I.remaining reader.old) (I.remaining reader.new)
+        ensures served { Serves (Shows F.contents) self.old self.new (I.remaining reader.old) (I.remaining reader.new)
             (O.contents writer.old) (O.contents writer.new) most_reads result }
 
         // Where the reader's bytes are known, the end is that of the whole stream.
         ensures whole { IfSome (I.remaining reader.old) (λ stream. IfOk result (λ end. end ≢ End.ReadsUsedUp
-            → ServesStream (Shows R.cells R.holds) self.old self.new stream (O.contents writer.old) (O.contents writer.new) end)) }
+            → ServesStream (Shows F.contents) self.old self.new stream (O.contents writer.old) (O.contents writer.new) end)) }
     {
         serve_all(self.alloc, self, reader, writer, most_reads)
     }
 }
 
-impl<R: Rows + Drop, M: MarkStore + Drop> Answering for Server<R, M> {
+impl<F: Files + Drop, M: MarkStore + Drop> Answering for Server<F, M> {
     ghost use Rattle.server_loop.specs.Server.{Shows};
 
-    ghost shows = { Shows R.cells R.holds };
+    ghost shows = { Shows F.contents };
 
     fn reply_to(&mut self, request: Request<'_>) -> Reply {
         self.answer(request)

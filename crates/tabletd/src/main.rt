@@ -2,10 +2,12 @@
 //! standard output. The store is in memory.
 #![tactic(auto)]
 
+ghost use Rattle.std.specs.Prelude.{◌≡◌, ◌≤◌, IfOk};
+
 use clap::error::ErrorKind;
+use file_store::MemFiles;
 use oracle::MemMark;
-use row_atomic::PlainRows;
-use server_loop::{Server, end_status, open_status, options};
+use server_loop::{Config, Options, Server, end_status, open_status, options};
 use std::alloc::{AllocError, Global};
 use std::process::ExitCode;
 use std::rt::Env;
@@ -21,6 +23,9 @@ const REFUSED: u8 = 1;
 const NO_MEMORY: u8 = 7;
 
 const NO_MEMORY_LINE: &str = "tabletd: no memory";
+
+/// The most bytes of a sorted file.
+const FILE_LIMIT: u64 = 1_073_741_824;
 
 /// Why the command line can't be read.
 #[derive(Debug, Drop)]
@@ -54,17 +59,32 @@ impl From<clap::Error> for LineError {
     }
 }
 
-/// Reads the command line. So far nothing of it acts: the store is one map, which is never compacted.
-fn read_line<R: Env + AllocGlobal>(rt: &R) -> Result<(), LineError> {
+/// Reads the command line: the limits of the store.
+fn read_line<R: Env + AllocGlobal>(rt: &R) -> Result<Config, LineError>
+    ensures flush { IfOk result (λ config. (1 ≤ config.flush) × (config.flush ≤ 100000)) }
+    ensures file_limit { IfOk result (λ config. config.file_limit ≡ 1073741824) }
+{
     let args: Vec<String> = env::args(rt)?.collect(rt.alloc())?;
     let words: Vec<&str> = args.iter().map(|arg| arg.as_str()).collect(rt.alloc())?;
-    options(rt.alloc(), words.as_slice())?;
-    Ok(())
+    let Options { flush } = options(rt.alloc(), words.as_slice())?;
+    Ok(Config {
+        flush,
+        file_limit: FILE_LIMIT,
+    })
 }
 
 /// Serves the standard input, and gives the exit status with its line on the standard error.
-fn serve<R: AllocGlobal + Input + Print>(rt: &R) -> (u8, &'static str) {
-    match Server::new(rt.alloc(), PlainRows::new(rt.alloc()), MemMark::new()) {
+fn serve<R: AllocGlobal + Input + Print>(rt: &R, config: Config) -> (u8, &'static str)
+    requires flush_least { 1 ≤ config.flush }
+    requires flush_most { config.flush ≤ 100000 }
+    requires file_limit { config.file_limit ≡ 1073741824 }
+{
+    match Server::new(
+        rt.alloc(),
+        MemFiles::new(rt.alloc()),
+        MemMark::new(),
+        config,
+    ) {
         Ok(mut server) => {
             let mut reader = rt.reader();
             let mut writer = io::writer(rt);
@@ -77,7 +97,7 @@ fn serve<R: AllocGlobal + Input + Print>(rt: &R) -> (u8, &'static str) {
 /// Runs the program, and gives the exit status.
 fn run<R: Env + AllocGlobal + Input + Print + Eprint>(rt: &R) -> u8 {
     let (status, line) = match read_line(rt) {
-        Ok(()) => serve(rt),
+        Ok(config) => serve(rt, config),
         Err(LineError::NoMemory) => (NO_MEMORY, NO_MEMORY_LINE),
         Err(LineError::NotText(error)) => {
             let _ = rt.eprintln(error);

@@ -1,23 +1,24 @@
 //! The store as its users meet it: streams of requests with the replies that they get.
 
+mod limits;
 mod rows;
 mod statuses;
 mod streams;
+mod upkeep;
 
+use file_store::MemFiles;
 use oracle::MemMark;
-use request_codec::{Reply, Request};
-use row_atomic::PlainRows;
 use rows::Exchange;
-use server_loop::{End, ServeFault, Server, end_status};
+use server_loop::{Config, End, ServeFault, Server, end_status};
 use std::alloc::{AllocError, Global};
 use std::cell::Cell;
 use std::test::Fail;
 use streams::{Asking, Narrow, Pieces, Telling};
 
-type MemServer = Server<PlainRows, MemMark>;
+type MemServer = Server<MemFiles, MemMark>;
 
 /// Each row of exchanges, on a server of its own.
-const ROWS: [&[Exchange]; 9] = [
+const ROWS: [&[Exchange]; 16] = [
     &rows::FIRST_CELL,
     &rows::TRANSFER,
     &rows::COMMIT_POINT,
@@ -27,10 +28,21 @@ const ROWS: [&[Exchange]; 9] = [
     &rows::ORACLE_RANGES,
     &rows::WRITE_SKEW,
     &rows::PHASES,
+    &upkeep::TABLETS,
+    &upkeep::ERASURES,
+    &upkeep::SPLIT_UNDER_A_SESSION,
+    &upkeep::SHARED_FILES,
+    &upkeep::REFUSALS,
+    &upkeep::OUTSIDE_THE_FORM,
+    &upkeep::SPLIT_AND_COMPACT,
 ];
 
 fn new_server(alloc: Global) -> Result<MemServer, Fail> {
-    match Server::new(alloc, PlainRows::new(alloc), MemMark::new()) {
+    let config = Config {
+        flush: 10_000,
+        file_limit: 1_073_741_824,
+    };
+    match Server::new(alloc, MemFiles::new(alloc), MemMark::new(), config) {
         Ok(server) => Ok(server),
         Err((refusal, _, _)) => Err(Fail::from(refusal)),
     }
@@ -121,6 +133,18 @@ fn commit_point_in_two_pieces(rt: HostRuntime) -> Result<(), Fail> {
 #[test]
 fn write_skew_in_two_pieces(rt: HostRuntime) -> Result<(), Fail> {
     assert!(rt; is_met_in_two(rt.alloc(), &rows::WRITE_SKEW)?);
+    Ok(())
+}
+
+#[test]
+fn erasures_in_two_pieces(rt: HostRuntime) -> Result<(), Fail> {
+    assert!(rt; is_met_in_two(rt.alloc(), &upkeep::ERASURES)?);
+    Ok(())
+}
+
+#[test]
+fn tablets_in_two_pieces(rt: HostRuntime) -> Result<(), Fail> {
+    assert!(rt; is_met_in_two(rt.alloc(), &upkeep::TABLETS)?);
     Ok(())
 }
 
@@ -250,51 +274,5 @@ fn a_reply_leaves_before_the_next_read(rt: HostRuntime) -> Result<(), Fail> {
     let ended = server.serve(&mut reader, &mut writer, u64::MAX);
     assert!(rt; matches!(&ended, Ok(End::Clean)));
     assert_eq!(rt; writer.written.len(), 26);
-    Ok(())
-}
-
-/// The number of the refusal of a reply, and 0 where it is none.
-fn refusal_of(reply: &Reply) -> u8 {
-    match reply {
-        Reply::Refused(refusal) => refusal.number(),
-        _ => 0,
-    }
-}
-
-fn set<'a>(row: &'a [u8], value: &'a [u8]) -> Request<'a> {
-    Request::Set {
-        start: 1,
-        row,
-        family: b"c",
-        value,
-    }
-}
-
-#[test]
-fn limits_of_a_session(rt: HostRuntime) -> Result<(), Fail> {
-    let longest = vec![in rt.alloc(); b'v'; 65_536]?;
-    let too_long = vec![in rt.alloc(); b'v'; 65_537]?;
-    let mut server = new_server(rt.alloc())?;
-    assert_eq!(rt; refusal_of(&server.answer(Request::Begin)), 0);
-    assert_eq!(rt; refusal_of(&server.answer(Request::Step { start: 1 })), 8);
-    assert_eq!(rt; refusal_of(&server.answer(set(&[0], &longest))), 0);
-    assert_eq!(rt; refusal_of(&server.answer(set(&[0], &too_long))), 5);
-    for row in 1..=255u8 {
-        assert_eq!(rt; refusal_of(&server.answer(set(&[row], b"v"))), 0);
-    }
-    assert_eq!(rt; refusal_of(&server.answer(set(b"another", b"v"))), 6);
-    assert_eq!(rt; refusal_of(&server.answer(set(&[0], b"w"))), 0);
-    Ok(())
-}
-
-#[test]
-fn at_most_1024_sessions(rt: HostRuntime) -> Result<(), Fail> {
-    let mut server = new_server(rt.alloc())?;
-    for _ in 0..1024 {
-        assert_eq!(rt; refusal_of(&server.answer(Request::Begin)), 0);
-    }
-    assert_eq!(rt; refusal_of(&server.answer(Request::Begin)), 7);
-    assert_eq!(rt; refusal_of(&server.answer(Request::Stop { start: 1 })), 0);
-    assert_eq!(rt; refusal_of(&server.answer(Request::Begin)), 0);
     Ok(())
 }

@@ -199,6 +199,7 @@ impl Clients {
         ensures step { R.holds rows.old → (last : ℕ) → Steps (R.cells rows.old) self.now last (machine.Get start (cell_of row.now family.now)) (result_reply found_reply result) (R.cells rows.new) self.now last }
         ensures kept { R.holds rows.old → R.cells rows.new ≡ R.cells rows.old }
         ensures still { R.holds rows.old → R.holds rows.new }
+        ensures spots { R.spots rows.new ≡ R.spots rows.old }
         // What is shown is never answered as damaged.
         ensures undamaged { R.holds rows.old → (st : State) → IsReached st → ShowsCells (R.cells rows.old) st → ¬ (IsErrOf result Refusal.Damaged) }
         ensures short { IfOk result IsShort }
@@ -253,6 +254,7 @@ impl Clients {
         ensures step { R.holds rows.old → Steps (R.cells rows.old) self.old oracle.old.last (machine.Advance start) (result_reply progress_reply result) (R.cells rows.new) self.new oracle.new.last }
         ensures kept { R.holds rows.old → OnErr result (R.cells rows.new ≡ R.cells rows.old) }
         ensures still { R.holds rows.old → R.holds rows.new }
+        ensures spots { R.spots rows.new ≡ R.spots rows.old }
         // One row changes, and what joins stands at the session's start or its commit stamp.
         ensures touched { R.holds rows.old → (st : State) → ShowsClients self.old st → TouchesFor st start (R.cells rows.old) (R.cells rows.new) }
         ensures draws { IfOk result (DrawsNext oracle.old.last) }

@@ -36,6 +36,7 @@ impl Session {
         ensures kept { R.holds rows.old → OnErr result (R.cells rows.new ≡ R.cells rows.old) }
         ensures touched { R.holds rows.old → TouchesOneRow (R.cells rows.old) (R.cells rows.new) self.old.start self.old.start }
         ensures still { R.holds rows.old → R.holds rows.new }
+        ensures spots { R.spots rows.new ≡ R.spots rows.old }
         ensures undamaged { R.holds rows.old → ¬ (IsErrOf result Refusal.Damaged) }
         ensures refusal { IfErr result (IsAdvanceRefusal (length self.old.writes ≤ k)) }
         ensures full { IsErrOf result Refusal.MemtableFull → HasNoRoom R.overfills rows.old (HoldsNext (writes_of self.old) k self.old.start) }
@@ -99,6 +100,7 @@ impl Session {
         ensures kept { R.holds rows.old → OnErr result (R.cells rows.new ≡ R.cells rows.old) }
         ensures touched { R.holds rows.old → TouchesOneRow (R.cells rows.old) (R.cells rows.new) self.old.start self.old.commit }
         ensures still { R.holds rows.old → R.holds rows.new }
+        ensures spots { R.spots rows.new ≡ R.spots rows.old }
         ensures undamaged { R.holds rows.old → ¬ (IsErrOf result Refusal.Damaged) }
         ensures refusal { IfErr result (IsAdvanceRefusal (length self.old.writes ≤ 0)) }
         ensures full { IsErrOf result Refusal.MemtableFull → HasNoRoom R.overfills rows.old (RecordsNext (writes_of self.old) 0 self.old.start self.old.commit) }
@@ -138,6 +140,7 @@ impl Session {
         ensures kept { R.holds rows.old → OnErr result (R.cells rows.new ≡ R.cells rows.old) }
         ensures touched { R.holds rows.old → TouchesOneRow (R.cells rows.old) (R.cells rows.new) self.old.start self.old.commit }
         ensures still { R.holds rows.old → R.holds rows.new }
+        ensures spots { R.spots rows.new ≡ R.spots rows.old }
         ensures undamaged { R.holds rows.old → ¬ (IsErrOf result Refusal.Damaged) }
         ensures refusal { IfErr result (IsAdvanceRefusal (length self.old.writes ≤ k)) }
         ensures full { IsErrOf result Refusal.MemtableFull → HasNoRoom R.overfills rows.old (RecordsNext (writes_of self.old) k self.old.start self.old.commit) }
@@ -172,6 +175,7 @@ impl Session {
         ensures kept { R.holds rows.old → OnErr result (R.cells rows.new ≡ R.cells rows.old) }
         ensures touched { R.holds rows.old → TouchesBy self.old.phase (R.cells rows.old) (R.cells rows.new) self.old.start self.old.commit }
         ensures still { R.holds rows.old → R.holds rows.new }
+        ensures spots { R.spots rows.new ≡ R.spots rows.old }
         ensures undamaged { R.holds rows.old → ¬ (IsErrOf result Refusal.Damaged) }
         ensures refusal { IfErr result (IsAdvanceRefusal (HasNoNext self.old.phase (length self.old.writes))) }
         ensures drawing { self.old.phase ≡ phase.Holding (length self.old.writes) → IfErr result IsDrawRefusal }

@@ -1,12 +1,9 @@
-use Rattle.std.proofs.Common.{◌≡◌, ℕ, List, ◌∷◌, Some, Result, Ok, Err, OnErr, ap, ◌∙◌}
+use Rattle.std.proofs.Common.{◌≡◌, ℕ, List, ◌∷◌, Some, ap, ◌∙◌}
 use Rattle.si_model.specs.Messages.{Answered}
 use Rattle.request_codec.specs.Fields.{field, FitsField}
 use Rattle.request_codec.specs.Replies.{NeedsMemory}
+use Rattle.request_codec.proofs.Fields.{on_err}
 use Rattle.request_codec.proofs.replies.decode_found.Goals as goal
-
-on_err : {X E : Type 0} (r : Result X E) {P : Type 0} → P → OnErr r P
-on_err (Ok x) p = tt
-on_err (Err e) p = p
 
 value_needs : (fields rest value : List ℕ) (tag : ℕ) → fields ≡ tag ∷ rest → tag ≡ 1 → rest ≡ field value → FitsField value → NeedsMemory (0x82 ∷ fields)
 value_needs fields rest value tag front is after fits = (

@@ -4,9 +4,10 @@ use Rattle.std.specs.Vec.{vec_capacity}
 use Rattle.metadata_table.specs.Table.{with_files}
 use Rattle.tablet.specs.Views.{names_of}
 use Rattle.row_atomic.specs.Clusters.{spot_of}
-use Rattle.row_atomic.specs.Changes.{IsCleaned, IsFull, IsMade, IsTooLarge, MeetsBadCount}
+use Rattle.row_atomic.specs.Changes.{IsCleaned, IsFull, IsMade, IsTooLarge, MeetsBadCount, MeetsFull, WritesNone}
 use Rattle.row_atomic.proofs.Answering.{found_there, undamaged}
 use Rattle.row_atomic.proofs.Changing.{at_order, has_room, if_err, in_order, is_below, is_set, matched_unchanged, matched_listed, numbered_new, numbered_old, parts_stay, remade, same_spots, stays}
+use Rattle.row_atomic.proofs.Roomy.{fits_order, numbered_not}
 use Rattle.row_atomic.proofs.cluster.Cluster.compact_tablet.Goals as goal
 
 pub invariant_of-self : goal.invariant_of-self
@@ -99,3 +100,27 @@ returns-clause-spots g c =
     let at = rw (← c.self.view_is) at c.position-index.ensures in
     let there = found_there c.self.inside.tablets.items c.position-index.result at.tablet c.index_mut.result.now at.there c.index_mut.ensures.value in
     rw (← c.self.view_is) (ap (map spot_of) (c.list_files.ensures ∙ ap (λ t. with_files c.args.tablet (names_of t) c.self.inside.table) (is_set c.self.inside.tablets.items c.position-index.result c.index_mut.result.now c.compact.new.tablet c.index-2.result.now there c.index-2.ensures)) ∙ same_spots c.args.tablet (names_of c.compact.new.tablet) c.self.inside.table)
+
+pub returns-clause-room : goal.returns-clause-room
+returns-clause-room g c =
+    let at = rw (← c.self.view_is) at c.position-index.ensures in
+    let there = found_there c.self.inside.tablets.items c.position-index.result at.tablet c.index_mut.result.now at.there c.index_mut.ensures.value in
+    rw (← c.self.view_is) (numbered_not c.self.inside.tablets.items c.position-index.result c.index_mut.result.now there (MeetsFull c.args.compaction) c.args.tablet at.number c.in_ok-compact.ensures.room)
+
+pub returns-clause-left : goal.returns-clause-left
+returns-clause-left g c =
+    let at = rw (← c.self.view_is) at c.position-index.ensures in
+    let there = found_there c.self.inside.tablets.items c.position-index.result at.tablet c.index_mut.result.now at.there c.index_mut.ensures.value in
+    rw (← c.self.view_is) (λ most. numbered_old c.self.inside.tablets.items c.position-index.result c.index_mut.result.now c.compact.new.tablet there (WritesNone c.args.compaction) c.args.tablet at.number (c.in_ok-compact.ensures.left most))
+
+pub returns-clause-fits : goal.returns-clause-fits
+returns-clause-fits g c =
+    let at = rw (← c.self.view_is) at c.position-index.ensures in
+    let there = found_there c.self.inside.tablets.items c.position-index.result at.tablet c.index_mut.result.now at.there c.index_mut.ensures.value in
+    rw (← c.self.view_is) (λ order. numbered_not c.self.inside.tablets.items c.position-index.result c.index_mut.result.now there (IsTooLarge c.self.inside.file_limit (g.F.Files.contents c.self.inside.files) c.args.compaction) c.args.tablet at.number (fits_order c.self.inside.tablets.items c.position-index.result c.index_mut.result.now there c.self.inside.file_limit (g.F.Files.contents c.self.inside.files) c.self.inside.next_name c.args.compaction order c.in_ok-compact.ensures.fits))
+
+pub returns-in_err-compact-clause-needed : goal.returns-in_err-compact-clause-needed
+returns-in_err-compact-clause-needed g c =
+    let at = rw (← c.self.view_is) at c.position-index.ensures in
+    let there = found_there c.self.inside.tablets.items c.position-index.result at.tablet c.index_mut.result.now at.there c.index_mut.ensures.value in
+    λ is. rw (← c.self.view_is) (numbered_not c.self.inside.tablets.items c.position-index.result c.index_mut.result.now there (WritesNone c.args.compaction) c.args.tablet at.number (c.compact.ensures.needed (search rules)))

@@ -7,6 +7,8 @@ use Rattle.tablet.specs.declared.tablet.Tablet.{Tablet}
 use Rattle.row_atomic.specs.Clusters.{InOrder, IsMatched, cells_in}
 use Rattle.row_atomic.proofs.Answering.{found_there}
 use Rattle.row_atomic.proofs.Changing.{in_order, is_below, matched_unchanged}
+use Rattle.row_atomic.specs.Changes.{IsEmptied, Numbered}
+use Rattle.row_atomic.proofs.Emptying.{left_emptied, right_emptied}
 use Rattle.row_atomic.proofs.Splitting.{holder_emptied, holder_known, matched_cut, parts_keep, read_alone, stays_over}
 use Rattle.row_atomic.proofs.cluster.Cluster.cut.Goals as goal
 
@@ -88,3 +90,29 @@ returns-clause-kept g c =
     let pushed : c.push.new.self.items ≡ (set c.self.inside.tablets.items c.position-index.result c.split.new.self ++ c.in_ok-part.part ∷ []) = search rules in
     rw (← c.self.view_is) (λ order. subst (λ (ys : List Tablet). InOrder (g.F.Files.contents c.split.new.files) c.split.new.next_name ys × (cells_in (g.F.Files.contents c.split.new.files) ys ≡ cells_in (g.F.Files.contents c.self.inside.files) c.self.inside.tablets.items)) (sym pushed)
     (parts_keep c.self.inside.table c.self.inside.tablets.items c.position-index.result c.index_mut.result.now c.in_ok-part.part c.split.new.self c.args.row.now (view_of c.locate.result.now) table there_old holder at.number c.in_ok-part.ensures.left_range c.in_ok-part.ensures.right_range c.stays_in_range.ensures c.others_stay.ensures (g.F.Files.contents c.self.inside.files) (g.F.Files.contents c.split.new.files) c.self.inside.next_name c.split.new.next_name c.self.invariant.placed c.self.invariant.as_many c.split.ensures.name c.in_ok-part.ensures.parts order))
+
+pub returns-clause-left_emptied : goal.returns-clause-left_emptied
+returns-clause-left_emptied g c =
+    let table = c.locate.ensures.table in
+    let holder = c.locate.ensures.holder in
+    let at = rw (← c.self.view_is) at c.position-index.ensures in
+    let there = found_there c.reserve.new.self.items c.position-index.result at.tablet c.index_mut.result.now (ap (λ ys. slice_get ys c.position-index.result) c.reserve.ensures.items ∙ at.there) c.index_mut.ensures.value in
+    let there_old = ap (λ ys. slice_get ys c.position-index.result) (sym c.reserve.ensures.items) ∙ there in
+    let pushed : c.push.new.self.items ≡ (set c.self.inside.tablets.items c.position-index.result c.split.new.self ++ c.in_ok-part.part ∷ []) = search rules in
+    let copied : c.in_ok-table.table ≡ c.self.inside.table = search rules in
+    subst (λ (ys : List Tablet). Numbered IsEmptied c.in_ok-left.left ys) (sym pushed)
+    (left_emptied c.self.inside.tablets.items c.position-index.result c.in_ok-part.part c.split.new.self c.in_ok-left.left (length c.self.inside.table) (c.in_ok-left.ensures.number ∙ ap (λ (ps : List PlaceView). length ps + 1) copied) c.self.invariant.as_many c.in_ok-part.ensures.left_memory)
+
+pub returns-clause-right_emptied : goal.returns-clause-right_emptied
+returns-clause-right_emptied g c =
+    let table = c.locate.ensures.table in
+    let holder = c.locate.ensures.holder in
+    let at = rw (← c.self.view_is) at c.position-index.ensures in
+    let there = found_there c.reserve.new.self.items c.position-index.result at.tablet c.index_mut.result.now (ap (λ ys. slice_get ys c.position-index.result) c.reserve.ensures.items ∙ at.there) c.index_mut.ensures.value in
+    let there_old = ap (λ ys. slice_get ys c.position-index.result) (sym c.reserve.ensures.items) ∙ there in
+    let pushed : c.push.new.self.items ≡ (set c.self.inside.tablets.items c.position-index.result c.split.new.self ++ c.in_ok-part.part ∷ []) = search rules in
+    rw (← c.self.view_is) (record {
+      place = view_of c.locate.result.now;
+      holder = holder;
+      tablet = subst (λ (ys : List Tablet). Numbered IsEmptied c.locate.result.now.tablet ys) (sym pushed) (right_emptied c.self.inside.tablets.items c.position-index.result c.in_ok-part.part c.split.new.self c.locate.result.now.tablet c.index_mut.result.now at.number there_old c.in_ok-part.ensures.right_memory);
+    })

@@ -1,7 +1,10 @@
 -- The minor compaction comes first, and then the files are opened anew.
-use Rattle.std.proofs.Common.{rules, ◌∙◌, subst, sym}
+use Rattle.std.proofs.Common.{rules, ◌∙◌, inr, ap, subst, sym}
 use Rattle.metadata_table.specs.Places.{view_of}
-use Rattle.metadata_table.specs.Table.{HasTablet}
+use Rattle.metadata_table.specs.Table.{HasTablet, moved}
+use Rattle.tablet.specs.Views.{names_of}
+use Rattle.row_atomic.proofs.Changing.{if_ok, on_ok}
+use Rattle.row_atomic.proofs.Emptying.{flushed_opened}
 use Rattle.row_atomic.proofs.Moving.{elsewhere, known_after, matched_assigned}
 use Rattle.row_atomic.proofs.cluster.Cluster.move_to.Goals as goal
 
@@ -55,3 +58,24 @@ returns-clause-unknown g c =
     let after = known_after c.args.tablet c.self.inside.table c.compact_tablet.new.self.places c.compact_tablet.new.self.tablets listed has in
     let same = rw (← c.self-2.view_is) at c.reopen.ensures.places in
     rw (← c.self.view_is) ((λ is known. c.assign.ensures.unknown.0 is (subst (HasTablet c.args.tablet) (sym same) after)), (λ no. absurd (no has)))
+
+pub returns-clause-flushed : goal.returns-clause-flushed
+returns-clause-flushed g c =
+    let opened = rw (← c.self-2.view_is) at c.in_ok-reopen.ensures.opened in
+    if_ok _ c.assign.result (λ elsewhere. flushed_opened c.args.tablet c.args.self.now.tablets c.compact_tablet.new.self.tablets c.self-2.inside.tablets.items c.in_ok-compact_tablet.ensures.made opened)
+
+pub returns-then-server-from-clause-flushed : goal.returns-then-server-from-clause-flushed
+returns-then-server-from-clause-flushed g c =
+    rw (← c.self.view_is) (λ elsewhere. absurd (elsewhere (view_of c.in_ok-from.field-0.now, c.in_ok-from.ensures.found, c.in_ok-from.ensures.named, search rules)))
+
+pub returns-clause-moved : goal.returns-clause-moved
+returns-clause-moved g c =
+    let listed = rw (← c.self.view_is) at c.in_ok-compact_tablet.ensures.listed in
+    let same = rw (← c.self-2.view_is) at c.reopen.ensures.places in
+    rw (← c.self.view_is) (on_ok _ _ c.assign.result (λ is. inr (record { names = names_of listed.tablet; moved = is ∙ ap (moved c.args.tablet c.args.server) (same ∙ listed.such) })) c.assign.ensures.ok)
+
+pub returns-clause-left : goal.returns-clause-left
+returns-clause-left g c = if_ok _ c.assign.result (λ elsewhere. c.in_ok-compact_tablet.ensures.left)
+
+pub returns-in_err-compact_tablet-clause-needed : goal.returns-in_err-compact_tablet-clause-needed
+returns-in_err-compact_tablet-clause-needed g c = λ is. c.compact_tablet.ensures.needed (search rules)

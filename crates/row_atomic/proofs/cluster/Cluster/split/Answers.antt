@@ -1,6 +1,11 @@
 -- The minor compaction comes first, and then the tablet is cut.
-use Rattle.std.proofs.Common.{◌∙◌}
+use Rattle.std.proofs.Common.{rules, ◌∙◌}
 use Rattle.metadata_table.specs.Places.{view_of}
+use Rattle.row_atomic.specs.Changes.{IsEmptied, IsFull}
+use Rattle.row_atomic.proofs.Changing.{if_ok, on_ok}
+use Rattle.row_atomic.proofs.Emptying.{cut_listed, not_cut, not_out, of_listed}
+use Rattle.row_atomic.proofs.Naming.{uses_both, uses_none, uses_one}
+use Rattle.row_atomic.proofs.Roomy.{holder_not}
 use Rattle.row_atomic.proofs.Splitting.{free_after, holder_flushed, holder_known}
 use Rattle.row_atomic.proofs.cluster.Cluster.split.Goals as goal
 
@@ -23,3 +28,51 @@ returns-clause-kept g c = λ order.
     let first = c.compact_tablet.ensures.kept order in
     let second = c.cut.ensures.kept first.0 in
     (second.0, second.1 ∙ first.1)
+
+pub returns-in_err-check_split-clause-names : goal.returns-in_err-check_split-clause-names
+returns-in_err-check_split-clause-names g c = uses_none (g.F.Files.contents c.args.self.now.files) c.args.self.now.next_name
+
+pub returns-in_err-compact_tablet-clause-names : goal.returns-in_err-compact_tablet-clause-names
+returns-in_err-compact_tablet-clause-names g c = uses_one (g.F.Files.contents c.args.self.now.files) (g.F.Files.contents c.compact_tablet.new.self.files) c.args.self.now.next_name c.compact_tablet.new.self.next_name c.compact_tablet.ensures.name
+
+pub returns-clause-names : goal.returns-clause-names
+returns-clause-names g c =
+    let first = uses_one (g.F.Files.contents c.args.self.now.files) (g.F.Files.contents c.compact_tablet.new.self.files) c.args.self.now.next_name c.compact_tablet.new.self.next_name c.compact_tablet.ensures.name in
+    let second = uses_one (g.F.Files.contents c.compact_tablet.new.self.files) (g.F.Files.contents c.cut.new.self.files) c.compact_tablet.new.self.next_name c.cut.new.self.next_name c.cut.ensures.name in
+    uses_both (g.F.Files.contents c.args.self.now.files) (g.F.Files.contents c.compact_tablet.new.self.files) (g.F.Files.contents c.cut.new.self.files) c.args.self.now.next_name c.compact_tablet.new.self.next_name c.cut.new.self.next_name first second
+
+pub returns-clause-right_emptied : goal.returns-clause-right_emptied
+returns-clause-right_emptied g c =
+    let listed = rw (← c.self.view_is) at c.in_ok-compact_tablet.ensures.listed in
+    rw (← c.self.view_is) (on_ok _ _ c.cut.result (of_listed IsEmptied c.args.row.now c.self.inside.table c.compact_tablet.new.self.places c.compact_tablet.new.self.tablets c.cut.new.self.tablets (view_of c.locate.result.now) c.locate.ensures.holder listed) c.cut.ensures.right_emptied)
+
+pub returns-clause-room : goal.returns-clause-room
+returns-clause-room g c =
+    let room = rw (← c.self.view_is) at c.in_ok-compact_tablet.ensures.room in
+    rw (← c.self.view_is) (if_ok _ c.cut.result (holder_not IsFull c.args.row.now c.self.inside.table c.self.inside.tablets.items (view_of c.locate.result.now) c.locate.ensures.holder room))
+
+pub returns-clause-fits : goal.returns-clause-fits
+returns-clause-fits g c =
+    let fits = rw (← c.self.view_is) at c.in_ok-compact_tablet.ensures.fits in
+    rw (← c.self.view_is) (λ order. if_ok _ c.cut.result (holder_not _ c.args.row.now c.self.inside.table c.self.inside.tablets.items (view_of c.locate.result.now) c.locate.ensures.holder (fits order)))
+
+pub returns-clause-left : goal.returns-clause-left
+returns-clause-left g c =
+    let left = rw (← c.self.view_is) at c.in_ok-compact_tablet.ensures.left in
+    rw (← c.self.view_is) (if_ok _ c.cut.result (λ most. record { place = view_of c.locate.result.now; holder = c.locate.ensures.holder; tablet = left most }))
+
+pub returns-clause-cut : goal.returns-clause-cut
+returns-clause-cut g c =
+    let listed = rw (← c.self.view_is) at c.in_ok-compact_tablet.ensures.listed in
+    rw (← c.self.view_is) (cut_listed c.args.row.now c.self.inside.table c.compact_tablet.new.self.places c.cut.new.self.places c.compact_tablet.new.self.tablets (view_of c.locate.result.now) c.cut.result c.locate.ensures.holder listed c.cut.ensures.cut)
+
+pub returns-clause-bad : goal.returns-clause-bad
+returns-clause-bad g c = rw (← c.self.view_is) ((λ is. absurd (not_cut c.cut.result c.cut.ensures.refusal is)), (λ bars. absurd (c.in_ok-check_split.ensures.split bars)))
+
+pub returns-in_err-compact_tablet-clause-needed : goal.returns-in_err-compact_tablet-clause-needed
+returns-in_err-compact_tablet-clause-needed g c = λ is.
+    let needed = rw (← c.self.view_is) at (c.compact_tablet.ensures.needed (search rules)) in
+    rw (← c.self.view_is) (holder_not IsEmptied c.args.row.now c.self.inside.table c.self.inside.tablets.items (view_of c.locate.result.now) c.locate.ensures.holder needed)
+
+pub returns-clause-needed : goal.returns-clause-needed
+returns-clause-needed g c = λ is. absurd (not_out c.cut.result c.cut.ensures.refusal is)

@@ -3,13 +3,17 @@ use Rattle.server_loop.proofs.Stepping.{restart_done, restart_refused}
 use Rattle.server_loop.proofs.server.Server.restart.Goals as goal
 
 pub returns-in-Ok-clause-step : goal.returns-in-Ok-clause-step
-returns-in-Ok-clause-step g c = restart_done _ _ _ _ (λ st shown. record {
+returns-in-Ok-clause-step g c = restart_done _ _ _ (λ st shown. record {
   in_order = shown.in_order;
+  places = shown.places;
+  next = shown.next;
   shows = record { store = shown.shows.store; sessions = shown.shows.sessions; top = omega (arith, shown.shows.top, c.in-Ok.ensures.rises) };
 })
 
 pub returns-in-Err-clause-step : goal.returns-in-Err-clause-step
-returns-in-Err-clause-step g c = restart_refused _ _ _ _ _ c.in-Err.ensures.refusal (λ st shown. record {
+returns-in-Err-clause-step g c = restart_refused _ _ _ _ c.in-Err.ensures.refusal (λ st shown. record {
   in_order = shown.in_order;
+  places = shown.places;
+  next = shown.next;
   shows = record { store = shown.shows.store; sessions = shown.shows.sessions; top = omega (arith, shown.shows.top, c.in-Err.ensures.rises) };
 })

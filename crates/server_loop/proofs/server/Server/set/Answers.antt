@@ -1,9 +1,10 @@
+use Rattle.std.proofs.Common.{refl}
 use Rattle.txn_client.specs.Refusals.{IsSetRefusal}
-use Rattle.server_loop.proofs.Stepping.{steps_as, undamaged}
+use Rattle.server_loop.proofs.Stepping.{steps_as, set_undamaged, undamaged}
 use Rattle.server_loop.proofs.server.Server.set.Goals as goal
 
 pub returns-in-Ok-clause-step : goal.returns-in-Ok-clause-step
-returns-in-Ok-clause-step g c = steps_as _ _ _ _ _ _ (λ _. c.in-Ok.ensures.step _ _) (λ h. h) (λ st reached held shown same. cc)
+returns-in-Ok-clause-step g c = steps_as _ _ _ _ _ tt (λ _. c.in-Ok.ensures.step _ _) (λ h. h) refl (λ st reached held shown. set_undamaged)
 
 pub returns-in-Err-clause-step : goal.returns-in-Err-clause-step
-returns-in-Err-clause-step g c = steps_as _ _ _ _ _ _ (λ _. c.in-Err.ensures.step _ _) (λ h. h) (λ st reached held shown. undamaged IsSetRefusal _ c.in-Err.ensures.refusal (λ h. h))
+returns-in-Err-clause-step g c = steps_as _ _ _ _ _ tt (λ _. c.in-Err.ensures.step _ _) (λ h. h) refl (λ st reached held shown. undamaged IsSetRefusal _ c.in-Err.ensures.refusal (λ h. h))

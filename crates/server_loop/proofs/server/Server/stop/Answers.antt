@@ -1,11 +1,11 @@
-use Rattle.std.proofs.Common.{◌≡◌}
+use Rattle.std.proofs.Common.{◌≡◌, refl}
 use Rattle.cell_key.specs.declared.refusals.Refusal.{Refusal}
 use Rattle.cell_key.specs.declared.refusals.Refusal.TheVariants.{UnknownSession}
-use Rattle.server_loop.proofs.Stepping.{steps_as, undamaged}
+use Rattle.server_loop.proofs.Stepping.{steps_as, stop_undamaged, undamaged}
 use Rattle.server_loop.proofs.server.Server.stop.Goals as goal
 
 pub returns-in-Ok-clause-step : goal.returns-in-Ok-clause-step
-returns-in-Ok-clause-step g c = steps_as _ _ _ _ _ _ (λ _. c.in-Ok.ensures.step _ _) (λ h. h) (λ st reached held shown same. cc)
+returns-in-Ok-clause-step g c = steps_as _ _ _ _ _ tt (λ _. c.in-Ok.ensures.step _ _) (λ h. h) refl (λ st reached held shown. stop_undamaged)
 
 pub returns-in-Err-clause-step : goal.returns-in-Err-clause-step
-returns-in-Err-clause-step g c = steps_as _ _ _ _ _ _ (λ _. c.in-Err.ensures.step _ _) (λ h. h) (λ st reached held shown. undamaged (λ (refusal : Refusal). refusal ≡ UnknownSession) _ c.in-Err.ensures.refusal (λ h. cc))
+returns-in-Err-clause-step g c = steps_as _ _ _ _ _ tt (λ _. c.in-Err.ensures.step _ _) (λ h. h) refl (λ st reached held shown. undamaged (λ (refusal : Refusal). refusal ≡ UnknownSession) _ c.in-Err.ensures.refusal (λ h. cc))

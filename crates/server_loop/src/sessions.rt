@@ -1,9 +1,10 @@
-//! The operations of the server, one step of the snapshot machine each.
+//! What a server does for sessions and for its oracle, one step of the snapshot machine each.
 
 ghost use Rattle.std.specs.Prelude.{◌≡◌, IfSome};
 ghost use Rattle.si_model.specs.Machine as machine;
 ghost use Rattle.si_model.specs.Machine.{State};
 ghost use Rattle.request_codec.specs.Replies.{replied};
+ghost use Rattle.row_atomic.specs.Clusters.{Overfills};
 ghost use Rattle.server_loop.specs.Runs.{StepsAs, StampsGoOn, HasShortValue, IfRefused};
 ghost use Rattle.txn_client.specs.Reads.{cell_of};
 ghost use Rattle.txn_client.specs.Refusals.{IsBeginRefusal, IsGetRefusal, IsSetRefusal, IsStepRefusal};
@@ -12,20 +13,20 @@ ghost use Rattle.txn_client.specs.Shows.{IsAboutToDraw};
 
 use crate::server::Server;
 use cell_key::{MOST_STAMP, Refusal, Stamp};
+use file_store::Files;
 use oracle::MarkStore;
 use request_codec::Reply;
-use row_atomic::Rows;
 
-impl<R: Rows + Drop, M: MarkStore + Drop> Server<R, M> {
-    ghost use Rattle.server_loop.specs.Server.{Shows, IsFaultSeen, last_of, marks_of, rows_of};
+impl<F: Files + Drop, M: MarkStore + Drop> Server<F, M> {
+    ghost use Rattle.server_loop.specs.Server.{Shows, IsFaultSeen, cluster_of, last_of, marks_of};
 
     pub(crate) fn begin(&mut self) -> Reply
-        ensures step { StepsAs (Shows R.cells R.holds) self.old self.new machine.Begin (replied result) }
+        ensures step { StepsAs (Shows F.contents) self.old self.new machine.Begin (replied result) }
         ensures refusal { IfRefused IsBeginRefusal (replied result) }
         ensures exhausted { result ≡ Reply.Refused Refusal.Exhausted → last_of self.old ≡ MOST_STAMP }
         ensures last { StampsGoOn (replied result) (last_of self.old) (last_of self.new) }
         ensures short { HasShortValue result }
-        ensures device { result ≡ Reply.Refused Refusal.Device → IsFaultSeen R.faults M.faults self.old self.new }
+        ensures device { result ≡ Reply.Refused Refusal.Device → IsFaultSeen F.faults M.faults self.old self.new }
     {
         match self.clients.begin(&mut self.oracle) {
             Ok(start) => Reply::Begin(start),
@@ -34,24 +35,24 @@ impl<R: Rows + Drop, M: MarkStore + Drop> Server<R, M> {
     }
 
     pub(crate) fn get(&mut self, start: Stamp, row: &[u8], family: &[u8]) -> Reply
-        ensures step { StepsAs (Shows R.cells R.holds) self.old self.new (machine.Get start (cell_of row.now family.now)) (replied result) }
+        ensures step { StepsAs (Shows F.contents) self.old self.new (machine.Get start (cell_of row.now family.now)) (replied result) }
         ensures refusal { IfRefused IsGetRefusal (replied result) }
         ensures last { StampsGoOn (replied result) (last_of self.old) (last_of self.new) }
         ensures short { HasShortValue result }
-        ensures device { result ≡ Reply.Refused Refusal.Device → IsFaultSeen R.faults M.faults self.old self.new }
+        ensures device { result ≡ Reply.Refused Refusal.Device → IsFaultSeen F.faults M.faults self.old self.new }
     {
-        match self.clients.get(&mut self.rows, start, row, family) {
+        match self.clients.get(&mut self.cluster, start, row, family) {
             Ok(found) => Reply::Get(found),
             Err(refusal) => Reply::Refused(refusal),
         }
     }
 
     pub(crate) fn set(&mut self, start: Stamp, row: &[u8], family: &[u8], value: &[u8]) -> Reply
-        ensures step { StepsAs (Shows R.cells R.holds) self.old self.new (machine.Set start (cell_of row.now family.now) value.now) (replied result) }
+        ensures step { StepsAs (Shows F.contents) self.old self.new (machine.Set start (cell_of row.now family.now) value.now) (replied result) }
         ensures refusal { IfRefused IsSetRefusal (replied result) }
         ensures last { StampsGoOn (replied result) (last_of self.old) (last_of self.new) }
         ensures short { HasShortValue result }
-        ensures device { result ≡ Reply.Refused Refusal.Device → IsFaultSeen R.faults M.faults self.old self.new }
+        ensures device { result ≡ Reply.Refused Refusal.Device → IsFaultSeen F.faults M.faults self.old self.new }
     {
         match self.clients.set(start, row, family, value) {
             Ok(()) => Reply::Set,
@@ -60,27 +61,30 @@ impl<R: Rows + Drop, M: MarkStore + Drop> Server<R, M> {
     }
 
     pub(crate) fn step(&mut self, start: Stamp) -> Reply
-        ensures step { StepsAs (Shows R.cells R.holds) self.old self.new (machine.Advance start) (replied result) }
+        ensures step { StepsAs (Shows F.contents) self.old self.new (machine.Advance start) (replied result) }
         ensures refusal { IfRefused IsStepRefusal (replied result) }
         ensures exhausted { result ≡ Reply.Refused Refusal.Exhausted → last_of self.old ≡ MOST_STAMP }
-        ensures draw_only { result ≡ Reply.Refused Refusal.Exhausted → (st : State) → Shows R.cells R.holds self.old st → IsAboutToDraw st start }
-        ensures full { result ≡ Reply.Refused Refusal.MemtableFull → (st : State) → Shows R.cells R.holds self.old st → HasNoRoom R.overfills (rows_of self.old) (ChangesNext st start) }
+        ensures draw_only { result ≡ Reply.Refused Refusal.Exhausted → (st : State) → Shows F.contents self.old st → IsAboutToDraw st start }
+        ensures full { result ≡ Reply.Refused Refusal.MemtableFull → (st : State) → Shows F.contents self.old st → HasNoRoom (λ cluster row edits. Overfills cluster.places cluster.tablets row edits) (cluster_of self.old) (ChangesNext st start) }
         ensures last { StampsGoOn (replied result) (last_of self.old) (last_of self.new) }
         ensures short { HasShortValue result }
-        ensures device { result ≡ Reply.Refused Refusal.Device → IsFaultSeen R.faults M.faults self.old self.new }
+        ensures device { result ≡ Reply.Refused Refusal.Device → IsFaultSeen F.faults M.faults self.old self.new }
     {
-        match self.clients.step(&mut self.rows, &mut self.oracle, start) {
+        match self
+            .clients
+            .step(&mut self.cluster, &mut self.oracle, start)
+        {
             Ok(progress) => Reply::Step(progress),
             Err(refusal) => Reply::Refused(refusal),
         }
     }
 
     pub(crate) fn stop(&mut self, start: Stamp) -> Reply
-        ensures step { StepsAs (Shows R.cells R.holds) self.old self.new (machine.Stop start) (replied result) }
+        ensures step { StepsAs (Shows F.contents) self.old self.new (machine.Stop start) (replied result) }
         ensures refusal { IfRefused (λ refusal. refusal ≡ Refusal.UnknownSession) (replied result) }
         ensures last { StampsGoOn (replied result) (last_of self.old) (last_of self.new) }
         ensures short { HasShortValue result }
-        ensures device { result ≡ Reply.Refused Refusal.Device → IsFaultSeen R.faults M.faults self.old self.new }
+        ensures device { result ≡ Reply.Refused Refusal.Device → IsFaultSeen F.faults M.faults self.old self.new }
     {
         match self.clients.stop(start) {
             Ok(()) => Reply::Stop,
@@ -89,13 +93,13 @@ impl<R: Rows + Drop, M: MarkStore + Drop> Server<R, M> {
     }
 
     pub(crate) fn restart(&mut self) -> Reply
-        ensures step { StepsAs (Shows R.cells R.holds) self.old self.new machine.OracleRestart (replied result) }
+        ensures step { StepsAs (Shows F.contents) self.old self.new machine.OracleRestart (replied result) }
         ensures refusal { IfRefused (λ refusal. refusal ≡ Refusal.Device) (replied result) }
         // Where the mark is told, the oracle goes on from it.
         ensures restarted { result ≡ Reply.OracleRestart → IfSome (M.mark (marks_of self.old)) (λ mark. last_of self.new ≡ mark) }
         ensures last { StampsGoOn (replied result) (last_of self.old) (last_of self.new) }
         ensures short { HasShortValue result }
-        ensures device { result ≡ Reply.Refused Refusal.Device → IsFaultSeen R.faults M.faults self.old self.new }
+        ensures device { result ≡ Reply.Refused Refusal.Device → IsFaultSeen F.faults M.faults self.old self.new }
     {
         match self.oracle.restart() {
             Ok(()) => Reply::OracleRestart,

@@ -1,0 +1,13 @@
+-- The compactions, by names for the crates above.
+use Rattle.std.specs.Prelude.{ℕ}
+use Rattle.row_atomic.specs.declared.cluster_compactions.Compaction.{Compaction}
+use Rattle.row_atomic.specs.declared.cluster_compactions.Compaction.TheVariants.{Minor, Merge, Major}
+
+abbrev pub minor : Compaction
+minor = Minor
+
+abbrev pub merging : ℕ → Compaction
+merging count = Merge count
+
+abbrev pub major : Compaction
+major = Major

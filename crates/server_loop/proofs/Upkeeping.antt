@@ -1,0 +1,266 @@
+-- The machine's steps where a server keeps up its tablets, and where cells are read raw.
+use Rattle.std.proofs.Common.{◌≡◌, ◌<◌, ◌≤◌, ◌+◌, ◌⊎◌, ℕ, inl, inr, List, [], ◌∷◌, length, map, Option, zero, suc, refl, sym, ap, subst, ◌∙◌, arith}
+use Rattle.std.proofs.lemmas.Bool.{cases_eq, cases_lt}
+use Rattle.cell_key.specs.Cells.{Cells}
+use Rattle.cell_key.specs.Names.{IsRow, IsFamily}
+use Rattle.cell_key.specs.declared.keys.Qualifier.{Qualifier}
+use Rattle.cell_key.specs.declared.refusals.Refusal.{Refusal}
+use Rattle.cell_key.specs.declared.refusals.Refusal.TheVariants.{BadRow, BadColumn, UnknownTablet, BadSplit, UnknownServer, BadCount, TooManyFiles, FileTooLarge, Exhausted, Device, NoMemory, Damaged}
+use Rattle.file_store.specs.Store.{Contents}
+use Rattle.metadata_table.specs.Places.{PlaceView}
+use Rattle.metadata_table.specs.Table.{BarsSplit, HasTablet, IsTable, most_servers}
+use Rattle.row_atomic.specs.Changes.{Holds, IsBadCount, IsCut, IsMoveRefusal, IsNumberedRefusal, IsSplitRefusal, KeepsMap, Numbered, Remakes, IsMerged}
+use Rattle.row_atomic.specs.Clusters.{ClusterState, cells_in, spots_of}
+use Rattle.row_atomic.specs.Refusals.{IsReadRefusal}
+use Rattle.row_atomic.specs.Compactions as compaction
+use Rattle.tablet.specs.declared.tablet.Tablet.{Tablet}
+use Rattle.si_model.specs.Machine.{State, Request, Reply, Refused, Step, Refuses, Minor, MinorDone, Merge, MergeDone, Major, MajorDone, Split, SplitOff, Move, MoveDone, Sweep, Swept, Raw, RawFound, accepts, tells, minors, merges, majors, sweeps, finds_raw}
+use Rattle.si_model.specs.Refusing.{gives_up}
+use Rattle.si_model.specs.declared.replies.Cell.{Cell}
+use Rattle.txn_client.specs.Shows as clients
+use Rattle.server_loop.specs.Refusals.{IsSweepRefusal}
+use Rattle.server_loop.specs.Runs.{StepsAs}
+use Rattle.server_loop.specs.Server.{Shows, machine_place, machine_places}
+use Rattle.server_loop.specs.Upkeep.{Puts}
+use Rattle.server_loop.specs.declared.server.Server.{Server}
+use Rattle.server_loop.proofs.Placing.{has_tablet_so, has_tablet_back, length_so}
+use Rattle.server_loop.proofs.Refusing.{minor_unknown_first, minor_accepted, merge_unknown_first, merge_bad, merge_accepted, major_unknown_first, major_accepted, split_row_first, sweep_accepted, raw_row_first, raw_family_first, raw_accepted}
+use Rattle.server_loop.proofs.Relocating.{splits_so, split_next, split_barred, moves_step, stays_step, move_unknown, move_far, move_next}
+use Rattle.server_loop.proofs.Replacing.{placed, shows_placed}
+
+-- ---- whether there is a tablet
+
+has_later : (n : ℕ) (p : PlaceView) (ps : List PlaceView) → HasTablet n ps → HasTablet n (p ∷ ps)
+has_later n p ps (q, (k, less, at), is) = (q, (suc k, omega (arith, less), at), is)
+
+has_first : (n : ℕ) (p : PlaceView) (ps : List PlaceView) → ¬ (p.tablet ≡ n) → HasTablet n (p ∷ ps) → HasTablet n ps
+has_first n p ps other (q, (zero, less, at), is) = absurd (other (ap (λ (v : PlaceView). v.tablet) at ∙ is))
+has_first n p ps other (q, (suc k, less, at), is) = (q, (k, omega (arith, less), at), is)
+
+decides : (n : ℕ) (ps : List PlaceView) → HasTablet n ps ⊎ (¬ HasTablet n ps)
+decides n [] = inr (λ h. omega (arith, h.1.1))
+decides n (p ∷ ps) = elim (cases_eq p.tablet n) [
+  | inl is ↦ inl (p, (0, omega arith, refl), is)
+  | inr other ↦ elim (decides n ps) [
+    | inl later ↦ inl (has_later n p ps later)
+    | inr none ↦ inr (λ h. none (has_first n p ps other h))
+  ]
+]
+
+-- there is a tablet where there can't be none
+pub has_stable : (n : ℕ) (ps : List PlaceView) → ¬ (¬ HasTablet n ps) → HasTablet n ps
+has_stable n ps h = elim (decides n ps) [
+  | inl has ↦ has
+  | inr none ↦ absurd (h none)
+]
+
+-- ---- refusals, and what is done
+
+module _ (st : State) (ps : List PlaceView) (same : st.places ≡ machine_places ps) where
+  pub minor_refuses : (k : ℕ) (e : Refusal) → IsNumberedRefusal compaction.minor e → (e ≡ UnknownTablet → ¬ HasTablet k ps) → Refuses st (Minor k) e
+  minor_refuses k UnknownTablet u none = minor_unknown_first st k (λ has. none refl (has_tablet_back st ps same k has))
+  minor_refuses k TooManyFiles u none = gives_up tt
+  minor_refuses k FileTooLarge u none = gives_up tt
+  minor_refuses k Exhausted u none = gives_up tt
+  minor_refuses k Device u none = gives_up tt
+  minor_refuses k NoMemory u none = gives_up tt
+  minor_refuses k Damaged u none = gives_up tt
+  minor_refuses k _ u none = absurd u
+
+  pub minor_done : (k : ℕ) → HasTablet k ps → Step st (Minor k) MinorDone st
+  minor_done k has = accepts (minor_accepted st k (has_tablet_so st ps same k has)) (tells minors)
+
+  pub merge_refuses : (k n : ℕ) (e : Refusal) → IsNumberedRefusal (compaction.merging n) e → (e ≡ UnknownTablet → ¬ HasTablet k ps) → (e ≡ BadCount → HasTablet k ps) → Refuses st (Merge k n) e
+  merge_refuses k n UnknownTablet u none bad = merge_unknown_first st k n (λ has. none refl (has_tablet_back st ps same k has))
+  merge_refuses k n BadCount u none bad = merge_bad st k n (has_tablet_so st ps same k (bad refl))
+  merge_refuses k n FileTooLarge u none bad = gives_up tt
+  merge_refuses k n Exhausted u none bad = gives_up tt
+  merge_refuses k n Device u none bad = gives_up tt
+  merge_refuses k n NoMemory u none bad = gives_up tt
+  merge_refuses k n Damaged u none bad = gives_up tt
+  merge_refuses k n _ u none bad = absurd u
+
+  pub merge_done : (k n : ℕ) → HasTablet k ps → 2 ≤ n → Step st (Merge k n) MergeDone st
+  merge_done k n has two = accepts (merge_accepted st k n (has_tablet_so st ps same k has) two) (tells merges)
+
+  pub major_refuses : (k : ℕ) (e : Refusal) → IsNumberedRefusal compaction.major e → (e ≡ UnknownTablet → ¬ HasTablet k ps) → Refuses st (Major k) e
+  major_refuses k UnknownTablet u none = major_unknown_first st k (λ has. none refl (has_tablet_back st ps same k has))
+  major_refuses k FileTooLarge u none = gives_up tt
+  major_refuses k Exhausted u none = gives_up tt
+  major_refuses k Device u none = gives_up tt
+  major_refuses k NoMemory u none = gives_up tt
+  major_refuses k Damaged u none = gives_up tt
+  major_refuses k _ u none = absurd u
+
+  pub major_done : (k : ℕ) → HasTablet k ps → Step st (Major k) MajorDone st
+  major_done k has = accepts (major_accepted st k (has_tablet_so st ps same k has)) (tells majors)
+
+  pub split_refuses : (row : List ℕ) (e : Refusal) → IsRow row → IsSplitRefusal e → (e ≡ BadSplit → BarsSplit row ps) → Refuses st (Split row) e
+  split_refuses row BadSplit is u bars = split_barred st ps same row is (bars refl)
+  split_refuses row TooManyFiles is u bars = gives_up tt
+  split_refuses row FileTooLarge is u bars = gives_up tt
+  split_refuses row Exhausted is u bars = gives_up tt
+  split_refuses row Device is u bars = gives_up tt
+  split_refuses row NoMemory is u bars = gives_up tt
+  split_refuses row Damaged is u bars = gives_up tt
+  split_refuses row _ is u bars = absurd u
+
+  pub move_refuses : (k server : ℕ) (e : Refusal) → IsMoveRefusal e → (e ≡ UnknownTablet → ¬ HasTablet k ps) → (e ≡ UnknownServer → HasTablet k ps × (most_servers ≤ server)) → Refuses st (Move k server) e
+  move_refuses k server UnknownTablet u none far = move_unknown st ps same k server (none refl)
+  move_refuses k server UnknownServer u none far = move_far st ps same k server (far refl).0 (far refl).1
+  move_refuses k server TooManyFiles u none far = gives_up tt
+  move_refuses k server FileTooLarge u none far = gives_up tt
+  move_refuses k server Exhausted u none far = gives_up tt
+  move_refuses k server Device u none far = gives_up tt
+  move_refuses k server NoMemory u none far = gives_up tt
+  move_refuses k server Damaged u none far = gives_up tt
+  move_refuses k server _ u none far = absurd u
+
+pub sweep_refuses : (st : State) (e : Refusal) → IsSweepRefusal e → Refuses st Sweep e
+sweep_refuses st e which = elim which [
+  | inl is ↦ subst (λ (r : Refusal). Refuses st Sweep r) (sym is) (gives_up tt)
+  | inr is ↦ subst (λ (r : Refusal). Refuses st Sweep r) (sym is) (gives_up tt)
+]
+
+pub sweep_done : (st : State) (n : ℕ) → Step st Sweep (Swept n) st
+sweep_done st n = accepts (sweep_accepted st) (tells sweeps)
+
+pub raw_refuses : (st : State) (x : Cell) (q : Qualifier) (lo hi : ℕ) (e : Refusal) → IsReadRefusal e → Refuses st (Raw x q lo hi) e
+raw_refuses st x q lo hi Device u = gives_up tt
+raw_refuses st x q lo hi NoMemory u = gives_up tt
+raw_refuses st x q lo hi Damaged u = gives_up tt
+raw_refuses st x q lo hi _ u = absurd u
+
+pub raw_done : (st : State) (x : Cell) (q : Qualifier) (lo hi : ℕ) (found : Option (ℕ × List ℕ)) → IsRow x.row → IsFamily x.family → Step st (Raw x q lo hi) (RawFound found) st
+raw_done st x q lo hi found row family = accepts (raw_accepted st x q lo hi row family) (tells finds_raw)
+
+-- a count of which a merge was made is two or more
+pub two_merged : (k n : ℕ) (old new : List Tablet) (places : List PlaceView) → ¬ (HasTablet k places × Numbered (IsBadCount n) k old) → HasTablet k places → Remakes (IsMerged n) k old new → 2 ≤ n
+two_merged k n old new places good has made = elim (cases_lt n 2) [
+  | inl few ↦ absurd (good (has, record { tablet = made.was; numbered = made.was_numbered; such = λ within. omega (arith, few, within.0) }))
+  | inr two ↦ two
+]
+
+-- other files leave each tablet where it is
+pub same_spots : {F : Type 0} (old new : ClusterState F) (files : F) → new ≡ record old { files = files } → spots_of new ≡ spots_of old
+same_spots old new files e = ap (λ (cluster : ClusterState _). spots_of cluster) e
+
+-- ---- whole steps
+
+module _ {F M : Type 0} (contents : F → Option Contents) (old new : Server F M) (kept : KeepsMap contents old.cluster new.cluster) (same_clients : new.clients ≡ old.clients) (same_last : new.oracle.last ≡ old.oracle.last) where
+  -- where cells, sessions and stamps are as before, they show the same
+  shows_kept : (st : State) → Holds contents old.cluster → clients.Shows (cells_in (contents old.cluster.files) old.cluster.tablets) old.clients old.oracle.last st
+      → clients.Shows (cells_in (contents new.cluster.files) new.cluster.tablets) new.clients new.oracle.last st
+  shows_kept st held shows =
+      subst (λ (cells : Cells). clients.Shows cells new.clients new.oracle.last st) (sym (kept held).1)
+      (subst (λ (n : ℕ). clients.Shows (cells_in (contents old.cluster.files) old.cluster.tablets) new.clients n st) (sym same_last)
+      (rw same_clients shows))
+
+  -- and where no tablet has gone anywhere
+  pub still_shown : (st : State) → spots_of new.cluster ≡ spots_of old.cluster → Shows contents old st → Shows contents new st
+  still_shown st spots shown = record {
+    in_order = (kept shown.in_order).0;
+    shows = shows_kept st shown.in_order shown.shows;
+    places = ap (λ spots. map machine_place spots) spots ∙ shown.places;
+    next = shown.next;
+  }
+
+  -- what leaves the machine as it is
+  pub tells_as : (request : Request) (reply : Reply) → spots_of new.cluster ≡ spots_of old.cluster → ((st : State) → Shows contents old st → Step st request reply st)
+      → (Holds contents old.cluster → reply ≡ Refused Damaged → ⊥) → StepsAs (Shows contents) old new request reply
+  tells_as request reply spots step whole = λ before reached shown. (before, step before shown, still_shown before spots shown, whole shown.in_order)
+
+  -- a tablet is cut
+  pub splits_as : (row : List ℕ) (left : ℕ) → IsRow row → ¬ BarsSplit row old.cluster.places → left ≡ length old.cluster.places + 1 → IsCut row left old.cluster.places new.cluster.places
+      → StepsAs (Shows contents) old new (Split row) (SplitOff left)
+  splits_as row left is free count cut = λ before reached shown.
+      let same = sym shown.places in
+      let number : left ≡ before.next_tablet = count ∙ sym (shown.next ∙ ap (λ (n : ℕ). n + 1) (length_so before old.cluster.places same)) in
+      let after : Shows contents new (placed before (machine_places new.cluster.places) (left + 1)) = record {
+        in_order = (kept shown.in_order).0;
+        shows = shows_placed before (machine_places new.cluster.places) (left + 1) _ new.clients new.oracle.last (shows_kept before shown.in_order shown.shows);
+        places = refl;
+        next = split_next before old.cluster.places same row left cut.place.tablet cut.names new.cluster.places count cut.cut;
+      } in
+      (placed before (machine_places new.cluster.places) (left + 1), splits_so before old.cluster.places same row left cut.place.tablet cut.names new.cluster.places is free number cut.cut, after, λ e. cc)
+
+  -- a tablet is put on a server
+  pub moves_as : (n server : ℕ) → IsTable old.cluster.places → HasTablet n old.cluster.places → ¬ (most_servers ≤ server) → Puts n server old.cluster new.cluster
+      → StepsAs (Shows contents) old new (Move n server) MoveDone
+  moves_as n server table has near puts = λ before reached shown.
+      let same = sym shown.places in
+      let known : server < most_servers = omega (arith, near) in
+      elim puts [
+        | inl stays ↦ (
+          before,
+          stays_step before old.cluster.places same n server stays.1.0 table known stays.1.1 stays.1.2 stays.1.3,
+          still_shown before (ap (λ (cluster : ClusterState F). spots_of cluster) stays.0) shown,
+          λ e. cc,
+        )
+        | inr goes ↦ (
+          placed before (machine_places new.cluster.places) before.next_tablet,
+          moves_step before old.cluster.places same n server goes.names new.cluster.places table has known goes.moved,
+          record {
+            in_order = (kept shown.in_order).0;
+            shows = shows_placed before (machine_places new.cluster.places) before.next_tablet _ new.clients new.oracle.last (shows_kept before shown.in_order shown.shows);
+            places = refl;
+            next = move_next before old.cluster.places same n server goes.names new.cluster.places shown.next goes.moved;
+          },
+          λ e. cc,
+        )
+      ]
+
+-- no removal of files finds damage
+pub sweeps_whole : ¬ IsSweepRefusal Damaged
+sweeps_whole which = elim which [
+  | inl e ↦ cc
+  | inr e ↦ cc
+]
+
+-- what a name is refused for
+pub split_named : (st : State) (row : List ℕ) (e : Refusal) → (e ≡ BadRow) ⊎ (e ≡ NoMemory) → (e ≡ BadRow → ¬ IsRow row) → Refuses st (Split row) e
+split_named st row e which bad = elim which [
+  | inl is ↦ subst (λ (r : Refusal). Refuses st (Split row) r) (sym is) (split_row_first st row (bad is))
+  | inr is ↦ subst (λ (r : Refusal). Refuses st (Split row) r) (sym is) (gives_up tt)
+]
+
+pub raw_row_named : (st : State) (x : Cell) (q : Qualifier) (lo hi : ℕ) (e : Refusal) → (e ≡ BadRow) ⊎ (e ≡ NoMemory) → (e ≡ BadRow → ¬ IsRow x.row) → Refuses st (Raw x q lo hi) e
+raw_row_named st x q lo hi e which bad = elim which [
+  | inl is ↦ subst (λ (r : Refusal). Refuses st (Raw x q lo hi) r) (sym is) (raw_row_first st x q lo hi (bad is))
+  | inr is ↦ subst (λ (r : Refusal). Refuses st (Raw x q lo hi) r) (sym is) (gives_up tt)
+]
+
+pub raw_family_named : (st : State) (x : Cell) (q : Qualifier) (lo hi : ℕ) (e : Refusal) → IsRow x.row → (e ≡ BadColumn) ⊎ (e ≡ NoMemory) → (e ≡ BadColumn → ¬ IsFamily x.family) → Refuses st (Raw x q lo hi) e
+raw_family_named st x q lo hi e row which bad = elim which [
+  | inl is ↦ subst (λ (r : Refusal). Refuses st (Raw x q lo hi) r) (sym is) (raw_family_first st x q lo hi row (bad is))
+  | inr is ↦ subst (λ (r : Refusal). Refuses st (Raw x q lo hi) r) (sym is) (gives_up tt)
+]
+
+-- no name is damage
+pub row_whole : (e : Refusal) → (e ≡ BadRow) ⊎ (e ≡ NoMemory) → ¬ (e ≡ Damaged)
+row_whole e which same = elim which [
+  | inl is ↦ let both = sym is ∙ same in cc
+  | inr is ↦ let both = sym is ∙ same in cc
+]
+
+pub family_whole : (e : Refusal) → (e ≡ BadColumn) ⊎ (e ≡ NoMemory) → ¬ (e ≡ Damaged)
+family_whole e which same = elim which [
+  | inl is ↦ let both = sym is ∙ same in cc
+  | inr is ↦ let both = sym is ∙ same in cc
+]
+
+-- what is done is no damage
+pub minor_whole : ¬ (MinorDone ≡ Refused Damaged)
+minor_whole e = cc
+
+pub merge_whole : ¬ (MergeDone ≡ Refused Damaged)
+merge_whole e = cc
+
+pub major_whole : ¬ (MajorDone ≡ Refused Damaged)
+major_whole e = cc
+
+pub swept_whole : (n : ℕ) → ¬ (Swept n ≡ Refused Damaged)
+swept_whole n e = cc
+
+pub raw_whole : (found : Option (ℕ × List ℕ)) → ¬ (RawFound found ≡ Refused Damaged)
+raw_whole found e = cc
