@@ -1,10 +1,11 @@
 -- Lists of entries, what several of them mean together, and the cells that one stands for.
-use Rattle.std.specs.Prelude.{◌≡◌, ◌≤◌, ◌-◌, ◌^◌, ℕ, zero, suc, if◌then◌else◌, List, [], ◌∷◌, ◌++◌, length, flat_map, filter, codes, Option, Some, None, IfSome, T, nat_eq}
+use Rattle.std.specs.Prelude.{◌≡◌, ◌≢◌, ◌≤◌, ◌-◌, ◌^◌, ⊤, ℕ, zero, suc, if◌then◌else◌, List, [], ◌∷◌, ◌++◌, length, flat_map, filter, codes, Option, Some, None, IfSome, T, nat_eq}
 use Rattle.std.specs.Option.{option_copied}
 use Rattle.std.specs.Int.{w32, w64, to_be_bytes, from_be_bytes}
 use Rattle.std.specs.List.{AllByRecursion}
 use Rattle.std.specs.Cmp.Lexicographic.{pointwise}
 use Rattle.std.specs.Ordering.{is_le}
+use Rattle.std.specs.declared.cmp.Ordering.TheVariants.{Greater}
 use Rattle.std.specs.FinMap.{FinMap, empty, get, insert, remove, from_entries, entries}
 use Rattle.std.specs.FinMap.Entries.{find, is_sorted}
 use Rattle.cell_key.specs.Keys.{byte_cmp, text, IsStored}
@@ -40,6 +41,13 @@ pub record IsEntryList (es : List Entry) : Type 0 where
 -- the entries whose texts aren't below this one
 abbrev pub entries_from : List ℕ → List Entry → List Entry
 entries_from name es = filter (λ entry. is_le (byte_cmp name entry.0)) es
+
+-- the entries before the place have texts below this one, and that at the place hasn't
+abbrev pub IsPlace : List ℕ → List Entry → ℕ → Type 0
+IsPlace name [] zero = ⊤
+IsPlace name [] (suc i) = ⊥
+IsPlace name (e ∷ es) zero = byte_cmp name e.0 ≢ Greater
+IsPlace name (e ∷ es) (suc i) = (byte_cmp name e.0 ≡ Greater) × IsPlace name es i
 
 -- the entry that is lent was the first of the old list, and the new list has the others; or nothing was left
 abbrev pub Takes : Option Entry → List Entry → List Entry → Type 0

@@ -1,7 +1,6 @@
 -- The entries that slots stand for.
-use Rattle.std.specs.Prelude.{◌≡◌, ◌≢◌, ℕ, zero, suc, Bool, false, List, [], ◌∷◌, map, length, Option, Some, None, option_map}
+use Rattle.std.specs.Prelude.{◌≡◌, ℕ, zero, suc, Bool, false, List, [], ◌∷◌, map, length, Option, Some, None, option_map}
 use Rattle.std.specs.declared.boxed.Box.{Box}
-use Rattle.std.specs.declared.cmp.Ordering.TheVariants.{Greater}
 use Rattle.std.specs.Ordering.{is_eq}
 use Rattle.std.specs.FinMap.Entries.{put}
 use Rattle.cell_key.specs.Keys.{byte_cmp}
@@ -16,13 +15,6 @@ slot_entry slot = (slot.text.items, option_map (λ value. value.items) slot.valu
 
 abbrev pub slot_entries : {A : Type 0} → List (Box Slot A) → List Entry
 slot_entries slots = map (λ slot. slot_entry slot.value) slots
-
--- the entries before the place have texts below this one, and that at the place hasn't
-abbrev pub IsPlace : List ℕ → List Entry → ℕ → Type 0
-IsPlace name [] zero = Unit {0}
-IsPlace name [] (suc i) = ⊥
-IsPlace name (e ∷ es) zero = byte_cmp name e.0 ≢ Greater
-IsPlace name (e ∷ es) (suc i) = (byte_cmp name e.0 ≡ Greater) × IsPlace name es i
 
 -- whether the entry at the place has this text
 abbrev pub is_named : List ℕ → List Entry → ℕ → Bool

@@ -3,8 +3,8 @@
 ghost use Rattle.std.specs.Prelude.{◌≡◌, ◌+◌, ◌≤◌, ◌<◌, IfSome, option_map, length, vec_len, vec_capacity};
 ghost use Rattle.std.specs.FinMap.Entries.{put as put_entry};
 ghost use Rattle.cell_key.specs.Keys.{byte_cmp, text};
-ghost use Rattle.cell_key.specs.Entries.{IsRising, entry_of_key, lent_entry, entry_len};
-ghost use Rattle.memtable.specs.Slots.{slot_entry, slot_entries, IsPlace, is_named, over};
+ghost use Rattle.cell_key.specs.Entries.{IsPlace, IsRising, entry_of_key, lent_entry, entry_len};
+ghost use Rattle.memtable.specs.Slots.{slot_entry, slot_entries, is_named, over};
 
 use crate::order::text_cmp;
 use cell_key::{CellKey, EntryRef};

@@ -3,8 +3,8 @@
 ghost use Rattle.std.specs.Prelude.{◌≡◌, ◌≤◌, ◌<◌, ◌^◌, ◌↔◌, List, length, IsTrue, IfOk, IfErr, IfSome, IfNone, option_map};
 ghost use Rattle.std.specs.Ordering.{is_lt};
 ghost use Rattle.cell_key.specs.Keys.{byte_cmp};
-ghost use Rattle.cell_key.specs.Entries.{Entry, IsEntry, IsRising, lent_entry, entry_of_key};
-ghost use Rattle.sorted_file.specs.Kept.{file_entry, kept, IsPlace};
+ghost use Rattle.cell_key.specs.Entries.{Entry, IsEntry, IsPlace, IsRising, lent_entry, entry_of_key};
+ghost use Rattle.sorted_file.specs.Kept.{file_entry, kept};
 
 use cell_key::{CellKey, EntryRef, Refusal};
 use std::alloc::Global;

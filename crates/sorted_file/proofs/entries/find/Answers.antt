@@ -4,7 +4,7 @@ use Rattle.std.specs.Ordering.{is_eq}
 use Rattle.cell_key.specs.Keys.{byte_cmp}
 use Rattle.sorted_file.specs.declared.entries.FileEntry.{FileEntry}
 use Rattle.sorted_file.specs.Kept.{file_entry}
-use Rattle.sorted_file.proofs.Places.{equal, one_text, found_at, missed_at, missed_end}
+use Rattle.cell_key.proofs.Finding.{equal, one_text, found_at, missed_at, missed_end}
 use Rattle.sorted_file.proofs.entries.find.Goals as goal
 
 pub returns-in_err-entry-clause-found : goal.returns-in_err-entry-clause-found

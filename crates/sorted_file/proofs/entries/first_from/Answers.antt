@@ -1,7 +1,7 @@
 use Rattle.std.proofs.Common.{rules}
 use Rattle.std.proofs.lemmas.List.Sorted.{IsPartitionPoint-from_clause}
 use Rattle.sorted_file.specs.Kept.{file_entry}
-use Rattle.sorted_file.proofs.Places.{is_below, parted, at_point}
+use Rattle.cell_key.proofs.Finding.{is_below, parted, at_point}
 use Rattle.sorted_file.proofs.entries.first_from.Goals as goal
 
 pub returns-clause-place : goal.returns-clause-place

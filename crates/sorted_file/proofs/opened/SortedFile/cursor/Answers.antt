@@ -1,9 +1,9 @@
 use Rattle.std.proofs.Common.{refl, sym, subst, ap, ◌∙◌, List, drop, Option}
 use Rattle.std.specs.Prelude.{option_map}
 use Rattle.std.specs.Borrow.{Bor}
-use Rattle.cell_key.specs.Entries.{Entry, IsEntryList, IsRising}
+use Rattle.cell_key.specs.Entries.{Entry, IsEntryList, IsPlace, IsRising}
 use Rattle.sorted_file.specs.declared.entries.FileEntry.{FileEntry}
-use Rattle.sorted_file.specs.Kept.{file_entry, kept, IsPlace}
+use Rattle.sorted_file.specs.Kept.{file_entry, kept}
 use Rattle.sorted_file.specs.Sources.{pending}
 use Rattle.sorted_file.proofs.Places.{cursor_entries, cursor_list}
 use Rattle.sorted_file.proofs.opened.SortedFile.cursor.Goals as goal
