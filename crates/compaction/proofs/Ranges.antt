@@ -4,8 +4,7 @@ use Rattle.std.specs.Prelude.{Option, Some, None, filter}
 use Rattle.std.specs.Ordering.{is_le, eq_by_cmp}
 use Rattle.std.specs.FinMap.Entries.{same_entries}
 use Rattle.cell_key.specs.Keys.{byte_cmp}
-use Rattle.cell_key.specs.Entries.{Entry, entries_from, merged, entry_of_key, first_naming, or_else}
-use Rattle.cell_key.proofs.EntryLaws.{key_of_merged, merged_rising}
+use Rattle.cell_key.specs.Entries.{Entry, entries_from, merged, entry_of_key, first_naming, or_else, MergesLists}
 use Rattle.compaction.specs.FilterLaws.{rising-filter}
 use Rattle.compaction.specs.OrderLaws.{equal, same_key, total}
 use Rattle.compaction.specs.Ends.{is_below, entries_until, MergesRanges}
@@ -43,17 +42,17 @@ module _ (test : List ℕ → Bool) where
       ∙ ap (or_else (cond (test q) (entry_of_key es q) None)) (first_naming-parts lists q)
       ∙ or_else-cond (test q) (entry_of_key es q) (first_naming lists q)
 
-  pub merged-parts : (lists : List (List Entry)) → merged (map part lists) ≡ part (merged lists)
-  merged-parts lists =
-      same_entries byte_cmp total same_key (merged (map part lists)) (part (merged lists)) (merged_rising (map part lists)) (rising-filter (λ entry. test entry.0) (merged lists) (merged_rising lists))
-      (λ q. key_of_merged (map part lists) q ∙ first_naming-parts lists q ∙ ap (λ o. cond (test q) o None) (sym (key_of_merged lists q)) ∙ sym (find-part q (merged lists)))
+  pub merged-parts : MergesLists → (lists : List (List Entry)) → merged (map part lists) ≡ part (merged lists)
+  merged-parts merges lists =
+      same_entries byte_cmp total same_key (merged (map part lists)) (part (merged lists)) (merges (map part lists)).0 (rising-filter (λ entry. test entry.0) (merged lists) (merges lists).0)
+      (λ q. (merges (map part lists)).1 q ∙ first_naming-parts lists q ∙ ap (λ o. cond (test q) o None) (sym ((merges lists).1 q)) ∙ sym (find-part q (merged lists)))
 
 map_twice : (f g : List Entry → List Entry) (lists : List (List Entry)) → map (λ es. g (f es)) lists ≡ map g (map f lists)
 map_twice f g [] = refl
 map_twice f g (es ∷ lists) = ap (λ l. g (f es) ∷ l) (map_twice f g lists)
 
-pub merges_ranges : MergesRanges
-merges_ranges from end lists =
+pub merges_ranges : MergesLists → MergesRanges
+merges_ranges merges from end lists =
     ap merged (map_twice (entries_from from) (entries_until end) lists)
-    ∙ merged-parts (is_below end) (map (entries_from from) lists)
-    ∙ ap (entries_until end) (merged-parts (λ name. is_le (byte_cmp from name)) lists)
+    ∙ merged-parts (is_below end) merges (map (entries_from from) lists)
+    ∙ ap (entries_until end) (merged-parts (λ name. is_le (byte_cmp from name)) merges lists)

@@ -4,8 +4,7 @@ use Rattle.std.specs.Prelude.{Option, Some, None, is_some, ◌||◌}
 use Rattle.std.specs.Ordering.{eq_by_cmp}
 use Rattle.std.specs.FinMap.Entries.{below_all, same_entries}
 use Rattle.cell_key.specs.Keys.{byte_cmp}
-use Rattle.cell_key.specs.Entries.{Entry, IsRising, merged, entry_of_key, or_else, value_of}
-use Rattle.cell_key.proofs.EntryLaws.{key_of_merged, merged_rising}
+use Rattle.cell_key.specs.Entries.{Entry, IsRising, merged, entry_of_key, or_else, value_of, MergesLists}
 use Rattle.compaction.specs.FilterLaws.{filter-list, first, second}
 use Rattle.compaction.specs.OrderLaws.{equal, same_key, total, merged_list}
 use Rattle.compaction.specs.HeadLaws.{find_below}
@@ -22,10 +21,10 @@ or_none : (o : Option (Option (List ℕ))) → or_else o None ≡ o
 or_none None = refl
 or_none (Some x) = refl
 
-pub keeps_one_list : KeepsOneList
-keeps_one_list es h =
+pub keeps_one_list : MergesLists → KeepsOneList
+keeps_one_list merges es h =
     all_kept (merged (es ∷ []))
-    ∙ same_entries byte_cmp total same_key (merged (es ∷ [])) es (merged_rising (es ∷ [])) h.rising (λ q. key_of_merged (es ∷ []) q ∙ or_none (entry_of_key es q))
+    ∙ same_entries byte_cmp total same_key (merged (es ∷ [])) es (merges (es ∷ [])).0 h.rising (λ q. (merges (es ∷ [])).1 q ∙ or_none (entry_of_key es q))
 
 value_at : (name : List ℕ) (e : Entry) (es : List Entry) (b : Bool) → value_of (cond b (Some e.1) (entry_of_key es name)) ≡ cond b e.1 (value_of (entry_of_key es name))
 value_at name e es true = refl
@@ -51,8 +50,8 @@ pub value-kept : (keep : Bool) (name : List ℕ) (es : List Entry) → IsRising 
 value-kept keep name [] r = refl
 value-kept keep name (e ∷ es) r = kept_one keep name e es (first _ _ r) (value-kept keep name es (second _ _ r)) (is_kept keep e) refl
 
-pub names_first : NamesFirst
-names_first lists name = (
-  ap (λ es. entry_of_key es name) (all_kept (merged lists)) ∙ key_of_merged lists name,
-  λ keep. value-kept keep name (merged lists) (merged_rising lists) ∙ ap value_of (key_of_merged lists name),
+pub names_first : MergesLists → NamesFirst
+names_first merges lists name = (
+  ap (λ es. entry_of_key es name) (all_kept (merged lists)) ∙ (merges lists).1 name,
+  λ keep. value-kept keep name (merged lists) (merges lists).0 ∙ ap value_of ((merges lists).1 name),
 )

@@ -117,9 +117,7 @@ fn step_tied<F: Files, S: Source<F>>(
     ensures damaged { IsErrOf result Refusal.Damaged → IfSome (F.contents files.old) (λ m. ¬ AllByRecursion (S.holds m) sources.old) }
 {
     let (_before, rest) = sources.split_at_mut(at);
-    let Some((least, after)) = rest.split_first_mut() else {
-        return Ok(());
-    };
+    let (least, after) = rest.split_first_mut().unwrap();
     step_after(least, after, files)?;
     let _ = least.advance(files)?;
     Ok(())
