@@ -60,6 +60,15 @@ IsSpoken OracleRestart = Unit {0}
 IsSpoken (Raw cell qualifier low high) = Unit {0}
 IsSpoken other = ⊥
 
+-- the requests of a session
+abbrev pub IsOfSession : Request → Type 0
+IsOfSession Begin = Unit {0}
+IsOfSession (Get start cell) = Unit {0}
+IsOfSession (Set start cell value) = Unit {0}
+IsOfSession (Advance start) = Unit {0}
+IsOfSession (Stop start) = Unit {0}
+IsOfSession other = ⊥
+
 -- each number fits its field
 abbrev pub NumbersFit : Request → Type 0
 NumbersFit (Get start cell) = start < 2 ^ 64

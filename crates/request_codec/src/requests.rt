@@ -1,6 +1,6 @@
 //! The bodies of requests.
 ghost use Rattle.std.specs.Prelude.{◌≡◌, ◌+◌, ◌≤◌, ◌<◌, ◌++◌, ◌∷◌, length, vec_len, vec_capacity, IfSome, IfNone, IfErr, OnOk, OnErr, IsOk};
-ghost use Rattle.request_codec.specs.Requests.{asked, request_body, BytesFit, IsRequest, IsMalformed};
+ghost use Rattle.request_codec.specs.Requests.{asked, request_body, BytesFit, IsOfSession, IsRequest, IsMalformed};
 ghost use Rattle.request_codec.specs.Fields.{number, FitsField};
 ghost use Rattle.si_model.specs.Messages.{Get, Set, Split, Raw};
 
@@ -309,9 +309,10 @@ fn push_raw(
     push_u64(out, hi);
 }
 
-/// Appends the body of a request.
+/// Appends the body of a session's request.
 #[tactic(auto, using(crate::proofs::Fields::lengths))]
-fn push_request(request: &Request<'_>, out: &mut Vec<u8>)
+fn push_session(request: &Request<'_>, out: &mut Vec<u8>)
+    requires session { IsOfSession (asked request.now) }
     requires fits { BytesFit (asked request.now) }
     requires room { vec_len out.old + length (request_body (asked request.now)) ≤ vec_capacity out.old }
     ensures items { out.new.items ≡ out.old.items ++ request_body (asked request.now) }
@@ -328,6 +329,20 @@ fn push_request(request: &Request<'_>, out: &mut Vec<u8>)
         } => push_set(out, start, row, family, value),
         Request::Step { start } => push_stamp(out, STEP, start),
         Request::Stop { start } => push_stamp(out, STOP, start),
+        _ => unreachable!(),
+    }
+}
+
+/// Appends the body of a request that is no session's.
+#[tactic(auto, using(crate::proofs::Fields::lengths))]
+fn push_upkeep(request: &Request<'_>, out: &mut Vec<u8>)
+    requires upkeep { ¬ (IsOfSession (asked request.now)) }
+    requires fits { BytesFit (asked request.now) }
+    requires room { vec_len out.old + length (request_body (asked request.now)) ≤ vec_capacity out.old }
+    ensures items { out.new.items ≡ out.old.items ++ request_body (asked request.now) }
+    ensures capacity { vec_capacity out.old ≤ vec_capacity out.new }
+{
+    match *request {
         Request::Minor { tablet } => push_tablet(out, MINOR, tablet),
         Request::Merge { tablet, count } => {
             push_tablet(out, MERGE, tablet);
@@ -348,6 +363,24 @@ fn push_request(request: &Request<'_>, out: &mut Vec<u8>)
             lo,
             hi,
         } => push_raw(out, row, family, qualifier, lo, hi),
+        _ => unreachable!(),
+    }
+}
+
+/// Appends the body of a request.
+fn push_request(request: &Request<'_>, out: &mut Vec<u8>)
+    requires fits { BytesFit (asked request.now) }
+    requires room { vec_len out.old + length (request_body (asked request.now)) ≤ vec_capacity out.old }
+    ensures items { out.new.items ≡ out.old.items ++ request_body (asked request.now) }
+    ensures capacity { vec_capacity out.old ≤ vec_capacity out.new }
+{
+    match *request {
+        Request::Begin
+        | Request::Get { .. }
+        | Request::Set { .. }
+        | Request::Step { .. }
+        | Request::Stop { .. } => push_session(request, out),
+        _ => push_upkeep(request, out),
     }
 }
 
