@@ -1,30 +1,22 @@
 -- What each compaction writes, and that it keeps the cells.
-use Rattle.std.proofs.Common.{◌≡◌, ℕ, ◌≤◌, Bool, true, false, List, [], ◌∷◌, map, take, drop, length, refl, ap, ◌∙◌, arith}
+use Rattle.std.proofs.Common.{◌≡◌, ℕ, ◌≤◌, Bool, true, false, List, [], ◌∷◌, map, take, drop, length, refl, sym, ap, ◌∙◌, arith}
 use Rattle.std.proofs.lemmas.Bool.Decides.{nat_tests}
 use Rattle.std.proofs.lemmas.List.{drop_all, take-append-drop, take_all}
-use Rattle.std.specs.Prelude.{◌≢◌, Option, Some, None, nat_lt}
+use Rattle.std.specs.Prelude.{◌≢◌, nat_lt}
 use Rattle.std.specs.List.{AllByRecursion}
-use Rattle.cell_key.specs.Entries.{Entry, IsEntryList, cells_of, entry_of_key, first_naming, key_of_text, or_else, value_of}
-use Rattle.compaction.specs.FilterLaws.{filter-list}
+use Rattle.cell_key.specs.Entries.{Entry, IsEntryList, cells_of, entry_of_key, first_naming, value_of}
 use Rattle.compaction.specs.Writing.{KeepsOneList, NamesFirst, written}
-use Rattle.tablet.specs.Ranges.{has_row, seen}
+use Rattle.tablet.specs.Ranges.{seen}
 use Rattle.tablet.specs.Views.{flushed}
 use Rattle.tablet.specs.declared.ranges.RowRange.{RowRange}
-use Rattle.tablet.proofs.Seen.{merged_same, shown}
-use Rattle.tablet.proofs.Showing.{stands_for, stands_for_all}
+use Rattle.tablet.proofs.Seen.{merged_same, seen_list, shown}
+use Rattle.tablet.proofs.Showing.{or_last, stands_for, stands_for_all}
 
 -- an empty list shows nothing
 pub empty_first : (range : RowRange) (lists : List (List Entry)) → shown range ([] ∷ lists) ≡ shown range lists
 empty_first range lists = merged_same (map (seen range) ([] ∷ lists)) (map (seen range) lists) (λ name. refl)
 
-or_last : (x : Option (Option (List ℕ))) → x ≡ or_else x None
-or_last None = refl
-or_last (Some v) = refl
-
 -- ---- minor
-
-pub seen_list : (range : RowRange) (es : List Entry) → IsEntryList es → IsEntryList (seen range es)
-seen_list range es h = filter-list (λ entry. has_row range (key_of_text entry.0).row) es h
 
 pub minor_writes : KeepsOneList → (range : RowRange) (memory : List Entry) → IsEntryList memory → written true (seen range memory ∷ []) ≡ seen range memory
 minor_writes law range memory h = law (seen range memory) (seen_list range memory h)
@@ -39,7 +31,7 @@ minor_form law range memory lists n h = (λ i. [] ∷ minor_writes law range mem
 pub minor_cells : KeepsOneList → (range : RowRange) (memory : List Entry) (lists : List (List Entry)) → IsEntryList memory → cells_of (shown range ([] ∷ written true (seen range memory ∷ []) ∷ lists)) ≡ cells_of (shown range (memory ∷ lists))
 minor_cells law range memory lists h =
     (λ i. cells_of (shown range ([] ∷ minor_writes law range memory h i ∷ lists)))
-    ∙ ap cells_of (stands_for range [] (seen range memory) (memory ∷ []) lists (λ name. or_last (entry_of_key (seen range memory) name)) ∙ empty_first range (memory ∷ lists))
+    ∙ ap cells_of (stands_for range [] (seen range memory) (memory ∷ []) lists (λ name. sym (or_last (entry_of_key (seen range memory) name))) ∙ empty_first range (memory ∷ lists))
 
 -- ---- merge
 

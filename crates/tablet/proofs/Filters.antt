@@ -1,11 +1,11 @@
 -- What filtered lists of entries have at a text.
-use Rattle.std.proofs.Common.{◌≡◌, ℕ, Bool, true, false, cond, List, [], ◌∷◌, ◌&&◌, map, Option, Some, None, refl, sym, ap, ◌∙◌}
+use Rattle.std.proofs.Common.{◌≡◌, ℕ, Bool, true, false, cond, List, [], ◌∷◌, ◌&&◌, map, Option, None, refl, sym, ap, ◌∙◌}
 use Rattle.std.specs.Prelude.{filter}
 use Rattle.std.specs.List.{AllByRecursion}
 use Rattle.std.specs.Ordering.{is_le, eq_by_cmp}
-use Rattle.std.specs.FinMap.Entries.{find}
+use Rattle.std.specs.FinMap.Entries.{find-where_key}
 use Rattle.cell_key.specs.Keys.{byte_cmp}
-use Rattle.cell_key.specs.Entries.{Entry, entry_of_key, first_naming, or_else}
+use Rattle.cell_key.specs.Entries.{Entry, IsEntryList, entry_of_key, first_naming, or_else}
 use Rattle.compaction.specs.Ends.{is_below}
 use Rattle.compaction.specs.OrderLaws.{equal, same_key}
 use Rattle.tablet.specs.Sources.{entries_between}
@@ -28,20 +28,8 @@ or_cond false x y = refl
 pub one_text : (x y : List ℕ) → eq_by_cmp byte_cmp x y ≡ true → x ≡ y
 one_text x y e = same_key x y (equal (byte_cmp x y) e)
 
-module _ (test : List ℕ → Bool) where
-  pub find-filter : (es : List Entry) (name : List ℕ) → entry_of_key (filter (λ e. test e.0) es) name ≡ cond (test name) (entry_of_key es name) None
-  find-filter [] name = sym (cond_same (test name) None)
-  find-filter (e ∷ es) name = step (find-filter es name) (test e.0) (eq_by_cmp byte_cmp name e.0) refl refl
-    where
-      step : entry_of_key (filter (λ e. test e.0) es) name ≡ cond (test name) (entry_of_key es name) None → (t b : Bool) → test e.0 ≡ t → eq_by_cmp byte_cmp name e.0 ≡ b → find byte_cmp name (cond t (e ∷ filter (λ e. test e.0) es) (filter (λ e. test e.0) es)) ≡ cond (test name) (cond b (Some e.1) (find byte_cmp name es)) None
-      step more true true p q =
-          ap (λ (b : Bool). cond b (Some e.1) (find byte_cmp name (filter (λ e. test e.0) es))) q
-          ∙ ap (λ (b : Bool). cond b (Some e.1) None) (sym (ap test (one_text name e.0 q) ∙ p))
-      step more true false p q = ap (λ (b : Bool). cond b (Some e.1) (find byte_cmp name (filter (λ e. test e.0) es))) q ∙ more
-      step more false true p q =
-          let not : test name ≡ false = ap test (one_text name e.0 q) ∙ p in
-          more ∙ ap (λ (b : Bool). cond b (entry_of_key es name) None) not ∙ ap (λ (b : Bool). cond b (Some e.1) None) (sym not)
-      step more false false p q = more
+pub find-filter : (test : List ℕ → Bool) (es : List Entry) (name : List ℕ) → entry_of_key (filter (λ e. test e.0) es) name ≡ cond (test name) (entry_of_key es name) None
+find-filter test es name = find-where_key byte_cmp test name (λ x e. ap test (sym (same_key name x e))) es
 
 pub first-map : (f : List Entry → List Entry) (b : Bool) (name : List ℕ) → ((es : List Entry) → entry_of_key (f es) name ≡ cond b (entry_of_key es name) None) → (lists : List (List Entry)) → first_naming (map f lists) name ≡ cond b (first_naming lists name) None
 first-map f b name h [] = sym (cond_same b None)
@@ -49,6 +37,11 @@ first-map f b name h (es ∷ lists) =
     ap (λ (o : Option (Option (List ℕ))). or_else o (first_naming (map f lists) name)) (h es)
     ∙ ap (or_else (cond b (entry_of_key es name) None)) (first-map f b name h lists)
     ∙ or_cond b (entry_of_key es name) (first_naming lists name)
+
+-- lists stay entry lists where a part of each is taken
+pub each_map : (f : List Entry → List Entry) → ((es : List Entry) → IsEntryList es → IsEntryList (f es)) → (lists : List (List Entry)) → AllByRecursion IsEntryList lists → AllByRecursion IsEntryList (map f lists)
+each_map f keeps [] each = tt
+each_map f keeps (es ∷ lists) each = (keeps es each.0, each_map f keeps lists each.1)
 
 -- whether a text is one from the first on, and below the second if there is one
 abbrev pub is_between : List ℕ → Option (List ℕ) → List ℕ → Bool

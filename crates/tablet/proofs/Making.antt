@@ -1,5 +1,5 @@
 -- Tablets after the calls that change them.
-use Rattle.std.proofs.Common.{◌≡◌, ℕ, zero, suc, ◌+◌, ◌<◌, List, [], ◌∷◌, map, drop, get_or, refl, sym, subst, ◌∙◌, arith}
+use Rattle.std.proofs.Common.{◌≡◌, ℕ, zero, suc, ◌+◌, ◌<◌, ◌≤◌, List, [], ◌∷◌, map, drop, get_or, sym, subst, ◌∙◌, arith}
 use Rattle.std.proofs.lemmas.List.{drop-map}
 use Rattle.std.specs.Prelude.{◌≢◌, Option, Some, None, Result, Ok, Err, OnOk, IfSome, IsSomeAnd, IsTrue, length}
 use Rattle.std.proofs.Common.{inl, inr}
@@ -17,16 +17,10 @@ use Rattle.tablet.specs.Ranges.{has_row}
 use Rattle.tablet.specs.Compactions.{IsNewFile}
 use Rattle.tablet.specs.Views.{range_of, memory_of, files_of, names_of, lists_of, cells_at, Holds, IsBelow, IsUnchanged, UsesName, Keeps, MakesLists}
 use Rattle.tablet.specs.declared.tablet.Tablet.{Tablet}
+use Rattle.tablet.proofs.Held.{held_lists}
 use Rattle.tablet.proofs.Seen.{shown}
 use Rattle.tablet.proofs.Showing.{edits_list, edits_shown}
-
--- the lists of files that are open are entry lists
-pub open_lists : (m : Contents) (files : List SortedFile) → AllByRecursion (IsOpen m) files → AllByRecursion IsEntryList (map (listed m) files)
-open_lists m [] h = tt
-open_lists m (file ∷ files) h = (h.0.list, open_lists m files h.1)
-
-pub held_lists : (m : Contents) (t : Tablet) → Holds m t → AllByRecursion IsEntryList (lists_of m t)
-held_lists m t h = (h.memory, open_lists m (files_of t) h.files)
+use Rattle.tablet.proofs.TabletLaws.{each_same, files_over, still_below}
 
 -- ---- edits
 
@@ -50,15 +44,11 @@ OthersStay next m n = (other : ℕ) → other ≢ next → get n other ≡ get m
 apart : (a b : ℕ) → a < b → a ≢ b
 apart a b l e = omega arith
 
-one_higher : (a b : ℕ) → a < b → a < b + 1
-one_higher a b l = omega arith
-
-pub still_below : (next : ℕ) (names : List ℕ) → AllByRecursion (λ name. name < next) names → AllByRecursion (λ name. name < next + 1) names
-still_below next [] h = tt
-still_below next (name ∷ names) h = (one_higher name next h.0, still_below next names h.1)
-
 new_below : (next : ℕ) → next < next + 1
 new_below next = omega arith
+
+one_more : (next : ℕ) → next ≤ next + 1
+one_more next = omega arith
 
 pub all_drop : {A : Type 0} (P : A → Type 0) (count : ℕ) (xs : List A) → AllByRecursion P xs → AllByRecursion P (drop count xs)
 all_drop P zero xs h = h
@@ -67,11 +57,8 @@ all_drop P (suc count) (x ∷ xs) h = all_drop P count xs h.1
 
 -- files of names that were used stay open under a write of another name, and stand for what they did
 pub files_stay : StaysOpen → (next : ℕ) (m n : Contents) → OthersStay next m n → (files : List SortedFile) → AllByRecursion (IsOpen m) files → AllByRecursion (λ name. name < next) (map name_of files) → AllByRecursion (IsOpen n) files × (map (listed n) files ≡ map (listed m) files)
-files_stay stays next m n others [] opened below = (tt, refl)
-files_stay stays next m n others (file ∷ files) opened below =
-    let one = stays m n file opened.0 (others (name_of file) (apart (name_of file) next below.0)) in
-    let rest = files_stay stays next m n others files opened.1 below.1 in
-    ((one.0, rest.0), λ i. one.1 i ∷ rest.1 i)
+files_stay stays next m n others files opened below =
+    files_over stays m n files opened (each_same m n next (map name_of files) (λ name l. others name (apart name next l)) below)
 
 -- ---- compactions
 
@@ -98,7 +85,7 @@ made stays m n next after t u file count memory es is used others new list h bel
         memory = subst IsEntryList (sym is.memory) list;
         files = subst (AllByRecursion (IsOpen n)) (sym is.files) (new.opened, stay.0);
       };
-      below = subst (λ (a : ℕ). AllByRecursion (λ name. name < a) (names_of u)) (sym used) (subst (λ (fs : List SortedFile). AllByRecursion (λ name. name < next + 1) (map name_of fs)) (sym is.files) (subst (λ (a : ℕ). a < next + 1) (sym is.named) (new_below next), still_below next (map name_of old) names));
+      below = subst (λ (a : ℕ). AllByRecursion (λ name. name < a) (names_of u)) (sym used) (subst (λ (fs : List SortedFile). AllByRecursion (λ name. name < next + 1) (map name_of fs)) (sym is.files) (subst (λ (a : ℕ). a < next + 1) (sym is.named) (new_below next), still_below next (next + 1) (map name_of old) (one_more next) names));
       lists = (λ i. is.memory i ∷ map (listed n) (is.files i)) ∙ (λ i. memory ∷ new.lists i ∷ (stay.1 ∙ sym (drop-map (listed m) count (files_of t))) i);
     }
 
@@ -136,7 +123,7 @@ same_keeps : StaysOpen → (m n : Contents) (next after : ℕ) (t u : Tablet) �
 same_keeps stays m n next after t u same others used h below =
     let stay = files_stay stays next m n others (files_of t) h.files below in (
       record { memory = subst IsEntryList (sym same.memory) h.memory; files = subst (AllByRecursion (IsOpen n)) (sym same.files) stay.0 },
-      subst (λ (a : ℕ). AllByRecursion (λ name. name < a) (names_of u)) (sym used) (subst (λ (fs : List SortedFile). AllByRecursion (λ name. name < next + 1) (map name_of fs)) (sym same.files) (still_below next (names_of t) below)),
+      subst (λ (a : ℕ). AllByRecursion (λ name. name < a) (names_of u)) (sym used) (subst (λ (fs : List SortedFile). AllByRecursion (λ name. name < next + 1) (map name_of fs)) (sym same.files) (still_below next (next + 1) (names_of t) (one_more next) below)),
       (λ i. cells_of (shown (same.range i) (same.memory i ∷ map (listed n) (same.files i))))
           ∙ (λ i. cells_of (shown (range_of t) (memory_of t ∷ stay.1 i))),
     )

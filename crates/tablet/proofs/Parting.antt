@@ -1,5 +1,5 @@
 -- The two parts of a tablet that is split.
-use Rattle.std.proofs.Common.{◌≡◌, ℕ, ◌<◌, Bool, true, false, cond, ◌&&◌, List, [], ◌∷◌, map, refl, sym, ap, subst, ◌∙◌, inl, inr}
+use Rattle.std.proofs.Common.{◌≡◌, ℕ, ◌<◌, Bool, true, false, cond, ◌&&◌, List, ◌∷◌, map, refl, sym, ap, subst, ◌∙◌, inl, inr}
 use Rattle.std.specs.Prelude.{◌⊎◌, Option, Some, None, IfSome, IsSomeAnd, IsTrue}
 use Rattle.std.specs.List.{AllByRecursion}
 use Rattle.std.specs.Ordering.{is_le, is_lt}
@@ -16,9 +16,10 @@ use Rattle.tablet.specs.Ranges.{has_row, is_after, is_up_to}
 use Rattle.tablet.specs.Views.{AreParts, Holds, IsBelow, IsPart, Keeps, cells_at, files_of, lists_of, memory_of, names_of, range_of}
 use Rattle.tablet.specs.declared.ranges.RowRange.{RowRange}
 use Rattle.tablet.specs.declared.tablet.Tablet.{Tablet}
-use Rattle.tablet.proofs.Making.{held_lists}
+use Rattle.tablet.proofs.Held.{held_lists}
 use Rattle.tablet.proofs.Seen.{shown}
 use Rattle.tablet.proofs.Showing.{part_of}
+use Rattle.tablet.proofs.TabletLaws.{files_there, one_names}
 
 -- ---- rows
 
@@ -67,21 +68,6 @@ right_inside range row e x f =
     let part = both_true (is_after (Some row) x) (is_up_to range.end x) f in
     and_true (is_after range.after x) (is_up_to range.end x) (after_more range.after row x whole.0 part.0) part.1
 
--- ---- files
-
-same_names : OneListing → (n : Contents) (fs gs : List SortedFile) → AllByRecursion (IsOpen n) fs → AllByRecursion (IsOpen n) gs → map name_of fs ≡ map name_of gs → map (listed n) fs ≡ map (listed n) gs
-same_names law n [] [] a b e = refl
-same_names law n [] (g ∷ gs) a b e = cc
-same_names law n (f ∷ fs) [] a b e = cc
-same_names law n (f ∷ fs) (g ∷ gs) a b e =
-    let first : name_of f ≡ name_of g = cc in
-    let rest : map name_of fs ≡ map name_of gs = cc in
-    λ i. law n f g a.0 b.0 first i ∷ same_names law n fs gs a.1 b.1 rest i
-
-files_there : OpenIsThere → (n : Contents) (fs : List SortedFile) → AllByRecursion (IsOpen n) fs → AllByRecursion (HasFile n) (map name_of fs)
-files_there law n [] h = tt
-files_there law n (f ∷ fs) h = (law n f h.0, files_there law n fs h.1)
-
 -- ---- the parts
 
 -- a tablet of the same lists as one that has the cells of a whole, with a range inside that of the whole
@@ -103,7 +89,7 @@ pub record IsSplit (whole middle left right : Tablet) (row : List ℕ) : Type 0 
 
 parts_of : OneListing → (m n : Contents) (after : ℕ) (whole middle left right : Tablet) (row : List ℕ) → IsSplit whole middle left right row → has_row (range_of whole) row ≡ true → Holds n left → Holds n middle → IsBelow after middle → cells_at n middle ≡ cells_at m whole → AreParts m whole n after left right
 parts_of law m n after whole middle left right row is inside left_holds h below cells =
-    let files = same_names law n (files_of left) (files_of middle) left_holds.files h.files is.left_names in
+    let files = one_names law n (files_of left) (files_of middle) left_holds.files h.files is.left_names in
     let holds : Holds n right = record { memory = subst IsEntryList (sym is.right_memory) h.memory; files = subst (AllByRecursion (IsOpen n)) (sym is.right_files) h.files } in
     record {
       left_holds = left_holds;

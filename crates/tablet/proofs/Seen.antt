@@ -6,7 +6,7 @@ use Rattle.std.specs.List.{AllByRecursion}
 use Rattle.std.specs.Ordering.{is_eq}
 use Rattle.std.specs.declared.cmp.Ordering.TheVariants.{Less, Equal, Greater}
 use Rattle.std.specs.FinMap.{get, same_map}
-use Rattle.std.specs.FinMap.Entries.{find-where_key, same_entries}
+use Rattle.std.specs.FinMap.Entries.{same_entries}
 use Rattle.cell_key.specs.Keys.{byte_cmp, key_cmp_total, exact_keys, text, IsStored}
 use Rattle.cell_key.specs.Entries.{Entry, IsEntry, IsEntryList, cells_of, entry_of_key, first_naming, key_of_text, merged, or_else, value_of}
 use Rattle.cell_key.specs.declared.keys.CellKey.{CellKey}
@@ -15,6 +15,7 @@ use Rattle.compaction.specs.FilterLaws.{filter-list}
 use Rattle.compaction.specs.OrderLaws.{merged_list, same_key, ties_itself, total}
 use Rattle.tablet.specs.Ranges.{has_row, seen}
 use Rattle.tablet.specs.declared.ranges.RowRange.{RowRange}
+use Rattle.tablet.proofs.Filters.{each_map, find-filter, first-map}
 
 -- whether a range has the row of a text
 abbrev pub is_seen : RowRange → List ℕ → Bool
@@ -24,23 +25,8 @@ is_seen range name = has_row range (key_of_text name).row
 abbrev pub shown : RowRange → List (List Entry) → List Entry
 shown range lists = merged (map (seen range) lists)
 
-pub find-seen : (range : RowRange) (es : List Entry) (name : List ℕ) → entry_of_key (seen range es) name ≡ cond (is_seen range name) (entry_of_key es name) None
-find-seen range es name = find-where_key byte_cmp (is_seen range) name (λ x e. ap (is_seen range) (sym (same_key name x e))) es
-
-both_seen : (b : Bool) (x y : Option (Option (List ℕ))) → or_else (cond b x None) (cond b y None) ≡ cond b (or_else x y) None
-both_seen true x y = refl
-both_seen false x y = refl
-
-none_seen : (b : Bool) → ◌≡◌ {A = Option (Option (List ℕ))} None (cond b None None)
-none_seen true = refl
-none_seen false = refl
-
 pub first-seen : (range : RowRange) (lists : List (List Entry)) (name : List ℕ) → first_naming (map (seen range) lists) name ≡ cond (is_seen range name) (first_naming lists name) None
-first-seen range [] name = none_seen (is_seen range name)
-first-seen range (es ∷ lists) name =
-    ap (λ o. or_else o (first_naming (map (seen range) lists) name)) (find-seen range es name)
-    ∙ ap (or_else (cond (is_seen range name) (entry_of_key es name) None)) (first-seen range lists name)
-    ∙ both_seen (is_seen range name) (entry_of_key es name) (first_naming lists name)
+first-seen range lists name = first-map (seen range) (is_seen range name) name (λ es. find-filter (is_seen range) es name) lists
 
 or_assoc : (x y z : Option (Option (List ℕ))) → or_else (or_else x y) z ≡ or_else x (or_else y z)
 or_assoc None y z = refl
@@ -77,13 +63,12 @@ stable (Some a) (Some b) h =
 pub by_limits : (q : CellKey) (x y : Option (List ℕ)) → (IsStored q → x ≡ y) → (¬ (IsStored q) → x ≡ y) → x ≡ y
 by_limits q x y inside outside = stable x y (λ no. no (outside (λ s. no (inside s))))
 
-pub each_seen : (range : RowRange) (lists : List (List Entry)) → AllByRecursion IsEntryList lists → AllByRecursion IsEntryList (map (seen range) lists)
-each_seen range [] h = tt
-each_seen range (es ∷ lists) h = (filter-list (λ entry. has_row range (key_of_text entry.0).row) es h.0, each_seen range lists h.1)
+pub seen_list : (range : RowRange) (es : List Entry) → IsEntryList es → IsEntryList (seen range es)
+seen_list range es h = filter-list (λ entry. has_row range (key_of_text entry.0).row) es h
 
 -- what is shown of entry lists is one
 pub shown_list : (range : RowRange) (lists : List (List Entry)) → AllByRecursion IsEntryList lists → IsEntryList (shown range lists)
-shown_list range lists h = merged_list (map (seen range) lists) (each_seen range lists h)
+shown_list range lists h = merged_list (map (seen range) lists) (each_map (seen range) (seen_list range) lists h)
 
 -- the cell of a key within the limits, and of another one
 pub get-shown : (range : RowRange) (lists : List (List Entry)) → AllByRecursion IsEntryList lists → (q : CellKey) → IsStored q → get (cells_of (shown range lists)) q ≡ value_of (cond (has_row range q.row) (first_naming lists (text q)) None)

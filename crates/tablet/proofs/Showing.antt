@@ -18,13 +18,10 @@ use Rattle.memtable.specs.Edits.{HasStoredKey, edit_entry, with_edit, with_edits
 use Rattle.compaction.specs.OrderLaws.{equal, same_key, total}
 use Rattle.tablet.specs.Ranges.{has_row, seen}
 use Rattle.tablet.specs.declared.ranges.RowRange.{RowRange}
+use Rattle.tablet.proofs.Filters.{cond_same}
 use Rattle.tablet.proofs.Seen.{by_limits, first-append, first-seen, get-shown, is_seen, merged_same, no_shown, shown, shown_same}
 
 -- ---- compactions
-
-twice : (b : Bool) (x : Option (Option (List ℕ))) → cond b (cond b x None) None ≡ cond b x None
-twice true x = refl
-twice false x = refl
 
 keep_inside : (b : Bool) (memory x y : Option (Option (List ℕ))) → cond b (or_else memory (or_else (cond b x None) y)) None ≡ cond b (or_else memory (or_else x y)) None
 keep_inside true memory x y = refl
@@ -40,7 +37,7 @@ stands_for range memory one xs ys h =
     ∙ ap (λ o. cond (is_seen range name) (or_else (entry_of_key memory name) o) None) (sym (first-append xs ys name))
     ∙ sym (first-seen range (memory ∷ (xs ++ ys)) name))
 
-or_last : (x : Option (Option (List ℕ))) → or_else x None ≡ x
+pub or_last : (x : Option (Option (List ℕ))) → or_else x None ≡ x
 or_last None = refl
 or_last (Some v) = refl
 
@@ -62,17 +59,13 @@ part_inside true false x h = refl
 part_inside false true x h = absurd (let e : false ≡ true = h refl in cc)
 part_inside false false x h = refl
 
-none_of : (b : Bool) → ◌≡◌ {A = Option (List ℕ)} None (cond b None None)
-none_of true = refl
-none_of false = refl
-
 pub part_of : (whole part : RowRange) (lists : List (List Entry)) → AllByRecursion IsEntryList lists → ((row : List ℕ) → has_row part row ≡ true → has_row whole row ≡ true) → (key : CellKey) → get (cells_of (shown part lists)) key ≡ cond (has_row part key.row) (get (cells_of (shown whole lists)) key) None
 part_of whole part lists h inside key =
     by_limits key (get (cells_of (shown part lists)) key) (cond (has_row part key.row) (get (cells_of (shown whole lists)) key) None)
     (λ s. get-shown part lists h key s
     ∙ part_inside (has_row whole key.row) (has_row part key.row) (first_naming lists (text key)) (inside key.row)
     ∙ ap (λ o. cond (has_row part key.row) o None) (sym (get-shown whole lists h key s)))
-    (λ n. no_shown part lists h key n ∙ none_of (has_row part key.row) ∙ ap (λ o. cond (has_row part key.row) o None) (sym (no_shown whole lists h key n)))
+    (λ n. no_shown part lists h key n ∙ sym (cond_same (has_row part key.row) None) ∙ ap (λ o. cond (has_row part key.row) o None) (sym (no_shown whole lists h key n)))
 
 -- ---- edits
 

@@ -7,14 +7,15 @@ use Rattle.std.specs.FinMap.{get, get-empty, get-insert, get-remove}
 use Rattle.cell_key.specs.Keys.{byte_cmp, key_cmp, key_cmp_total, text, exact_keys, IsStored}
 use Rattle.cell_key.specs.Entries.{Entry, IsEntry, IsEntryList, entries_from, merged, first_naming, entry_of_key, value_of, key_of_text, cells_of}
 use Rattle.cell_key.specs.declared.keys.CellKey.{CellKey}
-use Rattle.cell_key.proofs.EntryLaws.{get-cells_of, key_of_merged, key_of_text-text}
+use Rattle.cell_key.proofs.EntryLaws.{key_of_merged, key_of_text-text}
 use Rattle.compaction.specs.Ends.{is_below}
 use Rattle.compaction.specs.FilterLaws.{filter-list}
 use Rattle.compaction.specs.OrderLaws.{equal, merged_list}
 use Rattle.tablet.specs.Ranges.{has_row, seen}
 use Rattle.tablet.specs.Sources.{entries_between, part}
 use Rattle.tablet.specs.declared.ranges.RowRange.{RowRange}
-use Rattle.tablet.proofs.Filters.{find-filter, find-between, first-map, is_between, cond_same}
+use Rattle.tablet.proofs.Filters.{cond_same, each_map, find-between, first-map, is_between}
+use Rattle.tablet.proofs.Seen.{get-shown, shown_list}
 
 -- a key is within the limits, or a list has no cell of it
 pub stored_or_none : (es : List Entry) → AllByRecursion IsEntry es → (q : CellKey) → IsStored q ⊎ (get (cells_of es) q ≡ None)
@@ -38,11 +39,6 @@ value-cond : (b : Bool) (o : Option (Option (List ℕ))) → value_of (cond b o 
 value-cond true o = refl
 value-cond false o = refl
 
--- lists stay entry lists where a part of each is taken
-pub each_map : (f : List Entry → List Entry) → ((es : List Entry) → IsEntryList es → IsEntryList (f es)) → (lists : List (List Entry)) → AllByRecursion IsEntryList lists → AllByRecursion IsEntryList (map f lists)
-each_map f keeps [] each = tt
-each_map f keeps (es ∷ lists) each = (keeps es each.0, each_map f keeps lists each.1)
-
 -- the value of the first list that names a key
 abbrev pub first_at : List (List Entry) → CellKey → Option (List ℕ)
 first_at lists key = value_of (first_naming lists (text key))
@@ -53,15 +49,11 @@ module _ (range : RowRange) (lists : List (List Entry)) where
 
   module _ (each : AllByRecursion IsEntryList lists) where
     pub view_list : IsEntryList view
-    view_list = merged_list (map (seen range) lists) (each_map (seen range) (λ es h. filter-list (λ e. has_row range (key_of_text e.0).row) es h) lists each)
+    view_list = shown_list range lists each
 
     -- a key of the range has the value of the first list that names it
     pub shown : (key : CellKey) → IsStored key → get (cells_of view) key ≡ cond (has_row range key.row) (first_at lists key) None
-    shown key s =
-        get-cells_of view view_list.each key s
-        ∙ ap value_of (key_of_merged (map (seen range) lists) (text key) ∙ first-map (seen range) (has_row range (key_of_text (text key)).row) (text key) (λ es. find-filter (λ n. has_row range (key_of_text n).row) es (text key)) lists)
-        ∙ value-cond (has_row range (key_of_text (text key)).row) (first_naming lists (text key))
-        ∙ ap (λ (k : CellKey). cond (has_row range k.row) (first_at lists key) None) (key_of_text-text key s)
+    shown key s = get-shown range lists each key s ∙ value-cond (has_row range key.row) (first_naming lists (text key))
 
     pub stored_or_hidden : (key : CellKey) → IsStored key ⊎ (get (cells_of view) key ≡ None)
     stored_or_hidden key = stored_or_none view view_list.each key

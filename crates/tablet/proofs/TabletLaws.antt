@@ -25,7 +25,7 @@ stays_in_range m t h = (view_list (range_of t) (lists_of m t) (held_lists m t h)
         go (inl s) = shown (range_of t) (lists_of m t) (held_lists m t h) key s ∙ ap (λ (b : Bool). cond b (first_at (lists_of m t) key) None) e
         go (inr n) = n
 
-files_over : StaysOpen → (m n : Contents) (files : List SortedFile) → AllByRecursion (IsOpen m) files → AllByRecursion (λ name. get n name ≡ get m name) (map name_of files) → AllByRecursion (IsOpen n) files × (map (listed n) files ≡ map (listed m) files)
+pub files_over : StaysOpen → (m n : Contents) (files : List SortedFile) → AllByRecursion (IsOpen m) files → AllByRecursion (λ name. get n name ≡ get m name) (map name_of files) → AllByRecursion (IsOpen n) files × (map (listed n) files ≡ map (listed m) files)
 files_over stays m n [] all same = (tt, refl)
 files_over stays m n (file ∷ files) all same =
     let one = stays m n file all.0 same.0 in
@@ -37,11 +37,11 @@ unnamed_may_go stays m n t h same =
     let files = files_over stays m n (files_of t) h.files same in
     (record { memory = h.memory; files = files.0 }, ap (λ (lists : List (List Entry)). cells_of (merged (map (seen (range_of t)) (memory_of t ∷ lists)))) files.1)
 
-each_same : (m n : Contents) (before : ℕ) (names : List ℕ) → ((name : ℕ) → name < before → get n name ≡ get m name) → AllByRecursion (λ name. name < before) names → AllByRecursion (λ name. get n name ≡ get m name) names
+pub each_same : (m n : Contents) (before : ℕ) (names : List ℕ) → ((name : ℕ) → name < before → get n name ≡ get m name) → AllByRecursion (λ name. name < before) names → AllByRecursion (λ name. get n name ≡ get m name) names
 each_same m n before [] same all = tt
 each_same m n before (name ∷ names) same all = (same name all.0, each_same m n before names same all.1)
 
-still_below : (before after : ℕ) (names : List ℕ) → before ≤ after → AllByRecursion (λ name. name < before) names → AllByRecursion (λ name. name < after) names
+pub still_below : (before after : ℕ) (names : List ℕ) → before ≤ after → AllByRecursion (λ name. name < before) names → AllByRecursion (λ name. name < after) names
 still_below before after [] h all = tt
 still_below before after (name ∷ names) h all = (let low = all.0 in omega arith, still_below before after names h all.1)
 
@@ -54,7 +54,7 @@ others_stay stays m n before after t (inr e) h low =
     let kept = unnamed_may_go stays m n t h (each_same m n before (names_of t) (λ name l. e.1 name (λ q. absurd (omega arith))) low) in
     (kept.0, still_below before after (names_of t) (let a = e.0 in omega arith) low, kept.1)
 
-one_names : OneListing → (m : Contents) (fs gs : List SortedFile) → AllByRecursion (IsOpen m) fs → AllByRecursion (IsOpen m) gs → map name_of fs ≡ map name_of gs → map (listed m) fs ≡ map (listed m) gs
+pub one_names : OneListing → (m : Contents) (fs gs : List SortedFile) → AllByRecursion (IsOpen m) fs → AllByRecursion (IsOpen m) gs → map name_of fs ≡ map name_of gs → map (listed m) fs ≡ map (listed m) gs
 one_names one m [] [] a b e = refl
 one_names one m [] (g ∷ gs) a b e = cc
 one_names one m (f ∷ fs) [] a b e = cc
@@ -70,7 +70,7 @@ same_cells one m t u h k range memory names =
     let lists = one_names one m (files_of t) (files_of u) h.files k.files names in
     λ i. cells_of (merged (map (seen (range i)) (memory i ∷ lists i)))
 
-files_there : OpenIsThere → (m : Contents) (files : List SortedFile) → AllByRecursion (IsOpen m) files → AllByRecursion (HasFile m) (map name_of files)
+pub files_there : OpenIsThere → (m : Contents) (files : List SortedFile) → AllByRecursion (IsOpen m) files → AllByRecursion (HasFile m) (map name_of files)
 files_there there m [] all = tt
 files_there there m (file ∷ files) all = (there m file all.0, files_there there m files all.1)
 

@@ -1,18 +1,23 @@
 -- Laws of tablets.
-use Rattle.std.specs.Prelude.{◌≡◌, ℕ, Some, None, false}
+use Rattle.std.specs.Prelude.{◌≡◌, ℕ, Some, None, false, if◌then◌else◌}
 use Rattle.std.specs.List.{AllByRecursion}
 use Rattle.std.specs.FinMap.{get}
-use Rattle.cell_key.specs.Entries.{IsEntryList}
+use Rattle.cell_key.specs.Keys.{IsStored, text}
+use Rattle.cell_key.specs.Entries.{IsEntryList, first_naming, value_of}
 use Rattle.cell_key.specs.declared.keys.CellKey.{CellKey}
 use Rattle.file_store.specs.Store.{Contents}
 use Rattle.sorted_file.specs.Opened.{HasFile}
 use Rattle.tablet.specs.Ranges.{has_row}
-use Rattle.tablet.specs.Views.{range_of, memory_of, names_of, view_of, cells_at, Holds, IsBelow, UsesName}
+use Rattle.tablet.specs.Views.{range_of, memory_of, names_of, lists_of, view_of, cells_at, Holds, IsBelow, UsesName}
 use Rattle.tablet.specs.declared.tablet.Tablet.{Tablet}
 
 -- A tablet shows an entry list, and no cell outside its range.
 abbrev pub StaysInRange : Type 0
 StaysInRange = (m : Contents) (t : Tablet) → Holds m t → IsEntryList (view_of m t) × ((key : CellKey) → has_row (range_of t) key.row ≡ false → get (cells_at m t) key ≡ None)
+
+-- In its range a tablet shows a key's value in the first of its lists that names the key: the memtable, and then the files, the newest first.
+abbrev pub ShowsItsLists : Type 0
+ShowsItsLists = (m : Contents) (t : Tablet) → Holds m t → (key : CellKey) → IsStored key → get (cells_at m t) key ≡ (if has_row (range_of t) key.row then value_of (first_naming (lists_of m t) (text key)) else None)
 
 -- A file under a name that no tablet's file has had changes nothing for a tablet.
 abbrev pub OthersStay : Type 0

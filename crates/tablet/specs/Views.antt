@@ -52,7 +52,7 @@ pub record IsUnchanged (old new : Tablet) : Type 0 where
   pub memory : memory_of new ≡ memory_of old
   pub files : files_of new ≡ files_of old
 
--- No file was written, or one under the next name, which is not used again.
+-- Nothing was written and the next name stays, or it is used up, and the files under other names are as they were.
 abbrev pub UsesName : Option Contents → ℕ → Option Contents → ℕ → Type 0
 UsesName old before new after = ((after ≡ before) × (new ≡ old)) ⊎ ((after ≡ before + 1) × KeepsOthers before old new)
 

@@ -2,7 +2,7 @@
 //! and the file is written and opened before the tablet changes. The calls of laws of lower crates, as
 //! `stays_open()`, do nothing: what is ensured here rests on them.
 
-ghost use Rattle.std.specs.Prelude.{◌≡◌, ◌≢◌, ◌≤◌, ◌<◌, ◌+◌, ◌^◌, ◌∷◌, ◌↔◌, [], length, map, drop, take, false, nat_lt, option_map, vec_len, IfOk, IfErr, OnOk, OnErr, IfSome, IsSomeAnd, IsErrOf};
+ghost use Rattle.std.specs.Prelude.{◌≡◌, ◌≢◌, ◌≤◌, ◌<◌, ◌+◌, ◌^◌, ◌∷◌, ◌↔◌, [], length, map, drop, take, false, nat_lt, option_map, vec_len, IfOk, IfErr, OnOk, OnErr, IfSome, IsOk, IsSomeAnd, IsErrOf};
 ghost use Rattle.std.specs.Option.{option_copied};
 ghost use Rattle.std.specs.List.{AllByRecursion};
 ghost use Rattle.file_store.specs.Store.{Contents, KeepsOthers};
@@ -177,13 +177,14 @@ impl Tablet {
         )
     }
 
-    /// Writes the memtable as a new file (Bigtable, minor compaction). Where it is empty nothing is written.
+    /// Writes the memtable as a new file (Bigtable, minor compaction), keys of the range alone, and empties it.
+    /// Where it is empty the call is accepted and does nothing.
     ///
     /// # Errors
     ///
     /// `TooManyFiles` where there are 64 files already, `FileTooLarge`, `Exhausted` where no name is left,
-    /// `Device`, `NoMemory`, and `Damaged` only where a file is no longer what was opened. The tablet is then
-    /// as before.
+    /// `Device`, `NoMemory`, and `Damaged` only where a file is no longer what was opened. The memtable then has
+    /// entries, and the tablet is as before.
     pub fn minor<F: Files>(
         &mut self,
         file_limit: u64,
@@ -196,7 +197,7 @@ impl Tablet {
         ensures memory { OnOk result (memory_of self.new ≡ []) }
         ensures lists { OnOk result (MakesLists (F.contents files.old) next_name.old self.old (F.contents files.new) self.new (λ memory lists. [] ∷ flushed (range_of self.old) memory lists)) }
         ensures keeps { Keeps (F.contents files.old) next_name.old self.old (F.contents files.new) next_name.new self.new }
-        ensures empty { OnOk result (memory_of self.old ≡ [] → IsUnchanged self.old self.new × ((next_name.new ≡ next_name.old) × (F.contents files.new ≡ F.contents files.old))) }
+        ensures empty { memory_of self.old ≡ [] → IsOk result × (IsUnchanged self.old self.new × ((next_name.new ≡ next_name.old) × (F.contents files.new ≡ F.contents files.old))) }
         ensures range { range_of self.new ≡ range_of self.old }
         ensures err { OnErr result (IsUnchanged self.old self.new) }
         ensures name { UsesName (F.contents files.old) next_name.old (F.contents files.new) next_name.new }
@@ -210,6 +211,10 @@ impl Tablet {
         ensures damaged { IsErrOf result Refusal.Damaged → IfSome (F.contents files.old) (λ m. ¬ Holds m self.old) }
         ensures refusal { IfErr result IsMinorRefusal }
         ensures reason { HasReason (F.faults files.old) (F.faults files.new) result }
+        // Where there are 64 files it is refused before a file is written, whatever else may fail.
+        ensures always_full { memory_of self.old ≢ [] → 64 ≤ length (names_of self.old) → IsErrOf result Refusal.TooManyFiles }
+        ensures unwritten { IsErrOf result Refusal.TooManyFiles → (next_name.new ≡ next_name.old) × (F.contents files.new ≡ F.contents files.old) }
+        ensures used { OnOk result (memory_of self.old ≢ [] → next_name.new ≡ next_name.old + 1) }
     {
         stays_open();
         keeps_one_list();
@@ -226,8 +231,8 @@ impl Tablet {
         Ok(())
     }
 
-    /// Writes the newest `count` files as one at their place (Bigtable, merging compaction). Erasures are kept
-    /// unless `count` is all files.
+    /// Writes the newest `count` files as one at their place (Bigtable, merging compaction), keys of the range
+    /// alone. Erasures are kept unless `count` is all files.
     ///
     /// # Errors
     ///
@@ -259,6 +264,8 @@ impl Tablet {
         ensures damaged { IsErrOf result Refusal.Damaged → IfSome (F.contents files.old) (λ m. ¬ Holds m self.old) }
         ensures refusal { IfErr result IsMergeRefusal }
         ensures reason { HasReason (F.faults files.old) (F.faults files.new) result }
+        ensures unwritten { IsErrOf result Refusal.BadCount → (next_name.new ≡ next_name.old) × (F.contents files.new ≡ F.contents files.old) }
+        ensures used { OnOk result (next_name.new ≡ next_name.old + 1) }
     {
         stays_open();
         names_first();
@@ -271,8 +278,8 @@ impl Tablet {
         Ok(())
     }
 
-    /// Writes the memtable and all files as exactly one file without erasures (Bigtable, major compaction),
-    /// also where there is nothing.
+    /// Writes the memtable and all files as exactly one file without erasures (Bigtable, major compaction), keys
+    /// of the range alone, also where there is nothing, and empties the memtable.
     ///
     /// # Errors
     ///
@@ -301,6 +308,7 @@ impl Tablet {
         ensures damaged { IsErrOf result Refusal.Damaged → IfSome (F.contents files.old) (λ m. ¬ Holds m self.old) }
         ensures refusal { IfErr result IsCompactionRefusal }
         ensures reason { HasReason (F.faults files.old) (F.faults files.new) result }
+        ensures used { OnOk result (next_name.new ≡ next_name.old + 1) }
     {
         stays_open();
         names_first();

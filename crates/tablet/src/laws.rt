@@ -1,12 +1,18 @@
 //! Laws of tablets. Each is the contract of a function that does nothing.
 
-ghost use Rattle.tablet.specs.Laws.{StaysInRange, OthersStay, UnnamedMayGo, SameCells, FilesAreThere};
+ghost use Rattle.tablet.specs.Laws.{StaysInRange, ShowsItsLists, OthersStay, UnnamedMayGo, SameCells, FilesAreThere};
 
 use sorted_file::{one_listing, open_is_there, stays_open};
 
 /// A tablet shows an entry list, and no cell outside its range.
 pub fn stays_in_range()
     ensures { StaysInRange }
+{}
+
+/// In its range a tablet shows a key's value in the first of its lists that names the key, or nothing
+/// where that is an erasure or no list names it. The memtable is the first list, and the newest file next.
+pub fn shows_its_lists()
+    ensures { ShowsItsLists }
 {}
 
 /// A file under a name that no file of a tablet has changes nothing for the tablet.

@@ -11,7 +11,9 @@ mod serving;
 mod sources;
 mod tablet;
 
-pub use laws::{files_are_there, others_stay, same_cells, stays_in_range, unnamed_may_go};
+pub use laws::{
+    files_are_there, others_stay, same_cells, shows_its_lists, stays_in_range, unnamed_may_go,
+};
 pub use ranges::RowRange;
 pub use tablet::Tablet;
 

@@ -1,7 +1,7 @@
 //! Cutting a tablet in two, and moving it: after a minor compaction its files are all that it has, and they may
 //! be named by two tablets or opened by another server.
 
-ghost use Rattle.std.specs.Prelude.{◌≡◌, ◌≢◌, ◌≤◌, ◌<◌, ◌^◌, ◌∷◌, [], Some, length, IsTrue, IfOk, IfErr, OnOk, OnErr, IfSome, IsSomeAnd, IsErrOf};
+ghost use Rattle.std.specs.Prelude.{◌≡◌, ◌≢◌, ◌≤◌, ◌<◌, ◌+◌, ◌^◌, ◌∷◌, [], Some, length, IsTrue, IfOk, IfErr, OnOk, OnErr, IfSome, IsSomeAnd, IsErrOf};
 ghost use Rattle.std.specs.List.{AllByRecursion};
 ghost use Rattle.sorted_file.specs.Grammar.{FitsIn};
 ghost use Rattle.sorted_file.specs.Opened.{HasFile};
@@ -90,6 +90,11 @@ impl Tablet {
         ensures damaged { IsErrOf result Refusal.Damaged → IfSome (F.contents files.old) (λ m. ¬ Holds m self.old) }
         ensures refusal { IfErr result IsMinorRefusal }
         ensures reason { HasReason (F.faults files.old) (F.faults files.new) result }
+        ensures room { OnOk result (memory_of self.old ≢ [] → length (names_of self.old) < 64) }
+        ensures left { OnOk result (memory_of self.old ≢ [] → next_name.old < 2 ^ 63) }
+        ensures fits { OnOk result (memory_of self.old ≢ [] → IfSome (F.contents files.old) (λ m. Holds m self.old → FitsIn file_limit (seen (range_of self.old) (memory_of self.old)))) }
+        ensures empty { memory_of self.old ≡ [] → (next_name.new ≡ next_name.old) × (F.contents files.new ≡ F.contents files.old) }
+        ensures used { OnOk result (memory_of self.old ≢ [] → next_name.new ≡ next_name.old + 1) }
     {
         self.minor(file_limit, next_name, files)?;
         self.names()
@@ -129,6 +134,12 @@ impl Tablet {
         ensures damaged { IsErrOf result Refusal.Damaged → IfSome (F.contents files.old) (λ m. Holds m self.old → ¬ IsBelow next_name.old self.old) }
         ensures refusal { IfErr result IsMinorRefusal }
         ensures reason { HasReason (F.faults files.old) (F.faults files.new) result }
+        ensures room { OnOk result (memory_of self.old ≢ [] → length (names_of self.old) < 64) }
+        ensures left { OnOk result (memory_of self.old ≢ [] → next_name.old < 2 ^ 63) }
+        ensures fits { OnOk result (memory_of self.old ≢ [] → IfSome (F.contents files.old) (λ m. Holds m self.old → FitsIn file_limit (seen (range_of self.old) (memory_of self.old)))) }
+        ensures unwritten { IsErrOf result Refusal.TooManyFiles → IsUnchanged self.old self.new × ((next_name.new ≡ next_name.old) × (F.contents files.new ≡ F.contents files.old)) }
+        ensures empty { memory_of self.old ≡ [] → (next_name.new ≡ next_name.old) × (F.contents files.new ≡ F.contents files.old) }
+        ensures used { OnOk result (memory_of self.old ≢ [] → next_name.new ≡ next_name.old + 1) }
     {
         let range = RowRange {
             after: self.range.after.clone()?,

@@ -27,7 +27,8 @@ impl Tablet {
     ghost use Rattle.tablet.specs.Ranges.{has_row};
     ghost use Rattle.tablet.specs.Views.{range_of, memory_of, files_of, names_of, cells_at, Holds};
 
-    /// The most files that a tablet has after a minor compaction.
+    /// A tablet with this many files or more gets no further one: a minor compaction with entries to write is
+    /// refused `TooManyFiles`.
     pub const MOST_FILES: usize = 64;
 
     /// A tablet of all rows, with no entries and no files. Takes no memory.

@@ -9,7 +9,8 @@ use Rattle.compaction.specs.Writing.{written}
 use Rattle.tablet.specs.Ranges.{seen}
 use Rattle.tablet.specs.Views.{files_of, memory_of, range_of}
 use Rattle.tablet.proofs.Compacting.{major_cells, no_entries}
-use Rattle.tablet.proofs.Making.{held_lists, large_of, made_keeps, made_lists, made_of, still_keeps}
+use Rattle.tablet.proofs.Held.{held_lists}
+use Rattle.tablet.proofs.Making.{large_of, made_keeps, made_lists, made_of, still_keeps}
 use Rattle.cell_key.specs.Entries.{cells_of}
 use Rattle.tablet.proofs.Seen.{shown}
 use Rattle.tablet.proofs.tablet.Tablet.major.Goals as goal

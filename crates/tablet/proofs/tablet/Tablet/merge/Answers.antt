@@ -6,7 +6,8 @@ use Rattle.compaction.specs.Writing.{written}
 use Rattle.tablet.specs.Ranges.{seen}
 use Rattle.tablet.specs.Views.{files_of, memory_of, range_of}
 use Rattle.tablet.proofs.Compacting.{merge_cells}
-use Rattle.tablet.proofs.Making.{held_lists, made_keeps, made_lists, still_keeps}
+use Rattle.tablet.proofs.Held.{held_lists}
+use Rattle.tablet.proofs.Making.{made_keeps, made_lists, still_keeps}
 use Rattle.tablet.proofs.tablet.Tablet.merge.Goals as goal
 
 pub returns-in_err-file-clause-keeps : goal.returns-in_err-file-clause-keeps

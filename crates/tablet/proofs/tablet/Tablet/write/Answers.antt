@@ -6,7 +6,7 @@ use Rattle.sorted_file.specs.Opened.{listed}
 use Rattle.tablet.specs.Compactions.{compacted}
 use Rattle.tablet.specs.Sources.{lists_over}
 use Rattle.tablet.specs.Views.{Holds, files_of, memory_of, range_of}
-use Rattle.tablet.proofs.Making.{held_lists}
+use Rattle.tablet.proofs.Held.{held_lists}
 use Rattle.tablet.proofs.Writing.{compacts, if_ok_holds, if_some_holds, if_some_not, on_ok_holds}
 use Rattle.tablet.proofs.tablet.Tablet.write.Goals as goal
 
