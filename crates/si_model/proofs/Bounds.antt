@@ -8,7 +8,8 @@ use Rattle.std.proofs.lemmas.Bool.{cases_eq, cases_lt}
 use Rattle.std.proofs.lemmas.Bool.Decides.{nat_tests}
 use Rattle.std.proofs.lemmas.Option.{none-some, slice_get_within}
 use Rattle.cell_key.specs.declared.refusals.Refusal.TheVariants.{TooManyWrites, TooManySessions}
-use Rattle.si_model.specs.Machine.{State, Value, Phase, Open, Holding, Stamped, Finishing, Request, Reply, Begin, Set, InPhase, Writes, Wrote, Sets, finishing, most_sessions, most_writes, end_of_stamps, IsAcceptable}
+use Rattle.si_model.specs.Machine.{State, Value, Phase, Open, Holding, Stamped, Finishing, Commit, Request, Reply, Begin, Set, InPhase, Writes, Wrote, Sets, finishing, most_sessions, most_writes, end_of_stamps, IsAcceptable}
+use Rattle.si_model.specs.Sets.{◌∈◌}
 use Rattle.si_model.specs.declared.replies.Cell.{Cell}
 use Rattle.si_model.specs.Refusing.{begin_full, set_full}
 use Rattle.si_model.specs.Machine.{Acts, tells, begins, reads, sets, holds, conflicts, draws, loses, commits, finishes, stops, opens, kills, learns, rolls_forward, rolls_back, finds_gone, collects, has_collected, splits, moves_tablet, Step, refuses, accepts}
@@ -63,6 +64,16 @@ sets_few st s x v ws ws' ok w by few = elim (set_length by) [
   ]
 ]
 
+-- commit stamps are at most the top
+stamped_low : (st : State) → Sound st → st.top < end_of_stamps → (t c : ℕ) → InPhase st t (Stamped c) → c < end_of_stamps
+stamped_low st i top t c h = let low = (i.drawn t (Stamped c) h c refl).low in omega arith
+
+commit_low : (st : State) → Sound st → st.top < end_of_stamps → (a : Commit) → a ∈ st.commits → a.stamp < end_of_stamps
+commit_low st i top a m = let low = (i.fair a m).low in omega arith
+
+finishing_low : (st : State) → Sound st → st.top < end_of_stamps → (t c k : ℕ) → InPhase st t (Finishing c k) → c < end_of_stamps
+finishing_low st i top t c k h = let f = i.finishes t (Finishing c k) h c k refl in commit_low st i top (record { start = t; stamp = c; writes = f.0 }) f.1
+
 -- a step that begins nothing and sets nothing
 kept_bounds : {st st' : State} → Sound st' → Bounds st → st'.begun ≡ st.begun → st'.top < end_of_stamps → len st'.active ≤ most_sessions
     → ((t : ℕ) (p : Phase) → InPhase st' t p → (ws : Writes) → Wrote st t ws → Fits p (length ws)) → Bounds st'
@@ -74,6 +85,9 @@ kept_bounds {st} {st'} i b same top few fits = record {
   has_begun = i.has_begun;
   few_sessions = few;
   fits = λ t p h ws w. fits t p h ws (before t ws w);
+  stamped_to = stamped_low st' i top;
+  finishing_to = finishing_low st' i top;
+  commit_to = commit_low st' i top;
 }
   where
     before : (t : ℕ) (ws : Writes) → Wrote st' t ws → Wrote st t ws
@@ -81,27 +95,33 @@ kept_bounds {st} {st'} i b same top few fits = record {
 
 acts_bounds : {st st' : State} {q : Request} {r : Reply} → Sound st → Bounds st → IsAcceptable st q → Acts st q r st' → Bounds st'
 acts_bounds i b ok (tells t) = b
-acts_bounds {st} i b ok (begins {s = s} d) = record {
+acts_bounds {st} {st'} i b ok (begins {s = s} d) = let sound : Sound st' = acts_sound i (begins d) in record {
   top = d.1;
   start_from = each_insert st.begun s (λ t ws. 1 ≤ t) [] (let new = d.0 in omega arith) (λ t ws ne w. b.start_from t ws w);
   start_to = each_insert st.begun s (λ t ws. t < end_of_stamps) [] d.1 (λ t ws ne w. b.start_to t ws w);
   few_writes = each_insert st.begun s (λ t ws. length ws ≤ most_writes) [] (omega arith) (λ t ws ne w. b.few_writes t ws w);
-  has_begun = (acts_sound i (begins d)).has_begun;
+  has_begun = sound.has_begun;
   few_sessions = begins_few st s ok;
   fits = each_insert st.active s (λ u q. (vs : Writes) → get (insert st.begun s []) u ≡ Some vs → Fits q (length vs)) Open (λ vs w. tt)
       (λ u q ne h vs w. b.fits u q h vs (sym (get_other st.begun s [] u ne) ∙ w));
+  stamped_to = stamped_low st' sound d.1;
+  finishing_to = finishing_low st' sound d.1;
+  commit_to = commit_low st' sound d.1;
 }
-acts_bounds {st} i b ok (sets {s = s} {x = x} {v = v} {ws = ws} {ws' = ws'} h w by) = record {
+acts_bounds {st} {st'} i b ok (sets {s = s} {x = x} {v = v} {ws = ws} {ws' = ws'} h w by) = let sound : Sound st' = acts_sound i (sets {x = x} {v = v} h w by) in record {
   top = b.top;
   start_from = each_insert st.begun s (λ t ws. 1 ≤ t) ws' (b.start_from s ws w) (λ t ws ne w. b.start_from t ws w);
   start_to = each_insert st.begun s (λ t ws. t < end_of_stamps) ws' (b.start_to s ws w) (λ t ws ne w. b.start_to t ws w);
   few_writes = each_insert st.begun s (λ t ws. length ws ≤ most_writes) ws' (sets_few st s x v ws ws' ok w by (b.few_writes s ws w)) (λ t ws ne w. b.few_writes t ws w);
-  has_begun = (acts_sound i (sets {x = x} {v = v} h w by)).has_begun;
+  has_begun = sound.has_begun;
   few_sessions = b.few_sessions;
   fits = λ u q h' vs w. elim (cases_eq u s) [
     | inl e ↦ subst (λ (p : Phase). Fits p (length vs)) (same_entry st.active u Open q (subst (λ v. InPhase st v Open) (sym e) h) h') tt
     | inr ne ↦ b.fits u q h' vs (sym (get_other st.begun s ws' u ne) ∙ w)
   ];
+  stamped_to = b.stamped_to;
+  finishing_to = b.finishing_to;
+  commit_to = b.commit_to;
 }
 acts_bounds {st} {st'} i b ok (holds {t = t} {k = k} {ws = ws} {x = x} {v = v} h w puts free) =
     let s : Acts st _ _ st' = holds h w puts free in
@@ -156,6 +176,9 @@ new_bounds = record {
   has_begun = λ t p h. absurd (nothing p t h);
   few_sessions = none_active;
   fits = λ t p h. absurd (nothing p t h);
+  stamped_to = λ t c h. absurd (nothing (Stamped c) t h);
+  finishing_to = λ t c k h. absurd (nothing (Finishing c k) t h);
+  commit_to = λ a m. elim m [ ];
 }
 
 pub reached_bounds : {st : State} → IsReached st → Bounds st

@@ -9,7 +9,7 @@ use Rattle.si_model.specs.declared.replies.Cell.{Cell}
 use Rattle.si_model.specs.Machine.{State, Writes, Commit, Phase, Open, Stamped, Finishing, InPhase, Marked, IsCommitted, CollectStep, Refused, Pending, Get, Step, refuses, accepts, goes_on, rests}
 use Rattle.si_model.specs.Machine.{tells, waits, finds_none, finds_gone, appends, is_blocked, goes_further, stops, opens, kills, loses, learns, rolls_forward, rolls_back, collects, has_collected}
 use Rattle.si_model.specs.Machine.IsFloor.{none_active}
-use Rattle.si_model.specs.Runs.{bob, joe, RolledBackTransfer, CommitPoint, LostTransfer, StrandedMark, MarkStays}
+use Rattle.si_model.specs.Scripts.{bob, joe, RolledBackTransfer, CommitPoint, LostTransfer, StrandedMark, MarkStays}
 use Rattle.si_model.proofs.Tools.{each_cons, get_other, each_remove}
 use Rattle.si_model.proofs.FirstRefusals.{collect_unknown_first}
 use Rattle.si_model.proofs.Acceptable.{get_ok, advance_ok, stop_ok, clean_begin_ok, clean_step_ok, collect_begin_ok, collect_step_ok}

@@ -10,35 +10,30 @@ use Rattle.si_model.specs.declared.replies.Cell.{Cell}
 use Rattle.si_model.specs.Machine.IsFloor.{least, none_active}
 use Rattle.si_model.specs.Machine.{Acts, tells, begins, reads, sets, holds, conflicts, draws, loses, commits, finishes, stops, opens, kills, learns, rolls_forward, rolls_back, finds_gone, collects, has_collected, splits, moves_tablet, Step, refuses, accepts}
 use Rattle.si_model.specs.Machine.{Run, rests, goes_on, IsReached, begins_new, runs, reopens}
-use Rattle.si_model.specs.Laws.{IsCleared, StaysCleared}
+use Rattle.si_model.specs.Laws.{FloorStaysLow, IsCleared, StaysCleared}
 use Rattle.si_model.proofs.Tools.{same_entry, each_cons, each_insert, each_remove}
 use Rattle.si_model.proofs.Invariant.{Sound}
 use Rattle.si_model.proofs.Kept.{held_phase}
 use Rattle.si_model.proofs.Steps.{step_sound, reached_sound}
 
-pub record Floors (st : State) : Type 0 where
-  pub above : (t : ℕ) (p : Phase) → InPhase st t p → st.floor ≤ t
-  pub low : st.floor ≤ st.top + 1
-  pub each : (i f : ℕ) → get st.collectors i ≡ Some f → f ≤ st.floor
-
 -- a session that was active goes on
-goes : (st : State) (t : ℕ) (p p' : Phase) → InPhase st t p → Floors st → (u : ℕ) (q : Phase) → get (insert st.active t p') u ≡ Some q → st.floor ≤ u
+goes : (st : State) (t : ℕ) (p p' : Phase) → InPhase st t p → FloorStaysLow st → (u : ℕ) (q : Phase) → get (insert st.active t p') u ≡ Some q → st.floor ≤ u
 goes st t p p' h f = each_insert st.active t (λ u q. st.floor ≤ u) p' (f.above t p h) (λ u q ne g. f.above u q g)
 
-ends : (st : State) (t : ℕ) → Floors st → (u : ℕ) (q : Phase) → get (remove st.active t) u ≡ Some q → st.floor ≤ u
+ends : (st : State) (t : ℕ) → FloorStaysLow st → (u : ℕ) (q : Phase) → get (remove st.active t) u ≡ Some q → st.floor ≤ u
 ends st t f = each_remove st.active t (λ u q. st.floor ≤ u) (λ u q ne g. f.above u q g)
 
-goes_or_ends : (st : State) (t c k n : ℕ) (p : Phase) → InPhase st t p → Floors st → (u : ℕ) (q : Phase) → get (finishing st.active t c k n) u ≡ Some q → st.floor ≤ u
+goes_or_ends : (st : State) (t c k n : ℕ) (p : Phase) → InPhase st t p → FloorStaysLow st → (u : ℕ) (q : Phase) → get (finishing st.active t c k n) u ≡ Some q → st.floor ≤ u
 goes_or_ends st t c k n p h f u q = elim (nat_eq k n) as (λ b. get (cond b (remove st.active t) (insert st.active t (Finishing c k))) u ≡ Some q → st.floor ≤ u) [
   | true ↦ ends st t f u q
   | false ↦ goes st t p (Finishing c k) h f u q
 ]
 
 -- a collector is begun
-each_floor : (st : State) (n : ℕ) → Floors st → (i f : ℕ) → get (insert st.collectors st.next_collector n) i ≡ Some f → f ≤ max st.floor n
+each_floor : (st : State) (n : ℕ) → FloorStaysLow st → (i f : ℕ) → get (insert st.collectors st.next_collector n) i ≡ Some f → f ≤ max st.floor n
 each_floor st n f = each_insert st.collectors st.next_collector (λ i g. g ≤ max st.floor n) n (le-max_right st.floor n) (λ i g ne h. le_trans (f.each i g h) (le-max_left st.floor n))
 
-acts_floors : {st st' : State} {q : Request} {r : Reply} → Sound st → Floors st → Acts st q r st' → Floors st'
+acts_floors : {st st' : State} {q : Request} {r : Reply} → Sound st → FloorStaysLow st → Acts st q r st' → FloorStaysLow st'
 acts_floors i f (tells t) = f
 acts_floors {st} i f (begins {s = s} d) =
     let low = f.low in let new = d.0 in record { above = each_insert st.active s (λ u q. st.floor ≤ u) Open (omega arith) (λ u q ne g. f.above u q g); low = omega arith; each = f.each }
@@ -63,20 +58,20 @@ acts_floors {st} i f (has_collected {i = n} h none) = record { above = f.above; 
 acts_floors i f (splits cut) = record { above = f.above; low = f.low; each = f.each }
 acts_floors i f (moves_tablet is_moved) = record { above = f.above; low = f.low; each = f.each }
 
-step_floors : {st st' : State} {q : Request} {r : Reply} → Sound st → Floors st → Step st q r st' → Floors st'
+step_floors : {st st' : State} {q : Request} {r : Reply} → Sound st → FloorStaysLow st → Step st q r st' → FloorStaysLow st'
 step_floors i f (refuses n) = f
 step_floors i f (accepts ok a) = acts_floors i f a
 
-run_floors : {st st' : State} {qs : List Request} {rs : List Reply} → Sound st → Floors st → Run st qs rs st' → Floors st'
+run_floors : {st st' : State} {qs : List Request} {rs : List Reply} → Sound st → FloorStaysLow st → Run st qs rs st' → FloorStaysLow st'
 run_floors i f rests = f
 run_floors i f (goes_on s r) = run_floors (step_sound i s) (step_floors i f s) r
 
-pub reached_floors : {st : State} → IsReached st → Floors st
+pub reached_floors : {st : State} → IsReached st → FloorStaysLow st
 reached_floors begins_new = record { above = λ t p h. absurd (none-some p (sym (get-empty nat_cmp t) ∙ h)); low = omega arith; each = λ i g h. absurd (none-some g (sym (get-empty nat_cmp i) ∙ h)) }
 reached_floors (runs r run) = run_floors (reached_sound r) (reached_floors r) run
 reached_floors (reopens r) = record { above = λ t p h. absurd (none-some p (sym (get-empty nat_cmp t) ∙ h)); low = (reached_floors r).low; each = λ i g h. absurd (none-some g (sym (get-empty nat_cmp i) ∙ h)) }
 
-acts_cleared : {st st' : State} {q : Request} {r : Reply} → Floors st → Acts st q r st' → (c : ℕ) → IsCleared st c → IsCleared st' c
+acts_cleared : {st st' : State} {q : Request} {r : Reply} → FloorStaysLow st → Acts st q r st' → (c : ℕ) → IsCleared st c → IsCleared st' c
 acts_cleared f (tells t) c k = k
 acts_cleared {st} f (holds {t = t} {k = k} {x = x} h w puts free) c k' =
     let hp = held_phase st t k h in let above = f.above t hp.p hp.is in let low = k'.0 in
@@ -102,18 +97,18 @@ acts_cleared f (kills is nc alive w puts less) c k = (k.0, λ y u n. k.1 y u ((l
 acts_cleared f (rolls_forward is m committed less) c k = (k.0, λ y u n. k.1 y u ((less.same (y, u)).0 n).0)
 acts_cleared f (rolls_back is m nc less) c k = (k.0, λ y u n. k.1 y u ((less.same (y, u)).0 n).0)
 
-step_cleared : {st st' : State} {q : Request} {r : Reply} → Floors st → Step st q r st' → (c : ℕ) → IsCleared st c → IsCleared st' c
+step_cleared : {st st' : State} {q : Request} {r : Reply} → FloorStaysLow st → Step st q r st' → (c : ℕ) → IsCleared st c → IsCleared st' c
 step_cleared f (refuses n) c k = k
 step_cleared f (accepts ok a) c k = acts_cleared f a c k
 
-run_cleared : {st st' : State} {qs : List Request} {rs : List Reply} → Sound st → Floors st → Run st qs rs st' → (c : ℕ) → IsCleared st c → IsCleared st' c
+run_cleared : {st st' : State} {qs : List Request} {rs : List Reply} → Sound st → FloorStaysLow st → Run st qs rs st' → (c : ℕ) → IsCleared st c → IsCleared st' c
 run_cleared i f rests c k = k
 run_cleared i f (goes_on s r) c k = run_cleared (step_sound i s) (step_floors i f s) r c (step_cleared f s c k)
 
 pub stays_cleared : (st : State) → IsReached st → StaysCleared st
 stays_cleared st r end qs rs run c k = run_cleared (reached_sound r) (reached_floors r) run c k
 
-pub clears_floor : {st : State} {i n : ℕ} {next : State} → Floors st → (f : ℕ) → get st.collectors i ≡ Some f → Step st (CollectStep i n) Collected next → IsCleared next f
+pub clears_floor : {st : State} {i n : ℕ} {next : State} → FloorStaysLow st → (f : ℕ) → get st.collectors i ≡ Some f → Step st (CollectStep i n) Collected next → IsCleared next f
 clears_floor k f g (accepts ok (tells t)) = elim t [ ]
 clears_floor {st} {i = i} k f g (accepts ok (has_collected {f = f'} h none)) =
     (k.each i f g, λ x t m. subst (λ n. n ≤ t) (same_entry st.collectors i f' f h g) (none x t m))

@@ -2,13 +2,18 @@
 use Rattle.std.proofs.Common.{◌≡◌, ◌≢◌, ℕ, true, false, cond, [], ◌∷◌, ◌+◌, length, Some, sym, ap, subst, ◌∙◌, arith, refl}
 use Rattle.std.specs.Prelude.{nat_eq}
 use Rattle.std.specs.FinMap.{get, insert, remove}
-use Rattle.si_model.specs.Machine.{State, Phase, Open, Holding, Stamped, Finishing, Request, Reply, InPhase, finishing}
+use Rattle.si_model.specs.Machine.{State, Phase, Open, Holding, Stamped, Finishing, Request, Reply, Writes, Wrote, InPhase, finishing}
 use Rattle.si_model.specs.Machine.{Acts, tells, begins, reads, sets, holds, conflicts, draws, loses, commits, finishes, stops, opens, kills, learns, rolls_forward, rolls_back, finds_gone, collects, has_collected, splits, moves_tablet, Step, refuses, accepts, goes_on, rests, IsReached}
-use Rattle.si_model.specs.Laws.{Goes, OpenStays}
+use Rattle.si_model.specs.Laws.{Goes}
 use Rattle.si_model.proofs.Tools.{get_other, each_insert, each_remove}
 use Rattle.si_model.proofs.Invariant.{Sound}
 use Rattle.si_model.proofs.Steps.{reached_sound}
 use Rattle.si_model.proofs.Floors.{stays_cleared}
+
+-- the writes of a start that isn't open stay, and it doesn't get open again
+record OpenStays (st st' : State) : Type 0 where
+  wrote : (u : ℕ) (ws : Writes) → Wrote st u ws → ¬ InPhase st u Open → Wrote st' u ws
+  late : (u : ℕ) (ws : Writes) → Wrote st u ws → ¬ InPhase st u Open → ¬ InPhase st' u Open
 
 goes_open : (st : State) (t : ℕ) (p : Phase) → p ≢ Open → (u : ℕ) → get (insert st.active t p) u ≡ Some Open → InPhase st u Open
 goes_open st t p late u h = each_insert st.active t (λ u q. q ≡ Open → InPhase st u q) p (λ e. absurd (late e)) (λ u q ne g e. g) u Open h refl

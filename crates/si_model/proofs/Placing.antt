@@ -4,7 +4,7 @@ use Rattle.std.proofs.lemmas.Option.{none-some}
 use Rattle.cell_key.specs.Names.{IsRow}
 use Rattle.si_model.specs.Sets.{here, there}
 use Rattle.si_model.specs.Machine.{Place, IsEnd, new_machine, refuses, accepts, goes_on, rests, splits, moves_tablet, cuts_last, moves, moves_later}
-use Rattle.si_model.specs.Runs.{SplitTablet}
+use Rattle.si_model.specs.Scripts.{SplitTablet}
 use Rattle.si_model.proofs.Tools.{each_cons}
 use Rattle.si_model.proofs.FirstRefusals.{split_end_first}
 use Rattle.si_model.proofs.Acceptable.{split_ok, move_ok}

@@ -10,7 +10,7 @@ use Rattle.si_model.specs.Machine.{State, Value, Writes, Open, Holding, Stamped,
 use Rattle.si_model.specs.Machine.{Begin, Get, Set, Advance, Begun, Answered, SetDone, Held, Conflict, Drawn, Committed, Finished}
 use Rattle.si_model.specs.Machine.{begins, reads, sets, holds, conflicts, draws, commits, finishes, appends, passes, Step, refuses, accepts, Run, rests, goes_on, Refused}
 use Rattle.cell_key.specs.declared.refusals.Refusal.TheVariants.{UnknownSession}
-use Rattle.si_model.specs.Runs.{bob, joe}
+use Rattle.si_model.specs.Scripts.{bob, joe}
 use Rattle.si_model.proofs.Tools.{each_cons, get_same, put_in}
 use Rattle.si_model.proofs.FirstRefusals.{advance_unknown_first}
 use Rattle.si_model.proofs.Acceptable.{begin_ok, get_ok, set_ok, advance_ok}

@@ -1,11 +1,11 @@
--- What is told of a start's fate is so.
-use Rattle.std.proofs.Common.{◌≡◌, ℕ, List, true, false, Some, ◌⊎◌, inl, inr, refl, subst}
+-- What is told of a start's fate, and of marks, is so.
+use Rattle.std.proofs.Common.{◌≡◌, ℕ, ◌<◌, ◌≤◌, List, true, false, Some, ◌⊎◌, inl, inr, refl, subst}
 use Rattle.std.specs.FinMap.{get}
 use Rattle.si_model.specs.Sets.{◌∈◌, here, Leaves}
 use Rattle.si_model.specs.declared.replies.Cell.{Cell}
-use Rattle.si_model.specs.Machine.{State, Cleaner, Marked, IsDead, CommittedAt, IsCommitted, Advance, CleanStep, Committed, Lost, Decided, RolledForward, RolledBack, Gone, Step, accepts}
-use Rattle.si_model.specs.Machine.{tells, commits, loses, kills, learns, rolls_forward, rolls_back, finds_gone}
-use Rattle.si_model.specs.Laws.{TellsFate}
+use Rattle.si_model.specs.Machine.{State, Cleaner, Marked, IsDead, CommittedAt, IsCommitted, Get, Advance, CleanBegin, CleanStep, CollectStep, Pending, Conflict, NoLock, Cleaning, Blocked, Committed, Lost, Decided, RolledForward, RolledBack, Gone, Step, accepts}
+use Rattle.si_model.specs.Machine.{tells, waits, finds_none, is_blocked, conflicts, opens, commits, loses, kills, learns, rolls_forward, rolls_back, finds_gone}
+use Rattle.si_model.specs.Laws.{TellsFate, ClashesAt, TellsMarks}
 use Rattle.si_model.proofs.Tools.{same_entry}
 use Rattle.si_model.proofs.Invariant.{Sound}
 
@@ -54,4 +54,30 @@ tells_fate st s = record {
   rolled_forward = λ i c k next g step. forward_told k g step;
   rolled_back = λ i k next g step. back_told s k g step;
   gone = λ i k next g step. gone_told s k g step;
+}
+
+pending_told : {st : State} {s t : ℕ} {x : Cell} {next : State} → Step st (Get s x) (Pending t) next → Marked st x t × (t ≤ s)
+pending_told (accepts ok (tells (waits h m low))) = (m, low)
+
+conflict_told : {st : State} {t place : ℕ} {next : State} → Step st (Advance t) (Conflict place) next → ClashesAt st t place
+conflict_told (accepts ok (tells f)) = elim f [ ]
+conflict_told (accepts ok (conflicts {k = k} {ws = ws} {x = x} {v = v} h w puts clash)) = (ws, k, x, v, w, puts, refl, clash)
+
+no_lock_told : {st : State} {x : Cell} {next : State} → Step st (CleanBegin x) NoLock next → (t : ℕ) → ¬ Marked st x t
+no_lock_told (accepts ok (tells (finds_none none))) = none
+
+cleaning_told : {st : State} {x : Cell} {i t : ℕ} {next : State} → Step st (CleanBegin x) (Cleaning i t) next → (i ≡ st.next_cleaner) × Marked st x t
+cleaning_told (accepts ok (tells f)) = elim f [ ]
+cleaning_told (accepts ok (opens m room)) = (refl, m)
+
+blocked_told : {st : State} {i n t : ℕ} {x : Cell} {next : State} → Step st (CollectStep i n) (Blocked x t) next → (f : ℕ) × (get st.collectors i ≡ Some f) × Marked st x t × (t < f)
+blocked_told (accepts ok (tells (is_blocked {f = f} g m below))) = (f, g, m, below)
+
+pub tells_marks : (st : State) → TellsMarks st
+tells_marks st = record {
+  pending = λ s t x next step. pending_told step;
+  conflict = λ t place next step. conflict_told step;
+  no_lock = λ x next step. no_lock_told step;
+  cleaning = λ x i t next step. cleaning_told step;
+  blocked = λ i n t x next step. blocked_told step;
 }

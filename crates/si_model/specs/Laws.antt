@@ -4,7 +4,7 @@ use Rattle.std.specs.Ordering.{nat_cmp}
 use Rattle.std.specs.FinMap.{FinMap, get, len}
 use Rattle.cell_key.specs.declared.refusals.Refusal.{Refusal}
 use Rattle.si_model.specs.Sets.{◌∈◌}
-use Rattle.si_model.specs.Machine.{State, Value, Phase, Open, Holding, Finishing, end_of_stamps, most_sessions, most_writes, most_cleaners, most_collectors, most_tablets, Stamped, InPhase, Commit, Read, Request, Reply, Refused, Begin, Get, Set, Advance, Stop, CleanBegin, CleanStep, CollectStep, Committed, Lost, Decided, RolledForward, RolledBack, Gone, Collected, Names, Marked, IsDead, CommittedAt, IsCommitted, Cleaner, Writes, Wrote, Puts, IsSnapshot, IsAcceptable, IsFirstRefusal, IsStorageRefusal, Acts, Step, Run}
+use Rattle.si_model.specs.Machine.{State, Value, Phase, Open, Holding, Finishing, end_of_stamps, most_sessions, most_writes, most_cleaners, most_collectors, most_tablets, Stamped, InPhase, Commit, Read, Request, Reply, Refused, Begin, Get, Set, Advance, Stop, CleanBegin, CleanStep, CollectStep, Pending, Conflict, NoLock, Cleaning, Blocked, Committed, Lost, Decided, RolledForward, RolledBack, Gone, Collected, Names, Marked, IsDead, CommittedAt, IsCommitted, Cleaner, Writes, Wrote, Puts, IsSnapshot, Clashes, IsAcceptable, IsFirstRefusal, IsStorageRefusal, Acts, Step, Run}
 use Rattle.si_model.specs.declared.replies.Cell.{Cell}
 
 -- each answer is the snapshot at its session's start, of the commits as they are now (snapshot isolation)
@@ -42,6 +42,14 @@ IsCleared st c = (c ≤ st.floor) × ((x : Cell) (t : ℕ) → Marked st x t →
 abbrev pub StaysCleared : State → Type 0
 StaysCleared st = (end : State) (qs : List Request) (rs : List Reply) → Run st qs rs end → (c : ℕ) → IsCleared st c → IsCleared end c
 
+-- where the floor lies
+pub record FloorStaysLow (st : State) : Type 0 where
+  -- no active session began below it
+  pub above : (t : ℕ) (p : Phase) → InPhase st t p → st.floor ≤ t
+  pub low : st.floor ≤ st.top + 1
+  -- no open collector has a greater one
+  pub each : (i f : ℕ) → get st.collectors i ≡ Some f → f ≤ st.floor
+
 -- a collector that ends has cleared all below its floor
 abbrev pub ClearsItsFloor : State → Type 0
 ClearsItsFloor st = (i n f : ℕ) (next : State) → get st.collectors i ≡ Some f → Step st (CollectStep i n) Collected next → IsCleared next f
@@ -58,6 +66,19 @@ pub record TellsFate (st : State) : Type 0 where
       → IsDead st k.start × (¬ Marked next k.cell k.start)
   pub gone : (i : ℕ) (k : Cleaner) (next : State) → get st.cleaners i ≡ Some k → Step st (CleanStep i) Gone next
       → (IsCommitted st k.start ⊎ IsDead st k.start) × (¬ Marked next k.cell k.start)
+
+-- the cell at this place of t's writes clashes; places count from 1
+abbrev pub ClashesAt : State → ℕ → ℕ → Type 0
+ClashesAt st t place = (ws : Writes) × (k : ℕ) × (x : Cell) × (v : Value) × Wrote st t ws × Puts ws k x v × (place ≡ k + 1) × Clashes st x t
+
+-- what is told of marks is so, and a Conflict has its mark or its commit
+pub record TellsMarks (st : State) : Type 0 where
+  pub pending : (s t : ℕ) (x : Cell) (next : State) → Step st (Get s x) (Pending t) next → Marked st x t × (t ≤ s)
+  pub conflict : (t place : ℕ) (next : State) → Step st (Advance t) (Conflict place) next → ClashesAt st t place
+  pub no_lock : (x : Cell) (next : State) → Step st (CleanBegin x) NoLock next → (t : ℕ) → ¬ Marked st x t
+  pub cleaning : (x : Cell) (i t : ℕ) (next : State) → Step st (CleanBegin x) (Cleaning i t) next → (i ≡ st.next_cleaner) × Marked st x t
+  pub blocked : (i n t : ℕ) (x : Cell) (next : State) → Step st (CollectStep i n) (Blocked x t) next
+      → (f : ℕ) × (get st.collectors i ≡ Some f) × Marked st x t × (t < f)
 
 -- where a refusal is the first that applies, the reply is that one or one of the store, and the state stays
 abbrev pub RefusesFirst : State → Type 0
@@ -83,12 +104,8 @@ abbrev pub CommitSeen : State → Type 0
 CommitSeen st = (t c : ℕ) (ws : Writes) (x : Cell) (v : Value) → InPhase st t (Stamped c) → Wrote st t ws → Puts ws 0 x v
     → (Marked st x t → ¬ IsDead st t) × (¬ Marked st x t → IsDead st t)
 
--- the writes of a start that isn't open stay, and it doesn't get open again
-pub record OpenStays (st st' : State) : Type 0 where
-  pub wrote : (u : ℕ) (ws : Writes) → Wrote st u ws → ¬ InPhase st u Open → Wrote st' u ws
-  pub late : (u : ℕ) (ws : Writes) → Wrote st u ws → ¬ InPhase st u Open → ¬ InPhase st' u Open
-
--- what each step keeps, whatever it does
+-- What each step keeps, whatever it does: the writes of a start that isn't open stay, it doesn't get open again, and
+-- what is cleared stays so.
 pub record Goes (st st' : State) : Type 0 where
   pub wrote : (u : ℕ) (ws : Writes) → Wrote st u ws → ¬ InPhase st u Open → Wrote st' u ws
   pub late : (u : ℕ) (ws : Writes) → Wrote st u ws → ¬ InPhase st u Open → ¬ InPhase st' u Open
@@ -112,6 +129,10 @@ pub record Bounds (st : State) : Type 0 where
   pub has_begun : (t : ℕ) (p : Phase) → InPhase st t p → (ws : Writes) × Wrote st t ws
   pub few_sessions : len st.active ≤ most_sessions
   pub fits : (t : ℕ) (p : Phase) → InPhase st t p → (ws : Writes) → Wrote st t ws → Fits p (length ws)
+  -- commit stamps
+  pub stamped_to : (t c : ℕ) → InPhase st t (Stamped c) → c < end_of_stamps
+  pub finishing_to : (t c k : ℕ) → InPhase st t (Finishing c k) → c < end_of_stamps
+  pub commit_to : (a : Commit) → a ∈ st.commits → a.stamp < end_of_stamps
 
 -- the open ones have numbers from 1 on, each below the next number
 pub record IsNumbered {X : Type 0} (open_ones : FinMap nat_cmp X) (next most : ℕ) : Type 0 where

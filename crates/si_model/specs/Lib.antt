@@ -5,5 +5,5 @@ pub mod Refusing
 pub mod Machine
 pub mod Laws
 pub mod Replies
-pub mod Runs
+pub mod Scripts
 pub mod ShowsCells

@@ -51,7 +51,7 @@ pub record NamesCommit (cells : Cells) (st : State) (x : Cell) (c : ℕ) (record
   pub unmarked : ¬ Marked st x commit.start
   pub value : IsThere cells x Data commit.start
 
--- a later commit of x lies below the floor and below each mark
+-- a later commit of x lies at or below the floor and each mark
 abbrev pub IsReplaced : State → Cell → Commit → Type 0
 IsReplaced st x a = (b : Commit) × (b ∈ st.commits) × Names b.writes x × (a.stamp < b.stamp) × IsCleared st b.stamp
 

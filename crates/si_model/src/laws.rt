@@ -1,6 +1,6 @@
 //! The laws of the machine. Each is a call that does nothing: its contract is the law.
 
-ghost use Rattle.si_model.specs.Laws.{Bounds, ClearsItsFloor, CommitSeen, FateSeen, FirstCommitterWins, Goes, GoneForGood, IsNeverStuck, IsSettled, Numbers, OneFate, OneMark, OneSnapshot, RefusesFirst, StartsLow, StaysCleared, TellsFate};
+ghost use Rattle.si_model.specs.Laws.{Bounds, ClearsItsFloor, CommitSeen, FateSeen, FirstCommitterWins, FloorStaysLow, Goes, GoneForGood, IsNeverStuck, IsSettled, Numbers, OneFate, OneMark, OneSnapshot, RefusesFirst, StartsLow, StaysCleared, TellsFate, TellsMarks};
 ghost use Rattle.si_model.specs.Machine.{IsReached, Reply, Request, State, Step};
 
 /// Each answered value is the last one committed by its session's start, in the commits as they are now.
@@ -53,7 +53,7 @@ pub fn fate_seen()
     ensures { (st : State) → IsReached st → FateSeen st }
 {}
 
-/// What lies below the floor and below each mark does so from then on.
+/// What lies at or below the floor and each mark does so from then on.
 pub fn stays_cleared()
     ensures { (st : State) → IsReached st → StaysCleared st }
 {}
@@ -71,6 +71,17 @@ pub fn goes_on()
 /// What is told of a start's fate is so, and after a cleaner's second step the mark is gone.
 pub fn tells_fate()
     ensures { (st : State) → IsReached st → TellsFate st }
+{}
+
+/// What is told of marks is so, in every state, reached or not: Pending, NoLock, Cleaning, Blocked, and a Conflict,
+/// whose cell has a mark or a later commit.
+pub fn tells_marks()
+    ensures { (st : State) → TellsMarks st }
+{}
+
+/// The floor is at or below each active start and one more than the top, and no open collector has a greater one.
+pub fn floor_stays_low()
+    ensures { (st : State) → IsReached st → FloorStaysLow st }
 {}
 
 /// A collector that ends has cleared all below its floor.

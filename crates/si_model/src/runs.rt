@@ -1,7 +1,7 @@
 //! Scripts that the machine can follow, which show that its rules are met by something.
 //! Each is a call that does nothing: its contract is the script.
 
-ghost use Rattle.si_model.specs.Runs.{CommitPoint, FirstCell, FirstHolder, LostTransfer, MarkStays, RolledBackTransfer, SplitTablet, StrandedMark, Transfer, WriteSkew, YoungerFirst};
+ghost use Rattle.si_model.specs.Scripts.{CommitPoint, FirstCell, FirstHolder, LostTransfer, MarkStays, RolledBackTransfer, SplitTablet, StrandedMark, Transfer, WriteSkew, YoungerFirst};
 
 /// One cell is set, held, committed and read.
 pub fn first_cell()
