@@ -1,5 +1,6 @@
 -- What a cluster answers, from what the tablet of a row answers.
 use Rattle.std.proofs.Common.{◌≡◌, ◌<◌, ◌≤◌, ◌+◌, ◌-◌, ℕ, zero, suc, List, [], ◌∷◌, map, set, length, Option, Some, None, IfSome, Result, Ok, Err, IfOk, IfErr, OnOk, OnErr, IsTrue, slice_get, slice_index_or, refl, sym, ap, ◌∙◌, subst, arith}
+use Rattle.std.proofs.lemmas.List.{length-set}
 use Rattle.std.specs.List.{AllByRecursion}
 use Rattle.cell_key.specs.Cells.{Cells, IsEditOf, IsNewest, after_edits, version}
 use Rattle.cell_key.specs.declared.edits.Edit.{Edit}
@@ -37,9 +38,6 @@ index_below (y ∷ xs) (suc i) x e = let rest = index_below xs i x e in omega ar
 -- what stands at an index that is in the list
 pub found_there : {A : Type 0} (xs : List A) (i : ℕ) (v x : A) → slice_get xs i ≡ Some v → x ≡ slice_index_or xs i x → slice_get xs i ≡ Some x
 found_there xs i v x e is = slice_get_at xs i x (index_below xs i v e) ∙ ap Some (sym is)
-
-same_some : {A : Type 0} (x y : A) → Some x ≡ Some y → x ≡ y
-same_some x y e = cc
 
 -- the tablet at a row's index has the row alone
 pub owner_at : (places : List PlaceView) (ts : List Tablet) (row : List ℕ) (i : ℕ) (t : Tablet) → IsTable places → ArePlaced ts None places → length ts ≡ length places → HasTabletAt places ts row i → slice_get ts i ≡ Some t → OwnsRow ts row i t
@@ -143,11 +141,6 @@ module _ (o : Option Contents) (next : ℕ) (ts : List Tablet) (order : InOrder 
 
 -- ---- the structure
 
-length_set : {A : Type 0} (xs : List A) (i : ℕ) (x : A) → length (set xs i x) ≡ length xs
-length_set [] i x = refl
-length_set (y ∷ xs) zero x = refl
-length_set (y ∷ xs) (suc i) x = ap suc (length_set xs i x)
-
 -- a tablet of the same range and the same files comes in the place of another
 pub matched_set : (limit next : ℕ) (places : List PlaceView) (ts : List Tablet) (i : ℕ) (t u : Tablet) → slice_get ts i ≡ Some t → range_of u ≡ range_of t → names_of u ≡ names_of t → IsMatched limit next places ts → IsMatched limit next places (set ts i u)
 matched_set limit next places ts i t u there same_range same_names matched = record {
@@ -156,7 +149,7 @@ matched_set limit next places ts i t u there same_range same_names matched = rec
   named_from = matched.named_from;
   named_to = matched.named_to;
   placed = placed_set ts i t u there same_range same_names None places matched.placed;
-  as_many = length_set ts i u ∙ matched.as_many;
+  as_many = length-set ts i u ∙ matched.as_many;
 }
 
 -- the tablet of a row would be too full

@@ -1,5 +1,7 @@
 -- What the calls that change one tablet leave of the cluster.
 use Rattle.std.proofs.Common.{◌≡◌, ◌≢◌, ◌≤◌, ◌<◌, ◌+◌, ◌-◌, ◌^◌, inl, inr, ℕ, zero, suc, Bool, true, false, cond, nat_eq, List, [], ◌∷◌, map, set, length, get_or, Option, Some, None, IfSome, Result, Ok, Err, OnOk, OnErr, slice_get, slice_index_or, refl, sym, ap, ◌∙◌, subst, arith}
+use Rattle.std.proofs.lemmas.Option.{same_Some}
+use Rattle.std.proofs.lemmas.List.{length-map, length-set}
 use Rattle.std.specs.List.{AllByRecursion, Contains}
 use Rattle.cell_key.specs.Entries.{Entry, merged}
 use Rattle.cell_key.specs.declared.refusals.Refusal.{Refusal}
@@ -18,9 +20,6 @@ use Rattle.row_atomic.specs.Changes.{HasValue, IsAt, IsBadCount, LacksErasures, 
 use Rattle.row_atomic.proofs.Answering.{found_there, matched_set}
 use Rattle.row_atomic.proofs.Placing.{is_placed, placed_files}
 use Rattle.row_atomic.proofs.Shares.{each_at, keeps_cells, set_there, set_elsewhere}
-
-same_some : {A : Type 0} (x y : A) → Some x ≡ Some y → x ≡ y
-same_some x y e = cc
 
 -- ---- numbers and indices
 
@@ -88,7 +87,7 @@ module _ (ts : List Tablet) (i : ℕ) (t u : Tablet) (there : slice_get ts i ≡
     where
       map_stays : (xs : List Tablet) (j : ℕ) → slice_get xs j ≡ Some t → map parts_of (set xs j u) ≡ map parts_of xs
       map_stays [] j e = refl
-      map_stays (x ∷ xs) zero e = ap (λ p. p ∷ map parts_of xs) (same_parts same.range same.memory same.files ∙ ap parts_of (sym (same_some x t e)))
+      map_stays (x ∷ xs) zero e = ap (λ p. p ∷ map parts_of xs) (same_parts same.range same.memory same.files ∙ ap parts_of (sym (same_Some x t e)))
       map_stays (x ∷ xs) (suc j) e = ap (λ ps. parts_of x ∷ ps) (map_stays xs j e)
 
   pub stays : OthersStay → (old new : Option Contents) (before after : ℕ) → UsesName old before new after → Keeps old before t new after u → InOrder old before ts
@@ -96,15 +95,6 @@ module _ (ts : List Tablet) (i : ℕ) (t u : Tablet) (there : slice_get ts i ≡
   stays law old new before after uses keeps order =
       let kept = keeps_cells law old new before after ts i t u there uses keeps order in
       (kept.in_order, kept.same)
-
-length_set : {A : Type 0} (xs : List A) (i : ℕ) (x : A) → length (set xs i x) ≡ length xs
-length_set [] i x = refl
-length_set (y ∷ xs) zero x = refl
-length_set (y ∷ xs) (suc i) x = ap suc (length_set xs i x)
-
-length_map : {A B : Type 0} (f : A → B) (xs : List A) → length (map f xs) ≡ length xs
-length_map f [] = refl
-length_map f (x ∷ xs) = ap suc (length_map f xs)
 
 -- ---- the structure
 
@@ -138,7 +128,7 @@ matched_listed limit old new before after places places' ts n i t u e there uses
       named_from = from_next old new before after uses matched.named_from;
       named_to = to matched.named_to;
       placed = subst (λ (ps : List PlaceView). ArePlaced (set ts i u) None ps) (sym is) (placed_files ts i t u there range None places matched.placed);
-      as_many = length_set ts i u ∙ matched.as_many ∙ sym (length_map (naming (suc i) (names_of u)) places) ∙ ap (λ (ps : List PlaceView). length ps) (sym is);
+      as_many = length-set ts i u ∙ matched.as_many ∙ sym (length-map places (naming (suc i) (names_of u))) ∙ ap (λ (ps : List PlaceView). length ps) (sym is);
     }
 
 -- other files leave the spots
@@ -152,19 +142,14 @@ same_spots n names (p ∷ ps) = ap (λ s. s ∷ map spot_of (with_files n names 
 
 -- ---- what stands at the index
 
-pub is_below : {A : Type 0} (xs : List A) (i : ℕ) (x : A) → slice_get xs i ≡ Some x → i < length xs
-is_below [] i x e = cc
-is_below (y ∷ xs) zero x e = omega arith
-is_below (y ∷ xs) (suc i) x e = let rest = is_below xs i x e in omega arith
-
 -- it is what was put there
 pub is_set : (ts : List Tablet) (i : ℕ) (t u x : Tablet) → slice_get ts i ≡ Some t → x ≡ slice_index_or (set ts i u) i x → x ≡ u
 is_set ts i t u x there is =
     let put = set_there ts i t u there in
-    same_some x u (sym (found_there (set ts i u) i u x put is) ∙ put)
+    same_Some x u (sym (found_there (set ts i u) i u x put is) ∙ put)
 
 pub is_there : (ts : List Tablet) (i : ℕ) (t x : Tablet) → slice_get ts i ≡ Some t → x ≡ slice_index_or ts i x → x ≡ t
-is_there ts i t x there is = same_some x t (sym (found_there ts i t x there is) ∙ there)
+is_there ts i t x there is = same_Some x t (sym (found_there ts i t x there is) ∙ there)
 
 pub has_room : (ts : List Tablet) (i : ℕ) (t u x y : Tablet) (capacity : ℕ) → slice_get ts i ≡ Some t → x ≡ slice_index_or ts i x → y ≡ slice_index_or (set ts i u) i y → length (names_of x) + 1 ≤ capacity → length (names_of u) ≤ length (names_of t) + 1 → length (names_of y) ≤ capacity
 has_room ts i t u x y capacity there x_is y_is room few =

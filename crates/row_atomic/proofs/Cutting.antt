@@ -1,5 +1,6 @@
 -- Where a tablet is cut, its two parts are placed as the table's two parts.
 use Rattle.std.proofs.Common.{◌≡◌, ◌≢◌, ℕ, zero, suc, List, [], ◌∷◌, ◌++◌, set, length, Option, Some, None, slice_get, refl, sym, ap, ◌∙◌, subst}
+use Rattle.std.proofs.lemmas.Option.{same_Some}
 use Rattle.std.specs.List.{AllByRecursion}
 use Rattle.std.specs.Cmp.Lexicographic.{nat_list_cmp_total}
 use Rattle.std.specs.Ordering.{ordering_reverse}
@@ -14,9 +15,6 @@ use Rattle.tablet.specs.declared.tablet.Tablet.{Tablet}
 use Rattle.row_atomic.specs.Clusters.{tablet_numbered, ArePlaced}
 use Rattle.row_atomic.proofs.Numbers.{AreOthers, Differ}
 use Rattle.row_atomic.proofs.Shares.{set_there, set_elsewhere}
-
-same_some : {A : Type 0} (x y : A) → Some x ≡ Some y → x ≡ y
-same_some x y e = cc
 
 pub pushed_before : {A : Type 0} (xs ys : List A) (j : ℕ) (x : A) → slice_get xs j ≡ Some x → slice_get (xs ++ ys) j ≡ Some x
 pushed_before [] ys j x e = cc
@@ -54,7 +52,7 @@ in_parts P (q ∷ before) h after all = in_parts P before h after all.1
 not_below : (end : Option (List ℕ)) (row e : List ℕ) → end ≡ Some e → byte_cmp row e ≡ Less → ¬ EndsBefore end row
 not_below None row e is less ends = ends
 not_below (Some d) row e is less ends =
-    let same : d ≡ e = same_some d e is in
+    let same : d ≡ e = same_Some d e is in
     let turned : byte_cmp e row ≡ Greater = nat_list_cmp_total.antisymm e row ∙ ap ordering_reverse less in
     let here : byte_cmp d row ≡ Greater = ap (λ (x : List ℕ). byte_cmp x row) same ∙ turned in
     clash (byte_cmp d row) ends here
@@ -84,7 +82,7 @@ module _ (ts : List Tablet) (i : ℕ) (t left right : Tablet) (row : List ℕ) (
   )
 
   this_is : (n : ℕ) (v : Tablet) → n ≡ suc i → tablet_numbered n ts ≡ Some v → t ≡ v
-  this_is n v n_i e = same_some t v (sym there ∙ ap (λ (k : ℕ). tablet_numbered k ts) (sym n_i) ∙ e)
+  this_is n v n_i e = same_Some t v (sym there ∙ ap (λ (k : ℕ). tablet_numbered k ts) (sym n_i) ∙ e)
 
   -- the two parts of the place of the tablet
   two_placed : (before : Option (List ℕ)) (p : PlaceView) (ps : List PlaceView) → p.tablet ≡ suc i → AreOthers (suc i) ps → ArePlaced ts before (p ∷ ps) → ArePlaced after_cut before (left_part row (suc (length ts)) p ∷ p ∷ ps)

@@ -8,7 +8,6 @@ pub mod Fresh
 pub mod Joined
 pub mod Limits
 pub mod Moving
-pub mod Naming
 pub mod Nexts
 pub mod Numbers
 pub mod Owners

@@ -1,5 +1,6 @@
 -- The limits of stamps and values are kept.
 use Rattle.std.proofs.Common.{◌≡◌, ℕ, Bool, true, false, cond, List, [], ◌∷◌, Option, Some, None, IfSome, refl, sym, subst, ◌∙◌}
+use Rattle.std.proofs.lemmas.Option.{same_Some}
 use Rattle.std.specs.declared.vec.Vec.{Vec}
 use Rattle.std.specs.Ordering.{eq_by_cmp}
 use Rattle.std.specs.FinMap.{empty, get, get-empty, get-insert, get-remove}
@@ -26,9 +27,6 @@ kept_none {Z} slots e =
       limits = λ key value h. absurd (nothing value (get empty key) (get-empty key_cmp key) h);
     })
 
-same_some : {A : Type 0} (x y : A) → Some x ≡ Some y → x ≡ y
-same_some x y e = cc
-
 edit_keeps : (row : List ℕ) (cells : Cells) (edit : Edit) → IsEditOf row edit → HasLimits cells → HasLimits (after_edit cells edit)
 edit_keeps row cells (Put key value) one limits q bytes h = go (eq_by_cmp key_cmp q key) refl (sym (get-insert key_cmp_total cells key value.items q) ∙ h)
   where
@@ -36,7 +34,7 @@ edit_keeps row cells (Put key value) one limits q bytes h = go (eq_by_cmp key_cm
     go true e found =
         let same : q ≡ key = same_at q key e in
         let here : IsVersion key.stamp value.items = record { from = one.from; to = one.to; value = one.value } in
-        subst (λ (k : CellKey). IsVersion k.stamp bytes) (sym same) (subst (λ (v : List ℕ). IsVersion key.stamp v) (same_some value.items bytes found) here)
+        subst (λ (k : CellKey). IsVersion k.stamp bytes) (sym same) (subst (λ (v : List ℕ). IsVersion key.stamp v) (same_Some value.items bytes found) here)
     go false e found = limits q bytes found
 edit_keeps row cells (Erase key) one limits q bytes h = go (eq_by_cmp key_cmp q key) refl (sym (get-remove key_cmp_total cells key q) ∙ h)
   where

@@ -1,5 +1,5 @@
 -- What opening a tablet's files anew leaves of the cluster.
-use Rattle.std.proofs.Common.{◌≡◌, ◌≢◌, ◌<◌, ℕ, zero, suc, List, [], ◌∷◌, set, length, get_or, Result, Ok, Err, OnOk, OnErr, Option, Some, None, IfSome, slice_get, refl, sym, ap, ◌∙◌, subst, arith}
+use Rattle.std.proofs.Common.{◌≡◌, ◌≢◌, ◌<◌, ◌≤◌, ◌⊎◌, inl, inr, IsErrOf, ℕ, zero, suc, List, [], ◌∷◌, set, length, get_or, Result, Ok, Err, OnOk, OnErr, Option, Some, None, IfSome, slice_get, refl, sym, ap, ◌∙◌, subst, arith}
 use Rattle.std.specs.List.{AllByRecursion, Contains}
 use Rattle.file_store.specs.Store.{Contents}
 use Rattle.sorted_file.specs.Opened.{HasFile}
@@ -7,8 +7,9 @@ use Rattle.tablet.specs.Views.{Holds, IsBelow, cells_at, memory_of, names_of, ra
 use Rattle.tablet.specs.Laws.{FilesAreThere, SameCells}
 use Rattle.tablet.specs.declared.tablet.Tablet.{Tablet}
 use Rattle.metadata_table.specs.Places.{PlaceView}
-use Rattle.metadata_table.specs.Table.{HasTablet, IsTable, moved, naming, with_files}
+use Rattle.metadata_table.specs.Table.{HasTablet, IsTable, most_servers, moved, naming, with_files}
 use Rattle.cell_key.specs.declared.refusals.Refusal.{Refusal}
+use Rattle.cell_key.specs.declared.refusals.Refusal.TheVariants.{UnknownTablet, UnknownServer}
 use Rattle.row_atomic.specs.Changes.{IsOn, Numbered}
 use Rattle.row_atomic.proofs.Changing.{contained}
 use Rattle.row_atomic.proofs.Numbers.{Differ, differ_of}
@@ -98,3 +99,11 @@ known_after n places places' ts' listed has =
     let names = names_of listed.tablet in
     let at = listed_at n names places has.1.0 has.0 has.1.1 has.1.2 in
     subst (HasTablet n) (sym listed.such) (naming n names has.0, (has.1.0, at.0, at.1), same_tablet n names has.0 ∙ has.2)
+
+-- a known tablet can be put on a known server
+pub not_refused : {C : Type 0} (n server : ℕ) (places : List PlaceView) (r : Result (Unit {0}) Refusal) → HasTablet n places → server < most_servers → (IsErrOf r UnknownTablet → ¬ HasTablet n places)
+    → (IsErrOf r UnknownServer → HasTablet n places × (most_servers ≤ server)) → IsErrOf r UnknownTablet ⊎ IsErrOf r UnknownServer → C
+not_refused n server places r has below tablet to (inl is) = absurd (tablet is has)
+not_refused n server places r has below tablet to (inr is) =
+    let most = (to is).1 in
+    absurd (omega arith)

@@ -1,5 +1,6 @@
 -- One tablet is replaced by two parts of it: the cells stay.
 use Rattle.std.proofs.Common.{◌≡◌, ◌≢◌, ℕ, Bool, true, false, cond, nat_eq, List, [], ◌∷◌, ◌++◌, map, set, length, Option, Some, None, ◌⊎◌, inl, inr, slice_get, refl, sym, ap, ◌∙◌, subst, ◌&&◌}
+use Rattle.std.proofs.lemmas.Option.{same_Some}
 use Rattle.std.specs.FinMap.{get, same_map}
 use Rattle.std.specs.List.{AllByRecursion}
 use Rattle.std.specs.Cmp.Lexicographic.{nat_list_cmp_total}
@@ -73,9 +74,6 @@ has_holder row (p ∷ q ∷ ps) rise = go (ends_or_not p.end row) (has_holder ro
 pub record IsNumbered (ts : List Tablet) (k : ℕ) : Type 0 where
   pub tablet : Tablet
   pub numbered : tablet_numbered k ts ≡ Some tablet
-
-same_some : {A : Type 0} (x y : A) → Some x ≡ Some y → x ≡ y
-same_some x y e = cc
 
 clash : (b : Bool) → b ≡ true → b ≡ false → ⊥
 clash b e h = cc
@@ -234,7 +232,7 @@ module _ (law : StaysInRange) (m n : Contents) (places : List PlaceView) (ts : L
       at_other j u other at_j = ap (λ (c : Cells). get c q) (each_at (λ v. cells_at n v ≡ cells_at m v) ts others j u at_j) ∙ (law m u (each_at (Holds m) ts holds j u at_j)).1 q (owns.others j u other at_j)
 
       nowhere_by : (b : Bool) (j : ℕ) → nat_eq j i ≡ b → (u : Tablet) → slice_get (set ts i right) j ≡ Some u → get (cells_at n u) q ≡ None
-      nowhere_by true j e u at_j = ap (λ (v : Tablet). get (cells_at n v) q) (same_some u right (sym at_j ∙ ap (slice_get (set ts i right)) (eqb-true j i e) ∙ set_there ts i t right there)) ∙ on_right
+      nowhere_by true j e u at_j = ap (λ (v : Tablet). get (cells_at n v) q) (same_Some u right (sym at_j ∙ ap (slice_get (set ts i right)) (eqb-true j i e) ∙ set_there ts i t right there)) ∙ on_right
       nowhere_by false j e u at_j = at_other j u (eqb-false j i e) (sym (set_elsewhere ts i j right (eqb-false j i e)) ∙ at_j)
 
       nowhere : (j : ℕ) (u : Tablet) → slice_get (set ts i right) j ≡ Some u → get (cells_at n u) q ≡ None

@@ -1,5 +1,6 @@
 -- Tablets stay placed where one is replaced by another of the same rows.
 use Rattle.std.proofs.Common.{◌≡◌, ◌≢◌, ℕ, zero, suc, Bool, true, false, cond, nat_eq, List, [], ◌∷◌, set, Option, Some, slice_get, refl, sym, ap, ◌∙◌}
+use Rattle.std.proofs.lemmas.Option.{same_Some}
 use Rattle.std.specs.List.{AllByRecursion}
 use borrow.Author.Tests.{eqb-true, eqb-false}
 use Rattle.metadata_table.specs.Places.{PlaceView}
@@ -9,16 +10,13 @@ use Rattle.tablet.specs.declared.tablet.Tablet.{Tablet}
 use Rattle.row_atomic.specs.Clusters.{tablet_numbered, IsPlaced, ArePlaced}
 use Rattle.row_atomic.proofs.Shares.{set_there, set_elsewhere}
 
-same_some : {A : Type 0} (x y : A) → Some x ≡ Some y → x ≡ y
-same_some x y e = cc
-
 not_same : (j i : ℕ) → suc j ≢ suc i → j ≢ i
 not_same j i other e = other (ap suc e)
 
 -- a list with an element in its own place is itself
 pub set_same : {A : Type 0} (xs : List A) (i : ℕ) (x : A) → slice_get xs i ≡ Some x → set xs i x ≡ xs
 set_same [] i x e = refl
-set_same (y ∷ xs) zero x e = ap (λ z. z ∷ xs) (sym (same_some y x e))
+set_same (y ∷ xs) zero x e = ap (λ z. z ∷ xs) (sym (same_Some y x e))
 set_same (y ∷ xs) (suc i) x e = ap (λ zs. y ∷ zs) (set_same xs i x e)
 
 module _ (ts : List Tablet) (i : ℕ) (t u : Tablet) (there : slice_get ts i ≡ Some t) (same_range : range_of u ≡ range_of t) where
@@ -36,7 +34,7 @@ module _ (ts : List Tablet) (i : ℕ) (t u : Tablet) (there : slice_get ts i ≡
       go : (b : Bool) → nat_eq j i ≡ b → IsAlike (suc j) v
       go true f =
           let j_i = eqb-true j i f in
-          let t_v : t ≡ v = same_some t v (sym there ∙ ap (slice_get ts) (sym j_i) ∙ e) in
+          let t_v : t ≡ v = same_Some t v (sym there ∙ ap (slice_get ts) (sym j_i) ∙ e) in
           record { tablet = u; numbered = ap (slice_get (set ts i u)) j_i ∙ set_there ts i t u there; range = same_range ∙ ap range_of t_v; names = same_names ∙ ap names_of t_v }
       go false f = record { tablet = v; numbered = set_elsewhere ts i j u (eqb-false j i f) ∙ e; range = refl; names = refl }
 
@@ -54,7 +52,7 @@ module _ (ts : List Tablet) (i : ℕ) (t u : Tablet) (there : slice_get ts i ≡
   other_number (suc j) v other e = set_elsewhere ts i j u (not_same j i other) ∙ e
 
   this_tablet : (n : ℕ) (v : Tablet) → n ≡ suc i → tablet_numbered n ts ≡ Some v → t ≡ v
-  this_tablet n v n_i e = same_some t v (sym there ∙ ap (λ (k : ℕ). tablet_numbered k ts) (sym n_i) ∙ e)
+  this_tablet n v n_i e = same_Some t v (sym there ∙ ap (λ (k : ℕ). tablet_numbered k ts) (sym n_i) ∙ e)
 
   this_number : (n : ℕ) → n ≡ suc i → tablet_numbered n (set ts i u) ≡ Some u
   this_number n n_i = ap (λ (k : ℕ). tablet_numbered k (set ts i u)) n_i ∙ set_there ts i t u there

@@ -1,17 +1,20 @@
 -- What an accepted compaction tells of the limits.
-use Rattle.std.proofs.Common.{◌≡◌, ◌≢◌, ◌≤◌, ◌<◌, ◌^◌, ◌+◌, ℕ, List, [], ◌∷◌, length, Option, Some, None, IfSome, slice_get, refl, subst, arith}
+use Rattle.std.proofs.Common.{◌≡◌, ◌≢◌, ◌≤◌, ◌<◌, ◌^◌, ◌+◌, ℕ, List, [], ◌∷◌, length, Option, Some, None, IfSome, slice_get, set, ◌++◌, ◌⊎◌, inl, inr, zero, suc, refl, sym, ap, ◌∙◌, subst, arith}
 use Rattle.cell_key.specs.Entries.{Entry}
+use Rattle.cell_key.specs.declared.edits.Edit.{Edit}
 use Rattle.file_store.specs.Store.{Contents}
+use Rattle.memtable.specs.Edits.{IsWithinLimits, with_edit, with_edits}
 use Rattle.metadata_table.specs.Places.{PlaceView}
 use Rattle.metadata_table.specs.Table.{IsHolder}
 use Rattle.sorted_file.specs.Grammar.{FitsIn, image_of}
 use Rattle.tablet.specs.Ranges.{seen}
-use Rattle.tablet.specs.Views.{Holds, memory_of, names_of, range_of}
+use Rattle.tablet.specs.Views.{Holds, UsesName, memory_of, names_of, range_of}
 use Rattle.tablet.specs.declared.tablet.Tablet.{Tablet}
-use Rattle.row_atomic.specs.Clusters.{InOrder, tablet_numbered}
+use Rattle.row_atomic.specs.Clusters.{HasTabletAt, InOrder, Overfills, tablet_numbered}
 use Rattle.row_atomic.specs.Changes.{IsFull, IsTooLarge, Numbered, OfHolder, written_by}
 use Rattle.row_atomic.specs.declared.cluster_compactions.Compaction.{Compaction}
 use Rattle.row_atomic.proofs.Changing.{at_order, numbered_at}
+use Rattle.row_atomic.proofs.Placing.{set_same}
 use Rattle.row_atomic.proofs.Shares.{at_told}
 use Rattle.row_atomic.proofs.Splitting.{one_holder}
 
@@ -60,11 +63,14 @@ pub is_less : (limit next : ℕ) → (limit ≤ next → ⊥) → next < limit
 is_less limit next not = omega (arith, not)
 
 module _ (ts : List Tablet) (i : ℕ) (t : Tablet) (there : slice_get ts i ≡ Some t) where
-  same_some : (x y : Tablet) → Some x ≡ Some y → x ≡ y
-  same_some x y e = cc
-
   pub numbered_not : (P : Tablet → Type 0) (n : ℕ) → n ≡ i + 1 → ¬ P t → ¬ Numbered P n ts
   numbered_not P n e not such = not (subst P (same (tablet_numbered n ts) such.tablet such.numbered (numbered_at ts n i t e there)) such.such)
+    where
+      same : (o : Option Tablet) (v : Tablet) → o ≡ Some v → o ≡ Some t → v ≡ t
+      same o v f g = cc
+
+  pub numbered_that : (P : Tablet → Type 0) (n : ℕ) → n ≡ i + 1 → Numbered P n ts → P t
+  numbered_that P n e such = subst P (same (tablet_numbered n ts) such.tablet such.numbered (numbered_at ts n i t e there)) such.such
     where
       same : (o : Option Tablet) (v : Tablet) → o ≡ Some v → o ≡ Some t → v ≡ t
       same o v f g = cc
@@ -78,3 +84,55 @@ module _ (ts : List Tablet) (i : ℕ) (t : Tablet) (there : slice_get ts i ≡ S
 -- the tablet of the place that holds a row
 pub holder_not : (P : Tablet → Type 0) (row : List ℕ) (places : List PlaceView) (ts : List Tablet) (p : PlaceView) → IsHolder row places p → ¬ Numbered P p.tablet ts → ¬ OfHolder P row places ts
 holder_not P row places ts p holder not such = not (subst (λ (q : PlaceView). Numbered P q.tablet ts) (one_holder row places such.place p such.holder holder) such.tablet)
+
+pub holder_that : (P : Tablet → Type 0) (row : List ℕ) (places : List PlaceView) (ts : List Tablet) (p : PlaceView) → IsHolder row places p → OfHolder P row places ts → Numbered P p.tablet ts
+holder_that P row places ts p holder such = subst (λ (q : PlaceView). Numbered P q.tablet ts) (one_holder row places such.place p such.holder holder) such.tablet
+
+-- a name that was used before nothing was written
+pub still_used : (old mid new : Option Contents) (before between after : ℕ) → after ≡ between → new ≡ mid → UsesName old before mid between → UsesName old before new after
+still_used old mid new before between after same_name same_files used =
+    subst (λ (n : ℕ). UsesName old before new n) (sym same_name) (subst (λ (o : Option Contents). UsesName old before o between) (sym same_files) used)
+
+-- ---- what is kept in memory
+
+is_that : (x y : Tablet) → Some x ≡ Some y → x ≡ y
+is_that x y e = cc
+
+-- the tablet that holds the row has room for the edits
+pub not_full : (places : List PlaceView) (ts : List Tablet) (row : List ℕ) (edits : List Edit) (i : ℕ) (t : Tablet) → HasTabletAt places ts row i → slice_get ts i ≡ Some t → IsWithinLimits (with_edits (memory_of t) edits) → ¬ Overfills places ts row edits
+not_full places ts row edits i t at there within full =
+    let number : at.place.tablet ≡ suc i = let number = at.number in omega arith in
+    let same : full.place ≡ at.place = one_holder row places full.place at.place full.holder at.holder in
+    let numbered : tablet_numbered full.place.tablet ts ≡ Some t = ap (λ (p : PlaceView). tablet_numbered p.tablet ts) same ∙ ap (λ (n : ℕ). tablet_numbered n ts) number ∙ there in
+    full.over (subst (λ (v : Tablet). IsWithinLimits (with_edits (memory_of v) edits)) (is_that t full.tablet (sym numbered ∙ full.numbered)) within)
+
+-- edits after others
+with_both : (es : List Entry) (xs ys : List Edit) → with_edits (with_edits es xs) ys ≡ with_edits es (xs ++ ys)
+with_both es [] ys = refl
+with_both es (x ∷ xs) ys = with_both (with_edit es x) xs ys
+
+-- what stands where one tablet was set
+where_set : (ts : List Tablet) (j i : ℕ) (t u v : Tablet) → slice_get ts i ≡ Some t → slice_get (set ts i u) j ≡ Some v → (slice_get ts j ≡ Some v) ⊎ ((slice_get ts j ≡ Some t) × (v ≡ u))
+where_set [] j i t u v there e = inl e
+where_set (x ∷ xs) zero zero t u v there e = inr (there, sym (is_that u v e))
+where_set (x ∷ xs) zero (suc i) t u v there e = inl e
+where_set (x ∷ xs) (suc j) zero t u v there e = inl e
+where_set (x ∷ xs) (suc j) (suc i) t u v there e = where_set xs j i t u v there e
+
+numbered_set : (ts : List Tablet) (n i : ℕ) (t u v : Tablet) → slice_get ts i ≡ Some t → tablet_numbered n (set ts i u) ≡ Some v → (tablet_numbered n ts ≡ Some v) ⊎ ((tablet_numbered n ts ≡ Some t) × (v ≡ u))
+numbered_set ts zero i t u v there e = inl e
+numbered_set ts (suc j) i t u v there e = where_set ts j i t u v there e
+
+-- After edits a tablet has the room that it had, less theirs.
+pub room_after : (places : List PlaceView) (ts : List Tablet) (i : ℕ) (t u : Tablet) (edits : List Edit) → slice_get ts i ≡ Some t → memory_of u ≡ with_edits (memory_of t) edits
+    → (row : List ℕ) (later : List Edit) → Overfills places (set ts i u) row later → Overfills places ts row later ⊎ Overfills places ts row (edits ++ later)
+room_after places ts i t u edits there memory row later full = go (numbered_set ts full.place.tablet i t u full.tablet there full.numbered)
+  where
+    go : (tablet_numbered full.place.tablet ts ≡ Some full.tablet) ⊎ ((tablet_numbered full.place.tablet ts ≡ Some t) × (full.tablet ≡ u)) → Overfills places ts row later ⊎ Overfills places ts row (edits ++ later)
+    go (inl e) = inl (record { place = full.place; holder = full.holder; tablet = full.tablet; numbered = e; over = full.over })
+    go (inr e) =
+        let all : with_edits (memory_of full.tablet) later ≡ with_edits (memory_of t) (edits ++ later) = ap (λ (es : List Entry). with_edits es later) (ap memory_of e.1 ∙ memory) ∙ with_both (memory_of t) edits later in
+        inr (record { place = full.place; holder = full.holder; tablet = t; numbered = e.0; over = λ within. full.over (subst (λ (es : List Entry). IsWithinLimits es) (sym all) within) })
+
+pub room_stays : (places : List PlaceView) (ts : List Tablet) (i : ℕ) (t u : Tablet) → slice_get ts i ≡ Some t → u ≡ t → (row : List ℕ) (later : List Edit) → Overfills places (set ts i u) row later → Overfills places ts row later
+room_stays places ts i t u there same row later full = subst (λ (vs : List Tablet). Overfills places vs row later) (ap (set ts i) same ∙ set_same ts i t there) full

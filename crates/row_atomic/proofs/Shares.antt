@@ -1,5 +1,6 @@
 -- The cells of a cluster at a row are those of its one tablet, and what follows for calls that change one tablet.
 use Rattle.std.proofs.Common.{◌≡◌, ◌≢◌, ℕ, zero, suc, false, List, [], ◌∷◌, map, set, Option, Some, None, IfSome, slice_get, refl, sym, ap, ◌∙◌, subst}
+use Rattle.std.proofs.lemmas.Option.{same_Some}
 use Rattle.std.specs.FinMap.{get, same_map}
 use Rattle.std.specs.List.{AllByRecursion}
 use Rattle.std.specs.declared.cmp.Ordering.{Ordering}
@@ -20,13 +21,10 @@ use Rattle.row_atomic.proofs.Joined.{joined_at, joined_set, edits_elsewhere, edi
 
 -- ---- lists with one element replaced
 
-same_some : {A : Type 0} (x y : A) → Some x ≡ Some y → x ≡ y
-same_some x y e = cc
-
 module _ {A : Type 0} where
   pub each_at : (P : A → Type 0) (xs : List A) → AllByRecursion P xs → (j : ℕ) (x : A) → slice_get xs j ≡ Some x → P x
   each_at P [] all j x e = cc
-  each_at P (y ∷ xs) all zero x e = subst P (same_some y x e) all.0
+  each_at P (y ∷ xs) all zero x e = subst P (same_Some y x e) all.0
   each_at P (y ∷ xs) all (suc j) x e = each_at P xs all.1 j x e
 
   pub each_map : (P Q : A → Type 0) → ((x : A) → P x → Q x) → (xs : List A) → AllByRecursion P xs → AllByRecursion Q xs
@@ -53,7 +51,7 @@ module _ {A : Type 0} where
   -- a list whose maps are those of another one, but for one element that maps alike
   pub map_set : {B : Type 0} (f g : A → B) (xs : List A) (i : ℕ) (x y : A) → slice_get xs i ≡ Some x → AllByRecursion (λ z. f z ≡ g z) xs → f y ≡ g x → map f (set xs i y) ≡ map g xs
   map_set f g [] i x y e all h = refl
-  map_set f g (z ∷ xs) zero x y e all h = ap (λ b. b ∷ map f xs) (h ∙ ap g (sym (same_some z x e))) ∙ ap (λ bs. g z ∷ bs) (map_same xs all.1)
+  map_set f g (z ∷ xs) zero x y e all h = ap (λ b. b ∷ map f xs) (h ∙ ap g (sym (same_Some z x e))) ∙ ap (λ bs. g z ∷ bs) (map_same xs all.1)
     where
       map_same : (zs : List A) → AllByRecursion (λ z. f z ≡ g z) zs → map f zs ≡ map g zs
       map_same [] all = refl
@@ -65,7 +63,7 @@ module _ {A : Type 0} where
 -- what holds of told contents holds of what they are
 pub at_told : (P : Contents → Type 0) (o : Option Contents) (m : Contents) → o ≡ Some m → IfSome o P → P m
 at_told P None m e h = cc
-at_told P (Some n) m e h = subst P (same_some n m e) h
+at_told P (Some n) m e h = subst P (same_Some n m e) h
 
 pub cells_told : (o : Option Contents) (m : Contents) (ts : List Tablet) → o ≡ Some m → cells_in o ts ≡ cells_in (Some m) ts
 cells_told o m ts e = ap (λ (p : Option Contents). cells_in p ts) e
@@ -154,9 +152,9 @@ keeps_cells law None new before after ts i t u there uses keeps order = absurd (
     told_not : (m : Contents) → None ≡ Some m → ⊥
     told_not m e = cc
 keeps_cells law (Some m) None before after ts i t u there uses keeps order =
-    let holds = subst (λ (o : Contents). AllByRecursion (Holds o) ts) (sym (same_some m order.contents order.are_told)) order.each_open in
+    let holds = subst (λ (o : Contents). AllByRecursion (Holds o) ts) (sym (same_Some m order.contents order.are_told)) order.each_open in
     absurd (keeps (each_at (Holds m) ts holds i t there) (each_at (IsBelow before) ts order.each_below i t there))
 keeps_cells law (Some m) (Some n) before after ts i t u there uses keeps order =
-    let holds = subst (λ (o : Contents). AllByRecursion (Holds o) ts) (sym (same_some m order.contents order.are_told)) order.each_open in
+    let holds = subst (λ (o : Contents). AllByRecursion (Holds o) ts) (sym (same_Some m order.contents order.are_told)) order.each_open in
     let kept = keeps (each_at (Holds m) ts holds i t there) (each_at (IsBelow before) ts order.each_below i t there) in
     compacted law m n before after ts i t u holds order.each_below there uses kept.0 kept.1 kept.2

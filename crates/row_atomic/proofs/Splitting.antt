@@ -1,5 +1,7 @@
 -- What a split leaves of the cluster.
 use Rattle.std.proofs.Common.{◌≡◌, ◌≤◌, ◌<◌, ◌+◌, ◌^◌, inl, inr, ℕ, zero, suc, Bool, true, false, cond, nat_eq, List, [], ◌∷◌, ◌++◌, map, set, length, get_or, Option, Some, None, IfSome, IsSomeAnd, IsTrue, Err, IsErrOf, slice_get, refl, sym, ap, ◌∙◌, subst, arith}
+use Rattle.std.proofs.lemmas.Option.{same_Some}
+use Rattle.std.proofs.lemmas.List.{length-set}
 use Rattle.std.specs.List.{AllByRecursion, Contains}
 use Rattle.cell_key.specs.declared.refusals.Refusal.{Refusal}
 use Rattle.cell_key.specs.declared.refusals.Refusal.TheVariants.{Device, NoMemory, Damaged, TooManyFiles, FileTooLarge, Exhausted}
@@ -21,9 +23,6 @@ use Rattle.row_atomic.proofs.Owners.{holder_owns}
 use Rattle.row_atomic.proofs.Parts.{parted}
 use Rattle.row_atomic.proofs.Shares.{each_at, each_set}
 
-same_some : {A : Type 0} (x y : A) → Some x ≡ Some y → x ≡ y
-same_some x y e = cc
-
 contains_part : (pre : List PlaceView) (p : PlaceView) (post : List PlaceView) → Contains (pre ++ p ∷ post) p
 contains_part [] p post = (0, omega arith, refl)
 contains_part (q ∷ pre) p post =
@@ -36,7 +35,7 @@ pub holder_known : (row : List ℕ) (places : List PlaceView) (p : PlaceView) �
 holder_known row places p holder = (p, subst (λ (ps : List PlaceView). Contains ps p) (sym holder.parts) (contains_part holder.before p holder.after), refl)
 
 pub emptied_at : (ts : List Tablet) (n i : ℕ) (t : Tablet) → n ≡ i + 1 → slice_get ts i ≡ Some t → Numbered IsEmptied n ts → memory_of t ≡ []
-emptied_at ts n i t e there emptied = subst IsEmptied (same_some emptied.tablet t (sym emptied.numbered ∙ numbered_at ts n i t e there)) emptied.such
+emptied_at ts n i t e there emptied = subst IsEmptied (same_Some emptied.tablet t (sym emptied.numbered ∙ numbered_at ts n i t e there)) emptied.such
 
 -- where the memtable was empty no limit is met
 pub read_alone : {T : Type 0} (x : Refusal) → IsMinorRefusal x → (IsErrOf {T = T} (Err x) TooManyFiles → ⊥) → (IsErrOf {T = T} (Err x) Exhausted → ⊥) → (IsErrOf {T = T} (Err x) FileTooLarge → ⊥) → IsReadRefusal x
@@ -59,11 +58,6 @@ stays_over ts xs e i t u there law old new before after uses keeps order =
 length_push : {A : Type 0} (xs : List A) (x : A) → length (xs ++ x ∷ []) ≡ suc (length xs)
 length_push [] x = refl
 length_push (y ∷ xs) x = ap suc (length_push xs x)
-
-length_set : {A : Type 0} (xs : List A) (i : ℕ) (x : A) → length (set xs i x) ≡ length xs
-length_set [] i x = refl
-length_set (y ∷ xs) zero x = refl
-length_set (y ∷ xs) (suc i) x = ap suc (length_set xs i x)
 
 length_cut : (row : List ℕ) (n : ℕ) (ps ps' : List PlaceView) → Cuts row n ps ps' → length ps' ≡ suc (length ps)
 length_cut row n ps ps' (Cuts.cuts_last none) = refl
@@ -90,7 +84,7 @@ module _ (places : List PlaceView) (ts : List Tablet) (i : ℕ) (t left right : 
         named_from = next.named_from;
         named_to = next.named_to;
         placed = cut_placed ts i t left right row there left_range right_range left_names right_names None p places places' index (differ_of places table.distinct) holder matched.placed (subst (λ (k : ℕ). Cuts row k places places') count cut);
-        as_many = length_push (set ts i right) left ∙ ap suc (length_set ts i right ∙ matched.as_many) ∙ sym (length_cut row n places places' cut);
+        as_many = length_push (set ts i right) left ∙ ap suc (length-set ts i right ∙ matched.as_many) ∙ sym (length_cut row n places places' cut);
       }
 
   pub parts_keep : StaysInRange → OthersStay → (old new : Option Contents) (before after : ℕ) → ArePlaced ts None places → length ts ≡ length places → UsesName old before new after
@@ -222,8 +216,8 @@ module _ (n : ℕ) (names : List ℕ) where
       inr (omega arith)
 
 -- after a minor compaction of the holder
-pub holder_flushed : (row : List ℕ) (places places' : List PlaceView) (ts ts' : List Tablet) (p : PlaceView) → IsHolder row places p → Numbered (λ t. places' ≡ with_files p.tablet (names_of t) places) p.tablet ts' → Remakes IsFlushed p.tablet ts ts' → OfHolder IsEmptied row places' ts'
-holder_flushed row places places' ts ts' p holder listed made =
+pub holder_flushed : (next : ℕ) (row : List ℕ) (places places' : List PlaceView) (ts ts' : List Tablet) (p : PlaceView) → IsHolder row places p → Numbered (λ t. places' ≡ with_files p.tablet (names_of t) places) p.tablet ts' → Remakes (IsFlushed next) p.tablet ts ts' → OfHolder IsEmptied row places' ts'
+holder_flushed next row places places' ts ts' p holder listed made =
     let names = names_of listed.tablet in
     record {
       place = naming p.tablet names p;

@@ -1,5 +1,6 @@
 -- A sweep removes what its list of names doesn't keep, and tablets don't see it.
 use Rattle.std.proofs.Common.{◌≡◌, ◌≢◌, ◌==◌, ◌||◌, ◌&&◌, ◌⊎◌, inl, inr, ℕ, zero, suc, Bool, true, false, not, cond, List, [], ◌∷◌, map, length, Option, Some, None, option_map, IfSome, Result, Ok, Err, OnOk, IsTrue, slice_get, refl, sym, ap, ◌∙◌, subst, arith}
+use Rattle.std.proofs.lemmas.Option.{same_Some}
 use Rattle.std.specs.Prelude.{◌↔◌, is_some}
 use Rattle.std.specs.Ordering.{nat_cmp, eq_by_cmp, is_eq}
 use Rattle.std.specs.Cmp.{nat_cmp_total, unsigned_tied}
@@ -232,9 +233,6 @@ each_of : {A : Type 0} (P : A → Type 0) (xs : List A) → ((j : ℕ) (x : A) �
 each_of P [] h = tt
 each_of P (x ∷ xs) h = (h 0 x refl, each_of P xs (λ j y e. h (suc j) y e))
 
-same_some : {A : Type 0} (x y : A) → Some x ≡ Some y → x ≡ y
-same_some x y e = cc
-
 maps_alike : {A B : Type 0} (f g : A → B) (xs : List A) → AllByRecursion (λ x. f x ≡ g x) xs → map f xs ≡ map g xs
 maps_alike f g [] h = refl
 maps_alike f g (x ∷ xs) h = ap (λ y. y ∷ map f xs) h.0 ∙ ap (λ ys. g x ∷ ys) (maps_alike f g xs h.1)
@@ -248,7 +246,7 @@ module _ (places : List PlaceView) (ts : List Tablet) (table : IsTable places) (
   NamedBy p = (t : Tablet) → tablet_numbered p.tablet ts ≡ Some t → names_of t ≡ p.files
 
   named_by : AllByRecursion NamedBy places
-  named_by = is_placed NamedBy ts (λ before q h t e. ap names_of (same_some t h.tablet (sym e ∙ h.numbered)) ∙ h.names) None places placed
+  named_by = is_placed NamedBy ts (λ before q h t e. ap names_of (same_Some t h.tablet (sym e ∙ h.numbered)) ∙ h.names) None places placed
 
   keeps_names : AllByRecursion KeepsNames places
   keeps_names = each_map (λ p. NamedBy p × ((name : ℕ) → has name p.files ≡ true → any_has places name ≡ true)) KeepsNames

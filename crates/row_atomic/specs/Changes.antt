@@ -1,6 +1,5 @@
 -- What the calls of a cluster do to its tablets and their places.
-use Rattle.std.specs.Prelude.{◌≡◌, ◌≢◌, ◌≤◌, ◌<◌, ◌+◌, ◌⊎◌, ℕ, false, nat_lt, List, [], ◌∷◌, length, map, take, Option, Some, None, IsSome, IsNone, IsSomeAnd, IfSome, ⊤}
-use Rattle.std.specs.FinMap.{get}
+use Rattle.std.specs.Prelude.{◌≡◌, ◌≢◌, ◌≤◌, ◌+◌, ◌⊎◌, ℕ, false, nat_lt, List, [], ◌∷◌, length, map, take, drop, Option, Some, IsSome, IsSomeAnd, IfSome, ⊤}
 use Rattle.std.specs.List.{AllByRecursion, Contains, slice_get}
 use Rattle.cell_key.specs.Entries.{Entry}
 use Rattle.cell_key.specs.declared.refusals.Refusal.{Refusal}
@@ -13,7 +12,7 @@ use Rattle.compaction.specs.Writing.{written}
 use Rattle.metadata_table.specs.Places.{PlaceView}
 use Rattle.metadata_table.specs.Table.{IsHolder, Cuts, moved, with_files}
 use Rattle.tablet.specs.Ranges.{seen}
-use Rattle.tablet.specs.Views.{range_of, memory_of, files_of, names_of, lists_of}
+use Rattle.tablet.specs.Views.{range_of, memory_of, files_of, names_of, lists_of, with_name}
 use Rattle.tablet.specs.Compactions.{IsCompactionRefusal}
 use Rattle.tablet.specs.declared.ranges.RowRange.{RowRange}
 use Rattle.tablet.specs.declared.tablet.Tablet.{Tablet}
@@ -61,44 +60,27 @@ pub record Remakes (Made : Tablet → Tablet → Type 0) (n : ℕ) (old new : Li
   pub made : Made was is
   pub others : (other : ℕ) → other ≢ n → tablet_numbered other new ≡ tablet_numbered other old
 
--- ---- names of files
-
--- Files that are told are told still, and those whose names are below the first one, or not below the second, are as they were.
-abbrev pub KeepsBeside : ℕ → ℕ → Option Contents → Option Contents → Type 0
-KeepsBeside from to None new = IsNone new
-KeepsBeside from to (Some m) new = IsSomeAnd new (λ n. (name : ℕ) → (name < from) ⊎ (to ≤ name) → get n name ≡ get m name)
-
--- Files were written under the next names alone, which are not used again.
-pub record UsesNames (old : Option Contents) (before : ℕ) (new : Option Contents) (after : ℕ) : Type 0 where
-  pub later : before ≤ after
-  pub others : KeepsBeside before after old new
-
 -- ---- compactions
 
--- one more, if there are entries to be written
-abbrev pub more_by : List Entry → ℕ → ℕ
-more_by [] n = n
-more_by (e ∷ es) n = n + 1
-
--- the memtable was emptied, into one file more if it had entries
-pub record IsFlushed (t u : Tablet) : Type 0 where
+-- the memtable was emptied, into a file of the next name if it had entries
+pub record IsFlushed (next : ℕ) (t u : Tablet) : Type 0 where
   pub memory : memory_of u ≡ []
-  pub files : length (names_of u) ≡ more_by (memory_of t) (length (names_of t))
+  pub names : names_of u ≡ with_name next (memory_of t) (names_of t)
 
--- this many files became one
-pub record IsMerged (count : ℕ) (t u : Tablet) : Type 0 where
+-- this many of the newest files became one
+pub record IsMerged (count next : ℕ) (t u : Tablet) : Type 0 where
   pub memory : memory_of u ≡ memory_of t
-  pub files : length (names_of u) + count ≡ length (names_of t) + 1
+  pub names : names_of u ≡ next ∷ drop count (names_of t)
 
--- all became one file
-pub record IsWhole (t u : Tablet) : Type 0 where
+-- the memtable and all files became one file
+pub record IsWhole (next : ℕ) (t u : Tablet) : Type 0 where
   pub memory : memory_of u ≡ []
-  pub files : length (names_of u) ≡ 1
+  pub names : names_of u ≡ next ∷ []
 
-abbrev pub IsMade : Compaction → Tablet → Tablet → Type 0
-IsMade Minor t u = IsFlushed t u
-IsMade (Merge count) t u = IsMerged count t u
-IsMade Major t u = IsWhole t u
+abbrev pub IsMade : Compaction → ℕ → Tablet → Tablet → Type 0
+IsMade Minor next t u = IsFlushed next t u
+IsMade (Merge count) next t u = IsMerged count next t u
+IsMade Major next t u = IsWhole next t u
 
 -- an entry has a value
 abbrev pub HasValue : Entry → Type 0
@@ -177,6 +159,25 @@ pub record IsCut (row : List ℕ) (left : ℕ) (old new : List PlaceView) : Type
   pub names : List ℕ
   pub cut : Cuts row left (with_files place.tablet names old) new
 
+-- The tablet that holds the row was flushed and cut in two: the left part has the number. Both parts have its files and empty
+-- memtables. All others stay.
+pub record IsHalved (next : ℕ) (row : List ℕ) (left : ℕ) (places : List PlaceView) (old new : List Tablet) : Type 0 where
+  pub place : PlaceView
+  pub holder : IsHolder row places place
+  pub was : Tablet
+  pub was_numbered : tablet_numbered place.tablet old ≡ Some was
+  pub left_part : Numbered (IsFlushed next was) left new
+  pub right_part : Numbered (IsFlushed next was) place.tablet new
+  pub others : (other : ℕ) → other ≢ left → other ≢ place.tablet → tablet_numbered other new ≡ tablet_numbered other old
+
+-- all tablets are as before, or that of the number was flushed
+abbrev pub MayBeFlushed : ℕ → ℕ → List Tablet → List Tablet → Type 0
+MayBeFlushed next n old new = (map parts_of new ≡ map parts_of old) ⊎ Remakes (IsFlushed next) n old new
+
+-- so it is for the tablet that holds the row
+abbrev pub MayHolderBeFlushed : ℕ → List ℕ → List PlaceView → List Tablet → List Tablet → Type 0
+MayHolderBeFlushed next row places old new = (place : PlaceView) → IsHolder row places place → MayBeFlushed next place.tablet old new
+
 -- the same files were opened anew, with an empty memtable
 pub record IsReopened (t u : Tablet) : Type 0 where
   pub memory : memory_of u ≡ []
@@ -190,6 +191,12 @@ pub record IsMoved (n server : ℕ) (old new : List PlaceView) : Type 0 where
 -- a tablet is on a server
 abbrev pub IsOn : ℕ → ℕ → List PlaceView → Type 0
 IsOn n server places = (p : PlaceView) × Contains places p × (p.tablet ≡ n) × (p.server ≡ server)
+
+-- A tablet that is on the server stays so, and nothing is done. Any other is flushed and put there.
+pub record IsPut {F : Type 0} (n server : ℕ) (old new : ClusterState F) : Type 0 where
+  pub same : IsOn n server old.places → new ≡ old
+  pub put : ¬ IsOn n server old.places → IsMoved n server old.places new.places
+  pub flushed : ¬ IsOn n server old.places → Remakes (IsFlushed old.next_name) n old.tablets new.tablets
 
 abbrev pub IsSplitRefusal : Refusal → Type 0
 IsSplitRefusal refused.BadSplit = ⊤

@@ -52,6 +52,21 @@ Spot = Option (List ℕ) × (ℕ × ℕ)
 abbrev pub spot_of : PlaceView → Spot
 spot_of p = (p.end, (p.tablet, p.server))
 
+-- What lies below the memtables: the bytes of the files, as far as they are told, the most bytes of a sorted file, the next file's
+-- name, and the places of the tablets with their files.
+pub record Storage : Type 0 where
+  pub told : Option Contents
+  pub file_limit : ℕ
+  pub next_name : ℕ
+  pub places : List PlaceView
+
+abbrev pub storage_of : {F : Type 0} → (F → Option Contents) → ClusterState F → Storage
+storage_of contents state = record { told = contents state.files; file_limit = state.file_limit; next_name = state.next_name; places = state.places }
+
+-- rows that are kept in memory alone
+abbrev pub no_storage : Storage
+no_storage = record { told = None; file_limit = 0; next_name = 0; places = [] }
+
 -- where the tablets are, in the order of their ends
 abbrev pub spots_of : {F : Type 0} → ClusterState F → List Spot
 spots_of state = map spot_of state.places

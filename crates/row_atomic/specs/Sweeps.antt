@@ -1,9 +1,10 @@
 -- What a sweep of files removes (Bigtable: the master removes files that no tablet has by mark and sweep).
-use Rattle.std.specs.Prelude.{◌≡◌, ◌==◌, ◌||◌, ◌⊎◌, ℕ, Bool, not, false, List, [], ◌∷◌, length, filter, Option, Some, None, IsNone, IsSomeAnd}
+use Rattle.std.specs.Prelude.{◌≡◌, ◌==◌, ◌||◌, ◌⊎◌, ℕ, Bool, not, false, List, [], ◌∷◌, length, filter, Option, Some, None, IsNone, IsSomeAnd, IfSome, option_map}
 use Rattle.std.specs.List.{list_any}
 use Rattle.std.specs.FinMap.{get, keys, retain_keys}
 use Rattle.file_store.specs.Store.{Contents, without_file}
 use Rattle.metadata_table.specs.Places.{PlaceView}
+use Rattle.row_atomic.specs.Clusters.{ClusterState}
 
 -- whether a file stays: it is the root, 0, or some tablet has it
 abbrev pub is_kept : List PlaceView → ℕ → Bool
@@ -31,3 +32,14 @@ abbrev pub MayLackUnkept : List PlaceView → Option Contents → Option Content
 MayLackUnkept places None new = IsNone new
 MayLackUnkept places (Some m) new =
     IsSomeAnd new (λ n. (name : ℕ) → (get n name ≡ get m name) ⊎ ((is_kept places name ≡ false) × (get n name ≡ None)))
+
+-- All files went that don't stay, and the count is of these. Nothing else changed.
+pub record IsSwept {F : Type 0} (contents : F → Option Contents) (count : ℕ) (old new : ClusterState F) : Type 0 where
+  pub files : contents new.files ≡ option_map (swept old.places) (contents old.files)
+  pub counted : IfSome (contents old.files) (λ m. count ≡ count_swept old.places m)
+  pub rest : new ≡ record old { files = new.files }
+
+-- Some files may have gone that don't stay. Nothing else changed.
+pub record IsSweptInPart {F : Type 0} (contents : F → Option Contents) (old new : ClusterState F) : Type 0 where
+  pub files : MayLackUnkept old.places (contents old.files) (contents new.files)
+  pub rest : new ≡ record old { files = new.files }

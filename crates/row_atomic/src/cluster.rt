@@ -48,14 +48,8 @@ fn first_tablet(alloc: Global) -> Result<(MetadataTable, Vec<Tablet>), Refusal>
 }
 
 impl<F: Files> Cluster<F> {
-    /// The least number of bytes to which a sorted file may be limited.
-    pub const LEAST_FILE_LIMIT: u64 = 32;
-
-    /// The greatest number of bytes to which a sorted file may be limited.
-    pub const MOST_FILE_LIMIT: u64 = 1_073_741_824;
-
     /// A new store over these files: tablet 1 on server 0, with all rows and no files of its own. A sorted file has at most
-    /// `file_limit` bytes.
+    /// `file_limit` bytes, which is 32 to 1,073,741,824.
     ///
     /// # Errors
     ///

@@ -1,6 +1,6 @@
 //! Compactions of a cluster's tablets. Room for the new list of names is made before the tablet changes.
 
-ghost use Rattle.std.specs.Prelude.{◌≡◌, ◌≤◌, ◌<◌, ◌+◌, ◌^◌, ◌↔◌, [], length, vec_capacity, IfErr, IfOk, IfSome, IsErrOf, OnErr, OnOk};
+ghost use Rattle.std.specs.Prelude.{◌≡◌, ◌≤◌, ◌<◌, ◌+◌, ◌^◌, ◌↔◌, ◌⊎◌, [], length, vec_capacity, IfErr, IfOk, IfSome, IsErrOf, IsOk, OnErr, OnOk};
 ghost use Rattle.metadata_table.specs.Table.{HasTablet, IsTable, with_files};
 ghost use Rattle.sorted_file.specs.Grammar.{FitsIn};
 ghost use Rattle.sorted_file.specs.Sources.{HasReason};
@@ -36,7 +36,7 @@ fn compact<F: Files>(
 ) -> Result<(), Refusal>
     requires least { 32 ≤ file_limit }
     requires most { file_limit ≤ 1073741824 }
-    ensures made { OnOk result (IsMade compaction tablet.old tablet.new) }
+    ensures made { OnOk result (IsMade compaction next_name.old tablet.old tablet.new) }
     ensures few { OnOk result (length (names_of tablet.new) ≤ length (names_of tablet.old) + 1) }
     ensures cleaned { OnOk result (IfSome (F.contents files.old) (λ m. HoldsAt m tablet.old → IsBelow next_name.old tablet.old → IsCleaned compaction (F.contents files.new) tablet.new)) }
     ensures keeps { Keeps (F.contents files.old) next_name.old tablet.old (F.contents files.new) next_name.new tablet.new }
@@ -50,6 +50,7 @@ fn compact<F: Files>(
     ensures exhausted { IsErrOf result Refusal.Exhausted → 2 ^ 63 ≤ next_name.old }
     ensures needed { IsErrOf result Refusal.Exhausted → ¬ WritesNone compaction tablet.old }
     ensures left { OnOk result (2 ^ 63 ≤ next_name.old → WritesNone compaction tablet.old) }
+    ensures empty { WritesNone compaction tablet.old → IsOk result × ((next_name.new ≡ next_name.old) × (F.contents files.new ≡ F.contents files.old)) }
     ensures large { IsErrOf result Refusal.FileTooLarge → IfSome (F.contents files.old) (λ m. HoldsAt m tablet.old → ¬ FitsIn file_limit (written_by compaction m tablet.old)) }
     ensures fits { OnOk result (IfSome (F.contents files.old) (λ m. HoldsAt m tablet.old → FitsIn file_limit (written_by compaction m tablet.old))) }
     ensures damaged { IsErrOf result Refusal.Damaged → IfSome (F.contents files.old) (λ m. ¬ HoldsAt m tablet.old) }
@@ -132,7 +133,7 @@ impl<F: Files> Cluster<F> {
         ensures kept { KeepsMap F.contents self.old self.new }
         ensures limit { self.new.file_limit ≡ self.old.file_limit }
         ensures name { UsesName (F.contents self.old.files) self.old.next_name (F.contents self.new.files) self.new.next_name }
-        ensures made { OnOk result (Remakes (IsMade compaction) tablet self.old.tablets self.new.tablets) }
+        ensures made { OnOk result (Remakes (IsMade compaction self.old.next_name) tablet self.old.tablets self.new.tablets) }
         ensures cleaned { Holds F.contents self.old → OnOk result (Numbered (IsCleaned compaction (F.contents self.new.files)) tablet self.new.tablets) }
         ensures listed { OnOk result (Numbered (λ t. self.new.places ≡ with_files tablet (names_of t) self.old.places) tablet self.new.tablets) }
         ensures err { OnErr result (IsAsBefore self.old self.new) }
@@ -143,6 +144,7 @@ impl<F: Files> Cluster<F> {
         ensures exhausted { IsErrOf result Refusal.Exhausted → 2 ^ 63 ≤ self.old.next_name }
         ensures needed { IsErrOf result Refusal.Exhausted → ¬ Numbered (WritesNone compaction) tablet self.old.tablets }
         ensures left { OnOk result (2 ^ 63 ≤ self.old.next_name → Numbered (WritesNone compaction) tablet self.old.tablets) }
+        ensures empty { Numbered (WritesNone compaction) tablet self.old.tablets → (self.new.next_name ≡ self.old.next_name) × (F.contents self.new.files ≡ F.contents self.old.files) }
         ensures large { Holds F.contents self.old → IsErrOf result Refusal.FileTooLarge → Numbered (IsTooLarge self.old.file_limit (F.contents self.old.files) compaction) tablet self.old.tablets }
         ensures fits { Holds F.contents self.old → OnOk result (¬ Numbered (IsTooLarge self.old.file_limit (F.contents self.old.files) compaction) tablet self.old.tablets) }
         ensures undamaged { Holds F.contents self.old → ¬ IsErrOf result Refusal.Damaged }
@@ -177,14 +179,16 @@ impl<F: Files> Cluster<F> {
         ensures name { UsesName (F.contents self.old.files) self.old.next_name (F.contents self.new.files) self.new.next_name }
         ensures spots { spots_of self.new ≡ spots_of self.old }
         ensures table { IsTable self.old.places }
-        ensures made { OnOk result (Remakes IsFlushed tablet self.old.tablets self.new.tablets) }
+        ensures made { OnOk result (Remakes (IsFlushed self.old.next_name) tablet self.old.tablets self.new.tablets) }
         ensures err { OnErr result (IsAsBefore self.old self.new) }
         ensures unknown { IsErrOf result Refusal.UnknownTablet ↔ ¬ HasTablet tablet self.old.places }
+        ensures barred { IsErrOf result Refusal.UnknownTablet → self.new ≡ self.old }
         ensures full { IsErrOf result Refusal.TooManyFiles → Numbered IsFull tablet self.old.tablets }
         ensures room { OnOk result (¬ Numbered IsFull tablet self.old.tablets) }
         ensures exhausted { IsErrOf result Refusal.Exhausted → 2 ^ 63 ≤ self.old.next_name }
         ensures needed { IsErrOf result Refusal.Exhausted → ¬ Numbered IsEmptied tablet self.old.tablets }
         ensures left { OnOk result (2 ^ 63 ≤ self.old.next_name → Numbered IsEmptied tablet self.old.tablets) }
+        ensures empty { Numbered IsEmptied tablet self.old.tablets → (self.new.next_name ≡ self.old.next_name) × (F.contents self.new.files ≡ F.contents self.old.files) }
         ensures large { Holds F.contents self.old → IsErrOf result Refusal.FileTooLarge → Numbered (IsTooLarge self.old.file_limit (F.contents self.old.files) Compaction.Minor) tablet self.old.tablets }
         ensures fits { Holds F.contents self.old → OnOk result (¬ Numbered (IsTooLarge self.old.file_limit (F.contents self.old.files) Compaction.Minor) tablet self.old.tablets) }
         ensures undamaged { Holds F.contents self.old → ¬ IsErrOf result Refusal.Damaged }
@@ -209,10 +213,11 @@ impl<F: Files> Cluster<F> {
         ensures name { UsesName (F.contents self.old.files) self.old.next_name (F.contents self.new.files) self.new.next_name }
         ensures spots { spots_of self.new ≡ spots_of self.old }
         ensures table { IsTable self.old.places }
-        ensures made { OnOk result (Remakes (IsMerged count) tablet self.old.tablets self.new.tablets) }
+        ensures made { OnOk result (Remakes (IsMerged count self.old.next_name) tablet self.old.tablets self.new.tablets) }
         ensures err { OnErr result (IsAsBefore self.old self.new) }
         ensures unknown { IsErrOf result Refusal.UnknownTablet ↔ ¬ HasTablet tablet self.old.places }
         ensures count { IsErrOf result Refusal.BadCount ↔ (HasTablet tablet self.old.places × Numbered (IsBadCount count) tablet self.old.tablets) }
+        ensures barred { IsErrOf result Refusal.UnknownTablet ⊎ IsErrOf result Refusal.BadCount → self.new ≡ self.old }
         ensures exhausted { IsErrOf result Refusal.Exhausted → 2 ^ 63 ≤ self.old.next_name }
         ensures left { OnOk result (self.old.next_name < 2 ^ 63) }
         ensures large { Holds F.contents self.old → IsErrOf result Refusal.FileTooLarge → Numbered (IsTooLarge self.old.file_limit (F.contents self.old.files) (Compaction.Merge count)) tablet self.old.tablets }
@@ -239,10 +244,11 @@ impl<F: Files> Cluster<F> {
         ensures name { UsesName (F.contents self.old.files) self.old.next_name (F.contents self.new.files) self.new.next_name }
         ensures spots { spots_of self.new ≡ spots_of self.old }
         ensures table { IsTable self.old.places }
-        ensures made { OnOk result (Remakes IsWhole tablet self.old.tablets self.new.tablets) }
+        ensures made { OnOk result (Remakes (IsWhole self.old.next_name) tablet self.old.tablets self.new.tablets) }
         ensures cleaned { Holds F.contents self.old → OnOk result (Numbered (LacksErasures (F.contents self.new.files)) tablet self.new.tablets) }
         ensures err { OnErr result (IsAsBefore self.old self.new) }
         ensures unknown { IsErrOf result Refusal.UnknownTablet ↔ ¬ HasTablet tablet self.old.places }
+        ensures barred { IsErrOf result Refusal.UnknownTablet → self.new ≡ self.old }
         ensures exhausted { IsErrOf result Refusal.Exhausted → 2 ^ 63 ≤ self.old.next_name }
         ensures left { OnOk result (self.old.next_name < 2 ^ 63) }
         ensures large { Holds F.contents self.old → IsErrOf result Refusal.FileTooLarge → Numbered (IsTooLarge self.old.file_limit (F.contents self.old.files) Compaction.Major) tablet self.old.tablets }

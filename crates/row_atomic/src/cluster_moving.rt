@@ -1,11 +1,12 @@
 //! Cutting a tablet of a cluster in two, and moving one to another server. A minor compaction comes first.
 
 ghost use Rattle.std.specs.Prelude.{◌≡◌, ◌≤◌, ◌+◌, ◌^◌, ◌↔◌, ◌⊎◌, [], length, IfErr, IfOk, IfSome, IsErrOf, IsOk, OnErr, OnOk};
-ghost use Rattle.metadata_table.specs.Table.{BarsSplit, Cuts, HasTablet, IsTable, most_servers};
+ghost use Rattle.metadata_table.specs.Places.{PlaceView};
+ghost use Rattle.metadata_table.specs.Table.{BarsSplit, Cuts, HasTablet, IsHolder, IsTable, most_servers};
 ghost use Rattle.sorted_file.specs.Sources.{HasReason, IsReadRefusal};
-ghost use Rattle.tablet.specs.Views.{Holds as HoldsAt, UsesName, memory_of, names_of, range_of};
+ghost use Rattle.tablet.specs.Views.{Holds as HoldsAt, IsUnchanged, UsesName, memory_of, names_of, range_of};
 ghost use Rattle.row_atomic.specs.Clusters.{spots_of};
-ghost use Rattle.row_atomic.specs.Changes.{Holds, IsCut, IsEmptied, IsFlushed, IsFull, IsMoveRefusal, IsMoved, IsOn, IsReopened, IsSplitRefusal, IsTooLarge, KeepsMap, Numbered, OfHolder, Remakes, UsesNames};
+ghost use Rattle.row_atomic.specs.Changes.{Holds, IsCut, IsEmptied, IsFlushed, IsFull, IsHalved, IsMoveRefusal, IsMoved, IsOn, IsReopened, IsSplitRefusal, IsTooLarge, KeepsMap, MayBeFlushed, MayHolderBeFlushed, Numbered, OfHolder, Remakes};
 
 use crate::cluster::Cluster;
 use crate::cluster_compactions::Compaction;
@@ -40,12 +41,13 @@ impl<F: Files> Cluster<F> {
         requires free { ¬ BarsSplit row.now self.old.places }
         ensures kept { KeepsMap F.contents self.old self.new }
         ensures limit { self.new.file_limit ≡ self.old.file_limit }
-        ensures name { UsesName (F.contents self.old.files) self.old.next_name (F.contents self.new.files) self.new.next_name }
+        ensures name { self.new.next_name ≡ self.old.next_name }
+        ensures files { F.contents self.new.files ≡ F.contents self.old.files }
         ensures number { IfOk result (λ left. left ≡ length self.old.places + 1) }
         ensures cut { IfOk result (λ left. Cuts row.now left self.old.places self.new.places) }
-        ensures left_emptied { IfOk result (λ left. Numbered IsEmptied left self.new.tablets) }
-        ensures right_emptied { OnOk result (OfHolder IsEmptied row.now self.old.places self.new.tablets) }
+        ensures halved { IfOk result (λ left. IsHalved self.old.next_name row.now left self.old.places self.old.tablets self.new.tablets) }
         ensures err { OnErr result (self.new.places ≡ self.old.places) }
+        ensures unchanged { OnErr result ((place : PlaceView) → IsHolder row.now self.old.places place → Remakes IsUnchanged place.tablet self.old.tablets self.new.tablets) }
         ensures undamaged { Holds F.contents self.old → ¬ IsErrOf result Refusal.Damaged }
         ensures refusal { IfErr result IsReadRefusal }
         ensures reason { HasReason (F.faults self.old.files) (F.faults self.new.files) result }
@@ -79,19 +81,21 @@ impl<F: Files> Cluster<F> {
     pub fn split(&mut self, row: &Row) -> Result<u32, Refusal>
         ensures kept { KeepsMap F.contents self.old self.new }
         ensures limit { self.new.file_limit ≡ self.old.file_limit }
-        ensures names { UsesNames (F.contents self.old.files) self.old.next_name (F.contents self.new.files) self.new.next_name }
+        ensures name { UsesName (F.contents self.old.files) self.old.next_name (F.contents self.new.files) self.new.next_name }
         ensures table { IsTable self.old.places }
         ensures number { IfOk result (λ left. left ≡ length self.old.places + 1) }
         ensures cut { IfOk result (λ left. IsCut row.now left self.old.places self.new.places) }
-        ensures left_emptied { IfOk result (λ left. Numbered IsEmptied left self.new.tablets) }
-        ensures right_emptied { OnOk result (OfHolder IsEmptied row.now self.old.places self.new.tablets) }
+        ensures halved { IfOk result (λ left. IsHalved self.old.next_name row.now left self.old.places self.old.tablets self.new.tablets) }
         ensures bad { IsErrOf result Refusal.BadSplit ↔ BarsSplit row.now self.old.places }
+        ensures barred { IsErrOf result Refusal.BadSplit → self.new ≡ self.old }
         ensures err { OnErr result (spots_of self.new ≡ spots_of self.old) }
+        ensures may { OnErr result (MayHolderBeFlushed self.old.next_name row.now self.old.places self.old.tablets self.new.tablets) }
         ensures full { IsErrOf result Refusal.TooManyFiles → OfHolder IsFull row.now self.old.places self.old.tablets }
         ensures room { OnOk result (¬ OfHolder IsFull row.now self.old.places self.old.tablets) }
         ensures exhausted { IsErrOf result Refusal.Exhausted → 2 ^ 63 ≤ self.old.next_name }
         ensures needed { IsErrOf result Refusal.Exhausted → ¬ OfHolder IsEmptied row.now self.old.places self.old.tablets }
         ensures left { OnOk result (2 ^ 63 ≤ self.old.next_name → OfHolder IsEmptied row.now self.old.places self.old.tablets) }
+        ensures empty { OfHolder IsEmptied row.now self.old.places self.old.tablets → (self.new.next_name ≡ self.old.next_name) × (F.contents self.new.files ≡ F.contents self.old.files) }
         ensures large { Holds F.contents self.old → IsErrOf result Refusal.FileTooLarge → OfHolder (IsTooLarge self.old.file_limit (F.contents self.old.files) Compaction.Minor) row.now self.old.places self.old.tablets }
         ensures fits { Holds F.contents self.old → OnOk result (¬ OfHolder (IsTooLarge self.old.file_limit (F.contents self.old.files) Compaction.Minor) row.now self.old.places self.old.tablets) }
         ensures undamaged { Holds F.contents self.old → ¬ IsErrOf result Refusal.Damaged }
@@ -114,6 +118,7 @@ impl<F: Files> Cluster<F> {
         ensures name { self.new.next_name ≡ self.old.next_name }
         ensures places { self.new.places ≡ self.old.places }
         ensures opened { OnOk result (Remakes IsReopened tablet self.old.tablets self.new.tablets) }
+        ensures err { OnErr result (self.new.tablets ≡ self.old.tablets) }
         ensures undamaged { Holds F.contents self.old → ¬ IsErrOf result Refusal.Damaged }
         ensures refusal { IfErr result IsReadRefusal }
         ensures reason { HasReason (F.faults self.old.files) (F.faults self.new.files) result }
@@ -139,16 +144,19 @@ impl<F: Files> Cluster<F> {
         ensures name { UsesName (F.contents self.old.files) self.old.next_name (F.contents self.new.files) self.new.next_name }
         ensures table { IsTable self.old.places }
         ensures moved { OnOk result (((self.new ≡ self.old) × IsOn tablet server self.old.places) ⊎ IsMoved tablet server self.old.places self.new.places) }
-        ensures flushed { OnOk result (¬ IsOn tablet server self.old.places → Remakes IsFlushed tablet self.old.tablets self.new.tablets) }
+        ensures flushed { OnOk result (¬ IsOn tablet server self.old.places → Remakes (IsFlushed self.old.next_name) tablet self.old.tablets self.new.tablets) }
         ensures same { IsOn tablet server self.old.places → IsOk result × (self.new ≡ self.old) }
         ensures unknown { IsErrOf result Refusal.UnknownTablet ↔ ¬ HasTablet tablet self.old.places }
         ensures server { IsErrOf result Refusal.UnknownServer ↔ (HasTablet tablet self.old.places × (most_servers ≤ server)) }
+        ensures unmoved { IsErrOf result Refusal.UnknownTablet ⊎ IsErrOf result Refusal.UnknownServer → self.new ≡ self.old }
         ensures err { OnErr result (spots_of self.new ≡ spots_of self.old) }
+        ensures may { OnErr result (MayBeFlushed self.old.next_name tablet self.old.tablets self.new.tablets) }
         ensures full { IsErrOf result Refusal.TooManyFiles → Numbered IsFull tablet self.old.tablets }
         ensures room { OnOk result (¬ IsOn tablet server self.old.places → ¬ Numbered IsFull tablet self.old.tablets) }
         ensures exhausted { IsErrOf result Refusal.Exhausted → 2 ^ 63 ≤ self.old.next_name }
         ensures needed { IsErrOf result Refusal.Exhausted → ¬ Numbered IsEmptied tablet self.old.tablets }
         ensures left { OnOk result (¬ IsOn tablet server self.old.places → 2 ^ 63 ≤ self.old.next_name → Numbered IsEmptied tablet self.old.tablets) }
+        ensures empty { Numbered IsEmptied tablet self.old.tablets → (self.new.next_name ≡ self.old.next_name) × (F.contents self.new.files ≡ F.contents self.old.files) }
         ensures large { Holds F.contents self.old → IsErrOf result Refusal.FileTooLarge → Numbered (IsTooLarge self.old.file_limit (F.contents self.old.files) Compaction.Minor) tablet self.old.tablets }
         ensures fits { Holds F.contents self.old → OnOk result (¬ IsOn tablet server self.old.places → ¬ Numbered (IsTooLarge self.old.file_limit (F.contents self.old.files) Compaction.Minor) tablet self.old.tablets) }
         ensures undamaged { Holds F.contents self.old → ¬ IsErrOf result Refusal.Damaged }

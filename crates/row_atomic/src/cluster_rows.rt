@@ -8,7 +8,7 @@ ghost use Rattle.metadata_table.specs.Places.{view_of, views};
 ghost use Rattle.metadata_table.specs.Table.{IsTable};
 ghost use Rattle.sorted_file.specs.Sources.{HasReason, IsReadRefusal};
 ghost use Rattle.tablet.specs.Views.{Holds};
-ghost use Rattle.row_atomic.specs.Clusters.{ArePlaced, HasTabletAt, InOrder, Overfills, PrecedesCell, cells_in, spots_of};
+ghost use Rattle.row_atomic.specs.Clusters.{ArePlaced, HasTabletAt, InOrder, Overfills, PrecedesCell, cells_in, storage_of};
 
 use crate::cluster::Cluster;
 use crate::rows::Rows;
@@ -75,7 +75,7 @@ impl<F: Files> Rows for Cluster<F> {
 
     ghost overfills = { λ cluster row edits. Overfills cluster.places cluster.tablets row edits };
 
-    ghost spots = { λ cluster. spots_of cluster };
+    ghost storage = { λ cluster. storage_of F.contents cluster };
 
     fn newest(
         &mut self,

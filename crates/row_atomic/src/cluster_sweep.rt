@@ -4,7 +4,6 @@ ghost use Rattle.std.specs.Prelude.{◌≡◌, ◌≤◌, ◌⊎◌, IfErr, IfOk
 ghost use Rattle.std.specs.FinMap.{keys};
 ghost use Rattle.cell_key.specs.Faults.{HasRisen};
 ghost use Rattle.file_store.specs.Store.{MayLack, without_file};
-ghost use Rattle.metadata_table.specs.Table.{IsTable};
 ghost use Rattle.sorted_file.specs.Sources.{HasReason};
 ghost use Rattle.row_atomic.specs.Changes.{KeepsMap};
 ghost use Rattle.row_atomic.specs.Sweeps.{MayLackUnkept, count_swept, is_kept, swept, unkept, without_files};
@@ -22,13 +21,6 @@ fn is_kept(table: &MetadataTable, name: u64) -> bool
     ensures { result ≡ is_kept table.now name }
 {
     name == 0 || table.listed(name)
-}
-
-/// The law that a metadata table keeps to its form.
-fn keeps_form(table: &MetadataTable)
-    ensures { IsTable table.now }
-{
-    let _ = table.len();
 }
 
 /// Removes one file.
@@ -99,7 +91,7 @@ impl<F: Files> Cluster<F> {
         ensures later { F.faults self.old.files ≤ F.faults self.new.files }
     {
         unnamed_may_go();
-        keeps_form(&self.table);
+        let _ = self.table.len();
         let names = names_of(self.alloc, &mut self.files)?;
         remove_unkept(&self.table, names, &mut self.files)
     }

@@ -4,8 +4,7 @@ ghost use Rattle.std.specs.Prelude.{◌≡◌, ◌<◌, ◌≤◌, ◌++◌, ◌
 ghost use Rattle.std.specs.List.{AllByRecursion};
 ghost use Rattle.cell_key.specs.Places.{place_named};
 ghost use Rattle.row_atomic.specs.Changes.{Holds};
-ghost use Rattle.row_atomic.specs.Clusters.{cells_in};
-ghost use Rattle.row_atomic.specs.Commands.{Answers, AnswersAll, IsUnderRow};
+ghost use Rattle.row_atomic.specs.Commands.{Answers, AnswersAll, IsUnderRow, Upholds, cells_shown};
 
 use crate::cluster::Cluster;
 use crate::rows::Rows;
@@ -110,7 +109,8 @@ impl<F: Files> Cluster<F> {
     fn answer(&mut self, command: Command) -> Outcome
         requires { IsUnderRow command }
         ensures still { Holds F.contents self.old → Holds F.contents self.new }
-        ensures answers { Holds F.contents self.old → Answers (cells_in (F.contents self.old.files) self.old.tablets) command result (cells_in (F.contents self.new.files) self.new.tablets) }
+        ensures answers { Holds F.contents self.old → Answers (cells_shown F.contents self.old) command result (cells_shown F.contents self.new) }
+        ensures upholds { Holds F.contents self.old → Upholds F.contents command result self.old self.new }
     {
         match command {
             Command::Newest {
@@ -143,8 +143,9 @@ impl<F: Files> Cluster<F> {
         }
     }
 
-    /// Does commands one after the other, and answers the outcome of each. One that is refused changes no cell, and
-    /// the next ones are done all the same.
+    /// Does commands one after the other, and answers the outcome of each, by the one cell map that the cluster then
+    /// shows. One that is done does to tablets and files what it is for. One that is refused changes no cell, and the
+    /// next ones are done all the same.
     ///
     /// # Errors
     ///
@@ -152,7 +153,7 @@ impl<F: Files> Cluster<F> {
     pub fn run(&mut self, commands: Vec<Command>) -> Result<Vec<Outcome>, Refusal>
         requires { AllByRecursion IsUnderRow commands.items }
         ensures still { Holds F.contents self.old → Holds F.contents self.new }
-        ensures answers { IfOk result (λ outcomes. Holds F.contents self.old → AnswersAll (cells_in (F.contents self.old.files) self.old.tablets) commands.items outcomes.items (cells_in (F.contents self.new.files) self.new.tablets)) }
+        ensures answers { IfOk result (λ outcomes. Holds F.contents self.old → AnswersAll F.contents self.old commands.items outcomes.items self.new) }
         ensures err { OnErr result (self.new ≡ self.old) }
         ensures refusal { IfErr result (λ refusal. refusal ≡ Refusal.NoMemory) }
     {

@@ -1,4 +1,5 @@
-ghost use Rattle.std.specs.Prelude.{◌≡◌, [], ⊤};
+ghost use Rattle.std.specs.Prelude.{◌≡◌, ⊤};
+ghost use Rattle.row_atomic.specs.Clusters.{no_storage};
 ghost use Rattle.std.specs.FinMap.{empty};
 
 use crate::rows::Rows;
@@ -51,7 +52,7 @@ impl Rows for PlainRows {
 
     ghost overfills = { λ _ _ _. ⊥ };
 
-    ghost spots = { λ _. [] };
+    ghost storage = { λ _. no_storage };
 
     fn newest(
         &mut self,

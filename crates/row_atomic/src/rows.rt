@@ -1,10 +1,10 @@
-ghost use Rattle.std.specs.Prelude.{◌≡◌, ◌≤◌, ℕ, List, IfOk, OnOk, OnErr, IfErr, IsErrOf, IfSome, option_map};
+ghost use Rattle.std.specs.Prelude.{◌≡◌, ◌≤◌, ◌++◌, ◌⊎◌, ℕ, List, IfOk, OnOk, OnErr, IfErr, IsErrOf, IfSome, option_map};
 ghost use Rattle.std.specs.List.{AllByRecursion};
 ghost use Rattle.cell_key.specs.Cells.{Cells, IsNewest, IsEditOf, after_edits, version};
 ghost use Rattle.cell_key.specs.declared.edits.Edit.{Edit as RowEdit};
 ghost use Rattle.cell_key.specs.Faults.{HasRisen};
 ghost use Rattle.cell_key.specs.Places.{IsNextCell, place_named};
-ghost use Rattle.row_atomic.specs.Clusters.{Spot};
+ghost use Rattle.row_atomic.specs.Clusters.{Storage};
 ghost use Rattle.row_atomic.specs.Refusals.{IsReadRefusal, IsApplyRefusal};
 ghost use Rattle.cell_key.specs.Versions.{IsVersionIn, stamped};
 
@@ -30,9 +30,8 @@ pub trait Rows {
     /// Whether edits of a row would pass a limit of what is kept in memory. A read doesn't change it.
     ghost overfills: { Self → List ℕ → List RowEdit → Type 0 };
 
-    /// Where the rows are: the ends of the tablets that have them, with their numbers and their servers. No call
-    /// changes it.
-    ghost spots: { Self → List Spot };
+    /// What lies below the rows that are in memory: files, names and the places of tablets. No call changes it.
+    ghost storage: { Self → Storage };
 
     /// The version of a cell's column with the greatest stamp in `lo..=hi`: its stamp, from 1 to
     /// 2^63 - 1, and its value of at most 65,536 bytes. `None` where there is none.
@@ -52,7 +51,7 @@ pub trait Rows {
         ensures kept { holds self.old → cells self.new ≡ cells self.old }
         ensures still { holds self.old → holds self.new }
         ensures same_room { (row : List ℕ) (edits : List RowEdit) → overfills self.new row edits → overfills self.old row edits }
-        ensures spots { spots self.new ≡ spots self.old }
+        ensures storage { storage self.new ≡ storage self.old }
         ensures undamaged { holds self.old → ¬ (IsErrOf result Refusal.Damaged) }
         ensures limits { IfOk result (λ found. IfSome (option_map stamped found) (IsVersionIn lo hi)) }
         ensures refusal { IfErr result IsReadRefusal }
@@ -73,18 +72,19 @@ pub trait Rows {
         ensures kept { holds self.old → cells self.new ≡ cells self.old }
         ensures still { holds self.old → holds self.new }
         ensures same_room { (row : List ℕ) (edits : List RowEdit) → overfills self.new row edits → overfills self.old row edits }
-        ensures spots { spots self.new ≡ spots self.old }
+        ensures storage { storage self.new ≡ storage self.old }
         ensures undamaged { holds self.old → ¬ (IsErrOf result Refusal.Damaged) }
         ensures refusal { IfErr result IsReadRefusal }
         ensures device { IsErrOf result Refusal.Device → HasRisen (faults self.old) (faults self.new) }
         ensures later { faults self.old ≤ faults self.new };
 
-    /// Makes edits under one row in order, all of them or none. No device is touched.
+    /// Makes edits under one row in order, all of them or none. No device is touched, and nothing below the rows in
+    /// memory changes.
     ///
     /// # Errors
     ///
     /// `MemtableFull` where a limit of what is kept in memory would be passed, and `NoMemory` where a
-    /// growth was refused. The cells are then as before.
+    /// growth was refused. The cells are then as before, and edits would pass a limit only where they did before.
     fn apply(&mut self, row: &Row, edits: Vec<Edit>) -> Result<(), Refusal>
         requires { AllByRecursion (IsEditOf row.now) edits.items }
         ensures ok { holds self.old → OnOk result (cells self.new ≡ after_edits (cells self.old) edits.items) }
@@ -92,7 +92,10 @@ pub trait Rows {
         ensures still { holds self.old → holds self.new }
         ensures refusal { IfErr result IsApplyRefusal }
         ensures full { IsErrOf result Refusal.MemtableFull → overfills self.old row.now edits.items }
-        ensures spots { spots self.new ≡ spots self.old }
+        ensures within { OnOk result (¬ overfills self.old row.now edits.items) }
+        ensures room { OnOk result ((row : List ℕ) (later : List RowEdit) → overfills self.new row later → overfills self.old row later ⊎ overfills self.old row (edits.items ++ later)) }
+        ensures err_room { OnErr result ((row : List ℕ) (later : List RowEdit) → overfills self.new row later → overfills self.old row later) }
+        ensures storage { storage self.new ≡ storage self.old }
         ensures untouched { faults self.new ≡ faults self.old };
 
     /// How often a device has failed. A count of 2^64 - 1 stays.

@@ -8,8 +8,10 @@ use Rattle.std.proofs.lemmas.Bool.Decides.{nat_tests}
 use Rattle.cell_key.specs.declared.refusals.Refusal.TheVariants.{FrameTooLarge}
 use Rattle.si_model.specs.Machine.{State, Reply, Refused}
 use Rattle.request_codec.specs.Replies.{reply_body}
+use Rattle.request_codec.specs.declared.replies.Reply.{Reply as Kept}
+use Rattle.request_codec.specs.declared.requests.Request.{Request as Lent}
 use Rattle.server_loop.specs.Runs.{Taken, Body, Oversize, AnswersAs}
-use Rattle.server_loop.proofs.Reaching.{RunOver-append, laws_of}
+use Rattle.server_loop.proofs.Reaching.{RunOver-append, SaysAll-append, laws_of}
 use Rattle.request_codec.specs.Stream.{frame, frames, IsTooLarge, IsPartial, IsOpen, IsBody}
 use Rattle.server_loop.specs.Serve.{is_too_large, taken_of, written_of, EndsBy, Serves, Served}
 use Rattle.server_loop.specs.declared.ends.End.{End}
@@ -19,24 +21,33 @@ use Rattle.server_loop.specs.declared.ends.ServeFault.TheVariants as faults
 
 -- ---- runs
 
-pub AnswersAs-none : {S : Type 0} (shows : S → State → Type 0) (a : S) → AnswersAs shows a a [] []
-AnswersAs-none shows a = λ before reached shown. record { after = before; run = refl; reached = reached; laws = laws_of before reached; shows = shown }
+pub AnswersAs-none : {S : Type 0} (shows : S → State → Type 0) (says : S → Lent → Kept → S → Type 0) (a : S) → AnswersAs shows says a a [] []
+AnswersAs-none shows says a = record {
+  run = λ before reached shown. record { after = before; run = refl; reached = reached; laws = laws_of before reached; shows = shown };
+  said = refl;
+}
 
-pub AnswersAs-append : {S : Type 0} (shows : S → State → Type 0) (a b c : S) (ts us : List Taken) (rs qs : List Reply) → AnswersAs shows a b ts rs → AnswersAs shows b c us qs → AnswersAs shows a c (ts ++ us) (rs ++ qs)
-AnswersAs-append shows a b c ts us rs qs first second = λ before reached shown.
-    let one = first before reached shown in
-    let two = second one.after one.reached one.shows in
-    record {
-      after = two.after;
-      run = RunOver-append before one.after two.after ts us rs qs one.run two.run;
-      reached = two.reached;
-      laws = two.laws;
-      shows = two.shows;
-    }
+pub AnswersAs-append : {S : Type 0} (shows : S → State → Type 0) (says : S → Lent → Kept → S → Type 0) (a b c : S) (ts us : List Taken) (rs qs : List Reply) → AnswersAs shows says a b ts rs → AnswersAs shows says b c us qs → AnswersAs shows says a c (ts ++ us) (rs ++ qs)
+AnswersAs-append shows says a b c ts us rs qs first second = record {
+  run = λ before reached shown.
+      let one = first.run before reached shown in
+      let two = second.run one.after one.reached one.shows in
+      record {
+        after = two.after;
+        run = RunOver-append before one.after two.after ts us rs qs one.run two.run;
+        reached = two.reached;
+        laws = two.laws;
+        shows = two.shows;
+      };
+  said = SaysAll-append says a b c ts us rs qs first.said second.said;
+}
 
 -- a length past the limit
-pub AnswersAs-oversize : {S : Type 0} (shows : S → State → Type 0) (a : S) → AnswersAs shows a a (Oversize ∷ []) (Refused FrameTooLarge ∷ [])
-AnswersAs-oversize shows a = λ before reached shown. record { after = before; run = (before, (refl, refl), refl); reached = reached; laws = laws_of before reached; shows = shown }
+pub AnswersAs-oversize : {S : Type 0} (shows : S → State → Type 0) (says : S → Lent → Kept → S → Type 0) (a : S) → AnswersAs shows says a a (Oversize ∷ []) (Refused FrameTooLarge ∷ [])
+AnswersAs-oversize shows says a = record {
+  run = λ before reached shown. record { after = before; run = (before, (refl, refl), refl); reached = reached; laws = laws_of before reached; shows = shown };
+  said = (a, (refl, refl), refl);
+}
 
 -- ---- lists
 
@@ -78,25 +89,25 @@ oversize rest p = let w = p.past in let v = p.whole_length in grind (arith, nat_
 
 -- ---- serving
 
-pub Served-none : {S : Type 0} (shows : S → State → Type 0) (a : S) (left held : Option (List ℕ)) (reads : ℕ) → Served shows a a left left held held reads reads
-Served-none shows a left held reads = record {
+pub Served-none : {S : Type 0} (shows : S → State → Type 0) (says : S → Lent → Kept → S → Type 0) (a : S) (left held : Option (List ℕ)) (reads : ℕ) → Served shows says a a left left held held reads reads
+Served-none shows says a left held reads = record {
   bodies = [];
   each = tt;
   consumed = Consumes-nil left;
   counted = omega arith;
   replies = [];
-  run = AnswersAs-none shows a;
+  run = AnswersAs-none shows says a;
   appended = Appends-nil held;
 }
 
-pub Served-then : {S : Type 0} (shows : S → State → Type 0) (a b c : S) (l m n h i j : Option (List ℕ)) (r s t : ℕ) → Served shows a b l m h i r s → Served shows b c m n i j s t → Served shows a c l n h j r t
-Served-then shows a b c l m n h i j r s t p q = record {
+pub Served-then : {S : Type 0} (shows : S → State → Type 0) (says : S → Lent → Kept → S → Type 0) (a b c : S) (l m n h i j : Option (List ℕ)) (r s t : ℕ) → Served shows says a b l m h i r s → Served shows says b c m n i j s t → Served shows says a c l n h j r t
+Served-then shows says a b c l m n h i j r s t p q = record {
   bodies = p.bodies ++ q.bodies;
   each = each-join p.bodies q.bodies p.each q.each;
   consumed = subst (Consumes l n) (sym (frames-join p.bodies q.bodies)) (Consumes-trans l m n _ _ p.consumed q.consumed);
   counted = omega (arith, ap length (frames-join p.bodies q.bodies), length-append (frames p.bodies) (frames q.bodies), p.counted, q.counted);
   replies = p.replies ++ q.replies;
-  run = subst (λ (ts : List Taken). AnswersAs shows a c ts (p.replies ++ q.replies)) (sym (map-join Body p.bodies q.bodies)) (AnswersAs-append shows a b c _ _ _ _ p.run q.run);
+  run = subst (λ (ts : List Taken). AnswersAs shows says a c ts (p.replies ++ q.replies)) (sym (map-join Body p.bodies q.bodies)) (AnswersAs-append shows says a b c _ _ _ _ p.run q.run);
   appended = subst (Appends h j) (sym (written_of-join p.replies q.replies)) (Appends-trans h i j _ _ p.appended q.appended);
 }
 
@@ -111,8 +122,8 @@ EndsBy-after (Err faults.Read) r s front read rest left before written answers k
 EndsBy-after (Err faults.Write) r s front read rest left before written answers known counted p = (p.0, ap (λ l. before ++ l) p.1 ∙ sym (append_assoc before written p.0))
 EndsBy-after (Err faults.NoMemory) r s front read rest left before written answers known counted p = absurd (known refl)
 
-pub Served-ends : {S : Type 0} (shows : S → State → Type 0) (a b c : S) (l m n h i j : Option (List ℕ)) (r s : ℕ) (result : Result End ServeFault) → (result ≡ Err faults.NoMemory → ⊥) → Served shows a b l m h i r s → Serves shows b c m n i j s result → Serves shows a c l n h j r result
-Served-ends shows a b c l m n h i j r s result known p q = record {
+pub Served-ends : {S : Type 0} (shows : S → State → Type 0) (says : S → Lent → Kept → S → Type 0) (a b c : S) (l m n h i j : Option (List ℕ)) (r s : ℕ) (result : Result End ServeFault) → (result ≡ Err faults.NoMemory → ⊥) → Served shows says a b l m h i r s → Serves shows says b c m n i j s result → Serves shows says a c l n h j r result
+Served-ends shows says a b c l m n h i j r s result known p q = record {
   read = frames p.bodies ++ q.read;
   consumed = Consumes-trans l m n _ _ p.consumed q.consumed;
   bodies = p.bodies ++ q.bodies;
@@ -121,7 +132,7 @@ Served-ends shows a b c l m n h i j r s result known p q = record {
   each = each-join p.bodies q.bodies p.each q.each;
   open_rest = q.open_rest;
   replies = p.replies ++ q.replies;
-  run = subst (λ (ts : List Taken). AnswersAs shows a c ts (p.replies ++ q.replies)) (taken_of-join p.bodies q.bodies q.rest) (AnswersAs-append shows a b c _ _ _ _ p.run q.run);
+  run = subst (λ (ts : List Taken). AnswersAs shows says a c ts (p.replies ++ q.replies)) (taken_of-join p.bodies q.bodies q.rest) (AnswersAs-append shows says a b c _ _ _ _ p.run q.run);
   written = written_of p.replies ++ q.written;
   appended = Appends-trans h i j _ _ p.appended q.appended;
   ending = subst (EndsBy result r (frames p.bodies ++ q.read) q.rest n (written_of p.replies ++ q.written)) (sym (written_of-join p.replies q.replies))
@@ -129,8 +140,8 @@ Served-ends shows a b c l m n h i j r s result known p q = record {
 }
 
 -- nothing was answered
-pub Serves-nothing : {S : Type 0} (shows : S → State → Type 0) (a : S) (l m h : Option (List ℕ)) (r : ℕ) (result : Result End ServeFault) (read : List ℕ) → Consumes l m read → IsPartial read → EndsBy result r read read m [] [] → Serves shows a a l m h h r result
-Serves-nothing shows a l m h r result read consumed partial ending = record {
+pub Serves-nothing : {S : Type 0} (shows : S → State → Type 0) (says : S → Lent → Kept → S → Type 0) (a : S) (l m h : Option (List ℕ)) (r : ℕ) (result : Result End ServeFault) (read : List ℕ) → Consumes l m read → IsPartial read → EndsBy result r read read m [] [] → Serves shows says a a l m h h r result
+Serves-nothing shows says a l m h r result read consumed partial ending = record {
   read = read;
   consumed = consumed;
   bodies = [];
@@ -139,7 +150,7 @@ Serves-nothing shows a l m h r result read consumed partial ending = record {
   each = tt;
   open_rest = λ _. IsOpen-from_partial read partial;
   replies = [];
-  run = subst (λ (ts : List Taken). AnswersAs shows a a ts []) (sym (no_oversize read partial)) (AnswersAs-none shows a);
+  run = subst (λ (ts : List Taken). AnswersAs shows says a a ts []) (sym (no_oversize read partial)) (AnswersAs-none shows says a);
   written = [];
   appended = Appends-nil h;
   ending = ending;
@@ -149,9 +160,9 @@ one : (reply : Reply) → written_of (reply ∷ []) ≡ frame (reply_body reply)
 one reply = append-nil (frame (reply_body reply))
 
 -- a length past the limit was refused
-pub Serves-too_large : {S : Type 0} (shows : S → State → Type 0) (a : S) (l m h i : Option (List ℕ)) (r : ℕ) (result : Result End ServeFault) (read written : List ℕ) → Consumes l m read → IsTooLarge read → Appends h i written
-    → EndsBy result r read read m written (frame (reply_body (Refused FrameTooLarge))) → Serves shows a a l m h i r result
-Serves-too_large shows a l m h i r result read written consumed large appended ending = record {
+pub Serves-too_large : {S : Type 0} (shows : S → State → Type 0) (says : S → Lent → Kept → S → Type 0) (a : S) (l m h i : Option (List ℕ)) (r : ℕ) (result : Result End ServeFault) (read written : List ℕ) → Consumes l m read → IsTooLarge read → Appends h i written
+    → EndsBy result r read read m written (frame (reply_body (Refused FrameTooLarge))) → Serves shows says a a l m h i r result
+Serves-too_large shows says a l m h i r result read written consumed large appended ending = record {
   read = read;
   consumed = consumed;
   bodies = [];
@@ -160,16 +171,16 @@ Serves-too_large shows a l m h i r result read written consumed large appended e
   each = tt;
   open_rest = λ _. IsOpen-from_large read large;
   replies = Refused FrameTooLarge ∷ [];
-  run = subst (λ (ts : List Taken). AnswersAs shows a a ts (Refused FrameTooLarge ∷ [])) (sym (oversize read large)) (AnswersAs-oversize shows a);
+  run = subst (λ (ts : List Taken). AnswersAs shows says a a ts (Refused FrameTooLarge ∷ [])) (sym (oversize read large)) (AnswersAs-oversize shows says a);
   written = written;
   appended = appended;
   ending = subst (EndsBy result r read read m written) (sym (one (Refused FrameTooLarge))) ending;
 }
 
 -- one frame was answered, and its reply written
-pub Served-one : {S : Type 0} (shows : S → State → Type 0) (a b : S) (l m h i : Option (List ℕ)) (r s : ℕ) (body : List ℕ) (reply : Reply) → IsBody body → Consumes l m (frame body) → r ≤ s + length (frame body)
-    → AnswersAs shows a b (Body body ∷ []) (reply ∷ []) → Appends h i (frame (reply_body reply)) → Served shows a b l m h i r s
-Served-one shows a b l m h i r s body reply fits consumed counted run appended = record {
+pub Served-one : {S : Type 0} (shows : S → State → Type 0) (says : S → Lent → Kept → S → Type 0) (a b : S) (l m h i : Option (List ℕ)) (r s : ℕ) (body : List ℕ) (reply : Reply) → IsBody body → Consumes l m (frame body) → r ≤ s + length (frame body)
+    → AnswersAs shows says a b (Body body ∷ []) (reply ∷ []) → Appends h i (frame (reply_body reply)) → Served shows says a b l m h i r s
+Served-one shows says a b l m h i r s body reply fits consumed counted run appended = record {
   bodies = body ∷ [];
   each = (fits, tt);
   consumed = subst (Consumes l m) (sym (append-nil (frame body))) consumed;
@@ -180,9 +191,9 @@ Served-one shows a b l m h i r s body reply fits consumed counted run appended =
 }
 
 -- one frame was answered, and a beginning of its reply written
-pub Serves-cut_short : {S : Type 0} (shows : S → State → Type 0) (a b : S) (l m h i : Option (List ℕ)) (r n : ℕ) (body : List ℕ) (reply : Reply) → IsBody body → Consumes l m (frame body)
-    → AnswersAs shows a b (Body body ∷ []) (reply ∷ []) → Appends h i (take n (frame (reply_body reply))) → Serves shows a b l m h i r (Err faults.Write)
-Serves-cut_short shows a b l m h i r n body reply fits consumed run appended = record {
+pub Serves-cut_short : {S : Type 0} (shows : S → State → Type 0) (says : S → Lent → Kept → S → Type 0) (a b : S) (l m h i : Option (List ℕ)) (r n : ℕ) (body : List ℕ) (reply : Reply) → IsBody body → Consumes l m (frame body)
+    → AnswersAs shows says a b (Body body ∷ []) (reply ∷ []) → Appends h i (take n (frame (reply_body reply))) → Serves shows says a b l m h i r (Err faults.Write)
+Serves-cut_short shows says a b l m h i r n body reply fits consumed run appended = record {
   read = frame body;
   consumed = consumed;
   bodies = body ∷ [];

@@ -1,5 +1,5 @@
 -- A server's steps, by those of its sessions.
-use Rattle.std.proofs.Common.{◌≡◌, ℕ, Option, Some, None, Result, Ok, Err, IsErrOf, refl, ap, ◌∙◌, subst, sym}
+use Rattle.std.proofs.Common.{◌≡◌, ℕ, List, map, Option, Some, None, Result, Ok, Err, IsErrOf, refl, ap, ◌∙◌, subst, sym}
 use Rattle.std.specs.Prelude.{⊤}
 use Rattle.std.specs.FinMap.{empty, get-empty}
 use Rattle.cell_key.specs.Keys.{key_cmp}
@@ -15,7 +15,7 @@ use Rattle.si_model.specs.declared.replies.Progress.{Progress}
 use Rattle.si_model.specs.declared.replies.Progress.TheVariants as steps
 use Rattle.file_store.specs.Store.{Contents}
 use Rattle.row_atomic.specs.Changes.{Holds}
-use Rattle.row_atomic.specs.Clusters.{cells_in, spots_of}
+use Rattle.row_atomic.specs.Clusters.{Spot, Storage, cells_in, spot_of, storage_of}
 use Rattle.txn_client.specs.Shows as clients
 use Rattle.request_codec.specs.declared.replies.Reply.{Reply as Kept}
 use Rattle.request_codec.specs.declared.replies.Reply.TheVariants as kept
@@ -25,19 +25,23 @@ use Rattle.server_loop.specs.Runs.{StepsAs, IfRefused}
 use Rattle.server_loop.proofs.Replacing.{KeepsPlaces}
 use Rattle.server_loop.proofs.Relocating.{still_placed, still_next}
 
+-- where the tablets are, by what lies below the memtables
+abbrev pub spots_in : Storage → List Spot
+spots_in storage = map spot_of storage.places
+
 module _ {F M : Type 0} (contents : F → Option Contents) (old new : Server F M) where
   -- a step of a session, which leaves the tablets where they are
   pub steps_as : (request : Request) (reply : Reply) → KeepsPlaces request
       → (Holds contents old.cluster → clients.Steps (cells_in (contents old.cluster.files) old.cluster.tablets) old.clients old.oracle.last request reply (cells_in (contents new.cluster.files) new.cluster.tablets) new.clients new.oracle.last)
-      → (Holds contents old.cluster → Holds contents new.cluster) → spots_of new.cluster ≡ spots_of old.cluster
+      → (Holds contents old.cluster → Holds contents new.cluster) → storage_of contents new.cluster ≡ storage_of contents old.cluster
       → ((st : State) → IsReached st → Holds contents old.cluster → clients.Shows (cells_in (contents old.cluster.files) old.cluster.tablets) old.clients old.oracle.last st → reply ≡ Refused Damaged → ⊥)
       → StepsAs (Shows contents) old new request reply
-  steps_as request reply keeps step still spots whole = λ before reached shown.
+  steps_as request reply keeps step still storage whole = λ before reached shown.
       let (next, taken, shows) = step shown.in_order before reached shown.shows in
       let after : Shows contents new next = record {
         in_order = still shown.in_order;
         shows = shows;
-        places = still_placed before next request reply taken keeps old.cluster.places new.cluster.places spots shown.places;
+        places = still_placed before next request reply taken keeps old.cluster.places new.cluster.places (ap spots_in storage) shown.places;
         next = still_next before next request reply taken keeps shown.next;
       } in
       (next, taken, after, whole before reached shown.in_order shown.shows)
@@ -88,6 +92,15 @@ progress_undamaged (steps.Stamped stamp) = λ e. cc
 progress_undamaged (steps.Committed stamp) = λ e. cc
 progress_undamaged steps.Lost = λ e. cc
 progress_undamaged (steps.Finished place count) = λ e. cc
+
+-- what is done is no refusal
+pub progress_told : (P : Refusal → Type 0) (progress : Progress) → IfRefused P (progress_reply progress)
+progress_told P (steps.Held place count) = tt
+progress_told P (steps.Conflict place) = tt
+progress_told P (steps.Stamped stamp) = tt
+progress_told P (steps.Committed stamp) = tt
+progress_told P steps.Lost = tt
+progress_told P (steps.Finished place count) = tt
 
 module _ {F M : Type 0} (contents : F → Option Contents) (old new : Server F M) where
   -- a restart of the oracle, after which the same is shown

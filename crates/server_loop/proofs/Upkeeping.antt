@@ -9,7 +9,7 @@ use Rattle.cell_key.specs.declared.refusals.Refusal.TheVariants.{BadRow, BadColu
 use Rattle.file_store.specs.Store.{Contents}
 use Rattle.metadata_table.specs.Places.{PlaceView}
 use Rattle.metadata_table.specs.Table.{BarsSplit, HasTablet, IsTable, most_servers}
-use Rattle.row_atomic.specs.Changes.{Holds, IsBadCount, IsCut, IsMoveRefusal, IsNumberedRefusal, IsSplitRefusal, KeepsMap, Numbered, Remakes, IsMerged}
+use Rattle.row_atomic.specs.Changes.{Holds, IsBadCount, IsCut, IsFlushed, IsMerged, IsMoved, IsMoveRefusal, IsNumberedRefusal, IsOn, IsPut, IsSplitRefusal, KeepsMap, Numbered, Remakes}
 use Rattle.row_atomic.specs.Clusters.{ClusterState, cells_in, spots_of}
 use Rattle.row_atomic.specs.Refusals.{IsReadRefusal}
 use Rattle.row_atomic.specs.Compactions as compaction
@@ -21,7 +21,6 @@ use Rattle.txn_client.specs.Shows as clients
 use Rattle.server_loop.specs.Refusals.{IsSweepRefusal}
 use Rattle.server_loop.specs.Runs.{StepsAs}
 use Rattle.server_loop.specs.Server.{Shows, machine_place, machine_places}
-use Rattle.server_loop.specs.Upkeep.{Puts}
 use Rattle.server_loop.specs.declared.server.Server.{Server}
 use Rattle.server_loop.proofs.Placing.{has_tablet_so, has_tablet_back, length_so}
 use Rattle.server_loop.proofs.Refusing.{minor_unknown_first, minor_accepted, merge_unknown_first, merge_bad, merge_accepted, major_unknown_first, major_accepted, split_row_first, sweep_accepted, raw_row_first, raw_family_first, raw_accepted}
@@ -53,6 +52,42 @@ has_stable n ps h = elim (decides n ps) [
   | inl has ↦ has
   | inr none ↦ absurd (h none)
 ]
+
+-- whether a tablet is on a server
+on_later : (n server : ℕ) (p : PlaceView) (ps : List PlaceView) → IsOn n server ps → IsOn n server (p ∷ ps)
+on_later n server p ps (q, (k, less, at), is, on) = (q, (suc k, omega (arith, less), at), is, on)
+
+on_first : (n server : ℕ) (p : PlaceView) (ps : List PlaceView) → ¬ ((p.tablet ≡ n) × (p.server ≡ server)) → IsOn n server (p ∷ ps) → IsOn n server ps
+on_first n server p ps other (q, (zero, less, at), is, on) = absurd (other (ap (λ (v : PlaceView). v.tablet) at ∙ is, ap (λ (v : PlaceView). v.server) at ∙ on))
+on_first n server p ps other (q, (suc k, less, at), is, on) = (q, (k, omega (arith, less), at), is, on)
+
+decides_on : (n server : ℕ) (ps : List PlaceView) → IsOn n server ps ⊎ (¬ IsOn n server ps)
+decides_on n server [] = inr (λ h. omega (arith, h.1.1))
+decides_on n server (p ∷ ps) =
+    let later : ¬ ((p.tablet ≡ n) × (p.server ≡ server)) → IsOn n server (p ∷ ps) ⊎ (¬ IsOn n server (p ∷ ps)) = λ other. elim (decides_on n server ps) [
+      | inl on ↦ inl (on_later n server p ps on)
+      | inr none ↦ inr (λ h. none (on_first n server p ps other h))
+    ] in
+    elim (cases_eq p.tablet n) [
+      | inl is ↦ elim (cases_eq p.server server) [
+        | inl on ↦ inl (p, (0, omega arith, refl), is, on)
+        | inr other ↦ later (λ both. other both.1)
+      ]
+      | inr other ↦ later (λ both. other both.0)
+    ]
+
+-- what a move has done
+pub puts_as : {F : Type 0} (n server : ℕ) (old new : ClusterState F) → (IsOn n server old.places → new ≡ old)
+    → ((new ≡ old) × IsOn n server old.places) ⊎ IsMoved n server old.places new.places
+    → (¬ IsOn n server old.places → Remakes (IsFlushed old.next_name) n old.tablets new.tablets) → IsPut n server old new
+puts_as n server old new same moved flushed = record {
+  same = same;
+  put = λ leaves. elim moved [
+    | inl stays ↦ absurd (leaves stays.1)
+    | inr goes ↦ goes
+  ];
+  flushed = flushed;
+}
 
 -- ---- refusals, and what is done
 
@@ -135,8 +170,8 @@ pub raw_done : (st : State) (x : Cell) (q : Qualifier) (lo hi : ℕ) (found : Op
 raw_done st x q lo hi found row family = accepts (raw_accepted st x q lo hi row family) (tells finds_raw)
 
 -- a count of which a merge was made is two or more
-pub two_merged : (k n : ℕ) (old new : List Tablet) (places : List PlaceView) → ¬ (HasTablet k places × Numbered (IsBadCount n) k old) → HasTablet k places → Remakes (IsMerged n) k old new → 2 ≤ n
-two_merged k n old new places good has made = elim (cases_lt n 2) [
+pub two_merged : (k n next : ℕ) (old new : List Tablet) (places : List PlaceView) → ¬ (HasTablet k places × Numbered (IsBadCount n) k old) → HasTablet k places → Remakes (IsMerged n next) k old new → 2 ≤ n
+two_merged k n next old new places good has made = elim (cases_lt n 2) [
   | inl few ↦ absurd (good (has, record { tablet = made.was; numbered = made.was_numbered; such = λ within. omega (arith, few, within.0) }))
   | inr two ↦ two
 ]
@@ -185,19 +220,19 @@ module _ {F M : Type 0} (contents : F → Option Contents) (old new : Server F M
       (placed before (machine_places new.cluster.places) (left + 1), splits_so before old.cluster.places same row left cut.place.tablet cut.names new.cluster.places is free number cut.cut, after, λ e. cc)
 
   -- a tablet is put on a server
-  pub moves_as : (n server : ℕ) → IsTable old.cluster.places → HasTablet n old.cluster.places → ¬ (most_servers ≤ server) → Puts n server old.cluster new.cluster
+  pub moves_as : (n server : ℕ) → IsTable old.cluster.places → HasTablet n old.cluster.places → ¬ (most_servers ≤ server) → IsPut n server old.cluster new.cluster
       → StepsAs (Shows contents) old new (Move n server) MoveDone
   moves_as n server table has near puts = λ before reached shown.
       let same = sym shown.places in
       let known : server < most_servers = omega (arith, near) in
-      elim puts [
-        | inl stays ↦ (
+      elim (decides_on n server old.cluster.places) [
+        | inl on ↦ (
           before,
-          stays_step before old.cluster.places same n server stays.1.0 table known stays.1.1 stays.1.2 stays.1.3,
-          still_shown before (ap (λ (cluster : ClusterState F). spots_of cluster) stays.0) shown,
+          stays_step before old.cluster.places same n server on.0 table known on.1 on.2 on.3,
+          still_shown before (ap (λ (cluster : ClusterState F). spots_of cluster) (puts.same on)) shown,
           λ e. cc,
         )
-        | inr goes ↦ (
+        | inr leaves ↦ let goes = puts.put leaves in (
           placed before (machine_places new.cluster.places) before.next_tablet,
           moves_step before old.cluster.places same n server goes.names new.cluster.places table has known goes.moved,
           record {

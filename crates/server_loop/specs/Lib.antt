@@ -4,4 +4,6 @@ pub mod Runs
 pub mod Serve
 pub mod Server
 pub mod Upkeep
+pub mod Sessions
+pub mod Answer
 pub mod Filling

@@ -4,6 +4,8 @@ use Rattle.std.specs.List.{AllByRecursion}
 use Rattle.std.specs.Io.KnownBytes.{Consumes, Appends, IsAtEnd}
 use Rattle.si_model.specs.Machine.{State, Reply}
 use Rattle.request_codec.specs.Replies.{reply_body}
+use Rattle.request_codec.specs.declared.replies.Reply.{Reply as Kept}
+use Rattle.request_codec.specs.declared.requests.Request.{Request as Lent}
 use Rattle.request_codec.specs.Stream.{longest, frame, frames, announced, IsTooLarge, IsPartial, IsOpen, IsCut, IsBody}
 use Rattle.server_loop.specs.Runs.{Taken, Body, Oversize, AnswersAs}
 use Rattle.server_loop.specs.declared.ends.End.{End}
@@ -36,8 +38,8 @@ EndsBy (Err faults.Write) most_reads read rest left written answers = (more : Li
 EndsBy (Err faults.NoMemory) most_reads read rest left written answers = (read ≡ []) × (written ≡ [])
 
 -- What a call of `serve` did: the bytes that it read are the frames of bodies and a rest, the replies are those of a
--- run over these, and what it wrote are the replies' frames, or after a failed write a beginning of them.
-pub record Serves {S : Type 0} (shows : S → State → Type 0) (old new : S) (left left' held held' : Option (List ℕ)) (most_reads : ℕ) (result : Result End ServeFault) : Type 0 where
+-- run over these, each as is said of one answer, and what it wrote are the replies' frames, or after a failed write a beginning of them.
+pub record Serves {S : Type 0} (shows : S → State → Type 0) (says : S → Lent → Kept → S → Type 0) (old new : S) (left left' held held' : Option (List ℕ)) (most_reads : ℕ) (result : Result End ServeFault) : Type 0 where
   pub read : List ℕ
   pub consumed : Consumes left left' read
   pub bodies : List (List ℕ)
@@ -46,7 +48,7 @@ pub record Serves {S : Type 0} (shows : S → State → Type 0) (old new : S) (l
   pub each : AllByRecursion IsBody bodies
   pub open_rest : result ≢ Err faults.Write → IsOpen rest
   pub replies : List Reply
-  pub run : AnswersAs shows old new (taken_of bodies rest) replies
+  pub run : AnswersAs shows says old new (taken_of bodies rest) replies
   pub written : List ℕ
   pub appended : Appends held held' written
   pub ending : EndsBy result most_reads read rest left' written (written_of replies)
@@ -59,23 +61,23 @@ RestIs ends.TooLarge rest = IsTooLarge rest
 RestIs ends.ReadsUsedUp rest = Unit {0}
 
 -- The whole of a stream was served: its bodies, and its rest as the end says.
-pub record ServesStream {S : Type 0} (shows : S → State → Type 0) (old new : S) (stream : List ℕ) (held held' : Option (List ℕ)) (end : End) : Type 0 where
+pub record ServesStream {S : Type 0} (shows : S → State → Type 0) (says : S → Lent → Kept → S → Type 0) (old new : S) (stream : List ℕ) (held held' : Option (List ℕ)) (end : End) : Type 0 where
   pub bodies : List (List ℕ)
   pub rest : List ℕ
   pub cut : IsCut stream bodies rest
   pub rest_is : RestIs end rest
   pub replies : List Reply
-  pub run : AnswersAs shows old new (taken_of bodies rest) replies
+  pub run : AnswersAs shows says old new (taken_of bodies rest) replies
   pub appended : Appends held held' (written_of replies)
 
 -- Whole frames were read and answered, and all the replies written.
-pub record Served {S : Type 0} (shows : S → State → Type 0) (old new : S) (left left' held held' : Option (List ℕ)) (reads reads' : ℕ) : Type 0 where
+pub record Served {S : Type 0} (shows : S → State → Type 0) (says : S → Lent → Kept → S → Type 0) (old new : S) (left left' held held' : Option (List ℕ)) (reads reads' : ℕ) : Type 0 where
   pub bodies : List (List ℕ)
   pub each : AllByRecursion IsBody bodies
   pub consumed : Consumes left left' (frames bodies)
   pub counted : reads ≤ reads' + length (frames bodies)
   pub replies : List Reply
-  pub run : AnswersAs shows old new (map Body bodies) replies
+  pub run : AnswersAs shows says old new (map Body bodies) replies
   pub appended : Appends held held' (written_of replies)
 
 -- what was read of a frame

@@ -1,5 +1,6 @@
 -- What it means that a server shows a state of the machine.
 use Rattle.std.specs.Prelude.{◌≡◌, ℕ, ◌+◌, ◌⊎◌, List, length, map, Option}
+use Rattle.cell_key.specs.Cells.{Cells}
 use Rattle.cell_key.specs.Faults.{HasRisen}
 use Rattle.file_store.specs.Store.{Contents}
 use Rattle.metadata_table.specs.Places.{PlaceView}
@@ -39,3 +40,12 @@ pub record Shows {F M : Type 0} (contents : F → Option Contents) (server : Ser
 abbrev pub IsFaultSeen : {F M : Type 0} → (F → ℕ) → (M → ℕ) → Server F M → Server F M → Type 0
 IsFaultSeen file_faults mark_faults old new =
     HasRisen (file_faults old.cluster.files) (file_faults new.cluster.files) ⊎ HasRisen (mark_faults old.oracle.marks) (mark_faults new.oracle.marks)
+
+-- all cells
+abbrev pub cells_of : {F M : Type 0} → (F → Option Contents) → Server F M → Cells
+cells_of contents server = cells_in (contents server.cluster.files) server.cluster.tablets
+
+-- its sessions and its oracle are as before
+pub record KeepsSessions {F M : Type 0} (old new : Server F M) : Type 0 where
+  pub clients : new.clients ≡ old.clients
+  pub oracle : new.oracle ≡ old.oracle

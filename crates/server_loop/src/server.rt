@@ -10,8 +10,9 @@ ghost use Rattle.row_atomic.specs.Clusters.{Overfills};
 ghost use Rattle.server_loop.specs.Refusals.{IsLackOf, IsRefusalOf, OnMerge, OnRestart, OnStep, OnUpkeep};
 ghost use Rattle.server_loop.specs.Runs.{HasShortValue, IfRefused, StampsGoOn, StepsAs};
 ghost use Rattle.server_loop.specs.Serve.{Serves, ServesStream};
-ghost use Rattle.server_loop.specs.Upkeep.{Maintains, MeetsFull, MeetsTooLarge};
-ghost use Rattle.si_model.specs.Machine.{State, new_machine};
+ghost use Rattle.server_loop.specs.Sessions.{ChangesCells, IsExact, LeavesSessions};
+ghost use Rattle.server_loop.specs.Upkeep.{FitsInFiles, IsBarred, IsDone, LacksName, Maintains, MeetsFull, MeetsTooLarge, UsesFiles};
+ghost use Rattle.si_model.specs.Machine.{IsReached, State, new_machine};
 ghost use Rattle.txn_client.specs.Room.{ChangesNext, HasNoRoom};
 ghost use Rattle.txn_client.specs.Shows.{IsAboutToDraw};
 
@@ -48,7 +49,8 @@ pub struct Server<F, M: MarkStore> {
 }
 
 impl<F: Files + Drop, M: MarkStore + Drop> Server<F, M> {
-    ghost use Rattle.server_loop.specs.Server.{IsFaultSeen, Shows, cluster_of, last_of, marks_of};
+    ghost use Rattle.server_loop.specs.Answer.{IsAnswer};
+    ghost use Rattle.server_loop.specs.Server.{IsFaultSeen, KeepsSessions, Shows, cluster_of, last_of, marks_of};
 
     /// A server over these files and this mark store, with one tablet of no cells. It shows the new machine.
     ///
@@ -67,6 +69,11 @@ impl<F: Files + Drop, M: MarkStore + Drop> Server<F, M> {
         requires limit_least { 32 ≤ config.file_limit }
         requires limit_most { config.file_limit ≤ 1073741824 }
         ensures new { IsSome (F.contents files) → IfOk result (λ server. Shows F.contents server new_machine) }
+        ensures kept { IfOk result (λ server. (cluster_of server).files ≡ files) }
+        ensures name { IfOk result (λ server. (cluster_of server).next_name ≡ 1) }
+        // Where the mark is told, the oracle goes on from it.
+        ensures last { IfOk result (λ server. IfSome (M.mark marks) (λ mark. last_of server ≡ mark)) }
+        ensures mark { IfOk result (λ server. M.mark (marks_of server) ≡ M.mark marks) }
         ensures limit { IfOk result (λ server. (cluster_of server).file_limit ≡ config.file_limit) }
         ensures refusal { IfErr result (λ refused. (refused.0 ≡ Refusal.NoMemory) ⊎ (refused.0 ≡ Refusal.Device)) }
         ensures device { IfErr result (λ refused. refused.0 ≡ Refusal.Device → HasRisen (M.faults marks) (M.faults refused.2)) }
@@ -93,25 +100,35 @@ impl<F: Files + Drop, M: MarkStore + Drop> Server<F, M> {
     pub fn answer(&mut self, request: Request<'_>) -> Reply
         ensures step { StepsAs (Shows F.contents) self.old self.new (asked request.entry) (replied result) }
         ensures refusal { IfRefused (IsRefusalOf request.entry) (replied result) }
-        // No stamp is left: a begin is refused, and a step that draws. Or no name of a file is left.
+        // No stamp is left: a begin is refused, and a step that draws. Or no name is left for the file that is to be written.
         ensures exhausted { result ≡ Reply.Refused Refusal.Exhausted
-            → IsLackOf request.entry (2 ^ 63 ≤ (cluster_of self.old).next_name) (last_of self.old ≡ MOST_STAMP) }
+            → IsLackOf request.entry (LacksName request.entry (cluster_of self.old)) (last_of self.old ≡ MOST_STAMP) }
         ensures draw_only { OnStep request.entry (λ start. result ≡ Reply.Refused Refusal.Exhausted
             → (st : State) → Shows F.contents self.old st → IsAboutToDraw st start) }
-        // The memtable of the row's tablet has no room for the edits of the session's next step.
+        // The step makes edits, and the memtable of the row's tablet has no room for them.
         ensures full { OnStep request.entry (λ start. result ≡ Reply.Refused Refusal.MemtableFull
-            → (st : State) → Shows F.contents self.old st → HasNoRoom (λ cluster row edits. Overfills cluster.places cluster.tablets row edits) (cluster_of self.old) (ChangesNext st start)) }
+            → (st : State) → IsReached st → Shows F.contents self.old st → HasNoRoom (λ cluster row edits. Overfills cluster.places cluster.tablets row edits) (cluster_of self.old) (ChangesNext st start)) }
         // Where the mark is told, a restarted oracle goes on from it.
         ensures restarted { OnRestart request.entry (result ≡ Reply.OracleRestart → IfSome (M.mark (marks_of self.old)) (λ mark. last_of self.new ≡ mark)) }
         // A stamp that is answered is the oracle's next one.
         ensures last { StampsGoOn (replied result) (last_of self.old) (last_of self.new) }
-        // Upkeep and raw reads change no cell, also where they are refused.
+        // A step changes cells of one row at most, and all else none.
+        ensures changes { ChangesCells F.contents request.entry result self.old self.new }
+        // An unknown session and a commit without writes are always told so.
+        ensures exact { IsExact F.contents self.old request.entry result }
+        ensures leaves { LeavesSessions request.entry result self.old self.new }
+        // Upkeep and raw reads keep the tablets in order, also where they are refused. All else changes no file, name or place.
         ensures kept { OnUpkeep request.entry (KeepsMap F.contents (cluster_of self.old) (cluster_of self.new)) }
         ensures upkeep { Maintains F.contents request.entry result (cluster_of self.old) (cluster_of self.new) }
+        ensures files { UsesFiles F.contents request.entry (cluster_of self.old) (cluster_of self.new) }
+        ensures barred { IsBarred request.entry result → cluster_of self.new ≡ cluster_of self.old }
+        // Sessions and oracle stay as they are.
+        ensures beside { OnUpkeep request.entry (KeepsSessions self.old self.new) }
         ensures count { OnMerge request.entry (λ tablet count. result ≡ Reply.Refused Refusal.BadCount
             ↔ (HasTablet tablet (cluster_of self.old).places × Numbered (IsBadCount count) tablet (cluster_of self.old).tablets)) }
         ensures many { result ≡ Reply.Refused Refusal.TooManyFiles → MeetsFull request.entry (cluster_of self.old) }
         ensures large { Holds F.contents (cluster_of self.old) → result ≡ Reply.Refused Refusal.FileTooLarge → MeetsTooLarge F.contents request.entry (cluster_of self.old) }
+        ensures within { IsDone result → FitsInFiles F.contents request.entry (cluster_of self.old) }
         ensures short { HasShortValue result }
         ensures device { result ≡ Reply.Refused Refusal.Device → IsFaultSeen F.faults M.faults self.old self.new }
     {
@@ -147,7 +164,8 @@ impl<F: Files + Drop, M: MarkStore + Drop> Server<F, M> {
     /// first. Each reply is written to its end, and flushed, before the next frame is read.
     ///
     /// What is read is cut into bodies and a rest, the replies are those of a run of the snapshot machine over these,
-    /// and what is written are the frames of these replies and nothing else. After a failed read all replies to whole
+    /// each is what `answer` says of its request, from one server to the next, and what is written are the frames of
+    /// these replies and nothing else. After a failed read all replies to whole
     /// frames were written; after a failed write a beginning of the replies was; without memory nothing was read or
     /// written. The server is then as after the last request that was taken.
     pub fn serve<I: Read, O: Write>(
@@ -156,21 +174,24 @@ impl<F: Files + Drop, M: MarkStore + Drop> Server<F, M> {
         writer: &mut O,
         most_reads: u64,
     ) -> Result<End, ServeFault>
-        ensures served { Serves (Shows F.contents) self.old self.new (I.remaining reader.old) (I.remaining reader.new)
+        ensures served { Serves (Shows F.contents) (IsAnswer F.contents F.faults M.mark M.faults) self.old self.new (I.remaining reader.old) (I.remaining reader.new)
             (O.contents writer.old) (O.contents writer.new) most_reads result }
 
         // Where the reader's bytes are known, the end is that of the whole stream.
         ensures whole { IfSome (I.remaining reader.old) (λ stream. IfOk result (λ end. end ≢ End.ReadsUsedUp
-            → ServesStream (Shows F.contents) self.old self.new stream (O.contents writer.old) (O.contents writer.new) end)) }
+            → ServesStream (Shows F.contents) (IsAnswer F.contents F.faults M.mark M.faults) self.old self.new stream (O.contents writer.old) (O.contents writer.new) end)) }
     {
         serve_all(self.alloc, self, reader, writer, most_reads)
     }
 }
 
 impl<F: Files + Drop, M: MarkStore + Drop> Answering for Server<F, M> {
+    ghost use Rattle.server_loop.specs.Answer.{IsAnswer};
     ghost use Rattle.server_loop.specs.Server.{Shows};
 
     ghost shows = { Shows F.contents };
+
+    ghost says = { IsAnswer F.contents F.faults M.mark M.faults };
 
     fn reply_to(&mut self, request: Request<'_>) -> Reply {
         self.answer(request)

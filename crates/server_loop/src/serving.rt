@@ -3,6 +3,8 @@
 ghost use Rattle.std.specs.Prelude.{◌≡◌, ℕ, ◌≤◌, ◌<◌, ◌∷◌, [], ◌+◌, length, Ok, Err, None, IfOk, MatchResult, MatchOption, vec_capacity};
 ghost use Rattle.si_model.specs.Machine.{State};
 ghost use Rattle.request_codec.specs.Replies.{replied};
+ghost use Rattle.request_codec.specs.declared.replies.Reply.{Reply as Kept};
+ghost use Rattle.request_codec.specs.declared.requests.Request.{Request as Lent};
 ghost use Rattle.request_codec.specs.Requests.{asked};
 ghost use Rattle.request_codec.specs.Stream.{longest};
 ghost use Rattle.server_loop.specs.Runs.{StepsAs, AnswersAs, Body, HasShortValue};
@@ -20,9 +22,13 @@ pub(crate) trait Answering {
     /// It shows this state of the machine.
     ghost shows: { Self → State → Type 0 };
 
+    /// What is said of an answer, over what answers as it was and as it is.
+    ghost says: { Self → Lent → Kept → Self → Type 0 };
+
     /// One step of the machine, from each reached state that is shown.
     fn reply_to(&mut self, request: Request<'_>) -> Reply
         ensures step { StepsAs shows self.old self.new (asked request.entry) (replied result) }
+        ensures says { says self.old request.entry result self.new }
         ensures short { HasShortValue result };
 }
 
@@ -35,7 +41,7 @@ fn zeros(alloc: Global, size: usize) -> Result<Vec<u8>, AllocError>
 
 /// The reply to a body, whatever is in it.
 fn reply_to_body<A: Answering>(server: &mut A, body: &[u8]) -> Reply
-    ensures answers { AnswersAs A.shows server.old server.new (Body body.now ∷ []) (replied result ∷ []) }
+    ensures answers { AnswersAs A.shows A.says server.old server.new (Body body.now ∷ []) (replied result ∷ []) }
     ensures short { HasShortValue result }
 {
     match decode_request(body) {
@@ -57,9 +63,9 @@ fn serve_frame<A: Answering, R: Read, W: Write>(
     requires out { LONGEST_REPLY ≤ vec_capacity out.old }
     ensures one { MatchResult result
         (λ end. MatchOption end
-        (Served A.shows server.old server.new (R.remaining reader.old) (R.remaining reader.new) (W.contents writer.old) (W.contents writer.new) reads_left.old reads_left.new)
-        (λ end. Serves A.shows server.old server.new (R.remaining reader.old) (R.remaining reader.new) (W.contents writer.old) (W.contents writer.new) reads_left.old (Ok end)))
-        (λ fault. Serves A.shows server.old server.new (R.remaining reader.old) (R.remaining reader.new) (W.contents writer.old) (W.contents writer.new) reads_left.old (Err fault)) }
+        (Served A.shows A.says server.old server.new (R.remaining reader.old) (R.remaining reader.new) (W.contents writer.old) (W.contents writer.new) reads_left.old reads_left.new)
+        (λ end. Serves A.shows A.says server.old server.new (R.remaining reader.old) (R.remaining reader.new) (W.contents writer.old) (W.contents writer.new) reads_left.old (Ok end)))
+        (λ fault. Serves A.shows A.says server.old server.new (R.remaining reader.old) (R.remaining reader.new) (W.contents writer.old) (W.contents writer.new) reads_left.old (Err fault)) }
     ensures kinds { result ≡ Err ServeFault.NoMemory → ⊥ }
     ensures fewer { result ≡ Ok None → reads_left.new < reads_left.old }
     ensures room { vec_capacity out.old ≤ vec_capacity out.new }
@@ -93,7 +99,7 @@ pub(crate) fn serve_all<A: Answering, R: Read, W: Write>(
     writer: &mut W,
     most_reads: u64,
 ) -> Result<End, ServeFault>
-    ensures { Serves A.shows server.old server.new (R.remaining reader.old) (R.remaining reader.new)
+    ensures { Serves A.shows A.says server.old server.new (R.remaining reader.old) (R.remaining reader.new)
         (W.contents writer.old) (W.contents writer.new) most_reads result }
 {
     let mut body = match zeros(alloc, LONGEST_BODY) {

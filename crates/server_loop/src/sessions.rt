@@ -2,10 +2,11 @@
 
 ghost use Rattle.std.specs.Prelude.{◌≡◌, IfSome};
 ghost use Rattle.si_model.specs.Machine as machine;
-ghost use Rattle.si_model.specs.Machine.{State};
+ghost use Rattle.si_model.specs.Machine.{IsReached, State};
 ghost use Rattle.request_codec.specs.Replies.{replied};
-ghost use Rattle.row_atomic.specs.Clusters.{Overfills};
+ghost use Rattle.row_atomic.specs.Clusters.{Overfills, storage_of};
 ghost use Rattle.server_loop.specs.Runs.{StepsAs, StampsGoOn, HasShortValue, IfRefused};
+ghost use Rattle.server_loop.specs.Sessions.{ChangesCells, IsExact, LeavesSessions};
 ghost use Rattle.txn_client.specs.Reads.{cell_of};
 ghost use Rattle.txn_client.specs.Refusals.{IsBeginRefusal, IsGetRefusal, IsSetRefusal, IsStepRefusal};
 ghost use Rattle.txn_client.specs.Room.{ChangesNext, HasNoRoom};
@@ -15,7 +16,7 @@ use crate::server::Server;
 use cell_key::{MOST_STAMP, Refusal, Stamp};
 use file_store::Files;
 use oracle::MarkStore;
-use request_codec::Reply;
+use request_codec::{Reply, Request};
 
 impl<F: Files + Drop, M: MarkStore + Drop> Server<F, M> {
     ghost use Rattle.server_loop.specs.Server.{Shows, IsFaultSeen, cluster_of, last_of, marks_of};
@@ -25,6 +26,8 @@ impl<F: Files + Drop, M: MarkStore + Drop> Server<F, M> {
         ensures refusal { IfRefused IsBeginRefusal (replied result) }
         ensures exhausted { result ≡ Reply.Refused Refusal.Exhausted → last_of self.old ≡ MOST_STAMP }
         ensures last { StampsGoOn (replied result) (last_of self.old) (last_of self.new) }
+        ensures storage { storage_of F.contents (cluster_of self.new) ≡ storage_of F.contents (cluster_of self.old) }
+        ensures changes { ChangesCells F.contents Request.Begin result self.old self.new }
         ensures short { HasShortValue result }
         ensures device { result ≡ Reply.Refused Refusal.Device → IsFaultSeen F.faults M.faults self.old self.new }
     {
@@ -38,6 +41,10 @@ impl<F: Files + Drop, M: MarkStore + Drop> Server<F, M> {
         ensures step { StepsAs (Shows F.contents) self.old self.new (machine.Get start (cell_of row.now family.now)) (replied result) }
         ensures refusal { IfRefused IsGetRefusal (replied result) }
         ensures last { StampsGoOn (replied result) (last_of self.old) (last_of self.new) }
+        ensures storage { storage_of F.contents (cluster_of self.new) ≡ storage_of F.contents (cluster_of self.old) }
+        ensures changes { ChangesCells F.contents (Request.Get start row.entry family.entry) result self.old self.new }
+        ensures exact { IsExact F.contents self.old (Request.Get start row.entry family.entry) result }
+        ensures leaves { LeavesSessions (Request.Get start row.entry family.entry) result self.old self.new }
         ensures short { HasShortValue result }
         ensures device { result ≡ Reply.Refused Refusal.Device → IsFaultSeen F.faults M.faults self.old self.new }
     {
@@ -51,6 +58,10 @@ impl<F: Files + Drop, M: MarkStore + Drop> Server<F, M> {
         ensures step { StepsAs (Shows F.contents) self.old self.new (machine.Set start (cell_of row.now family.now) value.now) (replied result) }
         ensures refusal { IfRefused IsSetRefusal (replied result) }
         ensures last { StampsGoOn (replied result) (last_of self.old) (last_of self.new) }
+        ensures storage { storage_of F.contents (cluster_of self.new) ≡ storage_of F.contents (cluster_of self.old) }
+        ensures changes { ChangesCells F.contents (Request.Set start row.entry family.entry value.entry) result self.old self.new }
+        ensures exact { IsExact F.contents self.old (Request.Set start row.entry family.entry value.entry) result }
+        ensures leaves { LeavesSessions (Request.Set start row.entry family.entry value.entry) result self.old self.new }
         ensures short { HasShortValue result }
         ensures device { result ≡ Reply.Refused Refusal.Device → IsFaultSeen F.faults M.faults self.old self.new }
     {
@@ -65,8 +76,12 @@ impl<F: Files + Drop, M: MarkStore + Drop> Server<F, M> {
         ensures refusal { IfRefused IsStepRefusal (replied result) }
         ensures exhausted { result ≡ Reply.Refused Refusal.Exhausted → last_of self.old ≡ MOST_STAMP }
         ensures draw_only { result ≡ Reply.Refused Refusal.Exhausted → (st : State) → Shows F.contents self.old st → IsAboutToDraw st start }
-        ensures full { result ≡ Reply.Refused Refusal.MemtableFull → (st : State) → Shows F.contents self.old st → HasNoRoom (λ cluster row edits. Overfills cluster.places cluster.tablets row edits) (cluster_of self.old) (ChangesNext st start) }
+        ensures full { result ≡ Reply.Refused Refusal.MemtableFull → (st : State) → IsReached st → Shows F.contents self.old st → HasNoRoom (λ cluster row edits. Overfills cluster.places cluster.tablets row edits) (cluster_of self.old) (ChangesNext st start) }
         ensures last { StampsGoOn (replied result) (last_of self.old) (last_of self.new) }
+        ensures storage { storage_of F.contents (cluster_of self.new) ≡ storage_of F.contents (cluster_of self.old) }
+        ensures changes { ChangesCells F.contents (Request.Step start) result self.old self.new }
+        ensures exact { IsExact F.contents self.old (Request.Step start) result }
+        ensures leaves { LeavesSessions (Request.Step start) result self.old self.new }
         ensures short { HasShortValue result }
         ensures device { result ≡ Reply.Refused Refusal.Device → IsFaultSeen F.faults M.faults self.old self.new }
     {
@@ -83,6 +98,10 @@ impl<F: Files + Drop, M: MarkStore + Drop> Server<F, M> {
         ensures step { StepsAs (Shows F.contents) self.old self.new (machine.Stop start) (replied result) }
         ensures refusal { IfRefused (λ refusal. refusal ≡ Refusal.UnknownSession) (replied result) }
         ensures last { StampsGoOn (replied result) (last_of self.old) (last_of self.new) }
+        ensures storage { storage_of F.contents (cluster_of self.new) ≡ storage_of F.contents (cluster_of self.old) }
+        ensures changes { ChangesCells F.contents (Request.Stop start) result self.old self.new }
+        ensures exact { IsExact F.contents self.old (Request.Stop start) result }
+        ensures leaves { LeavesSessions (Request.Stop start) result self.old self.new }
         ensures short { HasShortValue result }
         ensures device { result ≡ Reply.Refused Refusal.Device → IsFaultSeen F.faults M.faults self.old self.new }
     {
@@ -98,6 +117,9 @@ impl<F: Files + Drop, M: MarkStore + Drop> Server<F, M> {
         // Where the mark is told, the oracle goes on from it.
         ensures restarted { result ≡ Reply.OracleRestart → IfSome (M.mark (marks_of self.old)) (λ mark. last_of self.new ≡ mark) }
         ensures last { StampsGoOn (replied result) (last_of self.old) (last_of self.new) }
+        ensures storage { storage_of F.contents (cluster_of self.new) ≡ storage_of F.contents (cluster_of self.old) }
+        ensures changes { ChangesCells F.contents Request.OracleRestart result self.old self.new }
+        ensures leaves { LeavesSessions Request.OracleRestart result self.old self.new }
         ensures short { HasShortValue result }
         ensures device { result ≡ Reply.Refused Refusal.Device → IsFaultSeen F.faults M.faults self.old self.new }
     {

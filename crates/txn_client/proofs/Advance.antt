@@ -46,7 +46,7 @@ module _ (cells : Cells) (st : State) (reached : IsReached st) (shown : ShowsCel
       let top = (reached_bounds reached).top in
       none-some _ (sym (free.0 u (omega arith) (omega arith)) ∙ k.lock)
 
-  free_open : (x : Cell) (t : ℕ) (p : Phase) → InPhase st t p → IsFree cells x t → ¬ Clashes st x t
+  pub free_open : (x : Cell) (t : ℕ) (p : Phase) → InPhase st t p → IsFree cells x t → ¬ Clashes st x t
   free_open x t p h free (inl m) = unmarked x t free m.0 m.1
   free_open x t p h free (inr (a, i, names, later)) = elim (shown.commits a i x names (unmarked x t free a.start)) [
     | inl e ↦ let low = ((reached_sound reached).fair a i).low in let top = (reached_bounds reached).top in none-some _ (sym (free.1 a.stamp (omega arith) (omega arith)) ∙ e)

@@ -1,4 +1,5 @@
 pub mod Advance
+pub mod Exact
 pub mod Placing
 pub mod Reading
 pub mod Refused

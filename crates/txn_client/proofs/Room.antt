@@ -4,39 +4,54 @@ use Rattle.std.specs.Prelude.{slice_get}
 use Rattle.std.specs.Ordering.{nat_cmp}
 use Rattle.std.specs.BTreeMap as btree
 use Rattle.std.specs.Result.{IsErrAnd, IsErrOf}
+use Rattle.cell_key.specs.Cells.{Cells}
 use Rattle.std.specs.declared.result.Result.{Result}
 use Rattle.std.specs.declared.result.Result.TheVariants.{Ok, Err}
 use Rattle.cell_key.specs.declared.edits.Edit.{Edit}
+use Rattle.cell_key.specs.declared.keys.Qualifier.TheVariants.{Lock}
 use Rattle.cell_key.specs.declared.refusals.Refusal.{Refusal}
 use Rattle.si_model.specs.Machine as machine
-use Rattle.si_model.specs.Machine.{State, InPhase}
+use Rattle.si_model.specs.Machine.{State, InPhase, IsReached}
+use Rattle.si_model.specs.ShowsCells.{IsThere, ShowsCells}
+use Rattle.si_model.proofs.Kept.{held_phase}
+use Rattle.txn_client.specs.Reads.{IsFree}
 use Rattle.txn_client.specs.Room.{IsHolding, IsRecording, HoldsNext, RecordsNext, ChangesIn, ChangesNext, HasNoRoom}
-use Rattle.txn_client.specs.Shows.{phase_of, writes_of, ShowsClients, IsAboutToDraw}
+use Rattle.txn_client.specs.Shows.{phase_of, writes_of, HasHeldSo, ShowsClients, ShowsSession, IsAboutToDraw}
 use Rattle.txn_client.specs.declared.clients.Clients.{Clients}
 use Rattle.txn_client.specs.declared.session.Phase.{Phase}
 use Rattle.txn_client.specs.declared.session.Phase.TheVariants.{Holding}
 use Rattle.txn_client.specs.declared.session.Session.{Session}
 use Rattle.txn_client.specs.declared.writes.Write.{Write}
-use Rattle.txn_client.proofs.Sessions.{puts_of, count_of}
+use Rattle.txn_client.proofs.Advance.{free_open}
+use Rattle.txn_client.proofs.Sessions.{held_of, puts_of, count_of}
 use Rattle.txn_client.proofs.Table.{shown_some}
 
--- the cell is tested before it is held
-pub no_room_to_hold : {R : Type 0} (overfills : R → List ℕ → List Edit → Type 0) (rows rows' : R) → ((row : List ℕ) (edits : List Edit) → overfills rows' row edits → overfills rows row edits)
-    → (session : Session) (k : ℕ) (w first : Write) → slice_get session.writes k ≡ Some w → slice_get session.writes 0 ≡ Some first
-    → HasNoRoom overfills rows' (λ row edits. (row ≡ w.cell.row) × IsHolding w.cell session.start w.value first.cell edits) → HasNoRoom overfills rows (HoldsNext (writes_of session) k session.start)
-no_room_to_hold overfills rows rows' same session k w first e e0 (row, edits, changes, full) =
-    (row, edits, (w.cell, first.cell, w.value, first.value, puts_of session k w e, puts_of session 0 first e0, changes.0, changes.1), same row edits full)
+module _ {R : Type 0} (overfills : R → List ℕ → List Edit → Type 0) (rows : R) (cells : Cells) (session : Session) where
+  -- the cell is tested before it is held: it is free
+  pub no_room_to_hold : (rows' : R) → ((row : List ℕ) (edits : List Edit) → overfills rows' row edits → overfills rows row edits)
+      → (k : ℕ) (w first : Write) → HasHeldSo session.phase k → slice_get session.writes k ≡ Some w → slice_get session.writes 0 ≡ Some first → IsFree cells w.cell session.start
+      → HasNoRoom overfills rows' (λ row edits. (row ≡ w.cell.row) × IsHolding w.cell session.start w.value first.cell edits)
+      → (st : State) → IsReached st → ShowsCells cells st → ShowsSession session session.start st → HasNoRoom overfills rows (HoldsNext st (writes_of session) k session.start)
+  no_room_to_hold rows' same k w first held e e0 free (row, edits, changes, full) st reached shown mine =
+      let phase = held_phase st session.start k (held_of session st k mine held) in
+      let may = free_open cells st reached shown w.cell session.start phase.p phase.is free in
+      (row, edits, (w.cell, first.cell, w.value, first.value, puts_of session k w e, puts_of session 0 first e0, may, changes.0, changes.1), same row edits full)
 
-pub no_room_to_record : {R : Type 0} (overfills : R → List ℕ → List Edit → Type 0) (rows : R) (session : Session) (k : ℕ) (w : Write) → slice_get session.writes k ≡ Some w
-    → HasNoRoom overfills rows (λ row edits. (row ≡ w.cell.row) × IsRecording w.cell session.start session.commit edits) → HasNoRoom overfills rows (RecordsNext (writes_of session) k session.start session.commit)
-no_room_to_record overfills rows session k w e (row, edits, changes, full) = (row, edits, (w.cell, w.value, puts_of session k w e, changes.0, changes.1), full)
+  -- the lock is found before its record is put: the mark stands
+  pub no_room_to_record : (k : ℕ) (w : Write) → slice_get session.writes k ≡ Some w → IsThere cells w.cell Lock session.start
+      → HasNoRoom overfills rows (λ row edits. (row ≡ w.cell.row) × IsRecording w.cell session.start session.commit edits)
+      → (st : State) → IsReached st → ShowsCells cells st → ShowsSession session session.start st → HasNoRoom overfills rows (RecordsNext st (writes_of session) k session.start session.commit)
+  no_room_to_record k w e lock (row, edits, changes, full) st reached shown mine =
+      (row, edits, (w.cell, w.value, puts_of session k w e, shown.locks w.cell session.start lock.0 lock.1, changes.0, changes.1), full)
 
-pub no_room_shown : {R : Type 0} (overfills : R → List ℕ → List Edit → Type 0) (rows : R) (clients : Clients) (t : ℕ) (session : Session) → btree.get nat_cmp clients.sessions t ≡ Some session
-    → HasNoRoom overfills rows (ChangesIn (phase_of session.phase session.commit) (writes_of session) session.start) → (st : State) → ShowsClients clients st → HasNoRoom overfills rows (ChangesNext st t)
-no_room_shown overfills rows clients t session was (row, edits, changes, full) st shown =
-    let mine = shown_some clients t st session shown was in
-    let phase = phase_of session.phase session.commit in
-    (row, edits, (phase, writes_of session, mine.phase, mine.writes, subst (λ (n : ℕ). ChangesIn phase (writes_of session) n row edits) mine.start changes), full)
+  pub no_room_shown : (clients : Clients) (t : ℕ) → btree.get nat_cmp clients.sessions t ≡ Some session
+      → ((st : State) → IsReached st → ShowsCells cells st → ShowsSession session session.start st → HasNoRoom overfills rows (ChangesIn st (phase_of session.phase session.commit) (writes_of session) session.start))
+      → (st : State) → IsReached st → ShowsCells cells st → ShowsClients clients st → HasNoRoom overfills rows (ChangesNext st t)
+  no_room_shown clients t was lacks st reached shown kept =
+      let mine = shown_some clients t st session kept was in
+      let phase = phase_of session.phase session.commit in
+      let lack = lacks st reached shown (subst (λ (n : ℕ). ShowsSession session n st) (sym mine.start) mine) in
+      (lack.0, lack.1, (phase, writes_of session, mine.phase, mine.writes, subst (λ (n : ℕ). ChangesIn st phase (writes_of session) n lack.0 lack.1) mine.start lack.2), lack.3)
 
 pub draws_shown : (clients : Clients) (t : ℕ) (session : Session) → btree.get nat_cmp clients.sessions t ≡ Some session → session.phase ≡ Holding (length session.writes)
     → (st : State) → ShowsClients clients st → IsAboutToDraw st t

@@ -30,7 +30,7 @@ puts_of session k w e = slice_get-map write_of session.writes k ∙ ap (option_m
 pub count_of : (session : Session) → length (writes_of session) ≡ length session.writes
 count_of session = length-map session.writes write_of
 
-held_of : (session : Session) (st : State) (k : ℕ) → ShowsSession session session.start st → HasHeldSo session.phase k → HasHeld st session.start k
+pub held_of : (session : Session) (st : State) (k : ℕ) → ShowsSession session session.start st → HasHeldSo session.phase k → HasHeld st session.start k
 held_of session st k shown (inl e) = inl (subst (λ (p : Phase). InPhase st session.start (phase_of p session.commit)) e shown.phase)
 held_of session st k shown (inr e) = inr (subst (λ (p : Phase). InPhase st session.start (phase_of p session.commit)) e.0 shown.phase, e.1)
 

@@ -51,6 +51,22 @@ upd_at old new k w h = h k ∙ ap (λ (b : Bool). cond b w (old k)) (eq_test k k
 upd_off : (old new : ℕ → Option Session) (k : ℕ) (w : Option Session) → ((q : ℕ) → new q ≡ cond (is_eq (nat_cmp k q)) w (old q)) → (q : ℕ) → q ≢ k → new q ≡ old q
 upd_off old new k w h q ne = h q ∙ ap (λ (b : Bool). cond b w (old q)) (ne_test k q (λ e. ne (sym e)))
 
+-- nothing changes where a key gets what it has
+pub same_each : (old new : ℕ → Option Session) (k : ℕ) (session w : Session) → old k ≡ Some session → w ≡ session → ((q : ℕ) → new q ≡ cond (is_eq (nat_cmp k q)) (Some w) (old q)) → (q : ℕ) → new q ≡ old q
+same_each old new k session w was same h q = elim (cases_eq q k) [
+  | inl e ↦ subst (λ (n : ℕ). new n ≡ old n) (sym e) (upd_at old new k (Some w) h ∙ ap (λ (s : Session). Some s) same ∙ sym was)
+  | inr ne ↦ upd_off old new k (Some w) h q ne
+]
+
+-- equal entries hold the same at each key
+pub entries_each : (old new : Clients) → new.sessions.entries ≡ old.sessions.entries → (t : ℕ) → btree.get nat_cmp new.sessions t ≡ btree.get nat_cmp old.sessions t
+entries_each old new same t = ap (λ es. lookup (btree.is_at (nat_cmp t)) es) same
+
+-- what an error leaves, by what the call that failed left
+pub on_err_then : {A : Type 0} (P Q : Type 0) (r : Result A Refusal) → (P → Q) → OnErr r P → OnErr r Q
+on_err_then P Q (Ok x) go h = tt
+on_err_then P Q (Err e) go h = go h
+
 -- where the machine keeps phase and writes of t, what is shown at t stays shown
 shows_other : (st next : State) (o : Option Session) (t : ℕ) → finmap.get next.active t ≡ finmap.get st.active t → finmap.get next.begun t ≡ finmap.get st.begun t → ShowsAt o t st → ShowsAt o t next
 shows_other st next None t a b h = a ∙ h

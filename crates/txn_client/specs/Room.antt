@@ -1,11 +1,11 @@
--- What a step asks of the rows, and where they have no room for it.
+-- What a step changes in the rows, and where they have no room for it.
 use Rattle.std.specs.Prelude.{◌≡◌, ℕ, List, [], ◌∷◌}
 use Rattle.cell_key.specs.declared.edits.Edit.{Edit}
 use Rattle.cell_key.specs.declared.edits.Edit.TheVariants.{Put, Erase}
 use Rattle.cell_key.specs.declared.keys.CellKey.{CellKey}
 use Rattle.cell_key.specs.declared.keys.Qualifier.TheVariants.{Data, Lock, Write}
 use Rattle.si_model.specs.Machine as machine
-use Rattle.si_model.specs.Machine.{State, Value, Writes, InPhase, Wrote, Puts}
+use Rattle.si_model.specs.Machine.{State, Value, Writes, InPhase, Wrote, Puts, Marked, Clashes}
 use Rattle.si_model.specs.ShowsCells.{key_of, lock_text, start_text}
 use Rattle.si_model.specs.declared.replies.Cell.{Cell}
 
@@ -28,23 +28,23 @@ abbrev pub IsRecording : Cell → ℕ → ℕ → List Edit → Type 0
 IsRecording x t c (written ∷ lock ∷ []) = IsPut written (key_of x Write c) (start_text t) × IsErase lock (key_of x Lock t)
 IsRecording x t c edits = ⊥
 
--- the row and the edits by which t holds its cell k
-abbrev pub HoldsNext : Writes → ℕ → ℕ → List ℕ → List Edit → Type 0
-HoldsNext ws k t row edits = (x first : Cell) × (v u : Value) × Puts ws k x v × Puts ws 0 first u × (row ≡ x.row) × IsHolding x t v first edits
+-- the row and the edits by which t holds its cell k, as it does where it may
+abbrev pub HoldsNext : State → Writes → ℕ → ℕ → List ℕ → List Edit → Type 0
+HoldsNext st ws k t row edits = (x first : Cell) × (v u : Value) × Puts ws k x v × Puts ws 0 first u × (¬ Clashes st x t) × (row ≡ x.row) × IsHolding x t v first edits
 
--- the row and the edits by which t puts the write record of its cell k
-abbrev pub RecordsNext : Writes → ℕ → ℕ → ℕ → List ℕ → List Edit → Type 0
-RecordsNext ws k t c row edits = (x : Cell) × (v : Value) × Puts ws k x v × (row ≡ x.row) × IsRecording x t c edits
+-- the row and the edits by which t puts the write record of its cell k, as it does where its mark stands
+abbrev pub RecordsNext : State → Writes → ℕ → ℕ → ℕ → List ℕ → List Edit → Type 0
+RecordsNext st ws k t c row edits = (x : Cell) × (v : Value) × Puts ws k x v × Marked st x t × (row ≡ x.row) × IsRecording x t c edits
 
--- the row and the edits of the next step of t, in this phase and with these writes
-abbrev pub ChangesIn : machine.Phase → Writes → ℕ → List ℕ → List Edit → Type 0
-ChangesIn machine.Open ws t row edits = HoldsNext ws 0 t row edits
-ChangesIn (machine.Holding k) ws t row edits = HoldsNext ws k t row edits
-ChangesIn (machine.Stamped c) ws t row edits = RecordsNext ws 0 t c row edits
-ChangesIn (machine.Finishing c k) ws t row edits = RecordsNext ws k t c row edits
+-- the row and the edits of the next step of t, in this phase and with these writes; a step that makes none has none
+abbrev pub ChangesIn : State → machine.Phase → Writes → ℕ → List ℕ → List Edit → Type 0
+ChangesIn st machine.Open ws t row edits = HoldsNext st ws 0 t row edits
+ChangesIn st (machine.Holding k) ws t row edits = HoldsNext st ws k t row edits
+ChangesIn st (machine.Stamped c) ws t row edits = RecordsNext st ws 0 t c row edits
+ChangesIn st (machine.Finishing c k) ws t row edits = RecordsNext st ws k t c row edits
 
 abbrev pub ChangesNext : State → ℕ → List ℕ → List Edit → Type 0
-ChangesNext st t row edits = (phase : machine.Phase) × (ws : Writes) × InPhase st t phase × Wrote st t ws × ChangesIn phase ws t row edits
+ChangesNext st t row edits = (phase : machine.Phase) × (ws : Writes) × InPhase st t phase × Wrote st t ws × ChangesIn st phase ws t row edits
 
 -- such edits of a row would pass a limit of what is kept in memory
 abbrev pub HasNoRoom : {R : Type 0} → (R → List ℕ → List Edit → Type 0) → R → (List ℕ → List Edit → Type 0) → Type 0

@@ -82,6 +82,19 @@ abbrev pub DrawsNext : ℕ → Progress → Type 0
 DrawsNext last (progress.Stamped c) = c ≡ last + 1
 DrawsNext last p = ⊤
 
+-- the same sessions, and the same top
+pub record SameSessions (old new : Clients) : Type 0 where
+  pub top : new.top ≡ old.top
+  pub each : (t : ℕ) → btree.get nat_cmp new.sessions t ≡ btree.get nat_cmp old.sessions t
+
+-- no session that began at t is active
+abbrev pub IsInactive : State → ℕ → Type 0
+IsInactive st t = finmap.get st.active t ≡ None
+
+-- the session that began at t is open, and has no writes
+abbrev pub IsUnwritten : State → ℕ → Type 0
+IsUnwritten st t = InPhase st t machine.Open × Wrote st t []
+
 -- the next step of t draws its commit stamp
 abbrev pub IsAboutToDraw : State → ℕ → Type 0
 IsAboutToDraw st t = (ws : Writes) × Wrote st t ws × InPhase st t (machine.Holding (length ws))

@@ -53,7 +53,7 @@ pub(crate) fn read_cell<R: Rows>(rows: &mut R, cell: &Cell, start: Stamp) -> Res
     ensures damaged { R.holds rows.old → IfErr result (λ refusal. refusal ≡ Refusal.Damaged → IsDamaged (R.cells rows.old) cell.now start) }
     ensures kept { R.holds rows.old → R.cells rows.new ≡ R.cells rows.old }
     ensures still { R.holds rows.old → R.holds rows.new }
-    ensures spots { R.spots rows.new ≡ R.spots rows.old }
+    ensures storage { R.storage rows.new ≡ R.storage rows.old }
     ensures short { IfOk result IsShort }
     ensures refusal { IfErr result IsReadRefusal }
     ensures device { IsErrOf result Refusal.Device → HasRisen (R.faults rows.old) (R.faults rows.new) }
@@ -84,7 +84,7 @@ pub(crate) fn is_taken<R: Rows>(rows: &mut R, cell: &Cell, start: Stamp) -> Resu
     ensures kept { R.holds rows.old → R.cells rows.new ≡ R.cells rows.old }
     ensures same_room { (row : List ℕ) (edits : List RowEdit) → R.overfills rows.new row edits → R.overfills rows.old row edits }
     ensures still { R.holds rows.old → R.holds rows.new }
-    ensures spots { R.spots rows.new ≡ R.spots rows.old }
+    ensures storage { R.storage rows.new ≡ R.storage rows.old }
     ensures refusal { IfErr result IsReadRefusal }
     ensures device { IsErrOf result Refusal.Device → HasRisen (R.faults rows.old) (R.faults rows.new) }
     ensures later { R.faults rows.old ≤ R.faults rows.new }
@@ -134,7 +134,7 @@ pub(crate) fn hold<R: Rows>(
     ensures kept { R.holds rows.old → OnErr result (R.cells rows.new ≡ R.cells rows.old) }
     ensures touched { R.holds rows.old → Touches (R.cells rows.old) (R.cells rows.new) write.now.cell.row start start }
     ensures still { R.holds rows.old → R.holds rows.new }
-    ensures spots { R.spots rows.new ≡ R.spots rows.old }
+    ensures storage { R.storage rows.new ≡ R.storage rows.old }
     ensures undamaged { ¬ (IsErrOf result Refusal.Damaged) }
     ensures refusal { IfErr result IsRowRefusal }
     ensures full { IsErrOf result Refusal.MemtableFull → HasNoRoom R.overfills rows.old (λ row edits. (row ≡ write.now.cell.row) × IsHolding write.now.cell start write.now.value first.now.cell edits) }
@@ -186,10 +186,11 @@ pub(crate) fn record<R: Rows>(
     ensures kept { R.holds rows.old → OnErr result (R.cells rows.new ≡ R.cells rows.old) }
     ensures touched { R.holds rows.old → Touches (R.cells rows.old) (R.cells rows.new) cell.now.row start commit }
     ensures still { R.holds rows.old → R.holds rows.new }
-    ensures spots { R.spots rows.new ≡ R.spots rows.old }
+    ensures storage { R.storage rows.new ≡ R.storage rows.old }
     ensures undamaged { R.holds rows.old → ¬ (IsErrOf result Refusal.Damaged) }
     ensures refusal { IfErr result IsRowRefusal }
     ensures full { IsErrOf result Refusal.MemtableFull → HasNoRoom R.overfills rows.old (λ row edits. (row ≡ cell.now.row) × IsRecording cell.now start commit edits) }
+    ensures due { R.holds rows.old → IsErrOf result Refusal.MemtableFull → IsThere (R.cells rows.old) cell.now LockOf start }
     ensures device { IsErrOf result Refusal.Device → HasRisen (R.faults rows.old) (R.faults rows.new) }
     ensures later { R.faults rows.old ≤ R.faults rows.new }
 {

@@ -15,7 +15,7 @@ ghost use Rattle.si_model.specs.ShowsCells.{ShowsCells};
 ghost use Rattle.txn_client.specs.Reads.{IsShort, cell_of};
 ghost use Rattle.txn_client.specs.Refusals.{IsBeginRefusal, IsGetRefusal, IsSetRefusal, IsStepRefusal};
 ghost use Rattle.txn_client.specs.Room.{ChangesNext, HasNoRoom};
-ghost use Rattle.txn_client.specs.Shows.{DrawsNext, IsAboutToDraw, IsCellRefusal, IsNameRefusal, IsOpen, Shows, ShowsClients, Steps, TouchesFor, open_session, top_after};
+ghost use Rattle.txn_client.specs.Shows.{DrawsNext, IsAboutToDraw, IsCellRefusal, IsInactive, IsNameRefusal, IsOpen, IsUnwritten, SameSessions, Shows, ShowsClients, Steps, TouchesFor, open_session, top_after};
 
 use crate::cells;
 use crate::limits::{Moment, Value};
@@ -157,6 +157,8 @@ impl Clients {
     pub fn stop(&mut self, start: Stamp) -> Result<(), Refusal>
         ensures step { (cells : Cells) (last : ℕ) → Steps cells self.old last (machine.Stop start) (result_reply (λ _. machine.StopDone) result) cells self.new last }
         ensures refusal { IfErr result (λ refusal. refusal ≡ Refusal.UnknownSession) }
+        ensures err { OnErr result (SameSessions self.old self.new) }
+        ensures unknown { (st : State) → ShowsClients self.old st → IsInactive st start → IsErrOf result Refusal.UnknownSession }
     {
         let Some(_session) = self.sessions.remove(&start) else {
             return Err(Refusal::UnknownSession);
@@ -199,11 +201,12 @@ impl Clients {
         ensures step { R.holds rows.old → (last : ℕ) → Steps (R.cells rows.old) self.now last (machine.Get start (cell_of row.now family.now)) (result_reply found_reply result) (R.cells rows.new) self.now last }
         ensures kept { R.holds rows.old → R.cells rows.new ≡ R.cells rows.old }
         ensures still { R.holds rows.old → R.holds rows.new }
-        ensures spots { R.spots rows.new ≡ R.spots rows.old }
+        ensures storage { R.storage rows.new ≡ R.storage rows.old }
         // What is shown is never answered as damaged.
         ensures undamaged { R.holds rows.old → (st : State) → IsReached st → ShowsCells (R.cells rows.old) st → ¬ (IsErrOf result Refusal.Damaged) }
         ensures short { IfOk result IsShort }
         ensures refusal { IfErr result IsGetRefusal }
+        ensures unknown { (st : State) → ShowsClients self.now st → IsInactive st start → IsErrOf result Refusal.UnknownSession }
         ensures device { IsErrOf result Refusal.Device → HasRisen (R.faults rows.old) (R.faults rows.new) }
         ensures later { R.faults rows.old ≤ R.faults rows.new }
     {
@@ -227,6 +230,8 @@ impl Clients {
     ) -> Result<(), Refusal>
         ensures step { (cells : Cells) (last : ℕ) → Steps cells self.old last (machine.Set start (cell_of row.now family.now) value.now) (result_reply (λ _. machine.SetDone) result) cells self.new last }
         ensures refusal { IfErr result IsSetRefusal }
+        ensures err { OnErr result (SameSessions self.old self.new) }
+        ensures unknown { (st : State) → ShowsClients self.old st → IsInactive st start → IsErrOf result Refusal.UnknownSession }
     {
         let cell = self.open_cell(start, row, family)?;
         let value = Value::new(self.alloc, value)?;
@@ -243,8 +248,9 @@ impl Clients {
     /// # Errors
     ///
     /// In this order: `UnknownSession`, `EmptyCommit` where the session has no writes; then
-    /// `MemtableFull`, `Exhausted`, `Device`, `NoMemory` or `Damaged`, where bytes that were read
-    /// are outside their form.
+    /// `MemtableFull` where the step has edits to make and the rows have no room for them (a
+    /// conflict, a loss or a lock that is gone is told at full rows too), `Exhausted`, `Device`,
+    /// `NoMemory` or `Damaged`, where bytes that were read are outside their form.
     pub fn step<R: Rows, M: MarkStore>(
         &mut self,
         rows: &mut R,
@@ -254,7 +260,7 @@ impl Clients {
         ensures step { R.holds rows.old → Steps (R.cells rows.old) self.old oracle.old.last (machine.Advance start) (result_reply progress_reply result) (R.cells rows.new) self.new oracle.new.last }
         ensures kept { R.holds rows.old → OnErr result (R.cells rows.new ≡ R.cells rows.old) }
         ensures still { R.holds rows.old → R.holds rows.new }
-        ensures spots { R.spots rows.new ≡ R.spots rows.old }
+        ensures storage { R.storage rows.new ≡ R.storage rows.old }
         // One row changes, and what joins stands at the session's start or its commit stamp.
         ensures touched { R.holds rows.old → (st : State) → ShowsClients self.old st → TouchesFor st start (R.cells rows.old) (R.cells rows.new) }
         ensures draws { IfOk result (DrawsNext oracle.old.last) }
@@ -263,14 +269,19 @@ impl Clients {
 
         ensures undamaged { R.holds rows.old → ¬ (IsErrOf result Refusal.Damaged) }
         ensures refusal { IfErr result IsStepRefusal }
+        ensures err { OnErr result (SameSessions self.old self.new) }
+        ensures unknown { (st : State) → ShowsClients self.old st → IsInactive st start → IsErrOf result Refusal.UnknownSession }
+        ensures empty { (st : State) → ShowsClients self.old st → IsUnwritten st start → IsErrOf result Refusal.EmptyCommit }
         // Where the next step draws the commit stamp, no memory is taken.
         ensures drawing { (st : State) → ShowsClients self.old st → IsAboutToDraw st start → IfErr result IsDrawRefusal }
         // A step that draws is refused Exhausted after the greatest stamp, and no other one is.
         ensures exhausted { IsErrOf result Refusal.Exhausted → oracle.old.last ≡ MOST_STAMP }
         ensures exhausted_draw { IsErrOf result Refusal.Exhausted → (st : State) → ShowsClients self.old st → IsAboutToDraw st start }
         ensures undrawn { IsErrOf result Refusal.Exhausted → oracle.new ≡ oracle.old }
-        // A step is refused MemtableFull where the rows have no room for its edits.
-        ensures full { IsErrOf result Refusal.MemtableFull → (st : State) → ShowsClients self.old st → HasNoRoom R.overfills rows.old (ChangesNext st start) }
+        // A step that doesn't draw leaves the oracle as it is.
+        ensures aside { (st : State) → ShowsClients self.old st → ¬ IsAboutToDraw st start → oracle.new ≡ oracle.old }
+        // A step is refused MemtableFull where it makes edits and the rows have no room for them.
+        ensures full { R.holds rows.old → IsErrOf result Refusal.MemtableFull → (st : State) → IsReached st → ShowsCells (R.cells rows.old) st → ShowsClients self.old st → HasNoRoom R.overfills rows.old (ChangesNext st start) }
         ensures device { IsErrOf result Refusal.Device → HasRisen (R.faults rows.old) (R.faults rows.new) ⊎ HasRisen (M.faults oracle.old.marks) (M.faults oracle.new.marks) }
         ensures later { R.faults rows.old ≤ R.faults rows.new }
         ensures mark_later { M.faults oracle.old.marks ≤ M.faults oracle.new.marks }

@@ -4,8 +4,9 @@ ghost use Rattle.std.specs.Prelude.{◌≡◌, ◌≢◌, ◌+◌, ◌≤◌, �
 ghost use Rattle.cell_key.specs.Cells.{Cells};
 ghost use Rattle.oracle.specs.Ranges.{IsDrawRefusal};
 ghost use Rattle.cell_key.specs.Faults.{HasRisen};
-ghost use Rattle.si_model.specs.ShowsCells.{TouchesOneRow};
-ghost use Rattle.txn_client.specs.Shows.{Advances, DrawsNext, HasHeldSo, HasNoNext, TouchesBy, phase_of, top_after, writes_of};
+ghost use Rattle.si_model.specs.Machine.{IsReached, State};
+ghost use Rattle.si_model.specs.ShowsCells.{ShowsCells, TouchesOneRow};
+ghost use Rattle.txn_client.specs.Shows.{Advances, DrawsNext, HasHeldSo, HasNoNext, ShowsSession, TouchesBy, phase_of, top_after, writes_of};
 ghost use Rattle.txn_client.specs.Room.{ChangesIn, HasNoRoom, HoldsNext, RecordsNext};
 ghost use Rattle.txn_client.specs.Refusals.{IsAdvanceRefusal};
 ghost use Rattle.txn_client.specs.declared.session.Phase.TheVariants as phase;
@@ -36,10 +37,11 @@ impl Session {
         ensures kept { R.holds rows.old → OnErr result (R.cells rows.new ≡ R.cells rows.old) }
         ensures touched { R.holds rows.old → TouchesOneRow (R.cells rows.old) (R.cells rows.new) self.old.start self.old.start }
         ensures still { R.holds rows.old → R.holds rows.new }
-        ensures spots { R.spots rows.new ≡ R.spots rows.old }
+        ensures storage { R.storage rows.new ≡ R.storage rows.old }
         ensures undamaged { R.holds rows.old → ¬ (IsErrOf result Refusal.Damaged) }
         ensures refusal { IfErr result (IsAdvanceRefusal (length self.old.writes ≤ k)) }
-        ensures full { IsErrOf result Refusal.MemtableFull → HasNoRoom R.overfills rows.old (HoldsNext (writes_of self.old) k self.old.start) }
+        ensures empty { length self.old.writes ≤ k → IsErrOf result Refusal.EmptyCommit }
+        ensures full { R.holds rows.old → IsErrOf result Refusal.MemtableFull → (st : State) → IsReached st → ShowsCells (R.cells rows.old) st → ShowsSession self.old self.old.start st → HasNoRoom R.overfills rows.old (HoldsNext st (writes_of self.old) k self.old.start) }
         ensures device { IsErrOf result Refusal.Device → HasRisen (R.faults rows.old) (R.faults rows.new) }
         ensures later { R.faults rows.old ≤ R.faults rows.new }
         ensures not_exhausted { ¬ (IsErrOf result Refusal.Exhausted) }
@@ -100,10 +102,10 @@ impl Session {
         ensures kept { R.holds rows.old → OnErr result (R.cells rows.new ≡ R.cells rows.old) }
         ensures touched { R.holds rows.old → TouchesOneRow (R.cells rows.old) (R.cells rows.new) self.old.start self.old.commit }
         ensures still { R.holds rows.old → R.holds rows.new }
-        ensures spots { R.spots rows.new ≡ R.spots rows.old }
+        ensures storage { R.storage rows.new ≡ R.storage rows.old }
         ensures undamaged { R.holds rows.old → ¬ (IsErrOf result Refusal.Damaged) }
         ensures refusal { IfErr result (IsAdvanceRefusal (length self.old.writes ≤ 0)) }
-        ensures full { IsErrOf result Refusal.MemtableFull → HasNoRoom R.overfills rows.old (RecordsNext (writes_of self.old) 0 self.old.start self.old.commit) }
+        ensures full { R.holds rows.old → IsErrOf result Refusal.MemtableFull → (st : State) → IsReached st → ShowsCells (R.cells rows.old) st → ShowsSession self.old self.old.start st → HasNoRoom R.overfills rows.old (RecordsNext st (writes_of self.old) 0 self.old.start self.old.commit) }
         ensures device { IsErrOf result Refusal.Device → HasRisen (R.faults rows.old) (R.faults rows.new) }
         ensures later { R.faults rows.old ≤ R.faults rows.new }
         ensures not_exhausted { ¬ (IsErrOf result Refusal.Exhausted) }
@@ -140,10 +142,10 @@ impl Session {
         ensures kept { R.holds rows.old → OnErr result (R.cells rows.new ≡ R.cells rows.old) }
         ensures touched { R.holds rows.old → TouchesOneRow (R.cells rows.old) (R.cells rows.new) self.old.start self.old.commit }
         ensures still { R.holds rows.old → R.holds rows.new }
-        ensures spots { R.spots rows.new ≡ R.spots rows.old }
+        ensures storage { R.storage rows.new ≡ R.storage rows.old }
         ensures undamaged { R.holds rows.old → ¬ (IsErrOf result Refusal.Damaged) }
         ensures refusal { IfErr result (IsAdvanceRefusal (length self.old.writes ≤ k)) }
-        ensures full { IsErrOf result Refusal.MemtableFull → HasNoRoom R.overfills rows.old (RecordsNext (writes_of self.old) k self.old.start self.old.commit) }
+        ensures full { R.holds rows.old → IsErrOf result Refusal.MemtableFull → (st : State) → IsReached st → ShowsCells (R.cells rows.old) st → ShowsSession self.old self.old.start st → HasNoRoom R.overfills rows.old (RecordsNext st (writes_of self.old) k self.old.start self.old.commit) }
         ensures device { IsErrOf result Refusal.Device → HasRisen (R.faults rows.old) (R.faults rows.new) }
         ensures later { R.faults rows.old ≤ R.faults rows.new }
         ensures not_exhausted { ¬ (IsErrOf result Refusal.Exhausted) }
@@ -175,13 +177,15 @@ impl Session {
         ensures kept { R.holds rows.old → OnErr result (R.cells rows.new ≡ R.cells rows.old) }
         ensures touched { R.holds rows.old → TouchesBy self.old.phase (R.cells rows.old) (R.cells rows.new) self.old.start self.old.commit }
         ensures still { R.holds rows.old → R.holds rows.new }
-        ensures spots { R.spots rows.new ≡ R.spots rows.old }
+        ensures storage { R.storage rows.new ≡ R.storage rows.old }
         ensures undamaged { R.holds rows.old → ¬ (IsErrOf result Refusal.Damaged) }
         ensures refusal { IfErr result (IsAdvanceRefusal (HasNoNext self.old.phase (length self.old.writes))) }
+        ensures empty { self.old.phase ≡ phase.Open → length self.old.writes ≤ 0 → IsErrOf result Refusal.EmptyCommit }
         ensures drawing { self.old.phase ≡ phase.Holding (length self.old.writes) → IfErr result IsDrawRefusal }
-        ensures full { IsErrOf result Refusal.MemtableFull → HasNoRoom R.overfills rows.old (ChangesIn (phase_of self.old.phase self.old.commit) (writes_of self.old) self.old.start) }
+        ensures full { R.holds rows.old → IsErrOf result Refusal.MemtableFull → (st : State) → IsReached st → ShowsCells (R.cells rows.old) st → ShowsSession self.old self.old.start st → HasNoRoom R.overfills rows.old (ChangesIn st (phase_of self.old.phase self.old.commit) (writes_of self.old) self.old.start) }
         ensures exhausted { IsErrOf result Refusal.Exhausted → oracle.old.last ≡ MOST_STAMP }
         ensures draw_only { IsErrOf result Refusal.Exhausted → self.old.phase ≡ phase.Holding (length self.old.writes) }
+        ensures aside { self.old.phase ≢ phase.Holding (length self.old.writes) → oracle.new ≡ oracle.old }
         ensures undrawn { IsErrOf result Refusal.Exhausted → oracle.new ≡ oracle.old }
         ensures device { IsErrOf result Refusal.Device → HasRisen (R.faults rows.old) (R.faults rows.new) ⊎ HasRisen (M.faults oracle.old.marks) (M.faults oracle.new.marks) }
         ensures later { R.faults rows.old ≤ R.faults rows.new }

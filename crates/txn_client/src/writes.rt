@@ -65,6 +65,7 @@ impl Writes {
     pub(crate) fn get(&self, place: u16) -> Option<&Write>
         ensures found { IfSome result (λ write. slice_get self.now place ≡ Some write.now) }
         ensures few { OnSome result (place < 256) }
+        ensures some { OnSome result (place < length self.now) }
         ensures none { IfNone result (length self.now ≤ place) }
     {
         self.entries.get(usize::from(place))

@@ -51,3 +51,6 @@ returns-in-Merge-clause-needed g c = rw (c.in-Merge.is) (λ out none. none)
 
 pub returns-in-Major-clause-needed : goal.returns-in-Major-clause-needed
 returns-in-Major-clause-needed g c = rw (c.in-Major.is) (λ out none. none)
+
+pub returns-in-Minor-clause-empty : goal.returns-in-Minor-clause-empty
+returns-in-Minor-clause-empty g c = rw (c.in-Minor.is) (λ none. let same = c.minor.ensures.empty none in (same.0, (same.1.1.0, same.1.1.1)))

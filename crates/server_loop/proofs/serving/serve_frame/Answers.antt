@@ -10,22 +10,22 @@ use Rattle.server_loop.proofs.serving.serve_frame.Goals as goal
 pub returns-in-Clean-clause-one : goal.returns-in-Clean-clause-one
 returns-in-Clean-clause-one g c =
     let (read, consumed, ends) = c.in-Clean.ensures in
-    Serves-nothing _ _ _ _ _ _ _ read consumed (IsPartial-from_nil read ends.0) (ends.0, ends.1, refl)
+    Serves-nothing _ _ _ _ _ _ _ _ read consumed (IsPartial-from_nil read ends.0) (ends.0, ends.1, refl)
 
 pub returns-in-Truncated-clause-one : goal.returns-in-Truncated-clause-one
 returns-in-Truncated-clause-one g c =
     let (read, consumed, ends) = c.in-Truncated.ensures in
-    Serves-nothing _ _ _ _ _ _ _ read consumed ends.1 (ends.0, ends.1, ends.2, refl)
+    Serves-nothing _ _ _ _ _ _ _ _ read consumed ends.1 (ends.0, ends.1, ends.2, refl)
 
 pub returns-in-UsedUp-clause-one : goal.returns-in-UsedUp-clause-one
 returns-in-UsedUp-clause-one g c =
     let (read, consumed, ends) = c.in-UsedUp.ensures in
-    Serves-nothing _ _ _ _ _ _ _ read consumed ends.0 (ends.1, ends.0, refl)
+    Serves-nothing _ _ _ _ _ _ _ _ read consumed ends.0 (ends.1, ends.0, refl)
 
 pub returns-clause-one : goal.returns-clause-one
 returns-clause-one g c =
     let (read, consumed, partial) = c.in-Failed.ensures in
-    Serves-nothing _ _ _ _ _ _ _ read consumed partial (partial, refl)
+    Serves-nothing _ _ _ _ _ _ _ _ read consumed partial (partial, refl)
 
 -- a whole frame: its reply was written
 pub returns-in-Ok-clause-one : goal.returns-in-Ok-clause-one
@@ -33,7 +33,7 @@ returns-in-Ok-clause-one g c =
     let (read, consumed, whole) = c.in-Whole.ensures in
     let body = take c.in-Whole.length c.read_frame.new.body in
     let is_frame : read ≡ frame body = whole.2 in
-    Served-one _ _ _ _ _ _ _ _ _ body _ (omega (arith, whole.0, length-take-le c.in-Whole.length c.read_frame.new.body whole.1))
+    Served-one _ _ _ _ _ _ _ _ _ _ body _ (omega (arith, whole.0, length-take-le c.in-Whole.length c.read_frame.new.body whole.1))
     (subst (Consumes _ _) is_frame consumed) (omega (arith, whole.4, ap length is_frame)) c.reply_to_body-reply.ensures.answers c.in-Ok.ensures.ok
 
 -- or a beginning of its reply
@@ -42,14 +42,14 @@ returns-in-Whole-clause-one g c =
     let (read, consumed, whole) = c.in-Whole.ensures in
     let body = take c.in-Whole.length c.read_frame.new.body in
     let is_frame : read ≡ frame body = whole.2 in
-    Serves-cut_short _ _ _ _ _ _ _ _ _ body _ (omega (arith, whole.0, length-take-le c.in-Whole.length c.read_frame.new.body whole.1))
+    Serves-cut_short _ _ _ _ _ _ _ _ _ _ body _ (omega (arith, whole.0, length-take-le c.in-Whole.length c.read_frame.new.body whole.1))
     (subst (Consumes _ _) is_frame consumed) c.reply_to_body-reply.ensures.answers c.in-Err.ensures.err.1
 
 -- a length past the limit: the refusal was written
 pub returns-in-Ok-send-clause-one : goal.returns-in-Ok-send-clause-one
 returns-in-Ok-send-clause-one g c =
     let (read, consumed, large) = c.in-TooLarge.ensures in
-    Serves-too_large _ _ _ _ _ _ _ _ read _ consumed large.0 c.in-Ok-send.ensures.ok (large.0, refl)
+    Serves-too_large _ _ _ _ _ _ _ _ _ read _ consumed large.0 c.in-Ok-send.ensures.ok (large.0, refl)
 
 -- or a beginning of it
 pub returns-in-TooLarge-clause-one : goal.returns-in-TooLarge-clause-one
@@ -57,4 +57,4 @@ returns-in-TooLarge-clause-one g c =
     let (read, consumed, large) = c.in-TooLarge.ensures in
     let (n, wrote) = c.in-Err-send.ensures.err in
     let refusal = frame (reply_body (Refused FrameTooLarge)) in
-    Serves-too_large _ _ _ _ _ _ _ _ read _ consumed large.0 wrote (drop n refusal, sym (take-append-drop n refusal))
+    Serves-too_large _ _ _ _ _ _ _ _ _ read _ consumed large.0 wrote (drop n refusal, sym (take-append-drop n refusal))

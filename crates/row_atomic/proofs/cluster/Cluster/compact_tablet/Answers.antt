@@ -1,13 +1,14 @@
 -- One tablet is compacted, and its place lists its files.
 use Rattle.std.proofs.Common.{rules, refl, ap, ◌∙◌, map}
+use Rattle.std.proofs.lemmas.Option.{slice_get_within}
 use Rattle.std.specs.Vec.{vec_capacity}
 use Rattle.metadata_table.specs.Table.{with_files}
 use Rattle.tablet.specs.Views.{names_of}
 use Rattle.row_atomic.specs.Clusters.{spot_of}
 use Rattle.row_atomic.specs.Changes.{IsCleaned, IsFull, IsMade, IsTooLarge, MeetsBadCount, MeetsFull, WritesNone}
 use Rattle.row_atomic.proofs.Answering.{found_there, undamaged}
-use Rattle.row_atomic.proofs.Changing.{at_order, has_room, if_err, in_order, is_below, is_set, matched_unchanged, matched_listed, numbered_new, numbered_old, parts_stay, remade, same_spots, stays}
-use Rattle.row_atomic.proofs.Roomy.{fits_order, numbered_not}
+use Rattle.row_atomic.proofs.Changing.{at_order, has_room, if_err, in_order, is_set, matched_unchanged, matched_listed, numbered_new, numbered_old, parts_stay, remade, same_spots, stays}
+use Rattle.row_atomic.proofs.Roomy.{fits_order, numbered_not, numbered_that}
 use Rattle.row_atomic.proofs.cluster.Cluster.compact_tablet.Goals as goal
 
 pub invariant_of-self : goal.invariant_of-self
@@ -56,7 +57,7 @@ pub index-requires-2 : goal.index-requires-2
 index-requires-2 g c =
     let at = rw (← c.self.view_is) at c.position-index.ensures in
     let there = found_there c.self.inside.tablets.items c.position-index.result at.tablet c.index_mut.result.now at.there c.index_mut.ensures.value in
-    let below = is_below c.self.inside.tablets.items c.position-index.result c.index_mut.result.now there in
+    let below = slice_get_within c.self.inside.tablets.items c.position-index.result c.index_mut.result.now there in
     search rules
 
 pub list_files-requires-clause-room : goal.list_files-requires-clause-room
@@ -81,7 +82,7 @@ pub returns-clause-made : goal.returns-clause-made
 returns-clause-made g c =
     let at = rw (← c.self.view_is) at c.position-index.ensures in
     let there = found_there c.self.inside.tablets.items c.position-index.result at.tablet c.index_mut.result.now at.there c.index_mut.ensures.value in
-    rw (← c.self.view_is) (remade c.self.inside.tablets.items c.position-index.result c.index_mut.result.now c.compact.new.tablet there (IsMade c.args.compaction) c.args.tablet at.number c.in_ok-compact.ensures.made)
+    rw (← c.self.view_is) (remade c.self.inside.tablets.items c.position-index.result c.index_mut.result.now c.compact.new.tablet there (IsMade c.args.compaction c.self.inside.next_name) c.args.tablet at.number c.in_ok-compact.ensures.made)
 
 pub returns-clause-cleaned : goal.returns-clause-cleaned
 returns-clause-cleaned g c =
@@ -124,3 +125,15 @@ returns-in_err-compact-clause-needed g c =
     let at = rw (← c.self.view_is) at c.position-index.ensures in
     let there = found_there c.self.inside.tablets.items c.position-index.result at.tablet c.index_mut.result.now at.there c.index_mut.ensures.value in
     λ is. rw (← c.self.view_is) (numbered_not c.self.inside.tablets.items c.position-index.result c.index_mut.result.now there (WritesNone c.args.compaction) c.args.tablet at.number (c.compact.ensures.needed (search rules)))
+
+pub returns-in_err-compact-clause-empty : goal.returns-in_err-compact-clause-empty
+returns-in_err-compact-clause-empty g c =
+    let at = rw (← c.self.view_is) at c.position-index.ensures in
+    let there = found_there c.self.inside.tablets.items c.position-index.result at.tablet c.index_mut.result.now at.there c.index_mut.ensures.value in
+    rw (← c.self.view_is) (λ none. (c.compact.ensures.empty (numbered_that c.self.inside.tablets.items c.position-index.result c.index_mut.result.now there (WritesNone c.args.compaction) c.args.tablet at.number none)).1)
+
+pub returns-clause-empty : goal.returns-clause-empty
+returns-clause-empty g c =
+    let at = rw (← c.self.view_is) at c.position-index.ensures in
+    let there = found_there c.self.inside.tablets.items c.position-index.result at.tablet c.index_mut.result.now at.there c.index_mut.ensures.value in
+    rw (← c.self.view_is) (λ none. (c.compact.ensures.empty (numbered_that c.self.inside.tablets.items c.position-index.result c.index_mut.result.now there (WritesNone c.args.compaction) c.args.tablet at.number none)).1)

@@ -1,14 +1,15 @@
 -- The parts come in the place of the tablet.
 use Rattle.std.proofs.Common.{rules, ◌≡◌, ◌++◌, ◌∷◌, [], List, ap, ◌∙◌, set, slice_get, length, ◌+◌, subst, sym}
+use Rattle.std.proofs.lemmas.Option.{slice_get_within}
 use Rattle.metadata_table.specs.Places.{PlaceView, view_of}
-use Rattle.metadata_table.specs.Table.{Cuts}
-use Rattle.tablet.specs.Views.{names_of, with_name}
+use Rattle.metadata_table.specs.Table.{Cuts, IsHolder}
+use Rattle.tablet.specs.Views.{IsUnchanged, names_of, with_name}
 use Rattle.tablet.specs.declared.tablet.Tablet.{Tablet}
 use Rattle.row_atomic.specs.Clusters.{InOrder, IsMatched, cells_in}
 use Rattle.row_atomic.proofs.Answering.{found_there}
-use Rattle.row_atomic.proofs.Changing.{in_order, is_below, matched_unchanged}
-use Rattle.row_atomic.specs.Changes.{IsEmptied, Numbered}
-use Rattle.row_atomic.proofs.Emptying.{left_emptied, right_emptied}
+use Rattle.row_atomic.proofs.Changing.{if_err, in_order, matched_unchanged}
+use Rattle.row_atomic.specs.Changes.{IsHalved, Remakes}
+use Rattle.row_atomic.proofs.Emptying.{cut_in_two, holder_stays, holder_unchanged}
 use Rattle.row_atomic.proofs.Splitting.{holder_emptied, holder_known, matched_cut, parts_keep, read_alone, stays_over}
 use Rattle.row_atomic.proofs.cluster.Cluster.cut.Goals as goal
 
@@ -22,7 +23,7 @@ index_mut-requires g c =
     let table = c.locate.ensures.table in
     let holder = c.locate.ensures.holder in
     let at = rw (← c.self.view_is) at c.position-index.ensures in
-    let below = is_below c.reserve.new.self.items c.position-index.result at.tablet (ap (λ ys. slice_get ys c.position-index.result) c.reserve.ensures.items ∙ at.there) in
+    let below = slice_get_within c.reserve.new.self.items c.position-index.result at.tablet (ap (λ ys. slice_get ys c.position-index.result) c.reserve.ensures.items ∙ at.there) in
     search rules
 
 pub invariant_of-self-in_err-part : goal.invariant_of-self-in_err-part
@@ -91,8 +92,8 @@ returns-clause-kept g c =
     rw (← c.self.view_is) (λ order. subst (λ (ys : List Tablet). InOrder (g.F.Files.contents c.split.new.files) c.split.new.next_name ys × (cells_in (g.F.Files.contents c.split.new.files) ys ≡ cells_in (g.F.Files.contents c.self.inside.files) c.self.inside.tablets.items)) (sym pushed)
     (parts_keep c.self.inside.table c.self.inside.tablets.items c.position-index.result c.index_mut.result.now c.in_ok-part.part c.split.new.self c.args.row.now (view_of c.locate.result.now) table there_old holder at.number c.in_ok-part.ensures.left_range c.in_ok-part.ensures.right_range c.stays_in_range.ensures c.others_stay.ensures (g.F.Files.contents c.self.inside.files) (g.F.Files.contents c.split.new.files) c.self.inside.next_name c.split.new.next_name c.self.invariant.placed c.self.invariant.as_many c.split.ensures.name c.in_ok-part.ensures.parts order))
 
-pub returns-clause-left_emptied : goal.returns-clause-left_emptied
-returns-clause-left_emptied g c =
+pub returns-clause-halved : goal.returns-clause-halved
+returns-clause-halved g c =
     let table = c.locate.ensures.table in
     let holder = c.locate.ensures.holder in
     let at = rw (← c.self.view_is) at c.position-index.ensures in
@@ -100,19 +101,72 @@ returns-clause-left_emptied g c =
     let there_old = ap (λ ys. slice_get ys c.position-index.result) (sym c.reserve.ensures.items) ∙ there in
     let pushed : c.push.new.self.items ≡ (set c.self.inside.tablets.items c.position-index.result c.split.new.self ++ c.in_ok-part.part ∷ []) = search rules in
     let copied : c.in_ok-table.table ≡ c.self.inside.table = search rules in
-    subst (λ (ys : List Tablet). Numbered IsEmptied c.in_ok-left.left ys) (sym pushed)
-    (left_emptied c.self.inside.tablets.items c.position-index.result c.in_ok-part.part c.split.new.self c.in_ok-left.left (length c.self.inside.table) (c.in_ok-left.ensures.number ∙ ap (λ (ps : List PlaceView). length ps + 1) copied) c.self.invariant.as_many c.in_ok-part.ensures.left_memory)
+    rw (← c.self.view_is) (subst (λ (ys : List Tablet). IsHalved c.self.inside.next_name c.args.row.now c.in_ok-left.left c.self.inside.table c.self.inside.tablets.items ys) (sym pushed)
+    (cut_in_two c.args.row.now c.self.inside.table c.self.inside.tablets.items c.position-index.result c.index_mut.result.now c.in_ok-part.part c.split.new.self (view_of c.locate.result.now) holder at.number there_old c.self.inside.next_name c.in_ok-left.left (length c.self.inside.table)
+    (c.in_ok-left.ensures.number ∙ ap (λ (ps : List PlaceView). length ps + 1) copied) c.self.invariant.as_many
+    (record { memory = c.in_ok-part.ensures.left_memory; names = c.in_ok-part.ensures.left_names })
+    (record { memory = c.in_ok-part.ensures.right_memory; names = c.in_ok-part.ensures.right_names })))
 
-pub returns-clause-right_emptied : goal.returns-clause-right_emptied
-returns-clause-right_emptied g c =
+pub returns-in_err-part-clause-unchanged : goal.returns-in_err-part-clause-unchanged
+returns-in_err-part-clause-unchanged g c =
     let table = c.locate.ensures.table in
     let holder = c.locate.ensures.holder in
     let at = rw (← c.self.view_is) at c.position-index.ensures in
     let there = found_there c.reserve.new.self.items c.position-index.result at.tablet c.index_mut.result.now (ap (λ ys. slice_get ys c.position-index.result) c.reserve.ensures.items ∙ at.there) c.index_mut.ensures.value in
     let there_old = ap (λ ys. slice_get ys c.position-index.result) (sym c.reserve.ensures.items) ∙ there in
-    let pushed : c.push.new.self.items ≡ (set c.self.inside.tablets.items c.position-index.result c.split.new.self ++ c.in_ok-part.part ∷ []) = search rules in
-    rw (← c.self.view_is) (record {
-      place = view_of c.locate.result.now;
-      holder = holder;
-      tablet = subst (λ (ys : List Tablet). Numbered IsEmptied c.locate.result.now.tablet ys) (sym pushed) (right_emptied c.self.inside.tablets.items c.position-index.result c.in_ok-part.part c.split.new.self c.locate.result.now.tablet c.index_mut.result.now at.number there_old c.in_ok-part.ensures.right_memory);
-    })
+    let emptied = holder_emptied c.args.row.now c.self.inside.table c.self.inside.tablets.items (view_of c.locate.result.now) c.position-index.result c.index_mut.result.now holder at.number there_old (rw (← c.self.view_is) at c.requires.flushed) in
+    let stays = holder_unchanged c.args.row.now c.self.inside.table c.self.inside.tablets.items c.position-index.result c.index_mut.result.now c.split.new.self (view_of c.locate.result.now) holder at.number there_old (c.in_err-part.ensures.err emptied) in
+    if_err _ c.from_residual-in_err-part.result (rw (← c.self.view_is) (subst (λ (ys : List Tablet). (q : PlaceView) → IsHolder c.args.row.now c.self.inside.table q → Remakes IsUnchanged q.tablet c.self.inside.tablets.items ys) (search rules) stays))
+
+pub returns-in_err-table-clause-unchanged : goal.returns-in_err-table-clause-unchanged
+returns-in_err-table-clause-unchanged g c =
+    if_err _ c.from_residual.result (holder_stays c.args.row.now c.args.self.now.places c.args.self.now.tablets c.requires.flushed)
+
+pub returns-in_err-left-clause-unchanged : goal.returns-in_err-left-clause-unchanged
+returns-in_err-left-clause-unchanged g c =
+    if_err _ c.from_residual-in_err-left.result (holder_stays c.args.row.now c.args.self.now.places c.args.self.now.tablets c.requires.flushed)
+
+pub returns-in_err-reserve-clause-unchanged : goal.returns-in_err-reserve-clause-unchanged
+returns-in_err-reserve-clause-unchanged g c =
+    let stays = rw (← c.self.view_is) at (holder_stays c.args.row.now c.args.self.now.places c.args.self.now.tablets c.requires.flushed) in
+    if_err _ c.from_residual-in_err-reserve.result (rw (← c.self.view_is) (subst (λ (ys : List Tablet). (q : PlaceView) → IsHolder c.args.row.now c.self.inside.table q → Remakes IsUnchanged q.tablet c.self.inside.tablets.items ys) (sym c.reserve.ensures.items) stays))
+
+pub returns-in_err-part-clause-name : goal.returns-in_err-part-clause-name
+returns-in_err-part-clause-name g c =
+    let table = c.locate.ensures.table in
+    let holder = c.locate.ensures.holder in
+    let at = rw (← c.self.view_is) at c.position-index.ensures in
+    let there = found_there c.reserve.new.self.items c.position-index.result at.tablet c.index_mut.result.now (ap (λ ys. slice_get ys c.position-index.result) c.reserve.ensures.items ∙ at.there) c.index_mut.ensures.value in
+    let there_old = ap (λ ys. slice_get ys c.position-index.result) (sym c.reserve.ensures.items) ∙ there in
+    let emptied = holder_emptied c.args.row.now c.self.inside.table c.self.inside.tablets.items (view_of c.locate.result.now) c.position-index.result c.index_mut.result.now holder at.number there_old (rw (← c.self.view_is) at c.requires.flushed) in
+    rw (← c.self.view_is) ((c.split.ensures.empty emptied).0)
+
+pub returns-in_err-part-clause-files : goal.returns-in_err-part-clause-files
+returns-in_err-part-clause-files g c =
+    let table = c.locate.ensures.table in
+    let holder = c.locate.ensures.holder in
+    let at = rw (← c.self.view_is) at c.position-index.ensures in
+    let there = found_there c.reserve.new.self.items c.position-index.result at.tablet c.index_mut.result.now (ap (λ ys. slice_get ys c.position-index.result) c.reserve.ensures.items ∙ at.there) c.index_mut.ensures.value in
+    let there_old = ap (λ ys. slice_get ys c.position-index.result) (sym c.reserve.ensures.items) ∙ there in
+    let emptied = holder_emptied c.args.row.now c.self.inside.table c.self.inside.tablets.items (view_of c.locate.result.now) c.position-index.result c.index_mut.result.now holder at.number there_old (rw (← c.self.view_is) at c.requires.flushed) in
+    rw (← c.self.view_is) ((c.split.ensures.empty emptied).1)
+
+pub returns-clause-name : goal.returns-clause-name
+returns-clause-name g c =
+    let table = c.locate.ensures.table in
+    let holder = c.locate.ensures.holder in
+    let at = rw (← c.self.view_is) at c.position-index.ensures in
+    let there = found_there c.reserve.new.self.items c.position-index.result at.tablet c.index_mut.result.now (ap (λ ys. slice_get ys c.position-index.result) c.reserve.ensures.items ∙ at.there) c.index_mut.ensures.value in
+    let there_old = ap (λ ys. slice_get ys c.position-index.result) (sym c.reserve.ensures.items) ∙ there in
+    let emptied = holder_emptied c.args.row.now c.self.inside.table c.self.inside.tablets.items (view_of c.locate.result.now) c.position-index.result c.index_mut.result.now holder at.number there_old (rw (← c.self.view_is) at c.requires.flushed) in
+    rw (← c.self.view_is) ((c.split.ensures.empty emptied).0)
+
+pub returns-clause-files : goal.returns-clause-files
+returns-clause-files g c =
+    let table = c.locate.ensures.table in
+    let holder = c.locate.ensures.holder in
+    let at = rw (← c.self.view_is) at c.position-index.ensures in
+    let there = found_there c.reserve.new.self.items c.position-index.result at.tablet c.index_mut.result.now (ap (λ ys. slice_get ys c.position-index.result) c.reserve.ensures.items ∙ at.there) c.index_mut.ensures.value in
+    let there_old = ap (λ ys. slice_get ys c.position-index.result) (sym c.reserve.ensures.items) ∙ there in
+    let emptied = holder_emptied c.args.row.now c.self.inside.table c.self.inside.tablets.items (view_of c.locate.result.now) c.position-index.result c.index_mut.result.now holder at.number there_old (rw (← c.self.view_is) at c.requires.flushed) in
+    rw (← c.self.view_is) ((c.split.ensures.empty emptied).1)

@@ -3,9 +3,10 @@ use Rattle.std.proofs.Common.{rules, ◌∙◌, inr, ap, subst, sym}
 use Rattle.metadata_table.specs.Places.{view_of}
 use Rattle.metadata_table.specs.Table.{HasTablet, moved}
 use Rattle.tablet.specs.Views.{names_of}
-use Rattle.row_atomic.proofs.Changing.{if_ok, on_ok}
+use Rattle.row_atomic.specs.Changes.{IsFlushed, Remakes}
+use Rattle.row_atomic.proofs.Changing.{if_err, if_ok, on_ok}
 use Rattle.row_atomic.proofs.Emptying.{flushed_opened}
-use Rattle.row_atomic.proofs.Moving.{elsewhere, known_after, matched_assigned}
+use Rattle.row_atomic.proofs.Moving.{elsewhere, known_after, matched_assigned, not_refused}
 use Rattle.row_atomic.proofs.cluster.Cluster.move_to.Goals as goal
 
 pub returns-in_err-compact_tablet-clause-full : goal.returns-in_err-compact_tablet-clause-full
@@ -62,7 +63,7 @@ returns-clause-unknown g c =
 pub returns-clause-flushed : goal.returns-clause-flushed
 returns-clause-flushed g c =
     let opened = rw (← c.self-2.view_is) at c.in_ok-reopen.ensures.opened in
-    if_ok _ c.assign.result (λ elsewhere. flushed_opened c.args.tablet c.args.self.now.tablets c.compact_tablet.new.self.tablets c.self-2.inside.tablets.items c.in_ok-compact_tablet.ensures.made opened)
+    if_ok _ c.assign.result (λ elsewhere. flushed_opened c.args.self.now.next_name c.args.tablet c.args.self.now.tablets c.compact_tablet.new.self.tablets c.self-2.inside.tablets.items c.in_ok-compact_tablet.ensures.made opened)
 
 pub returns-then-server-from-clause-flushed : goal.returns-then-server-from-clause-flushed
 returns-then-server-from-clause-flushed g c =
@@ -79,3 +80,33 @@ returns-clause-left g c = if_ok _ c.assign.result (λ elsewhere. c.in_ok-compact
 
 pub returns-in_err-compact_tablet-clause-needed : goal.returns-in_err-compact_tablet-clause-needed
 returns-in_err-compact_tablet-clause-needed g c = λ is. c.compact_tablet.ensures.needed (search rules)
+
+pub returns-in_err-reopen-clause-may : goal.returns-in_err-reopen-clause-may
+returns-in_err-reopen-clause-may g c =
+    if_err _ c.from_residual-in_err-reopen.result (inr (subst (Remakes (IsFlushed c.args.self.now.next_name) c.args.tablet c.args.self.now.tablets) (sym c.in_err-reopen.ensures.err) c.in_ok-compact_tablet.ensures.made))
+
+pub returns-clause-may : goal.returns-clause-may
+returns-clause-may g c =
+    let opened = rw (← c.self-2.view_is) at c.in_ok-reopen.ensures.opened in
+    if_err _ c.assign.result (inr (flushed_opened c.args.self.now.next_name c.args.tablet c.args.self.now.tablets c.compact_tablet.new.self.tablets c.self-2.inside.tablets.items c.in_ok-compact_tablet.ensures.made opened))
+
+pub returns-in_err-reopen-clause-empty : goal.returns-in_err-reopen-clause-empty
+returns-in_err-reopen-clause-empty g c = λ none.
+    let first = c.compact_tablet.ensures.empty none in
+    (c.reopen.ensures.name ∙ first.0, c.reopen.ensures.files ∙ first.1)
+
+pub returns-clause-empty : goal.returns-clause-empty
+returns-clause-empty g c =
+    let name = rw (← c.self-2.view_is) at c.reopen.ensures.name in
+    let files = rw (← c.self-2.view_is) at c.reopen.ensures.files in
+    λ none.
+    let first = c.compact_tablet.ensures.empty none in
+    (name ∙ first.0, files ∙ first.1)
+
+pub returns-clause-unmoved : goal.returns-clause-unmoved
+returns-clause-unmoved g c =
+    let listed = rw (← c.self.view_is) at c.in_ok-compact_tablet.ensures.listed in
+    let has : HasTablet c.args.tablet c.self.inside.table = (view_of c.in_ok-from.field-0.now, c.in_ok-from.ensures.found, c.in_ok-from.ensures.named) in
+    let after = known_after c.args.tablet c.self.inside.table c.compact_tablet.new.self.places c.compact_tablet.new.self.tablets listed has in
+    let same = rw (← c.self-2.view_is) at c.reopen.ensures.places in
+    not_refused c.args.tablet c.args.server c.self-2.inside.table c.assign.result (subst (HasTablet c.args.tablet) (sym same) after) c.if-server-ge-SERVERS.false c.assign.ensures.unknown.0 c.assign.ensures.server.0

@@ -2,7 +2,6 @@
 use Rattle.std.proofs.Common.{length, List, ap, sym, subst, arith, ◌∙◌}
 use Rattle.std.specs.List.{AllByRecursion}
 use Rattle.std.specs.Vec.Iter.{into_iter_items}
-use Rattle.row_atomic.specs.Clusters.{cells_in}
 use Rattle.row_atomic.specs.Commands.{IsUnderRow}
 use Rattle.row_atomic.specs.declared.commands.Command.{Command}
 use Rattle.row_atomic.proofs.Commanding.{all_answered, answered, none_left}
@@ -21,16 +20,13 @@ loop-command-preserved g c =
       under = (subst (λ (cs : List Command). AllByRecursion IsUnderRow cs) first c.loop-command.invariant.under).1;
       still = λ holds. c.answer-outcome.ensures.still (c.loop-command.invariant.still holds);
       answers = λ holds.
-          answered (cells_in (g.F.Files.contents c.args.self.now.files) c.args.self.now.tablets)
-          (cells_in (g.F.Files.contents c.loop-command.self.files) c.loop-command.self.tablets)
-          (cells_in (g.F.Files.contents c.answer-outcome.new.self.files) c.answer-outcome.new.self.tablets)
+          answered g.F.Files.contents c.args.self.now c.loop-command.self c.answer-outcome.new.self
           c.args.commands.items (into_iter_items c.loop-command.command-iterator) rest c.in-Some.command c.loop-command.outcomes.items c.push_outcome.new.outcomes.items c.answer-outcome.result
-          first c.push_outcome.ensures.items (c.answer-outcome.ensures.answers (c.loop-command.invariant.still holds)) (c.loop-command.invariant.answers holds);
+          first c.push_outcome.ensures.items (c.answer-outcome.ensures.answers (c.loop-command.invariant.still holds)) (c.answer-outcome.ensures.upholds (c.loop-command.invariant.still holds)) (c.loop-command.invariant.answers holds);
     }
 
 pub returns-clause-answers : goal.returns-clause-answers
 returns-clause-answers g c = λ holds.
-    all_answered (cells_in (g.F.Files.contents c.args.self.now.files) c.args.self.now.tablets)
-    (cells_in (g.F.Files.contents c.loop-command.self.files) c.loop-command.self.tablets)
+    all_answered g.F.Files.contents c.args.self.now c.loop-command.self
     c.args.commands.items (into_iter_items c.loop-command.command-iterator) c.loop-command.outcomes.items
     (none_left (into_iter_items c.loop-command.command-iterator) (sym c.loop-command.command-iterator.rest.ok.0 ∙ c.in-None.ensures.steps.0)) (c.loop-command.invariant.answers holds)

@@ -4,7 +4,6 @@ use Rattle.std.specs.Prelude.{vec_len, vec_capacity}
 use Rattle.std.specs.List.{AllByRecursion}
 use Rattle.std.specs.Vec.Iter.{into_iter_items}
 use Rattle.row_atomic.specs.Changes.{Holds}
-use Rattle.row_atomic.specs.Clusters.{cells_in}
 use Rattle.row_atomic.specs.Commands.{IsUnderRow}
 use Rattle.row_atomic.proofs.Commanding.{Completes}
 use Rattle.row_atomic.proofs.cluster.Cluster.run.Given as goal
@@ -15,5 +14,5 @@ invariant-loop-command g l = record {
   under : AllByRecursion IsUnderRow (into_iter_items l.command-iterator);
   still : Holds g.F.Files.contents l.initial.self → Holds g.F.Files.contents l.self;
   answers : Holds g.F.Files.contents l.initial.self
-      → Completes (cells_in (g.F.Files.contents l.initial.self.files) l.initial.self.tablets) l.fn.commands.items l.outcomes.items (cells_in (g.F.Files.contents l.self.files) l.self.tablets) (into_iter_items l.command-iterator);
+      → Completes g.F.Files.contents l.initial.self l.fn.commands.items l.outcomes.items l.self (into_iter_items l.command-iterator);
 }

@@ -1,11 +1,11 @@
 -- The minor compaction comes first, and then the tablet is cut.
 use Rattle.std.proofs.Common.{rules, ◌∙◌}
+use Rattle.std.proofs.lemmas.Result.{IfOk-weaker, on_err_weaker}
 use Rattle.metadata_table.specs.Places.{view_of}
 use Rattle.row_atomic.specs.Changes.{IsEmptied, IsFull}
-use Rattle.row_atomic.proofs.Changing.{if_ok, on_ok}
-use Rattle.row_atomic.proofs.Emptying.{cut_listed, not_cut, not_out, of_listed}
-use Rattle.row_atomic.proofs.Naming.{uses_both, uses_none, uses_one}
-use Rattle.row_atomic.proofs.Roomy.{holder_not}
+use Rattle.row_atomic.proofs.Changing.{if_ok}
+use Rattle.row_atomic.proofs.Emptying.{cut_listed, flushed_alone, halved_after, not_cut, not_out}
+use Rattle.row_atomic.proofs.Roomy.{holder_not, holder_that, still_used}
 use Rattle.row_atomic.proofs.Splitting.{free_after, holder_flushed, holder_known}
 use Rattle.row_atomic.proofs.cluster.Cluster.split.Goals as goal
 
@@ -16,7 +16,7 @@ pub cut-requires-clause-flushed : goal.cut-requires-clause-flushed
 cut-requires-clause-flushed g c =
     let made = rw (← c.self.view_is) at c.in_ok-compact_tablet.ensures.made in
     let listed = rw (← c.self.view_is) at c.in_ok-compact_tablet.ensures.listed in
-    holder_flushed c.args.row.now c.self.inside.table c.compact_tablet.new.self.places c.self.inside.tablets.items c.compact_tablet.new.self.tablets (view_of c.locate.result.now) c.locate.ensures.holder listed made
+    holder_flushed c.self.inside.next_name c.args.row.now c.self.inside.table c.compact_tablet.new.self.places c.self.inside.tablets.items c.compact_tablet.new.self.tablets (view_of c.locate.result.now) c.locate.ensures.holder listed made
 
 pub cut-requires-clause-free : goal.cut-requires-clause-free
 cut-requires-clause-free g c =
@@ -29,22 +29,32 @@ returns-clause-kept g c = λ order.
     let second = c.cut.ensures.kept first.0 in
     (second.0, second.1 ∙ first.1)
 
-pub returns-in_err-check_split-clause-names : goal.returns-in_err-check_split-clause-names
-returns-in_err-check_split-clause-names g c = uses_none (g.F.Files.contents c.args.self.now.files) c.args.self.now.next_name
+pub returns-clause-name : goal.returns-clause-name
+returns-clause-name g c = still_used (g.F.Files.contents c.args.self.now.files) (g.F.Files.contents c.compact_tablet.new.self.files) (g.F.Files.contents c.cut.new.self.files) c.args.self.now.next_name c.compact_tablet.new.self.next_name c.cut.new.self.next_name c.cut.ensures.name c.cut.ensures.files c.compact_tablet.ensures.name
 
-pub returns-in_err-compact_tablet-clause-names : goal.returns-in_err-compact_tablet-clause-names
-returns-in_err-compact_tablet-clause-names g c = uses_one (g.F.Files.contents c.args.self.now.files) (g.F.Files.contents c.compact_tablet.new.self.files) c.args.self.now.next_name c.compact_tablet.new.self.next_name c.compact_tablet.ensures.name
+pub returns-in_err-compact_tablet-clause-empty : goal.returns-in_err-compact_tablet-clause-empty
+returns-in_err-compact_tablet-clause-empty g c =
+    let empty = rw (← c.self.view_is) at c.compact_tablet.ensures.empty in
+    rw (← c.self.view_is) (λ none. empty (holder_that IsEmptied c.args.row.now c.self.inside.table c.self.inside.tablets.items (view_of c.locate.result.now) c.locate.ensures.holder none))
 
-pub returns-clause-names : goal.returns-clause-names
-returns-clause-names g c =
-    let first = uses_one (g.F.Files.contents c.args.self.now.files) (g.F.Files.contents c.compact_tablet.new.self.files) c.args.self.now.next_name c.compact_tablet.new.self.next_name c.compact_tablet.ensures.name in
-    let second = uses_one (g.F.Files.contents c.compact_tablet.new.self.files) (g.F.Files.contents c.cut.new.self.files) c.compact_tablet.new.self.next_name c.cut.new.self.next_name c.cut.ensures.name in
-    uses_both (g.F.Files.contents c.args.self.now.files) (g.F.Files.contents c.compact_tablet.new.self.files) (g.F.Files.contents c.cut.new.self.files) c.args.self.now.next_name c.compact_tablet.new.self.next_name c.cut.new.self.next_name first second
+pub returns-clause-empty : goal.returns-clause-empty
+returns-clause-empty g c =
+    let empty = rw (← c.self.view_is) at c.compact_tablet.ensures.empty in
+    rw (← c.self.view_is) (λ none.
+    let first = empty (holder_that IsEmptied c.args.row.now c.self.inside.table c.self.inside.tablets.items (view_of c.locate.result.now) c.locate.ensures.holder none) in
+    (c.cut.ensures.name ∙ first.0, c.cut.ensures.files ∙ first.1))
 
-pub returns-clause-right_emptied : goal.returns-clause-right_emptied
-returns-clause-right_emptied g c =
+pub returns-clause-halved : goal.returns-clause-halved
+returns-clause-halved g c =
+    let made = rw (← c.self.view_is) at c.in_ok-compact_tablet.ensures.made in
     let listed = rw (← c.self.view_is) at c.in_ok-compact_tablet.ensures.listed in
-    rw (← c.self.view_is) (on_ok _ _ c.cut.result (of_listed IsEmptied c.args.row.now c.self.inside.table c.compact_tablet.new.self.places c.compact_tablet.new.self.tablets c.cut.new.self.tablets (view_of c.locate.result.now) c.locate.ensures.holder listed) c.cut.ensures.right_emptied)
+    rw (← c.self.view_is) (IfOk-weaker c.cut.result _ _ (halved_after c.self.inside.next_name c.compact_tablet.new.self.next_name c.args.row.now c.self.inside.table c.compact_tablet.new.self.places c.self.inside.tablets.items c.compact_tablet.new.self.tablets c.cut.new.self.tablets (view_of c.locate.result.now) c.locate.ensures.holder listed made) c.cut.ensures.halved)
+
+pub returns-clause-may : goal.returns-clause-may
+returns-clause-may g c =
+    let made = rw (← c.self.view_is) at c.in_ok-compact_tablet.ensures.made in
+    let listed = rw (← c.self.view_is) at c.in_ok-compact_tablet.ensures.listed in
+    rw (← c.self.view_is) (on_err_weaker c.cut.result (flushed_alone c.self.inside.next_name c.compact_tablet.new.self.next_name c.args.row.now c.self.inside.table c.compact_tablet.new.self.places c.self.inside.tablets.items c.compact_tablet.new.self.tablets c.cut.new.self.tablets (view_of c.locate.result.now) c.locate.ensures.holder listed made) c.cut.ensures.unchanged)
 
 pub returns-clause-room : goal.returns-clause-room
 returns-clause-room g c =

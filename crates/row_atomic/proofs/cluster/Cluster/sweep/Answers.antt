@@ -17,5 +17,5 @@ pub returns-clause-kept : goal.returns-clause-kept
 returns-clause-kept g c =
     let lacks = subst (λ (o : Option Contents). MayLackUnkept c.self.inside.table o (g.F.Files.contents c.remove_unkept.new.files)) c.names_of.ensures.same c.remove_unkept.ensures.lacks in
     rw (← c.self.view_is) (λ order.
-    let kept = swept_order c.self.inside.table c.self.inside.tablets.items c.keeps_form.ensures c.self.invariant.placed c.self.invariant.as_many c.unnamed_may_go.ensures (g.F.Files.contents c.self.inside.files) (g.F.Files.contents c.remove_unkept.new.files) c.self.inside.next_name lacks order in
+    let kept = swept_order c.self.inside.table c.self.inside.tablets.items c.len.ensures.table c.self.invariant.placed c.self.invariant.as_many c.unnamed_may_go.ensures (g.F.Files.contents c.self.inside.files) (g.F.Files.contents c.remove_unkept.new.files) c.self.inside.next_name lacks order in
     (kept.order, kept.same))

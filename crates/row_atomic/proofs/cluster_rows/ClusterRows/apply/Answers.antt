@@ -1,7 +1,10 @@
 -- The edits are made in the row's tablet, and in no other.
 use Rattle.std.proofs.Common.{ap, map}
+use Rattle.std.proofs.lemmas.Result.{on_err_weaker}
 use Rattle.sorted_file.specs.Opened.{name_of}
 use Rattle.row_atomic.proofs.Answering.{apply_answer, apply_still, found_there, matched_set, over_full, owner_at}
+use Rattle.row_atomic.proofs.Changing.{on_ok}
+use Rattle.row_atomic.proofs.Roomy.{not_full, room_after, room_stays}
 use Rattle.row_atomic.proofs.cluster_rows.ClusterRows.apply.Goals as goal
 
 pub invariant_of-self : goal.invariant_of-self
@@ -33,3 +36,24 @@ returns-clause-full g c =
     let ts = c.self.inside.tablets.items in
     let there = found_there ts c.index_of-index.result at.tablet c.index_mut.result.now at.there c.index_mut.ensures.value in
     rw (← c.self.view_is) (λ full. over_full c.self.inside.table ts c.args.row.now c.args.edits.items c.index_of-index.result c.index_mut.result.now at there (c.apply.ensures.full full))
+
+pub returns-clause-within : goal.returns-clause-within
+returns-clause-within g c =
+    let at = rw (← c.self.view_is) at c.index_of-index.ensures.holder in
+    let ts = c.self.inside.tablets.items in
+    let there = found_there ts c.index_of-index.result at.tablet c.index_mut.result.now at.there c.index_mut.ensures.value in
+    rw (← c.self.view_is) (on_ok _ _ c.apply.result (not_full c.self.inside.table ts c.args.row.now c.args.edits.items c.index_of-index.result c.index_mut.result.now at there) c.apply.ensures.within)
+
+pub returns-clause-room : goal.returns-clause-room
+returns-clause-room g c =
+    let at = rw (← c.self.view_is) at c.index_of-index.ensures.holder in
+    let ts = c.self.inside.tablets.items in
+    let there = found_there ts c.index_of-index.result at.tablet c.index_mut.result.now at.there c.index_mut.ensures.value in
+    rw (← c.self.view_is) (on_ok _ _ c.apply.result (room_after c.self.inside.table ts c.index_of-index.result c.index_mut.result.now c.apply.new.self c.args.edits.items there) c.apply.ensures.memory)
+
+pub returns-clause-err_room : goal.returns-clause-err_room
+returns-clause-err_room g c =
+    let at = rw (← c.self.view_is) at c.index_of-index.ensures.holder in
+    let ts = c.self.inside.tablets.items in
+    let there = found_there ts c.index_of-index.result at.tablet c.index_mut.result.now at.there c.index_mut.ensures.value in
+    rw (← c.self.view_is) (on_err_weaker c.apply.result (room_stays c.self.inside.table ts c.index_of-index.result c.index_mut.result.now c.apply.new.self there) c.apply.ensures.err)

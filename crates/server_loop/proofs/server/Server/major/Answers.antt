@@ -1,4 +1,4 @@
-use Rattle.std.proofs.Common.{refl, ap, sym}
+use Rattle.std.proofs.Common.{refl, ap, sym, arith}
 use Rattle.cell_key.specs.declared.refusals.Refusal.{Refusal}
 use Rattle.std.specs.declared.result.Result.TheVariants.{Err}
 use Rattle.si_model.specs.Machine.{refuses}
@@ -14,3 +14,9 @@ returns-in-Err-clause-step g c = tells_as _ _ _ c.in-Err.ensures.kept refl refl 
 
 pub returns-in-Err-clause-large : goal.returns-in-Err-clause-large
 returns-in-Err-clause-large g c = λ held same. c.in-Err.ensures.large held (as_err _ _ _ refl same)
+
+pub returns-in-Err-clause-exhausted : goal.returns-in-Err-clause-exhausted
+returns-in-Err-clause-exhausted g c = λ same. (c.in-Err.ensures.exhausted (as_err _ _ _ refl same), tt)
+
+pub returns-in-Ok-clause-within : goal.returns-in-Ok-clause-within
+returns-in-Ok-clause-within g c = λ _. record { room = λ full. full; named = λ lacks. omega (arith, lacks.0, c.in-Ok.ensures.left); fits = c.in-Ok.ensures.fits }

@@ -17,3 +17,9 @@ returns-in-Err-clause-many g c = λ same. c.in-Err.ensures.full (as_err _ _ _ re
 
 pub returns-in-Err-clause-large : goal.returns-in-Err-clause-large
 returns-in-Err-clause-large g c = λ held same. c.in-Err.ensures.large held (as_err _ _ _ refl same)
+
+pub returns-in-Err-clause-exhausted : goal.returns-in-Err-clause-exhausted
+returns-in-Err-clause-exhausted g c = λ same. let is = as_err _ _ _ refl same in (c.in-Err.ensures.exhausted is, c.in-Err.ensures.needed is)
+
+pub returns-in-Ok-clause-within : goal.returns-in-Ok-clause-within
+returns-in-Ok-clause-within g c = λ _. record { room = c.in-Ok.ensures.room; named = λ lacks. lacks.1 (c.in-Ok.ensures.left lacks.0); fits = c.in-Ok.ensures.fits }

@@ -1,4 +1,4 @@
-use Rattle.std.proofs.Common.{arith}
+use Rattle.std.proofs.Common.{refl, arith}
 use Rattle.server_loop.proofs.Stepping.{restart_done, restart_refused}
 use Rattle.server_loop.proofs.server.Server.restart.Goals as goal
 
@@ -17,3 +17,9 @@ returns-in-Err-clause-step g c = restart_refused _ _ _ _ c.in-Err.ensures.refusa
   next = shown.next;
   shows = record { store = shown.shows.store; sessions = shown.shows.sessions; top = omega (arith, shown.shows.top, c.in-Err.ensures.rises) };
 })
+
+pub returns-in-Ok-clause-leaves : goal.returns-in-Ok-clause-leaves
+returns-in-Ok-clause-leaves g c = record { top = refl; each = λ t. refl }
+
+pub returns-in-Err-clause-leaves : goal.returns-in-Err-clause-leaves
+returns-in-Err-clause-leaves g c = record { top = refl; each = λ t. refl }

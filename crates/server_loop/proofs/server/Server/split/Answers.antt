@@ -1,4 +1,4 @@
-use Rattle.std.proofs.Common.{refl, ap, sym}
+use Rattle.std.proofs.Common.{inl, refl, ap, sym}
 use Rattle.std.specs.declared.result.Result.TheVariants.{Err}
 use Rattle.cell_key.specs.declared.refusals.Refusal.{Refusal}
 use Rattle.si_model.specs.Machine.{refuses}
@@ -22,7 +22,19 @@ returns-clause-step g c =
     (λ st shown. refuses (split_refuses st _ (sym shown.places) _ _ is_row c.in-Err-split.ensures.refusal (λ is. c.in-Err-split.ensures.bad.0 (ap (λ (r : Refusal). Err r) is)))) (λ held. err_undamaged _ _ refl (c.in-Err-split.ensures.undamaged held)))
 
 pub returns-in-Ok-split-clause-upkeep : goal.returns-in-Ok-split-clause-upkeep
-returns-in-Ok-split-clause-upkeep g c = rw (← c.in-Ok.ensures.ok) (c.in-Ok-split.ensures.number, c.in-Ok-split.ensures.cut)
+returns-in-Ok-split-clause-upkeep g c = rw (← c.in-Ok.ensures.ok) (c.in-Ok-split.ensures.number, c.in-Ok-split.ensures.cut, c.in-Ok-split.ensures.halved)
+
+pub returns-in-Err-clause-upkeep : goal.returns-in-Err-clause-upkeep
+returns-in-Err-clause-upkeep g c = (refl, λ place holder. inl refl)
+
+pub returns-clause-upkeep : goal.returns-clause-upkeep
+returns-clause-upkeep g c = rw (← c.in-Ok.ensures.ok) (c.in-Err-split.ensures.err, c.in-Err-split.ensures.may)
+
+pub returns-clause-exhausted : goal.returns-clause-exhausted
+returns-clause-exhausted g c = λ same. let is = as_err _ _ _ refl same in rw (← c.in-Ok.ensures.ok) (c.in-Err-split.ensures.exhausted is, c.in-Err-split.ensures.needed is)
+
+pub returns-in-Ok-split-clause-within : goal.returns-in-Ok-split-clause-within
+returns-in-Ok-split-clause-within g c = λ _. rw (← c.in-Ok.ensures.ok) (record { room = c.in-Ok-split.ensures.room; named = λ lacks. lacks.1 (c.in-Ok-split.ensures.left lacks.0); fits = c.in-Ok-split.ensures.fits })
 
 pub returns-clause-many : goal.returns-clause-many
 returns-clause-many g c = λ same. rw (← c.in-Ok.ensures.ok) (c.in-Err-split.ensures.full (as_err _ _ _ refl same))

@@ -1,4 +1,7 @@
-use Rattle.std.proofs.Common.{sym, subst}
+use Rattle.std.proofs.Common.{sym, ap, subst, ◌∙◌}
+use Rattle.std.specs.declared.result.Result.TheVariants.{Err}
+use Rattle.cell_key.specs.declared.refusals.Refusal.{Refusal}
+use Rattle.txn_client.proofs.Exact.{cell_unknown, is_open}
 use Rattle.cell_key.specs.Names.{IsRow, IsFamily}
 use Rattle.si_model.specs.declared.replies.Cell.{Cell}
 use Rattle.si_model.specs.Machine as machine
@@ -22,3 +25,11 @@ returns-clause-step g c = λ held last.
 
 pub returns-clause-undamaged : goal.returns-clause-undamaged
 returns-clause-undamaged g c = λ held. undamaged_at (g.R.Rows.cells c.args.rows.now) c.in_ok-cell.cell c.args.start c.read_cell.result (c.read_cell.ensures.damaged held)
+
+pub returns-in_err-cell-clause-unknown : goal.returns-in_err-cell-clause-unknown
+returns-in_err-cell-clause-unknown g c = λ st shown gone.
+    let e = as_err c.from_residual.result c.in_err-cell.field-0.0 c.from_residual.ensures.1 in
+    e ∙ ap (λ (r : Refusal). Err r) (cell_unknown c.args.self.now c.args.start st shown _ _ gone c.in_err-cell.ensures.refusal)
+
+pub returns-clause-unknown : goal.returns-clause-unknown
+returns-clause-unknown g c = λ st shown gone. absurd (is_open c.args.self.now c.args.start st shown gone c.in_ok-cell.ensures.open)

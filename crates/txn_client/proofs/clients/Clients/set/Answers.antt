@@ -1,4 +1,6 @@
-use Rattle.std.proofs.Common.{◌≤◌, ℕ, List, length, Option, refl, sym, ap, subst}
+use Rattle.std.proofs.Common.{◌≡◌, ◌≤◌, ℕ, List, length, Option, refl, sym, ap, subst, ◌∙◌}
+use Rattle.cell_key.specs.declared.refusals.Refusal.{Refusal}
+use Rattle.txn_client.proofs.Exact.{cell_unknown, is_open}
 use Rattle.std.specs.Prelude.{IsSome}
 use Rattle.std.specs.Ordering.{nat_cmp}
 use Rattle.std.specs.BTreeMap as btree
@@ -10,7 +12,7 @@ use Rattle.si_model.specs.Replies.{result_reply}
 use Rattle.txn_client.specs.Reads.{cell_of}
 use Rattle.txn_client.specs.Shows.{Steps}
 use Rattle.txn_client.specs.declared.session.Session.{Session}
-use Rattle.txn_client.proofs.Table.{sets_at, set_refused_at, set_value_at, open_same, as_err}
+use Rattle.txn_client.proofs.Table.{on_err_then, same_each, sets_at, set_refused_at, set_value_at, open_same, as_err}
 use Rattle.txn_client.proofs.clients.Clients.set.Goals as goal
 
 pub returns-in_err-cell-clause-step : goal.returns-in_err-cell-clause-step
@@ -37,3 +39,31 @@ returns-clause-step c = λ cells last.
     refl refl refl (subst (λ (x : Cell). IsRow x.row) (sym same) c.in_ok-cell.ensures.row) (subst (λ (x : Cell). IsFamily x.family) (sym same) c.in_ok-cell.ensures.family)
     (subst (λ (bs : List ℕ). length bs ≤ 65536) (sym bytes) c.in_ok-value.ensures.valid) refl (lent.3 there).0 lent.2
     c.set.result c.set.ensures.ok c.set.ensures.room c.set.ensures.err c.set.ensures.refusal c.set.ensures.full)
+
+pub returns-in_err-cell-clause-unknown : goal.returns-in_err-cell-clause-unknown
+returns-in_err-cell-clause-unknown c = λ st shown gone.
+    let e = as_err c.from_residual.result c.in_err-cell.field-0.0 c.from_residual.ensures.1 in
+    e ∙ ap (λ (r : Refusal). Err r) (cell_unknown c.args.self.now c.args.start st shown _ _ gone c.in_err-cell.ensures.refusal)
+
+pub returns-in_err-value-clause-unknown : goal.returns-in_err-value-clause-unknown
+returns-in_err-value-clause-unknown c = λ st shown gone. absurd (is_open c.args.self.now c.args.start st shown gone c.in_ok-cell.ensures.open)
+
+pub returns-clause-unknown : goal.returns-clause-unknown
+returns-clause-unknown c = λ st shown gone. absurd (is_open c.args.self.now c.args.start st shown gone c.in_ok-cell.ensures.open)
+
+pub returns-in_err-cell-clause-err : goal.returns-in_err-cell-clause-err
+returns-in_err-cell-clause-err c = rw (as_err c.from_residual.result c.in_err-cell.field-0.0 c.from_residual.ensures.1) (record { top = refl; each = λ t. refl })
+
+pub returns-in_err-value-clause-err : goal.returns-in_err-value-clause-err
+returns-in_err-value-clause-err c = rw (as_err c.from_residual-in_err-value.result c.in_err-value.field-0.0 c.from_residual-in_err-value.ensures.1) (record { top = refl; each = λ t. refl })
+
+pub returns-clause-err : goal.returns-clause-err
+returns-clause-err c =
+    let was = sym c.in-Some.ensures.value in
+    let there : IsSome (btree.get nat_cmp c.args.self.now.sessions c.args.start) = subst (λ (o : Option Session). IsSome o) c.in-Some.ensures.value refl in
+    let w = record c.in-Some.session.now { writes = c.set.new.self } in
+    let lent = c.get_mut.follows.holds w in
+    on_err_then _ _ c.set.result (λ (same : c.set.new.self ≡ c.in-Some.session.now.writes). record {
+      top = refl;
+      each = same_each (btree.get nat_cmp c.args.self.now.sessions) (btree.get nat_cmp (c.get_mut.follows.lender w)) c.args.start c.in-Some.session.now w was (ap (λ ws. record c.in-Some.session.now { writes = ws }) same) (lent.3 there).0;
+    }) c.set.ensures.err

@@ -15,6 +15,7 @@ returns-clause-step g c = λ held last.
     (rw c.if-not-branch.false at (c.in_ok-record.ensures.stood held)) (ap (nat_eq 1) c.len.ensures.len) (g.R.Rows.cells c.record.new.rows) (rw c.if-not-branch.false at (c.in_ok-record.ensures.recorded held)))
 
 pub returns-in_err-record-clause-full : goal.returns-in_err-record-clause-full
-returns-in_err-record-clause-full g c = λ is.
-    no_room_to_record g.R.Rows.overfills c.args.rows.now c.args.self.now 0 c.in-Some.first.now c.in-Some.ensures.found
-    (c.in_err-record.ensures.full (passed_on c.from_residual.result _ c.in_err-record.field-0.0 _ c.from_residual.ensures.1 refl is))
+returns-in_err-record-clause-full g c = λ held is.
+    let on = passed_on c.from_residual.result _ c.in_err-record.field-0.0 _ c.from_residual.ensures.1 refl is in
+    no_room_to_record g.R.Rows.overfills c.args.rows.now (g.R.Rows.cells c.args.rows.now) c.args.self.now 0 c.in-Some.first.now c.in-Some.ensures.found
+    (c.in_err-record.ensures.due held on) (c.in_err-record.ensures.full on)

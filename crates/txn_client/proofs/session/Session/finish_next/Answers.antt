@@ -17,6 +17,7 @@ returns-clause-step g c = λ held last.
     c.in-Some.ensures.found c.len.ensures.len (ap (nat_eq (c.args.k + 1)) (c.len-2.ensures.len ∙ sym c.len.ensures.len)) (g.R.Rows.cells c.record.new.rows) (either c.in_ok-_stood._stood (e.stood held) (e.gone held) (e.recorded held) (e.left held))
 
 pub returns-in_err-_stood-clause-full : goal.returns-in_err-_stood-clause-full
-returns-in_err-_stood-clause-full g c = λ is.
-    no_room_to_record g.R.Rows.overfills c.args.rows.now c.args.self.now c.args.k c.in-Some.write.now c.in-Some.ensures.found
-    (c.in_err-_stood.ensures.full (passed_on c.from_residual.result _ c.in_err-_stood.field-0.0 _ c.from_residual.ensures.1 refl is))
+returns-in_err-_stood-clause-full g c = λ held is.
+    let on = passed_on c.from_residual.result _ c.in_err-_stood.field-0.0 _ c.from_residual.ensures.1 refl is in
+    no_room_to_record g.R.Rows.overfills c.args.rows.now (g.R.Rows.cells c.args.rows.now) c.args.self.now c.args.k c.in-Some.write.now c.in-Some.ensures.found
+    (c.in_err-_stood.ensures.due held on) (c.in_err-_stood.ensures.full on)

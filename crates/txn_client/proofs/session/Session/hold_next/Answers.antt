@@ -29,6 +29,9 @@ returns-clause-touched g c = λ held. (
 )
 
 pub returns-in_err-hold-clause-full : goal.returns-in_err-hold-clause-full
-returns-in_err-hold-clause-full g c = λ is.
-    no_room_to_hold g.R.Rows.overfills c.args.rows.now c.is_taken.new.rows c.is_taken.ensures.same_room c.args.self.now c.args.k c.in-Some.write.now c.in-Some-get.first.now c.in-Some.ensures.found c.in-Some-get.ensures.found
+returns-in_err-hold-clause-full g c = λ held is.
+    let cells = g.R.Rows.cells c.args.rows.now in
+    let write = c.in-Some.write.now in
+    no_room_to_hold g.R.Rows.overfills c.args.rows.now cells c.args.self.now c.is_taken.new.rows c.is_taken.ensures.same_room c.args.k write c.in-Some-get.first.now c.requires c.in-Some.ensures.found c.in-Some-get.ensures.found
+    (subst (λ (n : ℕ). IsFree cells write.cell n) c.stamp-start.ensures.stamp (rw c.if-branch.false at (c.in_ok-is_taken.ensures.free held)))
     (c.in_err-hold.ensures.full (passed_on c.from_residual-in_err-hold.result _ c.in_err-hold.field-0.0 _ c.from_residual-in_err-hold.ensures.1 refl is))

@@ -1,0 +1,46 @@
+-- What a request does to the cells, and when a session is told that it isn't there or has nothing to commit.
+use Rattle.std.specs.Prelude.{◌≡◌, ℕ, Option, ⊤}
+use Rattle.cell_key.specs.declared.refusals.Refusal.TheVariants.{UnknownSession, EmptyCommit}
+use Rattle.file_store.specs.Store.{Contents}
+use Rattle.row_atomic.specs.Changes.{Holds}
+use Rattle.si_model.specs.Machine.{State}
+use Rattle.oracle.specs.Ranges.{IsDrawRefusal}
+use Rattle.request_codec.specs.Replies.{replied}
+use Rattle.request_codec.specs.declared.replies.Reply.{Reply}
+use Rattle.request_codec.specs.declared.replies.Reply.TheVariants as kept
+use Rattle.request_codec.specs.declared.requests.Request.{Request}
+use Rattle.request_codec.specs.declared.requests.Request.TheVariants.{Get, Set, Step, Stop, OracleRestart}
+use Rattle.server_loop.specs.Refusals.{OnStep}
+use Rattle.server_loop.specs.Runs.{IfRefused}
+use Rattle.server_loop.specs.Server.{Shows, cells_of, cluster_of}
+use Rattle.server_loop.specs.declared.server.Server.{Server}
+use Rattle.txn_client.specs.Shows.{IsAboutToDraw, IsInactive, IsUnwritten, SameSessions, TouchesFor}
+
+-- A step that is done changes cells of one row at most, at its session's stamps. All else changes none.
+abbrev pub ChangesCells : {F M : Type 0} → (F → Option Contents) → Request → Reply → Server F M → Server F M → Type 0
+ChangesCells contents (Step start) (kept.Step progress) old new = (st : State) → Shows contents old st → TouchesFor st start (cells_of contents old) (cells_of contents new)
+ChangesCells contents request reply old new = Holds contents (cluster_of old) → cells_of contents new ≡ cells_of contents old
+
+-- A read, a restart of the oracle, and a write, a step or an end that is refused leave the sessions as they are.
+abbrev pub LeavesSessions : {F M : Type 0} → Request → Reply → Server F M → Server F M → Type 0
+LeavesSessions (Get start row family) reply old new = SameSessions old.clients new.clients
+LeavesSessions OracleRestart reply old new = SameSessions old.clients new.clients
+LeavesSessions (Set start row family value) (kept.Refused refusal) old new = SameSessions old.clients new.clients
+LeavesSessions (Step start) (kept.Refused refusal) old new = SameSessions old.clients new.clients
+LeavesSessions (Stop start) (kept.Refused refusal) old new = SameSessions old.clients new.clients
+LeavesSessions request reply old new = ⊤
+
+-- said of a request of a session alone, by its start
+abbrev pub OnSession : Request → (ℕ → Type 0) → Type 0
+OnSession (Get start row family) P = P start
+OnSession (Set start row family value) P = P start
+OnSession (Step start) P = P start
+OnSession (Stop start) P = P start
+OnSession request P = ⊤
+
+-- What takes no memory is told exactly: where a session isn't active, where a commit has no writes, and why a step that draws
+-- is refused.
+pub record IsExact {F M : Type 0} (contents : F → Option Contents) (old : Server F M) (request : Request) (reply : Reply) : Type 0 where
+  pub unknown : OnSession request (λ start. (st : State) → Shows contents old st → IsInactive st start → reply ≡ kept.Refused UnknownSession)
+  pub empty : OnStep request (λ start. (st : State) → Shows contents old st → IsUnwritten st start → reply ≡ kept.Refused EmptyCommit)
+  pub drawing : OnStep request (λ start. (st : State) → Shows contents old st → IsAboutToDraw st start → IfRefused IsDrawRefusal (replied reply))
