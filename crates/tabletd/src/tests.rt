@@ -1,6 +1,7 @@
 //! The store as its users meet it: streams of requests with the replies that they get.
 
 mod limits;
+mod memory;
 mod rows;
 mod statuses;
 mod streams;

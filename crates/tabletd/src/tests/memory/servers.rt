@@ -1,0 +1,453 @@
+//! Servers: asked by requests, and over streams of frames.
+
+use crate::tests::memory::{Call, Subject};
+use crate::tests::{MemServer, push_frame};
+use cell_key::Refusal;
+use file_store::MemFiles;
+use oracle::MemMark;
+use request_codec::{Reply, decode_request};
+use server_loop::{Config, End, ServeFault, Server};
+use std::alloc::Global;
+
+/// What a server is asked for first. Then sessions stand at each phase, and there are two files and a memtable.
+const SET_UP: [&[u8]; 38] = [
+    // Begin: 1
+    b"\x01",
+    // Set 1 a c 1
+    b"\x03\0\0\0\0\0\0\0\x01\0\0\0\x01a\0\0\0\x01c\0\0\0\x011",
+    // Set 1 n c 2
+    b"\x03\0\0\0\0\0\0\0\x01\0\0\0\x01n\0\0\0\x01c\0\0\0\x012",
+    // Step 1: Held
+    b"\x04\0\0\0\0\0\0\0\x01",
+    // Step 1: Held
+    b"\x04\0\0\0\0\0\0\0\x01",
+    // Step 1: Stamped 2
+    b"\x04\0\0\0\0\0\0\0\x01",
+    // Step 1: Committed 2
+    b"\x04\0\0\0\0\0\0\0\x01",
+    // Step 1: Finished
+    b"\x04\0\0\0\0\0\0\0\x01",
+    // Minor 1
+    b"\x0A\0\0\0\x01",
+    // Begin: 3
+    b"\x01",
+    // Set 3 a c 3
+    b"\x03\0\0\0\0\0\0\0\x03\0\0\0\x01a\0\0\0\x01c\0\0\0\x013",
+    // Step 3: Held
+    b"\x04\0\0\0\0\0\0\0\x03",
+    // Step 3: Stamped 4
+    b"\x04\0\0\0\0\0\0\0\x03",
+    // Step 3: Committed 4
+    b"\x04\0\0\0\0\0\0\0\x03",
+    // Minor 1
+    b"\x0A\0\0\0\x01",
+    // Merge 1 2
+    b"\x0B\0\0\0\x01\0\0\0\x02",
+    // Begin: 5
+    b"\x01",
+    // Set 5 p c 5
+    b"\x03\0\0\0\0\0\0\0\x05\0\0\0\x01p\0\0\0\x01c\0\0\0\x015",
+    // Set 5 q c 6
+    b"\x03\0\0\0\0\0\0\0\x05\0\0\0\x01q\0\0\0\x01c\0\0\0\x016",
+    // Step 5: Held
+    b"\x04\0\0\0\0\0\0\0\x05",
+    // Step 5: Held
+    b"\x04\0\0\0\0\0\0\0\x05",
+    // Step 5: Stamped 6
+    b"\x04\0\0\0\0\0\0\0\x05",
+    // Begin: 7
+    b"\x01",
+    // Set 7 r c 7
+    b"\x03\0\0\0\0\0\0\0\x07\0\0\0\x01r\0\0\0\x01c\0\0\0\x017",
+    // Set 7 s c 8
+    b"\x03\0\0\0\0\0\0\0\x07\0\0\0\x01s\0\0\0\x01c\0\0\0\x018",
+    // Step 7: Held
+    b"\x04\0\0\0\0\0\0\0\x07",
+    // Step 7: Held
+    b"\x04\0\0\0\0\0\0\0\x07",
+    // Step 7: Stamped 8
+    b"\x04\0\0\0\0\0\0\0\x07",
+    // Step 7: Committed 8
+    b"\x04\0\0\0\0\0\0\0\x07",
+    // Minor 1
+    b"\x0A\0\0\0\x01",
+    // Begin: 9
+    b"\x01",
+    // Set 9 b c 9
+    b"\x03\0\0\0\0\0\0\0\x09\0\0\0\x01b\0\0\0\x01c\0\0\0\x019",
+    // Step 9: Held
+    b"\x04\0\0\0\0\0\0\0\x09",
+    // Begin: 10
+    b"\x01",
+    // Set 10 n c 0
+    b"\x03\0\0\0\0\0\0\0\x0A\0\0\0\x01n\0\0\0\x01c\0\0\0\x010",
+    // Begin: 11
+    b"\x01",
+    // Set 11 b c 1
+    b"\x03\0\0\0\0\0\0\0\x0B\0\0\0\x01b\0\0\0\x01c\0\0\0\x011",
+    // Begin: 12
+    b"\x01",
+];
+
+/// What is read: cells at each phase, and whether there is a second tablet.
+const READS: [&[u8]; 8] = [
+    // Get 12 a c
+    b"\x02\0\0\0\0\0\0\0\x0C\0\0\0\x01a\0\0\0\x01c",
+    // Get 12 b c
+    b"\x02\0\0\0\0\0\0\0\x0C\0\0\0\x01b\0\0\0\x01c",
+    // Get 12 p c
+    b"\x02\0\0\0\0\0\0\0\x0C\0\0\0\x01p\0\0\0\x01c",
+    // Raw n c data
+    b"\x11\0\0\0\x01n\0\0\0\x01c\x01\0\0\0\0\0\0\0\0\0\0\0\0\0\0\0c",
+    // Raw p c lock
+    b"\x11\0\0\0\x01p\0\0\0\x01c\x02\0\0\0\0\0\0\0\0\0\0\0\0\0\0\0c",
+    // Raw s c write
+    b"\x11\0\0\0\x01s\0\0\0\x01c\x03\0\0\0\0\0\0\0\0\0\0\0\0\0\0\0c",
+    // Merge 1 9
+    b"\x0B\0\0\0\x01\0\0\0\x09",
+    // Merge 2 9
+    b"\x0B\0\0\0\x02\0\0\0\x09",
+];
+
+/// The requests that are made with allocations refused.
+const REQUESTS: [&[u8]; 21] = [
+    // Begin: 13
+    b"\x01",
+    // Get 12 a c: 3
+    b"\x02\0\0\0\0\0\0\0\x0C\0\0\0\x01a\0\0\0\x01c",
+    // Get 12 b c: pending
+    b"\x02\0\0\0\0\0\0\0\x0C\0\0\0\x01b\0\0\0\x01c",
+    // Get 12 z c: nothing
+    b"\x02\0\0\0\0\0\0\0\x0C\0\0\0\x01z\0\0\0\x01c",
+    // Set 12 a c 7
+    b"\x03\0\0\0\0\0\0\0\x0C\0\0\0\x01a\0\0\0\x01c\0\0\0\x017",
+    // Set 10 n c 8
+    b"\x03\0\0\0\0\0\0\0\x0A\0\0\0\x01n\0\0\0\x01c\0\0\0\x018",
+    // Step 10: Held
+    b"\x04\0\0\0\0\0\0\0\x0A",
+    // Step 11: Conflict
+    b"\x04\0\0\0\0\0\0\0\x0B",
+    // Step 9: Stamped 13
+    b"\x04\0\0\0\0\0\0\0\x09",
+    // Step 5: Committed 6
+    b"\x04\0\0\0\0\0\0\0\x05",
+    // Step 7: Finished
+    b"\x04\0\0\0\0\0\0\0\x07",
+    // Stop 10
+    b"\x05\0\0\0\0\0\0\0\x0A",
+    // Minor 1
+    b"\x0A\0\0\0\x01",
+    // Merge 1 2
+    b"\x0B\0\0\0\x01\0\0\0\x02",
+    // Major 1
+    b"\x0C\0\0\0\x01",
+    // Split m
+    b"\x0D\0\0\0\x01m",
+    // Move 1 3
+    b"\x0E\0\0\0\x01\x03",
+    // Sweep: 2
+    b"\x0F",
+    // Restart
+    b"\x10",
+    // Raw n c data
+    b"\x11\0\0\0\x01n\0\0\0\x01c\x01\0\0\0\0\0\0\0\0\0\0\0\0\0\0\0c",
+    // Raw p c lock
+    b"\x11\0\0\0\x01p\0\0\0\x01c\x02\0\0\0\0\0\0\0\0\0\0\0\0\0\0\0c",
+];
+
+/// What is read before a call.
+const STILL: &[u8] = b"\
+    \0\0\0\x07\x82\x01\0\0\0\x013\
+    \0\0\0\x0A\x82\x02\0\0\0\0\0\0\0\x09\
+    \0\0\0\x0A\x82\x02\0\0\0\0\0\0\0\x05\
+    \0\0\0\x0F\x91\x01\0\0\0\0\0\0\0\x01\0\0\0\x012\
+    \0\0\0\x14\x91\x01\0\0\0\0\0\0\0\x05\0\0\0\x06p\0\0c\0\0\
+    \0\0\0\x02\x91\0\
+    \0\0\0\x02\xFF\x0E\
+    \0\0\0\x02\xFF\x0B";
+
+/// What is read after Step 10.
+const HELD: &[u8] = b"\
+    \0\0\0\x07\x82\x01\0\0\0\x013\
+    \0\0\0\x0A\x82\x02\0\0\0\0\0\0\0\x09\
+    \0\0\0\x0A\x82\x02\0\0\0\0\0\0\0\x05\
+    \0\0\0\x0F\x91\x01\0\0\0\0\0\0\0\x0A\0\0\0\x010\
+    \0\0\0\x14\x91\x01\0\0\0\0\0\0\0\x05\0\0\0\x06p\0\0c\0\0\
+    \0\0\0\x02\x91\0\
+    \0\0\0\x02\xFF\x0E\
+    \0\0\0\x02\xFF\x0B";
+
+/// What is read after Step 5.
+const COMMITTED: &[u8] = b"\
+    \0\0\0\x07\x82\x01\0\0\0\x013\
+    \0\0\0\x0A\x82\x02\0\0\0\0\0\0\0\x09\
+    \0\0\0\x07\x82\x01\0\0\0\x015\
+    \0\0\0\x0F\x91\x01\0\0\0\0\0\0\0\x01\0\0\0\x012\
+    \0\0\0\x02\x91\0\
+    \0\0\0\x02\x91\0\
+    \0\0\0\x02\xFF\x0E\
+    \0\0\0\x02\xFF\x0B";
+
+/// What is read after Step 7.
+const FINISHED: &[u8] = b"\
+    \0\0\0\x07\x82\x01\0\0\0\x013\
+    \0\0\0\x0A\x82\x02\0\0\0\0\0\0\0\x09\
+    \0\0\0\x0A\x82\x02\0\0\0\0\0\0\0\x05\
+    \0\0\0\x0F\x91\x01\0\0\0\0\0\0\0\x01\0\0\0\x012\
+    \0\0\0\x14\x91\x01\0\0\0\0\0\0\0\x05\0\0\0\x06p\0\0c\0\0\
+    \0\0\0\x16\x91\x01\0\0\0\0\0\0\0\x08\0\0\0\x08\0\0\0\0\0\0\0\x07\
+    \0\0\0\x02\xFF\x0E\
+    \0\0\0\x02\xFF\x0B";
+
+/// What is read after a split.
+const SPLIT: &[u8] = b"\
+    \0\0\0\x07\x82\x01\0\0\0\x013\
+    \0\0\0\x0A\x82\x02\0\0\0\0\0\0\0\x09\
+    \0\0\0\x0A\x82\x02\0\0\0\0\0\0\0\x05\
+    \0\0\0\x0F\x91\x01\0\0\0\0\0\0\0\x01\0\0\0\x012\
+    \0\0\0\x14\x91\x01\0\0\0\0\0\0\0\x05\0\0\0\x06p\0\0c\0\0\
+    \0\0\0\x02\x91\0\
+    \0\0\0\x02\xFF\x0E\
+    \0\0\0\x02\xFF\x0E";
+
+/// The frame of the refusal NoMemory.
+const NO_MEMORY: &[u8] = b"\0\0\0\x02\xFF\x14";
+
+/// The replies to the requests, as frames.
+const STREAMED: [Call; 21] = [
+    // Begin: 13
+    (b"\0\0\0\x09\x81\0\0\0\0\0\0\0\x0D", STILL),
+    // Get 12 a c: 3
+    (b"\0\0\0\x07\x82\x01\0\0\0\x013", STILL),
+    // Get 12 b c: pending at 9
+    (b"\0\0\0\x0A\x82\x02\0\0\0\0\0\0\0\x09", STILL),
+    // Get 12 z c: nothing
+    (b"\0\0\0\x02\x82\0", STILL),
+    // Set 12 a c 7: done
+    (b"\0\0\0\x01\x83", STILL),
+    // Set 10 n c 8: done
+    (b"\0\0\0\x01\x83", STILL),
+    // Step 10: Held 1 1
+    (b"\0\0\0\x06\x84\x01\0\x01\0\x01", HELD),
+    // Step 11: Conflict 1
+    (b"\0\0\0\x04\x84\x02\0\x01", STILL),
+    // Step 9: Stamped 13
+    (b"\0\0\0\x0A\x84\x03\0\0\0\0\0\0\0\x0D", STILL),
+    // Step 5: Committed 6
+    (b"\0\0\0\x0A\x84\x04\0\0\0\0\0\0\0\x06", COMMITTED),
+    // Step 7: Finished 2 2
+    (b"\0\0\0\x06\x84\x06\0\x02\0\x02", FINISHED),
+    // Stop 10: stopped
+    (b"\0\0\0\x01\x85", STILL),
+    // Minor 1: done
+    (b"\0\0\0\x01\x8A", STILL),
+    // Merge 1 2: done
+    (b"\0\0\0\x01\x8B", STILL),
+    // Major 1: done
+    (b"\0\0\0\x01\x8C", STILL),
+    // Split m: 2
+    (b"\0\0\0\x05\x8D\0\0\0\x02", SPLIT),
+    // Move 1 3: done
+    (b"\0\0\0\x01\x8E", STILL),
+    // Sweep: 2
+    (b"\0\0\0\x09\x8F\0\0\0\0\0\0\0\x02", STILL),
+    // Restart: done
+    (b"\0\0\0\x01\x90", STILL),
+    // Raw n c data: stamp 1, 2
+    (b"\0\0\0\x0F\x91\x01\0\0\0\0\0\0\0\x01\0\0\0\x012", STILL),
+    // Raw p c lock: stamp 5, 70 00 00 63 00 00
+    (
+        b"\0\0\0\x14\x91\x01\0\0\0\0\0\0\0\x05\0\0\0\x06p\0\0c\0\0",
+        STILL,
+    ),
+];
+
+/// The numbers of the refusals of the requests, and of a new server.
+const ASKED: [Call; 22] = [
+    // Begin: 13
+    (b"\0", STILL),
+    // Get 12 a c: 3
+    (b"\0", STILL),
+    // Get 12 b c: pending at 9
+    (b"\0", STILL),
+    // Get 12 z c: nothing
+    (b"\0", STILL),
+    // Set 12 a c 7: done
+    (b"\0", STILL),
+    // Set 10 n c 8: done
+    (b"\0", STILL),
+    // Step 10: Held 1 1
+    (b"\0", HELD),
+    // Step 11: Conflict 1
+    (b"\0", STILL),
+    // Step 9: Stamped 13
+    (b"\0", STILL),
+    // Step 5: Committed 6
+    (b"\0", COMMITTED),
+    // Step 7: Finished 2 2
+    (b"\0", FINISHED),
+    // Stop 10: stopped
+    (b"\0", STILL),
+    // Minor 1: done
+    (b"\0", STILL),
+    // Merge 1 2: done
+    (b"\0", STILL),
+    // Major 1: done
+    (b"\0", STILL),
+    // Split m: 2
+    (b"\0", SPLIT),
+    // Move 1 3: done
+    (b"\0", STILL),
+    // Sweep: 2
+    (b"\0", STILL),
+    // Restart: done
+    (b"\0", STILL),
+    // Raw n c data: stamp 1, 2
+    (b"\0", STILL),
+    // Raw p c lock: stamp 5, 70 00 00 63 00 00
+    (b"\0", STILL),
+    // Server::new
+    (b"\0", STILL),
+];
+
+fn new_server(alloc: Global) -> Result<MemServer, Refusal> {
+    let config = Config {
+        flush: 10_000,
+        file_limit: 1_073_741_824,
+    };
+    match Server::new(alloc, MemFiles::new(alloc), MemMark::new(), config) {
+        Ok(server) => Ok(server),
+        Err((refusal, _, _)) => Err(refusal),
+    }
+}
+
+/// Appends the number of a refusal, or 0, where memory was not refused.
+fn push_refusal(reply: &Reply, out: &mut Vec<u8>) -> Result<(), Refusal> {
+    match reply {
+        Reply::Refused(Refusal::NoMemory) => Err(Refusal::NoMemory),
+        Reply::Refused(refusal) => Ok(out.push(refusal.number())?),
+        _ => Ok(out.push(0)?),
+    }
+}
+
+fn ask(server: &mut MemServer, body: &[u8], out: &mut Vec<u8>) -> Result<(), Refusal> {
+    match decode_request(body) {
+        Some(request) => push_refusal(&server.answer(request), out),
+        None => Err(Refusal::BadRequest),
+    }
+}
+
+/// A server after the first requests.
+fn asked_server(alloc: Global) -> Result<MemServer, Refusal> {
+    let mut replies = Vec::with_capacity(alloc, 64)?;
+    let mut server = new_server(alloc)?;
+    for body in SET_UP {
+        ask(&mut server, body, &mut replies)?;
+    }
+    Ok(server)
+}
+
+/// Appends what a server writes for a stream.
+fn serve_stream(
+    server: &mut MemServer,
+    mut stream: &[u8],
+    out: &mut Vec<u8>,
+) -> Result<(), Refusal> {
+    match server.serve(&mut stream, out, u64::MAX) {
+        Ok(End::Clean) => Ok(()),
+        Err(ServeFault::NoMemory) => Err(Refusal::NoMemory),
+        _ => Err(Refusal::BadRequest),
+    }
+}
+
+/// Puts what a server writes for one frame in place of what was there.
+fn serve(
+    alloc: Global,
+    server: &mut MemServer,
+    body: &[u8],
+    out: &mut Vec<u8>,
+) -> Result<(), Refusal> {
+    let mut frame = Vec::new(alloc);
+    push_frame(&mut frame, body)?;
+    out.clear();
+    serve_stream(server, &frame, out)?;
+    if out.as_slice() == NO_MEMORY {
+        return Err(Refusal::NoMemory);
+    }
+    Ok(())
+}
+
+/// Appends what a server writes for the reads.
+fn push_reads(alloc: Global, server: &mut MemServer, out: &mut Vec<u8>) -> Result<(), Refusal> {
+    let mut stream = Vec::new(alloc);
+    for body in READS {
+        push_frame(&mut stream, body)?;
+    }
+    serve_stream(server, &stream, out)
+}
+
+/// A server that is asked by requests.
+#[derive(Drop)]
+pub struct Asked {
+    server: MemServer,
+}
+
+/// A server that is asked by frames.
+#[derive(Drop)]
+pub struct Streamed {
+    server: MemServer,
+}
+
+impl Subject for Asked {
+    fn before() -> &'static [u8] {
+        STILL
+    }
+
+    fn calls() -> &'static [Call] {
+        &ASKED
+    }
+
+    fn set_up(alloc: Global) -> Result<Asked, Refusal> {
+        Ok(Asked {
+            server: asked_server(alloc)?,
+        })
+    }
+
+    fn call(&mut self, alloc: Global, number: usize, out: &mut Vec<u8>) -> Result<(), Refusal> {
+        match REQUESTS.get(number) {
+            Some(body) => ask(&mut self.server, body, out),
+            None => ask(&mut new_server(alloc)?, b"\x01", out),
+        }
+    }
+
+    fn read(&mut self, alloc: Global, out: &mut Vec<u8>) -> Result<(), Refusal> {
+        push_reads(alloc, &mut self.server, out)
+    }
+}
+
+impl Subject for Streamed {
+    fn before() -> &'static [u8] {
+        STILL
+    }
+
+    fn calls() -> &'static [Call] {
+        &STREAMED
+    }
+
+    fn set_up(alloc: Global) -> Result<Streamed, Refusal> {
+        Ok(Streamed {
+            server: asked_server(alloc)?,
+        })
+    }
+
+    fn call(&mut self, alloc: Global, number: usize, out: &mut Vec<u8>) -> Result<(), Refusal> {
+        match REQUESTS.get(number) {
+            Some(body) => serve(alloc, &mut self.server, body, out),
+            None => Err(Refusal::BadRequest),
+        }
+    }
+
+    fn read(&mut self, alloc: Global, out: &mut Vec<u8>) -> Result<(), Refusal> {
+        push_reads(alloc, &mut self.server, out)
+    }
+}
