@@ -13,6 +13,3 @@ pub use laws::{keeps_one_list, merges_ranges, names_first, writes_entry_lists};
 pub use merge::Merge;
 pub use until::Until;
 pub use writing::merge_into;
-
-#[cfg(test)]
-mod tests;

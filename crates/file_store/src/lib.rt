@@ -8,6 +8,3 @@ mod whole;
 pub use files::{FileFault, Files};
 pub use memory::MemFiles;
 pub use whole::read_whole;
-
-#[cfg(test)]
-mod tests;

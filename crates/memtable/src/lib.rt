@@ -9,6 +9,3 @@ mod table;
 
 pub use cursor::Cursor;
 pub use table::Memtable;
-
-#[cfg(test)]
-mod tests;

@@ -10,6 +10,3 @@ mod table;
 pub use laws::{cut_ranges, cut_rows, holder_range, one_holder, one_range, same_ranges};
 pub use places::Place;
 pub use table::MetadataTable;
-
-#[cfg(test)]
-mod tests;

@@ -8,6 +8,3 @@ mod stamps;
 pub use marks::{MarkFault, MarkStore};
 pub use memory::MemMark;
 pub use stamps::Oracle;
-
-#[cfg(test)]
-mod tests;

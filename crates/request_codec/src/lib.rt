@@ -17,6 +17,3 @@ pub use laws::{
 };
 pub use replies::{Reply, decode_reply, encode_reply, reply_length};
 pub use requests::{Request, decode_request, encode_request};
-
-#[cfg(test)]
-mod tests;

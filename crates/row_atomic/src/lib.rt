@@ -19,6 +19,3 @@ pub use commands::{Command, Outcome};
 pub use laws::{one_newest, one_next_cell};
 pub use plain::PlainRows;
 pub use rows::Rows;
-
-#[cfg(test)]
-mod tests;

@@ -9,8 +9,6 @@ mod images;
 mod laws;
 mod opened;
 mod sources;
-#[cfg(test)]
-mod tests;
 mod writing;
 
 pub use cursors::FileCursor;

@@ -16,6 +16,3 @@ pub use laws::{
 };
 pub use ranges::RowRange;
 pub use tablet::Tablet;
-
-#[cfg(test)]
-mod tests;

@@ -1,10 +1,23 @@
-//! The store as its users meet it: streams of requests with the replies that they get.
+//! The store as its users meet it: streams of requests with the replies that they get. Below it are the tests of each crate.
 
+mod bodies;
+mod clusters;
+mod compactions;
+mod edits;
+mod files;
+mod keys;
 mod limits;
 mod memory;
+mod memtables;
+mod places;
 mod rows;
+mod sessions;
+mod slow;
+mod sorted_files;
+mod stamps;
 mod statuses;
 mod streams;
+mod tablets;
 mod upkeep;
 
 use file_store::MemFiles;

@@ -11,6 +11,3 @@ mod writes;
 
 pub use clients::Clients;
 pub use laws::shows_on;
-
-#[cfg(test)]
-mod tests;

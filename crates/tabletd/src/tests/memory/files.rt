@@ -4,52 +4,15 @@ ghost use Rattle.std.specs.Prelude.{◌<◌, ◌≤◌, ◌^◌, IfOk};
 ghost use Rattle.std.specs.List.{AllByRecursion};
 ghost use Rattle.cell_key.specs.Cells.{IsEditOf};
 
+use crate::FILE_LIMIT;
+use crate::tests::edits::{data_key, erase, put, two};
 use crate::tests::memory::{Call, Subject};
-use cell_key::{CellKey, Edit, EntryRef, Family, Qualifier, Refusal, Row, Stamp};
+use cell_key::{Edit, EntryRef, Refusal, Row, Stamp};
 use compaction::{Input, merge_into};
 use file_store::{FileFault, Files, MemFiles, read_whole};
 use memtable::Memtable;
 use sorted_file::{SortedFile, refusal_of, write_file};
 use std::alloc::Global;
-
-/// The most bytes of a sorted file.
-pub const LIMIT: u64 = 1_073_741_824;
-
-/// The key of a row's data in the family `bal`.
-pub fn data_key(alloc: Global, row: &Row, stamp: Stamp) -> Result<CellKey, Refusal> {
-    Ok(CellKey {
-        row: row.clone()?,
-        family: Family::new(alloc, b"bal")?,
-        qualifier: Qualifier::Data,
-        stamp,
-    })
-}
-
-fn put_of(alloc: Global, row: &Row, stamp: Stamp, value: u8) -> Result<Edit, Refusal>
-    requires from { 1 ≤ stamp }
-    requires to { stamp < 2 ^ 63 }
-    ensures { IfOk result (IsEditOf row.now) }
-{
-    let key = CellKey {
-        row: row.clone()?,
-        family: Family::new(alloc, b"bal")?,
-        qualifier: Qualifier::Data,
-        stamp,
-    };
-    Ok(Edit::Put(key, vec![in alloc; value]?))
-}
-
-fn erasure_of(alloc: Global, row: &Row) -> Result<Edit, Refusal>
-    ensures { IfOk result (IsEditOf row.now) }
-{
-    let key = CellKey {
-        row: row.clone()?,
-        family: Family::new(alloc, b"bal")?,
-        qualifier: Qualifier::Data,
-        stamp: 9,
-    };
-    Ok(Edit::Erase(key))
-}
 
 /// A write of a row's data, and an erasure at the stamp 9.
 pub fn edits_of(alloc: Global, row: &Row, stamp: Stamp, value: u8) -> Result<Vec<Edit>, Refusal>
@@ -57,12 +20,9 @@ pub fn edits_of(alloc: Global, row: &Row, stamp: Stamp, value: u8) -> Result<Vec
     requires to { stamp < 2 ^ 63 }
     ensures { IfOk result (λ edits. AllByRecursion (IsEditOf row.now) edits.items) }
 {
-    let put = put_of(alloc, row, stamp, value)?;
-    let erasure = erasure_of(alloc, row)?;
-    let mut edits = Vec::new(alloc);
-    edits.push(put)?;
-    edits.push(erasure)?;
-    Ok(edits)
+    let put = put(alloc, row, b"bal", stamp, &[value])?;
+    let erasure = erase(alloc, row, b"bal", 9)?;
+    two(alloc, row, put, erasure)
 }
 
 /// Appends an entry's value, or x for an erasure.
@@ -258,7 +218,7 @@ fn push_sorted(alloc: Global, file: &SortedFile, out: &mut Vec<u8>) -> Result<()
     let mut files = MemFiles::new(alloc);
     for stamp in [9, 1] {
         push_value(
-            file.lookup(&data_key(alloc, &row, stamp)?, &mut files)?,
+            file.lookup(&data_key(alloc, &row, b"bal", stamp)?, &mut files)?,
             out,
         )?;
     }
@@ -268,7 +228,7 @@ fn push_sorted(alloc: Global, file: &SortedFile, out: &mut Vec<u8>) -> Result<()
 impl Sorted {
     fn look_up(&mut self, alloc: Global, out: &mut Vec<u8>) -> Result<(), Refusal> {
         let row = Row::new(alloc, b"a")?;
-        let key = data_key(alloc, &row, 1)?;
+        let key = data_key(alloc, &row, b"bal", 1)?;
         push_value(self.file.lookup(&key, &mut self.files)?, out)
     }
 
@@ -279,14 +239,14 @@ impl Sorted {
 
     fn write_again(&mut self, alloc: Global) -> Result<(), Refusal> {
         let mut cursor = self.file.cursor(b"");
-        write_file(alloc, &mut cursor, 2, LIMIT, &mut self.files)
+        write_file(alloc, &mut cursor, 2, FILE_LIMIT, &mut self.files)
     }
 
     fn merge(&mut self, alloc: Global) -> Result<(), Refusal> {
         let mut sources = Vec::new(alloc);
         sources.push(Input::Memtable(self.table.cursor(b"")))?;
         sources.push(Input::File(self.file.cursor(b"")))?;
-        merge_into(alloc, sources, true, 2, LIMIT, &mut self.files)
+        merge_into(alloc, sources, true, 2, FILE_LIMIT, &mut self.files)
     }
 }
 
@@ -294,7 +254,7 @@ impl Sorted {
 fn written(alloc: Global, table: &Memtable, files: &mut MemFiles) -> Result<SortedFile, Refusal> {
     let mut sources = Vec::new(alloc);
     sources.push(Input::Memtable(table.cursor(b"")))?;
-    merge_into(alloc, sources, true, 1, LIMIT, files)?;
+    merge_into(alloc, sources, true, 1, FILE_LIMIT, files)?;
     SortedFile::open(alloc, 1, files)
 }
 

@@ -2,7 +2,8 @@
 
 ghost use Rattle.std.specs.Prelude.{◌<◌, ◌≤◌, ◌^◌};
 
-use crate::tests::memory::files::{LIMIT, edits_of};
+use crate::FILE_LIMIT;
+use crate::tests::memory::files::edits_of;
 use crate::tests::memory::{Call, Subject};
 use cell_key::{Family, Qualifier, Refusal, Row, Stamp};
 use file_store::MemFiles;
@@ -141,7 +142,7 @@ const CLUSTER_CALLS: [Call; 10] = [
 ];
 
 fn new_cluster(alloc: Global) -> Result<Cluster<MemFiles>, Refusal> {
-    match Cluster::new(alloc, MemFiles::new(alloc), LIMIT) {
+    match Cluster::new(alloc, MemFiles::new(alloc), FILE_LIMIT) {
         Ok(cluster) => Ok(cluster),
         Err((refusal, _)) => Err(refusal),
     }

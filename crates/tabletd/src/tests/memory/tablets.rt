@@ -2,7 +2,8 @@
 
 ghost use Rattle.std.specs.Prelude.{◌<◌, ◌≤◌, ◌^◌};
 
-use crate::tests::memory::files::{LIMIT, edits_of};
+use crate::FILE_LIMIT;
+use crate::tests::memory::files::edits_of;
 use crate::tests::memory::{Call, Subject};
 use cell_key::{Family, Qualifier, Refusal, Row, Stamp};
 use file_store::MemFiles;
@@ -86,7 +87,7 @@ impl Served {
 
     fn minor(&mut self) -> Result<(), Refusal> {
         self.tablet
-            .minor(LIMIT, &mut self.next_name, &mut self.files)
+            .minor(FILE_LIMIT, &mut self.next_name, &mut self.files)
     }
 
     /// Appends the value of the newest data of a row.
@@ -134,9 +135,11 @@ impl Served {
     fn compact(&mut self, number: usize, out: &mut Vec<u8>) -> Result<(), Refusal> {
         let files = &mut self.files;
         match number {
-            4 => self.tablet.minor(LIMIT, &mut self.next_name, files)?,
-            5 => self.tablet.merge(2, LIMIT, &mut self.next_name, files)?,
-            _ => self.tablet.major(LIMIT, &mut self.next_name, files)?,
+            4 => self.tablet.minor(FILE_LIMIT, &mut self.next_name, files)?,
+            5 => self
+                .tablet
+                .merge(2, FILE_LIMIT, &mut self.next_name, files)?,
+            _ => self.tablet.major(FILE_LIMIT, &mut self.next_name, files)?,
         }
         self.push_count(out)
     }
@@ -146,7 +149,7 @@ impl Served {
         let row = Row::new(alloc, b"b")?;
         let left = self
             .tablet
-            .split(&row, LIMIT, &mut self.next_name, &mut self.files)?;
+            .split(&row, FILE_LIMIT, &mut self.next_name, &mut self.files)?;
         out.push((left.file_count() % 256) as u8)?;
         self.push_count(out)
     }
@@ -154,7 +157,7 @@ impl Served {
     fn unload(&mut self, out: &mut Vec<u8>) -> Result<(), Refusal> {
         let names = self
             .tablet
-            .unload(LIMIT, &mut self.next_name, &mut self.files)?;
+            .unload(FILE_LIMIT, &mut self.next_name, &mut self.files)?;
         out.push((names.len() % 256) as u8)?;
         Ok(())
     }

@@ -1,9 +1,11 @@
-use crate::Clients;
+//! Sessions over one map in memory.
+
 use cell_key::Refusal;
 use oracle::{MemMark, Oracle};
 use row_atomic::PlainRows;
 use si_model::{Found, Progress};
 use std::test::Fail;
+use txn_client::Clients;
 
 fn new_oracle() -> Result<Oracle<MemMark>, Refusal> {
     match Oracle::open(MemMark::new()) {

@@ -1,14 +1,12 @@
-ghost use Rattle.std.specs.Prelude.{◌<◌, ◌≤◌, ◌^◌, IfOk};
-ghost use Rattle.cell_key.specs.Cells.{IsEditOf};
+//! One tablet: what it shows through compactions and splits.
 
-use crate::Tablet;
-use cell_key::{CellKey, Edit, Family, Qualifier, Refusal, Row, Stamp};
+use crate::FILE_LIMIT;
+use crate::tests::edits::{erase, one, put};
+use cell_key::{Family, Qualifier, Refusal, Row, Stamp};
 use file_store::MemFiles;
 use std::alloc::Global;
 use std::test::Fail;
-
-/// The greatest limit of a file's bytes.
-const LIMIT: u64 = 1_073_741_824;
+use tablet::Tablet;
 
 /// A write: the row, the stamp, and a value or an erasure.
 type Write = (u8, Stamp, Option<u8>);
@@ -40,40 +38,18 @@ fn new_store(alloc: Global) -> Store {
     }
 }
 
-fn edit_of(alloc: Global, row: &Row, stamp: Stamp, value: Option<u8>) -> Result<Edit, Refusal>
-    requires from { 1 ≤ stamp }
-    requires to { stamp < 2 ^ 63 }
-    ensures { IfOk result (IsEditOf row.now) }
-{
-    let key = CellKey {
-        row: row.clone()?,
-        family: Family::new(alloc, b"bal")?,
-        qualifier: Qualifier::Data,
-        stamp,
-    };
-    match value {
-        Some(value) => Ok(Edit::Put(key, vec![in alloc; value]?)),
-        None => Ok(Edit::Erase(key)),
-    }
-}
-
-fn apply_one(alloc: Global, tablet: &mut Tablet, row: &Row, edit: Edit) -> Result<(), Refusal>
-    requires { IsEditOf row.now edit }
-{
-    let mut edits = Vec::new(alloc);
-    edits.push(edit)?;
-    tablet.apply(row, edits)
-}
-
 fn write(store: &mut Store, write: Write) -> Result<(), Refusal> {
     let (row, stamp, value) = write;
     if stamp == 0 || stamp > 9 {
         return Ok(());
     }
     let row = Row::new(store.alloc, &[row])?;
-    let edit = edit_of(store.alloc, &row, stamp, value)?;
+    let edit = match value {
+        Some(value) => put(store.alloc, &row, b"bal", stamp, &[value])?,
+        None => erase(store.alloc, &row, b"bal", stamp)?,
+    };
     store.writes.push(write)?;
-    apply_one(store.alloc, &mut store.tablet, &row, edit)
+    store.tablet.apply(&row, one(store.alloc, &row, edit)?)
 }
 
 fn write_all(store: &mut Store, writes: &[Write]) -> Result<(), Refusal> {
@@ -86,19 +62,19 @@ fn write_all(store: &mut Store, writes: &[Write]) -> Result<(), Refusal> {
 fn minor(store: &mut Store) -> Result<(), Refusal> {
     store
         .tablet
-        .minor(LIMIT, &mut store.next_name, &mut store.files)
+        .minor(FILE_LIMIT, &mut store.next_name, &mut store.files)
 }
 
 fn merge(store: &mut Store, count: u32) -> Result<(), Refusal> {
     store
         .tablet
-        .merge(count, LIMIT, &mut store.next_name, &mut store.files)
+        .merge(count, FILE_LIMIT, &mut store.next_name, &mut store.files)
 }
 
 fn major(store: &mut Store) -> Result<(), Refusal> {
     store
         .tablet
-        .major(LIMIT, &mut store.next_name, &mut store.files)
+        .major(FILE_LIMIT, &mut store.next_name, &mut store.files)
 }
 
 /// What the writes leave at a row, by the last of each stamp: the greatest stamp in `lo..=hi` that has a value.
@@ -197,7 +173,7 @@ fn parts_agree(store: &mut Store) -> Result<bool, Refusal> {
     let row = Row::new(store.alloc, b"b")?;
     let left = store
         .tablet
-        .split(&row, LIMIT, &mut store.next_name, &mut store.files)?;
+        .split(&row, FILE_LIMIT, &mut store.next_name, &mut store.files)?;
     let mut names = Vec::new(store.alloc);
     left.push_names(&mut names)?;
     let range = left.range().clone()?;
@@ -221,7 +197,7 @@ fn parts_keep_the_cells(rt: HostRuntime) -> Result<(), Fail> {
     assert!(rt; parts_agree(&mut store)?);
     let names = store
         .tablet
-        .unload(LIMIT, &mut store.next_name, &mut store.files)?;
+        .unload(FILE_LIMIT, &mut store.next_name, &mut store.files)?;
     assert_eq!(rt; names.as_slice(), [3, 2, 1].as_slice());
     assert!(rt; store.tablet.is_empty());
     Ok(())

@@ -1,14 +1,13 @@
-mod slow;
+//! Sorted files, by their bytes.
 
-use crate::{SortedFile, write_file};
-use cell_key::{CellKey, Family, Qualifier, Refusal, Row};
+use crate::FILE_LIMIT;
+use crate::tests::edits::data_key;
+use crate::tests::slow::is_file;
+use cell_key::{Refusal, Row};
 use file_store::{Files, MemFiles, read_whole};
-use slow::is_file;
+use sorted_file::{SortedFile, write_file};
 use std::alloc::Global;
 use std::test::Fail;
-
-/// The greatest limit of a file's bytes.
-const LIMIT: u64 = 1_073_741_824;
 
 /// The text of the key (`a`, `bal`, data, 1), but for its stamp.
 const PLACE: &[u8] = b"a\0\0bal\0\0data\0\0";
@@ -50,7 +49,7 @@ fn is_written_again(alloc: Global, bytes: &[u8]) -> Result<bool, Refusal> {
     let mut files = MemFiles::new(alloc);
     let file = opened(alloc, &mut files, bytes)?;
     let mut cursor = file.cursor(b"");
-    write_file(alloc, &mut cursor, 2, LIMIT, &mut files)?;
+    write_file(alloc, &mut cursor, 2, FILE_LIMIT, &mut files)?;
     match read_whole(alloc, &mut files, 2) {
         Ok(Some(written)) => Ok(written.as_slice() == bytes),
         _ => Ok(false),
@@ -169,12 +168,8 @@ fn a_slow_reader_agrees(rt: HostRuntime) -> Result<(), Fail> {
 fn an_entry_is_looked_up(rt: HostRuntime) -> Result<(), Fail> {
     let mut files = MemFiles::new(rt.alloc());
     let file = opened(rt.alloc(), &mut files, ONE)?;
-    let mut key = CellKey {
-        row: Row::new(rt.alloc(), b"a")?,
-        family: Family::new(rt.alloc(), b"bal")?,
-        qualifier: Qualifier::Data,
-        stamp: 1,
-    };
+    let row = Row::new(rt.alloc(), b"a")?;
+    let mut key = data_key(rt.alloc(), &row, b"bal", 1)?;
     let found = file.lookup(&key, &mut files)?;
     assert!(rt; matches!(found, Some(entry) if entry.value == Some(b"10".as_slice())));
     key.stamp = 2;

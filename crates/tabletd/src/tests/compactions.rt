@@ -1,16 +1,16 @@
-ghost use Rattle.std.specs.Prelude.{◌≡◌, ◌<◌, ◌≤◌, ◌^◌, IfOk, IfSome, length};
-ghost use Rattle.cell_key.specs.Cells.{IsEditOf};
+//! Merges of memtables and sorted files.
 
-use crate::{Input, Merge, Until, merge_into};
-use cell_key::{CellKey, Edit, Family, Qualifier, Refusal, Row, Stamp};
+ghost use Rattle.std.specs.Prelude.{◌<◌, ◌≤◌, ◌^◌, IfSome, length};
+
+use crate::FILE_LIMIT;
+use crate::tests::edits::{erase, one, put};
+use cell_key::{Refusal, Row, Stamp};
+use compaction::{Input, Merge, Until, merge_into};
 use file_store::{Files, MemFiles, read_whole};
 use memtable::Memtable;
 use sorted_file::{SortedFile, Source};
 use std::alloc::Global;
 use std::test::Fail;
-
-/// The greatest limit of a file's bytes.
-const LIMIT: u64 = 1_073_741_824;
 
 /// The text of the key (`a`, `bal`, data, 1).
 const FIRST_STAMP: &[u8] = b"a\0\0bal\0\0data\0\0\xFF\xFF\xFF\xFF\xFF\xFF\xFF\xFE";
@@ -30,25 +30,6 @@ const ERASURE_DROPPED: &[u8] = b"TABLET01\
     \0\0\0\x08\0\0\0\x40\0\0\0\x16a\0\0bal\0\0data\0\0\xFF\xFF\xFF\xFF\xFF\xFF\xFF\xFC\
     \0\0\0\x48\0\0\0\x01\0\0\0\x02\0\0\0\x82TABLETZZ";
 
-/// A put of a value at a stamp, or an erase.
-fn edit(alloc: Global, row: &Row, stamp: Stamp, value: Option<&[u8]>) -> Result<Edit, Refusal>
-    requires from { 1 ≤ stamp }
-    requires to { stamp < 2 ^ 63 }
-    requires value { IfSome value (λ value. length value.now ≤ 65536) }
-    ensures { IfOk result (IsEditOf row.now) }
-{
-    let key = CellKey {
-        row: row.clone()?,
-        family: Family::new(alloc, b"bal")?,
-        qualifier: Qualifier::Data,
-        stamp,
-    };
-    match value {
-        Some(value) => Ok(Edit::Put(key, Vec::from_slice(alloc, value)?)),
-        None => Ok(Edit::Erase(key)),
-    }
-}
-
 /// Puts a value at a stamp of (`a`, `bal`, data), or erases it.
 fn set(
     alloc: Global,
@@ -61,9 +42,11 @@ fn set(
     requires value { IfSome value (λ value. length value.now ≤ 65536) }
 {
     let row = Row::new(alloc, b"a")?;
-    let mut edits = Vec::new(alloc);
-    edits.push(edit(alloc, &row, stamp, value)?)?;
-    table.apply(&row, edits)
+    let edit = match value {
+        Some(value) => put(alloc, &row, b"bal", stamp, value)?,
+        None => erase(alloc, &row, b"bal", stamp)?,
+    };
+    table.apply(&row, one(alloc, &row, edit)?)
 }
 
 /// A file with 3 at the stamp 3, 2 at 2, and 1 at 1.
@@ -74,7 +57,7 @@ fn older(alloc: Global, files: &mut MemFiles) -> Result<SortedFile, Refusal> {
     set(alloc, &mut table, 1, Some(b"1"))?;
     let mut sources = Vec::new(alloc);
     sources.push(Input::Memtable(table.cursor(b"")))?;
-    merge_into(alloc, sources, true, 1, LIMIT, files)?;
+    merge_into(alloc, sources, true, 1, FILE_LIMIT, files)?;
     SortedFile::open(alloc, 1, files)
 }
 
@@ -94,7 +77,7 @@ fn is_merged(alloc: Global, keep_erasures: bool, bytes: &[u8]) -> Result<bool, R
     let mut sources = Vec::new(alloc);
     sources.push(Input::Memtable(table.cursor(b"")))?;
     sources.push(Input::File(file.cursor(b"")))?;
-    merge_into(alloc, sources, keep_erasures, 2, LIMIT, &mut files)?;
+    merge_into(alloc, sources, keep_erasures, 2, FILE_LIMIT, &mut files)?;
     match read_whole(alloc, &mut files, 2) {
         Ok(Some(written)) => Ok(written.as_slice() == bytes),
         _ => Ok(false),
@@ -142,7 +125,7 @@ fn entries_until_an_end(rt: HostRuntime) -> Result<(), Fail> {
 fn no_sources_give_an_empty_file(rt: HostRuntime) -> Result<(), Fail> {
     let mut files = MemFiles::new(rt.alloc());
     let sources: Vec<Input<'_>> = Vec::new(rt.alloc());
-    merge_into(rt.alloc(), sources, true, 1, LIMIT, &mut files)?;
+    merge_into(rt.alloc(), sources, true, 1, FILE_LIMIT, &mut files)?;
     assert_eq!(rt; files.size(1).ok(), Some(Some(32)));
     Ok(())
 }

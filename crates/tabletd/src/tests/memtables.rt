@@ -1,65 +1,16 @@
-ghost use Rattle.std.specs.Prelude.{◌≡◌, ◌<◌, ◌≤◌, ◌^◌, IfOk, length};
-ghost use Rattle.cell_key.specs.Cells.{IsEditOf};
+//! Memtables.
 
-use crate::Memtable;
-use cell_key::{CellKey, Edit, Family, Qualifier, Refusal, Row, Stamp};
+ghost use Rattle.std.specs.Prelude.{◌≡◌, ◌<◌, ◌≤◌, ◌^◌, IfOk, length};
+
+use crate::tests::edits::{data_key, erase, one, put, two};
+use cell_key::{Refusal, Row, Stamp};
+use memtable::Memtable;
 use std::alloc::Global;
 use std::test::Fail;
 
-fn put(alloc: Global, row: &Row, stamp: Stamp, value: &[u8]) -> Result<Edit, Refusal>
-    requires from { 1 ≤ stamp }
-    requires to { stamp < 2 ^ 63 }
-    requires value { length value.now ≤ 65536 }
-    ensures { IfOk result (IsEditOf row.now) }
-{
-    let key = CellKey {
-        row: row.clone()?,
-        family: Family::new(alloc, b"bal")?,
-        qualifier: Qualifier::Data,
-        stamp,
-    };
-    let value = Vec::from_slice(alloc, value)?;
-    Ok(Edit::Put(key, value))
-}
-
-fn erase(alloc: Global, row: &Row, stamp: Stamp) -> Result<Edit, Refusal>
-    requires from { 1 ≤ stamp }
-    requires to { stamp < 2 ^ 63 }
-    ensures { IfOk result (IsEditOf row.now) }
-{
-    let key = CellKey {
-        row: row.clone()?,
-        family: Family::new(alloc, b"bal")?,
-        qualifier: Qualifier::Data,
-        stamp,
-    };
-    Ok(Edit::Erase(key))
-}
-
-fn apply_two(
-    alloc: Global,
-    table: &mut Memtable,
-    row: &Row,
-    first: Edit,
-    second: Edit,
-) -> Result<(), Refusal>
-    requires first { IsEditOf row.now first }
-    requires second { IsEditOf row.now second }
-{
-    let mut edits = Vec::new(alloc);
-    edits.push(first)?;
-    edits.push(second)?;
-    table.apply(row, edits)
-}
-
-// What stands at a stamp of `a bal`, by a byte for what it is and the value.
+/// What stands at a stamp of `a bal`, by a byte for what it is and the value.
 fn found(alloc: Global, table: &Memtable, stamp: Stamp) -> Result<Vec<u8>, Refusal> {
-    let key = CellKey {
-        row: Row::new(alloc, b"a")?,
-        family: Family::new(alloc, b"bal")?,
-        qualifier: Qualifier::Data,
-        stamp,
-    };
+    let key = data_key(alloc, &Row::new(alloc, b"a")?, b"bal", stamp)?;
     let mut out = Vec::new(alloc);
     match table.lookup(&key) {
         None => out.push(b'-')?,
@@ -71,7 +22,7 @@ fn found(alloc: Global, table: &Memtable, stamp: Stamp) -> Result<Vec<u8>, Refus
     Ok(out)
 }
 
-// The texts of the entries from some bytes on, and what they hold.
+/// The texts of the entries from some bytes on, and what they hold.
 fn written(alloc: Global, table: &Memtable, from: &[u8]) -> Result<Vec<u8>, Refusal> {
     let mut out = Vec::new(alloc);
     let mut cursor = table.cursor(from);
@@ -87,14 +38,16 @@ fn written(alloc: Global, table: &Memtable, from: &[u8]) -> Result<Vec<u8>, Refu
     Ok(out)
 }
 
-// The row `a` has 10 at 1 and an erasure at 2.
+/// The row `a` has 10 at 1 and an erasure at 2.
 fn two_entries(alloc: Global) -> Result<Memtable, Refusal> {
     let mut table = Memtable::new(alloc);
     let row = Row::new(alloc, b"a")?;
-    let first = put(alloc, &row, 2, b"7")?;
-    apply_two(alloc, &mut table, &row, first, put(alloc, &row, 1, b"10")?)?;
-    let first = put(alloc, &row, 2, b"8")?;
-    apply_two(alloc, &mut table, &row, first, erase(alloc, &row, 2)?)?;
+    let newer = put(alloc, &row, b"bal", 2, b"7")?;
+    let older = put(alloc, &row, b"bal", 1, b"10")?;
+    table.apply(&row, two(alloc, &row, newer, older)?)?;
+    let written = put(alloc, &row, b"bal", 2, b"8")?;
+    let erased = erase(alloc, &row, b"bal", 2)?;
+    table.apply(&row, two(alloc, &row, written, erased)?)?;
     Ok(table)
 }
 
@@ -126,7 +79,8 @@ fn lends_entries_in_order(rt: HostRuntime) -> Result<(), Fail> {
     Ok(())
 }
 
-fn apply_one(
+/// Puts a value at a stamp of a row.
+fn set(
     alloc: Global,
     table: &mut Memtable,
     row: &Row,
@@ -137,9 +91,8 @@ fn apply_one(
     requires to { stamp < 2 ^ 63 }
     requires value { length value.now ≤ 65536 }
 {
-    let mut edits = Vec::new(alloc);
-    edits.push(put(alloc, row, stamp, value)?)?;
-    table.apply(row, edits)
+    let edit = put(alloc, row, b"bal", stamp, value)?;
+    table.apply(row, one(alloc, row, edit)?)
 }
 
 fn zeros(alloc: Global, len: usize) -> Result<Vec<u8>, Refusal>
@@ -150,7 +103,7 @@ fn zeros(alloc: Global, len: usize) -> Result<Vec<u8>, Refusal>
     Ok(bytes)
 }
 
-// 1,023 entries of 65,567 bytes and one of 33,823 have 67,108,864 bytes.
+/// 1,023 entries of 65,567 bytes and one of 33,823 have 67,108,864 bytes.
 #[test]
 fn full_at_its_most_bytes(rt: HostRuntime) -> Result<(), Fail> {
     let alloc = rt.alloc();
@@ -158,16 +111,16 @@ fn full_at_its_most_bytes(rt: HostRuntime) -> Result<(), Fail> {
     let mut table = Memtable::new(alloc);
     let value = zeros(alloc, 65_536)?;
     for stamp in 1..1_024u64 {
-        apply_one(alloc, &mut table, &row, stamp, &value)?;
+        set(alloc, &mut table, &row, stamp, &value)?;
     }
-    let full = apply_one(alloc, &mut table, &row, 1_024, &value);
+    let full = set(alloc, &mut table, &row, 1_024, &value);
     assert!(rt; full == Err(Refusal::MemtableFull));
     let last = zeros(alloc, 33_792)?;
-    apply_one(alloc, &mut table, &row, 1_024, &last)?;
+    set(alloc, &mut table, &row, 1_024, &last)?;
     assert_eq!(rt; table.entry_bytes(), Memtable::MOST_BYTES);
-    let full = apply_one(alloc, &mut table, &row, 1_025, b"");
+    let full = set(alloc, &mut table, &row, 1_025, b"");
     assert!(rt; full == Err(Refusal::MemtableFull));
-    apply_one(alloc, &mut table, &row, 1_023, &value)?;
+    set(alloc, &mut table, &row, 1_023, &value)?;
     assert_eq!(rt; table.len(), 1_024);
     Ok(())
 }

@@ -1,6 +1,8 @@
+//! Files in memory.
+
 ghost use Rattle.std.specs.Prelude.{None};
 
-use crate::{FileFault, Files, MemFiles, read_whole};
+use file_store::{FileFault, Files, MemFiles, read_whole};
 use std::alloc::Global;
 use std::test::Fail;
 

@@ -1,74 +1,36 @@
-ghost use Rattle.std.specs.Prelude.{◌<◌, ◌≤◌, ◌^◌, IfOk};
+//! A cluster of tablets, beside one map in memory.
+
+ghost use Rattle.std.specs.Prelude.{IfOk};
 ghost use Rattle.cell_key.specs.Cells.{IsEditOf};
 ghost use Rattle.row_atomic.specs.Commands.{IsUnderRow};
 
-use crate::{Cluster, Command, Outcome, PlainRows, Rows, one_newest, one_next_cell};
-use cell_key::{CellKey, Edit, Family, Qualifier, Refusal, Row, Stamp};
+use crate::tests::edits::{erase, one, put, two};
+use cell_key::{Edit, Family, Qualifier, Refusal, Row, Stamp};
 use file_store::MemFiles;
+use row_atomic::{Cluster, Command, Outcome, PlainRows, Rows, one_newest, one_next_cell};
 use std::alloc::Global;
 use std::test::Fail;
 
-fn put(alloc: Global, row: &Row, family: &[u8], stamp: Stamp) -> Result<Edit, Refusal>
-    requires from { 1 ≤ stamp }
-    requires to { stamp < 2 ^ 63 }
-    ensures { IfOk result (IsEditOf row.now) }
-{
-    let key = CellKey {
-        row: row.clone()?,
-        family: Family::new(alloc, family)?,
-        qualifier: Qualifier::Data,
-        stamp,
-    };
-    let value = Vec::from_slice(alloc, b"10")?;
-    Ok(Edit::Put(key, value))
-}
-
-fn erase(alloc: Global, row: &Row, family: &[u8], stamp: Stamp) -> Result<Edit, Refusal>
-    requires from { 1 ≤ stamp }
-    requires to { stamp < 2 ^ 63 }
-    ensures { IfOk result (IsEditOf row.now) }
-{
-    let key = CellKey {
-        row: row.clone()?,
-        family: Family::new(alloc, family)?,
-        qualifier: Qualifier::Data,
-        stamp,
-    };
-    Ok(Edit::Erase(key))
-}
-
-fn apply_two<R: Rows>(
-    alloc: Global,
-    rows: &mut R,
-    row: &Row,
-    first: Edit,
-    second: Edit,
-) -> Result<(), Refusal>
-    requires first { IsEditOf row.now first }
-    requires second { IsEditOf row.now second }
-{
-    let mut edits = Vec::new(alloc);
-    edits.push(first)?;
-    edits.push(second)?;
-    rows.apply(row, edits)
-}
-
-// Bob has `bal` at 3 and 7, and `zip` at 4. Joe has `bal` at 2, and an erased one at 5.
+/// Bob has `bal` at 3 and 7, and `zip` at 4. Joe has `bal` at 2, and an erased one at 5.
 fn fill<R: Rows>(alloc: Global, rows: &mut R) -> Result<(), Refusal> {
     let bob = Row::new(alloc, b"Bob")?;
     let joe = Row::new(alloc, b"Joe")?;
-    let first = put(alloc, &joe, b"bal", 5)?;
-    apply_two(alloc, rows, &joe, first, put(alloc, &joe, b"bal", 2)?)?;
-    let first = put(alloc, &bob, b"zip", 4)?;
-    apply_two(alloc, rows, &bob, first, put(alloc, &bob, b"bal", 3)?)?;
-    let first = put(alloc, &bob, b"bal", 7)?;
-    apply_two(alloc, rows, &bob, first, erase(alloc, &bob, b"bal", 8)?)?;
-    let first = erase(alloc, &joe, b"bal", 5)?;
-    apply_two(alloc, rows, &joe, first, erase(alloc, &joe, b"zip", 5)?)?;
+    let newer = put(alloc, &joe, b"bal", 5, b"10")?;
+    let older = put(alloc, &joe, b"bal", 2, b"10")?;
+    rows.apply(&joe, two(alloc, &joe, newer, older)?)?;
+    let later = put(alloc, &bob, b"zip", 4, b"10")?;
+    let earlier = put(alloc, &bob, b"bal", 3, b"10")?;
+    rows.apply(&bob, two(alloc, &bob, later, earlier)?)?;
+    let written = put(alloc, &bob, b"bal", 7, b"10")?;
+    let erased = erase(alloc, &bob, b"bal", 8)?;
+    rows.apply(&bob, two(alloc, &bob, written, erased)?)?;
+    let erased = erase(alloc, &joe, b"bal", 5)?;
+    let absent = erase(alloc, &joe, b"zip", 5)?;
+    rows.apply(&joe, two(alloc, &joe, erased, absent)?)?;
     Ok(())
 }
 
-// The stamp of the newest data of a row's `bal`, or 0.
+/// The stamp of the newest data of a row's `bal`, or 0.
 fn newest_stamp<R: Rows>(
     alloc: Global,
     rows: &mut R,
@@ -100,7 +62,7 @@ fn finds_the_newest_in_a_range(rt: HostRuntime) -> Result<(), Fail> {
     Ok(())
 }
 
-// The places of the cells in order, one after the other.
+/// The places of the cells in order, one after the other.
 fn places<R: Rows>(alloc: Global, rows: &mut R) -> Result<Vec<u8>, Refusal> {
     let mut out = Vec::new(alloc);
     let mut after: Option<(Row, Family)> = None;
@@ -131,7 +93,7 @@ fn goes_from_cell_to_cell(rt: HostRuntime) -> Result<(), Fail> {
     Ok(())
 }
 
-// A cluster over files in memory.
+/// A cluster over files in memory.
 fn new_cluster(alloc: Global) -> Result<Cluster<MemFiles>, Refusal> {
     match Cluster::new(alloc, MemFiles::new(alloc), 4096) {
         Ok(cluster) => Ok(cluster),
@@ -152,7 +114,7 @@ fn a_cluster_has_the_same_cells(rt: HostRuntime) -> Result<(), Fail> {
     Ok(())
 }
 
-// What is done to a cluster and, where it is an edit, to a plain map too.
+/// What is done to a cluster and, where it is an edit, to a plain map too.
 #[derive(Clone, Copy)]
 enum Step {
     Put(u8, Stamp),
@@ -164,8 +126,8 @@ enum Step {
     Move(u32, u8),
 }
 
-// Splits at the middle, the first and the last row of a tablet, writes on both sides of an end, a merge of a file that
-// two tablets have, moves, and a major compaction.
+/// Splits at the middle, the first and the last row of a tablet, writes on both sides of an end, a merge of a file that
+/// two tablets have, moves, and a major compaction.
 const STEPS: [Step; 25] = [
     Step::Put(b'a', 1),
     Step::Put(b'b', 1),
@@ -205,13 +167,12 @@ fn edit<R: Rows>(
         return Ok(());
     }
     let row = Row::new(alloc, &[row])?;
-    let mut edits = Vec::new(alloc);
-    if is_put {
-        edits.push(put(alloc, &row, b"bal", stamp)?)?;
+    let edit = if is_put {
+        put(alloc, &row, b"bal", stamp, b"10")?
     } else {
-        edits.push(erase(alloc, &row, b"bal", stamp)?)?;
-    }
-    rows.apply(&row, edits)
+        erase(alloc, &row, b"bal", stamp)?
+    };
+    rows.apply(&row, one(alloc, &row, edit)?)
 }
 
 fn take(
@@ -241,7 +202,7 @@ fn take(
     }
 }
 
-// Whether both show the same newest versions of a row in some ranges of stamps.
+/// Whether both show the same newest versions of a row in some ranges of stamps.
 fn row_agrees(
     alloc: Global,
     cluster: &mut Cluster<MemFiles>,
@@ -287,12 +248,11 @@ fn tablets_keep_the_cells(rt: HostRuntime) -> Result<(), Fail> {
     Ok(())
 }
 
-fn apply_one(alloc: Global, row: Row, edit: Edit) -> Result<Command, Refusal>
+fn apply_command(alloc: Global, row: Row, edit: Edit) -> Result<Command, Refusal>
     requires { IsEditOf row edit }
     ensures { IfOk result IsUnderRow }
 {
-    let mut edits = Vec::new(alloc);
-    edits.push(edit)?;
+    let edits = one(alloc, &row, edit)?;
     Ok(Command::Apply { row, edits })
 }
 
@@ -315,8 +275,8 @@ fn commands_are_done_in_order(rt: HostRuntime) -> Result<(), Fail> {
     let alloc = rt.alloc();
     let mut cluster = new_cluster(alloc)?;
     let bob = Row::new(alloc, b"Bob")?;
-    let edit = put(alloc, &bob, b"bal", 3)?;
-    let apply = apply_one(alloc, bob, edit)?;
+    let edit = put(alloc, &bob, b"bal", 3, b"10")?;
+    let apply = apply_command(alloc, bob, edit)?;
     let outcomes = run_three(&mut cluster, alloc, apply)?;
     assert_eq!(rt; outcomes.len(), 3);
     assert!(rt; matches!(outcomes.get(0), Some(Outcome::Done)));

@@ -1,7 +1,9 @@
+//! The stamps that the oracle draws.
+
 ghost use Rattle.std.specs.Prelude.{◌<◌, ◌^◌, Some};
 
-use crate::{MarkFault, MarkStore, MemMark, Oracle};
 use cell_key::{Refusal, Stamp};
+use oracle::{MarkFault, MarkStore, MemMark, Oracle};
 use std::test::Fail;
 
 /// A mark whose first `store` fails, where that is wanted.

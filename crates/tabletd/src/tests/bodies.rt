@@ -1,5 +1,7 @@
-use crate::{Reply, Request, decode_reply, decode_request, encode_reply, encode_request};
+//! The bodies of requests and replies.
+
 use cell_key::{Qualifier, Refusal};
+use request_codec::{Reply, Request, decode_reply, decode_request, encode_reply, encode_request};
 use si_model::{Found, Progress};
 use std::alloc::Global;
 use std::test::Fail;

@@ -1,5 +1,7 @@
-use crate::{MetadataTable, Place};
+//! Where rows are: the table of tablets.
+
 use cell_key::{Refusal, Row};
+use metadata_table::{MetadataTable, Place};
 use std::alloc::{AllocError, Global};
 use std::test::Fail;
 
