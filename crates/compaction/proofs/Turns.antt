@@ -16,7 +16,7 @@ use Rattle.file_store.specs.Store.{Contents}
 -- At an index a list came from another: what is before it is changed, and the rest is the same.
 pub record Progress {S F : Type 0} (contents : F → Option Contents) (faults : F → ℕ) (price bonus : S → ℕ) (before : Contents → S → Type 0) (step : Contents → S → S → Type 0) (start files : F) (xs ys : List S) (i : ℕ) : Type 0 where
   pub same : contents files ≡ contents start
-  pub later : faults start ≤ faults files
+  pub quiet : faults files ≡ faults start
   pub rest : drop i ys ≡ drop i xs
   pub paid : sum_by price (take i ys) + sum_by bonus (take i ys) ≤ sum_by price (take i xs)
   pub steps : IfSome (contents start) (λ m. AllByRecursion (before m) xs → AllZip (step m) (take i xs) (take i ys))
@@ -38,16 +38,16 @@ rest_more xs ys i l e = grind (arith, common_steps)
 -- the element at the index became t
 pub go_on : {S F : Type 0} {contents : F → Option Contents} {faults : F → ℕ} {price bonus : S → ℕ} {before : Contents → S → Type 0} {step : Contents → S → S → Type 0} {start files : F} {xs ys : List S} {i : ℕ}
     → Progress contents faults price bonus before step start files xs ys i → (next : F) (zs : List S) (s t : S)
-    → i < length xs → s ≡ get_or ys i s → contents next ≡ contents files → faults files ≤ faults next
+    → i < length xs → s ≡ get_or ys i s → contents next ≡ contents files → faults next ≡ faults files
     → take (i + 1) zs ≡ take i ys ++ t ∷ [] → drop (i + 1) zs ≡ drop (i + 1) ys → price t + bonus t ≤ price s
     → IfSome (contents files) (λ m. before m s → step m s t)
     → Progress contents faults price bonus before step start next xs zs (i + 1)
-go_on {S} {F} {contents} {faults} {price} {bonus} {before} {step} {start} {files} {xs} {ys} {i} p next zs s t l is same later front rest cheaper here =
+go_on {S} {F} {contents} {faults} {price} {bonus} {before} {step} {start} {files} {xs} {ys} {i} p next zs s t l is same quiet front rest cheaper here =
     let was : s ≡ get_or xs i s = is ∙ item-rest xs ys i s p.rest in
     let old : take (i + 1) xs ≡ take i xs ++ s ∷ [] = one_more xs i s l was in
     record {
       same = same ∙ p.same;
-      later = omega (arith, p.later);
+      quiet = quiet ∙ p.quiet;
       rest = rest ∙ rest_more xs ys i l p.rest;
       paid = rw (front, old, sum_by-append price (take i ys) (t ∷ []), sum_by-append bonus (take i ys) (t ∷ []), sum_by-append price (take i xs) (s ∷ [])) (omega (arith, p.paid));
       steps = both_some (contents start) (contents files) p.same p.steps here (λ m before_all step_now all. rw (front, old) (AllZip-push (step m) (take i xs) (take i ys) s t (before_all all) (step_now (at_place (before m) xs i s l was all))));

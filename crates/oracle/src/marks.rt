@@ -45,7 +45,8 @@ pub trait MarkStore {
         ensures stored { IfOk result (λ number. IfSome (mark self.old) (λ stored. number ≡ stored)) }
         ensures kept { mark self.new ≡ mark self.old }
         ensures later { faults self.old ≤ faults self.new }
-        ensures device { OnErr result (HasRisen (faults self.old) (faults self.new)) };
+        ensures device { OnErr result (HasRisen (faults self.old) (faults self.new)) }
+        ensures told { OnOk result (faults self.new ≡ faults self.old) };
 
     /// Stores a number. After an `Err` the mark is the old or the new number.
     fn store(&mut self, number: Stamp) -> Result<(), MarkFault>
@@ -53,7 +54,8 @@ pub trait MarkStore {
         ensures ok { OnOk result (mark self.new ≡ mark_after number (mark self.old)) }
         ensures err { OnErr result (MayHold number (mark self.old) (mark self.new)) }
         ensures later { faults self.old ≤ faults self.new }
-        ensures device { OnErr result (HasRisen (faults self.old) (faults self.new)) };
+        ensures device { OnErr result (HasRisen (faults self.old) (faults self.new)) }
+        ensures told { OnOk result (faults self.new ≡ faults self.old) };
 
     /// How often a device has failed, up to the greatest number.
     fn faults(&self) -> u64

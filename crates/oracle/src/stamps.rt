@@ -55,6 +55,7 @@ impl<M: MarkStore> Oracle<M> {
         ensures limit { IfOk result (λ oracle. oracle.last < 2 ^ 63) }
         ensures kept { IfOk result (λ oracle. M.mark oracle.marks ≡ M.mark marks) }
         ensures later { IfOk result (λ oracle. M.faults marks ≤ M.faults oracle.marks) }
+        ensures told { IfOk result (λ oracle. M.faults oracle.marks ≡ M.faults marks) }
         ensures refusal { IfErr result (λ refused. refused.0 ≡ Refusal.Device) }
         ensures device { IfErr result (λ refused. HasRisen (M.faults marks) (M.faults refused.1)) }
         ensures returned { IfErr result (λ refused. M.mark refused.1 ≡ M.mark marks) }
@@ -93,6 +94,7 @@ impl<M: MarkStore> Oracle<M> {
         ensures unchanged { IsErrOf result Refusal.Exhausted → self.new ≡ self.old }
         ensures device { IsErrOf result Refusal.Device
             → HasRisen (M.faults self.old.marks) (M.faults self.new.marks) }
+        ensures told { ¬ IsErrOf result Refusal.Device → M.faults self.new.marks ≡ M.faults self.old.marks }
         ensures err { OnErr result (SameNumbers self.old self.new) }
         ensures err_mark { OnErr result
             (MayHold (next_range_end self.old.range_end) (M.mark self.old.marks) (M.mark self.new.marks)) }
@@ -122,6 +124,7 @@ impl<M: MarkStore> Oracle<M> {
         ensures err { OnErr result (SameNumbers self.old self.new) }
         ensures refusal { IfErr result (λ refusal. refusal ≡ Refusal.Device) }
         ensures device { OnErr result (HasRisen (M.faults self.old.marks) (M.faults self.new.marks)) }
+        ensures told { OnOk result (M.faults self.new.marks ≡ M.faults self.old.marks) }
         ensures later { M.faults self.old.marks ≤ M.faults self.new.marks }
         ensures below_mark { IsWithin self.new.last (M.mark self.new.marks) }
     {

@@ -39,6 +39,12 @@ pub record IsAsBefore {F : Type 0} (old new : ClusterState F) : Type 0 where
   pub places : new.places ≡ old.places
   pub tablets : map parts_of new.tablets ≡ map parts_of old.tablets
 
+-- nothing was done: the tablets, their places, the files and the next name are as before
+pub record IsUndone {F : Type 0} (contents : F → Option Contents) (old new : ClusterState F) : Type 0 where
+  pub as_before : IsAsBefore old new
+  pub name : new.next_name ≡ old.next_name
+  pub files : contents new.files ≡ contents old.files
+
 -- the tablet of a number stands at the index
 pub record IsAt (n : ℕ) (tablets : List Tablet) (index : ℕ) : Type 0 where
   pub number : n ≡ index + 1

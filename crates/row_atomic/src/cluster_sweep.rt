@@ -89,6 +89,7 @@ impl<F: Files> Cluster<F> {
         ensures refusal { IfErr result (λ refusal. (refusal ≡ Refusal.Device) ⊎ (refusal ≡ Refusal.NoMemory)) }
         ensures device { IsErrOf result Refusal.Device → HasRisen (F.faults self.old.files) (F.faults self.new.files) }
         ensures later { F.faults self.old.files ≤ F.faults self.new.files }
+        ensures told { ¬ IsErrOf result Refusal.Device → F.faults self.new.files ≡ F.faults self.old.files }
     {
         unnamed_may_go();
         let _ = self.table.len();

@@ -56,7 +56,8 @@ pub trait Rows {
         ensures limits { IfOk result (λ found. IfSome (option_map stamped found) (IsVersionIn lo hi)) }
         ensures refusal { IfErr result IsReadRefusal }
         ensures device { IsErrOf result Refusal.Device → HasRisen (faults self.old) (faults self.new) }
-        ensures later { faults self.old ≤ faults self.new };
+        ensures later { faults self.old ≤ faults self.new }
+        ensures told { ¬ IsErrOf result Refusal.Device → faults self.new ≡ faults self.old };
 
     /// The next cell that has any key, in the order of rows and then of families, after the cell
     /// of `after`, or from the start where that is `None`. `None` where no cell is left.
@@ -76,7 +77,8 @@ pub trait Rows {
         ensures undamaged { holds self.old → ¬ (IsErrOf result Refusal.Damaged) }
         ensures refusal { IfErr result IsReadRefusal }
         ensures device { IsErrOf result Refusal.Device → HasRisen (faults self.old) (faults self.new) }
-        ensures later { faults self.old ≤ faults self.new };
+        ensures later { faults self.old ≤ faults self.new }
+        ensures told { ¬ IsErrOf result Refusal.Device → faults self.new ≡ faults self.old };
 
     /// Makes edits under one row in order, all of them or none. No device is touched, and nothing below the rows in
     /// memory changes.

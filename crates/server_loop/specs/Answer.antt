@@ -8,13 +8,13 @@ use Rattle.request_codec.specs.Requests.{asked}
 use Rattle.request_codec.specs.declared.replies.Reply.{Reply}
 use Rattle.request_codec.specs.declared.replies.Reply.TheVariants.{Refused, OracleRestart}
 use Rattle.request_codec.specs.declared.requests.Request.{Request}
-use Rattle.row_atomic.specs.Changes.{Holds, IsBadCount, KeepsMap, Numbered}
+use Rattle.row_atomic.specs.Changes.{Holds, IsBadCount, IsUndone, KeepsMap, Numbered}
 use Rattle.row_atomic.specs.Clusters.{Overfills}
 use Rattle.si_model.specs.Machine.{IsReached, State}
 use Rattle.server_loop.specs.Refusals.{IsLackOf, IsRefusalOf, OnMerge, OnRestart, OnStep, OnUpkeep}
 use Rattle.server_loop.specs.Runs.{HasShortValue, IfRefused, StampsGoOn, StepsAs}
-use Rattle.server_loop.specs.Sessions.{ChangesCells, IsExact, LeavesSessions}
-use Rattle.server_loop.specs.Server.{IsFaultSeen, KeepsSessions, Shows, cluster_of, last_of, marks_of}
+use Rattle.server_loop.specs.Sessions.{ChangesCells, IsExact, LeavesRoom, LeavesSessions, TellsCrowd}
+use Rattle.server_loop.specs.Server.{IsFaultSeen, KeepsSessions, SeesNoFault, Shows, cluster_of, last_of, marks_of}
 use Rattle.server_loop.specs.Upkeep.{FitsInFiles, IsBarred, IsDone, LacksName, Maintains, MeetsFull, MeetsTooLarge, UsesFiles}
 use Rattle.server_loop.specs.declared.server.Server.{Server}
 use Rattle.txn_client.specs.Room.{ChangesNext, HasNoRoom}
@@ -32,6 +32,8 @@ pub record IsAnswer {F M : Type 0} (contents : F → Option Contents) (file_faul
   pub restarted : OnRestart request (reply ≡ OracleRestart → IfSome (mark (marks_of old)) (λ n. last_of new ≡ n))
   pub last : StampsGoOn (replied reply) (last_of old) (last_of new)
   pub changes : ChangesCells contents request reply old new
+  pub room : LeavesRoom request old new
+  pub crowd : TellsCrowd contents old request reply
   pub exact : IsExact contents old request reply
   pub leaves : LeavesSessions request reply old new
   pub kept : OnUpkeep request (KeepsMap contents (cluster_of old) (cluster_of new))
@@ -41,7 +43,9 @@ pub record IsAnswer {F M : Type 0} (contents : F → Option Contents) (file_faul
   pub beside : OnUpkeep request (KeepsSessions old new)
   pub count : OnMerge request (λ tablet count. reply ≡ Refused refused.BadCount ↔ (HasTablet tablet (cluster_of old).places × Numbered (IsBadCount count) tablet (cluster_of old).tablets))
   pub many : reply ≡ Refused refused.TooManyFiles → MeetsFull request (cluster_of old)
+  pub undone : reply ≡ Refused refused.TooManyFiles → IsUndone contents (cluster_of old) (cluster_of new)
   pub large : Holds contents (cluster_of old) → reply ≡ Refused refused.FileTooLarge → MeetsTooLarge contents request (cluster_of old)
   pub within : IsDone reply → FitsInFiles contents request (cluster_of old)
   pub short : HasShortValue reply
   pub device : reply ≡ Refused refused.Device → IsFaultSeen file_faults mark_faults old new
+  pub told : ¬ (reply ≡ Refused refused.Device) → SeesNoFault file_faults mark_faults old new

@@ -41,6 +41,11 @@ abbrev pub IsFaultSeen : {F M : Type 0} → (F → ℕ) → (M → ℕ) → Serv
 IsFaultSeen file_faults mark_faults old new =
     HasRisen (file_faults old.cluster.files) (file_faults new.cluster.files) ⊎ HasRisen (mark_faults old.oracle.marks) (mark_faults new.oracle.marks)
 
+-- no device has failed
+pub record SeesNoFault {F M : Type 0} (file_faults : F → ℕ) (mark_faults : M → ℕ) (old new : Server F M) : Type 0 where
+  pub files : file_faults new.cluster.files ≡ file_faults old.cluster.files
+  pub marks : mark_faults new.oracle.marks ≡ mark_faults old.oracle.marks
+
 -- all cells
 abbrev pub cells_of : {F M : Type 0} → (F → Option Contents) → Server F M → Cells
 cells_of contents server = cells_in (contents server.cluster.files) server.cluster.tablets

@@ -1,25 +1,45 @@
--- What a request does to the cells, and when a session is told that it isn't there or has nothing to commit.
-use Rattle.std.specs.Prelude.{◌≡◌, ℕ, Option, ⊤}
-use Rattle.cell_key.specs.declared.refusals.Refusal.TheVariants.{UnknownSession, EmptyCommit}
+-- What a request does to the cells and to the room in memory, and when a session is told that it isn't there or has nothing to commit.
+use Rattle.std.specs.Prelude.{◌≡◌, ℕ, List, Option, ⊤}
+use Rattle.cell_key.specs.declared.edits.Edit.{Edit}
+use Rattle.cell_key.specs.declared.refusals.Refusal.TheVariants.{UnknownSession, EmptyCommit, TooManySessions}
 use Rattle.file_store.specs.Store.{Contents}
 use Rattle.row_atomic.specs.Changes.{Holds}
-use Rattle.si_model.specs.Machine.{State}
+use Rattle.row_atomic.specs.Clusters.{ClusterState, Overfills}
+use Rattle.si_model.specs.Machine.{IsReached, State}
 use Rattle.oracle.specs.Ranges.{IsDrawRefusal}
 use Rattle.request_codec.specs.Replies.{replied}
 use Rattle.request_codec.specs.declared.replies.Reply.{Reply}
 use Rattle.request_codec.specs.declared.replies.Reply.TheVariants as kept
 use Rattle.request_codec.specs.declared.requests.Request.{Request}
-use Rattle.request_codec.specs.declared.requests.Request.TheVariants.{Get, Set, Step, Stop, OracleRestart}
+use Rattle.request_codec.specs.declared.requests.Request.TheVariants.{Begin, Get, Set, Step, Stop, OracleRestart, Raw}
 use Rattle.server_loop.specs.Refusals.{OnStep}
 use Rattle.server_loop.specs.Runs.{IfRefused}
 use Rattle.server_loop.specs.Server.{Shows, cells_of, cluster_of}
 use Rattle.server_loop.specs.declared.server.Server.{Server}
-use Rattle.txn_client.specs.Shows.{IsAboutToDraw, IsInactive, IsUnwritten, SameSessions, TouchesFor}
+use Rattle.txn_client.specs.Room.{ChangesNext, Makes}
+use Rattle.txn_client.specs.Shows.{IsAboutToDraw, IsCrowded, IsInactive, IsUnwritten, SameSessions, TouchesFor}
 
--- A step that is done changes cells of one row at most, at its session's stamps. All else changes none.
+-- A step that is done makes the edits of its session's next step, or none where it makes none: cells of one row at most, at the
+-- session's stamps. All else changes none.
 abbrev pub ChangesCells : {F M : Type 0} → (F → Option Contents) → Request → Reply → Server F M → Server F M → Type 0
-ChangesCells contents (Step start) (kept.Step progress) old new = (st : State) → Shows contents old st → TouchesFor st start (cells_of contents old) (cells_of contents new)
+ChangesCells contents (Step start) (kept.Step progress) old new =
+    (st : State) → Shows contents old st → TouchesFor st start (cells_of contents old) (cells_of contents new)
+    × (IsReached st → Makes (ChangesNext st start) progress (cells_of contents old) (cells_of contents new))
 ChangesCells contents request reply old new = Holds contents (cluster_of old) → cells_of contents new ≡ cells_of contents old
+
+-- the memtables have as much room as they had: edits that would pass a limit now would have done so before
+abbrev pub IsNoFuller : {F : Type 0} → ClusterState F → ClusterState F → Type 0
+IsNoFuller old new = (row : List ℕ) (edits : List Edit) → Overfills new.places new.tablets row edits → Overfills old.places old.tablets row edits
+
+-- Reads, and what is for sessions and the oracle alone, take no room in memory.
+abbrev pub LeavesRoom : {F M : Type 0} → Request → Server F M → Server F M → Type 0
+LeavesRoom Begin old new = IsNoFuller (cluster_of old) (cluster_of new)
+LeavesRoom (Get start row family) old new = IsNoFuller (cluster_of old) (cluster_of new)
+LeavesRoom (Set start row family value) old new = IsNoFuller (cluster_of old) (cluster_of new)
+LeavesRoom (Stop start) old new = IsNoFuller (cluster_of old) (cluster_of new)
+LeavesRoom OracleRestart old new = IsNoFuller (cluster_of old) (cluster_of new)
+LeavesRoom (Raw row family qualifier lo hi) old new = IsNoFuller (cluster_of old) (cluster_of new)
+LeavesRoom request old new = ⊤
 
 -- A read, a restart of the oracle, and a write, a step or an end that is refused leave the sessions as they are.
 abbrev pub LeavesSessions : {F M : Type 0} → Request → Reply → Server F M → Server F M → Type 0
@@ -37,6 +57,11 @@ OnSession (Set start row family value) P = P start
 OnSession (Step start) P = P start
 OnSession (Stop start) P = P start
 OnSession request P = ⊤
+
+-- A Begin is always told that as many sessions are active as there may be.
+abbrev pub TellsCrowd : {F M : Type 0} → (F → Option Contents) → Server F M → Request → Reply → Type 0
+TellsCrowd contents old Begin reply = (st : State) → Shows contents old st → IsCrowded st → reply ≡ kept.Refused TooManySessions
+TellsCrowd contents old request reply = ⊤
 
 -- What takes no memory is told exactly: where a session isn't active, where a commit has no writes, and why a step that draws
 -- is refused.

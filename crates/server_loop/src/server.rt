@@ -5,12 +5,12 @@ ghost use Rattle.cell_key.specs.Faults.{HasRisen};
 ghost use Rattle.metadata_table.specs.Table.{HasTablet};
 ghost use Rattle.request_codec.specs.Replies.{replied};
 ghost use Rattle.request_codec.specs.Requests.{asked};
-ghost use Rattle.row_atomic.specs.Changes.{Holds, IsBadCount, KeepsMap, Numbered};
+ghost use Rattle.row_atomic.specs.Changes.{Holds, IsBadCount, IsUndone, KeepsMap, Numbered};
 ghost use Rattle.row_atomic.specs.Clusters.{Overfills};
 ghost use Rattle.server_loop.specs.Refusals.{IsLackOf, IsRefusalOf, OnMerge, OnRestart, OnStep, OnUpkeep};
 ghost use Rattle.server_loop.specs.Runs.{HasShortValue, IfRefused, StampsGoOn, StepsAs};
 ghost use Rattle.server_loop.specs.Serve.{Serves, ServesStream};
-ghost use Rattle.server_loop.specs.Sessions.{ChangesCells, IsExact, LeavesSessions};
+ghost use Rattle.server_loop.specs.Sessions.{ChangesCells, IsExact, LeavesRoom, LeavesSessions, TellsCrowd};
 ghost use Rattle.server_loop.specs.Upkeep.{FitsInFiles, IsBarred, IsDone, LacksName, Maintains, MeetsFull, MeetsTooLarge, UsesFiles};
 ghost use Rattle.si_model.specs.Machine.{IsReached, State, new_machine};
 ghost use Rattle.txn_client.specs.Room.{ChangesNext, HasNoRoom};
@@ -50,7 +50,7 @@ pub struct Server<F, M: MarkStore> {
 
 impl<F: Files + Drop, M: MarkStore + Drop> Server<F, M> {
     ghost use Rattle.server_loop.specs.Answer.{IsAnswer};
-    ghost use Rattle.server_loop.specs.Server.{IsFaultSeen, KeepsSessions, Shows, cluster_of, last_of, marks_of};
+    ghost use Rattle.server_loop.specs.Server.{IsFaultSeen, KeepsSessions, SeesNoFault, Shows, cluster_of, last_of, marks_of};
 
     /// A server over these files and this mark store, with one tablet of no cells. It shows the new machine.
     ///
@@ -77,6 +77,7 @@ impl<F: Files + Drop, M: MarkStore + Drop> Server<F, M> {
         ensures limit { IfOk result (λ server. (cluster_of server).file_limit ≡ config.file_limit) }
         ensures refusal { IfErr result (λ refused. (refused.0 ≡ Refusal.NoMemory) ⊎ (refused.0 ≡ Refusal.Device)) }
         ensures device { IfErr result (λ refused. refused.0 ≡ Refusal.Device → HasRisen (M.faults marks) (M.faults refused.2)) }
+        ensures told { IfOk result (λ server. M.faults (marks_of server) ≡ M.faults marks) }
         ensures files { IfErr result (λ refused. refused.1 ≡ files) }
         ensures marks { IfErr result (λ refused. M.mark refused.2 ≡ M.mark marks) }
         ensures unread { IfErr result (λ refused. refused.0 ≡ Refusal.NoMemory → refused.2 ≡ marks) }
@@ -114,7 +115,10 @@ impl<F: Files + Drop, M: MarkStore + Drop> Server<F, M> {
         ensures last { StampsGoOn (replied result) (last_of self.old) (last_of self.new) }
         // A step changes cells of one row at most, and all else none.
         ensures changes { ChangesCells F.contents request.entry result self.old self.new }
-        // An unknown session and a commit without writes are always told so.
+        // Nothing but upkeep and a step takes room in memory.
+        ensures room { LeavesRoom request.entry self.old self.new }
+        // Too many sessions, an unknown session and a commit without writes are always told so.
+        ensures crowd { TellsCrowd F.contents self.old request.entry result }
         ensures exact { IsExact F.contents self.old request.entry result }
         ensures leaves { LeavesSessions request.entry result self.old self.new }
         // Upkeep and raw reads keep the tablets in order, also where they are refused. All else changes no file, name or place.
@@ -127,10 +131,13 @@ impl<F: Files + Drop, M: MarkStore + Drop> Server<F, M> {
         ensures count { OnMerge request.entry (λ tablet count. result ≡ Reply.Refused Refusal.BadCount
             ↔ (HasTablet tablet (cluster_of self.old).places × Numbered (IsBadCount count) tablet (cluster_of self.old).tablets)) }
         ensures many { result ≡ Reply.Refused Refusal.TooManyFiles → MeetsFull request.entry (cluster_of self.old) }
+        // Nothing was done then.
+        ensures undone { result ≡ Reply.Refused Refusal.TooManyFiles → IsUndone F.contents (cluster_of self.old) (cluster_of self.new) }
         ensures large { Holds F.contents (cluster_of self.old) → result ≡ Reply.Refused Refusal.FileTooLarge → MeetsTooLarge F.contents request.entry (cluster_of self.old) }
         ensures within { IsDone result → FitsInFiles F.contents request.entry (cluster_of self.old) }
         ensures short { HasShortValue result }
         ensures device { result ≡ Reply.Refused Refusal.Device → IsFaultSeen F.faults M.faults self.old self.new }
+        ensures told { ¬ (result ≡ Reply.Refused Refusal.Device) → SeesNoFault F.faults M.faults self.old self.new }
     {
         match request {
             Request::Begin => self.begin(),

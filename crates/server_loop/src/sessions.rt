@@ -6,7 +6,7 @@ ghost use Rattle.si_model.specs.Machine.{IsReached, State};
 ghost use Rattle.request_codec.specs.Replies.{replied};
 ghost use Rattle.row_atomic.specs.Clusters.{Overfills, storage_of};
 ghost use Rattle.server_loop.specs.Runs.{StepsAs, StampsGoOn, HasShortValue, IfRefused};
-ghost use Rattle.server_loop.specs.Sessions.{ChangesCells, IsExact, LeavesSessions};
+ghost use Rattle.server_loop.specs.Sessions.{ChangesCells, IsExact, LeavesRoom, LeavesSessions, TellsCrowd};
 ghost use Rattle.txn_client.specs.Reads.{cell_of};
 ghost use Rattle.txn_client.specs.Refusals.{IsBeginRefusal, IsGetRefusal, IsSetRefusal, IsStepRefusal};
 ghost use Rattle.txn_client.specs.Room.{ChangesNext, HasNoRoom};
@@ -19,7 +19,7 @@ use oracle::MarkStore;
 use request_codec::{Reply, Request};
 
 impl<F: Files + Drop, M: MarkStore + Drop> Server<F, M> {
-    ghost use Rattle.server_loop.specs.Server.{Shows, IsFaultSeen, cluster_of, last_of, marks_of};
+    ghost use Rattle.server_loop.specs.Server.{Shows, IsFaultSeen, SeesNoFault, cluster_of, last_of, marks_of};
 
     pub(crate) fn begin(&mut self) -> Reply
         ensures step { StepsAs (Shows F.contents) self.old self.new machine.Begin (replied result) }
@@ -28,8 +28,11 @@ impl<F: Files + Drop, M: MarkStore + Drop> Server<F, M> {
         ensures last { StampsGoOn (replied result) (last_of self.old) (last_of self.new) }
         ensures storage { storage_of F.contents (cluster_of self.new) ≡ storage_of F.contents (cluster_of self.old) }
         ensures changes { ChangesCells F.contents Request.Begin result self.old self.new }
+        ensures room { LeavesRoom Request.Begin self.old self.new }
+        ensures crowd { TellsCrowd F.contents self.old Request.Begin result }
         ensures short { HasShortValue result }
         ensures device { result ≡ Reply.Refused Refusal.Device → IsFaultSeen F.faults M.faults self.old self.new }
+        ensures told { ¬ (result ≡ Reply.Refused Refusal.Device) → SeesNoFault F.faults M.faults self.old self.new }
     {
         match self.clients.begin(&mut self.oracle) {
             Ok(start) => Reply::Begin(start),
@@ -43,10 +46,12 @@ impl<F: Files + Drop, M: MarkStore + Drop> Server<F, M> {
         ensures last { StampsGoOn (replied result) (last_of self.old) (last_of self.new) }
         ensures storage { storage_of F.contents (cluster_of self.new) ≡ storage_of F.contents (cluster_of self.old) }
         ensures changes { ChangesCells F.contents (Request.Get start row.entry family.entry) result self.old self.new }
+        ensures room { LeavesRoom (Request.Get start row.entry family.entry) self.old self.new }
         ensures exact { IsExact F.contents self.old (Request.Get start row.entry family.entry) result }
         ensures leaves { LeavesSessions (Request.Get start row.entry family.entry) result self.old self.new }
         ensures short { HasShortValue result }
         ensures device { result ≡ Reply.Refused Refusal.Device → IsFaultSeen F.faults M.faults self.old self.new }
+        ensures told { ¬ (result ≡ Reply.Refused Refusal.Device) → SeesNoFault F.faults M.faults self.old self.new }
     {
         match self.clients.get(&mut self.cluster, start, row, family) {
             Ok(found) => Reply::Get(found),
@@ -60,10 +65,12 @@ impl<F: Files + Drop, M: MarkStore + Drop> Server<F, M> {
         ensures last { StampsGoOn (replied result) (last_of self.old) (last_of self.new) }
         ensures storage { storage_of F.contents (cluster_of self.new) ≡ storage_of F.contents (cluster_of self.old) }
         ensures changes { ChangesCells F.contents (Request.Set start row.entry family.entry value.entry) result self.old self.new }
+        ensures room { LeavesRoom (Request.Set start row.entry family.entry value.entry) self.old self.new }
         ensures exact { IsExact F.contents self.old (Request.Set start row.entry family.entry value.entry) result }
         ensures leaves { LeavesSessions (Request.Set start row.entry family.entry value.entry) result self.old self.new }
         ensures short { HasShortValue result }
         ensures device { result ≡ Reply.Refused Refusal.Device → IsFaultSeen F.faults M.faults self.old self.new }
+        ensures told { ¬ (result ≡ Reply.Refused Refusal.Device) → SeesNoFault F.faults M.faults self.old self.new }
     {
         match self.clients.set(start, row, family, value) {
             Ok(()) => Reply::Set,
@@ -84,6 +91,7 @@ impl<F: Files + Drop, M: MarkStore + Drop> Server<F, M> {
         ensures leaves { LeavesSessions (Request.Step start) result self.old self.new }
         ensures short { HasShortValue result }
         ensures device { result ≡ Reply.Refused Refusal.Device → IsFaultSeen F.faults M.faults self.old self.new }
+        ensures told { ¬ (result ≡ Reply.Refused Refusal.Device) → SeesNoFault F.faults M.faults self.old self.new }
     {
         match self
             .clients
@@ -100,10 +108,12 @@ impl<F: Files + Drop, M: MarkStore + Drop> Server<F, M> {
         ensures last { StampsGoOn (replied result) (last_of self.old) (last_of self.new) }
         ensures storage { storage_of F.contents (cluster_of self.new) ≡ storage_of F.contents (cluster_of self.old) }
         ensures changes { ChangesCells F.contents (Request.Stop start) result self.old self.new }
+        ensures room { LeavesRoom (Request.Stop start) self.old self.new }
         ensures exact { IsExact F.contents self.old (Request.Stop start) result }
         ensures leaves { LeavesSessions (Request.Stop start) result self.old self.new }
         ensures short { HasShortValue result }
         ensures device { result ≡ Reply.Refused Refusal.Device → IsFaultSeen F.faults M.faults self.old self.new }
+        ensures told { ¬ (result ≡ Reply.Refused Refusal.Device) → SeesNoFault F.faults M.faults self.old self.new }
     {
         match self.clients.stop(start) {
             Ok(()) => Reply::Stop,
@@ -119,9 +129,11 @@ impl<F: Files + Drop, M: MarkStore + Drop> Server<F, M> {
         ensures last { StampsGoOn (replied result) (last_of self.old) (last_of self.new) }
         ensures storage { storage_of F.contents (cluster_of self.new) ≡ storage_of F.contents (cluster_of self.old) }
         ensures changes { ChangesCells F.contents Request.OracleRestart result self.old self.new }
+        ensures room { LeavesRoom Request.OracleRestart self.old self.new }
         ensures leaves { LeavesSessions Request.OracleRestart result self.old self.new }
         ensures short { HasShortValue result }
         ensures device { result ≡ Reply.Refused Refusal.Device → IsFaultSeen F.faults M.faults self.old self.new }
+        ensures told { ¬ (result ≡ Reply.Refused Refusal.Device) → SeesNoFault F.faults M.faults self.old self.new }
     {
         match self.oracle.restart() {
             Ok(()) => Reply::OracleRestart,

@@ -3,10 +3,11 @@
 ghost use Rattle.std.specs.Prelude.{◌≡◌, ◌↔◌};
 ghost use Rattle.metadata_table.specs.Table.{HasTablet};
 ghost use Rattle.request_codec.specs.Replies.{replied};
-ghost use Rattle.row_atomic.specs.Changes.{Holds, IsBadCount, IsMoveRefusal, IsNumberedRefusal, KeepsMap, Numbered};
+ghost use Rattle.row_atomic.specs.Changes.{Holds, IsBadCount, IsMoveRefusal, IsNumberedRefusal, IsUndone, KeepsMap, Numbered};
 ghost use Rattle.row_atomic.specs.Compactions as compaction;
 ghost use Rattle.server_loop.specs.Refusals.{IsCutRefusal, IsRawRefusal, IsSweepRefusal};
 ghost use Rattle.server_loop.specs.Runs.{HasShortValue, IfRefused, StampsGoOn, StepsAs};
+ghost use Rattle.server_loop.specs.Sessions.{LeavesRoom};
 ghost use Rattle.server_loop.specs.Upkeep.{FitsInFiles, IsBarred, IsDone, LacksName, Maintains, MeetsFull, MeetsTooLarge, UsesFiles};
 ghost use Rattle.si_model.specs.Machine as machine;
 ghost use Rattle.txn_client.specs.Reads.{cell_of};
@@ -19,7 +20,7 @@ use request_codec::{Reply, Request};
 use row_atomic::Rows;
 
 impl<F: Files + Drop, M: MarkStore + Drop> Server<F, M> {
-    ghost use Rattle.server_loop.specs.Server.{IsFaultSeen, KeepsSessions, Shows, cluster_of, last_of};
+    ghost use Rattle.server_loop.specs.Server.{IsFaultSeen, KeepsSessions, SeesNoFault, Shows, cluster_of, last_of};
 
     pub(crate) fn minor(&mut self, tablet: u32) -> Reply
         ensures step { StepsAs (Shows F.contents) self.old self.new (machine.Minor tablet) (replied result) }
@@ -31,11 +32,13 @@ impl<F: Files + Drop, M: MarkStore + Drop> Server<F, M> {
         ensures files { UsesFiles F.contents (Request.Minor tablet) (cluster_of self.old) (cluster_of self.new) }
         ensures barred { IsBarred (Request.Minor tablet) result → cluster_of self.new ≡ cluster_of self.old }
         ensures many { result ≡ Reply.Refused Refusal.TooManyFiles → MeetsFull (Request.Minor tablet) (cluster_of self.old) }
+        ensures undone { result ≡ Reply.Refused Refusal.TooManyFiles → IsUndone F.contents (cluster_of self.old) (cluster_of self.new) }
         ensures large { Holds F.contents (cluster_of self.old) → result ≡ Reply.Refused Refusal.FileTooLarge → MeetsTooLarge F.contents (Request.Minor tablet) (cluster_of self.old) }
         ensures within { IsDone result → FitsInFiles F.contents (Request.Minor tablet) (cluster_of self.old) }
         ensures beside { KeepsSessions self.old self.new }
         ensures short { HasShortValue result }
         ensures device { result ≡ Reply.Refused Refusal.Device → IsFaultSeen F.faults M.faults self.old self.new }
+        ensures told { ¬ (result ≡ Reply.Refused Refusal.Device) → SeesNoFault F.faults M.faults self.old self.new }
     {
         match self.cluster.minor(tablet) {
             Ok(()) => Reply::Minor,
@@ -58,6 +61,7 @@ impl<F: Files + Drop, M: MarkStore + Drop> Server<F, M> {
         ensures beside { KeepsSessions self.old self.new }
         ensures short { HasShortValue result }
         ensures device { result ≡ Reply.Refused Refusal.Device → IsFaultSeen F.faults M.faults self.old self.new }
+        ensures told { ¬ (result ≡ Reply.Refused Refusal.Device) → SeesNoFault F.faults M.faults self.old self.new }
     {
         match self.cluster.merge(tablet, count) {
             Ok(()) => Reply::Merge,
@@ -79,6 +83,7 @@ impl<F: Files + Drop, M: MarkStore + Drop> Server<F, M> {
         ensures beside { KeepsSessions self.old self.new }
         ensures short { HasShortValue result }
         ensures device { result ≡ Reply.Refused Refusal.Device → IsFaultSeen F.faults M.faults self.old self.new }
+        ensures told { ¬ (result ≡ Reply.Refused Refusal.Device) → SeesNoFault F.faults M.faults self.old self.new }
     {
         match self.cluster.major(tablet) {
             Ok(()) => Reply::Major,
@@ -96,11 +101,13 @@ impl<F: Files + Drop, M: MarkStore + Drop> Server<F, M> {
         ensures files { UsesFiles F.contents (Request.Split row.entry) (cluster_of self.old) (cluster_of self.new) }
         ensures barred { IsBarred (Request.Split row.entry) result → cluster_of self.new ≡ cluster_of self.old }
         ensures many { result ≡ Reply.Refused Refusal.TooManyFiles → MeetsFull (Request.Split row.entry) (cluster_of self.old) }
+        ensures undone { result ≡ Reply.Refused Refusal.TooManyFiles → IsUndone F.contents (cluster_of self.old) (cluster_of self.new) }
         ensures large { Holds F.contents (cluster_of self.old) → result ≡ Reply.Refused Refusal.FileTooLarge → MeetsTooLarge F.contents (Request.Split row.entry) (cluster_of self.old) }
         ensures within { IsDone result → FitsInFiles F.contents (Request.Split row.entry) (cluster_of self.old) }
         ensures beside { KeepsSessions self.old self.new }
         ensures short { HasShortValue result }
         ensures device { result ≡ Reply.Refused Refusal.Device → IsFaultSeen F.faults M.faults self.old self.new }
+        ensures told { ¬ (result ≡ Reply.Refused Refusal.Device) → SeesNoFault F.faults M.faults self.old self.new }
     {
         let row = match Row::new(self.alloc, row) {
             Ok(row) => row,
@@ -122,11 +129,13 @@ impl<F: Files + Drop, M: MarkStore + Drop> Server<F, M> {
         ensures files { UsesFiles F.contents (Request.Move tablet server) (cluster_of self.old) (cluster_of self.new) }
         ensures barred { IsBarred (Request.Move tablet server) result → cluster_of self.new ≡ cluster_of self.old }
         ensures many { result ≡ Reply.Refused Refusal.TooManyFiles → MeetsFull (Request.Move tablet server) (cluster_of self.old) }
+        ensures undone { result ≡ Reply.Refused Refusal.TooManyFiles → IsUndone F.contents (cluster_of self.old) (cluster_of self.new) }
         ensures large { Holds F.contents (cluster_of self.old) → result ≡ Reply.Refused Refusal.FileTooLarge → MeetsTooLarge F.contents (Request.Move tablet server) (cluster_of self.old) }
         ensures within { IsDone result → FitsInFiles F.contents (Request.Move tablet server) (cluster_of self.old) }
         ensures beside { KeepsSessions self.old self.new }
         ensures short { HasShortValue result }
         ensures device { result ≡ Reply.Refused Refusal.Device → IsFaultSeen F.faults M.faults self.old self.new }
+        ensures told { ¬ (result ≡ Reply.Refused Refusal.Device) → SeesNoFault F.faults M.faults self.old self.new }
     {
         match self.cluster.move_to(tablet, server) {
             Ok(()) => Reply::Move,
@@ -143,6 +152,7 @@ impl<F: Files + Drop, M: MarkStore + Drop> Server<F, M> {
         ensures beside { KeepsSessions self.old self.new }
         ensures short { HasShortValue result }
         ensures device { result ≡ Reply.Refused Refusal.Device → IsFaultSeen F.faults M.faults self.old self.new }
+        ensures told { ¬ (result ≡ Reply.Refused Refusal.Device) → SeesNoFault F.faults M.faults self.old self.new }
     {
         match self.cluster.sweep() {
             Ok(count) => Reply::Sweep(count),
@@ -163,9 +173,11 @@ impl<F: Files + Drop, M: MarkStore + Drop> Server<F, M> {
         ensures last { StampsGoOn (replied result) (last_of self.old) (last_of self.new) }
         ensures kept { KeepsMap F.contents (cluster_of self.old) (cluster_of self.new) }
         ensures upkeep { Maintains F.contents (Request.Raw row.entry family.entry qualifier lo hi) result (cluster_of self.old) (cluster_of self.new) }
+        ensures room { LeavesRoom (Request.Raw row.entry family.entry qualifier lo hi) self.old self.new }
         ensures beside { KeepsSessions self.old self.new }
         ensures short { HasShortValue result }
         ensures device { result ≡ Reply.Refused Refusal.Device → IsFaultSeen F.faults M.faults self.old self.new }
+        ensures told { ¬ (result ≡ Reply.Refused Refusal.Device) → SeesNoFault F.faults M.faults self.old self.new }
     {
         let row = match Row::new(self.alloc, row) {
             Ok(row) => row,

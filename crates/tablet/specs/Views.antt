@@ -86,3 +86,7 @@ flushed range (e ∷ es) lists = seen range (e ∷ es) ∷ lists
 abbrev pub with_name : ℕ → List Entry → List ℕ → List ℕ
 with_name name [] names = names
 with_name name (e ∷ es) names = name ∷ names
+
+-- a tablet is as before, or its memtable was written under the next name
+abbrev pub MayBeFlushed : ℕ → Tablet → Tablet → Type 0
+MayBeFlushed next old new = IsUnchanged old new ⊎ ((memory_of new ≡ []) × (names_of new ≡ with_name next (memory_of old) (names_of old)))

@@ -7,7 +7,7 @@ ghost use Rattle.sorted_file.specs.Grammar.{FitsIn};
 ghost use Rattle.sorted_file.specs.Opened.{HasFile};
 ghost use Rattle.sorted_file.specs.Sources.{HasReason, IsReadRefusal};
 ghost use Rattle.tablet.specs.Ranges.{has_row, seen};
-ghost use Rattle.tablet.specs.Views.{range_of, memory_of, names_of, Holds, IsBelow, IsUnchanged, UsesName, Keeps, MakesLists, AreParts, flushed, with_name};
+ghost use Rattle.tablet.specs.Views.{range_of, memory_of, names_of, Holds, IsBelow, IsUnchanged, MayBeFlushed, UsesName, Keeps, MakesLists, AreParts, flushed, with_name};
 ghost use Rattle.tablet.specs.Compactions.{IsMinorRefusal};
 
 use crate::ranges::RowRange;
@@ -82,6 +82,7 @@ impl Tablet {
         ensures keeps { Keeps (F.contents files.old) next_name.old self.old (F.contents files.new) next_name.new self.new }
         ensures range { range_of self.new ≡ range_of self.old }
         ensures err { OnErr result (memory_of self.old ≡ [] → IsUnchanged self.old self.new) }
+        ensures may { OnErr result (MayBeFlushed next_name.old self.old self.new) }
         ensures name { UsesName (F.contents files.old) next_name.old (F.contents files.new) next_name.new }
         ensures limit { next_name.old ≤ 2 ^ 63 → next_name.new ≤ 2 ^ 63 }
         ensures full { IsErrOf result Refusal.TooManyFiles → (memory_of self.old ≢ []) × (64 ≤ length (names_of self.old)) }
@@ -93,6 +94,7 @@ impl Tablet {
         ensures room { OnOk result (memory_of self.old ≢ [] → length (names_of self.old) < 64) }
         ensures left { OnOk result (memory_of self.old ≢ [] → next_name.old < 2 ^ 63) }
         ensures fits { OnOk result (memory_of self.old ≢ [] → IfSome (F.contents files.old) (λ m. Holds m self.old → FitsIn file_limit (seen (range_of self.old) (memory_of self.old)))) }
+        ensures unwritten { IsErrOf result Refusal.TooManyFiles → IsUnchanged self.old self.new × ((next_name.new ≡ next_name.old) × (F.contents files.new ≡ F.contents files.old)) }
         ensures empty { memory_of self.old ≡ [] → (next_name.new ≡ next_name.old) × (F.contents files.new ≡ F.contents files.old) }
         ensures used { OnOk result (memory_of self.old ≢ [] → next_name.new ≡ next_name.old + 1) }
     {
@@ -126,6 +128,7 @@ impl Tablet {
         ensures keeps { OnErr result (Keeps (F.contents files.old) next_name.old self.old (F.contents files.new) next_name.new self.new) }
         ensures err_range { OnErr result (range_of self.new ≡ range_of self.old) }
         ensures err { OnErr result (memory_of self.old ≡ [] → IsUnchanged self.old self.new) }
+        ensures may { OnErr result (MayBeFlushed next_name.old self.old self.new) }
         ensures name { UsesName (F.contents files.old) next_name.old (F.contents files.new) next_name.new }
         ensures limit { next_name.old ≤ 2 ^ 63 → next_name.new ≤ 2 ^ 63 }
         ensures full { IsErrOf result Refusal.TooManyFiles → (memory_of self.old ≢ []) × (64 ≤ length (names_of self.old)) }

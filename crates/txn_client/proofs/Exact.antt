@@ -1,5 +1,5 @@
 -- What is told of a session that isn't there, and of one without writes.
-use Rattle.std.proofs.Common.{◌≡◌, ◌≤◌, ℕ, [], length, Option, Some, None, refl, sym, ap, subst, ◌∙◌, arith}
+use Rattle.std.proofs.Common.{◌≡◌, ◌<◌, ◌≤◌, ℕ, [], length, Option, Some, None, refl, sym, ap, subst, ◌∙◌, arith}
 use Rattle.std.proofs.lemmas.List.{length-map}
 use Rattle.std.proofs.lemmas.Option.{none-some, same_Some}
 use Rattle.std.specs.declared.result.Result.{Result}
@@ -12,7 +12,7 @@ use Rattle.cell_key.specs.declared.refusals.Refusal.TheVariants.{UnknownSession,
 use Rattle.si_model.specs.Machine as machine
 use Rattle.si_model.specs.Machine.{State, Writes}
 use Rattle.si_model.specs.declared.replies.Cell.{Cell}
-use Rattle.txn_client.specs.Shows.{IsCellRefusal, IsInactive, IsOpen, IsUnwritten, ShowsAt, ShowsClients, ShowsSession, phase_of, writes_of}
+use Rattle.txn_client.specs.Shows.{IsCellRefusal, IsCrowded, IsInactive, IsOpen, IsUnwritten, ShowsAt, ShowsClients, ShowsSession, phase_of, writes_of}
 use Rattle.txn_client.specs.Writes.{write_of}
 use Rattle.txn_client.specs.declared.clients.Clients.{Clients}
 use Rattle.txn_client.specs.declared.session.Phase.{Phase}
@@ -62,3 +62,7 @@ module _ (clients : Clients) (t : ℕ) (st : State) (shown : ShowsClients client
   unwritten_none none session there =
       let same : writes_of session ≡ [] = same_Some (writes_of session) [] (sym (kept_at session there).writes ∙ none.1) in
       omega (arith, ap (λ (ws : Writes). length ws) same, length-map session.writes write_of)
+
+-- where there is room for a session more, no state that is shown is crowded
+pub not_crowded : (clients : Clients) (st : State) → ShowsClients clients st → btree.btree_map_len clients.sessions < 1024 → IsCrowded st → ⊥
+not_crowded clients st shown few many = let count = shown.count in omega (arith, count, few, many)

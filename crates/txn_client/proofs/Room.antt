@@ -1,9 +1,9 @@
 -- Where the rows have no room for a step, as session and state show it.
-use Rattle.std.proofs.Common.{◌≡◌, ℕ, List, length, Some, sym, subst, ap, ◌∙◌}
+use Rattle.std.proofs.Common.{◌≡◌, ℕ, List, length, Some, refl, inl, inr, sym, subst, ap, ◌∙◌}
 use Rattle.std.specs.Prelude.{slice_get}
 use Rattle.std.specs.Ordering.{nat_cmp}
 use Rattle.std.specs.BTreeMap as btree
-use Rattle.std.specs.Result.{IsErrAnd, IsErrOf}
+use Rattle.std.specs.Result.{IfOk, IsErrAnd, IsErrOf}
 use Rattle.cell_key.specs.Cells.{Cells}
 use Rattle.std.specs.declared.result.Result.{Result}
 use Rattle.std.specs.declared.result.Result.TheVariants.{Ok, Err}
@@ -13,11 +13,14 @@ use Rattle.cell_key.specs.declared.refusals.Refusal.{Refusal}
 use Rattle.si_model.specs.Machine as machine
 use Rattle.si_model.specs.Machine.{State, InPhase, IsReached}
 use Rattle.si_model.specs.ShowsCells.{IsThere, ShowsCells}
+use Rattle.si_model.specs.declared.replies.Progress.{Progress}
+use Rattle.si_model.specs.declared.replies.Progress.TheVariants as progress
 use Rattle.si_model.proofs.Kept.{held_phase}
 use Rattle.txn_client.specs.Reads.{IsFree}
-use Rattle.txn_client.specs.Room.{IsHolding, IsRecording, HoldsNext, RecordsNext, ChangesIn, ChangesNext, HasNoRoom}
+use Rattle.txn_client.specs.Room.{IsHolding, IsRecording, HoldsNext, RecordsNext, ChangesIn, ChangesNext, HasNoRoom, IsStamped, Makes}
 use Rattle.txn_client.specs.Shows.{phase_of, writes_of, HasHeldSo, ShowsClients, ShowsSession, IsAboutToDraw}
 use Rattle.txn_client.specs.declared.clients.Clients.{Clients}
+use Rattle.txn_client.specs.declared.session.Outcome.{Outcome}
 use Rattle.txn_client.specs.declared.session.Phase.{Phase}
 use Rattle.txn_client.specs.declared.session.Phase.TheVariants.{Holding}
 use Rattle.txn_client.specs.declared.session.Session.{Session}
@@ -25,6 +28,25 @@ use Rattle.txn_client.specs.declared.writes.Write.{Write}
 use Rattle.txn_client.proofs.Advance.{free_open}
 use Rattle.txn_client.proofs.Sessions.{held_of, puts_of, count_of}
 use Rattle.txn_client.proofs.Table.{shown_some}
+
+-- edits that are of one kind are of another
+makes_so : {P Q : List ℕ → List Edit → Type 0} (old new : Cells) (p : Progress) → ((row : List ℕ) (edits : List Edit) → P row edits → Q row edits) → Makes P p old new → Makes Q p old new
+makes_so old new (progress.Held k n) so (row, edits, changes, is) = (row, edits, so row edits changes, is)
+makes_so old new (progress.Conflict k) so same = same
+makes_so old new (progress.Stamped c) so same = same
+makes_so old new (progress.Committed c) so (row, edits, changes, is) = (row, edits, so row edits changes, is)
+makes_so old new progress.Lost so same = same
+makes_so old new (progress.Finished k n) so (inl (row, edits, changes, is)) = inl (row, edits, so row edits changes, is)
+makes_so old new (progress.Finished k n) so (inr same) = inr same
+
+-- a step that draws a stamp changes no cell
+pub stamped_makes : (P : List ℕ → List Edit → Type 0) (cells : Cells) (p : Progress) → IsStamped p → Makes P p cells cells
+stamped_makes P cells (progress.Stamped c) is = refl
+stamped_makes P cells (progress.Held k n) is = absurd is
+stamped_makes P cells (progress.Conflict k) is = absurd is
+stamped_makes P cells (progress.Committed c) is = absurd is
+stamped_makes P cells progress.Lost is = absurd is
+stamped_makes P cells (progress.Finished k n) is = absurd is
 
 module _ {R : Type 0} (overfills : R → List ℕ → List Edit → Type 0) (rows : R) (cells : Cells) (session : Session) where
   -- the cell is tested before it is held: it is free
@@ -43,6 +65,22 @@ module _ {R : Type 0} (overfills : R → List ℕ → List Edit → Type 0) (row
       → (st : State) → IsReached st → ShowsCells cells st → ShowsSession session session.start st → HasNoRoom overfills rows (RecordsNext st (writes_of session) k session.start session.commit)
   no_room_to_record k w e lock (row, edits, changes, full) st reached shown mine =
       (row, edits, (w.cell, w.value, puts_of session k w e, shown.locks w.cell session.start lock.0 lock.1, changes.0, changes.1), full)
+
+  -- what a step makes in a phase that is known
+  pub made_in : (phase : Phase) (new : Cells) (r : Result Outcome Refusal) → session.phase ≡ phase
+      → IfOk r (λ outcome. (st : State) → IsReached st → ShowsCells cells st → ShowsSession session session.start st → Makes (ChangesIn st (phase_of phase session.commit) (writes_of session) session.start) outcome.progress cells new)
+      → IfOk r (λ outcome. (st : State) → IsReached st → ShowsCells cells st → ShowsSession session session.start st → Makes (ChangesIn st (phase_of session.phase session.commit) (writes_of session) session.start) outcome.progress cells new)
+  made_in phase new r is = subst (λ (p : Phase). IfOk r (λ outcome. (st : State) → IsReached st → ShowsCells cells st → ShowsSession session session.start st → Makes (ChangesIn st (phase_of p session.commit) (writes_of session) session.start) outcome.progress cells new)) (sym is)
+
+  -- so what a step makes in this phase is what its session makes next
+  pub made_shown : (p : Progress) (new : Cells) (clients : Clients) (t : ℕ) → btree.get nat_cmp clients.sessions t ≡ Some session
+      → ((st : State) → IsReached st → ShowsCells cells st → ShowsSession session session.start st → Makes (ChangesIn st (phase_of session.phase session.commit) (writes_of session) session.start) p cells new)
+      → (st : State) → IsReached st → ShowsCells cells st → ShowsClients clients st → Makes (ChangesNext st t) p cells new
+  made_shown p new clients t was makes st reached shown kept =
+      let mine = shown_some clients t st session kept was in
+      let phase = phase_of session.phase session.commit in
+      makes_so cells new p (λ row edits changes. (phase, writes_of session, mine.phase, mine.writes, subst (λ (n : ℕ). ChangesIn st phase (writes_of session) n row edits) mine.start changes))
+      (makes st reached shown (subst (λ (n : ℕ). ShowsSession session n st) (sym mine.start) mine))
 
   pub no_room_shown : (clients : Clients) (t : ℕ) → btree.get nat_cmp clients.sessions t ≡ Some session
       → ((st : State) → IsReached st → ShowsCells cells st → ShowsSession session session.start st → HasNoRoom overfills rows (ChangesIn st (phase_of session.phase session.commit) (writes_of session) session.start))

@@ -1,5 +1,6 @@
--- What a step changes in the rows, and where they have no room for it.
-use Rattle.std.specs.Prelude.{◌≡◌, ℕ, List, [], ◌∷◌}
+-- What a step changes in the rows, what the cells are then, and where the rows have no room for it.
+use Rattle.std.specs.Prelude.{◌≡◌, ◌⊎◌, ℕ, List, [], ◌∷◌, ⊤}
+use Rattle.cell_key.specs.Cells.{Cells, after_edits}
 use Rattle.cell_key.specs.declared.edits.Edit.{Edit}
 use Rattle.cell_key.specs.declared.edits.Edit.TheVariants.{Put, Erase}
 use Rattle.cell_key.specs.declared.keys.CellKey.{CellKey}
@@ -8,6 +9,8 @@ use Rattle.si_model.specs.Machine as machine
 use Rattle.si_model.specs.Machine.{State, Value, Writes, InPhase, Wrote, Puts, Marked, Clashes}
 use Rattle.si_model.specs.ShowsCells.{key_of, lock_text, start_text}
 use Rattle.si_model.specs.declared.replies.Cell.{Cell}
+use Rattle.si_model.specs.declared.replies.Progress.{Progress}
+use Rattle.si_model.specs.declared.replies.Progress.TheVariants as progress
 
 -- what an edit does: it puts bytes at a key, or erases the key
 abbrev pub IsPut : Edit → CellKey → List ℕ → Type 0
@@ -45,6 +48,23 @@ ChangesIn st (machine.Finishing c k) ws t row edits = RecordsNext st ws k t c ro
 
 abbrev pub ChangesNext : State → ℕ → List ℕ → List Edit → Type 0
 ChangesNext st t row edits = (phase : machine.Phase) × (ws : Writes) × InPhase st t phase × Wrote st t ws × ChangesIn st phase ws t row edits
+
+-- the cells are those before after such edits of a row
+abbrev pub AreAfter : (List ℕ → List Edit → Type 0) → Cells → Cells → Type 0
+AreAfter Changes old new = (row : List ℕ) × (edits : List Edit) × Changes row edits × (new ≡ after_edits old edits)
+
+-- A step that holds a cell or commits made such edits of a row, and one that finishes a cell made them or none. No other changes a
+-- cell.
+abbrev pub Makes : (List ℕ → List Edit → Type 0) → Progress → Cells → Cells → Type 0
+Makes Changes (progress.Held k n) old new = AreAfter Changes old new
+Makes Changes (progress.Committed c) old new = AreAfter Changes old new
+Makes Changes (progress.Finished k n) old new = AreAfter Changes old new ⊎ (new ≡ old)
+Makes Changes p old new = new ≡ old
+
+-- a commit stamp was drawn
+abbrev pub IsStamped : Progress → Type 0
+IsStamped (progress.Stamped c) = ⊤
+IsStamped p = ⊥
 
 -- such edits of a row would pass a limit of what is kept in memory
 abbrev pub HasNoRoom : {R : Type 0} → (R → List ℕ → List Edit → Type 0) → R → (List ℕ → List Edit → Type 0) → Type 0

@@ -87,6 +87,10 @@ pub record SameSessions (old new : Clients) : Type 0 where
   pub top : new.top ≡ old.top
   pub each : (t : ℕ) → btree.get nat_cmp new.sessions t ≡ btree.get nat_cmp old.sessions t
 
+-- as many sessions are active as there may be
+abbrev pub IsCrowded : State → Type 0
+IsCrowded st = machine.most_sessions ≤ finmap.len st.active
+
 -- no session that began at t is active
 abbrev pub IsInactive : State → ℕ → Type 0
 IsInactive st t = finmap.get st.active t ≡ None

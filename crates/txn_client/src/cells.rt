@@ -14,7 +14,7 @@ ghost use Rattle.si_model.specs.ShowsCells.{IsThere, Touches, held_cells, key_of
 ghost use Rattle.si_model.specs.declared.replies.Cell.{Cell as CellOf};
 ghost use Rattle.txn_client.specs.Reads.{IsFound, IsShort, IsDamaged, IsTaken, IsFree, IsGone};
 ghost use Rattle.txn_client.specs.Refusals.{IsRowRefusal};
-ghost use Rattle.txn_client.specs.Room.{HasNoRoom, IsHolding, IsRecording};
+ghost use Rattle.txn_client.specs.Room.{AreAfter, HasNoRoom, IsHolding, IsRecording};
 
 use crate::limits::Moment;
 use crate::writes::Write;
@@ -54,10 +54,12 @@ pub(crate) fn read_cell<R: Rows>(rows: &mut R, cell: &Cell, start: Stamp) -> Res
     ensures kept { R.holds rows.old → R.cells rows.new ≡ R.cells rows.old }
     ensures still { R.holds rows.old → R.holds rows.new }
     ensures storage { R.storage rows.new ≡ R.storage rows.old }
+    ensures same_room { (row : List ℕ) (edits : List RowEdit) → R.overfills rows.new row edits → R.overfills rows.old row edits }
     ensures short { IfOk result IsShort }
     ensures refusal { IfErr result IsReadRefusal }
     ensures device { IsErrOf result Refusal.Device → HasRisen (R.faults rows.old) (R.faults rows.new) }
     ensures later { R.faults rows.old ≤ R.faults rows.new }
+    ensures told { ¬ IsErrOf result Refusal.Device → R.faults rows.new ≡ R.faults rows.old }
 {
     let lock = rows.newest(&cell.row, &cell.family, Qualifier::Lock, 0, start)?;
     if let Some((pending, _)) = lock {
@@ -88,6 +90,7 @@ pub(crate) fn is_taken<R: Rows>(rows: &mut R, cell: &Cell, start: Stamp) -> Resu
     ensures refusal { IfErr result IsReadRefusal }
     ensures device { IsErrOf result Refusal.Device → HasRisen (R.faults rows.old) (R.faults rows.new) }
     ensures later { R.faults rows.old ≤ R.faults rows.new }
+    ensures told { ¬ IsErrOf result Refusal.Device → R.faults rows.new ≡ R.faults rows.old }
 {
     let lock = rows.newest(&cell.row, &cell.family, Qualifier::Lock, 0, u64::MAX)?;
     if lock.is_some() {
@@ -132,6 +135,7 @@ pub(crate) fn hold<R: Rows>(
 ) -> Result<(), Refusal>
     ensures held { R.holds rows.old → OnOk result (R.cells rows.new ≡ held_cells (R.cells rows.old) write.now.cell start write.now.value first.now.cell) }
     ensures kept { R.holds rows.old → OnErr result (R.cells rows.new ≡ R.cells rows.old) }
+    ensures made { R.holds rows.old → OnOk result (AreAfter (λ row edits. (row ≡ write.now.cell.row) × IsHolding write.now.cell start write.now.value first.now.cell edits) (R.cells rows.old) (R.cells rows.new)) }
     ensures touched { R.holds rows.old → Touches (R.cells rows.old) (R.cells rows.new) write.now.cell.row start start }
     ensures still { R.holds rows.old → R.holds rows.new }
     ensures storage { R.storage rows.new ≡ R.storage rows.old }
@@ -184,6 +188,7 @@ pub(crate) fn record<R: Rows>(
     ensures recorded { R.holds rows.old → IfOk result (λ stood. OnTrue stood (R.cells rows.new ≡ recorded_cells (R.cells rows.old) cell.now start commit)) }
     ensures left { R.holds rows.old → IfOk result (λ stood. OnFalse stood (R.cells rows.new ≡ R.cells rows.old)) }
     ensures kept { R.holds rows.old → OnErr result (R.cells rows.new ≡ R.cells rows.old) }
+    ensures made { R.holds rows.old → IfOk result (λ stood. OnTrue stood (AreAfter (λ row edits. (row ≡ cell.now.row) × IsRecording cell.now start commit edits) (R.cells rows.old) (R.cells rows.new))) }
     ensures touched { R.holds rows.old → Touches (R.cells rows.old) (R.cells rows.new) cell.now.row start commit }
     ensures still { R.holds rows.old → R.holds rows.new }
     ensures storage { R.storage rows.new ≡ R.storage rows.old }
@@ -193,6 +198,7 @@ pub(crate) fn record<R: Rows>(
     ensures due { R.holds rows.old → IsErrOf result Refusal.MemtableFull → IsThere (R.cells rows.old) cell.now LockOf start }
     ensures device { IsErrOf result Refusal.Device → HasRisen (R.faults rows.old) (R.faults rows.new) }
     ensures later { R.faults rows.old ≤ R.faults rows.new }
+    ensures told { ¬ IsErrOf result Refusal.Device → R.faults rows.new ≡ R.faults rows.old }
 {
     let start = start.stamp();
     let commit = commit.stamp();

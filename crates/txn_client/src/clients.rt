@@ -1,10 +1,11 @@
-ghost use Rattle.std.specs.Prelude.{◌≡◌, ◌+◌, ◌<◌, ◌^◌, ◌⊎◌, ℕ, IfErr, IfOk, IsErrOf, OnErr, OnOk};
+ghost use Rattle.std.specs.Prelude.{◌≡◌, ◌+◌, ◌<◌, ◌^◌, ◌⊎◌, ℕ, List, IfErr, IfOk, IsErrOf, OnErr, OnOk};
 ghost use Rattle.std.specs.Prelude.{◌≤◌, Some, is_some, if◌then◌else◌};
 ghost use Rattle.std.specs.BTreeMap as btree;
 ghost use Rattle.std.specs.BTreeMap.{Updates, btree_map_len};
 ghost use Rattle.std.specs.FinMap.{empty};
 ghost use Rattle.std.specs.Ordering.{nat_cmp};
 ghost use Rattle.cell_key.specs.Cells.{Cells};
+ghost use Rattle.cell_key.specs.declared.edits.Edit.{Edit as RowEdit};
 ghost use Rattle.cell_key.specs.Names.{IsFamily, IsRow};
 ghost use Rattle.oracle.specs.Ranges.{IsDrawRefusal};
 ghost use Rattle.cell_key.specs.Faults.{HasRisen};
@@ -14,8 +15,8 @@ ghost use Rattle.si_model.specs.Replies.{found_reply, progress_reply, result_rep
 ghost use Rattle.si_model.specs.ShowsCells.{ShowsCells};
 ghost use Rattle.txn_client.specs.Reads.{IsShort, cell_of};
 ghost use Rattle.txn_client.specs.Refusals.{IsBeginRefusal, IsGetRefusal, IsSetRefusal, IsStepRefusal};
-ghost use Rattle.txn_client.specs.Room.{ChangesNext, HasNoRoom};
-ghost use Rattle.txn_client.specs.Shows.{DrawsNext, IsAboutToDraw, IsCellRefusal, IsInactive, IsNameRefusal, IsOpen, IsUnwritten, SameSessions, Shows, ShowsClients, Steps, TouchesFor, open_session, top_after};
+ghost use Rattle.txn_client.specs.Room.{ChangesNext, HasNoRoom, Makes};
+ghost use Rattle.txn_client.specs.Shows.{DrawsNext, IsAboutToDraw, IsCellRefusal, IsCrowded, IsInactive, IsNameRefusal, IsOpen, IsUnwritten, SameSessions, Shows, ShowsClients, Steps, TouchesFor, open_session, top_after};
 
 use crate::cells;
 use crate::limits::{Moment, Value};
@@ -109,10 +110,12 @@ impl Clients {
         ensures next { IfOk result (λ start. (start ≡ oracle.old.last + 1) × (oracle.new.last ≡ start)) }
         ensures stays { OnErr result (oracle.new.last ≡ oracle.old.last) }
         ensures refusal { IfErr result IsBeginRefusal }
+        ensures crowded { (st : State) → ShowsClients self.old st → IsCrowded st → IsErrOf result Refusal.TooManySessions }
         ensures undrawn { IsErrOf result Refusal.TooManySessions ⊎ (IsErrOf result Refusal.Exhausted ⊎ IsErrOf result Refusal.NoMemory) → oracle.new ≡ oracle.old }
         ensures exhausted { IsErrOf result Refusal.Exhausted → oracle.old.last ≡ MOST_STAMP }
         ensures device { IsErrOf result Refusal.Device → HasRisen (M.faults oracle.old.marks) (M.faults oracle.new.marks) }
         ensures later { M.faults oracle.old.marks ≤ M.faults oracle.new.marks }
+        ensures told { ¬ IsErrOf result Refusal.Device → M.faults oracle.new.marks ≡ M.faults oracle.old.marks }
     {
         if self.sessions.len() >= MOST_SESSIONS {
             return Err(Refusal::TooManySessions);
@@ -204,11 +207,13 @@ impl Clients {
         ensures storage { R.storage rows.new ≡ R.storage rows.old }
         // What is shown is never answered as damaged.
         ensures undamaged { R.holds rows.old → (st : State) → IsReached st → ShowsCells (R.cells rows.old) st → ¬ (IsErrOf result Refusal.Damaged) }
+        ensures same_room { (row : List ℕ) (edits : List RowEdit) → R.overfills rows.new row edits → R.overfills rows.old row edits }
         ensures short { IfOk result IsShort }
         ensures refusal { IfErr result IsGetRefusal }
         ensures unknown { (st : State) → ShowsClients self.now st → IsInactive st start → IsErrOf result Refusal.UnknownSession }
         ensures device { IsErrOf result Refusal.Device → HasRisen (R.faults rows.old) (R.faults rows.new) }
         ensures later { R.faults rows.old ≤ R.faults rows.new }
+        ensures told { ¬ IsErrOf result Refusal.Device → R.faults rows.new ≡ R.faults rows.old }
     {
         let cell = self.open_cell(start, row, family)?;
         cells::read_cell(rows, &cell, start)
@@ -263,6 +268,8 @@ impl Clients {
         ensures storage { R.storage rows.new ≡ R.storage rows.old }
         // One row changes, and what joins stands at the session's start or its commit stamp.
         ensures touched { R.holds rows.old → (st : State) → ShowsClients self.old st → TouchesFor st start (R.cells rows.old) (R.cells rows.new) }
+        // What changes are the edits of the session's next step, and nothing else.
+        ensures made { R.holds rows.old → IfOk result (λ progress. (st : State) → IsReached st → ShowsCells (R.cells rows.old) st → ShowsClients self.old st → Makes (ChangesNext st start) progress (R.cells rows.old) (R.cells rows.new)) }
         ensures draws { IfOk result (DrawsNext oracle.old.last) }
         ensures last { IfOk result (λ progress. oracle.new.last ≡ top_after oracle.old.last progress) }
         ensures stays { OnErr result (oracle.new.last ≡ oracle.old.last) }
@@ -284,7 +291,9 @@ impl Clients {
         ensures full { R.holds rows.old → IsErrOf result Refusal.MemtableFull → (st : State) → IsReached st → ShowsCells (R.cells rows.old) st → ShowsClients self.old st → HasNoRoom R.overfills rows.old (ChangesNext st start) }
         ensures device { IsErrOf result Refusal.Device → HasRisen (R.faults rows.old) (R.faults rows.new) ⊎ HasRisen (M.faults oracle.old.marks) (M.faults oracle.new.marks) }
         ensures later { R.faults rows.old ≤ R.faults rows.new }
+        ensures told { ¬ IsErrOf result Refusal.Device → R.faults rows.new ≡ R.faults rows.old }
         ensures mark_later { M.faults oracle.old.marks ≤ M.faults oracle.new.marks }
+        ensures mark_told { ¬ IsErrOf result Refusal.Device → M.faults oracle.new.marks ≡ M.faults oracle.old.marks }
     {
         let Some(session) = self.sessions.get_mut(&start) else {
             return Err(Refusal::UnknownSession);

@@ -7,7 +7,7 @@ ghost use Rattle.cell_key.specs.Faults.{HasRisen};
 ghost use Rattle.si_model.specs.Machine.{IsReached, State};
 ghost use Rattle.si_model.specs.ShowsCells.{ShowsCells, TouchesOneRow};
 ghost use Rattle.txn_client.specs.Shows.{Advances, DrawsNext, HasHeldSo, HasNoNext, ShowsSession, TouchesBy, phase_of, top_after, writes_of};
-ghost use Rattle.txn_client.specs.Room.{ChangesIn, HasNoRoom, HoldsNext, RecordsNext};
+ghost use Rattle.txn_client.specs.Room.{ChangesIn, HasNoRoom, HoldsNext, IsStamped, Makes, RecordsNext};
 ghost use Rattle.txn_client.specs.Refusals.{IsAdvanceRefusal};
 ghost use Rattle.txn_client.specs.declared.session.Phase.TheVariants as phase;
 
@@ -41,9 +41,11 @@ impl Session {
         ensures undamaged { R.holds rows.old → ¬ (IsErrOf result Refusal.Damaged) }
         ensures refusal { IfErr result (IsAdvanceRefusal (length self.old.writes ≤ k)) }
         ensures empty { length self.old.writes ≤ k → IsErrOf result Refusal.EmptyCommit }
+        ensures made { R.holds rows.old → IfOk result (λ outcome. (st : State) → IsReached st → ShowsCells (R.cells rows.old) st → ShowsSession self.old self.old.start st → Makes (HoldsNext st (writes_of self.old) k self.old.start) outcome.progress (R.cells rows.old) (R.cells rows.new)) }
         ensures full { R.holds rows.old → IsErrOf result Refusal.MemtableFull → (st : State) → IsReached st → ShowsCells (R.cells rows.old) st → ShowsSession self.old self.old.start st → HasNoRoom R.overfills rows.old (HoldsNext st (writes_of self.old) k self.old.start) }
         ensures device { IsErrOf result Refusal.Device → HasRisen (R.faults rows.old) (R.faults rows.new) }
         ensures later { R.faults rows.old ≤ R.faults rows.new }
+        ensures told { ¬ IsErrOf result Refusal.Device → R.faults rows.new ≡ R.faults rows.old }
         ensures not_exhausted { ¬ (IsErrOf result Refusal.Exhausted) }
     {
         let Some(write) = self.writes.get(k) else {
@@ -72,6 +74,7 @@ impl Session {
         requires { self.old.phase ≡ phase.Holding (length self.old.writes) }
         ensures step { IfOk result (λ outcome. (cells : Cells) → Advances cells self.old oracle.old.last outcome cells self.new oracle.new.last) }
         ensures draws { IfOk result (λ outcome. (DrawsNext oracle.old.last outcome.progress) × (oracle.new.last ≡ top_after oracle.old.last outcome.progress)) }
+        ensures stamped { IfOk result (λ outcome. IsStamped outcome.progress) }
         ensures start { self.new.start ≡ self.old.start }
         ensures writes { self.new.writes ≡ self.old.writes }
         ensures err { OnErr result (self.new ≡ self.old) }
@@ -79,6 +82,7 @@ impl Session {
         ensures refusal { IfErr result IsDrawRefusal }
         ensures device { IsErrOf result Refusal.Device → HasRisen (M.faults oracle.old.marks) (M.faults oracle.new.marks) }
         ensures later { M.faults oracle.old.marks ≤ M.faults oracle.new.marks }
+        ensures told { ¬ IsErrOf result Refusal.Device → M.faults oracle.new.marks ≡ M.faults oracle.old.marks }
         ensures exhausted { IsErrOf result Refusal.Exhausted → oracle.old.last ≡ MOST_STAMP }
         ensures undrawn { IsErrOf result Refusal.Exhausted → oracle.new ≡ oracle.old }
     {
@@ -105,9 +109,11 @@ impl Session {
         ensures storage { R.storage rows.new ≡ R.storage rows.old }
         ensures undamaged { R.holds rows.old → ¬ (IsErrOf result Refusal.Damaged) }
         ensures refusal { IfErr result (IsAdvanceRefusal (length self.old.writes ≤ 0)) }
+        ensures made { R.holds rows.old → IfOk result (λ outcome. (st : State) → IsReached st → ShowsCells (R.cells rows.old) st → ShowsSession self.old self.old.start st → Makes (RecordsNext st (writes_of self.old) 0 self.old.start self.old.commit) outcome.progress (R.cells rows.old) (R.cells rows.new)) }
         ensures full { R.holds rows.old → IsErrOf result Refusal.MemtableFull → (st : State) → IsReached st → ShowsCells (R.cells rows.old) st → ShowsSession self.old self.old.start st → HasNoRoom R.overfills rows.old (RecordsNext st (writes_of self.old) 0 self.old.start self.old.commit) }
         ensures device { IsErrOf result Refusal.Device → HasRisen (R.faults rows.old) (R.faults rows.new) }
         ensures later { R.faults rows.old ≤ R.faults rows.new }
+        ensures told { ¬ IsErrOf result Refusal.Device → R.faults rows.new ≡ R.faults rows.old }
         ensures not_exhausted { ¬ (IsErrOf result Refusal.Exhausted) }
     {
         let Some(first) = self.writes.get(0) else {
@@ -145,9 +151,11 @@ impl Session {
         ensures storage { R.storage rows.new ≡ R.storage rows.old }
         ensures undamaged { R.holds rows.old → ¬ (IsErrOf result Refusal.Damaged) }
         ensures refusal { IfErr result (IsAdvanceRefusal (length self.old.writes ≤ k)) }
+        ensures made { R.holds rows.old → IfOk result (λ outcome. (st : State) → IsReached st → ShowsCells (R.cells rows.old) st → ShowsSession self.old self.old.start st → Makes (RecordsNext st (writes_of self.old) k self.old.start self.old.commit) outcome.progress (R.cells rows.old) (R.cells rows.new)) }
         ensures full { R.holds rows.old → IsErrOf result Refusal.MemtableFull → (st : State) → IsReached st → ShowsCells (R.cells rows.old) st → ShowsSession self.old self.old.start st → HasNoRoom R.overfills rows.old (RecordsNext st (writes_of self.old) k self.old.start self.old.commit) }
         ensures device { IsErrOf result Refusal.Device → HasRisen (R.faults rows.old) (R.faults rows.new) }
         ensures later { R.faults rows.old ≤ R.faults rows.new }
+        ensures told { ¬ IsErrOf result Refusal.Device → R.faults rows.new ≡ R.faults rows.old }
         ensures not_exhausted { ¬ (IsErrOf result Refusal.Exhausted) }
     {
         let Some(write) = self.writes.get(k) else {
@@ -182,6 +190,7 @@ impl Session {
         ensures refusal { IfErr result (IsAdvanceRefusal (HasNoNext self.old.phase (length self.old.writes))) }
         ensures empty { self.old.phase ≡ phase.Open → length self.old.writes ≤ 0 → IsErrOf result Refusal.EmptyCommit }
         ensures drawing { self.old.phase ≡ phase.Holding (length self.old.writes) → IfErr result IsDrawRefusal }
+        ensures made { R.holds rows.old → IfOk result (λ outcome. (st : State) → IsReached st → ShowsCells (R.cells rows.old) st → ShowsSession self.old self.old.start st → Makes (ChangesIn st (phase_of self.old.phase self.old.commit) (writes_of self.old) self.old.start) outcome.progress (R.cells rows.old) (R.cells rows.new)) }
         ensures full { R.holds rows.old → IsErrOf result Refusal.MemtableFull → (st : State) → IsReached st → ShowsCells (R.cells rows.old) st → ShowsSession self.old self.old.start st → HasNoRoom R.overfills rows.old (ChangesIn st (phase_of self.old.phase self.old.commit) (writes_of self.old) self.old.start) }
         ensures exhausted { IsErrOf result Refusal.Exhausted → oracle.old.last ≡ MOST_STAMP }
         ensures draw_only { IsErrOf result Refusal.Exhausted → self.old.phase ≡ phase.Holding (length self.old.writes) }
@@ -189,7 +198,9 @@ impl Session {
         ensures undrawn { IsErrOf result Refusal.Exhausted → oracle.new ≡ oracle.old }
         ensures device { IsErrOf result Refusal.Device → HasRisen (R.faults rows.old) (R.faults rows.new) ⊎ HasRisen (M.faults oracle.old.marks) (M.faults oracle.new.marks) }
         ensures later { R.faults rows.old ≤ R.faults rows.new }
+        ensures told { ¬ IsErrOf result Refusal.Device → R.faults rows.new ≡ R.faults rows.old }
         ensures mark_later { M.faults oracle.old.marks ≤ M.faults oracle.new.marks }
+        ensures mark_told { ¬ IsErrOf result Refusal.Device → M.faults oracle.new.marks ≡ M.faults oracle.old.marks }
     {
         match self.phase {
             Phase::Open => self.hold_next(alloc, rows, 0),

@@ -1,5 +1,5 @@
 -- Places are passed until a tablet has a cell more.
-use Rattle.std.proofs.Common.{◌∙◌, Some, Option, IsErrOf, ap, sym, subst, option_map, arith}
+use Rattle.std.proofs.Common.{◌∙◌, Some, Option, IsErrOf, ap, sym, subst, option_map}
 use Rattle.std.proofs.lemmas.Result.{err_from_is_err_and}
 use Rattle.cell_key.specs.Places.{IsNextCell, Place, place_named}
 use Rattle.cell_key.specs.declared.refusals.Refusal.TheVariants.{Damaged}
@@ -53,7 +53,7 @@ loop-place-preserved g c =
           let numbered = number.there t ∙ ap Some (sym w.index-tablets-place.is) in
           rw w.files-is (record {
             same = w.next_cell.ensures.same ∙ c.loop-place.invariant.same;
-            later = omega (arith, c.loop-place.invariant.later, w.next_cell.ensures.reason.later);
+            quiet = w.in_ok-found.ensures.reason.told (λ e. cc) ∙ c.loop-place.invariant.quiet;
             passed = λ m told holds.
                 let open_t = of_each (Holds m) c.args.tablets.now c.place-item.result.tablet t holds numbered in
                 let next = at_told (λ m. Holds m t → IsNextCell (cells_at m t) (option_map place_named c.args.after) w.in_ok-found.field-0) (g.F.Files.contents c.loop-place.files) m (c.loop-place.invariant.same ∙ told) w.in_ok-found.ensures.found open_t in
@@ -65,7 +65,7 @@ loop-place-preserved g c =
           let low = c.precedes.ensures.0 w.if-not-precedes.false in
           rw w.files-is (record {
             same = c.loop-place.invariant.same;
-            later = c.loop-place.invariant.later;
+            quiet = c.loop-place.invariant.quiet;
             passed = λ m told holds.
                 passed_more (NoneAfter m c.args.tablets.now (option_map place_named c.args.after)) c.args.places.now c.loop-place.place-index c.place-item.result c.loop-place-test.true c.place-item.is (c.loop-place.invariant.passed m told holds)
                 (scan_skips c.stays_in_range.ensures m c.args.tablets.now holds c.args.places.now (option_map place_named c.args.after) c.requires.placed c.loop-place.place-index c.place-item.result c.loop-place-test.true c.place-item.is low);

@@ -27,5 +27,5 @@ loop-name-preserved-then-not-is_kept g c =
       count = omega (arith, c.loop-name.invariant.count, fewer);
       room = omega (arith, c.loop-name.invariant.room, shorter);
       lacks = lacks_more places (g.F.Files.contents c.args.files.now) (g.F.Files.contents c.loop-name.files) (g.F.Files.contents c.remove.new.files) c.in-Some.name free c.loop-name.invariant.lacks (inr gone);
-      later = omega (arith, c.loop-name.invariant.later, c.remove.ensures.reason.later);
+      quiet = c.in_ok-remove.ensures.reason.told (λ e. cc) ∙ c.loop-name.invariant.quiet;
     }

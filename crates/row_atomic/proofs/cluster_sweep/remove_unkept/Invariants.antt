@@ -10,5 +10,5 @@ invariant-loop-name g l = record {
   count : l.count + length (unkept l.table (into_iter_items l.name-iterator)) ≡ length (unkept l.table l.fn.names.items);
   room : l.count + length (into_iter_items l.name-iterator) ≤ length l.fn.names.items;
   lacks : MayLackUnkept l.table (g.F.Files.contents l.initial.files) (g.F.Files.contents l.files);
-  later : g.F.Files.faults l.initial.files ≤ g.F.Files.faults l.files;
+  quiet : g.F.Files.faults l.files ≡ g.F.Files.faults l.initial.files;
 }

@@ -9,11 +9,9 @@ pub entries-preserved-in-Continue-branch-3 : goal.entries-preserved-in-Continue-
 entries-preserved-in-Continue-branch-3 g c =
     let i = c.entries.invariant in
     let lent = sym c.current.ensures ∙ ap (option_map lent_entry) c.in-Some.is in
-    let reason = c.in_ok-advance.ensures.reason in
-    let later = reason.later in
     record {
       contents = c.in_ok-advance.ensures.files ∙ i.contents;
-      later = omega arith;
+      quiet = c.in_ok-advance.ensures.reason.told (λ e. cc) ∙ i.quiet;
       sound = c.in_ok-push.ensures.sound;
       limit = c.in_ok-push.ensures.limit ∙ i.limit;
       told = told_step (g.F.Files.contents c.args.files.now) (g.F.Files.contents c.entries.files) i.contents _ _ _ _

@@ -1,4 +1,4 @@
-use Rattle.std.proofs.Common.{◌≡◌, ◌≤◌}
+use Rattle.std.proofs.Common.{◌≡◌}
 use Rattle.std.specs.Prelude.{IfSome}
 use Rattle.sorted_file.specs.Building.{IsSound, IsWriting, state_of}
 use Rattle.sorted_file.proofs.writing.image_of_rest.Given as goal
@@ -6,7 +6,7 @@ use Rattle.sorted_file.proofs.writing.image_of_rest.Given as goal
 abbrev pub invariant-entries : goal.invariant-entries
 invariant-entries g l = record {
   contents : g.F.Files.contents l.files ≡ g.F.Files.contents l.initial.files;
-  later : g.F.Files.faults l.initial.files ≤ g.F.Files.faults l.files;
+  quiet : g.F.Files.faults l.files ≡ g.F.Files.faults l.initial.files;
   sound : IsSound (state_of l.builder);
   limit : l.builder.limit ≡ l.fn.limit;
   told : IfSome (g.F.Files.contents l.initial.files) (λ m. g.S.Source.holds m l.initial.source → g.S.Source.holds m l.source × IsWriting (state_of l.builder) (g.S.Source.remaining m l.initial.source) (g.S.Source.remaining m l.source));

@@ -9,7 +9,7 @@ use Rattle.tablet.proofs.reads.find_in_files.Given as goal
 abbrev pub invariant-loop-file : goal.invariant-loop-file
 invariant-loop-file g l = record {
   same : g.F.Files.contents l.store ≡ g.F.Files.contents l.initial.store;
-  later : g.F.Files.faults l.initial.store ≤ g.F.Files.faults l.store;
+  quiet : g.F.Files.faults l.store ≡ g.F.Files.faults l.initial.store;
   told : IfSome (g.F.Files.contents l.initial.store) (λ m. AllByRecursion (IsOpen m) l.initial.left → AllByRecursion (IsOpen m) l.left
       × (first_naming (map (listed m) l.left) (text l.key) ≡ first_naming (map (listed m) l.initial.left) (text l.key)));
 }

@@ -6,7 +6,7 @@ use Rattle.tablet.proofs.reads.next_value.Given as goal
 abbrev pub invariant-loop-source : goal.invariant-loop-source
 invariant-loop-source g l = record {
   same : g.F.Files.contents l.store ≡ g.F.Files.contents l.initial.store;
-  later : g.F.Files.faults l.initial.store ≤ g.F.Files.faults l.store;
+  quiet : g.F.Files.faults l.store ≡ g.F.Files.faults l.initial.store;
   told : IfSome (g.F.Files.contents l.initial.store) (λ m. g.S.Source.holds m l.initial.source → g.S.Source.holds m l.source
       × (first_value (g.S.Source.remaining m l.source) ≡ first_value (g.S.Source.remaining m l.initial.source)));
 }

@@ -6,7 +6,7 @@ use Rattle.compaction.proofs.kept.KeptSource.advance.Given as goal
 abbrev pub invariant-loop-self : goal.invariant-loop-self
 invariant-loop-self g l = record {
   same : g.F.Files.contents l.files ≡ g.F.Files.contents l.initial.files;
-  later : g.F.Files.faults l.initial.files ≤ g.F.Files.faults l.files;
+  quiet : g.F.Files.faults l.files ≡ g.F.Files.faults l.initial.files;
   keep : l.self.keep_erasures ≡ l.initial.self.keep_erasures;
   lower : g.S.Source.left l.self.source ≤ g.S.Source.left l.initial.self.source;
   told : IfSome (g.F.Files.contents l.initial.files) (λ m. g.S.Source.holds m l.initial.self.source → g.S.Source.holds m l.self.source

@@ -41,6 +41,17 @@ returns-in_err-compact-clause-full g c =
     let there = found_there c.self.inside.tablets.items c.position-index.result at.tablet c.index_mut.result.now at.there c.index_mut.ensures.value in
     λ is. rw (← c.self.view_is) (numbered_old c.self.inside.tablets.items c.position-index.result c.index_mut.result.now c.compact.new.tablet there IsFull c.args.tablet at.number (c.compact.ensures.full (search rules)))
 
+pub returns-in_err-compact-clause-undone : goal.returns-in_err-compact-clause-undone
+returns-in_err-compact-clause-undone g c =
+    let at = rw (← c.self.view_is) at c.position-index.ensures in
+    let there = found_there c.self.inside.tablets.items c.position-index.result at.tablet c.index_mut.result.now at.there c.index_mut.ensures.value in
+    λ is. let same = c.compact.ensures.undone (search rules) in
+    rw (← c.self.view_is) (record {
+      as_before = record { places = refl; tablets = parts_stay c.self.inside.tablets.items c.position-index.result c.index_mut.result.now c.compact.new.tablet there c.in_err-compact.ensures.err };
+      name = same.0;
+      files = same.1;
+    })
+
 pub returns-in_err-compact-clause-large : goal.returns-in_err-compact-clause-large
 returns-in_err-compact-clause-large g c =
     let at = rw (← c.self.view_is) at c.position-index.ensures in

@@ -12,6 +12,9 @@ use Rattle.row_atomic.proofs.cluster.Cluster.move_to.Goals as goal
 pub returns-in_err-compact_tablet-clause-full : goal.returns-in_err-compact_tablet-clause-full
 returns-in_err-compact_tablet-clause-full g c = λ is. c.compact_tablet.ensures.full (search rules)
 
+pub returns-in_err-compact_tablet-clause-undone : goal.returns-in_err-compact_tablet-clause-undone
+returns-in_err-compact_tablet-clause-undone g c = λ is. c.compact_tablet.ensures.undone (search rules)
+
 pub returns-in_err-compact_tablet-clause-large : goal.returns-in_err-compact_tablet-clause-large
 returns-in_err-compact_tablet-clause-large g c = λ order is. c.compact_tablet.ensures.large order (search rules)
 

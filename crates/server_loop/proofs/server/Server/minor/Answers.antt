@@ -23,3 +23,6 @@ returns-in-Err-clause-exhausted g c = λ same. let is = as_err _ _ _ refl same i
 
 pub returns-in-Ok-clause-within : goal.returns-in-Ok-clause-within
 returns-in-Ok-clause-within g c = λ _. record { room = c.in-Ok.ensures.room; named = λ lacks. lacks.1 (c.in-Ok.ensures.left lacks.0); fits = c.in-Ok.ensures.fits }
+
+pub returns-in-Err-clause-undone : goal.returns-in-Err-clause-undone
+returns-in-Err-clause-undone g c = λ same. c.in-Err.ensures.undone (as_err _ _ _ refl same)

@@ -43,3 +43,6 @@ returns-in-Ok-clause-within g c = λ _. record {
   named = λ lacks. lacks.1.1 (c.in-Ok.ensures.left lacks.1.0 lacks.0);
   fits = λ held meets. c.in-Ok.ensures.fits held meets.0 meets.1;
 }
+
+pub returns-in-Err-clause-undone : goal.returns-in-Err-clause-undone
+returns-in-Err-clause-undone g c = λ same. c.in-Err.ensures.undone (as_err _ _ _ refl same)

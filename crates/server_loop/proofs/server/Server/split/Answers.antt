@@ -41,3 +41,6 @@ returns-clause-many g c = λ same. rw (← c.in-Ok.ensures.ok) (c.in-Err-split.e
 
 pub returns-clause-large : goal.returns-clause-large
 returns-clause-large g c = λ held same. rw (← c.in-Ok.ensures.ok) (c.in-Err-split.ensures.large held (as_err _ _ _ refl same))
+
+pub returns-clause-undone : goal.returns-clause-undone
+returns-clause-undone g c = λ same. c.in-Err-split.ensures.undone (as_err _ _ _ refl same)

@@ -12,7 +12,7 @@ returns-in-Err-clause-step g c =
     (λ st reached held shown. err_undamaged _ _ refl (c.in-Err.ensures.undamaged held))
 
 pub returns-in-Ok-clause-changes : goal.returns-in-Ok-clause-changes
-returns-in-Ok-clause-changes g c = λ st shown. c.in-Ok.ensures.touched shown.in_order st shown.shows.sessions
+returns-in-Ok-clause-changes g c = λ st shown. (c.in-Ok.ensures.touched shown.in_order st shown.shows.sessions, λ reached. c.in-Ok.ensures.made shown.in_order st reached shown.shows.store shown.shows.sessions)
 
 pub returns-in-Err-clause-changes : goal.returns-in-Err-clause-changes
 returns-in-Err-clause-changes g c = c.in-Err.ensures.kept

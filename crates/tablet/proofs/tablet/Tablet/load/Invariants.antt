@@ -7,7 +7,7 @@ use Rattle.tablet.proofs.tablet.Tablet.load.Given as goal
 abbrev pub invariant-names : goal.invariant-names
 invariant-names g l = record {
   contents : g.F.Files.contents l.files ≡ g.F.Files.contents l.initial.files;
-  later : g.F.Files.faults l.initial.files ≤ g.F.Files.faults l.files;
+  quiet : g.F.Files.faults l.files ≡ g.F.Files.faults l.initial.files;
   named : map name_of l.open.items ≡ take l.name-index l.names;
   opened : IfSome (g.F.Files.contents l.initial.files) (λ m. AllByRecursion (IsOpen m) l.open.items);
 }

@@ -2,6 +2,7 @@ use Rattle.std.proofs.Common.{◌≡◌, ◌∙◌, ◌+◌, ℕ, ap, refl, sym,
 use Rattle.si_model.specs.Machine as machine
 use Rattle.si_model.specs.Machine.{IsStorageRefusal}
 use Rattle.txn_client.specs.Shows.{Steps}
+use Rattle.txn_client.proofs.Exact.{not_crowded}
 use Rattle.txn_client.proofs.Refused.{draw_storage}
 use Rattle.txn_client.proofs.Table.{begins_at, begin_full_at, begin_storage_at, begin_undone_key, as_err}
 use Rattle.txn_client.proofs.clients.Clients.begin.Goals as goal
@@ -34,3 +35,15 @@ returns-in-Err-clause-step g c = λ cells.
     begin_undone_key cells c.args.self.now c.make_session.new.self (record c.make_session.new.self { sessions = c.remove.new.self }) c.args.oracle.now.last c.draw.new.self.last c.in_ok-start.start c.stamp.result c.in-Err.refusal c.remove.result
     c.stamp.ensures.stamp (draw_storage c.in-Err.refusal c.in-Err.ensures.refusals) next (omega (arith, c.in-Err.ensures.err.last)) c.in_ok-make_session.ensures.top c.in_ok-make_session.ensures.made.0 c.in_ok-make_session.ensures.len
     c.remove.ensures.value c.remove.ensures.updates.0 c.remove.ensures.len
+
+pub returns-in_err-start-clause-crowded : goal.returns-in_err-start-clause-crowded
+returns-in_err-start-clause-crowded g c = λ st shown many. absurd (not_crowded c.args.self.now st shown (omega (arith, c.len.ensures.len, c.if-len-ge-MOST_SESSIONS.false)) many)
+
+pub returns-in_err-make_session-clause-crowded : goal.returns-in_err-make_session-clause-crowded
+returns-in_err-make_session-clause-crowded g c = λ st shown many. absurd (not_crowded c.args.self.now st shown (omega (arith, c.len.ensures.len, c.if-len-ge-MOST_SESSIONS.false)) many)
+
+pub returns-in-Ok-clause-crowded : goal.returns-in-Ok-clause-crowded
+returns-in-Ok-clause-crowded g c = λ st shown many. absurd (not_crowded c.args.self.now st shown (omega (arith, c.len.ensures.len, c.if-len-ge-MOST_SESSIONS.false)) many)
+
+pub returns-in-Err-clause-crowded : goal.returns-in-Err-clause-crowded
+returns-in-Err-clause-crowded g c = λ st shown many. absurd (not_crowded c.args.self.now st shown (omega (arith, c.len.ensures.len, c.if-len-ge-MOST_SESSIONS.false)) many)

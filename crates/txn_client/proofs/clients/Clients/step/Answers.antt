@@ -3,6 +3,7 @@ use Rattle.std.specs.Prelude.{is_some, IsSome}
 use Rattle.std.specs.Ordering.{nat_cmp, is_eq}
 use Rattle.std.specs.BTreeMap as btree
 use Rattle.txn_client.specs.declared.session.Session.{Session}
+use Rattle.txn_client.proofs.Room.{made_shown}
 use Rattle.txn_client.proofs.Exact.{is_kept, is_there, passes, unwritten_none, unwritten_phase}
 use Rattle.txn_client.proofs.Table.{entries_each, same_each, takes_at, steps_refused, advance_unknown_at, as_err, twice, with_none}
 use Rattle.txn_client.proofs.clients.Clients.step.Goals as goal
@@ -90,3 +91,11 @@ returns-in_default-clause-err g c = record {
   top = refl;
   each = entries_each c.args.self.now (record c.args.self.now { sessions = c.get_mut.follows.lender-at-none }) (ap (λ m. m.entries) c.get_mut.follows.holds-at-none);
 }
+
+pub returns-then-outcome-clause-made : goal.returns-then-outcome-clause-made
+returns-then-outcome-clause-made g c = λ held.
+    made_shown g.R.Rows.overfills c.args.rows.now (g.R.Rows.cells c.args.rows.now) c.in-Some.session.now c.in_ok-outcome.outcome.progress (g.R.Rows.cells c.advance.new.rows) c.args.self.now c.args.start (sym c.in-Some.ensures.value) (c.in_ok-outcome.ensures.made held)
+
+pub returns-else-outcome-clause-made : goal.returns-else-outcome-clause-made
+returns-else-outcome-clause-made g c = λ held.
+    made_shown g.R.Rows.overfills c.args.rows.now (g.R.Rows.cells c.args.rows.now) c.in-Some.session.now c.in_ok-outcome.outcome.progress (g.R.Rows.cells c.advance.new.rows) c.args.self.now c.args.start (sym c.in-Some.ensures.value) (c.in_ok-outcome.ensures.made held)

@@ -1,4 +1,5 @@
-use Rattle.std.proofs.Common.{refl, ap}
+use Rattle.std.proofs.Common.{◌≡◌, refl, ap}
+use Rattle.cell_key.specs.Cells.{Cells, after_edits}
 use Rattle.std.specs.Prelude.{nat_eq}
 use Rattle.txn_client.proofs.Sessions.{advance_lost, advance_committed}
 use Rattle.txn_client.proofs.Room.{no_room_to_record, passed_on}
@@ -19,3 +20,12 @@ returns-in_err-record-clause-full g c = λ held is.
     let on = passed_on c.from_residual.result _ c.in_err-record.field-0.0 _ c.from_residual.ensures.1 refl is in
     no_room_to_record g.R.Rows.overfills c.args.rows.now (g.R.Rows.cells c.args.rows.now) c.args.self.now 0 c.in-Some.first.now c.in-Some.ensures.found
     (c.in_err-record.ensures.due held on) (c.in_err-record.ensures.full on)
+
+pub returns-then-not-branch-clause-made : goal.returns-then-not-branch-clause-made
+returns-then-not-branch-clause-made g c = λ held st reached shown mine. rw c.if-not-branch.true at (c.in_ok-record.ensures.left held)
+
+pub returns-clause-made : goal.returns-clause-made
+returns-clause-made g c = λ held.
+    let cells = g.R.Rows.cells c.args.rows.now in
+    no_room_to_record (λ (cs : Cells) row edits. g.R.Rows.cells c.record.new.rows ≡ after_edits cs edits) cells cells c.args.self.now 0 c.in-Some.first.now c.in-Some.ensures.found
+    (rw c.if-not-branch.false at (c.in_ok-record.ensures.stood held)) (rw c.if-not-branch.false at (c.in_ok-record.ensures.made held))

@@ -1,5 +1,5 @@
-use Rattle.std.proofs.Common.{refl, ℕ, ap, subst, ◌∙◌}
-use Rattle.cell_key.specs.Cells.{Cells}
+use Rattle.std.proofs.Common.{◌≡◌, refl, ℕ, ap, subst, ◌∙◌}
+use Rattle.cell_key.specs.Cells.{Cells, after_edits}
 use Rattle.si_model.specs.ShowsCells.{held_cells, Touches}
 use Rattle.txn_client.specs.Reads.{IsTaken, IsFree}
 use Rattle.txn_client.proofs.Sessions.{advance_conflict, advance_held}
@@ -35,3 +35,15 @@ returns-in_err-hold-clause-full g c = λ held is.
     no_room_to_hold g.R.Rows.overfills c.args.rows.now cells c.args.self.now c.is_taken.new.rows c.is_taken.ensures.same_room c.args.k write c.in-Some-get.first.now c.requires c.in-Some.ensures.found c.in-Some-get.ensures.found
     (subst (λ (n : ℕ). IsFree cells write.cell n) c.stamp-start.ensures.stamp (rw c.if-branch.false at (c.in_ok-is_taken.ensures.free held)))
     (c.in_err-hold.ensures.full (passed_on c.from_residual-in_err-hold.result _ c.in_err-hold.field-0.0 _ c.from_residual-in_err-hold.ensures.1 refl is))
+
+pub returns-then-branch-clause-made : goal.returns-then-branch-clause-made
+returns-then-branch-clause-made g c = λ held st reached shown mine. c.in_ok-is_taken.ensures.kept held
+
+pub returns-clause-made : goal.returns-clause-made
+returns-clause-made g c = λ held.
+    let cells = g.R.Rows.cells c.args.rows.now in
+    let write = c.in-Some.write.now in
+    no_room_to_hold (λ (cs : Cells) row edits. g.R.Rows.cells c.hold.new.rows ≡ after_edits cs edits) cells cells c.args.self.now (g.R.Rows.cells c.is_taken.new.rows)
+    (λ row edits is. is ∙ ap (λ (cs : Cells). after_edits cs edits) (c.in_ok-is_taken.ensures.kept held)) c.args.k write c.in-Some-get.first.now c.requires c.in-Some.ensures.found c.in-Some-get.ensures.found
+    (subst (λ (n : ℕ). IsFree cells write.cell n) c.stamp-start.ensures.stamp (rw c.if-branch.false at (c.in_ok-is_taken.ensures.free held)))
+    (c.in_ok-hold.ensures.made (c.in_ok-is_taken.ensures.still held))
