@@ -1,17 +1,21 @@
 -- What a list of commands answers, and what it leaves of the one cell map and of tablets and files.
-use Rattle.std.specs.Prelude.{◌≡◌, ◌≢◌, ◌+◌, ◌⊎◌, List, [], ◌∷◌, Option, length, option_map, ⊤}
+use Rattle.std.specs.Prelude.{◌≡◌, ◌≢◌, ◌≤◌, ◌+◌, ◌^◌, ◌↔◌, ◌⊎◌, ℕ, List, [], ◌∷◌, Option, length, option_map, ⊤}
 use Rattle.std.specs.List.{AllByRecursion}
 use Rattle.cell_key.specs.Cells.{Cells, IsEditOf, IsNewest, after_edits, version}
+use Rattle.cell_key.specs.Faults.{HasRisen}
 use Rattle.cell_key.specs.Places.{IsNextCell}
 use Rattle.cell_key.specs.Versions.{stamped}
 use Rattle.cell_key.specs.declared.refusals.Refusal.{Refusal}
-use Rattle.cell_key.specs.declared.refusals.Refusal.TheVariants.{Damaged, Device, NoMemory}
+use Rattle.cell_key.specs.declared.refusals.Refusal.TheVariants as refused
 use Rattle.file_store.specs.Store.{Contents}
-use Rattle.row_atomic.specs.Changes.{IsAsBefore, IsCut, IsFlushed, IsHalved, IsMerged, IsMoveRefusal, IsNumberedRefusal, IsOn, IsPut, IsSplitRefusal, IsWhole, LacksErasures, MayBeFlushed, MayHolderBeFlushed, Numbered, Remakes}
-use Rattle.row_atomic.specs.Clusters.{ClusterState, cells_in, spots_of, storage_of}
+use Rattle.metadata_table.specs.Table.{BarsSplit, HasTablet, most_servers}
+use Rattle.tablet.specs.Views.{UsesName}
+use Rattle.row_atomic.specs.Changes.{IsAsBefore, IsCut, IsEmptied, IsFlushed, IsFull, IsHalved, IsMerged, IsMoveRefusal, IsNumberedRefusal, IsOn, IsPut, IsSplitRefusal, IsTooLarge, IsUndone, IsWhole, LacksErasures, MayBeFlushed, MayHolderBeFlushed, MeetsBadCount, MeetsFull, Numbered, OfHolder, Remakes, WritesNone}
+use Rattle.row_atomic.specs.Clusters.{ClusterState, Overfills, cells_in, spots_of, storage_of}
 use Rattle.row_atomic.specs.Compactions as compaction
 use Rattle.row_atomic.specs.Refusals.{IsApplyRefusal, IsReadRefusal}
 use Rattle.row_atomic.specs.Sweeps.{IsSwept, IsSweptInPart}
+use Rattle.row_atomic.specs.declared.cluster_compactions.Compaction.{Compaction}
 use Rattle.row_atomic.specs.declared.commands.Command.{Command}
 use Rattle.row_atomic.specs.declared.commands.Command.TheVariants as command
 use Rattle.row_atomic.specs.declared.commands.Outcome.{Outcome}
@@ -39,7 +43,7 @@ Answers old (command.Major tablet) outcome.Done new = new ≡ old
 Answers old (command.Split row) (outcome.Split left) new = new ≡ old
 Answers old (command.Move tablet server) outcome.Done new = new ≡ old
 Answers old command.Sweep (outcome.Swept count) new = new ≡ old
-Answers old _ (outcome.Refused refusal) new = (refusal ≢ Damaged) × (new ≡ old)
+Answers old _ (outcome.Refused refusal) new = (refusal ≢ refused.Damaged) × (new ≡ old)
 Answers old _ _ new = ⊥
 
 -- ---- tablets and files
@@ -54,7 +58,7 @@ MayRefuse (command.Merge tablet count) refusal = IsNumberedRefusal (compaction.m
 MayRefuse (command.Major tablet) refusal = IsNumberedRefusal compaction.major refusal
 MayRefuse (command.Split row) refusal = IsSplitRefusal refusal
 MayRefuse (command.Move tablet server) refusal = IsMoveRefusal refusal
-MayRefuse command.Sweep refusal = (refusal ≡ Device) ⊎ (refusal ≡ NoMemory)
+MayRefuse command.Sweep refusal = (refusal ≡ refused.Device) ⊎ (refusal ≡ refused.NoMemory)
 
 -- what a command that is done does to tablets and files
 abbrev pub Does : {F : Type 0} → (F → Option Contents) → Command → Outcome → ClusterState F → ClusterState F → Type 0
@@ -83,14 +87,123 @@ abbrev pub Upholds : {F : Type 0} → (F → Option Contents) → Command → Ou
 Upholds contents command (outcome.Refused refusal) old new = MayRefuse command refusal × Leaves contents command old new
 Upholds contents command result old new = Does contents command result old new
 
+-- ---- what a command writes
+
+-- a command finds nothing in memory that it would write
+abbrev pub HasNothingToWrite : {F : Type 0} → Command → ClusterState F → Type 0
+HasNothingToWrite (command.Minor tablet) old = Numbered IsEmptied tablet old.tablets
+HasNothingToWrite (command.Split row) old = OfHolder IsEmptied row old.places old.tablets
+HasNothingToWrite (command.Move tablet server) old = Numbered IsEmptied tablet old.tablets
+HasNothingToWrite _ old = ⊥
+
+-- One file was written, under the next name, or none. No other file has changed, nor the most bytes of a file.
+pub record WritesOne {F : Type 0} (contents : F → Option Contents) (command : Command) (old new : ClusterState F) : Type 0 where
+  pub name : UsesName (contents old.files) old.next_name (contents new.files) new.next_name
+  pub limit : new.file_limit ≡ old.file_limit
+  pub none : HasNothingToWrite command old → (new.next_name ≡ old.next_name) × (contents new.files ≡ contents old.files)
+
+-- What a command that may write a file does to files and names, and where it leaves the tablets, also where it is refused.
+-- Splits and moves that are done say where these are.
+abbrev pub UsesFiles : {F : Type 0} → (F → Option Contents) → Command → ClusterState F → ClusterState F → Type 0
+UsesFiles contents (command.Minor tablet) old new = WritesOne contents (command.Minor tablet) old new × (spots_of new ≡ spots_of old)
+UsesFiles contents (command.Merge tablet count) old new = WritesOne contents (command.Merge tablet count) old new × (spots_of new ≡ spots_of old)
+UsesFiles contents (command.Major tablet) old new = WritesOne contents (command.Major tablet) old new × (spots_of new ≡ spots_of old)
+UsesFiles contents (command.Split row) old new = WritesOne contents (command.Split row) old new
+UsesFiles contents (command.Move tablet server) old new = WritesOne contents (command.Move tablet server) old new
+UsesFiles contents _ old new = ⊤
+
+-- ---- why a command is refused
+
+-- why a compaction of the tablet of a number is refused so
+pub record BarsCompaction {F : Type 0} (contents : F → Option Contents) (compaction : Compaction) (tablet : ℕ) (refusal : Refusal) (old : ClusterState F) : Type 0 where
+  pub unknown : refusal ≡ refused.UnknownTablet ↔ ¬ HasTablet tablet old.places
+  pub count : refusal ≡ refused.BadCount ↔ (HasTablet tablet old.places × Numbered (MeetsBadCount compaction) tablet old.tablets)
+  pub full : refusal ≡ refused.TooManyFiles → Numbered (MeetsFull compaction) tablet old.tablets
+  pub exhausted : refusal ≡ refused.Exhausted → (2 ^ 63 ≤ old.next_name) × (¬ Numbered (WritesNone compaction) tablet old.tablets)
+  pub large : refusal ≡ refused.FileTooLarge → Numbered (IsTooLarge old.file_limit (contents old.files) compaction) tablet old.tablets
+
+-- and why a split at a row is, which flushes the tablet that holds it
+pub record BarsCut {F : Type 0} (contents : F → Option Contents) (row : List ℕ) (refusal : Refusal) (old : ClusterState F) : Type 0 where
+  pub bad : refusal ≡ refused.BadSplit ↔ BarsSplit row old.places
+  pub full : refusal ≡ refused.TooManyFiles → OfHolder IsFull row old.places old.tablets
+  pub exhausted : refusal ≡ refused.Exhausted → (2 ^ 63 ≤ old.next_name) × (¬ OfHolder IsEmptied row old.places old.tablets)
+  pub large : refusal ≡ refused.FileTooLarge → OfHolder (IsTooLarge old.file_limit (contents old.files) compaction.minor) row old.places old.tablets
+
+-- Why a command is refused so. Of a device's fault more is said below, and of want of memory nothing.
+abbrev pub IsDue : {F : Type 0} → (F → Option Contents) → Command → Refusal → ClusterState F → Type 0
+IsDue contents (command.Apply row edits) refusal old = refusal ≡ refused.MemtableFull → Overfills old.places old.tablets row edits.items
+IsDue contents (command.Minor tablet) refusal old = BarsCompaction contents compaction.minor tablet refusal old
+IsDue contents (command.Merge tablet count) refusal old = BarsCompaction contents (compaction.merging count) tablet refusal old
+IsDue contents (command.Major tablet) refusal old = BarsCompaction contents compaction.major tablet refusal old
+IsDue contents (command.Split row) refusal old = BarsCut contents row refusal old
+IsDue contents (command.Move tablet server) refusal old =
+    (refusal ≡ refused.UnknownServer ↔ (HasTablet tablet old.places × (most_servers ≤ server))) × BarsCompaction contents compaction.minor tablet refusal old
+IsDue contents _ refusal old = ⊤
+
+-- ---- limits
+
+-- A compaction of the tablet of a number passes no limit: the tablet may have one more file where one comes, a name is left where
+-- one is used, and the file may have its bytes.
+pub record HasRoom {F : Type 0} (contents : F → Option Contents) (compaction : Compaction) (tablet : ℕ) (old : ClusterState F) : Type 0 where
+  pub room : ¬ Numbered (MeetsFull compaction) tablet old.tablets
+  pub named : 2 ^ 63 ≤ old.next_name → Numbered (WritesNone compaction) tablet old.tablets
+  pub fits : ¬ Numbered (IsTooLarge old.file_limit (contents old.files) compaction) tablet old.tablets
+
+-- nor does a split at a row
+pub record HasRoomToCut {F : Type 0} (contents : F → Option Contents) (row : List ℕ) (old : ClusterState F) : Type 0 where
+  pub room : ¬ OfHolder IsFull row old.places old.tablets
+  pub named : 2 ^ 63 ≤ old.next_name → OfHolder IsEmptied row old.places old.tablets
+  pub fits : ¬ OfHolder (IsTooLarge old.file_limit (contents old.files) compaction.minor) row old.places old.tablets
+
+-- nor does a command. A move to the server where the tablet is already writes nothing.
+abbrev pub PassesNoLimit : {F : Type 0} → (F → Option Contents) → Command → ClusterState F → Type 0
+PassesNoLimit contents (command.Apply row edits) old = ¬ Overfills old.places old.tablets row edits.items
+PassesNoLimit contents (command.Minor tablet) old = HasRoom contents compaction.minor tablet old
+PassesNoLimit contents (command.Merge tablet count) old = HasRoom contents (compaction.merging count) tablet old
+PassesNoLimit contents (command.Major tablet) old = HasRoom contents compaction.major tablet old
+PassesNoLimit contents (command.Split row) old = HasRoomToCut contents row old
+PassesNoLimit contents (command.Move tablet server) old = ¬ IsOn tablet server old.places → HasRoom contents compaction.minor tablet old
+PassesNoLimit contents _ old = ⊤
+
+-- ---- causes and faults
+
+-- a refusal that comes before anything is done
+abbrev pub IsBarred : Command → Refusal → Type 0
+IsBarred (command.Minor tablet) refusal = refusal ≡ refused.UnknownTablet
+IsBarred (command.Merge tablet count) refusal = (refusal ≡ refused.UnknownTablet) ⊎ (refusal ≡ refused.BadCount)
+IsBarred (command.Major tablet) refusal = refusal ≡ refused.UnknownTablet
+IsBarred (command.Split row) refusal = refusal ≡ refused.BadSplit
+IsBarred (command.Move tablet server) refusal = (refusal ≡ refused.UnknownTablet) ⊎ (refusal ≡ refused.UnknownServer)
+IsBarred _ refusal = ⊥
+
+-- A refusal is due. Nothing is done where the command is barred, or would give the tablet too many files.
+pub record IsRefused {F : Type 0} (contents : F → Option Contents) (command : Command) (refusal : Refusal) (old new : ClusterState F) : Type 0 where
+  pub due : IsDue contents command refusal old
+  pub barred : IsBarred command refusal → new ≡ old
+  pub undone : refusal ≡ refused.TooManyFiles → IsUndone contents old new
+
+-- A command that is done passes no limit, and one that is refused has a cause.
+abbrev pub HasCause : {F : Type 0} → (F → Option Contents) → Command → Outcome → ClusterState F → ClusterState F → Type 0
+HasCause contents command (outcome.Refused refusal) old new = IsRefused contents command refusal old new
+HasCause contents command _ old new = PassesNoLimit contents command old
+
+-- A device has failed where an outcome says so, and else none has.
+pub record TellsFaults {F : Type 0} (faults : F → ℕ) (result : Outcome) (old new : ClusterState F) : Type 0 where
+  pub later : faults old.files ≤ faults new.files
+  pub device : result ≡ outcome.Refused refused.Device → HasRisen (faults old.files) (faults new.files)
+  pub told : result ≢ outcome.Refused refused.Device → faults new.files ≡ faults old.files
+
 -- ---- a list of commands
 
 -- Commands answer, one after the other, by the cells that the cluster then shows, and each does to tablets and files what it is for.
-abbrev pub AnswersAll : {F : Type 0} → (F → Option Contents) → ClusterState F → List Command → List Outcome → ClusterState F → Type 0
-AnswersAll contents old [] [] new = new ≡ old
-AnswersAll {F} contents old (command ∷ commands) (outcome ∷ outcomes) new =
+abbrev pub AnswersAll : {F : Type 0} → (F → Option Contents) → (F → ℕ) → ClusterState F → List Command → List Outcome → ClusterState F → Type 0
+AnswersAll contents faults old [] [] new = new ≡ old
+AnswersAll {F} contents faults old (command ∷ commands) (outcome ∷ outcomes) new =
     (next : ClusterState F)
     × Answers (cells_shown contents old) command outcome (cells_shown contents next)
     × Upholds contents command outcome old next
-    × AnswersAll contents next commands outcomes new
-AnswersAll contents old _ _ new = ⊥
+    × UsesFiles contents command old next
+    × HasCause contents command outcome old next
+    × TellsFaults faults outcome old next
+    × AnswersAll contents faults next commands outcomes new
+AnswersAll contents faults old _ _ new = ⊥

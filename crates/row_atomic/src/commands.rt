@@ -4,7 +4,7 @@ ghost use Rattle.std.specs.Prelude.{◌≡◌, ◌<◌, ◌≤◌, ◌++◌, ◌
 ghost use Rattle.std.specs.List.{AllByRecursion};
 ghost use Rattle.cell_key.specs.Places.{place_named};
 ghost use Rattle.row_atomic.specs.Changes.{Holds};
-ghost use Rattle.row_atomic.specs.Commands.{Answers, AnswersAll, IsUnderRow, Upholds, cells_shown};
+ghost use Rattle.row_atomic.specs.Commands.{Answers, AnswersAll, HasCause, IsUnderRow, TellsFaults, Upholds, UsesFiles, cells_shown};
 
 use crate::cluster::Cluster;
 use crate::rows::Rows;
@@ -111,6 +111,9 @@ impl<F: Files> Cluster<F> {
         ensures still { Holds F.contents self.old → Holds F.contents self.new }
         ensures answers { Holds F.contents self.old → Answers (cells_shown F.contents self.old) command result (cells_shown F.contents self.new) }
         ensures upholds { Holds F.contents self.old → Upholds F.contents command result self.old self.new }
+        ensures uses { UsesFiles F.contents command self.old self.new }
+        ensures cause { Holds F.contents self.old → HasCause F.contents command result self.old self.new }
+        ensures faults { TellsFaults F.faults result self.old self.new }
     {
         match command {
             Command::Newest {
@@ -144,8 +147,9 @@ impl<F: Files> Cluster<F> {
     }
 
     /// Does commands one after the other, and answers the outcome of each, by the one cell map that the cluster then
-    /// shows. One that is done does to tablets and files what it is for. One that is refused changes no cell, and the
-    /// next ones are done all the same.
+    /// shows. One that is done does to tablets and files what it is for, and passes no limit. One that is refused
+    /// changes no cell, and has a cause for its refusal, and the next ones are done all the same. None writes more than
+    /// one file.
     ///
     /// # Errors
     ///
@@ -153,7 +157,7 @@ impl<F: Files> Cluster<F> {
     pub fn run(&mut self, commands: Vec<Command>) -> Result<Vec<Outcome>, Refusal>
         requires { AllByRecursion IsUnderRow commands.items }
         ensures still { Holds F.contents self.old → Holds F.contents self.new }
-        ensures answers { IfOk result (λ outcomes. Holds F.contents self.old → AnswersAll F.contents self.old commands.items outcomes.items self.new) }
+        ensures answers { IfOk result (λ outcomes. Holds F.contents self.old → AnswersAll F.contents F.faults self.old commands.items outcomes.items self.new) }
         ensures err { OnErr result (self.new ≡ self.old) }
         ensures refusal { IfErr result (λ refusal. refusal ≡ Refusal.NoMemory) }
     {

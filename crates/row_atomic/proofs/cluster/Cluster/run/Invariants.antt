@@ -14,5 +14,5 @@ invariant-loop-command g l = record {
   under : AllByRecursion IsUnderRow (into_iter_items l.command-iterator);
   still : Holds g.F.Files.contents l.initial.self → Holds g.F.Files.contents l.self;
   answers : Holds g.F.Files.contents l.initial.self
-      → Completes g.F.Files.contents l.initial.self l.fn.commands.items l.outcomes.items l.self (into_iter_items l.command-iterator);
+      → Completes g.F.Files.contents g.F.Files.faults l.initial.self l.fn.commands.items l.outcomes.items l.self (into_iter_items l.command-iterator);
 }
