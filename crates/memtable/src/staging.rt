@@ -14,7 +14,7 @@ use cell_key::{CellKey, Edit, Refusal, Row};
 use std::alloc::Global;
 
 /// How many entries there are, and how many bytes they have. Wide enough for any list of edits.
-#[derive(Clone, Copy, Debug)]
+#[derive(Clone, Copy)]
 pub(crate) struct Size {
     pub(crate) entries: u128,
     pub(crate) bytes: u128,

@@ -13,7 +13,7 @@ use request_codec::{LONGEST_BODY, LONGEST_REPLY, Reply, encode_reply, reply_leng
 use std::io::{Read, Write};
 
 /// Why a buffer was not filled further.
-#[derive(Clone, Copy, Debug, PartialEq, Eq)]
+#[derive(Clone, Copy)]
 pub(crate) enum Filled {
     Whole,
     AtEnd,
@@ -22,7 +22,7 @@ pub(crate) enum Filled {
 }
 
 /// What was read of a frame: a whole body of so many bytes, or why there is none.
-#[derive(Clone, Copy, Debug, PartialEq, Eq)]
+#[derive(Clone, Copy)]
 pub(crate) enum FrameRead {
     Whole(usize),
     TooLarge,
@@ -33,7 +33,7 @@ pub(crate) enum FrameRead {
 }
 
 /// A write failed or took no byte.
-#[derive(Clone, Copy, Debug, PartialEq, Eq)]
+#[derive(Clone, Copy)]
 pub(crate) struct WriteFailed;
 
 /// Fills the buffer from the reader, however few bytes a read gives, and says how many it got. Each read call

@@ -7,7 +7,7 @@ use std::alloc::Global;
 use std::marker::Model;
 
 /// A stamp within the limits of stamps: from 1 to 2^63 - 1.
-#[derive(Clone, Copy, Debug, Drop)]
+#[derive(Clone, Copy, Drop)]
 pub(crate) struct Moment {
     stamp: Stamp,
 }
@@ -59,7 +59,7 @@ impl Moment {
 }
 
 /// The bytes of a value: at most 65,536.
-#[derive(Debug, Drop)]
+#[derive(Drop)]
 pub(crate) struct Value {
     bytes: Vec<u8>,
 }

@@ -5,7 +5,7 @@ use crate::writes::Writes;
 use si_model::Progress;
 
 /// How far a session is. A count is of the cells that are held, or that are clear.
-#[derive(Clone, Copy, Debug, Drop)]
+#[derive(Clone, Copy, Drop)]
 pub(crate) enum Phase {
     Open,
     Holding(u16),
@@ -14,7 +14,7 @@ pub(crate) enum Phase {
 }
 
 /// A session: its start, its commit stamp, which is the start until one is drawn, its phase and its writes.
-#[derive(Debug, Drop)]
+#[derive(Drop)]
 pub(crate) struct Session {
     pub(crate) start: Moment,
     pub(crate) commit: Moment,
@@ -23,7 +23,7 @@ pub(crate) struct Session {
 }
 
 /// What a step of a session did, and whether the session has ended with it.
-#[derive(Clone, Copy, Debug, Drop)]
+#[derive(Clone, Copy, Drop)]
 pub(crate) struct Outcome {
     pub(crate) progress: Progress,
     pub(crate) ended: bool,

@@ -11,14 +11,14 @@ use std::alloc::Global;
 use std::marker::Model;
 
 /// A value that a session writes to a cell.
-#[derive(Debug, Drop)]
+#[derive(Drop)]
 pub(crate) struct Write {
     pub(crate) cell: Cell,
     pub(crate) value: Value,
 }
 
 /// The writes of a session, in the order in which their cells were first set: at most 256.
-#[derive(Debug, Drop)]
+#[derive(Drop)]
 pub(crate) struct Writes {
     entries: Vec<Write>,
 }
