@@ -183,6 +183,10 @@ pub on_ok : {A : Type 0} (P Q : Type 0) (r : Result A Refusal) → (P → Q) →
 on_ok P Q (Ok x) f h = f h
 on_ok P Q (Err e) f h = h
 
+pub on_both : {A : Type 0} (P Q : Type 0) (r : Result A Refusal) → OnOk r P → OnOk r Q → OnOk r (P × Q)
+on_both P Q (Ok x) h k = (h, k)
+on_both P Q (Err e) h k = tt
+
 pub if_ok : {A : Type 0} (P : Type 0) (r : Result A Refusal) → P → OnOk r P
 if_ok P (Ok x) h = h
 if_ok P (Err e) h = tt

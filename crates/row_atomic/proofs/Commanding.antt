@@ -1,16 +1,19 @@
 -- Answers to one command more.
-use Rattle.std.proofs.Common.{◌≡◌, ◌⊎◌, inl, inr, ℕ, Option, Result, Ok, Err, IsOk, OnOk, OnErr, IfErr, IsErrOf, MatchResult, List, [], ◌∷◌, ◌++◌, refl, sym, ap, ◌∙◌, subst, append-nil, length, arith}
+use Rattle.std.proofs.Common.{◌≡◌, ◌≢◌, ◌≤◌, ◌⊎◌, inl, inr, ℕ, Option, Result, Ok, Err, IsOk, OnOk, OnErr, IfErr, IsErrOf, MatchResult, List, [], ◌∷◌, ◌++◌, refl, sym, ap, ◌∙◌, subst, append-nil, length, arith}
+use Rattle.cell_key.specs.Faults.{HasRisen}
 use Rattle.file_store.specs.Store.{Contents}
+use Rattle.sorted_file.specs.Sources.{HasReason}
 use Rattle.cell_key.specs.Cells.{Cells}
 use Rattle.cell_key.specs.declared.refusals.Refusal.{Refusal}
-use Rattle.cell_key.specs.declared.refusals.Refusal.TheVariants.{Damaged}
+use Rattle.cell_key.specs.declared.refusals.Refusal.TheVariants.{Damaged, Device}
 use Rattle.row_atomic.specs.Changes.{IsFlushed, IsMoveRefusal, IsMoved, IsOn, MayBeFlushed, Remakes}
 use Rattle.row_atomic.specs.Clusters.{ClusterState, spots_of}
+use Rattle.row_atomic.specs.Refusals.{IsApplyRefusal}
 use Rattle.row_atomic.specs.declared.commands.Command.TheVariants.{Move}
 use Rattle.row_atomic.specs.declared.commands.Outcome.TheVariants.{Done, Refused}
 use Rattle.row_atomic.specs.declared.commands.Command.{Command}
 use Rattle.row_atomic.specs.declared.commands.Outcome.{Outcome}
-use Rattle.row_atomic.specs.Commands.{Answers, AnswersAll, HasCause, IsRefused, PassesNoLimit, TellsFaults, Upholds, UsesFiles, cells_shown}
+use Rattle.row_atomic.specs.Commands.{Answers, AnswersAll, Does, HasCause, IsRefused, Leaves, MayRefuse, PassesNoLimit, TellsFaults, Upholds, UsesFiles, cells_shown}
 
 one_more : {A : Type 0} (xs : List A) (x : A) (ys : List A) → xs ++ x ∷ ys ≡ (xs ++ x ∷ []) ++ ys
 one_more [] x ys = refl
@@ -85,3 +88,44 @@ pub caused : {F : Type 0} (contents : F → Option Contents) (command : Command)
     → ((x : Unit {0}) → r ≡ Ok x → PassesNoLimit contents command old) → ((refusal : Refusal) → r ≡ Err refusal → IsRefused contents command refusal old new) → HasCause contents command o old new
 caused contents command (Ok x) o old new is fits due = subst (λ (out : Outcome). HasCause contents command out old new) (sym is) (fits x refl)
 caused contents command (Err e) o old new is fits due = subst (λ (out : Outcome). HasCause contents command out old new) (sym is) (due e refl)
+
+-- what a call that answers nothing answers
+pub done_answered : (command : Command) (r : Result (Unit {0}) Refusal) (o : Outcome) (old new : Cells) → MatchResult r (λ _. o ≡ Done) (λ refusal. o ≡ Refused refusal)
+    → OnOk r (Answers old command Done new) → ((e : Refusal) → r ≡ Err e → Answers old command (Refused e) new) → Answers old command o new
+done_answered command (Ok x) o old new is ok err = subst (λ (out : Outcome). Answers old command out new) (sym is) ok
+done_answered command (Err e) o old new is ok err = subst (λ (out : Outcome). Answers old command out new) (sym is) (err e refl)
+
+-- what it does
+pub done_upheld : {F : Type 0} (contents : F → Option Contents) (command : Command) (r : Result (Unit {0}) Refusal) (o : Outcome) (old new : ClusterState F) → MatchResult r (λ _. o ≡ Done) (λ refusal. o ≡ Refused refusal)
+    → OnOk r (Does contents command Done old new) → IfErr r (MayRefuse command) → OnErr r (Leaves contents command old new) → Upholds contents command o old new
+done_upheld contents command (Ok x) o old new is does refusal leaves = subst (λ (out : Outcome). Upholds contents command out old new) (sym is) does
+done_upheld contents command (Err e) o old new is does refusal leaves = subst (λ (out : Outcome). Upholds contents command out old new) (sym is) (refusal, leaves)
+
+-- what an outcome tells of a device's faults
+pub tells : {F : Type 0} {A : Type 0} (faults : F → ℕ) (r : Result A Refusal) (o : Outcome) (old new : ClusterState F) → (o ≡ Refused Device → IsErrOf r Device) → (IsErrOf r Device → o ≡ Refused Device)
+    → faults old.files ≤ faults new.files → (IsErrOf r Device → HasRisen (faults old.files) (faults new.files)) → (¬ IsErrOf r Device → faults new.files ≡ faults old.files) → TellsFaults faults o old new
+tells faults r o old new to from later device told = record { later = later; device = λ is. device (to is); told = λ other. told (λ is. other (from is)) }
+
+pub done_tells : {F : Type 0} (faults : F → ℕ) (r : Result (Unit {0}) Refusal) (o : Outcome) (old new : ClusterState F) → MatchResult r (λ _. o ≡ Done) (λ refusal. o ≡ Refused refusal)
+    → HasReason (faults old.files) (faults new.files) r → TellsFaults faults o old new
+done_tells faults (Ok x) o old new is reason = tells faults (Ok x) o old new (λ refused. cc) (λ err. cc) reason.later reason.device reason.told
+done_tells faults (Err e) o old new is reason = tells faults (Err e) o old new (λ refused. cc) (λ err. cc) reason.later reason.device reason.told
+
+pub refused_tells : {F : Type 0} {A : Type 0} (faults : F → ℕ) (r : Result A Refusal) (e : Refusal) (old new : ClusterState F) → r ≡ Err e
+    → faults old.files ≤ faults new.files → (IsErrOf r Device → HasRisen (faults old.files) (faults new.files)) → (¬ IsErrOf r Device → faults new.files ≡ faults old.files) → TellsFaults faults (Refused e) old new
+refused_tells faults r e old new is later device told = tells faults r (Refused e) old new (λ refused. cc) (λ err. cc) later device told
+
+pub ok_tells : {F : Type 0} {A : Type 0} (faults : F → ℕ) (r : Result A Refusal) (x : A) (o : Outcome) (old new : ClusterState F) → r ≡ Ok x → (o ≢ Refused Device)
+    → faults old.files ≤ faults new.files → (IsErrOf r Device → HasRisen (faults old.files) (faults new.files)) → (¬ IsErrOf r Device → faults new.files ≡ faults old.files) → TellsFaults faults o old new
+ok_tells faults r x o old new is done later device told = tells faults r o old new (λ refused. absurd (done refused)) (λ err. cc) later device told
+
+-- an apply touches no device
+pub apply_tells : {F : Type 0} (faults : F → ℕ) (r : Result (Unit {0}) Refusal) (o : Outcome) (old new : ClusterState F) → MatchResult r (λ _. o ≡ Done) (λ refusal. o ≡ Refused refusal)
+    → IfErr r IsApplyRefusal → faults new.files ≡ faults old.files → TellsFaults faults o old new
+apply_tells faults (Ok x) o old new is refusal same = record { later = omega (arith, same); device = λ refused. cc; told = λ other. same }
+apply_tells faults (Err e) o old new is refusal same = record { later = omega (arith, same); device = λ refused. let same_refusal : e ≡ Device = cc in absurd (subst IsApplyRefusal same_refusal refusal); told = λ other. same }
+
+-- what is so where a call is refused
+pub when_err : {A : Type 0} {P : Type 0} (r : Result A Refusal) (e : Refusal) → OnErr r P → r ≡ Err e → P
+when_err (Ok y) e p is = cc
+when_err (Err d) e p is = p

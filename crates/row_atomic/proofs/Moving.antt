@@ -1,15 +1,14 @@
 -- What opening a tablet's files anew leaves of the cluster.
-use Rattle.std.proofs.Common.{◌≡◌, ◌≢◌, ◌<◌, ◌≤◌, ◌⊎◌, inl, inr, IsErrOf, ℕ, zero, suc, List, [], ◌∷◌, set, length, get_or, Result, Ok, Err, OnOk, OnErr, Option, Some, None, IfSome, slice_get, refl, sym, ap, ◌∙◌, subst, arith}
+use Rattle.std.proofs.Common.{◌≡◌, ◌≢◌, ◌<◌, IsTrue, ℕ, zero, suc, Bool, true, false, nat_eq, List, [], ◌∷◌, set, length, get_or, Option, Some, None, IfSome, slice_get, refl, sym, ap, ◌∙◌, subst, arith}
 use Rattle.std.specs.List.{AllByRecursion, Contains}
+use borrow.Author.Tests.{eqb-true, eqb-false}
 use Rattle.file_store.specs.Store.{Contents}
 use Rattle.sorted_file.specs.Opened.{HasFile}
 use Rattle.tablet.specs.Views.{Holds, IsBelow, cells_at, memory_of, names_of, range_of}
 use Rattle.tablet.specs.Laws.{FilesAreThere, SameCells}
 use Rattle.tablet.specs.declared.tablet.Tablet.{Tablet}
 use Rattle.metadata_table.specs.Places.{PlaceView}
-use Rattle.metadata_table.specs.Table.{HasTablet, IsTable, most_servers, moved, naming, with_files}
-use Rattle.cell_key.specs.declared.refusals.Refusal.{Refusal}
-use Rattle.cell_key.specs.declared.refusals.Refusal.TheVariants.{UnknownTablet, UnknownServer}
+use Rattle.metadata_table.specs.Table.{HasTablet, IsTable, moved, naming, with_files}
 use Rattle.row_atomic.specs.Changes.{IsOn, Numbered}
 use Rattle.row_atomic.proofs.Changing.{contained}
 use Rattle.row_atomic.proofs.Numbers.{Differ, differ_of}
@@ -67,10 +66,6 @@ matched_moved limit next n to places places' ts e matched =
       as_many = matched.as_many ∙ sym (length_moved n to places);
     })
 
-pub matched_assigned : (limit next n to : ℕ) (places places' : List PlaceView) (ts : List Tablet) (r : Result (Unit {0}) Refusal) → OnOk r (places' ≡ moved n to places) → OnErr r (places' ≡ places) → IsMatched limit next places ts → IsMatched limit next places' ts
-matched_assigned limit next n to places places' ts (Ok x) ok err matched = matched_moved limit next n to places places' ts ok matched
-matched_assigned limit next n to places places' ts (Err e) ok err matched = subst (λ (ps : List PlaceView). IsMatched limit next ps ts) (sym err) matched
-
 -- a tablet has one place
 one_at : (ps : List PlaceView) (i j : ℕ) (p q : PlaceView) → Differ ps → i < length ps → get_or ps i p ≡ p → j < length ps → get_or ps j q ≡ q → p.tablet ≡ q.tablet → p ≡ q
 one_at [] i j p q differ below e below' f same = absurd (omega arith)
@@ -81,10 +76,15 @@ one_at (x ∷ xs) (suc i) zero p q differ below e below' f same =
     absurd (contained (λ r. r.tablet ≢ x.tablet) xs p differ.0 (i, omega arith, e) (same ∙ ap (λ (r : PlaceView). r.tablet) (sym f)))
 one_at (x ∷ xs) (suc i) (suc j) p q differ below e below' f same = one_at xs i j p q differ.1 (omega arith) e (omega arith) f same
 
-pub elsewhere : (ps : List PlaceView) (p : PlaceView) (n server : ℕ) → IsTable ps → Contains ps p → p.tablet ≡ n → server ≢ p.server → ¬ IsOn n server ps
+elsewhere : (ps : List PlaceView) (p : PlaceView) (n server : ℕ) → IsTable ps → Contains ps p → p.tablet ≡ n → server ≢ p.server → ¬ IsOn n server ps
 elsewhere ps p n server table there number other on =
     let same = one_at ps there.0 on.1.0 p on.0 (differ_of ps table.distinct) there.1 there.2 on.1.1 on.1.2 (number ∙ sym on.2) in
     other (sym on.3 ∙ ap (λ (q : PlaceView). q.server) (sym same))
+
+-- it is on its own server alone
+pub on_same : (ps : List PlaceView) (p : PlaceView) (n server : ℕ) → IsTable ps → Contains ps p → p.tablet ≡ n → (b : Bool) → nat_eq server p.server ≡ b → (IsTrue b → IsOn n server ps) × (IsOn n server ps → IsTrue b)
+on_same ps p n server table there number true e = ((λ yes. (p, there, number, sym (eqb-true server p.server e))), (λ on. search))
+on_same ps p n server table there number false e = ((λ no. cc), (λ on. absurd (elsewhere ps p n server table there number (eqb-false server p.server e) on)))
 
 listed_at : (n : ℕ) (names : List ℕ) (ps : List PlaceView) (i : ℕ) (p : PlaceView) → i < length ps → get_or ps i p ≡ p → (i < length (with_files n names ps)) × (get_or (with_files n names ps) i (naming n names p) ≡ naming n names p)
 listed_at n names [] i p below e = absurd (omega arith)
@@ -99,11 +99,3 @@ known_after n places places' ts' listed has =
     let names = names_of listed.tablet in
     let at = listed_at n names places has.1.0 has.0 has.1.1 has.1.2 in
     subst (HasTablet n) (sym listed.such) (naming n names has.0, (has.1.0, at.0, at.1), same_tablet n names has.0 ∙ has.2)
-
--- a known tablet can be put on a known server
-pub not_refused : {C : Type 0} (n server : ℕ) (places : List PlaceView) (r : Result (Unit {0}) Refusal) → HasTablet n places → server < most_servers → (IsErrOf r UnknownTablet → ¬ HasTablet n places)
-    → (IsErrOf r UnknownServer → HasTablet n places × (most_servers ≤ server)) → IsErrOf r UnknownTablet ⊎ IsErrOf r UnknownServer → C
-not_refused n server places r has below tablet to (inl is) = absurd (tablet is has)
-not_refused n server places r has below tablet to (inr is) =
-    let most = (to is).1 in
-    absurd (omega arith)

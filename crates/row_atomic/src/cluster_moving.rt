@@ -1,8 +1,8 @@
 //! Cutting a tablet of a cluster in two, and moving one to another server. A minor compaction comes first.
 
-ghost use Rattle.std.specs.Prelude.{◌≡◌, ◌≤◌, ◌+◌, ◌^◌, ◌↔◌, ◌⊎◌, [], length, IfErr, IfOk, IfSome, IsErrOf, IsOk, OnErr, OnOk};
+ghost use Rattle.std.specs.Prelude.{◌≡◌, ◌≤◌, ◌<◌, ◌+◌, ◌^◌, ◌↔◌, ◌⊎◌, [], length, IfErr, IfOk, IfSome, IsErrOf, IsOk, IsTrue, OnErr, OnOk};
 ghost use Rattle.metadata_table.specs.Places.{PlaceView};
-ghost use Rattle.metadata_table.specs.Table.{BarsSplit, Cuts, HasTablet, IsHolder, IsTable, most_servers};
+ghost use Rattle.metadata_table.specs.Table.{BarsSplit, Cuts, HasTablet, IsHolder, IsTable, most_servers, moved};
 ghost use Rattle.sorted_file.specs.Sources.{HasReason, IsReadRefusal};
 ghost use Rattle.tablet.specs.Views.{Holds as HoldsAt, IsUnchanged, UsesName, memory_of, names_of, range_of};
 ghost use Rattle.row_atomic.specs.Clusters.{spots_of};
@@ -109,15 +109,34 @@ impl<F: Files> Cluster<F> {
         self.cut(row)
     }
 
-    /// Opens the files of a tablet with an empty memtable anew.
-    fn reopen(&mut self, tablet: u32) -> Result<(), Refusal>
+    /// Whether a tablet is on a server already. Refused UnknownTablet, and then UnknownServer.
+    fn is_on(&self, tablet: u32, server: u8) -> Result<bool, Refusal>
+        ensures known { OnOk result (HasTablet tablet self.now.places) }
+        ensures below { OnOk result (server < most_servers) }
+        ensures on { IfOk result (λ on. IsTrue on ↔ IsOn tablet server self.now.places) }
+        ensures table { IsTable self.now.places }
+        ensures unknown { IsErrOf result Refusal.UnknownTablet ↔ ¬ HasTablet tablet self.now.places }
+        ensures server { IsErrOf result Refusal.UnknownServer ↔ (HasTablet tablet self.now.places × (most_servers ≤ server)) }
+        ensures refusal { IfErr result (λ refusal. (refusal ≡ Refusal.UnknownTablet) ⊎ (refusal ≡ Refusal.UnknownServer)) }
+    {
+        let from = self.table.place(tablet)?.server;
+        if server >= MetadataTable::SERVERS {
+            return Err(Refusal::UnknownServer);
+        }
+        Ok(server == from)
+    }
+
+    /// Opens the files of a tablet with an empty memtable anew, and records that it is on a server.
+    fn put(&mut self, tablet: u32, server: u8) -> Result<(), Refusal>
         requires known { HasTablet tablet self.old.places }
+        requires below { server < most_servers }
         requires flushed { Numbered IsEmptied tablet self.old.tablets }
         ensures kept { KeepsMap F.contents self.old self.new }
         ensures limit { self.new.file_limit ≡ self.old.file_limit }
         ensures files { F.contents self.new.files ≡ F.contents self.old.files }
         ensures name { self.new.next_name ≡ self.old.next_name }
-        ensures places { self.new.places ≡ self.old.places }
+        ensures places { OnOk result (self.new.places ≡ moved tablet server self.old.places) }
+        ensures stay { OnErr result (self.new.places ≡ self.old.places) }
         ensures opened { OnOk result (Remakes IsReopened tablet self.old.tablets self.new.tablets) }
         ensures err { OnErr result (self.new.tablets ≡ self.old.tablets) }
         ensures undamaged { Holds F.contents self.old → ¬ IsErrOf result Refusal.Damaged }
@@ -128,6 +147,7 @@ impl<F: Files> Cluster<F> {
         let index = self.position(tablet);
         let opened = open_again(self.alloc, &self.tablets[index], &mut self.files)?;
         self.tablets[index] = opened;
+        self.table.assign(tablet, server).unwrap();
         Ok(())
     }
 
@@ -165,15 +185,10 @@ impl<F: Files> Cluster<F> {
         ensures refusal { IfErr result IsMoveRefusal }
         ensures reason { HasReason (F.faults self.old.files) (F.faults self.new.files) result }
     {
-        let from = self.table.place(tablet)?.server;
-        if server >= MetadataTable::SERVERS {
-            return Err(Refusal::UnknownServer);
-        }
-        if server == from {
+        if self.is_on(tablet, server)? {
             return Ok(());
         }
         self.compact_tablet(tablet, Compaction::Minor)?;
-        self.reopen(tablet)?;
-        self.table.assign(tablet, server)
+        self.put(tablet, server)
     }
 }

@@ -111,7 +111,7 @@ splits law (Some m) (Some n) new next after whole middle left right row is keeps
     subst (λ (o : Option Contents). IsSomeAnd o (λ n. AreParts m whole n after left right)) (sym same) (parts_of law m n after whole middle left right row is inside holds kept.0 kept.1 kept.2)
 
 -- after a minor compaction the files of a tablet are there
-pub still_there : OpenIsThere → (old mid : Option Contents) (next after : ℕ) (whole middle : Tablet) (names : List ℕ) → names ≡ names_of middle → Keeps old next whole mid after middle → IfSome mid (λ n. ¬ (AllByRecursion (HasFile n) names)) → IfSome old (λ m. Holds m whole → ¬ (IsBelow next whole))
-still_there law None mid next after whole middle names are keeps missing = tt
-still_there law (Some m) None next after whole middle names are keeps missing = λ h below. keeps h below
-still_there law (Some m) (Some n) next after whole middle names are keeps missing = λ h below. missing (subst (AllByRecursion (HasFile n)) (sym are) (files_there law n (files_of middle) (keeps h below).0.files))
+pub still_there : OpenIsThere → (old mid : Option Contents) (next after : ℕ) (whole middle : Tablet) → Keeps old next whole mid after middle → IfSome mid (λ n. ¬ (AllByRecursion (HasFile n) (names_of middle))) → IfSome old (λ m. Holds m whole → ¬ (IsBelow next whole))
+still_there law None mid next after whole middle keeps missing = tt
+still_there law (Some m) None next after whole middle keeps missing = λ h below. keeps h below
+still_there law (Some m) (Some n) next after whole middle keeps missing = λ h below. missing (files_there law n (files_of middle) (keeps h below).0.files)

@@ -62,6 +62,21 @@ impl Tablet {
         Ok(names)
     }
 
+    /// Opens the files once more, as a tablet of another range with an empty memtable.
+    fn open_again<F: Files>(&self, range: RowRange, files: &mut F) -> Result<Tablet, Refusal>
+        ensures range { IfOk result (λ t. range_of t ≡ range) }
+        ensures memory { IfOk result (λ t. memory_of t ≡ []) }
+        ensures names { IfOk result (λ t. names_of t ≡ names_of self.now) }
+        ensures holds { IfOk result (λ t. IfSome (F.contents files.old) (λ m. Holds m t)) }
+        ensures damaged { IsErrOf result Refusal.Damaged → IfSome (F.contents files.old) (λ m. ¬ AllByRecursion (HasFile m) (names_of self.now)) }
+        ensures refusal { IfErr result IsReadRefusal }
+        ensures same { F.contents files.new ≡ F.contents files.old }
+        ensures reason { HasReason (F.faults files.old) (F.faults files.new) result }
+    {
+        let names = self.names()?;
+        Tablet::load(self.alloc, range, &names, files)
+    }
+
     /// A minor compaction, and then the names of the files, the newest first.
     ///
     /// # Errors
@@ -100,6 +115,19 @@ impl Tablet {
     {
         self.minor(file_limit, next_name, files)?;
         self.names()
+    }
+
+    /// The range up to a row, and that row again, which the rest begins after.
+    fn left_of(&self, row: &Row) -> Result<(RowRange, Row), Refusal>
+        ensures range { IfOk result (λ left. left.0 ≡ record { after = (range_of self.now).after; end = Some row.now }) }
+        ensures row { IfOk result (λ left. left.1 ≡ row.now) }
+        ensures refusal { IfErr result (λ refusal. refusal ≡ Refusal.NoMemory) }
+    {
+        let range = RowRange {
+            after: self.range.after.clone()?,
+            end: Some(row.clone()?),
+        };
+        Ok((range, row.clone()?))
     }
 
     /// Cuts the tablet at a row of its range that isn't its end (Bigtable, tablets are split). Answers the left
@@ -144,16 +172,11 @@ impl Tablet {
         ensures empty { memory_of self.old ≡ [] → (next_name.new ≡ next_name.old) × (F.contents files.new ≡ F.contents files.old) }
         ensures used { OnOk result (memory_of self.old ≢ [] → next_name.new ≡ next_name.old + 1) }
     {
-        let range = RowRange {
-            after: self.range.after.clone()?,
-            end: Some(row.clone()?),
-        };
-        let after = row.clone()?;
+        let (range, after) = self.left_of(row)?;
         one_listing();
         open_is_there();
         self.minor(file_limit, next_name, files)?;
-        let names = self.names()?;
-        let left = Tablet::load(self.alloc, range, &names, files)?;
+        let left = self.open_again(range, files)?;
         self.range.after = Some(after);
         Ok(left)
     }

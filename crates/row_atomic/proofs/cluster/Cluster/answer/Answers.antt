@@ -1,7 +1,9 @@
 use Rattle.std.proofs.Common.{inl, inr, ap, ◌∙◌, Err, arith}
 use Rattle.cell_key.specs.declared.refusals.Refusal.{Refusal}
-use Rattle.row_atomic.proofs.Commanding.{caused, move_answered, move_upheld, not_answered, one_answered, when_ok}
+use Rattle.row_atomic.proofs.Changing.{if_err, if_ok, on_both}
+use Rattle.row_atomic.proofs.Commanding.{apply_tells, caused, done_answered, done_tells, done_upheld, move_answered, move_upheld, not_answered, ok_tells, one_answered, refused_tells, when_err, when_ok}
 use Rattle.row_atomic.specs.Changes.{IsMoveRefusal, IsNumberedRefusal}
+use Rattle.row_atomic.specs.Refusals.{IsApplyRefusal}
 use Rattle.row_atomic.specs.Commands.{cells_shown}
 use Rattle.row_atomic.specs.Compactions as compaction
 use Rattle.row_atomic.specs.declared.commands.Command.TheVariants as command
@@ -132,3 +134,96 @@ returns-in-Ok-split-clause-cause g c =
       named = when_ok c.split.result _ c.split.ensures.left c.in-Ok-split.is;
       fits = when_ok c.split.result _ (c.split.ensures.fits holds) c.in-Ok-split.is;
     })
+
+pub returns-in-Minor-clause-uses : goal.returns-in-Minor-clause-uses
+returns-in-Minor-clause-uses g c = rw (c.in-Minor.is) ((record { name = c.minor.ensures.name; limit = c.minor.ensures.limit; none = c.minor.ensures.empty }, c.minor.ensures.spots))
+
+pub returns-in-Minor-clause-faults : goal.returns-in-Minor-clause-faults
+returns-in-Minor-clause-faults g c = done_tells g.F.Files.faults c.minor.result c.done-in-Minor.result c.args.self.now c.minor.new.self c.done-in-Minor.ensures c.minor.ensures.reason
+
+pub returns-in-Minor-clause-answers : goal.returns-in-Minor-clause-answers
+returns-in-Minor-clause-answers g c =
+    rw (c.in-Minor.is) (λ order. done_answered (command.Minor c.in-Minor.tablet) c.minor.result c.done-in-Minor.result (cells_shown g.F.Files.contents c.args.self.now) (cells_shown g.F.Files.contents c.minor.new.self) c.done-in-Minor.ensures
+    (if_ok _ c.minor.result (c.minor.ensures.kept order).1) (λ refusal is. ((λ damaged. c.minor.ensures.undamaged order (is ∙ ap (λ (r : Refusal). Err r) damaged)), (c.minor.ensures.kept order).1)))
+
+pub returns-in-Minor-clause-upholds : goal.returns-in-Minor-clause-upholds
+returns-in-Minor-clause-upholds g c =
+    rw (c.in-Minor.is) (λ order. done_upheld g.F.Files.contents (command.Minor c.in-Minor.tablet) c.minor.result c.done-in-Minor.result c.args.self.now c.minor.new.self c.done-in-Minor.ensures c.minor.ensures.made c.minor.ensures.refusal c.minor.ensures.err)
+
+pub returns-in-Merge-clause-uses : goal.returns-in-Merge-clause-uses
+returns-in-Merge-clause-uses g c = rw (c.in-Merge.is) ((record { name = c.merge.ensures.name; limit = c.merge.ensures.limit; none = λ none. absurd none }, c.merge.ensures.spots))
+
+pub returns-in-Merge-clause-faults : goal.returns-in-Merge-clause-faults
+returns-in-Merge-clause-faults g c = done_tells g.F.Files.faults c.merge.result c.done-in-Merge.result c.args.self.now c.merge.new.self c.done-in-Merge.ensures c.merge.ensures.reason
+
+pub returns-in-Merge-clause-answers : goal.returns-in-Merge-clause-answers
+returns-in-Merge-clause-answers g c =
+    rw (c.in-Merge.is) (λ order. done_answered (command.Merge c.in-Merge.tablet c.in-Merge.count) c.merge.result c.done-in-Merge.result (cells_shown g.F.Files.contents c.args.self.now) (cells_shown g.F.Files.contents c.merge.new.self) c.done-in-Merge.ensures
+    (if_ok _ c.merge.result (c.merge.ensures.kept order).1) (λ refusal is. ((λ damaged. c.merge.ensures.undamaged order (is ∙ ap (λ (r : Refusal). Err r) damaged)), (c.merge.ensures.kept order).1)))
+
+pub returns-in-Merge-clause-upholds : goal.returns-in-Merge-clause-upholds
+returns-in-Merge-clause-upholds g c =
+    rw (c.in-Merge.is) (λ order. done_upheld g.F.Files.contents (command.Merge c.in-Merge.tablet c.in-Merge.count) c.merge.result c.done-in-Merge.result c.args.self.now c.merge.new.self c.done-in-Merge.ensures c.merge.ensures.made c.merge.ensures.refusal c.merge.ensures.err)
+
+pub returns-in-Major-clause-uses : goal.returns-in-Major-clause-uses
+returns-in-Major-clause-uses g c = rw (c.in-Major.is) ((record { name = c.major.ensures.name; limit = c.major.ensures.limit; none = λ none. absurd none }, c.major.ensures.spots))
+
+pub returns-in-Major-clause-faults : goal.returns-in-Major-clause-faults
+returns-in-Major-clause-faults g c = done_tells g.F.Files.faults c.major.result c.done-in-Major.result c.args.self.now c.major.new.self c.done-in-Major.ensures c.major.ensures.reason
+
+pub returns-in-Major-clause-answers : goal.returns-in-Major-clause-answers
+returns-in-Major-clause-answers g c =
+    rw (c.in-Major.is) (λ order. done_answered (command.Major c.in-Major.tablet) c.major.result c.done-in-Major.result (cells_shown g.F.Files.contents c.args.self.now) (cells_shown g.F.Files.contents c.major.new.self) c.done-in-Major.ensures
+    (if_ok _ c.major.result (c.major.ensures.kept order).1) (λ refusal is. ((λ damaged. c.major.ensures.undamaged order (is ∙ ap (λ (r : Refusal). Err r) damaged)), (c.major.ensures.kept order).1)))
+
+pub returns-in-Major-clause-upholds : goal.returns-in-Major-clause-upholds
+returns-in-Major-clause-upholds g c =
+    rw (c.in-Major.is) (λ order. done_upheld g.F.Files.contents (command.Major c.in-Major.tablet) c.major.result c.done-in-Major.result c.args.self.now c.major.new.self c.done-in-Major.ensures (on_both _ _ c.major.result c.major.ensures.made (c.major.ensures.cleaned order)) c.major.ensures.refusal c.major.ensures.err)
+
+pub returns-in-Move-clause-uses : goal.returns-in-Move-clause-uses
+returns-in-Move-clause-uses g c = rw (c.in-Move.is) (record { name = c.move_to.ensures.name; limit = c.move_to.ensures.limit; none = c.move_to.ensures.empty })
+
+pub returns-in-Move-clause-faults : goal.returns-in-Move-clause-faults
+returns-in-Move-clause-faults g c = done_tells g.F.Files.faults c.move_to.result c.done-in-Move.result c.args.self.now c.move_to.new.self c.done-in-Move.ensures c.move_to.ensures.reason
+
+pub returns-in-Apply-clause-faults : goal.returns-in-Apply-clause-faults
+returns-in-Apply-clause-faults g c = apply_tells g.F.Files.faults c.apply.result c.done.result c.args.self.now c.apply.new.self c.done.ensures c.apply.ensures.refusal c.apply.ensures.untouched
+
+pub returns-in-Apply-clause-upholds : goal.returns-in-Apply-clause-upholds
+returns-in-Apply-clause-upholds g c =
+    rw (c.in-Apply.is) (λ order. done_upheld g.F.Files.contents (command.Apply c.in-Apply.row c.in-Apply.edits) c.apply.result c.done.result c.args.self.now c.apply.new.self c.done.ensures (if_ok _ c.apply.result c.apply.ensures.storage) c.apply.ensures.refusal (if_err _ c.apply.result c.apply.ensures.storage))
+
+pub returns-in-Apply-clause-answers : goal.returns-in-Apply-clause-answers
+returns-in-Apply-clause-answers g c =
+    rw (c.in-Apply.is) (λ order. done_answered (command.Apply c.in-Apply.row c.in-Apply.edits) c.apply.result c.done.result (cells_shown g.F.Files.contents c.args.self.now) (cells_shown g.F.Files.contents c.apply.new.self) c.done.ensures (c.apply.ensures.ok order)
+    (λ refusal is. ((λ damaged. absurd (not_answered IsApplyRefusal c.apply.result refusal _ c.apply.ensures.refusal is damaged)), when_err c.apply.result refusal (c.apply.ensures.err order) is)))
+
+pub returns-in-Ok-clause-faults : goal.returns-in-Ok-clause-faults
+returns-in-Ok-clause-faults g c = ok_tells g.F.Files.faults c.newest.result _ _ c.args.self.now c.newest.new.self c.in-Ok.is (λ is. cc) c.newest.ensures.later c.newest.ensures.device c.newest.ensures.told
+
+pub returns-in-Newest-clause-faults : goal.returns-in-Newest-clause-faults
+returns-in-Newest-clause-faults g c = refused_tells g.F.Files.faults c.newest.result _ c.args.self.now c.newest.new.self c.in-Err.is c.newest.ensures.later c.newest.ensures.device c.newest.ensures.told
+
+pub returns-in-Ok-next_cell-clause-faults : goal.returns-in-Ok-next_cell-clause-faults
+returns-in-Ok-next_cell-clause-faults g c = ok_tells g.F.Files.faults c.next_cell.result _ _ c.args.self.now c.next_cell.new.self c.in-Ok-next_cell.is (λ is. cc) c.next_cell.ensures.later c.next_cell.ensures.device c.next_cell.ensures.told
+
+pub returns-in-NextCell-clause-faults : goal.returns-in-NextCell-clause-faults
+returns-in-NextCell-clause-faults g c = refused_tells g.F.Files.faults c.next_cell.result _ c.args.self.now c.next_cell.new.self c.in-Err-next_cell.is c.next_cell.ensures.later c.next_cell.ensures.device c.next_cell.ensures.told
+
+pub returns-in-Ok-split-clause-faults : goal.returns-in-Ok-split-clause-faults
+returns-in-Ok-split-clause-faults g c = ok_tells g.F.Files.faults c.split.result _ _ c.args.self.now c.split.new.self c.in-Ok-split.is (λ is. cc) c.split.ensures.reason.later c.split.ensures.reason.device c.split.ensures.reason.told
+
+pub returns-in-Split-clause-faults : goal.returns-in-Split-clause-faults
+returns-in-Split-clause-faults g c = refused_tells g.F.Files.faults c.split.result _ c.args.self.now c.split.new.self c.in-Err-split.is c.split.ensures.reason.later c.split.ensures.reason.device c.split.ensures.reason.told
+
+pub returns-in-Ok-sweep-clause-faults : goal.returns-in-Ok-sweep-clause-faults
+returns-in-Ok-sweep-clause-faults g c = ok_tells g.F.Files.faults c.sweep.result _ _ c.args.self.now c.sweep.new.self c.in-Ok-sweep.is (λ is. cc) c.sweep.ensures.later c.sweep.ensures.device c.sweep.ensures.told
+
+pub returns-clause-faults : goal.returns-clause-faults
+returns-clause-faults g c = refused_tells g.F.Files.faults c.sweep.result _ c.args.self.now c.sweep.new.self c.in-Err-sweep.is c.sweep.ensures.later c.sweep.ensures.device c.sweep.ensures.told
+
+pub returns-in-Ok-split-clause-uses : goal.returns-in-Ok-split-clause-uses
+returns-in-Ok-split-clause-uses g c = rw (c.in-Split.is) (record { name = c.split.ensures.name; limit = c.split.ensures.limit; none = c.split.ensures.empty })
+
+pub returns-in-Split-clause-uses : goal.returns-in-Split-clause-uses
+returns-in-Split-clause-uses g c = rw (c.in-Split.is) (record { name = c.split.ensures.name; limit = c.split.ensures.limit; none = c.split.ensures.empty })

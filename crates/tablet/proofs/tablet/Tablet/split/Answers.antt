@@ -5,8 +5,8 @@ use Rattle.tablet.proofs.tablet.Tablet.split.Goals as goal
 
 pub returns-in_err-left-clause-damaged : goal.returns-in_err-left-clause-damaged
 returns-in_err-left-clause-damaged g c = λ err.
-    still_there c.open_is_there.ensures (g.F.Files.contents c.args.files.now) (g.F.Files.contents c.minor.new.files) c.args.next_name.now c.minor.new.next_name c.args.self.now c.minor.new.self c.deref.result.now
-    (c.deref.ensures.value ∙ c.in_ok-names.ensures.names) c.in_ok-minor.ensures.keeps (c.in_err-left.ensures.damaged (search rules))
+    still_there c.open_is_there.ensures (g.F.Files.contents c.args.files.now) (g.F.Files.contents c.minor.new.files) c.args.next_name.now c.minor.new.next_name c.args.self.now c.minor.new.self
+    c.in_ok-minor.ensures.keeps (c.in_err-left.ensures.damaged (search rules))
 
 pub returns-clause-parts : goal.returns-clause-parts
 returns-clause-parts g c =
@@ -17,7 +17,7 @@ returns-clause-parts g c =
       right_range = first_of (search rules, grind (arith, common_steps));
       left_memory = c.in_ok-left.ensures.memory ∙ sym c.in_ok-minor.ensures.memory;
       right_memory = refl;
-      left_names = c.in_ok-left.ensures.names ∙ c.deref.ensures.value ∙ c.in_ok-names.ensures.names;
+      left_names = c.in_ok-left.ensures.names;
       right_files = refl;
     })
     c.in_ok-minor.ensures.keeps c.in_ok-left.ensures.holds c.in_ok-left.ensures.same

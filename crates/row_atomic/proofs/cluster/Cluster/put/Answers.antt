@@ -2,15 +2,19 @@
 use Rattle.row_atomic.proofs.Answering.{found_there, matched_set}
 use Rattle.row_atomic.specs.Changes.{IsReopened}
 use Rattle.row_atomic.proofs.Changing.{remade}
-use Rattle.row_atomic.proofs.Moving.{opened_keeps}
+use Rattle.metadata_table.specs.Table.{moved}
+use Rattle.row_atomic.proofs.Moving.{matched_moved, opened_keeps}
+use Rattle.std.proofs.Common.{rules, ◌≡◌, set}
 use Rattle.row_atomic.proofs.Splitting.{emptied_at}
-use Rattle.row_atomic.proofs.cluster.Cluster.reopen.Goals as goal
+use Rattle.row_atomic.proofs.cluster.Cluster.put.Goals as goal
 
 pub invariant_of-self-2 : goal.invariant_of-self-2
 invariant_of-self-2 g c =
     let at = rw (← c.self.view_is) at c.position-index.ensures in
     let there = found_there c.self.inside.tablets.items c.position-index.result at.tablet c.index.result.now at.there c.index.ensures in
-    matched_set c.self.inside.file_limit c.self.inside.next_name c.self.inside.table c.self.inside.tablets.items c.position-index.result c.index.result.now c.in_ok-opened.opened there c.in_ok-opened.ensures.range c.in_ok-opened.ensures.names c.self.invariant
+    let done : c.assign.new.self ≡ moved c.args.tablet c.args.server c.self.inside.table = search rules in
+    matched_moved c.self.inside.file_limit c.self.inside.next_name c.args.tablet c.args.server c.self.inside.table c.assign.new.self (set c.self.inside.tablets.items c.position-index.result c.in_ok-opened.opened) done
+    (matched_set c.self.inside.file_limit c.self.inside.next_name c.self.inside.table c.self.inside.tablets.items c.position-index.result c.index.result.now c.in_ok-opened.opened there c.in_ok-opened.ensures.range c.in_ok-opened.ensures.names c.self.invariant)
 
 pub returns-clause-kept : goal.returns-clause-kept
 returns-clause-kept g c =
