@@ -1,10 +1,10 @@
 -- A server's steps, by those of its sessions.
-use Rattle.std.proofs.Common.{◌≡◌, ℕ, List, map, Option, Some, None, Result, Ok, Err, IsErrOf, refl, ap, ◌∙◌, subst, sym}
+use Rattle.std.proofs.Common.{◌≡◌, ℕ, List, map, Option, Some, None, Result, Ok, Err, IsErrOf, refl, ap, ◌∙◌, ◌⊎◌, subst, sym, inl, inr}
 use Rattle.std.specs.Prelude.{⊤}
 use Rattle.std.specs.FinMap.{empty, get-empty}
 use Rattle.cell_key.specs.Keys.{key_cmp}
 use Rattle.cell_key.specs.declared.refusals.Refusal.{Refusal}
-use Rattle.cell_key.specs.declared.refusals.Refusal.TheVariants.{Damaged, Device}
+use Rattle.cell_key.specs.declared.refusals.Refusal.TheVariants.{Damaged, Device, NoMemory}
 use Rattle.si_model.specs.Machine.{State, Request, Reply, Begun, SetDone, StopDone, Refused, IsReached, OracleRestart, RestartDone, accepts, refuses, tells, restarts, new_machine}
 use Rattle.si_model.specs.ShowsCells.{ShowsCells}
 use Rattle.si_model.specs.Refusing.{Refuses, gives_up}
@@ -16,12 +16,16 @@ use Rattle.si_model.specs.declared.replies.Progress.TheVariants as steps
 use Rattle.file_store.specs.Store.{Contents}
 use Rattle.row_atomic.specs.Changes.{Holds}
 use Rattle.row_atomic.specs.Clusters.{Spot, Storage, cells_in, spot_of, storage_of}
+use Rattle.txn_client.specs.Reads.{IsShort}
 use Rattle.txn_client.specs.Shows as clients
+use Rattle.request_codec.specs.Replies.{replied}
 use Rattle.request_codec.specs.declared.replies.Reply.{Reply as Kept}
 use Rattle.request_codec.specs.declared.replies.Reply.TheVariants as kept
 use Rattle.server_loop.specs.declared.server.Server.{Server}
 use Rattle.server_loop.specs.Server.{Shows}
-use Rattle.server_loop.specs.Runs.{StepsAs, IfRefused}
+use Rattle.server_loop.specs.Refusals.{IsSweepRefusal}
+use Rattle.server_loop.specs.Runs.{HasShortValue, StampsGoOn, StepsAs, IfRefused}
+use Rattle.server_loop.specs.Upkeep.{IsDone}
 use Rattle.server_loop.proofs.Replacing.{KeepsPlaces}
 use Rattle.server_loop.proofs.Relocating.{still_placed, still_next}
 
@@ -115,6 +119,51 @@ module _ {F M : Type 0} (contents : F → Option Contents) (old new : Server F M
     still before shown,
     undamaged (λ (r : Refusal). r ≡ Device) refusal device (λ h. cc),
   )
+
+-- a reply is no refusal that the request can't have
+pub never : (P : Refusal → Type 0) (reply : Kept) (refusal : Refusal) → IfRefused P (replied reply) → (P refusal → ⊥) → reply ≡ kept.Refused refusal → ⊥
+never P reply refusal told none is = none (subst (λ (r : Kept). IfRefused P (replied r)) is told)
+
+-- a sweep is refused for two reasons alone
+pub not_swept : (refusal : Refusal) → (refusal ≡ Device → ⊥) → (refusal ≡ NoMemory → ⊥) → IsSweepRefusal refusal → ⊥
+not_swept refusal device memory which = elim which [
+  | inl is ↦ device is
+  | inr is ↦ memory is
+]
+
+-- what is found is no refusal and no stamp
+pub found_told : (P : Refusal → Type 0) (found : Found) → IfRefused P (found_reply found)
+found_told P (founds.Value value) = tt
+found_told P founds.Nothing = tt
+found_told P (founds.Pending start) = tt
+
+pub found_stays : (found : Found) (last : ℕ) → StampsGoOn (found_reply found) last last
+found_stays (founds.Value value) last = refl
+found_stays founds.Nothing last = refl
+found_stays (founds.Pending start) last = refl
+
+-- a value that is found is short
+pub short_found : (found : Found) → IsShort found → HasShortValue (kept.Get found)
+short_found (founds.Value value) short = short
+short_found founds.Nothing short = tt
+short_found (founds.Pending start) short = tt
+
+-- what is done is no refusal
+pub not_done : (reply : Kept) (refusal : Refusal) → IsDone reply → reply ≡ kept.Refused refusal → ⊥
+not_done reply refusal done same = subst IsDone same done
+
+pub ok_not : {A : Type 0} (value : A) (refusal : Refusal) → ¬ IsErrOf (Ok value) refusal
+ok_not value refusal e = cc
+
+-- a name is refused for two reasons alone
+pub named_not : {bad memory : Refusal} (refusal other : Refusal) → (bad ≡ other → ⊥) → (memory ≡ other → ⊥) → (refusal ≡ bad) ⊎ (refusal ≡ memory)
+    → kept.Refused refusal ≡ kept.Refused other → ⊥
+named_not refusal other bad memory which same =
+    let is : refusal ≡ other = subst (IfTold (λ (r : Refusal). refusal ≡ r)) same refl in
+    elim which [
+      | inl e ↦ bad (sym e ∙ is)
+      | inr e ↦ memory (sym e ∙ is)
+    ]
 
 never_some : {X P : Type 0} (x : X) → None ≡ Some x → P
 never_some x e = let none : ⊥ = cc in absurd none

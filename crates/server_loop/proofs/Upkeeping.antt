@@ -18,7 +18,7 @@ use Rattle.si_model.specs.Machine.{State, Request, Reply, Refused, Step, Refuses
 use Rattle.si_model.specs.Refusing.{gives_up}
 use Rattle.si_model.specs.declared.replies.Cell.{Cell}
 use Rattle.txn_client.specs.Shows as clients
-use Rattle.server_loop.specs.Refusals.{IsSweepRefusal}
+use Rattle.server_loop.specs.Refusals.{IsCutRefusal, IsRawRefusal, IsSweepRefusal}
 use Rattle.server_loop.specs.Runs.{StepsAs}
 use Rattle.server_loop.specs.Server.{Shows, machine_place, machine_places}
 use Rattle.server_loop.specs.declared.server.Server.{Server}
@@ -283,6 +283,29 @@ family_whole e which same = elim which [
   | inl is ↦ let both = sym is ∙ same in cc
   | inr is ↦ let both = sym is ∙ same in cc
 ]
+
+-- a cut is refused as a name is, or as the split of a tablet
+pub cut_named : (e : Refusal) → (e ≡ BadRow) ⊎ (e ≡ NoMemory) → IsCutRefusal e
+cut_named e which = elim which [
+  | inl is ↦ subst IsCutRefusal (sym is) tt
+  | inr is ↦ subst IsCutRefusal (sym is) tt
+]
+
+pub cut_refused : (e : Refusal) → IsSplitRefusal e → IsCutRefusal e
+cut_refused BadRow told = tt
+cut_refused refusal told = told
+
+-- a raw read is refused as a name is, or as a read
+pub raw_unnamed : {bad memory : Refusal} (e : Refusal) → IsRawRefusal bad → IsRawRefusal memory → (e ≡ bad) ⊎ (e ≡ memory) → IsRawRefusal e
+raw_unnamed e is_bad is_memory which = elim which [
+  | inl is ↦ subst IsRawRefusal (sym is) is_bad
+  | inr is ↦ subst IsRawRefusal (sym is) is_memory
+]
+
+pub raw_refused : (e : Refusal) → IsReadRefusal e → IsRawRefusal e
+raw_refused BadRow told = tt
+raw_refused BadColumn told = tt
+raw_refused refusal told = told
 
 -- what is done is no damage
 pub minor_whole : ¬ (MinorDone ≡ Refused Damaged)

@@ -139,32 +139,7 @@ impl<F: Files + Drop, M: MarkStore + Drop> Server<F, M> {
         ensures device { result ≡ Reply.Refused Refusal.Device → IsFaultSeen F.faults M.faults self.old self.new }
         ensures told { ¬ (result ≡ Reply.Refused Refusal.Device) → SeesNoFault F.faults M.faults self.old self.new }
     {
-        match request {
-            Request::Begin => self.begin(),
-            Request::Get { start, row, family } => self.get(start, row, family),
-            Request::Set {
-                start,
-                row,
-                family,
-                value,
-            } => self.set(start, row, family, value),
-            Request::Step { start } => self.step(start),
-            Request::Stop { start } => self.stop(start),
-            Request::Minor { tablet } => self.minor(tablet),
-            Request::Merge { tablet, count } => self.merge(tablet, count),
-            Request::Major { tablet } => self.major(tablet),
-            Request::Split { row } => self.split(row),
-            Request::Move { tablet, server } => self.move_to(tablet, server),
-            Request::Sweep => self.sweep(),
-            Request::OracleRestart => self.restart(),
-            Request::Raw {
-                row,
-                family,
-                qualifier,
-                lo,
-                hi,
-            } => self.raw(row, family, qualifier, lo, hi),
-        }
+        self.reply_to(request)
     }
 
     /// Serves requests in frames until the input ends, and at most `most_reads` reads of it. It takes its two buffers
@@ -201,6 +176,31 @@ impl<F: Files + Drop, M: MarkStore + Drop> Answering for Server<F, M> {
     ghost says = { IsAnswer F.contents F.faults M.mark M.faults };
 
     fn reply_to(&mut self, request: Request<'_>) -> Reply {
-        self.answer(request)
+        match request {
+            Request::Begin => self.begin(),
+            Request::Get { start, row, family } => self.get(start, row, family),
+            Request::Set {
+                start,
+                row,
+                family,
+                value,
+            } => self.set(start, row, family, value),
+            Request::Step { start } => self.step(start),
+            Request::Stop { start } => self.stop(start),
+            Request::Minor { tablet } => self.minor(tablet),
+            Request::Merge { tablet, count } => self.merge(tablet, count),
+            Request::Major { tablet } => self.major(tablet),
+            Request::Split { row } => self.split(row),
+            Request::Move { tablet, server } => self.move_to(tablet, server),
+            Request::Sweep => self.sweep(),
+            Request::OracleRestart => self.restart(),
+            Request::Raw {
+                row,
+                family,
+                qualifier,
+                lo,
+                hi,
+            } => self.raw(row, family, qualifier, lo, hi),
+        }
     }
 }

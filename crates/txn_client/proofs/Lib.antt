@@ -1,5 +1,6 @@
 pub mod Advance
 pub mod Exact
+pub mod Passed
 pub mod Placing
 pub mod Reading
 pub mod Refused

@@ -1,12 +1,11 @@
 -- Where the rows have no room for a step, as session and state show it.
-use Rattle.std.proofs.Common.{◌≡◌, ℕ, List, length, Some, refl, inl, inr, sym, subst, ap, ◌∙◌}
+use Rattle.std.proofs.Common.{◌≡◌, ℕ, List, length, Some, refl, inl, inr, sym, subst}
 use Rattle.std.specs.Prelude.{slice_get}
 use Rattle.std.specs.Ordering.{nat_cmp}
 use Rattle.std.specs.BTreeMap as btree
-use Rattle.std.specs.Result.{IfOk, IsErrAnd, IsErrOf}
+use Rattle.std.specs.Result.{IfOk}
 use Rattle.cell_key.specs.Cells.{Cells}
 use Rattle.std.specs.declared.result.Result.{Result}
-use Rattle.std.specs.declared.result.Result.TheVariants.{Ok, Err}
 use Rattle.cell_key.specs.declared.edits.Edit.{Edit}
 use Rattle.cell_key.specs.declared.keys.Qualifier.TheVariants.{Lock}
 use Rattle.cell_key.specs.declared.refusals.Refusal.{Refusal}
@@ -96,8 +95,3 @@ pub draws_shown : (clients : Clients) (t : ℕ) (session : Session) → btree.ge
 draws_shown clients t session was held st shown =
     let mine = shown_some clients t st session shown was in
     (writes_of session, mine.writes, subst (λ (n : ℕ). InPhase st t (machine.Holding n)) (sym (count_of session)) (subst (λ (p : Phase). InPhase st t (phase_of p session.commit)) held mine.phase))
-
--- an error that is passed on
-pub passed_on : {A B : Type 0} (r : Result B Refusal) (s : Result A Refusal) (e n : Refusal) → IsErrAnd r (λ f. f ≡ e) → s ≡ Err e → IsErrOf r n → IsErrOf s n
-passed_on (Ok x) s e n by was is = absurd by
-passed_on (Err f) s e n by was is = let same : f ≡ n = cc in was ∙ ap (λ x. Err x) (sym by ∙ same)

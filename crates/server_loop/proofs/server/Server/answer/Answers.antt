@@ -1,136 +1,76 @@
 use Rattle.server_loop.proofs.server.Server.answer.Goals as goal
 
-pub returns-in-Begin-clause-step : goal.returns-in-Begin-clause-step
-returns-in-Begin-clause-step g c = rw c.in-Begin.is c.begin.ensures.step
+pub returns-clause-step : goal.returns-clause-step
+returns-clause-step g c = c.reply_to.ensures.says.step
 
-pub returns-in-Get-clause-step : goal.returns-in-Get-clause-step
-returns-in-Get-clause-step g c = rw c.in-Get.is c.get.ensures.step
+pub returns-clause-refusal : goal.returns-clause-refusal
+returns-clause-refusal g c = c.reply_to.ensures.says.refusal
 
-pub returns-in-Set-clause-step : goal.returns-in-Set-clause-step
-returns-in-Set-clause-step g c = rw c.in-Set.is c.set.ensures.step
+pub returns-clause-exhausted : goal.returns-clause-exhausted
+returns-clause-exhausted g c = c.reply_to.ensures.says.exhausted
 
-pub returns-in-Step-clause-step : goal.returns-in-Step-clause-step
-returns-in-Step-clause-step g c = rw c.in-Step.is c.step.ensures.step
+pub returns-clause-draw_only : goal.returns-clause-draw_only
+returns-clause-draw_only g c = c.reply_to.ensures.says.draw_only
 
-pub returns-in-Stop-clause-step : goal.returns-in-Stop-clause-step
-returns-in-Stop-clause-step g c = rw c.in-Stop.is c.stop.ensures.step
+pub returns-clause-full : goal.returns-clause-full
+returns-clause-full g c = c.reply_to.ensures.says.full
 
-pub returns-in-OracleRestart-clause-step : goal.returns-in-OracleRestart-clause-step
-returns-in-OracleRestart-clause-step g c = rw c.in-OracleRestart.is c.restart.ensures.step
+pub returns-clause-restarted : goal.returns-clause-restarted
+returns-clause-restarted g c = c.reply_to.ensures.says.restarted
 
-pub returns-in-Minor-clause-step : goal.returns-in-Minor-clause-step
-returns-in-Minor-clause-step g c = rw c.in-Minor.is c.minor.ensures.step
+pub returns-clause-last : goal.returns-clause-last
+returns-clause-last g c = c.reply_to.ensures.says.last
 
-pub returns-in-Merge-clause-step : goal.returns-in-Merge-clause-step
-returns-in-Merge-clause-step g c = rw c.in-Merge.is c.merge.ensures.step
+pub returns-clause-changes : goal.returns-clause-changes
+returns-clause-changes g c = c.reply_to.ensures.says.changes
 
-pub returns-in-Major-clause-step : goal.returns-in-Major-clause-step
-returns-in-Major-clause-step g c = rw c.in-Major.is c.major.ensures.step
+pub returns-clause-room : goal.returns-clause-room
+returns-clause-room g c = c.reply_to.ensures.says.room
 
-pub returns-in-Split-clause-step : goal.returns-in-Split-clause-step
-returns-in-Split-clause-step g c = rw c.in-Split.is c.split.ensures.step
+pub returns-clause-crowd : goal.returns-clause-crowd
+returns-clause-crowd g c = c.reply_to.ensures.says.crowd
 
-pub returns-in-Move-clause-step : goal.returns-in-Move-clause-step
-returns-in-Move-clause-step g c = rw c.in-Move.is c.move_to.ensures.step
+pub returns-clause-exact : goal.returns-clause-exact
+returns-clause-exact g c = c.reply_to.ensures.says.exact
 
-pub returns-in-Sweep-clause-step : goal.returns-in-Sweep-clause-step
-returns-in-Sweep-clause-step g c = rw c.in-Sweep.is c.sweep.ensures.step
+pub returns-clause-leaves : goal.returns-clause-leaves
+returns-clause-leaves g c = c.reply_to.ensures.says.leaves
 
-pub returns-in-Raw-clause-step : goal.returns-in-Raw-clause-step
-returns-in-Raw-clause-step g c = rw c.in-Raw.is c.raw.ensures.step
+pub returns-clause-kept : goal.returns-clause-kept
+returns-clause-kept g c = c.reply_to.ensures.says.kept
 
-pub returns-in-Merge-clause-count : goal.returns-in-Merge-clause-count
-returns-in-Merge-clause-count g c = rw c.in-Merge.is c.merge.ensures.count
+pub returns-clause-upkeep : goal.returns-clause-upkeep
+returns-clause-upkeep g c = c.reply_to.ensures.says.upkeep
 
-pub returns-in-Begin-clause-changes : goal.returns-in-Begin-clause-changes
-returns-in-Begin-clause-changes g c = rw c.in-Begin.is c.begin.ensures.changes
+pub returns-clause-files : goal.returns-clause-files
+returns-clause-files g c = c.reply_to.ensures.says.files
 
-pub returns-in-Get-clause-changes : goal.returns-in-Get-clause-changes
-returns-in-Get-clause-changes g c = rw c.in-Get.is c.get.ensures.changes
+pub returns-clause-barred : goal.returns-clause-barred
+returns-clause-barred g c = c.reply_to.ensures.says.barred
 
-pub returns-in-Set-clause-changes : goal.returns-in-Set-clause-changes
-returns-in-Set-clause-changes g c = rw c.in-Set.is c.set.ensures.changes
+pub returns-clause-beside : goal.returns-clause-beside
+returns-clause-beside g c = c.reply_to.ensures.says.beside
 
-pub returns-in-Step-clause-changes : goal.returns-in-Step-clause-changes
-returns-in-Step-clause-changes g c = rw c.in-Step.is c.step.ensures.changes
+pub returns-clause-count : goal.returns-clause-count
+returns-clause-count g c = c.reply_to.ensures.says.count
 
-pub returns-in-Stop-clause-changes : goal.returns-in-Stop-clause-changes
-returns-in-Stop-clause-changes g c = rw c.in-Stop.is c.stop.ensures.changes
+pub returns-clause-many : goal.returns-clause-many
+returns-clause-many g c = c.reply_to.ensures.says.many
 
-pub returns-in-OracleRestart-clause-changes : goal.returns-in-OracleRestart-clause-changes
-returns-in-OracleRestart-clause-changes g c = rw c.in-OracleRestart.is c.restart.ensures.changes
+pub returns-clause-undone : goal.returns-clause-undone
+returns-clause-undone g c = c.reply_to.ensures.says.undone
 
-pub returns-in-Minor-clause-changes : goal.returns-in-Minor-clause-changes
-returns-in-Minor-clause-changes g c = rw c.in-Minor.is (λ held. (c.minor.ensures.kept held).1)
+pub returns-clause-large : goal.returns-clause-large
+returns-clause-large g c = c.reply_to.ensures.says.large
 
-pub returns-in-Merge-clause-changes : goal.returns-in-Merge-clause-changes
-returns-in-Merge-clause-changes g c = rw c.in-Merge.is (λ held. (c.merge.ensures.kept held).1)
+pub returns-clause-within : goal.returns-clause-within
+returns-clause-within g c = c.reply_to.ensures.says.within
 
-pub returns-in-Major-clause-changes : goal.returns-in-Major-clause-changes
-returns-in-Major-clause-changes g c = rw c.in-Major.is (λ held. (c.major.ensures.kept held).1)
+pub returns-clause-short : goal.returns-clause-short
+returns-clause-short g c = c.reply_to.ensures.says.short
 
-pub returns-in-Split-clause-changes : goal.returns-in-Split-clause-changes
-returns-in-Split-clause-changes g c = rw c.in-Split.is (λ held. (c.split.ensures.kept held).1)
+pub returns-clause-device : goal.returns-clause-device
+returns-clause-device g c = c.reply_to.ensures.says.device
 
-pub returns-in-Move-clause-changes : goal.returns-in-Move-clause-changes
-returns-in-Move-clause-changes g c = rw c.in-Move.is (λ held. (c.move_to.ensures.kept held).1)
-
-pub returns-in-Sweep-clause-changes : goal.returns-in-Sweep-clause-changes
-returns-in-Sweep-clause-changes g c = rw c.in-Sweep.is (λ held. (c.sweep.ensures.kept held).1)
-
-pub returns-in-Raw-clause-changes : goal.returns-in-Raw-clause-changes
-returns-in-Raw-clause-changes g c = rw c.in-Raw.is (λ held. (c.raw.ensures.kept held).1)
-
-pub returns-in-Get-clause-exact : goal.returns-in-Get-clause-exact
-returns-in-Get-clause-exact g c = rw c.in-Get.is c.get.ensures.exact
-
-pub returns-in-Set-clause-exact : goal.returns-in-Set-clause-exact
-returns-in-Set-clause-exact g c = rw c.in-Set.is c.set.ensures.exact
-
-pub returns-in-Step-clause-exact : goal.returns-in-Step-clause-exact
-returns-in-Step-clause-exact g c = rw c.in-Step.is c.step.ensures.exact
-
-pub returns-in-Stop-clause-exact : goal.returns-in-Stop-clause-exact
-returns-in-Stop-clause-exact g c = rw c.in-Stop.is c.stop.ensures.exact
-
-pub returns-in-Begin-clause-exact : goal.returns-in-Begin-clause-exact
-returns-in-Begin-clause-exact g c = rw c.in-Begin.is (record { unknown = tt; empty = tt; drawing = tt })
-
-pub returns-in-OracleRestart-clause-exact : goal.returns-in-OracleRestart-clause-exact
-returns-in-OracleRestart-clause-exact g c = rw c.in-OracleRestart.is (record { unknown = tt; empty = tt; drawing = tt })
-
-pub returns-in-Minor-clause-exact : goal.returns-in-Minor-clause-exact
-returns-in-Minor-clause-exact g c = rw c.in-Minor.is (record { unknown = tt; empty = tt; drawing = tt })
-
-pub returns-in-Merge-clause-exact : goal.returns-in-Merge-clause-exact
-returns-in-Merge-clause-exact g c = rw c.in-Merge.is (record { unknown = tt; empty = tt; drawing = tt })
-
-pub returns-in-Major-clause-exact : goal.returns-in-Major-clause-exact
-returns-in-Major-clause-exact g c = rw c.in-Major.is (record { unknown = tt; empty = tt; drawing = tt })
-
-pub returns-in-Split-clause-exact : goal.returns-in-Split-clause-exact
-returns-in-Split-clause-exact g c = rw c.in-Split.is (record { unknown = tt; empty = tt; drawing = tt })
-
-pub returns-in-Move-clause-exact : goal.returns-in-Move-clause-exact
-returns-in-Move-clause-exact g c = rw c.in-Move.is (record { unknown = tt; empty = tt; drawing = tt })
-
-pub returns-in-Sweep-clause-exact : goal.returns-in-Sweep-clause-exact
-returns-in-Sweep-clause-exact g c = rw c.in-Sweep.is (record { unknown = tt; empty = tt; drawing = tt })
-
-pub returns-in-Raw-clause-exact : goal.returns-in-Raw-clause-exact
-returns-in-Raw-clause-exact g c = rw c.in-Raw.is (record { unknown = tt; empty = tt; drawing = tt })
-
-pub returns-in-Get-clause-leaves : goal.returns-in-Get-clause-leaves
-returns-in-Get-clause-leaves g c = rw c.in-Get.is c.get.ensures.leaves
-
-pub returns-in-Set-clause-leaves : goal.returns-in-Set-clause-leaves
-returns-in-Set-clause-leaves g c = rw c.in-Set.is c.set.ensures.leaves
-
-pub returns-in-Step-clause-leaves : goal.returns-in-Step-clause-leaves
-returns-in-Step-clause-leaves g c = rw c.in-Step.is c.step.ensures.leaves
-
-pub returns-in-Stop-clause-leaves : goal.returns-in-Stop-clause-leaves
-returns-in-Stop-clause-leaves g c = rw c.in-Stop.is c.stop.ensures.leaves
-
-pub returns-in-OracleRestart-clause-leaves : goal.returns-in-OracleRestart-clause-leaves
-returns-in-OracleRestart-clause-leaves g c = rw c.in-OracleRestart.is c.restart.ensures.leaves
+pub returns-clause-told : goal.returns-clause-told
+returns-clause-told g c = c.reply_to.ensures.says.told

@@ -1,8 +1,8 @@
-use Rattle.std.proofs.Common.{refl, ap, sym}
+use Rattle.std.proofs.Common.{refl, ap, sym, inl, inr}
 use Rattle.std.specs.declared.result.Result.TheVariants.{Err}
 use Rattle.cell_key.specs.declared.refusals.Refusal.{Refusal}
 use Rattle.si_model.specs.Machine.{refuses}
-use Rattle.server_loop.proofs.Stepping.{as_err, err_undamaged}
+use Rattle.server_loop.proofs.Stepping.{as_err, err_undamaged, as_refused, not_done, ok_not}
 use Rattle.server_loop.proofs.Upkeeping.{has_stable, move_refuses, moves_as, puts_as, tells_as}
 use Rattle.server_loop.proofs.server.Server.move_to.Goals as goal
 
@@ -46,3 +46,78 @@ returns-in-Ok-clause-within g c = λ _. record {
 
 pub returns-in-Err-clause-undone : goal.returns-in-Err-clause-undone
 returns-in-Err-clause-undone g c = λ same. c.in-Err.ensures.undone (as_err _ _ _ refl same)
+
+pub returns-in-Ok-clause-refusal : goal.returns-in-Ok-clause-refusal
+returns-in-Ok-clause-refusal g c = tt
+
+pub returns-in-Ok-clause-exhausted : goal.returns-in-Ok-clause-exhausted
+returns-in-Ok-clause-exhausted g c = λ same. absurd (not_done _ _ tt same)
+
+pub returns-in-Ok-clause-last : goal.returns-in-Ok-clause-last
+returns-in-Ok-clause-last g c = refl
+
+pub returns-in-Ok-clause-kept : goal.returns-in-Ok-clause-kept
+returns-in-Ok-clause-kept g c = c.in-Ok.ensures.kept
+
+pub returns-in-Ok-clause-files : goal.returns-in-Ok-clause-files
+returns-in-Ok-clause-files g c = record { name = c.in-Ok.ensures.name; limit = c.in-Ok.ensures.limit; none = c.in-Ok.ensures.empty }
+
+pub returns-in-Ok-clause-barred : goal.returns-in-Ok-clause-barred
+returns-in-Ok-clause-barred g c = λ which. elim which [
+  | inl same ↦ absurd (not_done _ _ tt same)
+  | inr same ↦ absurd (not_done _ _ tt same)
+]
+
+pub returns-in-Ok-clause-many : goal.returns-in-Ok-clause-many
+returns-in-Ok-clause-many g c = λ same. absurd (not_done _ _ tt same)
+
+pub returns-in-Ok-clause-undone : goal.returns-in-Ok-clause-undone
+returns-in-Ok-clause-undone g c = λ same. absurd (not_done _ _ tt same)
+
+pub returns-in-Ok-clause-large : goal.returns-in-Ok-clause-large
+returns-in-Ok-clause-large g c = λ _ same. absurd (not_done _ _ tt same)
+
+pub returns-in-Ok-clause-beside : goal.returns-in-Ok-clause-beside
+returns-in-Ok-clause-beside g c = record { clients = refl; oracle = refl }
+
+pub returns-in-Ok-clause-short : goal.returns-in-Ok-clause-short
+returns-in-Ok-clause-short g c = tt
+
+pub returns-in-Ok-clause-device : goal.returns-in-Ok-clause-device
+returns-in-Ok-clause-device g c = λ same. absurd (not_done _ _ tt same)
+
+pub returns-in-Ok-clause-told : goal.returns-in-Ok-clause-told
+returns-in-Ok-clause-told g c = λ _. record { files = c.in-Ok.ensures.reason.told (ok_not _ _); marks = refl }
+
+pub returns-in-Err-clause-refusal : goal.returns-in-Err-clause-refusal
+returns-in-Err-clause-refusal g c = c.in-Err.ensures.refusal
+
+pub returns-in-Err-clause-last : goal.returns-in-Err-clause-last
+returns-in-Err-clause-last g c = refl
+
+pub returns-in-Err-clause-kept : goal.returns-in-Err-clause-kept
+returns-in-Err-clause-kept g c = c.in-Err.ensures.kept
+
+pub returns-in-Err-clause-files : goal.returns-in-Err-clause-files
+returns-in-Err-clause-files g c = record { name = c.in-Err.ensures.name; limit = c.in-Err.ensures.limit; none = c.in-Err.ensures.empty }
+
+pub returns-in-Err-clause-barred : goal.returns-in-Err-clause-barred
+returns-in-Err-clause-barred g c = λ which. c.in-Err.ensures.unmoved (elim which [
+  | inl same ↦ inl (as_err _ _ _ refl same)
+  | inr same ↦ inr (as_err _ _ _ refl same)
+])
+
+pub returns-in-Err-clause-within : goal.returns-in-Err-clause-within
+returns-in-Err-clause-within g c = λ done. absurd done
+
+pub returns-in-Err-clause-beside : goal.returns-in-Err-clause-beside
+returns-in-Err-clause-beside g c = record { clients = refl; oracle = refl }
+
+pub returns-in-Err-clause-short : goal.returns-in-Err-clause-short
+returns-in-Err-clause-short g c = tt
+
+pub returns-in-Err-clause-device : goal.returns-in-Err-clause-device
+returns-in-Err-clause-device g c = λ same. inl (c.in-Err.ensures.reason.device (as_err _ _ _ refl same))
+
+pub returns-in-Err-clause-told : goal.returns-in-Err-clause-told
+returns-in-Err-clause-told g c = λ none. record { files = c.in-Err.ensures.reason.told (λ is. none (as_refused _ _ _ refl is)); marks = refl }

@@ -2,8 +2,8 @@ use Rattle.std.proofs.Common.{inl, refl, ap, sym}
 use Rattle.std.specs.declared.result.Result.TheVariants.{Err}
 use Rattle.cell_key.specs.declared.refusals.Refusal.{Refusal}
 use Rattle.si_model.specs.Machine.{refuses}
-use Rattle.server_loop.proofs.Stepping.{as_err, err_undamaged, name_undamaged}
-use Rattle.server_loop.proofs.Upkeeping.{row_whole, split_named, split_refuses, splits_as, tells_as}
+use Rattle.server_loop.proofs.Stepping.{as_err, err_undamaged, name_undamaged, as_refused, named_not, not_done, ok_not}
+use Rattle.server_loop.proofs.Upkeeping.{cut_named, cut_refused, row_whole, split_named, split_refuses, splits_as, tells_as}
 use Rattle.server_loop.proofs.server.Server.split.Goals as goal
 
 pub returns-in-Err-clause-step : goal.returns-in-Err-clause-step
@@ -44,3 +44,114 @@ returns-clause-large g c = λ held same. rw (← c.in-Ok.ensures.ok) (c.in-Err-s
 
 pub returns-clause-undone : goal.returns-clause-undone
 returns-clause-undone g c = λ same. c.in-Err-split.ensures.undone (as_err _ _ _ refl same)
+
+pub returns-in-Err-clause-refusal : goal.returns-in-Err-clause-refusal
+returns-in-Err-clause-refusal g c = cut_named _ c.in-Err.ensures.others
+
+pub returns-in-Err-clause-exhausted : goal.returns-in-Err-clause-exhausted
+returns-in-Err-clause-exhausted g c = λ same. absurd (named_not _ _ (λ e. cc) (λ e. cc) c.in-Err.ensures.others same)
+
+pub returns-in-Err-clause-last : goal.returns-in-Err-clause-last
+returns-in-Err-clause-last g c = refl
+
+pub returns-in-Err-clause-kept : goal.returns-in-Err-clause-kept
+returns-in-Err-clause-kept g c = λ held. (held, refl)
+
+pub returns-in-Err-clause-files : goal.returns-in-Err-clause-files
+returns-in-Err-clause-files g c = record { name = inl (refl, refl); limit = refl; none = λ _. (refl, refl) }
+
+pub returns-in-Err-clause-barred : goal.returns-in-Err-clause-barred
+returns-in-Err-clause-barred g c = λ _. refl
+
+pub returns-in-Err-clause-many : goal.returns-in-Err-clause-many
+returns-in-Err-clause-many g c = λ same. absurd (named_not _ _ (λ e. cc) (λ e. cc) c.in-Err.ensures.others same)
+
+pub returns-in-Err-clause-undone : goal.returns-in-Err-clause-undone
+returns-in-Err-clause-undone g c = λ same. absurd (named_not _ _ (λ e. cc) (λ e. cc) c.in-Err.ensures.others same)
+
+pub returns-in-Err-clause-large : goal.returns-in-Err-clause-large
+returns-in-Err-clause-large g c = λ _ same. absurd (named_not _ _ (λ e. cc) (λ e. cc) c.in-Err.ensures.others same)
+
+pub returns-in-Err-clause-within : goal.returns-in-Err-clause-within
+returns-in-Err-clause-within g c = λ done. absurd done
+
+pub returns-in-Err-clause-beside : goal.returns-in-Err-clause-beside
+returns-in-Err-clause-beside g c = record { clients = refl; oracle = refl }
+
+pub returns-in-Err-clause-short : goal.returns-in-Err-clause-short
+returns-in-Err-clause-short g c = tt
+
+pub returns-in-Err-clause-device : goal.returns-in-Err-clause-device
+returns-in-Err-clause-device g c = λ same. absurd (named_not _ _ (λ e. cc) (λ e. cc) c.in-Err.ensures.others same)
+
+pub returns-in-Err-clause-told : goal.returns-in-Err-clause-told
+returns-in-Err-clause-told g c = λ _. record { files = refl; marks = refl }
+
+pub returns-in-Ok-split-clause-refusal : goal.returns-in-Ok-split-clause-refusal
+returns-in-Ok-split-clause-refusal g c = tt
+
+pub returns-in-Ok-split-clause-exhausted : goal.returns-in-Ok-split-clause-exhausted
+returns-in-Ok-split-clause-exhausted g c = λ same. absurd (not_done _ _ tt same)
+
+pub returns-in-Ok-split-clause-last : goal.returns-in-Ok-split-clause-last
+returns-in-Ok-split-clause-last g c = refl
+
+pub returns-in-Ok-split-clause-kept : goal.returns-in-Ok-split-clause-kept
+returns-in-Ok-split-clause-kept g c = c.in-Ok-split.ensures.kept
+
+pub returns-in-Ok-split-clause-files : goal.returns-in-Ok-split-clause-files
+returns-in-Ok-split-clause-files g c = rw (← c.in-Ok.ensures.ok) (record { name = c.in-Ok-split.ensures.name; limit = c.in-Ok-split.ensures.limit; none = c.in-Ok-split.ensures.empty })
+
+pub returns-in-Ok-split-clause-barred : goal.returns-in-Ok-split-clause-barred
+returns-in-Ok-split-clause-barred g c = λ same. absurd (not_done _ _ tt same)
+
+pub returns-in-Ok-split-clause-many : goal.returns-in-Ok-split-clause-many
+returns-in-Ok-split-clause-many g c = λ same. absurd (not_done _ _ tt same)
+
+pub returns-in-Ok-split-clause-undone : goal.returns-in-Ok-split-clause-undone
+returns-in-Ok-split-clause-undone g c = λ same. absurd (not_done _ _ tt same)
+
+pub returns-in-Ok-split-clause-large : goal.returns-in-Ok-split-clause-large
+returns-in-Ok-split-clause-large g c = λ _ same. absurd (not_done _ _ tt same)
+
+pub returns-in-Ok-split-clause-beside : goal.returns-in-Ok-split-clause-beside
+returns-in-Ok-split-clause-beside g c = record { clients = refl; oracle = refl }
+
+pub returns-in-Ok-split-clause-short : goal.returns-in-Ok-split-clause-short
+returns-in-Ok-split-clause-short g c = tt
+
+pub returns-in-Ok-split-clause-device : goal.returns-in-Ok-split-clause-device
+returns-in-Ok-split-clause-device g c = λ same. absurd (not_done _ _ tt same)
+
+pub returns-in-Ok-split-clause-told : goal.returns-in-Ok-split-clause-told
+returns-in-Ok-split-clause-told g c = λ _. record { files = c.in-Ok-split.ensures.reason.told (ok_not _ _); marks = refl }
+
+pub returns-clause-refusal : goal.returns-clause-refusal
+returns-clause-refusal g c = cut_refused _ c.in-Err-split.ensures.refusal
+
+pub returns-clause-last : goal.returns-clause-last
+returns-clause-last g c = refl
+
+pub returns-clause-kept : goal.returns-clause-kept
+returns-clause-kept g c = c.in-Err-split.ensures.kept
+
+pub returns-clause-files : goal.returns-clause-files
+returns-clause-files g c = rw (← c.in-Ok.ensures.ok) (record { name = c.in-Err-split.ensures.name; limit = c.in-Err-split.ensures.limit; none = c.in-Err-split.ensures.empty })
+
+pub returns-clause-barred : goal.returns-clause-barred
+returns-clause-barred g c = λ same. c.in-Err-split.ensures.barred (as_err _ _ _ refl same)
+
+pub returns-clause-within : goal.returns-clause-within
+returns-clause-within g c = λ done. absurd done
+
+pub returns-clause-beside : goal.returns-clause-beside
+returns-clause-beside g c = record { clients = refl; oracle = refl }
+
+pub returns-clause-short : goal.returns-clause-short
+returns-clause-short g c = tt
+
+pub returns-clause-device : goal.returns-clause-device
+returns-clause-device g c = λ same. inl (c.in-Err-split.ensures.reason.device (as_err _ _ _ refl same))
+
+pub returns-clause-told : goal.returns-clause-told
+returns-clause-told g c = λ none. record { files = c.in-Err-split.ensures.reason.told (λ is. none (as_refused _ _ _ refl is)); marks = refl }

@@ -1,11 +1,12 @@
-use Rattle.std.proofs.Common.{◌≡◌, ◌∙◌, sym, ap, subst, refl, Option, Some, None, true, cond, arith}
+use Rattle.std.proofs.Common.{◌≡◌, ◌∙◌, sym, ap, subst, refl, Option, Some, None, true, cond, inl, arith}
 use Rattle.std.specs.Prelude.{is_some, IsSome}
 use Rattle.std.specs.Ordering.{nat_cmp, is_eq}
 use Rattle.std.specs.BTreeMap as btree
 use Rattle.txn_client.specs.declared.session.Session.{Session}
-use Rattle.txn_client.proofs.Room.{made_shown}
+use Rattle.txn_client.proofs.Room.{made_shown, no_room_shown, draws_shown}
+use Rattle.txn_client.proofs.Passed.{passed_on, passed_err, passed_none, passed_kept, passed_back, not_err, advance_step}
 use Rattle.txn_client.proofs.Exact.{is_kept, is_there, passes, unwritten_none, unwritten_phase}
-use Rattle.txn_client.proofs.Table.{entries_each, same_each, takes_at, steps_refused, advance_unknown_at, as_err, twice, with_none}
+use Rattle.txn_client.proofs.Table.{entries_each, same_each, takes_at, steps_refused, advance_unknown_at, as_err, twice, with_none, touches_at, draws_next, never_draws}
 use Rattle.txn_client.proofs.clients.Clients.step.Goals as goal
 
 pub returns-then-outcome-clause-step : goal.returns-then-outcome-clause-step
@@ -99,3 +100,201 @@ returns-then-outcome-clause-made g c = λ held.
 pub returns-else-outcome-clause-made : goal.returns-else-outcome-clause-made
 returns-else-outcome-clause-made g c = λ held.
     made_shown g.R.Rows.overfills c.args.rows.now (g.R.Rows.cells c.args.rows.now) c.in-Some.session.now c.in_ok-outcome.outcome.progress (g.R.Rows.cells c.advance.new.rows) c.args.self.now c.args.start (sym c.in-Some.ensures.value) (c.in_ok-outcome.ensures.made held)
+
+pub returns-then-outcome-clause-kept : goal.returns-then-outcome-clause-kept
+returns-then-outcome-clause-kept g c = λ held. tt
+
+pub returns-then-outcome-clause-still : goal.returns-then-outcome-clause-still
+returns-then-outcome-clause-still g c = λ held. c.in_ok-outcome.ensures.still held
+
+pub returns-then-outcome-clause-storage : goal.returns-then-outcome-clause-storage
+returns-then-outcome-clause-storage g c = c.in_ok-outcome.ensures.storage
+
+pub returns-then-outcome-clause-touched : goal.returns-then-outcome-clause-touched
+returns-then-outcome-clause-touched g c = λ held. touches_at c.args.self.now c.args.start c.in-Some.session.now (g.R.Rows.cells c.args.rows.now) (g.R.Rows.cells c.advance.new.rows) (sym c.in-Some.ensures.value) (c.in_ok-outcome.ensures.touched held)
+
+pub returns-then-outcome-clause-draws : goal.returns-then-outcome-clause-draws
+returns-then-outcome-clause-draws g c = c.in_ok-outcome.ensures.draws.0
+
+pub returns-then-outcome-clause-last : goal.returns-then-outcome-clause-last
+returns-then-outcome-clause-last g c = c.in_ok-outcome.ensures.draws.1
+
+pub returns-then-outcome-clause-stays : goal.returns-then-outcome-clause-stays
+returns-then-outcome-clause-stays g c = tt
+
+pub returns-then-outcome-clause-undamaged : goal.returns-then-outcome-clause-undamaged
+returns-then-outcome-clause-undamaged g c = λ held is. not_err _ _ is
+
+pub returns-then-outcome-clause-refusal : goal.returns-then-outcome-clause-refusal
+returns-then-outcome-clause-refusal g c = tt
+
+pub returns-then-outcome-clause-err : goal.returns-then-outcome-clause-err
+returns-then-outcome-clause-err g c = tt
+
+pub returns-then-outcome-clause-drawing : goal.returns-then-outcome-clause-drawing
+returns-then-outcome-clause-drawing g c = λ st shown about. tt
+
+pub returns-then-outcome-clause-exhausted : goal.returns-then-outcome-clause-exhausted
+returns-then-outcome-clause-exhausted g c = λ is. absurd (not_err _ _ is)
+
+pub returns-then-outcome-clause-exhausted_draw : goal.returns-then-outcome-clause-exhausted_draw
+returns-then-outcome-clause-exhausted_draw g c = λ is. absurd (not_err _ _ is)
+
+pub returns-then-outcome-clause-undrawn : goal.returns-then-outcome-clause-undrawn
+returns-then-outcome-clause-undrawn g c = λ is. absurd (not_err _ _ is)
+
+pub returns-then-outcome-clause-aside : goal.returns-then-outcome-clause-aside
+returns-then-outcome-clause-aside g c = λ st shown other. c.in_ok-outcome.ensures.aside (λ held. other (draws_shown c.args.self.now c.args.start c.in-Some.session.now (sym c.in-Some.ensures.value) held st shown))
+
+pub returns-then-outcome-clause-full : goal.returns-then-outcome-clause-full
+returns-then-outcome-clause-full g c = λ held is. absurd (not_err _ _ is)
+
+pub returns-then-outcome-clause-device : goal.returns-then-outcome-clause-device
+returns-then-outcome-clause-device g c = λ is. absurd (not_err _ _ is)
+
+pub returns-then-outcome-clause-later : goal.returns-then-outcome-clause-later
+returns-then-outcome-clause-later g c = c.in_ok-outcome.ensures.later
+
+pub returns-then-outcome-clause-told : goal.returns-then-outcome-clause-told
+returns-then-outcome-clause-told g c = λ other. c.in_ok-outcome.ensures.told (λ is. not_err _ _ is)
+
+pub returns-then-outcome-clause-mark_later : goal.returns-then-outcome-clause-mark_later
+returns-then-outcome-clause-mark_later g c = c.in_ok-outcome.ensures.mark_later
+
+pub returns-then-outcome-clause-mark_told : goal.returns-then-outcome-clause-mark_told
+returns-then-outcome-clause-mark_told g c = λ other. c.in_ok-outcome.ensures.mark_told (λ is. not_err _ _ is)
+
+pub returns-else-outcome-clause-kept : goal.returns-else-outcome-clause-kept
+returns-else-outcome-clause-kept g c = λ held. tt
+
+pub returns-else-outcome-clause-still : goal.returns-else-outcome-clause-still
+returns-else-outcome-clause-still g c = λ held. c.in_ok-outcome.ensures.still held
+
+pub returns-else-outcome-clause-storage : goal.returns-else-outcome-clause-storage
+returns-else-outcome-clause-storage g c = c.in_ok-outcome.ensures.storage
+
+pub returns-else-outcome-clause-touched : goal.returns-else-outcome-clause-touched
+returns-else-outcome-clause-touched g c = λ held. touches_at c.args.self.now c.args.start c.in-Some.session.now (g.R.Rows.cells c.args.rows.now) (g.R.Rows.cells c.advance.new.rows) (sym c.in-Some.ensures.value) (c.in_ok-outcome.ensures.touched held)
+
+pub returns-else-outcome-clause-draws : goal.returns-else-outcome-clause-draws
+returns-else-outcome-clause-draws g c = c.in_ok-outcome.ensures.draws.0
+
+pub returns-else-outcome-clause-last : goal.returns-else-outcome-clause-last
+returns-else-outcome-clause-last g c = c.in_ok-outcome.ensures.draws.1
+
+pub returns-else-outcome-clause-stays : goal.returns-else-outcome-clause-stays
+returns-else-outcome-clause-stays g c = tt
+
+pub returns-else-outcome-clause-undamaged : goal.returns-else-outcome-clause-undamaged
+returns-else-outcome-clause-undamaged g c = λ held is. not_err _ _ is
+
+pub returns-else-outcome-clause-refusal : goal.returns-else-outcome-clause-refusal
+returns-else-outcome-clause-refusal g c = tt
+
+pub returns-else-outcome-clause-err : goal.returns-else-outcome-clause-err
+returns-else-outcome-clause-err g c = tt
+
+pub returns-else-outcome-clause-drawing : goal.returns-else-outcome-clause-drawing
+returns-else-outcome-clause-drawing g c = λ st shown about. tt
+
+pub returns-else-outcome-clause-exhausted : goal.returns-else-outcome-clause-exhausted
+returns-else-outcome-clause-exhausted g c = λ is. absurd (not_err _ _ is)
+
+pub returns-else-outcome-clause-exhausted_draw : goal.returns-else-outcome-clause-exhausted_draw
+returns-else-outcome-clause-exhausted_draw g c = λ is. absurd (not_err _ _ is)
+
+pub returns-else-outcome-clause-undrawn : goal.returns-else-outcome-clause-undrawn
+returns-else-outcome-clause-undrawn g c = λ is. absurd (not_err _ _ is)
+
+pub returns-else-outcome-clause-aside : goal.returns-else-outcome-clause-aside
+returns-else-outcome-clause-aside g c = λ st shown other. c.in_ok-outcome.ensures.aside (λ held. other (draws_shown c.args.self.now c.args.start c.in-Some.session.now (sym c.in-Some.ensures.value) held st shown))
+
+pub returns-else-outcome-clause-full : goal.returns-else-outcome-clause-full
+returns-else-outcome-clause-full g c = λ held is. absurd (not_err _ _ is)
+
+pub returns-else-outcome-clause-device : goal.returns-else-outcome-clause-device
+returns-else-outcome-clause-device g c = λ is. absurd (not_err _ _ is)
+
+pub returns-else-outcome-clause-later : goal.returns-else-outcome-clause-later
+returns-else-outcome-clause-later g c = c.in_ok-outcome.ensures.later
+
+pub returns-else-outcome-clause-told : goal.returns-else-outcome-clause-told
+returns-else-outcome-clause-told g c = λ other. c.in_ok-outcome.ensures.told (λ is. not_err _ _ is)
+
+pub returns-else-outcome-clause-mark_later : goal.returns-else-outcome-clause-mark_later
+returns-else-outcome-clause-mark_later g c = c.in_ok-outcome.ensures.mark_later
+
+pub returns-else-outcome-clause-mark_told : goal.returns-else-outcome-clause-mark_told
+returns-else-outcome-clause-mark_told g c = λ other. c.in_ok-outcome.ensures.mark_told (λ is. not_err _ _ is)
+
+pub returns-in_err-outcome-clause-kept : goal.returns-in_err-outcome-clause-kept
+returns-in_err-outcome-clause-kept g c = λ held. passed_kept c.from_residual.result _ (c.in_err-outcome.ensures.kept held)
+
+pub returns-in_err-outcome-clause-still : goal.returns-in_err-outcome-clause-still
+returns-in_err-outcome-clause-still g c = λ held. c.in_err-outcome.ensures.still held
+
+pub returns-in_err-outcome-clause-storage : goal.returns-in_err-outcome-clause-storage
+returns-in_err-outcome-clause-storage g c = c.in_err-outcome.ensures.storage
+
+pub returns-in_err-outcome-clause-touched : goal.returns-in_err-outcome-clause-touched
+returns-in_err-outcome-clause-touched g c = λ held. touches_at c.args.self.now c.args.start c.in-Some.session.now (g.R.Rows.cells c.args.rows.now) (g.R.Rows.cells c.advance.new.rows) (sym c.in-Some.ensures.value) (c.in_err-outcome.ensures.touched held)
+
+pub returns-in_err-outcome-clause-made : goal.returns-in_err-outcome-clause-made
+returns-in_err-outcome-clause-made g c = λ held. passed_none c.from_residual.result c.in_err-outcome.field-0.0 _ c.from_residual.ensures.1
+
+pub returns-in_err-outcome-clause-draws : goal.returns-in_err-outcome-clause-draws
+returns-in_err-outcome-clause-draws g c = passed_none c.from_residual.result c.in_err-outcome.field-0.0 _ c.from_residual.ensures.1
+
+pub returns-in_err-outcome-clause-last : goal.returns-in_err-outcome-clause-last
+returns-in_err-outcome-clause-last g c = passed_none c.from_residual.result c.in_err-outcome.field-0.0 _ c.from_residual.ensures.1
+
+pub returns-in_err-outcome-clause-stays : goal.returns-in_err-outcome-clause-stays
+returns-in_err-outcome-clause-stays g c = passed_kept c.from_residual.result _ c.in_err-outcome.ensures.stays
+
+pub returns-in_err-outcome-clause-undamaged : goal.returns-in_err-outcome-clause-undamaged
+returns-in_err-outcome-clause-undamaged g c = λ held is. c.in_err-outcome.ensures.undamaged held (passed_on c.from_residual.result _ c.in_err-outcome.field-0.0 _ c.from_residual.ensures.1 refl is)
+
+pub returns-in_err-outcome-clause-refusal : goal.returns-in_err-outcome-clause-refusal
+returns-in_err-outcome-clause-refusal g c = passed_err c.from_residual.result c.in_err-outcome.field-0.0 _ c.from_residual.ensures.1 (advance_step _ c.in_err-outcome.field-0.0 c.in_err-outcome.ensures.refusal)
+
+pub returns-in_err-outcome-clause-drawing : goal.returns-in_err-outcome-clause-drawing
+returns-in_err-outcome-clause-drawing g c = λ st shown about. passed_err c.from_residual.result c.in_err-outcome.field-0.0 _ c.from_residual.ensures.1 (c.in_err-outcome.ensures.drawing (draws_next c.args.self.now c.args.start c.in-Some.session.now st (sym c.in-Some.ensures.value) shown about))
+
+pub returns-in_err-outcome-clause-exhausted : goal.returns-in_err-outcome-clause-exhausted
+returns-in_err-outcome-clause-exhausted g c = λ is. c.in_err-outcome.ensures.exhausted (passed_on c.from_residual.result _ c.in_err-outcome.field-0.0 _ c.from_residual.ensures.1 refl is)
+
+pub returns-in_err-outcome-clause-exhausted_draw : goal.returns-in_err-outcome-clause-exhausted_draw
+returns-in_err-outcome-clause-exhausted_draw g c = λ is. draws_shown c.args.self.now c.args.start c.in-Some.session.now (sym c.in-Some.ensures.value) (c.in_err-outcome.ensures.draw_only (passed_on c.from_residual.result _ c.in_err-outcome.field-0.0 _ c.from_residual.ensures.1 refl is))
+
+pub returns-in_err-outcome-clause-undrawn : goal.returns-in_err-outcome-clause-undrawn
+returns-in_err-outcome-clause-undrawn g c = λ is. c.in_err-outcome.ensures.undrawn (passed_on c.from_residual.result _ c.in_err-outcome.field-0.0 _ c.from_residual.ensures.1 refl is)
+
+pub returns-in_err-outcome-clause-aside : goal.returns-in_err-outcome-clause-aside
+returns-in_err-outcome-clause-aside g c = λ st shown other. c.in_err-outcome.ensures.aside (λ held. other (draws_shown c.args.self.now c.args.start c.in-Some.session.now (sym c.in-Some.ensures.value) held st shown))
+
+pub returns-in_err-outcome-clause-full : goal.returns-in_err-outcome-clause-full
+returns-in_err-outcome-clause-full g c = λ held is. no_room_shown g.R.Rows.overfills c.args.rows.now (g.R.Rows.cells c.args.rows.now) c.in-Some.session.now c.args.self.now c.args.start (sym c.in-Some.ensures.value) (c.in_err-outcome.ensures.full held (passed_on c.from_residual.result _ c.in_err-outcome.field-0.0 _ c.from_residual.ensures.1 refl is))
+
+pub returns-in_err-outcome-clause-device : goal.returns-in_err-outcome-clause-device
+returns-in_err-outcome-clause-device g c = λ is. c.in_err-outcome.ensures.device (passed_on c.from_residual.result _ c.in_err-outcome.field-0.0 _ c.from_residual.ensures.1 refl is)
+
+pub returns-in_err-outcome-clause-later : goal.returns-in_err-outcome-clause-later
+returns-in_err-outcome-clause-later g c = c.in_err-outcome.ensures.later
+
+pub returns-in_err-outcome-clause-told : goal.returns-in_err-outcome-clause-told
+returns-in_err-outcome-clause-told g c = λ other. c.in_err-outcome.ensures.told (λ is. other (passed_back c.from_residual.result _ c.in_err-outcome.field-0.0 _ c.from_residual.ensures.1 refl is))
+
+pub returns-in_err-outcome-clause-mark_later : goal.returns-in_err-outcome-clause-mark_later
+returns-in_err-outcome-clause-mark_later g c = c.in_err-outcome.ensures.mark_later
+
+pub returns-in_err-outcome-clause-mark_told : goal.returns-in_err-outcome-clause-mark_told
+returns-in_err-outcome-clause-mark_told g c = λ other. c.in_err-outcome.ensures.mark_told (λ is. other (passed_back c.from_residual.result _ c.in_err-outcome.field-0.0 _ c.from_residual.ensures.1 refl is))
+
+pub returns-in_default-clause-drawing : goal.returns-in_default-clause-drawing
+returns-in_default-clause-drawing g c = λ st shown about. absurd (never_draws c.args.self.now c.args.start st (sym c.in_default.ensures.value) shown about)
+
+pub returns-in_default-clause-aside : goal.returns-in_default-clause-aside
+returns-in_default-clause-aside g c = λ st shown other. refl
+
+pub returns-in_default-clause-touched : goal.returns-in_default-clause-touched
+returns-in_default-clause-touched g c = λ held st shown. inl refl

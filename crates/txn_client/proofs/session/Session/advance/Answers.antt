@@ -1,10 +1,14 @@
-use Rattle.std.proofs.Common.{ℕ}
+use Rattle.std.proofs.Common.{ℕ, ◌≡◌, inl, inr, length, refl, subst, sym, IfErr}
 use Rattle.std.proofs.lemmas.Result.{IfOk-weaker}
 use Rattle.cell_key.specs.Cells.{Cells}
-use Rattle.txn_client.specs.Shows.{Advances}
+use Rattle.txn_client.specs.Shows.{Advances, DrawsNext, HasNoNext, TouchesBy, phase_of, top_after, writes_of}
+use Rattle.txn_client.specs.Refusals.{IsAdvanceRefusal}
+use Rattle.txn_client.specs.Room.{ChangesIn, HasNoRoom}
+use Rattle.txn_client.specs.declared.session.Phase.{Phase}
 use Rattle.txn_client.specs.declared.session.Phase.TheVariants.{Open, Holding, Stamped, Finishing}
 use Rattle.txn_client.proofs.Room.{made_in, stamped_makes}
 use Rattle.txn_client.proofs.Sessions.{ok_at}
+use Rattle.txn_client.proofs.Passed.{passed_kept}
 use Rattle.txn_client.proofs.session.Session.advance.Goals as goal
 
 pub returns-in-Open-clause-step : goal.returns-in-Open-clause-step
@@ -42,3 +46,285 @@ returns-in-Stamped-clause-made g c = λ held. made_in g.R.Rows.overfills c.args.
 
 pub returns-in-Finishing-clause-made : goal.returns-in-Finishing-clause-made
 returns-in-Finishing-clause-made g c = λ held. made_in g.R.Rows.overfills c.args.rows.now (g.R.Rows.cells c.args.rows.now) c.args.self.now (Finishing c.in-Finishing.k) (g.R.Rows.cells c.finish_next.new.rows) c.finish_next.result c.in-Finishing.is (c.finish_next.ensures.made held)
+
+pub returns-in-Open-clause-start : goal.returns-in-Open-clause-start
+returns-in-Open-clause-start g c = c.hold_next.ensures.start
+
+pub returns-in-Open-clause-writes : goal.returns-in-Open-clause-writes
+returns-in-Open-clause-writes g c = c.hold_next.ensures.writes
+
+pub returns-in-Open-clause-err : goal.returns-in-Open-clause-err
+returns-in-Open-clause-err g c = c.hold_next.ensures.err
+
+pub returns-in-Open-clause-storage : goal.returns-in-Open-clause-storage
+returns-in-Open-clause-storage g c = c.hold_next.ensures.storage
+
+pub returns-in-Open-clause-later : goal.returns-in-Open-clause-later
+returns-in-Open-clause-later g c = c.hold_next.ensures.later
+
+pub returns-in-Open-clause-told : goal.returns-in-Open-clause-told
+returns-in-Open-clause-told g c = c.hold_next.ensures.told
+
+pub returns-in-Open-clause-kept : goal.returns-in-Open-clause-kept
+returns-in-Open-clause-kept g c = λ held. c.hold_next.ensures.kept held
+
+pub returns-in-Open-clause-still : goal.returns-in-Open-clause-still
+returns-in-Open-clause-still g c = λ held. c.hold_next.ensures.still held
+
+pub returns-in-Open-clause-undamaged : goal.returns-in-Open-clause-undamaged
+returns-in-Open-clause-undamaged g c = λ held. c.hold_next.ensures.undamaged held
+
+pub returns-in-Open-clause-stays : goal.returns-in-Open-clause-stays
+returns-in-Open-clause-stays g c = passed_kept c.hold_next.result _ refl
+
+pub returns-in-Open-clause-exhausted : goal.returns-in-Open-clause-exhausted
+returns-in-Open-clause-exhausted g c = λ is. absurd (c.hold_next.ensures.not_exhausted is)
+
+pub returns-in-Open-clause-draw_only : goal.returns-in-Open-clause-draw_only
+returns-in-Open-clause-draw_only g c = λ is. absurd (c.hold_next.ensures.not_exhausted is)
+
+pub returns-in-Open-clause-undrawn : goal.returns-in-Open-clause-undrawn
+returns-in-Open-clause-undrawn g c = λ is. absurd (c.hold_next.ensures.not_exhausted is)
+
+pub returns-in-Open-clause-aside : goal.returns-in-Open-clause-aside
+returns-in-Open-clause-aside g c = λ other. refl
+
+pub returns-in-Open-clause-device : goal.returns-in-Open-clause-device
+returns-in-Open-clause-device g c = λ is. inl (c.hold_next.ensures.device is)
+
+pub returns-in-Open-clause-mark_told : goal.returns-in-Open-clause-mark_told
+returns-in-Open-clause-mark_told g c = λ other. refl
+
+pub returns-in-Open-clause-draws : goal.returns-in-Open-clause-draws
+returns-in-Open-clause-draws g c = ok_at (λ o (n : ℕ). (DrawsNext n o.progress) × (n ≡ top_after n o.progress)) c.hold_next.result c.hold_next.ensures.draws c.args.oracle.now.last
+
+pub returns-else-k-len-clause-start : goal.returns-else-k-len-clause-start
+returns-else-k-len-clause-start g c = c.hold_next-else-k-len.ensures.start
+
+pub returns-else-k-len-clause-writes : goal.returns-else-k-len-clause-writes
+returns-else-k-len-clause-writes g c = c.hold_next-else-k-len.ensures.writes
+
+pub returns-else-k-len-clause-err : goal.returns-else-k-len-clause-err
+returns-else-k-len-clause-err g c = c.hold_next-else-k-len.ensures.err
+
+pub returns-else-k-len-clause-storage : goal.returns-else-k-len-clause-storage
+returns-else-k-len-clause-storage g c = c.hold_next-else-k-len.ensures.storage
+
+pub returns-else-k-len-clause-later : goal.returns-else-k-len-clause-later
+returns-else-k-len-clause-later g c = c.hold_next-else-k-len.ensures.later
+
+pub returns-else-k-len-clause-told : goal.returns-else-k-len-clause-told
+returns-else-k-len-clause-told g c = c.hold_next-else-k-len.ensures.told
+
+pub returns-else-k-len-clause-kept : goal.returns-else-k-len-clause-kept
+returns-else-k-len-clause-kept g c = λ held. c.hold_next-else-k-len.ensures.kept held
+
+pub returns-else-k-len-clause-still : goal.returns-else-k-len-clause-still
+returns-else-k-len-clause-still g c = λ held. c.hold_next-else-k-len.ensures.still held
+
+pub returns-else-k-len-clause-undamaged : goal.returns-else-k-len-clause-undamaged
+returns-else-k-len-clause-undamaged g c = λ held. c.hold_next-else-k-len.ensures.undamaged held
+
+pub returns-else-k-len-clause-stays : goal.returns-else-k-len-clause-stays
+returns-else-k-len-clause-stays g c = passed_kept c.hold_next-else-k-len.result _ refl
+
+pub returns-else-k-len-clause-exhausted : goal.returns-else-k-len-clause-exhausted
+returns-else-k-len-clause-exhausted g c = λ is. absurd (c.hold_next-else-k-len.ensures.not_exhausted is)
+
+pub returns-else-k-len-clause-draw_only : goal.returns-else-k-len-clause-draw_only
+returns-else-k-len-clause-draw_only g c = λ is. absurd (c.hold_next-else-k-len.ensures.not_exhausted is)
+
+pub returns-else-k-len-clause-undrawn : goal.returns-else-k-len-clause-undrawn
+returns-else-k-len-clause-undrawn g c = λ is. absurd (c.hold_next-else-k-len.ensures.not_exhausted is)
+
+pub returns-else-k-len-clause-aside : goal.returns-else-k-len-clause-aside
+returns-else-k-len-clause-aside g c = λ other. refl
+
+pub returns-else-k-len-clause-device : goal.returns-else-k-len-clause-device
+returns-else-k-len-clause-device g c = λ is. inl (c.hold_next-else-k-len.ensures.device is)
+
+pub returns-else-k-len-clause-mark_told : goal.returns-else-k-len-clause-mark_told
+returns-else-k-len-clause-mark_told g c = λ other. refl
+
+pub returns-else-k-len-clause-draws : goal.returns-else-k-len-clause-draws
+returns-else-k-len-clause-draws g c = ok_at (λ o (n : ℕ). (DrawsNext n o.progress) × (n ≡ top_after n o.progress)) c.hold_next-else-k-len.result c.hold_next-else-k-len.ensures.draws c.args.oracle.now.last
+
+pub returns-in-Stamped-clause-start : goal.returns-in-Stamped-clause-start
+returns-in-Stamped-clause-start g c = c.commit_first.ensures.start
+
+pub returns-in-Stamped-clause-writes : goal.returns-in-Stamped-clause-writes
+returns-in-Stamped-clause-writes g c = c.commit_first.ensures.writes
+
+pub returns-in-Stamped-clause-err : goal.returns-in-Stamped-clause-err
+returns-in-Stamped-clause-err g c = c.commit_first.ensures.err
+
+pub returns-in-Stamped-clause-storage : goal.returns-in-Stamped-clause-storage
+returns-in-Stamped-clause-storage g c = c.commit_first.ensures.storage
+
+pub returns-in-Stamped-clause-later : goal.returns-in-Stamped-clause-later
+returns-in-Stamped-clause-later g c = c.commit_first.ensures.later
+
+pub returns-in-Stamped-clause-told : goal.returns-in-Stamped-clause-told
+returns-in-Stamped-clause-told g c = c.commit_first.ensures.told
+
+pub returns-in-Stamped-clause-kept : goal.returns-in-Stamped-clause-kept
+returns-in-Stamped-clause-kept g c = λ held. c.commit_first.ensures.kept held
+
+pub returns-in-Stamped-clause-still : goal.returns-in-Stamped-clause-still
+returns-in-Stamped-clause-still g c = λ held. c.commit_first.ensures.still held
+
+pub returns-in-Stamped-clause-undamaged : goal.returns-in-Stamped-clause-undamaged
+returns-in-Stamped-clause-undamaged g c = λ held. c.commit_first.ensures.undamaged held
+
+pub returns-in-Stamped-clause-stays : goal.returns-in-Stamped-clause-stays
+returns-in-Stamped-clause-stays g c = passed_kept c.commit_first.result _ refl
+
+pub returns-in-Stamped-clause-exhausted : goal.returns-in-Stamped-clause-exhausted
+returns-in-Stamped-clause-exhausted g c = λ is. absurd (c.commit_first.ensures.not_exhausted is)
+
+pub returns-in-Stamped-clause-draw_only : goal.returns-in-Stamped-clause-draw_only
+returns-in-Stamped-clause-draw_only g c = λ is. absurd (c.commit_first.ensures.not_exhausted is)
+
+pub returns-in-Stamped-clause-undrawn : goal.returns-in-Stamped-clause-undrawn
+returns-in-Stamped-clause-undrawn g c = λ is. absurd (c.commit_first.ensures.not_exhausted is)
+
+pub returns-in-Stamped-clause-aside : goal.returns-in-Stamped-clause-aside
+returns-in-Stamped-clause-aside g c = λ other. refl
+
+pub returns-in-Stamped-clause-device : goal.returns-in-Stamped-clause-device
+returns-in-Stamped-clause-device g c = λ is. inl (c.commit_first.ensures.device is)
+
+pub returns-in-Stamped-clause-mark_told : goal.returns-in-Stamped-clause-mark_told
+returns-in-Stamped-clause-mark_told g c = λ other. refl
+
+pub returns-in-Stamped-clause-draws : goal.returns-in-Stamped-clause-draws
+returns-in-Stamped-clause-draws g c = ok_at (λ o (n : ℕ). (DrawsNext n o.progress) × (n ≡ top_after n o.progress)) c.commit_first.result c.commit_first.ensures.draws c.args.oracle.now.last
+
+pub returns-in-Finishing-clause-start : goal.returns-in-Finishing-clause-start
+returns-in-Finishing-clause-start g c = c.finish_next.ensures.start
+
+pub returns-in-Finishing-clause-writes : goal.returns-in-Finishing-clause-writes
+returns-in-Finishing-clause-writes g c = c.finish_next.ensures.writes
+
+pub returns-in-Finishing-clause-err : goal.returns-in-Finishing-clause-err
+returns-in-Finishing-clause-err g c = c.finish_next.ensures.err
+
+pub returns-in-Finishing-clause-storage : goal.returns-in-Finishing-clause-storage
+returns-in-Finishing-clause-storage g c = c.finish_next.ensures.storage
+
+pub returns-in-Finishing-clause-later : goal.returns-in-Finishing-clause-later
+returns-in-Finishing-clause-later g c = c.finish_next.ensures.later
+
+pub returns-in-Finishing-clause-told : goal.returns-in-Finishing-clause-told
+returns-in-Finishing-clause-told g c = c.finish_next.ensures.told
+
+pub returns-in-Finishing-clause-kept : goal.returns-in-Finishing-clause-kept
+returns-in-Finishing-clause-kept g c = λ held. c.finish_next.ensures.kept held
+
+pub returns-in-Finishing-clause-still : goal.returns-in-Finishing-clause-still
+returns-in-Finishing-clause-still g c = λ held. c.finish_next.ensures.still held
+
+pub returns-in-Finishing-clause-undamaged : goal.returns-in-Finishing-clause-undamaged
+returns-in-Finishing-clause-undamaged g c = λ held. c.finish_next.ensures.undamaged held
+
+pub returns-in-Finishing-clause-stays : goal.returns-in-Finishing-clause-stays
+returns-in-Finishing-clause-stays g c = passed_kept c.finish_next.result _ refl
+
+pub returns-in-Finishing-clause-exhausted : goal.returns-in-Finishing-clause-exhausted
+returns-in-Finishing-clause-exhausted g c = λ is. absurd (c.finish_next.ensures.not_exhausted is)
+
+pub returns-in-Finishing-clause-draw_only : goal.returns-in-Finishing-clause-draw_only
+returns-in-Finishing-clause-draw_only g c = λ is. absurd (c.finish_next.ensures.not_exhausted is)
+
+pub returns-in-Finishing-clause-undrawn : goal.returns-in-Finishing-clause-undrawn
+returns-in-Finishing-clause-undrawn g c = λ is. absurd (c.finish_next.ensures.not_exhausted is)
+
+pub returns-in-Finishing-clause-aside : goal.returns-in-Finishing-clause-aside
+returns-in-Finishing-clause-aside g c = λ other. refl
+
+pub returns-in-Finishing-clause-device : goal.returns-in-Finishing-clause-device
+returns-in-Finishing-clause-device g c = λ is. inl (c.finish_next.ensures.device is)
+
+pub returns-in-Finishing-clause-mark_told : goal.returns-in-Finishing-clause-mark_told
+returns-in-Finishing-clause-mark_told g c = λ other. refl
+
+pub returns-in-Finishing-clause-draws : goal.returns-in-Finishing-clause-draws
+returns-in-Finishing-clause-draws g c = ok_at (λ o (n : ℕ). (DrawsNext n o.progress) × (n ≡ top_after n o.progress)) c.finish_next.result c.finish_next.ensures.draws c.args.oracle.now.last
+
+pub returns-then-k-len-clause-draws : goal.returns-then-k-len-clause-draws
+returns-then-k-len-clause-draws g c = c.draw_commit.ensures.draws
+
+pub returns-then-k-len-clause-start : goal.returns-then-k-len-clause-start
+returns-then-k-len-clause-start g c = c.draw_commit.ensures.start
+
+pub returns-then-k-len-clause-writes : goal.returns-then-k-len-clause-writes
+returns-then-k-len-clause-writes g c = c.draw_commit.ensures.writes
+
+pub returns-then-k-len-clause-err : goal.returns-then-k-len-clause-err
+returns-then-k-len-clause-err g c = c.draw_commit.ensures.err
+
+pub returns-then-k-len-clause-stays : goal.returns-then-k-len-clause-stays
+returns-then-k-len-clause-stays g c = c.draw_commit.ensures.stays
+
+pub returns-then-k-len-clause-exhausted : goal.returns-then-k-len-clause-exhausted
+returns-then-k-len-clause-exhausted g c = c.draw_commit.ensures.exhausted
+
+pub returns-then-k-len-clause-undrawn : goal.returns-then-k-len-clause-undrawn
+returns-then-k-len-clause-undrawn g c = c.draw_commit.ensures.undrawn
+
+pub returns-then-k-len-clause-kept : goal.returns-then-k-len-clause-kept
+returns-then-k-len-clause-kept g c = λ held. passed_kept c.draw_commit.result _ refl
+
+pub returns-then-k-len-clause-still : goal.returns-then-k-len-clause-still
+returns-then-k-len-clause-still g c = λ held. held
+
+pub returns-then-k-len-clause-storage : goal.returns-then-k-len-clause-storage
+returns-then-k-len-clause-storage g c = refl
+
+pub returns-then-k-len-clause-drawing : goal.returns-then-k-len-clause-drawing
+returns-then-k-len-clause-drawing g c = λ held. c.draw_commit.ensures.refusal
+
+pub returns-then-k-len-clause-device : goal.returns-then-k-len-clause-device
+returns-then-k-len-clause-device g c = λ is. inr (c.draw_commit.ensures.device is)
+
+pub returns-then-k-len-clause-told : goal.returns-then-k-len-clause-told
+returns-then-k-len-clause-told g c = λ other. refl
+
+pub returns-then-k-len-clause-mark_later : goal.returns-then-k-len-clause-mark_later
+returns-then-k-len-clause-mark_later g c = c.draw_commit.ensures.later
+
+pub returns-then-k-len-clause-mark_told : goal.returns-then-k-len-clause-mark_told
+returns-then-k-len-clause-mark_told g c = c.draw_commit.ensures.told
+
+pub returns-in-Open-clause-touched : goal.returns-in-Open-clause-touched
+returns-in-Open-clause-touched g c = λ held. subst (λ (p : Phase). TouchesBy p (g.R.Rows.cells c.args.rows.now) (g.R.Rows.cells c.hold_next.new.rows) c.args.self.now.start c.args.self.now.commit) (sym c.in-Open.is) (c.hold_next.ensures.touched held)
+
+pub returns-in-Open-clause-full : goal.returns-in-Open-clause-full
+returns-in-Open-clause-full g c = λ held is st reached shown mine. subst (λ (p : Phase). HasNoRoom g.R.Rows.overfills c.args.rows.now (ChangesIn st (phase_of p c.args.self.now.commit) (writes_of c.args.self.now) c.args.self.now.start)) (sym c.in-Open.is) (c.hold_next.ensures.full held is st reached shown mine)
+
+pub returns-in-Open-clause-refusal : goal.returns-in-Open-clause-refusal
+returns-in-Open-clause-refusal g c = subst (λ (p : Phase). IfErr c.hold_next.result (IsAdvanceRefusal (HasNoNext p (length c.args.self.now.writes)))) (sym c.in-Open.is) c.hold_next.ensures.refusal
+
+pub returns-else-k-len-clause-touched : goal.returns-else-k-len-clause-touched
+returns-else-k-len-clause-touched g c = λ held. subst (λ (p : Phase). TouchesBy p (g.R.Rows.cells c.args.rows.now) (g.R.Rows.cells c.hold_next-else-k-len.new.rows) c.args.self.now.start c.args.self.now.commit) (sym c.in-Holding.is) (c.hold_next-else-k-len.ensures.touched held)
+
+pub returns-else-k-len-clause-full : goal.returns-else-k-len-clause-full
+returns-else-k-len-clause-full g c = λ held is st reached shown mine. subst (λ (p : Phase). HasNoRoom g.R.Rows.overfills c.args.rows.now (ChangesIn st (phase_of p c.args.self.now.commit) (writes_of c.args.self.now) c.args.self.now.start)) (sym c.in-Holding.is) (c.hold_next-else-k-len.ensures.full held is st reached shown mine)
+
+pub returns-in-Stamped-clause-touched : goal.returns-in-Stamped-clause-touched
+returns-in-Stamped-clause-touched g c = λ held. subst (λ (p : Phase). TouchesBy p (g.R.Rows.cells c.args.rows.now) (g.R.Rows.cells c.commit_first.new.rows) c.args.self.now.start c.args.self.now.commit) (sym c.in-Stamped.is) (c.commit_first.ensures.touched held)
+
+pub returns-in-Stamped-clause-full : goal.returns-in-Stamped-clause-full
+returns-in-Stamped-clause-full g c = λ held is st reached shown mine. subst (λ (p : Phase). HasNoRoom g.R.Rows.overfills c.args.rows.now (ChangesIn st (phase_of p c.args.self.now.commit) (writes_of c.args.self.now) c.args.self.now.start)) (sym c.in-Stamped.is) (c.commit_first.ensures.full held is st reached shown mine)
+
+pub returns-in-Stamped-clause-refusal : goal.returns-in-Stamped-clause-refusal
+returns-in-Stamped-clause-refusal g c = subst (λ (p : Phase). IfErr c.commit_first.result (IsAdvanceRefusal (HasNoNext p (length c.args.self.now.writes)))) (sym c.in-Stamped.is) c.commit_first.ensures.refusal
+
+pub returns-in-Finishing-clause-touched : goal.returns-in-Finishing-clause-touched
+returns-in-Finishing-clause-touched g c = λ held. subst (λ (p : Phase). TouchesBy p (g.R.Rows.cells c.args.rows.now) (g.R.Rows.cells c.finish_next.new.rows) c.args.self.now.start c.args.self.now.commit) (sym c.in-Finishing.is) (c.finish_next.ensures.touched held)
+
+pub returns-in-Finishing-clause-full : goal.returns-in-Finishing-clause-full
+returns-in-Finishing-clause-full g c = λ held is st reached shown mine. subst (λ (p : Phase). HasNoRoom g.R.Rows.overfills c.args.rows.now (ChangesIn st (phase_of p c.args.self.now.commit) (writes_of c.args.self.now) c.args.self.now.start)) (sym c.in-Finishing.is) (c.finish_next.ensures.full held is st reached shown mine)
+
+pub returns-in-Finishing-clause-refusal : goal.returns-in-Finishing-clause-refusal
+returns-in-Finishing-clause-refusal g c = subst (λ (p : Phase). IfErr c.finish_next.result (IsAdvanceRefusal (HasNoNext p (length c.args.self.now.writes)))) (sym c.in-Finishing.is) c.finish_next.ensures.refusal

@@ -2,7 +2,8 @@ use Rattle.std.proofs.Common.{◌≡◌, refl, ap}
 use Rattle.cell_key.specs.Cells.{Cells, after_edits}
 use Rattle.std.specs.Prelude.{nat_eq}
 use Rattle.txn_client.proofs.Sessions.{advance_lost, advance_committed}
-use Rattle.txn_client.proofs.Room.{no_room_to_record, passed_on}
+use Rattle.txn_client.proofs.Room.{no_room_to_record}
+use Rattle.txn_client.proofs.Passed.{passed_on}
 use Rattle.txn_client.proofs.session.Session.commit_first.Goals as goal
 
 pub returns-then-not-branch-clause-step : goal.returns-then-not-branch-clause-step

@@ -3,7 +3,8 @@ use Rattle.std.specs.Prelude.{nat_eq}
 use Rattle.cell_key.specs.Cells.{Cells, after_edits}
 use Rattle.std.specs.Bool.{OnTrue, OnFalse}
 use Rattle.txn_client.proofs.Sessions.{advance_finished}
-use Rattle.txn_client.proofs.Room.{no_room_to_record, passed_on}
+use Rattle.txn_client.proofs.Room.{no_room_to_record}
+use Rattle.txn_client.proofs.Passed.{passed_on}
 use Rattle.txn_client.proofs.session.Session.finish_next.Goals as goal
 
 either : {P Q R S : Type 0} (b : Bool) → OnTrue b P → OnFalse b Q → OnTrue b R → OnFalse b S → (P × R) ⊎ (Q × S)

@@ -3,7 +3,8 @@ use Rattle.cell_key.specs.Cells.{Cells, after_edits}
 use Rattle.si_model.specs.ShowsCells.{held_cells, Touches}
 use Rattle.txn_client.specs.Reads.{IsTaken, IsFree}
 use Rattle.txn_client.proofs.Sessions.{advance_conflict, advance_held}
-use Rattle.txn_client.proofs.Room.{no_room_to_hold, passed_on}
+use Rattle.txn_client.proofs.Room.{no_room_to_hold}
+use Rattle.txn_client.proofs.Passed.{passed_on, passed_err, passed_none, passed_kept, passed_back, not_err, read_row, row_advance, read_not_full, read_not_exhausted, row_not_exhausted, later_at}
 use Rattle.txn_client.proofs.session.Session.hold_next.Goals as goal
 
 pub returns-then-branch-clause-step : goal.returns-then-branch-clause-step
@@ -47,3 +48,150 @@ returns-clause-made g c = λ held.
     (λ row edits is. is ∙ ap (λ (cs : Cells). after_edits cs edits) (c.in_ok-is_taken.ensures.kept held)) c.args.k write c.in-Some-get.first.now c.requires c.in-Some.ensures.found c.in-Some-get.ensures.found
     (subst (λ (n : ℕ). IsFree cells write.cell n) c.stamp-start.ensures.stamp (rw c.if-branch.false at (c.in_ok-is_taken.ensures.free held)))
     (c.in_ok-hold.ensures.made (c.in_ok-is_taken.ensures.still held))
+
+pub returns-in_err-is_taken-clause-draws : goal.returns-in_err-is_taken-clause-draws
+returns-in_err-is_taken-clause-draws g c = passed_none c.from_residual.result c.in_err-is_taken.field-0.0 _ c.from_residual.ensures.1
+
+pub returns-in_err-is_taken-clause-kept : goal.returns-in_err-is_taken-clause-kept
+returns-in_err-is_taken-clause-kept g c = λ held. passed_kept c.from_residual.result _ (c.in_err-is_taken.ensures.kept held)
+
+pub returns-in_err-is_taken-clause-still : goal.returns-in_err-is_taken-clause-still
+returns-in_err-is_taken-clause-still g c = λ held. c.in_err-is_taken.ensures.still held
+
+pub returns-in_err-is_taken-clause-storage : goal.returns-in_err-is_taken-clause-storage
+returns-in_err-is_taken-clause-storage g c = c.in_err-is_taken.ensures.storage
+
+pub returns-in_err-is_taken-clause-undamaged : goal.returns-in_err-is_taken-clause-undamaged
+returns-in_err-is_taken-clause-undamaged g c = λ held is. c.in_err-is_taken.ensures.undamaged held (passed_on c.from_residual.result _ c.in_err-is_taken.field-0.0 _ c.from_residual.ensures.1 refl is)
+
+pub returns-in_err-is_taken-clause-step : goal.returns-in_err-is_taken-clause-step
+returns-in_err-is_taken-clause-step g c = λ held. passed_none c.from_residual.result c.in_err-is_taken.field-0.0 _ c.from_residual.ensures.1
+
+pub returns-in_err-is_taken-clause-made : goal.returns-in_err-is_taken-clause-made
+returns-in_err-is_taken-clause-made g c = λ held. passed_none c.from_residual.result c.in_err-is_taken.field-0.0 _ c.from_residual.ensures.1
+
+pub returns-in_err-is_taken-clause-refusal : goal.returns-in_err-is_taken-clause-refusal
+returns-in_err-is_taken-clause-refusal g c = passed_err c.from_residual.result c.in_err-is_taken.field-0.0 _ c.from_residual.ensures.1 (row_advance _ c.in_err-is_taken.field-0.0 (read_row c.in_err-is_taken.field-0.0 c.in_err-is_taken.ensures.refusal))
+
+pub returns-in_err-is_taken-clause-full : goal.returns-in_err-is_taken-clause-full
+returns-in_err-is_taken-clause-full g c = λ held is. absurd (read_not_full c.from_residual.result c.in_err-is_taken.field-0.0 c.from_residual.ensures.1 c.in_err-is_taken.ensures.refusal is)
+
+pub returns-in_err-is_taken-clause-device : goal.returns-in_err-is_taken-clause-device
+returns-in_err-is_taken-clause-device g c = λ is. c.in_err-is_taken.ensures.device (passed_on c.from_residual.result _ c.in_err-is_taken.field-0.0 _ c.from_residual.ensures.1 refl is)
+
+pub returns-in_err-is_taken-clause-later : goal.returns-in_err-is_taken-clause-later
+returns-in_err-is_taken-clause-later g c = c.in_err-is_taken.ensures.later
+
+pub returns-in_err-is_taken-clause-told : goal.returns-in_err-is_taken-clause-told
+returns-in_err-is_taken-clause-told g c = λ other. c.in_err-is_taken.ensures.told (λ is. other (passed_back c.from_residual.result _ c.in_err-is_taken.field-0.0 _ c.from_residual.ensures.1 refl is))
+
+pub returns-in_err-is_taken-clause-not_exhausted : goal.returns-in_err-is_taken-clause-not_exhausted
+returns-in_err-is_taken-clause-not_exhausted g c = λ is. read_not_exhausted c.from_residual.result c.in_err-is_taken.field-0.0 c.from_residual.ensures.1 c.in_err-is_taken.ensures.refusal is
+
+pub returns-then-branch-clause-draws : goal.returns-then-branch-clause-draws
+returns-then-branch-clause-draws g c = λ last. (tt, refl)
+
+pub returns-then-branch-clause-err : goal.returns-then-branch-clause-err
+returns-then-branch-clause-err g c = tt
+
+pub returns-then-branch-clause-kept : goal.returns-then-branch-clause-kept
+returns-then-branch-clause-kept g c = λ held. tt
+
+pub returns-then-branch-clause-still : goal.returns-then-branch-clause-still
+returns-then-branch-clause-still g c = λ held. c.in_ok-is_taken.ensures.still held
+
+pub returns-then-branch-clause-storage : goal.returns-then-branch-clause-storage
+returns-then-branch-clause-storage g c = c.in_ok-is_taken.ensures.storage
+
+pub returns-then-branch-clause-undamaged : goal.returns-then-branch-clause-undamaged
+returns-then-branch-clause-undamaged g c = λ held is. not_err _ _ is
+
+pub returns-then-branch-clause-refusal : goal.returns-then-branch-clause-refusal
+returns-then-branch-clause-refusal g c = tt
+
+pub returns-then-branch-clause-full : goal.returns-then-branch-clause-full
+returns-then-branch-clause-full g c = λ held is. absurd (not_err _ _ is)
+
+pub returns-then-branch-clause-device : goal.returns-then-branch-clause-device
+returns-then-branch-clause-device g c = λ is. absurd (not_err _ _ is)
+
+pub returns-then-branch-clause-later : goal.returns-then-branch-clause-later
+returns-then-branch-clause-later g c = c.in_ok-is_taken.ensures.later
+
+pub returns-then-branch-clause-told : goal.returns-then-branch-clause-told
+returns-then-branch-clause-told g c = λ other. c.in_ok-is_taken.ensures.told (λ is. not_err _ _ is)
+
+pub returns-then-branch-clause-not_exhausted : goal.returns-then-branch-clause-not_exhausted
+returns-then-branch-clause-not_exhausted g c = λ is. not_err _ _ is
+
+pub returns-in_err-hold-clause-draws : goal.returns-in_err-hold-clause-draws
+returns-in_err-hold-clause-draws g c = passed_none c.from_residual-in_err-hold.result c.in_err-hold.field-0.0 _ c.from_residual-in_err-hold.ensures.1
+
+pub returns-in_err-hold-clause-step : goal.returns-in_err-hold-clause-step
+returns-in_err-hold-clause-step g c = λ held. passed_none c.from_residual-in_err-hold.result c.in_err-hold.field-0.0 _ c.from_residual-in_err-hold.ensures.1
+
+pub returns-in_err-hold-clause-made : goal.returns-in_err-hold-clause-made
+returns-in_err-hold-clause-made g c = λ held. passed_none c.from_residual-in_err-hold.result c.in_err-hold.field-0.0 _ c.from_residual-in_err-hold.ensures.1
+
+pub returns-in_err-hold-clause-kept : goal.returns-in_err-hold-clause-kept
+returns-in_err-hold-clause-kept g c = λ held. passed_kept c.from_residual-in_err-hold.result _ (c.in_err-hold.ensures.kept (c.in_ok-is_taken.ensures.still held) ∙ c.in_ok-is_taken.ensures.kept held)
+
+pub returns-in_err-hold-clause-still : goal.returns-in_err-hold-clause-still
+returns-in_err-hold-clause-still g c = λ held. c.in_err-hold.ensures.still (c.in_ok-is_taken.ensures.still held)
+
+pub returns-in_err-hold-clause-storage : goal.returns-in_err-hold-clause-storage
+returns-in_err-hold-clause-storage g c = c.in_err-hold.ensures.storage ∙ c.in_ok-is_taken.ensures.storage
+
+pub returns-in_err-hold-clause-undamaged : goal.returns-in_err-hold-clause-undamaged
+returns-in_err-hold-clause-undamaged g c = λ held is. c.in_err-hold.ensures.undamaged (passed_on c.from_residual-in_err-hold.result _ c.in_err-hold.field-0.0 _ c.from_residual-in_err-hold.ensures.1 refl is)
+
+pub returns-in_err-hold-clause-refusal : goal.returns-in_err-hold-clause-refusal
+returns-in_err-hold-clause-refusal g c = passed_err c.from_residual-in_err-hold.result c.in_err-hold.field-0.0 _ c.from_residual-in_err-hold.ensures.1 (row_advance _ c.in_err-hold.field-0.0 c.in_err-hold.ensures.refusal)
+
+pub returns-in_err-hold-clause-device : goal.returns-in_err-hold-clause-device
+returns-in_err-hold-clause-device g c = λ is. absurd (c.in_err-hold.ensures.no_device (passed_on c.from_residual-in_err-hold.result _ c.in_err-hold.field-0.0 _ c.from_residual-in_err-hold.ensures.1 refl is))
+
+pub returns-in_err-hold-clause-later : goal.returns-in_err-hold-clause-later
+returns-in_err-hold-clause-later g c = later_at _ _ _ (c.in_ok-is_taken.ensures.told (λ is. not_err _ _ is)) c.in_err-hold.ensures.untouched c.in_ok-is_taken.ensures.later
+
+pub returns-in_err-hold-clause-told : goal.returns-in_err-hold-clause-told
+returns-in_err-hold-clause-told g c = λ other. c.in_err-hold.ensures.untouched ∙ c.in_ok-is_taken.ensures.told (λ is. not_err _ _ is)
+
+pub returns-in_err-hold-clause-not_exhausted : goal.returns-in_err-hold-clause-not_exhausted
+returns-in_err-hold-clause-not_exhausted g c = λ is. row_not_exhausted c.from_residual-in_err-hold.result c.in_err-hold.field-0.0 c.from_residual-in_err-hold.ensures.1 c.in_err-hold.ensures.refusal is
+
+pub returns-clause-draws : goal.returns-clause-draws
+returns-clause-draws g c = λ last. (tt, refl)
+
+pub returns-clause-err : goal.returns-clause-err
+returns-clause-err g c = tt
+
+pub returns-clause-kept : goal.returns-clause-kept
+returns-clause-kept g c = λ held. tt
+
+pub returns-clause-still : goal.returns-clause-still
+returns-clause-still g c = λ held. c.in_ok-hold.ensures.still (c.in_ok-is_taken.ensures.still held)
+
+pub returns-clause-storage : goal.returns-clause-storage
+returns-clause-storage g c = c.in_ok-hold.ensures.storage ∙ c.in_ok-is_taken.ensures.storage
+
+pub returns-clause-undamaged : goal.returns-clause-undamaged
+returns-clause-undamaged g c = λ held is. not_err _ _ is
+
+pub returns-clause-refusal : goal.returns-clause-refusal
+returns-clause-refusal g c = tt
+
+pub returns-clause-full : goal.returns-clause-full
+returns-clause-full g c = λ held is. absurd (not_err _ _ is)
+
+pub returns-clause-device : goal.returns-clause-device
+returns-clause-device g c = λ is. absurd (not_err _ _ is)
+
+pub returns-clause-later : goal.returns-clause-later
+returns-clause-later g c = later_at _ _ _ (c.in_ok-is_taken.ensures.told (λ is. not_err _ _ is)) c.in_ok-hold.ensures.untouched c.in_ok-is_taken.ensures.later
+
+pub returns-clause-told : goal.returns-clause-told
+returns-clause-told g c = λ other. c.in_ok-hold.ensures.untouched ∙ c.in_ok-is_taken.ensures.told (λ is. not_err _ _ is)
+
+pub returns-clause-not_exhausted : goal.returns-clause-not_exhausted
+returns-clause-not_exhausted g c = λ is. not_err _ _ is

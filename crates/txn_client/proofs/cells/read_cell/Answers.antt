@@ -1,0 +1,250 @@
+use Rattle.std.proofs.Common.{refl, ap, ◌∙◌}
+use Rattle.std.specs.declared.result.Result.TheVariants.{Err}
+use Rattle.txn_client.proofs.Passed.{passed_on, passed_err, passed_none, passed_back, not_err, damaged_no_device, risen_from, later_from}
+use Rattle.txn_client.proofs.cells.read_cell.Goals as goal
+
+pub returns-in_err-lock-clause-kept : goal.returns-in_err-lock-clause-kept
+returns-in_err-lock-clause-kept g c = λ held. c.in_err-lock.ensures.kept held
+
+pub returns-in_err-lock-clause-still : goal.returns-in_err-lock-clause-still
+returns-in_err-lock-clause-still g c = λ held. c.in_err-lock.ensures.still held
+
+pub returns-in_err-lock-clause-storage : goal.returns-in_err-lock-clause-storage
+returns-in_err-lock-clause-storage g c = c.in_err-lock.ensures.storage
+
+pub returns-in_err-lock-clause-same_room : goal.returns-in_err-lock-clause-same_room
+returns-in_err-lock-clause-same_room g c = λ row edits o. c.in_err-lock.ensures.same_room row edits o
+
+pub returns-in_err-lock-clause-refusal : goal.returns-in_err-lock-clause-refusal
+returns-in_err-lock-clause-refusal g c = passed_err c.from_residual.result c.in_err-lock.field-0.0 _ c.from_residual.ensures.1 c.in_err-lock.ensures.refusal
+
+pub returns-in_err-lock-clause-device : goal.returns-in_err-lock-clause-device
+returns-in_err-lock-clause-device g c = λ is. c.in_err-lock.ensures.device (passed_on c.from_residual.result _ c.in_err-lock.field-0.0 _ c.from_residual.ensures.1 refl is)
+
+pub returns-in_err-lock-clause-later : goal.returns-in_err-lock-clause-later
+returns-in_err-lock-clause-later g c = c.in_err-lock.ensures.later
+
+pub returns-in_err-lock-clause-told : goal.returns-in_err-lock-clause-told
+returns-in_err-lock-clause-told g c = λ other. c.in_err-lock.ensures.told (λ is. other (passed_back c.from_residual.result _ c.in_err-lock.field-0.0 _ c.from_residual.ensures.1 refl is))
+
+pub returns-in_err-lock-clause-found : goal.returns-in_err-lock-clause-found
+returns-in_err-lock-clause-found g c = λ held. passed_none c.from_residual.result c.in_err-lock.field-0.0 _ c.from_residual.ensures.1
+
+pub returns-in_err-lock-clause-short : goal.returns-in_err-lock-clause-short
+returns-in_err-lock-clause-short g c = passed_none c.from_residual.result c.in_err-lock.field-0.0 _ c.from_residual.ensures.1
+
+pub returns-in_err-lock-clause-damaged : goal.returns-in_err-lock-clause-damaged
+returns-in_err-lock-clause-damaged g c = λ held. passed_err c.from_residual.result c.in_err-lock.field-0.0 _ c.from_residual.ensures.1 (λ is. absurd (c.in_err-lock.ensures.undamaged held (ap Err is)))
+
+pub returns-in-Some-clause-kept : goal.returns-in-Some-clause-kept
+returns-in-Some-clause-kept g c = λ held. c.in_ok-lock.ensures.kept held
+
+pub returns-in-Some-clause-still : goal.returns-in-Some-clause-still
+returns-in-Some-clause-still g c = λ held. c.in_ok-lock.ensures.still held
+
+pub returns-in-Some-clause-storage : goal.returns-in-Some-clause-storage
+returns-in-Some-clause-storage g c = c.in_ok-lock.ensures.storage
+
+pub returns-in-Some-clause-same_room : goal.returns-in-Some-clause-same_room
+returns-in-Some-clause-same_room g c = λ row edits o. c.in_ok-lock.ensures.same_room row edits o
+
+pub returns-in-Some-clause-refusal : goal.returns-in-Some-clause-refusal
+returns-in-Some-clause-refusal g c = tt
+
+pub returns-in-Some-clause-device : goal.returns-in-Some-clause-device
+returns-in-Some-clause-device g c = λ is. absurd (not_err _ _ is)
+
+pub returns-in-Some-clause-later : goal.returns-in-Some-clause-later
+returns-in-Some-clause-later g c = c.in_ok-lock.ensures.later
+
+pub returns-in-Some-clause-told : goal.returns-in-Some-clause-told
+returns-in-Some-clause-told g c = λ other. c.in_ok-lock.ensures.told (λ is. not_err _ _ is)
+
+pub returns-in-Some-clause-damaged : goal.returns-in-Some-clause-damaged
+returns-in-Some-clause-damaged g c = λ held. tt
+
+pub returns-in-Some-clause-short : goal.returns-in-Some-clause-short
+returns-in-Some-clause-short g c = tt
+
+pub returns-in_err-last-clause-kept : goal.returns-in_err-last-clause-kept
+returns-in_err-last-clause-kept g c = λ held. c.in_err-last.ensures.kept (c.in_ok-lock.ensures.still held) ∙ c.in_ok-lock.ensures.kept held
+
+pub returns-in_err-last-clause-still : goal.returns-in_err-last-clause-still
+returns-in_err-last-clause-still g c = λ held. c.in_err-last.ensures.still (c.in_ok-lock.ensures.still held)
+
+pub returns-in_err-last-clause-storage : goal.returns-in_err-last-clause-storage
+returns-in_err-last-clause-storage g c = c.in_err-last.ensures.storage ∙ c.in_ok-lock.ensures.storage
+
+pub returns-in_err-last-clause-same_room : goal.returns-in_err-last-clause-same_room
+returns-in_err-last-clause-same_room g c = λ row edits o. c.in_ok-lock.ensures.same_room row edits (c.in_err-last.ensures.same_room row edits o)
+
+pub returns-in_err-last-clause-refusal : goal.returns-in_err-last-clause-refusal
+returns-in_err-last-clause-refusal g c = passed_err c.from_residual-in_err-last.result c.in_err-last.field-0.0 _ c.from_residual-in_err-last.ensures.1 c.in_err-last.ensures.refusal
+
+pub returns-in_err-last-clause-device : goal.returns-in_err-last-clause-device
+returns-in_err-last-clause-device g c = λ is. risen_from _ _ _ (c.in_ok-lock.ensures.told (λ is. not_err _ _ is)) (c.in_err-last.ensures.device (passed_on c.from_residual-in_err-last.result _ c.in_err-last.field-0.0 _ c.from_residual-in_err-last.ensures.1 refl is))
+
+pub returns-in_err-last-clause-later : goal.returns-in_err-last-clause-later
+returns-in_err-last-clause-later g c = later_from _ _ _ (c.in_ok-lock.ensures.told (λ is. not_err _ _ is)) c.in_err-last.ensures.later
+
+pub returns-in_err-last-clause-told : goal.returns-in_err-last-clause-told
+returns-in_err-last-clause-told g c = λ other. c.in_err-last.ensures.told (λ is. other (passed_back c.from_residual-in_err-last.result _ c.in_err-last.field-0.0 _ c.from_residual-in_err-last.ensures.1 refl is)) ∙ c.in_ok-lock.ensures.told (λ is. not_err _ _ is)
+
+pub returns-in_err-last-clause-found : goal.returns-in_err-last-clause-found
+returns-in_err-last-clause-found g c = λ held. passed_none c.from_residual-in_err-last.result c.in_err-last.field-0.0 _ c.from_residual-in_err-last.ensures.1
+
+pub returns-in_err-last-clause-short : goal.returns-in_err-last-clause-short
+returns-in_err-last-clause-short g c = passed_none c.from_residual-in_err-last.result c.in_err-last.field-0.0 _ c.from_residual-in_err-last.ensures.1
+
+pub returns-in_err-last-clause-damaged : goal.returns-in_err-last-clause-damaged
+returns-in_err-last-clause-damaged g c = λ held. passed_err c.from_residual-in_err-last.result c.in_err-last.field-0.0 _ c.from_residual-in_err-last.ensures.1 (λ is. absurd (c.in_err-last.ensures.undamaged (c.in_ok-lock.ensures.still held) (ap Err is)))
+
+pub returns-in_default-last-clause-kept : goal.returns-in_default-last-clause-kept
+returns-in_default-last-clause-kept g c = λ held. c.in_ok-last.ensures.kept (c.in_ok-lock.ensures.still held) ∙ c.in_ok-lock.ensures.kept held
+
+pub returns-in_default-last-clause-still : goal.returns-in_default-last-clause-still
+returns-in_default-last-clause-still g c = λ held. c.in_ok-last.ensures.still (c.in_ok-lock.ensures.still held)
+
+pub returns-in_default-last-clause-storage : goal.returns-in_default-last-clause-storage
+returns-in_default-last-clause-storage g c = c.in_ok-last.ensures.storage ∙ c.in_ok-lock.ensures.storage
+
+pub returns-in_default-last-clause-same_room : goal.returns-in_default-last-clause-same_room
+returns-in_default-last-clause-same_room g c = λ row edits o. c.in_ok-lock.ensures.same_room row edits (c.in_ok-last.ensures.same_room row edits o)
+
+pub returns-in_default-last-clause-refusal : goal.returns-in_default-last-clause-refusal
+returns-in_default-last-clause-refusal g c = tt
+
+pub returns-in_default-last-clause-device : goal.returns-in_default-last-clause-device
+returns-in_default-last-clause-device g c = λ is. absurd (not_err _ _ is)
+
+pub returns-in_default-last-clause-later : goal.returns-in_default-last-clause-later
+returns-in_default-last-clause-later g c = later_from _ _ _ (c.in_ok-lock.ensures.told (λ is. not_err _ _ is)) c.in_ok-last.ensures.later
+
+pub returns-in_default-last-clause-told : goal.returns-in_default-last-clause-told
+returns-in_default-last-clause-told g c = λ other. c.in_ok-last.ensures.told (λ is. not_err _ _ is) ∙ c.in_ok-lock.ensures.told (λ is. not_err _ _ is)
+
+pub returns-in_default-last-clause-damaged : goal.returns-in_default-last-clause-damaged
+returns-in_default-last-clause-damaged g c = λ held. tt
+
+pub returns-in_default-last-clause-short : goal.returns-in_default-last-clause-short
+returns-in_default-last-clause-short g c = tt
+
+pub returns-in_default-named_start-clause-kept : goal.returns-in_default-named_start-clause-kept
+returns-in_default-named_start-clause-kept g c = λ held. c.in_ok-last.ensures.kept (c.in_ok-lock.ensures.still held) ∙ c.in_ok-lock.ensures.kept held
+
+pub returns-in_default-named_start-clause-still : goal.returns-in_default-named_start-clause-still
+returns-in_default-named_start-clause-still g c = λ held. c.in_ok-last.ensures.still (c.in_ok-lock.ensures.still held)
+
+pub returns-in_default-named_start-clause-storage : goal.returns-in_default-named_start-clause-storage
+returns-in_default-named_start-clause-storage g c = c.in_ok-last.ensures.storage ∙ c.in_ok-lock.ensures.storage
+
+pub returns-in_default-named_start-clause-same_room : goal.returns-in_default-named_start-clause-same_room
+returns-in_default-named_start-clause-same_room g c = λ row edits o. c.in_ok-lock.ensures.same_room row edits (c.in_ok-last.ensures.same_room row edits o)
+
+pub returns-in_default-named_start-clause-refusal : goal.returns-in_default-named_start-clause-refusal
+returns-in_default-named_start-clause-refusal g c = tt
+
+pub returns-in_default-named_start-clause-device : goal.returns-in_default-named_start-clause-device
+returns-in_default-named_start-clause-device g c = λ is. absurd (damaged_no_device is)
+
+pub returns-in_default-named_start-clause-later : goal.returns-in_default-named_start-clause-later
+returns-in_default-named_start-clause-later g c = later_from _ _ _ (c.in_ok-lock.ensures.told (λ is. not_err _ _ is)) c.in_ok-last.ensures.later
+
+pub returns-in_default-named_start-clause-told : goal.returns-in_default-named_start-clause-told
+returns-in_default-named_start-clause-told g c = λ other. c.in_ok-last.ensures.told (λ is. not_err _ _ is) ∙ c.in_ok-lock.ensures.told (λ is. not_err _ _ is)
+
+pub returns-in_default-named_start-clause-found : goal.returns-in_default-named_start-clause-found
+returns-in_default-named_start-clause-found g c = λ held. tt
+
+pub returns-in_default-named_start-clause-short : goal.returns-in_default-named_start-clause-short
+returns-in_default-named_start-clause-short g c = tt
+
+pub returns-in_err-value-clause-kept : goal.returns-in_err-value-clause-kept
+returns-in_err-value-clause-kept g c = λ held. c.in_err-value.ensures.kept (c.in_ok-last.ensures.still (c.in_ok-lock.ensures.still held)) ∙ c.in_ok-last.ensures.kept (c.in_ok-lock.ensures.still held) ∙ c.in_ok-lock.ensures.kept held
+
+pub returns-in_err-value-clause-still : goal.returns-in_err-value-clause-still
+returns-in_err-value-clause-still g c = λ held. c.in_err-value.ensures.still (c.in_ok-last.ensures.still (c.in_ok-lock.ensures.still held))
+
+pub returns-in_err-value-clause-storage : goal.returns-in_err-value-clause-storage
+returns-in_err-value-clause-storage g c = c.in_err-value.ensures.storage ∙ c.in_ok-last.ensures.storage ∙ c.in_ok-lock.ensures.storage
+
+pub returns-in_err-value-clause-same_room : goal.returns-in_err-value-clause-same_room
+returns-in_err-value-clause-same_room g c = λ row edits o. c.in_ok-lock.ensures.same_room row edits (c.in_ok-last.ensures.same_room row edits (c.in_err-value.ensures.same_room row edits o))
+
+pub returns-in_err-value-clause-refusal : goal.returns-in_err-value-clause-refusal
+returns-in_err-value-clause-refusal g c = passed_err c.from_residual-in_err-value.result c.in_err-value.field-0.0 _ c.from_residual-in_err-value.ensures.1 c.in_err-value.ensures.refusal
+
+pub returns-in_err-value-clause-device : goal.returns-in_err-value-clause-device
+returns-in_err-value-clause-device g c = λ is. risen_from _ _ _ (c.in_ok-last.ensures.told (λ is. not_err _ _ is) ∙ c.in_ok-lock.ensures.told (λ is. not_err _ _ is)) (c.in_err-value.ensures.device (passed_on c.from_residual-in_err-value.result _ c.in_err-value.field-0.0 _ c.from_residual-in_err-value.ensures.1 refl is))
+
+pub returns-in_err-value-clause-later : goal.returns-in_err-value-clause-later
+returns-in_err-value-clause-later g c = later_from _ _ _ (c.in_ok-last.ensures.told (λ is. not_err _ _ is) ∙ c.in_ok-lock.ensures.told (λ is. not_err _ _ is)) c.in_err-value.ensures.later
+
+pub returns-in_err-value-clause-told : goal.returns-in_err-value-clause-told
+returns-in_err-value-clause-told g c = λ other. c.in_err-value.ensures.told (λ is. other (passed_back c.from_residual-in_err-value.result _ c.in_err-value.field-0.0 _ c.from_residual-in_err-value.ensures.1 refl is)) ∙ c.in_ok-last.ensures.told (λ is. not_err _ _ is) ∙ c.in_ok-lock.ensures.told (λ is. not_err _ _ is)
+
+pub returns-in_err-value-clause-found : goal.returns-in_err-value-clause-found
+returns-in_err-value-clause-found g c = λ held. passed_none c.from_residual-in_err-value.result c.in_err-value.field-0.0 _ c.from_residual-in_err-value.ensures.1
+
+pub returns-in_err-value-clause-short : goal.returns-in_err-value-clause-short
+returns-in_err-value-clause-short g c = passed_none c.from_residual-in_err-value.result c.in_err-value.field-0.0 _ c.from_residual-in_err-value.ensures.1
+
+pub returns-in_err-value-clause-damaged : goal.returns-in_err-value-clause-damaged
+returns-in_err-value-clause-damaged g c = λ held. passed_err c.from_residual-in_err-value.result c.in_err-value.field-0.0 _ c.from_residual-in_err-value.ensures.1 (λ is. absurd (c.in_err-value.ensures.undamaged (c.in_ok-last.ensures.still (c.in_ok-lock.ensures.still held)) (ap Err is)))
+
+pub returns-in-Some-2-clause-kept : goal.returns-in-Some-2-clause-kept
+returns-in-Some-2-clause-kept g c = λ held. c.in_ok-value.ensures.kept (c.in_ok-last.ensures.still (c.in_ok-lock.ensures.still held)) ∙ c.in_ok-last.ensures.kept (c.in_ok-lock.ensures.still held) ∙ c.in_ok-lock.ensures.kept held
+
+pub returns-in-Some-2-clause-still : goal.returns-in-Some-2-clause-still
+returns-in-Some-2-clause-still g c = λ held. c.in_ok-value.ensures.still (c.in_ok-last.ensures.still (c.in_ok-lock.ensures.still held))
+
+pub returns-in-Some-2-clause-storage : goal.returns-in-Some-2-clause-storage
+returns-in-Some-2-clause-storage g c = c.in_ok-value.ensures.storage ∙ c.in_ok-last.ensures.storage ∙ c.in_ok-lock.ensures.storage
+
+pub returns-in-Some-2-clause-same_room : goal.returns-in-Some-2-clause-same_room
+returns-in-Some-2-clause-same_room g c = λ row edits o. c.in_ok-lock.ensures.same_room row edits (c.in_ok-last.ensures.same_room row edits (c.in_ok-value.ensures.same_room row edits o))
+
+pub returns-in-Some-2-clause-refusal : goal.returns-in-Some-2-clause-refusal
+returns-in-Some-2-clause-refusal g c = tt
+
+pub returns-in-Some-2-clause-device : goal.returns-in-Some-2-clause-device
+returns-in-Some-2-clause-device g c = λ is. absurd (not_err _ _ is)
+
+pub returns-in-Some-2-clause-later : goal.returns-in-Some-2-clause-later
+returns-in-Some-2-clause-later g c = later_from _ _ _ (c.in_ok-last.ensures.told (λ is. not_err _ _ is) ∙ c.in_ok-lock.ensures.told (λ is. not_err _ _ is)) c.in_ok-value.ensures.later
+
+pub returns-in-Some-2-clause-told : goal.returns-in-Some-2-clause-told
+returns-in-Some-2-clause-told g c = λ other. c.in_ok-value.ensures.told (λ is. not_err _ _ is) ∙ c.in_ok-last.ensures.told (λ is. not_err _ _ is) ∙ c.in_ok-lock.ensures.told (λ is. not_err _ _ is)
+
+pub returns-in-Some-2-clause-damaged : goal.returns-in-Some-2-clause-damaged
+returns-in-Some-2-clause-damaged g c = λ held. tt
+
+pub returns-clause-kept : goal.returns-clause-kept
+returns-clause-kept g c = λ held. c.in_ok-value.ensures.kept (c.in_ok-last.ensures.still (c.in_ok-lock.ensures.still held)) ∙ c.in_ok-last.ensures.kept (c.in_ok-lock.ensures.still held) ∙ c.in_ok-lock.ensures.kept held
+
+pub returns-clause-still : goal.returns-clause-still
+returns-clause-still g c = λ held. c.in_ok-value.ensures.still (c.in_ok-last.ensures.still (c.in_ok-lock.ensures.still held))
+
+pub returns-clause-storage : goal.returns-clause-storage
+returns-clause-storage g c = c.in_ok-value.ensures.storage ∙ c.in_ok-last.ensures.storage ∙ c.in_ok-lock.ensures.storage
+
+pub returns-clause-same_room : goal.returns-clause-same_room
+returns-clause-same_room g c = λ row edits o. c.in_ok-lock.ensures.same_room row edits (c.in_ok-last.ensures.same_room row edits (c.in_ok-value.ensures.same_room row edits o))
+
+pub returns-clause-refusal : goal.returns-clause-refusal
+returns-clause-refusal g c = tt
+
+pub returns-clause-device : goal.returns-clause-device
+returns-clause-device g c = λ is. absurd (damaged_no_device is)
+
+pub returns-clause-later : goal.returns-clause-later
+returns-clause-later g c = later_from _ _ _ (c.in_ok-last.ensures.told (λ is. not_err _ _ is) ∙ c.in_ok-lock.ensures.told (λ is. not_err _ _ is)) c.in_ok-value.ensures.later
+
+pub returns-clause-told : goal.returns-clause-told
+returns-clause-told g c = λ other. c.in_ok-value.ensures.told (λ is. not_err _ _ is) ∙ c.in_ok-last.ensures.told (λ is. not_err _ _ is) ∙ c.in_ok-lock.ensures.told (λ is. not_err _ _ is)
+
+pub returns-clause-found : goal.returns-clause-found
+returns-clause-found g c = λ held. tt
+
+pub returns-clause-short : goal.returns-clause-short
+returns-clause-short g c = tt
