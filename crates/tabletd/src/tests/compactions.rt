@@ -1,9 +1,7 @@
 //! Merges of memtables and sorted files.
 
-ghost use Rattle.std.specs.Prelude.{◌<◌, ◌≤◌, ◌^◌, IfSome, length};
-
 use crate::FILE_LIMIT;
-use crate::tests::edits::{erase, one, put};
+use crate::tests::edits::edits_of;
 use cell_key::{Refusal, Row, Stamp};
 use compaction::{Input, Merge, Until, merge_into};
 use file_store::{Files, MemFiles, read_whole};
@@ -35,18 +33,11 @@ fn set(
     alloc: Global,
     table: &mut Memtable,
     stamp: Stamp,
-    value: Option<&[u8]>,
-) -> Result<(), Refusal>
-    requires from { 1 ≤ stamp }
-    requires to { stamp < 2 ^ 63 }
-    requires value { IfSome value (λ value. length value.now ≤ 65536) }
-{
+    value: Option<&'static [u8]>,
+) -> Result<(), Refusal> {
     let row = Row::new(alloc, b"a")?;
-    let edit = match value {
-        Some(value) => put(alloc, &row, b"bal", stamp, value)?,
-        None => erase(alloc, &row, b"bal", stamp)?,
-    };
-    table.apply(&row, one(alloc, &row, edit)?)
+    let edits = edits_of(alloc, &row, (b"a", b"bal", stamp, value))?;
+    table.apply(&row, edits)
 }
 
 /// A file with 3 at the stamp 3, 2 at 2, and 1 at 1.
@@ -115,9 +106,9 @@ fn values_until(alloc: Global, end: Option<&[u8]>) -> Result<Vec<u8>, Refusal> {
 #[test]
 fn entries_until_an_end(rt: HostRuntime) -> Result<(), Fail> {
     let all = values_until(rt.alloc(), None)?;
-    assert_eq!(rt; all.as_slice(), b"3x7".as_slice());
+    assert!(rt; all.as_slice() == b"3x7".as_slice());
     let below = values_until(rt.alloc(), Some(FIRST_STAMP))?;
-    assert_eq!(rt; below.as_slice(), b"3x".as_slice());
+    assert!(rt; below.as_slice() == b"3x".as_slice());
     Ok(())
 }
 
@@ -126,6 +117,6 @@ fn no_sources_give_an_empty_file(rt: HostRuntime) -> Result<(), Fail> {
     let mut files = MemFiles::new(rt.alloc());
     let sources: Vec<Input<'_>> = Vec::new(rt.alloc());
     merge_into(rt.alloc(), sources, true, 1, FILE_LIMIT, &mut files)?;
-    assert_eq!(rt; files.size(1).ok(), Some(Some(32)));
+    assert!(rt; files.size(1) == Ok(Some(32)));
     Ok(())
 }

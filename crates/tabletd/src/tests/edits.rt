@@ -67,3 +67,22 @@ pub fn two(alloc: Global, row: &Row, first: Edit, second: Edit) -> Result<Vec<Ed
     edits.push(second)?;
     Ok(edits)
 }
+
+/// A write of data: the row, the family, a stamp from 1 to 9, and a value of at most 9 bytes or an erasure.
+pub type Write = (&'static [u8], &'static [u8], Stamp, Option<&'static [u8]>);
+
+/// The edit of a write, and none where the write is none of these.
+pub fn edits_of(alloc: Global, row: &Row, write: Write) -> Result<Vec<Edit>, Refusal>
+    ensures { IfOk result (λ edits. AllByRecursion (IsEditOf row.now) edits.items) }
+{
+    let (_, family, stamp, value) = write;
+    if stamp == 0 || stamp > 9 {
+        return Ok(Vec::new(alloc));
+    }
+    let edit = match value {
+        Some(value) if value.len() <= 9 => put(alloc, row, family, stamp, value)?,
+        Some(_) => return Ok(Vec::new(alloc)),
+        None => erase(alloc, row, family, stamp)?,
+    };
+    one(alloc, row, edit)
+}

@@ -14,46 +14,17 @@ fn three_files(alloc: Global) -> Result<MemFiles, FileFault> {
     Ok(files)
 }
 
-fn names_of<F: Files>(alloc: Global, files: &mut F) -> Result<Vec<u64>, FileFault> {
-    let mut names = Vec::new(alloc);
-    files.list(&mut names)?;
-    Ok(names)
-}
-
-#[test]
-fn lists_and_removes(rt: HostRuntime) -> Result<(), Fail> {
-    let mut files = three_files(rt.alloc())?;
-    let names = names_of(rt.alloc(), &mut files)?;
-    assert_eq!(rt; names.as_slice(), [2, 7, 9].as_slice());
-    files.remove(7)?;
-    files.remove(8)?;
-    let names = names_of(rt.alloc(), &mut files)?;
-    assert_eq!(rt; names.as_slice(), [2, 9].as_slice());
-    assert_eq!(rt; files.faults(), 0);
-    Ok(())
-}
-
 #[test]
 fn reads_to_the_end(rt: HostRuntime) -> Result<(), Fail> {
     let mut files = three_files(rt.alloc())?;
-    assert_eq!(rt; files.size(2)?, Some(4));
-    assert_eq!(rt; files.size(3)?, None);
+    assert!(rt; files.size(2) == Ok(Some(4)));
+    assert!(rt; files.size(3) == Ok(None));
     for (offset, len, expected) in [(0, 3, b"sev"), (3, 2, b"en-"), (5, 0, b"---")] {
         let mut buffer = *b"---";
-        assert_eq!(rt; files.read_at(7, offset, &mut buffer)?, len);
-        assert_eq!(rt; &buffer, expected);
+        assert!(rt; files.read_at(7, offset, &mut buffer) == Ok(len));
+        assert!(rt; &buffer == expected);
     }
-    Ok(())
-}
-
-#[test]
-fn reads_a_whole_file(rt: HostRuntime) -> Result<(), Fail> {
-    let mut files = three_files(rt.alloc())?;
-    let Some(bytes) = read_whole(rt.alloc(), &mut files, 2)? else {
-        return Err(Fail::new("there is no file"));
-    };
-    assert_eq!(rt; bytes.as_slice(), b"TWO!".as_slice());
-    assert!(rt; read_whole(rt.alloc(), &mut files, 3)?.is_none());
+    assert!(rt; files.faults() == 0);
     Ok(())
 }
 
@@ -63,7 +34,7 @@ fn tells_a_fault(rt: HostRuntime) -> Result<(), Fail> {
         (FileFault::Device, "device failed"),
         (FileFault::Memory, "no memory"),
     ] {
-        assert_eq!(rt; fault.to_string(rt.alloc())?.as_str(), text);
+        assert!(rt; fault.to_string(rt.alloc())?.as_str() == text);
     }
     Ok(())
 }
@@ -114,6 +85,6 @@ fn reads_a_file_once(rt: HostRuntime) -> Result<(), Fail> {
     };
     assert!(rt; read_whole(rt.alloc(), &mut files, 7)?.is_some());
     assert!(rt; read_whole(rt.alloc(), &mut files, 3)?.is_none());
-    assert_eq!(rt; files.reads.as_slice(), [(7, 0, 5)].as_slice());
+    assert!(rt; files.reads.as_slice() == [(7, 0, 5)].as_slice());
     Ok(())
 }

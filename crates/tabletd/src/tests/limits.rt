@@ -9,12 +9,22 @@ use server_loop::{Config, End, Server};
 use std::alloc::{AllocError, Global};
 use std::test::Fail;
 
-/// The number of the refusal of a reply, and 0 where it is none.
-fn refusal_of(reply: &Reply) -> u8 {
-    match reply {
+/// The number of the refusal that a request is answered, and 0 where it is done.
+fn refused(server: &mut MemServer, request: Request<'_>) -> u8 {
+    match server.answer(request) {
         Reply::Refused(refusal) => refusal.number(),
         _ => 0,
     }
+}
+
+/// Whether a server answers each request of a table by its number.
+fn are_answered(server: &mut MemServer, table: &[(Request<'_>, u8)]) -> bool {
+    for (request, number) in table {
+        if refused(server, *request) != *number {
+            return false;
+        }
+    }
+    true
 }
 
 fn set<'a>(row: &'a [u8], value: &'a [u8]) -> Request<'a> {
@@ -31,15 +41,18 @@ fn limits_of_a_session(rt: HostRuntime) -> Result<(), Fail> {
     let longest = vec![in rt.alloc(); b'v'; 65_536]?;
     let too_long = vec![in rt.alloc(); b'v'; 65_537]?;
     let mut server = new_server(rt.alloc())?;
-    assert_eq!(rt; refusal_of(&server.answer(Request::Begin)), 0);
-    assert_eq!(rt; refusal_of(&server.answer(Request::Step { start: 1 })), 8);
-    assert_eq!(rt; refusal_of(&server.answer(set(&[0], &longest))), 0);
-    assert_eq!(rt; refusal_of(&server.answer(set(&[0], &too_long))), 5);
+    let first = [
+        (Request::Begin, 0),
+        (Request::Step { start: 1 }, 8),
+        (set(b"\0", &longest), 0),
+        (set(b"\0", &too_long), 5),
+    ];
+    assert!(rt; are_answered(&mut server, &first));
     for row in 1..=255u8 {
-        assert_eq!(rt; refusal_of(&server.answer(set(&[row], b"v"))), 0);
+        assert!(rt; refused(&mut server, set(&[row], b"v")) == 0);
     }
-    assert_eq!(rt; refusal_of(&server.answer(set(b"another", b"v"))), 6);
-    assert_eq!(rt; refusal_of(&server.answer(set(&[0], b"w"))), 0);
+    let last = [(set(b"another", b"v"), 6), (set(b"\0", b"w"), 0)];
+    assert!(rt; are_answered(&mut server, &last));
     Ok(())
 }
 
@@ -47,11 +60,14 @@ fn limits_of_a_session(rt: HostRuntime) -> Result<(), Fail> {
 fn at_most_1024_sessions(rt: HostRuntime) -> Result<(), Fail> {
     let mut server = new_server(rt.alloc())?;
     for _ in 0..1024 {
-        assert_eq!(rt; refusal_of(&server.answer(Request::Begin)), 0);
+        assert!(rt; refused(&mut server, Request::Begin) == 0);
     }
-    assert_eq!(rt; refusal_of(&server.answer(Request::Begin)), 7);
-    assert_eq!(rt; refusal_of(&server.answer(Request::Stop { start: 1 })), 0);
-    assert_eq!(rt; refusal_of(&server.answer(Request::Begin)), 0);
+    let table = [
+        (Request::Begin, 7),
+        (Request::Stop { start: 1 }, 0),
+        (Request::Begin, 0),
+    ];
+    assert!(rt; are_answered(&mut server, &table));
     Ok(())
 }
 
@@ -60,7 +76,7 @@ fn at_most_1024_tablets(rt: HostRuntime) -> Result<(), Fail> {
     let mut server = new_server(rt.alloc())?;
     for number in 1..1024u16 {
         let row = number.to_be_bytes();
-        assert_eq!(rt; refusal_of(&server.answer(Request::Split { row: &row })), 0);
+        assert!(rt; refused(&mut server, Request::Split { row: &row }) == 0);
     }
     let table = [
         (Request::Split { row: b"m" }, 12),
@@ -68,56 +84,66 @@ fn at_most_1024_tablets(rt: HostRuntime) -> Result<(), Fail> {
         (Request::Major { tablet: 1024 }, 0),
         (Request::Major { tablet: 1025 }, 11),
     ];
-    for (request, number) in table {
-        assert_eq!(rt; refusal_of(&server.answer(request)), number);
-    }
+    assert!(rt; are_answered(&mut server, &table));
     Ok(())
 }
 
-/// A server whose tablet has 64 files and a memtable with a cell.
-fn with_64_files(alloc: Global) -> Result<Option<MemServer>, Fail> {
-    let mut server = new_server(alloc)?;
+const MINOR: Request<'static> = Request::Minor { tablet: 1 };
+
+const AWAY: Request<'static> = Request::Move {
+    tablet: 1,
+    server: 3,
+};
+
+/// Begins a session that sets 65 rows.
+fn set_65_rows(server: &mut MemServer) {
     server.answer(Request::Begin);
     for row in 0..=64u8 {
         server.answer(set(&[row], b"v"));
     }
-    for _ in 0..64 {
-        server.answer(Request::Step { start: 1 });
-        if !matches!(server.answer(Request::Minor { tablet: 1 }), Reply::Minor) {
-            return Ok(None);
-        }
-    }
-    server.answer(Request::Step { start: 1 });
-    Ok(Some(server))
 }
 
-fn merge(count: u32) -> Request<'static> {
-    Request::Merge { tablet: 1, count }
+/// Whether a server writes 64 of the rows to files, a row each, and holds the last.
+fn writes_64_files(server: &mut MemServer) -> bool {
+    let step = (Request::Step { start: 1 }, 0);
+    for _ in 0..64 {
+        if !are_answered(server, &[step, (MINOR, 0)]) {
+            return false;
+        }
+    }
+    are_answered(server, &[step])
 }
+
+/// Requests of a tablet with 64 files and a memtable.
+const FULL: [(Request<'static>, u8); 7] = [
+    (MINOR, 16),
+    (Request::Split { row: b"m" }, 16),
+    (AWAY, 16),
+    (
+        Request::Merge {
+            tablet: 1,
+            count: 65,
+        },
+        14,
+    ),
+    (
+        Request::Merge {
+            tablet: 1,
+            count: 64,
+        },
+        0,
+    ),
+    (MINOR, 0),
+    (AWAY, 0),
+];
 
 #[test]
 fn at_most_64_files(rt: HostRuntime) -> Result<(), Fail> {
-    let away = Request::Move {
-        tablet: 1,
-        server: 3,
-    };
-    let table = [
-        (Request::Minor { tablet: 1 }, 16),
-        (Request::Split { row: b"m" }, 16),
-        (away, 16),
-        (merge(65), 14),
-        (merge(64), 0),
-        (Request::Minor { tablet: 1 }, 0),
-        (away, 0),
-    ];
-    let server = with_64_files(rt.alloc())?;
-    assert!(rt; server.is_some());
-    if let Some(mut server) = server {
-        for (request, number) in table {
-            assert_eq!(rt; refusal_of(&server.answer(request)), number);
-        }
-        assert!(rt; matches!(server.answer(Request::Sweep), Reply::Sweep(64)));
-    }
+    let mut server = new_server(rt.alloc())?;
+    set_65_rows(&mut server);
+    assert!(rt; writes_64_files(&mut server));
+    assert!(rt; are_answered(&mut server, &FULL));
+    assert!(rt; matches!(server.answer(Request::Sweep), Reply::Sweep(64)));
     Ok(())
 }
 
@@ -136,24 +162,17 @@ fn small_server(alloc: Global) -> Result<MemServer, Fail> {
 /// The first step of one cell with an empty value is a file of 128 bytes.
 #[test]
 fn files_that_are_too_large(rt: HostRuntime) -> Result<(), Fail> {
-    let table: [(&[u8], u8); 2] = [(b"v", 17), (b"", 0)];
-    for (value, number) in table {
-        let mut server = small_server(rt.alloc())?;
-        assert_eq!(rt; refusal_of(&server.answer(Request::Begin)), 0);
-        assert_eq!(rt; refusal_of(&server.answer(set(b"r", value))), 0);
-        assert_eq!(rt; refusal_of(&server.answer(Request::Step { start: 1 })), 0);
-        assert_eq!(rt;
-            refusal_of(&server.answer(Request::Minor { tablet: 1 })),
-            number
-        );
-        assert_eq!(rt;
-            refusal_of(&server.answer(Request::Major { tablet: 1 })),
-            number
-        );
-        assert_eq!(rt;
-            refusal_of(&server.answer(Request::Split { row: b"r" })),
-            number
-        );
+    let values: [(&[u8], u8); 2] = [(b"v", 17), (b"", 0)];
+    for (value, number) in values {
+        let table = [
+            (Request::Begin, 0),
+            (set(b"r", value), 0),
+            (Request::Step { start: 1 }, 0),
+            (MINOR, number),
+            (Request::Major { tablet: 1 }, number),
+            (Request::Split { row: b"r" }, number),
+        ];
+        assert!(rt; are_answered(&mut small_server(rt.alloc())?, &table));
     }
     Ok(())
 }

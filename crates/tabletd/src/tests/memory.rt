@@ -6,7 +6,7 @@ mod keys;
 mod rows;
 mod servers;
 mod sessions;
-mod tablets;
+pub mod tablets;
 
 use cell_key::Refusal;
 use std::alloc::Global;
@@ -18,10 +18,10 @@ pub type Call = (&'static [u8], &'static [u8]);
 /// What calls are made on.
 pub trait Subject: Sized + Drop {
     /// What is read before a call.
-    fn before() -> &'static [u8];
+    const BEFORE: &'static [u8];
 
     /// The calls, by their numbers.
-    fn calls() -> &'static [Call];
+    const CALLS: &'static [Call];
 
     /// What stands before a call.
     fn set_up(alloc: Global) -> Result<Self, Refusal>;
@@ -33,8 +33,13 @@ pub trait Subject: Sized + Drop {
     fn read(&mut self, alloc: Global, out: &mut Vec<u8>) -> Result<(), Refusal>;
 }
 
+/// Appends the lowest byte of a number.
+pub fn push_number(number: u64, out: &mut Vec<u8>) -> Result<(), Refusal> {
+    Ok(out.push((number % 256) as u8)?)
+}
+
 /// What came of a call.
-#[derive(Clone, Copy, Debug, PartialEq, Eq)]
+#[derive(Clone, Copy, Debug)]
 pub enum Came {
     /// The right answer, at once.
     Answered,
@@ -87,7 +92,7 @@ impl<S: Subject> Trial<S> {
 
     /// Makes the call again, where what is read is as before.
     fn again(&mut self, wanted: &[u8]) -> Result<Came, Refusal> {
-        if !self.reads(S::before())? {
+        if !self.reads(S::BEFORE)? {
             return Ok(Came::WrongRefused);
         }
         if !self.answers(wanted)? {
@@ -108,7 +113,7 @@ impl<S: Subject> Trial<S> {
 
     /// What comes of the call.
     pub fn comes(&mut self) -> Result<Came, Refusal> {
-        let Some((answer, after)) = S::calls().get(self.number) else {
+        let Some((answer, after)) = S::CALLS.get(self.number) else {
             return Ok(Came::WrongAnswer);
         };
         let came = self.until_answered(answer)?;
@@ -122,7 +127,7 @@ impl<S: Subject> Trial<S> {
 /// What comes of a call, on a subject of its own.
 pub fn tried<S: Subject>(alloc: Global, number: usize) -> Result<Came, Refusal> {
     let mut trial: Trial<S> = Trial::new(alloc, number)?;
-    if !trial.reads(S::before())? {
+    if !trial.reads(S::BEFORE)? {
         return Ok(Came::WrongBefore);
     }
     trial.comes()
@@ -130,9 +135,9 @@ pub fn tried<S: Subject>(alloc: Global, number: usize) -> Result<Came, Refusal> 
 
 /// The first call that isn't answered as it must be, and what came of it.
 fn first_wrong<S: Subject>(alloc: Global) -> Result<Option<(usize, Came)>, Refusal> {
-    for number in 0..S::calls().len() {
+    for number in 0..S::CALLS.len() {
         let came = tried::<S>(alloc, number)?;
-        if came != Came::Answered {
+        if !matches!(came, Came::Answered) {
             return Ok(Some((number, came)));
         }
     }
@@ -141,26 +146,26 @@ fn first_wrong<S: Subject>(alloc: Global) -> Result<Option<(usize, Came)>, Refus
 
 #[test]
 fn calls_of_names_and_files(rt: HostRuntime) -> Result<(), Fail> {
-    assert_eq!(rt; first_wrong::<keys::Keys>(rt.alloc())?, None);
-    assert_eq!(rt; first_wrong::<files::Buffered>(rt.alloc())?, None);
-    assert_eq!(rt; first_wrong::<files::Stored>(rt.alloc())?, None);
-    assert_eq!(rt; first_wrong::<files::Sorted>(rt.alloc())?, None);
+    assert!(rt; first_wrong::<keys::Keys>(rt.alloc())?.is_none());
+    assert!(rt; first_wrong::<files::Buffered>(rt.alloc())?.is_none());
+    assert!(rt; first_wrong::<files::Stored>(rt.alloc())?.is_none());
+    assert!(rt; first_wrong::<files::Sorted>(rt.alloc())?.is_none());
     Ok(())
 }
 
 #[test]
 fn calls_of_tablets_and_rows(rt: HostRuntime) -> Result<(), Fail> {
-    assert_eq!(rt; first_wrong::<tablets::Served>(rt.alloc())?, None);
-    assert_eq!(rt; first_wrong::<tablets::Placed>(rt.alloc())?, None);
-    assert_eq!(rt; first_wrong::<rows::Plain>(rt.alloc())?, None);
-    assert_eq!(rt; first_wrong::<rows::Clustered>(rt.alloc())?, None);
+    assert!(rt; first_wrong::<tablets::Served>(rt.alloc())?.is_none());
+    assert!(rt; first_wrong::<tablets::Placed>(rt.alloc())?.is_none());
+    assert!(rt; first_wrong::<rows::Plain>(rt.alloc())?.is_none());
+    assert!(rt; first_wrong::<rows::Clustered>(rt.alloc())?.is_none());
     Ok(())
 }
 
 #[test]
 fn calls_of_sessions_and_servers(rt: HostRuntime) -> Result<(), Fail> {
-    assert_eq!(rt; first_wrong::<sessions::Sessions>(rt.alloc())?, None);
-    assert_eq!(rt; first_wrong::<servers::Asked>(rt.alloc())?, None);
-    assert_eq!(rt; first_wrong::<servers::Streamed>(rt.alloc())?, None);
+    assert!(rt; first_wrong::<sessions::Sessions>(rt.alloc())?.is_none());
+    assert!(rt; first_wrong::<servers::Asked>(rt.alloc())?.is_none());
+    assert!(rt; first_wrong::<servers::Streamed>(rt.alloc())?.is_none());
     Ok(())
 }

@@ -33,12 +33,12 @@ fn commits_a_cell_that_a_later_session_reads(rt: HostRuntime) -> Result<(), Fail
         Progress::Stamped(2),
         Progress::Committed(2),
     ] {
-        assert_eq!(rt; clients.step(&mut rows, &mut oracle, writer)?, want);
+        assert!(rt; clients.step(&mut rows, &mut oracle, writer)? == want);
     }
     let reader = clients.begin(&mut oracle)?;
     let found = clients.get(&mut rows, reader, b"Bob", b"bal")?;
     assert!(rt; is_value(&found, b"10"));
     clients.stop(reader)?;
-    assert_eq!(rt; clients.top(), 3);
+    assert!(rt; clients.top() == 3);
     Ok(())
 }

@@ -1,16 +1,12 @@
 //! Sorted files, by their bytes.
 
 use crate::FILE_LIMIT;
-use crate::tests::edits::data_key;
 use crate::tests::slow::is_file;
-use cell_key::{Refusal, Row};
+use cell_key::Refusal;
 use file_store::{Files, MemFiles, read_whole};
 use sorted_file::{SortedFile, write_file};
-use std::alloc::Global;
+use std::alloc::{AllocError, Global};
 use std::test::Fail;
-
-/// The text of the key (`a`, `bal`, data, 1), but for its stamp.
-const PLACE: &[u8] = b"a\0\0bal\0\0data\0\0";
 
 /// A file of no entries.
 const EMPTY: &[u8] = b"TABLET01\0\0\0\x08\0\0\0\0\0\0\0\0\0\0\0\x20TABLETZZ";
@@ -62,36 +58,35 @@ fn is_damaged(alloc: Global, bytes: &[u8]) -> bool {
     matches!(opened(alloc, &mut files, bytes), Err(Refusal::Damaged))
 }
 
+/// What stands before each value of 2,017 bytes in a file of three entries, at the stamps 3, 2 and 1.
+const BEFORE_VALUES: [&[u8]; 3] = [
+    b"TABLET01\0\0\0\x16a\0\0bal\0\0data\0\0\xFF\xFF\xFF\xFF\xFF\xFF\xFF\xFC\x01\0\0\x07\xE1",
+    b"\0\0\0\x16a\0\0bal\0\0data\0\0\xFF\xFF\xFF\xFF\xFF\xFF\xFF\xFD\x01\0\0\x07\xE1",
+    b"\0\0\0\x16a\0\0bal\0\0data\0\0\xFF\xFF\xFF\xFF\xFF\xFF\xFF\xFE\x01\0\0\x07\xE1",
+];
+
+/// What stands after them: the index of two blocks, and the foot.
+const AFTER_VALUES: &[u8] = b"\
+    \0\0\0\x08\0\0\x10\0\0\0\0\x16a\0\0bal\0\0data\0\0\xFF\xFF\xFF\xFF\xFF\xFF\xFF\xFC\
+    \0\0\x10\x08\0\0\x08\0\0\0\0\x16a\0\0bal\0\0data\0\0\xFF\xFF\xFF\xFF\xFF\xFF\xFF\xFE\
+    \0\0\x18\x08\0\0\0\x02\0\0\0\x03\0\0\x18\x64TABLETZZ";
+
 /// A file of three entries at the stamps 3, 2 and 1, with values of 2,017 bytes: two blocks.
-fn three(alloc: Global) -> Result<Vec<u8>, Refusal> {
-    let mut bytes = Vec::from_slice(alloc, b"TABLET01")?;
-    for stamp in [b"\xFC", b"\xFD", b"\xFE"] {
-        bytes.extend_from_slice(b"\0\0\0\x16")?;
-        bytes.extend_from_slice(PLACE)?;
-        bytes.extend_from_slice(b"\xFF\xFF\xFF\xFF\xFF\xFF\xFF")?;
-        bytes.extend_from_slice(stamp)?;
-        bytes.extend_from_slice(b"\x01\0\0\x07\xE1")?;
-        let value = vec![in alloc; b'v'; 2017]?;
+fn three(alloc: Global) -> Result<Vec<u8>, AllocError> {
+    let value = vec![in alloc; b'v'; 2017]?;
+    let mut bytes = Vec::new(alloc);
+    for before in BEFORE_VALUES {
+        bytes.extend_from_slice(before)?;
         bytes.extend_from_slice(&value)?;
     }
-    for (row, stamp) in [
-        (b"\0\0\0\x08\0\0\x10\0", b"\xFC"),
-        (b"\0\0\x10\x08\0\0\x08\0", b"\xFE"),
-    ] {
-        bytes.extend_from_slice(row)?;
-        bytes.extend_from_slice(b"\0\0\0\x16")?;
-        bytes.extend_from_slice(PLACE)?;
-        bytes.extend_from_slice(b"\xFF\xFF\xFF\xFF\xFF\xFF\xFF")?;
-        bytes.extend_from_slice(stamp)?;
-    }
-    bytes.extend_from_slice(b"\0\0\x18\x08\0\0\0\x02\0\0\0\x03\0\0\x18\x64TABLETZZ")?;
+    bytes.extend_from_slice(AFTER_VALUES)?;
     Ok(bytes)
 }
 
 #[test]
 fn files_of_literal_bytes(rt: HostRuntime) -> Result<(), Fail> {
     for (bytes, len) in [(EMPTY, 32), (ONE, 99), (TWO, 132)] {
-        assert_eq!(rt; bytes.len(), len);
+        assert!(rt; bytes.len() == len);
         assert!(rt; is_written_again(rt.alloc(), bytes)?);
     }
     Ok(())
@@ -100,42 +95,38 @@ fn files_of_literal_bytes(rt: HostRuntime) -> Result<(), Fail> {
 #[test]
 fn a_file_of_two_blocks(rt: HostRuntime) -> Result<(), Fail> {
     let bytes = three(rt.alloc())?;
-    assert_eq!(rt; bytes.len(), 6244);
+    assert!(rt; bytes.len() == 6244);
     assert!(rt; is_written_again(rt.alloc(), &bytes)?);
     Ok(())
 }
 
 #[test]
 fn damaged_files(rt: HostRuntime) -> Result<(), Fail> {
-    assert_eq!(rt; SPLIT_EARLY.len(), 166);
+    assert!(rt; SPLIT_EARLY.len() == 166);
     assert!(rt; is_damaged(rt.alloc(), SPLIT_EARLY));
     for len in 0..99 {
         let (beginning, _) = ONE.split_at_checked(len).ok_or("too long")?;
         assert!(rt; is_damaged(rt.alloc(), beginning));
     }
-    let mut files = MemFiles::new(rt.alloc());
-    assert!(rt;
-        matches!(
-            SortedFile::open(rt.alloc(), 7, &mut files),
-            Err(Refusal::Damaged)
-        )
-    );
     Ok(())
 }
 
+/// Places in the file of one entry, the bytes that are put there, and whether the file is damaged then.
+const CHANGES: [(usize, u8, bool); 4] = [
+    (34, 2, true),
+    (34, 0, true),
+    (7, 0x32, true),
+    (39, 0x32, false),
+];
+
 #[test]
 fn one_byte_changed(rt: HostRuntime) -> Result<(), Fail> {
-    for (at, byte, damaged) in [
-        (34, 2, true),
-        (34, 0, true),
-        (7, 0x32, true),
-        (39, 0x32, false),
-    ] {
+    for (at, byte, damaged) in CHANGES {
         let mut bytes = Vec::from_slice(rt.alloc(), ONE)?;
         if let Some(place) = bytes.get_mut(at) {
             *place = byte;
         }
-        assert_eq!(rt; is_damaged(rt.alloc(), &bytes), damaged);
+        assert!(rt; is_damaged(rt.alloc(), &bytes) == damaged);
     }
     Ok(())
 }
@@ -161,18 +152,5 @@ fn a_slow_reader_agrees(rt: HostRuntime) -> Result<(), Fail> {
     for at in 0..99 {
         assert!(rt; agree_at(rt.alloc(), at)?);
     }
-    Ok(())
-}
-
-#[test]
-fn an_entry_is_looked_up(rt: HostRuntime) -> Result<(), Fail> {
-    let mut files = MemFiles::new(rt.alloc());
-    let file = opened(rt.alloc(), &mut files, ONE)?;
-    let row = Row::new(rt.alloc(), b"a")?;
-    let mut key = data_key(rt.alloc(), &row, b"bal", 1)?;
-    let found = file.lookup(&key, &mut files)?;
-    assert!(rt; matches!(found, Some(entry) if entry.value == Some(b"10".as_slice())));
-    key.stamp = 2;
-    assert!(rt; file.lookup(&key, &mut files)?.is_none());
     Ok(())
 }

@@ -60,20 +60,9 @@ fn goes_on_a_range_later_after_a_restart(rt: HostRuntime) -> Result<(), Fail> {
         for _ in 0..restarts {
             oracle.restart()?;
         }
-        assert_eq!(rt; oracle.draw()?, stamp);
-        assert_eq!(rt; oracle.last(), stamp);
+        assert!(rt; oracle.draw()? == stamp);
+        assert!(rt; oracle.last() == stamp);
     }
-    Ok(())
-}
-
-#[test]
-fn serves_each_number_of_a_range(rt: HostRuntime) -> Result<(), Fail> {
-    let mut oracle = opened(MemMark::new())?;
-    for stamp in [1, 2, 3, 4] {
-        assert_eq!(rt; oracle.draw()?, stamp);
-    }
-    oracle.restart()?;
-    assert_eq!(rt; oracle.draw()?, 1_001);
     Ok(())
 }
 
@@ -84,9 +73,9 @@ fn ends_with_the_greatest_stamp(rt: HostRuntime) -> Result<(), Fail> {
         fails: false,
         failed: 0,
     })?;
-    assert_eq!(rt; oracle.draw()?, 9_223_372_036_854_775_807);
+    assert!(rt; oracle.draw()? == 9_223_372_036_854_775_807);
     assert!(rt; oracle.draw() == Err(Refusal::Exhausted));
-    assert_eq!(rt; oracle.into_mark().number, 9_223_372_036_854_775_807);
+    assert!(rt; oracle.into_mark().number == 9_223_372_036_854_775_807);
     Ok(())
 }
 
@@ -98,8 +87,8 @@ fn answers_the_same_stamp_after_a_fault(rt: HostRuntime) -> Result<(), Fail> {
         failed: 0,
     })?;
     assert!(rt; oracle.draw() == Err(Refusal::Device));
-    assert_eq!(rt; oracle.faults(), 1);
-    assert_eq!(rt; oracle.last(), 3);
-    assert_eq!(rt; oracle.draw()?, 4);
+    assert!(rt; oracle.faults() == 1);
+    assert!(rt; oracle.last() == 3);
+    assert!(rt; oracle.draw()? == 4);
     Ok(())
 }

@@ -1,31 +1,41 @@
 //! One tablet: what it shows through compactions and splits.
 
 use crate::FILE_LIMIT;
-use crate::tests::edits::{erase, one, put};
-use cell_key::{Family, Qualifier, Refusal, Row, Stamp};
+use crate::tests::edits::{Write, edits_of};
+use cell_key::{Family, Qualifier, Refusal, Row};
 use file_store::MemFiles;
+use row_atomic::{PlainRows, Rows};
 use std::alloc::Global;
 use std::test::Fail;
 use tablet::Tablet;
 
-/// A write: the row, the stamp, and a value or an erasure.
-type Write = (u8, Stamp, Option<u8>);
-
 /// The writes of each stage, in order.
 const WRITES: [[Write; 3]; 3] = [
-    [(b'a', 1, Some(1)), (b'b', 1, Some(2)), (b'c', 3, Some(3))],
-    [(b'a', 1, None), (b'b', 3, Some(4)), (b'c', 2, Some(5))],
-    [(b'a', 2, Some(6)), (b'b', 3, None), (b'c', 3, None)],
+    [
+        (b"a", b"bal", 1, Some(b"1")),
+        (b"b", b"bal", 1, Some(b"2")),
+        (b"c", b"bal", 3, Some(b"3")),
+    ],
+    [
+        (b"a", b"bal", 1, None),
+        (b"b", b"bal", 3, Some(b"4")),
+        (b"c", b"bal", 2, Some(b"5")),
+    ],
+    [
+        (b"a", b"bal", 2, Some(b"6")),
+        (b"b", b"bal", 3, None),
+        (b"c", b"bal", 3, None),
+    ],
 ];
 
-/// A tablet with its files, and all writes so far.
+/// A tablet with its files, beside one map in memory.
 #[derive(Drop)]
 struct Store {
     alloc: Global,
     tablet: Tablet,
     files: MemFiles,
     next_name: u64,
-    writes: Vec<Write>,
+    plain: PlainRows,
 }
 
 fn new_store(alloc: Global) -> Store {
@@ -34,22 +44,16 @@ fn new_store(alloc: Global) -> Store {
         tablet: Tablet::new(alloc),
         files: MemFiles::new(alloc),
         next_name: 1,
-        writes: Vec::new(alloc),
+        plain: PlainRows::new(alloc),
     }
 }
 
 fn write(store: &mut Store, write: Write) -> Result<(), Refusal> {
-    let (row, stamp, value) = write;
-    if stamp == 0 || stamp > 9 {
-        return Ok(());
-    }
-    let row = Row::new(store.alloc, &[row])?;
-    let edit = match value {
-        Some(value) => put(store.alloc, &row, b"bal", stamp, &[value])?,
-        None => erase(store.alloc, &row, b"bal", stamp)?,
-    };
-    store.writes.push(write)?;
-    store.tablet.apply(&row, one(store.alloc, &row, edit)?)
+    let row = Row::new(store.alloc, write.0)?;
+    let edits = edits_of(store.alloc, &row, write)?;
+    let same = edits_of(store.alloc, &row, write)?;
+    store.tablet.apply(&row, edits)?;
+    store.plain.apply(&row, same)
 }
 
 fn write_all(store: &mut Store, writes: &[Write]) -> Result<(), Refusal> {
@@ -77,62 +81,36 @@ fn major(store: &mut Store) -> Result<(), Refusal> {
         .major(FILE_LIMIT, &mut store.next_name, &mut store.files)
 }
 
-/// What the writes leave at a row, by the last of each stamp: the greatest stamp in `lo..=hi` that has a value.
-fn expected(writes: &[Write], row: u8, lo: Stamp, hi: Stamp) -> Option<(Stamp, u8)> {
-    for below in 0..5u64 {
-        let stamp = 4 - below;
-        let last = writes
-            .iter()
-            .rev()
-            .find(|write| write.0 == row && write.1 == stamp);
-        if let Some((_, _, Some(value))) = last {
-            if stamp >= lo && stamp <= hi {
-                return Some((stamp, *value));
-            }
-        }
-    }
-    None
-}
-
-fn is_found(found: &Option<(Stamp, Vec<u8>)>, expected: Option<(Stamp, u8)>) -> bool {
-    match (found, expected) {
-        (Some((stamp, bytes)), Some((other, value))) => {
-            *stamp == other && bytes.as_slice() == [value].as_slice()
-        }
-        (None, None) => true,
-        _ => false,
-    }
-}
-
-/// Whether a tablet shows at a row what the writes leave, at each range of stamps.
+/// Whether a tablet and a map in memory show the same at a row, at each range of stamps.
 fn agrees_at(
     alloc: Global,
     tablet: &Tablet,
     files: &mut MemFiles,
-    writes: &[Write],
+    plain: &mut PlainRows,
     row: u8,
 ) -> Result<bool, Refusal> {
     let family = Family::new(alloc, b"bal")?;
-    let name = Row::new(alloc, &[row])?;
+    let row = Row::new(alloc, &[row])?;
     for range in 0..25u64 {
         let lo = range / 5;
         let hi = range % 5;
-        let found = tablet.newest(&name, &family, Qualifier::Data, lo, hi, files)?;
-        if !is_found(&found, expected(writes, row, lo, hi)) {
+        let found = tablet.newest(&row, &family, Qualifier::Data, lo, hi, files)?;
+        if found != plain.newest(&row, &family, Qualifier::Data, lo, hi)? {
             return Ok(false);
         }
     }
     Ok(true)
 }
 
-fn agrees(store: &mut Store) -> Result<bool, Refusal> {
-    for row in *b"abc" {
+/// Whether the tablet shows these rows as the map does.
+fn agrees(store: &mut Store, rows: &[u8]) -> Result<bool, Refusal> {
+    for row in rows {
         if !agrees_at(
             store.alloc,
             &store.tablet,
             &mut store.files,
-            &store.writes,
-            row,
+            &mut store.plain,
+            *row,
         )? {
             return Ok(false);
         }
@@ -154,22 +132,20 @@ fn filled(alloc: Global) -> Result<Store, Refusal> {
 #[test]
 fn compactions_keep_the_cells(rt: HostRuntime) -> Result<(), Fail> {
     let mut store = filled(rt.alloc())?;
-    assert_eq!(rt; store.tablet.len(), 3);
-    assert_eq!(rt; store.tablet.file_count(), 2);
-    assert!(rt; agrees(&mut store)?);
+    assert!(rt; store.tablet.len() == 3 && store.tablet.file_count() == 2);
+    assert!(rt; agrees(&mut store, b"abc")?);
     minor(&mut store)?;
-    assert!(rt; agrees(&mut store)?);
+    assert!(rt; agrees(&mut store, b"abc")?);
     merge(&mut store, 2)?;
-    assert!(rt; agrees(&mut store)?);
+    assert!(rt; agrees(&mut store, b"abc")?);
     major(&mut store)?;
-    assert!(rt; agrees(&mut store)?);
-    assert_eq!(rt; store.tablet.file_count(), 1);
-    assert_eq!(rt; store.next_name, 6);
+    assert!(rt; agrees(&mut store, b"abc")?);
+    assert!(rt; store.tablet.file_count() == 1 && store.next_name == 6);
     Ok(())
 }
 
-/// Whether the parts of a split at `b`, and the left part loaded again, show what the writes leave.
-fn parts_agree(store: &mut Store) -> Result<bool, Refusal> {
+/// The left part of a split at `b`, loaded again.
+fn left_part(store: &mut Store) -> Result<Tablet, Refusal> {
     let row = Row::new(store.alloc, b"b")?;
     let left = store
         .tablet
@@ -177,28 +153,20 @@ fn parts_agree(store: &mut Store) -> Result<bool, Refusal> {
     let mut names = Vec::new(store.alloc);
     left.push_names(&mut names)?;
     let range = left.range().clone()?;
-    let left = Tablet::load(store.alloc, range, &names, &mut store.files)?;
-    Ok(
-        agrees_at(store.alloc, &left, &mut store.files, &store.writes, b'a')?
-            && agrees_at(store.alloc, &left, &mut store.files, &store.writes, b'b')?
-            && agrees_at(
-                store.alloc,
-                &store.tablet,
-                &mut store.files,
-                &store.writes,
-                b'c',
-            )?,
-    )
+    Tablet::load(store.alloc, range, &names, &mut store.files)
 }
 
 #[test]
 fn parts_keep_the_cells(rt: HostRuntime) -> Result<(), Fail> {
     let mut store = filled(rt.alloc())?;
-    assert!(rt; parts_agree(&mut store)?);
+    let left = left_part(&mut store)?;
+    assert!(rt; agrees(&mut store, b"c")?);
+    store.tablet = left;
+    assert!(rt; agrees(&mut store, b"ab")?);
     let names = store
         .tablet
         .unload(FILE_LIMIT, &mut store.next_name, &mut store.files)?;
-    assert_eq!(rt; names.as_slice(), [3, 2, 1].as_slice());
+    assert!(rt; names.as_slice() == [3, 2, 1].as_slice());
     assert!(rt; store.tablet.is_empty());
     Ok(())
 }
@@ -225,7 +193,7 @@ fn rows_of(store: &mut Store) -> Result<Vec<u8>, Refusal> {
 #[test]
 fn goes_from_cell_to_cell(rt: HostRuntime) -> Result<(), Fail> {
     let mut store = filled(rt.alloc())?;
-    assert_eq!(rt; rows_of(&mut store)?.as_slice(), b"abc".as_slice());
+    assert!(rt; rows_of(&mut store)?.as_slice() == b"abc".as_slice());
     Ok(())
 }
 
@@ -248,11 +216,11 @@ fn refusals(rt: HostRuntime) -> Result<(), Fail> {
 fn full_of_files(rt: HostRuntime) -> Result<(), Fail> {
     let mut store = new_store(rt.alloc());
     for _ in 0..64 {
-        write(&mut store, (b'a', 1, Some(1)))?;
+        write(&mut store, (b"a", b"bal", 1, Some(b"1")))?;
         minor(&mut store)?;
     }
-    write(&mut store, (b'a', 1, Some(1)))?;
+    write(&mut store, (b"a", b"bal", 1, Some(b"1")))?;
     assert!(rt; matches!(minor(&mut store), Err(Refusal::TooManyFiles)));
-    assert_eq!(rt; store.tablet.file_count(), 64);
+    assert!(rt; store.tablet.file_count() == 64);
     Ok(())
 }

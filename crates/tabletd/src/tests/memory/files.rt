@@ -70,13 +70,9 @@ pub struct Buffered {
 const WRITES: [Call; 3] = [(b"", b"x21"), (b"", b"x2"), (b"", b"x1x2")];
 
 impl Subject for Buffered {
-    fn before() -> &'static [u8] {
-        b"x1"
-    }
+    const BEFORE: &'static [u8] = b"x1";
 
-    fn calls() -> &'static [Call] {
-        &WRITES
-    }
+    const CALLS: &'static [Call] = &WRITES;
 
     fn set_up(alloc: Global) -> Result<Buffered, Refusal> {
         let mut table = Memtable::new(alloc);
@@ -155,13 +151,9 @@ impl Stored {
 }
 
 impl Subject for Stored {
-    fn before() -> &'static [u8] {
-        b"\x09one-two-----"
-    }
+    const BEFORE: &'static [u8] = b"\x09one-two-----";
 
-    fn calls() -> &'static [Call] {
-        &FILE_CALLS
-    }
+    const CALLS: &'static [Call] = &FILE_CALLS;
 
     fn set_up(alloc: Global) -> Result<Stored, Refusal> {
         let mut files = MemFiles::new(alloc);
@@ -212,29 +204,34 @@ const SORTED_CALLS: [Call; 4] = [
     (b"", b"\x7D\x9D-x2x1"),
 ];
 
-/// Appends the values of a file in the order of their keys.
-fn push_sorted(alloc: Global, file: &SortedFile, out: &mut Vec<u8>) -> Result<(), Refusal> {
+/// Appends the value of a file at a stamp of `a`.
+fn push_at(
+    alloc: Global,
+    file: &SortedFile,
+    files: &mut MemFiles,
+    stamp: Stamp,
+    out: &mut Vec<u8>,
+) -> Result<(), Refusal> {
     let row = Row::new(alloc, b"a")?;
-    let mut files = MemFiles::new(alloc);
-    for stamp in [9, 1] {
-        push_value(
-            file.lookup(&data_key(alloc, &row, b"bal", stamp)?, &mut files)?,
-            out,
-        )?;
-    }
-    Ok(())
+    let key = data_key(alloc, &row, b"bal", stamp)?;
+    push_value(file.lookup(&key, files)?, out)
+}
+
+/// Appends the values of a file in the order of their keys.
+fn push_sorted(
+    alloc: Global,
+    file: &SortedFile,
+    files: &mut MemFiles,
+    out: &mut Vec<u8>,
+) -> Result<(), Refusal> {
+    push_at(alloc, file, files, 9, out)?;
+    push_at(alloc, file, files, 1, out)
 }
 
 impl Sorted {
-    fn look_up(&mut self, alloc: Global, out: &mut Vec<u8>) -> Result<(), Refusal> {
-        let row = Row::new(alloc, b"a")?;
-        let key = data_key(alloc, &row, b"bal", 1)?;
-        push_value(self.file.lookup(&key, &mut self.files)?, out)
-    }
-
     fn open_again(&mut self, alloc: Global, out: &mut Vec<u8>) -> Result<(), Refusal> {
         let file = SortedFile::open(alloc, 1, &mut self.files)?;
-        push_sorted(alloc, &file, out)
+        push_sorted(alloc, &file, &mut self.files, out)
     }
 
     fn write_again(&mut self, alloc: Global) -> Result<(), Refusal> {
@@ -259,13 +256,9 @@ fn written(alloc: Global, table: &Memtable, files: &mut MemFiles) -> Result<Sort
 }
 
 impl Subject for Sorted {
-    fn before() -> &'static [u8] {
-        b"\x7D--x2x1"
-    }
+    const BEFORE: &'static [u8] = b"\x7D--x2x1";
 
-    fn calls() -> &'static [Call] {
-        &SORTED_CALLS
-    }
+    const CALLS: &'static [Call] = &SORTED_CALLS;
 
     fn set_up(alloc: Global) -> Result<Sorted, Refusal> {
         let mut older = Memtable::new(alloc);
@@ -281,7 +274,7 @@ impl Subject for Sorted {
         match number {
             0 => self.write_again(alloc),
             1 => self.open_again(alloc, out),
-            2 => self.look_up(alloc, out),
+            2 => push_at(alloc, &self.file, &mut self.files, 1, out),
             _ => self.merge(alloc),
         }
     }
@@ -289,6 +282,6 @@ impl Subject for Sorted {
     fn read(&mut self, alloc: Global, out: &mut Vec<u8>) -> Result<(), Refusal> {
         push_sizes(&mut self.files, out)?;
         push_table(&self.table, out)?;
-        push_sorted(alloc, &self.file, out)
+        push_sorted(alloc, &self.file, &mut self.files, out)
     }
 }

@@ -100,13 +100,9 @@ impl Keys {
 }
 
 impl Subject for Keys {
-    fn before() -> &'static [u8] {
-        b"text"
-    }
+    const BEFORE: &'static [u8] = b"text";
 
-    fn calls() -> &'static [Call] {
-        &CALLS
-    }
+    const CALLS: &'static [Call] = &CALLS;
 
     fn set_up(alloc: Global) -> Result<Keys, Refusal> {
         Ok(Keys {

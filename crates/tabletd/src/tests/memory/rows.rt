@@ -4,7 +4,7 @@ ghost use Rattle.std.specs.Prelude.{◌<◌, ◌≤◌, ◌^◌};
 
 use crate::FILE_LIMIT;
 use crate::tests::memory::files::edits_of;
-use crate::tests::memory::{Call, Subject};
+use crate::tests::memory::{Call, Subject, push_number};
 use cell_key::{Family, Qualifier, Refusal, Row, Stamp};
 use file_store::MemFiles;
 use row_atomic::{Cluster, Command, Outcome, PlainRows, Rows};
@@ -87,13 +87,9 @@ const PLAIN_CALLS: [Call; 3] = [
 ];
 
 impl Subject for Plain {
-    fn before() -> &'static [u8] {
-        b"12"
-    }
+    const BEFORE: &'static [u8] = b"12";
 
-    fn calls() -> &'static [Call] {
-        &PLAIN_CALLS
-    }
+    const CALLS: &'static [Call] = &PLAIN_CALLS;
 
     fn set_up(alloc: Global) -> Result<Plain, Refusal> {
         let mut rows = PlainRows::new(alloc);
@@ -177,13 +173,7 @@ impl Clustered {
 
     fn split(&mut self, alloc: Global, out: &mut Vec<u8>) -> Result<(), Refusal> {
         let row = Row::new(alloc, b"m")?;
-        out.push((self.cluster.split(&row)? % 256) as u8)?;
-        Ok(())
-    }
-
-    fn sweep(&mut self, out: &mut Vec<u8>) -> Result<(), Refusal> {
-        out.push((self.cluster.sweep()? % 256) as u8)?;
-        Ok(())
+        push_number(u64::from(self.cluster.split(&row)?), out)
     }
 
     /// Runs a command that looks for the first cell, and appends its row.
@@ -207,13 +197,9 @@ impl Clustered {
 }
 
 impl Subject for Clustered {
-    fn before() -> &'static [u8] {
-        b"54\x0E\x0B"
-    }
+    const BEFORE: &'static [u8] = b"54\x0E\x0B";
 
-    fn calls() -> &'static [Call] {
-        &CLUSTER_CALLS
-    }
+    const CALLS: &'static [Call] = &CLUSTER_CALLS;
 
     fn set_up(alloc: Global) -> Result<Clustered, Refusal> {
         let cluster = new_cluster(alloc)?;
@@ -230,7 +216,7 @@ impl Subject for Clustered {
             5 => self.cluster.major(1),
             6 => self.split(alloc, out),
             7 => self.cluster.move_to(1, 3),
-            8 => self.sweep(out),
+            8 => push_number(self.cluster.sweep()?, out),
             9 => self.run(alloc, out),
             _ => call_rows(alloc, &mut self.cluster, number, out),
         }

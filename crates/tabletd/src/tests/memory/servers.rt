@@ -399,13 +399,9 @@ pub struct Streamed {
 }
 
 impl Subject for Asked {
-    fn before() -> &'static [u8] {
-        STILL
-    }
+    const BEFORE: &'static [u8] = STILL;
 
-    fn calls() -> &'static [Call] {
-        &ASKED
-    }
+    const CALLS: &'static [Call] = &ASKED;
 
     fn set_up(alloc: Global) -> Result<Asked, Refusal> {
         Ok(Asked {
@@ -426,13 +422,9 @@ impl Subject for Asked {
 }
 
 impl Subject for Streamed {
-    fn before() -> &'static [u8] {
-        STILL
-    }
+    const BEFORE: &'static [u8] = STILL;
 
-    fn calls() -> &'static [Call] {
-        &STREAMED
-    }
+    const CALLS: &'static [Call] = &STREAMED;
 
     fn set_up(alloc: Global) -> Result<Streamed, Refusal> {
         Ok(Streamed {

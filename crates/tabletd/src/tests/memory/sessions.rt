@@ -1,7 +1,7 @@
 //! Sessions over rows in memory.
 
 use crate::tests::memory::rows::push_newest;
-use crate::tests::memory::{Call, Subject};
+use crate::tests::memory::{Call, Subject, push_number};
 use cell_key::{Refusal, Stamp};
 use oracle::{MemMark, Oracle};
 use row_atomic::PlainRows;
@@ -68,9 +68,7 @@ impl Sessions {
     }
 
     fn begin(&mut self, out: &mut Vec<u8>) -> Result<(), Refusal> {
-        let start = self.clients.begin(&mut self.oracle)?;
-        out.push((start % 256) as u8)?;
-        Ok(())
+        push_number(self.clients.begin(&mut self.oracle)?, out)
     }
 
     fn get(&mut self, row: &[u8], out: &mut Vec<u8>) -> Result<(), Refusal> {
@@ -92,20 +90,15 @@ impl Sessions {
             Progress::Lost => (5, 0),
             Progress::Finished(cell, _) => (6, u64::from(cell)),
         };
-        out.push(kind)?;
-        out.push((number % 256) as u8)?;
-        Ok(())
+        push_number(kind, out)?;
+        push_number(number, out)
     }
 }
 
 impl Subject for Sessions {
-    fn before() -> &'static [u8] {
-        b"1L162"
-    }
+    const BEFORE: &'static [u8] = b"1L162";
 
-    fn calls() -> &'static [Call] {
-        &CALLS
-    }
+    const CALLS: &'static [Call] = &CALLS;
 
     fn set_up(alloc: Global) -> Result<Sessions, Refusal> {
         let mut sessions = Sessions {

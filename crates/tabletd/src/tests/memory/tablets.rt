@@ -4,7 +4,7 @@ ghost use Rattle.std.specs.Prelude.{◌<◌, ◌≤◌, ◌^◌};
 
 use crate::FILE_LIMIT;
 use crate::tests::memory::files::edits_of;
-use crate::tests::memory::{Call, Subject};
+use crate::tests::memory::{Call, Subject, push_number};
 use cell_key::{Family, Qualifier, Refusal, Row, Stamp};
 use file_store::MemFiles;
 use metadata_table::MetadataTable;
@@ -127,8 +127,7 @@ impl Served {
 
     /// Appends how many files the tablet has.
     fn push_count(&mut self, out: &mut Vec<u8>) -> Result<(), Refusal> {
-        out.push((self.tablet.file_count() % 256) as u8)?;
-        Ok(())
+        push_number(self.tablet.file_count() as u64, out)
     }
 
     /// Compacts, and appends how many files there are.
@@ -150,7 +149,7 @@ impl Served {
         let left = self
             .tablet
             .split(&row, FILE_LIMIT, &mut self.next_name, &mut self.files)?;
-        out.push((left.file_count() % 256) as u8)?;
+        push_number(left.file_count() as u64, out)?;
         self.push_count(out)
     }
 
@@ -158,8 +157,7 @@ impl Served {
         let names = self
             .tablet
             .unload(FILE_LIMIT, &mut self.next_name, &mut self.files)?;
-        out.push((names.len() % 256) as u8)?;
-        Ok(())
+        push_number(names.len() as u64, out)
     }
 
     fn load(&mut self, alloc: Global, out: &mut Vec<u8>) -> Result<(), Refusal> {
@@ -168,19 +166,14 @@ impl Served {
             end: None,
         };
         let tablet = Tablet::load(alloc, range, &[2, 1], &mut self.files)?;
-        out.push((tablet.file_count() % 256) as u8)?;
-        Ok(())
+        push_number(tablet.file_count() as u64, out)
     }
 }
 
 impl Subject for Served {
-    fn before() -> &'static [u8] {
-        b"a345\x01"
-    }
+    const BEFORE: &'static [u8] = b"a345\x01";
 
-    fn calls() -> &'static [Call] {
-        &CALLS
-    }
+    const CALLS: &'static [Call] = &CALLS;
 
     fn set_up(alloc: Global) -> Result<Served, Refusal> {
         let mut served = Served::new(alloc)?;
@@ -210,8 +203,7 @@ impl Subject for Served {
             self.push_newest(alloc, b'b', out)?;
         }
         self.push_newest(alloc, b'c', out)?;
-        out.push((self.names.len() % 256) as u8)?;
-        Ok(())
+        push_number(self.names.len() as u64, out)
     }
 }
 
@@ -221,7 +213,6 @@ pub struct Placed {
     table: MetadataTable,
 }
 
-/// Of each place there are the tablet, the server, how many files it has, and its end.
 const PLACE_CALLS: [Call; 4] = [
     // MetadataTable::new
     (b"\x01", b"\x02\x03\x01m\x01\x03\x01"),
@@ -233,27 +224,29 @@ const PLACE_CALLS: [Call; 4] = [
     (b"\x02", b"\x02\x03\x01m\x01\x03\x01"),
 ];
 
-fn split_at(alloc: Global, table: &mut MetadataTable, row: &[u8]) -> Result<u32, Refusal> {
+/// Appends of each place the tablet, the server, how many files it has, and its end.
+pub fn push_places(table: &MetadataTable, out: &mut Vec<u8>) -> Result<(), Refusal> {
+    for place in table.places() {
+        push_number(u64::from(place.tablet), out)?;
+        push_number(u64::from(place.server), out)?;
+        push_number(place.files.len() as u64, out)?;
+        if let Some(end) = &place.end {
+            out.extend_from_slice(end.as_bytes())?;
+        }
+    }
+    Ok(())
+}
+
+/// Splits a table of places at a row.
+pub fn split_at(alloc: Global, table: &mut MetadataTable, row: &[u8]) -> Result<u32, Refusal> {
     let row = Row::new(alloc, row)?;
     table.split_at(&row)
 }
 
-impl Placed {
-    fn split(&mut self, alloc: Global, out: &mut Vec<u8>) -> Result<(), Refusal> {
-        let left = split_at(alloc, &mut self.table, b"a")?;
-        out.push((left % 256) as u8)?;
-        Ok(())
-    }
-}
-
 impl Subject for Placed {
-    fn before() -> &'static [u8] {
-        b"\x02\x03\x01m\x01\x03\x01"
-    }
+    const BEFORE: &'static [u8] = b"\x02\x03\x01m\x01\x03\x01";
 
-    fn calls() -> &'static [Call] {
-        &PLACE_CALLS
-    }
+    const CALLS: &'static [Call] = &PLACE_CALLS;
 
     fn set_up(alloc: Global) -> Result<Placed, Refusal> {
         let mut table = MetadataTable::new(alloc)?;
@@ -265,23 +258,14 @@ impl Subject for Placed {
 
     fn call(&mut self, alloc: Global, number: usize, out: &mut Vec<u8>) -> Result<(), Refusal> {
         match number {
-            0 => out.push((MetadataTable::new(alloc)?.len() % 256) as u8)?,
-            1 => self.split(alloc, out)?,
-            2 => self.table.set_files(2, vec![in alloc; 8, 9]?)?,
-            _ => out.push((self.table.clone()?.len() % 256) as u8)?,
+            0 => push_number(MetadataTable::new(alloc)?.len() as u64, out),
+            1 => push_number(u64::from(split_at(alloc, &mut self.table, b"a")?), out),
+            2 => self.table.set_files(2, vec![in alloc; 8, 9]?),
+            _ => push_number(self.table.clone()?.len() as u64, out),
         }
-        Ok(())
     }
 
     fn read(&mut self, _alloc: Global, out: &mut Vec<u8>) -> Result<(), Refusal> {
-        for place in self.table.places() {
-            out.push((place.tablet % 256) as u8)?;
-            out.push(place.server)?;
-            out.push((place.files.len() % 256) as u8)?;
-            if let Some(end) = &place.end {
-                out.extend_from_slice(end.as_bytes())?;
-            }
-        }
-        Ok(())
+        push_places(&self.table, out)
     }
 }
