@@ -80,16 +80,18 @@ module _ (es : List Entry) (name : List ℕ) (o : Option (Bor Slot)) (found : op
 
 -- ---- what a memtable keeps
 
+pub within_limits : (es : List Entry) (size : Size) → IsSizeOf size es → size.entries ≤ 100000 → size.bytes ≤ 67108864 → IsWithinLimits es
+within_limits es size is few small = record { entries = let e = is.entries in omega (arith, e); bytes = let b = is.bytes in omega (arith, b) }
+
 pub kept : {A : Type 0} (slots : List (Box Slot A)) (staged base es : List Entry) (size : Size) → slot_entries slots ≡ over staged base → over staged base ≡ es → IsEntryList base → AllByRecursion IsEntry staged → IsSizeOf size es → size.entries ≤ 100000 → size.bytes ≤ 67108864 → IsKept slots size.bytes
 kept slots staged base es size made edited list limits is few small =
     let same = made ∙ edited in
-    let inside : IsWithinLimits es = record { entries = let e = is.entries in omega (arith, e); bytes = let b = is.bytes in omega (arith, b) } in
     record {
       list =
           record {
             rising = subst (λ (xs : List Entry). IsRising xs) (sym made) (over_rising staged base list.rising);
             each = subst (λ (xs : List Entry). AllByRecursion IsEntry xs) (sym made) (each-over staged base limits list.each);
           };
-      limits = subst (λ (xs : List Entry). IsWithinLimits xs) (sym same) inside;
+      limits = subst (λ (xs : List Entry). IsWithinLimits xs) (sym same) (within_limits es size is few small);
       bytes = is.bytes ∙ ap bytes_of (sym same);
     }
