@@ -58,3 +58,51 @@ returns-in-TooLarge-clause-one g c =
     let (n, wrote) = c.in-Err-send.ensures.err in
     let refusal = frame (reply_body (Refused FrameTooLarge)) in
     Serves-too_large _ _ _ _ _ _ _ _ _ read _ consumed large.0 wrote (drop n refusal, sym (take-append-drop n refusal))
+
+pub returns-in-Ok-clause-kinds : goal.returns-in-Ok-clause-kinds
+returns-in-Ok-clause-kinds g c = λ is. cc
+
+pub returns-in-Ok-clause-fewer : goal.returns-in-Ok-clause-fewer
+returns-in-Ok-clause-fewer g c = λ _. let (read, consumed, whole) = c.in-Whole.ensures in whole.3
+
+pub returns-in-Whole-clause-kinds : goal.returns-in-Whole-clause-kinds
+returns-in-Whole-clause-kinds g c = λ is. cc
+
+pub returns-in-Whole-clause-fewer : goal.returns-in-Whole-clause-fewer
+returns-in-Whole-clause-fewer g c = λ is. absurd (let none : ⊥ = cc in none)
+
+pub returns-in-Ok-send-clause-kinds : goal.returns-in-Ok-send-clause-kinds
+returns-in-Ok-send-clause-kinds g c = λ is. cc
+
+pub returns-in-Ok-send-clause-fewer : goal.returns-in-Ok-send-clause-fewer
+returns-in-Ok-send-clause-fewer g c = λ is. absurd (let none : ⊥ = cc in none)
+
+pub returns-in-TooLarge-clause-kinds : goal.returns-in-TooLarge-clause-kinds
+returns-in-TooLarge-clause-kinds g c = λ is. cc
+
+pub returns-in-TooLarge-clause-fewer : goal.returns-in-TooLarge-clause-fewer
+returns-in-TooLarge-clause-fewer g c = λ is. absurd (let none : ⊥ = cc in none)
+
+pub returns-in-Clean-clause-kinds : goal.returns-in-Clean-clause-kinds
+returns-in-Clean-clause-kinds g c = λ is. cc
+
+pub returns-in-Clean-clause-fewer : goal.returns-in-Clean-clause-fewer
+returns-in-Clean-clause-fewer g c = λ is. absurd (let none : ⊥ = cc in none)
+
+pub returns-in-Truncated-clause-kinds : goal.returns-in-Truncated-clause-kinds
+returns-in-Truncated-clause-kinds g c = λ is. cc
+
+pub returns-in-Truncated-clause-fewer : goal.returns-in-Truncated-clause-fewer
+returns-in-Truncated-clause-fewer g c = λ is. absurd (let none : ⊥ = cc in none)
+
+pub returns-in-UsedUp-clause-kinds : goal.returns-in-UsedUp-clause-kinds
+returns-in-UsedUp-clause-kinds g c = λ is. cc
+
+pub returns-in-UsedUp-clause-fewer : goal.returns-in-UsedUp-clause-fewer
+returns-in-UsedUp-clause-fewer g c = λ is. absurd (let none : ⊥ = cc in none)
+
+pub returns-clause-kinds : goal.returns-clause-kinds
+returns-clause-kinds g c = λ is. cc
+
+pub returns-clause-fewer : goal.returns-clause-fewer
+returns-clause-fewer g c = λ is. absurd (let none : ⊥ = cc in none)

@@ -1,11 +1,16 @@
-use Rattle.std.proofs.Common.{List, refl, ap, subst, sym, arith}
+use Rattle.std.proofs.Common.{◌≡◌, List, refl, ap, subst, sym, arith, inl, inr, ◌∙◌}
 use Rattle.cell_key.specs.Cells.{Cells}
+use Rattle.cell_key.specs.declared.refusals.Refusal.{Refusal}
+use Rattle.cell_key.specs.declared.refusals.Refusal.TheVariants.{Device, NoMemory}
 use Rattle.metadata_table.specs.Places.{PlaceView}
 use Rattle.si_model.specs.Machine.{new_machine}
 use Rattle.si_model.specs.ShowsCells.{ShowsCells}
 use Rattle.server_loop.specs.Server.{machine_places}
 use Rattle.server_loop.proofs.Stepping.{new_cells}
 use Rattle.server_loop.proofs.server.Server.new.Goals as goal
+
+two_reasons : (refusal : Refusal) → refusal ≡ NoMemory → refusal ≡ Device → ⊥
+two_reasons refusal memory device = cc
 
 pub returns-in-Ok-open-clause-new : goal.returns-in-Ok-open-clause-new
 returns-in-Ok-open-clause-new g c = λ told. record {
@@ -18,3 +23,51 @@ returns-in-Ok-open-clause-new g c = λ told. record {
   places = ap (λ (places : List PlaceView). machine_places places) c.in-Ok.ensures.places;
   next = refl;
 }
+
+pub returns-in-Ok-open-clause-kept : goal.returns-in-Ok-open-clause-kept
+returns-in-Ok-open-clause-kept g c = c.in-Ok.ensures.files
+
+pub returns-in-Ok-open-clause-name : goal.returns-in-Ok-open-clause-name
+returns-in-Ok-open-clause-name g c = c.in-Ok.ensures.name
+
+pub returns-in-Ok-open-clause-last : goal.returns-in-Ok-open-clause-last
+returns-in-Ok-open-clause-last g c = c.in-Ok-open.ensures.mark
+
+pub returns-in-Ok-open-clause-mark : goal.returns-in-Ok-open-clause-mark
+returns-in-Ok-open-clause-mark g c = c.in-Ok-open.ensures.kept
+
+pub returns-in-Ok-open-clause-limit : goal.returns-in-Ok-open-clause-limit
+returns-in-Ok-open-clause-limit g c = c.in-Ok.ensures.limit
+
+pub returns-in-Ok-open-clause-told : goal.returns-in-Ok-open-clause-told
+returns-in-Ok-open-clause-told g c = c.in-Ok-open.ensures.told
+
+pub returns-in-Err-clause-refusal : goal.returns-in-Err-clause-refusal
+returns-in-Err-clause-refusal g c = inl c.in-Err.ensures.refusal
+
+pub returns-in-Err-clause-device : goal.returns-in-Err-clause-device
+returns-in-Err-clause-device g c = λ same. absurd (two_reasons _ c.in-Err.ensures.refusal same)
+
+pub returns-in-Err-clause-files : goal.returns-in-Err-clause-files
+returns-in-Err-clause-files g c = c.in-Err.ensures.returned
+
+pub returns-in-Err-clause-marks : goal.returns-in-Err-clause-marks
+returns-in-Err-clause-marks g c = refl
+
+pub returns-in-Err-clause-unread : goal.returns-in-Err-clause-unread
+returns-in-Err-clause-unread g c = λ _. refl
+
+pub returns-in-Err-open-clause-refusal : goal.returns-in-Err-open-clause-refusal
+returns-in-Err-open-clause-refusal g c = inr c.in-Err-open.ensures.refusal
+
+pub returns-in-Err-open-clause-device : goal.returns-in-Err-open-clause-device
+returns-in-Err-open-clause-device g c = λ _. c.in-Err-open.ensures.device
+
+pub returns-in-Err-open-clause-files : goal.returns-in-Err-open-clause-files
+returns-in-Err-open-clause-files g c = c.into_files.ensures ∙ c.in-Ok.ensures.files
+
+pub returns-in-Err-open-clause-marks : goal.returns-in-Err-open-clause-marks
+returns-in-Err-open-clause-marks g c = c.in-Err-open.ensures.returned
+
+pub returns-in-Err-open-clause-unread : goal.returns-in-Err-open-clause-unread
+returns-in-Err-open-clause-unread g c = λ same. absurd (two_reasons _ same c.in-Err-open.ensures.refusal)
