@@ -1,4 +1,4 @@
-use Rattle.std.proofs.Common.{rules, ◌≡◌, [], ◌∷◌, map, refl, true, arith}
+use Rattle.std.proofs.Common.{rules, ◌≡◌, [], ◌∷◌, map, refl, true, inl, arith}
 use Rattle.std.proofs.lemmas.Grind.{common_steps}
 use Rattle.std.specs.Prelude.{◌≢◌}
 use Rattle.sorted_file.specs.Grammar.{FitsIn}
@@ -55,3 +55,14 @@ returns-clause-fits g c = λ some.
     let memory = memory_of c.args.self.now in
     large_of (g.F.Files.contents c.args.files.now) c.args.self.now (record c.args.self.now { files = c.reserve.new.self }) (λ m. written true (seen range memory ∷ [])) (λ m. seen range memory) (λ es. FitsIn c.args.file_limit es)
     (record { range = refl; memory = refl; files = c.in_ok-reserve.ensures.items }) (λ m h. minor_writes c.keeps_one_list.ensures range memory h.memory) c.in_ok-file.ensures.fits
+
+pub returns-then-len-ge-MOST_FILES-clause-unwritten : goal.returns-then-len-ge-MOST_FILES-clause-unwritten
+returns-then-len-ge-MOST_FILES-clause-unwritten g c = λ err. (refl, refl)
+
+pub returns-then-len-ge-MOST_FILES-clause-name : goal.returns-then-len-ge-MOST_FILES-clause-name
+returns-then-len-ge-MOST_FILES-clause-name g c = inl (refl, refl)
+
+pub returns-then-len-ge-MOST_FILES-clause-keeps : goal.returns-then-len-ge-MOST_FILES-clause-keeps
+returns-then-len-ge-MOST_FILES-clause-keeps g c =
+    still_keeps c.stays_open.ensures (g.F.Files.contents c.args.files.now) (g.F.Files.contents c.args.files.now) c.args.next_name.now c.args.next_name.now c.args.self.now c.args.self.now
+    (record { range = refl; memory = refl; files = refl }) (inl (refl, refl))

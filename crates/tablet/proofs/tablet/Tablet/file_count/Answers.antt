@@ -1,0 +1,8 @@
+use Rattle.std.proofs.Common.{sym, ◌∙◌}
+use Rattle.std.proofs.lemmas.List.{length-map}
+use Rattle.sorted_file.specs.Opened.{name_of}
+use Rattle.tablet.specs.Views.{files_of}
+use Rattle.tablet.proofs.tablet.Tablet.file_count.Goals as goal
+
+pub returns : goal.returns
+returns c = c.len.ensures ∙ c.args.self.now.files.ok.0 ∙ sym (length-map (files_of c.args.self.now) name_of)
