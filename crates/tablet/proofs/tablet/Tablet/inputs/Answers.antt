@@ -5,6 +5,9 @@ use Rattle.tablet.specs.Views.{files_of, memory_of}
 use Rattle.tablet.specs.Compactions.{inputs_of}
 use Rattle.tablet.proofs.tablet.Tablet.inputs.Goals as goal
 
+pub returns-in-Minor-clause-lists : goal.returns-in-Minor-clause-lists
+returns-in-Minor-clause-lists c = λ m. ap (λ (k : _). inputs_of k (memory_of c.args.self.now) (map (listed m) (files_of c.args.self.now))) (sym c.in-Minor.is)
+
 pub returns-in-Merge-clause-lists : goal.returns-in-Merge-clause-lists
 returns-in-Merge-clause-lists c = λ m.
     ap (λ (fs : _). map (listed m) (take c.in-Merge.count fs)) c.deref.ensures.value
