@@ -54,3 +54,9 @@ returns-in-Major-clause-needed g c = rw (c.in-Major.is) (λ out none. none)
 
 pub returns-in-Minor-clause-empty : goal.returns-in-Minor-clause-empty
 returns-in-Minor-clause-empty g c = rw (c.in-Minor.is) (λ none. let same = c.minor.ensures.empty none in (same.0, (same.1.1.0, same.1.1.1)))
+
+pub returns-in-Merge-clause-made : goal.returns-in-Merge-clause-made
+returns-in-Merge-clause-made g c = rw (c.in-Merge.is) (on_ok _ _ c.merge.result (λ names. record { memory = c.merge.ensures.memory; names = names }) c.merge.ensures.names)
+
+pub returns-in-Merge-clause-count : goal.returns-in-Merge-clause-count
+returns-in-Merge-clause-count g c = rw (c.in-Merge.is) (c.merge.ensures.count.0)

@@ -170,3 +170,13 @@ returns-clause-files g c =
     let there_old = ap (λ ys. slice_get ys c.position-index.result) (sym c.reserve.ensures.items) ∙ there in
     let emptied = holder_emptied c.args.row.now c.self.inside.table c.self.inside.tablets.items (view_of c.locate.result.now) c.position-index.result c.index_mut.result.now holder at.number there_old (rw (← c.self.view_is) at c.requires.flushed) in
     rw (← c.self.view_is) ((c.split.ensures.empty emptied).1)
+
+pub returns-clause-number : goal.returns-clause-number
+returns-clause-number g c =
+    let copied : c.in_ok-table.table ≡ c.self.inside.table = search rules in
+    rw (← c.self.view_is) (c.in_ok-left.ensures.number ∙ ap (λ (ps : List PlaceView). length ps + 1) copied)
+
+pub returns-clause-cut : goal.returns-clause-cut
+returns-clause-cut g c =
+    let copied : c.in_ok-table.table ≡ c.self.inside.table = search rules in
+    rw (← c.self.view_is) (subst (λ (ps : List PlaceView). Cuts c.args.row.now c.in_ok-left.left ps c.split_at.new.self) copied c.in_ok-left.ensures.cut)

@@ -1,5 +1,5 @@
 -- The first tablet shows nothing, and has all rows.
-use Rattle.std.proofs.Common.{List, [], ◌∷◌, sym, subst, ap, ◌∙◌}
+use Rattle.std.proofs.Common.{List, [], ◌∷◌, refl, sym, subst, ap, ◌∙◌}
 use Rattle.metadata_table.specs.Places.{PlaceView}
 use Rattle.tablet.specs.declared.tablet.Tablet.{Tablet}
 use Rattle.row_atomic.specs.Clusters.{InOrder, IsMatched, cells_in}
@@ -22,3 +22,6 @@ pub returns-in-Ok-clause-holds : goal.returns-in-Ok-clause-holds
 returns-in-Ok-clause-holds g c =
     let first = c.in-Ok.ensures.tablet in
     λ told. subst (λ (ts : List Tablet). InOrder (g.F.Files.contents c.args.files) 1 ts) (sym first.alone) (new_in_order first.tablet first.memory first.files (g.F.Files.contents c.args.files) 1 told)
+
+pub returns-in-Ok-clause-name : goal.returns-in-Ok-clause-name
+returns-in-Ok-clause-name g c = refl

@@ -1,5 +1,5 @@
 -- The edits are made in the row's tablet, and in no other.
-use Rattle.std.proofs.Common.{ap, map}
+use Rattle.std.proofs.Common.{refl, ap, map}
 use Rattle.std.proofs.lemmas.Result.{on_err_weaker}
 use Rattle.sorted_file.specs.Opened.{name_of}
 use Rattle.row_atomic.proofs.Answering.{apply_answer, apply_still, found_there, matched_set, over_full, owner_at}
@@ -57,3 +57,6 @@ returns-clause-err_room g c =
     let ts = c.self.inside.tablets.items in
     let there = found_there ts c.index_of-index.result at.tablet c.index_mut.result.now at.there c.index_mut.ensures.value in
     rw (← c.self.view_is) (on_err_weaker c.apply.result (room_stays c.self.inside.table ts c.index_of-index.result c.index_mut.result.now c.apply.new.self there) c.apply.ensures.err)
+
+pub returns-clause-storage : goal.returns-clause-storage
+returns-clause-storage g c = rw (← c.self.view_is) refl

@@ -17,3 +17,6 @@ returns-clause-undamaged g c =
     let ts = c.self.inside.tablets.items in
     let there = found_there ts c.index_of-index.result at.tablet c.index.result.now at.there c.index.ensures in
     rw (← c.self.view_is) (λ order. undamaged (g.F.Files.contents c.self.inside.files) c.self.inside.next_name ts order c.index_of-index.result c.index.result.now _ there c.newest.ensures.damaged)
+
+pub returns-clause-storage : goal.returns-clause-storage
+returns-clause-storage g c = rw (← c.self.view_is) (λ i. record { told = c.newest.ensures.same i; file_limit = c.self.inside.file_limit; next_name = c.self.inside.next_name; places = c.self.inside.table })
