@@ -10,3 +10,6 @@ returns-in_err-value-clause-none c =
 pub returns-else-is_empty-clause-none : goal.returns-else-is_empty-clause-none
 returns-else-is_empty-clause-none c = λ value fits e.
     left_field c.in_ok-value.value.now value c.take_bytes.new.rest.now c.args.bytes.now c.in_ok-value.ensures.fits fits c.in_ok-value.ensures.found c.if-is_empty.ensures e
+
+pub returns-else-is_empty-clause-found : goal.returns-else-is_empty-clause-found
+returns-else-is_empty-clause-found c = tt
