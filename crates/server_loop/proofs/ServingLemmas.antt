@@ -1,5 +1,5 @@
 -- How what was served joins.
-use Rattle.std.proofs.Common.{◌≡◌, ℕ, ◌+◌, ◌≤◌, cond, List, [], ◌∷◌, ◌++◌, length, take, drop, map, Option, Result, Ok, Err, refl, sym, ap, ◌∙◌, subst, arith, append_assoc, append-nil, length-append, take-append-drop}
+use Rattle.std.proofs.Common.{◌≡◌, ℕ, ◌+◌, ◌≤◌, cond, List, [], ◌∷◌, ◌++◌, length, take, drop, map, Option, Some, None, Result, Ok, Err, refl, sym, ap, ◌∙◌, subst, arith, append_assoc, append-nil, length-append, take-append-drop, length-take-le}
 use Rattle.std.specs.List.{AllByRecursion}
 use Rattle.std.specs.Io.KnownBytes.{Consumes, Appends}
 use Rattle.std.proofs.KnownBytes.{Consumes-trans, Appends-trans, Consumes-nil, Appends-nil}
@@ -13,11 +13,23 @@ use Rattle.request_codec.specs.declared.requests.Request.{Request as Lent}
 use Rattle.server_loop.specs.Runs.{Taken, Body, Oversize, AnswersAs}
 use Rattle.server_loop.proofs.Reaching.{RunOver-append, SaysAll-append, laws_of}
 use Rattle.request_codec.specs.Stream.{frame, frames, IsTooLarge, IsPartial, IsOpen, IsBody}
-use Rattle.server_loop.specs.Serve.{is_too_large, taken_of, written_of, EndsBy, Serves, Served}
+use Rattle.server_loop.specs.Serve.{is_too_large, taken_of, written_of, EndsBy, Serves, Served, ReadsFrame}
 use Rattle.server_loop.specs.declared.ends.End.{End}
 use Rattle.server_loop.specs.declared.ends.End.TheVariants as ends
 use Rattle.server_loop.specs.declared.ends.ServeFault.{ServeFault}
 use Rattle.server_loop.specs.declared.ends.ServeFault.TheVariants as faults
+use Rattle.server_loop.specs.declared.frames.FrameRead.TheVariants as reads
+
+-- ---- results that differ
+
+pub some_not : {A E : Type 0} (value : A) (result : Result (Option A) E) → result ≡ Ok (Some value) → ¬ (result ≡ Ok None)
+some_not value result some none = let both = sym some ∙ none in cc
+
+pub write_not : {A : Type 0} (result : Result A ServeFault) → result ≡ Err faults.Write → ¬ (result ≡ Err faults.NoMemory)
+write_not result write memory = let both = sym write ∙ memory in cc
+
+pub read_not : {A : Type 0} (result : Result A ServeFault) → result ≡ Err faults.Read → ¬ (result ≡ Err faults.NoMemory)
+read_not result read memory = let both = sym read ∙ memory in cc
 
 -- ---- runs
 
@@ -190,6 +202,12 @@ Served-one shows says a b l m h i r s body reply fits consumed counted run appen
   appended = subst (Appends h i) (sym (one reply)) appended;
 }
 
+-- the same, of a frame that was read to the front of a buffer
+pub Served-read : {S : Type 0} (shows : S → State → Type 0) (says : S → Lent → Kept → S → Type 0) (a b : S) (l m h i : Option (List ℕ)) (r s n : ℕ) (buffer read : List ℕ) (reply : Reply) → Consumes l m read → ReadsFrame (reads.Whole n) read m buffer r s
+    → AnswersAs shows says a b (Body (take n buffer) ∷ []) (reply ∷ []) → Appends h i (frame (reply_body reply)) → Served shows says a b l m h i r s
+Served-read shows says a b l m h i r s n buffer read reply consumed whole run appended =
+    Served-one shows says a b l m h i r s (take n buffer) reply (omega (arith, whole.0, length-take-le n buffer whole.1)) (subst (Consumes l m) whole.2 consumed) (omega (arith, whole.4, ap length whole.2)) run appended
+
 -- one frame was answered, and a beginning of its reply written
 pub Serves-cut_short : {S : Type 0} (shows : S → State → Type 0) (says : S → Lent → Kept → S → Type 0) (a b : S) (l m h i : Option (List ℕ)) (r n : ℕ) (body : List ℕ) (reply : Reply) → IsBody body → Consumes l m (frame body)
     → AnswersAs shows says a b (Body body ∷ []) (reply ∷ []) → Appends h i (take n (frame (reply_body reply))) → Serves shows says a b l m h i r (Err faults.Write)
@@ -207,6 +225,11 @@ Serves-cut_short shows says a b l m h i r n body reply fits consumed run appende
   appended = appended;
   ending = (drop n (frame (reply_body reply)), one reply ∙ sym (take-append-drop n (frame (reply_body reply))));
 }
+
+pub Serves-cut_read : {S : Type 0} (shows : S → State → Type 0) (says : S → Lent → Kept → S → Type 0) (a b : S) (l m h i : Option (List ℕ)) (r s n k : ℕ) (buffer read : List ℕ) (reply : Reply) → Consumes l m read → ReadsFrame (reads.Whole n) read m buffer r s
+    → AnswersAs shows says a b (Body (take n buffer) ∷ []) (reply ∷ []) → Appends h i (take k (frame (reply_body reply))) → Serves shows says a b l m h i r (Err faults.Write)
+Serves-cut_read shows says a b l m h i r s n k buffer read reply consumed whole run appended =
+    Serves-cut_short shows says a b l m h i r k (take n buffer) reply (omega (arith, whole.0, length-take-le n buffer whole.1)) (subst (Consumes l m) whole.2 consumed) run appended
 
 pub IsPartial-from_nil : (read : List ℕ) → read ≡ [] → IsPartial read
 IsPartial-from_nil read none = subst IsPartial (sym none) IsPartial-nil

@@ -152,8 +152,11 @@ short_found (founds.Pending start) short = tt
 pub not_done : (reply : Kept) (refusal : Refusal) → IsDone reply → reply ≡ kept.Refused refusal → ⊥
 not_done reply refusal done same = subst IsDone same done
 
-pub ok_not : {A : Type 0} (value : A) (refusal : Refusal) → ¬ IsErrOf (Ok value) refusal
-ok_not value refusal e = cc
+pub ok_not : {A E : Type 0} (value : A) (fault : E) → ¬ (Ok value ≡ Err fault)
+ok_not value fault e = cc
+
+pub err_not : {A E : Type 0} (fault : E) (value : A) → ¬ (Err fault ≡ Ok value)
+err_not fault value e = cc
 
 -- a name is refused for two reasons alone
 pub named_not : {bad memory : Refusal} (refusal other : Refusal) → (bad ≡ other → ⊥) → (memory ≡ other → ⊥) → (refusal ≡ bad) ⊎ (refusal ≡ memory)

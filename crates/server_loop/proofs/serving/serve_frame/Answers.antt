@@ -1,10 +1,10 @@
-use Rattle.std.proofs.Common.{◌≡◌, take, drop, length, refl, sym, ap, subst, arith, length-take-le, take-append-drop}
-use Rattle.std.specs.Io.KnownBytes.{Consumes}
+use Rattle.std.proofs.Common.{drop, refl, sym, take-append-drop}
 use Rattle.cell_key.specs.declared.refusals.Refusal.TheVariants.{FrameTooLarge}
 use Rattle.si_model.specs.Machine.{Refused}
 use Rattle.request_codec.specs.Replies.{reply_body}
 use Rattle.request_codec.specs.Stream.{frame}
-use Rattle.server_loop.proofs.ServingLemmas.{Serves-nothing, Serves-too_large, Serves-cut_short, Served-one, IsPartial-from_nil}
+use Rattle.server_loop.proofs.Stepping.{ok_not, err_not}
+use Rattle.server_loop.proofs.ServingLemmas.{some_not, write_not, read_not, Serves-nothing, Serves-too_large, Serves-cut_read, Served-read, IsPartial-from_nil}
 use Rattle.server_loop.proofs.serving.serve_frame.Goals as goal
 
 pub returns-in-Clean-clause-one : goal.returns-in-Clean-clause-one
@@ -31,19 +31,14 @@ returns-clause-one g c =
 pub returns-in-Ok-clause-one : goal.returns-in-Ok-clause-one
 returns-in-Ok-clause-one g c =
     let (read, consumed, whole) = c.in-Whole.ensures in
-    let body = take c.in-Whole.length c.read_frame.new.body in
-    let is_frame : read ≡ frame body = whole.2 in
-    Served-one _ _ _ _ _ _ _ _ _ _ body _ (omega (arith, whole.0, length-take-le c.in-Whole.length c.read_frame.new.body whole.1))
-    (subst (Consumes _ _) is_frame consumed) (omega (arith, whole.4, ap length is_frame)) c.reply_to_body-reply.ensures.answers c.in-Ok.ensures.ok
+    Served-read _ _ _ _ _ _ _ _ _ _ _ _ read _ consumed whole c.reply_to_body-reply.ensures.answers c.in-Ok.ensures.ok
 
 -- or a beginning of its reply
 pub returns-in-Whole-clause-one : goal.returns-in-Whole-clause-one
 returns-in-Whole-clause-one g c =
     let (read, consumed, whole) = c.in-Whole.ensures in
-    let body = take c.in-Whole.length c.read_frame.new.body in
-    let is_frame : read ≡ frame body = whole.2 in
-    Serves-cut_short _ _ _ _ _ _ _ _ _ _ body _ (omega (arith, whole.0, length-take-le c.in-Whole.length c.read_frame.new.body whole.1))
-    (subst (Consumes _ _) is_frame consumed) c.reply_to_body-reply.ensures.answers c.in-Err.ensures.err.1
+    let (n, wrote) = c.in-Err.ensures.err in
+    Serves-cut_read _ _ _ _ _ _ _ _ _ _ _ n _ read _ consumed whole c.reply_to_body-reply.ensures.answers wrote
 
 -- a length past the limit: the refusal was written
 pub returns-in-Ok-send-clause-one : goal.returns-in-Ok-send-clause-one
@@ -60,49 +55,49 @@ returns-in-TooLarge-clause-one g c =
     Serves-too_large _ _ _ _ _ _ _ _ _ read _ consumed large.0 wrote (drop n refusal, sym (take-append-drop n refusal))
 
 pub returns-in-Ok-clause-kinds : goal.returns-in-Ok-clause-kinds
-returns-in-Ok-clause-kinds g c = λ is. cc
+returns-in-Ok-clause-kinds g c = ok_not _ _
 
 pub returns-in-Ok-clause-fewer : goal.returns-in-Ok-clause-fewer
 returns-in-Ok-clause-fewer g c = λ _. let (read, consumed, whole) = c.in-Whole.ensures in whole.3
 
 pub returns-in-Whole-clause-kinds : goal.returns-in-Whole-clause-kinds
-returns-in-Whole-clause-kinds g c = λ is. cc
+returns-in-Whole-clause-kinds g c = write_not _ refl
 
 pub returns-in-Whole-clause-fewer : goal.returns-in-Whole-clause-fewer
-returns-in-Whole-clause-fewer g c = λ is. absurd (let none : ⊥ = cc in none)
+returns-in-Whole-clause-fewer g c = λ is. absurd (err_not _ _ is)
 
 pub returns-in-Ok-send-clause-kinds : goal.returns-in-Ok-send-clause-kinds
-returns-in-Ok-send-clause-kinds g c = λ is. cc
+returns-in-Ok-send-clause-kinds g c = ok_not _ _
 
 pub returns-in-Ok-send-clause-fewer : goal.returns-in-Ok-send-clause-fewer
-returns-in-Ok-send-clause-fewer g c = λ is. absurd (let none : ⊥ = cc in none)
+returns-in-Ok-send-clause-fewer g c = λ is. absurd (some_not _ _ refl is)
 
 pub returns-in-TooLarge-clause-kinds : goal.returns-in-TooLarge-clause-kinds
-returns-in-TooLarge-clause-kinds g c = λ is. cc
+returns-in-TooLarge-clause-kinds g c = write_not _ refl
 
 pub returns-in-TooLarge-clause-fewer : goal.returns-in-TooLarge-clause-fewer
-returns-in-TooLarge-clause-fewer g c = λ is. absurd (let none : ⊥ = cc in none)
+returns-in-TooLarge-clause-fewer g c = λ is. absurd (err_not _ _ is)
 
 pub returns-in-Clean-clause-kinds : goal.returns-in-Clean-clause-kinds
-returns-in-Clean-clause-kinds g c = λ is. cc
+returns-in-Clean-clause-kinds g c = ok_not _ _
 
 pub returns-in-Clean-clause-fewer : goal.returns-in-Clean-clause-fewer
-returns-in-Clean-clause-fewer g c = λ is. absurd (let none : ⊥ = cc in none)
+returns-in-Clean-clause-fewer g c = λ is. absurd (some_not _ _ refl is)
 
 pub returns-in-Truncated-clause-kinds : goal.returns-in-Truncated-clause-kinds
-returns-in-Truncated-clause-kinds g c = λ is. cc
+returns-in-Truncated-clause-kinds g c = ok_not _ _
 
 pub returns-in-Truncated-clause-fewer : goal.returns-in-Truncated-clause-fewer
-returns-in-Truncated-clause-fewer g c = λ is. absurd (let none : ⊥ = cc in none)
+returns-in-Truncated-clause-fewer g c = λ is. absurd (some_not _ _ refl is)
 
 pub returns-in-UsedUp-clause-kinds : goal.returns-in-UsedUp-clause-kinds
-returns-in-UsedUp-clause-kinds g c = λ is. cc
+returns-in-UsedUp-clause-kinds g c = ok_not _ _
 
 pub returns-in-UsedUp-clause-fewer : goal.returns-in-UsedUp-clause-fewer
-returns-in-UsedUp-clause-fewer g c = λ is. absurd (let none : ⊥ = cc in none)
+returns-in-UsedUp-clause-fewer g c = λ is. absurd (some_not _ _ refl is)
 
 pub returns-clause-kinds : goal.returns-clause-kinds
-returns-clause-kinds g c = λ is. cc
+returns-clause-kinds g c = read_not _ refl
 
 pub returns-clause-fewer : goal.returns-clause-fewer
-returns-clause-fewer g c = λ is. absurd (let none : ⊥ = cc in none)
+returns-clause-fewer g c = λ is. absurd (err_not _ _ is)

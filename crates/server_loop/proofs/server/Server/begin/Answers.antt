@@ -10,7 +10,7 @@ pub returns-in-Err-clause-step : goal.returns-in-Err-clause-step
 returns-in-Err-clause-step g c = steps_as _ _ _ _ _ tt (λ _. c.in-Err.ensures.step _) (λ h. h) refl (λ st reached held shown. undamaged IsBeginRefusal _ c.in-Err.ensures.refusal (λ h. h))
 
 pub returns-in-Ok-clause-crowd : goal.returns-in-Ok-clause-crowd
-returns-in-Ok-clause-crowd g c = λ st shown many. let e = c.in-Ok.ensures.crowded st shown.shows.sessions many in cc
+returns-in-Ok-clause-crowd g c = λ st shown many. absurd (ok_not _ _ (c.in-Ok.ensures.crowded st shown.shows.sessions many))
 
 pub returns-in-Err-clause-crowd : goal.returns-in-Err-clause-crowd
 returns-in-Err-clause-crowd g c = λ st shown many. as_refused _ _ _ refl (c.in-Err.ensures.crowded st shown.shows.sessions many)

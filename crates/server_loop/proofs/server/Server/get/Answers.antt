@@ -18,7 +18,7 @@ pub returns-in-Err-clause-changes : goal.returns-in-Err-clause-changes
 returns-in-Err-clause-changes g c = c.in-Err.ensures.kept
 
 pub returns-in-Ok-clause-exact : goal.returns-in-Ok-clause-exact
-returns-in-Ok-clause-exact g c = record { unknown = λ st shown gone. let e = c.in-Ok.ensures.unknown st shown.shows.sessions gone in cc; empty = tt; drawing = tt }
+returns-in-Ok-clause-exact g c = record { unknown = λ st shown gone. absurd (ok_not _ _ (c.in-Ok.ensures.unknown st shown.shows.sessions gone)); empty = tt; drawing = tt }
 
 pub returns-in-Err-clause-exact : goal.returns-in-Err-clause-exact
 returns-in-Err-clause-exact g c = record { unknown = λ st shown gone. as_refused _ _ _ refl (c.in-Err.ensures.unknown st shown.shows.sessions gone); empty = tt; drawing = tt }

@@ -7,7 +7,7 @@ use Rattle.server_loop.proofs.Upkeeping.{tells_as, has_stable, major_done, major
 use Rattle.server_loop.proofs.server.Server.major.Goals as goal
 
 pub returns-in-Ok-clause-step : goal.returns-in-Ok-clause-step
-returns-in-Ok-clause-step g c = tells_as _ _ _ c.in-Ok.ensures.kept refl refl _ _ c.in-Ok.ensures.spots (λ st shown. major_done st _ (sym shown.places) _ (has_stable _ _ (λ none. let e = c.in-Ok.ensures.unknown.1 none in cc))) (λ held. major_whole)
+returns-in-Ok-clause-step g c = tells_as _ _ _ c.in-Ok.ensures.kept refl refl _ _ c.in-Ok.ensures.spots (λ st shown. major_done st _ (sym shown.places) _ (has_stable _ _ (λ none. ok_not _ _ (c.in-Ok.ensures.unknown.1 none)))) (λ held. major_whole)
 
 pub returns-in-Err-clause-step : goal.returns-in-Err-clause-step
 returns-in-Err-clause-step g c = tells_as _ _ _ c.in-Err.ensures.kept refl refl _ _ c.in-Err.ensures.spots (λ st shown. refuses (major_refuses st _ (sym shown.places) _ _ c.in-Err.ensures.refusal (λ is. c.in-Err.ensures.unknown.0 (ap (λ (r : Refusal). Err r) is)))) (λ held. err_undamaged _ _ refl (c.in-Err.ensures.undamaged held))

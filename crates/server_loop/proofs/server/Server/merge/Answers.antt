@@ -7,7 +7,7 @@ use Rattle.server_loop.proofs.Upkeeping.{tells_as, has_stable, merge_done, merge
 use Rattle.server_loop.proofs.server.Server.merge.Goals as goal
 
 pub returns-in-Ok-clause-step : goal.returns-in-Ok-clause-step
-returns-in-Ok-clause-step g c = tells_as _ _ _ c.in-Ok.ensures.kept refl refl _ _ c.in-Ok.ensures.spots (λ st shown. let has = has_stable _ _ (λ none. let e = c.in-Ok.ensures.unknown.1 none in cc) in merge_done st _ (sym shown.places) _ _ has (two_merged _ _ _ _ _ _ (λ bad. let e = c.in-Ok.ensures.count.1 bad in cc) has c.in-Ok.ensures.made)) (λ held. merge_whole)
+returns-in-Ok-clause-step g c = tells_as _ _ _ c.in-Ok.ensures.kept refl refl _ _ c.in-Ok.ensures.spots (λ st shown. let has = has_stable _ _ (λ none. ok_not _ _ (c.in-Ok.ensures.unknown.1 none)) in merge_done st _ (sym shown.places) _ _ has (two_merged _ _ _ _ _ _ (λ bad. ok_not _ _ (c.in-Ok.ensures.count.1 bad)) has c.in-Ok.ensures.made)) (λ held. merge_whole)
 
 pub returns-in-Err-clause-step : goal.returns-in-Err-clause-step
 returns-in-Err-clause-step g c = tells_as _ _ _ c.in-Err.ensures.kept refl refl _ _ c.in-Err.ensures.spots (λ st shown. refuses (merge_refuses st _ (sym shown.places) _ _ _ c.in-Err.ensures.refusal (λ is. c.in-Err.ensures.unknown.0 (ap (λ (r : Refusal). Err r) is)) (λ is. (c.in-Err.ensures.count.0 (ap (λ (r : Refusal). Err r) is)).0))) (λ held. err_undamaged _ _ refl (c.in-Err.ensures.undamaged held))

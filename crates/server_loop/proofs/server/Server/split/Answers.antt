@@ -13,7 +13,7 @@ returns-in-Err-clause-step g c = tells_as _ _ _ (λ held. (held, refl)) refl ref
 pub returns-in-Ok-split-clause-step : goal.returns-in-Ok-split-clause-step
 returns-in-Ok-split-clause-step g c =
     let is_row = rw (← c.in-Ok.ensures.ok) at c.in-Ok.ensures.valid in
-    rw (← c.in-Ok.ensures.ok) (splits_as _ _ _ c.in-Ok-split.ensures.kept refl refl _ _ is_row (λ bars. let e = c.in-Ok-split.ensures.bad.1 bars in cc) c.in-Ok-split.ensures.number c.in-Ok-split.ensures.cut)
+    rw (← c.in-Ok.ensures.ok) (splits_as _ _ _ c.in-Ok-split.ensures.kept refl refl _ _ is_row (λ bars. ok_not _ _ (c.in-Ok-split.ensures.bad.1 bars)) c.in-Ok-split.ensures.number c.in-Ok-split.ensures.cut)
 
 pub returns-clause-step : goal.returns-clause-step
 returns-clause-step g c =

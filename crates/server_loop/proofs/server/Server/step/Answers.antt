@@ -20,8 +20,8 @@ returns-in-Err-clause-changes g c = c.in-Err.ensures.kept
 
 pub returns-in-Ok-clause-exact : goal.returns-in-Ok-clause-exact
 returns-in-Ok-clause-exact g c = record {
-  unknown = λ st shown gone. let e = c.in-Ok.ensures.unknown st shown.shows.sessions gone in cc;
-  empty = λ st shown none. let e = c.in-Ok.ensures.empty st shown.shows.sessions none in cc;
+  unknown = λ st shown gone. absurd (ok_not _ _ (c.in-Ok.ensures.unknown st shown.shows.sessions gone));
+  empty = λ st shown none. absurd (ok_not _ _ (c.in-Ok.ensures.empty st shown.shows.sessions none));
   drawing = λ st shown about. progress_told IsDrawRefusal c.in-Ok.progress;
 }
 
