@@ -17,6 +17,10 @@ use Rattle.sorted_file.proofs.EntryParts.{index_place, entry_bytes}
 
 -- ---- an entry
 
+-- a field and a value are an entry
+pub entry_front : (bytes key rest x : List ℕ) (v : Option (List ℕ)) → bytes ≡ field key ++ rest → rest ≡ spelled_value v ++ x → bytes ≡ spelled (key, v) ++ x
+entry_front bytes key rest x v f r = f ∙ ap (λ (l : List ℕ). field key ++ l) r ∙ sym (append_assoc (field key) (spelled_value v) x)
+
 -- behind the first field stands the value
 pub value_front : (bytes key rest x : List ℕ) (e : Entry) → length bytes < 2 ^ 32 → bytes ≡ field key ++ rest → bytes ≡ spelled e ++ x → rest ≡ spelled_value e.1 ++ x
 value_front bytes key rest x e small f s =
