@@ -1,6 +1,7 @@
 -- The sources at the least key go on, and the others stay.
-use Rattle.std.proofs.Common.{◌≡◌, ℕ, true, false, List, [], ◌∷◌, ◌++◌, map, length, refl, sym, ap, subst, ◌∙◌}
-use Rattle.std.specs.Prelude.{Option, Some, None, OnSome, IsSome, IsSomeAnd}
+use Rattle.std.proofs.Common.{◌≡◌, ℕ, ◌+◌, ◌≤◌, true, false, List, [], ◌∷◌, ◌++◌, map, length, refl, sym, ap, subst, ◌∙◌, arith}
+use Rattle.std.proofs.lemmas.List.Sums.{sum_by-append, sum_by-cons}
+use Rattle.std.specs.Prelude.{Option, Some, None, OnSome, IsSome, IsSomeAnd, sum_by}
 use Rattle.std.specs.List.{AllByRecursion, AllZip}
 use Rattle.std.specs.Ordering.{is_eq}
 use Rattle.cell_key.specs.Entries.{Entry, Takes}
@@ -23,11 +24,15 @@ of_some : (o : Option Entry) (P : Type 0) → IsSome o → OnSome o P → P
 of_some None P i p = cc
 of_some (Some e) P i p = p
 
-module _ {S : Type 0} (lent : S → Option Entry) (remaining : S → List Entry) (holds : S → Type 0) (s t : S) (after later : List S) where
+module _ {S : Type 0} (lent : S → Option Entry) (s : S) (after : List S) where
   entry_there : (before : List S) → entry_at (map lent (before ++ s ∷ after)) (length before) ≡ lent s
   entry_there [] = refl
   entry_there (b ∷ before) = entry_there before
 
+  pub lent_there : (sources before : List S) (at : ℕ) → sources ≡ before ++ s ∷ after → length before ≡ at → lent_at lent sources at ≡ lent s
+  lent_there sources before at e n = ap (λ xs. entry_at (map lent xs) at) e ∙ ap (entry_at (map lent (before ++ s ∷ after))) (sym n) ∙ entry_there before
+
+module _ {S : Type 0} (lent : S → Option Entry) (remaining : S → List Entry) (holds : S → Type 0) (s t : S) (after later : List S) where
   paired : (xs : List S) → AllByRecursion holds xs → AllByRecursion (HasStarted lent remaining) xs → AllByRecursion (λ s. holds s × HasStarted lent remaining s) xs
   paired [] h st = tt
   paired (x ∷ xs) h st = ((h.0, st.0), paired xs h.1 st.1)
@@ -37,14 +42,25 @@ module _ {S : Type 0} (lent : S → Option Entry) (remaining : S → List Entry)
       → AllZip (StepsTo lent remaining holds (lent s)) (before ++ s ∷ after) (before ++ t ∷ later)
   all_tied rest still takes [] l h st = (step_tie lent remaining holds (lent s) s t (tie_self (lent s) _ l) (still h.0) (takes h.0), rest (paired after h.1 st.1))
   all_tied rest still takes (b ∷ before) l h st =
-      (step_same lent remaining holds (lent s) b (untied (lent s) (lent b) (subst (λ o. IsAbove o (lent b)) (entry_there before) l.0)) h.0 st.0, all_tied rest still takes before l.1 h.1 st.1)
+      (step_same lent remaining holds (lent s) b (untied (lent s) (lent b) (subst (λ o. IsAbove o (lent b)) (entry_there lent s after before) l.0)) h.0 st.0, all_tied rest still takes before l.1 h.1 st.1)
 
   pub tied_whole : (sources before : List S) (at : ℕ) → sources ≡ before ++ s ∷ after → length before ≡ at → IsSome (lent_at lent sources at) → MergeHolds lent remaining holds sources at
       → (AllByRecursion (λ s. holds s × HasStarted lent remaining s) after → AllZip (StepsTo lent remaining holds (lent s)) after later) → (holds s → holds t) → (holds s → Takes (lent t) (remaining s) (remaining t))
       → AllZip (StepsTo lent remaining holds (lent_at lent sources at)) sources (before ++ t ∷ later)
   tied_whole sources before at e n some h rest still takes =
-      let here : lent_at lent sources at ≡ lent s = ap (λ xs. entry_at (map lent xs) at) e ∙ ap (entry_at (map lent (before ++ s ∷ after))) (sym n) ∙ entry_there before in
+      let here : lent_at lent sources at ≡ lent s = lent_there lent s after sources before at e n in
       let l : IsLeast (map lent (before ++ s ∷ after)) (length before) = subst (λ k. IsLeast (map lent (before ++ s ∷ after)) k) (sym n) (subst (λ xs. IsLeast (map lent xs) at) e h.least) in
       let st : AllByRecursion (HasStarted lent remaining) (before ++ s ∷ after) = subst (AllByRecursion (HasStarted lent remaining)) e (of_some (lent_at lent sources at) _ some h.started) in
       subst (λ o. AllZip (StepsTo lent remaining holds o) sources (before ++ t ∷ later)) (sym here)
       (subst (λ xs. AllZip (StepsTo lent remaining holds (lent s)) xs (before ++ t ∷ later)) (sym e) (all_tied rest still takes before l (subst (AllByRecursion holds) e h.each) st))
+
+-- what the tied source and those after it cost less, all sources do
+pub cost_tied : {S : Type 0} (price : S → ℕ) (s t : S) (before after later sources : List S) → sources ≡ before ++ s ∷ after → price t + 1 ≤ price s → sum_by price later ≤ sum_by price after
+    → sum_by price (before ++ t ∷ later) + 1 ≤ sum_by price sources
+cost_tied price s t before after later sources e one rest =
+    rw (e, sum_by-append price before (t ∷ later), sum_by-append price before (s ∷ after), sum_by-cons price t later, sum_by-cons price s after) (omega (arith, one, rest))
+
+-- what all sources are, the tied one is, and those after it are
+pub all_tied_part : {S : Type 0} (P : S → Type 0) (s : S) (before after : List S) → AllByRecursion P (before ++ s ∷ after) → P s × AllByRecursion P after
+all_tied_part P s [] after h = h
+all_tied_part P s (b ∷ before) after h = all_tied_part P s before after h.1
