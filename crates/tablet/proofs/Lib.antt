@@ -9,6 +9,7 @@ pub mod Held
 pub mod Making
 pub mod NextCells
 pub mod Parting
+pub mod Passed
 pub mod Seen
 pub mod Short
 pub mod Showing
