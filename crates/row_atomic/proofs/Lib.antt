@@ -12,6 +12,7 @@ pub mod Nexts
 pub mod Numbers
 pub mod Owners
 pub mod Parts
+pub mod Passing
 pub mod Places
 pub mod Placing
 pub mod Roomy

@@ -1,0 +1,80 @@
+-- What a call tells where one that it makes was refused, or wasn't.
+use Rattle.std.proofs.Common.{◌≡◌, ◌+◌, ℕ, List, length, map, Result, Ok, Err, IfOk, IfErr, IsErrOf, refl, sym, ap, ◌∙◌, subst, arith}
+use Rattle.std.specs.Result.{IsErrAnd}
+use Rattle.std.proofs.lemmas.List.{length-map}
+use Rattle.std.proofs.lemmas.Result.{IfOk-weaker}
+use Rattle.cell_key.specs.declared.refusals.Refusal.{Refusal}
+use Rattle.cell_key.specs.declared.refusals.Refusal.TheVariants.{BadSplit, Device, NoMemory, Damaged}
+use Rattle.metadata_table.specs.Places.{PlaceView}
+use Rattle.sorted_file.specs.Sources.{HasReason, IsReadRefusal}
+use Rattle.row_atomic.specs.Changes.{IsMoveRefusal, IsRefusalOf, IsSplitRefusal}
+use Rattle.row_atomic.specs.Clusters.{spot_of}
+use Rattle.row_atomic.specs.declared.cluster_compactions.Compaction.TheVariants.{Minor}
+
+-- ---- a refusal that is passed on
+
+pub passed : {A B : Type 0} (r : Result B Refusal) (e n : Refusal) → IsErrAnd r (λ f. f ≡ e) → IsErrOf r n → IsErrOf {T = A} (Err e) n
+passed (Ok x) e n by is = absurd by
+passed (Err f) e n by is = let same : f ≡ n = cc in ap (λ d. Err d) (sym by ∙ same)
+
+pub refused_as : {B : Type 0} (r : Result B Refusal) (e n : Refusal) → IsErrAnd r (λ f. f ≡ e) → e ≡ n → IsErrOf r n
+refused_as (Ok x) e n by is = absurd by
+refused_as (Err f) e n by is = ap (λ d. Err d) (by ∙ is)
+
+pub none_answered : {B : Type 0} (r : Result B Refusal) (e : Refusal) (P : B → Type 0) → IsErrAnd r (λ f. f ≡ e) → IfOk r P
+none_answered (Ok x) e P by = absurd by
+none_answered (Err f) e P by = tt
+
+pub refused_so : {B : Type 0} (r : Result B Refusal) (e : Refusal) (P : Refusal → Type 0) → IsErrAnd r (λ f. f ≡ e) → P e → IfErr r P
+refused_so (Ok x) e P by h = tt
+refused_so (Err f) e P by h = subst P (sym by) h
+
+-- it is one of those that the call may answer
+pub one_of : {B : Type 0} (P : Refusal → Type 0) (r : Result B Refusal) (e n : Refusal) → IsErrAnd r (λ f. f ≡ e) → P e → IsErrOf r n → P n
+one_of P (Ok x) e n by h is = absurd by
+one_of P (Err f) e n by h is = let same : f ≡ n = cc in subst P (sym by ∙ same) h
+
+-- that there can be no cut is no other refusal
+abbrev pub IsBad : Refusal → Type 0
+IsBad BadSplit = Unit {0}
+IsBad _ = ⊥
+
+pub split_refusal : (x : Refusal) → IsRefusalOf Minor x → IsSplitRefusal x
+split_refusal BadSplit h = tt
+split_refusal _ h = h
+
+pub read_split : (x : Refusal) → IsReadRefusal x → IsSplitRefusal x
+read_split Device h = tt
+read_split NoMemory h = tt
+read_split Damaged h = tt
+read_split _ h = absurd h
+
+-- ---- a device's faults
+
+pub no_fault : {B : Type 0} (r : Result B Refusal) (count : ℕ) → ¬ IsErrOf r Device → HasReason count count r
+no_fault r count not = record { later = omega arith; device = λ is. absurd (not is); told = λ _. refl }
+
+pub reason_passed : {A B : Type 0} (r : Result B Refusal) (e : Refusal) (before now : ℕ) → IsErrAnd r (λ f. f ≡ e) → HasReason {T = A} before now (Err e) → HasReason before now r
+reason_passed r e before now by reason = record {
+  later = reason.later;
+  device = λ is. reason.device (passed r e Device by is);
+  told = λ other. reason.told (λ is. other (refused_as r e Device by (named e Device is)));
+}
+  where
+    named : {A : Type 0} (e n : Refusal) → IsErrOf {T = A} (Err e) n → e ≡ n
+    named e n is = cc
+
+-- a call that was not refused met no fault
+pub reason_after : {A B : Type 0} (r : Result B Refusal) (x : A) (before mid now : ℕ) → HasReason before mid (Ok x) → HasReason mid now r → HasReason before now r
+reason_after r x before mid now first second = subst (λ (k : ℕ). HasReason k now r) (first.told (not_refused x Device)) second
+  where
+    not_refused : {A : Type 0} (x : A) (n : Refusal) → ¬ IsErrOf (Ok x) n
+    not_refused x n is = cc
+
+-- ---- places
+
+-- as many places as there are spots
+pub number_after : (places places' : List PlaceView) (r : Result ℕ Refusal) → map spot_of places' ≡ map spot_of places → IfOk r (λ left. left ≡ length places' + 1) → IfOk r (λ left. left ≡ length places + 1)
+number_after places places' r same number =
+    let as_many : length places' ≡ length places = sym (length-map places' spot_of) ∙ ap (λ spots. length spots) same ∙ length-map places spot_of in
+    IfOk-weaker r _ _ (λ left is. is ∙ ap (λ (n : ℕ). n + 1) as_many) number
