@@ -4,7 +4,7 @@ use Rattle.std.specs.Result.{IsErrAnd}
 use Rattle.std.proofs.lemmas.List.{length-map}
 use Rattle.std.proofs.lemmas.Result.{IfOk-weaker}
 use Rattle.cell_key.specs.declared.refusals.Refusal.{Refusal}
-use Rattle.cell_key.specs.declared.refusals.Refusal.TheVariants.{BadSplit, Device, NoMemory, Damaged}
+use Rattle.cell_key.specs.declared.refusals.Refusal.TheVariants.{BadSplit, Device, NoMemory, Damaged, TooManyFiles, UnknownServer, UnknownTablet}
 use Rattle.metadata_table.specs.Places.{PlaceView}
 use Rattle.sorted_file.specs.Sources.{HasReason, IsReadRefusal}
 use Rattle.row_atomic.specs.Changes.{IsMoveRefusal, IsRefusalOf, IsSplitRefusal}
@@ -48,6 +48,18 @@ read_split Device h = tt
 read_split NoMemory h = tt
 read_split Damaged h = tt
 read_split _ h = absurd h
+
+pub move_refusal : (x : Refusal) → IsRefusalOf Minor x → IsMoveRefusal x
+move_refusal TooManyFiles h = tt
+move_refusal UnknownServer h = tt
+move_refusal UnknownTablet h = tt
+move_refusal _ h = h
+
+pub read_move : (x : Refusal) → IsReadRefusal x → IsMoveRefusal x
+read_move Device h = tt
+read_move NoMemory h = tt
+read_move Damaged h = tt
+read_move _ h = absurd h
 
 -- ---- a device's faults
 
