@@ -1,5 +1,5 @@
 -- What a call tells where one that it makes was refused, or wasn't.
-use Rattle.std.proofs.Common.{◌≡◌, ◌+◌, ℕ, List, length, map, Result, Ok, Err, IfOk, IfErr, IsErrOf, refl, sym, ap, ◌∙◌, subst, arith}
+use Rattle.std.proofs.Common.{◌≡◌, ◌+◌, ◌⊎◌, inl, inr, ℕ, List, length, map, Result, Ok, Err, IfOk, IfErr, IsErrOf, refl, sym, ap, ◌∙◌, subst, arith}
 use Rattle.std.specs.Result.{IsErrAnd}
 use Rattle.std.proofs.lemmas.List.{length-map}
 use Rattle.std.proofs.lemmas.Result.{IfOk-weaker}
@@ -12,6 +12,9 @@ use Rattle.row_atomic.specs.Clusters.{spot_of}
 use Rattle.row_atomic.specs.declared.cluster_compactions.Compaction.TheVariants.{Minor}
 
 -- ---- a refusal that is passed on
+
+pub not_refused : {A : Type 0} (x : A) (n : Refusal) → ¬ IsErrOf (Ok x) n
+not_refused x n is = cc
 
 pub passed : {A B : Type 0} (r : Result B Refusal) (e n : Refusal) → IsErrAnd r (λ f. f ≡ e) → IsErrOf r n → IsErrOf {T = A} (Err e) n
 passed (Ok x) e n by is = absurd by
@@ -38,6 +41,19 @@ one_of P (Err f) e n by h is = let same : f ≡ n = cc in subst P (sym by ∙ sa
 abbrev pub IsBad : Refusal → Type 0
 IsBad BadSplit = Unit {0}
 IsBad _ = ⊥
+
+-- nor is want of memory
+abbrev pub IsWant : Refusal → Type 0
+IsWant NoMemory = Unit {0}
+IsWant _ = ⊥
+
+pub want_alone : (x : Refusal) → (x ≡ BadSplit) ⊎ (x ≡ NoMemory) → ¬ (x ≡ BadSplit) → IsWant x
+want_alone x (inl bad) not = absurd (not bad)
+want_alone x (inr want) not = subst IsWant (sym want) tt
+
+pub want_read : (x : Refusal) → IsWant x → IsReadRefusal x
+want_read NoMemory h = tt
+want_read _ h = absurd h
 
 pub split_refusal : (x : Refusal) → IsRefusalOf Minor x → IsSplitRefusal x
 split_refusal BadSplit h = tt
@@ -79,9 +95,9 @@ reason_passed r e before now by reason = record {
 -- a call that was not refused met no fault
 pub reason_after : {A B : Type 0} (r : Result B Refusal) (x : A) (before mid now : ℕ) → HasReason before mid (Ok x) → HasReason mid now r → HasReason before now r
 reason_after r x before mid now first second = subst (λ (k : ℕ). HasReason k now r) (first.told (not_refused x Device)) second
-  where
-    not_refused : {A : Type 0} (x : A) (n : Refusal) → ¬ IsErrOf (Ok x) n
-    not_refused x n is = cc
+
+pub reason_kept : {A B : Type 0} (x : A) (y : B) (before now : ℕ) → HasReason before now (Ok x) → HasReason before now (Ok y)
+reason_kept x y before now reason = record { later = reason.later; device = λ is. absurd (not_refused y Device is); told = λ other. reason.told (not_refused x Device) }
 
 -- ---- places
 

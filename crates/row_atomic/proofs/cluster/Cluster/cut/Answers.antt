@@ -1,8 +1,10 @@
 -- The parts come in the place of the tablet.
-use Rattle.std.proofs.Common.{rules, ◌≡◌, ◌++◌, ◌∷◌, [], List, ap, ◌∙◌, set, slice_get, length, ◌+◌, subst, sym}
+use Rattle.std.proofs.Common.{rules, refl, Err, ◌≡◌, ◌++◌, ◌∷◌, [], List, ap, ◌∙◌, set, slice_get, length, ◌+◌, subst, sym}
 use Rattle.std.proofs.lemmas.Option.{slice_get_within}
+use Rattle.cell_key.specs.declared.refusals.Refusal.TheVariants.{Damaged, Device, NoMemory}
 use Rattle.metadata_table.specs.Places.{PlaceView, view_of}
-use Rattle.metadata_table.specs.Table.{Cuts, IsHolder}
+use Rattle.metadata_table.specs.Table.{BarsSplit, Cuts, IsHolder}
+use Rattle.sorted_file.specs.Sources.{IsReadRefusal}
 use Rattle.tablet.specs.Views.{IsUnchanged, names_of, with_name}
 use Rattle.tablet.specs.declared.tablet.Tablet.{Tablet}
 use Rattle.row_atomic.specs.Clusters.{InOrder, IsMatched, cells_in}
@@ -10,6 +12,7 @@ use Rattle.row_atomic.proofs.Answering.{found_there}
 use Rattle.row_atomic.proofs.Changing.{if_err, in_order, matched_unchanged}
 use Rattle.row_atomic.specs.Changes.{IsHalved, Remakes}
 use Rattle.row_atomic.proofs.Emptying.{cut_in_two, holder_stays, holder_unchanged}
+use Rattle.row_atomic.proofs.Passing.{IsWant, no_fault, none_answered, not_refused, one_of, passed, reason_kept, reason_passed, refused_so, want_alone, want_read}
 use Rattle.row_atomic.proofs.Splitting.{holder_emptied, holder_known, matched_cut, parts_keep, read_alone, stays_over}
 use Rattle.row_atomic.proofs.cluster.Cluster.cut.Goals as goal
 
@@ -51,7 +54,7 @@ returns-in_err-part-clause-undamaged g c =
     let at = rw (← c.self.view_is) at c.position-index.ensures in
     let there = found_there c.reserve.new.self.items c.position-index.result at.tablet c.index_mut.result.now (ap (λ ys. slice_get ys c.position-index.result) c.reserve.ensures.items ∙ at.there) c.index_mut.ensures.value in
     let there_old = ap (λ ys. slice_get ys c.position-index.result) (sym c.reserve.ensures.items) ∙ there in
-    rw (← c.self.view_is) (λ order is. in_order ⊥ (g.F.Files.contents c.self.inside.files) c.self.inside.next_name c.self.inside.tablets.items c.position-index.result c.index_mut.result.now there_old order (c.split.ensures.damaged (search rules)))
+    rw (← c.self.view_is) (λ order is. in_order ⊥ (g.F.Files.contents c.self.inside.files) c.self.inside.next_name c.self.inside.tablets.items c.position-index.result c.index_mut.result.now there_old order (c.in_err-part.ensures.damaged (passed c.from_residual-in_err-part.result c.in_err-part.field-0.0 _ c.from_residual-in_err-part.ensures.1 is)))
 
 pub returns-in_err-part-clause-refusal : goal.returns-in_err-part-clause-refusal
 returns-in_err-part-clause-refusal g c =
@@ -61,7 +64,7 @@ returns-in_err-part-clause-refusal g c =
     let there = found_there c.reserve.new.self.items c.position-index.result at.tablet c.index_mut.result.now (ap (λ ys. slice_get ys c.position-index.result) c.reserve.ensures.items ∙ at.there) c.index_mut.ensures.value in
     let there_old = ap (λ ys. slice_get ys c.position-index.result) (sym c.reserve.ensures.items) ∙ there in
     let read = read_alone c.in_err-part.field-0.0 c.in_err-part.ensures.refusal (λ full. (c.in_err-part.ensures.full full).0 (holder_emptied c.args.row.now c.self.inside.table c.self.inside.tablets.items (view_of c.locate.result.now) c.position-index.result c.index_mut.result.now holder at.number there_old (rw (← c.self.view_is) at c.requires.flushed))) (λ out. (c.in_err-part.ensures.exhausted out).0 (holder_emptied c.args.row.now c.self.inside.table c.self.inside.tablets.items (view_of c.locate.result.now) c.position-index.result c.index_mut.result.now holder at.number there_old (rw (← c.self.view_is) at c.requires.flushed))) (λ large. (c.in_err-part.ensures.large large).0 (holder_emptied c.args.row.now c.self.inside.table c.self.inside.tablets.items (view_of c.locate.result.now) c.position-index.result c.index_mut.result.now holder at.number there_old (rw (← c.self.view_is) at c.requires.flushed))) in
-    search rules
+    refused_so c.from_residual-in_err-part.result c.in_err-part.field-0.0 IsReadRefusal c.from_residual-in_err-part.ensures.1 read
 
 pub invariant_of-self-2 : goal.invariant_of-self-2
 invariant_of-self-2 g c =
@@ -70,7 +73,7 @@ invariant_of-self-2 g c =
     let at = rw (← c.self.view_is) at c.position-index.ensures in
     let there = found_there c.reserve.new.self.items c.position-index.result at.tablet c.index_mut.result.now (ap (λ ys. slice_get ys c.position-index.result) c.reserve.ensures.items ∙ at.there) c.index_mut.ensures.value in
     let there_old = ap (λ ys. slice_get ys c.position-index.result) (sym c.reserve.ensures.items) ∙ there in
-    let copied : c.in_ok-table.table ≡ c.self.inside.table = search rules in
+    let copied : c.in_ok-table.table ≡ c.self.inside.table = c.in_ok-table.ensures.cases in
     let pushed : c.push.new.self.items ≡ (set c.self.inside.tablets.items c.position-index.result c.split.new.self ++ c.in_ok-part.part ∷ []) = search rules in
     let emptied = (holder_emptied c.args.row.now c.self.inside.table c.self.inside.tablets.items (view_of c.locate.result.now) c.position-index.result c.index_mut.result.now holder at.number there_old (rw (← c.self.view_is) at c.requires.flushed)) in
     subst (λ (ys : List Tablet). IsMatched c.self.inside.file_limit c.split.new.next_name c.split_at.new.self ys) (sym pushed)
@@ -100,7 +103,7 @@ returns-clause-halved g c =
     let there = found_there c.reserve.new.self.items c.position-index.result at.tablet c.index_mut.result.now (ap (λ ys. slice_get ys c.position-index.result) c.reserve.ensures.items ∙ at.there) c.index_mut.ensures.value in
     let there_old = ap (λ ys. slice_get ys c.position-index.result) (sym c.reserve.ensures.items) ∙ there in
     let pushed : c.push.new.self.items ≡ (set c.self.inside.tablets.items c.position-index.result c.split.new.self ++ c.in_ok-part.part ∷ []) = search rules in
-    let copied : c.in_ok-table.table ≡ c.self.inside.table = search rules in
+    let copied : c.in_ok-table.table ≡ c.self.inside.table = c.in_ok-table.ensures.cases in
     rw (← c.self.view_is) (subst (λ (ys : List Tablet). IsHalved c.self.inside.next_name c.args.row.now c.in_ok-left.left c.self.inside.table c.self.inside.tablets.items ys) (sym pushed)
     (cut_in_two c.args.row.now c.self.inside.table c.self.inside.tablets.items c.position-index.result c.index_mut.result.now c.in_ok-part.part c.split.new.self (view_of c.locate.result.now) holder at.number there_old c.self.inside.next_name c.in_ok-left.left (length c.self.inside.table)
     (c.in_ok-left.ensures.number ∙ ap (λ (ps : List PlaceView). length ps + 1) copied) c.self.invariant.as_many
@@ -173,10 +176,158 @@ returns-clause-files g c =
 
 pub returns-clause-number : goal.returns-clause-number
 returns-clause-number g c =
-    let copied : c.in_ok-table.table ≡ c.self.inside.table = search rules in
+    let copied : c.in_ok-table.table ≡ c.self.inside.table = c.in_ok-table.ensures.cases in
     rw (← c.self.view_is) (c.in_ok-left.ensures.number ∙ ap (λ (ps : List PlaceView). length ps + 1) copied)
 
 pub returns-clause-cut : goal.returns-clause-cut
 returns-clause-cut g c =
-    let copied : c.in_ok-table.table ≡ c.self.inside.table = search rules in
+    let copied : c.in_ok-table.table ≡ c.self.inside.table = c.in_ok-table.ensures.cases in
     rw (← c.self.view_is) (subst (λ (ps : List PlaceView). Cuts c.args.row.now c.in_ok-left.left ps c.split_at.new.self) copied c.in_ok-left.ensures.cut)
+
+pub returns-in_err-table-clause-kept : goal.returns-in_err-table-clause-kept
+returns-in_err-table-clause-kept g c = λ order. (order, refl)
+
+pub returns-in_err-table-clause-limit : goal.returns-in_err-table-clause-limit
+returns-in_err-table-clause-limit g c = refl
+
+pub returns-in_err-table-clause-name : goal.returns-in_err-table-clause-name
+returns-in_err-table-clause-name g c = refl
+
+pub returns-in_err-table-clause-files : goal.returns-in_err-table-clause-files
+returns-in_err-table-clause-files g c = refl
+
+pub returns-in_err-table-clause-err : goal.returns-in_err-table-clause-err
+returns-in_err-table-clause-err g c = if_err _ c.from_residual.result refl
+
+pub returns-in_err-table-clause-number : goal.returns-in_err-table-clause-number
+returns-in_err-table-clause-number g c = none_answered c.from_residual.result NoMemory _ c.from_residual.ensures.1
+
+pub returns-in_err-table-clause-cut : goal.returns-in_err-table-clause-cut
+returns-in_err-table-clause-cut g c = none_answered c.from_residual.result NoMemory _ c.from_residual.ensures.1
+
+pub returns-in_err-table-clause-halved : goal.returns-in_err-table-clause-halved
+returns-in_err-table-clause-halved g c = none_answered c.from_residual.result NoMemory _ c.from_residual.ensures.1
+
+pub returns-in_err-table-clause-undamaged : goal.returns-in_err-table-clause-undamaged
+returns-in_err-table-clause-undamaged g c = λ order is. absurd (one_of IsWant c.from_residual.result NoMemory Damaged c.from_residual.ensures.1 tt is)
+
+pub returns-in_err-table-clause-refusal : goal.returns-in_err-table-clause-refusal
+returns-in_err-table-clause-refusal g c = refused_so c.from_residual.result NoMemory IsReadRefusal c.from_residual.ensures.1 tt
+
+pub returns-in_err-table-clause-reason : goal.returns-in_err-table-clause-reason
+returns-in_err-table-clause-reason g c = no_fault c.from_residual.result _ (λ is. absurd (one_of IsWant c.from_residual.result NoMemory Device c.from_residual.ensures.1 tt is))
+
+pub returns-in_err-left-clause-kept : goal.returns-in_err-left-clause-kept
+returns-in_err-left-clause-kept g c = λ order. (order, refl)
+
+pub returns-in_err-left-clause-limit : goal.returns-in_err-left-clause-limit
+returns-in_err-left-clause-limit g c = refl
+
+pub returns-in_err-left-clause-name : goal.returns-in_err-left-clause-name
+returns-in_err-left-clause-name g c = refl
+
+pub returns-in_err-left-clause-files : goal.returns-in_err-left-clause-files
+returns-in_err-left-clause-files g c = refl
+
+pub returns-in_err-left-clause-err : goal.returns-in_err-left-clause-err
+returns-in_err-left-clause-err g c = if_err _ c.from_residual-in_err-left.result refl
+
+pub returns-in_err-left-clause-number : goal.returns-in_err-left-clause-number
+returns-in_err-left-clause-number g c = none_answered c.from_residual-in_err-left.result c.in_err-left.field-0.0 _ c.from_residual-in_err-left.ensures.1
+
+pub returns-in_err-left-clause-cut : goal.returns-in_err-left-clause-cut
+returns-in_err-left-clause-cut g c = none_answered c.from_residual-in_err-left.result c.in_err-left.field-0.0 _ c.from_residual-in_err-left.ensures.1
+
+pub returns-in_err-left-clause-halved : goal.returns-in_err-left-clause-halved
+returns-in_err-left-clause-halved g c = none_answered c.from_residual-in_err-left.result c.in_err-left.field-0.0 _ c.from_residual-in_err-left.ensures.1
+
+pub returns-in_err-left-clause-undamaged : goal.returns-in_err-left-clause-undamaged
+returns-in_err-left-clause-undamaged g c = 
+    let free = rw (← c.self.view_is) at c.requires.free in
+    let copied : c.in_ok-table.table ≡ c.self.inside.table = c.in_ok-table.ensures.cases in
+    let want = want_alone c.in_err-left.field-0.0 c.in_err-left.ensures.refusal (λ bad. free (subst (λ (ps : List PlaceView). BarsSplit c.args.row.now ps) copied (c.in_err-left.ensures.bad.0 (ap Err bad)))) in
+    λ order is. absurd (one_of IsWant c.from_residual-in_err-left.result c.in_err-left.field-0.0 Damaged c.from_residual-in_err-left.ensures.1 want is)
+
+pub returns-in_err-left-clause-refusal : goal.returns-in_err-left-clause-refusal
+returns-in_err-left-clause-refusal g c = 
+    let free = rw (← c.self.view_is) at c.requires.free in
+    let copied : c.in_ok-table.table ≡ c.self.inside.table = c.in_ok-table.ensures.cases in
+    let want = want_alone c.in_err-left.field-0.0 c.in_err-left.ensures.refusal (λ bad. free (subst (λ (ps : List PlaceView). BarsSplit c.args.row.now ps) copied (c.in_err-left.ensures.bad.0 (ap Err bad)))) in
+    refused_so c.from_residual-in_err-left.result c.in_err-left.field-0.0 IsReadRefusal c.from_residual-in_err-left.ensures.1 (want_read c.in_err-left.field-0.0 want)
+
+pub returns-in_err-left-clause-reason : goal.returns-in_err-left-clause-reason
+returns-in_err-left-clause-reason g c = 
+    let free = rw (← c.self.view_is) at c.requires.free in
+    let copied : c.in_ok-table.table ≡ c.self.inside.table = c.in_ok-table.ensures.cases in
+    let want = want_alone c.in_err-left.field-0.0 c.in_err-left.ensures.refusal (λ bad. free (subst (λ (ps : List PlaceView). BarsSplit c.args.row.now ps) copied (c.in_err-left.ensures.bad.0 (ap Err bad)))) in
+    no_fault c.from_residual-in_err-left.result _ (λ is. absurd (one_of IsWant c.from_residual-in_err-left.result c.in_err-left.field-0.0 Device c.from_residual-in_err-left.ensures.1 want is))
+
+pub returns-in_err-reserve-clause-kept : goal.returns-in_err-reserve-clause-kept
+returns-in_err-reserve-clause-kept g c = 
+    rw (← c.self.view_is) (λ order. subst (λ (ys : List Tablet). InOrder (g.F.Files.contents c.self.inside.files) c.self.inside.next_name ys × (cells_in (g.F.Files.contents c.self.inside.files) ys ≡ cells_in (g.F.Files.contents c.self.inside.files) c.self.inside.tablets.items)) (sym c.reserve.ensures.items) (order, refl))
+
+pub returns-in_err-reserve-clause-limit : goal.returns-in_err-reserve-clause-limit
+returns-in_err-reserve-clause-limit g c = rw (← c.self.view_is) refl
+
+pub returns-in_err-reserve-clause-name : goal.returns-in_err-reserve-clause-name
+returns-in_err-reserve-clause-name g c = rw (← c.self.view_is) refl
+
+pub returns-in_err-reserve-clause-files : goal.returns-in_err-reserve-clause-files
+returns-in_err-reserve-clause-files g c = rw (← c.self.view_is) refl
+
+pub returns-in_err-reserve-clause-err : goal.returns-in_err-reserve-clause-err
+returns-in_err-reserve-clause-err g c = if_err _ c.from_residual-in_err-reserve.result (rw (← c.self.view_is) refl)
+
+pub returns-in_err-reserve-clause-number : goal.returns-in_err-reserve-clause-number
+returns-in_err-reserve-clause-number g c = none_answered c.from_residual-in_err-reserve.result NoMemory _ c.from_residual-in_err-reserve.ensures.1
+
+pub returns-in_err-reserve-clause-cut : goal.returns-in_err-reserve-clause-cut
+returns-in_err-reserve-clause-cut g c = none_answered c.from_residual-in_err-reserve.result NoMemory _ c.from_residual-in_err-reserve.ensures.1
+
+pub returns-in_err-reserve-clause-halved : goal.returns-in_err-reserve-clause-halved
+returns-in_err-reserve-clause-halved g c = none_answered c.from_residual-in_err-reserve.result NoMemory _ c.from_residual-in_err-reserve.ensures.1
+
+pub returns-in_err-reserve-clause-undamaged : goal.returns-in_err-reserve-clause-undamaged
+returns-in_err-reserve-clause-undamaged g c = λ order is. absurd (one_of IsWant c.from_residual-in_err-reserve.result NoMemory Damaged c.from_residual-in_err-reserve.ensures.1 tt is)
+
+pub returns-in_err-reserve-clause-refusal : goal.returns-in_err-reserve-clause-refusal
+returns-in_err-reserve-clause-refusal g c = refused_so c.from_residual-in_err-reserve.result NoMemory IsReadRefusal c.from_residual-in_err-reserve.ensures.1 tt
+
+pub returns-in_err-reserve-clause-reason : goal.returns-in_err-reserve-clause-reason
+returns-in_err-reserve-clause-reason g c = rw (← c.self.view_is) (no_fault c.from_residual-in_err-reserve.result _ (λ is. absurd (one_of IsWant c.from_residual-in_err-reserve.result NoMemory Device c.from_residual-in_err-reserve.ensures.1 tt is)))
+
+pub returns-in_err-part-clause-limit : goal.returns-in_err-part-clause-limit
+returns-in_err-part-clause-limit g c = rw (← c.self.view_is) refl
+
+pub returns-in_err-part-clause-err : goal.returns-in_err-part-clause-err
+returns-in_err-part-clause-err g c = if_err _ c.from_residual-in_err-part.result (rw (← c.self.view_is) refl)
+
+pub returns-in_err-part-clause-number : goal.returns-in_err-part-clause-number
+returns-in_err-part-clause-number g c = none_answered c.from_residual-in_err-part.result c.in_err-part.field-0.0 _ c.from_residual-in_err-part.ensures.1
+
+pub returns-in_err-part-clause-cut : goal.returns-in_err-part-clause-cut
+returns-in_err-part-clause-cut g c = none_answered c.from_residual-in_err-part.result c.in_err-part.field-0.0 _ c.from_residual-in_err-part.ensures.1
+
+pub returns-in_err-part-clause-halved : goal.returns-in_err-part-clause-halved
+returns-in_err-part-clause-halved g c = none_answered c.from_residual-in_err-part.result c.in_err-part.field-0.0 _ c.from_residual-in_err-part.ensures.1
+
+pub returns-in_err-part-clause-reason : goal.returns-in_err-part-clause-reason
+returns-in_err-part-clause-reason g c = rw (← c.self.view_is) (reason_passed c.from_residual-in_err-part.result c.in_err-part.field-0.0 _ _ c.from_residual-in_err-part.ensures.1 c.in_err-part.ensures.reason)
+
+pub returns-clause-limit : goal.returns-clause-limit
+returns-clause-limit g c = rw (← c.self.view_is) refl
+
+pub returns-clause-err : goal.returns-clause-err
+returns-clause-err g c = tt
+
+pub returns-clause-unchanged : goal.returns-clause-unchanged
+returns-clause-unchanged g c = tt
+
+pub returns-clause-refusal : goal.returns-clause-refusal
+returns-clause-refusal g c = tt
+
+pub returns-clause-undamaged : goal.returns-clause-undamaged
+returns-clause-undamaged g c = λ order is. not_refused _ Damaged is
+
+pub returns-clause-reason : goal.returns-clause-reason
+returns-clause-reason g c = rw (← c.self.view_is) (reason_kept _ _ _ _ c.in_ok-part.ensures.reason)
