@@ -1,10 +1,13 @@
 -- The tablet shows what it showed.
-use Rattle.row_atomic.proofs.Answering.{found_there, matched_set}
+use Rattle.cell_key.specs.declared.refusals.Refusal.TheVariants.{Damaged}
+use Rattle.sorted_file.specs.Sources.{IsReadRefusal}
+use Rattle.row_atomic.proofs.Answering.{found_there, matched_set, same_cells_in, still_in_order, undamaged}
 use Rattle.row_atomic.specs.Changes.{IsReopened}
-use Rattle.row_atomic.proofs.Changing.{remade}
+use Rattle.row_atomic.proofs.Changing.{if_err, remade}
 use Rattle.metadata_table.specs.Table.{moved}
 use Rattle.row_atomic.proofs.Moving.{matched_moved, opened_keeps}
-use Rattle.std.proofs.Common.{rules, ◌≡◌, set}
+use Rattle.row_atomic.proofs.Passing.{none_answered, not_refused, passed, reason_kept, reason_passed, refused_so}
+use Rattle.std.proofs.Common.{rules, ◌≡◌, refl, set}
 use Rattle.row_atomic.proofs.Splitting.{emptied_at}
 use Rattle.row_atomic.proofs.cluster.Cluster.put.Goals as goal
 
@@ -28,3 +31,63 @@ returns-clause-opened g c =
     let at = rw (← c.self.view_is) at c.position-index.ensures in
     let there = found_there c.self.inside.tablets.items c.position-index.result at.tablet c.index.result.now at.there c.index.ensures in
     rw (← c.self.view_is) (remade c.self.inside.tablets.items c.position-index.result c.index.result.now c.in_ok-opened.opened there IsReopened c.args.tablet at.number (record { memory = c.in_ok-opened.ensures.memory; names = c.in_ok-opened.ensures.names }))
+
+pub returns-in_err-opened-clause-kept : goal.returns-in_err-opened-clause-kept
+returns-in_err-opened-clause-kept g c = rw (← c.self.view_is) (λ order. (still_in_order (g.F.Files.contents c.self.inside.files) (g.F.Files.contents c.open_again.new.files) c.self.inside.next_name c.self.inside.tablets.items c.open_again.ensures.same order, same_cells_in (g.F.Files.contents c.self.inside.files) (g.F.Files.contents c.open_again.new.files) c.self.inside.tablets.items c.open_again.ensures.same))
+
+pub returns-in_err-opened-clause-limit : goal.returns-in_err-opened-clause-limit
+returns-in_err-opened-clause-limit g c = rw (← c.self.view_is) refl
+
+pub returns-in_err-opened-clause-name : goal.returns-in_err-opened-clause-name
+returns-in_err-opened-clause-name g c = rw (← c.self.view_is) refl
+
+pub returns-in_err-opened-clause-files : goal.returns-in_err-opened-clause-files
+returns-in_err-opened-clause-files g c = rw (← c.self.view_is) c.open_again.ensures.same
+
+pub returns-in_err-opened-clause-places : goal.returns-in_err-opened-clause-places
+returns-in_err-opened-clause-places g c = none_answered c.from_residual.result c.in_err-opened.field-0.0 _ c.from_residual.ensures.1
+
+pub returns-in_err-opened-clause-opened : goal.returns-in_err-opened-clause-opened
+returns-in_err-opened-clause-opened g c = none_answered c.from_residual.result c.in_err-opened.field-0.0 _ c.from_residual.ensures.1
+
+pub returns-in_err-opened-clause-stay : goal.returns-in_err-opened-clause-stay
+returns-in_err-opened-clause-stay g c = if_err _ c.from_residual.result (rw (← c.self.view_is) refl)
+
+pub returns-in_err-opened-clause-err : goal.returns-in_err-opened-clause-err
+returns-in_err-opened-clause-err g c = if_err _ c.from_residual.result (rw (← c.self.view_is) refl)
+
+pub returns-in_err-opened-clause-undamaged : goal.returns-in_err-opened-clause-undamaged
+returns-in_err-opened-clause-undamaged g c = 
+    let at = rw (← c.self.view_is) at c.position-index.ensures in
+    let there = found_there c.self.inside.tablets.items c.position-index.result at.tablet c.index.result.now at.there c.index.ensures in
+    rw (← c.self.view_is) (λ order is. undamaged (g.F.Files.contents c.self.inside.files) c.self.inside.next_name c.self.inside.tablets.items order c.position-index.result c.index.result.now _ there c.in_err-opened.ensures.damaged (passed c.from_residual.result c.in_err-opened.field-0.0 _ c.from_residual.ensures.1 is))
+
+pub returns-in_err-opened-clause-refusal : goal.returns-in_err-opened-clause-refusal
+returns-in_err-opened-clause-refusal g c = refused_so c.from_residual.result c.in_err-opened.field-0.0 IsReadRefusal c.from_residual.ensures.1 c.in_err-opened.ensures.refusal
+
+pub returns-in_err-opened-clause-reason : goal.returns-in_err-opened-clause-reason
+returns-in_err-opened-clause-reason g c = rw (← c.self.view_is) (reason_passed c.from_residual.result c.in_err-opened.field-0.0 _ _ c.from_residual.ensures.1 c.in_err-opened.ensures.reason)
+
+pub returns-clause-limit : goal.returns-clause-limit
+returns-clause-limit g c = rw (← c.self.view_is) refl
+
+pub returns-clause-name : goal.returns-clause-name
+returns-clause-name g c = rw (← c.self.view_is) refl
+
+pub returns-clause-files : goal.returns-clause-files
+returns-clause-files g c = rw (← c.self.view_is) c.open_again.ensures.same
+
+pub returns-clause-stay : goal.returns-clause-stay
+returns-clause-stay g c = tt
+
+pub returns-clause-err : goal.returns-clause-err
+returns-clause-err g c = tt
+
+pub returns-clause-refusal : goal.returns-clause-refusal
+returns-clause-refusal g c = tt
+
+pub returns-clause-undamaged : goal.returns-clause-undamaged
+returns-clause-undamaged g c = λ order is. not_refused _ Damaged is
+
+pub returns-clause-reason : goal.returns-clause-reason
+returns-clause-reason g c = rw (← c.self.view_is) (reason_kept _ _ _ _ c.in_ok-opened.ensures.reason)
