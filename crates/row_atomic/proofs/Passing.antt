@@ -9,7 +9,8 @@ use Rattle.metadata_table.specs.Places.{PlaceView}
 use Rattle.sorted_file.specs.Sources.{HasReason, IsReadRefusal}
 use Rattle.row_atomic.specs.Changes.{IsMoveRefusal, IsRefusalOf, IsSplitRefusal}
 use Rattle.row_atomic.specs.Clusters.{spot_of}
-use Rattle.row_atomic.specs.declared.cluster_compactions.Compaction.TheVariants.{Minor}
+use Rattle.row_atomic.specs.declared.cluster_compactions.Compaction.{Compaction}
+use Rattle.row_atomic.specs.declared.cluster_compactions.Compaction.TheVariants.{Minor, Merge, Major}
 
 -- ---- a refusal that is passed on
 
@@ -54,6 +55,12 @@ want_alone x (inr want) not = subst IsWant (sym want) tt
 pub want_read : (x : Refusal) → IsWant x → IsReadRefusal x
 want_read NoMemory h = tt
 want_read _ h = absurd h
+
+pub want_compacts : (compaction : Compaction) (x : Refusal) → IsWant x → IsRefusalOf compaction x
+want_compacts Minor NoMemory h = tt
+want_compacts (Merge count) NoMemory h = tt
+want_compacts Major NoMemory h = tt
+want_compacts _ _ h = absurd h
 
 pub split_refusal : (x : Refusal) → IsRefusalOf Minor x → IsSplitRefusal x
 split_refusal BadSplit h = tt
