@@ -242,28 +242,28 @@ pub returns-in_err-left-clause-halved : goal.returns-in_err-left-clause-halved
 returns-in_err-left-clause-halved g c = none_answered c.from_residual-in_err-left.result c.in_err-left.field-0.0 _ c.from_residual-in_err-left.ensures.1
 
 pub returns-in_err-left-clause-undamaged : goal.returns-in_err-left-clause-undamaged
-returns-in_err-left-clause-undamaged g c = 
+returns-in_err-left-clause-undamaged g c =
     let free = rw (← c.self.view_is) at c.requires.free in
     let copied : c.in_ok-table.table ≡ c.self.inside.table = c.in_ok-table.ensures.cases in
     let want = want_alone c.in_err-left.field-0.0 c.in_err-left.ensures.refusal (λ bad. free (subst (λ (ps : List PlaceView). BarsSplit c.args.row.now ps) copied (c.in_err-left.ensures.bad.0 (ap Err bad)))) in
     λ order is. absurd (one_of IsWant c.from_residual-in_err-left.result c.in_err-left.field-0.0 Damaged c.from_residual-in_err-left.ensures.1 want is)
 
 pub returns-in_err-left-clause-refusal : goal.returns-in_err-left-clause-refusal
-returns-in_err-left-clause-refusal g c = 
+returns-in_err-left-clause-refusal g c =
     let free = rw (← c.self.view_is) at c.requires.free in
     let copied : c.in_ok-table.table ≡ c.self.inside.table = c.in_ok-table.ensures.cases in
     let want = want_alone c.in_err-left.field-0.0 c.in_err-left.ensures.refusal (λ bad. free (subst (λ (ps : List PlaceView). BarsSplit c.args.row.now ps) copied (c.in_err-left.ensures.bad.0 (ap Err bad)))) in
     refused_so c.from_residual-in_err-left.result c.in_err-left.field-0.0 IsReadRefusal c.from_residual-in_err-left.ensures.1 (want_read c.in_err-left.field-0.0 want)
 
 pub returns-in_err-left-clause-reason : goal.returns-in_err-left-clause-reason
-returns-in_err-left-clause-reason g c = 
+returns-in_err-left-clause-reason g c =
     let free = rw (← c.self.view_is) at c.requires.free in
     let copied : c.in_ok-table.table ≡ c.self.inside.table = c.in_ok-table.ensures.cases in
     let want = want_alone c.in_err-left.field-0.0 c.in_err-left.ensures.refusal (λ bad. free (subst (λ (ps : List PlaceView). BarsSplit c.args.row.now ps) copied (c.in_err-left.ensures.bad.0 (ap Err bad)))) in
     no_fault c.from_residual-in_err-left.result _ (λ is. absurd (one_of IsWant c.from_residual-in_err-left.result c.in_err-left.field-0.0 Device c.from_residual-in_err-left.ensures.1 want is))
 
 pub returns-in_err-reserve-clause-kept : goal.returns-in_err-reserve-clause-kept
-returns-in_err-reserve-clause-kept g c = 
+returns-in_err-reserve-clause-kept g c =
     rw (← c.self.view_is) (λ order. subst (λ (ys : List Tablet). InOrder (g.F.Files.contents c.self.inside.files) c.self.inside.next_name ys × (cells_in (g.F.Files.contents c.self.inside.files) ys ≡ cells_in (g.F.Files.contents c.self.inside.files) c.self.inside.tablets.items)) (sym c.reserve.ensures.items) (order, refl))
 
 pub returns-in_err-reserve-clause-limit : goal.returns-in_err-reserve-clause-limit

@@ -57,7 +57,7 @@ pub returns-in_err-opened-clause-err : goal.returns-in_err-opened-clause-err
 returns-in_err-opened-clause-err g c = if_err _ c.from_residual.result (rw (← c.self.view_is) refl)
 
 pub returns-in_err-opened-clause-undamaged : goal.returns-in_err-opened-clause-undamaged
-returns-in_err-opened-clause-undamaged g c = 
+returns-in_err-opened-clause-undamaged g c =
     let at = rw (← c.self.view_is) at c.position-index.ensures in
     let there = found_there c.self.inside.tablets.items c.position-index.result at.tablet c.index.result.now at.there c.index.ensures in
     rw (← c.self.view_is) (λ order is. undamaged (g.F.Files.contents c.self.inside.files) c.self.inside.next_name c.self.inside.tablets.items order c.position-index.result c.index.result.now _ there c.in_err-opened.ensures.damaged (passed c.from_residual.result c.in_err-opened.field-0.0 _ c.from_residual.ensures.1 is))
