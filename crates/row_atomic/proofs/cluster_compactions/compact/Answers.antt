@@ -1,6 +1,9 @@
 -- Each compaction does what the tablet's call does.
-use Rattle.std.proofs.Common.{◌^◌}
+use Rattle.std.proofs.Common.{◌^◌, refl}
+use Rattle.cell_key.specs.declared.refusals.Refusal.TheVariants.{BadCount, TooManyFiles}
+use Rattle.tablet.specs.Compactions.{IsCompactionRefusal, IsMergeRefusal, IsMinorRefusal}
 use Rattle.row_atomic.proofs.Changing.{cleaned, if_ok, on_ok}
+use Rattle.row_atomic.proofs.Commanding.{not_answered}
 use Rattle.row_atomic.proofs.Roomy.{has_room, minor_fits, none_written, not_least}
 use Rattle.row_atomic.proofs.cluster_compactions.compact.Goals as goal
 
@@ -60,3 +63,105 @@ returns-in-Merge-clause-made g c = rw (c.in-Merge.is) (on_ok _ _ c.merge.result 
 
 pub returns-in-Merge-clause-count : goal.returns-in-Merge-clause-count
 returns-in-Merge-clause-count g c = rw (c.in-Merge.is) (c.merge.ensures.count.0)
+
+pub returns-in-Minor-clause-keeps : goal.returns-in-Minor-clause-keeps
+returns-in-Minor-clause-keeps g c = c.minor.ensures.keeps
+
+pub returns-in-Minor-clause-range : goal.returns-in-Minor-clause-range
+returns-in-Minor-clause-range g c = c.minor.ensures.range
+
+pub returns-in-Minor-clause-err : goal.returns-in-Minor-clause-err
+returns-in-Minor-clause-err g c = c.minor.ensures.err
+
+pub returns-in-Minor-clause-name : goal.returns-in-Minor-clause-name
+returns-in-Minor-clause-name g c = c.minor.ensures.name
+
+pub returns-in-Minor-clause-limit : goal.returns-in-Minor-clause-limit
+returns-in-Minor-clause-limit g c = c.minor.ensures.limit
+
+pub returns-in-Minor-clause-damaged : goal.returns-in-Minor-clause-damaged
+returns-in-Minor-clause-damaged g c = c.minor.ensures.damaged
+
+pub returns-in-Minor-clause-reason : goal.returns-in-Minor-clause-reason
+returns-in-Minor-clause-reason g c = c.minor.ensures.reason
+
+pub returns-in-Merge-clause-keeps : goal.returns-in-Merge-clause-keeps
+returns-in-Merge-clause-keeps g c = c.merge.ensures.keeps
+
+pub returns-in-Merge-clause-range : goal.returns-in-Merge-clause-range
+returns-in-Merge-clause-range g c = c.merge.ensures.range
+
+pub returns-in-Merge-clause-err : goal.returns-in-Merge-clause-err
+returns-in-Merge-clause-err g c = c.merge.ensures.err
+
+pub returns-in-Merge-clause-name : goal.returns-in-Merge-clause-name
+returns-in-Merge-clause-name g c = c.merge.ensures.name
+
+pub returns-in-Merge-clause-limit : goal.returns-in-Merge-clause-limit
+returns-in-Merge-clause-limit g c = c.merge.ensures.limit
+
+pub returns-in-Merge-clause-damaged : goal.returns-in-Merge-clause-damaged
+returns-in-Merge-clause-damaged g c = c.merge.ensures.damaged
+
+pub returns-in-Merge-clause-reason : goal.returns-in-Merge-clause-reason
+returns-in-Merge-clause-reason g c = c.merge.ensures.reason
+
+pub returns-in-Major-clause-keeps : goal.returns-in-Major-clause-keeps
+returns-in-Major-clause-keeps g c = c.major.ensures.keeps
+
+pub returns-in-Major-clause-range : goal.returns-in-Major-clause-range
+returns-in-Major-clause-range g c = c.major.ensures.range
+
+pub returns-in-Major-clause-err : goal.returns-in-Major-clause-err
+returns-in-Major-clause-err g c = c.major.ensures.err
+
+pub returns-in-Major-clause-name : goal.returns-in-Major-clause-name
+returns-in-Major-clause-name g c = c.major.ensures.name
+
+pub returns-in-Major-clause-limit : goal.returns-in-Major-clause-limit
+returns-in-Major-clause-limit g c = c.major.ensures.limit
+
+pub returns-in-Major-clause-damaged : goal.returns-in-Major-clause-damaged
+returns-in-Major-clause-damaged g c = c.major.ensures.damaged
+
+pub returns-in-Major-clause-reason : goal.returns-in-Major-clause-reason
+returns-in-Major-clause-reason g c = c.major.ensures.reason
+
+pub returns-in-Minor-clause-exhausted : goal.returns-in-Minor-clause-exhausted
+returns-in-Minor-clause-exhausted g c = λ out. (c.minor.ensures.exhausted out).1
+
+pub returns-in-Minor-clause-undone : goal.returns-in-Minor-clause-undone
+returns-in-Minor-clause-undone g c = c.minor.ensures.unwritten
+
+pub returns-in-Minor-clause-full : goal.returns-in-Minor-clause-full
+returns-in-Minor-clause-full g c = λ is. let full = c.minor.ensures.full is in record { memory = full.0; files = full.1 }
+
+pub returns-in-Minor-clause-count : goal.returns-in-Minor-clause-count
+returns-in-Minor-clause-count g c = λ is. absurd (not_answered IsMinorRefusal c.minor.result BadCount _ c.minor.ensures.refusal is refl)
+
+pub returns-in-Merge-clause-exhausted : goal.returns-in-Merge-clause-exhausted
+returns-in-Merge-clause-exhausted g c = c.merge.ensures.exhausted
+
+pub returns-in-Merge-clause-full : goal.returns-in-Merge-clause-full
+returns-in-Merge-clause-full g c = λ is. absurd (not_answered IsMergeRefusal c.merge.result TooManyFiles _ c.merge.ensures.refusal is refl)
+
+pub returns-in-Merge-clause-undone : goal.returns-in-Merge-clause-undone
+returns-in-Merge-clause-undone g c = λ is. absurd (not_answered IsMergeRefusal c.merge.result TooManyFiles _ c.merge.ensures.refusal is refl)
+
+pub returns-in-Merge-clause-empty : goal.returns-in-Merge-clause-empty
+returns-in-Merge-clause-empty g c = rw (c.in-Merge.is) (λ none. absurd none)
+
+pub returns-in-Major-clause-exhausted : goal.returns-in-Major-clause-exhausted
+returns-in-Major-clause-exhausted g c = c.major.ensures.exhausted
+
+pub returns-in-Major-clause-count : goal.returns-in-Major-clause-count
+returns-in-Major-clause-count g c = λ is. absurd (not_answered IsCompactionRefusal c.major.result BadCount _ c.major.ensures.refusal is refl)
+
+pub returns-in-Major-clause-full : goal.returns-in-Major-clause-full
+returns-in-Major-clause-full g c = λ is. absurd (not_answered IsCompactionRefusal c.major.result TooManyFiles _ c.major.ensures.refusal is refl)
+
+pub returns-in-Major-clause-undone : goal.returns-in-Major-clause-undone
+returns-in-Major-clause-undone g c = λ is. absurd (not_answered IsCompactionRefusal c.major.result TooManyFiles _ c.major.ensures.refusal is refl)
+
+pub returns-in-Major-clause-empty : goal.returns-in-Major-clause-empty
+returns-in-Major-clause-empty g c = rw (c.in-Major.is) (λ none. absurd none)
