@@ -11,7 +11,6 @@ mod memory;
 mod memtables;
 mod places;
 mod rows;
-mod sessions;
 mod slow;
 mod sorted_files;
 mod stamps;
@@ -127,49 +126,24 @@ fn is_met_in_two(alloc: Global, row: &[Exchange]) -> Result<bool, Fail> {
     Ok(true)
 }
 
-#[test]
-fn transfer_in_two_pieces(rt: HostRuntime) -> Result<(), Fail> {
-    assert!(rt; is_met_in_two(rt.alloc(), &rows::TRANSFER)?);
-    Ok(())
-}
-
-#[test]
-fn commit_point_in_two_pieces(rt: HostRuntime) -> Result<(), Fail> {
-    assert!(rt; is_met_in_two(rt.alloc(), &rows::COMMIT_POINT)?);
-    Ok(())
-}
-
-#[test]
-fn write_skew_in_two_pieces(rt: HostRuntime) -> Result<(), Fail> {
-    assert!(rt; is_met_in_two(rt.alloc(), &rows::WRITE_SKEW)?);
-    Ok(())
-}
-
-#[test]
-fn erasures_in_two_pieces(rt: HostRuntime) -> Result<(), Fail> {
-    assert!(rt; is_met_in_two(rt.alloc(), &upkeep::ERASURES)?);
-    Ok(())
-}
-
-#[test]
-fn tablets_in_two_pieces(rt: HostRuntime) -> Result<(), Fail> {
-    assert!(rt; is_met_in_two(rt.alloc(), &upkeep::TABLETS)?);
-    Ok(())
-}
-
 /// The rows of the fewest bytes.
-const SMALL: [&[Exchange]; 6] = [
+const IN_TWO: [&[Exchange]; 11] = [
     &rows::FIRST_CELL,
+    &rows::TRANSFER,
+    &rows::COMMIT_POINT,
     &rows::FIRST_COMMITTER,
     &rows::SECOND_COMMITTER,
     &rows::ORACLE_RESTART,
     &rows::ORACLE_RANGES,
+    &rows::WRITE_SKEW,
     &rows::PHASES,
+    &upkeep::TABLETS,
+    &upkeep::ERASURES,
 ];
 
 #[test]
-fn small_rows_in_two_pieces(rt: HostRuntime) -> Result<(), Fail> {
-    for row in SMALL {
+fn rows_in_two_pieces(rt: HostRuntime) -> Result<(), Fail> {
+    for row in IN_TWO {
         assert!(rt; is_met_in_two(rt.alloc(), row)?);
     }
     Ok(())

@@ -10,30 +10,10 @@ use row_atomic::{Cluster, Command, Outcome, PlainRows, Rows, one_newest, one_nex
 use std::alloc::Global;
 use std::test::Fail;
 
-/// Bob has `bal` at 3 and 7, and `zip` at 4. Joe has `bal` at 2, and an erased one at 5.
-const WRITES: [Write; 8] = [
-    (b"Joe", b"bal", 5, Some(b"10")),
-    (b"Joe", b"bal", 2, Some(b"10")),
-    (b"Bob", b"zip", 4, Some(b"10")),
-    (b"Bob", b"bal", 3, Some(b"10")),
-    (b"Bob", b"bal", 7, Some(b"10")),
-    (b"Bob", b"bal", 8, None),
-    (b"Joe", b"bal", 5, None),
-    (b"Joe", b"zip", 5, None),
-];
-
 fn write(alloc: Global, rows: &mut PlainRows, write: Write) -> Result<(), Refusal> {
     let row = Row::new(alloc, write.0)?;
     let edits = edits_of(alloc, &row, write)?;
     rows.apply(&row, edits)
-}
-
-fn filled(alloc: Global) -> Result<PlainRows, Refusal> {
-    let mut rows = PlainRows::new(alloc);
-    for one in WRITES {
-        write(alloc, &mut rows, one)?;
-    }
-    Ok(rows)
 }
 
 /// The stamp of the newest data of a row's `bal`, or 0.
@@ -50,25 +30,6 @@ fn newest_stamp<R: Rows>(
         Some((stamp, _)) => Ok(stamp),
         None => Ok(0),
     }
-}
-
-/// A row, a range of stamps, and the newest stamp in it.
-const NEWEST: [(&[u8], Stamp, Stamp, Stamp); 4] = [
-    (b"Bob", 0, 9, 7),
-    (b"Bob", 0, 6, 3),
-    (b"Bob", 4, 6, 0),
-    (b"Joe", 0, u64::MAX, 2),
-];
-
-#[test]
-fn finds_the_newest_in_a_range(rt: HostRuntime) -> Result<(), Fail> {
-    let mut rows = filled(rt.alloc())?;
-    for (row, lo, hi, stamp) in NEWEST {
-        assert!(rt; newest_stamp(rt.alloc(), &mut rows, row, lo, hi)? == stamp);
-    }
-    assert!(rt; rows.faults() == 0);
-    one_newest();
-    Ok(())
 }
 
 /// The places of the cells in order, one after the other.
@@ -90,15 +51,6 @@ fn places<R: Rows>(alloc: Global, rows: &mut R) -> Result<Vec<u8>, Refusal> {
         after = found;
     }
     Ok(out)
-}
-
-#[test]
-fn goes_from_cell_to_cell(rt: HostRuntime) -> Result<(), Fail> {
-    let mut rows = filled(rt.alloc())?;
-    let places = places(rt.alloc(), &mut rows)?;
-    assert!(rt; places.as_slice() == b"Bob bal\nBob zip\nJoe bal\n".as_slice());
-    one_next_cell();
-    Ok(())
 }
 
 /// What is done to a cluster and, where it is a write, to a plain map too.
@@ -236,6 +188,8 @@ fn tablets_keep_the_cells(rt: HostRuntime) -> Result<(), Fail> {
     }
     assert!(rt; agrees(rt.alloc(), &mut cluster, &mut plain)?);
     assert!(rt; swept == 3 && cluster.faults() == 0);
+    one_newest();
+    one_next_cell();
     let _files = cluster.into_files();
     Ok(())
 }

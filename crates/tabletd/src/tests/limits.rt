@@ -208,25 +208,20 @@ fn replies_to_a_value(alloc: Global, value: &[u8]) -> Result<Option<Vec<u8>>, Fa
 }
 
 #[test]
-fn longest_reply(rt: HostRuntime) -> Result<(), Fail> {
-    let longest = vec![in rt.alloc(); b'v'; 65_536]?;
+fn longest_value_and_reply(rt: HostRuntime) -> Result<(), Fail> {
+    let mut value = vec![in rt.alloc(); b'v'; 65_536]?;
     let mut expected = Vec::new(rt.alloc());
     expected.extend_from_slice(
         b"\0\0\0\x09\x81\0\0\0\0\0\0\0\x01\0\0\0\x01\x83\0\0\0\x06\x84\x01\0\x01\0\x01",
     )?;
     expected.extend_from_slice(b"\0\x01\0\x0E\x91\x01\0\0\0\0\0\0\0\x01\0\x01\0\0")?;
-    expected.extend_from_slice(&longest)?;
-    assert!(rt; replies_to_a_value(rt.alloc(), &longest)? == Some(expected));
-    Ok(())
-}
-
-#[test]
-fn too_long_a_value(rt: HostRuntime) -> Result<(), Fail> {
-    let too_long = vec![in rt.alloc(); b'v'; 65_537]?;
-    let mut expected = Vec::new(rt.alloc());
-    expected.extend_from_slice(
+    expected.extend_from_slice(&value)?;
+    assert!(rt; replies_to_a_value(rt.alloc(), &value)? == Some(expected));
+    value.push(b'v')?;
+    let mut refused = Vec::new(rt.alloc());
+    refused.extend_from_slice(
         b"\0\0\0\x09\x81\0\0\0\0\0\0\0\x01\0\0\0\x02\xFF\x05\0\0\0\x02\xFF\x08\0\0\0\x02\x91\0",
     )?;
-    assert!(rt; replies_to_a_value(rt.alloc(), &too_long)? == Some(expected));
+    assert!(rt; replies_to_a_value(rt.alloc(), &value)? == Some(refused));
     Ok(())
 }

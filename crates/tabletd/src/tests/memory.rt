@@ -147,7 +147,6 @@ fn first_wrong<S: Subject>(alloc: Global) -> Result<Option<(usize, Came)>, Refus
 #[test]
 fn calls_of_names_and_files(rt: HostRuntime) -> Result<(), Fail> {
     assert!(rt; first_wrong::<keys::Keys>(rt.alloc())?.is_none());
-    assert!(rt; first_wrong::<files::Buffered>(rt.alloc())?.is_none());
     assert!(rt; first_wrong::<files::Stored>(rt.alloc())?.is_none());
     assert!(rt; first_wrong::<files::Sorted>(rt.alloc())?.is_none());
     Ok(())

@@ -30,6 +30,8 @@ fn four(alloc: Global) -> Result<MetadataTable, Refusal> {
 #[test]
 fn the_left_part_takes_the_next_number(rt: HostRuntime) -> Result<(), Fail> {
     let table = four(rt.alloc())?;
+    let end = Row::new(rt.alloc(), b"m")?;
+    assert!(rt; table.check_split(&end) == Err(Refusal::BadSplit));
     assert!(rt; table.len() == 4);
     assert!(rt; has_places(rt.alloc(), &table, b"\x03\0\0a\x02\0\0m\x04\0\0z\x01\0\0")?);
     Ok(())
@@ -51,16 +53,6 @@ fn a_row_is_in_the_first_tablet_that_does_not_end_before_it(rt: HostRuntime) -> 
     for (row, tablet) in HOLDERS {
         assert!(rt; holder(rt.alloc(), &table, row)? == tablet);
     }
-    Ok(())
-}
-
-#[test]
-fn splits_are_refused(rt: HostRuntime) -> Result<(), Fail> {
-    let mut table = four(rt.alloc())?;
-    let row = Row::new(rt.alloc(), b"m")?;
-    assert!(rt; table.check_split(&row) == Err(Refusal::BadSplit));
-    assert!(rt; table.split_at(&row) == Err(Refusal::BadSplit));
-    assert!(rt; table.len() == 4);
     Ok(())
 }
 

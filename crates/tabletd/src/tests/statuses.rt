@@ -5,7 +5,7 @@ use server_loop::{End, ServeFault, end_status, open_status, options};
 use std::test::Fail;
 
 #[test]
-fn statuses_of_ends(rt: HostRuntime) -> Result<(), Fail> {
+fn statuses(rt: HostRuntime) -> Result<(), Fail> {
     let table = [
         (Ok(End::Clean), 0, ""),
         (Ok(End::Truncated), 2, "tabletd: input ends inside a frame"),
@@ -20,11 +20,6 @@ fn statuses_of_ends(rt: HostRuntime) -> Result<(), Fail> {
         assert!(rt; told.0 == *status);
         assert!(rt; told.1 == *line);
     }
-    Ok(())
-}
-
-#[test]
-fn statuses_of_openings(rt: HostRuntime) -> Result<(), Fail> {
     let table = [
         (Refusal::Device, 4, "tabletd: device failed at open"),
         (Refusal::Damaged, 5, "tabletd: damaged at open"),

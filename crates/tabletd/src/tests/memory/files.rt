@@ -60,39 +60,6 @@ fn push_table(table: &Memtable, out: &mut Vec<u8>) -> Result<(), Refusal> {
     Ok(())
 }
 
-/// A memtable with a write of `a`.
-#[derive(Drop)]
-pub struct Buffered {
-    table: Memtable,
-}
-
-/// The writes of other cells of the row, of the same cell, and of another row.
-const WRITES: [Call; 3] = [(b"", b"x21"), (b"", b"x2"), (b"", b"x1x2")];
-
-impl Subject for Buffered {
-    const BEFORE: &'static [u8] = b"x1";
-
-    const CALLS: &'static [Call] = &WRITES;
-
-    fn set_up(alloc: Global) -> Result<Buffered, Refusal> {
-        let mut table = Memtable::new(alloc);
-        write(alloc, &mut table, b'a', 1, b'1')?;
-        Ok(Buffered { table })
-    }
-
-    fn call(&mut self, alloc: Global, number: usize, _out: &mut Vec<u8>) -> Result<(), Refusal> {
-        match number {
-            0 => write(alloc, &mut self.table, b'a', 2, b'2'),
-            1 => write(alloc, &mut self.table, b'a', 1, b'2'),
-            _ => write(alloc, &mut self.table, b'b', 1, b'2'),
-        }
-    }
-
-    fn read(&mut self, _alloc: Global, out: &mut Vec<u8>) -> Result<(), Refusal> {
-        push_table(&self.table, out)
-    }
-}
-
 /// The refusal of a call of files.
 fn refused<T>(call: Result<T, FileFault>) -> Result<T, Refusal> {
     match call {
@@ -193,7 +160,7 @@ pub struct Sorted {
     table: Memtable,
 }
 
-const SORTED_CALLS: [Call; 4] = [
+const SORTED_CALLS: [Call; 7] = [
     // write_file
     (b"", b"\x7D\x7D-x2x1"),
     // SortedFile::open
@@ -202,6 +169,12 @@ const SORTED_CALLS: [Call; 4] = [
     (b"1", b"\x7D--x2x1"),
     // merge_into
     (b"", b"\x7D\x9D-x2x1"),
+    // Memtable::apply to other cells of the row
+    (b"", b"\x7D--x32x1"),
+    // Memtable::apply to the same cell
+    (b"", b"\x7D--x3x1"),
+    // Memtable::apply to another row
+    (b"", b"\x7D--x2x3x1"),
 ];
 
 /// Appends the value of a file at a stamp of `a`.
@@ -275,7 +248,10 @@ impl Subject for Sorted {
             0 => self.write_again(alloc),
             1 => self.open_again(alloc, out),
             2 => push_at(alloc, &self.file, &mut self.files, 1, out),
-            _ => self.merge(alloc),
+            3 => self.merge(alloc),
+            4 => write(alloc, &mut self.table, b'a', 3, b'3'),
+            5 => write(alloc, &mut self.table, b'a', 2, b'3'),
+            _ => write(alloc, &mut self.table, b'b', 1, b'3'),
         }
     }
 

@@ -18,24 +18,26 @@ pub struct Sessions {
     oracle: Oracle<MemMark>,
 }
 
-/// What is read are `a` and `b` by session 6, and the newest data of `a`, `b` and `n`.
-const CALLS: [Call; 8] = [
+/// What is read are `a` and `b` by session 6, the newest data of `a`, `b` and `n`, and the top.
+const CALLS: [Call; 9] = [
     // begin
-    (b"\x07", b"1L162"),
+    (b"\x07", b"1L162\x07"),
     // get of a value
-    (b"1", b"1L162"),
+    (b"1", b"1L162\x06"),
     // get of a lock
-    (b"L", b"1L162"),
+    (b"L", b"1L162\x06"),
     // set of a further cell
-    (b"", b"1L162"),
+    (b"", b"1L162\x06"),
     // set of the same cell
-    (b"", b"1L162"),
+    (b"", b"1L162\x06"),
     // step that draws
-    (b"\x03\x07", b"1L162"),
+    (b"\x03\x07", b"1L162\x07"),
     // step that holds
-    (b"\x01\x01", b"1L168"),
+    (b"\x01\x01", b"1L168\x06"),
     // step that meets a lock
-    (b"\x02\x01", b"1L162"),
+    (b"\x02\x01", b"1L162\x06"),
+    // stop
+    (b"", b"1L162\x06"),
 ];
 
 fn new_oracle() -> Result<Oracle<MemMark>, Refusal> {
@@ -96,7 +98,7 @@ impl Sessions {
 }
 
 impl Subject for Sessions {
-    const BEFORE: &'static [u8] = b"1L162";
+    const BEFORE: &'static [u8] = b"1L162\x06";
 
     const CALLS: &'static [Call] = &CALLS;
 
@@ -120,7 +122,8 @@ impl Subject for Sessions {
             4 => self.clients.set(4, b"n", b"bal", b"7"),
             5 => self.step(3, out),
             6 => self.step(4, out),
-            _ => self.step(5, out),
+            7 => self.step(5, out),
+            _ => self.clients.stop(3),
         }
     }
 
@@ -130,6 +133,6 @@ impl Subject for Sessions {
         for row in [b'a', b'b', b'n'] {
             push_newest(alloc, &mut self.rows, row, out)?;
         }
-        Ok(())
+        push_number(self.clients.top(), out)
     }
 }
