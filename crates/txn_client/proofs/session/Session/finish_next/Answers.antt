@@ -4,7 +4,7 @@ use Rattle.cell_key.specs.Cells.{Cells, after_edits}
 use Rattle.std.specs.Bool.{OnTrue, OnFalse}
 use Rattle.txn_client.proofs.Sessions.{advance_finished}
 use Rattle.txn_client.proofs.Room.{no_room_to_record}
-use Rattle.txn_client.proofs.Passed.{passed_on}
+use Rattle.txn_client.proofs.Passed.{passed_on, passed_err, passed_none, passed_kept, passed_back, not_err, row_advance, row_not_exhausted}
 use Rattle.txn_client.proofs.session.Session.finish_next.Goals as goal
 
 either : {P Q R S : Type 0} (b : Bool) → OnTrue b P → OnFalse b Q → OnTrue b R → OnFalse b S → (P × R) ⊎ (Q × S)
@@ -32,3 +32,84 @@ returns-clause-made g c = λ held st reached shown mine.
       | inl stood ↦ inl (no_room_to_record (λ (cs : Cells) row edits. g.R.Rows.cells c.record.new.rows ≡ after_edits cs edits) cells cells c.args.self.now c.args.k c.in-Some.write.now c.in-Some.ensures.found stood.0 stood.1 st reached shown mine)
       | inr gone ↦ inr gone.1
     ]
+
+pub returns-in_err-_stood-clause-step : goal.returns-in_err-_stood-clause-step
+returns-in_err-_stood-clause-step g c = λ held. passed_none c.from_residual.result c.in_err-_stood.field-0.0 _ c.from_residual.ensures.1
+
+pub returns-in_err-_stood-clause-made : goal.returns-in_err-_stood-clause-made
+returns-in_err-_stood-clause-made g c = λ held. passed_none c.from_residual.result c.in_err-_stood.field-0.0 _ c.from_residual.ensures.1
+
+pub returns-in_err-_stood-clause-draws : goal.returns-in_err-_stood-clause-draws
+returns-in_err-_stood-clause-draws g c = passed_none c.from_residual.result c.in_err-_stood.field-0.0 _ c.from_residual.ensures.1
+
+pub returns-in_err-_stood-clause-err : goal.returns-in_err-_stood-clause-err
+returns-in_err-_stood-clause-err g c = passed_kept c.from_residual.result _ refl
+
+pub returns-in_err-_stood-clause-kept : goal.returns-in_err-_stood-clause-kept
+returns-in_err-_stood-clause-kept g c = λ held. passed_kept c.from_residual.result _ (c.in_err-_stood.ensures.kept held)
+
+pub returns-in_err-_stood-clause-touched : goal.returns-in_err-_stood-clause-touched
+returns-in_err-_stood-clause-touched g c = λ held. (c.in-Some.write.now.cell.row, c.in_err-_stood.ensures.touched held)
+
+pub returns-in_err-_stood-clause-still : goal.returns-in_err-_stood-clause-still
+returns-in_err-_stood-clause-still g c = λ held. c.in_err-_stood.ensures.still held
+
+pub returns-in_err-_stood-clause-storage : goal.returns-in_err-_stood-clause-storage
+returns-in_err-_stood-clause-storage g c = c.in_err-_stood.ensures.storage
+
+pub returns-in_err-_stood-clause-undamaged : goal.returns-in_err-_stood-clause-undamaged
+returns-in_err-_stood-clause-undamaged g c = λ held is. c.in_err-_stood.ensures.undamaged held (passed_on c.from_residual.result _ c.in_err-_stood.field-0.0 _ c.from_residual.ensures.1 refl is)
+
+pub returns-in_err-_stood-clause-refusal : goal.returns-in_err-_stood-clause-refusal
+returns-in_err-_stood-clause-refusal g c = passed_err c.from_residual.result c.in_err-_stood.field-0.0 _ c.from_residual.ensures.1 (row_advance _ c.in_err-_stood.field-0.0 c.in_err-_stood.ensures.refusal)
+
+pub returns-in_err-_stood-clause-device : goal.returns-in_err-_stood-clause-device
+returns-in_err-_stood-clause-device g c = λ is. c.in_err-_stood.ensures.device (passed_on c.from_residual.result _ c.in_err-_stood.field-0.0 _ c.from_residual.ensures.1 refl is)
+
+pub returns-in_err-_stood-clause-later : goal.returns-in_err-_stood-clause-later
+returns-in_err-_stood-clause-later g c = c.in_err-_stood.ensures.later
+
+pub returns-in_err-_stood-clause-told : goal.returns-in_err-_stood-clause-told
+returns-in_err-_stood-clause-told g c = λ other. c.in_err-_stood.ensures.told (λ is. other (passed_back c.from_residual.result _ c.in_err-_stood.field-0.0 _ c.from_residual.ensures.1 refl is))
+
+pub returns-in_err-_stood-clause-not_exhausted : goal.returns-in_err-_stood-clause-not_exhausted
+returns-in_err-_stood-clause-not_exhausted g c = λ is. row_not_exhausted c.from_residual.result c.in_err-_stood.field-0.0 c.from_residual.ensures.1 c.in_err-_stood.ensures.refusal is
+
+pub returns-clause-draws : goal.returns-clause-draws
+returns-clause-draws g c = λ last. (tt, refl)
+
+pub returns-clause-err : goal.returns-clause-err
+returns-clause-err g c = tt
+
+pub returns-clause-kept : goal.returns-clause-kept
+returns-clause-kept g c = λ held. tt
+
+pub returns-clause-touched : goal.returns-clause-touched
+returns-clause-touched g c = λ held. (c.in-Some.write.now.cell.row, c.in_ok-_stood.ensures.touched held)
+
+pub returns-clause-still : goal.returns-clause-still
+returns-clause-still g c = λ held. c.in_ok-_stood.ensures.still held
+
+pub returns-clause-storage : goal.returns-clause-storage
+returns-clause-storage g c = c.in_ok-_stood.ensures.storage
+
+pub returns-clause-undamaged : goal.returns-clause-undamaged
+returns-clause-undamaged g c = λ held is. not_err _ _ is
+
+pub returns-clause-refusal : goal.returns-clause-refusal
+returns-clause-refusal g c = tt
+
+pub returns-clause-full : goal.returns-clause-full
+returns-clause-full g c = λ held is. absurd (not_err _ _ is)
+
+pub returns-clause-device : goal.returns-clause-device
+returns-clause-device g c = λ is. absurd (not_err _ _ is)
+
+pub returns-clause-later : goal.returns-clause-later
+returns-clause-later g c = c.in_ok-_stood.ensures.later
+
+pub returns-clause-told : goal.returns-clause-told
+returns-clause-told g c = λ other. c.in_ok-_stood.ensures.told (λ is. not_err _ _ is)
+
+pub returns-clause-not_exhausted : goal.returns-clause-not_exhausted
+returns-clause-not_exhausted g c = λ is. not_err _ _ is
