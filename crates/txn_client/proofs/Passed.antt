@@ -1,11 +1,16 @@
 -- What a call tells where the one that it ends with was refused, or wasn't.
-use Rattle.std.proofs.Common.{◌≡◌, ◌≤◌, ℕ, sym, subst, ap, ◌∙◌}
+use Rattle.std.proofs.Common.{◌≡◌, ◌≤◌, ℕ, List, sym, subst, ap, ◌∙◌}
+use Rattle.std.proofs.lemmas.Option.{none-some}
+use Rattle.std.specs.FinMap.{get}
 use Rattle.std.specs.Result.{IfErr, IfOk, IsErrAnd, IsErrOf, OnErr, OnOk}
 use Rattle.std.specs.declared.result.Result.{Result}
 use Rattle.std.specs.declared.result.Result.TheVariants.{Ok, Err}
+use Rattle.cell_key.specs.Cells.{Cells}
+use Rattle.cell_key.specs.declared.keys.CellKey.{CellKey}
 use Rattle.cell_key.specs.Faults.{HasRisen}
 use Rattle.cell_key.specs.declared.refusals.Refusal.{Refusal}
 use Rattle.cell_key.specs.declared.refusals.Refusal.TheVariants.{EmptyCommit, MemtableFull, Exhausted, Device, NoMemory, Damaged}
+use Rattle.si_model.specs.ShowsCells.{Touches}
 use Rattle.txn_client.specs.Refusals.{IsAdvanceRefusal, IsRowRefusal, IsStepRefusal}
 use Rattle.row_atomic.specs.Refusals.{IsApplyRefusal, IsReadRefusal}
 
@@ -81,6 +86,9 @@ apply_undamaged r e = refused_not r e Damaged IsApplyRefusal (λ u. u)
 pub apply_no_device : {B : Type 0} (r : Result B Refusal) (e : Refusal) → IsErrAnd r (λ f. f ≡ e) → IsApplyRefusal e → IsErrOf r Device → ⊥
 apply_no_device r e = refused_not r e Device IsApplyRefusal (λ u. u)
 
+pub no_memory_only : {B : Type 0} (r : Result B Refusal) (e n : Refusal) → (n ≡ NoMemory → ⊥) → IsErrAnd r (λ f. f ≡ e) → e ≡ NoMemory → IsErrOf r n → ⊥
+no_memory_only r e n = refused_not r e n (λ f. f ≡ NoMemory)
+
 pub passed_kept_not : {B : Type 0} (r : Result B Refusal) (e : Refusal) (P : Type 0) → IsErrAnd r (λ f. f ≡ e) → OnOk r P
 passed_kept_not (Ok x) e P by = absurd by
 passed_kept_not (Err f) e P by = tt
@@ -97,3 +105,13 @@ row_advance P Device u = tt
 row_advance P NoMemory u = tt
 row_advance P Damaged u = tt
 row_advance P _ u = absurd u
+
+-- cells that stay are touched by nothing
+pub touches_kept : (cells cells' : Cells) (row : List ℕ) (s c : ℕ) → cells' ≡ cells → Touches cells cells' row s c
+touches_kept cells cells' row s c same =
+    let at : (q : CellKey) → get cells' q ≡ get cells q = λ q. ap (λ (cs : Cells). get cs q) same in
+    record {
+      others = λ q other. at q;
+      joins = λ q b none some. absurd (none-some b (sym none ∙ (sym (at q) ∙ some)));
+      goes = λ q b some none. absurd (none-some b (sym none ∙ (at q ∙ some)));
+    }

@@ -1,14 +1,94 @@
-use Rattle.std.proofs.Common.{rules, ◌≡◌, sym, subst}
-use Rattle.cell_key.specs.Cells.{Cells}
-use Rattle.si_model.specs.ShowsCells.{Touches, held_cells}
+use Rattle.std.proofs.Common.{◌≡◌, ◌∙◌, ℕ, List, refl, sym, ap, subst}
+use Rattle.std.specs.FinMap.{insert}
+use Rattle.cell_key.specs.Cells.{Cells, after_edits}
+use Rattle.cell_key.specs.declared.edits.Edit.{Edit}
+use Rattle.cell_key.specs.declared.keys.Qualifier.TheVariants.{Data, Lock}
+use Rattle.si_model.specs.ShowsCells.{Touches, held_cells, key_of, lock_text}
+use Rattle.si_model.specs.declared.replies.Cell.{Cell}
 use Rattle.si_model.proofs.ShownTouched.{touches_held}
-use Rattle.txn_client.proofs.Passed.{passed_err, passed_kept, passed_kept_not, not_err, apply_row, apply_undamaged, apply_no_device}
+use Rattle.txn_client.specs.Refusals.{IsRowRefusal}
+use Rattle.txn_client.specs.Room.{IsHolding}
+use Rattle.txn_client.proofs.Passed.{passed_on, passed_err, passed_kept, passed_kept_not, not_err, apply_row, apply_undamaged, apply_no_device, no_memory_only, touches_kept}
 use Rattle.txn_client.proofs.cells.hold.Goals as goal
+
+held_at : (cells : Cells) (x first : Cell) (edits : List Edit) (new : Cells) (s s' : ℕ) (value v place : List ℕ) → s ≡ s' → value ≡ v → place ≡ lock_text first → new ≡ after_edits cells edits → after_edits cells edits ≡ insert (insert cells (key_of x Data s) value) (key_of x Lock s) place → new ≡ held_cells cells x s' v first
+held_at cells x first edits new s s' value v place start bytes text after is =
+    after ∙ (is ∙ (ap (λ n. insert (insert cells (key_of x Data n) value) (key_of x Lock n) place) start ∙ (ap (λ b. insert (insert cells (key_of x Data s') b) (key_of x Lock s') place) bytes ∙ ap (insert (insert cells (key_of x Data s') v) (key_of x Lock s')) text)))
+
+holding_at : (x first : Cell) (edits : List Edit) (s s' : ℕ) (value v : List ℕ) → s ≡ s' → value ≡ v → IsHolding x s value first edits → IsHolding x s' v first edits
+holding_at x first edits s s' value v start bytes is = subst (λ n. IsHolding x n v first edits) start (subst (λ b. IsHolding x s b first edits) bytes is)
+
+pub returns-clause-held : goal.returns-clause-held
+returns-clause-held g c = λ held. held_at (g.R.Rows.cells c.args.rows.now) c.args.write.now.cell c.args.first.now.cell c.in_ok-edits.edits.items (g.R.Rows.cells c.apply.new.self) _ c.args.start _ c.args.write.now.value _ c.stamp-start.ensures.stamp c.in_ok-value.ensures.bytes c.in_ok-place.ensures.text (c.in_ok-apply.ensures.ok held) (c.in_ok-edits.ensures.edits (g.R.Rows.cells c.args.rows.now))
 
 pub returns-clause-touched : goal.returns-clause-touched
 returns-clause-touched g c = λ held.
-    let e : g.R.Rows.cells c.apply.new.self ≡ held_cells (g.R.Rows.cells c.args.rows.now) c.args.write.now.cell c.args.start c.args.write.now.value c.args.first.now.cell = search rules in
-    subst (λ (cs : Cells). Touches (g.R.Rows.cells c.args.rows.now) cs c.args.write.now.cell.row c.args.start c.args.start) (sym e) (touches_held (g.R.Rows.cells c.args.rows.now) c.args.write.now.cell c.args.start c.args.start c.args.write.now.value c.args.first.now.cell)
+    let is = held_at (g.R.Rows.cells c.args.rows.now) c.args.write.now.cell c.args.first.now.cell c.in_ok-edits.edits.items (g.R.Rows.cells c.apply.new.self) _ c.args.start _ c.args.write.now.value _ c.stamp-start.ensures.stamp c.in_ok-value.ensures.bytes c.in_ok-place.ensures.text (c.in_ok-apply.ensures.ok held) (c.in_ok-edits.ensures.edits (g.R.Rows.cells c.args.rows.now)) in
+    subst (λ (cs : Cells). Touches (g.R.Rows.cells c.args.rows.now) cs c.args.write.now.cell.row c.args.start c.args.start) (sym is) (touches_held (g.R.Rows.cells c.args.rows.now) c.args.write.now.cell c.args.start c.args.start c.args.write.now.value c.args.first.now.cell)
+
+pub returns-clause-made : goal.returns-clause-made
+returns-clause-made g c = λ held. (
+  c.args.write.now.cell.row,
+  c.in_ok-edits.edits.items,
+  (refl, holding_at c.args.write.now.cell c.args.first.now.cell c.in_ok-edits.edits.items _ c.args.start _ c.args.write.now.value c.stamp-start.ensures.stamp c.in_ok-value.ensures.bytes (c.in_ok-edits.ensures.holding c.args.first.now.cell c.in_ok-place.ensures.text)),
+  c.in_ok-apply.ensures.ok held,
+)
+
+pub returns-in_err-apply-clause-full : goal.returns-in_err-apply-clause-full
+returns-in_err-apply-clause-full g c = λ is. (
+  c.args.write.now.cell.row,
+  c.in_ok-edits.edits.items,
+  (refl, holding_at c.args.write.now.cell c.args.first.now.cell c.in_ok-edits.edits.items _ c.args.start _ c.args.write.now.value c.stamp-start.ensures.stamp c.in_ok-value.ensures.bytes (c.in_ok-edits.ensures.holding c.args.first.now.cell c.in_ok-place.ensures.text)),
+  c.in_err-apply.ensures.full (passed_on c.from_residual-in_err-apply.result _ c.in_err-apply.field-0.0 _ c.from_residual-in_err-apply.ensures.1 refl is),
+)
+
+pub returns-in_err-apply-clause-touched : goal.returns-in_err-apply-clause-touched
+returns-in_err-apply-clause-touched g c = λ held. touches_kept _ _ _ _ _ (c.in_err-apply.ensures.err held)
+
+pub returns-in_err-value-clause-touched : goal.returns-in_err-value-clause-touched
+returns-in_err-value-clause-touched g c = λ held. touches_kept _ _ _ _ _ refl
+
+pub returns-in_err-value-clause-undamaged : goal.returns-in_err-value-clause-undamaged
+returns-in_err-value-clause-undamaged g c = λ is. no_memory_only c.from_residual.result c.in_err-value.field-0.0 _ (λ e. cc) c.from_residual.ensures.1 c.in_err-value.ensures.refusal is
+
+pub returns-in_err-value-clause-full : goal.returns-in_err-value-clause-full
+returns-in_err-value-clause-full g c = λ is. absurd (no_memory_only c.from_residual.result c.in_err-value.field-0.0 _ (λ e. cc) c.from_residual.ensures.1 c.in_err-value.ensures.refusal is)
+
+pub returns-in_err-value-clause-no_device : goal.returns-in_err-value-clause-no_device
+returns-in_err-value-clause-no_device g c = λ is. no_memory_only c.from_residual.result c.in_err-value.field-0.0 _ (λ e. cc) c.from_residual.ensures.1 c.in_err-value.ensures.refusal is
+
+pub returns-in_err-value-clause-refusal : goal.returns-in_err-value-clause-refusal
+returns-in_err-value-clause-refusal g c = passed_err c.from_residual.result c.in_err-value.field-0.0 _ c.from_residual.ensures.1 (subst IsRowRefusal (sym c.in_err-value.ensures.refusal) tt)
+
+pub returns-in_err-place-clause-touched : goal.returns-in_err-place-clause-touched
+returns-in_err-place-clause-touched g c = λ held. touches_kept _ _ _ _ _ refl
+
+pub returns-in_err-place-clause-undamaged : goal.returns-in_err-place-clause-undamaged
+returns-in_err-place-clause-undamaged g c = λ is. no_memory_only c.from_residual-in_err-place.result c.in_err-place.field-0.0 _ (λ e. cc) c.from_residual-in_err-place.ensures.1 c.in_err-place.ensures.refusal is
+
+pub returns-in_err-place-clause-full : goal.returns-in_err-place-clause-full
+returns-in_err-place-clause-full g c = λ is. absurd (no_memory_only c.from_residual-in_err-place.result c.in_err-place.field-0.0 _ (λ e. cc) c.from_residual-in_err-place.ensures.1 c.in_err-place.ensures.refusal is)
+
+pub returns-in_err-place-clause-no_device : goal.returns-in_err-place-clause-no_device
+returns-in_err-place-clause-no_device g c = λ is. no_memory_only c.from_residual-in_err-place.result c.in_err-place.field-0.0 _ (λ e. cc) c.from_residual-in_err-place.ensures.1 c.in_err-place.ensures.refusal is
+
+pub returns-in_err-place-clause-refusal : goal.returns-in_err-place-clause-refusal
+returns-in_err-place-clause-refusal g c = passed_err c.from_residual-in_err-place.result c.in_err-place.field-0.0 _ c.from_residual-in_err-place.ensures.1 (subst IsRowRefusal (sym c.in_err-place.ensures.refusal) tt)
+
+pub returns-in_err-edits-clause-touched : goal.returns-in_err-edits-clause-touched
+returns-in_err-edits-clause-touched g c = λ held. touches_kept _ _ _ _ _ refl
+
+pub returns-in_err-edits-clause-undamaged : goal.returns-in_err-edits-clause-undamaged
+returns-in_err-edits-clause-undamaged g c = λ is. no_memory_only c.from_residual-in_err-edits.result c.in_err-edits.field-0.0 _ (λ e. cc) c.from_residual-in_err-edits.ensures.1 c.in_err-edits.ensures.refusal is
+
+pub returns-in_err-edits-clause-full : goal.returns-in_err-edits-clause-full
+returns-in_err-edits-clause-full g c = λ is. absurd (no_memory_only c.from_residual-in_err-edits.result c.in_err-edits.field-0.0 _ (λ e. cc) c.from_residual-in_err-edits.ensures.1 c.in_err-edits.ensures.refusal is)
+
+pub returns-in_err-edits-clause-no_device : goal.returns-in_err-edits-clause-no_device
+returns-in_err-edits-clause-no_device g c = λ is. no_memory_only c.from_residual-in_err-edits.result c.in_err-edits.field-0.0 _ (λ e. cc) c.from_residual-in_err-edits.ensures.1 c.in_err-edits.ensures.refusal is
+
+pub returns-in_err-edits-clause-refusal : goal.returns-in_err-edits-clause-refusal
+returns-in_err-edits-clause-refusal g c = passed_err c.from_residual-in_err-edits.result c.in_err-edits.field-0.0 _ c.from_residual-in_err-edits.ensures.1 (subst IsRowRefusal (sym c.in_err-edits.ensures.refusal) tt)
 
 pub returns-in_err-apply-clause-held : goal.returns-in_err-apply-clause-held
 returns-in_err-apply-clause-held g c = λ held. passed_kept_not c.from_residual-in_err-apply.result c.in_err-apply.field-0.0 _ c.from_residual-in_err-apply.ensures.1

@@ -1,19 +1,27 @@
-use Rattle.std.proofs.Common.{◌≡◌, ℕ, ◌≤◌, Bool, true, false, Option, Some, None, refl, sym, ap, ◌∙◌}
+use Rattle.std.proofs.Common.{◌≡◌, ℕ, ◌≤◌, Bool, true, false, List, Option, Some, None, inl, inr, refl, sym, subst, ap, ◌∙◌}
 use Rattle.std.specs.Prelude.{is_some, option_map}
-use Rattle.std.specs.Bool.{OnFalse}
+use Rattle.std.specs.Bool.{OnFalse, OnTrue}
 use Rattle.std.specs.FinMap.{get}
 use Rattle.std.specs.declared.vec.Vec.{Vec}
 use Rattle.cell_key.specs.Cells.{Cells, IsNewest}
 use Rattle.cell_key.specs.declared.keys.CellKey.{CellKey}
 use Rattle.cell_key.specs.Versions.{stamped}
 use Rattle.cell_key.specs.declared.keys.Qualifier.TheVariants.{Write}
-use Rattle.si_model.specs.ShowsCells.{key_of}
+use Rattle.si_model.specs.ShowsCells.{IsThere, key_of}
 use Rattle.txn_client.proofs.Passed.{passed_on, passed_err, passed_none, passed_back, not_err, risen_from, later_from}
 use Rattle.txn_client.proofs.cells.is_taken.Goals as goal
 
 nothing : {Z : Type 0} (cells : Cells) (at : ℕ → CellKey) (lo hi : ℕ) (found : Option (ℕ × Vec ℕ Z)) → is_some found ≡ false → IsNewest cells at lo hi (option_map stamped found) → (s : ℕ) → lo ≤ s → s ≤ hi → get cells (at s) ≡ None
 nothing cells at lo hi None e none = none
 nothing cells at lo hi (Some p) e some = cc
+
+there : {Z : Type 0} (cells : Cells) (at : ℕ → CellKey) (lo hi : ℕ) (found : Option (ℕ × Vec ℕ Z)) → is_some found ≡ true → IsNewest cells at lo hi (option_map stamped found) → (s : ℕ) × (lo ≤ s) × ((b : List ℕ) × (get cells (at s) ≡ Some b))
+there cells at lo hi None e none = absurd cc
+there cells at lo hi (Some found) e (low, high, is, last) = (found.0, low, (found.1.items, is))
+
+on_true : {P : Type 0} (b : Bool) → (b ≡ true → P) → OnTrue b P
+on_true true h = h refl
+on_true false h = tt
 
 on_false : {P : Type 0} (b : Bool) → (b ≡ false → P) → OnFalse b P
 on_false true h = tt
@@ -24,6 +32,15 @@ returns-clause-free g c = λ held. on_false c.is_some-2.result (λ none. (
   nothing (g.R.Rows.cells c.args.rows.now) _ 0 _ c.in_ok-lock.lock (sym c.is_some.ensures ∙ c.if-is_some.false) (c.in_ok-lock.ensures.found held),
   λ s lo hi. ap (λ (cs : Cells). get cs (key_of c.args.cell.now Write s)) (sym (c.in_ok-lock.ensures.kept held)) ∙ nothing (g.R.Rows.cells c.newest.new.self) _ c.args.start _ c.in_ok-later.later (sym c.is_some-2.ensures ∙ none) (c.in_ok-later.ensures.found (c.in_ok-lock.ensures.still held)) s lo hi,
 ))
+
+pub returns-then-is_some-clause-taken : goal.returns-then-is_some-clause-taken
+returns-then-is_some-clause-taken g c = λ held.
+    let lock = there (g.R.Rows.cells c.args.rows.now) _ 0 _ c.in_ok-lock.lock (sym c.is_some.ensures ∙ c.if-is_some.true) (c.in_ok-lock.ensures.found held) in
+    inl (lock.0, lock.2)
+
+pub returns-clause-taken : goal.returns-clause-taken
+returns-clause-taken g c = λ held. on_true c.is_some-2.result (λ some.
+  inr (subst (λ (cells : Cells). (s : ℕ) × (c.args.start ≤ s) × IsThere cells c.args.cell.now Write s) (c.in_ok-lock.ensures.kept held) (there (g.R.Rows.cells c.newest.new.self) _ c.args.start _ c.in_ok-later.later (sym c.is_some-2.ensures ∙ some) (c.in_ok-later.ensures.found (c.in_ok-lock.ensures.still held)))))
 
 pub returns-in_err-lock-clause-kept : goal.returns-in_err-lock-clause-kept
 returns-in_err-lock-clause-kept g c = λ held. c.in_err-lock.ensures.kept held

@@ -1,14 +1,96 @@
-use Rattle.std.proofs.Common.{rules, ◌≡◌, ◌∙◌, refl, sym, subst}
-use Rattle.cell_key.specs.Cells.{Cells}
-use Rattle.si_model.specs.ShowsCells.{Touches, recorded_cells}
+use Rattle.std.proofs.Common.{◌≡◌, ◌∙◌, ℕ, Bool, true, false, Option, Some, None, List, not, refl, sym, ap, subst, arith}
+use Rattle.std.specs.Prelude.{is_some, option_map}
+use Rattle.std.specs.declared.vec.Vec.{Vec}
+use Rattle.cell_key.specs.Cells.{Cells, IsNewest, after_edits}
+use Rattle.cell_key.specs.Versions.{stamped}
+use Rattle.cell_key.specs.declared.edits.Edit.{Edit}
+use Rattle.cell_key.specs.declared.keys.Qualifier.TheVariants.{Lock}
+use Rattle.cell_key.specs.declared.refusals.Refusal.TheVariants.{NoMemory}
+use Rattle.si_model.specs.ShowsCells.{IsThere, Touches, key_of, recorded_cells}
+use Rattle.si_model.specs.declared.replies.Cell.{Cell}
 use Rattle.si_model.proofs.ShownTouched.{touches_recorded}
-use Rattle.txn_client.proofs.Passed.{passed_on, passed_err, passed_none, passed_kept, passed_back, not_err, read_row, read_not_full, apply_row, apply_undamaged, apply_no_device, later_at}
+use Rattle.txn_client.specs.Reads.{IsGone}
+use Rattle.txn_client.specs.Room.{IsRecording}
+use Rattle.txn_client.specs.Refusals.{IsRowRefusal}
+use Rattle.txn_client.proofs.Passed.{passed_on, passed_err, passed_none, passed_kept, passed_back, not_err, read_row, read_not_full, apply_row, apply_undamaged, apply_no_device, no_memory_only, later_at, touches_kept}
 use Rattle.txn_client.proofs.cells.record.Goals as goal
+
+stands : {Z : Type 0} (cells : Cells) (x : Cell) (s t : ℕ) (found : Option (ℕ × Vec ℕ Z)) → is_some found ≡ true → IsNewest cells (key_of x Lock) s s (option_map stamped found) → s ≡ t → IsThere cells x Lock t
+stands cells x s t None e none same = absurd cc
+stands cells x s t (Some found) e (low, high, is, last) same =
+    let at : found.0 ≡ t = omega (arith, low, high, same) in
+    subst (IsThere cells x Lock) at (found.1.items, is)
+
+is_gone : {Z : Type 0} (cells : Cells) (x : Cell) (s t : ℕ) (found : Option (ℕ × Vec ℕ Z)) → is_some found ≡ false → IsNewest cells (key_of x Lock) s s (option_map stamped found) → s ≡ t → IsGone cells x t
+is_gone cells x s t None e none same = none t (omega (arith, same)) (omega (arith, same))
+is_gone cells x s t (Some found) e some same = absurd cc
+
+at_stamps : (x : Cell) (edits : List Edit) (s s' c c' : ℕ) → s ≡ s' → c ≡ c' → IsRecording x s c edits → IsRecording x s' c' edits
+at_stamps x edits s s' c c' start commit is = subst (λ n. IsRecording x n c' edits) start (subst (λ n. IsRecording x s n edits) commit is)
+
+recorded_at : (cells : Cells) (x : Cell) (edits : List Edit) (new old : Cells) (s s' c c' : ℕ) → s ≡ s' → c ≡ c' → old ≡ cells → new ≡ after_edits old edits → after_edits cells edits ≡ recorded_cells cells x s c → new ≡ recorded_cells cells x s' c'
+recorded_at cells x edits new old s s' c c' start commit same after is = after ∙ (ap (λ cs. after_edits cs edits) same ∙ (is ∙ (ap (λ n. recorded_cells cells x n c) start ∙ ap (λ n. recorded_cells cells x s' n) commit)))
+
+pub returns-then-is_none-clause-gone : goal.returns-then-is_none-clause-gone
+returns-then-is_none-clause-gone g c = λ held. is_gone (g.R.Rows.cells c.args.rows.now) c.args.cell.now c.stamp-start.result c.args.start c.in_ok-lock.lock (c.is_none.ensures ∙ ap not c.if-is_none.true) (c.in_ok-lock.ensures.found held) c.stamp-start.ensures.stamp
+
+pub returns-clause-stood : goal.returns-clause-stood
+returns-clause-stood g c = λ held. stands (g.R.Rows.cells c.args.rows.now) c.args.cell.now c.stamp-start.result c.args.start c.in_ok-lock.lock (c.is_none.ensures ∙ ap not c.if-is_none.false) (c.in_ok-lock.ensures.found held) c.stamp-start.ensures.stamp
+
+pub returns-in_err-apply-clause-due : goal.returns-in_err-apply-clause-due
+returns-in_err-apply-clause-due g c = λ held is. stands (g.R.Rows.cells c.args.rows.now) c.args.cell.now c.stamp-start.result c.args.start c.in_ok-lock.lock (c.is_none.ensures ∙ ap not c.if-is_none.false) (c.in_ok-lock.ensures.found held) c.stamp-start.ensures.stamp
+
+pub returns-clause-recorded : goal.returns-clause-recorded
+returns-clause-recorded g c = λ held. recorded_at (g.R.Rows.cells c.args.rows.now) c.args.cell.now c.in_ok-edits.edits.items _ (g.R.Rows.cells c.newest.new.self) _ c.args.start _ c.args.commit c.stamp-start.ensures.stamp c.stamp-commit.ensures.stamp (c.in_ok-lock.ensures.kept held) (c.in_ok-apply.ensures.ok (c.in_ok-lock.ensures.still held)) (c.in_ok-edits.ensures.edits (g.R.Rows.cells c.args.rows.now))
 
 pub returns-clause-touched : goal.returns-clause-touched
 returns-clause-touched g c = λ held.
-    let e : g.R.Rows.cells c.apply.new.self ≡ recorded_cells (g.R.Rows.cells c.args.rows.now) c.args.cell.now c.args.start c.args.commit = search rules in
-    subst (λ (cs : Cells). Touches (g.R.Rows.cells c.args.rows.now) cs c.args.cell.now.row c.args.start c.args.commit) (sym e) (touches_recorded (g.R.Rows.cells c.args.rows.now) c.args.cell.now c.args.start c.args.commit)
+    let cells = g.R.Rows.cells c.args.rows.now in
+    let is = recorded_at cells c.args.cell.now c.in_ok-edits.edits.items (g.R.Rows.cells c.apply.new.self) (g.R.Rows.cells c.newest.new.self) _ c.args.start _ c.args.commit c.stamp-start.ensures.stamp c.stamp-commit.ensures.stamp (c.in_ok-lock.ensures.kept held) (c.in_ok-apply.ensures.ok (c.in_ok-lock.ensures.still held)) (c.in_ok-edits.ensures.edits cells) in
+    subst (λ (cs : Cells). Touches cells cs c.args.cell.now.row c.args.start c.args.commit) (sym is) (touches_recorded cells c.args.cell.now c.args.start c.args.commit)
+
+pub returns-clause-made : goal.returns-clause-made
+returns-clause-made g c = λ held. (
+  c.args.cell.now.row,
+  c.in_ok-edits.edits.items,
+  (refl, at_stamps c.args.cell.now c.in_ok-edits.edits.items _ c.args.start _ c.args.commit c.stamp-start.ensures.stamp c.stamp-commit.ensures.stamp c.in_ok-edits.ensures.recording),
+  c.in_ok-apply.ensures.ok (c.in_ok-lock.ensures.still held) ∙ ap (λ (cs : Cells). after_edits cs c.in_ok-edits.edits.items) (c.in_ok-lock.ensures.kept held),
+)
+
+pub returns-in_err-apply-clause-full : goal.returns-in_err-apply-clause-full
+returns-in_err-apply-clause-full g c = λ is. (
+  c.args.cell.now.row,
+  c.in_ok-edits.edits.items,
+  (refl, at_stamps c.args.cell.now c.in_ok-edits.edits.items _ c.args.start _ c.args.commit c.stamp-start.ensures.stamp c.stamp-commit.ensures.stamp c.in_ok-edits.ensures.recording),
+  c.in_ok-lock.ensures.same_room _ _ (c.in_err-apply.ensures.full (passed_on c.from_residual-in_err-apply.result _ c.in_err-apply.field-0.0 _ c.from_residual-in_err-apply.ensures.1 refl is)),
+)
+
+pub returns-in_err-lock-clause-touched : goal.returns-in_err-lock-clause-touched
+returns-in_err-lock-clause-touched g c = λ held. touches_kept _ _ _ _ _ (c.in_err-lock.ensures.kept held)
+
+pub returns-then-is_none-clause-touched : goal.returns-then-is_none-clause-touched
+returns-then-is_none-clause-touched g c = λ held. touches_kept _ _ _ _ _ (c.in_ok-lock.ensures.kept held)
+
+pub returns-in_err-edits-clause-touched : goal.returns-in_err-edits-clause-touched
+returns-in_err-edits-clause-touched g c = λ held. touches_kept _ _ _ _ _ (c.in_ok-lock.ensures.kept held)
+
+pub returns-in_err-apply-clause-touched : goal.returns-in_err-apply-clause-touched
+returns-in_err-apply-clause-touched g c = λ held. touches_kept _ _ _ _ _ (c.in_err-apply.ensures.err (c.in_ok-lock.ensures.still held) ∙ c.in_ok-lock.ensures.kept held)
+
+pub returns-in_err-edits-clause-undamaged : goal.returns-in_err-edits-clause-undamaged
+returns-in_err-edits-clause-undamaged g c = λ held is. no_memory_only c.from_residual-in_err-edits.result c.in_err-edits.field-0.0 _ (λ e. cc) c.from_residual-in_err-edits.ensures.1 c.in_err-edits.ensures.refusal is
+
+pub returns-in_err-edits-clause-full : goal.returns-in_err-edits-clause-full
+returns-in_err-edits-clause-full g c = λ is. absurd (no_memory_only c.from_residual-in_err-edits.result c.in_err-edits.field-0.0 _ (λ e. cc) c.from_residual-in_err-edits.ensures.1 c.in_err-edits.ensures.refusal is)
+
+pub returns-in_err-edits-clause-due : goal.returns-in_err-edits-clause-due
+returns-in_err-edits-clause-due g c = λ held is. absurd (no_memory_only c.from_residual-in_err-edits.result c.in_err-edits.field-0.0 _ (λ e. cc) c.from_residual-in_err-edits.ensures.1 c.in_err-edits.ensures.refusal is)
+
+pub returns-in_err-edits-clause-device : goal.returns-in_err-edits-clause-device
+returns-in_err-edits-clause-device g c = λ is. absurd (no_memory_only c.from_residual-in_err-edits.result c.in_err-edits.field-0.0 _ (λ e. cc) c.from_residual-in_err-edits.ensures.1 c.in_err-edits.ensures.refusal is)
+
+pub returns-in_err-edits-clause-refusal : goal.returns-in_err-edits-clause-refusal
+returns-in_err-edits-clause-refusal g c = passed_err c.from_residual-in_err-edits.result c.in_err-edits.field-0.0 _ c.from_residual-in_err-edits.ensures.1 (subst IsRowRefusal (sym c.in_err-edits.ensures.refusal) tt)
 
 pub returns-in_err-lock-clause-stood : goal.returns-in_err-lock-clause-stood
 returns-in_err-lock-clause-stood g c = λ held. passed_none c.from_residual.result c.in_err-lock.field-0.0 _ c.from_residual.ensures.1
