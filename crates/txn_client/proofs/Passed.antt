@@ -73,7 +73,7 @@ pub later_at : (before between now : ℕ) → between ≡ before → now ≡ bet
 later_at before between now same is low = subst (λ (n : ℕ). before ≤ n) (sym is) low
 
 -- a refusal that is passed on is none that the call doesn't answer
-refused_not : {B : Type 0} (r : Result B Refusal) (e n : Refusal) (P : Refusal → Type 0) → (P n → ⊥) → IsErrAnd r (λ f. f ≡ e) → P e → IsErrOf r n → ⊥
+pub refused_not : {B : Type 0} (r : Result B Refusal) (e n : Refusal) (P : Refusal → Type 0) → (P n → ⊥) → IsErrAnd r (λ f. f ≡ e) → P e → IsErrOf r n → ⊥
 refused_not (Ok x) e n P none by h is = absurd by
 refused_not (Err f) e n P none by h is = let same : e ≡ n = cc in none (subst P same h)
 

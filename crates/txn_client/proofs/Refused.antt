@@ -6,7 +6,7 @@ use Rattle.oracle.specs.Ranges.{IsDrawRefusal}
 use Rattle.row_atomic.specs.Refusals.{IsReadRefusal}
 use Rattle.si_model.specs.Machine.{State, Request, Refused, Step, refuses, IsStorageRefusal}
 use Rattle.si_model.specs.Refusing.Refuses.{gives_up}
-use Rattle.txn_client.specs.Refusals.{IsAdvanceRefusal}
+use Rattle.txn_client.specs.Refusals.{IsAdvanceRefusal, IsBeginRefusal}
 
 pub refused_storage : {st : State} {q : Request} {n : Refusal} → IsStorageRefusal n → Step st q (Refused n) st
 refused_storage s = refuses (gives_up s)
@@ -21,6 +21,11 @@ pub draw_storage : (e : Refusal) → IsDrawRefusal e → IsStorageRefusal e
 draw_storage Exhausted u = tt
 draw_storage Device u = tt
 draw_storage _ u = absurd u
+
+pub draw_begin : (e : Refusal) → IsDrawRefusal e → IsBeginRefusal e
+draw_begin Exhausted u = tt
+draw_begin Device u = tt
+draw_begin _ u = absurd u
 
 pub advance_storage : (P : Type 0) (e : Refusal) → IsAdvanceRefusal P e → (P × (e ≡ EmptyCommit)) ⊎ IsStorageRefusal e
 advance_storage P EmptyCommit u = inl (u, refl)
