@@ -40,7 +40,7 @@ returns-then-is_some-clause-taken g c = λ held.
 
 pub returns-clause-taken : goal.returns-clause-taken
 returns-clause-taken g c = λ held. on_true c.is_some-2.result (λ some.
-  inr (subst (λ (cells : Cells). (s : ℕ) × (c.args.start ≤ s) × IsThere cells c.args.cell.now Write s) (c.in_ok-lock.ensures.kept held) (there (g.R.Rows.cells c.newest.new.self) _ c.args.start _ c.in_ok-later.later (sym c.is_some-2.ensures ∙ some) (c.in_ok-later.ensures.found (c.in_ok-lock.ensures.still held)))))
+    inr (subst (λ (cells : Cells). (s : ℕ) × (c.args.start ≤ s) × IsThere cells c.args.cell.now Write s) (c.in_ok-lock.ensures.kept held) (there (g.R.Rows.cells c.newest.new.self) _ c.args.start _ c.in_ok-later.later (sym c.is_some-2.ensures ∙ some) (c.in_ok-later.ensures.found (c.in_ok-lock.ensures.still held)))))
 
 pub returns-in_err-lock-clause-kept : goal.returns-in_err-lock-clause-kept
 returns-in_err-lock-clause-kept g c = λ held. c.in_err-lock.ensures.kept held

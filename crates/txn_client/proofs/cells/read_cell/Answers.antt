@@ -1,7 +1,37 @@
-use Rattle.std.proofs.Common.{refl, ap, ◌∙◌}
+use Rattle.std.proofs.Common.{◌≡◌, ℕ, ◌≤◌, List, Option, Some, None, length, arith, refl, sym, subst, ap, ◌∙◌}
+use Rattle.std.specs.Prelude.{option_map}
+use Rattle.std.specs.FinMap.{get}
+use Rattle.byteorder.specs.Endian.{big_number}
+use Rattle.std.specs.declared.vec.Vec.{Vec}
+use Rattle.cell_key.specs.Cells.{Cells, IsNewest}
+use Rattle.cell_key.specs.declared.keys.CellKey.{CellKey}
+use Rattle.cell_key.specs.declared.keys.Qualifier.TheVariants.{Data, Lock, Write}
+use Rattle.cell_key.specs.Versions.{stamped}
+use Rattle.si_model.specs.ShowsCells.{key_of}
+use Rattle.si_model.specs.declared.replies.Cell.{Cell}
+use Rattle.txn_client.specs.Reads.{ReadsValue}
 use Rattle.std.specs.declared.result.Result.TheVariants.{Err}
 use Rattle.txn_client.proofs.Passed.{passed_on, passed_err, passed_none, passed_back, not_err, damaged_no_device, risen_from, later_from}
 use Rattle.txn_client.proofs.cells.read_cell.Goals as goal
+
+nothing : {Z : Type 0} (cells : Cells) (at : ℕ → CellKey) (lo hi : ℕ) (found : Option (ℕ × Vec ℕ Z)) → found ≡ None → IsNewest cells at lo hi (option_map stamped found) → (s : ℕ) → lo ≤ s → s ≤ hi → get cells (at s) ≡ None
+nothing cells at lo hi found e is = subst (λ (f : Option (ℕ × Vec ℕ _)). IsNewest cells at lo hi (option_map stamped f)) e is
+
+value_found : {Z : Type 0} (cells cells2 cells3 : Cells) (x : Cell) (s : ℕ) (lock last value : Option (ℕ × Vec ℕ Z)) (c n m : ℕ) (text v : Vec ℕ Z) → cells2 ≡ cells → cells3 ≡ cells → lock ≡ None → last ≡ Some (c, text) → value ≡ Some (m, v)
+    → n ≡ big_number 8 text.items → length text.items ≡ 8 → IsNewest cells (key_of x Lock) 0 s (option_map stamped lock) → IsNewest cells2 (key_of x Write) 0 s (option_map stamped last) → IsNewest cells3 (key_of x Data) n n (option_map stamped value)
+    → ReadsValue cells x s v.items
+value_found {Z} cells cells2 cells3 x s lock last value c n m text v same2 same3 unlocked is_last is_value named eight found found2 found3 =
+    let written : IsNewest cells (key_of x Write) 0 s (Some (c, text.items)) = subst (λ (f : Option (ℕ × Vec ℕ Z)). IsNewest cells (key_of x Write) 0 s (option_map stamped f)) is_last (subst (λ (cs : Cells). IsNewest cs (key_of x Write) 0 s (option_map stamped last)) same2 found2) in
+    let named_there : IsNewest cells (key_of x Data) n n (Some (m, v.items)) = subst (λ (f : Option (ℕ × Vec ℕ Z)). IsNewest cells (key_of x Data) n n (option_map stamped f)) is_value (subst (λ (cs : Cells). IsNewest cs (key_of x Data) n n (option_map stamped value)) same3 found3) in
+    let at : m ≡ n = omega (arith, named_there.0, named_there.1) in
+    record {
+      unlocked = nothing cells (key_of x Lock) 0 s lock unlocked found;
+      stamp = c;
+      text = text.items;
+      is_last = record { low = written.1; there = written.2; last = written.3 };
+      eight = eight;
+      named = subst (λ (k : ℕ). get cells (key_of x Data k) ≡ Some v.items) (at ∙ named) named_there.2;
+    }
 
 pub returns-in_err-lock-clause-kept : goal.returns-in_err-lock-clause-kept
 returns-in_err-lock-clause-kept g c = λ held. c.in_err-lock.ensures.kept held
@@ -248,3 +278,16 @@ returns-clause-found g c = λ held. tt
 
 pub returns-clause-short : goal.returns-clause-short
 returns-clause-short g c = tt
+
+pub returns-in_default-last-clause-found : goal.returns-in_default-last-clause-found
+returns-in_default-last-clause-found g c = λ held. (
+  nothing (g.R.Rows.cells c.args.rows.now) _ 0 _ c.in_ok-lock.lock c.in_default.is (c.in_ok-lock.ensures.found held),
+  λ s lo hi. ap (λ (cs : Cells). get cs (key_of c.args.cell.now Write s)) (sym (c.in_ok-lock.ensures.kept held)) ∙ nothing (g.R.Rows.cells c.newest.new.self) _ 0 _ c.in_ok-last.last c.in_default-last.is (c.in_ok-last.ensures.found (c.in_ok-lock.ensures.still held)) s lo hi,
+)
+
+pub returns-in-Some-2-clause-found : goal.returns-in-Some-2-clause-found
+returns-in-Some-2-clause-found g c = λ held.
+    let still = c.in_ok-lock.ensures.still held in
+    let kept = c.in_ok-last.ensures.kept still ∙ c.in_ok-lock.ensures.kept held in
+    value_found (g.R.Rows.cells c.args.rows.now) (g.R.Rows.cells c.newest.new.self) (g.R.Rows.cells c.newest-2.new.self) c.args.cell.now c.args.start c.in_ok-lock.lock c.in_ok-last.last c.in_ok-value.field-0 c.in-Some-last.field-0-0 c.in-Some-named_start.named c.in-Some-2.field-0-0 c.in-Some-last.record c.in-Some-2.value
+    (c.in_ok-lock.ensures.kept held) kept c.in_default.is c.in-Some-last.is c.in-Some-2.is (c.in-Some-named_start.ensures.named ∙ ap (big_number 8) c.deref.ensures.value) (ap (λ (bytes : List ℕ). length bytes) (sym c.deref.ensures.value) ∙ c.in-Some-named_start.ensures.length) (c.in_ok-lock.ensures.found held) (c.in_ok-last.ensures.found still) (c.in_ok-value.ensures.found (c.in_ok-last.ensures.still still))
