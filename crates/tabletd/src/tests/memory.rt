@@ -15,14 +15,11 @@ use std::test::Fail;
 /// The answer of a call, and what is read after it.
 pub type Call = (&'static [u8], &'static [u8]);
 
+/// What is read before a call, and the calls by their numbers.
+pub type Table = (&'static [u8], &'static [Call]);
+
 /// What calls are made on.
 pub trait Subject: Sized + Drop {
-    /// What is read before a call.
-    const BEFORE: &'static [u8];
-
-    /// The calls, by their numbers.
-    const CALLS: &'static [Call];
-
     /// What stands before a call.
     fn set_up(alloc: Global) -> Result<Self, Refusal>;
 
@@ -60,17 +57,19 @@ pub enum Came {
 pub struct Trial<S: Subject> {
     pub alloc: Global,
     pub subject: S,
+    pub table: Table,
     pub number: usize,
     pub out: Vec<u8>,
 }
 
 impl<S: Subject> Trial<S> {
-    pub fn new(alloc: Global, number: usize) -> Result<Trial<S>, Refusal> {
+    pub fn new(alloc: Global, table: Table, number: usize) -> Result<Trial<S>, Refusal> {
         let out = Vec::with_capacity(alloc, 4096)?;
         let subject = S::set_up(alloc)?;
         Ok(Trial {
             alloc,
             subject,
+            table,
             number,
             out,
         })
@@ -92,7 +91,7 @@ impl<S: Subject> Trial<S> {
 
     /// Makes the call again, where what is read is as before.
     fn again(&mut self, wanted: &[u8]) -> Result<Came, Refusal> {
-        if !self.reads(S::BEFORE)? {
+        if !self.reads(self.table.0)? {
             return Ok(Came::WrongRefused);
         }
         if !self.answers(wanted)? {
@@ -113,7 +112,7 @@ impl<S: Subject> Trial<S> {
 
     /// What comes of the call.
     pub fn comes(&mut self) -> Result<Came, Refusal> {
-        let Some((answer, after)) = S::CALLS.get(self.number) else {
+        let Some((answer, after)) = self.table.1.get(self.number) else {
             return Ok(Came::WrongAnswer);
         };
         let came = self.until_answered(answer)?;
@@ -125,18 +124,18 @@ impl<S: Subject> Trial<S> {
 }
 
 /// What comes of a call, on a subject of its own.
-pub fn tried<S: Subject>(alloc: Global, number: usize) -> Result<Came, Refusal> {
-    let mut trial: Trial<S> = Trial::new(alloc, number)?;
-    if !trial.reads(S::BEFORE)? {
+pub fn tried<S: Subject>(alloc: Global, table: Table, number: usize) -> Result<Came, Refusal> {
+    let mut trial: Trial<S> = Trial::new(alloc, table, number)?;
+    if !trial.reads(table.0)? {
         return Ok(Came::WrongBefore);
     }
     trial.comes()
 }
 
 /// The first call that isn't answered as it must be, and what came of it.
-fn first_wrong<S: Subject>(alloc: Global) -> Result<Option<(usize, Came)>, Refusal> {
-    for number in 0..S::CALLS.len() {
-        let came = tried::<S>(alloc, number)?;
+fn first_wrong<S: Subject>(alloc: Global, table: Table) -> Result<Option<(usize, Came)>, Refusal> {
+    for number in 0..table.1.len() {
+        let came = tried::<S>(alloc, table, number)?;
         if !matches!(came, Came::Answered) {
             return Ok(Some((number, came)));
         }
@@ -146,25 +145,25 @@ fn first_wrong<S: Subject>(alloc: Global) -> Result<Option<(usize, Came)>, Refus
 
 #[test]
 fn calls_of_names_and_files(rt: HostRuntime) -> Result<(), Fail> {
-    assert!(rt; first_wrong::<keys::Keys>(rt.alloc())?.is_none());
-    assert!(rt; first_wrong::<files::Stored>(rt.alloc())?.is_none());
-    assert!(rt; first_wrong::<files::Sorted>(rt.alloc())?.is_none());
+    assert!(rt; first_wrong::<keys::Keys>(rt.alloc(), keys::KEYS)?.is_none());
+    assert!(rt; first_wrong::<files::Stored>(rt.alloc(), files::STORED)?.is_none());
+    assert!(rt; first_wrong::<files::Sorted>(rt.alloc(), files::SORTED)?.is_none());
     Ok(())
 }
 
 #[test]
 fn calls_of_tablets_and_rows(rt: HostRuntime) -> Result<(), Fail> {
-    assert!(rt; first_wrong::<tablets::Served>(rt.alloc())?.is_none());
-    assert!(rt; first_wrong::<tablets::Placed>(rt.alloc())?.is_none());
-    assert!(rt; first_wrong::<rows::Plain>(rt.alloc())?.is_none());
-    assert!(rt; first_wrong::<rows::Clustered>(rt.alloc())?.is_none());
+    assert!(rt; first_wrong::<tablets::Served>(rt.alloc(), tablets::SERVED)?.is_none());
+    assert!(rt; first_wrong::<tablets::Placed>(rt.alloc(), tablets::PLACED)?.is_none());
+    assert!(rt; first_wrong::<rows::Plain>(rt.alloc(), rows::PLAIN)?.is_none());
+    assert!(rt; first_wrong::<rows::Clustered>(rt.alloc(), rows::CLUSTERED)?.is_none());
     Ok(())
 }
 
 #[test]
 fn calls_of_sessions_and_servers(rt: HostRuntime) -> Result<(), Fail> {
-    assert!(rt; first_wrong::<sessions::Sessions>(rt.alloc())?.is_none());
-    assert!(rt; first_wrong::<servers::Asked>(rt.alloc())?.is_none());
-    assert!(rt; first_wrong::<servers::Streamed>(rt.alloc())?.is_none());
+    assert!(rt; first_wrong::<sessions::Sessions>(rt.alloc(), sessions::SESSIONS)?.is_none());
+    assert!(rt; first_wrong::<servers::Asked>(rt.alloc(), servers::ASKED)?.is_none());
+    assert!(rt; first_wrong::<servers::Streamed>(rt.alloc(), servers::STREAMED)?.is_none());
     Ok(())
 }

@@ -6,7 +6,7 @@ ghost use Rattle.cell_key.specs.Cells.{IsEditOf};
 
 use crate::FILE_LIMIT;
 use crate::tests::edits::{data_key, erase, put, two};
-use crate::tests::memory::{Call, Subject};
+use crate::tests::memory::{Call, Subject, Table};
 use cell_key::{Edit, EntryRef, Refusal, Row, Stamp};
 use compaction::{Input, merge_into};
 use file_store::{FileFault, Files, MemFiles, read_whole};
@@ -117,11 +117,9 @@ impl Stored {
     }
 }
 
+pub const STORED: Table = (b"\x09one-two-----", &FILE_CALLS);
+
 impl Subject for Stored {
-    const BEFORE: &'static [u8] = b"\x09one-two-----";
-
-    const CALLS: &'static [Call] = &FILE_CALLS;
-
     fn set_up(alloc: Global) -> Result<Stored, Refusal> {
         let mut files = MemFiles::new(alloc);
         refused(files.put(1, b"one"))?;
@@ -228,11 +226,9 @@ fn written(alloc: Global, table: &Memtable, files: &mut MemFiles) -> Result<Sort
     SortedFile::open(alloc, 1, files)
 }
 
+pub const SORTED: Table = (b"\x7D--x2x1", &SORTED_CALLS);
+
 impl Subject for Sorted {
-    const BEFORE: &'static [u8] = b"\x7D--x2x1";
-
-    const CALLS: &'static [Call] = &SORTED_CALLS;
-
     fn set_up(alloc: Global) -> Result<Sorted, Refusal> {
         let mut older = Memtable::new(alloc);
         write(alloc, &mut older, b'a', 1, b'1')?;

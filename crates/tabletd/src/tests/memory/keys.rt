@@ -1,6 +1,6 @@
 //! Keys, and the bodies of requests and replies.
 
-use crate::tests::memory::{Call, Subject};
+use crate::tests::memory::{Call, Subject, Table};
 use cell_key::{CellKey, Family, Qualifier, Refusal, Row, place};
 use request_codec::{Reply, decode_reply, decode_request, encode_reply, encode_request};
 use std::alloc::Global;
@@ -99,11 +99,9 @@ impl Keys {
     }
 }
 
+pub const KEYS: Table = (b"text", &CALLS);
+
 impl Subject for Keys {
-    const BEFORE: &'static [u8] = b"text";
-
-    const CALLS: &'static [Call] = &CALLS;
-
     fn set_up(alloc: Global) -> Result<Keys, Refusal> {
         Ok(Keys {
             key: new_key(alloc)?,

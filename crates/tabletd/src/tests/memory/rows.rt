@@ -4,7 +4,7 @@ ghost use Rattle.std.specs.Prelude.{◌<◌, ◌≤◌, ◌^◌};
 
 use crate::FILE_LIMIT;
 use crate::tests::memory::files::edits_of;
-use crate::tests::memory::{Call, Subject, push_number};
+use crate::tests::memory::{Call, Subject, Table, push_number};
 use cell_key::{Family, Qualifier, Refusal, Row, Stamp};
 use file_store::MemFiles;
 use row_atomic::{Cluster, Command, Outcome, PlainRows, Rows};
@@ -86,11 +86,9 @@ const PLAIN_CALLS: [Call; 3] = [
     (b"", b"16"),
 ];
 
+pub const PLAIN: Table = (b"12", &PLAIN_CALLS);
+
 impl Subject for Plain {
-    const BEFORE: &'static [u8] = b"12";
-
-    const CALLS: &'static [Call] = &PLAIN_CALLS;
-
     fn set_up(alloc: Global) -> Result<Plain, Refusal> {
         let mut rows = PlainRows::new(alloc);
         write(alloc, &mut rows, b'a', 1, b'1')?;
@@ -196,11 +194,9 @@ impl Clustered {
     }
 }
 
+pub const CLUSTERED: Table = (b"54\x0E\x0B", &CLUSTER_CALLS);
+
 impl Subject for Clustered {
-    const BEFORE: &'static [u8] = b"54\x0E\x0B";
-
-    const CALLS: &'static [Call] = &CLUSTER_CALLS;
-
     fn set_up(alloc: Global) -> Result<Clustered, Refusal> {
         let cluster = new_cluster(alloc)?;
         let mut clustered = Clustered { cluster };

@@ -1,6 +1,6 @@
 //! Servers: asked by requests, and over streams of frames.
 
-use crate::tests::memory::{Call, Subject};
+use crate::tests::memory::{Call, Subject, Table};
 use crate::tests::{MemServer, push_frame};
 use cell_key::Refusal;
 use file_store::MemFiles;
@@ -214,7 +214,7 @@ const SPLIT: &[u8] = b"\
 const NO_MEMORY: &[u8] = b"\0\0\0\x02\xFF\x14";
 
 /// The replies to the requests, as frames.
-const STREAMED: [Call; 21] = [
+const REPLIES: [Call; 21] = [
     // Begin: 13
     (b"\0\0\0\x09\x81\0\0\0\0\0\0\0\x0D", STILL),
     // Get 12 a c: 3
@@ -263,7 +263,7 @@ const STREAMED: [Call; 21] = [
 ];
 
 /// The numbers of the refusals of the requests, and of a new server.
-const ASKED: [Call; 22] = [
+const REFUSALS: [Call; 22] = [
     // Begin: 13
     (b"\0", STILL),
     // Get 12 a c: 3
@@ -398,11 +398,9 @@ pub struct Streamed {
     server: MemServer,
 }
 
+pub const ASKED: Table = (STILL, &REFUSALS);
+
 impl Subject for Asked {
-    const BEFORE: &'static [u8] = STILL;
-
-    const CALLS: &'static [Call] = &ASKED;
-
     fn set_up(alloc: Global) -> Result<Asked, Refusal> {
         Ok(Asked {
             server: asked_server(alloc)?,
@@ -421,11 +419,9 @@ impl Subject for Asked {
     }
 }
 
+pub const STREAMED: Table = (STILL, &REPLIES);
+
 impl Subject for Streamed {
-    const BEFORE: &'static [u8] = STILL;
-
-    const CALLS: &'static [Call] = &STREAMED;
-
     fn set_up(alloc: Global) -> Result<Streamed, Refusal> {
         Ok(Streamed {
             server: asked_server(alloc)?,

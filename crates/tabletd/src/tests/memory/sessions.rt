@@ -1,7 +1,7 @@
 //! Sessions over rows in memory.
 
 use crate::tests::memory::rows::push_newest;
-use crate::tests::memory::{Call, Subject, push_number};
+use crate::tests::memory::{Call, Subject, Table, push_number};
 use cell_key::{Refusal, Stamp};
 use oracle::{MemMark, Oracle};
 use row_atomic::PlainRows;
@@ -97,11 +97,9 @@ impl Sessions {
     }
 }
 
+pub const SESSIONS: Table = (b"1L162\x06", &CALLS);
+
 impl Subject for Sessions {
-    const BEFORE: &'static [u8] = b"1L162\x06";
-
-    const CALLS: &'static [Call] = &CALLS;
-
     fn set_up(alloc: Global) -> Result<Sessions, Refusal> {
         let mut sessions = Sessions {
             clients: Clients::new(alloc, 0),

@@ -4,7 +4,7 @@ ghost use Rattle.std.specs.Prelude.{◌<◌, ◌≤◌, ◌^◌};
 
 use crate::FILE_LIMIT;
 use crate::tests::memory::files::edits_of;
-use crate::tests::memory::{Call, Subject, push_number};
+use crate::tests::memory::{Call, Subject, Table, push_number};
 use cell_key::{Family, Qualifier, Refusal, Row, Stamp};
 use file_store::MemFiles;
 use metadata_table::MetadataTable;
@@ -170,11 +170,9 @@ impl Served {
     }
 }
 
+pub const SERVED: Table = (b"a345\x01", &CALLS);
+
 impl Subject for Served {
-    const BEFORE: &'static [u8] = b"a345\x01";
-
-    const CALLS: &'static [Call] = &CALLS;
-
     fn set_up(alloc: Global) -> Result<Served, Refusal> {
         let mut served = Served::new(alloc)?;
         served.write_older(alloc)?;
@@ -243,11 +241,9 @@ pub fn split_at(alloc: Global, table: &mut MetadataTable, row: &[u8]) -> Result<
     table.split_at(&row)
 }
 
+pub const PLACED: Table = (b"\x02\x03\x01m\x01\x03\x01", &PLACE_CALLS);
+
 impl Subject for Placed {
-    const BEFORE: &'static [u8] = b"\x02\x03\x01m\x01\x03\x01";
-
-    const CALLS: &'static [Call] = &PLACE_CALLS;
-
     fn set_up(alloc: Global) -> Result<Placed, Refusal> {
         let mut table = MetadataTable::new(alloc)?;
         table.assign(1, 3)?;
