@@ -126,7 +126,7 @@ fn is_met_in_two(alloc: Global, row: &[Exchange]) -> Result<bool, Fail> {
     Ok(true)
 }
 
-/// The rows of the fewest bytes.
+/// The rows that are cut in two.
 const IN_TWO: [&[Exchange]; 11] = [
     &rows::FIRST_CELL,
     &rows::TRANSFER,
