@@ -1,12 +1,17 @@
 -- An error that is passed on.
-use Rattle.std.proofs.Common.{◌≡◌, ℕ, sym, subst, ap, ◌∙◌}
+use Rattle.std.proofs.Common.{rules, ◌≡◌, ℕ, ◌<◌, ◌≤◌, Bool, false, List, [], map, length, refl, sym, subst, ap, ◌∙◌, arith}
+use Rattle.std.proofs.lemmas.List.{length-map}
+use Rattle.std.specs.Prelude.{◌≢◌, ◌↔◌, IsTrue}
 use Rattle.std.specs.Result.{IfErr, IfOk, IsErrAnd, IsErrOf, OnErr}
 use Rattle.std.specs.declared.result.Result.{Result}
 use Rattle.std.specs.declared.result.Result.TheVariants.{Ok, Err}
+use Rattle.cell_key.specs.Entries.{Entry}
 use Rattle.cell_key.specs.declared.refusals.Refusal.{Refusal}
-use Rattle.cell_key.specs.declared.refusals.Refusal.TheVariants.{Device, NoMemory, Damaged}
+use Rattle.cell_key.specs.declared.refusals.Refusal.TheVariants.{Device, NoMemory, Damaged, TooManyFiles}
+use Rattle.sorted_file.specs.Opened.{name_of}
 use Rattle.sorted_file.specs.Sources.{HasReason, IsReadRefusal}
-use Rattle.tablet.specs.Compactions.{IsMinorRefusal}
+use Rattle.sorted_file.specs.declared.opened.SortedFile.{SortedFile}
+use Rattle.tablet.specs.Compactions.{IsCompactionRefusal, IsMinorRefusal}
 
 pub passed_on : {A B : Type 0} (r : Result B Refusal) (s : Result A Refusal) (e n : Refusal) → IsErrAnd r (λ f. f ≡ e) → s ≡ Err e → IsErrOf r n → IsErrOf s n
 passed_on (Ok x) s e n by was is = absurd by
@@ -51,3 +56,46 @@ minor_read Device read = tt
 minor_read NoMemory read = tt
 minor_read Damaged read = tt
 minor_read _ read = absurd read
+
+-- a refusal that is passed on is of the kind that it was
+pub passed_kind : {B : Type 0} (r : Result B Refusal) (e n : Refusal) (P : Refusal → Type 0) → IsErrAnd r (λ f. f ≡ e) → P e → IsErrOf r n → P n
+passed_kind (Ok x) e n P by h is = absurd by
+passed_kind (Err f) e n P by h is = let same : f ≡ n = cc in subst P (sym by ∙ same) h
+
+pub told_kind : {B : Type 0} (e n : Refusal) (P : Refusal → Type 0) → P e → IsErrOf {T = B} (Err e) n → P n
+told_kind e n P h is = let same : e ≡ n = cc in subst P same h
+
+abbrev pub IsNoMemory : Refusal → Type 0
+IsNoMemory NoMemory = Unit {0}
+IsNoMemory _ = ⊥
+
+abbrev pub IsTooManyFiles : Refusal → Type 0
+IsTooManyFiles TooManyFiles = Unit {0}
+IsTooManyFiles _ = ⊥
+
+pub minor_of : (e : Refusal) → IsCompactionRefusal e → IsMinorRefusal e
+minor_of TooManyFiles h = tt
+minor_of _ h = h
+
+-- what reads no file counts no fault
+pub quiet_reason : {B : Type 0} (r : Result B Refusal) (now : ℕ) → ¬ (IsErrOf r Device) → HasReason now now r
+quiet_reason r now other = record { later = omega arith; device = λ is. absurd (other is); told = λ _. refl }
+
+pub reason_of_ok : {A B : Type 0} (x : A) (y : B) (before now : ℕ) → HasReason before now (Ok x) → HasReason before now (Ok y)
+reason_of_ok x y before now h = record {
+  later = h.later;
+  device = λ is. absurd (not_err y Device is);
+  told = λ _. h.told (not_err x Device);
+}
+
+pub not_empty : (b : Bool) (es : List Entry) → IsTrue b ↔ (es ≡ []) → b ≡ false → es ≢ []
+not_empty b es h is = λ none. absurd (let t = h.1 none in search rules)
+
+pub too_few : (files : List SortedFile) (count most : ℕ) → count ≡ length files → count < most → length (map name_of files) < most
+too_few files count most is few = omega (arith, length-map files name_of)
+
+pub too_many : (files : List SortedFile) (count most : ℕ) → count ≡ length files → most ≤ count → most ≤ length (map name_of files)
+too_many files count most is many = omega (arith, length-map files name_of)
+
+pub not_both : (n most : ℕ) → n < most → ¬ (most ≤ n)
+not_both n most few many = omega arith
