@@ -1,17 +1,17 @@
 -- An error that is passed on.
 use Rattle.std.proofs.Common.{rules, ◌≡◌, ℕ, ◌<◌, ◌≤◌, Bool, false, List, [], map, length, refl, sym, subst, ap, ◌∙◌, arith}
 use Rattle.std.proofs.lemmas.List.{length-map}
-use Rattle.std.specs.Prelude.{◌≢◌, ◌↔◌, IsTrue}
-use Rattle.std.specs.Result.{IfErr, IfOk, IsErrAnd, IsErrOf, OnErr}
+use Rattle.std.specs.Prelude.{◌≢◌, ◌↔◌, IsTrue, if◌then◌else◌}
+use Rattle.std.specs.Result.{IfErr, IfOk, IsErrAnd, IsErrOf, OnErr, is_ok}
 use Rattle.std.specs.declared.result.Result.{Result}
 use Rattle.std.specs.declared.result.Result.TheVariants.{Ok, Err}
 use Rattle.cell_key.specs.Entries.{Entry}
 use Rattle.cell_key.specs.declared.refusals.Refusal.{Refusal}
-use Rattle.cell_key.specs.declared.refusals.Refusal.TheVariants.{Device, NoMemory, Damaged, TooManyFiles}
+use Rattle.cell_key.specs.declared.refusals.Refusal.TheVariants.{BadCount, Device, NoMemory, Damaged, TooManyFiles}
 use Rattle.sorted_file.specs.Opened.{name_of}
 use Rattle.sorted_file.specs.Sources.{HasReason, IsReadRefusal}
 use Rattle.sorted_file.specs.declared.opened.SortedFile.{SortedFile}
-use Rattle.tablet.specs.Compactions.{IsCompactionRefusal, IsMinorRefusal}
+use Rattle.tablet.specs.Compactions.{IsCompactionRefusal, IsMergeRefusal, IsMinorRefusal}
 
 pub passed_on : {A B : Type 0} (r : Result B Refusal) (s : Result A Refusal) (e n : Refusal) → IsErrAnd r (λ f. f ≡ e) → s ≡ Err e → IsErrOf r n → IsErrOf s n
 passed_on (Ok x) s e n by was is = absurd by
@@ -99,3 +99,15 @@ too_many files count most is many = omega (arith, length-map files name_of)
 
 pub not_both : (n most : ℕ) → n < most → ¬ (most ≤ n)
 not_both n most few many = omega arith
+
+abbrev pub IsBadCount : Refusal → Type 0
+IsBadCount BadCount = Unit {0}
+IsBadCount _ = ⊥
+
+pub merge_of : (e : Refusal) → IsCompactionRefusal e → IsMergeRefusal e
+merge_of BadCount h = tt
+merge_of _ h = h
+
+pub inserted : {A E : Type 0} (r : Result A E) (x : A) (more less : List SortedFile) {new : List SortedFile} → new ≡ (if is_ok r then more else less) → r ≡ Ok x → new ≡ more
+inserted (Ok y) x more less is was = is
+inserted (Err e) x more less is was = absurd (let no : Err e ≡ Ok x = was in cc)

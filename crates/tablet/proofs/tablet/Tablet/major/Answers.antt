@@ -1,19 +1,29 @@
-use Rattle.std.proofs.Common.{rules, ◌≡◌, [], ◌∷◌, List, map, drop, length, refl, false, ap, sym, ◌∙◌, arith}
-use Rattle.std.proofs.lemmas.Grind.{common_steps}
+use Rattle.std.proofs.Common.{◌≡◌, [], ◌∷◌, List, map, drop, length, refl, false, ap, sym, ◌∙◌, inl, inr, ℕ, ◌++◌, arith}
 use Rattle.std.proofs.lemmas.List.{drop_all, length-map}
+use Rattle.std.specs.Prelude.{if◌then◌else◌, Result, Ok}
+use Rattle.std.specs.Result.{is_ok}
+use Rattle.cell_key.specs.declared.refusals.Refusal.TheVariants.{NoMemory}
 use Rattle.file_store.specs.Store.{Contents}
 use Rattle.sorted_file.specs.Grammar.{FitsIn}
-use Rattle.sorted_file.specs.Opened.{listed}
+use Rattle.sorted_file.specs.Opened.{listed, name_of}
 use Rattle.sorted_file.specs.declared.opened.SortedFile.{SortedFile}
 use Rattle.compaction.specs.Writing.{written}
 use Rattle.tablet.specs.Ranges.{seen}
-use Rattle.tablet.specs.Views.{files_of, memory_of, range_of}
+use Rattle.tablet.specs.Views.{Holds, files_of, memory_of, range_of}
 use Rattle.tablet.proofs.Compacting.{major_cells, no_entries}
 use Rattle.tablet.proofs.Held.{held_lists}
-use Rattle.tablet.proofs.Making.{large_of, made_keeps, made_lists, made_of, still_keeps}
+use Rattle.tablet.proofs.Making.{large_of, made_keeps, made_lists, made_of, still_holds, still_keeps}
+use Rattle.tablet.proofs.Passed.{IsNoMemory, inserted, not_err, passed_err, passed_kept, passed_kind, passed_none, passed_on, passed_reason, quiet_reason, reason_of_ok}
+use Rattle.tablet.proofs.Writing.{if_some_not}
 use Rattle.cell_key.specs.Entries.{cells_of}
 use Rattle.tablet.proofs.Seen.{shown}
 use Rattle.tablet.proofs.tablet.Tablet.major.Goals as goal
+
+pushed : {A E : Type 0} (r : Result A E) (x : A) (file : SortedFile) {cleared new : List SortedFile} → new ≡ (if is_ok r then cleared ++ file ∷ [] else cleared) → r ≡ Ok x → cleared ≡ [] → new ≡ file ∷ []
+pushed r x file {cleared = cleared} is was none = inserted r x (cleared ++ file ∷ []) cleared is was ∙ ap (λ (fs : List SortedFile). fs ++ file ∷ []) none
+
+one_name : (file : SortedFile) (new : List SortedFile) (next : ℕ) → new ≡ file ∷ [] → name_of file ≡ next → map name_of new ≡ next ∷ []
+one_name file new next is named = cc
 
 pub returns-in_err-file-clause-keeps : goal.returns-in_err-file-clause-keeps
 returns-in_err-file-clause-keeps g c =
@@ -26,7 +36,7 @@ returns-in_err-file-clause-large g c = λ err.
     let memory = memory_of c.args.self.now in
     let old = files_of c.args.self.now in
     large_of (g.F.Files.contents c.args.files.now) c.args.self.now (record c.args.self.now { files = c.reserve.new.self }) (λ m. written false (map (seen range) (memory ∷ map (listed m) c.reserve.new.self.items))) (λ m. written false (map (seen range) (memory ∷ map (listed m) old))) (λ es. ¬ (FitsIn c.args.file_limit es))
-    (record { range = refl; memory = refl; files = c.in_ok-reserve.ensures.items }) (λ m h. ap (λ (fs : List SortedFile). written false (map (seen range) (memory ∷ map (listed m) fs))) c.in_ok-reserve.ensures.items) (c.in_err-file.ensures.large (search rules))
+    (record { range = refl; memory = refl; files = c.in_ok-reserve.ensures.items }) (λ m h. ap (λ (fs : List SortedFile). written false (map (seen range) (memory ∷ map (listed m) fs))) c.in_ok-reserve.ensures.items) (c.in_err-file.ensures.large (passed_on c.from_residual-in_err-file.result _ c.in_err-file.field-0.0 _ c.from_residual-in_err-file.ensures.1 refl err))
 
 none_left : (m : Contents) (files : List SortedFile) → drop (length files) (map (listed m) files) ≡ []
 none_left m files = drop_all (length files) (map (listed m) files) (let e = length-map files (listed m) in omega arith)
@@ -39,7 +49,7 @@ returns-clause-lists g c =
     let range = range_of c.args.self.now in
     let memory = memory_of c.args.self.now in
     let old = files_of c.args.self.now in
-    let files : c.push.new.self.items ≡ c.in_ok-file.file ∷ [] = grind (arith, common_steps) in
+    let files = pushed c.push.result _ c.in_ok-file.file c.push.ensures.items c.unwrap.ensures c.clear.ensures.items in
     made_lists c.stays_open.ensures (g.F.Files.contents c.args.files.now) (g.F.Files.contents c.write.new.files) c.args.next_name.now c.write.new.next_name c.args.self.now (record c.args.self.now { memtable = c.new.result; files = c.push.new.self }) c.in_ok-file.file (length old) [] (λ m. written false (map (seen range) (memory ∷ map (listed m) old)))
     (λ memory lists. [] ∷ written false (map (seen (range_of c.args.self.now)) (memory ∷ lists)) ∷ [])
     (record { range = refl; memory = c.new.ensures; files = files ∙ only c.in_ok-file.file old; named = c.in_ok-file.ensures.named }) c.in_ok-file.ensures.used c.in_ok-file.ensures.others
@@ -52,7 +62,7 @@ returns-clause-keeps g c =
     let range = range_of c.args.self.now in
     let memory = memory_of c.args.self.now in
     let old = files_of c.args.self.now in
-    let files : c.push.new.self.items ≡ c.in_ok-file.file ∷ [] = grind (arith, common_steps) in
+    let files = pushed c.push.result _ c.in_ok-file.file c.push.ensures.items c.unwrap.ensures c.clear.ensures.items in
     made_keeps c.stays_open.ensures (g.F.Files.contents c.args.files.now) (g.F.Files.contents c.write.new.files) c.args.next_name.now c.write.new.next_name c.args.self.now _ c.in_ok-file.file (length old) [] (λ m. written false (map (seen range) (memory ∷ map (listed m) old)))
     (record { range = refl; memory = c.new.ensures; files = files ∙ only c.in_ok-file.file old; named = c.in_ok-file.ensures.named }) c.in_ok-file.ensures.used c.in_ok-file.ensures.others
     (made_of (g.F.Files.contents c.args.files.now) (g.F.Files.contents c.write.new.files) c.args.self.now (record c.args.self.now { files = c.reserve.new.self }) c.in_ok-file.file (λ m. written false (map (seen range) (memory ∷ map (listed m) c.reserve.new.self.items))) (λ m. written false (map (seen range) (memory ∷ map (listed m) old)))
@@ -66,3 +76,135 @@ returns-clause-fits g c =
     let old = files_of c.args.self.now in
     large_of (g.F.Files.contents c.args.files.now) c.args.self.now (record c.args.self.now { files = c.reserve.new.self }) (λ m. written false (map (seen range) (memory ∷ map (listed m) c.reserve.new.self.items))) (λ m. written false (map (seen range) (memory ∷ map (listed m) old))) (λ es. FitsIn c.args.file_limit es)
     (record { range = refl; memory = refl; files = c.in_ok-reserve.ensures.items }) (λ m h. ap (λ (fs : List SortedFile). written false (map (seen range) (memory ∷ map (listed m) fs))) c.in_ok-reserve.ensures.items) c.in_ok-file.ensures.fits
+
+pub returns-in_err-file-clause-names : goal.returns-in_err-file-clause-names
+returns-in_err-file-clause-names g c = passed_none c.from_residual-in_err-file.result c.in_err-file.field-0.0 _ c.from_residual-in_err-file.ensures.1
+
+pub returns-in_err-file-clause-memory : goal.returns-in_err-file-clause-memory
+returns-in_err-file-clause-memory g c = passed_none c.from_residual-in_err-file.result c.in_err-file.field-0.0 _ c.from_residual-in_err-file.ensures.1
+
+pub returns-in_err-file-clause-lists : goal.returns-in_err-file-clause-lists
+returns-in_err-file-clause-lists g c = passed_none c.from_residual-in_err-file.result c.in_err-file.field-0.0 _ c.from_residual-in_err-file.ensures.1
+
+pub returns-in_err-file-clause-left : goal.returns-in_err-file-clause-left
+returns-in_err-file-clause-left g c = passed_none c.from_residual-in_err-file.result c.in_err-file.field-0.0 _ c.from_residual-in_err-file.ensures.1
+
+pub returns-in_err-file-clause-fits : goal.returns-in_err-file-clause-fits
+returns-in_err-file-clause-fits g c = passed_none c.from_residual-in_err-file.result c.in_err-file.field-0.0 _ c.from_residual-in_err-file.ensures.1
+
+pub returns-in_err-file-clause-used : goal.returns-in_err-file-clause-used
+returns-in_err-file-clause-used g c = passed_none c.from_residual-in_err-file.result c.in_err-file.field-0.0 _ c.from_residual-in_err-file.ensures.1
+
+pub returns-in_err-file-clause-range : goal.returns-in_err-file-clause-range
+returns-in_err-file-clause-range g c = refl
+
+pub returns-in_err-file-clause-err : goal.returns-in_err-file-clause-err
+returns-in_err-file-clause-err g c = passed_kept c.from_residual-in_err-file.result _ (record { range = refl; memory = refl; files = c.in_ok-reserve.ensures.items })
+
+pub returns-in_err-file-clause-name : goal.returns-in_err-file-clause-name
+returns-in_err-file-clause-name g c = c.in_err-file.ensures.name
+
+pub returns-in_err-file-clause-limit : goal.returns-in_err-file-clause-limit
+returns-in_err-file-clause-limit g c = c.in_err-file.ensures.limit
+
+pub returns-in_err-file-clause-exhausted : goal.returns-in_err-file-clause-exhausted
+returns-in_err-file-clause-exhausted g c = λ is. c.in_err-file.ensures.exhausted (passed_on c.from_residual-in_err-file.result _ c.in_err-file.field-0.0 _ c.from_residual-in_err-file.ensures.1 refl is)
+
+pub returns-in_err-file-clause-damaged : goal.returns-in_err-file-clause-damaged
+returns-in_err-file-clause-damaged g c = λ is.
+    if_some_not (g.F.Files.contents c.args.files.now) (λ m. Holds m (record c.args.self.now { files = c.reserve.new.self })) (λ m. Holds m c.args.self.now)
+    (λ m. still_holds m c.args.self.now (record c.args.self.now { files = c.reserve.new.self }) (record { range = refl; memory = refl; files = c.in_ok-reserve.ensures.items })) (c.in_err-file.ensures.damaged (passed_on c.from_residual-in_err-file.result _ c.in_err-file.field-0.0 _ c.from_residual-in_err-file.ensures.1 refl is))
+
+pub returns-in_err-file-clause-refusal : goal.returns-in_err-file-clause-refusal
+returns-in_err-file-clause-refusal g c = passed_err c.from_residual-in_err-file.result c.in_err-file.field-0.0 _ c.from_residual-in_err-file.ensures.1 c.in_err-file.ensures.refusal
+
+pub returns-in_err-file-clause-reason : goal.returns-in_err-file-clause-reason
+returns-in_err-file-clause-reason g c = passed_reason c.from_residual-in_err-file.result _ c.in_err-file.field-0.0 _ _ c.from_residual-in_err-file.ensures.1 refl c.in_err-file.ensures.reason
+
+pub returns-in_err-reserve-clause-names : goal.returns-in_err-reserve-clause-names
+returns-in_err-reserve-clause-names g c = passed_none c.from_residual.result NoMemory _ c.from_residual.ensures.1
+
+pub returns-in_err-reserve-clause-memory : goal.returns-in_err-reserve-clause-memory
+returns-in_err-reserve-clause-memory g c = passed_none c.from_residual.result NoMemory _ c.from_residual.ensures.1
+
+pub returns-in_err-reserve-clause-lists : goal.returns-in_err-reserve-clause-lists
+returns-in_err-reserve-clause-lists g c = passed_none c.from_residual.result NoMemory _ c.from_residual.ensures.1
+
+pub returns-in_err-reserve-clause-left : goal.returns-in_err-reserve-clause-left
+returns-in_err-reserve-clause-left g c = passed_none c.from_residual.result NoMemory _ c.from_residual.ensures.1
+
+pub returns-in_err-reserve-clause-fits : goal.returns-in_err-reserve-clause-fits
+returns-in_err-reserve-clause-fits g c = passed_none c.from_residual.result NoMemory _ c.from_residual.ensures.1
+
+pub returns-in_err-reserve-clause-used : goal.returns-in_err-reserve-clause-used
+returns-in_err-reserve-clause-used g c = passed_none c.from_residual.result NoMemory _ c.from_residual.ensures.1
+
+pub returns-in_err-reserve-clause-range : goal.returns-in_err-reserve-clause-range
+returns-in_err-reserve-clause-range g c = refl
+
+pub returns-in_err-reserve-clause-keeps : goal.returns-in_err-reserve-clause-keeps
+returns-in_err-reserve-clause-keeps g c = still_keeps c.stays_open.ensures (g.F.Files.contents c.args.files.now) (g.F.Files.contents c.args.files.now) c.args.next_name.now c.args.next_name.now c.args.self.now _
+    (record { range = refl; memory = refl; files = c.in_err-reserve.ensures.items }) (inl (refl, refl))
+
+pub returns-in_err-reserve-clause-err : goal.returns-in_err-reserve-clause-err
+returns-in_err-reserve-clause-err g c = passed_kept c.from_residual.result _ (record { range = refl; memory = refl; files = c.in_err-reserve.ensures.items })
+
+pub returns-in_err-reserve-clause-name : goal.returns-in_err-reserve-clause-name
+returns-in_err-reserve-clause-name g c = inl (refl, refl)
+
+pub returns-in_err-reserve-clause-limit : goal.returns-in_err-reserve-clause-limit
+returns-in_err-reserve-clause-limit g c = λ most. most
+
+pub returns-in_err-reserve-clause-exhausted : goal.returns-in_err-reserve-clause-exhausted
+returns-in_err-reserve-clause-exhausted g c = λ is. absurd (passed_kind c.from_residual.result NoMemory _ IsNoMemory c.from_residual.ensures.1 tt is)
+
+pub returns-in_err-reserve-clause-large : goal.returns-in_err-reserve-clause-large
+returns-in_err-reserve-clause-large g c = λ is. absurd (passed_kind c.from_residual.result NoMemory _ IsNoMemory c.from_residual.ensures.1 tt is)
+
+pub returns-in_err-reserve-clause-damaged : goal.returns-in_err-reserve-clause-damaged
+returns-in_err-reserve-clause-damaged g c = λ is. absurd (passed_kind c.from_residual.result NoMemory _ IsNoMemory c.from_residual.ensures.1 tt is)
+
+pub returns-in_err-reserve-clause-refusal : goal.returns-in_err-reserve-clause-refusal
+returns-in_err-reserve-clause-refusal g c = passed_err c.from_residual.result NoMemory _ c.from_residual.ensures.1 tt
+
+pub returns-in_err-reserve-clause-reason : goal.returns-in_err-reserve-clause-reason
+returns-in_err-reserve-clause-reason g c = quiet_reason c.from_residual.result _ (λ is. absurd (passed_kind c.from_residual.result NoMemory _ IsNoMemory c.from_residual.ensures.1 tt is))
+
+pub returns-clause-names : goal.returns-clause-names
+returns-clause-names g c = one_name _ _ c.args.next_name.now (pushed c.push.result _ c.in_ok-file.file c.push.ensures.items c.unwrap.ensures c.clear.ensures.items) c.in_ok-file.ensures.named
+
+pub returns-clause-memory : goal.returns-clause-memory
+returns-clause-memory g c = c.new.ensures
+
+pub returns-clause-range : goal.returns-clause-range
+returns-clause-range g c = refl
+
+pub returns-clause-err : goal.returns-clause-err
+returns-clause-err g c = tt
+
+pub returns-clause-refusal : goal.returns-clause-refusal
+returns-clause-refusal g c = tt
+
+pub returns-clause-name : goal.returns-clause-name
+returns-clause-name g c = inr (c.in_ok-file.ensures.used, c.in_ok-file.ensures.others)
+
+pub returns-clause-limit : goal.returns-clause-limit
+returns-clause-limit g c = c.in_ok-file.ensures.limit
+
+pub returns-clause-exhausted : goal.returns-clause-exhausted
+returns-clause-exhausted g c = λ is. absurd (not_err _ _ is)
+
+pub returns-clause-large : goal.returns-clause-large
+returns-clause-large g c = λ is. absurd (not_err _ _ is)
+
+pub returns-clause-damaged : goal.returns-clause-damaged
+returns-clause-damaged g c = λ is. absurd (not_err _ _ is)
+
+pub returns-clause-left : goal.returns-clause-left
+returns-clause-left g c = c.in_ok-file.ensures.left
+
+pub returns-clause-used : goal.returns-clause-used
+returns-clause-used g c = c.in_ok-file.ensures.used
+
+pub returns-clause-reason : goal.returns-clause-reason
+returns-clause-reason g c = reason_of_ok _ _ _ _ c.in_ok-file.ensures.reason

@@ -1,6 +1,5 @@
 use Rattle.std.proofs.Common.{◌≡◌, ℕ, List, [], ◌∷◌, map, refl, true, ap, ◌∙◌, inl, inr}
-use Rattle.std.specs.Prelude.{◌≢◌, if◌then◌else◌, Result, Ok, Err}
-use Rattle.std.specs.Result.{is_ok}
+use Rattle.std.specs.Prelude.{◌≢◌}
 use Rattle.sorted_file.specs.Grammar.{FitsIn}
 use Rattle.cell_key.specs.Entries.{Entry}
 use Rattle.cell_key.specs.declared.refusals.Refusal.TheVariants.{Device, NoMemory, TooManyFiles}
@@ -12,13 +11,9 @@ use Rattle.tablet.specs.Compactions.{IsCompactionRefusal}
 use Rattle.tablet.specs.Views.{Holds, files_of, flushed, memory_of, range_of, with_name}
 use Rattle.tablet.proofs.Compacting.{minor_cells, minor_form, minor_writes, no_entries}
 use Rattle.tablet.proofs.Making.{large_of, made_keeps, made_lists, made_of, still_holds, still_keeps}
-use Rattle.tablet.proofs.Passed.{IsNoMemory, IsTooManyFiles, minor_of, not_both, not_empty, not_err, passed_err, passed_kept, passed_kind, passed_none, passed_on, passed_reason, quiet_reason, reason_of_ok, told_kind, too_few, too_many}
+use Rattle.tablet.proofs.Passed.{IsNoMemory, IsTooManyFiles, inserted, minor_of, not_both, not_empty, not_err, passed_err, passed_kept, passed_kind, passed_none, passed_on, passed_reason, quiet_reason, reason_of_ok, told_kind, too_few, too_many}
 use Rattle.tablet.proofs.Writing.{if_some_not}
 use Rattle.tablet.proofs.tablet.Tablet.minor.Goals as goal
-
-inserted : {A E : Type 0} (r : Result A E) (x : A) (more less : List SortedFile) {new : List SortedFile} → new ≡ (if is_ok r then more else less) → r ≡ Ok x → new ≡ more
-inserted (Ok y) x more less is was = is
-inserted (Err e) x more less is was = absurd (let no : Err e ≡ Ok x = was in cc)
 
 names_more : (next : ℕ) (memory : List Entry) (file : SortedFile) (old new : List SortedFile) → memory ≢ [] → new ≡ file ∷ old → name_of file ≡ next → map name_of new ≡ with_name next memory (map name_of old)
 names_more next [] file old new some is named = absurd (some refl)
