@@ -1,13 +1,14 @@
 -- An error that is passed on.
-use Rattle.std.proofs.Common.{rules, ◌≡◌, ℕ, ◌<◌, ◌≤◌, Bool, false, List, [], map, length, refl, sym, subst, ap, ◌∙◌, arith}
+use Rattle.std.proofs.Common.{rules, ◌≡◌, ℕ, ◌<◌, ◌≤◌, Bool, false, List, [], map, length, ◌⊎◌, inl, inr, refl, sym, subst, ap, ◌∙◌, arith}
 use Rattle.std.proofs.lemmas.List.{length-map}
-use Rattle.std.specs.Prelude.{◌≢◌, ◌↔◌, IsTrue, if◌then◌else◌}
+use Rattle.std.specs.Prelude.{◌≢◌, ◌↔◌, IsTrue, Option, Some, None, IfSome, if◌then◌else◌}
 use Rattle.std.specs.Result.{IfErr, IfOk, IsErrAnd, IsErrOf, OnErr, is_ok}
 use Rattle.std.specs.declared.result.Result.{Result}
 use Rattle.std.specs.declared.result.Result.TheVariants.{Ok, Err}
 use Rattle.cell_key.specs.Entries.{Entry}
 use Rattle.cell_key.specs.declared.refusals.Refusal.{Refusal}
 use Rattle.cell_key.specs.declared.refusals.Refusal.TheVariants.{BadCount, Device, NoMemory, Damaged, TooManyFiles}
+use Rattle.file_store.specs.Store.{Contents}
 use Rattle.sorted_file.specs.Opened.{name_of}
 use Rattle.sorted_file.specs.Sources.{HasReason, IsReadRefusal}
 use Rattle.sorted_file.specs.declared.opened.SortedFile.{SortedFile}
@@ -111,3 +112,30 @@ merge_of _ h = h
 pub inserted : {A E : Type 0} (r : Result A E) (x : A) (more less : List SortedFile) {new : List SortedFile} → new ≡ (if is_ok r then more else less) → r ≡ Ok x → new ≡ more
 inserted (Ok y) x more less is was = is
 inserted (Err e) x more less is was = absurd (let no : Err e ≡ Ok x = was in cc)
+
+-- what a refusal of what is held is
+abbrev pub IsHeldRefusal : Refusal → Type 0
+IsHeldRefusal NoMemory = Unit {0}
+IsHeldRefusal Damaged = Unit {0}
+IsHeldRefusal _ = ⊥
+
+pub held_refusal : (e : Refusal) → (e ≡ NoMemory) ⊎ (e ≡ Damaged) → IsHeldRefusal e
+held_refusal e (inl is) = subst IsHeldRefusal (sym is) tt
+held_refusal e (inr is) = subst IsHeldRefusal (sym is) tt
+
+pub held_read : (e : Refusal) → (e ≡ NoMemory) ⊎ (e ≡ Damaged) → IsReadRefusal e
+held_read e (inl is) = subst IsReadRefusal (sym is) tt
+held_read e (inr is) = subst IsReadRefusal (sym is) tt
+
+-- facts over the files, whose contents stay
+pub over : (old now : Option Contents) (P Q R : Contents → Type 0) → now ≡ old → ((m : Contents) → P m → Q m → R m) → IfSome old P → IfSome now Q → IfSome old R
+over None now P Q R same f p q = tt
+over (Some m) now P Q R same f p q = f m p (subst (λ (o : Option Contents). IfSome o Q) same q)
+
+pub over_both : (old now : Option Contents) (P Q S R : Contents → Type 0) → now ≡ old → ((m : Contents) → P m → Q m → S m → R m) → IfSome old P → IfSome now Q → IfSome now S → IfSome old R
+over_both None now P Q S R same f p q s = tt
+over_both (Some m) now P Q S R same f p q s = f m p (subst (λ (o : Option Contents). IfSome o Q) same q) (subst (λ (o : Option Contents). IfSome o S) same s)
+
+pub over_any : (old : Option Contents) (P : Contents → Type 0) → ((m : Contents) → P m) → IfSome old P
+over_any None P f = tt
+over_any (Some m) P f = f m

@@ -1,0 +1,131 @@
+use Rattle.std.proofs.Common.{◌≡◌, ℕ, ◌+◌, ◌<◌, ◌≤◌, Bool, true, false, List, refl, sym, ap, ◌∙◌, arith}
+use Rattle.std.specs.Prelude.{Option, Some, None, IfSome, option_map, is_some, if◌then◌else◌}
+use Rattle.cell_key.specs.Entries.{Entry, IsEntry, IsEntryList, Takes}
+use Rattle.cell_key.specs.declared.refusals.Refusal.TheVariants.{Device}
+use Rattle.sorted_file.specs.Sources.{pending}
+use Rattle.tablet.specs.Reads.{first_value, lent_value, texted}
+use Rattle.tablet.proofs.Passed.{IsHeldRefusal, held_read, held_refusal, not_err, over, over_any, over_both, passed_err, passed_kind, passed_none, passed_on, passed_reason, quiet_reason, reason_after, reason_of_ok}
+use Rattle.tablet.proofs.reads.next_value.Goals as goal
+
+none_taken : (lent : Option Entry) (before after : List Entry) → Takes lent before after → None ≡ lent_value lent → first_value after ≡ first_value before
+none_taken None before after taken none = ap first_value (taken.1 ∙ sym taken.0)
+none_taken (Some (name, None)) before after taken none = sym (ap first_value taken)
+none_taken (Some (name, Some value)) before after taken none = absurd (let no : Some (name, value) ≡ None = sym none in cc)
+
+found_taken : (lent : Option Entry) (p : List ℕ × List ℕ) (before after : List Entry) → Takes lent before after → Some p ≡ lent_value lent → Some p ≡ first_value before
+found_taken None p before after taken found = absurd (let no : Some p ≡ None = found in cc)
+found_taken (Some (name, None)) p before after taken found = absurd (let no : Some p ≡ None = found in cc)
+found_taken (Some (name, Some value)) p before after taken found = found ∙ sym (ap first_value taken)
+
+end_taken : (lent : Option Entry) (before after : List Entry) → Takes lent before after → false ≡ is_some lent → None ≡ first_value before
+end_taken None before after taken end = sym (ap first_value taken.0)
+end_taken (Some entry) before after taken end = absurd (let no : false ≡ true = end in cc)
+
+lent_listed : (lent : Option Entry) (es : List Entry) → IsEntryList (pending lent es) → IfSome lent IsEntry
+lent_listed None es list = tt
+lent_listed (Some entry) es list = list.each.0
+
+one_fewer : (more : Bool) (new old : ℕ) → more ≡ true → new + (if more then 1 else 0) ≤ old → new < old
+one_fewer true new old is fewer = omega arith
+one_fewer false new old is fewer = absurd (let no : false ≡ true = is in cc)
+
+pub loop-source-init : goal.loop-source-init
+loop-source-init g c = record { same = refl; quiet = refl; told = over_any (g.F.Files.contents c.args.store.now) _ (λ m h. (h, refl)) }
+
+pub loop-source-preserved : goal.loop-source-preserved
+loop-source-preserved g c = record {
+  same = c.advance.ensures.files ∙ c.loop-source.invariant.same;
+  quiet = c.in_ok-advance.ensures.reason.told (not_err _ Device) ∙ c.loop-source.invariant.quiet;
+  told = over_both (g.F.Files.contents c.args.store.now) (g.F.Files.contents c.loop-source.store) (λ m. g.S.Source.holds m c.args.source.now → g.S.Source.holds m c.loop-source.source × (first_value (g.S.Source.remaining m c.loop-source.source) ≡ first_value (g.S.Source.remaining m c.args.source.now)))
+      (λ m. g.S.Source.holds m c.loop-source.source → g.S.Source.holds m c.advance.new.self) (λ m. g.S.Source.holds m c.loop-source.source → Takes (g.S.Source.lent c.advance.new.self) (g.S.Source.remaining m c.loop-source.source) (g.S.Source.remaining m c.advance.new.self)) _ c.loop-source.invariant.same
+      (λ m p q s start. (q (p start).0, none_taken _ _ _ (s (p start).0) (sym (ap (option_map texted) c.in_default.is) ∙ c.in_ok-found.ensures.found) ∙ (p start).1))
+      c.loop-source.invariant.told c.in_ok-advance.ensures.holds c.in_ok-advance.ensures.takes;
+}
+
+pub loop-source-smaller : goal.loop-source-smaller
+loop-source-smaller g c = one_fewer c.in_ok-advance.field-0 _ _ c.if-branch.true c.in_ok-advance.ensures.lower
+
+pub returns-in_err-advance-clause-found : goal.returns-in_err-advance-clause-found
+returns-in_err-advance-clause-found g c = passed_none c.from_residual.result c.in_err-advance.field-0.0 _ c.from_residual.ensures.1
+
+pub returns-in_err-advance-clause-limits : goal.returns-in_err-advance-clause-limits
+returns-in_err-advance-clause-limits g c = passed_none c.from_residual.result c.in_err-advance.field-0.0 _ c.from_residual.ensures.1
+
+pub returns-in_err-advance-clause-damaged : goal.returns-in_err-advance-clause-damaged
+returns-in_err-advance-clause-damaged g c = λ is.
+    over (g.F.Files.contents c.args.store.now) (g.F.Files.contents c.loop-source.store) (λ m. g.S.Source.holds m c.args.source.now → g.S.Source.holds m c.loop-source.source × (first_value (g.S.Source.remaining m c.loop-source.source) ≡ first_value (g.S.Source.remaining m c.args.source.now)))
+    (λ m. ¬ g.S.Source.holds m c.loop-source.source) (λ m. ¬ g.S.Source.holds m c.args.source.now) c.loop-source.invariant.same (λ m p q start. q (p start).0)
+    c.loop-source.invariant.told (c.in_err-advance.ensures.damaged (passed_on c.from_residual.result _ c.in_err-advance.field-0.0 _ c.from_residual.ensures.1 refl is))
+
+pub returns-in_err-advance-clause-refusal : goal.returns-in_err-advance-clause-refusal
+returns-in_err-advance-clause-refusal g c = passed_err c.from_residual.result c.in_err-advance.field-0.0 _ c.from_residual.ensures.1 c.in_err-advance.ensures.refusal
+
+pub returns-in_err-advance-clause-same : goal.returns-in_err-advance-clause-same
+returns-in_err-advance-clause-same g c = c.advance.ensures.files ∙ c.loop-source.invariant.same
+
+pub returns-in_err-advance-clause-reason : goal.returns-in_err-advance-clause-reason
+returns-in_err-advance-clause-reason g c = reason_after _ _ _ c.loop-source.invariant.quiet (passed_reason c.from_residual.result _ c.in_err-advance.field-0.0 _ _ c.from_residual.ensures.1 refl c.in_err-advance.ensures.reason)
+
+pub returns-in_err-found-clause-found : goal.returns-in_err-found-clause-found
+returns-in_err-found-clause-found g c = passed_none c.from_residual-in_err-found.result c.in_err-found.field-0.0 _ c.from_residual-in_err-found.ensures.1
+
+pub returns-in_err-found-clause-limits : goal.returns-in_err-found-clause-limits
+returns-in_err-found-clause-limits g c = passed_none c.from_residual-in_err-found.result c.in_err-found.field-0.0 _ c.from_residual-in_err-found.ensures.1
+
+pub returns-in_err-found-clause-damaged : goal.returns-in_err-found-clause-damaged
+returns-in_err-found-clause-damaged g c = λ is.
+    over (g.F.Files.contents c.args.store.now) (g.F.Files.contents c.loop-source.store) (λ m. g.S.Source.holds m c.args.source.now → g.S.Source.holds m c.loop-source.source × (first_value (g.S.Source.remaining m c.loop-source.source) ≡ first_value (g.S.Source.remaining m c.args.source.now)))
+    (λ m. g.S.Source.holds m c.loop-source.source → g.S.Source.holds m c.advance.new.self) (λ m. ¬ g.S.Source.holds m c.args.source.now) c.loop-source.invariant.same
+    (λ m p q start. c.in_err-found.ensures.damaged (passed_on c.from_residual-in_err-found.result _ c.in_err-found.field-0.0 _ c.from_residual-in_err-found.ensures.1 refl is) (lent_listed _ _ (g.met.S.Source.list m c.advance.new.self (q (p start).0))))
+    c.loop-source.invariant.told c.in_ok-advance.ensures.holds
+
+pub returns-in_err-found-clause-refusal : goal.returns-in_err-found-clause-refusal
+returns-in_err-found-clause-refusal g c = passed_err c.from_residual-in_err-found.result c.in_err-found.field-0.0 _ c.from_residual-in_err-found.ensures.1 (held_read c.in_err-found.field-0.0 c.in_err-found.ensures.refusal)
+
+pub returns-in_err-found-clause-same : goal.returns-in_err-found-clause-same
+returns-in_err-found-clause-same g c = c.advance.ensures.files ∙ c.loop-source.invariant.same
+
+pub returns-in_err-found-clause-reason : goal.returns-in_err-found-clause-reason
+returns-in_err-found-clause-reason g c = reason_after _ _ _ (c.in_ok-advance.ensures.reason.told (not_err _ Device) ∙ c.loop-source.invariant.quiet)
+    (quiet_reason c.from_residual-in_err-found.result _ (λ is. absurd (passed_kind c.from_residual-in_err-found.result c.in_err-found.field-0.0 Device IsHeldRefusal c.from_residual-in_err-found.ensures.1 (held_refusal c.in_err-found.field-0.0 c.in_err-found.ensures.refusal) is)))
+
+pub returns-in-Some-clause-found : goal.returns-in-Some-clause-found
+returns-in-Some-clause-found g c = 
+    over (g.F.Files.contents c.args.store.now) (g.F.Files.contents c.loop-source.store) (λ m. g.S.Source.holds m c.args.source.now → g.S.Source.holds m c.loop-source.source × (first_value (g.S.Source.remaining m c.loop-source.source) ≡ first_value (g.S.Source.remaining m c.args.source.now)))
+    (λ m. g.S.Source.holds m c.loop-source.source → Takes (g.S.Source.lent c.advance.new.self) (g.S.Source.remaining m c.loop-source.source) (g.S.Source.remaining m c.advance.new.self)) _ c.loop-source.invariant.same
+    (λ m p s start. found_taken _ _ _ _ (s (p start).0) (sym (ap (option_map texted) c.in-Some.is) ∙ c.in_ok-found.ensures.found) ∙ (p start).1)
+    c.loop-source.invariant.told c.in_ok-advance.ensures.takes
+
+pub returns-in-Some-clause-damaged : goal.returns-in-Some-clause-damaged
+returns-in-Some-clause-damaged g c = λ is. absurd (not_err _ _ is)
+
+pub returns-in-Some-clause-refusal : goal.returns-in-Some-clause-refusal
+returns-in-Some-clause-refusal g c = tt
+
+pub returns-in-Some-clause-same : goal.returns-in-Some-clause-same
+returns-in-Some-clause-same g c = c.advance.ensures.files ∙ c.loop-source.invariant.same
+
+pub returns-in-Some-clause-reason : goal.returns-in-Some-clause-reason
+returns-in-Some-clause-reason g c = reason_of_ok _ _ _ _ (reason_after _ _ _ c.loop-source.invariant.quiet c.in_ok-advance.ensures.reason)
+
+pub returns-clause-found : goal.returns-clause-found
+returns-clause-found g c = 
+    over (g.F.Files.contents c.args.store.now) (g.F.Files.contents c.loop-source.store) (λ m. g.S.Source.holds m c.args.source.now → g.S.Source.holds m c.loop-source.source × (first_value (g.S.Source.remaining m c.loop-source.source) ≡ first_value (g.S.Source.remaining m c.args.source.now)))
+    (λ m. g.S.Source.holds m c.loop-source.source → Takes (g.S.Source.lent c.advance.new.self) (g.S.Source.remaining m c.loop-source.source) (g.S.Source.remaining m c.advance.new.self)) _ c.loop-source.invariant.same
+    (λ m p s start. end_taken _ _ _ (s (p start).0) (sym c.if-branch.false ∙ c.in_ok-advance.ensures.more) ∙ (p start).1)
+    c.loop-source.invariant.told c.in_ok-advance.ensures.takes
+
+pub returns-clause-damaged : goal.returns-clause-damaged
+returns-clause-damaged g c = λ is. absurd (not_err _ _ is)
+
+pub returns-clause-refusal : goal.returns-clause-refusal
+returns-clause-refusal g c = tt
+
+pub returns-clause-limits : goal.returns-clause-limits
+returns-clause-limits g c = tt
+
+pub returns-clause-same : goal.returns-clause-same
+returns-clause-same g c = c.advance.ensures.files ∙ c.loop-source.invariant.same
+
+pub returns-clause-reason : goal.returns-clause-reason
+returns-clause-reason g c = reason_of_ok _ _ _ _ (reason_after _ _ _ c.loop-source.invariant.quiet c.in_ok-advance.ensures.reason)
