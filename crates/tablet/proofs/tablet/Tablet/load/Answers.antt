@@ -1,8 +1,9 @@
-use Rattle.std.proofs.Common.{rules, ◌≡◌, ℕ, ◌+◌, ◌<◌, List, [], ◌∷◌, ◌++◌, map, take, length, get_or, sym, subst, ◌∙◌, arith}
+use Rattle.std.proofs.Common.{◌≡◌, ℕ, ◌+◌, ◌<◌, List, [], ◌∷◌, ◌++◌, map, take, length, get_or, sym, subst, ◌∙◌, refl}
 use Rattle.std.proofs.lemmas.List.{map-append, take_all, take_more}
 use Rattle.std.specs.Prelude.{Option, Some, None, IfSome}
 use Rattle.std.specs.List.{AllByRecursion}
 use Rattle.cell_key.specs.Entries.{IsEntryList}
+use Rattle.cell_key.specs.declared.refusals.Refusal.TheVariants.{Device, NoMemory}
 use Rattle.file_store.specs.Store.{Contents}
 use Rattle.sorted_file.specs.Opened.{IsOpen, name_of}
 use Rattle.sorted_file.specs.declared.opened.SortedFile.{SortedFile}
@@ -10,6 +11,7 @@ use Rattle.tablet.specs.Views.{Holds, files_of, memory_of}
 use Rattle.tablet.specs.declared.tablet.Tablet.{Tablet}
 use Rattle.tablet.proofs.Compacting.{no_entries}
 use Rattle.tablet.proofs.Making.{missing_one}
+use Rattle.tablet.proofs.Passed.{IsNoMemory, not_err, passed_err, passed_kind, passed_none, passed_on, passed_reason, quiet_reason, reason_after}
 use Rattle.tablet.proofs.tablet.Tablet.load.Goals as goal
 
 named_more : (names : List ℕ) (files new : List SortedFile) (file : SortedFile) (i : ℕ) → i < length names → new ≡ files ++ file ∷ [] → name_of file ≡ get_or names i 0 → map name_of files ≡ take i names → map name_of new ≡ take (i + 1) names
@@ -35,14 +37,15 @@ empty_holds (Some m) t none opened = record { memory = subst IsEntryList (sym no
 pub names-preserved : goal.names-preserved
 names-preserved g c = record {
   contents = c.open.ensures.same ∙ c.names.invariant.contents;
-  quiet = c.in_ok-file.ensures.reason.told (λ e. cc) ∙ c.names.invariant.quiet;
+  quiet = c.in_ok-file.ensures.reason.told (not_err _ Device) ∙ c.names.invariant.quiet;
   named = named_more _ _ _ _ _ c.names-test.true c.in_ok-push.ensures.items c.in_ok-file.ensures.named c.names.invariant.named;
   opened = opened_more _ _ _ _ _ c.names.invariant.contents c.in_ok-push.ensures.items c.in_ok-file.ensures.opened c.names.invariant.opened;
 }
 
 pub returns-in_err-file-clause-damaged : goal.returns-in_err-file-clause-damaged
 returns-in_err-file-clause-damaged g c = λ err.
-    missing_one (g.F.Files.contents c.args.files.now) (g.F.Files.contents c.names.files) c.args.names.now c.names.name-index c.names.invariant.contents (omega arith) (c.in_err-file.ensures.damaged (search rules))
+    missing_one (g.F.Files.contents c.args.files.now) (g.F.Files.contents c.names.files) c.args.names.now c.names.name-index c.names.invariant.contents c.names-test.true
+    (c.in_err-file.ensures.damaged (passed_on c.from_residual.result _ c.in_err-file.field-0.0 _ c.from_residual.ensures.1 refl err))
 
 pub returns-clause-names : goal.returns-clause-names
 returns-clause-names g c = c.names.invariant.named ∙ take_all c.names.name-index c.args.names.now c.names-test.false
@@ -52,3 +55,63 @@ returns-clause-holds g c = empty_holds (g.F.Files.contents c.args.files.now) _ c
 
 pub returns-in_err-file-clause-same : goal.returns-in_err-file-clause-same
 returns-in_err-file-clause-same g c = c.open.ensures.same ∙ c.names.invariant.contents
+
+pub returns-in_err-file-clause-range : goal.returns-in_err-file-clause-range
+returns-in_err-file-clause-range g c = passed_none c.from_residual.result c.in_err-file.field-0.0 _ c.from_residual.ensures.1
+
+pub returns-in_err-file-clause-memory : goal.returns-in_err-file-clause-memory
+returns-in_err-file-clause-memory g c = passed_none c.from_residual.result c.in_err-file.field-0.0 _ c.from_residual.ensures.1
+
+pub returns-in_err-file-clause-names : goal.returns-in_err-file-clause-names
+returns-in_err-file-clause-names g c = passed_none c.from_residual.result c.in_err-file.field-0.0 _ c.from_residual.ensures.1
+
+pub returns-in_err-file-clause-holds : goal.returns-in_err-file-clause-holds
+returns-in_err-file-clause-holds g c = passed_none c.from_residual.result c.in_err-file.field-0.0 _ c.from_residual.ensures.1
+
+pub returns-in_err-file-clause-refusal : goal.returns-in_err-file-clause-refusal
+returns-in_err-file-clause-refusal g c = passed_err c.from_residual.result c.in_err-file.field-0.0 _ c.from_residual.ensures.1 c.in_err-file.ensures.refusal
+
+pub returns-in_err-file-clause-reason : goal.returns-in_err-file-clause-reason
+returns-in_err-file-clause-reason g c = reason_after _ _ _ c.names.invariant.quiet (passed_reason c.from_residual.result _ c.in_err-file.field-0.0 _ _ c.from_residual.ensures.1 refl c.in_err-file.ensures.reason)
+
+pub returns-in_err-push-clause-range : goal.returns-in_err-push-clause-range
+returns-in_err-push-clause-range g c = passed_none c.from_residual-in_err-push.result NoMemory _ c.from_residual-in_err-push.ensures.1
+
+pub returns-in_err-push-clause-memory : goal.returns-in_err-push-clause-memory
+returns-in_err-push-clause-memory g c = passed_none c.from_residual-in_err-push.result NoMemory _ c.from_residual-in_err-push.ensures.1
+
+pub returns-in_err-push-clause-names : goal.returns-in_err-push-clause-names
+returns-in_err-push-clause-names g c = passed_none c.from_residual-in_err-push.result NoMemory _ c.from_residual-in_err-push.ensures.1
+
+pub returns-in_err-push-clause-holds : goal.returns-in_err-push-clause-holds
+returns-in_err-push-clause-holds g c = passed_none c.from_residual-in_err-push.result NoMemory _ c.from_residual-in_err-push.ensures.1
+
+pub returns-in_err-push-clause-damaged : goal.returns-in_err-push-clause-damaged
+returns-in_err-push-clause-damaged g c = λ is. absurd (passed_kind c.from_residual-in_err-push.result NoMemory _ IsNoMemory c.from_residual-in_err-push.ensures.1 tt is)
+
+pub returns-in_err-push-clause-refusal : goal.returns-in_err-push-clause-refusal
+returns-in_err-push-clause-refusal g c = passed_err c.from_residual-in_err-push.result NoMemory _ c.from_residual-in_err-push.ensures.1 tt
+
+pub returns-in_err-push-clause-same : goal.returns-in_err-push-clause-same
+returns-in_err-push-clause-same g c = c.open.ensures.same ∙ c.names.invariant.contents
+
+pub returns-in_err-push-clause-reason : goal.returns-in_err-push-clause-reason
+returns-in_err-push-clause-reason g c = reason_after _ _ _ (c.in_ok-file.ensures.reason.told (not_err _ Device) ∙ c.names.invariant.quiet) (quiet_reason c.from_residual-in_err-push.result _ (λ is. absurd (passed_kind c.from_residual-in_err-push.result NoMemory _ IsNoMemory c.from_residual-in_err-push.ensures.1 tt is)))
+
+pub returns-clause-range : goal.returns-clause-range
+returns-clause-range g c = refl
+
+pub returns-clause-memory : goal.returns-clause-memory
+returns-clause-memory g c = c.new.ensures
+
+pub returns-clause-refusal : goal.returns-clause-refusal
+returns-clause-refusal g c = tt
+
+pub returns-clause-damaged : goal.returns-clause-damaged
+returns-clause-damaged g c = λ is. absurd (not_err _ _ is)
+
+pub returns-clause-same : goal.returns-clause-same
+returns-clause-same g c = c.names.invariant.contents
+
+pub returns-clause-reason : goal.returns-clause-reason
+returns-clause-reason g c = reason_after _ _ _ c.names.invariant.quiet (quiet_reason _ _ (not_err _ Device))
