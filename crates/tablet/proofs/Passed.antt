@@ -7,10 +7,10 @@ use Rattle.std.specs.declared.result.Result.{Result}
 use Rattle.std.specs.declared.result.Result.TheVariants.{Ok, Err}
 use Rattle.cell_key.specs.Entries.{Entry}
 use Rattle.cell_key.specs.declared.refusals.Refusal.{Refusal}
-use Rattle.cell_key.specs.declared.refusals.Refusal.TheVariants.{BadCount, Device, NoMemory, Damaged, TooManyFiles}
+use Rattle.cell_key.specs.declared.refusals.Refusal.TheVariants.{BadCount, Device, Exhausted, NoMemory, Damaged, TooManyFiles}
 use Rattle.file_store.specs.Store.{Contents}
 use Rattle.sorted_file.specs.Opened.{name_of}
-use Rattle.sorted_file.specs.Sources.{HasReason, IsReadRefusal}
+use Rattle.sorted_file.specs.Sources.{HasReason, IsReadRefusal, IsWriteRefusal}
 use Rattle.sorted_file.specs.declared.opened.SortedFile.{SortedFile}
 use Rattle.tablet.specs.Compactions.{IsCompactionRefusal, IsMergeRefusal, IsMinorRefusal}
 
@@ -139,3 +139,18 @@ over_both (Some m) now P Q S R same f p q s = f m p (subst (λ (o : Option Conte
 pub over_any : (old : Option Contents) (P : Contents → Type 0) → ((m : Contents) → P m) → IfSome old P
 over_any None P f = tt
 over_any (Some m) P f = f m
+
+pub no_memory : (e : Refusal) → e ≡ NoMemory → IsNoMemory e
+no_memory e is = subst IsNoMemory (sym is) tt
+
+pub writes_of : (e : Refusal) → IsWriteRefusal e → IsCompactionRefusal e
+writes_of Exhausted h = tt
+writes_of _ h = h
+
+pub err_kind : {A : Type 0} (r : Result A Refusal) (n : Refusal) (P : Refusal → Type 0) → IfErr r P → IsErrOf r n → P n
+err_kind (Ok x) n P h is = absurd (not_err x n is)
+err_kind (Err f) n P h is = let same : f ≡ n = cc in subst P same h
+
+pub err_map : {A : Type 0} (r : Result A Refusal) (P Q : Refusal → Type 0) → ((e : Refusal) → P e → Q e) → IfErr r P → IfErr r Q
+err_map (Ok x) P Q f h = tt
+err_map (Err e) P Q f h = f e h

@@ -1,12 +1,13 @@
-use Rattle.std.proofs.Common.{map, length, ◌∙◌}
+use Rattle.std.proofs.Common.{map, length, refl, sym, subst, inl, ◌∙◌}
 use Rattle.std.proofs.lemmas.List.{length-map}
 use Rattle.std.specs.Option.{option_copied}
 use Rattle.sorted_file.specs.Grammar.{FitsIn}
 use Rattle.sorted_file.specs.Opened.{listed}
-use Rattle.tablet.specs.Compactions.{compacted}
+use Rattle.tablet.specs.Compactions.{IsCompactionRefusal, compacted}
 use Rattle.tablet.specs.Sources.{lists_over}
 use Rattle.tablet.specs.Views.{Holds, files_of, memory_of, range_of}
 use Rattle.tablet.proofs.Held.{held_lists}
+use Rattle.tablet.proofs.Passed.{IsNoMemory, no_memory, passed_err, passed_kind, passed_none, quiet_reason}
 use Rattle.tablet.proofs.Writing.{compacts, if_ok_holds, if_some_holds, if_some_not, on_ok_holds}
 use Rattle.tablet.proofs.tablet.Tablet.write.Goals as goal
 
@@ -37,3 +38,108 @@ returns-clause-fits g c =
 pub returns-clause-damaged : goal.returns-clause-damaged
 returns-clause-damaged g c = λ err.
     if_some_not (g.F.Files.contents c.args.files.now) _ (λ m. Holds m c.args.self.now) (λ m h. c.in_ok-sources.ensures.start m (c.inputs.ensures.open m h.files)) (c.write_new.ensures.damaged err)
+
+pub returns-in_err-from-clause-named : goal.returns-in_err-from-clause-named
+returns-in_err-from-clause-named g c = passed_none c.from_residual.result c.in_err-from.field-0.0 _ c.from_residual.ensures.1
+
+pub returns-in_err-from-clause-made : goal.returns-in_err-from-clause-made
+returns-in_err-from-clause-made g c = passed_none c.from_residual.result c.in_err-from.field-0.0 _ c.from_residual.ensures.1
+
+pub returns-in_err-from-clause-used : goal.returns-in_err-from-clause-used
+returns-in_err-from-clause-used g c = passed_none c.from_residual.result c.in_err-from.field-0.0 _ c.from_residual.ensures.1
+
+pub returns-in_err-from-clause-others : goal.returns-in_err-from-clause-others
+returns-in_err-from-clause-others g c = passed_none c.from_residual.result c.in_err-from.field-0.0 _ c.from_residual.ensures.1
+
+pub returns-in_err-from-clause-left : goal.returns-in_err-from-clause-left
+returns-in_err-from-clause-left g c = passed_none c.from_residual.result c.in_err-from.field-0.0 _ c.from_residual.ensures.1
+
+pub returns-in_err-from-clause-fits : goal.returns-in_err-from-clause-fits
+returns-in_err-from-clause-fits g c = passed_none c.from_residual.result c.in_err-from.field-0.0 _ c.from_residual.ensures.1
+
+pub returns-in_err-from-clause-name : goal.returns-in_err-from-clause-name
+returns-in_err-from-clause-name g c = inl (refl, refl)
+
+pub returns-in_err-from-clause-limit : goal.returns-in_err-from-clause-limit
+returns-in_err-from-clause-limit g c = λ most. most
+
+pub returns-in_err-from-clause-exhausted : goal.returns-in_err-from-clause-exhausted
+returns-in_err-from-clause-exhausted g c = λ is. absurd (passed_kind c.from_residual.result c.in_err-from.field-0.0 _ IsNoMemory c.from_residual.ensures.1 (no_memory c.in_err-from.field-0.0 c.in_err-from.ensures.refusal) is)
+
+pub returns-in_err-from-clause-large : goal.returns-in_err-from-clause-large
+returns-in_err-from-clause-large g c = λ is. absurd (passed_kind c.from_residual.result c.in_err-from.field-0.0 _ IsNoMemory c.from_residual.ensures.1 (no_memory c.in_err-from.field-0.0 c.in_err-from.ensures.refusal) is)
+
+pub returns-in_err-from-clause-damaged : goal.returns-in_err-from-clause-damaged
+returns-in_err-from-clause-damaged g c = λ is. absurd (passed_kind c.from_residual.result c.in_err-from.field-0.0 _ IsNoMemory c.from_residual.ensures.1 (no_memory c.in_err-from.field-0.0 c.in_err-from.ensures.refusal) is)
+
+pub returns-in_err-from-clause-refusal : goal.returns-in_err-from-clause-refusal
+returns-in_err-from-clause-refusal g c = passed_err c.from_residual.result c.in_err-from.field-0.0 _ c.from_residual.ensures.1 (subst IsCompactionRefusal (sym c.in_err-from.ensures.refusal) tt)
+
+pub returns-in_err-from-clause-reason : goal.returns-in_err-from-clause-reason
+returns-in_err-from-clause-reason g c = quiet_reason c.from_residual.result _ (λ is. absurd (passed_kind c.from_residual.result c.in_err-from.field-0.0 _ IsNoMemory c.from_residual.ensures.1 (no_memory c.in_err-from.field-0.0 c.in_err-from.ensures.refusal) is))
+
+pub returns-in_err-sources-clause-named : goal.returns-in_err-sources-clause-named
+returns-in_err-sources-clause-named g c = passed_none c.from_residual-in_err-sources.result c.in_err-sources.field-0.0 _ c.from_residual-in_err-sources.ensures.1
+
+pub returns-in_err-sources-clause-made : goal.returns-in_err-sources-clause-made
+returns-in_err-sources-clause-made g c = passed_none c.from_residual-in_err-sources.result c.in_err-sources.field-0.0 _ c.from_residual-in_err-sources.ensures.1
+
+pub returns-in_err-sources-clause-used : goal.returns-in_err-sources-clause-used
+returns-in_err-sources-clause-used g c = passed_none c.from_residual-in_err-sources.result c.in_err-sources.field-0.0 _ c.from_residual-in_err-sources.ensures.1
+
+pub returns-in_err-sources-clause-others : goal.returns-in_err-sources-clause-others
+returns-in_err-sources-clause-others g c = passed_none c.from_residual-in_err-sources.result c.in_err-sources.field-0.0 _ c.from_residual-in_err-sources.ensures.1
+
+pub returns-in_err-sources-clause-left : goal.returns-in_err-sources-clause-left
+returns-in_err-sources-clause-left g c = passed_none c.from_residual-in_err-sources.result c.in_err-sources.field-0.0 _ c.from_residual-in_err-sources.ensures.1
+
+pub returns-in_err-sources-clause-fits : goal.returns-in_err-sources-clause-fits
+returns-in_err-sources-clause-fits g c = passed_none c.from_residual-in_err-sources.result c.in_err-sources.field-0.0 _ c.from_residual-in_err-sources.ensures.1
+
+pub returns-in_err-sources-clause-name : goal.returns-in_err-sources-clause-name
+returns-in_err-sources-clause-name g c = inl (refl, refl)
+
+pub returns-in_err-sources-clause-limit : goal.returns-in_err-sources-clause-limit
+returns-in_err-sources-clause-limit g c = λ most. most
+
+pub returns-in_err-sources-clause-exhausted : goal.returns-in_err-sources-clause-exhausted
+returns-in_err-sources-clause-exhausted g c = λ is. absurd (passed_kind c.from_residual-in_err-sources.result c.in_err-sources.field-0.0 _ IsNoMemory c.from_residual-in_err-sources.ensures.1 (no_memory c.in_err-sources.field-0.0 c.in_err-sources.ensures.refusal) is)
+
+pub returns-in_err-sources-clause-large : goal.returns-in_err-sources-clause-large
+returns-in_err-sources-clause-large g c = λ is. absurd (passed_kind c.from_residual-in_err-sources.result c.in_err-sources.field-0.0 _ IsNoMemory c.from_residual-in_err-sources.ensures.1 (no_memory c.in_err-sources.field-0.0 c.in_err-sources.ensures.refusal) is)
+
+pub returns-in_err-sources-clause-damaged : goal.returns-in_err-sources-clause-damaged
+returns-in_err-sources-clause-damaged g c = λ is. absurd (passed_kind c.from_residual-in_err-sources.result c.in_err-sources.field-0.0 _ IsNoMemory c.from_residual-in_err-sources.ensures.1 (no_memory c.in_err-sources.field-0.0 c.in_err-sources.ensures.refusal) is)
+
+pub returns-in_err-sources-clause-refusal : goal.returns-in_err-sources-clause-refusal
+returns-in_err-sources-clause-refusal g c = passed_err c.from_residual-in_err-sources.result c.in_err-sources.field-0.0 _ c.from_residual-in_err-sources.ensures.1 (subst IsCompactionRefusal (sym c.in_err-sources.ensures.refusal) tt)
+
+pub returns-in_err-sources-clause-reason : goal.returns-in_err-sources-clause-reason
+returns-in_err-sources-clause-reason g c = quiet_reason c.from_residual-in_err-sources.result _ (λ is. absurd (passed_kind c.from_residual-in_err-sources.result c.in_err-sources.field-0.0 _ IsNoMemory c.from_residual-in_err-sources.ensures.1 (no_memory c.in_err-sources.field-0.0 c.in_err-sources.ensures.refusal) is))
+
+pub returns-clause-named : goal.returns-clause-named
+returns-clause-named g c = c.write_new.ensures.named
+
+pub returns-clause-used : goal.returns-clause-used
+returns-clause-used g c = c.write_new.ensures.used
+
+pub returns-clause-others : goal.returns-clause-others
+returns-clause-others g c = c.write_new.ensures.others
+
+pub returns-clause-name : goal.returns-clause-name
+returns-clause-name g c = c.write_new.ensures.name
+
+pub returns-clause-limit : goal.returns-clause-limit
+returns-clause-limit g c = c.write_new.ensures.limit
+
+pub returns-clause-left : goal.returns-clause-left
+returns-clause-left g c = c.write_new.ensures.left
+
+pub returns-clause-exhausted : goal.returns-clause-exhausted
+returns-clause-exhausted g c = c.write_new.ensures.exhausted
+
+pub returns-clause-refusal : goal.returns-clause-refusal
+returns-clause-refusal g c = c.write_new.ensures.refusal
+
+pub returns-clause-reason : goal.returns-clause-reason
+returns-clause-reason g c = c.write_new.ensures.reason
