@@ -1,7 +1,9 @@
-use Rattle.std.proofs.Common.{ap, ◌∙◌}
+use Rattle.std.proofs.Common.{ap, ◌∙◌, refl, sym, subst}
+use Rattle.sorted_file.specs.Sources.{IsReadRefusal}
 use Rattle.cell_key.specs.Entries.{merged}
 use Rattle.tablet.specs.Reads.{first_value}
 use Rattle.tablet.proofs.Answering.{if_one, if_ok_one}
+use Rattle.tablet.proofs.Passed.{IsNoMemory, no_memory, passed_err, passed_kind, passed_none, quiet_reason}
 use Rattle.tablet.proofs.reads.first_value.Goals as goal
 
 pub returns-clause-found : goal.returns-clause-found
@@ -12,3 +14,33 @@ returns-clause-found g c =
 pub returns-clause-damaged : goal.returns-clause-damaged
 returns-clause-damaged g c =
     λ e. if_one (g.F.Files.contents c.args.store.now) (c.next_value.ensures.damaged e) (λ m closed opened. closed (c.new-merge.ensures.holds m (c.in_ok-sources.ensures.start m opened)))
+
+pub returns-in_err-sources-clause-found : goal.returns-in_err-sources-clause-found
+returns-in_err-sources-clause-found g c = passed_none c.from_residual.result c.in_err-sources.field-0.0 _ c.from_residual.ensures.1
+
+pub returns-in_err-sources-clause-limits : goal.returns-in_err-sources-clause-limits
+returns-in_err-sources-clause-limits g c = passed_none c.from_residual.result c.in_err-sources.field-0.0 _ c.from_residual.ensures.1
+
+pub returns-in_err-sources-clause-damaged : goal.returns-in_err-sources-clause-damaged
+returns-in_err-sources-clause-damaged g c = λ is. absurd (passed_kind c.from_residual.result c.in_err-sources.field-0.0 _ IsNoMemory c.from_residual.ensures.1 (no_memory c.in_err-sources.field-0.0 c.in_err-sources.ensures.refusal) is)
+
+pub returns-in_err-sources-clause-refusal : goal.returns-in_err-sources-clause-refusal
+returns-in_err-sources-clause-refusal g c = passed_err c.from_residual.result c.in_err-sources.field-0.0 _ c.from_residual.ensures.1 (subst IsReadRefusal (sym c.in_err-sources.ensures.refusal) tt)
+
+pub returns-in_err-sources-clause-same : goal.returns-in_err-sources-clause-same
+returns-in_err-sources-clause-same g c = refl
+
+pub returns-in_err-sources-clause-reason : goal.returns-in_err-sources-clause-reason
+returns-in_err-sources-clause-reason g c = quiet_reason c.from_residual.result _ (λ is. absurd (passed_kind c.from_residual.result c.in_err-sources.field-0.0 _ IsNoMemory c.from_residual.ensures.1 (no_memory c.in_err-sources.field-0.0 c.in_err-sources.ensures.refusal) is))
+
+pub returns-clause-limits : goal.returns-clause-limits
+returns-clause-limits g c = c.next_value.ensures.limits
+
+pub returns-clause-refusal : goal.returns-clause-refusal
+returns-clause-refusal g c = c.next_value.ensures.refusal
+
+pub returns-clause-same : goal.returns-clause-same
+returns-clause-same g c = c.next_value.ensures.same
+
+pub returns-clause-reason : goal.returns-clause-reason
+returns-clause-reason g c = c.next_value.ensures.reason

@@ -1,5 +1,12 @@
-use Rattle.std.proofs.Common.{◌-◌, Some, ap, ◌∙◌, inl, inr, arith}
+use Rattle.std.proofs.Common.{◌-◌, Some, ap, ◌∙◌, inl, inr, arith, refl, sym, subst}
+use Rattle.std.specs.List.{AllByRecursion}
+use Rattle.cell_key.specs.declared.refusals.Refusal.TheVariants.{Damaged, Device}
+use Rattle.sorted_file.specs.Opened.{IsOpen}
+use Rattle.sorted_file.specs.Sources.{IsReadRefusal}
+use Rattle.tablet.specs.Views.{Holds}
 use Rattle.tablet.proofs.Answering.{between_none, between_some, never_outside}
+use Rattle.tablet.proofs.Passed.{IsHeldRefusal, IsNoMemory, no_memory, not_err, passed_err, passed_kind, passed_none, passed_on, passed_reason, quiet_reason, reason_after, reason_of_ok, told_kind}
+use Rattle.tablet.proofs.Writing.{if_some_not}
 use Rattle.tablet.proofs.tablet.Tablet.newest_between.Goals as goal
 use Rattle.tablet.proofs.tablet.Tablet.newest_between.Goals.{then-key-lo-via-then-key-lo, then-key-lo-via-else-key-lo+then-hi-key}
 
@@ -23,3 +30,101 @@ returns-then-key-lo-clause-damaged g c =
     (g.F.Files.contents c.args.files.now) c.in-Some.key c.in-Some.value.items (rw c.in-Some.is at c.in_ok-key.ensures.limits).stored
     (elim c.then-key-lo.branch [ then-key-lo-via-then-key-lo w ↦ inl w.if-key-lo.true | then-key-lo-via-else-key-lo+then-hi-key w ↦ inr w.if-hi-key.true ])
     (rw c.in-Some.is at c.in_ok-key.ensures.found)
+
+pub returns-in_err-from-clause-found : goal.returns-in_err-from-clause-found
+returns-in_err-from-clause-found g c = passed_none c.from_residual.result c.in_err-from.field-0.0 _ c.from_residual.ensures.1
+
+pub returns-in_err-from-clause-limits : goal.returns-in_err-from-clause-limits
+returns-in_err-from-clause-limits g c = passed_none c.from_residual.result c.in_err-from.field-0.0 _ c.from_residual.ensures.1
+
+pub returns-in_err-from-clause-damaged : goal.returns-in_err-from-clause-damaged
+returns-in_err-from-clause-damaged g c = λ is. absurd (passed_kind c.from_residual.result c.in_err-from.field-0.0 _ IsNoMemory c.from_residual.ensures.1 (no_memory c.in_err-from.field-0.0 c.in_err-from.ensures.refusal) is)
+
+pub returns-in_err-from-clause-refusal : goal.returns-in_err-from-clause-refusal
+returns-in_err-from-clause-refusal g c = passed_err c.from_residual.result c.in_err-from.field-0.0 _ c.from_residual.ensures.1 (subst IsReadRefusal (sym c.in_err-from.ensures.refusal) tt)
+
+pub returns-in_err-from-clause-same : goal.returns-in_err-from-clause-same
+returns-in_err-from-clause-same g c = refl
+
+pub returns-in_err-from-clause-reason : goal.returns-in_err-from-clause-reason
+returns-in_err-from-clause-reason g c = quiet_reason c.from_residual.result _ (λ is. absurd (passed_kind c.from_residual.result c.in_err-from.field-0.0 _ IsNoMemory c.from_residual.ensures.1 (no_memory c.in_err-from.field-0.0 c.in_err-from.ensures.refusal) is))
+
+pub returns-in_err-end-clause-found : goal.returns-in_err-end-clause-found
+returns-in_err-end-clause-found g c = passed_none c.from_residual-in_err-end.result c.in_err-end.field-0.0 _ c.from_residual-in_err-end.ensures.1
+
+pub returns-in_err-end-clause-limits : goal.returns-in_err-end-clause-limits
+returns-in_err-end-clause-limits g c = passed_none c.from_residual-in_err-end.result c.in_err-end.field-0.0 _ c.from_residual-in_err-end.ensures.1
+
+pub returns-in_err-end-clause-damaged : goal.returns-in_err-end-clause-damaged
+returns-in_err-end-clause-damaged g c = λ is. absurd (passed_kind c.from_residual-in_err-end.result c.in_err-end.field-0.0 _ IsNoMemory c.from_residual-in_err-end.ensures.1 (no_memory c.in_err-end.field-0.0 c.in_err-end.ensures.refusal) is)
+
+pub returns-in_err-end-clause-refusal : goal.returns-in_err-end-clause-refusal
+returns-in_err-end-clause-refusal g c = passed_err c.from_residual-in_err-end.result c.in_err-end.field-0.0 _ c.from_residual-in_err-end.ensures.1 (subst IsReadRefusal (sym c.in_err-end.ensures.refusal) tt)
+
+pub returns-in_err-end-clause-same : goal.returns-in_err-end-clause-same
+returns-in_err-end-clause-same g c = refl
+
+pub returns-in_err-end-clause-reason : goal.returns-in_err-end-clause-reason
+returns-in_err-end-clause-reason g c = quiet_reason c.from_residual-in_err-end.result _ (λ is. absurd (passed_kind c.from_residual-in_err-end.result c.in_err-end.field-0.0 _ IsNoMemory c.from_residual-in_err-end.ensures.1 (no_memory c.in_err-end.field-0.0 c.in_err-end.ensures.refusal) is))
+
+pub returns-in_err-key-clause-found : goal.returns-in_err-key-clause-found
+returns-in_err-key-clause-found g c = passed_none c.from_residual-in_err-key.result c.in_err-key.field-0.0 _ c.from_residual-in_err-key.ensures.1
+
+pub returns-in_err-key-clause-limits : goal.returns-in_err-key-clause-limits
+returns-in_err-key-clause-limits g c = passed_none c.from_residual-in_err-key.result c.in_err-key.field-0.0 _ c.from_residual-in_err-key.ensures.1
+
+pub returns-in_err-key-clause-damaged : goal.returns-in_err-key-clause-damaged
+returns-in_err-key-clause-damaged g c = λ is.
+    if_some_not (g.F.Files.contents c.args.files.now) (λ m. AllByRecursion (IsOpen m) c.deref.result.now) (λ m. Holds m c.args.self.now) (λ m h. subst (AllByRecursion (IsOpen m)) (sym c.deref.ensures.value) h.files)
+    (c.in_err-key.ensures.damaged (passed_on c.from_residual-in_err-key.result _ c.in_err-key.field-0.0 _ c.from_residual-in_err-key.ensures.1 refl is))
+
+pub returns-in_err-key-clause-refusal : goal.returns-in_err-key-clause-refusal
+returns-in_err-key-clause-refusal g c = passed_err c.from_residual-in_err-key.result c.in_err-key.field-0.0 _ c.from_residual-in_err-key.ensures.1 c.in_err-key.ensures.refusal
+
+pub returns-in_err-key-clause-same : goal.returns-in_err-key-clause-same
+returns-in_err-key-clause-same g c = c.in_err-key.ensures.same
+
+pub returns-in_err-key-clause-reason : goal.returns-in_err-key-clause-reason
+returns-in_err-key-clause-reason g c = passed_reason c.from_residual-in_err-key.result _ c.in_err-key.field-0.0 _ _ c.from_residual-in_err-key.ensures.1 refl c.in_err-key.ensures.reason
+
+pub returns-in_default-clause-limits : goal.returns-in_default-clause-limits
+returns-in_default-clause-limits g c = tt
+
+pub returns-in_default-clause-damaged : goal.returns-in_default-clause-damaged
+returns-in_default-clause-damaged g c = λ is. absurd (not_err _ _ is)
+
+pub returns-in_default-clause-refusal : goal.returns-in_default-clause-refusal
+returns-in_default-clause-refusal g c = tt
+
+pub returns-in_default-clause-same : goal.returns-in_default-clause-same
+returns-in_default-clause-same g c = c.in_ok-key.ensures.same
+
+pub returns-in_default-clause-reason : goal.returns-in_default-clause-reason
+returns-in_default-clause-reason g c = reason_of_ok _ _ _ _ c.in_ok-key.ensures.reason
+
+pub returns-then-key-lo-clause-found : goal.returns-then-key-lo-clause-found
+returns-then-key-lo-clause-found g c = tt
+
+pub returns-then-key-lo-clause-limits : goal.returns-then-key-lo-clause-limits
+returns-then-key-lo-clause-limits g c = tt
+
+pub returns-then-key-lo-clause-refusal : goal.returns-then-key-lo-clause-refusal
+returns-then-key-lo-clause-refusal g c = tt
+
+pub returns-then-key-lo-clause-same : goal.returns-then-key-lo-clause-same
+returns-then-key-lo-clause-same g c = c.in_ok-key.ensures.same
+
+pub returns-then-key-lo-clause-reason : goal.returns-then-key-lo-clause-reason
+returns-then-key-lo-clause-reason g c = reason_after _ _ _ (c.in_ok-key.ensures.reason.told (not_err _ Device)) (quiet_reason _ _ (λ is. absurd (told_kind Damaged Device IsHeldRefusal tt is)))
+
+pub returns-clause-damaged : goal.returns-clause-damaged
+returns-clause-damaged g c = λ is. absurd (not_err _ _ is)
+
+pub returns-clause-refusal : goal.returns-clause-refusal
+returns-clause-refusal g c = tt
+
+pub returns-clause-same : goal.returns-clause-same
+returns-clause-same g c = c.in_ok-key.ensures.same
+
+pub returns-clause-reason : goal.returns-clause-reason
+returns-clause-reason g c = reason_of_ok _ _ _ _ c.in_ok-key.ensures.reason

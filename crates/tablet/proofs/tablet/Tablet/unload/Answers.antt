@@ -1,5 +1,7 @@
-use Rattle.std.proofs.Common.{inl, inr, refl}
-use Rattle.tablet.proofs.Passed.{passed_err, passed_kept, passed_none, passed_on, passed_reason}
+use Rattle.std.proofs.Common.{inl, inr, refl, sym, subst}
+use Rattle.cell_key.specs.declared.refusals.Refusal.TheVariants.{Device}
+use Rattle.tablet.specs.Compactions.{IsMinorRefusal}
+use Rattle.tablet.proofs.Passed.{IsNoMemory, err_kind, err_map, no_memory, not_err, passed_err, passed_kept, passed_none, passed_on, passed_reason, quiet_reason, reason_after}
 use Rattle.tablet.proofs.Writing.{as_on_ok}
 use Rattle.tablet.proofs.tablet.Tablet.unload.Goals as goal
 
@@ -110,3 +112,27 @@ returns-clause-may g c = passed_kept c.names.result _ (inr (c.in_ok-minor.ensure
 
 pub returns-clause-empty : goal.returns-clause-empty
 returns-clause-empty g c = λ none. (c.in_ok-minor.ensures.empty none).1.1
+
+pub returns-clause-listed : goal.returns-clause-listed
+returns-clause-listed g c = c.names.ensures.names
+
+pub returns-clause-full : goal.returns-clause-full
+returns-clause-full g c = λ is. absurd (err_kind c.names.result _ IsNoMemory (err_map c.names.result _ IsNoMemory no_memory c.names.ensures.refusal) is)
+
+pub returns-clause-exhausted : goal.returns-clause-exhausted
+returns-clause-exhausted g c = λ is. absurd (err_kind c.names.result _ IsNoMemory (err_map c.names.result _ IsNoMemory no_memory c.names.ensures.refusal) is)
+
+pub returns-clause-large : goal.returns-clause-large
+returns-clause-large g c = λ is. absurd (err_kind c.names.result _ IsNoMemory (err_map c.names.result _ IsNoMemory no_memory c.names.ensures.refusal) is)
+
+pub returns-clause-damaged : goal.returns-clause-damaged
+returns-clause-damaged g c = λ is. absurd (err_kind c.names.result _ IsNoMemory (err_map c.names.result _ IsNoMemory no_memory c.names.ensures.refusal) is)
+
+pub returns-clause-unwritten : goal.returns-clause-unwritten
+returns-clause-unwritten g c = λ is. absurd (err_kind c.names.result _ IsNoMemory (err_map c.names.result _ IsNoMemory no_memory c.names.ensures.refusal) is)
+
+pub returns-clause-refusal : goal.returns-clause-refusal
+returns-clause-refusal g c = err_map c.names.result _ IsMinorRefusal (λ e is. subst IsMinorRefusal (sym is) tt) c.names.ensures.refusal
+
+pub returns-clause-reason : goal.returns-clause-reason
+returns-clause-reason g c = reason_after _ _ _ (c.in_ok-minor.ensures.reason.told (not_err _ Device)) (quiet_reason c.names.result _ (λ is. absurd (err_kind c.names.result _ IsNoMemory (err_map c.names.result _ IsNoMemory no_memory c.names.ensures.refusal) is)))

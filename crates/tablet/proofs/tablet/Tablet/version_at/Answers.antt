@@ -1,4 +1,11 @@
+use Rattle.std.proofs.Common.{refl, sym, subst}
+use Rattle.std.specs.List.{AllByRecursion}
+use Rattle.sorted_file.specs.Opened.{IsOpen}
+use Rattle.sorted_file.specs.Sources.{IsReadRefusal}
+use Rattle.tablet.specs.Views.{Holds}
 use Rattle.tablet.proofs.Answering.{one_none, one_some}
+use Rattle.tablet.proofs.Passed.{IsNoMemory, no_memory, not_err, passed_err, passed_kind, passed_none, passed_on, passed_reason, quiet_reason, reason_of_ok}
+use Rattle.tablet.proofs.Writing.{if_some_not}
 use Rattle.tablet.proofs.tablet.Tablet.version_at.Goals as goal
 
 pub returns-in-Some-clause-found : goal.returns-in-Some-clause-found
@@ -10,3 +17,68 @@ pub returns-clause-found : goal.returns-clause-found
 returns-clause-found g c =
     one_none c.args.self.now c.deref.result.now c.deref.ensures.value c.args.row.now c.args.family.now c.args.qualifier c.args.stamp c.in_ok-key.ensures.row c.in_ok-key.ensures.family c.requires.from c.requires.to c.in_ok-key.key c.in_ok-key.ensures.key
     (g.F.Files.contents c.args.files.now) (rw c.in-None.is at c.in_ok-value.ensures.found)
+
+pub returns-in_err-key-clause-found : goal.returns-in_err-key-clause-found
+returns-in_err-key-clause-found g c = passed_none c.from_residual.result c.in_err-key.field-0.0 _ c.from_residual.ensures.1
+
+pub returns-in_err-key-clause-limits : goal.returns-in_err-key-clause-limits
+returns-in_err-key-clause-limits g c = passed_none c.from_residual.result c.in_err-key.field-0.0 _ c.from_residual.ensures.1
+
+pub returns-in_err-key-clause-damaged : goal.returns-in_err-key-clause-damaged
+returns-in_err-key-clause-damaged g c = λ is. absurd (passed_kind c.from_residual.result c.in_err-key.field-0.0 _ IsNoMemory c.from_residual.ensures.1 (no_memory c.in_err-key.field-0.0 c.in_err-key.ensures.refusal) is)
+
+pub returns-in_err-key-clause-refusal : goal.returns-in_err-key-clause-refusal
+returns-in_err-key-clause-refusal g c = passed_err c.from_residual.result c.in_err-key.field-0.0 _ c.from_residual.ensures.1 (subst IsReadRefusal (sym c.in_err-key.ensures.refusal) tt)
+
+pub returns-in_err-key-clause-same : goal.returns-in_err-key-clause-same
+returns-in_err-key-clause-same g c = refl
+
+pub returns-in_err-key-clause-reason : goal.returns-in_err-key-clause-reason
+returns-in_err-key-clause-reason g c = quiet_reason c.from_residual.result _ (λ is. absurd (passed_kind c.from_residual.result c.in_err-key.field-0.0 _ IsNoMemory c.from_residual.ensures.1 (no_memory c.in_err-key.field-0.0 c.in_err-key.ensures.refusal) is))
+
+pub returns-in_err-value-clause-found : goal.returns-in_err-value-clause-found
+returns-in_err-value-clause-found g c = passed_none c.from_residual-in_err-value.result c.in_err-value.field-0.0 _ c.from_residual-in_err-value.ensures.1
+
+pub returns-in_err-value-clause-limits : goal.returns-in_err-value-clause-limits
+returns-in_err-value-clause-limits g c = passed_none c.from_residual-in_err-value.result c.in_err-value.field-0.0 _ c.from_residual-in_err-value.ensures.1
+
+pub returns-in_err-value-clause-damaged : goal.returns-in_err-value-clause-damaged
+returns-in_err-value-clause-damaged g c = λ is.
+    if_some_not (g.F.Files.contents c.args.files.now) (λ m. AllByRecursion (IsOpen m) c.deref.result.now) (λ m. Holds m c.args.self.now) (λ m h. subst (AllByRecursion (IsOpen m)) (sym c.deref.ensures.value) h.files)
+    (c.in_err-value.ensures.damaged (passed_on c.from_residual-in_err-value.result _ c.in_err-value.field-0.0 _ c.from_residual-in_err-value.ensures.1 refl is))
+
+pub returns-in_err-value-clause-refusal : goal.returns-in_err-value-clause-refusal
+returns-in_err-value-clause-refusal g c = passed_err c.from_residual-in_err-value.result c.in_err-value.field-0.0 _ c.from_residual-in_err-value.ensures.1 c.in_err-value.ensures.refusal
+
+pub returns-in_err-value-clause-same : goal.returns-in_err-value-clause-same
+returns-in_err-value-clause-same g c = c.in_err-value.ensures.same
+
+pub returns-in_err-value-clause-reason : goal.returns-in_err-value-clause-reason
+returns-in_err-value-clause-reason g c = passed_reason c.from_residual-in_err-value.result _ c.in_err-value.field-0.0 _ _ c.from_residual-in_err-value.ensures.1 refl c.in_err-value.ensures.reason
+
+pub returns-in-Some-clause-damaged : goal.returns-in-Some-clause-damaged
+returns-in-Some-clause-damaged g c = λ is. absurd (not_err _ _ is)
+
+pub returns-in-Some-clause-refusal : goal.returns-in-Some-clause-refusal
+returns-in-Some-clause-refusal g c = tt
+
+pub returns-in-Some-clause-same : goal.returns-in-Some-clause-same
+returns-in-Some-clause-same g c = c.in_ok-value.ensures.same
+
+pub returns-in-Some-clause-reason : goal.returns-in-Some-clause-reason
+returns-in-Some-clause-reason g c = reason_of_ok _ _ _ _ c.in_ok-value.ensures.reason
+
+pub returns-clause-limits : goal.returns-clause-limits
+returns-clause-limits g c = tt
+
+pub returns-clause-damaged : goal.returns-clause-damaged
+returns-clause-damaged g c = λ is. absurd (not_err _ _ is)
+
+pub returns-clause-refusal : goal.returns-clause-refusal
+returns-clause-refusal g c = tt
+
+pub returns-clause-same : goal.returns-clause-same
+returns-clause-same g c = c.in_ok-value.ensures.same
+
+pub returns-clause-reason : goal.returns-clause-reason
+returns-clause-reason g c = reason_of_ok _ _ _ _ c.in_ok-value.ensures.reason
