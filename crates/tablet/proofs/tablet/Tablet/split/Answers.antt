@@ -2,22 +2,23 @@ use Rattle.std.proofs.Common.{rules, refl, sym, ◌∙◌, subst, inl, inr, arit
 use Rattle.std.proofs.lemmas.Grind.{common_steps}
 use Rattle.file_store.specs.Store.{Contents}
 use Rattle.std.specs.Prelude.{Option}
+use Rattle.tablet.specs.Compactions.{IsMinorRefusal}
 use Rattle.tablet.specs.Views.{Keeps, UsesName}
 use Rattle.tablet.proofs.Parting.{splits, still_there}
-use Rattle.tablet.proofs.Passed.{minor_read, not_err, passed_err, passed_kept, passed_none, passed_on, passed_read, passed_reason, reason_after}
+use Rattle.tablet.proofs.Passed.{IsNoMemory, minor_read, no_memory, not_err, passed_err, passed_kept, passed_kind, passed_none, passed_on, passed_read, passed_reason, quiet_reason, reason_after}
 use Rattle.tablet.proofs.tablet.Tablet.split.Goals as goal
 
 pub returns-in_err-left-clause-damaged : goal.returns-in_err-left-clause-damaged
 returns-in_err-left-clause-damaged g c = λ err.
     still_there c.open_is_there.ensures (g.F.Files.contents c.args.files.now) (g.F.Files.contents c.minor.new.files) c.args.next_name.now c.minor.new.next_name c.args.self.now c.minor.new.self
-    c.in_ok-minor.ensures.keeps (c.in_err-left.ensures.damaged (search rules))
+    c.in_ok-minor.ensures.keeps (c.in_err-left.ensures.damaged (passed_on c.from_residual-in_err-left.result _ c.in_err-left.field-0.0 _ c.from_residual-in_err-left.ensures.1 refl err))
 
 pub returns-clause-parts : goal.returns-clause-parts
 returns-clause-parts g c =
     splits c.one_listing.ensures (g.F.Files.contents c.args.files.now) (g.F.Files.contents c.minor.new.files) _ c.args.next_name.now c.minor.new.next_name c.args.self.now c.minor.new.self c.in_ok-left.left _ c.args.row.now
     (record {
       range = c.in_ok-minor.ensures.range;
-      left_range = first_of (search rules, grind (arith, common_steps));
+      left_range = c.in_ok-left.ensures.range ∙ c.in_ok-range.ensures.range;
       right_range = first_of (search rules, grind (arith, common_steps));
       left_memory = c.in_ok-left.ensures.memory ∙ sym c.in_ok-minor.ensures.memory;
       right_memory = refl;
@@ -234,3 +235,75 @@ returns-clause-damaged g c = λ is. absurd (not_err _ _ is)
 
 pub returns-clause-unwritten : goal.returns-clause-unwritten
 returns-clause-unwritten g c = λ is. absurd (not_err _ _ is)
+
+pub returns-in_err-range-clause-left_range : goal.returns-in_err-range-clause-left_range
+returns-in_err-range-clause-left_range g c = passed_none c.from_residual.result c.in_err-range.field-0.0 _ c.from_residual.ensures.1
+
+pub returns-in_err-range-clause-right_range : goal.returns-in_err-range-clause-right_range
+returns-in_err-range-clause-right_range g c = passed_none c.from_residual.result c.in_err-range.field-0.0 _ c.from_residual.ensures.1
+
+pub returns-in_err-range-clause-left_names : goal.returns-in_err-range-clause-left_names
+returns-in_err-range-clause-left_names g c = passed_none c.from_residual.result c.in_err-range.field-0.0 _ c.from_residual.ensures.1
+
+pub returns-in_err-range-clause-right_names : goal.returns-in_err-range-clause-right_names
+returns-in_err-range-clause-right_names g c = passed_none c.from_residual.result c.in_err-range.field-0.0 _ c.from_residual.ensures.1
+
+pub returns-in_err-range-clause-left_memory : goal.returns-in_err-range-clause-left_memory
+returns-in_err-range-clause-left_memory g c = passed_none c.from_residual.result c.in_err-range.field-0.0 _ c.from_residual.ensures.1
+
+pub returns-in_err-range-clause-right_memory : goal.returns-in_err-range-clause-right_memory
+returns-in_err-range-clause-right_memory g c = passed_none c.from_residual.result c.in_err-range.field-0.0 _ c.from_residual.ensures.1
+
+pub returns-in_err-range-clause-parts : goal.returns-in_err-range-clause-parts
+returns-in_err-range-clause-parts g c = passed_none c.from_residual.result c.in_err-range.field-0.0 _ c.from_residual.ensures.1
+
+pub returns-in_err-range-clause-room : goal.returns-in_err-range-clause-room
+returns-in_err-range-clause-room g c = passed_none c.from_residual.result c.in_err-range.field-0.0 _ c.from_residual.ensures.1
+
+pub returns-in_err-range-clause-left : goal.returns-in_err-range-clause-left
+returns-in_err-range-clause-left g c = passed_none c.from_residual.result c.in_err-range.field-0.0 _ c.from_residual.ensures.1
+
+pub returns-in_err-range-clause-fits : goal.returns-in_err-range-clause-fits
+returns-in_err-range-clause-fits g c = passed_none c.from_residual.result c.in_err-range.field-0.0 _ c.from_residual.ensures.1
+
+pub returns-in_err-range-clause-used : goal.returns-in_err-range-clause-used
+returns-in_err-range-clause-used g c = passed_none c.from_residual.result c.in_err-range.field-0.0 _ c.from_residual.ensures.1
+
+pub returns-in_err-range-clause-err_range : goal.returns-in_err-range-clause-err_range
+returns-in_err-range-clause-err_range g c = passed_kept c.from_residual.result _ refl
+
+pub returns-in_err-range-clause-err : goal.returns-in_err-range-clause-err
+returns-in_err-range-clause-err g c = passed_kept c.from_residual.result _ (λ none. record { range = refl; memory = refl; files = refl })
+
+pub returns-in_err-range-clause-may : goal.returns-in_err-range-clause-may
+returns-in_err-range-clause-may g c = passed_kept c.from_residual.result _ (inl (record { range = refl; memory = refl; files = refl }))
+
+pub returns-in_err-range-clause-name : goal.returns-in_err-range-clause-name
+returns-in_err-range-clause-name g c = inl (refl, refl)
+
+pub returns-in_err-range-clause-limit : goal.returns-in_err-range-clause-limit
+returns-in_err-range-clause-limit g c = λ most. most
+
+pub returns-in_err-range-clause-full : goal.returns-in_err-range-clause-full
+returns-in_err-range-clause-full g c = λ is. absurd (passed_kind c.from_residual.result c.in_err-range.field-0.0 _ IsNoMemory c.from_residual.ensures.1 (no_memory c.in_err-range.field-0.0 c.in_err-range.ensures.refusal) is)
+
+pub returns-in_err-range-clause-exhausted : goal.returns-in_err-range-clause-exhausted
+returns-in_err-range-clause-exhausted g c = λ is. absurd (passed_kind c.from_residual.result c.in_err-range.field-0.0 _ IsNoMemory c.from_residual.ensures.1 (no_memory c.in_err-range.field-0.0 c.in_err-range.ensures.refusal) is)
+
+pub returns-in_err-range-clause-large : goal.returns-in_err-range-clause-large
+returns-in_err-range-clause-large g c = λ is. absurd (passed_kind c.from_residual.result c.in_err-range.field-0.0 _ IsNoMemory c.from_residual.ensures.1 (no_memory c.in_err-range.field-0.0 c.in_err-range.ensures.refusal) is)
+
+pub returns-in_err-range-clause-damaged : goal.returns-in_err-range-clause-damaged
+returns-in_err-range-clause-damaged g c = λ is. absurd (passed_kind c.from_residual.result c.in_err-range.field-0.0 _ IsNoMemory c.from_residual.ensures.1 (no_memory c.in_err-range.field-0.0 c.in_err-range.ensures.refusal) is)
+
+pub returns-in_err-range-clause-unwritten : goal.returns-in_err-range-clause-unwritten
+returns-in_err-range-clause-unwritten g c = λ is. absurd (passed_kind c.from_residual.result c.in_err-range.field-0.0 _ IsNoMemory c.from_residual.ensures.1 (no_memory c.in_err-range.field-0.0 c.in_err-range.ensures.refusal) is)
+
+pub returns-in_err-range-clause-refusal : goal.returns-in_err-range-clause-refusal
+returns-in_err-range-clause-refusal g c = passed_err c.from_residual.result c.in_err-range.field-0.0 _ c.from_residual.ensures.1 (subst IsMinorRefusal (sym c.in_err-range.ensures.refusal) tt)
+
+pub returns-in_err-range-clause-reason : goal.returns-in_err-range-clause-reason
+returns-in_err-range-clause-reason g c = quiet_reason c.from_residual.result _ (λ is. absurd (passed_kind c.from_residual.result c.in_err-range.field-0.0 _ IsNoMemory c.from_residual.ensures.1 (no_memory c.in_err-range.field-0.0 c.in_err-range.ensures.refusal) is))
+
+pub returns-in_err-range-clause-empty : goal.returns-in_err-range-clause-empty
+returns-in_err-range-clause-empty g c = λ none. (refl, refl)
