@@ -1,7 +1,6 @@
-use Rattle.std.proofs.Common.{rules, refl, sym, ◌∙◌, subst, inl, inr, arith}
-use Rattle.std.proofs.lemmas.Grind.{common_steps}
+use Rattle.std.proofs.Common.{refl, sym, ◌∙◌, subst, inl, inr}
 use Rattle.file_store.specs.Store.{Contents}
-use Rattle.std.specs.Prelude.{Option}
+use Rattle.std.specs.Prelude.{Option, Some}
 use Rattle.tablet.specs.Compactions.{IsMinorRefusal}
 use Rattle.tablet.specs.Views.{Keeps, UsesName}
 use Rattle.tablet.proofs.Parting.{splits, still_there}
@@ -19,7 +18,7 @@ returns-clause-parts g c =
     (record {
       range = c.in_ok-minor.ensures.range;
       left_range = c.in_ok-left.ensures.range ∙ c.in_ok-range.ensures.range;
-      right_range = first_of (search rules, grind (arith, common_steps));
+      right_range = λ i. record { after = Some (c.in_ok-range.ensures.row i); end = (c.in_ok-minor.ensures.range i).end };
       left_memory = c.in_ok-left.ensures.memory ∙ sym c.in_ok-minor.ensures.memory;
       right_memory = refl;
       left_names = c.in_ok-left.ensures.names;
