@@ -3,6 +3,7 @@ pub mod Ending
 pub mod Falls
 pub mod Fresh
 pub mod Keeping
+pub mod Passed
 pub mod Ranges
 pub mod Tied
 pub mod Turns

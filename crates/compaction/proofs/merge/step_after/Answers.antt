@@ -1,10 +1,12 @@
-use Rattle.std.proofs.Common.{◌≡◌, true, false, ◌≤◌, ◌+◌, ◌<◌, length, arith, subst, sym, cond, get_or, refl}
+use Rattle.std.proofs.Common.{◌≡◌, true, false, ◌≤◌, ◌+◌, ◌<◌, length, arith, subst, sym, cond, get_or, refl, ◌∙◌}
 use Rattle.std.specs.Prelude.{IfSome}
 use Rattle.cell_key.specs.Entries.{Takes}
 use Rattle.compaction.specs.Ties.{ties}
 use Rattle.compaction.specs.Merging.{cost, StepsTo}
 use Rattle.compaction.proofs.Turns.{go_on, front_set, rest_set, if_both, if_each, cost_falls}
 use Rattle.compaction.specs.MergeLaws.{step_tie, step_same}
+use Rattle.cell_key.specs.declared.refusals.Refusal.TheVariants.{Device}
+use Rattle.compaction.proofs.Passed.{not_err, passed_err, passed_none, passed_reason, quiet_reason, reason_after}
 use Rattle.compaction.proofs.merge.step_after.Goals as goal
 use Rattle.compaction.proofs.merge.step_after.Goals.{then-is_tied+in_ok-advance, else-is_tied}
 
@@ -21,7 +23,7 @@ loop-source-preserved g c =
           let t = w.advance.new.self in
           let paid : cost (g.S.Source.left t) (g.S.Source.lent t) + 0 ≤ cost (g.S.Source.left s) (g.S.Source.lent s) =
           omega (arith, cost_falls (g.S.Source.left t) (g.S.Source.left s) w.in_ok-advance.field-0 (g.S.Source.lent t) (g.S.Source.lent s) w.in_ok-advance.ensures.more (subst (λ s. g.S.Source.left t + cond w.in_ok-advance.field-0 1 0 ≤ g.S.Source.left s) (sym is) w.in_ok-advance.ensures.lower)) in
-          rw (w.sources-is, w.files-is) (go_on c.loop-source.invariant w.advance.new.files _ s t l is w.advance.ensures.files (w.in_ok-advance.ensures.reason.told (λ e. cc))
+          rw (w.sources-is, w.files-is) (go_on c.loop-source.invariant w.advance.new.files _ s t l is w.advance.ensures.files (w.in_ok-advance.ensures.reason.told (not_err _ Device))
           (front_set c.loop-source.sources i t here) (rest_set c.loop-source.sources i t) paid
           (if_both (g.F.Files.contents c.loop-source.files)
           (subst (λ s. IfSome (g.F.Files.contents c.loop-source.files) (λ m. g.S.Source.holds m s → g.S.Source.holds m t)) (sym is) w.in_ok-advance.ensures.holds)
@@ -33,3 +35,30 @@ loop-source-preserved g c =
           (if_each (g.F.Files.contents c.loop-source.files) (λ m before. subst (λ t. StepsTo g.S.Source.lent (g.S.Source.remaining m) (g.S.Source.holds m) (g.S.Source.lent c.args.least.now) s t) is
           (step_same g.S.Source.lent (g.S.Source.remaining m) (g.S.Source.holds m) (g.S.Source.lent c.args.least.now) s (sym (subst (λ s. false ≡ ties (g.S.Source.lent c.args.least.now) (g.S.Source.lent s)) (sym is) w.if-is_tied.ensures)) before.0 before.1))))
     ]
+
+pub returns-in_err-advance-clause-files : goal.returns-in_err-advance-clause-files
+returns-in_err-advance-clause-files g c = c.in_err-advance.ensures.files ∙ c.loop-source.invariant.same
+
+pub returns-in_err-advance-clause-reason : goal.returns-in_err-advance-clause-reason
+returns-in_err-advance-clause-reason g c = reason_after _ _ _ c.loop-source.invariant.quiet (passed_reason c.from_residual.result _ c.in_err-advance.field-0.0 _ _ c.from_residual.ensures.1 refl c.in_err-advance.ensures.reason)
+
+pub returns-in_err-advance-clause-refusal : goal.returns-in_err-advance-clause-refusal
+returns-in_err-advance-clause-refusal g c = passed_err c.from_residual.result c.in_err-advance.field-0.0 _ c.from_residual.ensures.1 c.in_err-advance.ensures.refusal
+
+pub returns-in_err-advance-clause-cost : goal.returns-in_err-advance-clause-cost
+returns-in_err-advance-clause-cost g c = passed_none c.from_residual.result c.in_err-advance.field-0.0 _ c.from_residual.ensures.1
+
+pub returns-in_err-advance-clause-steps : goal.returns-in_err-advance-clause-steps
+returns-in_err-advance-clause-steps g c = passed_none c.from_residual.result c.in_err-advance.field-0.0 _ c.from_residual.ensures.1
+
+pub returns-clause-files : goal.returns-clause-files
+returns-clause-files g c = c.loop-source.invariant.same
+
+pub returns-clause-reason : goal.returns-clause-reason
+returns-clause-reason g c = reason_after _ _ _ c.loop-source.invariant.quiet (quiet_reason _ _ (not_err _ Device))
+
+pub returns-clause-refusal : goal.returns-clause-refusal
+returns-clause-refusal g c = tt
+
+pub returns-clause-damaged : goal.returns-clause-damaged
+returns-clause-damaged g c = λ is. absurd (not_err _ _ is)

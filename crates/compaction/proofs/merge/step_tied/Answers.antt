@@ -1,10 +1,12 @@
-use Rattle.std.proofs.Common.{rules, ◌≡◌, ◌∙◌, ap, ◌++◌, ◌∷◌, length, subst}
+use Rattle.std.proofs.Common.{◌≡◌, ◌∙◌, ap, ◌++◌, ◌∷◌, length, subst, refl}
 use Rattle.std.specs.Prelude.{IfSome, MatchOption, IsSome}
 use Rattle.std.specs.List.{AllByRecursion, IsFirstAndRest}
 use Rattle.cell_key.specs.Entries.{Takes}
 use Rattle.compaction.specs.Merging.{cost}
 use Rattle.compaction.proofs.Tied.{all_tied_part, cost_tied, lent_there, tied_whole}
 use Rattle.compaction.proofs.Turns.{cost_falls_from, if_both, if_map}
+use Rattle.cell_key.specs.declared.refusals.Refusal.TheVariants.{Device}
+use Rattle.compaction.proofs.Passed.{not_err, passed_err, passed_none, passed_on, passed_reason, reason_after, reason_of_ok}
 use Rattle.compaction.proofs.merge.step_tied.Goals as goal
 
 pub returns-clause-steps : goal.returns-clause-steps
@@ -40,7 +42,7 @@ pub returns-in_err-step_after-clause-damaged : goal.returns-in_err-step_after-cl
 returns-in_err-step_after-clause-damaged g c = λ err.
     let whole = c.split_at_mut-before.result.1.now in
     let first = subst (λ o. MatchOption o (length whole ≡ 0) (λ p. IsFirstAndRest whole p.0.now p.1.now)) c.unwrap.ensures c.split_first_mut.ensures.cases in
-    if_map (g.F.Files.contents c.args.files.now) (c.in_err-step_after.ensures.damaged (search rules)) (λ m not all.
+    if_map (g.F.Files.contents c.args.files.now) (c.in_err-step_after.ensures.damaged (passed_on c.from_residual.result _ c.in_err-step_after.field-0.0 _ c.from_residual.ensures.1 refl err)) (λ m not all.
     not (all_tied_part (g.S.Source.holds m) c.unwrap.result.0.now c.split_at_mut-before.result.0.now c.unwrap.result.1.now
     (subst (AllByRecursion (g.S.Source.holds m)) (c.split_at_mut-before.ensures.value ∙ ap (λ xs. c.split_at_mut-before.result.0.now ++ xs) first.0) all)).1)
 
@@ -49,6 +51,48 @@ returns-in_err-advance-clause-damaged g c = λ err.
     let whole = c.split_at_mut-before.result.1.now in
     let s = c.unwrap.result.0.now in
     let first = subst (λ o. MatchOption o (length whole ≡ 0) (λ p. IsFirstAndRest whole p.0.now p.1.now)) c.unwrap.ensures c.split_first_mut.ensures.cases in
-    if_map (g.F.Files.contents c.args.files.now) (subst (λ o. IfSome o (λ m. ¬ g.S.Source.holds m s)) c.step_after.ensures.files (c.in_err-advance.ensures.damaged (search rules))) (λ m not all.
+    if_map (g.F.Files.contents c.args.files.now) (subst (λ o. IfSome o (λ m. ¬ g.S.Source.holds m s)) c.step_after.ensures.files (c.in_err-advance.ensures.damaged (passed_on c.from_residual-in_err-advance.result _ c.in_err-advance.field-0.0 _ c.from_residual-in_err-advance.ensures.1 refl err))) (λ m not all.
     not (all_tied_part (g.S.Source.holds m) s c.split_at_mut-before.result.0.now c.unwrap.result.1.now
     (subst (AllByRecursion (g.S.Source.holds m)) (c.split_at_mut-before.ensures.value ∙ ap (λ xs. c.split_at_mut-before.result.0.now ++ xs) first.0) all)).0)
+
+pub returns-in_err-step_after-clause-files : goal.returns-in_err-step_after-clause-files
+returns-in_err-step_after-clause-files g c = c.in_err-step_after.ensures.files
+
+pub returns-in_err-step_after-clause-reason : goal.returns-in_err-step_after-clause-reason
+returns-in_err-step_after-clause-reason g c = passed_reason c.from_residual.result _ c.in_err-step_after.field-0.0 _ _ c.from_residual.ensures.1 refl c.in_err-step_after.ensures.reason
+
+pub returns-in_err-step_after-clause-refusal : goal.returns-in_err-step_after-clause-refusal
+returns-in_err-step_after-clause-refusal g c = passed_err c.from_residual.result c.in_err-step_after.field-0.0 _ c.from_residual.ensures.1 c.in_err-step_after.ensures.refusal
+
+pub returns-in_err-step_after-clause-cost : goal.returns-in_err-step_after-clause-cost
+returns-in_err-step_after-clause-cost g c = passed_none c.from_residual.result c.in_err-step_after.field-0.0 _ c.from_residual.ensures.1
+
+pub returns-in_err-step_after-clause-steps : goal.returns-in_err-step_after-clause-steps
+returns-in_err-step_after-clause-steps g c = passed_none c.from_residual.result c.in_err-step_after.field-0.0 _ c.from_residual.ensures.1
+
+pub returns-in_err-advance-clause-files : goal.returns-in_err-advance-clause-files
+returns-in_err-advance-clause-files g c = c.advance.ensures.files ∙ c.step_after.ensures.files
+
+pub returns-in_err-advance-clause-reason : goal.returns-in_err-advance-clause-reason
+returns-in_err-advance-clause-reason g c = reason_after _ _ _ (c.in_ok-step_after.ensures.reason.told (not_err _ Device)) (passed_reason c.from_residual-in_err-advance.result _ c.in_err-advance.field-0.0 _ _ c.from_residual-in_err-advance.ensures.1 refl c.in_err-advance.ensures.reason)
+
+pub returns-in_err-advance-clause-refusal : goal.returns-in_err-advance-clause-refusal
+returns-in_err-advance-clause-refusal g c = passed_err c.from_residual-in_err-advance.result c.in_err-advance.field-0.0 _ c.from_residual-in_err-advance.ensures.1 c.in_err-advance.ensures.refusal
+
+pub returns-in_err-advance-clause-cost : goal.returns-in_err-advance-clause-cost
+returns-in_err-advance-clause-cost g c = passed_none c.from_residual-in_err-advance.result c.in_err-advance.field-0.0 _ c.from_residual-in_err-advance.ensures.1
+
+pub returns-in_err-advance-clause-steps : goal.returns-in_err-advance-clause-steps
+returns-in_err-advance-clause-steps g c = passed_none c.from_residual-in_err-advance.result c.in_err-advance.field-0.0 _ c.from_residual-in_err-advance.ensures.1
+
+pub returns-clause-files : goal.returns-clause-files
+returns-clause-files g c = c.advance.ensures.files ∙ c.step_after.ensures.files
+
+pub returns-clause-reason : goal.returns-clause-reason
+returns-clause-reason g c = reason_of_ok _ _ _ _ (reason_after _ _ _ (c.in_ok-step_after.ensures.reason.told (not_err _ Device)) c.in_ok-advance.ensures.reason)
+
+pub returns-clause-refusal : goal.returns-clause-refusal
+returns-clause-refusal g c = tt
+
+pub returns-clause-damaged : goal.returns-clause-damaged
+returns-clause-damaged g c = λ is. absurd (not_err _ _ is)
