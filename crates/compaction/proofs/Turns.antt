@@ -3,7 +3,7 @@ use Rattle.std.proofs.Common.{◌≡◌, ℕ, ◌+◌, ◌≤◌, ◌<◌, List,
 use Rattle.std.proofs.lemmas.Grind.{common_steps}
 use Rattle.std.proofs.lemmas.List.Elements.{AllZip-push, All-from_recursion}
 use Rattle.std.proofs.Math.Seq.{take-suc, take-suc-set}
-use Rattle.std.proofs.lemmas.List.{drop-set-lt}
+use Rattle.std.proofs.lemmas.List.{drop-set-lt, take_all}
 use Rattle.std.proofs.lemmas.List.Sums.{sum_by-append}
 use Rattle.std.specs.Prelude.{Option, Some, None, IfSome, sum_by}
 use Rattle.std.specs.List.{AllByRecursion, AllZip}
@@ -94,3 +94,21 @@ cost_falls_from lt ls b t s e y h = rw y (paid_tied lt ls (is_some t) (subst (λ
 pub if_map : {A : Type 0} {P Q : A → Type 0} (o : Option A) → IfSome o P → ((m : A) → P m → Q m) → IfSome o Q
 if_map None p f = tt
 if_map (Some m) p f = f m p
+
+-- the loop at its end
+module _ {S F : Type 0} {contents : F → Option Contents} {faults : F → ℕ} {price bonus : S → ℕ} {before : Contents → S → Type 0} {step : Contents → S → S → Type 0} {start files : F} {xs ys : List S} {i : ℕ} (p : Progress contents faults price bonus before step start files xs ys i) where
+  pub paid_whole : length xs ≤ i → length ys ≡ length xs → sum_by price ys + sum_by bonus ys ≤ sum_by price xs
+  paid_whole long same =
+      subst (λ (zs : List S). sum_by price zs + sum_by bonus zs ≤ sum_by price xs) (take_all i ys (omega arith))
+      (subst (λ (zs : List S). sum_by price (take i ys) + sum_by bonus (take i ys) ≤ sum_by price zs) (take_all i xs long) p.paid)
+
+  pub steps_whole : length xs ≤ i → length ys ≡ length xs → IfSome (contents start) (λ m. AllByRecursion (before m) xs → AllZip (step m) xs ys)
+  steps_whole long same = if_map (contents start) p.steps (λ m steps all.
+      subst (AllZip (step m) xs) (take_all i ys (omega arith)) (subst (λ (zs : List S). AllZip (step m) zs (take i ys)) (take_all i xs long) (steps all)))
+
+  pub not_each : (P : Contents → S → Type 0) (d : S) → i < length xs → IfSome (contents files) (λ m. ¬ (P m (get_or ys i d))) → IfSome (contents start) (λ m. ¬ (AllByRecursion (P m) xs))
+  not_each P d l here =
+      both_some (contents start) (contents files) p.same p.steps here (λ m steps not all. not (subst (P m) (sym (item-rest xs ys i d p.rest)) (All-from_recursion (P m) xs all i d l)))
+
+pub first_within : (a b c : ℕ) → a + b ≤ c → a ≤ c
+first_within a b c h = omega arith

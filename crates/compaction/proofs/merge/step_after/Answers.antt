@@ -3,10 +3,10 @@ use Rattle.std.specs.Prelude.{IfSome}
 use Rattle.cell_key.specs.Entries.{Takes}
 use Rattle.compaction.specs.Ties.{ties}
 use Rattle.compaction.specs.Merging.{cost, StepsTo}
-use Rattle.compaction.proofs.Turns.{go_on, front_set, rest_set, if_both, if_each, cost_falls}
+use Rattle.compaction.proofs.Turns.{first_within, go_on, front_set, rest_set, if_both, if_each, cost_falls, not_each, paid_whole, steps_whole}
 use Rattle.compaction.specs.MergeLaws.{step_tie, step_same}
 use Rattle.cell_key.specs.declared.refusals.Refusal.TheVariants.{Device}
-use Rattle.compaction.proofs.Passed.{not_err, passed_err, passed_none, passed_reason, quiet_reason, reason_after}
+use Rattle.compaction.proofs.Passed.{not_err, passed_err, passed_none, passed_on, passed_reason, quiet_reason, reason_after}
 use Rattle.compaction.proofs.merge.step_after.Goals as goal
 use Rattle.compaction.proofs.merge.step_after.Goals.{then-is_tied+in_ok-advance, else-is_tied}
 
@@ -62,3 +62,14 @@ returns-clause-refusal g c = tt
 
 pub returns-clause-damaged : goal.returns-clause-damaged
 returns-clause-damaged g c = λ is. absurd (not_err _ _ is)
+
+pub returns-clause-cost : goal.returns-clause-cost
+returns-clause-cost g c = first_within _ _ _ (paid_whole c.loop-source.invariant c.loop-source-test.false c.loop-source.auto.sources)
+
+pub returns-clause-steps : goal.returns-clause-steps
+returns-clause-steps g c = steps_whole c.loop-source.invariant c.loop-source-test.false c.loop-source.auto.sources
+
+pub returns-in_err-advance-clause-damaged : goal.returns-in_err-advance-clause-damaged
+returns-in_err-advance-clause-damaged g c = λ is.
+    not_each c.loop-source.invariant g.S.Source.holds c.source-item.result c.loop-source-test.true
+    (c.in_err-advance.ensures.damaged (passed_on c.from_residual.result _ c.in_err-advance.field-0.0 _ c.from_residual.ensures.1 refl is))

@@ -1,10 +1,10 @@
 use Rattle.std.proofs.Common.{◌≤◌, ◌+◌, ◌<◌, length, arith, subst, sym, cond, refl, ◌∙◌}
 use Rattle.cell_key.specs.Entries.{Takes}
 use Rattle.std.specs.Prelude.{IfSome}
-use Rattle.compaction.proofs.Turns.{go_on, front_set, rest_set, if_both, cost_falls}
+use Rattle.compaction.proofs.Turns.{go_on, front_set, rest_set, if_both, cost_falls, not_each, paid_whole}
 use Rattle.compaction.specs.MergeLaws.{step_none}
 use Rattle.cell_key.specs.declared.refusals.Refusal.TheVariants.{Device}
-use Rattle.compaction.proofs.Passed.{not_err, passed_err, passed_none, passed_reason, quiet_reason, reason_after}
+use Rattle.compaction.proofs.Passed.{not_err, passed_err, passed_none, passed_on, passed_reason, quiet_reason, reason_after}
 use Rattle.compaction.proofs.merge.step_all.Goals as goal
 
 pub loop-source-preserved : goal.loop-source-preserved
@@ -43,3 +43,11 @@ returns-clause-refusal g c = tt
 
 pub returns-clause-damaged : goal.returns-clause-damaged
 returns-clause-damaged g c = λ is. absurd (not_err _ _ is)
+
+pub returns-clause-cost : goal.returns-clause-cost
+returns-clause-cost g c = paid_whole c.loop-source.invariant c.loop-source-test.false c.loop-source.auto.sources
+
+pub returns-in_err-advance-clause-damaged : goal.returns-in_err-advance-clause-damaged
+returns-in_err-advance-clause-damaged g c = λ is.
+    not_each c.loop-source.invariant g.S.Source.holds c.source-item.result c.loop-source-test.true
+    (c.in_err-advance.ensures.damaged (passed_on c.from_residual.result _ c.in_err-advance.field-0.0 _ c.from_residual.ensures.1 refl is))
