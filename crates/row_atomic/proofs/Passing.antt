@@ -1,5 +1,5 @@
 -- What a call tells where one that it makes was refused, or wasn't.
-use Rattle.std.proofs.Common.{◌≡◌, ◌+◌, ◌⊎◌, inl, inr, ℕ, List, length, map, Result, Ok, Err, IfOk, IfErr, IsErrOf, refl, sym, ap, ◌∙◌, subst, arith}
+use Rattle.std.proofs.Common.{◌≡◌, ◌+◌, ◌<◌, ◌≤◌, ◌⊎◌, ◌↔◌, inl, inr, ℕ, Bool, false, IsTrue, List, length, map, Result, Ok, Err, IfOk, IfErr, IsErrOf, refl, sym, ap, ◌∙◌, subst, arith}
 use Rattle.std.specs.Result.{IsErrAnd}
 use Rattle.std.proofs.lemmas.List.{length-map}
 use Rattle.std.proofs.lemmas.Result.{IfOk-weaker}
@@ -24,6 +24,13 @@ passed (Err f) e n by is = let same : f ≡ n = cc in ap (λ d. Err d) (sym by �
 pub refused_as : {B : Type 0} (r : Result B Refusal) (e n : Refusal) → IsErrAnd r (λ f. f ≡ e) → e ≡ n → IsErrOf r n
 refused_as (Ok x) e n by is = absurd by
 refused_as (Err f) e n by is = ap (λ d. Err d) (by ∙ is)
+
+named : {A : Type 0} (e n : Refusal) → IsErrOf {T = A} (Err e) n → e ≡ n
+named e n is = cc
+
+-- it is refused so where the call that it makes is
+pub same_refusal : {A B : Type 0} (r : Result B Refusal) (e n : Refusal) (P : Type 0) → IsErrAnd r (λ f. f ≡ e) → (IsErrOf {T = A} (Err e) n ↔ P) → (IsErrOf r n ↔ P)
+same_refusal r e n P by only = (λ is. only.0 (passed r e n by is), λ h. refused_as r e n by (named e n (only.1 h)))
 
 pub none_answered : {B : Type 0} (r : Result B Refusal) (e : Refusal) (P : B → Type 0) → IsErrAnd r (λ f. f ≡ e) → IfOk r P
 none_answered (Ok x) e P by = absurd by
@@ -84,6 +91,31 @@ read_move NoMemory h = tt
 read_move Damaged h = tt
 read_move _ h = absurd h
 
+-- a tablet or a server that is not there
+abbrev pub IsUnknown : Refusal → Type 0
+IsUnknown UnknownTablet = Unit {0}
+IsUnknown UnknownServer = Unit {0}
+IsUnknown _ = ⊥
+
+pub unknown_only : (x : Refusal) → (x ≡ UnknownTablet) ⊎ (x ≡ UnknownServer) → IsUnknown x
+unknown_only x (inl is) = subst IsUnknown (sym is) tt
+unknown_only x (inr is) = subst IsUnknown (sym is) tt
+
+pub unknown_move : (x : Refusal) → IsUnknown x → IsMoveRefusal x
+unknown_move UnknownTablet h = tt
+unknown_move UnknownServer h = tt
+unknown_move _ h = absurd h
+
+pub neither : {A B C : Type 0} → ¬ A → ¬ B → A ⊎ B → C
+neither not nor (inl a) = absurd (not a)
+neither not nor (inr b) = absurd (nor b)
+
+pub not_both : (b : Bool) → IsTrue b → ¬ (b ≡ false)
+not_both b is not = cc
+
+pub below_only : (n m : ℕ) → n < m → ¬ (m ≤ n)
+below_only n m below from = omega arith
+
 -- ---- a device's faults
 
 pub no_fault : {B : Type 0} (r : Result B Refusal) (count : ℕ) → ¬ IsErrOf r Device → HasReason count count r
@@ -95,9 +127,6 @@ reason_passed r e before now by reason = record {
   device = λ is. reason.device (passed r e Device by is);
   told = λ other. reason.told (λ is. other (refused_as r e Device by (named e Device is)));
 }
-  where
-    named : {A : Type 0} (e n : Refusal) → IsErrOf {T = A} (Err e) n → e ≡ n
-    named e n is = cc
 
 -- a call that was not refused met no fault
 pub reason_after : {A B : Type 0} (r : Result B Refusal) (x : A) (before mid now : ℕ) → HasReason before mid (Ok x) → HasReason mid now r → HasReason before now r

@@ -1,29 +1,30 @@
 -- The minor compaction comes first, and then the files are opened anew.
-use Rattle.std.proofs.Common.{rules, inl, inr, map, refl, sym, ap, ◌∙◌, subst}
+use Rattle.std.proofs.Common.{inl, inr, map, refl, sym, ap, ◌∙◌, subst}
 use Rattle.std.proofs.lemmas.Result.{on_err_weaker}
-use Rattle.cell_key.specs.declared.refusals.Refusal.TheVariants.{Exhausted, FileTooLarge, TooManyFiles}
+use Rattle.cell_key.specs.declared.refusals.Refusal.TheVariants.{Damaged, Device, Exhausted, FileTooLarge, TooManyFiles, UnknownServer, UnknownTablet}
 use Rattle.metadata_table.specs.Table.{moved}
 use Rattle.sorted_file.specs.Sources.{IsReadRefusal}
 use Rattle.tablet.specs.Views.{names_of}
-use Rattle.row_atomic.specs.Changes.{IsFlushed, IsMoveRefusal, Remakes}
+use Rattle.row_atomic.specs.Changes.{IsFlushed, IsMoveRefusal, IsRefusalOf, Remakes}
 use Rattle.row_atomic.specs.Clusters.{spot_of}
+use Rattle.row_atomic.specs.declared.cluster_compactions.Compaction.TheVariants.{Minor}
 use Rattle.row_atomic.proofs.Answering.{if_err as only_errors}
 use Rattle.row_atomic.proofs.Changing.{if_err, if_ok, on_ok}
 use Rattle.row_atomic.proofs.Commanding.{not_answered}
 use Rattle.row_atomic.proofs.Emptying.{flushed_opened}
 use Rattle.row_atomic.proofs.Moving.{known_after}
-use Rattle.row_atomic.proofs.Passing.{move_refusal, none_answered, passed, read_move, reason_after, reason_passed, refused_so}
+use Rattle.row_atomic.proofs.Passing.{IsUnknown, below_only, move_refusal, neither, no_fault, none_answered, not_both, not_refused, one_of, passed, read_move, reason_after, reason_passed, refused_so, same_refusal, unknown_move, unknown_only}
 use Rattle.row_atomic.proofs.Roomy.{still_used}
 use Rattle.row_atomic.proofs.cluster.Cluster.move_to.Goals as goal
 
 pub returns-in_err-compact_tablet-clause-full : goal.returns-in_err-compact_tablet-clause-full
-returns-in_err-compact_tablet-clause-full g c = λ is. c.compact_tablet.ensures.full (search rules)
+returns-in_err-compact_tablet-clause-full g c = λ is. c.in_err-compact_tablet.ensures.full (passed c.from_residual-in_err-compact_tablet.result c.in_err-compact_tablet.field-0.0 _ c.from_residual-in_err-compact_tablet.ensures.1 is)
 
 pub returns-in_err-compact_tablet-clause-large : goal.returns-in_err-compact_tablet-clause-large
-returns-in_err-compact_tablet-clause-large g c = λ order is. c.compact_tablet.ensures.large order (search rules)
+returns-in_err-compact_tablet-clause-large g c = λ order is. c.in_err-compact_tablet.ensures.large order (passed c.from_residual-in_err-compact_tablet.result c.in_err-compact_tablet.field-0.0 _ c.from_residual-in_err-compact_tablet.ensures.1 is)
 
 pub put-requires-clause-known : goal.put-requires-clause-known
-put-requires-clause-known g c = known_after c.args.tablet c.args.self.now.places c.compact_tablet.new.self.places c.compact_tablet.new.self.tablets c.in_ok-compact_tablet.ensures.listed (search rules)
+put-requires-clause-known g c = known_after c.args.tablet c.args.self.now.places c.compact_tablet.new.self.places c.compact_tablet.new.self.tablets c.in_ok-compact_tablet.ensures.listed c.in_ok-is_on.ensures.known
 
 pub returns-clause-kept : goal.returns-clause-kept
 returns-clause-kept g c = λ order.
@@ -147,3 +148,177 @@ returns-clause-refusal g c = only_errors IsReadRefusal IsMoveRefusal read_move c
 
 pub returns-clause-reason : goal.returns-clause-reason
 returns-clause-reason g c = reason_after c.put.result _ _ _ _ c.in_ok-compact_tablet.ensures.reason c.put.ensures.reason
+
+pub returns-in_err-is_on-clause-kept : goal.returns-in_err-is_on-clause-kept
+returns-in_err-is_on-clause-kept g c = λ order. (order, refl)
+
+pub returns-in_err-is_on-clause-limit : goal.returns-in_err-is_on-clause-limit
+returns-in_err-is_on-clause-limit g c = refl
+
+pub returns-in_err-is_on-clause-name : goal.returns-in_err-is_on-clause-name
+returns-in_err-is_on-clause-name g c = inl (refl, refl)
+
+pub returns-in_err-is_on-clause-table : goal.returns-in_err-is_on-clause-table
+returns-in_err-is_on-clause-table g c = c.is_on.ensures.table
+
+pub returns-in_err-is_on-clause-moved : goal.returns-in_err-is_on-clause-moved
+returns-in_err-is_on-clause-moved g c = none_answered c.from_residual.result c.in_err-is_on.field-0.0 _ c.from_residual.ensures.1
+
+pub returns-in_err-is_on-clause-flushed : goal.returns-in_err-is_on-clause-flushed
+returns-in_err-is_on-clause-flushed g c = none_answered c.from_residual.result c.in_err-is_on.field-0.0 _ c.from_residual.ensures.1
+
+pub returns-in_err-is_on-clause-room : goal.returns-in_err-is_on-clause-room
+returns-in_err-is_on-clause-room g c = none_answered c.from_residual.result c.in_err-is_on.field-0.0 _ c.from_residual.ensures.1
+
+pub returns-in_err-is_on-clause-left : goal.returns-in_err-is_on-clause-left
+returns-in_err-is_on-clause-left g c = none_answered c.from_residual.result c.in_err-is_on.field-0.0 _ c.from_residual.ensures.1
+
+pub returns-in_err-is_on-clause-fits : goal.returns-in_err-is_on-clause-fits
+returns-in_err-is_on-clause-fits g c = λ order. none_answered c.from_residual.result c.in_err-is_on.field-0.0 _ c.from_residual.ensures.1
+
+pub returns-in_err-is_on-clause-unknown : goal.returns-in_err-is_on-clause-unknown
+returns-in_err-is_on-clause-unknown g c = same_refusal c.from_residual.result c.in_err-is_on.field-0.0 _ _ c.from_residual.ensures.1 c.in_err-is_on.ensures.unknown
+
+pub returns-in_err-is_on-clause-server : goal.returns-in_err-is_on-clause-server
+returns-in_err-is_on-clause-server g c = same_refusal c.from_residual.result c.in_err-is_on.field-0.0 _ _ c.from_residual.ensures.1 c.in_err-is_on.ensures.server
+
+pub returns-in_err-is_on-clause-unmoved : goal.returns-in_err-is_on-clause-unmoved
+returns-in_err-is_on-clause-unmoved g c = λ _. refl
+
+pub returns-in_err-is_on-clause-err : goal.returns-in_err-is_on-clause-err
+returns-in_err-is_on-clause-err g c = if_err _ c.from_residual.result refl
+
+pub returns-in_err-is_on-clause-may : goal.returns-in_err-is_on-clause-may
+returns-in_err-is_on-clause-may g c = if_err _ c.from_residual.result (inl refl)
+
+pub returns-in_err-is_on-clause-full : goal.returns-in_err-is_on-clause-full
+returns-in_err-is_on-clause-full g c = λ is. absurd (one_of IsUnknown c.from_residual.result c.in_err-is_on.field-0.0 TooManyFiles c.from_residual.ensures.1 (unknown_only c.in_err-is_on.field-0.0 c.in_err-is_on.ensures.refusal) is)
+
+pub returns-in_err-is_on-clause-undone : goal.returns-in_err-is_on-clause-undone
+returns-in_err-is_on-clause-undone g c = λ is. absurd (one_of IsUnknown c.from_residual.result c.in_err-is_on.field-0.0 TooManyFiles c.from_residual.ensures.1 (unknown_only c.in_err-is_on.field-0.0 c.in_err-is_on.ensures.refusal) is)
+
+pub returns-in_err-is_on-clause-exhausted : goal.returns-in_err-is_on-clause-exhausted
+returns-in_err-is_on-clause-exhausted g c = λ is. absurd (one_of IsUnknown c.from_residual.result c.in_err-is_on.field-0.0 Exhausted c.from_residual.ensures.1 (unknown_only c.in_err-is_on.field-0.0 c.in_err-is_on.ensures.refusal) is)
+
+pub returns-in_err-is_on-clause-needed : goal.returns-in_err-is_on-clause-needed
+returns-in_err-is_on-clause-needed g c = λ is. absurd (one_of IsUnknown c.from_residual.result c.in_err-is_on.field-0.0 Exhausted c.from_residual.ensures.1 (unknown_only c.in_err-is_on.field-0.0 c.in_err-is_on.ensures.refusal) is)
+
+pub returns-in_err-is_on-clause-empty : goal.returns-in_err-is_on-clause-empty
+returns-in_err-is_on-clause-empty g c = λ _. (refl, refl)
+
+pub returns-in_err-is_on-clause-large : goal.returns-in_err-is_on-clause-large
+returns-in_err-is_on-clause-large g c = λ order is. absurd (one_of IsUnknown c.from_residual.result c.in_err-is_on.field-0.0 FileTooLarge c.from_residual.ensures.1 (unknown_only c.in_err-is_on.field-0.0 c.in_err-is_on.ensures.refusal) is)
+
+pub returns-in_err-is_on-clause-undamaged : goal.returns-in_err-is_on-clause-undamaged
+returns-in_err-is_on-clause-undamaged g c = λ order is. one_of IsUnknown c.from_residual.result c.in_err-is_on.field-0.0 Damaged c.from_residual.ensures.1 (unknown_only c.in_err-is_on.field-0.0 c.in_err-is_on.ensures.refusal) is
+
+pub returns-in_err-is_on-clause-refusal : goal.returns-in_err-is_on-clause-refusal
+returns-in_err-is_on-clause-refusal g c = refused_so c.from_residual.result c.in_err-is_on.field-0.0 IsMoveRefusal c.from_residual.ensures.1 (unknown_move c.in_err-is_on.field-0.0 (unknown_only c.in_err-is_on.field-0.0 c.in_err-is_on.ensures.refusal))
+
+pub returns-in_err-is_on-clause-reason : goal.returns-in_err-is_on-clause-reason
+returns-in_err-is_on-clause-reason g c = no_fault c.from_residual.result _ (λ is. one_of IsUnknown c.from_residual.result c.in_err-is_on.field-0.0 Device c.from_residual.ensures.1 (unknown_only c.in_err-is_on.field-0.0 c.in_err-is_on.ensures.refusal) is)
+
+pub returns-then-branch-clause-kept : goal.returns-then-branch-clause-kept
+returns-then-branch-clause-kept g c = λ order. (order, refl)
+
+pub returns-then-branch-clause-limit : goal.returns-then-branch-clause-limit
+returns-then-branch-clause-limit g c = refl
+
+pub returns-then-branch-clause-name : goal.returns-then-branch-clause-name
+returns-then-branch-clause-name g c = inl (refl, refl)
+
+pub returns-then-branch-clause-table : goal.returns-then-branch-clause-table
+returns-then-branch-clause-table g c = c.is_on.ensures.table
+
+pub returns-then-branch-clause-moved : goal.returns-then-branch-clause-moved
+returns-then-branch-clause-moved g c = inl (refl, c.in_ok-is_on.ensures.on.0 c.if-branch.true)
+
+pub returns-then-branch-clause-flushed : goal.returns-then-branch-clause-flushed
+returns-then-branch-clause-flushed g c = λ elsewhere. absurd (elsewhere (c.in_ok-is_on.ensures.on.0 c.if-branch.true))
+
+pub returns-then-branch-clause-room : goal.returns-then-branch-clause-room
+returns-then-branch-clause-room g c = λ elsewhere. absurd (elsewhere (c.in_ok-is_on.ensures.on.0 c.if-branch.true))
+
+pub returns-then-branch-clause-left : goal.returns-then-branch-clause-left
+returns-then-branch-clause-left g c = λ elsewhere. absurd (elsewhere (c.in_ok-is_on.ensures.on.0 c.if-branch.true))
+
+pub returns-then-branch-clause-fits : goal.returns-then-branch-clause-fits
+returns-then-branch-clause-fits g c = λ order elsewhere. absurd (elsewhere (c.in_ok-is_on.ensures.on.0 c.if-branch.true))
+
+pub returns-then-branch-clause-same : goal.returns-then-branch-clause-same
+returns-then-branch-clause-same g c = λ _. (refl, refl)
+
+pub returns-then-branch-clause-unknown : goal.returns-then-branch-clause-unknown
+returns-then-branch-clause-unknown g c = (λ is. absurd (not_refused _ UnknownTablet is), λ not. absurd (not c.in_ok-is_on.ensures.known))
+
+pub returns-then-branch-clause-server : goal.returns-then-branch-clause-server
+returns-then-branch-clause-server g c = (λ is. absurd (not_refused _ UnknownServer is), λ h. absurd (below_only _ _ c.in_ok-is_on.ensures.below h.1))
+
+pub returns-then-branch-clause-unmoved : goal.returns-then-branch-clause-unmoved
+returns-then-branch-clause-unmoved g c = λ _. refl
+
+pub returns-then-branch-clause-err : goal.returns-then-branch-clause-err
+returns-then-branch-clause-err g c = tt
+
+pub returns-then-branch-clause-may : goal.returns-then-branch-clause-may
+returns-then-branch-clause-may g c = tt
+
+pub returns-then-branch-clause-refusal : goal.returns-then-branch-clause-refusal
+returns-then-branch-clause-refusal g c = tt
+
+pub returns-then-branch-clause-full : goal.returns-then-branch-clause-full
+returns-then-branch-clause-full g c = λ is. absurd (not_refused _ TooManyFiles is)
+
+pub returns-then-branch-clause-undone : goal.returns-then-branch-clause-undone
+returns-then-branch-clause-undone g c = λ is. absurd (not_refused _ TooManyFiles is)
+
+pub returns-then-branch-clause-exhausted : goal.returns-then-branch-clause-exhausted
+returns-then-branch-clause-exhausted g c = λ is. absurd (not_refused _ Exhausted is)
+
+pub returns-then-branch-clause-needed : goal.returns-then-branch-clause-needed
+returns-then-branch-clause-needed g c = λ is. absurd (not_refused _ Exhausted is)
+
+pub returns-then-branch-clause-empty : goal.returns-then-branch-clause-empty
+returns-then-branch-clause-empty g c = λ _. (refl, refl)
+
+pub returns-then-branch-clause-large : goal.returns-then-branch-clause-large
+returns-then-branch-clause-large g c = λ order is. absurd (not_refused _ FileTooLarge is)
+
+pub returns-then-branch-clause-undamaged : goal.returns-then-branch-clause-undamaged
+returns-then-branch-clause-undamaged g c = λ order is. not_refused _ Damaged is
+
+pub returns-then-branch-clause-reason : goal.returns-then-branch-clause-reason
+returns-then-branch-clause-reason g c = no_fault _ _ (λ is. not_refused _ Device is)
+
+pub returns-in_err-compact_tablet-clause-same : goal.returns-in_err-compact_tablet-clause-same
+returns-in_err-compact_tablet-clause-same g c = λ on. absurd (not_both _ (c.in_ok-is_on.ensures.on.1 on) c.if-branch.false)
+
+pub returns-in_err-compact_tablet-clause-unknown : goal.returns-in_err-compact_tablet-clause-unknown
+returns-in_err-compact_tablet-clause-unknown g c = (λ is. absurd (one_of (IsRefusalOf Minor) c.from_residual-in_err-compact_tablet.result c.in_err-compact_tablet.field-0.0 UnknownTablet c.from_residual-in_err-compact_tablet.ensures.1 c.in_err-compact_tablet.ensures.refusal is), λ not. absurd (not c.in_ok-is_on.ensures.known))
+
+pub returns-in_err-compact_tablet-clause-server : goal.returns-in_err-compact_tablet-clause-server
+returns-in_err-compact_tablet-clause-server g c = (λ is. absurd (one_of (IsRefusalOf Minor) c.from_residual-in_err-compact_tablet.result c.in_err-compact_tablet.field-0.0 UnknownServer c.from_residual-in_err-compact_tablet.ensures.1 c.in_err-compact_tablet.ensures.refusal is), λ h. absurd (below_only _ _ c.in_ok-is_on.ensures.below h.1))
+
+pub returns-in_err-compact_tablet-clause-unmoved : goal.returns-in_err-compact_tablet-clause-unmoved
+returns-in_err-compact_tablet-clause-unmoved g c = neither (λ is. one_of (IsRefusalOf Minor) c.from_residual-in_err-compact_tablet.result c.in_err-compact_tablet.field-0.0 UnknownTablet c.from_residual-in_err-compact_tablet.ensures.1 c.in_err-compact_tablet.ensures.refusal is) (λ is. one_of (IsRefusalOf Minor) c.from_residual-in_err-compact_tablet.result c.in_err-compact_tablet.field-0.0 UnknownServer c.from_residual-in_err-compact_tablet.ensures.1 c.in_err-compact_tablet.ensures.refusal is)
+
+pub returns-clause-same : goal.returns-clause-same
+returns-clause-same g c = λ on. absurd (not_both _ (c.in_ok-is_on.ensures.on.1 on) c.if-branch.false)
+
+pub returns-clause-unknown : goal.returns-clause-unknown
+returns-clause-unknown g c = (λ is. absurd (not_answered IsReadRefusal c.put.result UnknownTablet _ c.put.ensures.refusal is refl), λ not. absurd (not c.in_ok-is_on.ensures.known))
+
+pub returns-clause-server : goal.returns-clause-server
+returns-clause-server g c = (λ is. absurd (not_answered IsReadRefusal c.put.result UnknownServer _ c.put.ensures.refusal is refl), λ h. absurd (below_only _ _ c.in_ok-is_on.ensures.below h.1))
+
+pub returns-clause-unmoved : goal.returns-clause-unmoved
+returns-clause-unmoved g c = neither (λ is. not_answered IsReadRefusal c.put.result UnknownTablet _ c.put.ensures.refusal is refl) (λ is. not_answered IsReadRefusal c.put.result UnknownServer _ c.put.ensures.refusal is refl)
+
+pub put-requires-clause-below : goal.put-requires-clause-below
+put-requires-clause-below g c = c.in_ok-is_on.ensures.below
+
+pub put-requires-clause-flushed : goal.put-requires-clause-flushed
+put-requires-clause-flushed g c = let made = c.in_ok-compact_tablet.ensures.made in record { tablet = made.is; numbered = made.is_numbered; such = made.made.memory }
+
+pub compact_tablet-requires : goal.compact_tablet-requires
+compact_tablet-requires g c = record { known = c.in_ok-is_on.ensures.known }
