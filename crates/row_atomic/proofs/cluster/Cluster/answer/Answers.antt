@@ -1,13 +1,23 @@
-use Rattle.std.proofs.Common.{inl, inr, ap, ◌∙◌, Err, arith}
+use Rattle.std.proofs.Common.{◌≡◌, ◌⊎◌, inl, inr, ap, subst, ◌∙◌, Err, arith}
+use Rattle.cell_key.specs.Places.{IsNextCell}
 use Rattle.cell_key.specs.declared.refusals.Refusal.{Refusal}
+use Rattle.cell_key.specs.declared.refusals.Refusal.TheVariants.{Damaged, Device, NoMemory, TooManyFiles}
 use Rattle.row_atomic.proofs.Changing.{if_err, if_ok, on_both}
 use Rattle.row_atomic.proofs.Commanding.{apply_tells, caused, done_answered, done_tells, done_upheld, move_answered, move_upheld, not_answered, ok_tells, one_answered, refused_tells, when_err, when_ok}
 use Rattle.row_atomic.specs.Changes.{IsMoveRefusal, IsNumberedRefusal}
-use Rattle.row_atomic.specs.Refusals.{IsApplyRefusal}
+use Rattle.row_atomic.specs.Refusals.{IsApplyRefusal, IsReadRefusal}
 use Rattle.row_atomic.specs.Commands.{cells_shown}
 use Rattle.row_atomic.specs.Compactions as compaction
 use Rattle.row_atomic.specs.declared.commands.Command.TheVariants as command
 use Rattle.row_atomic.proofs.cluster.Cluster.answer.Goals as goal
+
+not_damaged : (x : Refusal) → (x ≡ Device) ⊎ (x ≡ NoMemory) → ¬ (x ≡ Damaged)
+not_damaged x (inl is) same = cc
+not_damaged x (inr is) same = cc
+
+not_too_many : (x : Refusal) → (x ≡ Device) ⊎ (x ≡ NoMemory) → ¬ (x ≡ TooManyFiles)
+not_too_many x (inl is) same = cc
+not_too_many x (inr is) same = cc
 
 pub returns-in-Ok-split-clause-still : goal.returns-in-Ok-split-clause-still
 returns-in-Ok-split-clause-still g c = λ holds. (c.split.ensures.kept holds).0
@@ -227,3 +237,115 @@ returns-in-Ok-split-clause-uses g c = rw (c.in-Split.is) (record { name = c.spli
 
 pub returns-in-Split-clause-uses : goal.returns-in-Split-clause-uses
 returns-in-Split-clause-uses g c = rw (c.in-Split.is) (record { name = c.split.ensures.name; limit = c.split.ensures.limit; none = c.split.ensures.empty })
+
+pub returns-in-Ok-clause-still : goal.returns-in-Ok-clause-still
+returns-in-Ok-clause-still g c = c.newest.ensures.still
+
+pub returns-in-Ok-clause-uses : goal.returns-in-Ok-clause-uses
+returns-in-Ok-clause-uses g c = rw (c.in-Newest.is) tt
+
+pub returns-in-Newest-clause-still : goal.returns-in-Newest-clause-still
+returns-in-Newest-clause-still g c = c.newest.ensures.still
+
+pub returns-in-Newest-clause-uses : goal.returns-in-Newest-clause-uses
+returns-in-Newest-clause-uses g c = rw (c.in-Newest.is) tt
+
+pub returns-in-Ok-clause-answers : goal.returns-in-Ok-clause-answers
+returns-in-Ok-clause-answers g c = rw (c.in-Newest.is) (λ order. (c.in-Ok.ensures.found order, c.newest.ensures.kept order))
+
+pub returns-in-Ok-clause-upholds : goal.returns-in-Ok-clause-upholds
+returns-in-Ok-clause-upholds g c = rw (c.in-Newest.is) (λ order. c.newest.ensures.storage)
+
+pub returns-in-Ok-clause-cause : goal.returns-in-Ok-clause-cause
+returns-in-Ok-clause-cause g c = rw (c.in-Newest.is) (λ order. tt)
+
+pub returns-in-Newest-clause-answers : goal.returns-in-Newest-clause-answers
+returns-in-Newest-clause-answers g c = rw (c.in-Newest.is) (λ order. ((λ damaged. c.in-Err.ensures.undamaged order (ap (λ (r : Refusal). Err r) damaged)), c.newest.ensures.kept order))
+
+pub returns-in-Newest-clause-upholds : goal.returns-in-Newest-clause-upholds
+returns-in-Newest-clause-upholds g c = rw (c.in-Newest.is) (λ order. (c.in-Err.ensures.refusal, c.newest.ensures.storage))
+
+pub returns-in-Newest-clause-cause : goal.returns-in-Newest-clause-cause
+returns-in-Newest-clause-cause g c = rw (c.in-Newest.is) (λ order. record { due = tt; barred = λ bars. absurd bars; undone = λ same. absurd (subst IsReadRefusal same c.in-Err.ensures.refusal) })
+
+pub returns-in-Ok-next_cell-clause-still : goal.returns-in-Ok-next_cell-clause-still
+returns-in-Ok-next_cell-clause-still g c = c.next_cell.ensures.still
+
+pub returns-in-Ok-next_cell-clause-uses : goal.returns-in-Ok-next_cell-clause-uses
+returns-in-Ok-next_cell-clause-uses g c = rw (c.in-NextCell.is) tt
+
+pub returns-in-NextCell-clause-still : goal.returns-in-NextCell-clause-still
+returns-in-NextCell-clause-still g c = c.next_cell.ensures.still
+
+pub returns-in-NextCell-clause-uses : goal.returns-in-NextCell-clause-uses
+returns-in-NextCell-clause-uses g c = rw (c.in-NextCell.is) tt
+
+pub returns-in-Ok-next_cell-clause-answers : goal.returns-in-Ok-next_cell-clause-answers
+returns-in-Ok-next_cell-clause-answers g c = rw (c.in-NextCell.is) (λ order. (subst (λ after. IsNextCell (cells_shown g.F.Files.contents c.args.self.now) after c.in-Ok-next_cell.found) c.lent.ensures (c.in-Ok-next_cell.ensures.found order), c.next_cell.ensures.kept order))
+
+pub returns-in-Ok-next_cell-clause-upholds : goal.returns-in-Ok-next_cell-clause-upholds
+returns-in-Ok-next_cell-clause-upholds g c = rw (c.in-NextCell.is) (λ order. c.next_cell.ensures.storage)
+
+pub returns-in-Ok-next_cell-clause-cause : goal.returns-in-Ok-next_cell-clause-cause
+returns-in-Ok-next_cell-clause-cause g c = rw (c.in-NextCell.is) (λ order. tt)
+
+pub returns-in-NextCell-clause-answers : goal.returns-in-NextCell-clause-answers
+returns-in-NextCell-clause-answers g c = rw (c.in-NextCell.is) (λ order. ((λ damaged. c.in-Err-next_cell.ensures.undamaged order (ap (λ (r : Refusal). Err r) damaged)), c.next_cell.ensures.kept order))
+
+pub returns-in-NextCell-clause-upholds : goal.returns-in-NextCell-clause-upholds
+returns-in-NextCell-clause-upholds g c = rw (c.in-NextCell.is) (λ order. (c.in-Err-next_cell.ensures.refusal, c.next_cell.ensures.storage))
+
+pub returns-in-NextCell-clause-cause : goal.returns-in-NextCell-clause-cause
+returns-in-NextCell-clause-cause g c = rw (c.in-NextCell.is) (λ order. record { due = tt; barred = λ bars. absurd bars; undone = λ same. absurd (subst IsReadRefusal same c.in-Err-next_cell.ensures.refusal) })
+
+pub returns-in-Apply-clause-still : goal.returns-in-Apply-clause-still
+returns-in-Apply-clause-still g c = c.apply.ensures.still
+
+pub returns-in-Apply-clause-uses : goal.returns-in-Apply-clause-uses
+returns-in-Apply-clause-uses g c = rw (c.in-Apply.is) tt
+
+pub returns-in-Apply-clause-cause : goal.returns-in-Apply-clause-cause
+returns-in-Apply-clause-cause g c = 
+    rw (c.in-Apply.is) (λ order. caused g.F.Files.contents (command.Apply c.in-Apply.row c.in-Apply.edits) c.apply.result c.done.result c.args.self.now c.apply.new.self c.done.ensures
+    (λ x ok. when_ok c.apply.result x c.apply.ensures.within ok)
+    (λ refusal is. record {
+      due = λ same. c.apply.ensures.full (is ∙ ap (λ (r : Refusal). Err r) same);
+      barred = λ bars. absurd bars;
+      undone = λ same. absurd (not_answered IsApplyRefusal c.apply.result refusal _ c.apply.ensures.refusal is same);
+    }))
+
+pub returns-in-Ok-split-clause-answers : goal.returns-in-Ok-split-clause-answers
+returns-in-Ok-split-clause-answers g c = rw (c.in-Split.is) (λ order. (c.split.ensures.kept order).1)
+
+pub returns-in-Ok-split-clause-upholds : goal.returns-in-Ok-split-clause-upholds
+returns-in-Ok-split-clause-upholds g c = rw (c.in-Split.is) (λ order. (c.in-Ok-split.ensures.number, c.in-Ok-split.ensures.cut, c.in-Ok-split.ensures.halved))
+
+pub returns-in-Split-clause-answers : goal.returns-in-Split-clause-answers
+returns-in-Split-clause-answers g c = rw (c.in-Split.is) (λ order. ((λ damaged. c.in-Err-split.ensures.undamaged order (ap (λ (r : Refusal). Err r) damaged)), (c.split.ensures.kept order).1))
+
+pub returns-in-Split-clause-upholds : goal.returns-in-Split-clause-upholds
+returns-in-Split-clause-upholds g c = rw (c.in-Split.is) (λ order. (c.in-Err-split.ensures.refusal, (c.in-Err-split.ensures.err, c.in-Err-split.ensures.may)))
+
+pub returns-in-Ok-sweep-clause-answers : goal.returns-in-Ok-sweep-clause-answers
+returns-in-Ok-sweep-clause-answers g c = rw (c.in-Sweep.is) (λ order. (c.sweep.ensures.kept order).1)
+
+pub returns-in-Ok-sweep-clause-uses : goal.returns-in-Ok-sweep-clause-uses
+returns-in-Ok-sweep-clause-uses g c = rw (c.in-Sweep.is) tt
+
+pub returns-clause-uses : goal.returns-clause-uses
+returns-clause-uses g c = rw (c.in-Sweep.is) tt
+
+pub returns-in-Ok-sweep-clause-cause : goal.returns-in-Ok-sweep-clause-cause
+returns-in-Ok-sweep-clause-cause g c = rw (c.in-Sweep.is) (λ order. tt)
+
+pub returns-clause-answers : goal.returns-clause-answers
+returns-clause-answers g c = rw (c.in-Sweep.is) (λ order. ((λ damaged. not_damaged c.in-Err-sweep.refusal c.in-Err-sweep.ensures.refusal damaged), (c.sweep.ensures.kept order).1))
+
+pub returns-clause-cause : goal.returns-clause-cause
+returns-clause-cause g c = rw (c.in-Sweep.is) (λ order. record { due = tt; barred = λ bars. absurd bars; undone = λ same. absurd (not_too_many c.in-Err-sweep.refusal c.in-Err-sweep.ensures.refusal same) })
+
+pub returns-in-Ok-sweep-clause-upholds : goal.returns-in-Ok-sweep-clause-upholds
+returns-in-Ok-sweep-clause-upholds g c = rw (c.in-Sweep.is) (λ order. record { files = c.in-Ok-sweep.ensures.swept; counted = c.in-Ok-sweep.ensures.count; rest = c.sweep.ensures.rest })
+
+pub returns-clause-upholds : goal.returns-clause-upholds
+returns-clause-upholds g c = rw (c.in-Sweep.is) (λ order. (c.in-Err-sweep.ensures.refusal, record { files = c.sweep.ensures.lacks; rest = c.sweep.ensures.rest }))
