@@ -30,7 +30,7 @@ slice_get_at [] i d h = absurd (omega arith)
 slice_get_at (x ∷ xs) zero d h = refl
 slice_get_at (x ∷ xs) (suc i) d h = slice_get_at xs i d (omega arith)
 
-index_below : {A : Type 0} (xs : List A) (i : ℕ) (x : A) → slice_get xs i ≡ Some x → i < length xs
+pub index_below : {A : Type 0} (xs : List A) (i : ℕ) (x : A) → slice_get xs i ≡ Some x → i < length xs
 index_below [] i x e = cc
 index_below (y ∷ xs) zero x e = omega arith
 index_below (y ∷ xs) (suc i) x e = let rest = index_below xs i x e in omega arith

@@ -1,21 +1,29 @@
 -- The tablet shows what it showed.
-use Rattle.cell_key.specs.declared.refusals.Refusal.TheVariants.{Damaged}
+use Rattle.cell_key.specs.declared.refusals.Refusal.{Refusal}
+use Rattle.cell_key.specs.declared.refusals.Refusal.TheVariants.{Damaged, UnknownServer, UnknownTablet}
 use Rattle.sorted_file.specs.Sources.{IsReadRefusal}
-use Rattle.row_atomic.proofs.Answering.{found_there, matched_set, same_cells_in, still_in_order, undamaged}
+use Rattle.row_atomic.proofs.Answering.{found_there, index_below, matched_set, same_cells_in, still_in_order, undamaged}
 use Rattle.row_atomic.specs.Changes.{IsReopened}
 use Rattle.row_atomic.proofs.Changing.{if_err, remade}
+use Rattle.row_atomic.proofs.Commanding.{when_ok}
 use Rattle.metadata_table.specs.Table.{moved}
 use Rattle.row_atomic.proofs.Moving.{matched_moved, opened_keeps}
-use Rattle.row_atomic.proofs.Passing.{none_answered, not_refused, passed, reason_kept, reason_passed, refused_so}
-use Rattle.std.proofs.Common.{rules, ◌≡◌, refl, set}
+use Rattle.row_atomic.proofs.Passing.{below_only, none_answered, not_refused, passed, reason_kept, reason_passed, refused_so}
+use Rattle.std.proofs.Common.{◌≡◌, ◌<◌, ◌⊎◌, inl, inr, ℕ, Result, Ok, Err, IfErr, IsErrOf, IsOk, refl, sym, ap, subst, set}
 use Rattle.row_atomic.proofs.Splitting.{emptied_at}
 use Rattle.row_atomic.proofs.cluster.Cluster.put.Goals as goal
+
+-- a tablet that is known was put on a server that is there
+assigned : {A : Type 0} (r : Result A Refusal) → IfErr r (λ refusal. (refusal ≡ UnknownTablet) ⊎ (refusal ≡ UnknownServer)) → ¬ IsErrOf r UnknownTablet → ¬ IsErrOf r UnknownServer → IsOk r
+assigned (Ok x) refusal known there = refl
+assigned (Err e) (inl is) known there = absurd (known (ap (λ (r : Refusal). Err r) is))
+assigned (Err e) (inr is) known there = absurd (there (ap (λ (r : Refusal). Err r) is))
 
 pub invariant_of-self-2 : goal.invariant_of-self-2
 invariant_of-self-2 g c =
     let at = rw (← c.self.view_is) at c.position-index.ensures in
     let there = found_there c.self.inside.tablets.items c.position-index.result at.tablet c.index.result.now at.there c.index.ensures in
-    let done : c.assign.new.self ≡ moved c.args.tablet c.args.server c.self.inside.table = search rules in
+    let done : c.assign.new.self ≡ moved c.args.tablet c.args.server c.self.inside.table = when_ok c.assign.result _ c.assign.ensures.ok c.unwrap.ensures in
     matched_moved c.self.inside.file_limit c.self.inside.next_name c.args.tablet c.args.server c.self.inside.table c.assign.new.self (set c.self.inside.tablets.items c.position-index.result c.in_ok-opened.opened) done
     (matched_set c.self.inside.file_limit c.self.inside.next_name c.self.inside.table c.self.inside.tablets.items c.position-index.result c.index.result.now c.in_ok-opened.opened there c.in_ok-opened.ensures.range c.in_ok-opened.ensures.names c.self.invariant)
 
@@ -91,3 +99,21 @@ returns-clause-undamaged g c = λ order is. not_refused _ Damaged is
 
 pub returns-clause-reason : goal.returns-clause-reason
 returns-clause-reason g c = rw (← c.self.view_is) (reason_kept _ _ _ _ c.in_ok-opened.ensures.reason)
+
+pub invariant_of-self : goal.invariant_of-self
+invariant_of-self g c = c.self.invariant
+
+pub position-index-requires : goal.position-index-requires
+position-index-requires g c = record { known = c.requires.known }
+
+pub returns-clause-places : goal.returns-clause-places
+returns-clause-places g c = rw (← c.self.view_is) (when_ok c.assign.result _ c.assign.ensures.ok c.unwrap.ensures)
+
+pub index-requires : goal.index-requires
+index-requires g c = let at = rw (← c.self.view_is) at c.position-index.ensures in subst (λ (n : ℕ). c.position-index.result < n) (sym c.self.inside.tablets.ok.0) (index_below c.self.inside.tablets.items c.position-index.result at.tablet at.there)
+
+pub index_mut-requires : goal.index_mut-requires
+index_mut-requires g c = let at = rw (← c.self.view_is) at c.position-index.ensures in subst (λ (n : ℕ). c.position-index.result < n) (sym c.self.inside.tablets.ok.0) (index_below c.self.inside.tablets.items c.position-index.result at.tablet at.there)
+
+pub unwrap-requires : goal.unwrap-requires
+unwrap-requires g c = let known = rw (← c.self.view_is) at c.requires.known in assigned c.assign.result c.assign.ensures.refusal (λ is. c.assign.ensures.unknown.0 is known) (λ is. below_only _ _ c.requires.below (c.assign.ensures.server.0 is).1)
