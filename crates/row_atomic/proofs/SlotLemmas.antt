@@ -1,5 +1,5 @@
 -- What slots hold, key by key.
-use Rattle.std.proofs.Common.{◌≡◌, ◌≢◌, ℕ, Bool, true, false, cond, List, [], ◌∷◌, Option, Some, None, is_some, refl, sym, ap, subst, ◌∙◌, map, zero, suc, arith}
+use Rattle.std.proofs.Common.{◌≡◌, ◌≢◌, ℕ, Bool, true, false, cond, List, [], ◌∷◌, Option, Some, None, IsSome, is_some, refl, sym, ap, subst, ◌∙◌, map, zero, suc, arith}
 use Rattle.std.specs.declared.vec.Vec.{Vec}
 use Rattle.std.specs.declared.cmp.Ordering.{Ordering}
 use Rattle.std.specs.declared.cmp.Ordering.TheVariants.{Less, Equal, Greater}
@@ -81,6 +81,17 @@ elsewhere old new k w h q apart = h q ∙ go (eq_by_cmp key_cmp k q) refl
     go : (b : Bool) → eq_by_cmp key_cmp k q ≡ b → cond b w (slot_at old q) ≡ slot_at old q
     go true e = absurd (apart (same_at k q e))
     go false e = refl
+
+-- a slot that is set is there, and no other one goes
+pub set_keeps : {X : Type 0} (old new : List (CellKey × X)) (k : CellKey) (w : X) → ((q : CellKey) → slot_at new q ≡ cond (eq_by_cmp key_cmp k q) (Some w) (slot_at old q)) → KeepsSlots old new
+set_keeps {X} old new k w h q has = subst (λ (o : Option X). IsSome o) (sym (h q)) (go (eq_by_cmp key_cmp k q))
+  where
+    go : (b : Bool) → IsSome (cond b (Some w) (slot_at old q))
+    go true = refl
+    go false = has
+
+pub set_has : {X : Type 0} (old new : List (CellKey × X)) (k : CellKey) (w : X) → ((q : CellKey) → slot_at new q ≡ cond (eq_by_cmp key_cmp k q) (Some w) (slot_at old q)) → HasSlot new k
+set_has {X} old new k w h = subst (λ (o : Option X). IsSome o) (sym (h k ∙ ap (λ (b : Bool). cond b (Some w) (slot_at old k)) (ap is_eq (tied_itself key_cmp_total k)))) refl
 
 -- edits whose keys have slots keep them where no slot goes
 pub slots_kept : {X : Type 0} (old new : List (CellKey × X)) → KeepsSlots old new → (edits : List Edit) → AllByRecursion (HasEdited old) edits → AllByRecursion (HasEdited new) edits
