@@ -1,5 +1,5 @@
 -- The parts come in the place of the tablet.
-use Rattle.std.proofs.Common.{rules, refl, Err, ◌≡◌, ◌++◌, ◌∷◌, [], List, ap, ◌∙◌, set, slice_get, length, ◌+◌, subst, sym}
+use Rattle.std.proofs.Common.{refl, Result, Ok, Err, is_ok, cond, ℕ, ◌<◌, ◌≡◌, ◌++◌, ◌∷◌, [], List, ap, ◌∙◌, set, slice_get, length, ◌+◌, subst, sym}
 use Rattle.std.proofs.lemmas.Option.{slice_get_within}
 use Rattle.cell_key.specs.declared.refusals.Refusal.TheVariants.{Damaged, Device, NoMemory}
 use Rattle.metadata_table.specs.Places.{PlaceView, view_of}
@@ -16,6 +16,11 @@ use Rattle.row_atomic.proofs.Passing.{IsWant, no_fault, none_answered, not_refus
 use Rattle.row_atomic.proofs.Splitting.{holder_emptied, holder_known, matched_cut, parts_keep, read_alone, stays_over}
 use Rattle.row_atomic.proofs.cluster.Cluster.cut.Goals as goal
 
+-- a push that is done
+after_push : {A E X : Type 0} (r : Result A E) (x : A) (xs ys zs : List X) → xs ≡ cond (is_ok r) ys zs → r ≡ Ok x → xs ≡ ys
+after_push (Ok y) x xs ys zs items is = items
+after_push (Err e) x xs ys zs items is = cc
+
 pub position-index-requires : goal.position-index-requires
 position-index-requires g c =
     let holder = c.locate.ensures.holder in
@@ -27,7 +32,7 @@ index_mut-requires g c =
     let holder = c.locate.ensures.holder in
     let at = rw (← c.self.view_is) at c.position-index.ensures in
     let below = slice_get_within c.reserve.new.self.items c.position-index.result at.tablet (ap (λ ys. slice_get ys c.position-index.result) c.reserve.ensures.items ∙ at.there) in
-    search rules
+    subst (λ (n : ℕ). c.position-index.result < n) (sym c.reserve.new.self.ok.0) below
 
 pub invariant_of-self-in_err-part : goal.invariant_of-self-in_err-part
 invariant_of-self-in_err-part g c =
@@ -74,7 +79,7 @@ invariant_of-self-2 g c =
     let there = found_there c.reserve.new.self.items c.position-index.result at.tablet c.index_mut.result.now (ap (λ ys. slice_get ys c.position-index.result) c.reserve.ensures.items ∙ at.there) c.index_mut.ensures.value in
     let there_old = ap (λ ys. slice_get ys c.position-index.result) (sym c.reserve.ensures.items) ∙ there in
     let copied : c.in_ok-table.table ≡ c.self.inside.table = c.in_ok-table.ensures.cases in
-    let pushed : c.push.new.self.items ≡ (set c.self.inside.tablets.items c.position-index.result c.split.new.self ++ c.in_ok-part.part ∷ []) = search rules in
+    let pushed : c.push.new.self.items ≡ (set c.self.inside.tablets.items c.position-index.result c.split.new.self ++ c.in_ok-part.part ∷ []) = after_push c.push.result _ _ _ _ c.push.ensures.items c.unwrap.ensures ∙ ap (λ (ys : List Tablet). ys ++ c.in_ok-part.part ∷ []) (ap (λ (ys : List Tablet). set ys c.position-index.result c.split.new.self) c.reserve.ensures.items) in
     let emptied = (holder_emptied c.args.row.now c.self.inside.table c.self.inside.tablets.items (view_of c.locate.result.now) c.position-index.result c.index_mut.result.now holder at.number there_old (rw (← c.self.view_is) at c.requires.flushed)) in
     subst (λ (ys : List Tablet). IsMatched c.self.inside.file_limit c.split.new.next_name c.split_at.new.self ys) (sym pushed)
     (matched_cut c.self.inside.table c.self.inside.tablets.items c.position-index.result c.index_mut.result.now c.in_ok-part.part c.split.new.self c.args.row.now (view_of c.locate.result.now) table there_old holder at.number c.in_ok-part.ensures.left_range c.in_ok-part.ensures.right_range c.self.inside.file_limit (g.F.Files.contents c.self.inside.files) (g.F.Files.contents c.split.new.files) c.self.inside.next_name c.split.new.next_name c.split_at.new.self c.in_ok-left.left c.split.ensures.name c.split.ensures.limit
@@ -91,7 +96,7 @@ returns-clause-kept g c =
     let at = rw (← c.self.view_is) at c.position-index.ensures in
     let there = found_there c.reserve.new.self.items c.position-index.result at.tablet c.index_mut.result.now (ap (λ ys. slice_get ys c.position-index.result) c.reserve.ensures.items ∙ at.there) c.index_mut.ensures.value in
     let there_old = ap (λ ys. slice_get ys c.position-index.result) (sym c.reserve.ensures.items) ∙ there in
-    let pushed : c.push.new.self.items ≡ (set c.self.inside.tablets.items c.position-index.result c.split.new.self ++ c.in_ok-part.part ∷ []) = search rules in
+    let pushed : c.push.new.self.items ≡ (set c.self.inside.tablets.items c.position-index.result c.split.new.self ++ c.in_ok-part.part ∷ []) = after_push c.push.result _ _ _ _ c.push.ensures.items c.unwrap.ensures ∙ ap (λ (ys : List Tablet). ys ++ c.in_ok-part.part ∷ []) (ap (λ (ys : List Tablet). set ys c.position-index.result c.split.new.self) c.reserve.ensures.items) in
     rw (← c.self.view_is) (λ order. subst (λ (ys : List Tablet). InOrder (g.F.Files.contents c.split.new.files) c.split.new.next_name ys × (cells_in (g.F.Files.contents c.split.new.files) ys ≡ cells_in (g.F.Files.contents c.self.inside.files) c.self.inside.tablets.items)) (sym pushed)
     (parts_keep c.self.inside.table c.self.inside.tablets.items c.position-index.result c.index_mut.result.now c.in_ok-part.part c.split.new.self c.args.row.now (view_of c.locate.result.now) table there_old holder at.number c.in_ok-part.ensures.left_range c.in_ok-part.ensures.right_range c.stays_in_range.ensures c.others_stay.ensures (g.F.Files.contents c.self.inside.files) (g.F.Files.contents c.split.new.files) c.self.inside.next_name c.split.new.next_name c.self.invariant.placed c.self.invariant.as_many c.split.ensures.name c.in_ok-part.ensures.parts order))
 
@@ -102,7 +107,7 @@ returns-clause-halved g c =
     let at = rw (← c.self.view_is) at c.position-index.ensures in
     let there = found_there c.reserve.new.self.items c.position-index.result at.tablet c.index_mut.result.now (ap (λ ys. slice_get ys c.position-index.result) c.reserve.ensures.items ∙ at.there) c.index_mut.ensures.value in
     let there_old = ap (λ ys. slice_get ys c.position-index.result) (sym c.reserve.ensures.items) ∙ there in
-    let pushed : c.push.new.self.items ≡ (set c.self.inside.tablets.items c.position-index.result c.split.new.self ++ c.in_ok-part.part ∷ []) = search rules in
+    let pushed : c.push.new.self.items ≡ (set c.self.inside.tablets.items c.position-index.result c.split.new.self ++ c.in_ok-part.part ∷ []) = after_push c.push.result _ _ _ _ c.push.ensures.items c.unwrap.ensures ∙ ap (λ (ys : List Tablet). ys ++ c.in_ok-part.part ∷ []) (ap (λ (ys : List Tablet). set ys c.position-index.result c.split.new.self) c.reserve.ensures.items) in
     let copied : c.in_ok-table.table ≡ c.self.inside.table = c.in_ok-table.ensures.cases in
     rw (← c.self.view_is) (subst (λ (ys : List Tablet). IsHalved c.self.inside.next_name c.args.row.now c.in_ok-left.left c.self.inside.table c.self.inside.tablets.items ys) (sym pushed)
     (cut_in_two c.args.row.now c.self.inside.table c.self.inside.tablets.items c.position-index.result c.index_mut.result.now c.in_ok-part.part c.split.new.self (view_of c.locate.result.now) holder at.number there_old c.self.inside.next_name c.in_ok-left.left (length c.self.inside.table)
@@ -119,7 +124,7 @@ returns-in_err-part-clause-unchanged g c =
     let there_old = ap (λ ys. slice_get ys c.position-index.result) (sym c.reserve.ensures.items) ∙ there in
     let emptied = holder_emptied c.args.row.now c.self.inside.table c.self.inside.tablets.items (view_of c.locate.result.now) c.position-index.result c.index_mut.result.now holder at.number there_old (rw (← c.self.view_is) at c.requires.flushed) in
     let stays = holder_unchanged c.args.row.now c.self.inside.table c.self.inside.tablets.items c.position-index.result c.index_mut.result.now c.split.new.self (view_of c.locate.result.now) holder at.number there_old (c.in_err-part.ensures.err emptied) in
-    if_err _ c.from_residual-in_err-part.result (rw (← c.self.view_is) (subst (λ (ys : List Tablet). (q : PlaceView) → IsHolder c.args.row.now c.self.inside.table q → Remakes IsUnchanged q.tablet c.self.inside.tablets.items ys) (search rules) stays))
+    if_err _ c.from_residual-in_err-part.result (rw (← c.self.view_is) (subst (λ (ys : List Tablet). (q : PlaceView) → IsHolder c.args.row.now c.self.inside.table q → Remakes IsUnchanged q.tablet c.self.inside.tablets.items ys) (sym (ap (λ (ys : List Tablet). set ys c.position-index.result c.split.new.self) c.reserve.ensures.items)) stays))
 
 pub returns-in_err-table-clause-unchanged : goal.returns-in_err-table-clause-unchanged
 returns-in_err-table-clause-unchanged g c =
