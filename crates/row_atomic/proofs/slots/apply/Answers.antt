@@ -1,4 +1,5 @@
 use Rattle.std.proofs.Common.{◌≢◌, List, ap, subst, ◌∙◌, map}
+use Rattle.std.proofs.lemmas.Result.{IfOk-from_err}
 use Rattle.std.specs.List.{All}
 use Rattle.cell_key.specs.Cells.{edited_key}
 use Rattle.cell_key.specs.declared.keys.CellKey.{CellKey}
@@ -21,3 +22,15 @@ drop_empties-requires c =
     but_written old made c.in_ok-keys.keys.items c.write_all.new.slots.entries c.args.edits.items keys c.requires
     (subst (λ (ks : List CellKey). EmptiesNone (λ q. All (λ key. key ≢ q) ks) old made) c.deref-2.ensures.value c.in-Ok.ensures.empties)
     c.write_all.ensures.empties
+
+pub returns-in_err-keys-clause-ok : goal.returns-in_err-keys-clause-ok
+returns-in_err-keys-clause-ok c = IfOk-from_err c.from_residual.result _ c.from_residual.ensures.0
+
+pub returns-in_err-keys-clause-full : goal.returns-in_err-keys-clause-full
+returns-in_err-keys-clause-full c = c.requires
+
+pub returns-in-Ok-clause-err : goal.returns-in-Ok-clause-err
+returns-in-Ok-clause-err c = tt
+
+pub returns-in-Err-clause-ok : goal.returns-in-Err-clause-ok
+returns-in-Err-clause-ok c = tt
