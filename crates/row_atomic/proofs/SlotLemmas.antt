@@ -114,6 +114,12 @@ full_but_rest old new k keys filled same full q others empty = go (eq_by_cmp key
         let apart : k ≢ q = λ same_key. clash (eq_by_cmp key_cmp k q) (ap (eq_by_cmp key_cmp k) (sym same_key) ∙ ap is_eq (tied_itself key_cmp_total k)) e in
         full q (apart, others) (sym (same q apart) ∙ empty)
 
+-- nor once the slot has gone
+pub full_without : {X : Type 0} (old new : List (CellKey × Option X)) (k : CellKey) (keys : List CellKey) → ((q : CellKey) → slot_at new q ≡ cond (eq_by_cmp key_cmp k q) None (slot_at old q)) → IsFullBut (k ∷ keys) old → IsFullBut keys new
+full_without {X} old new k keys h full =
+    let none : slot_at new k ≡ None = h k ∙ ap (λ (b : Bool). cond b None (slot_at old k)) (ap is_eq (tied_itself key_cmp_total k)) in
+    full_but_rest old new k keys (not_empty (slot_at new k) none) (elsewhere old new k None h) full
+
 -- each of the keys of edits has a slot
 pub edits_have_slots : {X : Type 0} (slots : List (CellKey × X)) (edits : List Edit) → AllByRecursion (HasSlot slots) (map edited_key edits) → AllByRecursion (HasEdited slots) edits
 edits_have_slots slots [] all = tt
