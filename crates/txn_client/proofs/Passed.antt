@@ -1,5 +1,5 @@
 -- What a call tells where the one that it ends with was refused, or wasn't.
-use Rattle.std.proofs.Common.{◌≡◌, ◌≤◌, ℕ, List, sym, subst, ap, ◌∙◌}
+use Rattle.std.proofs.Common.{◌≡◌, ◌<◌, ◌≤◌, ℕ, List, sym, subst, ap, ◌∙◌, arith}
 use Rattle.std.proofs.lemmas.Option.{none-some}
 use Rattle.std.specs.FinMap.{get}
 use Rattle.std.specs.Result.{IfErr, IfOk, IsErrAnd, IsErrOf, OnErr, OnOk}
@@ -61,6 +61,28 @@ apply_row _ u = absurd u
 
 pub damaged_no_device : {A : Type 0} → IsErrOf {T = A} (Err Damaged) Device → ⊥
 damaged_no_device is = cc
+
+-- a commit of nothing is refused, and nothing else is told of it
+pub empty_undamaged : {A : Type 0} → IsErrOf {T = A} (Err EmptyCommit) Damaged → ⊥
+empty_undamaged is = cc
+
+pub empty_not_full : {A : Type 0} → IsErrOf {T = A} (Err EmptyCommit) MemtableFull → ⊥
+empty_not_full is = cc
+
+pub empty_no_device : {A : Type 0} → IsErrOf {T = A} (Err EmptyCommit) Device → ⊥
+empty_no_device is = cc
+
+pub empty_not_exhausted : {A : Type 0} → IsErrOf {T = A} (Err EmptyCommit) Exhausted → ⊥
+empty_not_exhausted is = cc
+
+pub at_most_itself : (n : ℕ) → n ≤ n
+at_most_itself n = omega arith
+
+pub at_most_more : (n k : ℕ) → n ≤ 0 → n ≤ k
+at_most_more n k none = omega arith
+
+pub not_past : (n k : ℕ) → k < n → n ≤ k → ⊥
+not_past n k there past = omega arith
 
 -- a count of faults that hadn't changed before
 pub risen_from : (before between now : ℕ) → between ≡ before → HasRisen between now → HasRisen before now

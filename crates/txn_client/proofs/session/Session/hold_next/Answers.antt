@@ -1,10 +1,10 @@
-use Rattle.std.proofs.Common.{◌≡◌, refl, ℕ, ap, subst, ◌∙◌}
+use Rattle.std.proofs.Common.{◌≡◌, refl, ℕ, [], ap, subst, ◌∙◌}
 use Rattle.cell_key.specs.Cells.{Cells, after_edits}
 use Rattle.si_model.specs.ShowsCells.{held_cells, Touches}
 use Rattle.txn_client.specs.Reads.{IsTaken, IsFree}
 use Rattle.txn_client.proofs.Sessions.{advance_conflict, advance_held}
 use Rattle.txn_client.proofs.Room.{no_room_to_hold}
-use Rattle.txn_client.proofs.Passed.{passed_on, passed_err, passed_none, passed_kept, passed_back, not_err, read_row, row_advance, read_not_full, read_not_exhausted, row_not_exhausted, later_at}
+use Rattle.txn_client.proofs.Passed.{passed_on, passed_err, passed_none, passed_kept, passed_back, not_err, read_row, row_advance, read_not_full, read_not_exhausted, row_not_exhausted, later_at, touches_kept, empty_undamaged, empty_not_full, empty_no_device, empty_not_exhausted, at_most_itself, at_most_more, not_past}
 use Rattle.txn_client.proofs.session.Session.hold_next.Goals as goal
 
 pub returns-then-branch-clause-step : goal.returns-then-branch-clause-step
@@ -195,3 +195,162 @@ returns-clause-told g c = λ other. c.in_ok-hold.ensures.untouched ∙ c.in_ok-i
 
 pub returns-clause-not_exhausted : goal.returns-clause-not_exhausted
 returns-clause-not_exhausted g c = λ is. not_err _ _ is
+
+pub returns-in_default-clause-step : goal.returns-in_default-clause-step
+returns-in_default-clause-step g c = λ held. tt
+
+pub returns-in_default-clause-draws : goal.returns-in_default-clause-draws
+returns-in_default-clause-draws g c = tt
+
+pub returns-in_default-clause-start : goal.returns-in_default-clause-start
+returns-in_default-clause-start g c = refl
+
+pub returns-in_default-clause-writes : goal.returns-in_default-clause-writes
+returns-in_default-clause-writes g c = refl
+
+pub returns-in_default-clause-err : goal.returns-in_default-clause-err
+returns-in_default-clause-err g c = refl
+
+pub returns-in_default-clause-kept : goal.returns-in_default-clause-kept
+returns-in_default-clause-kept g c = λ held. refl
+
+pub returns-in_default-clause-touched : goal.returns-in_default-clause-touched
+returns-in_default-clause-touched g c = λ held. ([], touches_kept (g.R.Rows.cells c.args.rows.now) _ [] c.args.self.now.start c.args.self.now.start refl)
+
+pub returns-in_default-clause-still : goal.returns-in_default-clause-still
+returns-in_default-clause-still g c = λ held. held
+
+pub returns-in_default-clause-storage : goal.returns-in_default-clause-storage
+returns-in_default-clause-storage g c = refl
+
+pub returns-in_default-clause-undamaged : goal.returns-in_default-clause-undamaged
+returns-in_default-clause-undamaged g c = λ held is. empty_undamaged is
+
+pub returns-in_default-clause-refusal : goal.returns-in_default-clause-refusal
+returns-in_default-clause-refusal g c = c.in_default.ensures.none
+
+pub returns-in_default-clause-empty : goal.returns-in_default-clause-empty
+returns-in_default-clause-empty g c = λ past. refl
+
+pub returns-in_default-clause-made : goal.returns-in_default-clause-made
+returns-in_default-clause-made g c = λ held. tt
+
+pub returns-in_default-clause-full : goal.returns-in_default-clause-full
+returns-in_default-clause-full g c = λ held is. absurd (empty_not_full is)
+
+pub returns-in_default-clause-device : goal.returns-in_default-clause-device
+returns-in_default-clause-device g c = λ is. absurd (empty_no_device is)
+
+pub returns-in_default-clause-later : goal.returns-in_default-clause-later
+returns-in_default-clause-later g c = at_most_itself _
+
+pub returns-in_default-clause-told : goal.returns-in_default-clause-told
+returns-in_default-clause-told g c = λ other. refl
+
+pub returns-in_default-clause-not_exhausted : goal.returns-in_default-clause-not_exhausted
+returns-in_default-clause-not_exhausted g c = λ is. empty_not_exhausted is
+
+pub returns-in_default-get-clause-step : goal.returns-in_default-get-clause-step
+returns-in_default-get-clause-step g c = λ held. tt
+
+pub returns-in_default-get-clause-draws : goal.returns-in_default-get-clause-draws
+returns-in_default-get-clause-draws g c = tt
+
+pub returns-in_default-get-clause-start : goal.returns-in_default-get-clause-start
+returns-in_default-get-clause-start g c = refl
+
+pub returns-in_default-get-clause-writes : goal.returns-in_default-get-clause-writes
+returns-in_default-get-clause-writes g c = refl
+
+pub returns-in_default-get-clause-err : goal.returns-in_default-get-clause-err
+returns-in_default-get-clause-err g c = refl
+
+pub returns-in_default-get-clause-kept : goal.returns-in_default-get-clause-kept
+returns-in_default-get-clause-kept g c = λ held. refl
+
+pub returns-in_default-get-clause-touched : goal.returns-in_default-get-clause-touched
+returns-in_default-get-clause-touched g c = λ held. ([], touches_kept (g.R.Rows.cells c.args.rows.now) _ [] c.args.self.now.start c.args.self.now.start refl)
+
+pub returns-in_default-get-clause-still : goal.returns-in_default-get-clause-still
+returns-in_default-get-clause-still g c = λ held. held
+
+pub returns-in_default-get-clause-storage : goal.returns-in_default-get-clause-storage
+returns-in_default-get-clause-storage g c = refl
+
+pub returns-in_default-get-clause-undamaged : goal.returns-in_default-get-clause-undamaged
+returns-in_default-get-clause-undamaged g c = λ held is. empty_undamaged is
+
+pub returns-in_default-get-clause-refusal : goal.returns-in_default-get-clause-refusal
+returns-in_default-get-clause-refusal g c = at_most_more _ _ c.in_default-get.ensures.none
+
+pub returns-in_default-get-clause-empty : goal.returns-in_default-get-clause-empty
+returns-in_default-get-clause-empty g c = λ past. refl
+
+pub returns-in_default-get-clause-made : goal.returns-in_default-get-clause-made
+returns-in_default-get-clause-made g c = λ held. tt
+
+pub returns-in_default-get-clause-full : goal.returns-in_default-get-clause-full
+returns-in_default-get-clause-full g c = λ held is. absurd (empty_not_full is)
+
+pub returns-in_default-get-clause-device : goal.returns-in_default-get-clause-device
+returns-in_default-get-clause-device g c = λ is. absurd (empty_no_device is)
+
+pub returns-in_default-get-clause-later : goal.returns-in_default-get-clause-later
+returns-in_default-get-clause-later g c = at_most_itself _
+
+pub returns-in_default-get-clause-told : goal.returns-in_default-get-clause-told
+returns-in_default-get-clause-told g c = λ other. refl
+
+pub returns-in_default-get-clause-not_exhausted : goal.returns-in_default-get-clause-not_exhausted
+returns-in_default-get-clause-not_exhausted g c = λ is. empty_not_exhausted is
+
+pub returns-in_err-is_taken-clause-start : goal.returns-in_err-is_taken-clause-start
+returns-in_err-is_taken-clause-start g c = refl
+
+pub returns-in_err-is_taken-clause-writes : goal.returns-in_err-is_taken-clause-writes
+returns-in_err-is_taken-clause-writes g c = refl
+
+pub returns-in_err-is_taken-clause-err : goal.returns-in_err-is_taken-clause-err
+returns-in_err-is_taken-clause-err g c = passed_kept c.from_residual.result _ refl
+
+pub returns-in_err-is_taken-clause-touched : goal.returns-in_err-is_taken-clause-touched
+returns-in_err-is_taken-clause-touched g c = λ held. (c.in-Some.write.now.cell.row, touches_kept _ _ c.in-Some.write.now.cell.row _ _ (c.in_err-is_taken.ensures.kept held))
+
+pub returns-in_err-is_taken-clause-empty : goal.returns-in_err-is_taken-clause-empty
+returns-in_err-is_taken-clause-empty g c = λ past. absurd (not_past _ _ c.in-Some.ensures.some past)
+
+pub returns-then-branch-clause-start : goal.returns-then-branch-clause-start
+returns-then-branch-clause-start g c = refl
+
+pub returns-then-branch-clause-writes : goal.returns-then-branch-clause-writes
+returns-then-branch-clause-writes g c = refl
+
+pub returns-then-branch-clause-touched : goal.returns-then-branch-clause-touched
+returns-then-branch-clause-touched g c = λ held. (c.in-Some.write.now.cell.row, touches_kept _ _ c.in-Some.write.now.cell.row _ _ (c.in_ok-is_taken.ensures.kept held))
+
+pub returns-then-branch-clause-empty : goal.returns-then-branch-clause-empty
+returns-then-branch-clause-empty g c = λ past. absurd (not_past _ _ c.in-Some.ensures.some past)
+
+pub returns-in_err-hold-clause-start : goal.returns-in_err-hold-clause-start
+returns-in_err-hold-clause-start g c = refl
+
+pub returns-in_err-hold-clause-writes : goal.returns-in_err-hold-clause-writes
+returns-in_err-hold-clause-writes g c = refl
+
+pub returns-in_err-hold-clause-err : goal.returns-in_err-hold-clause-err
+returns-in_err-hold-clause-err g c = passed_kept c.from_residual-in_err-hold.result _ refl
+
+pub returns-in_err-hold-clause-touched : goal.returns-in_err-hold-clause-touched
+returns-in_err-hold-clause-touched g c = λ held. (c.in-Some.write.now.cell.row, touches_kept _ _ c.in-Some.write.now.cell.row _ _ (c.in_err-hold.ensures.kept (c.in_ok-is_taken.ensures.still held) ∙ c.in_ok-is_taken.ensures.kept held))
+
+pub returns-in_err-hold-clause-empty : goal.returns-in_err-hold-clause-empty
+returns-in_err-hold-clause-empty g c = λ past. absurd (not_past _ _ c.in-Some.ensures.some past)
+
+pub returns-clause-start : goal.returns-clause-start
+returns-clause-start g c = refl
+
+pub returns-clause-writes : goal.returns-clause-writes
+returns-clause-writes g c = refl
+
+pub returns-clause-empty : goal.returns-clause-empty
+returns-clause-empty g c = λ past. absurd (not_past _ _ c.in-Some.ensures.some past)
