@@ -1,15 +1,72 @@
-use Rattle.std.proofs.Common.{ℕ, ◌≡◌, inl, inr, length, refl, subst, sym, IfErr}
+use Rattle.std.proofs.Common.{ℕ, ◌≡◌, ◌≤◌, [], inl, inr, length, refl, ap, ◌∙◌, subst, sym, IfErr}
 use Rattle.std.proofs.lemmas.Result.{IfOk-weaker}
 use Rattle.cell_key.specs.Cells.{Cells}
 use Rattle.txn_client.specs.Shows.{Advances, DrawsNext, HasNoNext, TouchesBy, phase_of, top_after, writes_of}
 use Rattle.txn_client.specs.Refusals.{IsAdvanceRefusal}
+use Rattle.std.specs.Result.{IsErrOf}
+use Rattle.std.specs.declared.result.Result.{Result}
+use Rattle.std.specs.declared.result.Result.TheVariants.{Ok, Err}
+use Rattle.cell_key.specs.declared.refusals.Refusal.{Refusal}
+use Rattle.cell_key.specs.declared.refusals.Refusal.TheVariants.{EmptyCommit, MemtableFull, Exhausted, Device, NoMemory, Damaged}
+use Rattle.oracle.specs.Ranges.{IsDrawRefusal}
 use Rattle.txn_client.specs.Room.{ChangesIn, HasNoRoom}
 use Rattle.txn_client.specs.declared.session.Phase.{Phase}
 use Rattle.txn_client.specs.declared.session.Phase.TheVariants.{Open, Holding, Stamped, Finishing}
 use Rattle.txn_client.proofs.Room.{made_in, stamped_makes}
 use Rattle.txn_client.proofs.Sessions.{ok_at}
-use Rattle.txn_client.proofs.Passed.{passed_kept}
+use Rattle.txn_client.proofs.Passed.{passed_kept, at_most_itself, touches_kept, not_err}
 use Rattle.txn_client.proofs.session.Session.advance.Goals as goal
+
+not_held_open : (p : Phase) (k : ℕ) → p ≡ Open → p ≡ Holding k → ⊥
+not_held_open p k at_first held = cc
+
+not_held_stamped : (p : Phase) (k : ℕ) → p ≡ Stamped → p ≡ Holding k → ⊥
+not_held_stamped p k stamped held = cc
+
+not_held_finishing : (p : Phase) (j k : ℕ) → p ≡ Finishing j → p ≡ Holding k → ⊥
+not_held_finishing p j k finishing held = cc
+
+not_open_stamped : (p : Phase) → p ≡ Stamped → p ≡ Open → ⊥
+not_open_stamped p stamped at_first = cc
+
+not_open_finishing : (p : Phase) (j : ℕ) → p ≡ Finishing j → p ≡ Open → ⊥
+not_open_finishing p j finishing at_first = cc
+
+held_all : (p : Phase) (k n m : ℕ) → p ≡ Holding k → k ≡ n → n ≡ m → p ≡ Holding m
+held_all p k n m is all count = is ∙ ap (λ (x : ℕ). Holding x) (all ∙ count)
+
+held_some : (p : Phase) (k n m : ℕ) → p ≡ Holding k → (k ≡ n → ⊥) → n ≡ m → p ≡ Holding m → ⊥
+held_some p k n m is other count held = let same : k ≡ m = cc in other (same ∙ sym count)
+
+no_next : (p : Phase) (k n m : ℕ) → p ≡ Holding k → (k ≡ n → ⊥) → n ≡ m → m ≤ k → HasNoNext p m
+no_next p k n m is other count past = subst (λ (q : Phase). HasNoNext q m) (sym is) (past, λ same. other (same ∙ sym count))
+
+-- what a draw is refused with, a step is
+draw_advance : (P : Type 0) (e : Refusal) → IsDrawRefusal e → IsAdvanceRefusal P e
+draw_advance P Exhausted u = tt
+draw_advance P Device u = tt
+draw_advance P _ u = absurd u
+
+draw_refused : {A : Type 0} (r : Result A Refusal) (P : Type 0) → IfErr r IsDrawRefusal → IfErr r (IsAdvanceRefusal P)
+draw_refused (Ok x) P h = tt
+draw_refused (Err e) P h = draw_advance P e h
+
+draw_not : {A : Type 0} (r : Result A Refusal) (n : Refusal) → (IsDrawRefusal n → ⊥) → IfErr r IsDrawRefusal → IsErrOf r n → ⊥
+draw_not (Ok x) n none h is = not_err x n is
+draw_not (Err e) n none h is = let same : e ≡ n = cc in none (subst IsDrawRefusal same h)
+
+advance_weaker : (P Q : Type 0) (e : Refusal) → (P → Q) → IsAdvanceRefusal P e → IsAdvanceRefusal Q e
+advance_weaker P Q EmptyCommit so u = so u
+advance_weaker P Q MemtableFull so u = tt
+advance_weaker P Q Exhausted so u = tt
+advance_weaker P Q Device so u = tt
+advance_weaker P Q NoMemory so u = tt
+advance_weaker P Q Damaged so u = tt
+advance_weaker P Q _ so u = absurd u
+
+refused_weaker : {A : Type 0} (r : Result A Refusal) (P Q : Type 0) → (P → Q) → IfErr r (IsAdvanceRefusal P) → IfErr r (IsAdvanceRefusal Q)
+refused_weaker (Ok x) P Q so h = tt
+refused_weaker (Err e) P Q so h = advance_weaker P Q e so h
 
 pub returns-in-Open-clause-step : goal.returns-in-Open-clause-step
 returns-in-Open-clause-step g c = λ held.
@@ -328,3 +385,84 @@ returns-in-Finishing-clause-full g c = λ held is st reached shown mine. subst (
 
 pub returns-in-Finishing-clause-refusal : goal.returns-in-Finishing-clause-refusal
 returns-in-Finishing-clause-refusal g c = subst (λ (p : Phase). IfErr c.finish_next.result (IsAdvanceRefusal (HasNoNext p (length c.args.self.now.writes)))) (sym c.in-Finishing.is) c.finish_next.ensures.refusal
+
+pub hold_next-requires : goal.hold_next-requires
+hold_next-requires g c = inr (c.in-Open.is, refl)
+
+pub draw_commit-requires : goal.draw_commit-requires
+draw_commit-requires g c = held_all _ _ _ _ c.in-Holding.is c.if-k-len.true c.len.ensures.len
+
+pub hold_next-requires-else-k-len : goal.hold_next-requires-else-k-len
+hold_next-requires-else-k-len g c = inl c.in-Holding.is
+
+pub commit_first-requires : goal.commit_first-requires
+commit_first-requires g c = c.in-Stamped.is
+
+pub finish_next-requires : goal.finish_next-requires
+finish_next-requires g c = c.in-Finishing.is
+
+pub returns-in-Open-clause-empty : goal.returns-in-Open-clause-empty
+returns-in-Open-clause-empty g c = λ is. c.hold_next.ensures.empty
+
+pub returns-in-Open-clause-drawing : goal.returns-in-Open-clause-drawing
+returns-in-Open-clause-drawing g c = λ is. absurd (not_held_open _ _ c.in-Open.is is)
+
+pub returns-in-Open-clause-mark_later : goal.returns-in-Open-clause-mark_later
+returns-in-Open-clause-mark_later g c = at_most_itself _
+
+pub returns-then-k-len-clause-touched : goal.returns-then-k-len-clause-touched
+returns-then-k-len-clause-touched g c = λ held.
+    let cells = g.R.Rows.cells c.args.rows.now in
+    let session = c.args.self.now in
+    subst (λ (p : Phase). TouchesBy p cells cells session.start session.commit) (sym c.in-Holding.is) ([], touches_kept cells cells [] session.start session.start refl)
+
+pub returns-then-k-len-clause-undamaged : goal.returns-then-k-len-clause-undamaged
+returns-then-k-len-clause-undamaged g c = λ held is. draw_not c.draw_commit.result Damaged (λ u. u) c.draw_commit.ensures.refusal is
+
+pub returns-then-k-len-clause-refusal : goal.returns-then-k-len-clause-refusal
+returns-then-k-len-clause-refusal g c = draw_refused c.draw_commit.result _ c.draw_commit.ensures.refusal
+
+pub returns-then-k-len-clause-empty : goal.returns-then-k-len-clause-empty
+returns-then-k-len-clause-empty g c = λ is. absurd (not_held_open _ _ is c.in-Holding.is)
+
+pub returns-then-k-len-clause-full : goal.returns-then-k-len-clause-full
+returns-then-k-len-clause-full g c = λ held is. absurd (draw_not c.draw_commit.result MemtableFull (λ u. u) c.draw_commit.ensures.refusal is)
+
+pub returns-then-k-len-clause-draw_only : goal.returns-then-k-len-clause-draw_only
+returns-then-k-len-clause-draw_only g c = λ is. held_all _ _ _ _ c.in-Holding.is c.if-k-len.true c.len.ensures.len
+
+pub returns-then-k-len-clause-aside : goal.returns-then-k-len-clause-aside
+returns-then-k-len-clause-aside g c = λ other. absurd (other (held_all _ _ _ _ c.in-Holding.is c.if-k-len.true c.len.ensures.len))
+
+pub returns-then-k-len-clause-later : goal.returns-then-k-len-clause-later
+returns-then-k-len-clause-later g c = at_most_itself _
+
+pub returns-else-k-len-clause-refusal : goal.returns-else-k-len-clause-refusal
+returns-else-k-len-clause-refusal g c = refused_weaker c.hold_next-else-k-len.result _ _ (no_next _ _ _ _ c.in-Holding.is c.if-k-len.false c.len.ensures.len) c.hold_next-else-k-len.ensures.refusal
+
+pub returns-else-k-len-clause-empty : goal.returns-else-k-len-clause-empty
+returns-else-k-len-clause-empty g c = λ is. absurd (not_held_open _ _ is c.in-Holding.is)
+
+pub returns-else-k-len-clause-drawing : goal.returns-else-k-len-clause-drawing
+returns-else-k-len-clause-drawing g c = λ is. absurd (held_some _ _ _ _ c.in-Holding.is c.if-k-len.false c.len.ensures.len is)
+
+pub returns-else-k-len-clause-mark_later : goal.returns-else-k-len-clause-mark_later
+returns-else-k-len-clause-mark_later g c = at_most_itself _
+
+pub returns-in-Stamped-clause-empty : goal.returns-in-Stamped-clause-empty
+returns-in-Stamped-clause-empty g c = λ is. absurd (not_open_stamped _ c.in-Stamped.is is)
+
+pub returns-in-Stamped-clause-drawing : goal.returns-in-Stamped-clause-drawing
+returns-in-Stamped-clause-drawing g c = λ is. absurd (not_held_stamped _ _ c.in-Stamped.is is)
+
+pub returns-in-Stamped-clause-mark_later : goal.returns-in-Stamped-clause-mark_later
+returns-in-Stamped-clause-mark_later g c = at_most_itself _
+
+pub returns-in-Finishing-clause-empty : goal.returns-in-Finishing-clause-empty
+returns-in-Finishing-clause-empty g c = λ is. absurd (not_open_finishing _ _ c.in-Finishing.is is)
+
+pub returns-in-Finishing-clause-drawing : goal.returns-in-Finishing-clause-drawing
+returns-in-Finishing-clause-drawing g c = λ is. absurd (not_held_finishing _ _ _ c.in-Finishing.is is)
+
+pub returns-in-Finishing-clause-mark_later : goal.returns-in-Finishing-clause-mark_later
+returns-in-Finishing-clause-mark_later g c = at_most_itself _
