@@ -1,10 +1,10 @@
-use Rattle.std.proofs.Common.{◌≡◌, refl, ◌∙◌, ◌+◌, ap, sym, Bool, true, false, inl, inr, ◌⊎◌}
+use Rattle.std.proofs.Common.{◌≡◌, [], refl, ◌∙◌, ◌+◌, ap, sym, Bool, true, false, inl, inr, ◌⊎◌}
 use Rattle.std.specs.Prelude.{nat_eq}
 use Rattle.cell_key.specs.Cells.{Cells, after_edits}
 use Rattle.std.specs.Bool.{OnTrue, OnFalse}
 use Rattle.txn_client.proofs.Sessions.{advance_finished}
 use Rattle.txn_client.proofs.Room.{no_room_to_record}
-use Rattle.txn_client.proofs.Passed.{passed_on, passed_err, passed_none, passed_kept, passed_back, not_err, row_advance, row_not_exhausted}
+use Rattle.txn_client.proofs.Passed.{passed_on, passed_err, passed_none, passed_kept, passed_back, not_err, row_advance, row_not_exhausted, touches_kept, empty_undamaged, empty_not_full, empty_no_device, empty_not_exhausted, at_most_itself}
 use Rattle.txn_client.proofs.session.Session.finish_next.Goals as goal
 
 either : {P Q R S : Type 0} (b : Bool) → OnTrue b P → OnFalse b Q → OnTrue b R → OnFalse b S → (P × R) ⊎ (Q × S)
@@ -113,3 +113,66 @@ returns-clause-told g c = λ other. c.in_ok-_stood.ensures.told (λ is. not_err 
 
 pub returns-clause-not_exhausted : goal.returns-clause-not_exhausted
 returns-clause-not_exhausted g c = λ is. not_err _ _ is
+
+pub returns-in_default-clause-step : goal.returns-in_default-clause-step
+returns-in_default-clause-step g c = λ held. tt
+
+pub returns-in_default-clause-draws : goal.returns-in_default-clause-draws
+returns-in_default-clause-draws g c = tt
+
+pub returns-in_default-clause-start : goal.returns-in_default-clause-start
+returns-in_default-clause-start g c = refl
+
+pub returns-in_default-clause-writes : goal.returns-in_default-clause-writes
+returns-in_default-clause-writes g c = refl
+
+pub returns-in_default-clause-err : goal.returns-in_default-clause-err
+returns-in_default-clause-err g c = refl
+
+pub returns-in_default-clause-kept : goal.returns-in_default-clause-kept
+returns-in_default-clause-kept g c = λ held. refl
+
+pub returns-in_default-clause-touched : goal.returns-in_default-clause-touched
+returns-in_default-clause-touched g c = λ held. ([], touches_kept (g.R.Rows.cells c.args.rows.now) _ [] c.args.self.now.start c.args.self.now.commit refl)
+
+pub returns-in_default-clause-still : goal.returns-in_default-clause-still
+returns-in_default-clause-still g c = λ held. held
+
+pub returns-in_default-clause-storage : goal.returns-in_default-clause-storage
+returns-in_default-clause-storage g c = refl
+
+pub returns-in_default-clause-undamaged : goal.returns-in_default-clause-undamaged
+returns-in_default-clause-undamaged g c = λ held is. empty_undamaged is
+
+pub returns-in_default-clause-refusal : goal.returns-in_default-clause-refusal
+returns-in_default-clause-refusal g c = c.in_default.ensures.none
+
+pub returns-in_default-clause-made : goal.returns-in_default-clause-made
+returns-in_default-clause-made g c = λ held. tt
+
+pub returns-in_default-clause-full : goal.returns-in_default-clause-full
+returns-in_default-clause-full g c = λ held is. absurd (empty_not_full is)
+
+pub returns-in_default-clause-device : goal.returns-in_default-clause-device
+returns-in_default-clause-device g c = λ is. absurd (empty_no_device is)
+
+pub returns-in_default-clause-later : goal.returns-in_default-clause-later
+returns-in_default-clause-later g c = at_most_itself _
+
+pub returns-in_default-clause-told : goal.returns-in_default-clause-told
+returns-in_default-clause-told g c = λ other. refl
+
+pub returns-in_default-clause-not_exhausted : goal.returns-in_default-clause-not_exhausted
+returns-in_default-clause-not_exhausted g c = λ is. empty_not_exhausted is
+
+pub returns-in_err-_stood-clause-start : goal.returns-in_err-_stood-clause-start
+returns-in_err-_stood-clause-start g c = refl
+
+pub returns-in_err-_stood-clause-writes : goal.returns-in_err-_stood-clause-writes
+returns-in_err-_stood-clause-writes g c = refl
+
+pub returns-clause-start : goal.returns-clause-start
+returns-clause-start g c = refl
+
+pub returns-clause-writes : goal.returns-clause-writes
+returns-clause-writes g c = refl
