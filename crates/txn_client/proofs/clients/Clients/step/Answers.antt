@@ -1,13 +1,31 @@
-use Rattle.std.proofs.Common.{◌≡◌, ◌∙◌, sym, ap, subst, refl, Option, Some, None, true, cond, inl, arith}
+use Rattle.std.proofs.Common.{◌≡◌, ◌∙◌, sym, ap, subst, refl, Option, Some, None, true, cond, inl, ℕ, ◌≤◌, arith}
 use Rattle.std.specs.Prelude.{is_some, IsSome}
 use Rattle.std.specs.Ordering.{nat_cmp, is_eq}
 use Rattle.std.specs.BTreeMap as btree
+use Rattle.std.specs.Result.{IsErrOf}
+use Rattle.std.specs.declared.result.Result.TheVariants.{Err}
+use Rattle.cell_key.specs.declared.refusals.Refusal.TheVariants.{UnknownSession, MemtableFull, Exhausted, Device, Damaged}
 use Rattle.txn_client.specs.declared.session.Session.{Session}
 use Rattle.txn_client.proofs.Room.{made_shown, no_room_shown, draws_shown}
-use Rattle.txn_client.proofs.Passed.{passed_on, passed_err, passed_none, passed_kept, passed_back, not_err, advance_step}
+use Rattle.txn_client.proofs.Passed.{passed_on, passed_err, passed_none, passed_kept, passed_back, not_err, advance_step, at_most_itself}
 use Rattle.txn_client.proofs.Exact.{is_kept, is_there, passes, unwritten_none, unwritten_phase}
 use Rattle.txn_client.proofs.Table.{entries_each, same_each, takes_at, steps_refused, advance_unknown_at, as_err, twice, with_none, touches_at, draws_next, never_draws}
 use Rattle.txn_client.proofs.clients.Clients.step.Goals as goal
+
+unknown_undamaged : {A : Type 0} → IsErrOf {T = A} (Err UnknownSession) Damaged → ⊥
+unknown_undamaged is = cc
+
+unknown_not_exhausted : {A : Type 0} → IsErrOf {T = A} (Err UnknownSession) Exhausted → ⊥
+unknown_not_exhausted is = cc
+
+unknown_not_full : {A : Type 0} → IsErrOf {T = A} (Err UnknownSession) MemtableFull → ⊥
+unknown_not_full is = cc
+
+unknown_no_device : {A : Type 0} → IsErrOf {T = A} (Err UnknownSession) Device → ⊥
+unknown_no_device is = cc
+
+not_less : (n m : ℕ) → m ≡ n → n ≤ m
+not_less n m same = omega arith
 
 pub returns-then-outcome-clause-step : goal.returns-then-outcome-clause-step
 returns-then-outcome-clause-step g c = λ held.
@@ -40,7 +58,7 @@ returns-in_err-outcome-clause-step g c = λ held.
     let lent = c.get_mut.follows.holds w in
     let e = as_err c.from_residual.result c.in_err-outcome.field-0.0 c.from_residual.ensures.1 in
     rw (e, c.in_err-outcome.ensures.kept held) (steps_refused (g.R.Rows.cells c.args.rows.now) c.args.self.now (record c.args.self.now { sessions = c.get_mut.follows.lender w }) c.args.oracle.now.last c.advance.new.oracle.last c.args.start
-    c.in-Some.session.now w c.in_err-outcome.field-0.0 was c.in_err-outcome.ensures.err refl (lent.3 there).0 lent.2 (omega (arith, c.in_err-outcome.ensures.stays)) c.in_err-outcome.ensures.refusal)
+    c.in-Some.session.now w c.in_err-outcome.field-0.0 was c.in_err-outcome.ensures.err refl (lent.3 there).0 lent.2 (not_less _ _ c.in_err-outcome.ensures.stays) c.in_err-outcome.ensures.refusal)
 
 pub returns-in_default-clause-step : goal.returns-in_default-clause-step
 returns-in_default-clause-step g c = λ held.
@@ -60,13 +78,13 @@ pub returns-then-outcome-clause-empty : goal.returns-then-outcome-clause-empty
 returns-then-outcome-clause-empty g c = λ st shown none.
     let was = sym c.in-Some.ensures.value in
     let e = c.in_ok-outcome.ensures.empty (unwritten_phase c.args.self.now c.args.start st shown none c.in-Some.session.now was) (unwritten_none c.args.self.now c.args.start st shown none c.in-Some.session.now was) in
-    cc
+    absurd (not_err _ _ e)
 
 pub returns-else-outcome-clause-empty : goal.returns-else-outcome-clause-empty
 returns-else-outcome-clause-empty g c = λ st shown none.
     let was = sym c.in-Some.ensures.value in
     let e = c.in_ok-outcome.ensures.empty (unwritten_phase c.args.self.now c.args.start st shown none c.in-Some.session.now was) (unwritten_none c.args.self.now c.args.start st shown none c.in-Some.session.now was) in
-    cc
+    absurd (not_err _ _ e)
 
 pub returns-in_err-outcome-clause-empty : goal.returns-in_err-outcome-clause-empty
 returns-in_err-outcome-clause-empty g c = λ st shown none.
@@ -298,3 +316,60 @@ returns-in_default-clause-aside g c = λ st shown other. refl
 
 pub returns-in_default-clause-touched : goal.returns-in_default-clause-touched
 returns-in_default-clause-touched g c = λ held st shown. inl refl
+
+pub returns-in_default-clause-kept : goal.returns-in_default-clause-kept
+returns-in_default-clause-kept g c = λ held. refl
+
+pub returns-in_default-clause-still : goal.returns-in_default-clause-still
+returns-in_default-clause-still g c = λ held. held
+
+pub returns-in_default-clause-storage : goal.returns-in_default-clause-storage
+returns-in_default-clause-storage g c = refl
+
+pub returns-in_default-clause-made : goal.returns-in_default-clause-made
+returns-in_default-clause-made g c = λ held. tt
+
+pub returns-in_default-clause-draws : goal.returns-in_default-clause-draws
+returns-in_default-clause-draws g c = tt
+
+pub returns-in_default-clause-last : goal.returns-in_default-clause-last
+returns-in_default-clause-last g c = tt
+
+pub returns-in_default-clause-stays : goal.returns-in_default-clause-stays
+returns-in_default-clause-stays g c = refl
+
+pub returns-in_default-clause-undamaged : goal.returns-in_default-clause-undamaged
+returns-in_default-clause-undamaged g c = λ held is. unknown_undamaged is
+
+pub returns-in_default-clause-refusal : goal.returns-in_default-clause-refusal
+returns-in_default-clause-refusal g c = tt
+
+pub returns-in_default-clause-unknown : goal.returns-in_default-clause-unknown
+returns-in_default-clause-unknown g c = λ st shown none. refl
+
+pub returns-in_default-clause-exhausted : goal.returns-in_default-clause-exhausted
+returns-in_default-clause-exhausted g c = λ is. absurd (unknown_not_exhausted is)
+
+pub returns-in_default-clause-exhausted_draw : goal.returns-in_default-clause-exhausted_draw
+returns-in_default-clause-exhausted_draw g c = λ is. absurd (unknown_not_exhausted is)
+
+pub returns-in_default-clause-undrawn : goal.returns-in_default-clause-undrawn
+returns-in_default-clause-undrawn g c = λ is. absurd (unknown_not_exhausted is)
+
+pub returns-in_default-clause-full : goal.returns-in_default-clause-full
+returns-in_default-clause-full g c = λ held is. absurd (unknown_not_full is)
+
+pub returns-in_default-clause-device : goal.returns-in_default-clause-device
+returns-in_default-clause-device g c = λ is. absurd (unknown_no_device is)
+
+pub returns-in_default-clause-later : goal.returns-in_default-clause-later
+returns-in_default-clause-later g c = at_most_itself _
+
+pub returns-in_default-clause-told : goal.returns-in_default-clause-told
+returns-in_default-clause-told g c = λ other. refl
+
+pub returns-in_default-clause-mark_later : goal.returns-in_default-clause-mark_later
+returns-in_default-clause-mark_later g c = at_most_itself _
+
+pub returns-in_default-clause-mark_told : goal.returns-in_default-clause-mark_told
+returns-in_default-clause-mark_told g c = λ other. refl
