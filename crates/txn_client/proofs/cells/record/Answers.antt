@@ -1,9 +1,10 @@
-use Rattle.std.proofs.Common.{◌≡◌, ◌∙◌, ℕ, true, false, Option, Some, None, List, not, refl, sym, ap, subst, arith}
+use Rattle.std.proofs.Common.{◌≡◌, ◌<◌, ◌≤◌, ◌^◌, ◌∙◌, ℕ, true, false, Option, Some, None, List, not, refl, sym, ap, subst, arith}
 use Rattle.std.specs.Prelude.{is_some, option_map}
 use Rattle.std.specs.declared.vec.Vec.{Vec}
 use Rattle.cell_key.specs.Cells.{Cells, IsNewest, after_edits}
 use Rattle.cell_key.specs.Versions.{stamped}
 use Rattle.cell_key.specs.declared.edits.Edit.{Edit}
+use Rattle.cell_key.specs.declared.refusals.Refusal.TheVariants.{MemtableFull, Device, NoMemory, Damaged}
 use Rattle.cell_key.specs.declared.keys.Qualifier.TheVariants.{Lock}
 use Rattle.si_model.specs.ShowsCells.{IsThere, Touches, key_of, recorded_cells}
 use Rattle.si_model.specs.declared.replies.Cell.{Cell}
@@ -29,6 +30,15 @@ at_stamps x edits s s' c c' start commit is = subst (λ n. IsRecording x n c' ed
 
 recorded_at : (cells : Cells) (x : Cell) (edits : List Edit) (new old : Cells) (s s' c c' : ℕ) → s ≡ s' → c ≡ c' → old ≡ cells → new ≡ after_edits old edits → after_edits cells edits ≡ recorded_cells cells x s c → new ≡ recorded_cells cells x s' c'
 recorded_at cells x edits new old s s' c c' start commit same after is = after ∙ (ap (λ cs. after_edits cs edits) same ∙ (is ∙ (ap (λ n. recorded_cells cells x n c) start ∙ ap (λ n. recorded_cells cells x s' n) commit)))
+
+damaged_not : Damaged ≡ NoMemory → ⊥
+damaged_not is = cc
+
+full_not : MemtableFull ≡ NoMemory → ⊥
+full_not is = cc
+
+device_not : Device ≡ NoMemory → ⊥
+device_not is = cc
 
 pub returns-then-is_none-clause-gone : goal.returns-then-is_none-clause-gone
 returns-then-is_none-clause-gone g c = λ held. is_gone (g.R.Rows.cells c.args.rows.now) c.args.cell.now c.stamp-start.result c.args.start c.in_ok-lock.lock (c.is_none.ensures ∙ ap not c.if-is_none.true) (c.in_ok-lock.ensures.found held) c.stamp-start.ensures.stamp
@@ -77,16 +87,16 @@ pub returns-in_err-apply-clause-touched : goal.returns-in_err-apply-clause-touch
 returns-in_err-apply-clause-touched g c = λ held. touches_kept _ _ _ _ _ (c.in_err-apply.ensures.err (c.in_ok-lock.ensures.still held) ∙ c.in_ok-lock.ensures.kept held)
 
 pub returns-in_err-edits-clause-undamaged : goal.returns-in_err-edits-clause-undamaged
-returns-in_err-edits-clause-undamaged g c = λ held is. no_memory_only c.from_residual-in_err-edits.result c.in_err-edits.field-0.0 _ (λ e. cc) c.from_residual-in_err-edits.ensures.1 c.in_err-edits.ensures.refusal is
+returns-in_err-edits-clause-undamaged g c = λ held is. no_memory_only c.from_residual-in_err-edits.result c.in_err-edits.field-0.0 _ damaged_not c.from_residual-in_err-edits.ensures.1 c.in_err-edits.ensures.refusal is
 
 pub returns-in_err-edits-clause-full : goal.returns-in_err-edits-clause-full
-returns-in_err-edits-clause-full g c = λ is. absurd (no_memory_only c.from_residual-in_err-edits.result c.in_err-edits.field-0.0 _ (λ e. cc) c.from_residual-in_err-edits.ensures.1 c.in_err-edits.ensures.refusal is)
+returns-in_err-edits-clause-full g c = λ is. absurd (no_memory_only c.from_residual-in_err-edits.result c.in_err-edits.field-0.0 _ full_not c.from_residual-in_err-edits.ensures.1 c.in_err-edits.ensures.refusal is)
 
 pub returns-in_err-edits-clause-due : goal.returns-in_err-edits-clause-due
-returns-in_err-edits-clause-due g c = λ held is. absurd (no_memory_only c.from_residual-in_err-edits.result c.in_err-edits.field-0.0 _ (λ e. cc) c.from_residual-in_err-edits.ensures.1 c.in_err-edits.ensures.refusal is)
+returns-in_err-edits-clause-due g c = λ held is. absurd (no_memory_only c.from_residual-in_err-edits.result c.in_err-edits.field-0.0 _ full_not c.from_residual-in_err-edits.ensures.1 c.in_err-edits.ensures.refusal is)
 
 pub returns-in_err-edits-clause-device : goal.returns-in_err-edits-clause-device
-returns-in_err-edits-clause-device g c = λ is. absurd (no_memory_only c.from_residual-in_err-edits.result c.in_err-edits.field-0.0 _ (λ e. cc) c.from_residual-in_err-edits.ensures.1 c.in_err-edits.ensures.refusal is)
+returns-in_err-edits-clause-device g c = λ is. absurd (no_memory_only c.from_residual-in_err-edits.result c.in_err-edits.field-0.0 _ device_not c.from_residual-in_err-edits.ensures.1 c.in_err-edits.ensures.refusal is)
 
 pub returns-in_err-edits-clause-refusal : goal.returns-in_err-edits-clause-refusal
 returns-in_err-edits-clause-refusal g c = passed_err c.from_residual-in_err-edits.result c.in_err-edits.field-0.0 _ c.from_residual-in_err-edits.ensures.1 (subst IsRowRefusal (sym c.in_err-edits.ensures.refusal) tt)
@@ -282,3 +292,18 @@ returns-clause-later g c = later_at _ _ _ (c.in_ok-lock.ensures.told (λ is. not
 
 pub returns-clause-told : goal.returns-clause-told
 returns-clause-told g c = λ other. c.in_ok-apply.ensures.untouched ∙ c.in_ok-lock.ensures.told (λ is. not_err _ _ is)
+
+pub recording-requires-clause-from : goal.recording-requires-clause-from
+recording-requires-clause-from g c = subst (λ (n : ℕ). 1 ≤ n) (sym c.stamp-start.ensures.stamp) c.stamp-start.ensures.from
+
+pub recording-requires-clause-to : goal.recording-requires-clause-to
+recording-requires-clause-to g c = subst (λ (n : ℕ). n < 2 ^ 63) (sym c.stamp-start.ensures.stamp) c.stamp-start.ensures.to
+
+pub recording-requires-clause-commit_from : goal.recording-requires-clause-commit_from
+recording-requires-clause-commit_from g c = subst (λ (n : ℕ). 1 ≤ n) (sym c.stamp-commit.ensures.stamp) c.stamp-commit.ensures.from
+
+pub recording-requires-clause-commit_to : goal.recording-requires-clause-commit_to
+recording-requires-clause-commit_to g c = subst (λ (n : ℕ). n < 2 ^ 63) (sym c.stamp-commit.ensures.stamp) c.stamp-commit.ensures.to
+
+pub apply-requires : goal.apply-requires
+apply-requires g c = c.in_ok-edits.ensures.under
