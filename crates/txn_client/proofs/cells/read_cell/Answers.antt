@@ -1,15 +1,16 @@
-use Rattle.std.proofs.Common.{◌≡◌, ℕ, ◌≤◌, List, Option, Some, None, length, arith, refl, sym, subst, ap, ◌∙◌}
+use Rattle.std.proofs.Common.{◌≡◌, ℕ, ◌≤◌, List, Option, Some, None, inl, inr, length, arith, refl, sym, subst, ap, ◌∙◌}
 use Rattle.std.specs.Prelude.{option_map}
 use Rattle.std.specs.FinMap.{get}
 use Rattle.byteorder.specs.Endian.{big_number}
 use Rattle.std.specs.declared.vec.Vec.{Vec}
+use Rattle.std.specs.Option.{IfSome}
 use Rattle.cell_key.specs.Cells.{Cells, IsNewest}
 use Rattle.cell_key.specs.declared.keys.CellKey.{CellKey}
 use Rattle.cell_key.specs.declared.keys.Qualifier.TheVariants.{Data, Lock, Write}
-use Rattle.cell_key.specs.Versions.{stamped}
-use Rattle.si_model.specs.ShowsCells.{key_of}
+use Rattle.cell_key.specs.Versions.{stamped, IsVersionIn}
+use Rattle.si_model.specs.ShowsCells.{key_of, IsThere}
 use Rattle.si_model.specs.declared.replies.Cell.{Cell}
-use Rattle.txn_client.specs.Reads.{ReadsValue}
+use Rattle.txn_client.specs.Reads.{ReadsValue, IsDamaged, IsLast}
 use Rattle.std.specs.declared.result.Result.TheVariants.{Err}
 use Rattle.txn_client.proofs.Passed.{passed_on, passed_err, passed_none, passed_back, not_err, damaged_no_device, risen_from, later_from}
 use Rattle.txn_client.proofs.cells.read_cell.Goals as goal
@@ -32,6 +33,31 @@ value_found {Z} cells cells2 cells3 x s lock last value c n m text v same2 same3
       eight = eight;
       named = subst (λ (k : ℕ). get cells (key_of x Data k) ≡ Some v.items) (at ∙ named) named_there.2;
     }
+
+locked : {Z : Type 0} (cells : Cells) (x : Cell) (s p : ℕ) (lock : Option (ℕ × Vec ℕ Z)) (text : Vec ℕ Z) → lock ≡ Some (p, text) → IsNewest cells (key_of x Lock) 0 s (option_map stamped lock) → (p ≤ s) × IsThere cells x Lock p
+locked {Z} cells x s p lock text is found =
+    let there : IsNewest cells (key_of x Lock) 0 s (Some (p, text.items)) = subst (λ (f : Option (ℕ × Vec ℕ Z)). IsNewest cells (key_of x Lock) 0 s (option_map stamped f)) is found in
+    (there.1, (text.items, there.2))
+
+last_written : {Z : Type 0} (cells cells2 : Cells) (x : Cell) (s c : ℕ) (last : Option (ℕ × Vec ℕ Z)) (text : Vec ℕ Z) → cells2 ≡ cells → last ≡ Some (c, text) → IsNewest cells2 (key_of x Write) 0 s (option_map stamped last)
+    → IsLast cells x s c text.items
+last_written {Z} cells cells2 x s c last text same is found =
+    let written : IsNewest cells (key_of x Write) 0 s (Some (c, text.items)) = subst (λ (f : Option (ℕ × Vec ℕ Z)). IsNewest cells (key_of x Write) 0 s (option_map stamped f)) is (subst (λ (cs : Cells). IsNewest cs (key_of x Write) 0 s (option_map stamped last)) same found) in
+    record { low = written.1; there = written.2; last = written.3 }
+
+at_itself : (n : ℕ) → n ≤ n
+at_itself n = omega arith
+
+no_data : {Z : Type 0} (cells cells3 : Cells) (x : Cell) (s c n : ℕ) (value : Option (ℕ × Vec ℕ Z)) (text : List ℕ) → cells3 ≡ cells → value ≡ None → n ≡ big_number 8 text → IsNewest cells3 (key_of x Data) n n (option_map stamped value)
+    → IsLast cells x s c text → IsDamaged cells x s
+no_data cells cells3 x s c n value text same is named found last =
+    let gone = nothing cells (key_of x Data) n n value is (subst (λ (cs : Cells). IsNewest cs (key_of x Data) n n (option_map stamped value)) same found) in
+    (c, text, last, inr (subst (λ (k : ℕ). get cells (key_of x Data k) ≡ None) named (gone n (at_itself n) (at_itself n))))
+
+short_value : {Z : Type 0} (lo hi n : ℕ) (value : Option (ℕ × Vec ℕ Z)) (text : Vec ℕ Z) → value ≡ Some (n, text) → IfSome (option_map stamped value) (IsVersionIn lo hi) → length text.items ≤ 65536
+short_value {Z} lo hi n value text is limits =
+    let within : IsVersionIn lo hi (n, text.items) = subst (λ (f : Option (ℕ × Vec ℕ Z)). IfSome (option_map stamped f) (IsVersionIn lo hi)) is limits in
+    within.limits.value
 
 pub returns-in_err-lock-clause-kept : goal.returns-in_err-lock-clause-kept
 returns-in_err-lock-clause-kept g c = λ held. c.in_err-lock.ensures.kept held
@@ -291,3 +317,26 @@ returns-in-Some-2-clause-found g c = λ held.
     let kept = c.in_ok-last.ensures.kept still ∙ c.in_ok-lock.ensures.kept held in
     value_found (g.R.Rows.cells c.args.rows.now) (g.R.Rows.cells c.newest.new.self) (g.R.Rows.cells c.newest-2.new.self) c.args.cell.now c.args.start c.in_ok-lock.lock c.in_ok-last.last c.in_ok-value.field-0 c.in-Some-last.field-0-0 c.in-Some-named_start.named c.in-Some-2.field-0-0 c.in-Some-last.record c.in-Some-2.value
     (c.in_ok-lock.ensures.kept held) kept c.in_default.is c.in-Some-last.is c.in-Some-2.is (c.in-Some-named_start.ensures.named ∙ ap (big_number 8) c.deref.ensures.value) (ap (λ (bytes : List ℕ). length bytes) (sym c.deref.ensures.value) ∙ c.in-Some-named_start.ensures.length) (c.in_ok-lock.ensures.found held) (c.in_ok-last.ensures.found still) (c.in_ok-value.ensures.found (c.in_ok-last.ensures.still still))
+
+pub returns-in-Some-clause-found : goal.returns-in-Some-clause-found
+returns-in-Some-clause-found g c = λ held. locked (g.R.Rows.cells c.args.rows.now) c.args.cell.now c.args.start c.in-Some.pending c.in_ok-lock.lock c.in-Some.field-0-1 c.in-Some.is (c.in_ok-lock.ensures.found held)
+
+pub returns-in_default-named_start-clause-damaged : goal.returns-in_default-named_start-clause-damaged
+returns-in_default-named_start-clause-damaged g c = λ held _. (
+  c.in-Some-last.field-0-0,
+  c.in-Some-last.record.items,
+  last_written (g.R.Rows.cells c.args.rows.now) (g.R.Rows.cells c.newest.new.self) c.args.cell.now c.args.start c.in-Some-last.field-0-0 c.in_ok-last.last c.in-Some-last.record (c.in_ok-lock.ensures.kept held) c.in-Some-last.is (c.in_ok-last.ensures.found (c.in_ok-lock.ensures.still held)),
+  inl (λ eight. c.in_default-named_start.ensures.none (ap (λ (bytes : List ℕ). length bytes) c.deref.ensures.value ∙ eight)),
+)
+
+pub returns-clause-damaged : goal.returns-clause-damaged
+returns-clause-damaged g c = λ held _.
+    let cells = g.R.Rows.cells c.args.rows.now in
+    let still = c.in_ok-lock.ensures.still held in
+    let kept = c.in_ok-last.ensures.kept still ∙ c.in_ok-lock.ensures.kept held in
+    no_data cells (g.R.Rows.cells c.newest-2.new.self) c.args.cell.now c.args.start c.in-Some-last.field-0-0 c.in-Some-named_start.named c.in_ok-value.field-0 c.in-Some-last.record.items kept c.in-None.is
+    (c.in-Some-named_start.ensures.named ∙ ap (big_number 8) c.deref.ensures.value) (c.in_ok-value.ensures.found (c.in_ok-last.ensures.still still))
+    (last_written cells (g.R.Rows.cells c.newest.new.self) c.args.cell.now c.args.start c.in-Some-last.field-0-0 c.in_ok-last.last c.in-Some-last.record (c.in_ok-lock.ensures.kept held) c.in-Some-last.is (c.in_ok-last.ensures.found still))
+
+pub returns-in-Some-2-clause-short : goal.returns-in-Some-2-clause-short
+returns-in-Some-2-clause-short g c = short_value _ _ _ c.in_ok-value.field-0 c.in-Some-2.value c.in-Some-2.is c.in_ok-value.ensures.limits
