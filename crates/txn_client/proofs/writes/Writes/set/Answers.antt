@@ -1,9 +1,10 @@
-use Rattle.std.proofs.Common.{◌++◌, ◌∷◌, [], List, length, map, inl, ap, sym, subst, ◌∙◌, arith}
+use Rattle.std.proofs.Common.{◌++◌, ◌∷◌, [], List, length, map, inl, refl, ap, sym, subst, ◌∙◌, arith}
 use Rattle.std.specs.Prelude.{slice_set}
 use Rattle.si_model.specs.Machine.{Sets}
 use Rattle.txn_client.specs.Writes.{write_of}
 use Rattle.txn_client.specs.declared.writes.Write.{Write}
 use Rattle.txn_client.proofs.Placing.{sets_last, sets_there, named_there, unnamed}
+use Rattle.txn_client.proofs.Passed.{not_err}
 use Rattle.txn_client.proofs.writes.Writes.set.Goals as goal
 
 pub returns-then-len-ge-MOST-clause-full : goal.returns-then-len-ge-MOST-clause-full
@@ -23,3 +24,30 @@ pub returns-in_ok-push-in-None-clause-ok : goal.returns-in_ok-push-in-None-claus
 returns-in_ok-push-in-None-clause-ok c =
     subst (λ (ws : List Write). Sets c.args.write.cell c.args.write.value (map write_of c.args.self.now) (map write_of ws)) (sym (c.in_ok-push-in-None.ensures.items ∙ ap (λ (ws : List Write). ws ++ c.args.write ∷ []) c.self.view_is))
     (sets_last c.args.self.now c.args.write c.in-None.ensures)
+
+pub returns-then-len-ge-MOST-clause-ok : goal.returns-then-len-ge-MOST-clause-ok
+returns-then-len-ge-MOST-clause-ok c = tt
+
+pub returns-then-len-ge-MOST-clause-room : goal.returns-then-len-ge-MOST-clause-room
+returns-then-len-ge-MOST-clause-room c = tt
+
+pub returns-then-len-ge-MOST-clause-refusal : goal.returns-then-len-ge-MOST-clause-refusal
+returns-then-len-ge-MOST-clause-refusal c = inl refl
+
+pub returns-in-Some-clause-full : goal.returns-in-Some-clause-full
+returns-in-Some-clause-full c = λ e. absurd (not_err _ _ e)
+
+pub returns-in-Some-clause-err : goal.returns-in-Some-clause-err
+returns-in-Some-clause-err c = tt
+
+pub returns-in-Some-clause-refusal : goal.returns-in-Some-clause-refusal
+returns-in-Some-clause-refusal c = tt
+
+pub returns-in_ok-push-in-None-clause-full : goal.returns-in_ok-push-in-None-clause-full
+returns-in_ok-push-in-None-clause-full c = λ e. absurd (not_err _ _ e)
+
+pub returns-in_ok-push-in-None-clause-err : goal.returns-in_ok-push-in-None-clause-err
+returns-in_ok-push-in-None-clause-err c = tt
+
+pub returns-in_ok-push-in-None-clause-refusal : goal.returns-in_ok-push-in-None-clause-refusal
+returns-in_ok-push-in-None-clause-refusal c = tt
