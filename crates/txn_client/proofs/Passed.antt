@@ -111,6 +111,16 @@ apply_no_device r e = refused_not r e Device IsApplyRefusal (λ u. u)
 pub no_memory_only : {B : Type 0} (r : Result B Refusal) (e n : Refusal) → (n ≡ NoMemory → ⊥) → IsErrAnd r (λ f. f ≡ e) → e ≡ NoMemory → IsErrOf r n → ⊥
 no_memory_only r e n = refused_not r e n (λ f. f ≡ NoMemory)
 
+-- no such refusal is for want of memory
+pub damaged_not : Damaged ≡ NoMemory → ⊥
+damaged_not is = cc
+
+pub full_not : MemtableFull ≡ NoMemory → ⊥
+full_not is = cc
+
+pub device_not : Device ≡ NoMemory → ⊥
+device_not is = cc
+
 pub passed_kept_not : {B : Type 0} (r : Result B Refusal) (e : Refusal) (P : Type 0) → IsErrAnd r (λ f. f ≡ e) → OnOk r P
 passed_kept_not (Ok x) e P by = absurd by
 passed_kept_not (Err f) e P by = tt

@@ -8,7 +8,7 @@ use Rattle.si_model.specs.declared.replies.Cell.{Cell}
 use Rattle.si_model.proofs.ShownTouched.{touches_held}
 use Rattle.txn_client.specs.Refusals.{IsRowRefusal}
 use Rattle.txn_client.specs.Room.{IsHolding}
-use Rattle.txn_client.proofs.Passed.{passed_on, passed_err, passed_kept, passed_kept_not, not_err, apply_row, apply_undamaged, apply_no_device, no_memory_only, touches_kept}
+use Rattle.txn_client.proofs.Passed.{passed_on, passed_err, passed_kept, passed_kept_not, not_err, apply_row, apply_undamaged, apply_no_device, no_memory_only, damaged_not, full_not, device_not, touches_kept}
 use Rattle.txn_client.proofs.cells.hold.Goals as goal
 
 held_at : (cells : Cells) (x first : Cell) (edits : List Edit) (new : Cells) (s s' : ℕ) (value v place : List ℕ) → s ≡ s' → value ≡ v → place ≡ lock_text first → new ≡ after_edits cells edits → after_edits cells edits ≡ insert (insert cells (key_of x Data s) value) (key_of x Lock s) place → new ≡ held_cells cells x s' v first
@@ -49,13 +49,13 @@ pub returns-in_err-value-clause-touched : goal.returns-in_err-value-clause-touch
 returns-in_err-value-clause-touched g c = λ held. touches_kept _ _ _ _ _ refl
 
 pub returns-in_err-value-clause-undamaged : goal.returns-in_err-value-clause-undamaged
-returns-in_err-value-clause-undamaged g c = λ is. no_memory_only c.from_residual.result c.in_err-value.field-0.0 _ (λ e. cc) c.from_residual.ensures.1 c.in_err-value.ensures.refusal is
+returns-in_err-value-clause-undamaged g c = λ is. no_memory_only c.from_residual.result c.in_err-value.field-0.0 _ damaged_not c.from_residual.ensures.1 c.in_err-value.ensures.refusal is
 
 pub returns-in_err-value-clause-full : goal.returns-in_err-value-clause-full
-returns-in_err-value-clause-full g c = λ is. absurd (no_memory_only c.from_residual.result c.in_err-value.field-0.0 _ (λ e. cc) c.from_residual.ensures.1 c.in_err-value.ensures.refusal is)
+returns-in_err-value-clause-full g c = λ is. absurd (no_memory_only c.from_residual.result c.in_err-value.field-0.0 _ full_not c.from_residual.ensures.1 c.in_err-value.ensures.refusal is)
 
 pub returns-in_err-value-clause-no_device : goal.returns-in_err-value-clause-no_device
-returns-in_err-value-clause-no_device g c = λ is. no_memory_only c.from_residual.result c.in_err-value.field-0.0 _ (λ e. cc) c.from_residual.ensures.1 c.in_err-value.ensures.refusal is
+returns-in_err-value-clause-no_device g c = λ is. no_memory_only c.from_residual.result c.in_err-value.field-0.0 _ device_not c.from_residual.ensures.1 c.in_err-value.ensures.refusal is
 
 pub returns-in_err-value-clause-refusal : goal.returns-in_err-value-clause-refusal
 returns-in_err-value-clause-refusal g c = passed_err c.from_residual.result c.in_err-value.field-0.0 _ c.from_residual.ensures.1 (subst IsRowRefusal (sym c.in_err-value.ensures.refusal) tt)
@@ -64,13 +64,13 @@ pub returns-in_err-place-clause-touched : goal.returns-in_err-place-clause-touch
 returns-in_err-place-clause-touched g c = λ held. touches_kept _ _ _ _ _ refl
 
 pub returns-in_err-place-clause-undamaged : goal.returns-in_err-place-clause-undamaged
-returns-in_err-place-clause-undamaged g c = λ is. no_memory_only c.from_residual-in_err-place.result c.in_err-place.field-0.0 _ (λ e. cc) c.from_residual-in_err-place.ensures.1 c.in_err-place.ensures.refusal is
+returns-in_err-place-clause-undamaged g c = λ is. no_memory_only c.from_residual-in_err-place.result c.in_err-place.field-0.0 _ damaged_not c.from_residual-in_err-place.ensures.1 c.in_err-place.ensures.refusal is
 
 pub returns-in_err-place-clause-full : goal.returns-in_err-place-clause-full
-returns-in_err-place-clause-full g c = λ is. absurd (no_memory_only c.from_residual-in_err-place.result c.in_err-place.field-0.0 _ (λ e. cc) c.from_residual-in_err-place.ensures.1 c.in_err-place.ensures.refusal is)
+returns-in_err-place-clause-full g c = λ is. absurd (no_memory_only c.from_residual-in_err-place.result c.in_err-place.field-0.0 _ full_not c.from_residual-in_err-place.ensures.1 c.in_err-place.ensures.refusal is)
 
 pub returns-in_err-place-clause-no_device : goal.returns-in_err-place-clause-no_device
-returns-in_err-place-clause-no_device g c = λ is. no_memory_only c.from_residual-in_err-place.result c.in_err-place.field-0.0 _ (λ e. cc) c.from_residual-in_err-place.ensures.1 c.in_err-place.ensures.refusal is
+returns-in_err-place-clause-no_device g c = λ is. no_memory_only c.from_residual-in_err-place.result c.in_err-place.field-0.0 _ device_not c.from_residual-in_err-place.ensures.1 c.in_err-place.ensures.refusal is
 
 pub returns-in_err-place-clause-refusal : goal.returns-in_err-place-clause-refusal
 returns-in_err-place-clause-refusal g c = passed_err c.from_residual-in_err-place.result c.in_err-place.field-0.0 _ c.from_residual-in_err-place.ensures.1 (subst IsRowRefusal (sym c.in_err-place.ensures.refusal) tt)
@@ -79,13 +79,13 @@ pub returns-in_err-edits-clause-touched : goal.returns-in_err-edits-clause-touch
 returns-in_err-edits-clause-touched g c = λ held. touches_kept _ _ _ _ _ refl
 
 pub returns-in_err-edits-clause-undamaged : goal.returns-in_err-edits-clause-undamaged
-returns-in_err-edits-clause-undamaged g c = λ is. no_memory_only c.from_residual-in_err-edits.result c.in_err-edits.field-0.0 _ (λ e. cc) c.from_residual-in_err-edits.ensures.1 c.in_err-edits.ensures.refusal is
+returns-in_err-edits-clause-undamaged g c = λ is. no_memory_only c.from_residual-in_err-edits.result c.in_err-edits.field-0.0 _ damaged_not c.from_residual-in_err-edits.ensures.1 c.in_err-edits.ensures.refusal is
 
 pub returns-in_err-edits-clause-full : goal.returns-in_err-edits-clause-full
-returns-in_err-edits-clause-full g c = λ is. absurd (no_memory_only c.from_residual-in_err-edits.result c.in_err-edits.field-0.0 _ (λ e. cc) c.from_residual-in_err-edits.ensures.1 c.in_err-edits.ensures.refusal is)
+returns-in_err-edits-clause-full g c = λ is. absurd (no_memory_only c.from_residual-in_err-edits.result c.in_err-edits.field-0.0 _ full_not c.from_residual-in_err-edits.ensures.1 c.in_err-edits.ensures.refusal is)
 
 pub returns-in_err-edits-clause-no_device : goal.returns-in_err-edits-clause-no_device
-returns-in_err-edits-clause-no_device g c = λ is. no_memory_only c.from_residual-in_err-edits.result c.in_err-edits.field-0.0 _ (λ e. cc) c.from_residual-in_err-edits.ensures.1 c.in_err-edits.ensures.refusal is
+returns-in_err-edits-clause-no_device g c = λ is. no_memory_only c.from_residual-in_err-edits.result c.in_err-edits.field-0.0 _ device_not c.from_residual-in_err-edits.ensures.1 c.in_err-edits.ensures.refusal is
 
 pub returns-in_err-edits-clause-refusal : goal.returns-in_err-edits-clause-refusal
 returns-in_err-edits-clause-refusal g c = passed_err c.from_residual-in_err-edits.result c.in_err-edits.field-0.0 _ c.from_residual-in_err-edits.ensures.1 (subst IsRowRefusal (sym c.in_err-edits.ensures.refusal) tt)
@@ -140,3 +140,60 @@ returns-clause-no_device g c = λ is. not_err _ _ is
 
 pub returns-clause-untouched : goal.returns-clause-untouched
 returns-clause-untouched g c = c.in_ok-apply.ensures.untouched
+
+pub returns-in_err-value-clause-held : goal.returns-in_err-value-clause-held
+returns-in_err-value-clause-held g c = λ held. passed_kept_not c.from_residual.result c.in_err-value.field-0.0 _ c.from_residual.ensures.1
+
+pub returns-in_err-value-clause-kept : goal.returns-in_err-value-clause-kept
+returns-in_err-value-clause-kept g c = λ held. passed_kept c.from_residual.result _ refl
+
+pub returns-in_err-value-clause-made : goal.returns-in_err-value-clause-made
+returns-in_err-value-clause-made g c = λ held. passed_kept_not c.from_residual.result c.in_err-value.field-0.0 _ c.from_residual.ensures.1
+
+pub returns-in_err-value-clause-still : goal.returns-in_err-value-clause-still
+returns-in_err-value-clause-still g c = λ held. held
+
+pub returns-in_err-value-clause-storage : goal.returns-in_err-value-clause-storage
+returns-in_err-value-clause-storage g c = refl
+
+pub returns-in_err-value-clause-untouched : goal.returns-in_err-value-clause-untouched
+returns-in_err-value-clause-untouched g c = refl
+
+pub returns-in_err-place-clause-held : goal.returns-in_err-place-clause-held
+returns-in_err-place-clause-held g c = λ held. passed_kept_not c.from_residual-in_err-place.result c.in_err-place.field-0.0 _ c.from_residual-in_err-place.ensures.1
+
+pub returns-in_err-place-clause-kept : goal.returns-in_err-place-clause-kept
+returns-in_err-place-clause-kept g c = λ held. passed_kept c.from_residual-in_err-place.result _ refl
+
+pub returns-in_err-place-clause-made : goal.returns-in_err-place-clause-made
+returns-in_err-place-clause-made g c = λ held. passed_kept_not c.from_residual-in_err-place.result c.in_err-place.field-0.0 _ c.from_residual-in_err-place.ensures.1
+
+pub returns-in_err-place-clause-still : goal.returns-in_err-place-clause-still
+returns-in_err-place-clause-still g c = λ held. held
+
+pub returns-in_err-place-clause-storage : goal.returns-in_err-place-clause-storage
+returns-in_err-place-clause-storage g c = refl
+
+pub returns-in_err-place-clause-untouched : goal.returns-in_err-place-clause-untouched
+returns-in_err-place-clause-untouched g c = refl
+
+pub returns-in_err-edits-clause-held : goal.returns-in_err-edits-clause-held
+returns-in_err-edits-clause-held g c = λ held. passed_kept_not c.from_residual-in_err-edits.result c.in_err-edits.field-0.0 _ c.from_residual-in_err-edits.ensures.1
+
+pub returns-in_err-edits-clause-kept : goal.returns-in_err-edits-clause-kept
+returns-in_err-edits-clause-kept g c = λ held. passed_kept c.from_residual-in_err-edits.result _ refl
+
+pub returns-in_err-edits-clause-made : goal.returns-in_err-edits-clause-made
+returns-in_err-edits-clause-made g c = λ held. passed_kept_not c.from_residual-in_err-edits.result c.in_err-edits.field-0.0 _ c.from_residual-in_err-edits.ensures.1
+
+pub returns-in_err-edits-clause-still : goal.returns-in_err-edits-clause-still
+returns-in_err-edits-clause-still g c = λ held. held
+
+pub returns-in_err-edits-clause-storage : goal.returns-in_err-edits-clause-storage
+returns-in_err-edits-clause-storage g c = refl
+
+pub returns-in_err-edits-clause-untouched : goal.returns-in_err-edits-clause-untouched
+returns-in_err-edits-clause-untouched g c = refl
+
+pub apply-requires : goal.apply-requires
+apply-requires g c = c.in_ok-edits.ensures.under

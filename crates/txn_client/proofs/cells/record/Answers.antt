@@ -4,7 +4,6 @@ use Rattle.std.specs.declared.vec.Vec.{Vec}
 use Rattle.cell_key.specs.Cells.{Cells, IsNewest, after_edits}
 use Rattle.cell_key.specs.Versions.{stamped}
 use Rattle.cell_key.specs.declared.edits.Edit.{Edit}
-use Rattle.cell_key.specs.declared.refusals.Refusal.TheVariants.{MemtableFull, Device, NoMemory, Damaged}
 use Rattle.cell_key.specs.declared.keys.Qualifier.TheVariants.{Lock}
 use Rattle.si_model.specs.ShowsCells.{IsThere, Touches, key_of, recorded_cells}
 use Rattle.si_model.specs.declared.replies.Cell.{Cell}
@@ -12,7 +11,7 @@ use Rattle.si_model.proofs.ShownTouched.{touches_recorded}
 use Rattle.txn_client.specs.Reads.{IsGone}
 use Rattle.txn_client.specs.Room.{IsRecording}
 use Rattle.txn_client.specs.Refusals.{IsRowRefusal}
-use Rattle.txn_client.proofs.Passed.{passed_on, passed_err, passed_none, passed_kept, passed_back, not_err, read_row, read_not_full, apply_row, apply_undamaged, apply_no_device, no_memory_only, later_at, touches_kept}
+use Rattle.txn_client.proofs.Passed.{passed_on, passed_err, passed_none, passed_kept, passed_back, not_err, read_row, read_not_full, apply_row, apply_undamaged, apply_no_device, no_memory_only, damaged_not, full_not, device_not, later_at, touches_kept}
 use Rattle.txn_client.proofs.cells.record.Goals as goal
 
 stands : {Z : Type 0} (cells : Cells) (x : Cell) (s t : ℕ) (found : Option (ℕ × Vec ℕ Z)) → is_some found ≡ true → IsNewest cells (key_of x Lock) s s (option_map stamped found) → s ≡ t → IsThere cells x Lock t
@@ -30,15 +29,6 @@ at_stamps x edits s s' c c' start commit is = subst (λ n. IsRecording x n c' ed
 
 recorded_at : (cells : Cells) (x : Cell) (edits : List Edit) (new old : Cells) (s s' c c' : ℕ) → s ≡ s' → c ≡ c' → old ≡ cells → new ≡ after_edits old edits → after_edits cells edits ≡ recorded_cells cells x s c → new ≡ recorded_cells cells x s' c'
 recorded_at cells x edits new old s s' c c' start commit same after is = after ∙ (ap (λ cs. after_edits cs edits) same ∙ (is ∙ (ap (λ n. recorded_cells cells x n c) start ∙ ap (λ n. recorded_cells cells x s' n) commit)))
-
-damaged_not : Damaged ≡ NoMemory → ⊥
-damaged_not is = cc
-
-full_not : MemtableFull ≡ NoMemory → ⊥
-full_not is = cc
-
-device_not : Device ≡ NoMemory → ⊥
-device_not is = cc
 
 pub returns-then-is_none-clause-gone : goal.returns-then-is_none-clause-gone
 returns-then-is_none-clause-gone g c = λ held. is_gone (g.R.Rows.cells c.args.rows.now) c.args.cell.now c.stamp-start.result c.args.start c.in_ok-lock.lock (c.is_none.ensures ∙ ap not c.if-is_none.true) (c.in_ok-lock.ensures.found held) c.stamp-start.ensures.stamp

@@ -9,7 +9,7 @@ use Rattle.oracle.specs.Ranges.{IsDrawRefusal}
 use Rattle.txn_client.specs.Refusals.{IsBeginRefusal}
 use Rattle.txn_client.specs.Shows.{Steps}
 use Rattle.txn_client.proofs.Exact.{not_crowded}
-use Rattle.txn_client.proofs.Passed.{at_most_itself, passed_err, passed_none, passed_kept, not_err, no_memory_only, refused_not}
+use Rattle.txn_client.proofs.Passed.{at_most_itself, passed_err, passed_none, passed_kept, not_err, no_memory_only, device_not, refused_not}
 use Rattle.txn_client.proofs.Refused.{draw_begin, draw_storage}
 use Rattle.txn_client.proofs.Table.{begins_at, begin_full_at, begin_storage_at, begin_undone_key, as_err}
 use Rattle.txn_client.proofs.clients.Clients.begin.Goals as goal
@@ -44,9 +44,6 @@ exhausted_no_device is = cc
 
 no_memory_not_exhausted : Exhausted ≡ NoMemory → ⊥
 no_memory_not_exhausted is = cc
-
-no_memory_no_device : Device ≡ NoMemory → ⊥
-no_memory_no_device is = cc
 
 pub returns-then-len-ge-MOST_SESSIONS-clause-step : goal.returns-then-len-ge-MOST_SESSIONS-clause-step
 returns-then-len-ge-MOST_SESSIONS-clause-step g c = λ cells. begin_full_at cells c.args.self.now c.args.oracle.now.last (is_full _ _ c.len.ensures.len c.if-len-ge-MOST_SESSIONS.true)
@@ -129,7 +126,7 @@ pub returns-in_err-make_session-clause-exhausted : goal.returns-in_err-make_sess
 returns-in_err-make_session-clause-exhausted g c = λ is. absurd (no_memory_only c.from_residual-in_err-make_session.result c.in_err-make_session.field-0.0 _ no_memory_not_exhausted c.from_residual-in_err-make_session.ensures.1 c.in_err-make_session.ensures.refusal is)
 
 pub returns-in_err-make_session-clause-device : goal.returns-in_err-make_session-clause-device
-returns-in_err-make_session-clause-device g c = λ is. absurd (no_memory_only c.from_residual-in_err-make_session.result c.in_err-make_session.field-0.0 _ no_memory_no_device c.from_residual-in_err-make_session.ensures.1 c.in_err-make_session.ensures.refusal is)
+returns-in_err-make_session-clause-device g c = λ is. absurd (no_memory_only c.from_residual-in_err-make_session.result c.in_err-make_session.field-0.0 _ device_not c.from_residual-in_err-make_session.ensures.1 c.in_err-make_session.ensures.refusal is)
 
 pub returns-in-Ok-clause-next : goal.returns-in-Ok-clause-next
 returns-in-Ok-clause-next g c = (c.in-Ok.ensures.next, c.in-Ok.ensures.last)
