@@ -4,7 +4,7 @@ use Rattle.std.specs.Prelude.{⊤}
 use Rattle.std.specs.FinMap.{empty, get-empty}
 use Rattle.cell_key.specs.Keys.{key_cmp}
 use Rattle.cell_key.specs.declared.refusals.Refusal.{Refusal}
-use Rattle.cell_key.specs.declared.refusals.Refusal.TheVariants.{Damaged, Device, NoMemory}
+use Rattle.cell_key.specs.declared.refusals.Refusal.TheVariants.{BadRow, BadColumn, TooManyFiles, FileTooLarge, Exhausted, Damaged, Device, NoMemory}
 use Rattle.si_model.specs.Machine.{State, Request, Reply, Begun, SetDone, StopDone, Refused, IsReached, OracleRestart, RestartDone, accepts, refuses, tells, restarts, new_machine}
 use Rattle.si_model.specs.ShowsCells.{ShowsCells}
 use Rattle.si_model.specs.Refusing.{Refuses, gives_up}
@@ -131,6 +131,15 @@ not_swept refusal device memory which = elim which [
   | inr is ↦ memory is
 ]
 
+pub sweep_not_exhausted : IsSweepRefusal Exhausted → ⊥
+sweep_not_exhausted = not_swept Exhausted (λ e. cc) (λ e. cc)
+
+pub sweep_not_many : IsSweepRefusal TooManyFiles → ⊥
+sweep_not_many = not_swept TooManyFiles (λ e. cc) (λ e. cc)
+
+pub sweep_not_large : IsSweepRefusal FileTooLarge → ⊥
+sweep_not_large = not_swept FileTooLarge (λ e. cc) (λ e. cc)
+
 -- what is found is no refusal and no stamp
 pub found_told : (P : Refusal → Type 0) (found : Found) → IfRefused P (found_reply found)
 found_told P (founds.Value value) = tt
@@ -180,3 +189,31 @@ new_cells = record {
   commits = λ a m. elim m [ ];
   given = λ x t b there. never_some b (sym (get-empty key_cmp _) ∙ there);
 }
+
+-- refusals that differ
+pub row_not_exhausted : BadRow ≡ Exhausted → ⊥
+row_not_exhausted is = cc
+
+pub row_not_many : BadRow ≡ TooManyFiles → ⊥
+row_not_many is = cc
+
+pub row_not_large : BadRow ≡ FileTooLarge → ⊥
+row_not_large is = cc
+
+pub row_not_device : BadRow ≡ Device → ⊥
+row_not_device is = cc
+
+pub column_not_device : BadColumn ≡ Device → ⊥
+column_not_device is = cc
+
+pub memory_not_exhausted : NoMemory ≡ Exhausted → ⊥
+memory_not_exhausted is = cc
+
+pub memory_not_many : NoMemory ≡ TooManyFiles → ⊥
+memory_not_many is = cc
+
+pub memory_not_large : NoMemory ≡ FileTooLarge → ⊥
+memory_not_large is = cc
+
+pub memory_not_device : NoMemory ≡ Device → ⊥
+memory_not_device is = cc

@@ -2,7 +2,7 @@ use Rattle.std.proofs.Common.{inl, refl, ap, sym}
 use Rattle.std.specs.declared.result.Result.TheVariants.{Err}
 use Rattle.cell_key.specs.declared.refusals.Refusal.{Refusal}
 use Rattle.si_model.specs.Machine.{refuses}
-use Rattle.server_loop.proofs.Stepping.{as_err, err_undamaged, name_undamaged, as_refused, named_not, not_done, ok_not}
+use Rattle.server_loop.proofs.Stepping.{as_err, err_undamaged, name_undamaged, as_refused, named_not, not_done, ok_not, memory_not_device, memory_not_exhausted, memory_not_large, memory_not_many, row_not_device, row_not_exhausted, row_not_large, row_not_many}
 use Rattle.server_loop.proofs.Upkeeping.{cut_named, cut_refused, row_whole, split_named, split_refuses, splits_as, tells_as}
 use Rattle.server_loop.proofs.server.Server.split.Goals as goal
 
@@ -49,7 +49,7 @@ pub returns-in-Err-clause-refusal : goal.returns-in-Err-clause-refusal
 returns-in-Err-clause-refusal g c = cut_named _ c.in-Err.ensures.others
 
 pub returns-in-Err-clause-exhausted : goal.returns-in-Err-clause-exhausted
-returns-in-Err-clause-exhausted g c = λ same. absurd (named_not _ _ (λ e. cc) (λ e. cc) c.in-Err.ensures.others same)
+returns-in-Err-clause-exhausted g c = λ same. absurd (named_not _ _ row_not_exhausted memory_not_exhausted c.in-Err.ensures.others same)
 
 pub returns-in-Err-clause-last : goal.returns-in-Err-clause-last
 returns-in-Err-clause-last g c = refl
@@ -64,13 +64,13 @@ pub returns-in-Err-clause-barred : goal.returns-in-Err-clause-barred
 returns-in-Err-clause-barred g c = λ _. refl
 
 pub returns-in-Err-clause-many : goal.returns-in-Err-clause-many
-returns-in-Err-clause-many g c = λ same. absurd (named_not _ _ (λ e. cc) (λ e. cc) c.in-Err.ensures.others same)
+returns-in-Err-clause-many g c = λ same. absurd (named_not _ _ row_not_many memory_not_many c.in-Err.ensures.others same)
 
 pub returns-in-Err-clause-undone : goal.returns-in-Err-clause-undone
-returns-in-Err-clause-undone g c = λ same. absurd (named_not _ _ (λ e. cc) (λ e. cc) c.in-Err.ensures.others same)
+returns-in-Err-clause-undone g c = λ same. absurd (named_not _ _ row_not_many memory_not_many c.in-Err.ensures.others same)
 
 pub returns-in-Err-clause-large : goal.returns-in-Err-clause-large
-returns-in-Err-clause-large g c = λ _ same. absurd (named_not _ _ (λ e. cc) (λ e. cc) c.in-Err.ensures.others same)
+returns-in-Err-clause-large g c = λ _ same. absurd (named_not _ _ row_not_large memory_not_large c.in-Err.ensures.others same)
 
 pub returns-in-Err-clause-within : goal.returns-in-Err-clause-within
 returns-in-Err-clause-within g c = λ done. absurd done
@@ -82,7 +82,7 @@ pub returns-in-Err-clause-short : goal.returns-in-Err-clause-short
 returns-in-Err-clause-short g c = tt
 
 pub returns-in-Err-clause-device : goal.returns-in-Err-clause-device
-returns-in-Err-clause-device g c = λ same. absurd (named_not _ _ (λ e. cc) (λ e. cc) c.in-Err.ensures.others same)
+returns-in-Err-clause-device g c = λ same. absurd (named_not _ _ row_not_device memory_not_device c.in-Err.ensures.others same)
 
 pub returns-in-Err-clause-told : goal.returns-in-Err-clause-told
 returns-in-Err-clause-told g c = λ _. record { files = refl; marks = refl }
