@@ -1,10 +1,20 @@
-use Rattle.std.proofs.Common.{refl, ap, inl}
+use Rattle.std.proofs.Common.{ℕ, Option, Some, None, Global, refl, ap, inl}
+use Rattle.std.specs.Option.{IfSome}
+use Rattle.std.specs.Prelude.{option_map}
+use Rattle.std.specs.declared.vec.Vec.{Vec}
 use Rattle.std.specs.declared.result.Result.TheVariants.{Err}
+use Rattle.cell_key.specs.Versions.{stamped, IsVersionIn}
 use Rattle.cell_key.specs.declared.refusals.Refusal.{Refusal}
 use Rattle.si_model.specs.Machine.{refuses}
-use Rattle.server_loop.proofs.Stepping.{err_undamaged, name_undamaged, spots_in, as_err, as_refused, named_not, not_done, ok_not}
+use Rattle.request_codec.specs.declared.replies.Reply.TheVariants as kept
+use Rattle.server_loop.specs.Runs.{HasShortValue}
+use Rattle.server_loop.proofs.Stepping.{err_undamaged, name_undamaged, spots_in, as_err, as_refused, named_not, not_done, ok_not, column_not_device, memory_not_device, row_not_device}
 use Rattle.server_loop.proofs.Upkeeping.{family_whole, raw_unnamed, raw_refused, raw_done, raw_family_named, raw_refuses, raw_row_named, row_whole, tells_as, raw_whole}
 use Rattle.server_loop.proofs.server.Server.raw.Goals as goal
+
+short_found : (lo hi : ℕ) (found : Option (ℕ × Vec ℕ Global)) → IfSome (option_map stamped found) (IsVersionIn lo hi) → HasShortValue (kept.Raw found)
+short_found lo hi None limits = tt
+short_found lo hi (Some version) limits = limits.limits.value
 
 pub returns-in-Err-clause-step : goal.returns-in-Err-clause-step
 returns-in-Err-clause-step g c = tells_as _ _ _ (λ held. (held, refl)) refl refl _ _ refl
@@ -53,7 +63,7 @@ pub returns-in-Err-clause-short : goal.returns-in-Err-clause-short
 returns-in-Err-clause-short g c = tt
 
 pub returns-in-Err-clause-device : goal.returns-in-Err-clause-device
-returns-in-Err-clause-device g c = λ same. absurd (named_not _ _ (λ e. cc) (λ e. cc) c.in-Err.ensures.others same)
+returns-in-Err-clause-device g c = λ same. absurd (named_not _ _ row_not_device memory_not_device c.in-Err.ensures.others same)
 
 pub returns-in-Err-clause-told : goal.returns-in-Err-clause-told
 returns-in-Err-clause-told g c = λ _. record { files = refl; marks = refl }
@@ -80,7 +90,7 @@ pub returns-in-Err-new-clause-short : goal.returns-in-Err-new-clause-short
 returns-in-Err-new-clause-short g c = tt
 
 pub returns-in-Err-new-clause-device : goal.returns-in-Err-new-clause-device
-returns-in-Err-new-clause-device g c = λ same. absurd (named_not _ _ (λ e. cc) (λ e. cc) c.in-Err-new.ensures.others same)
+returns-in-Err-new-clause-device g c = λ same. absurd (named_not _ _ column_not_device memory_not_device c.in-Err-new.ensures.others same)
 
 pub returns-in-Err-new-clause-told : goal.returns-in-Err-new-clause-told
 returns-in-Err-new-clause-told g c = λ _. record { files = refl; marks = refl }
@@ -126,3 +136,6 @@ returns-clause-device g c = λ same. inl (c.in-Err-newest.ensures.device (as_err
 
 pub returns-clause-told : goal.returns-clause-told
 returns-clause-told g c = λ none. record { files = c.in-Err-newest.ensures.told (λ is. none (as_refused _ _ _ refl is)); marks = refl }
+
+pub returns-in-Ok-newest-clause-short : goal.returns-in-Ok-newest-clause-short
+returns-in-Ok-newest-clause-short g c = short_found _ _ c.in-Ok-newest.found c.in-Ok-newest.ensures.limits
