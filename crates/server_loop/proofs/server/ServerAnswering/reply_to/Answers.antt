@@ -5,7 +5,7 @@ use Rattle.row_atomic.specs.Changes.{IsNumberedRefusal}
 use Rattle.row_atomic.specs.Compactions as compaction
 use Rattle.txn_client.specs.Refusals.{IsBeginRefusal, IsGetRefusal, IsSetRefusal, IsStepRefusal}
 use Rattle.server_loop.specs.Refusals.{IsRawRefusal, IsSweepRefusal}
-use Rattle.server_loop.proofs.Stepping.{never, not_swept}
+use Rattle.server_loop.proofs.Stepping.{never, sweep_not_exhausted, sweep_not_many, sweep_not_large}
 use Rattle.server_loop.proofs.server.ServerAnswering.reply_to.Goals as goal
 
 pub returns-in-Begin-clause-says : goal.returns-in-Begin-clause-says
@@ -331,7 +331,7 @@ pub returns-in-Sweep-clause-says : goal.returns-in-Sweep-clause-says
 returns-in-Sweep-clause-says g c = rw c.in-Sweep.is (record {
   step = c.sweep.ensures.step;
   refusal = c.sweep.ensures.refusal;
-  exhausted = λ is. absurd (never IsSweepRefusal _ _ c.sweep.ensures.refusal (not_swept _ (λ e. cc) (λ e. cc)) is);
+  exhausted = λ is. absurd (never IsSweepRefusal _ _ c.sweep.ensures.refusal sweep_not_exhausted is);
   draw_only = tt;
   full = tt;
   restarted = tt;
@@ -347,9 +347,9 @@ returns-in-Sweep-clause-says g c = rw c.in-Sweep.is (record {
   barred = λ none. absurd none;
   beside = c.sweep.ensures.beside;
   count = tt;
-  many = λ is. absurd (never IsSweepRefusal _ _ c.sweep.ensures.refusal (not_swept _ (λ e. cc) (λ e. cc)) is);
-  undone = λ is. absurd (never IsSweepRefusal _ _ c.sweep.ensures.refusal (not_swept _ (λ e. cc) (λ e. cc)) is);
-  large = λ held is. absurd (never IsSweepRefusal _ _ c.sweep.ensures.refusal (not_swept _ (λ e. cc) (λ e. cc)) is);
+  many = λ is. absurd (never IsSweepRefusal _ _ c.sweep.ensures.refusal sweep_not_many is);
+  undone = λ is. absurd (never IsSweepRefusal _ _ c.sweep.ensures.refusal sweep_not_many is);
+  large = λ held is. absurd (never IsSweepRefusal _ _ c.sweep.ensures.refusal sweep_not_large is);
   within = λ done. record { room = λ h. h; named = λ lacks. lacks.1; fits = λ held h. h };
   short = c.sweep.ensures.short;
   device = c.sweep.ensures.device;
