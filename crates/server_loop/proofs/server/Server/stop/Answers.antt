@@ -1,14 +1,20 @@
 use Rattle.std.proofs.Common.{◌≡◌, refl}
 use Rattle.cell_key.specs.declared.refusals.Refusal.{Refusal}
-use Rattle.cell_key.specs.declared.refusals.Refusal.TheVariants.{UnknownSession}
+use Rattle.cell_key.specs.declared.refusals.Refusal.TheVariants.{Damaged, Device, UnknownSession}
 use Rattle.server_loop.proofs.Stepping.{as_refused, steps_as, stop_undamaged, undamaged, never, not_done, ok_not}
 use Rattle.server_loop.proofs.server.Server.stop.Goals as goal
+
+damaged_not_unknown : Damaged ≡ UnknownSession → ⊥
+damaged_not_unknown is = cc
+
+device_not_unknown : Device ≡ UnknownSession → ⊥
+device_not_unknown is = cc
 
 pub returns-in-Ok-clause-step : goal.returns-in-Ok-clause-step
 returns-in-Ok-clause-step g c = steps_as _ _ _ _ _ tt (λ _. c.in-Ok.ensures.step _ _) (λ h. h) refl (λ st reached held shown. stop_undamaged)
 
 pub returns-in-Err-clause-step : goal.returns-in-Err-clause-step
-returns-in-Err-clause-step g c = steps_as _ _ _ _ _ tt (λ _. c.in-Err.ensures.step _ _) (λ h. h) refl (λ st reached held shown. undamaged (λ (refusal : Refusal). refusal ≡ UnknownSession) _ c.in-Err.ensures.refusal (λ h. cc))
+returns-in-Err-clause-step g c = steps_as _ _ _ _ _ tt (λ _. c.in-Err.ensures.step _ _) (λ h. h) refl (λ st reached held shown. undamaged (λ (refusal : Refusal). refusal ≡ UnknownSession) _ c.in-Err.ensures.refusal damaged_not_unknown)
 
 pub returns-in-Ok-clause-exact : goal.returns-in-Ok-clause-exact
 returns-in-Ok-clause-exact g c = record { unknown = λ st shown gone. absurd (ok_not _ _ (c.in-Ok.ensures.unknown st shown.shows.sessions gone)); empty = tt; drawing = tt }
@@ -65,7 +71,7 @@ pub returns-in-Err-clause-short : goal.returns-in-Err-clause-short
 returns-in-Err-clause-short g c = tt
 
 pub returns-in-Err-clause-device : goal.returns-in-Err-clause-device
-returns-in-Err-clause-device g c = λ same. absurd (never (λ (refusal : Refusal). refusal ≡ UnknownSession) _ _ c.in-Err.ensures.refusal (λ h. cc) same)
+returns-in-Err-clause-device g c = λ same. absurd (never (λ (refusal : Refusal). refusal ≡ UnknownSession) _ _ c.in-Err.ensures.refusal device_not_unknown same)
 
 pub returns-in-Err-clause-told : goal.returns-in-Err-clause-told
 returns-in-Err-clause-told g c = λ _. record { files = refl; marks = refl }
