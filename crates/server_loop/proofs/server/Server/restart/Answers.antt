@@ -1,15 +1,18 @@
 use Rattle.request_codec.specs.declared.replies.Reply.TheVariants.{Refused}
 use Rattle.cell_key.specs.declared.refusals.Refusal.{Refusal}
-use Rattle.std.proofs.Common.{refl, arith, ap, inr}
+use Rattle.std.proofs.Common.{ℕ, ◌≤◌, refl, arith, ap, inr}
 use Rattle.server_loop.proofs.Stepping.{restart_done, restart_refused, not_done}
 use Rattle.server_loop.proofs.server.Server.restart.Goals as goal
+
+no_later : (top last last' : ℕ) → top ≤ last → last ≤ last' → top ≤ last'
+no_later top last last' low rises = omega arith
 
 pub returns-in-Ok-clause-step : goal.returns-in-Ok-clause-step
 returns-in-Ok-clause-step g c = restart_done _ _ _ (λ st shown. record {
   in_order = shown.in_order;
   places = shown.places;
   next = shown.next;
-  shows = record { store = shown.shows.store; sessions = shown.shows.sessions; top = omega (arith, shown.shows.top, c.in-Ok.ensures.rises) };
+  shows = record { store = shown.shows.store; sessions = shown.shows.sessions; top = no_later _ _ _ shown.shows.top c.in-Ok.ensures.rises };
 })
 
 pub returns-in-Err-clause-step : goal.returns-in-Err-clause-step
@@ -17,7 +20,7 @@ returns-in-Err-clause-step g c = restart_refused _ _ _ _ c.in-Err.ensures.refusa
   in_order = shown.in_order;
   places = shown.places;
   next = shown.next;
-  shows = record { store = shown.shows.store; sessions = shown.shows.sessions; top = omega (arith, shown.shows.top, c.in-Err.ensures.rises) };
+  shows = record { store = shown.shows.store; sessions = shown.shows.sessions; top = no_later _ _ _ shown.shows.top c.in-Err.ensures.rises };
 })
 
 pub returns-in-Ok-clause-leaves : goal.returns-in-Ok-clause-leaves
