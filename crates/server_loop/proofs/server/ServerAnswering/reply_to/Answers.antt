@@ -1,12 +1,30 @@
 use Rattle.std.proofs.Common.{◌≡◌}
 use Rattle.cell_key.specs.declared.refusals.Refusal.{Refusal}
-use Rattle.cell_key.specs.declared.refusals.Refusal.TheVariants.{Device, UnknownSession}
+use Rattle.cell_key.specs.declared.refusals.Refusal.TheVariants.{Device, Exhausted, FileTooLarge, TooManyFiles, UnknownSession}
 use Rattle.row_atomic.specs.Changes.{IsNumberedRefusal}
 use Rattle.row_atomic.specs.Compactions as compaction
 use Rattle.txn_client.specs.Refusals.{IsBeginRefusal, IsGetRefusal, IsSetRefusal, IsStepRefusal}
 use Rattle.server_loop.specs.Refusals.{IsRawRefusal, IsSweepRefusal}
 use Rattle.server_loop.proofs.Stepping.{never, sweep_not_exhausted, sweep_not_many, sweep_not_large}
 use Rattle.server_loop.proofs.server.ServerAnswering.reply_to.Goals as goal
+
+exhausted_not_unknown : Exhausted ≡ UnknownSession → ⊥
+exhausted_not_unknown is = cc
+
+exhausted_not_device : Exhausted ≡ Device → ⊥
+exhausted_not_device is = cc
+
+many_not_unknown : TooManyFiles ≡ UnknownSession → ⊥
+many_not_unknown is = cc
+
+many_not_device : TooManyFiles ≡ Device → ⊥
+many_not_device is = cc
+
+large_not_unknown : FileTooLarge ≡ UnknownSession → ⊥
+large_not_unknown is = cc
+
+large_not_device : FileTooLarge ≡ Device → ⊥
+large_not_device is = cc
 
 pub returns-in-Begin-clause-says : goal.returns-in-Begin-clause-says
 returns-in-Begin-clause-says g c = rw c.in-Begin.is (record {
@@ -128,7 +146,7 @@ pub returns-in-Stop-clause-says : goal.returns-in-Stop-clause-says
 returns-in-Stop-clause-says g c = rw c.in-Stop.is (record {
   step = c.stop.ensures.step;
   refusal = c.stop.ensures.refusal;
-  exhausted = λ is. absurd (never (λ (r : Refusal). r ≡ UnknownSession) _ _ c.stop.ensures.refusal (λ h. cc) is);
+  exhausted = λ is. absurd (never (λ (r : Refusal). r ≡ UnknownSession) _ _ c.stop.ensures.refusal exhausted_not_unknown is);
   draw_only = tt;
   full = tt;
   restarted = tt;
@@ -144,9 +162,9 @@ returns-in-Stop-clause-says g c = rw c.in-Stop.is (record {
   barred = λ none. absurd none;
   beside = tt;
   count = tt;
-  many = λ is. absurd (never (λ (r : Refusal). r ≡ UnknownSession) _ _ c.stop.ensures.refusal (λ h. cc) is);
-  undone = λ is. absurd (never (λ (r : Refusal). r ≡ UnknownSession) _ _ c.stop.ensures.refusal (λ h. cc) is);
-  large = λ held is. absurd (never (λ (r : Refusal). r ≡ UnknownSession) _ _ c.stop.ensures.refusal (λ h. cc) is);
+  many = λ is. absurd (never (λ (r : Refusal). r ≡ UnknownSession) _ _ c.stop.ensures.refusal many_not_unknown is);
+  undone = λ is. absurd (never (λ (r : Refusal). r ≡ UnknownSession) _ _ c.stop.ensures.refusal many_not_unknown is);
+  large = λ held is. absurd (never (λ (r : Refusal). r ≡ UnknownSession) _ _ c.stop.ensures.refusal large_not_unknown is);
   within = λ done. record { room = λ h. h; named = λ lacks. lacks.1; fits = λ held h. h };
   short = c.stop.ensures.short;
   device = c.stop.ensures.device;
@@ -157,7 +175,7 @@ pub returns-in-OracleRestart-clause-says : goal.returns-in-OracleRestart-clause-
 returns-in-OracleRestart-clause-says g c = rw c.in-OracleRestart.is (record {
   step = c.restart.ensures.step;
   refusal = c.restart.ensures.refusal;
-  exhausted = λ is. absurd (never (λ (r : Refusal). r ≡ Device) _ _ c.restart.ensures.refusal (λ h. cc) is);
+  exhausted = λ is. absurd (never (λ (r : Refusal). r ≡ Device) _ _ c.restart.ensures.refusal exhausted_not_device is);
   draw_only = tt;
   full = tt;
   restarted = c.restart.ensures.restarted;
@@ -173,9 +191,9 @@ returns-in-OracleRestart-clause-says g c = rw c.in-OracleRestart.is (record {
   barred = λ none. absurd none;
   beside = tt;
   count = tt;
-  many = λ is. absurd (never (λ (r : Refusal). r ≡ Device) _ _ c.restart.ensures.refusal (λ h. cc) is);
-  undone = λ is. absurd (never (λ (r : Refusal). r ≡ Device) _ _ c.restart.ensures.refusal (λ h. cc) is);
-  large = λ held is. absurd (never (λ (r : Refusal). r ≡ Device) _ _ c.restart.ensures.refusal (λ h. cc) is);
+  many = λ is. absurd (never (λ (r : Refusal). r ≡ Device) _ _ c.restart.ensures.refusal many_not_device is);
+  undone = λ is. absurd (never (λ (r : Refusal). r ≡ Device) _ _ c.restart.ensures.refusal many_not_device is);
+  large = λ held is. absurd (never (λ (r : Refusal). r ≡ Device) _ _ c.restart.ensures.refusal large_not_device is);
   within = λ done. record { room = λ h. h; named = λ lacks. lacks.1; fits = λ held h. h };
   short = c.restart.ensures.short;
   device = c.restart.ensures.device;
