@@ -28,7 +28,7 @@ const NO_MEMORY_LINE: &str = "tabletd: no memory";
 const FILE_LIMIT: u64 = 1_073_741_824;
 
 /// Why the command line can't be read.
-#[derive(Debug, Drop)]
+#[derive(Drop)]
 enum LineError {
     NoMemory,
     NotText(io::Error),

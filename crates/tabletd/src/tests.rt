@@ -19,12 +19,15 @@ mod streams;
 mod tablets;
 mod upkeep;
 
+use crate::FILE_LIMIT;
+use cell_key::Refusal;
 use file_store::MemFiles;
 use oracle::MemMark;
 use rows::Exchange;
 use server_loop::{Config, End, ServeFault, Server, end_status};
 use std::alloc::{AllocError, Global};
 use std::cell::Cell;
+use std::io::{Read, Write};
 use std::test::Fail;
 use streams::{Asking, Narrow, Pieces, Telling};
 
@@ -50,14 +53,48 @@ const ROWS: [&[Exchange]; 16] = [
     &upkeep::SPLIT_AND_COMPACT,
 ];
 
-fn new_server(alloc: Global) -> Result<MemServer, Fail> {
+/// How a server ended.
+type Ended = Result<End, ServeFault>;
+
+/// A server over files in memory.
+fn new_server(alloc: Global) -> Result<MemServer, Refusal> {
     let config = Config {
         flush: 10_000,
-        file_limit: 1_073_741_824,
+        file_limit: FILE_LIMIT,
     };
     match Server::new(alloc, MemFiles::new(alloc), MemMark::new(), config) {
         Ok(server) => Ok(server),
-        Err((refusal, _, _)) => Err(Fail::from(refusal)),
+        Err((refusal, _, _)) => Err(refusal),
+    }
+}
+
+/// How a new server ends, with so many reads at most.
+fn served<I: Read, O: Write>(
+    alloc: Global,
+    reader: &mut I,
+    writer: &mut O,
+    most_reads: u64,
+) -> Result<Ended, Refusal> {
+    let mut server = new_server(alloc)?;
+    Ok(server.serve(reader, writer, most_reads))
+}
+
+/// How a new server ends, with so many reads at most, and what it writes.
+fn outcome(
+    alloc: Global,
+    mut reader: Pieces,
+    most_reads: u64,
+) -> Result<(Ended, Vec<u8>), Refusal> {
+    let mut written = Vec::new(alloc);
+    let ended = served(alloc, &mut reader, &mut written, most_reads)?;
+    Ok((ended, written))
+}
+
+/// What a new server writes for what the reader gives, where it ends cleanly.
+fn answers_to(alloc: Global, reader: Pieces) -> Result<Option<Vec<u8>>, Refusal> {
+    match outcome(alloc, reader, u64::MAX)? {
+        (Ok(End::Clean), written) => Ok(Some(written)),
+        _ => Ok(None),
     }
 }
 
@@ -67,83 +104,42 @@ fn push_frame(out: &mut Vec<u8>, body: &[u8]) -> Result<(), AllocError> {
     out.extend_from_slice(body)
 }
 
-fn requests_of(alloc: Global, row: &[Exchange]) -> Result<Vec<u8>, AllocError> {
-    let mut stream = Vec::new(alloc);
-    for (request, _) in row {
-        push_frame(&mut stream, request)?;
+/// The stream of a row's requests, and that of its replies.
+fn streams_of(alloc: Global, row: &[Exchange]) -> Result<(Vec<u8>, Vec<u8>), AllocError> {
+    let mut requests = Vec::new(alloc);
+    let mut replies = Vec::new(alloc);
+    for (request, reply) in row {
+        push_frame(&mut requests, request)?;
+        push_frame(&mut replies, reply)?;
     }
-    Ok(stream)
+    Ok((requests, replies))
 }
 
-fn replies_of(alloc: Global, row: &[Exchange]) -> Result<Vec<u8>, AllocError> {
-    let mut stream = Vec::new(alloc);
-    for (_, reply) in row {
-        push_frame(&mut stream, reply)?;
-    }
-    Ok(stream)
-}
-
-/// What a new server writes for what the reader gives, where it ends cleanly.
-fn answers_to(alloc: Global, mut reader: Pieces) -> Result<Option<Vec<u8>>, Fail> {
-    let mut server = new_server(alloc)?;
-    let mut written = Vec::new(alloc);
-    match server.serve(&mut reader, &mut written, u64::MAX) {
-        Ok(End::Clean) => Ok(Some(written)),
-        _ => Ok(None),
-    }
-}
-
-/// Whether the row is met where a read gives so many bytes at most.
-fn is_met(alloc: Global, row: &[Exchange], most: usize) -> Result<bool, Fail> {
-    let requests = requests_of(alloc, row)?;
+/// Whether the row is met where a read gives so many bytes at most, and none past a place in the same call as one
+/// before it.
+fn is_met(alloc: Global, row: &[Exchange], most: usize, cut: usize) -> Result<bool, Refusal> {
+    let (requests, replies) = streams_of(alloc, row)?;
     let mut reader = Pieces::new(alloc, &requests)?;
     reader.most = most;
-    let written = answers_to(alloc, reader)?;
-    Ok(written == Some(replies_of(alloc, row)?))
-}
-
-#[test]
-fn rows_are_met(rt: HostRuntime) -> Result<(), Fail> {
-    for row in ROWS {
-        assert!(rt; is_met(rt.alloc(), row, usize::MAX)?);
-        assert!(rt; is_met(rt.alloc(), row, 1)?);
-    }
-    Ok(())
+    reader.cut = cut;
+    Ok(answers_to(alloc, reader)? == Some(replies))
 }
 
 /// Whether the row is met where its stream is cut in two at each place.
-fn is_met_in_two(alloc: Global, row: &[Exchange]) -> Result<bool, Fail> {
-    let requests = requests_of(alloc, row)?;
-    let replies = replies_of(alloc, row)?;
+fn is_met_in_two(alloc: Global, row: &[Exchange]) -> Result<bool, Refusal> {
+    let (requests, _) = streams_of(alloc, row)?;
     for cut in 0..requests.len() {
-        let mut reader = Pieces::new(alloc, &requests)?;
-        reader.cut = cut;
-        let written = answers_to(alloc, reader)?;
-        if written.as_ref() != Some(&replies) {
+        if !is_met(alloc, row, usize::MAX, cut)? {
             return Ok(false);
         }
     }
     Ok(true)
 }
 
-/// The rows that are cut in two.
-const IN_TWO: [&[Exchange]; 11] = [
-    &rows::FIRST_CELL,
-    &rows::TRANSFER,
-    &rows::COMMIT_POINT,
-    &rows::FIRST_COMMITTER,
-    &rows::SECOND_COMMITTER,
-    &rows::ORACLE_RESTART,
-    &rows::ORACLE_RANGES,
-    &rows::WRITE_SKEW,
-    &rows::PHASES,
-    &upkeep::TABLETS,
-    &upkeep::ERASURES,
-];
-
 #[test]
-fn rows_in_two_pieces(rt: HostRuntime) -> Result<(), Fail> {
-    for row in IN_TWO {
+fn rows_are_met(rt: HostRuntime) -> Result<(), Fail> {
+    for row in ROWS {
+        assert!(rt; is_met(rt.alloc(), row, 1, 0)?);
         assert!(rt; is_met_in_two(rt.alloc(), row)?);
     }
     Ok(())
@@ -175,52 +171,51 @@ const ENDS: [(&[u8], &[u8], u8); 8] = [
 #[test]
 fn ends_of_streams(rt: HostRuntime) -> Result<(), Fail> {
     for (input, output, status) in ENDS {
-        let mut server = new_server(rt.alloc())?;
-        let mut reader = Pieces::new(rt.alloc(), input)?;
-        let mut written = Vec::new(rt.alloc());
-        let ended = server.serve(&mut reader, &mut written, u64::MAX);
+        let reader = Pieces::new(rt.alloc(), input)?;
+        let (ended, written) = outcome(rt.alloc(), reader, u64::MAX)?;
         assert!(rt; written.as_slice() == output);
         assert!(rt; end_status(&ended).0 == status);
     }
     Ok(())
 }
 
+const BEGIN: &[u8] = b"\0\0\0\x01\x01";
+
+/// Two requests, and the reply to the first.
+const TWO_BEGINS: &[u8] = b"\0\0\0\x01\x01\0\0\0\x01\x01";
+
+const FIRST_REPLY: &[u8] = b"\0\0\0\x09\x81\0\0\0\0\0\0\0\x01";
+
 #[test]
 fn reads_are_counted(rt: HostRuntime) -> Result<(), Fail> {
-    let mut server = new_server(rt.alloc())?;
-    let mut reader = Pieces::new(rt.alloc(), b"\0\0\0\x01\x01\0\0\0\x01\x01")?;
-    let mut written = Vec::new(rt.alloc());
-    let ended = server.serve(&mut reader, &mut written, 3);
+    let reader = Pieces::new(rt.alloc(), TWO_BEGINS)?;
+    let (ended, written) = outcome(rt.alloc(), reader, 3)?;
     assert!(rt; matches!(&ended, Ok(End::ReadsUsedUp)));
-    assert!(rt; written.as_slice() == b"\0\0\0\x09\x81\0\0\0\0\0\0\0\x01".as_slice());
+    assert!(rt; written.as_slice() == FIRST_REPLY);
     Ok(())
 }
 
 #[test]
 fn a_read_fails_inside_a_frame(rt: HostRuntime) -> Result<(), Fail> {
-    let mut server = new_server(rt.alloc())?;
-    let mut reader = Pieces::new(rt.alloc(), b"\0\0\0\x01\x01\0\0\0\x01\x01")?;
+    let mut reader = Pieces::new(rt.alloc(), TWO_BEGINS)?;
     reader.most = 1;
     reader.fails_at = 7;
-    let mut written = Vec::new(rt.alloc());
-    let ended = server.serve(&mut reader, &mut written, u64::MAX);
+    let (ended, written) = outcome(rt.alloc(), reader, u64::MAX)?;
     assert!(rt; matches!(&ended, Err(ServeFault::Read)));
-    assert!(rt; written.as_slice() == b"\0\0\0\x09\x81\0\0\0\0\0\0\0\x01".as_slice());
+    assert!(rt; written.as_slice() == FIRST_REPLY);
     Ok(())
 }
 
 /// Whether a writer that gives up after so many calls got just as many bytes of the first cell's replies.
-fn is_cut_short(alloc: Global, calls_left: usize, stalls: bool) -> Result<bool, Fail> {
-    let requests = requests_of(alloc, &rows::FIRST_CELL)?;
-    let replies = replies_of(alloc, &rows::FIRST_CELL)?;
-    let mut server = new_server(alloc)?;
+fn is_cut_short(alloc: Global, calls_left: usize, stalls: bool) -> Result<bool, Refusal> {
+    let (requests, replies) = streams_of(alloc, &rows::FIRST_CELL)?;
     let mut reader = Pieces::new(alloc, &requests)?;
     let mut writer = Narrow {
         written: Vec::new(alloc),
         calls_left,
         stalls,
     };
-    let ended = server.serve(&mut reader, &mut writer, u64::MAX);
+    let ended = served(alloc, &mut reader, &mut writer, u64::MAX)?;
     let Some(beginning) = replies.get(..calls_left) else {
         return Ok(matches!(&ended, Ok(End::Clean)) && writer.written == replies);
     };
@@ -245,17 +240,16 @@ fn a_write_fails_at_each_call(rt: HostRuntime) -> Result<(), Fail> {
 #[test]
 fn a_reply_leaves_before_the_next_read(rt: HostRuntime) -> Result<(), Fail> {
     let left = Cell::new(false);
-    let mut server = new_server(rt.alloc())?;
     let mut reader = Asking {
-        first: b"\0\0\0\x01\x01",
-        second: b"\0\0\0\x01\x01",
+        first: BEGIN,
+        second: BEGIN,
         left: &left,
     };
     let mut writer = Telling {
         written: Vec::new(rt.alloc()),
         left: &left,
     };
-    let ended = server.serve(&mut reader, &mut writer, u64::MAX);
+    let ended = served(rt.alloc(), &mut reader, &mut writer, u64::MAX)?;
     assert!(rt; matches!(&ended, Ok(End::Clean)));
     assert!(rt; writer.written.len() == 26);
     Ok(())

@@ -4,6 +4,7 @@ ghost use Rattle.std.specs.Prelude.{IfOk};
 ghost use Rattle.row_atomic.specs.Commands.{IsUnderRow};
 
 use crate::tests::edits::{Write, edits_of};
+use crate::tests::memory::rows::new_cluster;
 use cell_key::{Family, Qualifier, Refusal, Row, Stamp};
 use file_store::MemFiles;
 use row_atomic::{Cluster, Command, Outcome, PlainRows, Rows, one_newest, one_next_cell};
@@ -166,14 +167,6 @@ fn agrees(
     }
     let shown = places(alloc, cluster)?;
     Ok(shown.as_slice() == places(alloc, plain)?.as_slice())
-}
-
-/// A cluster over files in memory.
-fn new_cluster(alloc: Global) -> Result<Cluster<MemFiles>, Refusal> {
-    match Cluster::new(alloc, MemFiles::new(alloc), 4096) {
-        Ok(cluster) => Ok(cluster),
-        Err((refusal, _files)) => Err(refusal),
-    }
 }
 
 #[test]

@@ -2,9 +2,10 @@
 
 use crate::FILE_LIMIT;
 use crate::tests::edits::edits_of;
+use crate::tests::memory::files::written;
 use cell_key::{Refusal, Row, Stamp};
 use compaction::{Input, Merge, Until, merge_into};
-use file_store::{Files, MemFiles, read_whole};
+use file_store::{MemFiles, read_whole};
 use memtable::Memtable;
 use sorted_file::{SortedFile, Source};
 use std::alloc::Global;
@@ -46,10 +47,7 @@ fn older(alloc: Global, files: &mut MemFiles) -> Result<SortedFile, Refusal> {
     set(alloc, &mut table, 3, Some(b"3"))?;
     set(alloc, &mut table, 2, Some(b"2"))?;
     set(alloc, &mut table, 1, Some(b"1"))?;
-    let mut sources = Vec::new(alloc);
-    sources.push(Input::Memtable(table.cursor(b"")))?;
-    merge_into(alloc, sources, true, 1, FILE_LIMIT, files)?;
-    SortedFile::open(alloc, 1, files)
+    written(alloc, &table, files)
 }
 
 /// A memtable with an erasure at 2, and 7 at 1.
@@ -109,14 +107,5 @@ fn entries_until_an_end(rt: HostRuntime) -> Result<(), Fail> {
     assert!(rt; all.as_slice() == b"3x7".as_slice());
     let below = values_until(rt.alloc(), Some(FIRST_STAMP))?;
     assert!(rt; below.as_slice() == b"3x".as_slice());
-    Ok(())
-}
-
-#[test]
-fn no_sources_give_an_empty_file(rt: HostRuntime) -> Result<(), Fail> {
-    let mut files = MemFiles::new(rt.alloc());
-    let sources: Vec<Input<'_>> = Vec::new(rt.alloc());
-    merge_into(rt.alloc(), sources, true, 1, FILE_LIMIT, &mut files)?;
-    assert!(rt; files.size(1) == Ok(Some(32)));
     Ok(())
 }

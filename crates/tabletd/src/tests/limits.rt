@@ -1,11 +1,12 @@
 //! Limits of sessions, tablets and files, and the longest values.
 
 use crate::tests::streams::Pieces;
-use crate::tests::{MemServer, new_server, push_frame};
+use crate::tests::{MemServer, answers_to, new_server, push_frame};
+use cell_key::Refusal;
 use file_store::MemFiles;
 use oracle::MemMark;
 use request_codec::{Reply, Request};
-use server_loop::{Config, End, Server};
+use server_loop::{Config, Server};
 use std::alloc::{AllocError, Global};
 use std::test::Fail;
 
@@ -95,12 +96,14 @@ const AWAY: Request<'static> = Request::Move {
     server: 3,
 };
 
-/// Begins a session that sets 65 rows.
-fn set_65_rows(server: &mut MemServer) {
-    server.answer(Request::Begin);
+/// Whether the first session sets 65 rows.
+fn sets_65_rows(server: &mut MemServer) -> bool {
     for row in 0..=64u8 {
-        server.answer(set(&[row], b"v"));
+        if refused(server, set(&[row], b"v")) != 0 {
+            return false;
+        }
     }
+    true
 }
 
 /// Whether a server writes 64 of the rows to files, a row each, and holds the last.
@@ -140,7 +143,8 @@ const FULL: [(Request<'static>, u8); 7] = [
 #[test]
 fn at_most_64_files(rt: HostRuntime) -> Result<(), Fail> {
     let mut server = new_server(rt.alloc())?;
-    set_65_rows(&mut server);
+    assert!(rt; refused(&mut server, Request::Begin) == 0);
+    assert!(rt; sets_65_rows(&mut server));
     assert!(rt; writes_64_files(&mut server));
     assert!(rt; are_answered(&mut server, &FULL));
     assert!(rt; matches!(server.answer(Request::Sweep), Reply::Sweep(64)));
@@ -196,15 +200,9 @@ fn requests_of_a_value(alloc: Global, value: &[u8]) -> Result<Vec<u8>, AllocErro
 }
 
 /// What a new server writes for such a value.
-fn replies_to_a_value(alloc: Global, value: &[u8]) -> Result<Option<Vec<u8>>, Fail> {
+fn replies_to_a_value(alloc: Global, value: &[u8]) -> Result<Option<Vec<u8>>, Refusal> {
     let requests = requests_of_a_value(alloc, value)?;
-    let mut server = new_server(alloc)?;
-    let mut reader = Pieces::new(alloc, &requests)?;
-    let mut written = Vec::new(alloc);
-    match server.serve(&mut reader, &mut written, u64::MAX) {
-        Ok(End::Clean) => Ok(Some(written)),
-        _ => Ok(None),
-    }
+    answers_to(alloc, Pieces::new(alloc, &requests)?)
 }
 
 #[test]

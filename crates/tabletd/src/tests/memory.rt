@@ -1,9 +1,9 @@
 //! Each public call that takes memory: what it answers, and what is read before and after it. Where an allocation was
 //! refused, what is read is as before, and the call is then made again. `scripts/refuse_allocations` refuses them.
 
-mod files;
+pub mod files;
 mod keys;
-mod rows;
+pub mod rows;
 mod servers;
 mod sessions;
 pub mod tablets;

@@ -219,7 +219,11 @@ impl Sorted {
 }
 
 /// Writes a memtable as the file 1, and opens it.
-fn written(alloc: Global, table: &Memtable, files: &mut MemFiles) -> Result<SortedFile, Refusal> {
+pub fn written(
+    alloc: Global,
+    table: &Memtable,
+    files: &mut MemFiles,
+) -> Result<SortedFile, Refusal> {
     let mut sources = Vec::new(alloc);
     sources.push(Input::Memtable(table.cursor(b"")))?;
     merge_into(alloc, sources, true, 1, FILE_LIMIT, files)?;

@@ -135,7 +135,8 @@ const CLUSTER_CALLS: [Call; 10] = [
     (b"a", b"54\x0E\x0B"),
 ];
 
-fn new_cluster(alloc: Global) -> Result<Cluster<MemFiles>, Refusal> {
+/// A cluster over files in memory.
+pub fn new_cluster(alloc: Global) -> Result<Cluster<MemFiles>, Refusal> {
     match Cluster::new(alloc, MemFiles::new(alloc), FILE_LIMIT) {
         Ok(cluster) => Ok(cluster),
         Err((refusal, _)) => Err(refusal),

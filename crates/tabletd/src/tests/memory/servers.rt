@@ -1,12 +1,10 @@
 //! Servers: asked by requests, and over streams of frames.
 
 use crate::tests::memory::{Call, Subject, Table};
-use crate::tests::{MemServer, push_frame};
+use crate::tests::{MemServer, new_server, push_frame};
 use cell_key::Refusal;
-use file_store::MemFiles;
-use oracle::MemMark;
 use request_codec::{Reply, decode_request};
-use server_loop::{Config, End, ServeFault, Server};
+use server_loop::{End, ServeFault};
 use std::alloc::Global;
 
 /// What a server is asked for first. Then sessions stand at each phase, and there are two files and a memtable.
@@ -309,17 +307,6 @@ const REFUSALS: [Call; 22] = [
     // Server::new
     (b"\0", STILL),
 ];
-
-fn new_server(alloc: Global) -> Result<MemServer, Refusal> {
-    let config = Config {
-        flush: 10_000,
-        file_limit: 1_073_741_824,
-    };
-    match Server::new(alloc, MemFiles::new(alloc), MemMark::new(), config) {
-        Ok(server) => Ok(server),
-        Err((refusal, _, _)) => Err(refusal),
-    }
-}
 
 /// Appends the number of a refusal, or 0, where memory was not refused.
 fn push_refusal(reply: &Reply, out: &mut Vec<u8>) -> Result<(), Refusal> {
