@@ -25,7 +25,7 @@ pub returns-in_ok-insert-clause-kept : goal.returns-in_ok-insert-clause-kept
 returns-in_ok-insert-clause-kept c = set_keeps c.args.slots.now.entries c.insert.new.self.entries c.in_ok-clone.field-0 None c.in_ok-insert.ensures.updates.0
 
 pub returns-in_ok-insert-clause-slot : goal.returns-in_ok-insert-clause-slot
-returns-in_ok-insert-clause-slot c = 
+returns-in_ok-insert-clause-slot c =
     let same : c.in_ok-clone.field-0 ≡ c.args.key.now = same_key c.in_ok-clone.field-0 c.args.key.now c.in_ok-clone.ensures.cases in
     subst (HasSlot c.insert.new.self.entries) same (set_has c.args.slots.now.entries c.insert.new.self.entries c.in_ok-clone.field-0 None c.in_ok-insert.ensures.updates.0)
 

@@ -52,8 +52,7 @@ returns-in-Whole-filled g c =
     let both = Consumes-trans _ _ _ _ _ got got_body in
     let says = c.length_in-length.ensures in
     let size : length body ≡ n = filled_size _ c.args.body.now body c.requires c.if-length-gt-LONGEST_BODY.false c.fill-filled.auto.buf in
-    let front : take n (body ++ lib.ListN.drop n c.args.body.now) ≡ body = take_at body _ n size in
-    (
+    let front : take n (body ++ lib.ListN.drop n c.args.body.now) ≡ body = take_at body _ n size in (
       header ++ body,
       both,
       (

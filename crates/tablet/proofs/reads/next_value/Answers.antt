@@ -90,7 +90,7 @@ returns-in_err-found-clause-reason g c = reason_after _ _ _ (c.in_ok-advance.ens
     (quiet_reason c.from_residual-in_err-found.result _ (λ is. absurd (passed_kind c.from_residual-in_err-found.result c.in_err-found.field-0.0 Device IsHeldRefusal c.from_residual-in_err-found.ensures.1 (held_refusal c.in_err-found.field-0.0 c.in_err-found.ensures.refusal) is)))
 
 pub returns-in-Some-clause-found : goal.returns-in-Some-clause-found
-returns-in-Some-clause-found g c = 
+returns-in-Some-clause-found g c =
     over (g.F.Files.contents c.args.store.now) (g.F.Files.contents c.loop-source.store) (λ m. g.S.Source.holds m c.args.source.now → g.S.Source.holds m c.loop-source.source × (first_value (g.S.Source.remaining m c.loop-source.source) ≡ first_value (g.S.Source.remaining m c.args.source.now)))
     (λ m. g.S.Source.holds m c.loop-source.source → Takes (g.S.Source.lent c.advance.new.self) (g.S.Source.remaining m c.loop-source.source) (g.S.Source.remaining m c.advance.new.self)) _ c.loop-source.invariant.same
     (λ m p s start. found_taken _ _ _ _ (s (p start).0) (sym (ap (option_map texted) c.in-Some.is) ∙ c.in_ok-found.ensures.found) ∙ (p start).1)
@@ -109,7 +109,7 @@ pub returns-in-Some-clause-reason : goal.returns-in-Some-clause-reason
 returns-in-Some-clause-reason g c = reason_of_ok _ _ _ _ (reason_after _ _ _ c.loop-source.invariant.quiet c.in_ok-advance.ensures.reason)
 
 pub returns-clause-found : goal.returns-clause-found
-returns-clause-found g c = 
+returns-clause-found g c =
     over (g.F.Files.contents c.args.store.now) (g.F.Files.contents c.loop-source.store) (λ m. g.S.Source.holds m c.args.source.now → g.S.Source.holds m c.loop-source.source × (first_value (g.S.Source.remaining m c.loop-source.source) ≡ first_value (g.S.Source.remaining m c.args.source.now)))
     (λ m. g.S.Source.holds m c.loop-source.source → Takes (g.S.Source.lent c.advance.new.self) (g.S.Source.remaining m c.loop-source.source) (g.S.Source.remaining m c.advance.new.self)) _ c.loop-source.invariant.same
     (λ m p s start. end_taken _ _ _ (s (p start).0) (sym c.if-branch.false ∙ c.in_ok-advance.ensures.more) ∙ (p start).1)

@@ -305,7 +305,7 @@ pub returns-in-Apply-clause-uses : goal.returns-in-Apply-clause-uses
 returns-in-Apply-clause-uses g c = rw (c.in-Apply.is) tt
 
 pub returns-in-Apply-clause-cause : goal.returns-in-Apply-clause-cause
-returns-in-Apply-clause-cause g c = 
+returns-in-Apply-clause-cause g c =
     rw (c.in-Apply.is) (λ order. caused g.F.Files.contents (command.Apply c.in-Apply.row c.in-Apply.edits) c.apply.result c.done.result c.args.self.now c.apply.new.self c.done.ensures
     (λ x ok. when_ok c.apply.result x c.apply.ensures.within ok)
     (λ refusal is. record {

@@ -45,7 +45,7 @@ pub returns-in_err-names-clause-told : goal.returns-in_err-names-clause-told
 returns-in_err-names-clause-told g c = rw (← c.self.view_is) (reason_passed c.from_residual.result c.in_err-names.field-0.0 _ _ c.from_residual.ensures.1 c.in_err-names.ensures.reason).told
 
 pub returns-in_err-names-clause-kept : goal.returns-in_err-names-clause-kept
-returns-in_err-names-clause-kept g c = 
+returns-in_err-names-clause-kept g c =
     rw (← c.self.view_is) (λ order.
     (still_in_order (g.F.Files.contents c.self.inside.files) (g.F.Files.contents c.names_of.new.files) c.self.inside.next_name c.self.inside.tablets.items c.names_of.ensures.same order, same_cells_in (g.F.Files.contents c.self.inside.files) (g.F.Files.contents c.names_of.new.files) c.self.inside.tablets.items c.names_of.ensures.same))
 

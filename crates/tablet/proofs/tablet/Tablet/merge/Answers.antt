@@ -143,7 +143,7 @@ pub returns-then-count-lt2-clause-limit : goal.returns-then-count-lt2-clause-lim
 returns-then-count-lt2-clause-limit g c = λ most. most
 
 pub returns-then-count-lt2-clause-keeps : goal.returns-then-count-lt2-clause-keeps
-returns-then-count-lt2-clause-keeps g c = 
+returns-then-count-lt2-clause-keeps g c =
     still_keeps c.stays_open.ensures (g.F.Files.contents c.args.files.now) (g.F.Files.contents c.args.files.now) c.args.next_name.now c.args.next_name.now c.args.self.now c.args.self.now
     (record { range = refl; memory = refl; files = refl }) (inl (refl, refl))
 
@@ -202,7 +202,7 @@ pub returns-clause-used : goal.returns-clause-used
 returns-clause-used g c = c.in_ok-file.ensures.used
 
 pub returns-clause-fits : goal.returns-clause-fits
-returns-clause-fits g c = 
+returns-clause-fits g c =
     same_written (g.F.Files.contents c.args.files.now) c.args.self.now c.args.count (FitsIn c.args.file_limit)
     (c.in_ok-file.ensures.fits)
 
