@@ -7,7 +7,7 @@ use Rattle.cell_key.specs.declared.refusals.Refusal.{Refusal}
 use Rattle.cell_key.specs.declared.refusals.Refusal.TheVariants.{BadSplit, Device, NoMemory, Damaged, TooManyFiles, UnknownServer, UnknownTablet}
 use Rattle.metadata_table.specs.Places.{PlaceView}
 use Rattle.sorted_file.specs.Sources.{HasReason, IsReadRefusal}
-use Rattle.row_atomic.specs.Changes.{IsMoveRefusal, IsRefusalOf, IsSplitRefusal}
+use Rattle.row_atomic.specs.Changes.{ComesOfWriting, IsMoveRefusal, IsRefusalOf, IsSplitRefusal}
 use Rattle.row_atomic.specs.Clusters.{spot_of}
 use Rattle.row_atomic.specs.declared.cluster_compactions.Compaction.{Compaction}
 use Rattle.row_atomic.specs.declared.cluster_compactions.Compaction.TheVariants.{Minor, Merge, Major}
@@ -35,6 +35,11 @@ same_refusal r e n P by only = (λ is. only.0 (passed r e n by is), λ h. refuse
 pub none_answered : {B : Type 0} (r : Result B Refusal) (e : Refusal) (P : B → Type 0) → IsErrAnd r (λ f. f ≡ e) → IfOk r P
 none_answered (Ok x) e P by = absurd by
 none_answered (Err f) e P by = tt
+
+-- what holds of each refusal
+pub each_refusal : {B : Type 0} (r : Result B Refusal) (P : Refusal → Type 0) → ((e : Refusal) → P e) → IfErr r P
+each_refusal (Ok x) P f = tt
+each_refusal (Err e) P f = f e
 
 pub refused_so : {B : Type 0} (r : Result B Refusal) (e : Refusal) (P : Refusal → Type 0) → IsErrAnd r (λ f. f ≡ e) → P e → IfErr r P
 refused_so (Ok x) e P by h = tt
@@ -105,6 +110,11 @@ pub unknown_move : (x : Refusal) → IsUnknown x → IsMoveRefusal x
 unknown_move UnknownTablet h = tt
 unknown_move UnknownServer h = tt
 unknown_move _ h = absurd h
+
+pub unknown_unwritten : (x : Refusal) → IsUnknown x → ¬ ComesOfWriting x
+unknown_unwritten UnknownTablet h of = of
+unknown_unwritten UnknownServer h of = of
+unknown_unwritten _ h of = h
 
 pub neither : {A B C : Type 0} → ¬ A → ¬ B → A ⊎ B → C
 neither not nor (inl a) = absurd (not a)

@@ -1,7 +1,9 @@
 -- What an accepted compaction tells of the limits.
-use Rattle.std.proofs.Common.{◌≡◌, ◌≢◌, ◌≤◌, ◌<◌, ◌^◌, ◌+◌, ℕ, List, [], ◌∷◌, length, Option, Some, None, IfSome, slice_get, set, ◌++◌, ◌⊎◌, inl, inr, zero, suc, refl, sym, ap, ◌∙◌, subst, arith}
+use Rattle.std.proofs.Common.{◌≡◌, ◌≢◌, ◌≤◌, ◌<◌, ◌^◌, ◌+◌, ℕ, List, [], ◌∷◌, length, Option, Some, None, Result, Ok, Err, IfSome, IfErr, IsErrOf, slice_get, set, ◌++◌, ◌⊎◌, inl, inr, zero, suc, refl, sym, ap, ◌∙◌, subst, arith}
 use Rattle.cell_key.specs.Entries.{Entry}
 use Rattle.cell_key.specs.declared.edits.Edit.{Edit}
+use Rattle.cell_key.specs.declared.refusals.Refusal.{Refusal}
+use Rattle.cell_key.specs.declared.refusals.Refusal.TheVariants.{TooManyFiles}
 use Rattle.file_store.specs.Store.{Contents}
 use Rattle.memtable.specs.Edits.{IsWithinLimits, with_edit, with_edits}
 use Rattle.metadata_table.specs.Places.{PlaceView}
@@ -11,7 +13,7 @@ use Rattle.tablet.specs.Ranges.{seen}
 use Rattle.tablet.specs.Views.{Holds, UsesName, memory_of, names_of, range_of}
 use Rattle.tablet.specs.declared.tablet.Tablet.{Tablet}
 use Rattle.row_atomic.specs.Clusters.{HasTabletAt, InOrder, Overfills, tablet_numbered}
-use Rattle.row_atomic.specs.Changes.{IsFull, IsTooLarge, Numbered, OfHolder, written_by}
+use Rattle.row_atomic.specs.Changes.{ComesOfWriting, IsFull, IsTooLarge, Numbered, OfHolder, written_by}
 use Rattle.row_atomic.specs.declared.cluster_compactions.Compaction.{Compaction}
 use Rattle.row_atomic.proofs.Changing.{at_order, numbered_at}
 use Rattle.row_atomic.proofs.Placing.{set_same}
@@ -42,6 +44,14 @@ has_room t room full =
     let less = room full.memory in
     let many = full.files in
     absurd (omega arith)
+
+-- a full tablet is told nothing that comes of writing
+pub not_full_written : {A : Type 0} (r : Result A Refusal) (t : Tablet) → (memory_of t ≢ [] → 64 ≤ length (names_of t) → IsErrOf r TooManyFiles) → IfErr r (λ refusal. ComesOfWriting refusal → ¬ IsFull t)
+not_full_written (Ok x) t told = tt
+not_full_written (Err e) t told = λ of full. subst ComesOfWriting (which (told full.memory full.files)) of
+  where
+    which : {A : Type 0} → IsErrOf {T = A} (Err e) TooManyFiles → e ≡ TooManyFiles
+    which is = cc
 
 pub none_written : (t : Tablet) (next : ℕ) → (memory_of t ≢ [] → next < 2 ^ 63) → 2 ^ 63 ≤ next → memory_of t ≡ []
 none_written t next left most = go (memory_of t) left

@@ -128,6 +128,14 @@ abbrev pub MeetsFull : Compaction → Tablet → Type 0
 MeetsFull Minor t = IsFull t
 MeetsFull _ t = ⊥
 
+-- a refusal that comes of writing a file: a full tablet is told that it is full instead
+abbrev pub ComesOfWriting : Refusal → Type 0
+ComesOfWriting refused.Exhausted = ⊤
+ComesOfWriting refused.FileTooLarge = ⊤
+ComesOfWriting refused.Device = ⊤
+ComesOfWriting refused.Damaged = ⊤
+ComesOfWriting _ = ⊥
+
 -- its memtable is empty
 abbrev pub IsEmptied : Tablet → Type 0
 IsEmptied t = memory_of t ≡ []

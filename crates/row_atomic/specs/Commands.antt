@@ -10,7 +10,7 @@ use Rattle.cell_key.specs.declared.refusals.Refusal.TheVariants as refused
 use Rattle.file_store.specs.Store.{Contents}
 use Rattle.metadata_table.specs.Table.{BarsSplit, HasTablet, most_servers}
 use Rattle.tablet.specs.Views.{UsesName}
-use Rattle.row_atomic.specs.Changes.{IsAsBefore, IsCut, IsEmptied, IsFlushed, IsFull, IsHalved, IsMerged, IsMoveRefusal, IsNumberedRefusal, IsOn, IsPut, IsSplitRefusal, IsTooLarge, IsUndone, IsWhole, LacksErasures, MayBeFlushed, MayHolderBeFlushed, MeetsBadCount, MeetsFull, Numbered, OfHolder, Remakes, WritesNone}
+use Rattle.row_atomic.specs.Changes.{ComesOfWriting, IsAsBefore, IsCut, IsEmptied, IsFlushed, IsFull, IsHalved, IsMerged, IsMoveRefusal, IsNumberedRefusal, IsOn, IsPut, IsSplitRefusal, IsTooLarge, IsUndone, IsWhole, LacksErasures, MayBeFlushed, MayHolderBeFlushed, MeetsBadCount, MeetsFull, Numbered, OfHolder, Remakes, WritesNone}
 use Rattle.row_atomic.specs.Clusters.{ClusterState, Overfills, cells_in, spots_of, storage_of}
 use Rattle.row_atomic.specs.Compactions as compaction
 use Rattle.row_atomic.specs.Refusals.{IsApplyRefusal, IsReadRefusal}
@@ -119,6 +119,7 @@ pub record BarsCompaction {F : Type 0} (contents : F → Option Contents) (compa
   pub unknown : refusal ≡ refused.UnknownTablet ↔ ¬ HasTablet tablet old.places
   pub count : refusal ≡ refused.BadCount ↔ (HasTablet tablet old.places × Numbered (MeetsBadCount compaction) tablet old.tablets)
   pub full : refusal ≡ refused.TooManyFiles → Numbered (MeetsFull compaction) tablet old.tablets
+  pub unfilled : ComesOfWriting refusal → ¬ Numbered (MeetsFull compaction) tablet old.tablets
   pub exhausted : refusal ≡ refused.Exhausted → (2 ^ 63 ≤ old.next_name) × (¬ Numbered (WritesNone compaction) tablet old.tablets)
   pub large : refusal ≡ refused.FileTooLarge → Numbered (IsTooLarge old.file_limit (contents old.files) compaction) tablet old.tablets
 
@@ -126,6 +127,7 @@ pub record BarsCompaction {F : Type 0} (contents : F → Option Contents) (compa
 pub record BarsCut {F : Type 0} (contents : F → Option Contents) (row : List ℕ) (refusal : Refusal) (old : ClusterState F) : Type 0 where
   pub bad : refusal ≡ refused.BadSplit ↔ BarsSplit row old.places
   pub full : refusal ≡ refused.TooManyFiles → OfHolder IsFull row old.places old.tablets
+  pub unfilled : ComesOfWriting refusal → ¬ OfHolder IsFull row old.places old.tablets
   pub exhausted : refusal ≡ refused.Exhausted → (2 ^ 63 ≤ old.next_name) × (¬ OfHolder IsEmptied row old.places old.tablets)
   pub large : refusal ≡ refused.FileTooLarge → OfHolder (IsTooLarge old.file_limit (contents old.files) compaction.minor) row old.places old.tablets
 

@@ -6,7 +6,7 @@ ghost use Rattle.sorted_file.specs.Grammar.{FitsIn};
 ghost use Rattle.sorted_file.specs.Sources.{HasReason};
 ghost use Rattle.tablet.specs.Views.{Holds as HoldsAt, IsBelow, IsUnchanged, Keeps, UsesName, names_of, range_of};
 ghost use Rattle.row_atomic.specs.Clusters.{spots_of};
-ghost use Rattle.row_atomic.specs.Changes.{Holds, IsAsBefore, IsAt, IsBadCount, IsCleaned, IsEmptied, IsFlushed, IsFull, IsMade, IsMerged, IsNumberedRefusal, IsRefusalOf, IsTooLarge, IsUndone, IsWhole, KeepsMap, LacksErasures, MeetsBadCount, MeetsFull, Numbered, Remakes, WritesNone, written_by};
+ghost use Rattle.row_atomic.specs.Changes.{ComesOfWriting, Holds, IsAsBefore, IsAt, IsBadCount, IsCleaned, IsEmptied, IsFlushed, IsFull, IsMade, IsMerged, IsNumberedRefusal, IsRefusalOf, IsTooLarge, IsUndone, IsWhole, KeepsMap, LacksErasures, MeetsBadCount, MeetsFull, Numbered, Remakes, WritesNone, written_by};
 
 use crate::cluster::Cluster;
 use cell_key::Refusal;
@@ -48,6 +48,7 @@ fn compact<F: Files>(
     ensures full { IsErrOf result Refusal.TooManyFiles → IsFull tablet.old }
     ensures undone { IsErrOf result Refusal.TooManyFiles → (next_name.new ≡ next_name.old) × (F.contents files.new ≡ F.contents files.old) }
     ensures room { OnOk result (¬ MeetsFull compaction tablet.old) }
+    ensures unfilled { IfErr result (λ refusal. ComesOfWriting refusal → ¬ MeetsFull compaction tablet.old) }
     ensures exhausted { IsErrOf result Refusal.Exhausted → 2 ^ 63 ≤ next_name.old }
     ensures needed { IsErrOf result Refusal.Exhausted → ¬ WritesNone compaction tablet.old }
     ensures left { OnOk result (2 ^ 63 ≤ next_name.old → WritesNone compaction tablet.old) }
@@ -143,6 +144,7 @@ impl<F: Files> Cluster<F> {
         ensures full { IsErrOf result Refusal.TooManyFiles → Numbered IsFull tablet self.old.tablets }
         ensures undone { IsErrOf result Refusal.TooManyFiles → IsUndone F.contents self.old self.new }
         ensures room { OnOk result (¬ Numbered (MeetsFull compaction) tablet self.old.tablets) }
+        ensures unfilled { IfErr result (λ refusal. ComesOfWriting refusal → ¬ Numbered (MeetsFull compaction) tablet self.old.tablets) }
         ensures exhausted { IsErrOf result Refusal.Exhausted → 2 ^ 63 ≤ self.old.next_name }
         ensures needed { IsErrOf result Refusal.Exhausted → ¬ Numbered (WritesNone compaction) tablet self.old.tablets }
         ensures left { OnOk result (2 ^ 63 ≤ self.old.next_name → Numbered (WritesNone compaction) tablet self.old.tablets) }
@@ -188,6 +190,8 @@ impl<F: Files> Cluster<F> {
         ensures full { IsErrOf result Refusal.TooManyFiles → Numbered IsFull tablet self.old.tablets }
         ensures undone { IsErrOf result Refusal.TooManyFiles → IsUndone F.contents self.old self.new }
         ensures room { OnOk result (¬ Numbered IsFull tablet self.old.tablets) }
+        // A full tablet is told so before anything is written.
+        ensures unfilled { IfErr result (λ refusal. ComesOfWriting refusal → ¬ Numbered IsFull tablet self.old.tablets) }
         ensures exhausted { IsErrOf result Refusal.Exhausted → 2 ^ 63 ≤ self.old.next_name }
         ensures needed { IsErrOf result Refusal.Exhausted → ¬ Numbered IsEmptied tablet self.old.tablets }
         ensures left { OnOk result (2 ^ 63 ≤ self.old.next_name → Numbered IsEmptied tablet self.old.tablets) }

@@ -6,7 +6,7 @@ ghost use Rattle.metadata_table.specs.Table.{BarsSplit, Cuts, HasTablet, IsHolde
 ghost use Rattle.sorted_file.specs.Sources.{HasReason, IsReadRefusal};
 ghost use Rattle.tablet.specs.Views.{Holds as HoldsAt, IsUnchanged, UsesName, memory_of, names_of, range_of};
 ghost use Rattle.row_atomic.specs.Clusters.{spots_of};
-ghost use Rattle.row_atomic.specs.Changes.{Holds, IsCut, IsEmptied, IsFlushed, IsFull, IsHalved, IsMoveRefusal, IsMoved, IsOn, IsReopened, IsSplitRefusal, IsTooLarge, IsUndone, KeepsMap, MayBeFlushed, MayHolderBeFlushed, Numbered, OfHolder, Remakes};
+ghost use Rattle.row_atomic.specs.Changes.{ComesOfWriting, Holds, IsCut, IsEmptied, IsFlushed, IsFull, IsHalved, IsMoveRefusal, IsMoved, IsOn, IsReopened, IsSplitRefusal, IsTooLarge, IsUndone, KeepsMap, MayBeFlushed, MayHolderBeFlushed, Numbered, OfHolder, Remakes};
 
 use crate::cluster::Cluster;
 use crate::cluster_compactions::Compaction;
@@ -93,6 +93,7 @@ impl<F: Files> Cluster<F> {
         ensures full { IsErrOf result Refusal.TooManyFiles → OfHolder IsFull row.now self.old.places self.old.tablets }
         ensures undone { IsErrOf result Refusal.TooManyFiles → IsUndone F.contents self.old self.new }
         ensures room { OnOk result (¬ OfHolder IsFull row.now self.old.places self.old.tablets) }
+        ensures unfilled { IfErr result (λ refusal. ComesOfWriting refusal → ¬ OfHolder IsFull row.now self.old.places self.old.tablets) }
         ensures exhausted { IsErrOf result Refusal.Exhausted → 2 ^ 63 ≤ self.old.next_name }
         ensures needed { IsErrOf result Refusal.Exhausted → ¬ OfHolder IsEmptied row.now self.old.places self.old.tablets }
         ensures left { OnOk result (2 ^ 63 ≤ self.old.next_name → OfHolder IsEmptied row.now self.old.places self.old.tablets) }
@@ -175,6 +176,7 @@ impl<F: Files> Cluster<F> {
         ensures full { IsErrOf result Refusal.TooManyFiles → Numbered IsFull tablet self.old.tablets }
         ensures undone { IsErrOf result Refusal.TooManyFiles → IsUndone F.contents self.old self.new }
         ensures room { OnOk result (¬ IsOn tablet server self.old.places → ¬ Numbered IsFull tablet self.old.tablets) }
+        ensures unfilled { IfErr result (λ refusal. ComesOfWriting refusal → ¬ Numbered IsFull tablet self.old.tablets) }
         ensures exhausted { IsErrOf result Refusal.Exhausted → 2 ^ 63 ≤ self.old.next_name }
         ensures needed { IsErrOf result Refusal.Exhausted → ¬ Numbered IsEmptied tablet self.old.tablets }
         ensures left { OnOk result (¬ IsOn tablet server self.old.places → 2 ^ 63 ≤ self.old.next_name → Numbered IsEmptied tablet self.old.tablets) }

@@ -4,7 +4,8 @@ use Rattle.cell_key.specs.declared.refusals.Refusal.TheVariants.{BadCount, TooMa
 use Rattle.tablet.specs.Compactions.{IsCompactionRefusal, IsMergeRefusal, IsMinorRefusal}
 use Rattle.row_atomic.proofs.Changing.{cleaned, if_ok, on_ok}
 use Rattle.row_atomic.proofs.Commanding.{not_answered}
-use Rattle.row_atomic.proofs.Roomy.{has_room, minor_fits, none_written, not_least}
+use Rattle.row_atomic.proofs.Passing.{each_refusal}
+use Rattle.row_atomic.proofs.Roomy.{has_room, minor_fits, none_written, not_full_written, not_least}
 use Rattle.row_atomic.proofs.cluster_compactions.compact.Goals as goal
 
 pub returns-in-Minor-clause-large : goal.returns-in-Minor-clause-large
@@ -165,3 +166,12 @@ returns-in-Major-clause-undone g c = λ is. absurd (not_answered IsCompactionRef
 
 pub returns-in-Major-clause-empty : goal.returns-in-Major-clause-empty
 returns-in-Major-clause-empty g c = rw (c.in-Major.is) (λ none. absurd none)
+
+pub returns-in-Minor-clause-unfilled : goal.returns-in-Minor-clause-unfilled
+returns-in-Minor-clause-unfilled g c = rw (c.in-Minor.is) (not_full_written c.minor.result c.args.tablet.now c.minor.ensures.always_full)
+
+pub returns-in-Merge-clause-unfilled : goal.returns-in-Merge-clause-unfilled
+returns-in-Merge-clause-unfilled g c = rw (c.in-Merge.is) (each_refusal c.merge.result _ (λ refusal of full. full))
+
+pub returns-in-Major-clause-unfilled : goal.returns-in-Major-clause-unfilled
+returns-in-Major-clause-unfilled g c = rw (c.in-Major.is) (each_refusal c.major.result _ (λ refusal of full. full))

@@ -1,4 +1,4 @@
-use Rattle.std.proofs.Common.{◌≡◌, ◌⊎◌, inl, inr, ap, subst, ◌∙◌, Err, arith}
+use Rattle.std.proofs.Common.{◌≡◌, ◌⊎◌, inl, inr, ap, refl, subst, ◌∙◌, Err, arith}
 use Rattle.cell_key.specs.Places.{IsNextCell}
 use Rattle.cell_key.specs.declared.refusals.Refusal.{Refusal}
 use Rattle.cell_key.specs.declared.refusals.Refusal.TheVariants.{Damaged, Device, NoMemory, TooManyFiles}
@@ -60,6 +60,7 @@ returns-in-Minor-clause-cause g c =
         unknown = ((λ same. c.minor.ensures.unknown.0 (is ∙ ap (λ (r : Refusal). Err r) same)), (λ cause. one_answered c.minor.result refusal _ is (c.minor.ensures.unknown.1 cause)));
         count = ((λ same. absurd (not_answered (IsNumberedRefusal compaction.minor) c.minor.result refusal _ c.minor.ensures.refusal is same)), (λ bad. absurd bad.1.such));
         full = λ same. c.minor.ensures.full (is ∙ ap (λ (r : Refusal). Err r) same);
+        unfilled = not_answered _ c.minor.result refusal _ c.minor.ensures.unfilled is refl;
         exhausted = λ same. (c.minor.ensures.exhausted (is ∙ ap (λ (r : Refusal). Err r) same), c.minor.ensures.needed (is ∙ ap (λ (r : Refusal). Err r) same));
         large = λ same. c.minor.ensures.large holds (is ∙ ap (λ (r : Refusal). Err r) same);
       };
@@ -76,6 +77,7 @@ returns-in-Merge-clause-cause g c =
         unknown = ((λ same. c.merge.ensures.unknown.0 (is ∙ ap (λ (r : Refusal). Err r) same)), (λ cause. one_answered c.merge.result refusal _ is (c.merge.ensures.unknown.1 cause)));
         count = ((λ same. c.merge.ensures.count.0 (is ∙ ap (λ (r : Refusal). Err r) same)), (λ cause. one_answered c.merge.result refusal _ is (c.merge.ensures.count.1 cause)));
         full = λ same. absurd (not_answered (IsNumberedRefusal (compaction.merging c.in-Merge.count)) c.merge.result refusal _ c.merge.ensures.refusal is same);
+        unfilled = λ of full. full.such;
         exhausted = λ same. (c.merge.ensures.exhausted (is ∙ ap (λ (r : Refusal). Err r) same), λ writes. writes.such);
         large = λ same. c.merge.ensures.large holds (is ∙ ap (λ (r : Refusal). Err r) same);
       };
@@ -95,6 +97,7 @@ returns-in-Major-clause-cause g c =
         unknown = ((λ same. c.major.ensures.unknown.0 (is ∙ ap (λ (r : Refusal). Err r) same)), (λ cause. one_answered c.major.result refusal _ is (c.major.ensures.unknown.1 cause)));
         count = ((λ same. absurd (not_answered (IsNumberedRefusal compaction.major) c.major.result refusal _ c.major.ensures.refusal is same)), (λ bad. absurd bad.1.such));
         full = λ same. absurd (not_answered (IsNumberedRefusal compaction.major) c.major.result refusal _ c.major.ensures.refusal is same);
+        unfilled = λ of full. full.such;
         exhausted = λ same. (c.major.ensures.exhausted (is ∙ ap (λ (r : Refusal). Err r) same), λ writes. writes.such);
         large = λ same. c.major.ensures.large holds (is ∙ ap (λ (r : Refusal). Err r) same);
       };
@@ -113,6 +116,7 @@ returns-in-Move-clause-cause g c =
           unknown = ((λ same. c.move_to.ensures.unknown.0 (is ∙ ap (λ (r : Refusal). Err r) same)), (λ cause. one_answered c.move_to.result refusal _ is (c.move_to.ensures.unknown.1 cause)));
           count = ((λ same. absurd (not_answered (IsMoveRefusal) c.move_to.result refusal _ c.move_to.ensures.refusal is same)), (λ bad. absurd bad.1.such));
           full = λ same. c.move_to.ensures.full (is ∙ ap (λ (r : Refusal). Err r) same);
+          unfilled = not_answered _ c.move_to.result refusal _ c.move_to.ensures.unfilled is refl;
           exhausted = λ same. (c.move_to.ensures.exhausted (is ∙ ap (λ (r : Refusal). Err r) same), c.move_to.ensures.needed (is ∙ ap (λ (r : Refusal). Err r) same));
           large = λ same. c.move_to.ensures.large holds (is ∙ ap (λ (r : Refusal). Err r) same);
         },
@@ -130,6 +134,7 @@ returns-in-Split-clause-cause g c =
       due = record {
         bad = ((λ same. c.split.ensures.bad.0 (c.in-Err-split.is ∙ ap (λ (r : Refusal). Err r) same)), (λ bars. one_answered c.split.result c.in-Err-split.refusal _ c.in-Err-split.is (c.split.ensures.bad.1 bars)));
         full = λ same. c.split.ensures.full (c.in-Err-split.is ∙ ap (λ (r : Refusal). Err r) same);
+        unfilled = not_answered _ c.split.result c.in-Err-split.refusal _ c.split.ensures.unfilled c.in-Err-split.is refl;
         exhausted = λ same. (c.split.ensures.exhausted (c.in-Err-split.is ∙ ap (λ (r : Refusal). Err r) same), c.split.ensures.needed (c.in-Err-split.is ∙ ap (λ (r : Refusal). Err r) same));
         large = λ same. c.split.ensures.large holds (c.in-Err-split.is ∙ ap (λ (r : Refusal). Err r) same);
       };

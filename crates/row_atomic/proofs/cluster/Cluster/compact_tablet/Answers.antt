@@ -6,7 +6,7 @@ use Rattle.cell_key.specs.declared.refusals.Refusal.TheVariants.{BadCount, Damag
 use Rattle.metadata_table.specs.Table.{with_files}
 use Rattle.tablet.specs.Views.{names_of}
 use Rattle.row_atomic.specs.Clusters.{spot_of}
-use Rattle.row_atomic.specs.Changes.{IsCleaned, IsFull, IsMade, IsRefusalOf, IsTooLarge, MeetsBadCount, MeetsFull, WritesNone}
+use Rattle.row_atomic.specs.Changes.{ComesOfWriting, IsCleaned, IsFull, IsMade, IsRefusalOf, IsTooLarge, MeetsBadCount, MeetsFull, WritesNone}
 use Rattle.row_atomic.proofs.Answering.{found_there, undamaged}
 use Rattle.row_atomic.proofs.Changing.{at_order, has_room, if_err, in_order, is_set, matched_unchanged, matched_listed, numbered_new, numbered_old, parts_stay, remade, same_spots, stays}
 use Rattle.row_atomic.proofs.Passing.{IsWant, no_fault, none_answered, not_refused, one_of, passed, reason_kept, reason_passed, refused_so, want_compacts}
@@ -285,3 +285,15 @@ returns-clause-undamaged g c = λ order is. not_refused _ Damaged is
 
 pub returns-clause-reason : goal.returns-clause-reason
 returns-clause-reason g c = rw (← c.self.view_is) (reason_kept _ _ _ _ c.in_ok-compact.ensures.reason)
+
+pub returns-in_err-names-clause-unfilled : goal.returns-in_err-names-clause-unfilled
+returns-in_err-names-clause-unfilled g c = refused_so c.from_residual.result c.in_err-names.field-0.0 _ c.from_residual.ensures.1 (λ of. absurd (subst ComesOfWriting c.in_err-names.ensures.refusal of))
+
+pub returns-in_err-compact-clause-unfilled : goal.returns-in_err-compact-clause-unfilled
+returns-in_err-compact-clause-unfilled g c =
+    let at = rw (← c.self.view_is) at c.position-index.ensures in
+    let there = found_there c.self.inside.tablets.items c.position-index.result at.tablet c.index_mut.result.now at.there c.index_mut.ensures.value in
+    rw (← c.self.view_is) (refused_so c.from_residual-in_err-compact.result c.in_err-compact.field-0.0 _ c.from_residual-in_err-compact.ensures.1 (λ of. numbered_not c.self.inside.tablets.items c.position-index.result c.index_mut.result.now there (MeetsFull c.args.compaction) c.args.tablet at.number (c.in_err-compact.ensures.unfilled of)))
+
+pub returns-clause-unfilled : goal.returns-clause-unfilled
+returns-clause-unfilled g c = tt

@@ -13,7 +13,7 @@ use Rattle.row_atomic.proofs.Changing.{if_err, if_ok, on_ok}
 use Rattle.row_atomic.proofs.Commanding.{not_answered}
 use Rattle.row_atomic.proofs.Emptying.{flushed_opened}
 use Rattle.row_atomic.proofs.Moving.{known_after}
-use Rattle.row_atomic.proofs.Passing.{IsUnknown, below_only, move_refusal, neither, no_fault, none_answered, not_both, not_refused, one_of, passed, read_move, reason_after, reason_passed, refused_so, same_refusal, unknown_move, unknown_only}
+use Rattle.row_atomic.proofs.Passing.{IsUnknown, below_only, each_refusal, move_refusal, neither, no_fault, none_answered, not_both, not_refused, one_of, passed, read_move, reason_after, reason_passed, refused_so, same_refusal, unknown_move, unknown_only, unknown_unwritten}
 use Rattle.row_atomic.proofs.Roomy.{still_used}
 use Rattle.row_atomic.proofs.cluster.Cluster.move_to.Goals as goal
 
@@ -322,3 +322,15 @@ put-requires-clause-flushed g c = let made = c.in_ok-compact_tablet.ensures.made
 
 pub compact_tablet-requires : goal.compact_tablet-requires
 compact_tablet-requires g c = record { known = c.in_ok-is_on.ensures.known }
+
+pub returns-in_err-is_on-clause-unfilled : goal.returns-in_err-is_on-clause-unfilled
+returns-in_err-is_on-clause-unfilled g c = refused_so c.from_residual.result c.in_err-is_on.field-0.0 _ c.from_residual.ensures.1 (λ of. absurd (unknown_unwritten c.in_err-is_on.field-0.0 (unknown_only c.in_err-is_on.field-0.0 c.in_err-is_on.ensures.refusal) of))
+
+pub returns-then-branch-clause-unfilled : goal.returns-then-branch-clause-unfilled
+returns-then-branch-clause-unfilled g c = tt
+
+pub returns-in_err-compact_tablet-clause-unfilled : goal.returns-in_err-compact_tablet-clause-unfilled
+returns-in_err-compact_tablet-clause-unfilled g c = refused_so c.from_residual-in_err-compact_tablet.result c.in_err-compact_tablet.field-0.0 _ c.from_residual-in_err-compact_tablet.ensures.1 c.in_err-compact_tablet.ensures.unfilled
+
+pub returns-clause-unfilled : goal.returns-clause-unfilled
+returns-clause-unfilled g c = each_refusal c.put.result _ (λ refusal of. c.in_ok-compact_tablet.ensures.room)

@@ -4,14 +4,14 @@ use Rattle.std.proofs.lemmas.Result.{IfOk-weaker, on_err_weaker}
 use Rattle.cell_key.specs.declared.refusals.Refusal.TheVariants.{BadSplit, Damaged, Device, Exhausted, FileTooLarge, TooManyFiles}
 use Rattle.metadata_table.specs.Places.{view_of}
 use Rattle.sorted_file.specs.Sources.{IsReadRefusal}
-use Rattle.row_atomic.specs.Changes.{IsEmptied, IsFull, IsRefusalOf, IsSplitRefusal}
+use Rattle.row_atomic.specs.Changes.{ComesOfWriting, IsEmptied, IsFull, IsRefusalOf, IsSplitRefusal}
 use Rattle.row_atomic.specs.Clusters.{spot_of}
 use Rattle.row_atomic.specs.declared.cluster_compactions.Compaction.TheVariants.{Minor}
 use Rattle.row_atomic.proofs.Answering.{if_err as only_errors}
 use Rattle.row_atomic.proofs.Changing.{if_err, if_ok}
 use Rattle.row_atomic.proofs.Commanding.{not_answered}
 use Rattle.row_atomic.proofs.Emptying.{cut_listed, flushed_alone, halved_after, not_cut, not_out}
-use Rattle.row_atomic.proofs.Passing.{IsBad, no_fault, none_answered, number_after, one_of, passed, read_split, reason_after, reason_passed, refused_as, refused_so, split_refusal}
+use Rattle.row_atomic.proofs.Passing.{IsBad, each_refusal, no_fault, none_answered, number_after, one_of, passed, read_split, reason_after, reason_passed, refused_as, refused_so, split_refusal}
 use Rattle.row_atomic.proofs.Roomy.{holder_not, holder_that, still_used}
 use Rattle.row_atomic.proofs.Splitting.{free_after, holder_flushed, holder_known}
 use Rattle.row_atomic.proofs.cluster.Cluster.split.Goals as goal
@@ -265,3 +265,16 @@ returns-clause-refusal g c = only_errors IsReadRefusal IsSplitRefusal read_split
 
 pub returns-clause-reason : goal.returns-clause-reason
 returns-clause-reason g c = reason_after c.cut.result _ _ _ _ c.in_ok-compact_tablet.ensures.reason c.cut.ensures.reason
+
+pub returns-in_err-check_split-clause-unfilled : goal.returns-in_err-check_split-clause-unfilled
+returns-in_err-check_split-clause-unfilled g c = refused_so c.from_residual.result c.in_err-check_split.field-0.0 _ c.from_residual.ensures.1 (λ of. absurd (subst ComesOfWriting c.in_err-check_split.ensures.split.0 of))
+
+pub returns-in_err-compact_tablet-clause-unfilled : goal.returns-in_err-compact_tablet-clause-unfilled
+returns-in_err-compact_tablet-clause-unfilled g c =
+    let unfilled = rw (← c.self.view_is) at c.in_err-compact_tablet.ensures.unfilled in
+    rw (← c.self.view_is) (refused_so c.from_residual-in_err-compact_tablet.result c.in_err-compact_tablet.field-0.0 _ c.from_residual-in_err-compact_tablet.ensures.1 (λ of. holder_not IsFull c.args.row.now c.self.inside.table c.self.inside.tablets.items (view_of c.locate.result.now) c.locate.ensures.holder (unfilled of)))
+
+pub returns-clause-unfilled : goal.returns-clause-unfilled
+returns-clause-unfilled g c =
+    let room = rw (← c.self.view_is) at c.in_ok-compact_tablet.ensures.room in
+    rw (← c.self.view_is) (each_refusal c.cut.result _ (λ refusal of. holder_not IsFull c.args.row.now c.self.inside.table c.self.inside.tablets.items (view_of c.locate.result.now) c.locate.ensures.holder room))
