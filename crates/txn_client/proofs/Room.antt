@@ -1,5 +1,5 @@
 -- Where the rows have no room for a step, as session and state show it.
-use Rattle.std.proofs.Common.{◌≡◌, ℕ, List, length, Some, refl, inl, inr, sym, subst}
+use Rattle.std.proofs.Common.{◌≡◌, ℕ, List, ◌++◌, length, Some, refl, inl, inr, sym, subst}
 use Rattle.std.specs.Prelude.{slice_get}
 use Rattle.std.specs.Ordering.{nat_cmp}
 use Rattle.std.specs.BTreeMap as btree
@@ -16,7 +16,7 @@ use Rattle.si_model.specs.declared.replies.Progress.{Progress}
 use Rattle.si_model.specs.declared.replies.Progress.TheVariants as progress
 use Rattle.si_model.proofs.Kept.{held_phase}
 use Rattle.txn_client.specs.Reads.{IsFree}
-use Rattle.txn_client.specs.Room.{IsHolding, IsRecording, HoldsNext, RecordsNext, ChangesIn, ChangesNext, HasNoRoom, IsStamped, Makes}
+use Rattle.txn_client.specs.Room.{IsHolding, IsRecording, HoldsNext, RecordsNext, ChangesIn, ChangesNext, HasNoRoom, IsStamped, Makes, TakesRoom, TakesRoomOf}
 use Rattle.txn_client.specs.Shows.{phase_of, writes_of, HasHeldSo, ShowsClients, ShowsSession, IsAboutToDraw}
 use Rattle.txn_client.specs.declared.clients.Clients.{Clients}
 use Rattle.txn_client.specs.declared.session.Outcome.{Outcome}
@@ -46,6 +46,34 @@ stamped_makes P cells (progress.Conflict k) is = absurd is
 stamped_makes P cells (progress.Committed c) is = absurd is
 stamped_makes P cells progress.Lost is = absurd is
 stamped_makes P cells (progress.Finished k n) is = absurd is
+
+-- a step that draws a stamp takes no room
+pub stamped_takes : {R : Type 0} (overfills : R → List ℕ → List Edit → Type 0) (P : List ℕ → List Edit → Type 0) (rows : R) (p : Progress) → IsStamped p → TakesRoom overfills P p rows rows
+stamped_takes overfills P rows (progress.Stamped c) is = λ row later full. full
+stamped_takes overfills P rows (progress.Held k n) is = absurd is
+stamped_takes overfills P rows (progress.Conflict k) is = absurd is
+stamped_takes overfills P rows (progress.Committed c) is = absurd is
+stamped_takes overfills P rows progress.Lost is = absurd is
+stamped_takes overfills P rows (progress.Finished k n) is = absurd is
+
+-- room that edits of one kind take is taken by edits of another
+pub takes_so : {R : Type 0} (overfills : R → List ℕ → List Edit → Type 0) {P Q : List ℕ → List Edit → Type 0} (old new : R)
+    → ((row : List ℕ) (later : List Edit) → HasNoRoom (λ rows changed edits. overfills rows row (edits ++ later)) old P → HasNoRoom (λ rows changed edits. overfills rows row (edits ++ later)) old Q)
+    → TakesRoomOf overfills P old new → TakesRoomOf overfills Q old new
+takes_so overfills old new so takes row later full = elim (takes row later full) [
+  | inl before ↦ inl before
+  | inr after ↦ inr (so row later after)
+]
+
+room_so : {R : Type 0} (overfills : R → List ℕ → List Edit → Type 0) {P Q : List ℕ → List Edit → Type 0} (old new : R) (p : Progress)
+    → ((row : List ℕ) (later : List Edit) → HasNoRoom (λ rows changed edits. overfills rows row (edits ++ later)) old P → HasNoRoom (λ rows changed edits. overfills rows row (edits ++ later)) old Q)
+    → TakesRoom overfills P p old new → TakesRoom overfills Q p old new
+room_so overfills old new (progress.Held k n) so takes = takes_so overfills old new so takes
+room_so overfills old new (progress.Conflict k) so takes = takes
+room_so overfills old new (progress.Stamped c) so takes = takes
+room_so overfills old new (progress.Committed c) so takes = takes_so overfills old new so takes
+room_so overfills old new progress.Lost so takes = takes
+room_so overfills old new (progress.Finished k n) so takes = takes_so overfills old new so takes
 
 module _ {R : Type 0} (overfills : R → List ℕ → List Edit → Type 0) (rows : R) (cells : Cells) (session : Session) where
   -- the cell is tested before it is held: it is free
@@ -89,6 +117,23 @@ module _ {R : Type 0} (overfills : R → List ℕ → List Edit → Type 0) (row
       let phase = phase_of session.phase session.commit in
       let lack = lacks st reached shown (subst (λ (n : ℕ). ShowsSession session n st) (sym mine.start) mine) in
       (lack.0, lack.1, (phase, writes_of session, mine.phase, mine.writes, subst (λ (n : ℕ). ChangesIn st phase (writes_of session) n lack.0 lack.1) mine.start lack.2), lack.3)
+
+module _ {R : Type 0} (overfills : R → List ℕ → List Edit → Type 0) (rows new : R) (cells : Cells) (session : Session) where
+  -- so it is with the room that a step takes
+  pub room_in : (phase : Phase) (r : Result Outcome Refusal) → session.phase ≡ phase
+      → IfOk r (λ outcome. (st : State) → IsReached st → ShowsCells cells st → ShowsSession session session.start st → TakesRoom overfills (ChangesIn st (phase_of phase session.commit) (writes_of session) session.start) outcome.progress rows new)
+      → IfOk r (λ outcome. (st : State) → IsReached st → ShowsCells cells st → ShowsSession session session.start st → TakesRoom overfills (ChangesIn st (phase_of session.phase session.commit) (writes_of session) session.start) outcome.progress rows new)
+  room_in phase r is = subst (λ (p : Phase). IfOk r (λ outcome. (st : State) → IsReached st → ShowsCells cells st → ShowsSession session session.start st → TakesRoom overfills (ChangesIn st (phase_of p session.commit) (writes_of session) session.start) outcome.progress rows new)) (sym is)
+
+  pub room_shown : (p : Progress) (clients : Clients) (t : ℕ) → btree.get nat_cmp clients.sessions t ≡ Some session
+      → ((st : State) → IsReached st → ShowsCells cells st → ShowsSession session session.start st → TakesRoom overfills (ChangesIn st (phase_of session.phase session.commit) (writes_of session) session.start) p rows new)
+      → (st : State) → IsReached st → ShowsCells cells st → ShowsClients clients st → TakesRoom overfills (ChangesNext st t) p rows new
+  room_shown p clients t was takes st reached shown kept =
+      let mine = shown_some clients t st session kept was in
+      let phase = phase_of session.phase session.commit in
+      room_so overfills rows new p
+      (λ row later after. (after.0, after.1, (phase, writes_of session, mine.phase, mine.writes, subst (λ (n : ℕ). ChangesIn st phase (writes_of session) n after.0 after.1) mine.start after.2), after.3))
+      (takes st reached shown (subst (λ (n : ℕ). ShowsSession session n st) (sym mine.start) mine))
 
 pub draws_shown : (clients : Clients) (t : ℕ) (session : Session) → btree.get nat_cmp clients.sessions t ≡ Some session → session.phase ≡ Holding (length session.writes)
     → (st : State) → ShowsClients clients st → IsAboutToDraw st t

@@ -1,5 +1,5 @@
 -- What a step changes in the rows, what the cells are then, and where the rows have no room for it.
-use Rattle.std.specs.Prelude.{◌≡◌, ◌⊎◌, ℕ, List, [], ◌∷◌, ⊤}
+use Rattle.std.specs.Prelude.{◌≡◌, ◌⊎◌, ℕ, List, [], ◌∷◌, ◌++◌, ⊤}
 use Rattle.cell_key.specs.Cells.{Cells, after_edits}
 use Rattle.cell_key.specs.declared.edits.Edit.{Edit}
 use Rattle.cell_key.specs.declared.edits.Edit.TheVariants.{Put, Erase}
@@ -69,3 +69,19 @@ IsStamped p = ⊥
 -- such edits of a row would pass a limit of what is kept in memory
 abbrev pub HasNoRoom : {R : Type 0} → (R → List ℕ → List Edit → Type 0) → R → (List ℕ → List Edit → Type 0) → Type 0
 HasNoRoom overfills rows Changes = (row : List ℕ) × (edits : List Edit) × Changes row edits × overfills rows row edits
+
+-- what is kept in memory has the room that it had: edits that would pass a limit now would have done so before
+abbrev pub TakesNoRoom : {R : Type 0} → (R → List ℕ → List Edit → Type 0) → R → R → Type 0
+TakesNoRoom overfills old new = (row : List ℕ) (later : List Edit) → overfills new row later → overfills old row later
+
+-- or they would have done so after such edits of a row
+abbrev pub TakesRoomOf : {R : Type 0} → (R → List ℕ → List Edit → Type 0) → (List ℕ → List Edit → Type 0) → R → R → Type 0
+TakesRoomOf overfills Changes old new = (row : List ℕ) (later : List Edit) → overfills new row later
+    → overfills old row later ⊎ HasNoRoom (λ rows changed edits. overfills rows row (edits ++ later)) old Changes
+
+-- A step that makes such edits takes their room, and no other takes any.
+abbrev pub TakesRoom : {R : Type 0} → (R → List ℕ → List Edit → Type 0) → (List ℕ → List Edit → Type 0) → Progress → R → R → Type 0
+TakesRoom overfills Changes (progress.Held k n) old new = TakesRoomOf overfills Changes old new
+TakesRoom overfills Changes (progress.Committed c) old new = TakesRoomOf overfills Changes old new
+TakesRoom overfills Changes (progress.Finished k n) old new = TakesRoomOf overfills Changes old new
+TakesRoom overfills Changes p old new = TakesNoRoom overfills old new

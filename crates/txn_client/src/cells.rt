@@ -14,7 +14,7 @@ ghost use Rattle.si_model.specs.ShowsCells.{IsThere, Touches, held_cells, key_of
 ghost use Rattle.si_model.specs.declared.replies.Cell.{Cell as CellOf};
 ghost use Rattle.txn_client.specs.Reads.{IsFound, IsShort, IsDamaged, IsTaken, IsFree, IsGone};
 ghost use Rattle.txn_client.specs.Refusals.{IsRowRefusal};
-ghost use Rattle.txn_client.specs.Room.{AreAfter, HasNoRoom, IsHolding, IsRecording};
+ghost use Rattle.txn_client.specs.Room.{AreAfter, HasNoRoom, IsHolding, IsRecording, TakesNoRoom, TakesRoomOf};
 
 use crate::limits::Moment;
 use crate::writes::Write;
@@ -142,6 +142,8 @@ pub(crate) fn hold<R: Rows>(
     ensures undamaged { ¬ (IsErrOf result Refusal.Damaged) }
     ensures refusal { IfErr result IsRowRefusal }
     ensures full { IsErrOf result Refusal.MemtableFull → HasNoRoom R.overfills rows.old (λ row edits. (row ≡ write.now.cell.row) × IsHolding write.now.cell start write.now.value first.now.cell edits) }
+    ensures room { OnOk result (TakesRoomOf R.overfills (λ row edits. (row ≡ write.now.cell.row) × IsHolding write.now.cell start write.now.value first.now.cell edits) rows.old rows.new) }
+    ensures err_room { OnErr result (TakesNoRoom R.overfills rows.old rows.new) }
     ensures no_device { ¬ (IsErrOf result Refusal.Device) }
     ensures untouched { R.faults rows.new ≡ R.faults rows.old }
 {
@@ -195,6 +197,9 @@ pub(crate) fn record<R: Rows>(
     ensures undamaged { R.holds rows.old → ¬ (IsErrOf result Refusal.Damaged) }
     ensures refusal { IfErr result IsRowRefusal }
     ensures full { IsErrOf result Refusal.MemtableFull → HasNoRoom R.overfills rows.old (λ row edits. (row ≡ cell.now.row) × IsRecording cell.now start commit edits) }
+    ensures room { IfOk result (λ stood. OnTrue stood (TakesRoomOf R.overfills (λ row edits. (row ≡ cell.now.row) × IsRecording cell.now start commit edits) rows.old rows.new)) }
+    ensures left_room { IfOk result (λ stood. OnFalse stood (TakesNoRoom R.overfills rows.old rows.new)) }
+    ensures err_room { OnErr result (TakesNoRoom R.overfills rows.old rows.new) }
     ensures due { R.holds rows.old → IsErrOf result Refusal.MemtableFull → IsThere (R.cells rows.old) cell.now LockOf start }
     ensures device { IsErrOf result Refusal.Device → HasRisen (R.faults rows.old) (R.faults rows.new) }
     ensures later { R.faults rows.old ≤ R.faults rows.new }

@@ -15,7 +15,7 @@ ghost use Rattle.si_model.specs.Replies.{found_reply, progress_reply, result_rep
 ghost use Rattle.si_model.specs.ShowsCells.{ShowsCells};
 ghost use Rattle.txn_client.specs.Reads.{IsShort, cell_of};
 ghost use Rattle.txn_client.specs.Refusals.{IsBeginRefusal, IsGetRefusal, IsSetRefusal, IsStepRefusal};
-ghost use Rattle.txn_client.specs.Room.{ChangesNext, HasNoRoom, Makes};
+ghost use Rattle.txn_client.specs.Room.{ChangesNext, HasNoRoom, Makes, TakesNoRoom, TakesRoom};
 ghost use Rattle.txn_client.specs.Shows.{DrawsNext, IsAboutToDraw, IsCellRefusal, IsCrowded, IsInactive, IsNameRefusal, IsOpen, IsUnwritten, SameSessions, Shows, ShowsClients, Steps, TouchesFor, open_session, top_after};
 
 use crate::cells;
@@ -289,6 +289,9 @@ impl Clients {
         ensures aside { (st : State) → ShowsClients self.old st → ¬ IsAboutToDraw st start → oracle.new ≡ oracle.old }
         // A step is refused MemtableFull where it makes edits and the rows have no room for them.
         ensures full { R.holds rows.old → IsErrOf result Refusal.MemtableFull → (st : State) → IsReached st → ShowsCells (R.cells rows.old) st → ShowsClients self.old st → HasNoRoom R.overfills rows.old (ChangesNext st start) }
+        // A step that makes edits takes their room, and no other takes any.
+        ensures room { R.holds rows.old → IfOk result (λ progress. (st : State) → IsReached st → ShowsCells (R.cells rows.old) st → ShowsClients self.old st → TakesRoom R.overfills (ChangesNext st start) progress rows.old rows.new) }
+        ensures err_room { OnErr result (TakesNoRoom R.overfills rows.old rows.new) }
         ensures device { IsErrOf result Refusal.Device → HasRisen (R.faults rows.old) (R.faults rows.new) ⊎ HasRisen (M.faults oracle.old.marks) (M.faults oracle.new.marks) }
         ensures later { R.faults rows.old ≤ R.faults rows.new }
         ensures told { ¬ IsErrOf result Refusal.Device → R.faults rows.new ≡ R.faults rows.old }

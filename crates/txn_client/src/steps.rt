@@ -7,7 +7,7 @@ ghost use Rattle.cell_key.specs.Faults.{HasRisen};
 ghost use Rattle.si_model.specs.Machine.{IsReached, State};
 ghost use Rattle.si_model.specs.ShowsCells.{ShowsCells, TouchesOneRow};
 ghost use Rattle.txn_client.specs.Shows.{Advances, DrawsNext, HasHeldSo, HasNoNext, ShowsSession, TouchesBy, phase_of, top_after, writes_of};
-ghost use Rattle.txn_client.specs.Room.{ChangesIn, HasNoRoom, HoldsNext, IsStamped, Makes, RecordsNext};
+ghost use Rattle.txn_client.specs.Room.{ChangesIn, HasNoRoom, HoldsNext, IsStamped, Makes, RecordsNext, TakesNoRoom, TakesRoom};
 ghost use Rattle.txn_client.specs.Refusals.{IsAdvanceRefusal};
 ghost use Rattle.txn_client.specs.declared.session.Phase.TheVariants as phase;
 
@@ -43,6 +43,8 @@ impl Session {
         ensures empty { length self.old.writes ≤ k → IsErrOf result Refusal.EmptyCommit }
         ensures made { R.holds rows.old → IfOk result (λ outcome. (st : State) → IsReached st → ShowsCells (R.cells rows.old) st → ShowsSession self.old self.old.start st → Makes (HoldsNext st (writes_of self.old) k self.old.start) outcome.progress (R.cells rows.old) (R.cells rows.new)) }
         ensures full { R.holds rows.old → IsErrOf result Refusal.MemtableFull → (st : State) → IsReached st → ShowsCells (R.cells rows.old) st → ShowsSession self.old self.old.start st → HasNoRoom R.overfills rows.old (HoldsNext st (writes_of self.old) k self.old.start) }
+        ensures room { R.holds rows.old → IfOk result (λ outcome. (st : State) → IsReached st → ShowsCells (R.cells rows.old) st → ShowsSession self.old self.old.start st → TakesRoom R.overfills (HoldsNext st (writes_of self.old) k self.old.start) outcome.progress rows.old rows.new) }
+        ensures err_room { OnErr result (TakesNoRoom R.overfills rows.old rows.new) }
         ensures device { IsErrOf result Refusal.Device → HasRisen (R.faults rows.old) (R.faults rows.new) }
         ensures later { R.faults rows.old ≤ R.faults rows.new }
         ensures told { ¬ IsErrOf result Refusal.Device → R.faults rows.new ≡ R.faults rows.old }
@@ -111,6 +113,8 @@ impl Session {
         ensures refusal { IfErr result (IsAdvanceRefusal (length self.old.writes ≤ 0)) }
         ensures made { R.holds rows.old → IfOk result (λ outcome. (st : State) → IsReached st → ShowsCells (R.cells rows.old) st → ShowsSession self.old self.old.start st → Makes (RecordsNext st (writes_of self.old) 0 self.old.start self.old.commit) outcome.progress (R.cells rows.old) (R.cells rows.new)) }
         ensures full { R.holds rows.old → IsErrOf result Refusal.MemtableFull → (st : State) → IsReached st → ShowsCells (R.cells rows.old) st → ShowsSession self.old self.old.start st → HasNoRoom R.overfills rows.old (RecordsNext st (writes_of self.old) 0 self.old.start self.old.commit) }
+        ensures room { R.holds rows.old → IfOk result (λ outcome. (st : State) → IsReached st → ShowsCells (R.cells rows.old) st → ShowsSession self.old self.old.start st → TakesRoom R.overfills (RecordsNext st (writes_of self.old) 0 self.old.start self.old.commit) outcome.progress rows.old rows.new) }
+        ensures err_room { OnErr result (TakesNoRoom R.overfills rows.old rows.new) }
         ensures device { IsErrOf result Refusal.Device → HasRisen (R.faults rows.old) (R.faults rows.new) }
         ensures later { R.faults rows.old ≤ R.faults rows.new }
         ensures told { ¬ IsErrOf result Refusal.Device → R.faults rows.new ≡ R.faults rows.old }
@@ -153,6 +157,8 @@ impl Session {
         ensures refusal { IfErr result (IsAdvanceRefusal (length self.old.writes ≤ k)) }
         ensures made { R.holds rows.old → IfOk result (λ outcome. (st : State) → IsReached st → ShowsCells (R.cells rows.old) st → ShowsSession self.old self.old.start st → Makes (RecordsNext st (writes_of self.old) k self.old.start self.old.commit) outcome.progress (R.cells rows.old) (R.cells rows.new)) }
         ensures full { R.holds rows.old → IsErrOf result Refusal.MemtableFull → (st : State) → IsReached st → ShowsCells (R.cells rows.old) st → ShowsSession self.old self.old.start st → HasNoRoom R.overfills rows.old (RecordsNext st (writes_of self.old) k self.old.start self.old.commit) }
+        ensures room { R.holds rows.old → IfOk result (λ outcome. (st : State) → IsReached st → ShowsCells (R.cells rows.old) st → ShowsSession self.old self.old.start st → TakesRoom R.overfills (RecordsNext st (writes_of self.old) k self.old.start self.old.commit) outcome.progress rows.old rows.new) }
+        ensures err_room { OnErr result (TakesNoRoom R.overfills rows.old rows.new) }
         ensures device { IsErrOf result Refusal.Device → HasRisen (R.faults rows.old) (R.faults rows.new) }
         ensures later { R.faults rows.old ≤ R.faults rows.new }
         ensures told { ¬ IsErrOf result Refusal.Device → R.faults rows.new ≡ R.faults rows.old }
@@ -192,6 +198,8 @@ impl Session {
         ensures drawing { self.old.phase ≡ phase.Holding (length self.old.writes) → IfErr result IsDrawRefusal }
         ensures made { R.holds rows.old → IfOk result (λ outcome. (st : State) → IsReached st → ShowsCells (R.cells rows.old) st → ShowsSession self.old self.old.start st → Makes (ChangesIn st (phase_of self.old.phase self.old.commit) (writes_of self.old) self.old.start) outcome.progress (R.cells rows.old) (R.cells rows.new)) }
         ensures full { R.holds rows.old → IsErrOf result Refusal.MemtableFull → (st : State) → IsReached st → ShowsCells (R.cells rows.old) st → ShowsSession self.old self.old.start st → HasNoRoom R.overfills rows.old (ChangesIn st (phase_of self.old.phase self.old.commit) (writes_of self.old) self.old.start) }
+        ensures room { R.holds rows.old → IfOk result (λ outcome. (st : State) → IsReached st → ShowsCells (R.cells rows.old) st → ShowsSession self.old self.old.start st → TakesRoom R.overfills (ChangesIn st (phase_of self.old.phase self.old.commit) (writes_of self.old) self.old.start) outcome.progress rows.old rows.new) }
+        ensures err_room { OnErr result (TakesNoRoom R.overfills rows.old rows.new) }
         ensures exhausted { IsErrOf result Refusal.Exhausted → oracle.old.last ≡ MOST_STAMP }
         ensures draw_only { IsErrOf result Refusal.Exhausted → self.old.phase ≡ phase.Holding (length self.old.writes) }
         ensures aside { self.old.phase ≢ phase.Holding (length self.old.writes) → oracle.new ≡ oracle.old }

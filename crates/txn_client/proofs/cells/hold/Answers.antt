@@ -1,4 +1,4 @@
-use Rattle.std.proofs.Common.{◌≡◌, ◌∙◌, ℕ, List, refl, sym, ap, subst}
+use Rattle.std.proofs.Common.{◌≡◌, ◌∙◌, ℕ, List, inl, inr, refl, sym, ap, subst}
 use Rattle.std.specs.FinMap.{insert}
 use Rattle.cell_key.specs.Cells.{Cells, after_edits}
 use Rattle.cell_key.specs.declared.edits.Edit.{Edit}
@@ -197,3 +197,38 @@ returns-in_err-edits-clause-untouched g c = refl
 
 pub apply-requires : goal.apply-requires
 apply-requires g c = c.in_ok-edits.ensures.under
+
+pub returns-in_err-value-clause-room : goal.returns-in_err-value-clause-room
+returns-in_err-value-clause-room g c = passed_kept_not c.from_residual.result c.in_err-value.field-0.0 _ c.from_residual.ensures.1
+
+pub returns-in_err-value-clause-err_room : goal.returns-in_err-value-clause-err_room
+returns-in_err-value-clause-err_room g c = passed_kept c.from_residual.result _ (λ row later full. full)
+
+pub returns-in_err-place-clause-room : goal.returns-in_err-place-clause-room
+returns-in_err-place-clause-room g c = passed_kept_not c.from_residual-in_err-place.result c.in_err-place.field-0.0 _ c.from_residual-in_err-place.ensures.1
+
+pub returns-in_err-place-clause-err_room : goal.returns-in_err-place-clause-err_room
+returns-in_err-place-clause-err_room g c = passed_kept c.from_residual-in_err-place.result _ (λ row later full. full)
+
+pub returns-in_err-edits-clause-room : goal.returns-in_err-edits-clause-room
+returns-in_err-edits-clause-room g c = passed_kept_not c.from_residual-in_err-edits.result c.in_err-edits.field-0.0 _ c.from_residual-in_err-edits.ensures.1
+
+pub returns-in_err-edits-clause-err_room : goal.returns-in_err-edits-clause-err_room
+returns-in_err-edits-clause-err_room g c = passed_kept c.from_residual-in_err-edits.result _ (λ row later full. full)
+
+pub returns-in_err-apply-clause-room : goal.returns-in_err-apply-clause-room
+returns-in_err-apply-clause-room g c = passed_kept_not c.from_residual-in_err-apply.result c.in_err-apply.field-0.0 _ c.from_residual-in_err-apply.ensures.1
+
+pub returns-in_err-apply-clause-err_room : goal.returns-in_err-apply-clause-err_room
+returns-in_err-apply-clause-err_room g c = passed_kept c.from_residual-in_err-apply.result _ c.in_err-apply.ensures.err_room
+
+pub returns-clause-err_room : goal.returns-clause-err_room
+returns-clause-err_room g c = tt
+
+pub returns-clause-room : goal.returns-clause-room
+returns-clause-room g c = λ row later full.
+    let holds = holding_at c.args.write.now.cell c.args.first.now.cell c.in_ok-edits.edits.items _ c.args.start _ c.args.write.now.value c.stamp-start.ensures.stamp c.in_ok-value.ensures.bytes (c.in_ok-edits.ensures.holding c.args.first.now.cell c.in_ok-place.ensures.text) in
+    elim (c.in_ok-apply.ensures.room row later full) [
+      | inl before ↦ inl before
+      | inr after ↦ inr (c.args.write.now.cell.row, c.in_ok-edits.edits.items, (refl, holds), after)
+    ]

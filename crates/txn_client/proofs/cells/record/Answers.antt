@@ -1,4 +1,4 @@
-use Rattle.std.proofs.Common.{◌≡◌, ◌<◌, ◌≤◌, ◌^◌, ◌∙◌, ℕ, true, false, Option, Some, None, List, not, refl, sym, ap, subst, arith}
+use Rattle.std.proofs.Common.{◌≡◌, ◌<◌, ◌≤◌, ◌^◌, ◌∙◌, ℕ, true, false, Option, Some, None, List, ◌++◌, not, inl, inr, refl, sym, ap, subst, arith}
 use Rattle.std.specs.Prelude.{is_some, option_map}
 use Rattle.std.specs.declared.vec.Vec.{Vec}
 use Rattle.cell_key.specs.Cells.{Cells, IsNewest, after_edits}
@@ -297,3 +297,53 @@ recording-requires-clause-commit_to g c = subst (λ (n : ℕ). n < 2 ^ 63) (sym 
 
 pub apply-requires : goal.apply-requires
 apply-requires g c = c.in_ok-edits.ensures.under
+
+pub returns-in_err-lock-clause-room : goal.returns-in_err-lock-clause-room
+returns-in_err-lock-clause-room g c = passed_none c.from_residual.result c.in_err-lock.field-0.0 _ c.from_residual.ensures.1
+
+pub returns-in_err-lock-clause-left_room : goal.returns-in_err-lock-clause-left_room
+returns-in_err-lock-clause-left_room g c = passed_none c.from_residual.result c.in_err-lock.field-0.0 _ c.from_residual.ensures.1
+
+pub returns-in_err-edits-clause-room : goal.returns-in_err-edits-clause-room
+returns-in_err-edits-clause-room g c = passed_none c.from_residual-in_err-edits.result c.in_err-edits.field-0.0 _ c.from_residual-in_err-edits.ensures.1
+
+pub returns-in_err-edits-clause-left_room : goal.returns-in_err-edits-clause-left_room
+returns-in_err-edits-clause-left_room g c = passed_none c.from_residual-in_err-edits.result c.in_err-edits.field-0.0 _ c.from_residual-in_err-edits.ensures.1
+
+pub returns-in_err-apply-clause-room : goal.returns-in_err-apply-clause-room
+returns-in_err-apply-clause-room g c = passed_none c.from_residual-in_err-apply.result c.in_err-apply.field-0.0 _ c.from_residual-in_err-apply.ensures.1
+
+pub returns-in_err-apply-clause-left_room : goal.returns-in_err-apply-clause-left_room
+returns-in_err-apply-clause-left_room g c = passed_none c.from_residual-in_err-apply.result c.in_err-apply.field-0.0 _ c.from_residual-in_err-apply.ensures.1
+
+pub returns-in_err-lock-clause-err_room : goal.returns-in_err-lock-clause-err_room
+returns-in_err-lock-clause-err_room g c = passed_kept c.from_residual.result _ c.in_err-lock.ensures.same_room
+
+pub returns-in_err-edits-clause-err_room : goal.returns-in_err-edits-clause-err_room
+returns-in_err-edits-clause-err_room g c = passed_kept c.from_residual-in_err-edits.result _ c.in_ok-lock.ensures.same_room
+
+pub returns-in_err-apply-clause-err_room : goal.returns-in_err-apply-clause-err_room
+returns-in_err-apply-clause-err_room g c = passed_kept c.from_residual-in_err-apply.result _ (λ row later full. c.in_ok-lock.ensures.same_room row later (c.in_err-apply.ensures.err_room row later full))
+
+pub returns-then-is_none-clause-room : goal.returns-then-is_none-clause-room
+returns-then-is_none-clause-room g c = tt
+
+pub returns-then-is_none-clause-left_room : goal.returns-then-is_none-clause-left_room
+returns-then-is_none-clause-left_room g c = c.in_ok-lock.ensures.same_room
+
+pub returns-then-is_none-clause-err_room : goal.returns-then-is_none-clause-err_room
+returns-then-is_none-clause-err_room g c = tt
+
+pub returns-clause-left_room : goal.returns-clause-left_room
+returns-clause-left_room g c = tt
+
+pub returns-clause-err_room : goal.returns-clause-err_room
+returns-clause-err_room g c = tt
+
+pub returns-clause-room : goal.returns-clause-room
+returns-clause-room g c = λ row later full.
+    let records = at_stamps c.args.cell.now c.in_ok-edits.edits.items _ c.args.start _ c.args.commit c.stamp-start.ensures.stamp c.stamp-commit.ensures.stamp c.in_ok-edits.ensures.recording in
+    elim (c.in_ok-apply.ensures.room row later full) [
+      | inl before ↦ inl (c.in_ok-lock.ensures.same_room row later before)
+      | inr after ↦ inr (c.args.cell.now.row, c.in_ok-edits.edits.items, (refl, records), c.in_ok-lock.ensures.same_room row (c.in_ok-edits.edits.items ++ later) after)
+    ]

@@ -6,7 +6,7 @@ use Rattle.std.specs.Result.{IsErrOf}
 use Rattle.std.specs.declared.result.Result.TheVariants.{Err}
 use Rattle.cell_key.specs.declared.refusals.Refusal.TheVariants.{UnknownSession, MemtableFull, Exhausted, Device, Damaged}
 use Rattle.txn_client.specs.declared.session.Session.{Session}
-use Rattle.txn_client.proofs.Room.{made_shown, no_room_shown, draws_shown}
+use Rattle.txn_client.proofs.Room.{made_shown, no_room_shown, room_shown, draws_shown}
 use Rattle.txn_client.proofs.Passed.{passed_on, passed_err, passed_none, passed_kept, passed_back, not_err, advance_step, at_most_itself}
 use Rattle.txn_client.proofs.Exact.{is_kept, is_there, passes, unwritten_none, unwritten_phase}
 use Rattle.txn_client.proofs.Table.{entries_each, same_each, takes_at, steps_refused, advance_unknown_at, as_err, twice, with_none, touches_at, draws_next, never_draws}
@@ -373,3 +373,29 @@ returns-in_default-clause-mark_later g c = at_most_itself _
 
 pub returns-in_default-clause-mark_told : goal.returns-in_default-clause-mark_told
 returns-in_default-clause-mark_told g c = λ other. refl
+
+pub returns-then-outcome-clause-room : goal.returns-then-outcome-clause-room
+returns-then-outcome-clause-room g c = λ held.
+    room_shown g.R.Rows.overfills c.args.rows.now c.advance.new.rows (g.R.Rows.cells c.args.rows.now) c.in-Some.session.now c.in_ok-outcome.outcome.progress c.args.self.now c.args.start (sym c.in-Some.ensures.value) (c.in_ok-outcome.ensures.room held)
+
+pub returns-then-outcome-clause-err_room : goal.returns-then-outcome-clause-err_room
+returns-then-outcome-clause-err_room g c = tt
+
+pub returns-else-outcome-clause-room : goal.returns-else-outcome-clause-room
+returns-else-outcome-clause-room g c = λ held.
+    room_shown g.R.Rows.overfills c.args.rows.now c.advance.new.rows (g.R.Rows.cells c.args.rows.now) c.in-Some.session.now c.in_ok-outcome.outcome.progress c.args.self.now c.args.start (sym c.in-Some.ensures.value) (c.in_ok-outcome.ensures.room held)
+
+pub returns-else-outcome-clause-err_room : goal.returns-else-outcome-clause-err_room
+returns-else-outcome-clause-err_room g c = tt
+
+pub returns-in_err-outcome-clause-room : goal.returns-in_err-outcome-clause-room
+returns-in_err-outcome-clause-room g c = λ held. passed_none c.from_residual.result c.in_err-outcome.field-0.0 _ c.from_residual.ensures.1
+
+pub returns-in_err-outcome-clause-err_room : goal.returns-in_err-outcome-clause-err_room
+returns-in_err-outcome-clause-err_room g c = passed_kept c.from_residual.result _ c.in_err-outcome.ensures.err_room
+
+pub returns-in_default-clause-room : goal.returns-in_default-clause-room
+returns-in_default-clause-room g c = λ held. tt
+
+pub returns-in_default-clause-err_room : goal.returns-in_default-clause-err_room
+returns-in_default-clause-err_room g c = λ row later full. full

@@ -12,7 +12,7 @@ use Rattle.oracle.specs.Ranges.{IsDrawRefusal}
 use Rattle.txn_client.specs.Room.{ChangesIn, HasNoRoom}
 use Rattle.txn_client.specs.declared.session.Phase.{Phase}
 use Rattle.txn_client.specs.declared.session.Phase.TheVariants.{Open, Holding, Stamped, Finishing}
-use Rattle.txn_client.proofs.Room.{made_in, stamped_makes}
+use Rattle.txn_client.proofs.Room.{made_in, room_in, stamped_makes, stamped_takes}
 use Rattle.txn_client.proofs.Sessions.{ok_at}
 use Rattle.txn_client.proofs.Passed.{passed_kept, at_most_itself, touches_kept, not_err}
 use Rattle.txn_client.proofs.session.Session.advance.Goals as goal
@@ -466,3 +466,33 @@ returns-in-Finishing-clause-drawing g c = λ is. absurd (not_held_finishing _ _ 
 
 pub returns-in-Finishing-clause-mark_later : goal.returns-in-Finishing-clause-mark_later
 returns-in-Finishing-clause-mark_later g c = at_most_itself _
+
+pub returns-in-Open-clause-room : goal.returns-in-Open-clause-room
+returns-in-Open-clause-room g c = λ held. room_in g.R.Rows.overfills c.args.rows.now c.hold_next.new.rows (g.R.Rows.cells c.args.rows.now) c.args.self.now Open c.hold_next.result c.in-Open.is (c.hold_next.ensures.room held)
+
+pub returns-in-Open-clause-err_room : goal.returns-in-Open-clause-err_room
+returns-in-Open-clause-err_room g c = c.hold_next.ensures.err_room
+
+pub returns-else-k-len-clause-room : goal.returns-else-k-len-clause-room
+returns-else-k-len-clause-room g c = λ held. room_in g.R.Rows.overfills c.args.rows.now c.hold_next-else-k-len.new.rows (g.R.Rows.cells c.args.rows.now) c.args.self.now (Holding c.in-Holding.k) c.hold_next-else-k-len.result c.in-Holding.is (c.hold_next-else-k-len.ensures.room held)
+
+pub returns-else-k-len-clause-err_room : goal.returns-else-k-len-clause-err_room
+returns-else-k-len-clause-err_room g c = c.hold_next-else-k-len.ensures.err_room
+
+pub returns-in-Stamped-clause-room : goal.returns-in-Stamped-clause-room
+returns-in-Stamped-clause-room g c = λ held. room_in g.R.Rows.overfills c.args.rows.now c.commit_first.new.rows (g.R.Rows.cells c.args.rows.now) c.args.self.now Stamped c.commit_first.result c.in-Stamped.is (c.commit_first.ensures.room held)
+
+pub returns-in-Stamped-clause-err_room : goal.returns-in-Stamped-clause-err_room
+returns-in-Stamped-clause-err_room g c = c.commit_first.ensures.err_room
+
+pub returns-in-Finishing-clause-room : goal.returns-in-Finishing-clause-room
+returns-in-Finishing-clause-room g c = λ held. room_in g.R.Rows.overfills c.args.rows.now c.finish_next.new.rows (g.R.Rows.cells c.args.rows.now) c.args.self.now (Finishing c.in-Finishing.k) c.finish_next.result c.in-Finishing.is (c.finish_next.ensures.room held)
+
+pub returns-in-Finishing-clause-err_room : goal.returns-in-Finishing-clause-err_room
+returns-in-Finishing-clause-err_room g c = c.finish_next.ensures.err_room
+
+pub returns-then-k-len-clause-room : goal.returns-then-k-len-clause-room
+returns-then-k-len-clause-room g c = λ held. IfOk-weaker c.draw_commit.result _ _ (λ outcome is st reached shown mine. stamped_takes g.R.Rows.overfills _ c.args.rows.now outcome.progress is) c.draw_commit.ensures.stamped
+
+pub returns-then-k-len-clause-err_room : goal.returns-then-k-len-clause-err_room
+returns-then-k-len-clause-err_room g c = passed_kept c.draw_commit.result _ (λ row later full. full)

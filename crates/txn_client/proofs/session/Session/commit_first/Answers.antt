@@ -1,8 +1,8 @@
-use Rattle.std.proofs.Common.{◌≡◌, [], refl, ap}
+use Rattle.std.proofs.Common.{◌≡◌, [], ◌++◌, refl, ap}
 use Rattle.cell_key.specs.Cells.{Cells, after_edits}
 use Rattle.std.specs.Prelude.{nat_eq}
 use Rattle.txn_client.proofs.Sessions.{advance_lost, advance_committed}
-use Rattle.txn_client.proofs.Room.{no_room_to_record}
+use Rattle.txn_client.proofs.Room.{no_room_to_record, takes_so}
 use Rattle.txn_client.proofs.Passed.{passed_on, passed_err, passed_none, passed_kept, passed_back, not_err, row_advance, row_not_exhausted, touches_kept, empty_undamaged, empty_not_full, empty_no_device, empty_not_exhausted, at_most_itself}
 use Rattle.txn_client.proofs.session.Session.commit_first.Goals as goal
 
@@ -219,3 +219,31 @@ returns-clause-start g c = refl
 
 pub returns-clause-writes : goal.returns-clause-writes
 returns-clause-writes g c = refl
+
+pub returns-in_err-record-clause-room : goal.returns-in_err-record-clause-room
+returns-in_err-record-clause-room g c = λ held. passed_none c.from_residual.result c.in_err-record.field-0.0 _ c.from_residual.ensures.1
+
+pub returns-in_err-record-clause-err_room : goal.returns-in_err-record-clause-err_room
+returns-in_err-record-clause-err_room g c = passed_kept c.from_residual.result _ c.in_err-record.ensures.err_room
+
+pub returns-then-not-branch-clause-room : goal.returns-then-not-branch-clause-room
+returns-then-not-branch-clause-room g c = λ held st reached shown mine. rw c.if-not-branch.true at c.in_ok-record.ensures.left_room
+
+pub returns-then-not-branch-clause-err_room : goal.returns-then-not-branch-clause-err_room
+returns-then-not-branch-clause-err_room g c = tt
+
+pub returns-clause-err_room : goal.returns-clause-err_room
+returns-clause-err_room g c = tt
+
+pub returns-clause-room : goal.returns-clause-room
+returns-clause-room g c = λ held st reached shown mine.
+    let stood = rw c.if-not-branch.false at (c.in_ok-record.ensures.stood held) in
+    takes_so g.R.Rows.overfills c.args.rows.now c.record.new.rows
+    (λ row later after. no_room_to_record (λ rows changed edits. g.R.Rows.overfills rows row (edits ++ later)) c.args.rows.now (g.R.Rows.cells c.args.rows.now) c.args.self.now 0 c.in-Some.first.now c.in-Some.ensures.found stood after st reached shown mine)
+    (rw c.if-not-branch.false at c.in_ok-record.ensures.room)
+
+pub returns-in_default-clause-room : goal.returns-in_default-clause-room
+returns-in_default-clause-room g c = λ held. tt
+
+pub returns-in_default-clause-err_room : goal.returns-in_default-clause-err_room
+returns-in_default-clause-err_room g c = λ row later full. full

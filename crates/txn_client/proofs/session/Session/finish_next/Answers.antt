@@ -1,9 +1,9 @@
-use Rattle.std.proofs.Common.{◌≡◌, [], refl, ◌∙◌, ◌+◌, ap, sym, Bool, true, false, inl, inr, ◌⊎◌}
+use Rattle.std.proofs.Common.{◌≡◌, [], refl, ◌∙◌, ◌+◌, ◌++◌, ap, sym, Bool, true, false, inl, inr, ◌⊎◌}
 use Rattle.std.specs.Prelude.{nat_eq}
 use Rattle.cell_key.specs.Cells.{Cells, after_edits}
 use Rattle.std.specs.Bool.{OnTrue, OnFalse}
 use Rattle.txn_client.proofs.Sessions.{advance_finished}
-use Rattle.txn_client.proofs.Room.{no_room_to_record}
+use Rattle.txn_client.proofs.Room.{no_room_to_record, takes_so}
 use Rattle.txn_client.proofs.Passed.{passed_on, passed_err, passed_none, passed_kept, passed_back, not_err, row_advance, row_not_exhausted, touches_kept, empty_undamaged, empty_not_full, empty_no_device, empty_not_exhausted, at_most_itself}
 use Rattle.txn_client.proofs.session.Session.finish_next.Goals as goal
 
@@ -176,3 +176,27 @@ returns-clause-start g c = refl
 
 pub returns-clause-writes : goal.returns-clause-writes
 returns-clause-writes g c = refl
+
+pub returns-in_err-_stood-clause-room : goal.returns-in_err-_stood-clause-room
+returns-in_err-_stood-clause-room g c = λ held. passed_none c.from_residual.result c.in_err-_stood.field-0.0 _ c.from_residual.ensures.1
+
+pub returns-in_err-_stood-clause-err_room : goal.returns-in_err-_stood-clause-err_room
+returns-in_err-_stood-clause-err_room g c = passed_kept c.from_residual.result _ c.in_err-_stood.ensures.err_room
+
+pub returns-clause-err_room : goal.returns-clause-err_room
+returns-clause-err_room g c = tt
+
+pub returns-clause-room : goal.returns-clause-room
+returns-clause-room g c = λ held st reached shown mine.
+    let e = c.in_ok-_stood.ensures in
+    elim (either c.in_ok-_stood._stood (e.stood held) (e.gone held) e.room e.left_room) [
+      | inl stood ↦ takes_so g.R.Rows.overfills c.args.rows.now c.record.new.rows
+          (λ row later after. no_room_to_record (λ rows changed edits. g.R.Rows.overfills rows row (edits ++ later)) c.args.rows.now (g.R.Rows.cells c.args.rows.now) c.args.self.now c.args.k c.in-Some.write.now c.in-Some.ensures.found stood.0 after st reached shown mine) stood.1
+      | inr gone ↦ λ row later full. inl (gone.1 row later full)
+    ]
+
+pub returns-in_default-clause-room : goal.returns-in_default-clause-room
+returns-in_default-clause-room g c = λ held. tt
+
+pub returns-in_default-clause-err_room : goal.returns-in_default-clause-err_room
+returns-in_default-clause-err_room g c = λ row later full. full

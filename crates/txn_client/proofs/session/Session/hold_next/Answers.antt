@@ -1,4 +1,4 @@
-use Rattle.std.proofs.Common.{◌≡◌, refl, ℕ, [], ap, subst, ◌∙◌}
+use Rattle.std.proofs.Common.{◌≡◌, inl, inr, refl, ℕ, [], ◌++◌, ap, subst, ◌∙◌}
 use Rattle.cell_key.specs.Cells.{Cells, after_edits}
 use Rattle.si_model.specs.ShowsCells.{held_cells, Touches}
 use Rattle.txn_client.specs.Reads.{IsTaken, IsFree}
@@ -354,3 +354,47 @@ returns-clause-writes g c = refl
 
 pub returns-clause-empty : goal.returns-clause-empty
 returns-clause-empty g c = λ past. absurd (not_past _ _ c.in-Some.ensures.some past)
+
+pub returns-in_err-is_taken-clause-room : goal.returns-in_err-is_taken-clause-room
+returns-in_err-is_taken-clause-room g c = λ held. passed_none c.from_residual.result c.in_err-is_taken.field-0.0 _ c.from_residual.ensures.1
+
+pub returns-in_err-is_taken-clause-err_room : goal.returns-in_err-is_taken-clause-err_room
+returns-in_err-is_taken-clause-err_room g c = passed_kept c.from_residual.result _ c.in_err-is_taken.ensures.same_room
+
+pub returns-then-branch-clause-room : goal.returns-then-branch-clause-room
+returns-then-branch-clause-room g c = λ held st reached shown mine. c.in_ok-is_taken.ensures.same_room
+
+pub returns-then-branch-clause-err_room : goal.returns-then-branch-clause-err_room
+returns-then-branch-clause-err_room g c = tt
+
+pub returns-in_err-hold-clause-room : goal.returns-in_err-hold-clause-room
+returns-in_err-hold-clause-room g c = λ held. passed_none c.from_residual-in_err-hold.result c.in_err-hold.field-0.0 _ c.from_residual-in_err-hold.ensures.1
+
+pub returns-in_err-hold-clause-err_room : goal.returns-in_err-hold-clause-err_room
+returns-in_err-hold-clause-err_room g c = passed_kept c.from_residual-in_err-hold.result _ (λ row later full. c.is_taken.ensures.same_room row later (c.in_err-hold.ensures.err_room row later full))
+
+pub returns-clause-err_room : goal.returns-clause-err_room
+returns-clause-err_room g c = tt
+
+pub returns-clause-room : goal.returns-clause-room
+returns-clause-room g c = λ held st reached shown mine row later full.
+    let cells = g.R.Rows.cells c.args.rows.now in
+    let write = c.in-Some.write.now in
+    let free = subst (λ (n : ℕ). IsFree cells write.cell n) c.stamp-start.ensures.stamp (rw c.if-branch.false at (c.in_ok-is_taken.ensures.free held)) in
+    elim (c.in_ok-hold.ensures.room row later full) [
+      | inl before ↦ inl (c.is_taken.ensures.same_room row later before)
+      | inr after ↦ inr (no_room_to_hold (λ rows changed edits. g.R.Rows.overfills rows row (edits ++ later)) c.args.rows.now cells c.args.self.now c.is_taken.new.rows
+          (λ changed edits. c.is_taken.ensures.same_room row (edits ++ later)) c.args.k write c.in-Some-get.first.now c.requires c.in-Some.ensures.found c.in-Some-get.ensures.found free after st reached shown mine)
+    ]
+
+pub returns-in_default-clause-room : goal.returns-in_default-clause-room
+returns-in_default-clause-room g c = λ held. tt
+
+pub returns-in_default-clause-err_room : goal.returns-in_default-clause-err_room
+returns-in_default-clause-err_room g c = λ row later full. full
+
+pub returns-in_default-get-clause-room : goal.returns-in_default-get-clause-room
+returns-in_default-get-clause-room g c = λ held. tt
+
+pub returns-in_default-get-clause-err_room : goal.returns-in_default-get-clause-err_room
+returns-in_default-get-clause-err_room g c = λ row later full. full
