@@ -14,7 +14,7 @@ use Rattle.si_model.specs.declared.replies.Found.TheVariants as founds
 use Rattle.si_model.specs.declared.replies.Progress.{Progress}
 use Rattle.si_model.specs.declared.replies.Progress.TheVariants as steps
 use Rattle.file_store.specs.Store.{Contents}
-use Rattle.row_atomic.specs.Changes.{Holds}
+use Rattle.row_atomic.specs.Changes.{ComesOfWriting, Holds}
 use Rattle.row_atomic.specs.Clusters.{Spot, Storage, cells_in, spot_of, storage_of}
 use Rattle.txn_client.specs.Reads.{IsShort}
 use Rattle.txn_client.specs.Shows as clients
@@ -120,6 +120,11 @@ module _ {F M : Type 0} (contents : F → Option Contents) (old new : Server F M
     undamaged (λ (r : Refusal). r ≡ Device) refusal device (λ h. cc),
   )
 
+-- a request that flushes nothing finds no full tablet
+pub never_full : (reply : Reply) → IfRefused (λ refusal. ComesOfWriting refusal → ¬ ⊥) reply
+never_full (Refused refusal) = λ of none. none
+never_full _ = tt
+
 -- a reply is no refusal that the request can't have
 pub never : (P : Refusal → Type 0) (reply : Kept) (refusal : Refusal) → IfRefused P (replied reply) → (P refusal → ⊥) → reply ≡ kept.Refused refusal → ⊥
 never P reply refusal told none is = none (subst (λ (r : Kept). IfRefused P (replied r)) is told)
@@ -176,6 +181,13 @@ named_not refusal other bad memory which same =
       | inl e ↦ bad (sym e ∙ is)
       | inr e ↦ memory (sym e ∙ is)
     ]
+
+-- nor does that come of writing
+pub named_unwritten : (refusal : Refusal) → (refusal ≡ BadRow) ⊎ (refusal ≡ NoMemory) → ¬ ComesOfWriting refusal
+named_unwritten refusal which of = elim which [
+  | inl e ↦ subst ComesOfWriting e of
+  | inr e ↦ subst ComesOfWriting e of
+]
 
 never_some : {X P : Type 0} (x : X) → None ≡ Some x → P
 never_some x e = let none : ⊥ = cc in absurd none

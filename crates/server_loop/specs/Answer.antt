@@ -8,7 +8,7 @@ use Rattle.request_codec.specs.Requests.{asked}
 use Rattle.request_codec.specs.declared.replies.Reply.{Reply}
 use Rattle.request_codec.specs.declared.replies.Reply.TheVariants.{Refused, OracleRestart}
 use Rattle.request_codec.specs.declared.requests.Request.{Request}
-use Rattle.row_atomic.specs.Changes.{Holds, IsBadCount, IsUndone, KeepsMap, Numbered}
+use Rattle.row_atomic.specs.Changes.{ComesOfWriting, Holds, IsBadCount, IsUndone, KeepsMap, Numbered}
 use Rattle.row_atomic.specs.Clusters.{Overfills}
 use Rattle.si_model.specs.Machine.{IsReached, State}
 use Rattle.server_loop.specs.Refusals.{IsLackOf, IsRefusalOf, OnMerge, OnRestart, OnStep, OnUpkeep}
@@ -32,7 +32,7 @@ pub record IsAnswer {F M : Type 0} (contents : F → Option Contents) (file_faul
   pub restarted : OnRestart request (reply ≡ OracleRestart → IfSome (mark (marks_of old)) (λ n. last_of new ≡ n))
   pub last : StampsGoOn (replied reply) (last_of old) (last_of new)
   pub changes : ChangesCells contents request reply old new
-  pub room : LeavesRoom request old new
+  pub room : LeavesRoom contents request reply old new
   pub crowd : TellsCrowd contents old request reply
   pub exact : IsExact contents old request reply
   pub leaves : LeavesSessions request reply old new
@@ -43,6 +43,7 @@ pub record IsAnswer {F M : Type 0} (contents : F → Option Contents) (file_faul
   pub beside : OnUpkeep request (KeepsSessions old new)
   pub count : OnMerge request (λ tablet count. reply ≡ Refused refused.BadCount ↔ (HasTablet tablet (cluster_of old).places × Numbered (IsBadCount count) tablet (cluster_of old).tablets))
   pub many : reply ≡ Refused refused.TooManyFiles → MeetsFull request (cluster_of old)
+  pub unfilled : IfRefused (λ refusal. ComesOfWriting refusal → ¬ MeetsFull request (cluster_of old)) (replied reply)
   pub undone : reply ≡ Refused refused.TooManyFiles → IsUndone contents (cluster_of old) (cluster_of new)
   pub large : Holds contents (cluster_of old) → reply ≡ Refused refused.FileTooLarge → MeetsTooLarge contents request (cluster_of old)
   pub within : IsDone reply → FitsInFiles contents request (cluster_of old)

@@ -16,7 +16,7 @@ use Rattle.server_loop.specs.Refusals.{OnStep}
 use Rattle.server_loop.specs.Runs.{IfRefused}
 use Rattle.server_loop.specs.Server.{Shows, cells_of, cluster_of}
 use Rattle.server_loop.specs.declared.server.Server.{Server}
-use Rattle.txn_client.specs.Room.{ChangesNext, Makes}
+use Rattle.txn_client.specs.Room.{ChangesNext, Makes, TakesRoom}
 use Rattle.txn_client.specs.Shows.{IsAboutToDraw, IsCrowded, IsInactive, IsUnwritten, SameSessions, TouchesFor}
 
 -- A step that is done makes the edits of its session's next step, or none where it makes none: cells of one row at most, at the
@@ -31,15 +31,18 @@ ChangesCells contents request reply old new = Holds contents (cluster_of old) �
 abbrev pub IsNoFuller : {F : Type 0} → ClusterState F → ClusterState F → Type 0
 IsNoFuller old new = (row : List ℕ) (edits : List Edit) → Overfills new.places new.tablets row edits → Overfills old.places old.tablets row edits
 
--- Reads, and what is for sessions and the oracle alone, take no room in memory.
-abbrev pub LeavesRoom : {F M : Type 0} → Request → Server F M → Server F M → Type 0
-LeavesRoom Begin old new = IsNoFuller (cluster_of old) (cluster_of new)
-LeavesRoom (Get start row family) old new = IsNoFuller (cluster_of old) (cluster_of new)
-LeavesRoom (Set start row family value) old new = IsNoFuller (cluster_of old) (cluster_of new)
-LeavesRoom (Stop start) old new = IsNoFuller (cluster_of old) (cluster_of new)
-LeavesRoom OracleRestart old new = IsNoFuller (cluster_of old) (cluster_of new)
-LeavesRoom (Raw row family qualifier lo hi) old new = IsNoFuller (cluster_of old) (cluster_of new)
-LeavesRoom request old new = ⊤
+-- Reads, and what is for sessions and the oracle alone, take no room in memory, and a step takes that of its edits.
+abbrev pub LeavesRoom : {F M : Type 0} → (F → Option Contents) → Request → Reply → Server F M → Server F M → Type 0
+LeavesRoom contents Begin reply old new = IsNoFuller (cluster_of old) (cluster_of new)
+LeavesRoom contents (Get start row family) reply old new = IsNoFuller (cluster_of old) (cluster_of new)
+LeavesRoom contents (Set start row family value) reply old new = IsNoFuller (cluster_of old) (cluster_of new)
+LeavesRoom contents (Step start) (kept.Step progress) old new =
+    (st : State) → IsReached st → Shows contents old st → TakesRoom (λ cluster row edits. Overfills cluster.places cluster.tablets row edits) (ChangesNext st start) progress (cluster_of old) (cluster_of new)
+LeavesRoom contents (Step start) (kept.Refused refusal) old new = IsNoFuller (cluster_of old) (cluster_of new)
+LeavesRoom contents (Stop start) reply old new = IsNoFuller (cluster_of old) (cluster_of new)
+LeavesRoom contents OracleRestart reply old new = IsNoFuller (cluster_of old) (cluster_of new)
+LeavesRoom contents (Raw row family qualifier lo hi) reply old new = IsNoFuller (cluster_of old) (cluster_of new)
+LeavesRoom contents request reply old new = ⊤
 
 -- A read, a restart of the oracle, and a write, a step or an end that is refused leave the sessions as they are.
 abbrev pub LeavesSessions : {F M : Type 0} → Request → Reply → Server F M → Server F M → Type 0

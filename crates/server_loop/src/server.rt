@@ -5,7 +5,7 @@ ghost use Rattle.cell_key.specs.Faults.{HasRisen};
 ghost use Rattle.metadata_table.specs.Table.{HasTablet};
 ghost use Rattle.request_codec.specs.Replies.{replied};
 ghost use Rattle.request_codec.specs.Requests.{asked};
-ghost use Rattle.row_atomic.specs.Changes.{Holds, IsBadCount, IsUndone, KeepsMap, Numbered};
+ghost use Rattle.row_atomic.specs.Changes.{ComesOfWriting, Holds, IsBadCount, IsUndone, KeepsMap, Numbered};
 ghost use Rattle.row_atomic.specs.Clusters.{Overfills};
 ghost use Rattle.server_loop.specs.Refusals.{IsLackOf, IsRefusalOf, OnMerge, OnRestart, OnStep, OnUpkeep};
 ghost use Rattle.server_loop.specs.Runs.{HasShortValue, IfRefused, StampsGoOn, StepsAs};
@@ -115,8 +115,8 @@ impl<F: Files + Drop, M: MarkStore + Drop> Server<F, M> {
         ensures last { StampsGoOn (replied result) (last_of self.old) (last_of self.new) }
         // A step changes cells of one row at most, and all else none.
         ensures changes { ChangesCells F.contents request.entry result self.old self.new }
-        // Nothing but upkeep and a step takes room in memory.
-        ensures room { LeavesRoom request.entry self.old self.new }
+        // Nothing but upkeep takes room in memory, and a step what its edits take.
+        ensures room { LeavesRoom F.contents request.entry result self.old self.new }
         // Too many sessions, an unknown session and a commit without writes are always told so.
         ensures crowd { TellsCrowd F.contents self.old request.entry result }
         ensures exact { IsExact F.contents self.old request.entry result }
@@ -131,6 +131,8 @@ impl<F: Files + Drop, M: MarkStore + Drop> Server<F, M> {
         ensures count { OnMerge request.entry (λ tablet count. result ≡ Reply.Refused Refusal.BadCount
             ↔ (HasTablet tablet (cluster_of self.old).places × Numbered (IsBadCount count) tablet (cluster_of self.old).tablets)) }
         ensures many { result ≡ Reply.Refused Refusal.TooManyFiles → MeetsFull request.entry (cluster_of self.old) }
+        // A full tablet is told so before anything is written.
+        ensures unfilled { IfRefused (λ refusal. ComesOfWriting refusal → ¬ MeetsFull request.entry (cluster_of self.old)) (replied result) }
         // Nothing was done then.
         ensures undone { result ≡ Reply.Refused Refusal.TooManyFiles → IsUndone F.contents (cluster_of self.old) (cluster_of self.new) }
         ensures large { Holds F.contents (cluster_of self.old) → result ≡ Reply.Refused Refusal.FileTooLarge → MeetsTooLarge F.contents request.entry (cluster_of self.old) }

@@ -28,7 +28,7 @@ impl<F: Files + Drop, M: MarkStore + Drop> Server<F, M> {
         ensures last { StampsGoOn (replied result) (last_of self.old) (last_of self.new) }
         ensures storage { storage_of F.contents (cluster_of self.new) ≡ storage_of F.contents (cluster_of self.old) }
         ensures changes { ChangesCells F.contents Request.Begin result self.old self.new }
-        ensures room { LeavesRoom Request.Begin self.old self.new }
+        ensures room { LeavesRoom F.contents Request.Begin result self.old self.new }
         ensures crowd { TellsCrowd F.contents self.old Request.Begin result }
         ensures short { HasShortValue result }
         ensures device { result ≡ Reply.Refused Refusal.Device → IsFaultSeen F.faults M.faults self.old self.new }
@@ -46,7 +46,7 @@ impl<F: Files + Drop, M: MarkStore + Drop> Server<F, M> {
         ensures last { StampsGoOn (replied result) (last_of self.old) (last_of self.new) }
         ensures storage { storage_of F.contents (cluster_of self.new) ≡ storage_of F.contents (cluster_of self.old) }
         ensures changes { ChangesCells F.contents (Request.Get start row.entry family.entry) result self.old self.new }
-        ensures room { LeavesRoom (Request.Get start row.entry family.entry) self.old self.new }
+        ensures room { LeavesRoom F.contents (Request.Get start row.entry family.entry) result self.old self.new }
         ensures exact { IsExact F.contents self.old (Request.Get start row.entry family.entry) result }
         ensures leaves { LeavesSessions (Request.Get start row.entry family.entry) result self.old self.new }
         ensures short { HasShortValue result }
@@ -65,7 +65,7 @@ impl<F: Files + Drop, M: MarkStore + Drop> Server<F, M> {
         ensures last { StampsGoOn (replied result) (last_of self.old) (last_of self.new) }
         ensures storage { storage_of F.contents (cluster_of self.new) ≡ storage_of F.contents (cluster_of self.old) }
         ensures changes { ChangesCells F.contents (Request.Set start row.entry family.entry value.entry) result self.old self.new }
-        ensures room { LeavesRoom (Request.Set start row.entry family.entry value.entry) self.old self.new }
+        ensures room { LeavesRoom F.contents (Request.Set start row.entry family.entry value.entry) result self.old self.new }
         ensures exact { IsExact F.contents self.old (Request.Set start row.entry family.entry value.entry) result }
         ensures leaves { LeavesSessions (Request.Set start row.entry family.entry value.entry) result self.old self.new }
         ensures short { HasShortValue result }
@@ -87,6 +87,7 @@ impl<F: Files + Drop, M: MarkStore + Drop> Server<F, M> {
         ensures last { StampsGoOn (replied result) (last_of self.old) (last_of self.new) }
         ensures storage { storage_of F.contents (cluster_of self.new) ≡ storage_of F.contents (cluster_of self.old) }
         ensures changes { ChangesCells F.contents (Request.Step start) result self.old self.new }
+        ensures room { LeavesRoom F.contents (Request.Step start) result self.old self.new }
         ensures exact { IsExact F.contents self.old (Request.Step start) result }
         ensures leaves { LeavesSessions (Request.Step start) result self.old self.new }
         ensures short { HasShortValue result }
@@ -108,7 +109,7 @@ impl<F: Files + Drop, M: MarkStore + Drop> Server<F, M> {
         ensures last { StampsGoOn (replied result) (last_of self.old) (last_of self.new) }
         ensures storage { storage_of F.contents (cluster_of self.new) ≡ storage_of F.contents (cluster_of self.old) }
         ensures changes { ChangesCells F.contents (Request.Stop start) result self.old self.new }
-        ensures room { LeavesRoom (Request.Stop start) self.old self.new }
+        ensures room { LeavesRoom F.contents (Request.Stop start) result self.old self.new }
         ensures exact { IsExact F.contents self.old (Request.Stop start) result }
         ensures leaves { LeavesSessions (Request.Stop start) result self.old self.new }
         ensures short { HasShortValue result }
@@ -129,7 +130,7 @@ impl<F: Files + Drop, M: MarkStore + Drop> Server<F, M> {
         ensures last { StampsGoOn (replied result) (last_of self.old) (last_of self.new) }
         ensures storage { storage_of F.contents (cluster_of self.new) ≡ storage_of F.contents (cluster_of self.old) }
         ensures changes { ChangesCells F.contents Request.OracleRestart result self.old self.new }
-        ensures room { LeavesRoom Request.OracleRestart self.old self.new }
+        ensures room { LeavesRoom F.contents Request.OracleRestart result self.old self.new }
         ensures leaves { LeavesSessions Request.OracleRestart result self.old self.new }
         ensures short { HasShortValue result }
         ensures device { result ≡ Reply.Refused Refusal.Device → IsFaultSeen F.faults M.faults self.old self.new }

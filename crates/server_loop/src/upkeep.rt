@@ -3,7 +3,7 @@
 ghost use Rattle.std.specs.Prelude.{◌≡◌, ◌↔◌};
 ghost use Rattle.metadata_table.specs.Table.{HasTablet};
 ghost use Rattle.request_codec.specs.Replies.{replied};
-ghost use Rattle.row_atomic.specs.Changes.{Holds, IsBadCount, IsMoveRefusal, IsNumberedRefusal, IsUndone, KeepsMap, Numbered};
+ghost use Rattle.row_atomic.specs.Changes.{ComesOfWriting, Holds, IsBadCount, IsMoveRefusal, IsNumberedRefusal, IsUndone, KeepsMap, Numbered};
 ghost use Rattle.row_atomic.specs.Compactions as compaction;
 ghost use Rattle.server_loop.specs.Refusals.{IsCutRefusal, IsRawRefusal, IsSweepRefusal};
 ghost use Rattle.server_loop.specs.Runs.{HasShortValue, IfRefused, StampsGoOn, StepsAs};
@@ -32,6 +32,7 @@ impl<F: Files + Drop, M: MarkStore + Drop> Server<F, M> {
         ensures files { UsesFiles F.contents (Request.Minor tablet) (cluster_of self.old) (cluster_of self.new) }
         ensures barred { IsBarred (Request.Minor tablet) result → cluster_of self.new ≡ cluster_of self.old }
         ensures many { result ≡ Reply.Refused Refusal.TooManyFiles → MeetsFull (Request.Minor tablet) (cluster_of self.old) }
+        ensures unfilled { IfRefused (λ refusal. ComesOfWriting refusal → ¬ MeetsFull (Request.Minor tablet) (cluster_of self.old)) (replied result) }
         ensures undone { result ≡ Reply.Refused Refusal.TooManyFiles → IsUndone F.contents (cluster_of self.old) (cluster_of self.new) }
         ensures large { Holds F.contents (cluster_of self.old) → result ≡ Reply.Refused Refusal.FileTooLarge → MeetsTooLarge F.contents (Request.Minor tablet) (cluster_of self.old) }
         ensures within { IsDone result → FitsInFiles F.contents (Request.Minor tablet) (cluster_of self.old) }
@@ -101,6 +102,7 @@ impl<F: Files + Drop, M: MarkStore + Drop> Server<F, M> {
         ensures files { UsesFiles F.contents (Request.Split row.entry) (cluster_of self.old) (cluster_of self.new) }
         ensures barred { IsBarred (Request.Split row.entry) result → cluster_of self.new ≡ cluster_of self.old }
         ensures many { result ≡ Reply.Refused Refusal.TooManyFiles → MeetsFull (Request.Split row.entry) (cluster_of self.old) }
+        ensures unfilled { IfRefused (λ refusal. ComesOfWriting refusal → ¬ MeetsFull (Request.Split row.entry) (cluster_of self.old)) (replied result) }
         ensures undone { result ≡ Reply.Refused Refusal.TooManyFiles → IsUndone F.contents (cluster_of self.old) (cluster_of self.new) }
         ensures large { Holds F.contents (cluster_of self.old) → result ≡ Reply.Refused Refusal.FileTooLarge → MeetsTooLarge F.contents (Request.Split row.entry) (cluster_of self.old) }
         ensures within { IsDone result → FitsInFiles F.contents (Request.Split row.entry) (cluster_of self.old) }
@@ -129,6 +131,7 @@ impl<F: Files + Drop, M: MarkStore + Drop> Server<F, M> {
         ensures files { UsesFiles F.contents (Request.Move tablet server) (cluster_of self.old) (cluster_of self.new) }
         ensures barred { IsBarred (Request.Move tablet server) result → cluster_of self.new ≡ cluster_of self.old }
         ensures many { result ≡ Reply.Refused Refusal.TooManyFiles → MeetsFull (Request.Move tablet server) (cluster_of self.old) }
+        ensures unfilled { IfRefused (λ refusal. ComesOfWriting refusal → ¬ MeetsFull (Request.Move tablet server) (cluster_of self.old)) (replied result) }
         ensures undone { result ≡ Reply.Refused Refusal.TooManyFiles → IsUndone F.contents (cluster_of self.old) (cluster_of self.new) }
         ensures large { Holds F.contents (cluster_of self.old) → result ≡ Reply.Refused Refusal.FileTooLarge → MeetsTooLarge F.contents (Request.Move tablet server) (cluster_of self.old) }
         ensures within { IsDone result → FitsInFiles F.contents (Request.Move tablet server) (cluster_of self.old) }
@@ -173,7 +176,7 @@ impl<F: Files + Drop, M: MarkStore + Drop> Server<F, M> {
         ensures last { StampsGoOn (replied result) (last_of self.old) (last_of self.new) }
         ensures kept { KeepsMap F.contents (cluster_of self.old) (cluster_of self.new) }
         ensures upkeep { Maintains F.contents (Request.Raw row.entry family.entry qualifier lo hi) result (cluster_of self.old) (cluster_of self.new) }
-        ensures room { LeavesRoom (Request.Raw row.entry family.entry qualifier lo hi) self.old self.new }
+        ensures room { LeavesRoom F.contents (Request.Raw row.entry family.entry qualifier lo hi) result self.old self.new }
         ensures beside { KeepsSessions self.old self.new }
         ensures short { HasShortValue result }
         ensures device { result ≡ Reply.Refused Refusal.Device → IsFaultSeen F.faults M.faults self.old self.new }

@@ -57,6 +57,9 @@ returns-clause-count g c = c.reply_to.ensures.says.count
 pub returns-clause-many : goal.returns-clause-many
 returns-clause-many g c = c.reply_to.ensures.says.many
 
+pub returns-clause-unfilled : goal.returns-clause-unfilled
+returns-clause-unfilled g c = c.reply_to.ensures.says.unfilled
+
 pub returns-clause-undone : goal.returns-clause-undone
 returns-clause-undone g c = c.reply_to.ensures.says.undone
 

@@ -101,3 +101,9 @@ returns-in-Err-clause-device g c = λ same. inl (c.in-Err.ensures.reason.device 
 
 pub returns-in-Err-clause-told : goal.returns-in-Err-clause-told
 returns-in-Err-clause-told g c = λ none. record { files = c.in-Err.ensures.reason.told (λ is. none (as_refused _ _ _ refl is)); marks = refl }
+
+pub returns-in-Ok-clause-unfilled : goal.returns-in-Ok-clause-unfilled
+returns-in-Ok-clause-unfilled g c = tt
+
+pub returns-in-Err-clause-unfilled : goal.returns-in-Err-clause-unfilled
+returns-in-Err-clause-unfilled g c = c.in-Err.ensures.unfilled

@@ -2,7 +2,7 @@ use Rattle.std.proofs.Common.{inl, refl, ap, sym}
 use Rattle.std.specs.declared.result.Result.TheVariants.{Err}
 use Rattle.cell_key.specs.declared.refusals.Refusal.{Refusal}
 use Rattle.si_model.specs.Machine.{refuses}
-use Rattle.server_loop.proofs.Stepping.{as_err, err_undamaged, name_undamaged, as_refused, named_not, not_done, ok_not, memory_not_device, memory_not_exhausted, memory_not_large, memory_not_many, row_not_device, row_not_exhausted, row_not_large, row_not_many}
+use Rattle.server_loop.proofs.Stepping.{as_err, err_undamaged, name_undamaged, as_refused, named_not, named_unwritten, not_done, ok_not, memory_not_device, memory_not_exhausted, memory_not_large, memory_not_many, row_not_device, row_not_exhausted, row_not_large, row_not_many}
 use Rattle.server_loop.proofs.Upkeeping.{cut_named, cut_refused, row_whole, split_named, split_refuses, splits_as, tells_as}
 use Rattle.server_loop.proofs.server.Server.split.Goals as goal
 
@@ -155,3 +155,12 @@ returns-clause-device g c = λ same. inl (c.in-Err-split.ensures.reason.device (
 
 pub returns-clause-told : goal.returns-clause-told
 returns-clause-told g c = λ none. record { files = c.in-Err-split.ensures.reason.told (λ is. none (as_refused _ _ _ refl is)); marks = refl }
+
+pub returns-in-Err-clause-unfilled : goal.returns-in-Err-clause-unfilled
+returns-in-Err-clause-unfilled g c = λ of. absurd (named_unwritten _ c.in-Err.ensures.others of)
+
+pub returns-in-Ok-split-clause-unfilled : goal.returns-in-Ok-split-clause-unfilled
+returns-in-Ok-split-clause-unfilled g c = tt
+
+pub returns-clause-unfilled : goal.returns-clause-unfilled
+returns-clause-unfilled g c = rw (← c.in-Ok.ensures.ok) c.in-Err-split.ensures.unfilled

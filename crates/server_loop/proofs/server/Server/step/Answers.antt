@@ -91,3 +91,9 @@ returns-in-Err-clause-told g c = λ none. record {
   files = c.in-Err.ensures.told (λ is. none (as_refused _ _ _ refl is));
   marks = c.in-Err.ensures.mark_told (λ is. none (as_refused _ _ _ refl is));
 }
+
+pub returns-in-Ok-clause-room : goal.returns-in-Ok-clause-room
+returns-in-Ok-clause-room g c = λ st reached shown. c.in-Ok.ensures.room shown.in_order st reached shown.shows.store shown.shows.sessions
+
+pub returns-in-Err-clause-room : goal.returns-in-Err-clause-room
+returns-in-Err-clause-room g c = c.in-Err.ensures.err_room

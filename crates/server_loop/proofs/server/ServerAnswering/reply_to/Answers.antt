@@ -5,7 +5,7 @@ use Rattle.row_atomic.specs.Changes.{IsNumberedRefusal}
 use Rattle.row_atomic.specs.Compactions as compaction
 use Rattle.txn_client.specs.Refusals.{IsBeginRefusal, IsGetRefusal, IsSetRefusal, IsStepRefusal}
 use Rattle.server_loop.specs.Refusals.{IsRawRefusal, IsSweepRefusal}
-use Rattle.server_loop.proofs.Stepping.{never, sweep_not_exhausted, sweep_not_many, sweep_not_large}
+use Rattle.server_loop.proofs.Stepping.{never, never_full, sweep_not_exhausted, sweep_not_many, sweep_not_large}
 use Rattle.server_loop.proofs.server.ServerAnswering.reply_to.Goals as goal
 
 exhausted_not_unknown : Exhausted ≡ UnknownSession → ⊥
@@ -47,6 +47,7 @@ returns-in-Begin-clause-says g c = rw c.in-Begin.is (record {
   beside = tt;
   count = tt;
   many = λ is. absurd (never IsBeginRefusal _ _ c.begin.ensures.refusal (λ h. h) is);
+  unfilled = never_full _;
   undone = λ is. absurd (never IsBeginRefusal _ _ c.begin.ensures.refusal (λ h. h) is);
   large = λ held is. absurd (never IsBeginRefusal _ _ c.begin.ensures.refusal (λ h. h) is);
   within = λ done. record { room = λ h. h; named = λ lacks. lacks.1; fits = λ held h. h };
@@ -76,6 +77,7 @@ returns-in-Get-clause-says g c = rw c.in-Get.is (record {
   beside = tt;
   count = tt;
   many = λ is. absurd (never IsGetRefusal _ _ c.get.ensures.refusal (λ h. h) is);
+  unfilled = never_full _;
   undone = λ is. absurd (never IsGetRefusal _ _ c.get.ensures.refusal (λ h. h) is);
   large = λ held is. absurd (never IsGetRefusal _ _ c.get.ensures.refusal (λ h. h) is);
   within = λ done. record { room = λ h. h; named = λ lacks. lacks.1; fits = λ held h. h };
@@ -105,6 +107,7 @@ returns-in-Set-clause-says g c = rw c.in-Set.is (record {
   beside = tt;
   count = tt;
   many = λ is. absurd (never IsSetRefusal _ _ c.set.ensures.refusal (λ h. h) is);
+  unfilled = never_full _;
   undone = λ is. absurd (never IsSetRefusal _ _ c.set.ensures.refusal (λ h. h) is);
   large = λ held is. absurd (never IsSetRefusal _ _ c.set.ensures.refusal (λ h. h) is);
   within = λ done. record { room = λ h. h; named = λ lacks. lacks.1; fits = λ held h. h };
@@ -123,7 +126,7 @@ returns-in-Step-clause-says g c = rw c.in-Step.is (record {
   restarted = tt;
   last = c.step.ensures.last;
   changes = c.step.ensures.changes;
-  room = tt;
+  room = c.step.ensures.room;
   crowd = tt;
   exact = c.step.ensures.exact;
   leaves = c.step.ensures.leaves;
@@ -134,6 +137,7 @@ returns-in-Step-clause-says g c = rw c.in-Step.is (record {
   beside = tt;
   count = tt;
   many = λ is. absurd (never IsStepRefusal _ _ c.step.ensures.refusal (λ h. h) is);
+  unfilled = never_full _;
   undone = λ is. absurd (never IsStepRefusal _ _ c.step.ensures.refusal (λ h. h) is);
   large = λ held is. absurd (never IsStepRefusal _ _ c.step.ensures.refusal (λ h. h) is);
   within = λ done. record { room = λ h. h; named = λ lacks. lacks.1; fits = λ held h. h };
@@ -163,6 +167,7 @@ returns-in-Stop-clause-says g c = rw c.in-Stop.is (record {
   beside = tt;
   count = tt;
   many = λ is. absurd (never (λ (r : Refusal). r ≡ UnknownSession) _ _ c.stop.ensures.refusal many_not_unknown is);
+  unfilled = never_full _;
   undone = λ is. absurd (never (λ (r : Refusal). r ≡ UnknownSession) _ _ c.stop.ensures.refusal many_not_unknown is);
   large = λ held is. absurd (never (λ (r : Refusal). r ≡ UnknownSession) _ _ c.stop.ensures.refusal large_not_unknown is);
   within = λ done. record { room = λ h. h; named = λ lacks. lacks.1; fits = λ held h. h };
@@ -192,6 +197,7 @@ returns-in-OracleRestart-clause-says g c = rw c.in-OracleRestart.is (record {
   beside = tt;
   count = tt;
   many = λ is. absurd (never (λ (r : Refusal). r ≡ Device) _ _ c.restart.ensures.refusal many_not_device is);
+  unfilled = never_full _;
   undone = λ is. absurd (never (λ (r : Refusal). r ≡ Device) _ _ c.restart.ensures.refusal many_not_device is);
   large = λ held is. absurd (never (λ (r : Refusal). r ≡ Device) _ _ c.restart.ensures.refusal large_not_device is);
   within = λ done. record { room = λ h. h; named = λ lacks. lacks.1; fits = λ held h. h };
@@ -221,6 +227,7 @@ returns-in-Minor-clause-says g c = rw c.in-Minor.is (record {
   beside = c.minor.ensures.beside;
   count = tt;
   many = c.minor.ensures.many;
+  unfilled = c.minor.ensures.unfilled;
   undone = c.minor.ensures.undone;
   large = c.minor.ensures.large;
   within = c.minor.ensures.within;
@@ -250,6 +257,7 @@ returns-in-Merge-clause-says g c = rw c.in-Merge.is (record {
   beside = c.merge.ensures.beside;
   count = c.merge.ensures.count;
   many = λ is. absurd (never (IsNumberedRefusal (compaction.merging c.in-Merge.count)) _ _ c.merge.ensures.refusal (λ h. h) is);
+  unfilled = never_full _;
   undone = λ is. absurd (never (IsNumberedRefusal (compaction.merging c.in-Merge.count)) _ _ c.merge.ensures.refusal (λ h. h) is);
   large = c.merge.ensures.large;
   within = c.merge.ensures.within;
@@ -279,6 +287,7 @@ returns-in-Major-clause-says g c = rw c.in-Major.is (record {
   beside = c.major.ensures.beside;
   count = tt;
   many = λ is. absurd (never (IsNumberedRefusal compaction.major) _ _ c.major.ensures.refusal (λ h. h) is);
+  unfilled = never_full _;
   undone = λ is. absurd (never (IsNumberedRefusal compaction.major) _ _ c.major.ensures.refusal (λ h. h) is);
   large = c.major.ensures.large;
   within = c.major.ensures.within;
@@ -308,6 +317,7 @@ returns-in-Split-clause-says g c = rw c.in-Split.is (record {
   beside = c.split.ensures.beside;
   count = tt;
   many = c.split.ensures.many;
+  unfilled = c.split.ensures.unfilled;
   undone = c.split.ensures.undone;
   large = c.split.ensures.large;
   within = c.split.ensures.within;
@@ -337,6 +347,7 @@ returns-in-Move-clause-says g c = rw c.in-Move.is (record {
   beside = c.move_to.ensures.beside;
   count = tt;
   many = c.move_to.ensures.many;
+  unfilled = c.move_to.ensures.unfilled;
   undone = c.move_to.ensures.undone;
   large = c.move_to.ensures.large;
   within = c.move_to.ensures.within;
@@ -366,6 +377,7 @@ returns-in-Sweep-clause-says g c = rw c.in-Sweep.is (record {
   beside = c.sweep.ensures.beside;
   count = tt;
   many = λ is. absurd (never IsSweepRefusal _ _ c.sweep.ensures.refusal sweep_not_many is);
+  unfilled = never_full _;
   undone = λ is. absurd (never IsSweepRefusal _ _ c.sweep.ensures.refusal sweep_not_many is);
   large = λ held is. absurd (never IsSweepRefusal _ _ c.sweep.ensures.refusal sweep_not_large is);
   within = λ done. record { room = λ h. h; named = λ lacks. lacks.1; fits = λ held h. h };
@@ -395,6 +407,7 @@ returns-in-Raw-clause-says g c = rw c.in-Raw.is (record {
   beside = c.raw.ensures.beside;
   count = tt;
   many = λ is. absurd (never IsRawRefusal _ _ c.raw.ensures.refusal (λ h. h) is);
+  unfilled = never_full _;
   undone = λ is. absurd (never IsRawRefusal _ _ c.raw.ensures.refusal (λ h. h) is);
   large = λ held is. absurd (never IsRawRefusal _ _ c.raw.ensures.refusal (λ h. h) is);
   within = λ done. record { room = λ h. h; named = λ lacks. lacks.1; fits = λ held h. h };
