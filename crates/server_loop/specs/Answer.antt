@@ -9,11 +9,10 @@ use Rattle.request_codec.specs.declared.replies.Reply.{Reply}
 use Rattle.request_codec.specs.declared.replies.Reply.TheVariants.{Refused, OracleRestart}
 use Rattle.request_codec.specs.declared.requests.Request.{Request}
 use Rattle.row_atomic.specs.Changes.{ComesOfWriting, Holds, IsBadCount, IsUndone, KeepsMap, Numbered}
-use Rattle.row_atomic.specs.Clusters.{Overfills}
 use Rattle.si_model.specs.Machine.{IsReached, State}
 use Rattle.server_loop.specs.Refusals.{IsLackOf, IsRefusalOf, OnMerge, OnRestart, OnStep, OnUpkeep}
 use Rattle.server_loop.specs.Runs.{HasShortValue, IfRefused, StampsGoOn, StepsAs}
-use Rattle.server_loop.specs.Sessions.{ChangesCells, IsExact, LeavesRoom, LeavesSessions, TellsCrowd}
+use Rattle.server_loop.specs.Sessions.{ChangesCells, IsExact, LeavesRoom, LeavesSessions, OverfillsCluster, TellsCrowd}
 use Rattle.server_loop.specs.Server.{IsFaultSeen, KeepsSessions, SeesNoFault, Shows, cluster_of, last_of, marks_of}
 use Rattle.server_loop.specs.Upkeep.{FitsInFiles, IsBarred, IsDone, LacksName, Maintains, MeetsFull, MeetsTooLarge, UsesFiles}
 use Rattle.server_loop.specs.declared.server.Server.{Server}
@@ -28,7 +27,7 @@ pub record IsAnswer {F M : Type 0} (contents : F → Option Contents) (file_faul
   pub exhausted : reply ≡ Refused refused.Exhausted → IsLackOf request (LacksName request (cluster_of old)) (last_of old ≡ 9_223_372_036_854_775_807)
   pub draw_only : OnStep request (λ start. reply ≡ Refused refused.Exhausted → (st : State) → Shows contents old st → IsAboutToDraw st start)
   pub full : OnStep request (λ start. reply ≡ Refused refused.MemtableFull
-      → (st : State) → IsReached st → Shows contents old st → HasNoRoom (λ cluster row edits. Overfills cluster.places cluster.tablets row edits) (cluster_of old) (ChangesNext st start))
+      → (st : State) → IsReached st → Shows contents old st → HasNoRoom OverfillsCluster (cluster_of old) (ChangesNext st start))
   pub restarted : OnRestart request (reply ≡ OracleRestart → IfSome (mark (marks_of old)) (λ n. last_of new ≡ n))
   pub last : StampsGoOn (replied reply) (last_of old) (last_of new)
   pub changes : ChangesCells contents request reply old new

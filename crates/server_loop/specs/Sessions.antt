@@ -16,7 +16,7 @@ use Rattle.server_loop.specs.Refusals.{OnStep}
 use Rattle.server_loop.specs.Runs.{IfRefused}
 use Rattle.server_loop.specs.Server.{Shows, cells_of, cluster_of}
 use Rattle.server_loop.specs.declared.server.Server.{Server}
-use Rattle.txn_client.specs.Room.{ChangesNext, Makes, TakesRoom}
+use Rattle.txn_client.specs.Room.{ChangesNext, Makes, TakesNoRoom, TakesRoom}
 use Rattle.txn_client.specs.Shows.{IsAboutToDraw, IsCrowded, IsInactive, IsUnwritten, SameSessions, TouchesFor}
 
 -- A step that is done makes the edits of its session's next step, or none where it makes none: cells of one row at most, at the
@@ -27,9 +27,13 @@ ChangesCells contents (Step start) (kept.Step progress) old new =
     × (IsReached st → Makes (ChangesNext st start) progress (cells_of contents old) (cells_of contents new))
 ChangesCells contents request reply old new = Holds contents (cluster_of old) → cells_of contents new ≡ cells_of contents old
 
--- the memtables have as much room as they had: edits that would pass a limit now would have done so before
+-- edits of a row would pass a limit of what a cluster keeps in memory
+abbrev pub OverfillsCluster : {F : Type 0} → ClusterState F → List ℕ → List Edit → Type 0
+OverfillsCluster cluster row edits = Overfills cluster.places cluster.tablets row edits
+
+-- the memtables have as much room as they had
 abbrev pub IsNoFuller : {F : Type 0} → ClusterState F → ClusterState F → Type 0
-IsNoFuller old new = (row : List ℕ) (edits : List Edit) → Overfills new.places new.tablets row edits → Overfills old.places old.tablets row edits
+IsNoFuller old new = TakesNoRoom OverfillsCluster old new
 
 -- Reads, and what is for sessions and the oracle alone, take no room in memory, and a step takes that of its edits.
 abbrev pub LeavesRoom : {F M : Type 0} → (F → Option Contents) → Request → Reply → Server F M → Server F M → Type 0
@@ -37,7 +41,7 @@ LeavesRoom contents Begin reply old new = IsNoFuller (cluster_of old) (cluster_o
 LeavesRoom contents (Get start row family) reply old new = IsNoFuller (cluster_of old) (cluster_of new)
 LeavesRoom contents (Set start row family value) reply old new = IsNoFuller (cluster_of old) (cluster_of new)
 LeavesRoom contents (Step start) (kept.Step progress) old new =
-    (st : State) → IsReached st → Shows contents old st → TakesRoom (λ cluster row edits. Overfills cluster.places cluster.tablets row edits) (ChangesNext st start) progress (cluster_of old) (cluster_of new)
+    (st : State) → IsReached st → Shows contents old st → TakesRoom OverfillsCluster (ChangesNext st start) progress (cluster_of old) (cluster_of new)
 LeavesRoom contents (Step start) (kept.Refused refusal) old new = IsNoFuller (cluster_of old) (cluster_of new)
 LeavesRoom contents (Stop start) reply old new = IsNoFuller (cluster_of old) (cluster_of new)
 LeavesRoom contents OracleRestart reply old new = IsNoFuller (cluster_of old) (cluster_of new)

@@ -6,11 +6,10 @@ ghost use Rattle.metadata_table.specs.Table.{HasTablet};
 ghost use Rattle.request_codec.specs.Replies.{replied};
 ghost use Rattle.request_codec.specs.Requests.{asked};
 ghost use Rattle.row_atomic.specs.Changes.{ComesOfWriting, Holds, IsBadCount, IsUndone, KeepsMap, Numbered};
-ghost use Rattle.row_atomic.specs.Clusters.{Overfills};
 ghost use Rattle.server_loop.specs.Refusals.{IsLackOf, IsRefusalOf, OnMerge, OnRestart, OnStep, OnUpkeep};
 ghost use Rattle.server_loop.specs.Runs.{HasShortValue, IfRefused, StampsGoOn, StepsAs};
 ghost use Rattle.server_loop.specs.Serve.{Serves, ServesStream};
-ghost use Rattle.server_loop.specs.Sessions.{ChangesCells, IsExact, LeavesRoom, LeavesSessions, TellsCrowd};
+ghost use Rattle.server_loop.specs.Sessions.{ChangesCells, IsExact, LeavesRoom, LeavesSessions, OverfillsCluster, TellsCrowd};
 ghost use Rattle.server_loop.specs.Upkeep.{FitsInFiles, IsBarred, IsDone, LacksName, Maintains, MeetsFull, MeetsTooLarge, UsesFiles};
 ghost use Rattle.si_model.specs.Machine.{IsReached, State, new_machine};
 ghost use Rattle.txn_client.specs.Room.{ChangesNext, HasNoRoom};
@@ -108,7 +107,7 @@ impl<F: Files + Drop, M: MarkStore + Drop> Server<F, M> {
             → (st : State) → Shows F.contents self.old st → IsAboutToDraw st start) }
         // The step makes edits, and the memtable of the row's tablet has no room for them.
         ensures full { OnStep request.entry (λ start. result ≡ Reply.Refused Refusal.MemtableFull
-            → (st : State) → IsReached st → Shows F.contents self.old st → HasNoRoom (λ cluster row edits. Overfills cluster.places cluster.tablets row edits) (cluster_of self.old) (ChangesNext st start)) }
+            → (st : State) → IsReached st → Shows F.contents self.old st → HasNoRoom OverfillsCluster (cluster_of self.old) (ChangesNext st start)) }
         // Where the mark is told, a restarted oracle goes on from it.
         ensures restarted { OnRestart request.entry (result ≡ Reply.OracleRestart → IfSome (M.mark (marks_of self.old)) (λ mark. last_of self.new ≡ mark)) }
         // A stamp that is answered is the oracle's next one.

@@ -4,9 +4,9 @@ ghost use Rattle.std.specs.Prelude.{◌≡◌, IfSome};
 ghost use Rattle.si_model.specs.Machine as machine;
 ghost use Rattle.si_model.specs.Machine.{IsReached, State};
 ghost use Rattle.request_codec.specs.Replies.{replied};
-ghost use Rattle.row_atomic.specs.Clusters.{Overfills, storage_of};
+ghost use Rattle.row_atomic.specs.Clusters.{storage_of};
 ghost use Rattle.server_loop.specs.Runs.{StepsAs, StampsGoOn, HasShortValue, IfRefused};
-ghost use Rattle.server_loop.specs.Sessions.{ChangesCells, IsExact, LeavesRoom, LeavesSessions, TellsCrowd};
+ghost use Rattle.server_loop.specs.Sessions.{ChangesCells, IsExact, LeavesRoom, LeavesSessions, OverfillsCluster, TellsCrowd};
 ghost use Rattle.txn_client.specs.Reads.{cell_of};
 ghost use Rattle.txn_client.specs.Refusals.{IsBeginRefusal, IsGetRefusal, IsSetRefusal, IsStepRefusal};
 ghost use Rattle.txn_client.specs.Room.{ChangesNext, HasNoRoom};
@@ -83,7 +83,7 @@ impl<F: Files + Drop, M: MarkStore + Drop> Server<F, M> {
         ensures refusal { IfRefused IsStepRefusal (replied result) }
         ensures exhausted { result ≡ Reply.Refused Refusal.Exhausted → last_of self.old ≡ MOST_STAMP }
         ensures draw_only { result ≡ Reply.Refused Refusal.Exhausted → (st : State) → Shows F.contents self.old st → IsAboutToDraw st start }
-        ensures full { result ≡ Reply.Refused Refusal.MemtableFull → (st : State) → IsReached st → Shows F.contents self.old st → HasNoRoom (λ cluster row edits. Overfills cluster.places cluster.tablets row edits) (cluster_of self.old) (ChangesNext st start) }
+        ensures full { result ≡ Reply.Refused Refusal.MemtableFull → (st : State) → IsReached st → Shows F.contents self.old st → HasNoRoom OverfillsCluster (cluster_of self.old) (ChangesNext st start) }
         ensures last { StampsGoOn (replied result) (last_of self.old) (last_of self.new) }
         ensures storage { storage_of F.contents (cluster_of self.new) ≡ storage_of F.contents (cluster_of self.old) }
         ensures changes { ChangesCells F.contents (Request.Step start) result self.old self.new }
