@@ -18,7 +18,7 @@ use Rattle.tablet.specs.Views.{Holds, IsBelow, cells_at, range_of, files_of, nam
 use Rattle.tablet.specs.Laws.{StaysInRange}
 use Rattle.tablet.specs.declared.tablet.Tablet.{Tablet}
 use Rattle.row_atomic.specs.Refusals.{IsReadRefusal}
-use Rattle.row_atomic.specs.Clusters.{tablet_numbered, cells_in, InOrder, ArePlaced, IsMatched, HasTabletAt, Overfills}
+use Rattle.row_atomic.specs.Clusters.{tablet_numbered, cells_in, edits_in, InOrder, ArePlaced, IsMatched, HasTabletAt, Overfills}
 use Rattle.row_atomic.proofs.Owners.{OwnsRow, index_of, holder_owns}
 use Rattle.row_atomic.proofs.Shares.{each_at, each_set, at_told, cells_told, newest_of_row, applied}
 use Rattle.row_atomic.proofs.Placing.{is_placed, placed_set, set_same}
@@ -153,7 +153,13 @@ matched_set limit next places ts i t u there same_range same_names matched = rec
 }
 
 -- the tablet of a row would be too full
-pub over_full : (places : List PlaceView) (ts : List Tablet) (row : List ℕ) (edits : List Edit) (i : ℕ) (t : Tablet) → HasTabletAt places ts row i → slice_get ts i ≡ Some t → ¬ IsWithinLimits (with_edits (memory_of t) edits) → Overfills places ts row edits
-over_full places ts row edits i t at there over =
+pub over_full : (places : List PlaceView) (ts : List Tablet) (row : List ℕ) (edits : List Edit) (i : ℕ) (t : Tablet) → HasTabletAt places ts row i → slice_get ts i ≡ Some t → edits_in (range_of t) edits ≡ edits → ¬ IsWithinLimits (with_edits (memory_of t) edits) → Overfills places ts row edits
+over_full places ts row edits i t at there all over =
     let number : at.place.tablet ≡ suc i = let number = at.number in omega arith in
-    record { place = at.place; holder = at.holder; tablet = t; numbered = ap (λ (n : ℕ). tablet_numbered n ts) number ∙ there; over = over }
+    record {
+      place = at.place;
+      holder = at.holder;
+      tablet = t;
+      numbered = ap (λ (n : ℕ). tablet_numbered n ts) number ∙ there;
+      over = λ within. over (subst (λ (es : List Edit). IsWithinLimits (with_edits (memory_of t) es)) all within);
+    }

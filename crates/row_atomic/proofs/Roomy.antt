@@ -1,5 +1,7 @@
 -- What an accepted compaction tells of the limits.
-use Rattle.std.proofs.Common.{◌≡◌, ◌≢◌, ◌≤◌, ◌<◌, ◌^◌, ◌+◌, ℕ, List, [], ◌∷◌, length, Option, Some, None, Result, Ok, Err, IfSome, IfErr, IsErrOf, slice_get, set, ◌++◌, ◌⊎◌, inl, inr, zero, suc, refl, sym, ap, ◌∙◌, subst, arith}
+use Rattle.std.proofs.Common.{◌≡◌, ◌≢◌, ◌≤◌, ◌<◌, ◌^◌, ◌+◌, ℕ, Bool, true, cond, List, [], ◌∷◌, length, Option, Some, None, Result, Ok, Err, IfSome, IfErr, IsErrOf, slice_get, set, ◌++◌, ◌⊎◌, inl, inr, zero, suc, refl, sym, ap, ◌∙◌, subst, arith}
+use Rattle.std.specs.List.{AllByRecursion}
+use Rattle.cell_key.specs.Cells.{IsEditOf}
 use Rattle.cell_key.specs.Entries.{Entry}
 use Rattle.cell_key.specs.declared.edits.Edit.{Edit}
 use Rattle.cell_key.specs.declared.refusals.Refusal.{Refusal}
@@ -9,10 +11,11 @@ use Rattle.memtable.specs.Edits.{IsWithinLimits, with_edit, with_edits}
 use Rattle.metadata_table.specs.Places.{PlaceView}
 use Rattle.metadata_table.specs.Table.{IsHolder}
 use Rattle.sorted_file.specs.Grammar.{FitsIn, image_of}
-use Rattle.tablet.specs.Ranges.{seen}
+use Rattle.tablet.specs.Ranges.{has_row, seen}
 use Rattle.tablet.specs.Views.{Holds, UsesName, memory_of, names_of, range_of}
+use Rattle.tablet.specs.declared.ranges.RowRange.{RowRange}
 use Rattle.tablet.specs.declared.tablet.Tablet.{Tablet}
-use Rattle.row_atomic.specs.Clusters.{HasTabletAt, InOrder, Overfills, tablet_numbered}
+use Rattle.row_atomic.specs.Clusters.{HasTabletAt, InOrder, Overfills, edits_in, tablet_numbered}
 use Rattle.row_atomic.specs.Changes.{ComesOfWriting, IsFull, IsTooLarge, Numbered, OfHolder, written_by}
 use Rattle.row_atomic.specs.declared.cluster_compactions.Compaction.{Compaction}
 use Rattle.row_atomic.proofs.Changing.{at_order, numbered_at}
@@ -108,13 +111,26 @@ still_used old mid new before between after same_name same_files used =
 is_that : (x y : Tablet) → Some x ≡ Some y → x ≡ y
 is_that x y e = cc
 
+-- a row's edits are all those of a range that has the row
+kept_first : (range : RowRange) (row : List ℕ) (e : Edit) (es : List Edit) → has_row range row ≡ true → IsEditOf row e → edits_in range (e ∷ es) ≡ e ∷ edits_in range es
+kept_first range row e es has under = ap (λ (b : Bool). cond b (e ∷ edits_in range es) (edits_in range es)) (ap (λ (r : List ℕ). has_row range r) under.under ∙ has)
+
+kept_before : (range : RowRange) (row : List ℕ) (xs ys : List Edit) → has_row range row ≡ true → AllByRecursion (IsEditOf row) xs → edits_in range (xs ++ ys) ≡ xs ++ edits_in range ys
+kept_before range row [] ys has under = refl
+kept_before range row (x ∷ xs) ys has under = kept_first range row x (xs ++ ys) has under.0 ∙ ap (λ (es : List Edit). x ∷ es) (kept_before range row xs ys has under.1)
+
+pub all_kept : (range : RowRange) (row : List ℕ) (xs : List Edit) → has_row range row ≡ true → AllByRecursion (IsEditOf row) xs → edits_in range xs ≡ xs
+all_kept range row [] has under = refl
+all_kept range row (x ∷ xs) has under = kept_first range row x xs has under.0 ∙ ap (λ (es : List Edit). x ∷ es) (all_kept range row xs has under.1)
+
 -- the tablet that holds the row has room for the edits
-pub not_full : (places : List PlaceView) (ts : List Tablet) (row : List ℕ) (edits : List Edit) (i : ℕ) (t : Tablet) → HasTabletAt places ts row i → slice_get ts i ≡ Some t → IsWithinLimits (with_edits (memory_of t) edits) → ¬ Overfills places ts row edits
-not_full places ts row edits i t at there within full =
+pub not_full : (places : List PlaceView) (ts : List Tablet) (row : List ℕ) (edits : List Edit) (i : ℕ) (t : Tablet) → HasTabletAt places ts row i → slice_get ts i ≡ Some t → edits_in (range_of t) edits ≡ edits → IsWithinLimits (with_edits (memory_of t) edits) → ¬ Overfills places ts row edits
+not_full places ts row edits i t at there all within full =
     let number : at.place.tablet ≡ suc i = let number = at.number in omega arith in
     let same : full.place ≡ at.place = one_holder row places full.place at.place full.holder at.holder in
     let numbered : tablet_numbered full.place.tablet ts ≡ Some t = ap (λ (p : PlaceView). tablet_numbered p.tablet ts) same ∙ ap (λ (n : ℕ). tablet_numbered n ts) number ∙ there in
-    full.over (subst (λ (v : Tablet). IsWithinLimits (with_edits (memory_of v) edits)) (is_that t full.tablet (sym numbered ∙ full.numbered)) within)
+    let fits : IsWithinLimits (with_edits (memory_of t) (edits_in (range_of t) edits)) = subst (λ (es : List Edit). IsWithinLimits (with_edits (memory_of t) es)) (sym all) within in
+    full.over (subst (λ (v : Tablet). IsWithinLimits (with_edits (memory_of v) (edits_in (range_of v) edits))) (is_that t full.tablet (sym numbered ∙ full.numbered)) fits)
 
 -- edits after others
 with_both : (es : List Entry) (xs ys : List Edit) → with_edits (with_edits es xs) ys ≡ with_edits es (xs ++ ys)
@@ -133,15 +149,20 @@ numbered_set : (ts : List Tablet) (n i : ℕ) (t u v : Tablet) → slice_get ts 
 numbered_set ts zero i t u v there e = inl e
 numbered_set ts (suc j) i t u v there e = where_set ts j i t u v there e
 
--- After edits a tablet has the room that it had, less theirs.
-pub room_after : (places : List PlaceView) (ts : List Tablet) (i : ℕ) (t u : Tablet) (edits : List Edit) → slice_get ts i ≡ Some t → memory_of u ≡ with_edits (memory_of t) edits
+-- After a row's edits its tablet has the room that it had, less theirs, and all others what they had.
+pub room_after : (places : List PlaceView) (ts : List Tablet) (at : List ℕ) (i : ℕ) (t u : Tablet) (edits : List Edit) → slice_get ts i ≡ Some t → has_row (range_of t) at ≡ true → AllByRecursion (IsEditOf at) edits → range_of u ≡ range_of t → memory_of u ≡ with_edits (memory_of t) edits
     → (row : List ℕ) (later : List Edit) → Overfills places (set ts i u) row later → Overfills places ts row later ⊎ Overfills places ts row (edits ++ later)
-room_after places ts i t u edits there memory row later full = go (numbered_set ts full.place.tablet i t u full.tablet there full.numbered)
+room_after places ts at i t u edits there has under range memory row later full = go (numbered_set ts full.place.tablet i t u full.tablet there full.numbered)
   where
     go : (tablet_numbered full.place.tablet ts ≡ Some full.tablet) ⊎ ((tablet_numbered full.place.tablet ts ≡ Some t) × (full.tablet ≡ u)) → Overfills places ts row later ⊎ Overfills places ts row (edits ++ later)
     go (inl e) = inl (record { place = full.place; holder = full.holder; tablet = full.tablet; numbered = e; over = full.over })
     go (inr e) =
-        let all : with_edits (memory_of full.tablet) later ≡ with_edits (memory_of t) (edits ++ later) = ap (λ (es : List Entry). with_edits es later) (ap memory_of e.1 ∙ memory) ∙ with_both (memory_of t) edits later in
+        let all : with_edits (memory_of full.tablet) (edits_in (range_of full.tablet) later) ≡ with_edits (memory_of t) (edits_in (range_of t) (edits ++ later)) =
+        ap (λ (v : Tablet). with_edits (memory_of v) (edits_in (range_of v) later)) e.1
+        ∙ ap (λ (range : RowRange). with_edits (memory_of u) (edits_in range later)) range
+        ∙ ap (λ (es : List Entry). with_edits es (edits_in (range_of t) later)) memory
+        ∙ with_both (memory_of t) edits (edits_in (range_of t) later)
+        ∙ ap (λ (es : List Edit). with_edits (memory_of t) es) (sym (kept_before (range_of t) at edits later has under)) in
         inr (record { place = full.place; holder = full.holder; tablet = t; numbered = e.0; over = λ within. full.over (subst (λ (es : List Entry). IsWithinLimits es) (sym all) within) })
 
 pub room_stays : (places : List PlaceView) (ts : List Tablet) (i : ℕ) (t u : Tablet) → slice_get ts i ≡ Some t → u ≡ t → (row : List ℕ) (later : List Edit) → Overfills places (set ts i u) row later → Overfills places ts row later

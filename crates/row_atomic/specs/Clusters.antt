@@ -1,8 +1,8 @@
 -- What a cluster of tablets holds and shows.
-use Rattle.std.specs.Prelude.{◌≡◌, ◌≤◌, ◌^◌, ◌+◌, ℕ, zero, suc, List, [], ◌∷◌, length, map, flat_map, Option, None, Some, ⊤}
+use Rattle.std.specs.Prelude.{◌≡◌, ◌≤◌, ◌^◌, ◌+◌, ℕ, zero, suc, List, [], ◌∷◌, length, map, filter, flat_map, Option, None, Some, ⊤}
 use Rattle.std.specs.List.{AllByRecursion, slice_get}
 use Rattle.std.specs.FinMap.{empty, from_entries, entries, get}
-use Rattle.cell_key.specs.Cells.{Cells}
+use Rattle.cell_key.specs.Cells.{Cells, edited_key}
 use Rattle.cell_key.specs.declared.edits.Edit.{Edit}
 use Rattle.cell_key.specs.declared.keys.CellKey.{CellKey}
 use Rattle.file_store.specs.Store.{Contents}
@@ -10,7 +10,9 @@ use Rattle.memtable.specs.Edits.{IsWithinLimits, with_edits}
 use Rattle.cell_key.specs.Places.{Place}
 use Rattle.metadata_table.specs.Places.{PlaceView, EndsBefore}
 use Rattle.metadata_table.specs.Table.{IsHolder, IsTable}
+use Rattle.tablet.specs.Ranges.{has_row}
 use Rattle.tablet.specs.Views.{Holds, IsBelow, cells_at, files_of, memory_of, names_of, range_of}
+use Rattle.tablet.specs.declared.ranges.RowRange.{RowRange}
 use Rattle.tablet.specs.declared.tablet.Tablet.{Tablet}
 
 -- its files, the most bytes of a sorted file, the next file's name, the places of its tablets in the order of their ends, and
@@ -71,13 +73,17 @@ no_storage = record { told = None; file_limit = 0; next_name = 0; places = [] }
 abbrev pub spots_of : {F : Type 0} → ClusterState F → List Spot
 spots_of state = map spot_of state.places
 
--- With these edits the memtable of the tablet that holds the row would pass a limit.
+-- the edits of a range's rows
+abbrev pub edits_in : RowRange → List Edit → List Edit
+edits_in range edits = filter (λ edit. has_row range (edited_key edit).row) edits
+
+-- With those of these edits that are its own the memtable of the tablet that holds the row would pass a limit.
 pub record Overfills (places : List PlaceView) (tablets : List Tablet) (row : List ℕ) (edits : List Edit) : Type 0 where
   pub place : PlaceView
   pub holder : IsHolder row places place
   pub tablet : Tablet
   pub numbered : tablet_numbered place.tablet tablets ≡ Some tablet
-  pub over : ¬ IsWithinLimits (with_edits (memory_of tablet) edits)
+  pub over : ¬ IsWithinLimits (with_edits (memory_of tablet) (edits_in (range_of tablet) edits))
 
 -- ---- what is true of every cluster
 

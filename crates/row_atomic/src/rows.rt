@@ -27,7 +27,8 @@ pub trait Rows {
     /// How often a device has failed, up to the greatest number of eight bytes.
     ghost faults: { Self → ℕ };
 
-    /// Whether edits of a row would pass a limit of what is kept in memory. A read doesn't change it.
+    /// Whether edits would pass a limit of the memory that keeps a row. Edits of rows that are kept elsewhere count for
+    /// nothing. A read doesn't change it.
     ghost overfills: { Self → List ℕ → List RowEdit → Type 0 };
 
     /// What lies below the rows that are in memory: files, names and the places of tablets. No call changes it.

@@ -148,9 +148,9 @@ impl<F: Files + Drop, M: MarkStore + Drop> Server<F, M> {
     ///
     /// What is read is cut into bodies and a rest, the replies are those of a run of the snapshot machine over these,
     /// each is what `answer` says of its request, from one server to the next, and what is written are the frames of
-    /// these replies and nothing else. After a failed read all replies to whole
-    /// frames were written; after a failed write a beginning of the replies was; without memory nothing was read or
-    /// written. The server is then as after the last request that was taken.
+    /// these replies and nothing else. After a failed read all replies to whole frames were written; after a failed
+    /// write a beginning of the replies was; without memory nothing was read or written. The server is then as after
+    /// the last request that was taken.
     pub fn serve<I: Read, O: Write>(
         &mut self,
         reader: &mut I,
@@ -159,7 +159,6 @@ impl<F: Files + Drop, M: MarkStore + Drop> Server<F, M> {
     ) -> Result<End, ServeFault>
         ensures served { Serves (Shows F.contents) (IsAnswer F.contents F.faults M.mark M.faults) self.old self.new (I.remaining reader.old) (I.remaining reader.new)
             (O.contents writer.old) (O.contents writer.new) most_reads result }
-
         // Where the reader's bytes are known, the end is that of the whole stream.
         ensures whole { IfSome (I.remaining reader.old) (λ stream. IfOk result (λ end. end ≢ End.ReadsUsedUp
             → ServesStream (Shows F.contents) (IsAnswer F.contents F.faults M.mark M.faults) self.old self.new stream (O.contents writer.old) (O.contents writer.new) end)) }

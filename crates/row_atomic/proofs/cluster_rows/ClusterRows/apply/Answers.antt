@@ -2,9 +2,10 @@
 use Rattle.std.proofs.Common.{refl, ap, map}
 use Rattle.std.proofs.lemmas.Result.{on_err_weaker}
 use Rattle.sorted_file.specs.Opened.{name_of}
+use Rattle.tablet.specs.Views.{range_of}
 use Rattle.row_atomic.proofs.Answering.{apply_answer, apply_still, found_there, matched_set, over_full, owner_at}
 use Rattle.row_atomic.proofs.Changing.{on_ok}
-use Rattle.row_atomic.proofs.Roomy.{not_full, room_after, room_stays}
+use Rattle.row_atomic.proofs.Roomy.{all_kept, not_full, room_after, room_stays}
 use Rattle.row_atomic.proofs.cluster_rows.ClusterRows.apply.Goals as goal
 
 pub invariant_of-self : goal.invariant_of-self
@@ -33,23 +34,31 @@ returns-clause-still g c =
 pub returns-clause-full : goal.returns-clause-full
 returns-clause-full g c =
     let at = rw (← c.self.view_is) at c.index_of-index.ensures.holder in
+    let table = rw (← c.self.view_is) at c.index_of-index.ensures.table in
     let ts = c.self.inside.tablets.items in
     let there = found_there ts c.index_of-index.result at.tablet c.index_mut.result.now at.there c.index_mut.ensures.value in
-    rw (← c.self.view_is) (λ full. over_full c.self.inside.table ts c.args.row.now c.args.edits.items c.index_of-index.result c.index_mut.result.now at there (c.apply.ensures.full full))
+    let owns = owner_at c.self.inside.table ts c.args.row.now c.index_of-index.result c.index_mut.result.now table c.self.invariant.placed c.self.invariant.as_many at there in
+    let all = all_kept (range_of c.index_mut.result.now) c.args.row.now c.args.edits.items owns.has c.requires in
+    rw (← c.self.view_is) (λ full. over_full c.self.inside.table ts c.args.row.now c.args.edits.items c.index_of-index.result c.index_mut.result.now at there all (c.apply.ensures.full full))
 
 pub returns-clause-within : goal.returns-clause-within
 returns-clause-within g c =
     let at = rw (← c.self.view_is) at c.index_of-index.ensures.holder in
+    let table = rw (← c.self.view_is) at c.index_of-index.ensures.table in
     let ts = c.self.inside.tablets.items in
     let there = found_there ts c.index_of-index.result at.tablet c.index_mut.result.now at.there c.index_mut.ensures.value in
-    rw (← c.self.view_is) (on_ok _ _ c.apply.result (not_full c.self.inside.table ts c.args.row.now c.args.edits.items c.index_of-index.result c.index_mut.result.now at there) c.apply.ensures.within)
+    let owns = owner_at c.self.inside.table ts c.args.row.now c.index_of-index.result c.index_mut.result.now table c.self.invariant.placed c.self.invariant.as_many at there in
+    let all = all_kept (range_of c.index_mut.result.now) c.args.row.now c.args.edits.items owns.has c.requires in
+    rw (← c.self.view_is) (on_ok _ _ c.apply.result (not_full c.self.inside.table ts c.args.row.now c.args.edits.items c.index_of-index.result c.index_mut.result.now at there all) c.apply.ensures.within)
 
 pub returns-clause-room : goal.returns-clause-room
 returns-clause-room g c =
     let at = rw (← c.self.view_is) at c.index_of-index.ensures.holder in
+    let table = rw (← c.self.view_is) at c.index_of-index.ensures.table in
     let ts = c.self.inside.tablets.items in
     let there = found_there ts c.index_of-index.result at.tablet c.index_mut.result.now at.there c.index_mut.ensures.value in
-    rw (← c.self.view_is) (on_ok _ _ c.apply.result (room_after c.self.inside.table ts c.index_of-index.result c.index_mut.result.now c.apply.new.self c.args.edits.items there) c.apply.ensures.memory)
+    let owns = owner_at c.self.inside.table ts c.args.row.now c.index_of-index.result c.index_mut.result.now table c.self.invariant.placed c.self.invariant.as_many at there in
+    rw (← c.self.view_is) (on_ok _ _ c.apply.result (room_after c.self.inside.table ts c.args.row.now c.index_of-index.result c.index_mut.result.now c.apply.new.self c.args.edits.items there owns.has c.requires c.apply.ensures.range) c.apply.ensures.memory)
 
 pub returns-clause-err_room : goal.returns-clause-err_room
 returns-clause-err_room g c =
