@@ -1,6 +1,14 @@
 -- Counts of device faults.
-use Rattle.std.specs.Prelude.{ℕ, ◌+◌, ◌-◌, ◌≤◌, ◌^◌, min}
+use Rattle.std.specs.Prelude.{◌≡◌, ℕ, ◌+◌, ◌-◌, ◌≤◌, ◌^◌, Result, IsErrOf, min}
+use Rattle.cell_key.specs.declared.refusals.Refusal.{Refusal}
+use Rattle.cell_key.specs.declared.refusals.Refusal.TheVariants as refused
 
 -- A count has risen. The greatest number of eight bytes stays, and is taken as risen.
 abbrev pub HasRisen : ℕ → ℕ → Type 0
 HasRisen before now = min (before + 1) (2 ^ 64 - 1) ≤ now
+
+-- A count never falls. A device's fault is told where it has risen, and nowhere else.
+pub record HasReason {T : Type 0} (before now : ℕ) (result : Result T Refusal) : Type 0 where
+  pub later : before ≤ now
+  pub device : IsErrOf result refused.Device → HasRisen before now
+  pub told : ¬ IsErrOf result refused.Device → now ≡ before

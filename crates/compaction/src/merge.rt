@@ -2,7 +2,8 @@ ghost use Rattle.std.specs.Prelude.{ℕ, ◌≡◌, ◌≤◌, ◌+◌, None, le
 ghost use Rattle.std.specs.List.{AllByRecursion, AllZip};
 ghost use Rattle.file_store.specs.Store.{Contents};
 ghost use Rattle.cell_key.specs.Entries.{merged};
-ghost use Rattle.sorted_file.specs.Sources.{HasReason, IsReadRefusal};
+ghost use Rattle.sorted_file.specs.Sources.{IsReadRefusal};
+ghost use Rattle.cell_key.specs.Faults.{HasReason};
 ghost use Rattle.compaction.specs.Least.{IsLeast};
 ghost use Rattle.compaction.specs.Merging.{AreAtStart, lent_at, StepsTo, MergeHolds, HasStarted, cost, one};
 ghost use Rattle.compaction.specs.Ties.{comes_first, ties};

@@ -1,8 +1,7 @@
 -- Answers to one command more.
 use Rattle.std.proofs.Common.{◌≡◌, ◌≢◌, ◌≤◌, ◌⊎◌, inl, inr, ℕ, Option, Result, Ok, Err, IsOk, OnOk, OnErr, IfErr, IsErrOf, MatchResult, List, [], ◌∷◌, ◌++◌, refl, sym, ap, ◌∙◌, subst, append-nil, length, arith}
-use Rattle.cell_key.specs.Faults.{HasRisen}
+use Rattle.cell_key.specs.Faults.{HasReason, HasRisen}
 use Rattle.file_store.specs.Store.{Contents}
-use Rattle.sorted_file.specs.Sources.{HasReason}
 use Rattle.cell_key.specs.Cells.{Cells}
 use Rattle.cell_key.specs.declared.refusals.Refusal.{Refusal}
 use Rattle.cell_key.specs.declared.refusals.Refusal.TheVariants.{Damaged, Device}

@@ -6,7 +6,8 @@ use Rattle.std.proofs.lemmas.Result.{IfOk-weaker}
 use Rattle.cell_key.specs.declared.refusals.Refusal.{Refusal}
 use Rattle.cell_key.specs.declared.refusals.Refusal.TheVariants.{BadSplit, Device, NoMemory, Damaged, TooManyFiles, UnknownServer, UnknownTablet}
 use Rattle.metadata_table.specs.Places.{PlaceView}
-use Rattle.sorted_file.specs.Sources.{HasReason, IsReadRefusal}
+use Rattle.sorted_file.specs.Sources.{IsReadRefusal}
+use Rattle.cell_key.specs.Faults.{HasReason}
 use Rattle.row_atomic.specs.Changes.{ComesOfWriting, IsMoveRefusal, IsRefusalOf, IsSplitRefusal}
 use Rattle.row_atomic.specs.Clusters.{spot_of}
 use Rattle.row_atomic.specs.declared.cluster_compactions.Compaction.{Compaction}

@@ -4,6 +4,7 @@ pub mod Commands
 pub mod Compactions
 pub mod Laws
 pub mod Refusals
+pub mod Room
 pub mod Slots
 pub mod Sweeps
 pub use Rattle.cell_key.specs.Cells

@@ -3,7 +3,7 @@
 ghost use Rattle.std.specs.Prelude.{◌≡◌, ◌≤◌, ◌<◌, ◌+◌, ◌^◌, ◌↔◌, ◌⊎◌, [], length, vec_capacity, IfErr, IfOk, IfSome, IsErrOf, IsOk, OnErr, OnOk};
 ghost use Rattle.metadata_table.specs.Table.{HasTablet, IsTable, with_files};
 ghost use Rattle.sorted_file.specs.Grammar.{FitsIn};
-ghost use Rattle.sorted_file.specs.Sources.{HasReason};
+ghost use Rattle.cell_key.specs.Faults.{HasReason};
 ghost use Rattle.tablet.specs.Views.{Holds as HoldsAt, IsBelow, IsUnchanged, Keeps, UsesName, names_of, range_of};
 ghost use Rattle.row_atomic.specs.Clusters.{spots_of};
 ghost use Rattle.row_atomic.specs.Changes.{ComesOfWriting, Holds, IsAsBefore, IsAt, IsBadCount, IsCleaned, IsEmptied, IsFlushed, IsFull, IsMade, IsMerged, IsNumberedRefusal, IsRefusalOf, IsTooLarge, IsUndone, IsWhole, KeepsMap, LacksErasures, MeetsBadCount, MeetsFull, Numbered, Remakes, WritesNone, written_by};

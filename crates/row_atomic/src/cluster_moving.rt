@@ -3,7 +3,8 @@
 ghost use Rattle.std.specs.Prelude.{◌≡◌, ◌≤◌, ◌<◌, ◌+◌, ◌^◌, ◌↔◌, ◌⊎◌, [], length, IfErr, IfOk, IfSome, IsErrOf, IsOk, IsTrue, OnErr, OnOk};
 ghost use Rattle.metadata_table.specs.Places.{PlaceView};
 ghost use Rattle.metadata_table.specs.Table.{BarsSplit, Cuts, HasTablet, IsHolder, IsTable, most_servers, moved};
-ghost use Rattle.sorted_file.specs.Sources.{HasReason, IsReadRefusal};
+ghost use Rattle.sorted_file.specs.Sources.{IsReadRefusal};
+ghost use Rattle.cell_key.specs.Faults.{HasReason};
 ghost use Rattle.tablet.specs.Views.{Holds as HoldsAt, IsUnchanged, UsesName, memory_of, names_of, range_of};
 ghost use Rattle.row_atomic.specs.Clusters.{spots_of};
 ghost use Rattle.row_atomic.specs.Changes.{ComesOfWriting, Holds, IsCut, IsEmptied, IsFlushed, IsFull, IsHalved, IsMoveRefusal, IsMoved, IsOn, IsReopened, IsSplitRefusal, IsTooLarge, IsUndone, KeepsMap, MayBeFlushed, MayHolderBeFlushed, Numbered, OfHolder, Remakes};

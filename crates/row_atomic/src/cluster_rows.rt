@@ -6,7 +6,8 @@ ghost use Rattle.cell_key.specs.Places.{IsNextCell, place_named};
 ghost use Rattle.file_store.specs.Store.{Contents};
 ghost use Rattle.metadata_table.specs.Places.{view_of, views};
 ghost use Rattle.metadata_table.specs.Table.{IsTable};
-ghost use Rattle.sorted_file.specs.Sources.{HasReason, IsReadRefusal};
+ghost use Rattle.sorted_file.specs.Sources.{IsReadRefusal};
+ghost use Rattle.cell_key.specs.Faults.{HasReason};
 ghost use Rattle.tablet.specs.Views.{Holds};
 ghost use Rattle.row_atomic.specs.Clusters.{ArePlaced, HasTabletAt, InOrder, Overfills, PrecedesCell, cells_in, storage_of};
 

@@ -2,9 +2,8 @@
 
 ghost use Rattle.std.specs.Prelude.{◌≡◌, ◌≤◌, ◌⊎◌, IfErr, IfOk, IfSome, IsErrOf, OnErr, OnOk, length, option_map};
 ghost use Rattle.std.specs.FinMap.{keys};
-ghost use Rattle.cell_key.specs.Faults.{HasRisen};
+ghost use Rattle.cell_key.specs.Faults.{HasReason, HasRisen};
 ghost use Rattle.file_store.specs.Store.{MayLack, without_file};
-ghost use Rattle.sorted_file.specs.Sources.{HasReason};
 ghost use Rattle.row_atomic.specs.Changes.{KeepsMap};
 ghost use Rattle.row_atomic.specs.Sweeps.{MayLackUnkept, count_swept, is_kept, swept, unkept, without_files};
 

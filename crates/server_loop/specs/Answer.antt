@@ -16,7 +16,8 @@ use Rattle.server_loop.specs.Sessions.{ChangesCells, IsExact, LeavesRoom, Leaves
 use Rattle.server_loop.specs.Server.{IsFaultSeen, KeepsSessions, SeesNoFault, Shows, cluster_of, last_of, marks_of}
 use Rattle.server_loop.specs.Upkeep.{FitsInFiles, IsBarred, IsDone, LacksName, Maintains, MeetsFull, MeetsTooLarge, UsesFiles}
 use Rattle.server_loop.specs.declared.server.Server.{Server}
-use Rattle.txn_client.specs.Room.{ChangesNext, HasNoRoom}
+use Rattle.row_atomic.specs.Room.{HasNoRoom}
+use Rattle.txn_client.specs.Room.{ChangesNext}
 use Rattle.txn_client.specs.Shows.{IsAboutToDraw}
 
 -- What the clauses of `answer` say, in one: over the files' bytes, the counts of faults and the mark, as far as they are told.

@@ -16,7 +16,8 @@ use Rattle.server_loop.specs.Refusals.{OnStep}
 use Rattle.server_loop.specs.Runs.{IfRefused}
 use Rattle.server_loop.specs.Server.{Shows, cells_of, cluster_of}
 use Rattle.server_loop.specs.declared.server.Server.{Server}
-use Rattle.txn_client.specs.Room.{ChangesNext, Makes, TakesNoRoom, TakesRoom}
+use Rattle.row_atomic.specs.Room.{TakesNoRoom}
+use Rattle.txn_client.specs.Room.{ChangesNext, Makes, TakesRoom}
 use Rattle.txn_client.specs.Shows.{IsAboutToDraw, IsCrowded, IsInactive, IsUnwritten, SameSessions, TouchesFor}
 
 -- A step that is done makes the edits of its session's next step, or none where it makes none: cells of one row at most, at the

@@ -12,7 +12,8 @@ ghost use Rattle.server_loop.specs.Serve.{Serves, ServesStream};
 ghost use Rattle.server_loop.specs.Sessions.{ChangesCells, IsExact, LeavesRoom, LeavesSessions, OverfillsCluster, TellsCrowd};
 ghost use Rattle.server_loop.specs.Upkeep.{FitsInFiles, IsBarred, IsDone, LacksName, Maintains, MeetsFull, MeetsTooLarge, UsesFiles};
 ghost use Rattle.si_model.specs.Machine.{IsReached, State, new_machine};
-ghost use Rattle.txn_client.specs.Room.{ChangesNext, HasNoRoom};
+ghost use Rattle.row_atomic.specs.Room.{HasNoRoom};
+ghost use Rattle.txn_client.specs.Room.{ChangesNext};
 ghost use Rattle.txn_client.specs.Shows.{IsAboutToDraw};
 
 use crate::ends::{End, ServeFault};

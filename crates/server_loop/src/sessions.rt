@@ -9,7 +9,8 @@ ghost use Rattle.server_loop.specs.Runs.{StepsAs, StampsGoOn, HasShortValue, IfR
 ghost use Rattle.server_loop.specs.Sessions.{ChangesCells, IsExact, LeavesRoom, LeavesSessions, OverfillsCluster, TellsCrowd};
 ghost use Rattle.txn_client.specs.Reads.{cell_of};
 ghost use Rattle.txn_client.specs.Refusals.{IsBeginRefusal, IsGetRefusal, IsSetRefusal, IsStepRefusal};
-ghost use Rattle.txn_client.specs.Room.{ChangesNext, HasNoRoom};
+ghost use Rattle.row_atomic.specs.Room.{HasNoRoom};
+ghost use Rattle.txn_client.specs.Room.{ChangesNext};
 ghost use Rattle.txn_client.specs.Shows.{IsAboutToDraw};
 
 use crate::server::Server;

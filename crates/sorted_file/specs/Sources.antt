@@ -1,7 +1,6 @@
 -- What a source answers.
-use Rattle.std.specs.Prelude.{◌≡◌, ℕ, ◌≤◌, List, ◌++◌, Option, Result, IsErrOf}
+use Rattle.std.specs.Prelude.{List, ◌++◌, Option}
 use Rattle.std.specs.Option.{option_to_list}
-use Rattle.file_store.specs.Store.{HasRisen}
 use Rattle.file_store.specs.declared.files.FileFault.{FileFault}
 use Rattle.file_store.specs.declared.files.FileFault.TheVariants.{Device, Memory}
 use Rattle.cell_key.specs.declared.refusals.Refusal.{Refusal}
@@ -15,12 +14,6 @@ pending lent remaining = option_to_list lent ++ remaining
 -- the entries that remain of an entry list are one
 abbrev pub RestIsList : Type 0
 RestIsList = (lent : Option Entry) (remaining : List Entry) → IsEntryList (pending lent remaining) → IsEntryList remaining
-
--- A count never falls. A device's fault is told where it has risen, and nowhere else.
-pub record HasReason {T : Type 0} (before now : ℕ) (result : Result T Refusal) : Type 0 where
-  pub later : before ≤ now
-  pub device : IsErrOf result refused.Device → HasRisen before now
-  pub told : ¬ IsErrOf result refused.Device → now ≡ before
 
 -- what reading files may be refused: a device's fault, want of memory, damage
 abbrev pub IsReadRefusal : Refusal → Type 0

@@ -3,7 +3,8 @@ ghost use Rattle.std.specs.FinMap as map;
 ghost use Rattle.cell_key.specs.Keys.{text};
 ghost use Rattle.cell_key.specs.Entries.{Entry, lent_entry, entry_of_key, entries_from};
 ghost use Rattle.file_store.specs.Store.{Contents};
-ghost use Rattle.sorted_file.specs.Sources.{HasReason, IsReadRefusal};
+ghost use Rattle.sorted_file.specs.Sources.{IsReadRefusal};
+ghost use Rattle.cell_key.specs.Faults.{HasReason};
 
 use crate::cursors::FileCursor;
 use crate::entries::{FileEntry, find, first_from};

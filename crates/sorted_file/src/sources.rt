@@ -1,7 +1,8 @@
 ghost use Rattle.std.specs.Prelude.{◌≡◌, ◌≤◌, ◌+◌, ℕ, List, Option, option_map, is_some, IfOk, OnOk, IfSome, IsErrOf, IfErr, if◌then◌else◌};
 ghost use Rattle.file_store.specs.Store.{Contents};
 ghost use Rattle.cell_key.specs.Entries.{Entry, IsEntryList, Takes, lent_entry};
-ghost use Rattle.sorted_file.specs.Sources.{HasReason, IsReadRefusal, pending, fault_refusal};
+ghost use Rattle.sorted_file.specs.Sources.{IsReadRefusal, pending, fault_refusal};
+ghost use Rattle.cell_key.specs.Faults.{HasReason};
 
 use cell_key::{EntryRef, Refusal};
 use file_store::{FileFault, Files};

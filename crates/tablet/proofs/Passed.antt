@@ -10,7 +10,8 @@ use Rattle.cell_key.specs.declared.refusals.Refusal.{Refusal}
 use Rattle.cell_key.specs.declared.refusals.Refusal.TheVariants.{BadCount, Device, Exhausted, NoMemory, Damaged, TooManyFiles}
 use Rattle.file_store.specs.Store.{Contents}
 use Rattle.sorted_file.specs.Opened.{name_of}
-use Rattle.sorted_file.specs.Sources.{HasReason, IsReadRefusal, IsWriteRefusal}
+use Rattle.sorted_file.specs.Sources.{IsReadRefusal, IsWriteRefusal}
+use Rattle.cell_key.specs.Faults.{HasReason}
 use Rattle.sorted_file.specs.declared.opened.SortedFile.{SortedFile}
 use Rattle.tablet.specs.Compactions.{IsCompactionRefusal, IsMergeRefusal, IsMinorRefusal}
 

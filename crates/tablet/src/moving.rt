@@ -5,7 +5,8 @@ ghost use Rattle.std.specs.Prelude.{◌≡◌, ◌≢◌, ◌≤◌, ◌<◌, �
 ghost use Rattle.std.specs.List.{AllByRecursion};
 ghost use Rattle.sorted_file.specs.Grammar.{FitsIn};
 ghost use Rattle.sorted_file.specs.Opened.{HasFile};
-ghost use Rattle.sorted_file.specs.Sources.{HasReason, IsReadRefusal};
+ghost use Rattle.sorted_file.specs.Sources.{IsReadRefusal};
+ghost use Rattle.cell_key.specs.Faults.{HasReason};
 ghost use Rattle.tablet.specs.Ranges.{has_row, seen};
 ghost use Rattle.tablet.specs.Views.{range_of, memory_of, names_of, Holds, IsBelow, IsUnchanged, MayBeFlushed, UsesName, Keeps, MakesLists, AreParts, flushed, with_name};
 ghost use Rattle.tablet.specs.Compactions.{IsMinorRefusal};

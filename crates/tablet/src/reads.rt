@@ -8,7 +8,8 @@ ghost use Rattle.cell_key.specs.Keys.{text, IsStored};
 ghost use Rattle.cell_key.specs.Cells.{version};
 ghost use Rattle.cell_key.specs.Entries.{IsEntry, lent_entry, first_naming, value_of};
 ghost use Rattle.sorted_file.specs.Opened.{IsOpen, listed};
-ghost use Rattle.sorted_file.specs.Sources.{HasReason, IsReadRefusal};
+ghost use Rattle.sorted_file.specs.Sources.{IsReadRefusal};
+ghost use Rattle.cell_key.specs.Faults.{HasReason};
 ghost use Rattle.tablet.specs.Sources.{part};
 ghost use Rattle.tablet.specs.Reads.{first_value, lent_value, texted, IsFound, IsShort};
 

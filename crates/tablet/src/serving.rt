@@ -5,7 +5,8 @@ ghost use Rattle.std.specs.Option.{option_copied};
 ghost use Rattle.cell_key.specs.Cells.{IsNewest, version};
 ghost use Rattle.cell_key.specs.Places.{IsNextCell, place_named};
 ghost use Rattle.cell_key.specs.Versions.{IsVersionIn, stamped};
-ghost use Rattle.sorted_file.specs.Sources.{HasReason, IsReadRefusal};
+ghost use Rattle.sorted_file.specs.Sources.{IsReadRefusal};
+ghost use Rattle.cell_key.specs.Faults.{HasReason};
 ghost use Rattle.tablet.specs.Ranges.{has_row};
 ghost use Rattle.tablet.specs.Reads.{past_place, later, IsPlaceOrNone};
 

@@ -16,7 +16,8 @@ use Rattle.si_model.specs.declared.replies.Progress.{Progress}
 use Rattle.si_model.specs.declared.replies.Progress.TheVariants as progress
 use Rattle.si_model.proofs.Kept.{held_phase}
 use Rattle.txn_client.specs.Reads.{IsFree}
-use Rattle.txn_client.specs.Room.{IsHolding, IsRecording, HoldsNext, RecordsNext, ChangesIn, ChangesNext, HasNoRoom, IsStamped, Makes, TakesRoom, TakesRoomOf}
+use Rattle.row_atomic.specs.Room.{HasNoRoom, TakesRoomOf}
+use Rattle.txn_client.specs.Room.{IsHolding, IsRecording, HoldsNext, RecordsNext, ChangesIn, ChangesNext, IsStamped, Makes, TakesRoom}
 use Rattle.txn_client.specs.Shows.{phase_of, writes_of, HasHeldSo, ShowsClients, ShowsSession, IsAboutToDraw}
 use Rattle.txn_client.specs.declared.clients.Clients.{Clients}
 use Rattle.txn_client.specs.declared.session.Outcome.{Outcome}

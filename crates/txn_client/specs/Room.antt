@@ -1,10 +1,11 @@
--- What a step changes in the rows, what the cells are then, and where the rows have no room for it.
-use Rattle.std.specs.Prelude.{◌≡◌, ◌⊎◌, ℕ, List, [], ◌∷◌, ◌++◌, ⊤}
-use Rattle.cell_key.specs.Cells.{Cells, after_edits}
+-- What a step of a session changes in the rows, and what the cells and the room in memory are then.
+use Rattle.std.specs.Prelude.{◌≡◌, ◌⊎◌, ℕ, List, [], ◌∷◌, ⊤}
+use Rattle.cell_key.specs.Cells.{Cells}
 use Rattle.cell_key.specs.declared.edits.Edit.{Edit}
 use Rattle.cell_key.specs.declared.edits.Edit.TheVariants.{Put, Erase}
 use Rattle.cell_key.specs.declared.keys.CellKey.{CellKey}
 use Rattle.cell_key.specs.declared.keys.Qualifier.TheVariants.{Data, Lock, Write}
+use Rattle.row_atomic.specs.Room.{AreAfter, TakesNoRoom, TakesRoomOf}
 use Rattle.si_model.specs.Machine as machine
 use Rattle.si_model.specs.Machine.{State, Value, Writes, InPhase, Wrote, Puts, Marked, Clashes}
 use Rattle.si_model.specs.ShowsCells.{key_of, lock_text, start_text}
@@ -49,10 +50,6 @@ ChangesIn st (machine.Finishing c k) ws t row edits = RecordsNext st ws k t c ro
 abbrev pub ChangesNext : State → ℕ → List ℕ → List Edit → Type 0
 ChangesNext st t row edits = (phase : machine.Phase) × (ws : Writes) × InPhase st t phase × Wrote st t ws × ChangesIn st phase ws t row edits
 
--- the cells are those before after such edits of a row
-abbrev pub AreAfter : (List ℕ → List Edit → Type 0) → Cells → Cells → Type 0
-AreAfter Changes old new = (row : List ℕ) × (edits : List Edit) × Changes row edits × (new ≡ after_edits old edits)
-
 -- A step that holds a cell or commits made such edits of a row, and one that finishes a cell made them or none. No other changes a
 -- cell.
 abbrev pub Makes : (List ℕ → List Edit → Type 0) → Progress → Cells → Cells → Type 0
@@ -65,19 +62,6 @@ Makes Changes p old new = new ≡ old
 abbrev pub IsStamped : Progress → Type 0
 IsStamped (progress.Stamped c) = ⊤
 IsStamped p = ⊥
-
--- such edits of a row would pass a limit of what is kept in memory
-abbrev pub HasNoRoom : {R : Type 0} → (R → List ℕ → List Edit → Type 0) → R → (List ℕ → List Edit → Type 0) → Type 0
-HasNoRoom overfills rows Changes = (row : List ℕ) × (edits : List Edit) × Changes row edits × overfills rows row edits
-
--- what is kept in memory has the room that it had: edits that would pass a limit now would have done so before
-abbrev pub TakesNoRoom : {R : Type 0} → (R → List ℕ → List Edit → Type 0) → R → R → Type 0
-TakesNoRoom overfills old new = (row : List ℕ) (later : List Edit) → overfills new row later → overfills old row later
-
--- or they would have done so after such edits of a row
-abbrev pub TakesRoomOf : {R : Type 0} → (R → List ℕ → List Edit → Type 0) → (List ℕ → List Edit → Type 0) → R → R → Type 0
-TakesRoomOf overfills Changes old new = (row : List ℕ) (later : List Edit) → overfills new row later
-    → overfills old row later ⊎ HasNoRoom (λ rows changed edits. overfills rows row (edits ++ later)) old Changes
 
 -- A step that makes such edits takes their room, and no other takes any.
 abbrev pub TakesRoom : {R : Type 0} → (R → List ℕ → List Edit → Type 0) → (List ℕ → List Edit → Type 0) → Progress → R → R → Type 0

@@ -14,7 +14,8 @@ ghost use Rattle.si_model.specs.ShowsCells.{IsThere, Touches, held_cells, key_of
 ghost use Rattle.si_model.specs.declared.replies.Cell.{Cell as CellOf};
 ghost use Rattle.txn_client.specs.Reads.{IsFound, IsShort, IsDamaged, IsTaken, IsFree, IsGone};
 ghost use Rattle.txn_client.specs.Refusals.{IsRowRefusal};
-ghost use Rattle.txn_client.specs.Room.{AreAfter, HasNoRoom, IsHolding, IsRecording, TakesNoRoom, TakesRoomOf};
+ghost use Rattle.row_atomic.specs.Room.{AreAfter, HasNoRoom, TakesNoRoom, TakesRoomOf};
+ghost use Rattle.txn_client.specs.Room.{IsHolding, IsRecording};
 
 use crate::limits::Moment;
 use crate::writes::Write;

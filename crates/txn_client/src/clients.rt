@@ -15,7 +15,8 @@ ghost use Rattle.si_model.specs.Replies.{found_reply, progress_reply, result_rep
 ghost use Rattle.si_model.specs.ShowsCells.{ShowsCells};
 ghost use Rattle.txn_client.specs.Reads.{IsShort, cell_of};
 ghost use Rattle.txn_client.specs.Refusals.{IsBeginRefusal, IsGetRefusal, IsSetRefusal, IsStepRefusal};
-ghost use Rattle.txn_client.specs.Room.{ChangesNext, HasNoRoom, Makes, TakesNoRoom, TakesRoom};
+ghost use Rattle.row_atomic.specs.Room.{HasNoRoom, TakesNoRoom};
+ghost use Rattle.txn_client.specs.Room.{ChangesNext, Makes, TakesRoom};
 ghost use Rattle.txn_client.specs.Shows.{DrawsNext, IsAboutToDraw, IsCellRefusal, IsCrowded, IsInactive, IsNameRefusal, IsOpen, IsUnwritten, SameSessions, Shows, ShowsClients, Steps, TouchesFor, open_session, top_after};
 
 use crate::cells;

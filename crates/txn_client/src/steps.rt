@@ -7,7 +7,8 @@ ghost use Rattle.cell_key.specs.Faults.{HasRisen};
 ghost use Rattle.si_model.specs.Machine.{IsReached, State};
 ghost use Rattle.si_model.specs.ShowsCells.{ShowsCells, TouchesOneRow};
 ghost use Rattle.txn_client.specs.Shows.{Advances, DrawsNext, HasHeldSo, HasNoNext, ShowsSession, TouchesBy, phase_of, top_after, writes_of};
-ghost use Rattle.txn_client.specs.Room.{ChangesIn, HasNoRoom, HoldsNext, IsStamped, Makes, RecordsNext, TakesNoRoom, TakesRoom};
+ghost use Rattle.row_atomic.specs.Room.{HasNoRoom, TakesNoRoom};
+ghost use Rattle.txn_client.specs.Room.{ChangesIn, HoldsNext, IsStamped, Makes, RecordsNext, TakesRoom};
 ghost use Rattle.txn_client.specs.Refusals.{IsAdvanceRefusal};
 ghost use Rattle.txn_client.specs.declared.session.Phase.TheVariants as phase;
 

@@ -2,7 +2,7 @@ use Rattle.std.proofs.Common.{◌≡◌, ◌⊎◌, false, inr, length, sym, ap,
 use Rattle.std.specs.Vec.Iter.{into_iter_items}
 use Rattle.cell_key.specs.declared.refusals.Refusal.{Refusal}
 use Rattle.cell_key.specs.declared.refusals.Refusal.TheVariants.{Device, NoMemory}
-use Rattle.sorted_file.specs.Sources.{HasReason}
+use Rattle.cell_key.specs.Faults.{HasReason}
 use Rattle.row_atomic.specs.Sweeps.{is_kept, unkept, without_files}
 use Rattle.row_atomic.proofs.Passing.{no_fault, none_answered, not_refused, reason_passed, refused_so}
 use Rattle.row_atomic.proofs.Sweeping.{lacks_more, unkept_first}

@@ -9,7 +9,8 @@ use Rattle.std.specs.declared.result.Result.TheVariants.{Ok, Err}
 use Rattle.cell_key.specs.declared.refusals.Refusal.{Refusal}
 use Rattle.cell_key.specs.declared.refusals.Refusal.TheVariants.{EmptyCommit, MemtableFull, Exhausted, Device, NoMemory, Damaged}
 use Rattle.oracle.specs.Ranges.{IsDrawRefusal}
-use Rattle.txn_client.specs.Room.{ChangesIn, HasNoRoom}
+use Rattle.row_atomic.specs.Room.{HasNoRoom}
+use Rattle.txn_client.specs.Room.{ChangesIn}
 use Rattle.txn_client.specs.declared.session.Phase.{Phase}
 use Rattle.txn_client.specs.declared.session.Phase.TheVariants.{Open, Holding, Stamped, Finishing}
 use Rattle.txn_client.proofs.Room.{made_in, room_in, stamped_makes, stamped_takes}
