@@ -125,3 +125,16 @@ has_cut_always stream bytes = cut_of (length stream) stream (omega arith) bytes
 
 pub frame_begins : (a b more : List ℕ) → IsBody a → IsBody b → frame b ≡ frame a ++ more → a ≡ b
 frame_begins a b more p q e = sym (same_frame b a [] more q p (append-nil (frame b) ∙ e)).0
+
+-- ---- the cut goes on after frames that were handed out
+
+pub cut_from : (handed : List (List ℕ)) (stream pending : List ℕ) (bodies : List (List ℕ)) (rest : List ℕ) → stream ≡ frames handed ++ pending → AllByRecursion IsBody handed → IsCut stream bodies rest
+    → (more : List (List ℕ)) × (bodies ≡ handed ++ more) × IsCut pending more rest
+cut_from [] stream pending bodies rest same fits cut = (bodies, refl, record { whole = sym same ∙ cut.whole; each = cut.each; open_rest = cut.open_rest })
+cut_from (h ∷ hs) stream pending [] rest same fits cut =
+    absurd (not_open h (frames hs ++ pending) fits.0 (subst IsOpen (sym cut.whole ∙ same ∙ append_assoc (frame h) (frames hs) pending) cut.open_rest))
+cut_from (h ∷ hs) stream pending (b ∷ bs) rest same fits cut =
+    let parts = same_frame h b (frames hs ++ pending) (frames bs ++ rest) fits.0 cut.each.0
+    (sym (append_assoc (frame h) (frames hs) pending) ∙ sym same ∙ cut.whole ∙ append_assoc (frame b) (frames bs) rest) in
+    let on = cut_from hs (frames hs ++ pending) pending bs rest refl fits.1 (record { whole = parts.1; each = cut.each.1; open_rest = cut.open_rest }) in
+    (on.0, ap (λ t. b ∷ t) on.1 ∙ ap (λ x. x ∷ (hs ++ on.0)) (sym parts.0), on.2)

@@ -3,3 +3,4 @@ mod Cutting
 mod OneRequest
 mod OneReply
 mod Longest
+mod Handing

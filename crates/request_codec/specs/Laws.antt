@@ -1,9 +1,10 @@
 -- Laws of bodies and streams.
 use Rattle.std.specs.Prelude.{◌≡◌, ℕ, List, ◌++◌, ◌<◌, ◌≤◌, length, slice_index, Some}
+use Rattle.std.specs.List.{AllByRecursion}
 use Rattle.si_model.specs.Messages.{Request, Reply, RawFound}
 use Rattle.request_codec.specs.Requests.{IsRequest}
 use Rattle.request_codec.specs.Replies.{reply_body, IsReply, IsWithinLimits}
-use Rattle.request_codec.specs.Stream.{frame, longest_reply, IsBody, IsCut}
+use Rattle.request_codec.specs.Stream.{frame, frames, longest_reply, IsBody, IsCut}
 
 -- a stream is cut into bodies and a rest in one way
 abbrev pub OneCut : Type 0
@@ -14,6 +15,13 @@ OneCut = (stream : List ℕ) (bodies others : List (List ℕ)) (rest other : Lis
 abbrev pub HasCut : Type 0
 HasCut = (stream : List ℕ) → ((i : ℕ) → slice_index stream i < 256)
     → (bodies : List (List ℕ)) × (rest : List ℕ) × IsCut stream bodies rest
+
+-- Whatever frames were handed out of a stream, they are a beginning of its cut, and the cut of what is left has its other bodies and
+-- its rest.
+abbrev pub CutGoesOn : Type 0
+CutGoesOn = (stream pending rest : List ℕ) (handed bodies : List (List ℕ))
+    → stream ≡ frames handed ++ pending → AllByRecursion IsBody handed → IsCut stream bodies rest
+    → (more : List (List ℕ)) × (bodies ≡ handed ++ more) × IsCut pending more rest
 
 -- a frame that begins another one is that frame
 abbrev pub NoFrameBeginsAnother : Type 0

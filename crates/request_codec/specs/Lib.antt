@@ -1,4 +1,5 @@
 pub mod Fields
+pub mod Framing
 pub mod Requests
 pub mod Replies
 pub mod Stream

@@ -1,6 +1,6 @@
 //! Laws of bodies and streams. Each is the contract of a function that does nothing.
 
-ghost use Rattle.request_codec.specs.Laws.{OneCut, HasCut, NoFrameBeginsAnother, OneRequestABody, OneReplyABody, RepliesFit, RawIsLongest};
+ghost use Rattle.request_codec.specs.Laws.{CutGoesOn, OneCut, HasCut, NoFrameBeginsAnother, OneRequestABody, OneReplyABody, RepliesFit, RawIsLongest};
 ghost use Rattle.request_codec.specs.Stream.{longest, longest_reply};
 ghost use Rattle.std.specs.Prelude.{◌≡◌};
 
@@ -14,6 +14,11 @@ pub fn one_cut()
 /// Each stream of bytes has a cut.
 pub fn has_cut()
     ensures { HasCut }
+{}
+
+/// Frames that were handed out of a stream are a beginning of its cut, which goes on in what is left.
+pub fn cut_goes_on()
+    ensures { CutGoesOn }
 {}
 
 /// A frame that begins another one is that frame.

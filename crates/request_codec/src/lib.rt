@@ -1,6 +1,7 @@
 //! The bodies of requests and replies, both ways, and the cut of a stream into them.
 #![tactic(auto)]
 
+mod framer;
 mod frames;
 mod laws;
 mod pushing;
@@ -10,10 +11,11 @@ mod requests;
 mod taking;
 mod whole;
 
+pub use framer::{Framer, Next};
 pub use frames::{LONGEST_BODY, LONGEST_REPLY};
 pub use laws::{
-    has_cut, limits, no_frame_begins_another, one_cut, one_reply_a_body, one_request_a_body,
-    raw_is_longest, replies_fit,
+    cut_goes_on, has_cut, limits, no_frame_begins_another, one_cut, one_reply_a_body,
+    one_request_a_body, raw_is_longest, replies_fit,
 };
 pub use replies::{Reply, decode_reply, encode_reply, reply_length};
 pub use requests::{Request, decode_request, encode_request};

@@ -1,0 +1,177 @@
+//! Frames out of a stream that comes in pieces.
+
+ghost use Rattle.std.specs.Prelude.{◌≡◌, ◌≤◌, ◌<◌, ◌+◌, ◌-◌, ◌++◌, ◌⊎◌, [], length, take, drop, min, slice_get, IfErr, IfNone, IfOk, IfSome, Some, ⊤};
+ghost use Rattle.std.specs.Borrow.{sem, follows_so};
+ghost use Rattle.std.specs.Int.{from_be_bytes, to_be_bytes, w32};
+ghost use Rattle.request_codec.specs.Framing.{IsAtFirst, IsReady, HandsOut, longest_frame};
+ghost use Rattle.request_codec.specs.Stream.{longest};
+ghost use mathlib.Core.Option.{none};
+
+use crate::frames::LONGEST_BODY;
+use cell_key::Refusal;
+use circular_buffer::HeapCircularBuffer;
+use std::alloc::{AllocError, Global};
+use std::marker::Model;
+
+/// The most bytes of a frame, its length's four bytes too.
+const LONGEST_FRAME: usize = 1_048_580;
+
+/// What a framer has to give next.
+#[derive(Clone, Copy)]
+pub enum Next<'a> {
+    /// No whole frame: more bytes are wanted.
+    More,
+    /// The body of the next frame.
+    Frame(&'a [u8]),
+    /// The next frame's length is above the limit, and so it stays.
+    TooLarge,
+}
+
+/// What stands first among the bytes of a framer: a part of a frame, a whole one with a body of so many bytes, or
+/// a length above the limit.
+#[derive(Clone, Copy)]
+pub(crate) enum First {
+    Part,
+    Whole(usize),
+    TooLarge,
+}
+
+/// So many zeros. The size is a parameter, so that no proof computes a list of a million.
+fn zeros(alloc: Global, size: usize) -> Result<Vec<u8>, AllocError>
+    ensures { IfOk result (λ v. length v.items ≡ size) }
+{
+    vec![in alloc; 0u8; size]
+}
+
+/// The byte at a place.
+fn byte_at(ring: &HeapCircularBuffer<u8>, at: usize) -> u8
+    requires { at < length ring.now.items }
+    ensures { slice_get ring.now.items at ≡ Some result }
+{
+    match ring.get(at) {
+        Some(byte) => *byte,
+        None => 0,
+    }
+}
+
+/// The first four bytes, if there are as many.
+fn header_of(ring: &HeapCircularBuffer<u8>) -> Option<[u8; 4]>
+    ensures some { IfSome result (λ header. take 4 ring.now.items ≡ header) }
+    ensures four { IfSome result (λ header. 4 ≤ length ring.now.items) }
+    ensures none { IfNone result (length ring.now.items < 4) }
+{
+    if ring.len() < 4 {
+        return None;
+    }
+    Some([
+        byte_at(ring, 0),
+        byte_at(ring, 1),
+        byte_at(ring, 2),
+        byte_at(ring, 3),
+    ])
+}
+
+/// The length that a header gives.
+fn length_in(header: [u8; 4]) -> u32
+    ensures value { result ≡ from_be_bytes w32 header }
+    ensures spells { to_be_bytes w32 result ≡ header }
+    ensures four { length header ≡ 4 }
+{
+    u32::from_be_bytes(header)
+}
+
+/// Moves the body of the first frame, which is whole, to the front of a buffer.
+fn take_body(ring: &mut HeapCircularBuffer<u8>, body: &mut [u8], len: usize)
+    requires whole { 4 + len ≤ length ring.old.items }
+    requires room { len ≤ length body.old }
+    ensures items { ring.new.items ≡ drop (4 + len) ring.old.items }
+    ensures body { take len body.new ≡ take len (drop 4 ring.old.items) }
+    ensures same { length body.new ≡ length body.old }
+    ensures capacity { ring.new.capacity ≡ ring.old.capacity }
+{
+    let mut header = [0u8; 4];
+    let _ = ring.read_into(&mut header);
+    let _ = ring.read_into(&mut body[..len]);
+}
+
+/// Looks at what stands first in the ring. A whole frame leaves it, its body to the front of the buffer.
+fn advance(ring: &mut HeapCircularBuffer<u8>, body: &mut [u8]) -> First
+    requires { length body.old ≡ longest }
+    ensures first { IsAtFirst result body.new ring.old.items ring.new.items }
+    ensures same { length body.new ≡ length body.old }
+    ensures capacity { ring.new.capacity ≡ ring.old.capacity }
+{
+    let Some(header) = header_of(ring) else {
+        return First::Part;
+    };
+    let len = length_in(header) as usize;
+    if len > LONGEST_BODY {
+        return First::TooLarge;
+    }
+    if ring.len() < 4 + len {
+        return First::Part;
+    }
+    take_body(ring, body, len);
+    First::Whole(len)
+}
+
+/// The bytes of a stream that were taken and not yet handed out as frames. It has room for the longest frame.
+#[derive(Drop)]
+pub struct Framer {
+    ring: HeapCircularBuffer<u8>,
+    body: Vec<u8>,
+}
+
+impl Model for Framer {
+    ghost use Rattle.std.specs.Prelude.{◌≡◌, ◌≤◌, List, ℕ, length};
+    ghost use Rattle.request_codec.specs.Framing.{longest_frame};
+    ghost use Rattle.request_codec.specs.Stream.{longest};
+
+    ghost Value = { List ℕ };
+
+    ghost view = { λ framer. framer.ring.items };
+
+    ghost invariant = { λ framer. (framer.ring.capacity ≡ longest_frame)
+        × (length framer.ring.items ≤ longest_frame) × (length framer.body.items ≡ longest) };
+}
+
+impl Framer {
+    ghost use Rattle.request_codec.specs.contracts.framer.Framer.{the_row};
+
+    /// A framer that has taken nothing. It takes all its memory here.
+    ///
+    /// # Errors
+    ///
+    /// `NoMemory` where a growth was refused.
+    pub fn new(alloc: Global) -> Result<Framer, Refusal>
+        ensures empty { IfOk result (λ framer. framer ≡ []) }
+        ensures refusal { IfErr result (λ refusal. refusal ≡ Refusal.NoMemory) }
+    {
+        let ring = HeapCircularBuffer::with_capacity(alloc, LONGEST_FRAME)?;
+        let body = zeros(alloc, LONGEST_BODY)?;
+        Ok(Framer { ring, body })
+    }
+
+    /// Takes as many bytes from the front of a piece as there is room for, and answers how many. It takes none only of
+    /// an empty piece, or where `next` has something to give.
+    pub fn feed(&mut self, piece: &[u8]) -> usize
+        ensures count { result ≡ min (length piece.now) (longest_frame - length self.old) }
+        ensures bytes { self.new ≡ self.old ++ take result piece.now }
+        ensures taken { result ≡ 0 → (piece.now ≡ []) ⊎ IsReady self.old }
+    {
+        self.ring.fill_from_slice(piece)
+    }
+
+    /// The body of the next frame, if a whole one was taken, or that the next frame is too large, or that more bytes are
+    /// wanted.
+    pub fn next(&mut self) -> Next<'_>
+        ensures* hands_out { sem 𝓛 (follows_so the_row the_row self.entry.ghost_name none (λ _ _. ⊤)
+            (λ left. HandsOut result self.old left)) }
+    {
+        match advance(&mut self.ring, &mut self.body) {
+            First::Part => Next::More,
+            First::Whole(len) => Next::Frame(&self.body[..len]),
+            First::TooLarge => Next::TooLarge,
+        }
+    }
+}
