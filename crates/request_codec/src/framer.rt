@@ -7,11 +7,13 @@ ghost use Rattle.request_codec.specs.Framing.{IsAtFirst, IsReady, HandsOut, long
 ghost use Rattle.request_codec.specs.Stream.{longest};
 ghost use mathlib.Core.Option.{none};
 
-use crate::frames::LONGEST_BODY;
 use cell_key::Refusal;
 use circular_buffer::HeapCircularBuffer;
 use std::alloc::{AllocError, Global};
 use std::marker::Model;
+
+/// The most bytes of a frame's body.
+pub const LONGEST_BODY: usize = 1_048_576;
 
 /// The most bytes of a frame, its length's four bytes too.
 const LONGEST_FRAME: usize = 1_048_580;

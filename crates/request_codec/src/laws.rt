@@ -4,7 +4,8 @@ ghost use Rattle.request_codec.specs.Laws.{CutGoesOn, OneCut, HasCut, NoFrameBeg
 ghost use Rattle.request_codec.specs.Stream.{longest, longest_reply};
 ghost use Rattle.std.specs.Prelude.{◌≡◌};
 
-use crate::frames::{LONGEST_BODY, LONGEST_REPLY};
+use crate::framer::LONGEST_BODY;
+use crate::replies::LONGEST_REPLY;
 
 /// A stream is cut into bodies and a rest in one way.
 pub fn one_cut()

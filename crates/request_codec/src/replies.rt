@@ -13,6 +13,9 @@ use cell_key::{Refusal, Stamp};
 use si_model::{Found, Progress};
 use std::alloc::{AllocError, Global};
 
+/// The most bytes of a reply's frame, its length's four bytes too: a stamp and the longest value.
+pub const LONGEST_REPLY: usize = 65_554;
+
 /// What the store answers to a request. The fields are those of the operation of the same name.
 #[derive(Debug, Drop)]
 pub enum Reply {
