@@ -1,3 +1,5 @@
+//! Stores of files under numbers: what they promise, and why a call on them fails.
+
 ghost use Rattle.std.specs.Prelude.{◌≡◌, ◌≤◌, ℕ, ◌++◌, length, Option, Some, option_map, OnOk, OnErr, IfOk, IfSome};
 ghost use Rattle.std.specs.FinMap as map;
 ghost use Rattle.file_store.specs.Store.{Contents, HasCause, KeepsOthers, MayLack, Reads, bytes_of, with_file, without_file};

@@ -1,3 +1,5 @@
+//! Reading a whole file.
+
 ghost use Rattle.std.specs.Prelude.{◌≡◌, option_map, IfOk, IfSome};
 ghost use Rattle.std.specs.FinMap as map;
 ghost use Rattle.file_store.specs.Store.{HasCause};

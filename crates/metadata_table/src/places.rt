@@ -1,3 +1,5 @@
+//! The place of a tablet.
+
 ghost use Rattle.std.specs.Prelude.{◌≡◌, ◌↔◌, IsTrue, IfOk, Some};
 ghost use Rattle.metadata_table.specs.Places.{view_of};
 ghost use Rattle.metadata_table.specs.Table.{left_part};

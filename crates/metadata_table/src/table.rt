@@ -1,3 +1,5 @@
+//! The table of all tablets' places.
+
 ghost use Rattle.std.specs.Prelude.{◌≡◌, ◌+◌, ◌<◌, ◌≤◌, ◌↔◌, ◌∷◌, [], IsTrue, OnOk, IfOk, OnErr, IfErr, IsErrOf, MatchResult, ◌⊎◌, length};
 ghost use Rattle.std.specs.List.{Contains};
 ghost use Rattle.metadata_table.specs.Places.{view_of, views};

@@ -1,3 +1,5 @@
+//! Stores of the oracle's mark: what they promise.
+
 ghost use Rattle.std.specs.Prelude.{◌≡◌, ◌≤◌, ◌<◌, ◌^◌, ℕ, Option, Some, codes, OnOk, OnErr, IfOk, IfSome};
 ghost use Rattle.cell_key.specs.Faults.{HasRisen};
 ghost use Rattle.oracle.specs.Marks.{MayHold, mark_after};

@@ -1,3 +1,5 @@
+//! A mark in memory.
+
 ghost use Rattle.std.specs.Prelude.{◌≡◌, ◌<◌, ◌^◌, Some, IsOk};
 
 use crate::marks::{MarkFault, MarkStore};

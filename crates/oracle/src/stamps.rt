@@ -1,3 +1,5 @@
+//! The oracle of stamps.
+
 ghost use Rattle.std.specs.Prelude.{◌≡◌, ◌↔◌, ◌+◌, ◌-◌, ◌<◌, ◌≤◌, ◌^◌, OnOk, OnErr, IfOk, IfErr, IfSome, IsOk, IsErrOf};
 ghost use Rattle.cell_key.specs.Faults.{HasRisen};
 ghost use Rattle.oracle.specs.Marks.{MayHold, mark_after, IsWithin};
