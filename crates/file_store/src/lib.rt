@@ -2,9 +2,11 @@
 #![tactic(auto)]
 
 mod files;
+mod folder;
 mod memory;
 mod whole;
 
 pub use files::{FileFault, Files};
+pub use folder::DirFiles;
 pub use memory::MemFiles;
 pub use whole::read_whole;

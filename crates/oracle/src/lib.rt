@@ -1,10 +1,12 @@
 //! Stamps that rise strictly, from ranges whose highest number is stored first.
 #![tactic(auto)]
 
+mod folder;
 mod marks;
 mod memory;
 mod stamps;
 
+pub use folder::DirMark;
 pub use marks::{MarkFault, MarkStore};
 pub use memory::MemMark;
 pub use stamps::Oracle;

@@ -1,0 +1,165 @@
+//! A mark in a folder.
+
+ghost use Rattle.std.specs.Prelude.{◌≡◌, ◌≤◌, ◌<◌, ◌^◌, length, IfOk, IfSome, None, Ok, OnErr, OnOk};
+ghost use Rattle.cell_key.specs.Faults.{HasRisen};
+
+use crate::marks::{MarkFault, MarkStore};
+use cell_key::{MOST_STAMP, Stamp};
+use std::fs::{File, OpenFile};
+use std::io::{ErrorKind, Read, Write};
+use std::rt::Files as Folders;
+use std::{fs, io};
+
+/// How many bytes the mark has in its file.
+const MARK_BYTES: usize = 8;
+
+/// A mark in the file `oracle.mark` of a folder, as 8 bytes, the highest first. Nothing is known of the bytes.
+///
+/// A new mark is written beside the file, as `oracle.new`, forced to the disk, and then put in its place, and the folder is
+/// forced to the disk too: where the machine stops between, the old mark stands or the new one.
+#[derive(Drop)]
+pub struct DirMark<R> {
+    rt: R,
+    folder: String,
+    path: String,
+    beside: String,
+    faults: u64,
+}
+
+/// The number of a mark's bytes, if there are eight and the number is not past the greatest stamp.
+fn number_of(bytes: &[u8]) -> Option<Stamp>
+    ensures { IfSome result (λ number. number < 2 ^ 63) }
+{
+    let bytes: [u8; MARK_BYTES] = bytes.try_into().ok()?;
+    let number = u64::from_be_bytes(bytes);
+    if number > MOST_STAMP {
+        return None;
+    }
+    Some(number)
+}
+
+/// Fills a buffer from a file, and answers how many bytes it got: fewer only at the file's end.
+fn fill<F: Read>(file: &mut F, bytes: &mut [u8]) -> io::Result<usize>
+    ensures { IfOk result (λ n. n ≤ length bytes.old) }
+{
+    let mut at = 0;
+    while at < bytes.len() {
+        let count = file.read(&mut bytes[at..])?;
+        if count == 0 {
+            return Ok(at);
+        }
+        at += count;
+    }
+    Ok(at)
+}
+
+/// Reads a file of a mark, and 0 where there is none.
+fn read_mark<R: Folders>(rt: &R, path: &str) -> io::Result<Stamp>
+    ensures { IfOk result (λ number. number < 2 ^ 63) }
+{
+    let mut file = match File::open(rt, path) {
+        Ok(file) => file,
+        Err(error) if error.kind() == ErrorKind::NotFound => return Ok(0),
+        Err(error) => return Err(error),
+    };
+    let mut bytes = [0u8; MARK_BYTES + 1];
+    let count = fill(&mut file, &mut bytes)?;
+    match number_of(&bytes[..count]) {
+        Some(number) => Ok(number),
+        None => Err(io::Error::from(ErrorKind::InvalidData)),
+    }
+}
+
+/// Puts a mark in the place of the file.
+fn write_mark<R: Folders>(
+    rt: &R,
+    folder: &str,
+    path: &str,
+    beside: &str,
+    number: Stamp,
+) -> io::Result<()> {
+    let mut file = File::create(rt, beside)?;
+    file.write_all(&number.to_be_bytes())?;
+    file.sync_all()?;
+    fs::rename(rt, beside, path)?;
+    let folder = File::open(rt, folder)?;
+    folder.sync_all()
+}
+
+impl<R: Folders + AllocGlobal + Drop> DirMark<R> {
+    /// The mark of a folder.
+    ///
+    /// # Errors
+    ///
+    /// A device's fault where there is no such folder, or where memory was refused.
+    pub fn open(rt: R, folder: &str) -> Result<DirMark<R>, MarkFault>
+        ensures { IfOk result (λ mark. mark.faults ≡ 0) }
+    {
+        match open_folder(rt, folder) {
+            Ok(mark) => Ok(mark),
+            Err(_) => Err(MarkFault),
+        }
+    }
+
+    /// What a call answered, or its fault, which is counted.
+    fn told<T: Drop>(&mut self, called: io::Result<T>) -> Result<T, MarkFault>
+        ensures later { self.old.faults ≤ self.new.faults }
+        ensures device { OnErr result (HasRisen self.old.faults self.new.faults) }
+        ensures told { OnOk result (self.new.faults ≡ self.old.faults) }
+        ensures same { IfOk result (λ value. called ≡ Ok value) }
+    {
+        match called {
+            Ok(value) => Ok(value),
+            Err(_) => {
+                self.faults = self.faults.saturating_add(1);
+                Err(MarkFault)
+            }
+        }
+    }
+}
+
+/// The mark of a folder, if the folder is there.
+fn open_folder<R: Folders + AllocGlobal + Drop>(rt: R, folder: &str) -> io::Result<DirMark<R>>
+    ensures { IfOk result (λ mark. mark.faults ≡ 0) }
+{
+    let alloc = rt.alloc();
+    if !fs::metadata(&rt, folder)?.is_dir() {
+        return Err(io::Error::from(ErrorKind::NotADirectory));
+    }
+    let path = format!(in alloc; "{folder}/oracle.mark")?;
+    let beside = format!(in alloc; "{folder}/oracle.new")?;
+    let folder = String::from_str(alloc, folder)?;
+    Ok(DirMark {
+        rt,
+        folder,
+        path,
+        beside,
+        faults: 0,
+    })
+}
+
+impl<R: Folders + AllocGlobal + Drop> MarkStore for DirMark<R> {
+    ghost mark = { λ _. None };
+
+    ghost faults = { λ mark. mark.faults };
+
+    fn load(&mut self) -> Result<Stamp, MarkFault> {
+        let called = read_mark(&self.rt, self.path.as_str());
+        self.told(called)
+    }
+
+    fn store(&mut self, number: Stamp) -> Result<(), MarkFault> {
+        let called = write_mark(
+            &self.rt,
+            self.folder.as_str(),
+            self.path.as_str(),
+            self.beside.as_str(),
+            number,
+        );
+        self.told(called)
+    }
+
+    fn faults(&self) -> u64 {
+        self.faults
+    }
+}
