@@ -24,3 +24,4 @@ mod Placing
 pub mod ShownAt
 pub mod ShownKept
 pub mod ShownTouched
+pub mod Leaving

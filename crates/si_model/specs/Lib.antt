@@ -7,3 +7,4 @@ pub mod Laws
 pub mod Replies
 pub mod Scripts
 pub mod ShowsCells
+pub mod Kinds

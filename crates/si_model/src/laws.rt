@@ -1,5 +1,6 @@
 //! The laws of the machine. Each is a call that does nothing: its contract is the law.
 
+ghost use Rattle.si_model.specs.Kinds.{LeavesOthers, kind_of};
 ghost use Rattle.si_model.specs.Laws.{Bounds, ClearsItsFloor, CommitSeen, FateSeen, FirstCommitterWins, FloorStaysLow, Goes, GoneForGood, IsNeverStuck, IsSettled, Numbers, OneFate, OneMark, OneSnapshot, RefusesFirst, StartsLow, StaysCleared, TellsFate, TellsMarks};
 ghost use Rattle.si_model.specs.Machine.{IsReached, Reply, Request, State, Step};
 
@@ -98,4 +99,10 @@ pub fn numbered()
 /// stamps and numbers.
 pub fn never_stuck()
     ensures { (st : State) → IsReached st → IsNeverStuck st }
+{}
+
+/// A request about sessions, cleaners, collectors or the places of tablets leaves what the others are about, and a
+/// request of the storage leaves all. Marks are of sessions and of cleaners.
+pub fn leaves_others()
+    ensures { (st next : State) (q : Request) (r : Reply) → Step st q r next → LeavesOthers (kind_of q) st next }
 {}
