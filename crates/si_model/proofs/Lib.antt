@@ -25,3 +25,5 @@ pub mod ShownAt
 pub mod ShownKept
 pub mod ShownTouched
 pub mod Leaving
+pub mod Enduring
+pub mod Deciding

@@ -8,3 +8,5 @@ pub mod Replies
 pub mod Scripts
 pub mod ShowsCells
 pub mod Kinds
+pub mod Enduring
+pub mod Deciding
