@@ -7,6 +7,8 @@ use Rattle.std.specs.Ordering.{on, then_cmp}
 use Rattle.std.specs.FinMap.{get}
 use Rattle.cell_key.specs.Keys.{byte_cmp}
 use Rattle.cell_key.specs.Cells.{Cells}
+use Rattle.cell_key.specs.Names.{IsRow, IsFamily}
+use Rattle.cell_key.specs.Texts.{place_text}
 use Rattle.cell_key.specs.declared.keys.CellKey.{CellKey}
 
 -- a row and a family
@@ -20,6 +22,14 @@ place_named names = (names.0.now, names.1.now)
 -- where a key's cell is
 abbrev pub place_of : CellKey → Place
 place_of key = (key.row, key.family)
+
+-- the bytes are the text of a row and a family within their limits
+pub record IsPlaceText (bytes : List ℕ) : Type 0 where
+  pub row : List ℕ
+  pub family : List ℕ
+  pub is_row : IsRow row
+  pub is_family : IsFamily family
+  pub is : bytes ≡ place_text row family
 
 -- the order of rows, and then of families
 abbrev pub place_cmp : Place → Place → Ordering

@@ -12,7 +12,7 @@ use Rattle.si_model.specs.Machine.{Acts, tells, begins, reads, sets, holds, conf
 use Rattle.si_model.specs.Machine.{Run, rests, goes_on, IsReached, begins_new, runs, reopens, new_machine, reopened}
 use Rattle.si_model.specs.Laws.{FateSeen}
 use Rattle.si_model.proofs.Tools.{each_cons, get_other, each_insert, each_remove, same_entry}
-use Rattle.si_model.proofs.Invariant.{Past, Placed, Sound}
+use Rattle.si_model.proofs.Invariant.{IsPast, HasTried, Sound}
 use Rattle.si_model.proofs.Kept.{HeldPhase, held_phase}
 use Rattle.si_model.proofs.Steps.{acts_sound, step_sound, reached_sound}
 use Rattle.si_model.proofs.Gone.{acts_placed, acts_no_return}
@@ -24,7 +24,7 @@ pub record Primary (st : State) (t : ℕ) : Type 0 where
   pub v : Value
   pub wrote : Wrote st t ws
   pub puts : Puts ws 0 x v
-  pub placed : Placed st x t
+  pub placed : HasTried st x t
 
 -- the mark of the first cell stands, or the fate of t is decided
 pub record IsKnown (st : State) (t : ℕ) : Type 0 where
@@ -43,7 +43,7 @@ pub record Fates (st : State) : Type 0 where
   pub of_commit : (a : Commit) → a ∈ st.commits → IsOver st a.start
 
 -- the writes of a start that has held a cell stay
-acts_wrote : {st st' : State} {q : Request} {r : Reply} → Sound st → Acts st q r st' → (y : Cell) (u : ℕ) → Placed st y u → (ws : Writes) → Wrote st u ws → Wrote st' u ws
+acts_wrote : {st st' : State} {q : Request} {r : Reply} → Sound st → Acts st q r st' → (y : Cell) (u : ℕ) → HasTried st y u → (ws : Writes) → Wrote st u ws → Wrote st' u ws
 acts_wrote i (tells t) y u p ws w = w
 acts_wrote {st} i (begins {s = s} d) y u p ws w = let low = i.start_low u ws w in let new = d.0 in let ne : u ≢ s = omega arith in get_other st.begun s [] u ne ∙ w
 acts_wrote {st} i (sets {s = s} {ws' = ws'} h w' by) y u p ws w = elim (cases_eq u s) [
@@ -133,7 +133,7 @@ known_before st t k ws x v i h w puts more = record {
     v = one.0.1;
     wrote = w;
     puts = one.1;
-    placed = record { ws = ws; k = 0; v = one.0.1; wrote = w; puts = one.1; past = λ p g. subst (λ q. Past q 0) (same_Some hp.p p (sym hp.is ∙ g)) (hp.above 0 more) };
+    placed = record { ws = ws; k = 0; v = one.0.1; wrote = w; puts = one.1; past = λ p g. subst (λ q. IsPast q 0) (same_Some hp.p p (sym hp.is ∙ g)) (hp.above 0 more) };
   };
   fate = elim (i.stands t hp.p hp.is hp.live ws w) [ inl d ↦ inr (inr d) | inr f ↦ inl (f 0 one.0.0 one.0.1 one.1 (hp.above 0 more)) ];
 }

@@ -10,12 +10,12 @@ use Rattle.si_model.specs.Machine.{Acts, tells, begins, reads, sets, holds, conf
 use Rattle.si_model.specs.Machine.{Run, rests, goes_on, IsReached}
 use Rattle.si_model.specs.Laws.{OneFate, GoneForGood}
 use Rattle.si_model.proofs.Tools.{each_cons, each_insert, each_remove, same_entry, one_place}
-use Rattle.si_model.proofs.Invariant.{Past, Placed, StartsDiffer, Sound}
+use Rattle.si_model.proofs.Invariant.{IsPast, HasTried, StartsDiffer, Sound}
 use Rattle.si_model.proofs.Kept
 use Rattle.si_model.proofs.Steps.{step_sound, run_sound, reached_sound}
 
 -- t has had its chance in any state where its writes and its phase are the same
-pub same_placed : (st st' : State) → st'.begun ≡ st.begun → st'.active ≡ st.active → (x : Cell) (t : ℕ) → Placed st x t → Placed st' x t
+pub same_placed : (st st' : State) → st'.begun ≡ st.begun → st'.active ≡ st.active → (x : Cell) (t : ℕ) → HasTried st x t → HasTried st' x t
 same_placed st st' e f x t p = record {
   ws = p.ws;
   k = p.k;
@@ -25,11 +25,11 @@ same_placed st st' e f x t p = record {
   past = λ q h. p.past q (ap (λ m. get m t) (sym f) ∙ h);
 }
 
-pub ended_placed : (st : State) (u : ℕ) (x : Cell) (t : ℕ) → Placed st x t → Placed (record st { active = remove st.active u }) x t
+pub ended_placed : (st : State) (u : ℕ) (x : Cell) (t : ℕ) → HasTried st x t → HasTried (record st { active = remove st.active u }) x t
 ended_placed st u x t p = Kept.receded_placed st (remove st.active u) (Kept.ends st u) x t p
 
 -- finishing, whatever joins and leaves beside it
-finishing_placed : (st : State) (u c k n : ℕ) (x : Cell) (t : ℕ) → Placed st x t → Placed (record st { active = finishing st.active u c k n }) x t
+finishing_placed : (st : State) (u c k n : ℕ) (x : Cell) (t : ℕ) → HasTried st x t → HasTried (record st { active = finishing st.active u c k n }) x t
 finishing_placed st u c k n x t p = record {
   ws = p.ws;
   k = p.k;
@@ -39,11 +39,11 @@ finishing_placed st u c k n x t p = record {
   past = λ q h. by_test q (nat_eq k n) h;
 }
   where
-    by_test : (q : Phase) (b : Bool) → get (cond b (remove st.active u) (insert st.active u (Finishing c k))) t ≡ Some q → Past q p.k
-    by_test q true h = each_remove st.active u (λ v q. v ≡ t → Past q p.k) (λ v q ne g e. p.past q (subst (λ w. InPhase st w q) e g)) t q h refl
-    by_test q false h = each_insert st.active u (λ v q. v ≡ t → Past q p.k) (Finishing c k) (λ e. tt) (λ v q ne g e. p.past q (subst (λ w. InPhase st w q) e g)) t q h refl
+    by_test : (q : Phase) (b : Bool) → get (cond b (remove st.active u) (insert st.active u (Finishing c k))) t ≡ Some q → IsPast q p.k
+    by_test q true h = each_remove st.active u (λ v q. v ≡ t → IsPast q p.k) (λ v q ne g e. p.past q (subst (λ w. InPhase st w q) e g)) t q h refl
+    by_test q false h = each_insert st.active u (λ v q. v ≡ t → IsPast q p.k) (Finishing c k) (λ e. tt) (λ v q ne g e. p.past q (subst (λ w. InPhase st w q) e g)) t q h refl
 
-pub acts_placed : {st st' : State} {q : Request} {r : Reply} → Sound st → Acts st q r st' → (y : Cell) (u : ℕ) → Placed st y u → Placed st' y u
+pub acts_placed : {st st' : State} {q : Request} {r : Reply} → Sound st → Acts st q r st' → (y : Cell) (u : ℕ) → HasTried st y u → HasTried st' y u
 acts_placed i (tells t) y u p = p
 acts_placed {st} i (begins {s = s} d) y u p = Kept.begun_placed st s d.0 i y u p
 acts_placed {st} {st'} i (reads h none shown) y u p = same_placed st st' refl refl y u p
@@ -67,7 +67,7 @@ acts_placed {st} {st'} i (splits cut) y u p = same_placed st st' refl refl y u p
 acts_placed {st} {st'} i (moves_tablet is_moved) y u p = same_placed st st' refl refl y u p
 
 -- where t holds x now, it has not had its chance before
-not_again : {st : State} {t k : ℕ} {ws : Writes} {x : Cell} {v : Value} → Sound st → HasHeld st t k → Wrote st t ws → Puts ws k x v → Placed st x t → ⊥
+not_again : {st : State} {t k : ℕ} {ws : Writes} {x : Cell} {v : Value} → Sound st → HasHeld st t k → Wrote st t ws → Puts ws k x v → HasTried st x t → ⊥
 not_again {st} {t} {k} {ws} {x} {v} i h w puts p =
     let hp = Kept.held_phase st t k h in
     let before : p.k < k = hp.below p.k (p.past hp.p hp.is) in
@@ -75,14 +75,14 @@ not_again {st} {t} {k} {ws} {x} {v} i h w puts p =
     let e : p.k ≡ k = one_place ws p.k k x p.v v (i.cells_differ t ws w) (subst (λ (l : Writes). Puts l p.k x p.v) same p.puts) puts in
     omega arith
 
-pub acts_no_return : {st st' : State} {q : Request} {r : Reply} → Sound st → Acts st q r st' → (y : Cell) (u : ℕ) → Placed st y u → Marked st' y u → Marked st y u
+pub acts_no_return : {st st' : State} {q : Request} {r : Reply} → Sound st → Acts st q r st' → (y : Cell) (u : ℕ) → HasTried st y u → Marked st' y u → Marked st y u
 acts_no_return i (tells t) y u p m = m
 acts_no_return i (begins d) y u p m = m
 acts_no_return i (reads h none shown) y u p m = m
 acts_no_return i (sets h w by) y u p m = m
 acts_no_return {st} i (holds {t = t} {x = x} h w puts free) y u p m =
     each_cons (λ (n : Cell × ℕ). n ≡ (y, u) → Marked st y u)
-    (λ e. absurd (not_again i h w puts (subst (λ (n : Cell × ℕ). Placed st n.0 n.1) (sym e) p)))
+    (λ e. absurd (not_again i h w puts (subst (λ (n : Cell × ℕ). HasTried st n.0 n.1) (sym e) p)))
     (λ n old e. subst (λ (n : Cell × ℕ). Marked st n.0 n.1) e old) (y, u) m refl
 acts_no_return i (conflicts h w puts clash) y u p m = m
 acts_no_return i (draws h w d) y u p m = m
@@ -101,19 +101,19 @@ acts_no_return i (has_collected h none) y u p m = m
 acts_no_return i (splits cut) y u p m = m
 acts_no_return i (moves_tablet is_moved) y u p m = m
 
-step_placed : {st st' : State} {q : Request} {r : Reply} → Sound st → Step st q r st' → (y : Cell) (u : ℕ) → Placed st y u → Placed st' y u
+step_placed : {st st' : State} {q : Request} {r : Reply} → Sound st → Step st q r st' → (y : Cell) (u : ℕ) → HasTried st y u → HasTried st' y u
 step_placed i (refuses n) y u p = p
 step_placed i (accepts ok a) y u p = acts_placed i a y u p
 
-step_no_return : {st st' : State} {q : Request} {r : Reply} → Sound st → Step st q r st' → (y : Cell) (u : ℕ) → Placed st y u → Marked st' y u → Marked st y u
+step_no_return : {st st' : State} {q : Request} {r : Reply} → Sound st → Step st q r st' → (y : Cell) (u : ℕ) → HasTried st y u → Marked st' y u → Marked st y u
 step_no_return i (refuses n) y u p m = m
 step_no_return i (accepts ok a) y u p m = acts_no_return i a y u p m
 
-run_placed : {st st' : State} {qs : List Request} {rs : List Reply} → Sound st → Run st qs rs st' → (y : Cell) (u : ℕ) → Placed st y u → Placed st' y u
+run_placed : {st st' : State} {qs : List Request} {rs : List Reply} → Sound st → Run st qs rs st' → (y : Cell) (u : ℕ) → HasTried st y u → HasTried st' y u
 run_placed i rests y u p = p
 run_placed i (goes_on s r) y u p = run_placed (step_sound i s) r y u (step_placed i s y u p)
 
-run_no_return : {st st' : State} {qs : List Request} {rs : List Reply} → Sound st → Run st qs rs st' → (y : Cell) (u : ℕ) → Placed st y u → Marked st' y u → Marked st y u
+run_no_return : {st st' : State} {qs : List Request} {rs : List Reply} → Sound st → Run st qs rs st' → (y : Cell) (u : ℕ) → HasTried st y u → Marked st' y u → Marked st y u
 run_no_return i rests y u p m = m
 run_no_return i (goes_on s r) y u p m = step_no_return i s y u p (run_no_return (step_sound i s) r y u (step_placed i s y u p) m)
 

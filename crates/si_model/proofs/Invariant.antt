@@ -2,8 +2,9 @@
 use Rattle.std.proofs.Common.{◌≡◌, ◌≢◌, ℕ, ◌<◌, ◌≤◌, true, List, [], ◌∷◌, Some, ◌⊎◌}
 use Rattle.std.specs.FinMap.{get}
 use Rattle.si_model.specs.Sets.{◌∈◌}
-use Rattle.si_model.specs.Machine.{State, Value, Writes, Phase, Open, Holding, Stamped, Finishing, Commit, Read, Cleaner, InPhase, Wrote, Marked, Puts, Names, IsDead, CommittedAt, IsCommitted}
+use Rattle.si_model.specs.Machine.{State, Value, Writes, Phase, Stamped, Finishing, Commit, Read, Cleaner, InPhase, Wrote, Marked, Puts, Names, IsDead, CommittedAt, IsCommitted}
 use Rattle.si_model.specs.declared.replies.Cell.{Cell}
+pub use Rattle.si_model.specs.Enduring.{IsPast, HasTried}
 use Rattle.si_model.specs.Laws.{IsSettled, FirstCommitterWins, OneMark}
 use Rattle.si_model.proofs.Tools.{CellsDiffer}
 
@@ -11,22 +12,6 @@ use Rattle.si_model.proofs.Tools.{CellsDiffer}
 abbrev pub IsLive : Phase → Type 0
 IsLive (Finishing c k) = ⊥
 IsLive p = Unit {0}
-
--- the session has gone past its k-th cell
-abbrev pub Past : Phase → ℕ → Type 0
-Past Open k = ⊥
-Past (Holding n) k = k < n
-Past (Stamped c) k = Unit {0}
-Past (Finishing c n) k = Unit {0}
-
--- t has had its chance to mark x, and never marks it again
-pub record Placed (st : State) (x : Cell) (t : ℕ) : Type 0 where
-  pub ws : Writes
-  pub k : ℕ
-  pub v : Value
-  pub wrote : Wrote st t ws
-  pub puts : Puts ws k x v
-  pub past : (p : Phase) → InPhase st t p → Past p k
 
 -- c is the commit stamp that t alone has drawn
 pub record IsOwn (st : State) (t c : ℕ) : Type 0 where
@@ -55,11 +40,11 @@ pub record Sound (st : State) : Type 0 where
   pub uncommitted : (t : ℕ) (p : Phase) → InPhase st t p → IsLive p → (a : Commit) → a ∈ st.commits → a.start ≢ t
   -- the marks of a live session stand, unless it is dead
   pub stands : (t : ℕ) (p : Phase) → InPhase st t p → IsLive p → (ws : Writes) → Wrote st t ws
-      → IsDead st t ⊎ ((k : ℕ) (x : Cell) (v : Value) → Puts ws k x v → Past p k → Marked st x t)
+      → IsDead st t ⊎ ((k : ℕ) (x : Cell) (v : Value) → Puts ws k x v → IsPast p k → Marked st x t)
   pub drawn : (t : ℕ) (p : Phase) → InPhase st t p → (c : ℕ) → p ≡ Stamped c → IsOwn st t c
   pub finishes : (t : ℕ) (p : Phase) → InPhase st t p → (c k : ℕ) → p ≡ Finishing c k → CommittedAt st t c
   -- marks
-  pub placed : (x : Cell) (t : ℕ) → Marked st x t → Placed st x t
+  pub placed : (x : Cell) (t : ℕ) → Marked st x t → HasTried st x t
   pub one_mark : OneMark st
   -- a mark is younger than each commit of its cell, its own aside
   pub younger : (x : Cell) (t : ℕ) → Marked st x t → (a : Commit) → a ∈ st.commits → a.start ≢ t → Names a.writes x → a.stamp < t

@@ -9,7 +9,7 @@ use Rattle.si_model.specs.Sets.{◌∈◌, here, there, Leaves}
 use Rattle.si_model.specs.Machine.{State, Value, Writes, Phase, Open, Holding, Stamped, Finishing, Commit, Read, Cleaner, Place, InPhase, Wrote, Marked, Puts, Names, IsDead, CommittedAt, IsCommitted, IsSnapshot, Clashes, HasHeld, finishing}
 use Rattle.si_model.specs.declared.replies.Cell.{Cell}
 use Rattle.si_model.proofs.Tools.{each_cons, get_same, get_other, each_insert, each_remove, same_entry, CellsDiffer}
-use Rattle.si_model.proofs.Invariant.{IsLive, Past, Placed, IsOwn, IsFair, Sound}
+use Rattle.si_model.proofs.Invariant.{IsLive, IsPast, HasTried, IsOwn, IsFair, Sound}
 
 -- a session begins
 module _ (st : State) (s : ℕ) (new : st.top < s) where
@@ -19,7 +19,7 @@ module _ (st : State) (s : ℕ) (new : st.top < s) where
   wrote_still : (i : Sound st) (t : ℕ) (ws : Writes) → Wrote st t ws → Wrote begun t ws
   wrote_still i t ws h = let low = i.start_low t ws h in let ne : t ≢ s = omega arith in get_other st.begun s [] t ne ∙ h
 
-  pub begun_placed : (i : Sound st) (x : Cell) (t : ℕ) → Placed st x t → Placed begun x t
+  pub begun_placed : (i : Sound st) (x : Cell) (t : ℕ) → HasTried st x t → HasTried begun x t
   begun_placed i x t p =
       let low = i.start_low t p.ws p.wrote in
       let ne : t ≢ s = omega arith in
@@ -40,7 +40,7 @@ module _ (st : State) (s : ℕ) (new : st.top < s) where
         (λ t p ne h. let b = i.has_begun t p h in (b.0, get_other st.begun s [] t ne ∙ b.1));
     uncommitted = each_insert st.active s (λ t p. IsLive p → (a : Commit) → a ∈ st.commits → a.start ≢ t) Open
         (λ l a m. let low = i.start_low a.start a.writes (i.fair a m).wrote in omega arith) (λ t p ne h. i.uncommitted t p h);
-    stands = each_insert st.active s (λ t p. IsLive p → (ws : Writes) → Wrote begun t ws → IsDead st t ⊎ ((k : ℕ) (x : Cell) (v : Value) → Puts ws k x v → Past p k → Marked st x t)) Open
+    stands = each_insert st.active s (λ t p. IsLive p → (ws : Writes) → Wrote begun t ws → IsDead st t ⊎ ((k : ℕ) (x : Cell) (v : Value) → Puts ws k x v → IsPast p k → Marked st x t)) Open
         (λ l ws w. inr (λ k x v h b. absurd b)) (λ t p ne h l ws w. i.stands t p h l ws (sym (get_other st.begun s [] t ne) ∙ w));
     drawn = each_insert st.active s (λ t p. (c : ℕ) → p ≡ Stamped c → IsOwn begun t c) Open
         (λ c e. cc) (λ t p ne h c e. let o = i.drawn t p h c e in record {
@@ -81,7 +81,7 @@ module _ (st : State) (s : ℕ) (x : Cell) (v : Option Value) where
   no_answer none i t p h c e ws w names low = elim (i.stands t p h (subst IsLive (sym e) tt) ws w) [
     | inl d ↦ d
     | inr f ↦ let later = (i.drawn t p h c e).later in
-        let young = none t (f names.1.0 x names.0 names.1.1 (subst (λ q. Past q names.1.0) (sym e) tt)) in
+        let young = none t (f names.1.0 x names.0 names.1.1 (subst (λ q. IsPast q names.1.0) (sym e) tt)) in
         absurd (omega arith)
   ]
 
@@ -114,7 +114,7 @@ module _ (st : State) (s : ℕ) (ws' : Writes) where
   abbrev pub rewritten : State
   rewritten = record st { begun = insert st.begun s ws' }
 
-  pub rewritten_placed : InPhase st s Open → (x : Cell) (t : ℕ) → Placed st x t → Placed rewritten x t
+  pub rewritten_placed : InPhase st s Open → (x : Cell) (t : ℕ) → HasTried st x t → HasTried rewritten x t
   rewritten_placed is_open x t p = elim (cases_eq t s) [
     | inl e ↦ absurd (p.past Open (subst (λ u. InPhase st u Open) (sym e) is_open))
     | inr ne ↦ record { ws = p.ws; k = p.k; v = p.v; wrote = get_other st.begun s ws' t ne ∙ p.wrote; puts = p.puts; past = p.past }
@@ -137,7 +137,7 @@ module _ (st : State) (s : ℕ) (ws' : Writes) where
     ];
     uncommitted = i.uncommitted;
     stands = λ t p h l us g. elim (cases_eq t s) [
-      | inl e ↦ inr (λ k x v puts past. absurd (subst (λ q. Past q k) (same_Some p Open (sym h ∙ (ap (get st.active) e ∙ is_open))) past))
+      | inl e ↦ inr (λ k x v puts past. absurd (subst (λ q. IsPast q k) (same_Some p Open (sym h ∙ (ap (get st.active) e ∙ is_open))) past))
       | inr ne ↦ i.stands t p h l us (sym (get_other st.begun s ws' t ne) ∙ g)
     ];
     drawn = λ t p h c e. let o = i.drawn t p h c e in record { later = o.later; low = o.low; no_start = start_still i ws w (λ u. u ≢ c) o.no_start; no_commit = o.no_commit; no_other = o.no_other };
@@ -163,14 +163,14 @@ module _ (st : State) (s : ℕ) (ws' : Writes) where
 
 -- a session goes on to a phase that is past more
 module _ (st : State) (t : ℕ) (p' : Phase) where
-  pub phase_placed : (p : Phase) → InPhase st t p → ((j : ℕ) → Past p j → Past p' j) → (x : Cell) (u : ℕ) → Placed st x u → Placed (record st { active = insert st.active t p' }) x u
+  pub phase_placed : (p : Phase) → InPhase st t p → ((j : ℕ) → IsPast p j → IsPast p' j) → (x : Cell) (u : ℕ) → HasTried st x u → HasTried (record st { active = insert st.active t p' }) x u
   phase_placed p h more x u pl = record {
     ws = pl.ws;
     k = pl.k;
     v = pl.v;
     wrote = pl.wrote;
     puts = pl.puts;
-    past = λ q g. each_insert st.active t (λ v q. v ≡ u → Past q pl.k) p' (λ e. more pl.k (pl.past p (subst (λ v. InPhase st v p) e h)))
+    past = λ q g. each_insert st.active t (λ v q. v ≡ u → IsPast q pl.k) p' (λ e. more pl.k (pl.past p (subst (λ v. InPhase st v p) e h)))
         (λ v q ne g e. pl.past q (subst (λ v. InPhase st v q) e g)) u q g refl;
   }
 
@@ -179,8 +179,8 @@ pub record HeldPhase (st : State) (t k : ℕ) : Type 0 where
   pub p : Phase
   pub is : InPhase st t p
   pub live : IsLive p
-  pub below : (j : ℕ) → Past p j → j < k
-  pub above : (j : ℕ) → j < k → Past p j
+  pub below : (j : ℕ) → IsPast p j → j < k
+  pub above : (j : ℕ) → j < k → IsPast p j
 
 pub held_phase : (st : State) (t k : ℕ) → HasHeld st t k → HeldPhase st t k
 held_phase st t k (inl h) = record { p = Holding k; is = h; live = tt; below = λ j g. g; above = λ j g. g }
@@ -191,7 +191,7 @@ module _ (st : State) (t k : ℕ) (x : Cell) where
   abbrev pub held : State
   held = record st { marks = (x, t) ∷ st.marks; active = insert st.active t (Holding (k + 1)) }
 
-  pub held_placed : HasHeld st t k → (y : Cell) (u : ℕ) → Placed st y u → Placed held y u
+  pub held_placed : HasHeld st t k → (y : Cell) (u : ℕ) → HasTried st y u → HasTried held y u
   held_placed h y u pl =
       let hp = held_phase st t k h in
       let p = phase_placed st t (Holding (k + 1)) hp.p hp.is (λ j g. let below = hp.below j g in omega arith) y u pl in
@@ -199,7 +199,7 @@ module _ (st : State) (t k : ℕ) (x : Cell) where
 
   -- the marks of the session stand after it
   stands_on : (i : Sound st) → HasHeld st t k → (ws : Writes) (v : Value) → Wrote st t ws → Puts ws k x v → (us : Writes) → Wrote st t us
-      → IsDead st t ⊎ ((j : ℕ) (y : Cell) (w : Value) → Puts us j y w → Past (Holding (k + 1)) j → Marked held y t)
+      → IsDead st t ⊎ ((j : ℕ) (y : Cell) (w : Value) → Puts us j y w → IsPast (Holding (k + 1)) j → Marked held y t)
   stands_on i h ws v w puts us g = elim (i.stands t hp.p hp.is hp.live us g) [
     | inl d ↦ inl d
     | inr f ↦ inr (λ j y z at past. elim (cases_lt j k) [
@@ -220,7 +220,7 @@ module _ (st : State) (t k : ℕ) (x : Cell) where
     has_begun = each_insert st.active t (λ u p. (us : Writes) × Wrote st u us) (Holding (k + 1)) (ws, w) (λ u p ne g. i.has_begun u p g);
     uncommitted = each_insert st.active t (λ u p. IsLive p → (a : Commit) → a ∈ st.commits → a.start ≢ u) (Holding (k + 1))
         (λ l. i.uncommitted t hp.p hp.is hp.live) (λ u p ne g. i.uncommitted u p g);
-    stands = each_insert st.active t (λ u p. IsLive p → (us : Writes) → Wrote st u us → IsDead st u ⊎ ((j : ℕ) (y : Cell) (z : Value) → Puts us j y z → Past p j → Marked held y u)) (Holding (k + 1))
+    stands = each_insert st.active t (λ u p. IsLive p → (us : Writes) → Wrote st u us → IsDead st u ⊎ ((j : ℕ) (y : Cell) (z : Value) → Puts us j y z → IsPast p j → Marked held y u)) (Holding (k + 1))
         (λ l. stands_on i h ws v w puts)
         (λ u p ne g l us gw. elim (i.stands u p g l us gw) [ inl d ↦ inl d | inr f ↦ inr (λ j y z at past. there (f j y z at past)) ]);
     drawn = each_insert st.active t (λ u p. (c : ℕ) → p ≡ Stamped c → IsOwn held u c) (Holding (k + 1)) (λ c e. cc)
@@ -250,18 +250,18 @@ module _ (st : State) (t k : ℕ) (x : Cell) where
       hp : HeldPhase st t k
       hp = held_phase st t k h
 
-      new_placed : Placed held x t
+      new_placed : HasTried held x t
       new_placed = record {
         ws = ws;
         k = k;
         v = v;
         wrote = w;
         puts = puts;
-        past = λ p g. subst (λ q. Past q k) (same_Some (Holding (k + 1)) p (sym (get_same st.active t (Holding (k + 1))) ∙ g)) (let b : k < k + 1 = omega arith in b);
+        past = λ p g. subst (λ q. IsPast q k) (same_Some (Holding (k + 1)) p (sym (get_same st.active t (Holding (k + 1))) ∙ g)) (let b : k < k + 1 = omega arith in b);
       }
 
-      placed_in : (y : Cell) (u : ℕ) → (y, u) ∈ ((x, t) ∷ st.marks) → Placed held y u
-      placed_in y u m = each_cons (λ (q : Cell × ℕ). Placed held q.0 q.1) new_placed (λ q n. held_placed h q.0 q.1 (i.placed q.0 q.1 n)) (y, u) m
+      placed_in : (y : Cell) (u : ℕ) → (y, u) ∈ ((x, t) ∷ st.marks) → HasTried held y u
+      placed_in y u m = each_cons (λ (q : Cell × ℕ). HasTried held q.0 q.1) new_placed (λ q n. held_placed h q.0 q.1 (i.placed q.0 q.1 n)) (y, u) m
 
       -- no mark stands on x yet
       unmarked : (u : ℕ) → ¬ Marked st x u
@@ -288,13 +288,13 @@ module _ (st : State) (t c : ℕ) (ws : Writes) (new : st.top < c) where
   abbrev pub stamped : State
   stamped = record st { top = c; active = insert st.active t (Stamped c) }
 
-  pub stamped_placed : InPhase st t (Holding (length ws)) → (y : Cell) (u : ℕ) → Placed st y u → Placed stamped y u
+  pub stamped_placed : InPhase st t (Holding (length ws)) → (y : Cell) (u : ℕ) → HasTried st y u → HasTried stamped y u
   stamped_placed h y u pl =
       let p = phase_placed st t (Stamped c) (Holding (length ws)) h (λ j g. tt) y u pl in
       record { ws = p.ws; k = p.k; v = p.v; wrote = p.wrote; puts = p.puts; past = p.past }
 
   all_stand : (i : Sound st) → InPhase st t (Holding (length ws)) → Wrote st t ws → (us : Writes) → Wrote st t us
-      → IsDead st t ⊎ ((j : ℕ) (y : Cell) (w : Value) → Puts us j y w → Past (Stamped c) j → Marked st y t)
+      → IsDead st t ⊎ ((j : ℕ) (y : Cell) (w : Value) → Puts us j y w → IsPast (Stamped c) j → Marked st y t)
   all_stand i h w us g = elim (i.stands t (Holding (length ws)) h tt us g) [
     | inl d ↦ inl d
     | inr f ↦ inr (λ j y z at past. f j y z at (subst (λ (l : Writes). j < length l) (same_entry st.begun t us ws g w) (slice_get_within us j (y, z) at)))
@@ -328,7 +328,7 @@ module _ (st : State) (t c : ℕ) (ws : Writes) (new : st.top < c) where
     has_begun = each_insert st.active t (λ u p. (us : Writes) × Wrote st u us) (Stamped c) (ws, w) (λ u p ne g. i.has_begun u p g);
     uncommitted = each_insert st.active t (λ u p. IsLive p → (a : Commit) → a ∈ st.commits → a.start ≢ u) (Stamped c)
         (λ l. i.uncommitted t (Holding (length ws)) h tt) (λ u p ne g. i.uncommitted u p g);
-    stands = each_insert st.active t (λ u p. IsLive p → (us : Writes) → Wrote st u us → IsDead st u ⊎ ((j : ℕ) (y : Cell) (z : Value) → Puts us j y z → Past p j → Marked st y u)) (Stamped c)
+    stands = each_insert st.active t (λ u p. IsLive p → (us : Writes) → Wrote st u us → IsDead st u ⊎ ((j : ℕ) (y : Cell) (z : Value) → Puts us j y z → IsPast p j → Marked st y u)) (Stamped c)
         (λ l. all_stand i h w) (λ u p ne g. i.stands u p g);
     drawn = each_insert st.active t (λ u p. (d : ℕ) → p ≡ Stamped d → IsOwn stamped u d) (Stamped c)
         (λ d e. let f : c ≡ d = cc in subst (λ d. IsOwn stamped t d) f (own i w)) (λ u p ne g d e. still_own i u d (i.drawn u p g d e));
@@ -375,14 +375,14 @@ module _ (st : State) (active' : FinMap nat_cmp Phase) (less : Recedes st active
   stamped_before : (u c : ℕ) → InPhase receded u (Stamped c) → InPhase st u (Stamped c)
   stamped_before u c h = each_left (λ u p. p ≡ Stamped c → InPhase st u (Stamped c)) (λ u p g e. subst (λ q. InPhase st u q) e g) (λ u d k m ws w e. cc) u (Stamped c) h refl
 
-  pub receded_placed : (x : Cell) (t : ℕ) → Placed st x t → Placed receded x t
+  pub receded_placed : (x : Cell) (t : ℕ) → HasTried st x t → HasTried receded x t
   receded_placed x t pl = record {
     ws = pl.ws;
     k = pl.k;
     v = pl.v;
     wrote = pl.wrote;
     puts = pl.puts;
-    past = λ p h. each_left (λ u p. u ≡ t → Past p pl.k) (λ u p g e. pl.past p (subst (λ v. InPhase st v p) e g)) (λ u c k m ws w e. tt) t p h refl;
+    past = λ p h. each_left (λ u p. u ≡ t → IsPast p pl.k) (λ u p g e. pl.past p (subst (λ v. InPhase st v p) e g)) (λ u c k m ws w e. tt) t p h refl;
   }
 
   pub receded_sound : Sound st → Sound receded
@@ -391,7 +391,7 @@ module _ (st : State) (active' : FinMap nat_cmp Phase) (less : Recedes st active
     cells_differ = i.cells_differ;
     has_begun = each_left (λ u p. (ws : Writes) × Wrote st u ws) i.has_begun (λ u c k m ws w. (ws, w));
     uncommitted = each_left (λ u p. IsLive p → (a : Commit) → a ∈ st.commits → a.start ≢ u) i.uncommitted (λ u c k m ws w l. absurd l);
-    stands = each_left (λ u p. IsLive p → (ws : Writes) → Wrote st u ws → IsDead st u ⊎ ((k : ℕ) (x : Cell) (v : Value) → Puts ws k x v → Past p k → Marked st x u)) i.stands (λ u c k m ws w l. absurd l);
+    stands = each_left (λ u p. IsLive p → (ws : Writes) → Wrote st u ws → IsDead st u ⊎ ((k : ℕ) (x : Cell) (v : Value) → Puts ws k x v → IsPast p k → Marked st x u)) i.stands (λ u c k m ws w l. absurd l);
     drawn = each_left (λ u p. (c : ℕ) → p ≡ Stamped c → IsOwn receded u c)
         (λ u p g c e. let o = i.drawn u p g c e in record { later = o.later; low = o.low; no_start = o.no_start; no_commit = o.no_commit; no_other = λ r h. o.no_other r (stamped_before r c h) })
         (λ u c k m ws w d e. cc);
@@ -503,7 +503,7 @@ module _ (st : State) (x : Cell) (t : ℕ) (marks' : List (Cell × ℕ)) (less :
   was_marked y u m = ((less.same (y, u)).0 m).0
 
   stands_still : IsCommitted st t ⊎ IsDead st t → Sound st → (u : ℕ) (p : Phase) → InPhase st u p → IsLive p → (ws : Writes) → Wrote st u ws
-      → IsDead st u ⊎ ((k : ℕ) (y : Cell) (v : Value) → Puts ws k y v → Past p k → (y, u) ∈ marks')
+      → IsDead st u ⊎ ((k : ℕ) (y : Cell) (v : Value) → Puts ws k y v → IsPast p k → (y, u) ∈ marks')
   stands_still fate i u p h l ws w = elim (i.stands u p h l ws w) [
     | inl d ↦ inl d
     | inr f ↦ elim (cases_eq u t) [

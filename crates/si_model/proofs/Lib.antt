@@ -24,3 +24,6 @@ mod Placing
 pub mod ShownAt
 pub mod ShownKept
 pub mod ShownTouched
+pub mod Leaving
+pub mod Enduring
+pub mod Deciding

@@ -7,3 +7,6 @@ pub mod Laws
 pub mod Replies
 pub mod Scripts
 pub mod ShowsCells
+pub mod Kinds
+pub mod Enduring
+pub mod Deciding

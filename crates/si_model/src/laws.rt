@@ -1,5 +1,12 @@
 //! The laws of the machine. Each is a call that does nothing: its contract is the law.
 
+ghost use Rattle.cell_key.specs.Cells.{Cells};
+ghost use Rattle.std.specs.Prelude.{ℕ};
+ghost use Rattle.si_model.specs.Deciding.{CleanersKnow, TellsFirst};
+ghost use Rattle.si_model.specs.Enduring.{Endures, HaveTried};
+ghost use Rattle.si_model.specs.ShowsCells.{IsFirst, ShowsCells};
+ghost use Rattle.si_model.specs.declared.replies.Cell.{Cell as CellValue};
+ghost use Rattle.si_model.specs.Kinds.{LeavesOthers, kind_of};
 ghost use Rattle.si_model.specs.Laws.{Bounds, ClearsItsFloor, CommitSeen, FateSeen, FirstCommitterWins, FloorStaysLow, Goes, GoneForGood, IsNeverStuck, IsSettled, Numbers, OneFate, OneMark, OneSnapshot, RefusesFirst, StartsLow, StaysCleared, TellsFate, TellsMarks};
 ghost use Rattle.si_model.specs.Machine.{IsReached, Reply, Request, State, Step};
 
@@ -98,4 +105,31 @@ pub fn numbered()
 /// stamps and numbers.
 pub fn never_stuck()
     ensures { (st : State) → IsReached st → IsNeverStuck st }
+{}
+
+/// A request about sessions, cleaners, collectors or the places of tablets leaves what the others are about, and a
+/// request of the storage leaves all. Marks are of sessions and of cleaners.
+pub fn leaves_others()
+    ensures { (st next : State) (q : Request) (r : Reply) → Step st q r next → LeavesOthers (kind_of q) st next }
+{}
+
+/// The start of each mark has had its chance there, and so has that of each open cleaner.
+pub fn have_tried()
+    ensures { (st : State) → IsReached st → HaveTried st }
+{}
+
+/// Whoever takes a step, a mark that left doesn't come back, one that joins is at or above the floor, and commits and
+/// rolled back starts stay.
+pub fn endures()
+    ensures { (st next : State) (q : Request) (r : Reply) → IsReached st → Step st q r next → Endures st next }
+{}
+
+/// What stands at the first cell of a start tells its fate.
+pub fn tells_first()
+    ensures { (cells : Cells) (st : State) → IsReached st → ShowsCells cells st → (t : ℕ) (first : CellValue) → IsFirst st t first → TellsFirst cells st t first }
+{}
+
+/// What an open cleaner knows stays right, whoever takes a step.
+pub fn cleaners_know()
+    ensures { (st next : State) (q : Request) (r : Reply) → IsReached st → Step st q r next → CleanersKnow st next }
 {}

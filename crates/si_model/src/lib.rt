@@ -6,9 +6,10 @@ mod replies;
 mod runs;
 
 pub use laws::{
-    bounded, clears_its_floor, commit_seen, fate_seen, first_committer, floor_stays_low, goes_on,
-    gone_for_good, never_stuck, numbered, one_fate, one_mark, one_snapshot, refuses_first, settled,
-    starts_low, stays_cleared, tells_fate, tells_marks,
+    bounded, cleaners_know, clears_its_floor, commit_seen, endures, fate_seen, first_committer,
+    floor_stays_low, goes_on, gone_for_good, have_tried, leaves_others, never_stuck, numbered,
+    one_fate, one_mark, one_snapshot, refuses_first, settled, starts_low, stays_cleared,
+    tells_fate, tells_first, tells_marks,
 };
 pub use replies::{Cell, CleanReply, CleanStart, CollectReply, Found, Progress};
 pub use runs::{

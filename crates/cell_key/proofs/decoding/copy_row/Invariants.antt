@@ -1,0 +1,10 @@
+use Rattle.std.proofs.Common.{◌≡◌, ◌++◌, length}
+use Rattle.cell_key.specs.Texts.{escaped}
+use Rattle.cell_key.proofs.decoding.copy_row.Given as goal
+
+-- what was read is the text of the row so far
+abbrev pub invariant-loop-byte : goal.invariant-loop-byte
+invariant-loop-byte l = l.fn.bytes ≡ escaped l.row.items ++ l.left
+
+abbrev pub decreases-loop-byte : goal.decreases-loop-byte
+decreases-loop-byte l = length l.left

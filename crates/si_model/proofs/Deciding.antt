@@ -1,0 +1,112 @@
+-- What a cleaner learns at the first cell of a start, and that it stays right.
+use Rattle.std.proofs.Common.{◌≡◌, ◌≢◌, ℕ, ◌<◌, ◌≤◌, ◌^◌, List, [], ◌∷◌, Some, None, inl, inr, refl, sym, ap, subst, ◌∙◌, arith}
+use Rattle.std.proofs.lemmas.Bool.{cases_eq, cases_lt}
+use Rattle.std.proofs.lemmas.Option.{none-some}
+use Rattle.std.proofs.lemmas.List.{append-nil}
+use Rattle.byteorder.specs.Endian.{big_number, big_from}
+use Rattle.byteorder.specs.Numbers.{big_number-reads_back}
+use Rattle.cell_key.specs.Cells.{Cells}
+use Rattle.cell_key.specs.declared.keys.Qualifier.TheVariants.{Lock, Write}
+use Rattle.si_model.specs.Sets.{◌∈◌, here, there}
+use Rattle.si_model.specs.Laws.{Goes, FateOf}
+use Rattle.si_model.specs.Machine.{State, Commit, Names, Marked, IsCommitted, IsReached, Writes, Open, Puts, Request, Reply, Step}
+use Rattle.si_model.specs.declared.replies.Cell.{Cell}
+use Rattle.si_model.specs.ShowsCells.{at, IsThere, IsFirst, ShowsCells, start_text}
+use Rattle.si_model.specs.Enduring.{HaveTried, Endures}
+use Rattle.si_model.specs.Deciding.{TellsFirst, Verdict, NotYet, Forward, Back, IsRight, CleanersKnow}
+use Rattle.si_model.proofs.Tools.{same_entry}
+use Rattle.si_model.proofs.Invariant.{StartsDiffer}
+use Rattle.si_model.proofs.Steps.{reached_sound}
+use Rattle.si_model.proofs.Bounds.{reached_bounds}
+use Rattle.si_model.proofs.Fates.{fate_seen}
+use Rattle.si_model.proofs.Goes.{goes}
+use Rattle.si_model.proofs.Enduring.{have_tried, endures}
+
+start_back : (t : ℕ) → t < 2 ^ 64 → big_number 8 (start_text t) ≡ t
+start_back t h = ap (λ xs. big_from 0 8 xs) (sym (append-nil (start_text t))) ∙ big_number-reads_back 8 t [] h
+
+-- a text names one start
+pub same_start : (t u : ℕ) → t < 2 ^ 64 → u < 2 ^ 64 → start_text t ≡ start_text u → t ≡ u
+same_start t u h g e = sym (start_back t h) ∙ (ap (big_number 8) e ∙ start_back u g)
+
+-- a start has one commit
+pub one_commit : (cs : List Commit) → StartsDiffer cs → (a b : Commit) → a ∈ cs → b ∈ cs → a.start ≡ b.start → a ≡ b
+one_commit [] d a b i j e = elim i [ ]
+one_commit (c ∷ cs) d a b here here e = refl
+one_commit (c ∷ cs) d a b here (there j) e = absurd (d.0 b j (sym e))
+one_commit (c ∷ cs) d a b (there i) here e = absurd (d.0 a i e)
+one_commit (c ∷ cs) d a b (there i) (there j) e = one_commit cs d.1 a b i j e
+
+right_stays : (st next : State) → Endures st next → (t : ℕ) (v : Verdict) → IsRight st t v → IsRight next t v
+right_stays st next e t NotYet right = right
+right_stays st next e t (Forward c) right = (right.0, e.committed (record { start = t; stamp = c; writes = right.0 }) right.1)
+right_stays st next e t Back right = e.dead t right
+
+pub knows_stays : (st next : State) → HaveTried st → Goes st next → Endures st next → CleanersKnow st next
+knows_stays st next tried go e i k first v g knows = record {
+  is_first = (knows.is_first.0, knows.is_first.1, go.wrote k.start knows.is_first.0 knows.is_first.2 (λ h. (tried.cleaned i k g).past Open h), knows.is_first.3);
+  right = λ m. right_stays st next e k.start v (knows.right (e.gone k.cell k.start (tried.cleaned i k g) m));
+}
+
+pub cleaners_know : (st next : State) (q : Request) (r : Reply) → IsReached st → Step st q r next → CleanersKnow st next
+cleaners_know st next q r reached step = knows_stays st next (have_tried st reached) (goes reached step) (endures st next q r reached step)
+
+module _ (cells : Cells) (st : State) (reached : IsReached st) (shown : ShowsCells cells st) where
+  commit_low : (a : Commit) → a ∈ st.commits → a.start < 2 ^ 64
+  commit_low a i =
+      let low = (reached_sound reached).start_low a.start a.writes ((reached_sound reached).fair a i).wrote in
+      let top = (reached_bounds reached).top in
+      omega arith
+
+  -- the record that names a start is the first one above it
+  named_first : (x : Cell) (t c d : ℕ) → t < 2 ^ 64 → t < d → d ≤ c → at cells x Write c ≡ Some (start_text t) → IsThere cells x Write d → c ≡ d
+  named_first x t c d low above most named other =
+      let j = shown.records x c (start_text t) named in
+      let k = shown.records x d other.0 other.1 in
+      let ej : j.commit.start ≡ t = same_start j.commit.start t (commit_low j.commit j.is_in) low (sym j.text) in
+      elim (cases_eq j.commit.start k.commit.start) [
+        | inl same ↦ sym j.stamp ∙ (ap (λ (m : Commit). m.stamp) (one_commit st.commits (reached_sound reached).starts_differ j.commit k.commit j.is_in k.is_in same) ∙ k.stamp)
+        | inr ne ↦ absurd (elim ((reached_sound reached).first_committer j.commit k.commit j.is_in k.is_in ne x j.writes k.writes) [
+          | inl before ↦ let later = ((reached_sound reached).fair k.commit k.is_in).later in let e = j.stamp in let g = k.stamp in omega arith
+          | inr before ↦ let g = k.stamp in omega arith
+        ])
+      ]
+
+  -- what the first cell of a start tells
+  pub tells_first : (t : ℕ) (first : Cell) → IsFirst st t first → TellsFirst cells st t first
+  tells_first t first is = record {
+    locked = λ there. let m = shown.locks first t there.0 there.1 in ((λ c. fate.committed c m), (λ d. fate.dead d m));
+    unlocked = λ gone i k g same. elim (fate.cleaned i k g same) [ inl m ↦ absurd (unmarked gone m) | inr f ↦ f ];
+    forward = λ c named.
+        let j = shown.records first c (start_text t) named in
+        let e : j.commit.start ≡ t = same_start j.commit.start t (commit_low j.commit j.is_in) low (sym j.text) in
+        (j.commit.writes, subst (λ (p : ℕ × ℕ). record { start = p.0; stamp = p.1; writes = j.commit.writes } ∈ st.commits) (λ i. (e i, j.stamp i)) j.is_in);
+    nearest = λ c d named above other. elim (cases_lt d c) [
+      | inl less ↦ absurd (let e = named_first first t c d low above (omega arith) named other in omega arith)
+      | inr most ↦ omega arith
+    ];
+    back = λ gone none x m. elim (fate.marked x m) [
+      | inl n ↦ absurd (unmarked gone n)
+      | inr f ↦ elim f [ inl c ↦ absurd (uncommitted gone none x m c) | inr dead ↦ dead ]
+    ];
+  }
+    where
+      fate : FateOf st t first
+      fate = fate_seen st reached t is.0 first is.1 is.2 is.3
+
+      low : t < 2 ^ 64
+      low = let to = (reached_bounds reached).start_to t is.0 is.2 in omega arith
+
+      unmarked : at cells first Lock t ≡ None → ¬ Marked st first t
+      unmarked gone m = none-some _ (sym gone ∙ (shown.marks first t m).lock)
+
+      uncommitted : at cells first Lock t ≡ None → ((c : ℕ) → t < c → at cells first Write c ≢ Some (start_text t)) → (x : Cell) → Marked st x t → IsCommitted st t → ⊥
+      uncommitted gone none x m (c, (ws, is_in)) =
+          let a : Commit = record { start = t; stamp = c; writes = ws } in
+          let f = (reached_sound reached).fair a is_in in
+          let names : Names a.writes first = (is.1, (0, subst (λ (l : Writes). Puts l 0 first is.1) (same_entry st.begun t is.0 ws is.2 f.wrote) is.3)) in
+          let later = f.later in
+          elim (shown.commits a is_in first names (unmarked gone)) [
+            | inl e ↦ none c later e
+            | inr r ↦ let above = r.3 in let below = r.4.1 x t m in omega arith
+          ]

@@ -1,0 +1,5 @@
+use Rattle.si_model.proofs.Enduring.{endures}
+use Rattle.si_model.proofs.laws.endures.Goals as goal
+
+pub returns : goal.returns
+returns c = endures

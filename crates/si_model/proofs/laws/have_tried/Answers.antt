@@ -1,0 +1,5 @@
+use Rattle.si_model.proofs.Enduring.{have_tried}
+use Rattle.si_model.proofs.laws.have_tried.Goals as goal
+
+pub returns : goal.returns
+returns c = have_tried

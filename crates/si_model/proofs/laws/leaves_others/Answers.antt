@@ -1,0 +1,5 @@
+use Rattle.si_model.proofs.Leaving.{leaves_others}
+use Rattle.si_model.proofs.laws.leaves_others.Goals as goal
+
+pub returns : goal.returns
+returns c = leaves_others

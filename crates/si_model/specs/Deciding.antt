@@ -1,0 +1,44 @@
+-- What stands at the first cell of a start tells its fate, and what a cleaner keeps of it.
+use Rattle.std.specs.Prelude.{◌≡◌, ◌≢◌, ℕ, ◌<◌, ◌≤◌, ◌⊎◌, Some, None}
+use Rattle.std.specs.FinMap.{get}
+use Rattle.cell_key.specs.Cells.{Cells}
+use Rattle.cell_key.specs.declared.keys.Qualifier.TheVariants.{Lock, Write}
+use Rattle.si_model.specs.State.{State, Cleaner, Marked, IsDead, CommittedAt, IsCommitted}
+use Rattle.si_model.specs.declared.replies.Cell.{Cell}
+use Rattle.si_model.specs.ShowsCells.{at, IsThere, IsFirst, start_text}
+
+-- What the first cell of a start tells. (Percolator, clean-up of locks: the primary.)
+pub record TellsFirst (cells : Cells) (st : State) (t : ℕ) (first : Cell) : Type 0 where
+  -- its lock stands: it has no fate yet
+  pub locked : IsThere cells first Lock t → (¬ IsCommitted st t) × (¬ IsDead st t)
+  -- its lock is gone: a start that a cleaner clears was committed or rolled back
+  pub unlocked : at cells first Lock t ≡ None → (i : ℕ) (k : Cleaner) → get st.cleaners i ≡ Some k → k.start ≡ t → IsCommitted st t ⊎ IsDead st t
+  -- a record names it: it was committed there
+  pub forward : (c : ℕ) → at cells first Write c ≡ Some (start_text t) → CommittedAt st t c
+  -- no record but the first above it can name it
+  pub nearest : (c d : ℕ) → at cells first Write c ≡ Some (start_text t) → t < d → IsThere cells first Write d → c ≤ d
+  -- Its lock is gone and no record names it: it was rolled back, as long as any mark of it stands. Its record may have been
+  -- collected instead, but then none does: a record goes only where a later one lies at or below each mark.
+  pub back : at cells first Lock t ≡ None → ((c : ℕ) → t < c → at cells first Write c ≢ Some (start_text t)) → (x : Cell) → Marked st x t → IsDead st t
+
+-- what a cleaner has found of a start's fate: nothing yet, its commit stamp, or that it was rolled back
+pub data Verdict : Type 0 where
+  NotYet : Verdict
+  Forward : (stamp : ℕ) → Verdict
+  Back : Verdict
+
+-- the verdict is right
+abbrev pub IsRight : State → ℕ → Verdict → Type 0
+IsRight st t NotYet = Unit {0}
+IsRight st t (Forward c) = CommittedAt st t c
+IsRight st t Back = IsDead st t
+
+-- what a cleaner of t's mark on x knows: t's first cell, and a verdict that is right as long as the mark stands
+pub record Knows (st : State) (x : Cell) (t : ℕ) (first : Cell) (verdict : Verdict) : Type 0 where
+  pub is_first : IsFirst st t first
+  pub right : Marked st x t → IsRight st t verdict
+
+-- what each open cleaner knows stays so
+abbrev pub CleanersKnow : State → State → Type 0
+CleanersKnow st next = (i : ℕ) (k : Cleaner) (first : Cell) (verdict : Verdict) → get st.cleaners i ≡ Some k
+    → Knows st k.cell k.start first verdict → Knows next k.cell k.start first verdict

@@ -1,0 +1,36 @@
+-- What each step keeps of marks and of fates, whoever takes it: what cleaners and collectors go by.
+use Rattle.std.specs.Prelude.{◌≡◌, ℕ, ◌<◌, ◌≤◌, ◌⊎◌, Some}
+use Rattle.std.specs.FinMap.{get}
+use Rattle.si_model.specs.Sets.{◌∈◌}
+use Rattle.si_model.specs.State.{State, Value, Writes, Phase, Open, Holding, Stamped, Finishing, Commit, Cleaner, InPhase, Wrote, Puts, Marked, IsDead}
+use Rattle.si_model.specs.declared.replies.Cell.{Cell}
+
+-- the session has gone past its k-th cell, counted from 0
+abbrev pub IsPast : Phase → ℕ → Type 0
+IsPast Open k = ⊥
+IsPast (Holding n) k = k < n
+IsPast (Stamped c) k = Unit {0}
+IsPast (Finishing c n) k = Unit {0}
+
+-- t has had its chance to mark x: x is among its cells, and it has gone past it or has ended
+pub record HasTried (st : State) (x : Cell) (t : ℕ) : Type 0 where
+  pub ws : Writes
+  pub k : ℕ
+  pub v : Value
+  pub wrote : Wrote st t ws
+  pub puts : Puts ws k x v
+  pub past : (p : Phase) → InPhase st t p → IsPast p k
+
+-- the start of each mark has had its chance there, and so has that of each open cleaner
+pub record HaveTried (st : State) : Type 0 where
+  pub marked : (x : Cell) (t : ℕ) → Marked st x t → HasTried st x t
+  pub cleaned : (i : ℕ) (k : Cleaner) → get st.cleaners i ≡ Some k → HasTried st k.cell k.start
+
+-- a mark that left never comes back, for its start has had its chance; and what was decided stays so
+pub record Endures (st next : State) : Type 0 where
+  pub tried : (x : Cell) (t : ℕ) → HasTried st x t → HasTried next x t
+  pub gone : (x : Cell) (t : ℕ) → HasTried st x t → Marked next x t → Marked st x t
+  -- a mark that joins is at or above the floor
+  pub joins : (x : Cell) (t : ℕ) → Marked next x t → Marked st x t ⊎ (st.floor ≤ t)
+  pub committed : (a : Commit) → a ∈ st.commits → a ∈ next.commits
+  pub dead : (t : ℕ) → IsDead st t → IsDead next t
