@@ -1,3 +1,5 @@
+//! The entries of a memtable or of a file, as one kind of source.
+
 use cell_key::{EntryRef, Refusal};
 use file_store::Files;
 use sorted_file::{FileCursor, Source};

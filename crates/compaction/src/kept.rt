@@ -1,3 +1,5 @@
+//! A source without its erasures.
+
 ghost use Rattle.std.specs.Prelude.{◌≡◌};
 ghost use Rattle.compaction.specs.Writing.{is_kept_lent};
 

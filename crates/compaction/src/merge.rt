@@ -1,3 +1,5 @@
+//! Several sources as one.
+
 ghost use Rattle.std.specs.Prelude.{ℕ, ◌≡◌, ◌≤◌, ◌+◌, None, length, map, is_some, sum_by, IsTrue, IsSome, OnOk, IfErr, IfSome, IsErrOf, option_and_then, option_copied};
 ghost use Rattle.std.specs.List.{AllByRecursion, AllZip};
 ghost use Rattle.file_store.specs.Store.{Contents};

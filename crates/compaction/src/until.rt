@@ -1,3 +1,5 @@
+//! A source up to a text.
+
 ghost use Rattle.std.specs.Prelude.{◌≡◌};
 ghost use Rattle.std.specs.Option.{option_copied};
 ghost use Rattle.compaction.specs.Ends.{is_below, is_at_end, end_of, source_of};

@@ -1,8 +1,10 @@
 -- What a cluster answers, from what the tablet of a row answers.
 use Rattle.std.proofs.Common.{◌≡◌, ◌<◌, ◌≤◌, ◌+◌, ◌-◌, ℕ, zero, suc, List, [], ◌∷◌, map, set, length, Option, Some, None, IfSome, Result, Ok, Err, IfOk, IfErr, OnOk, OnErr, IsTrue, slice_get, slice_index_or, refl, sym, ap, ◌∙◌, subst, arith}
 use Rattle.std.proofs.lemmas.List.{length-set}
+use Rattle.std.proofs.lemmas.Option.{same_Some}
 use Rattle.std.specs.List.{AllByRecursion}
 use Rattle.cell_key.specs.Cells.{Cells, IsEditOf, IsNewest, after_edits, version}
+use Rattle.cell_key.specs.Entries.{cells_of, merged}
 use Rattle.cell_key.specs.declared.edits.Edit.{Edit}
 use Rattle.cell_key.specs.declared.keys.Qualifier.{Qualifier}
 use Rattle.cell_key.specs.declared.refusals.Refusal.{Refusal}
@@ -13,12 +15,12 @@ use Rattle.metadata_table.specs.Places.{PlaceView}
 use Rattle.metadata_table.specs.Table.{IsTable, IsHolder}
 use Rattle.sorted_file.specs.Sources as sources
 use Rattle.sorted_file.specs.Opened.{name_of}
-use Rattle.tablet.specs.Ranges.{has_row}
-use Rattle.tablet.specs.Views.{Holds, IsBelow, cells_at, range_of, files_of, names_of, memory_of}
+use Rattle.tablet.specs.Ranges.{has_row, seen}
+use Rattle.tablet.specs.Views.{Holds, IsBelow, IsSameTablet, cells_at, lists_of, range_of, files_of, names_of, memory_of}
 use Rattle.tablet.specs.Laws.{StaysInRange}
 use Rattle.tablet.specs.declared.tablet.Tablet.{Tablet}
 use Rattle.row_atomic.specs.Refusals.{IsReadRefusal}
-use Rattle.row_atomic.specs.Clusters.{tablet_numbered, cells_in, edits_in, InOrder, ArePlaced, IsMatched, HasTabletAt, Overfills}
+use Rattle.row_atomic.specs.Clusters.{tablet_numbered, cells_in, joined, edits_in, InOrder, ArePlaced, IsMatched, HasTabletAt, Overfills}
 use Rattle.row_atomic.proofs.Owners.{OwnsRow, index_of, holder_owns}
 use Rattle.row_atomic.proofs.Shares.{each_at, each_set, at_told, cells_told, newest_of_row, applied}
 use Rattle.row_atomic.proofs.Placing.{is_placed, placed_set, set_same}
@@ -138,6 +140,37 @@ module _ (o : Option Contents) (next : ℕ) (ts : List Tablet) (order : InOrder 
       each_below = each_set (IsBelow next) ts i u order.each_below
           (subst (λ (names : List ℕ). AllByRecursion (λ name. name < next) names) (sym (ap (λ files. map name_of files) files)) (each_at (IsBelow next) ts order.each_below i t there));
     }
+
+-- ---- a tablet that was read
+
+module _ (o now : Option Contents) (next : ℕ) (ts : List Tablet) (i : ℕ) (t u : Tablet) (there : slice_get ts i ≡ Some t) (same : IsSameTablet o t u) (told : now ≡ o) (order : InOrder o next ts) where
+  was_open : Holds order.contents t
+  was_open = each_at (Holds order.contents) ts order.each_open i t there
+
+  is_still : Holds order.contents u × (lists_of order.contents u ≡ lists_of order.contents t)
+  is_still = at_told (λ m. Holds m t → Holds m u × (lists_of m u ≡ lists_of m t)) o order.contents order.are_told same.still was_open
+
+  pub read_still : InOrder now next (set ts i u)
+  read_still = record {
+    contents = order.contents;
+    are_told = told ∙ order.are_told;
+    each_open = each_set (Holds order.contents) ts i u order.each_open is_still.0;
+    each_below = each_set (IsBelow next) ts i u order.each_below (subst (λ (names : List ℕ). AllByRecursion (λ name. name < next) names) (sym same.names) (each_at (IsBelow next) ts order.each_below i t there));
+  }
+
+  same_cells : cells_at order.contents u ≡ cells_at order.contents t
+  same_cells = ap (λ range. cells_of (merged (map (seen range) (lists_of order.contents u)))) same.range ∙ ap (λ lists. cells_of (merged (map (seen (range_of t)) lists))) is_still.1
+
+  all_cells : (xs : List Tablet) (j : ℕ) → slice_get xs j ≡ Some t → map (cells_at order.contents) (set xs j u) ≡ map (cells_at order.contents) xs
+  all_cells [] j e = cc
+  all_cells (x ∷ xs) zero e = ap (λ (c : Cells). c ∷ map (cells_at order.contents) xs) (same_cells ∙ ap (cells_at order.contents) (sym (same_Some x t e)))
+  all_cells (x ∷ xs) (suc j) e = ap (λ (cs : List Cells). cells_at order.contents x ∷ cs) (all_cells xs j e)
+
+  pub read_kept : cells_in now (set ts i u) ≡ cells_in o ts
+  read_kept =
+      cells_told now order.contents (set ts i u) (told ∙ order.are_told)
+      ∙ ap joined (all_cells ts i there)
+      ∙ sym (cells_told o order.contents ts order.are_told)
 
 -- ---- the structure
 

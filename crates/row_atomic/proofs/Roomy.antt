@@ -167,3 +167,16 @@ room_after places ts at i t u edits there has under range memory row later full 
 
 pub room_stays : (places : List PlaceView) (ts : List Tablet) (i : ℕ) (t u : Tablet) → slice_get ts i ≡ Some t → u ≡ t → (row : List ℕ) (later : List Edit) → Overfills places (set ts i u) row later → Overfills places ts row later
 room_stays places ts i t u there same row later full = subst (λ (vs : List Tablet). Overfills places vs row later) (ap (set ts i) same ∙ set_same ts i t there) full
+
+-- a tablet of the same range and the same memtable has the same room
+pub room_same : (places : List PlaceView) (ts : List Tablet) (i : ℕ) (t u : Tablet) → slice_get ts i ≡ Some t → range_of u ≡ range_of t → memory_of u ≡ memory_of t → (row : List ℕ) (later : List Edit) → Overfills places (set ts i u) row later → Overfills places ts row later
+room_same places ts i t u there range memory row later full = go (numbered_set ts full.place.tablet i t u full.tablet there full.numbered)
+  where
+    go : (tablet_numbered full.place.tablet ts ≡ Some full.tablet) ⊎ ((tablet_numbered full.place.tablet ts ≡ Some t) × (full.tablet ≡ u)) → Overfills places ts row later
+    go (inl e) = record { place = full.place; holder = full.holder; tablet = full.tablet; numbered = e; over = full.over }
+    go (inr e) =
+        let all : with_edits (memory_of full.tablet) (edits_in (range_of full.tablet) later) ≡ with_edits (memory_of t) (edits_in (range_of t) later) =
+        ap (λ (v : Tablet). with_edits (memory_of v) (edits_in (range_of v) later)) e.1
+        ∙ ap (λ (range : RowRange). with_edits (memory_of u) (edits_in range later)) range
+        ∙ ap (λ (es : List Entry). with_edits es (edits_in (range_of t) later)) memory in
+        record { place = full.place; holder = full.holder; tablet = t; numbered = e.0; over = λ within. full.over (subst (λ (es : List Entry). IsWithinLimits es) (sym all) within) }

@@ -7,3 +7,4 @@ mod Rest
 mod Results
 mod Spelling
 mod Splits
+mod Values

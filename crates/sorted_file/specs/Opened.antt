@@ -1,5 +1,6 @@
 -- What an open file stands for.
-use Rattle.std.specs.Prelude.{◌≡◌, ℕ, List, Some}
+use Rattle.std.specs.Prelude.{◌≡◌, ◌≤◌, ℕ, List, length, Option, Some, IfSome, option_map}
+use Rattle.std.specs.declared.vec.Vec.{Vec}
 use Rattle.std.specs.FinMap as map
 use Rattle.cell_key.specs.Entries.{Entry, IsEntryList}
 use Rattle.file_store.specs.Store.{Contents}
@@ -28,6 +29,19 @@ pub record IsOpen (m : Contents) (file : SortedFile) : Type 0 where
   pub image : List ℕ
   pub there : map.get m (name_of file) ≡ Some image
   pub form : IsFile (listed m file) image
+
+-- Over these files an open file is what it was: it has its name, and where it was open it is, and stands for the same entries.
+pub record IsSameFile (told : Option Contents) (old new : SortedFile) : Type 0 where
+  pub name : name_of new ≡ name_of old
+  pub still : IfSome told (λ m. IsOpen m old → IsOpen m new × (listed m new ≡ listed m old))
+
+-- the bytes of a value that was found, or of an erasure none
+abbrev pub value_bytes : {Z : Type 0} → Option (Vec ℕ Z) → Option (List ℕ)
+value_bytes value = option_map (λ bytes. bytes.items) value
+
+-- a value has at most 65,536 bytes
+abbrev pub IsShortValue : {Z : Type 0} → Option (Vec ℕ Z) → Type 0
+IsShortValue value = IfSome value (λ bytes. length bytes.items ≤ 65536)
 
 -- An open file stays open, and stands for the same entries, while the bytes under its name stay.
 abbrev pub StaysOpen : Type 0

@@ -1,3 +1,5 @@
+//! A place among the entries of an open file.
+
 use crate::entries::FileEntry;
 use crate::sources::Source;
 use cell_key::{EntryRef, Refusal};

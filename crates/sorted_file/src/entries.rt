@@ -1,6 +1,6 @@
 //! Entries that are kept in memory.
 
-ghost use Rattle.std.specs.Prelude.{◌≡◌, ◌≤◌, ◌<◌, ◌^◌, ◌↔◌, List, length, IsTrue, IfOk, IfErr, IfSome, IfNone, option_map};
+ghost use Rattle.std.specs.Prelude.{◌≡◌, ◌≤◌, ◌<◌, ◌^◌, ◌↔◌, ◌⊎◌, List, length, IsTrue, IfOk, IfErr, IfSome, IfNone, IsErrOf, option_map};
 ghost use Rattle.std.specs.Ordering.{is_lt};
 ghost use Rattle.cell_key.specs.Keys.{byte_cmp};
 ghost use Rattle.cell_key.specs.Entries.{Entry, IsEntry, IsPlace, IsRising, lent_entry, entry_of_key};
@@ -32,6 +32,24 @@ impl FileEntry {
             key: self.text.as_slice(),
             value,
         }
+    }
+
+    /// A copy of the value, or nothing for an erasure. Refused Damaged where it is longer than a value may be,
+    /// and NoMemory.
+    pub(crate) fn copy_value(&self, alloc: Global) -> Result<Option<Vec<u8>>, Refusal>
+        ensures copy { IfOk result (λ copy. option_map (λ bytes. bytes.items) copy ≡ (file_entry self.now).1) }
+        ensures short { IfOk result (λ copy. IfSome copy (λ bytes. length bytes.items ≤ 65536)) }
+        ensures damaged { IsErrOf result Refusal.Damaged → ¬ IfSome (file_entry self.now).1 (λ bytes. length bytes ≤ 65536) }
+        ensures refusal { IfErr result (λ refusal. (refusal ≡ Refusal.NoMemory) ⊎ (refusal ≡ Refusal.Damaged)) }
+    {
+        let Some(value) = &self.value else {
+            return Ok(None);
+        };
+        if value.len() > MOST_VALUE {
+            return Err(Refusal::Damaged);
+        }
+        let copy = Vec::from_slice(alloc, value)?;
+        Ok(Some(copy))
     }
 }
 
@@ -113,8 +131,7 @@ pub(crate) fn first_from(entries: &[FileEntry], text: &[u8]) -> usize
 
 /// The entry at a text.
 pub(crate) fn find<'a>(entries: &'a [FileEntry], text: &[u8]) -> Option<&'a FileEntry>
-    ensures found { IsRising (kept entries.now) → option_map (λ entry. (file_entry entry.now).1) result ≡ entry_of_key (kept entries.now) text.now }
-    ensures named { IfSome result (λ entry. entry.now.text.items ≡ text.now) }
+    ensures { IsRising (kept entries.now) → option_map (λ entry. (file_entry entry.now).1) result ≡ entry_of_key (kept entries.now) text.now }
 {
     let entry = entries.get(first_from(entries, text))?;
     if text.cmp(&entry.text.as_slice()).is_eq() {

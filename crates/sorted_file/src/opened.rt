@@ -1,7 +1,9 @@
-ghost use Rattle.std.specs.Prelude.{◌≡◌, ◌⊎◌, ℕ, List, Some, None, option_map, length, IfOk, IfErr, IfSome, IsErrOf, OnOk};
+//! A file of entries that is open for reading.
+
+ghost use Rattle.std.specs.Prelude.{◌≡◌, Some, None, option_map, IfOk, IfErr, IfSome, IsErrOf};
 ghost use Rattle.std.specs.FinMap as map;
 ghost use Rattle.cell_key.specs.Keys.{text};
-ghost use Rattle.cell_key.specs.Entries.{Entry, lent_entry, entry_of_key, entries_from};
+ghost use Rattle.cell_key.specs.Entries.{entry_of_key, entries_from};
 ghost use Rattle.file_store.specs.Store.{Contents};
 ghost use Rattle.sorted_file.specs.Sources.{IsReadRefusal};
 ghost use Rattle.cell_key.specs.Faults.{HasReason};
@@ -10,7 +12,7 @@ use crate::cursors::FileCursor;
 use crate::entries::{FileEntry, find, first_from};
 use crate::images::entries_of;
 use crate::sources::refusal_of;
-use cell_key::{CellKey, EntryRef, Refusal};
+use cell_key::{CellKey, Refusal};
 use file_store::{Files, read_whole};
 use std::alloc::Global;
 
@@ -39,7 +41,7 @@ pub struct SortedFile {
 
 impl SortedFile {
     ghost use Rattle.sorted_file.specs.Cursors.{cursor_lent, cursor_remaining, CursorHolds};
-    ghost use Rattle.sorted_file.specs.Opened.{HasFile, IsOpen, listed, name_of};
+    ghost use Rattle.sorted_file.specs.Opened.{HasFile, IsOpen, IsSameFile, IsShortValue, listed, name_of, value_bytes};
 
     /// Opens a file. Refused Damaged where it isn't there or is the file of no entry list, Device and
     /// NoMemory.
@@ -69,26 +71,32 @@ impl SortedFile {
         self.name
     }
 
-    /// The entry of a key, if it has one: its value, or an erasure. Refused Device, NoMemory, and Damaged
-    /// only where the file is no longer what was opened.
+    /// What the file has of a key: a value, of at most 65,536 bytes, `Some(None)` where it is an erasure, and
+    /// `None` where the file has no entry of the key. The file stays what it was, also after an `Err`.
+    ///
+    /// # Errors
+    ///
+    /// `Device`, `NoMemory`, and `Damaged` only where the file is no longer what was opened.
     pub fn lookup<F: Files>(
-        &self,
+        &mut self,
         key: &CellKey,
         files: &mut F,
-    ) -> Result<Option<EntryRef<'_>>, Refusal>
-        ensures found { IfOk result (λ found. IfSome (F.contents files.old) (λ m. IsOpen m self.now → option_map (λ lent. (lent_entry lent).1) found ≡ entry_of_key (listed m self.now) (text key.now))) }
-        ensures named { IfOk result (λ found. IfSome found (λ lent. lent.key.now ≡ text key.now)) }
-        ensures damaged { IsErrOf result Refusal.Damaged → IfSome (F.contents files.old) (λ m. ¬ IsOpen m self.now) }
+    ) -> Result<Option<Option<Vec<u8>>>, Refusal>
+        ensures found { IfOk result (λ found. IfSome (F.contents files.old) (λ m. IsOpen m self.old → option_map value_bytes found ≡ entry_of_key (listed m self.old) (text key.now))) }
+        ensures short { IfOk result (λ found. IfSome found IsShortValue) }
+        ensures stays { IsSameFile (F.contents files.old) self.old self.new }
+        ensures damaged { IsErrOf result Refusal.Damaged → IfSome (F.contents files.old) (λ m. ¬ IsOpen m self.old) }
         ensures refusal { IfErr result IsReadRefusal }
         ensures same { F.contents files.new ≡ F.contents files.old }
         ensures reason { HasReason (F.faults files.old) (F.faults files.new) result }
     {
         let mut text = Vec::new(self.alloc);
         key.encode(&mut text)?;
-        match find(&self.entries, &text) {
-            Some(entry) => Ok(Some(entry.lend())),
-            None => Ok(None),
-        }
+        let Some(entry) = find(&self.entries, &text) else {
+            return Ok(None);
+        };
+        let value = entry.copy_value(self.alloc)?;
+        Ok(Some(value))
     }
 
     /// The entries from the first text on that isn't below `from`, which is any bytes.

@@ -1,3 +1,5 @@
+//! Sources: entries that come one after the other.
+
 ghost use Rattle.std.specs.Prelude.{◌≡◌, ◌≤◌, ◌+◌, ℕ, List, Option, option_map, is_some, IfOk, OnOk, IfSome, IsErrOf, IfErr, if◌then◌else◌};
 ghost use Rattle.file_store.specs.Store.{Contents};
 ghost use Rattle.cell_key.specs.Entries.{Entry, IsEntryList, Takes, lent_entry};

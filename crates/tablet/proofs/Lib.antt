@@ -10,6 +10,7 @@ pub mod Making
 pub mod NextCells
 pub mod Parting
 pub mod Passed
+pub mod SameFiles
 pub mod Seen
 pub mod Short
 pub mod Showing

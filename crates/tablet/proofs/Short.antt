@@ -1,19 +1,15 @@
 -- The values of entry lists are short.
-use Rattle.std.proofs.Common.{◌≡◌, ℕ, Bool, true, false, cond, List, [], ◌∷◌, map, Option, Some, None, sym, ap, subst}
+use Rattle.std.proofs.Common.{◌≡◌, ℕ, Bool, true, false, cond, List, [], ◌∷◌, Option, Some, sym, ap, subst}
 use Rattle.std.specs.Prelude.{IfSome}
 use Rattle.std.specs.Option.{unwrap_or}
 use Rattle.std.specs.List.{AllByRecursion}
 use Rattle.std.specs.Ordering.{eq_by_cmp}
 use Rattle.std.specs.FinMap.Entries.{find}
 use Rattle.cell_key.specs.Keys.{byte_cmp}
-use Rattle.cell_key.specs.Entries.{Entry, IsEntry, IsEntryList, entry_of_key, first_naming, or_else}
-use Rattle.file_store.specs.Store.{Contents}
-use Rattle.sorted_file.specs.Opened.{IsOpen, listed}
-use Rattle.sorted_file.specs.declared.opened.SortedFile.{SortedFile}
+use Rattle.cell_key.specs.Entries.{Entry, IsEntry, IsEntryList, entry_of_key}
 use Rattle.tablet.specs.Reads.{IsShort}
-use Rattle.tablet.proofs.Held.{open_lists}
 
-pub entry_short : (es : List Entry) → AllByRecursion IsEntry es → (name : List ℕ) (v : Option (List ℕ)) → entry_of_key es name ≡ Some v → IfSome v IsShort
+entry_short : (es : List Entry) → AllByRecursion IsEntry es → (name : List ℕ) (v : Option (List ℕ)) → entry_of_key es name ≡ Some v → IfSome v IsShort
 entry_short [] all name v e = cc
 entry_short (x ∷ es) all name v e = go (eq_by_cmp byte_cmp name x.0) (entry_short es all.1 name v) e
   where
@@ -21,19 +17,6 @@ entry_short (x ∷ es) all name v e = go (eq_by_cmp byte_cmp name x.0) (entry_sh
     go true more e = subst (λ (w : Option (List ℕ)). IfSome w IsShort) (ap (λ (o : Option (Option (List ℕ))). unwrap_or o x.1) e) all.0.value
     go false more e = more e
 
-first_short : (lists : List (List Entry)) → AllByRecursion IsEntryList lists → (name : List ℕ) (v : Option (List ℕ)) → first_naming lists name ≡ Some v → IfSome v IsShort
-first_short [] all name v e = cc
-first_short (es ∷ lists) all name v e = go (entry_of_key es name) (entry_short es all.0.each name v) (first_short lists all.1 name v) e
-  where
-    go : (o : Option (Option (List ℕ))) → (o ≡ Some v → IfSome v IsShort) → (first_naming lists name ≡ Some v → IfSome v IsShort) → or_else o (first_naming lists name) ≡ Some v → IfSome v IsShort
-    go None here more e = more e
-    go (Some w) here more e = here e
-
 -- a long value is of no memtable
 pub long_of_none : (es : List Entry) → IsEntryList es → (name : List ℕ) (v : Option (List ℕ)) → Some v ≡ entry_of_key es name → ¬ IfSome v IsShort → ⊥
 long_of_none es list name v e long = long (entry_short es list.each name v (sym e))
-
--- a long value is of no open files
-pub long_unopened : (o : Option Contents) (files : List SortedFile) (name : List ℕ) (v : Option (List ℕ)) → IfSome o (λ m. AllByRecursion (IsOpen m) files → Some v ≡ first_naming (map (listed m) files) name) → ¬ IfSome v IsShort → IfSome o (λ m. ¬ AllByRecursion (IsOpen m) files)
-long_unopened None files name v h long = tt
-long_unopened (Some m) files name v h long = λ opened. long (first_short (map (listed m) files) (open_lists m files opened) name v (sym (h opened)))

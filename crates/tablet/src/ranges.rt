@@ -1,3 +1,5 @@
+//! Ranges of rows.
+
 use cell_key::Row;
 
 /// The rows after one row, up to and with another. With no row `after` it begins at the first row, and with

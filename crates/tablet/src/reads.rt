@@ -2,12 +2,12 @@
 
 ghost use Rattle.std.specs.Prelude.{◌≡◌, ◌⊎◌, ◌≤◌, ◌<◌, ◌∷◌, Some, option_map, map, length, IfOk, IfErr, IfSome, IsErrOf};
 ghost use Rattle.std.specs.Option.{option_copied};
-ghost use Rattle.std.specs.List.{AllByRecursion};
+ghost use Rattle.std.specs.List.{AllByRecursion, AllZip};
 ghost use Rattle.cell_key.specs.Names.{IsRow, IsFamily};
 ghost use Rattle.cell_key.specs.Keys.{text, IsStored};
 ghost use Rattle.cell_key.specs.Cells.{version};
 ghost use Rattle.cell_key.specs.Entries.{IsEntry, lent_entry, first_naming, value_of};
-ghost use Rattle.sorted_file.specs.Opened.{IsOpen, listed};
+ghost use Rattle.sorted_file.specs.Opened.{IsOpen, IsSameFile, IsShortValue, listed, value_bytes};
 ghost use Rattle.sorted_file.specs.Sources.{IsReadRefusal};
 ghost use Rattle.cell_key.specs.Faults.{HasReason};
 ghost use Rattle.tablet.specs.Sources.{part};
@@ -117,40 +117,41 @@ pub(crate) fn first_value<F: Files>(
     next_value(alloc, &mut merge, store)
 }
 
-/// The entry of a key in the first of some files that names it.
-fn find_in_files<'a, F: Files>(
-    files: &'a [SortedFile],
+/// What the first of some files that names a key has of it. The files stay what they were.
+fn find_in_files<F: Files>(
+    files: &mut [SortedFile],
     key: &CellKey,
     store: &mut F,
-) -> Result<Option<EntryRef<'a>>, Refusal>
-    ensures found { IfOk result (λ found. IfSome (F.contents store.old) (λ m. AllByRecursion (IsOpen m) files.now → option_map (λ lent. (lent_entry lent).1) found ≡ first_naming (map (listed m) files.now) (text key.now))) }
-    ensures damaged { IsErrOf result Refusal.Damaged → IfSome (F.contents store.old) (λ m. ¬ AllByRecursion (IsOpen m) files.now) }
+) -> Result<Option<Option<Vec<u8>>>, Refusal>
+    ensures found { IfOk result (λ found. IfSome (F.contents store.old) (λ m. AllByRecursion (IsOpen m) files.old → option_map value_bytes found ≡ first_naming (map (listed m) files.old) (text key.now))) }
+    ensures short { IfOk result (λ found. IfSome found IsShortValue) }
+    ensures stay { AllZip (IsSameFile (F.contents store.old)) files.old files.new }
+    ensures damaged { IsErrOf result Refusal.Damaged → IfSome (F.contents store.old) (λ m. ¬ AllByRecursion (IsOpen m) files.old) }
     ensures refusal { IfErr result IsReadRefusal }
     ensures same { F.contents store.new ≡ F.contents store.old }
     ensures reason { HasReason (F.faults store.old) (F.faults store.new) result }
 {
-    let mut left = files;
-    while let Some((file, older)) = left.split_first() {
-        if let Some(entry) = file.lookup(key, store)? {
-            return Ok(Some(entry));
+    for file in files.iter_mut() {
+        if let Some(value) = file.lookup(key, store)? {
+            return Ok(Some(value));
         }
-        left = older;
     }
     Ok(None)
 }
 
 /// The value of a key in a memtable, or else in the first of some files that names it. An erasure is no
-/// value.
+/// value. The files stay what they were.
 pub(crate) fn lookup<F: Files>(
     alloc: Global,
     memtable: &Memtable,
-    files: &[SortedFile],
+    files: &mut [SortedFile],
     key: &CellKey,
     store: &mut F,
 ) -> Result<Option<Vec<u8>>, Refusal>
-    ensures found { IfOk result (λ found. IfSome (F.contents store.old) (λ m. AllByRecursion (IsOpen m) files.now → option_map (λ bytes. bytes.items) found ≡ value_of (first_naming (memtable.now ∷ map (listed m) files.now) (text key.now)))) }
+    ensures found { IfOk result (λ found. IfSome (F.contents store.old) (λ m. AllByRecursion (IsOpen m) files.old → option_map (λ bytes. bytes.items) found ≡ value_of (first_naming (memtable.now ∷ map (listed m) files.old) (text key.now)))) }
     ensures short { IfOk result (λ found. IfSome found (λ bytes. length bytes.items ≤ 65536)) }
-    ensures damaged { IsErrOf result Refusal.Damaged → IfSome (F.contents store.old) (λ m. ¬ AllByRecursion (IsOpen m) files.now) }
+    ensures stay { AllZip (IsSameFile (F.contents store.old)) files.old files.new }
+    ensures damaged { IsErrOf result Refusal.Damaged → IfSome (F.contents store.old) (λ m. ¬ AllByRecursion (IsOpen m) files.old) }
     ensures refusal { IfErr result IsReadRefusal }
     ensures same { F.contents store.new ≡ F.contents store.old }
     ensures reason { HasReason (F.faults store.old) (F.faults store.new) result }
@@ -159,7 +160,7 @@ pub(crate) fn lookup<F: Files>(
         return copied(alloc, newest.value);
     }
     match find_in_files(files, key, store)? {
-        Some(entry) => copied(alloc, entry.value),
+        Some(value) => Ok(value),
         None => Ok(None),
     }
 }

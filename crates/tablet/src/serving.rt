@@ -49,11 +49,11 @@ fn later<'a>(a: &'a [u8], b: &'a [u8]) -> &'a [u8]
 
 impl Tablet {
     ghost use Rattle.file_store.specs.Store.{Contents};
-    ghost use Rattle.tablet.specs.Views.{range_of, cells_at, Holds};
+    ghost use Rattle.tablet.specs.Views.{range_of, cells_at, Holds, IsSameTablet};
 
     /// The value of a version, if the tablet has it, by lookups.
     fn version_at<F: Files>(
-        &self,
+        &mut self,
         row: &Row,
         family: &Family,
         qualifier: Qualifier,
@@ -62,15 +62,16 @@ impl Tablet {
     ) -> Result<Option<(Stamp, Vec<u8>)>, Refusal>
         requires from { 1 ≤ stamp }
         requires to { stamp < 2 ^ 63 }
-        ensures found { IfOk result (λ found. IfSome (F.contents files.old) (λ m. Holds m self.now → IsTrue (has_row (range_of self.now) row.now) → IsNewest (cells_at m self.now) (version row.now family.now qualifier) stamp stamp (option_map stamped found))) }
+        ensures found { IfOk result (λ found. IfSome (F.contents files.old) (λ m. Holds m self.old → IsTrue (has_row (range_of self.old) row.now) → IsNewest (cells_at m self.old) (version row.now family.now qualifier) stamp stamp (option_map stamped found))) }
         ensures limits { IfOk result (λ found. IfSome (option_map stamped found) (IsVersionIn stamp stamp)) }
-        ensures damaged { IsErrOf result Refusal.Damaged → IfSome (F.contents files.old) (λ m. ¬ Holds m self.now) }
+        ensures stays { IsSameTablet (F.contents files.old) self.old self.new }
+        ensures damaged { IsErrOf result Refusal.Damaged → IfSome (F.contents files.old) (λ m. ¬ Holds m self.old) }
         ensures refusal { IfErr result IsReadRefusal }
         ensures same { F.contents files.new ≡ F.contents files.old }
         ensures reason { HasReason (F.faults files.old) (F.faults files.new) result }
     {
         let key = version_key(row, family, qualifier, stamp)?;
-        match lookup(self.alloc, &self.memtable, &self.files, &key, files)? {
+        match lookup(self.alloc, &self.memtable, &mut self.files, &key, files)? {
             Some(value) => Ok(Some((stamp, value))),
             None => Ok(None),
         }
@@ -116,13 +117,13 @@ impl Tablet {
 
     /// The version of a cell's column with the greatest stamp in `lo..=hi` (Bigtable, timestamps), or
     /// nothing. Where both stamps are one it is looked up, and else no more of a file is read than the range
-    /// asks for.
+    /// asks for. The tablet stays what it was, also after an `Err`.
     ///
     /// # Errors
     ///
     /// `Damaged` only where a file is no longer what was opened, `Device` and `NoMemory`.
     pub fn newest<F: Files>(
-        &self,
+        &mut self,
         row: &Row,
         family: &Family,
         qualifier: Qualifier,
@@ -130,9 +131,10 @@ impl Tablet {
         hi: Stamp,
         files: &mut F,
     ) -> Result<Option<(Stamp, Vec<u8>)>, Refusal>
-        ensures found { IfOk result (λ found. IfSome (F.contents files.old) (λ m. Holds m self.now → IsTrue (has_row (range_of self.now) row.now) → IsNewest (cells_at m self.now) (version row.now family.now qualifier) lo hi (option_map stamped found))) }
+        ensures found { IfOk result (λ found. IfSome (F.contents files.old) (λ m. Holds m self.old → IsTrue (has_row (range_of self.old) row.now) → IsNewest (cells_at m self.old) (version row.now family.now qualifier) lo hi (option_map stamped found))) }
         ensures limits { IfOk result (λ found. IfSome (option_map stamped found) (IsVersionIn lo hi)) }
-        ensures damaged { IsErrOf result Refusal.Damaged → IfSome (F.contents files.old) (λ m. ¬ Holds m self.now) }
+        ensures stays { IsSameTablet (F.contents files.old) self.old self.new }
+        ensures damaged { IsErrOf result Refusal.Damaged → IfSome (F.contents files.old) (λ m. ¬ Holds m self.old) }
         ensures refusal { IfErr result IsReadRefusal }
         ensures same { F.contents files.new ≡ F.contents files.old }
         ensures reason { HasReason (F.faults files.old) (F.faults files.new) result }

@@ -84,7 +84,7 @@ fn major(store: &mut Store) -> Result<(), Refusal> {
 /// Whether a tablet and a map in memory show the same at a row, at each range of stamps.
 fn agrees_at(
     alloc: Global,
-    tablet: &Tablet,
+    tablet: &mut Tablet,
     files: &mut MemFiles,
     plain: &mut PlainRows,
     row: u8,
@@ -107,7 +107,7 @@ fn agrees(store: &mut Store, rows: &[u8]) -> Result<bool, Refusal> {
     for row in rows {
         if !agrees_at(
             store.alloc,
-            &store.tablet,
+            &mut store.tablet,
             &mut store.files,
             &mut store.plain,
             *row,

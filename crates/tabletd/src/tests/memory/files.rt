@@ -178,20 +178,25 @@ const SORTED_CALLS: [Call; 7] = [
 /// Appends the value of a file at a stamp of `a`.
 fn push_at(
     alloc: Global,
-    file: &SortedFile,
+    file: &mut SortedFile,
     files: &mut MemFiles,
     stamp: Stamp,
     out: &mut Vec<u8>,
 ) -> Result<(), Refusal> {
     let row = Row::new(alloc, b"a")?;
     let key = data_key(alloc, &row, b"bal", stamp)?;
-    push_value(file.lookup(&key, files)?, out)
+    match file.lookup(&key, files)? {
+        Some(Some(value)) => out.extend_from_slice(&value)?,
+        Some(None) => out.push(b'x')?,
+        None => out.push(b'-')?,
+    }
+    Ok(())
 }
 
 /// Appends the values of a file in the order of their keys.
 fn push_sorted(
     alloc: Global,
-    file: &SortedFile,
+    file: &mut SortedFile,
     files: &mut MemFiles,
     out: &mut Vec<u8>,
 ) -> Result<(), Refusal> {
@@ -201,8 +206,8 @@ fn push_sorted(
 
 impl Sorted {
     fn open_again(&mut self, alloc: Global, out: &mut Vec<u8>) -> Result<(), Refusal> {
-        let file = SortedFile::open(alloc, 1, &mut self.files)?;
-        push_sorted(alloc, &file, &mut self.files, out)
+        let mut file = SortedFile::open(alloc, 1, &mut self.files)?;
+        push_sorted(alloc, &mut file, &mut self.files, out)
     }
 
     fn write_again(&mut self, alloc: Global) -> Result<(), Refusal> {
@@ -247,7 +252,7 @@ impl Subject for Sorted {
         match number {
             0 => self.write_again(alloc),
             1 => self.open_again(alloc, out),
-            2 => push_at(alloc, &self.file, &mut self.files, 1, out),
+            2 => push_at(alloc, &mut self.file, &mut self.files, 1, out),
             3 => self.merge(alloc),
             4 => write(alloc, &mut self.table, b'a', 3, b'3'),
             5 => write(alloc, &mut self.table, b'a', 2, b'3'),
@@ -258,6 +263,6 @@ impl Subject for Sorted {
     fn read(&mut self, alloc: Global, out: &mut Vec<u8>) -> Result<(), Refusal> {
         push_sizes(&mut self.files, out)?;
         push_table(&self.table, out)?;
-        push_sorted(alloc, &self.file, &mut self.files, out)
+        push_sorted(alloc, &mut self.file, &mut self.files, out)
     }
 }

@@ -1,13 +1,14 @@
-use Rattle.std.proofs.Common.{rules, ◌≡◌, Some, List, sym, ap, subst, ◌∙◌}
-use Rattle.cell_key.specs.Keys.{text}
+use Rattle.std.proofs.Common.{rules, ◌≡◌, List, refl, sym, ap, subst, ◌∙◌}
 use Rattle.cell_key.specs.Entries.{Entry, IsRising, entry_of_key}
-use Rattle.sorted_file.specs.Kept.{kept}
-use Rattle.sorted_file.proofs.Results.{as_some}
+use Rattle.sorted_file.specs.Kept.{file_entry, kept}
+use Rattle.sorted_file.proofs.Results.{as_some, passed_on}
+use Rattle.sorted_file.proofs.Values.{entry_short}
 use Rattle.sorted_file.proofs.opened.SortedFile.lookup.Goals as goal
 
-pub returns-in-Some-clause-found : goal.returns-in-Some-clause-found
-returns-in-Some-clause-found g c = as_some (g.F.Files.contents c.args.files.now) _ (λ m opened.
+pub returns-in_err-value-clause-damaged : goal.returns-in_err-value-clause-damaged
+returns-in_err-value-clause-damaged g c = λ is.
+    let long = c.in_err-value.ensures.damaged (passed_on c.from_residual-in_err-value.result _ c.in_err-value.field-0.0 _ c.from_residual-in_err-value.ensures.1 refl is) in
     let list = ap kept c.deref.ensures.value in
-    let name : c.deref-2.result.now ≡ text c.args.key.now = search rules in
-    ap (λ (e : Entry). Some e.1) c.lend.ensures ∙ c.in-Some.ensures.found (subst (λ (es : List Entry). IsRising es) (sym list) opened.list.rising)
-    ∙ ap (λ es. entry_of_key es c.deref-2.result.now) list ∙ ap (entry_of_key (kept c.args.self.now.entries.items)) name)
+    as_some (g.F.Files.contents c.args.files.now) _ (λ m opened.
+    let there = c.in-Some.ensures (subst (λ (es : List Entry). IsRising es) (sym list) opened.list.rising) in
+    long (entry_short (kept c.args.self.now.entries.items) opened.list.each c.deref-2.result.now (file_entry c.in-Some.entry.now).1 (sym (there ∙ ap (λ (es : List Entry). entry_of_key es c.deref-2.result.now) list))))

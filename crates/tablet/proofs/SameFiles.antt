@@ -1,0 +1,119 @@
+-- Files that are what they were.
+use Rattle.std.proofs.Common.{◌≡◌, ◌+◌, ◌<◌, ℕ, zero, suc, List, [], ◌∷◌, map, drop, set, get_or, length, Option, Some, None, refl, sym, ap, subst, ◌∙◌, arith}
+use Rattle.std.specs.Prelude.{IfSome, ⊤}
+use Rattle.std.specs.List.{AllByRecursion, AllZip}
+use Rattle.cell_key.specs.Entries.{Entry, IsEntryList, first_naming, entry_of_key, or_else}
+use Rattle.file_store.specs.Store.{Contents}
+use Rattle.sorted_file.specs.Opened.{IsOpen, IsSameFile, listed, name_of}
+use Rattle.sorted_file.specs.declared.opened.SortedFile.{SortedFile}
+use Rattle.tablet.specs.Views.{range_of, memory_of, files_of, lists_of, Holds, IsSameTablet}
+use Rattle.tablet.specs.declared.tablet.Tablet.{Tablet}
+
+-- facts over the files, which tell the same
+told_both : (o now : Option Contents) → now ≡ o → (P Q R : Contents → Type 0) → ((m : Contents) → o ≡ Some m → P m → Q m → R m) → IfSome o P → IfSome now Q → IfSome o R
+told_both None now same P Q R f p q = tt
+told_both (Some m) now same P Q R f p q = f m refl p (subst (λ (told : Option Contents). IfSome told Q) same q)
+
+told_any : (o : Option Contents) → IfSome o (λ _. ⊤)
+told_any None = tt
+told_any (Some m) = tt
+
+same_file : (o : Option Contents) (f : SortedFile) → IsSameFile o f f
+same_file None f = record { name = refl; still = tt }
+same_file (Some m) f = record { name = refl; still = λ is. (is, refl) }
+
+same_after : (o : Option Contents) (f g h : SortedFile) → IsSameFile o f g → IsSameFile o g h → IsSameFile o f h
+same_after None f g h p q = record { name = q.name ∙ p.name; still = tt }
+same_after (Some m) f g h p q = record { name = q.name ∙ p.name; still = λ is. let first = p.still is in let second = q.still first.0 in (second.0, second.1 ∙ first.1) }
+
+module _ (o : Option Contents) where
+  pub same_files : (xs : List SortedFile) → AllZip (IsSameFile o) xs xs
+  same_files [] = tt
+  same_files (x ∷ xs) = (same_file o x, same_files xs)
+
+  pub same_names : (xs ys : List SortedFile) → AllZip (IsSameFile o) xs ys → map name_of ys ≡ map name_of xs
+  same_names [] [] all = refl
+  same_names [] (y ∷ ys) all = absurd all
+  same_names (x ∷ xs) [] all = absurd all
+  same_names (x ∷ xs) (y ∷ ys) all = ap (λ name. name ∷ map name_of ys) all.0.name ∙ ap (λ names. name_of x ∷ names) (same_names xs ys all.1)
+
+module _ (m : Contents) where
+  -- where they were open they are, and stand for the same lists
+  pub record AreStill (xs ys : List SortedFile) : Type 0 where
+    pub each : AllByRecursion (IsOpen m) ys
+    pub lists : map (listed m) ys ≡ map (listed m) xs
+
+  pub still_files : (xs ys : List SortedFile) → AllZip (IsSameFile (Some m)) xs ys → AllByRecursion (IsOpen m) xs → AreStill xs ys
+  still_files [] [] all is = record { each = tt; lists = refl }
+  still_files [] (y ∷ ys) all is = absurd all
+  still_files (x ∷ xs) [] all is = absurd all
+  still_files (x ∷ xs) (y ∷ ys) all is =
+      let first = all.0.still is.0 in
+      let rest = still_files xs ys all.1 is.1 in
+      record { each = (first.0, rest.each); lists = ap (λ es. es ∷ map (listed m) ys) first.1 ∙ ap (λ lists. listed m x ∷ lists) rest.lists }
+
+-- One file is looked up in, after those before it.
+module _ (o now : Option Contents) (same : now ≡ o) (xs ys : List SortedFile) (i : ℕ) (d : SortedFile) (below : i < length ys) (all : AllZip (IsSameFile o) xs ys) where
+  pub same_set : (u : SortedFile) → IsSameFile now (get_or ys i d) u → AllZip (IsSameFile o) xs (set ys i u)
+  same_set u is = at xs ys i below all (subst (λ (told : Option Contents). IsSameFile told (get_or ys i d) u) same is)
+    where
+      at : (xs ys : List SortedFile) (i : ℕ) → i < length ys → AllZip (IsSameFile o) xs ys → IsSameFile o (get_or ys i d) u → AllZip (IsSameFile o) xs (set ys i u)
+      at [] [] i below all is = absurd (omega (arith, below))
+      at [] (y ∷ ys) i below all is = absurd all
+      at (x ∷ xs) [] i below all is = absurd all
+      at (x ∷ xs) (y ∷ ys) zero below all is = (same_after o x y u all.0 is, all.1)
+      at (x ∷ xs) (y ∷ ys) (suc i) below all is = (all.0, at xs ys i (omega (arith, below)) all.1 is)
+
+  -- what stands there
+  abbrev IsStillAt : Contents → List ℕ → Type 0
+  IsStillAt m name = IsOpen m (get_or ys i d) × (first_naming (map (listed m) (drop i xs)) name ≡ or_else (entry_of_key (listed m (get_or ys i d)) name) (first_naming (map (listed m) (drop (suc i) xs)) name))
+
+  still_at : (m : Contents) (name : List ℕ) → o ≡ Some m → AllByRecursion (IsOpen m) xs → IsStillAt m name
+  still_at m name is each = at xs ys i below (subst (λ (told : Option Contents). AllZip (IsSameFile told) xs ys) is all) each
+    where
+      at : (xs ys : List SortedFile) (i : ℕ) → i < length ys → AllZip (IsSameFile (Some m)) xs ys → AllByRecursion (IsOpen m) xs
+          → IsOpen m (get_or ys i d) × (first_naming (map (listed m) (drop i xs)) name ≡ or_else (entry_of_key (listed m (get_or ys i d)) name) (first_naming (map (listed m) (drop (suc i) xs)) name))
+      at [] [] i below all each = absurd (omega (arith, below))
+      at [] (y ∷ ys) i below all each = absurd all
+      at (x ∷ xs) [] i below all each = absurd all
+      at (x ∷ xs) (y ∷ ys) zero below all each =
+          let first = all.0.still each.0 in
+          (first.0, ap (λ (es : List Entry). or_else (entry_of_key es name) (first_naming (map (listed m) xs) name)) (sym first.1))
+      at (x ∷ xs) (y ∷ ys) (suc i) below all each = at xs ys i (omega (arith, below)) all.1 each.1
+
+  -- where it isn't open, not all are
+  pub not_open : IfSome now (λ m. ¬ IsOpen m (get_or ys i d)) → IfSome o (λ m. ¬ AllByRecursion (IsOpen m) xs)
+  not_open closed = told_both o now same (λ m. ⊤) (λ m. ¬ IsOpen m (get_or ys i d)) _ (λ m is _ not each. not (still_at m [] is each).0) (told_any o) closed
+
+  -- the first of the files that names the key is one of those from the place on
+  abbrev pub AreLeft : ℕ → List ℕ → Type 0
+  AreLeft at name = IfSome o (λ m. AllByRecursion (IsOpen m) xs → first_naming (map (listed m) (drop at xs)) name ≡ first_naming (map (listed m) xs) name)
+
+  pub found_here : (name : List ℕ) (v : Option (List ℕ)) → AreLeft i name → IfSome now (λ m. IsOpen m (get_or ys i d) → Some v ≡ entry_of_key (listed m (get_or ys i d)) name)
+      → IfSome o (λ m. AllByRecursion (IsOpen m) xs → Some v ≡ first_naming (map (listed m) xs) name)
+  found_here name v left found = told_both o now same _ (λ m. IsOpen m (get_or ys i d) → Some v ≡ entry_of_key (listed m (get_or ys i d)) name) _
+      (λ m is before here each. let still = still_at m name is each in ap (λ e. or_else e (first_naming (map (listed m) (drop (suc i) xs)) name)) (here still.0) ∙ sym still.1 ∙ before each) left found
+
+  pub none_here : (name : List ℕ) → AreLeft i name → IfSome now (λ m. IsOpen m (get_or ys i d) → None ≡ entry_of_key (listed m (get_or ys i d)) name) → AreLeft (i + 1) name
+  none_here name left none = subst (λ (k : ℕ). AreLeft k name) next (told_both o now same _ (λ m. IsOpen m (get_or ys i d) → None ≡ entry_of_key (listed m (get_or ys i d)) name) _
+      (λ m is before here each. let still = still_at m name is each in ap (λ e. or_else e (first_naming (map (listed m) (drop (suc i) xs)) name)) (here still.0) ∙ sym still.1 ∙ before each) left none)
+    where
+      next : suc i ≡ i + 1
+      next = omega arith
+
+-- a tablet is what it was where its files are
+pub same_tablet : (o : Option Contents) (t u : Tablet) → range_of u ≡ range_of t → memory_of u ≡ memory_of t → AllZip (IsSameFile o) (files_of t) (files_of u) → IsSameTablet o t u
+same_tablet o t u range memory files = record { range = range; memory = memory; names = same_names o (files_of t) (files_of u) files; still = go o files }
+  where
+    go : (o : Option Contents) → AllZip (IsSameFile o) (files_of t) (files_of u) → IfSome o (λ m. Holds m t → Holds m u × (lists_of m u ≡ lists_of m t))
+    go None files = tt
+    go (Some m) files = λ h.
+        let still = still_files m (files_of t) (files_of u) files h.files in
+        (record { memory = subst IsEntryList (sym memory) h.memory; files = still.each }, ap (λ es. es ∷ map (listed m) (files_of u)) memory ∙ ap (λ lists. memory_of t ∷ lists) still.lists)
+
+pub same_itself : (o : Option Contents) (t : Tablet) → IsSameTablet o t t
+same_itself o t = same_tablet o t t refl refl (same_files o (files_of t))
+
+pub same_looked : (o : Option Contents) (t u : Tablet) (xs ys : List SortedFile) → range_of u ≡ range_of t → memory_of u ≡ memory_of t → xs ≡ files_of t → files_of u ≡ ys → AllZip (IsSameFile o) xs ys → IsSameTablet o t u
+same_looked o t u xs ys range memory old new files =
+    same_tablet o t u range memory (subst (λ (fs : List SortedFile). AllZip (IsSameFile o) fs (files_of u)) old (subst (λ (fs : List SortedFile). AllZip (IsSameFile o) xs fs) (sym new) files))
