@@ -1,0 +1,135 @@
+"""What the store answers to reads and steps."""
+
+from __future__ import annotations
+
+from dataclasses import dataclass
+from enum import IntEnum
+
+from duqishom.fields import FieldReader, MalformedReply
+
+
+class Qualifier(IntEnum):
+    """The three columns of a cell."""
+
+    DATA = 1
+    LOCK = 2
+    WRITE = 3
+
+
+@dataclass(frozen=True)
+class Nothing:
+    """Nothing was committed in the cell by the session's start."""
+
+
+@dataclass(frozen=True)
+class Value:
+    """The value that was committed last by the session's start."""
+
+    value: bytes
+
+
+@dataclass(frozen=True)
+class Pending:
+    """A lock at or below the session's start keeps the answer back: that of the session that began here."""
+
+    start: int
+
+
+Found = Nothing | Value | Pending
+
+
+@dataclass(frozen=True)
+class Held:
+    """The session holds this cell, of so many."""
+
+    place: int
+    count: int
+
+
+@dataclass(frozen=True)
+class Conflict:
+    """This cell is locked, or was committed after the session's start. The session has ended, and the cells
+    before this one stay locked."""
+
+    place: int
+
+
+@dataclass(frozen=True)
+class Stamped:
+    """All cells are held, and this is the stamp of the commit to come."""
+
+    commit: int
+
+
+@dataclass(frozen=True)
+class Committed:
+    """The session has committed at this stamp."""
+
+    commit: int
+
+
+@dataclass(frozen=True)
+class Lost:
+    """The lock of the first cell is gone. Nothing was committed, and the session has ended."""
+
+
+@dataclass(frozen=True)
+class Finished:
+    """This cell, of so many, has its record, and its lock is gone. With the last one the session has ended."""
+
+    place: int
+    count: int
+
+
+Progress = Held | Conflict | Stamped | Committed | Lost | Finished
+
+
+@dataclass(frozen=True)
+class Version:
+    """A version of a column: its stamp, and its value."""
+
+    stamp: int
+    value: bytes
+
+
+def read_found(fields: FieldReader) -> Found:
+    """The answer to a Get."""
+    match fields.number(1):
+        case 0:
+            return Nothing()
+        case 1:
+            return Value(fields.counted())
+        case 2:
+            return Pending(fields.number(8))
+        case tag:
+            raise MalformedReply(f"no answer to a Get has the tag {tag}")
+
+
+def read_progress(fields: FieldReader) -> Progress:
+    """The answer to a Step."""
+    match fields.number(1):
+        case 1:
+            return Held(fields.number(2), fields.number(2))
+        case 2:
+            return Conflict(fields.number(2))
+        case 3:
+            return Stamped(fields.number(8))
+        case 4:
+            return Committed(fields.number(8))
+        case 5:
+            return Lost()
+        case 6:
+            return Finished(fields.number(2), fields.number(2))
+        case tag:
+            raise MalformedReply(f"no answer to a Step has the tag {tag}")
+
+
+def read_version(fields: FieldReader) -> Version | None:
+    """The answer to a raw read."""
+    match fields.number(1):
+        case 0:
+            return None
+        case 1:
+            return Version(fields.number(8), fields.counted())
+        case tag:
+            raise MalformedReply(f"no answer to a raw read has the tag {tag}")

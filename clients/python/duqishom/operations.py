@@ -1,0 +1,225 @@
+"""The thirteen operations: how each is asked, and how its answer is read."""
+
+from __future__ import annotations
+
+from dataclasses import dataclass
+from typing import ClassVar, Protocol, TypeVar
+
+from duqishom.answers import Found, Progress, Qualifier, Version, read_found, read_progress, read_version
+from duqishom.fields import FieldReader, MalformedReply, counted, number
+from duqishom.refusals import BY_NUMBER
+
+REFUSED = 0xFF
+
+Answer = TypeVar("Answer", covariant=True)
+
+
+class Operation(Protocol[Answer]):
+    """A request. Its reply has the same number with the highest bit set."""
+
+    code: ClassVar[int]
+
+    def fields(self) -> bytes:
+        """The fields, as they stand in the body behind the number of the operation."""
+
+    def read(self, fields: FieldReader) -> Answer:
+        """The answer, from the fields of the reply."""
+
+
+class WithoutAnswer:
+    """An operation whose reply has no fields."""
+
+    def read(self, fields: FieldReader) -> None:
+        return None
+
+
+@dataclass(frozen=True)
+class Begin:
+    """Begins a session, and answers its start."""
+
+    code: ClassVar[int] = 0x01
+
+    def fields(self) -> bytes:
+        return b""
+
+    def read(self, fields: FieldReader) -> int:
+        return fields.number(8)
+
+
+@dataclass(frozen=True)
+class Get:
+    """Reads a cell as of the session's start."""
+
+    start: int
+    row: bytes
+    family: bytes
+    code: ClassVar[int] = 0x02
+
+    def fields(self) -> bytes:
+        return number(8, self.start) + counted(self.row) + counted(self.family)
+
+    def read(self, fields: FieldReader) -> Found:
+        return read_found(fields)
+
+
+@dataclass(frozen=True)
+class Set(WithoutAnswer):
+    """Buffers a write in the session."""
+
+    start: int
+    row: bytes
+    family: bytes
+    value: bytes
+    code: ClassVar[int] = 0x03
+
+    def fields(self) -> bytes:
+        return number(8, self.start) + counted(self.row) + counted(self.family) + counted(self.value)
+
+
+@dataclass(frozen=True)
+class Step:
+    """Takes the session's next step towards its end."""
+
+    start: int
+    code: ClassVar[int] = 0x04
+
+    def fields(self) -> bytes:
+        return number(8, self.start)
+
+    def read(self, fields: FieldReader) -> Progress:
+        return read_progress(fields)
+
+
+@dataclass(frozen=True)
+class Stop(WithoutAnswer):
+    """Ends the session where it stands."""
+
+    start: int
+    code: ClassVar[int] = 0x05
+
+    def fields(self) -> bytes:
+        return number(8, self.start)
+
+
+@dataclass(frozen=True)
+class Minor(WithoutAnswer):
+    """Writes the memtable of a tablet as a file."""
+
+    tablet: int
+    code: ClassVar[int] = 0x0A
+
+    def fields(self) -> bytes:
+        return number(4, self.tablet)
+
+
+@dataclass(frozen=True)
+class Merge(WithoutAnswer):
+    """Writes so many of a tablet's newest files as one."""
+
+    tablet: int
+    count: int
+    code: ClassVar[int] = 0x0B
+
+    def fields(self) -> bytes:
+        return number(4, self.tablet) + number(4, self.count)
+
+
+@dataclass(frozen=True)
+class Major(WithoutAnswer):
+    """Writes all that a tablet has as one file."""
+
+    tablet: int
+    code: ClassVar[int] = 0x0C
+
+    def fields(self) -> bytes:
+        return number(4, self.tablet)
+
+
+@dataclass(frozen=True)
+class Split:
+    """Cuts the tablet that holds a row behind that row, and answers the number of the left part."""
+
+    row: bytes
+    code: ClassVar[int] = 0x0D
+
+    def fields(self) -> bytes:
+        return counted(self.row)
+
+    def read(self, fields: FieldReader) -> int:
+        return fields.number(4)
+
+
+@dataclass(frozen=True)
+class Move(WithoutAnswer):
+    """Puts a tablet on a server."""
+
+    tablet: int
+    server: int
+    code: ClassVar[int] = 0x0E
+
+    def fields(self) -> bytes:
+        return number(4, self.tablet) + number(1, self.server)
+
+
+@dataclass(frozen=True)
+class Sweep:
+    """Removes the files that no tablet names, and answers how many these were."""
+
+    code: ClassVar[int] = 0x0F
+
+    def fields(self) -> bytes:
+        return b""
+
+    def read(self, fields: FieldReader) -> int:
+        return fields.number(8)
+
+
+@dataclass(frozen=True)
+class OracleRestart(WithoutAnswer):
+    """Has the oracle of stamps go on from its stored mark."""
+
+    code: ClassVar[int] = 0x10
+
+    def fields(self) -> bytes:
+        return b""
+
+
+@dataclass(frozen=True)
+class Raw:
+    """Reads the newest version of a cell's column in a range of stamps, both bounds included."""
+
+    row: bytes
+    family: bytes
+    qualifier: Qualifier
+    lo: int
+    hi: int
+    code: ClassVar[int] = 0x11
+
+    def fields(self) -> bytes:
+        bounds = number(8, self.lo) + number(8, self.hi)
+        return counted(self.row) + counted(self.family) + number(1, self.qualifier) + bounds
+
+    def read(self, fields: FieldReader) -> Version | None:
+        return read_version(fields)
+
+
+def request_body(operation: Operation[Answer]) -> bytes:
+    """The body that asks for an operation."""
+    return number(1, operation.code) + operation.fields()
+
+
+def read_reply(operation: Operation[Answer], body: bytes) -> Answer:
+    """The answer in the reply to an operation. Raises the refusal where it was refused."""
+    fields = FieldReader(body)
+    code = fields.number(1)
+    if code == REFUSED:
+        refusal = BY_NUMBER.get(fields.number(1))
+        fields.end()
+        if refusal is None:
+            raise MalformedReply(f"no refusal has this number: {body.hex(' ')}")
+        raise refusal()
+    if code != operation.code | 0x80:
+        raise MalformedReply(f"this is no reply to {operation}: {body.hex(' ')}")
+    answer = operation.read(fields)
+    fields.end()
+    return answer

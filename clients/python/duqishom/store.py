@@ -1,0 +1,169 @@
+"""A store: a `tabletd` of one's own, with a method for each operation."""
+
+from __future__ import annotations
+
+import threading
+import time
+from collections.abc import Callable
+from contextlib import AbstractContextManager
+from types import TracebackType
+from typing import TypeVar
+
+from duqishom.answers import Found, Progress, Qualifier, Version
+from duqishom.operations import (
+    Begin,
+    Get,
+    Major,
+    Merge,
+    Minor,
+    Move,
+    Operation,
+    OracleRestart,
+    Raw,
+    Set,
+    Split,
+    Step,
+    Stop,
+    Sweep,
+    read_reply,
+    request_body,
+)
+from duqishom.program import Program
+from duqishom.refusals import TooManyFiles
+from duqishom.tablets import Tablet, TabletMap
+from duqishom.transactions import MOST_STAMP, Patience, StillPending, Transaction, TransactionConflict
+
+Answer = TypeVar("Answer")
+Result = TypeVar("Result")
+
+
+class Store:
+    """A new store, in a child process that ends with it. What it keeps is lost then.
+
+    Several threads may use one store, each with transactions of its own. Each method that asks the store raises a
+    `Refused` where it refuses, and `ProgramEnded` where the program has ended.
+    """
+
+    def __init__(self, program: str | None = None, patience: Patience = Patience()) -> None:
+        """Starts the program: scripts/tabletd of the repository, where no other is named."""
+        self._program = Program(program)
+        self._patience = patience
+        self._turn = threading.RLock()
+        self._tablets = TabletMap()
+
+    def ask(self, operation: Operation[Answer]) -> Answer:
+        """Asks for an operation, and gives the answer."""
+        with self._turn:
+            return read_reply(operation, self._program.ask(request_body(operation)))
+
+    def alone(self) -> AbstractContextManager[object]:
+        """In a `with`, no other thread asks this store anything."""
+        return self._turn
+
+    def begin(self) -> int:
+        """Begins a session: its start."""
+        return self.ask(Begin())
+
+    def get(self, start: int, row: bytes, family: bytes) -> Found:
+        """Reads a cell as of the session's start."""
+        return self.ask(Get(start, row, family))
+
+    def set(self, start: int, row: bytes, family: bytes, value: bytes) -> None:
+        """Buffers a write in the session."""
+        self.ask(Set(start, row, family, value))
+
+    def step(self, start: int) -> Progress:
+        """Takes the session's next step towards its end."""
+        return self.ask(Step(start))
+
+    def stop(self, start: int) -> None:
+        """Ends the session where it stands. The cells that it holds stay locked."""
+        self.ask(Stop(start))
+
+    def minor(self, tablet: int) -> None:
+        """Writes the memtable of a tablet as a new file."""
+        self.ask(Minor(tablet))
+
+    def merge(self, tablet: int, count: int) -> None:
+        """Writes so many of a tablet's newest files as one."""
+        self.ask(Merge(tablet, count))
+
+    def major(self, tablet: int) -> None:
+        """Writes the memtable and all files of a tablet as one file."""
+        self.ask(Major(tablet))
+
+    def split(self, row: bytes) -> int:
+        """Cuts the tablet that holds a row behind that row: the number of the left part."""
+        with self._turn:
+            left = self.ask(Split(row))
+            self._tablets.split(row, left)
+            return left
+
+    def move(self, tablet: int, server: int) -> None:
+        """Puts a tablet on a server."""
+        self.ask(Move(tablet, server))
+
+    def sweep(self) -> int:
+        """Removes the files that no tablet names: how many these were."""
+        return self.ask(Sweep())
+
+    def restart_oracle(self) -> None:
+        """Has the oracle of stamps go on from its stored mark."""
+        self.ask(OracleRestart())
+
+    def raw(
+        self, row: bytes, family: bytes, qualifier: Qualifier, lo: int = 0, hi: int = MOST_STAMP
+    ) -> Version | None:
+        """The newest version of a cell's column in a range of stamps, both bounds included, and None where none is."""
+        return self.ask(Raw(row, family, qualifier, lo, hi))
+
+    def tablets(self) -> tuple[Tablet, ...]:
+        """The tablets, in the order of their rows."""
+        with self._turn:
+            return self._tablets.all()
+
+    def make_room(self, row: bytes) -> None:
+        """Makes room in the memtable of the tablet that holds a row. Where that has too many files, all become one."""
+        with self._turn:
+            tablet = self._tablets.holder(row).number
+            try:
+                self.minor(tablet)
+            except TooManyFiles:
+                self.major(tablet)
+
+    def transaction(self) -> Transaction:
+        """Begins a transaction. In a `with` it commits at the end, and stops where an exception leaves."""
+        return Transaction(self, self.begin(), self._patience)
+
+    def run(self, work: Callable[[Transaction], Result], attempts: int = 10) -> Result:
+        """Does work in a transaction, and once more in a new one where it conflicts or stays pending.
+
+        After the last attempt that failure is raised; at once, where cells were left locked, since no attempt can
+        pass these.
+        """
+        attempt = 1
+        while True:
+            try:
+                with self.transaction() as transaction:
+                    return work(transaction)
+            except TransactionConflict as conflict:
+                if conflict.stranded or attempt >= attempts:
+                    raise
+            except StillPending:
+                if attempt >= attempts:
+                    raise
+            attempt += 1
+            time.sleep(self._patience.pause)
+
+    def close(self) -> int:
+        """Ends the program, and gives its exit status."""
+        with self._turn:
+            return self._program.close()
+
+    def __enter__(self) -> Store:
+        return self
+
+    def __exit__(
+        self, kind: type[BaseException] | None, error: BaseException | None, trace: TracebackType | None
+    ) -> None:
+        self.close()

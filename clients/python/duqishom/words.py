@@ -1,0 +1,262 @@
+"""The command: a store that is asked in words, a line for each request."""
+
+from __future__ import annotations
+
+from collections.abc import Callable, Iterable
+from dataclasses import dataclass
+
+from duqishom.answers import (
+    Committed,
+    Conflict,
+    Finished,
+    Found,
+    Held,
+    Lost,
+    Nothing,
+    Pending,
+    Progress,
+    Qualifier,
+    Stamped,
+    Value,
+    Version,
+)
+from duqishom.refusals import Refused
+from duqishom.store import Store
+from duqishom.texts import bytes_of, text_of
+from duqishom.transactions import MOST_STAMP, Transaction, TransactionFailed
+
+
+class Misspelled(Exception):
+    """A line is none of the command's."""
+
+
+class NotDone(Exception):
+    """A line asks for what can't be done, and nothing was."""
+
+
+def number_of(word: str) -> int:
+    """The number that a word stands for."""
+    if not (word.isascii() and word.isdigit()):
+        raise Misspelled(f"{word} is no number")
+    return int(word)
+
+
+def qualifier_of(word: str) -> Qualifier:
+    """The column that a word names."""
+    try:
+        return Qualifier[word.upper()]
+    except KeyError:
+        raise Misspelled(f"{word} is none of data, lock and write") from None
+
+
+def amount_in(transaction: Transaction, row: bytes, family: bytes) -> int:
+    """The number in a cell, 0 where nothing is."""
+    value = transaction.get(row, family)
+    if value is None:
+        return 0
+    if not value.isdigit():
+        raise NotDone(f"{text_of(row)} {text_of(family)} is no number: {text_of(value)}")
+    return int(value)
+
+
+def text_of_found(found: Found) -> str:
+    """What a read of a session found, in words."""
+    match found:
+        case Nothing():
+            return "nothing"
+        case Value(value):
+            return text_of(value)
+        case Pending(start):
+            return f"pending: locked by {start}"
+
+
+def text_of_progress(progress: Progress) -> str:
+    """What a step did, in words."""
+    match progress:
+        case Held(place, count):
+            return f"held {place} of {count}"
+        case Conflict(place):
+            return f"conflict at {place}"
+        case Stamped(commit):
+            return f"stamped {commit}"
+        case Committed(commit):
+            return f"committed at {commit}"
+        case Lost():
+            return "lost"
+        case Finished(place, count):
+            return f"finished {place} of {count}"
+
+
+def text_of_version(version: Version | None, qualifier: Qualifier) -> str:
+    """What a raw read found, in words. A write record names a start."""
+    if version is None:
+        return "nothing"
+    if qualifier is Qualifier.WRITE and len(version.value) == 8:
+        return f"{version.stamp}: start {int.from_bytes(version.value, 'big')}"
+    return f"{version.stamp}: {text_of(version.value)}"
+
+
+def text_of_end(end: bytes | None) -> str:
+    """Where a tablet ends, in words."""
+    return "the last row" if end is None else text_of(end)
+
+
+@dataclass(frozen=True)
+class Line:
+    """A line of the command: its words, what it does, and how it is done."""
+
+    usage: str
+    help: str
+    do: Callable[..., str]
+
+    def fits(self, words: list[str]) -> bool:
+        """Whether these words are such a line: those in small letters as they stand, and any others in their places."""
+        form = self.usage.split()
+        pairs = zip(form, words)
+        return len(form) == len(words) and all(name.isupper() or name == word for name, word in pairs)
+
+    def arguments(self, words: list[str]) -> list[str]:
+        """The words that stand for something."""
+        return [word for name, word in zip(self.usage.split(), words) if name.isupper()]
+
+
+class Words:
+    """A store that is asked in words."""
+
+    def __init__(self, store: Store) -> None:
+        self._store = store
+        self.lines = (
+            Line("set ROW FAMILY VALUE", "sets a cell, in a transaction", self.set),
+            Line("get ROW FAMILY", "reads a cell, in a transaction", self.get),
+            Line("transfer ROW ROW FAMILY AMOUNT", "moves an amount from one row to the other", self.transfer),
+            Line("begin", "begins a session, and names its start", self.begin),
+            Line("in START set ROW FAMILY VALUE", "buffers a write in the session", self.session_set),
+            Line("in START get ROW FAMILY", "reads a cell as of the start", self.session_get),
+            Line("in START step", "takes the session's next step", self.session_step),
+            Line("in START stop", "ends the session where it stands", self.session_stop),
+            Line("raw ROW FAMILY COLUMN LO HI", "the newest version in data, lock or write", self.raw),
+            Line("tablets", "the tablets, in the order of their rows", self.tablets),
+            Line("split ROW", "cuts the tablet that holds the row behind it", self.split),
+            Line("move TABLET SERVER", "puts a tablet on a server", self.move),
+            Line("compact TABLET minor", "writes the tablet's memtable as a file", self.minor),
+            Line("compact TABLET merge COUNT", "makes one file of so many newest ones", self.merge),
+            Line("compact TABLET major", "makes one file of all that the tablet has", self.major),
+            Line("sweep", "removes the files that no tablet names", self.sweep),
+            Line("restart", "has the oracle go on from its mark", self.restart),
+            Line("help", "these lines", self.help),
+        )
+
+    def answer(self, text: str) -> tuple[bool, str]:
+        """Whether a line was done, and what there is to say of it: nothing of an empty line."""
+        words = text.split()
+        try:
+            return True, self._do(words) if words else ""
+        except Refused as refusal:
+            return False, str(refusal)
+        except TransactionFailed as failure:
+            return False, f"not committed: {failure}"
+        except (Misspelled, NotDone) as why:
+            return False, f"not done: {why}"
+        except OverflowError:
+            return False, "not done: a number is too large"
+
+    def _do(self, words: list[str]) -> str:
+        for line in self.lines:
+            if line.fits(words):
+                return line.do(*line.arguments(words))
+        raise Misspelled("this is none of the lines that help shows")
+
+    def help(self) -> str:
+        """All lines that there are."""
+        return "\n".join(f"{line.usage:31}{line.help}" for line in self.lines)
+
+    def set(self, row: str, family: str, value: str) -> str:
+        def work(transaction: Transaction) -> Transaction:
+            transaction.set(bytes_of(row), bytes_of(family), bytes_of(value))
+            return transaction
+
+        return f"committed at {self._store.run(work).commit_stamp}"
+
+    def get(self, row: str, family: str) -> str:
+        value = self._store.run(lambda transaction: transaction.get(bytes_of(row), bytes_of(family)))
+        return "nothing" if value is None else text_of(value)
+
+    def transfer(self, giver: str, taker: str, family: str, amount: str) -> str:
+        rows, column, moved = (bytes_of(giver), bytes_of(taker)), bytes_of(family), number_of(amount)
+        if rows[0] == rows[1]:
+            raise NotDone("the two rows are one")
+
+        def work(transaction: Transaction) -> tuple[Transaction, int, int]:
+            left = amount_in(transaction, rows[0], column) - moved
+            if left < 0:
+                raise NotDone(f"{giver} has {left + moved}")
+            got = amount_in(transaction, rows[1], column) + moved
+            transaction.set(rows[0], column, b"%d" % left)
+            transaction.set(rows[1], column, b"%d" % got)
+            return transaction, left, got
+
+        transaction, left, got = self._store.run(work)
+        return f"committed at {transaction.commit_stamp}: {giver} has {left}, {taker} has {got}"
+
+    def begin(self) -> str:
+        return f"session {self._store.begin()}"
+
+    def session_set(self, start: str, row: str, family: str, value: str) -> str:
+        self._store.set(number_of(start), bytes_of(row), bytes_of(family), bytes_of(value))
+        return "set"
+
+    def session_get(self, start: str, row: str, family: str) -> str:
+        return text_of_found(self._store.get(number_of(start), bytes_of(row), bytes_of(family)))
+
+    def session_step(self, start: str) -> str:
+        return text_of_progress(self._store.step(number_of(start)))
+
+    def session_stop(self, start: str) -> str:
+        self._store.stop(number_of(start))
+        return "stopped"
+
+    def raw(self, row: str, family: str, column: str, lo: str, hi: str) -> str:
+        qualifier = qualifier_of(column)
+        most = MOST_STAMP if hi == "last" else number_of(hi)
+        version = self._store.raw(bytes_of(row), bytes_of(family), qualifier, number_of(lo), most)
+        return text_of_version(version, qualifier)
+
+    def tablets(self) -> str:
+        return "\n".join(f"{tablet.number} up to {text_of_end(tablet.end)}" for tablet in self._store.tablets())
+
+    def split(self, row: str) -> str:
+        return f"tablet {self._store.split(bytes_of(row))} ends with {row}"
+
+    def move(self, tablet: str, server: str) -> str:
+        self._store.move(number_of(tablet), number_of(server))
+        return "moved"
+
+    def minor(self, tablet: str) -> str:
+        self._store.minor(number_of(tablet))
+        return "compacted"
+
+    def merge(self, tablet: str, count: str) -> str:
+        self._store.merge(number_of(tablet), number_of(count))
+        return "compacted"
+
+    def major(self, tablet: str) -> str:
+        self._store.major(number_of(tablet))
+        return "compacted"
+
+    def sweep(self) -> str:
+        return f"{self._store.sweep()} files removed"
+
+    def restart(self) -> str:
+        self._store.restart_oracle()
+        return "restarted"
+
+
+def answer_all(words: Words, texts: Iterable[str]) -> bool:
+    """Prints the answer to each line, and tells whether all were done."""
+    is_well = True
+    for text in texts:
+        is_done, answer = words.answer(text)
+        is_well = is_well and is_done
+        if answer:
+            print(answer, flush=True)
+    return is_well

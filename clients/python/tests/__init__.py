@@ -1,0 +1,1 @@
+"""Tests of the client and of the documents, against a `tabletd`: scripts/tabletd, which runs what TABLETD names."""

@@ -1,0 +1,262 @@
+"""A bank whose sum never changes, whoever pays whom, and whoever stops between."""
+
+from __future__ import annotations
+
+import random
+import threading
+import unittest
+from collections import Counter
+from collections.abc import Generator, Iterator
+
+from duqishom import (
+    BadCount,
+    BadSplit,
+    Committed,
+    Held,
+    Pending,
+    Qualifier,
+    Stamped,
+    Store,
+    Transaction,
+    Value,
+)
+
+BALANCE = b"balance"
+FIRST = 100
+PLACE_END = b"\x00\x00"
+
+
+def amount(value: bytes | None) -> int:
+    """The amount that an account's value says."""
+    assert value is not None
+    return int(value)
+
+
+class Bank:
+    """Accounts in a store, and what the clients know of them."""
+
+    def __init__(self, store: Store, seed: int, accounts: int, transactions: int, strandings: int) -> None:
+        self.store = store
+        self.random = random.Random(seed)
+        self.accounts = [b"account %02d" % number for number in range(accounts)]
+        self.free = list(self.accounts)
+        self.ledger = dict.fromkeys(self.accounts, FIRST)
+        self.counts: Counter[str] = Counter()
+        self.wanted = transactions
+        self.strandings = strandings
+
+    def open(self) -> None:
+        """Gives each account its first amount, in one transaction."""
+        with self.store.transaction() as transaction:
+            for account in self.accounts:
+                transaction.set(account, BALANCE, b"%d" % FIRST)
+
+    # What stands in the store, whoever has stopped: read raw, and writing nothing.
+
+    def committed_start(self, account: bytes) -> int:
+        """The start whose data is the account's committed value.
+
+        Where a lock stands, its session's first cell tells whether it has committed: a record there names its start.
+        """
+        lock = self.store.raw(account, BALANCE, Qualifier.LOCK)
+        if lock is not None:
+            first, _, _ = lock.value.partition(PLACE_END)
+            if self.has_record(first, lock.stamp):
+                return lock.stamp
+        record = self.store.raw(account, BALANCE, Qualifier.WRITE)
+        assert record is not None
+        return int.from_bytes(record.value, "big")
+
+    def has_record(self, account: bytes, start: int) -> bool:
+        """Whether a record of the account names this start. All records of it are above the start."""
+        record = self.store.raw(account, BALANCE, Qualifier.WRITE, start)
+        while record is not None:
+            if int.from_bytes(record.value, "big") == start:
+                return True
+            record = self.store.raw(account, BALANCE, Qualifier.WRITE, start, record.stamp - 1)
+        return False
+
+    def balances(self) -> dict[bytes, int]:
+        """What each account has."""
+        found = {}
+        for account in self.accounts:
+            start = self.committed_start(account)
+            data = self.store.raw(account, BALANCE, Qualifier.DATA, start, start)
+            assert data is not None
+            found[account] = amount(data.value)
+        return found
+
+    # A client. It lets the others have a turn at each `yield`.
+
+    def client(self) -> Iterator[None]:
+        """Transfers, one after the other, until enough have committed."""
+        while self.counts["committed"] < self.wanted:
+            giver, taker = self.random.sample(self.free, 2)
+            start = self.store.begin()
+            yield
+            yield from self.transfer(start, giver, taker)
+
+    def transfer(self, start: int, giver: bytes, taker: bytes) -> Iterator[None]:
+        """One transfer, by a session that has begun."""
+        before = []
+        for account in (giver, taker):
+            found = yield from self.read(start, account)
+            if found is None:
+                self.stop(start, "gave up waiting")
+                return
+            before.append(found)
+        moved = self.random.randint(0, before[0])
+        for account, left in ((giver, before[0] - moved), (taker, before[1] + moved)):
+            self.store.set(start, account, BALANCE, b"%d" % left)
+            yield
+        if self.random.random() < 0.1:
+            self.stop(start, "stopped before the first step")
+            return
+        if self.is_taken(start, giver) or self.is_taken(start, taker):
+            self.stop(start, "met a conflict")
+            return
+        assert self.store.step(start) == Held(1, 2)
+        assert self.store.step(start) == Held(2, 2)
+        yield
+        if self.strands("held", giver, taker):
+            self.stop(start, "stopped when it held its cells")
+            return
+        assert isinstance(self.store.step(start), Stamped)
+        yield
+        if self.strands("stamped", giver, taker):
+            self.stop(start, "stopped when it was stamped")
+            return
+        assert isinstance(self.store.step(start), Committed)
+        self.ledger[giver] -= moved
+        self.ledger[taker] += moved
+        self.counts["committed"] += 1
+        yield
+        if self.strands("committed", taker):
+            self.stop(start, "stopped when it had committed")
+            return
+        self.store.step(start)
+        yield
+
+    def read(self, start: int, account: bytes) -> Generator[None, None, int | None]:
+        """What the account has as of the start. None where a lock stood on it for 20 turns."""
+        for _ in range(20):
+            found = self.store.get(start, account, BALANCE)
+            yield
+            match found:
+                case Value(value):
+                    return amount(value)
+                case Pending():
+                    self.counts["waited a turn"] += 1
+        return None
+
+    def is_taken(self, start: int, account: bytes) -> bool:
+        """Whether a step would meet a conflict at the account. It comes right before the steps, with no turn between."""
+        lock = self.store.raw(account, BALANCE, Qualifier.LOCK)
+        record = self.store.raw(account, BALANCE, Qualifier.WRITE, start)
+        return lock is not None or record is not None
+
+    def stop(self, start: int, why: str) -> None:
+        self.store.stop(start)
+        self.counts[why] += 1
+
+    def strands(self, phase: str, *locked: bytes) -> bool:
+        """Whether a session stops here for good. What it has locked is no longer used: nothing can free it yet."""
+        phases = ("held", "stamped", "committed")
+        due = self.strandings * self.counts["committed"] // self.wanted
+        if self.counts["strandings"] >= due or phase != phases[self.counts["strandings"] % 3]:
+            return False
+        self.counts["strandings"] += 1
+        self.free = [account for account in self.free if account not in locked]
+        return True
+
+    def keep_house(self) -> None:
+        """One request of upkeep, whichever."""
+        tablet = self.random.choice(self.store.tablets()).number
+        requests = (
+            lambda: self.store.minor(tablet),
+            lambda: self.store.merge(tablet, 2),
+            lambda: self.store.major(tablet),
+            lambda: self.store.split(self.random.choice(self.accounts)),
+            lambda: self.store.move(tablet, self.random.randrange(16)),
+            self.store.sweep,
+            self.store.restart_oracle,
+        )
+        try:
+            self.random.choice(requests)()
+        except (BadCount, BadSplit):
+            self.counts["refused upkeep"] += 1
+
+
+class Interleaved(unittest.TestCase):
+    """Five clients on one stream, a request at a time."""
+
+    def test_sum_never_changes(self) -> None:
+        with Store() as store:
+            bank = Bank(store, seed=20, accounts=20, transactions=10_000, strandings=6)
+            bank.open()
+            self.interleave(bank, [bank.client() for _ in range(5)])
+            self.assertEqual(bank.counts["strandings"], 6)
+            self.assertEqual(bank.balances(), bank.ledger)
+            self.assert_rest_is_read(bank)
+
+    def interleave(self, bank: Bank, clients: list[Iterator[None]]) -> None:
+        """Gives the clients turns at random. Now and then the books are read, in whatever phase the sessions are."""
+        turns = 0
+        while clients:
+            client = bank.random.choice(clients)
+            try:
+                next(client)
+            except StopIteration:
+                clients.remove(client)
+            turns += 1
+            if turns % 300 == 0:
+                bank.keep_house()
+            if turns % 1000 == 0:
+                self.assertEqual(sum(bank.balances().values()), FIRST * len(bank.accounts))
+
+    def assert_rest_is_read(self, bank: Bank) -> None:
+        """A new session reads each account but those that were left locked, which are pending."""
+        start = bank.store.begin()
+        for account in bank.accounts:
+            found = bank.store.get(start, account, BALANCE)
+            if account in bank.free:
+                self.assertEqual(found, Value(b"%d" % bank.ledger[account]))
+            else:
+                self.assertIsInstance(found, Pending)
+
+
+class Threads(unittest.TestCase):
+    """Four threads, each with transactions of its own over one store, which conflict and try again."""
+
+    def test_sum_never_changes(self) -> None:
+        with Store() as store:
+            bank = Bank(store, seed=4, accounts=5, transactions=0, strandings=0)
+            bank.open()
+            done: list[int] = []
+            threads = [threading.Thread(target=self.transfers, args=(bank, seed, done)) for seed in range(4)]
+            for thread in threads:
+                thread.start()
+            for thread in threads:
+                thread.join()
+            self.assertEqual(sorted(done), [0] * 250 + [1] * 250 + [2] * 250 + [3] * 250)
+            self.assertEqual(sum(bank.balances().values()), FIRST * 5)
+
+    def transfers(self, bank: Bank, seed: int, done: list[int]) -> None:
+        """Transfers of one thread. Each is done in the end."""
+        chance = random.Random(seed)
+        for _ in range(250):
+            giver, taker = chance.sample(bank.accounts, 2)
+
+            def work(transaction: Transaction) -> None:
+                has = amount(transaction.get(giver, BALANCE))
+                moved = chance.randint(0, has)
+                transaction.set(giver, BALANCE, b"%d" % (has - moved))
+                got = amount(transaction.get(taker, BALANCE)) + moved
+                transaction.set(taker, BALANCE, b"%d" % got)
+
+            bank.store.run(work, attempts=1000)
+            done.append(seed)
+
+
+if __name__ == "__main__":
+    unittest.main()

@@ -1,0 +1,261 @@
+"""Each operation once, each answer, and each refusal that the store can be brought to."""
+
+from __future__ import annotations
+
+import unittest
+
+from duqishom import (
+    BadColumn,
+    BadCount,
+    BadRow,
+    BadSplit,
+    BadValue,
+    Committed,
+    Conflict,
+    EmptyCommit,
+    Finished,
+    FrameTooLarge,
+    Held,
+    MemtableFull,
+    Nothing,
+    Pending,
+    ProgramEnded,
+    Qualifier,
+    Refused,
+    Stamped,
+    Store,
+    TooManyFiles,
+    TooManySessions,
+    TooManyWrites,
+    UnknownServer,
+    UnknownSession,
+    UnknownTablet,
+    Value,
+    Version,
+    WrongPhase,
+)
+from duqishom.refusals import BY_NUMBER
+
+BOB, JOE, BAL = b"Bob", b"Joe", b"bal"
+
+
+class StoreTest(unittest.TestCase):
+    """A test with a store of its own, which ends with status 0."""
+
+    def setUp(self) -> None:
+        self.store = Store()
+        self.addCleanup(self.assert_ends)
+
+    def assert_ends(self) -> None:
+        self.assertEqual(self.store.close(), 0)
+
+    def commit(self, row: bytes, value: bytes) -> int:
+        """Commits a value in a transaction of one cell, by the operations alone: its commit stamp."""
+        start = self.store.begin()
+        self.store.set(start, row, BAL, value)
+        self.store.step(start)
+        self.store.step(start)
+        committed = self.store.step(start)
+        assert isinstance(committed, Committed)
+        return committed.commit
+
+
+class Operations(StoreTest):
+    """Each operation, and each of its answers."""
+
+    def test_session(self) -> None:
+        store = self.store
+        self.assertEqual(store.begin(), 1)
+        store.set(1, BOB, BAL, b"10")
+        store.set(1, JOE, BAL, b"2")
+        self.assertEqual(store.step(1), Held(1, 2))
+        self.assertEqual(store.step(1), Held(2, 2))
+        self.assertEqual(store.step(1), Stamped(2))
+        self.assertEqual(store.step(1), Committed(2))
+        self.assertEqual(store.begin(), 3)
+        self.assertEqual(store.get(3, BOB, BAL), Value(b"10"))
+        self.assertEqual(store.get(3, JOE, BAL), Pending(1))
+        self.assertEqual(store.get(3, b"Ann", BAL), Nothing())
+        self.assertEqual(store.step(1), Finished(2, 2))
+        self.assertEqual(store.get(3, JOE, BAL), Value(b"2"))
+
+    def test_conflict(self) -> None:
+        first, second = self.store.begin(), self.store.begin()
+        for start in (first, second):
+            self.store.set(start, BOB, BAL, b"1")
+        self.assertEqual(self.store.step(first), Held(1, 1))
+        self.assertEqual(self.store.step(second), Conflict(1))
+        with self.assertRaises(UnknownSession):
+            self.store.step(second)
+
+    def test_stop(self) -> None:
+        start = self.store.begin()
+        self.store.stop(start)
+        with self.assertRaises(UnknownSession):
+            self.store.stop(start)
+
+    def test_raw(self) -> None:
+        commit = self.commit(BOB, b"10")
+        start = commit - 1
+        record = Version(commit, start.to_bytes(8, "big"))
+        self.assertEqual(self.store.raw(BOB, BAL, Qualifier.DATA), Version(start, b"10"))
+        self.assertEqual(self.store.raw(BOB, BAL, Qualifier.WRITE), record)
+        self.assertEqual(self.store.raw(BOB, BAL, Qualifier.WRITE, commit, commit), record)
+        self.assertIsNone(self.store.raw(BOB, BAL, Qualifier.WRITE, 0, start))
+        self.assertIsNone(self.store.raw(BOB, BAL, Qualifier.LOCK))
+
+    def test_compactions_and_sweep(self) -> None:
+        for value in (b"1", b"2", b"3"):
+            self.commit(BOB, value)
+            self.store.minor(1)
+        self.store.merge(1, 2)
+        self.assertEqual(self.store.sweep(), 2)
+        self.store.major(1)
+        self.assertEqual(self.store.sweep(), 2)
+        self.assertEqual(self.store.sweep(), 0)
+        self.assertEqual(self.store.get(self.store.begin(), BOB, BAL), Value(b"3"))
+
+    def test_split_and_move(self) -> None:
+        self.commit(BOB, b"10")
+        self.commit(JOE, b"2")
+        self.assertEqual(self.store.split(b"Jim"), 2)
+        self.assertEqual(self.store.split(b"Bob"), 3)
+        self.store.move(2, 15)
+        ends = [(tablet.number, tablet.end) for tablet in self.store.tablets()]
+        self.assertEqual(ends, [(3, b"Bob"), (2, b"Jim"), (1, None)])
+        start = self.store.begin()
+        self.assertEqual(self.store.get(start, BOB, BAL), Value(b"10"))
+        self.assertEqual(self.store.get(start, JOE, BAL), Value(b"2"))
+
+    def test_restart_of_the_oracle(self) -> None:
+        self.assertEqual(self.store.begin(), 1)
+        self.store.restart_oracle()
+        self.assertEqual(self.store.begin(), 1001)
+
+
+class Refusals(StoreTest):
+    """The refusals that a client can bring about, and the limits that they tell of."""
+
+    def test_names(self) -> None:
+        self.assertEqual(list(BY_NUMBER), list(range(1, 24)))
+        self.assertEqual(str(BadSplit()), "refused 12: BadSplit")
+        self.assertEqual((BadSplit().number, BadSplit().name), (12, "BadSplit"))
+        self.assertTrue(all(issubclass(refusal, Refused) for refusal in BY_NUMBER.values()))
+
+    def test_phases(self) -> None:
+        start = self.store.begin()
+        with self.assertRaises(EmptyCommit):
+            self.store.step(start)
+        self.store.set(start, BOB, BAL, b"1")
+        self.store.step(start)
+        with self.assertRaises(WrongPhase):
+            self.store.get(start, BOB, BAL)
+        with self.assertRaises(WrongPhase):
+            self.store.set(start, JOE, BAL, b"1")
+
+    def test_names_of_cells(self) -> None:
+        start = self.store.begin()
+        self.store.set(start, b"\x00" * 4000, b"!" * 64, b"v" * 65_536)
+        for row in (b"", b"r" * 4001):
+            with self.assertRaises(BadRow):
+                self.store.set(start, row, BAL, b"")
+        for family in (b"", b"f" * 65, b"a:b", b"a b", b"\x7f"):
+            with self.assertRaises(BadColumn):
+                self.store.get(start, BOB, family)
+        with self.assertRaises(BadValue):
+            self.store.set(start, BOB, BAL, b"v" * 65_537)
+
+    def test_256_writes(self) -> None:
+        start = self.store.begin()
+        for number in range(256):
+            self.store.set(start, b"%d" % number, BAL, b"")
+        with self.assertRaises(TooManyWrites):
+            self.store.set(start, b"256", BAL, b"")
+        self.store.set(start, b"0", BAL, b"again")
+
+    def test_1024_sessions(self) -> None:
+        for _ in range(1024):
+            self.store.begin()
+        with self.assertRaises(TooManySessions):
+            self.store.begin()
+        self.store.stop(1)
+        self.store.begin()
+
+    def test_1024_tablets(self) -> None:
+        for number in range(1, 1024):
+            self.store.split(number.to_bytes(2, "big"))
+        with self.assertRaises(BadSplit):
+            self.store.split(b"z")
+        self.assertEqual(self.store.tablets()[0].number, 2)
+        self.store.major(1024)
+        with self.assertRaises(UnknownTablet):
+            self.store.major(1025)
+
+    def test_tablets(self) -> None:
+        self.store.split(b"m")
+        with self.assertRaises(BadSplit):
+            self.store.split(b"m")
+        with self.assertRaises(UnknownTablet):
+            self.store.minor(3)
+        with self.assertRaises(UnknownServer):
+            self.store.move(1, 16)
+        with self.assertRaises(BadCount):
+            self.store.merge(1, 2)
+
+    def test_64_files(self) -> None:
+        for number in range(64):
+            self.commit(BOB, b"%d" % number)
+            self.store.minor(1)
+        self.store.minor(1)
+        self.commit(BOB, b"64")
+        with self.assertRaises(TooManyFiles):
+            self.store.minor(1)
+        self.store.make_room(BOB)
+        self.assertEqual(self.store.sweep(), 64)
+
+    def test_full_memtable(self) -> None:
+        for number in range(1022):
+            self.commit(b"%d" % number, b"v" * 65_536)
+        start = self.store.begin()
+        self.store.set(start, BOB, BAL, b"v" * 65_536)
+        with self.assertRaises(MemtableFull):
+            self.store.step(start)
+        with self.store.transaction() as transaction:
+            transaction.set(JOE, BAL, b"v" * 65_536)
+        self.assertIsNotNone(transaction.commit_stamp)
+        self.assertEqual(self.store.step(start), Held(1, 1))
+
+    def test_too_large_a_frame_is_not_sent(self) -> None:
+        start = self.store.begin()
+        with self.assertRaises(FrameTooLarge):
+            self.store.set(start, BOB, BAL, b"v" * 1_048_576)
+        self.store.set(start, BOB, BAL, b"v")
+
+    def test_numbers_too_large_for_their_fields(self) -> None:
+        with self.assertRaises(OverflowError):
+            self.store.minor(2**32)
+
+
+class Ends(unittest.TestCase):
+    """How a store ends."""
+
+    def test_after_close(self) -> None:
+        with Store() as store:
+            store.begin()
+        self.assertEqual(store.close(), 0)
+        with self.assertRaises(ProgramEnded) as caught:
+            store.begin()
+        self.assertEqual(caught.exception.status, 0)
+
+    def test_program_that_ends_at_once(self) -> None:
+        with Store("true") as store:
+            with self.assertRaises(ProgramEnded):
+                store.begin()
+
+    def test_no_program(self) -> None:
+        with self.assertRaises(OSError):
+            Store("/nowhere/tabletd")
+
+
+if __name__ == "__main__":
+    unittest.main()

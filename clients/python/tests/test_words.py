@@ -1,0 +1,127 @@
+"""The command, in words through a pipe."""
+
+from __future__ import annotations
+
+import subprocess
+import sys
+import unittest
+from pathlib import Path
+
+from duqishom.texts import bytes_of, text_of
+
+FOLDER = Path(__file__).resolve().parents[1]
+
+
+def answers(lines: str, *words: str) -> tuple[int, list[str]]:
+    """The exit status of the command, and what it prints, where these lines come through a pipe."""
+    command = [sys.executable, "-m", "duqishom", *words]
+    ran = subprocess.run(command, cwd=FOLDER, input=lines, capture_output=True, text=True)
+    return ran.returncode, (ran.stdout + ran.stderr).splitlines()
+
+
+class Words(unittest.TestCase):
+    """Each line of the command, with what it prints."""
+
+    def assert_answered(self, table: list[tuple[str, str]], status: int) -> None:
+        lines = "\n".join(line for line, _ in table)
+        self.assertEqual(answers(lines), (status, [answer for _, answer in table]))
+
+    def test_transactions(self) -> None:
+        table = [
+            ("set Bob bal 10", "committed at 2"),
+            ("get Bob bal", "10"),
+            ("get Joe bal", "nothing"),
+            ("transfer Bob Joe bal 7", "committed at 6: Bob has 3, Joe has 7"),
+            ("get Joe bal", "7"),
+            ("raw Bob bal write 0 9", "6: start 5"),
+            ("raw Bob bal data 0 4", "1: 10"),
+            ("raw Bob bal lock 0 last", "nothing"),
+        ]
+        self.assert_answered(table, 0)
+
+    def test_sessions(self) -> None:
+        table = [
+            ("begin", "session 1"),
+            ("in 1 set Bob bal 10", "set"),
+            ("in 1 set Joe bal 2", "set"),
+            ("in 1 get Bob bal", "nothing"),
+            ("in 1 step", "held 1 of 2"),
+            ("raw Bob bal lock 0 9", "1: Bob\\x00\\x00bal\\x00\\x00"),
+            ("in 1 step", "held 2 of 2"),
+            ("in 1 step", "stamped 2"),
+            ("in 1 step", "committed at 2"),
+            ("begin", "session 3"),
+            ("in 3 get Bob bal", "10"),
+            ("in 3 get Joe bal", "pending: locked by 1"),
+            ("in 1 step", "finished 2 of 2"),
+            ("in 3 get Joe bal", "2"),
+            ("in 3 stop", "stopped"),
+        ]
+        self.assert_answered(table, 0)
+
+    def test_upkeep(self) -> None:
+        table = [
+            ("set Bob bal 10", "committed at 2"),
+            ("compact 1 minor", "compacted"),
+            ("set Joe bal 2", "committed at 4"),
+            ("compact 1 minor", "compacted"),
+            ("compact 1 merge 2", "compacted"),
+            ("compact 1 major", "compacted"),
+            ("sweep", "3 files removed"),
+            ("split Jim", "tablet 2 ends with Jim"),
+            ("tablets", "2 up to Jim\n1 up to the last row"),
+            ("move 2 3", "moved"),
+            ("restart", "restarted"),
+            ("begin", "session 1001"),
+        ]
+        lines = "\n".join(line for line, _ in table)
+        self.assertEqual(answers(lines), (0, "\n".join(answer for _, answer in table).splitlines()))
+
+    def test_what_is_not_done(self) -> None:
+        table = [
+            ("foo", "not done: this is none of the lines that help shows"),
+            ("set Bob", "not done: this is none of the lines that help shows"),
+            ("set Bob b:l 1", "refused 4: BadColumn"),
+            ("transfer Bob Joe bal 7", "not done: Bob has 0"),
+            ("transfer Bob Bob bal 7", "not done: the two rows are one"),
+            ("transfer Bob Joe bal -7", "not done: -7 is no number"),
+            ("raw Bob bal row 0 9", "not done: row is none of data, lock and write"),
+            ("compact 99999999999 minor", "not done: a number is too large"),
+            ("compact 2 minor", "refused 11: UnknownTablet"),
+            ("in 9 step", "refused 1: UnknownSession"),
+        ]
+        self.assert_answered(table, 1)
+
+    def test_locked_cells(self) -> None:
+        table = [
+            ("begin", "session 1"),
+            ("in 1 set Bob bal 10", "set"),
+            ("in 1 step", "held 1 of 1"),
+            ("in 1 stop", "stopped"),
+            ("get Bob bal", "not committed: Bob bal is locked by the session that began at 1"),
+            ("set Bob bal 5", "not committed: Bob bal is locked, or was written since the transaction began"),
+        ]
+        self.assert_answered(table, 1)
+
+    def test_bytes(self) -> None:
+        table = [
+            ("set B\\x00b bal two\\x20words\\x5c", "committed at 2"),
+            ("get B\\x00b bal", "two\\x20words\\x5c"),
+            ("set Bob bal é\\xff", "committed at 5"),
+            ("get Bob bal", "é\\xff"),
+        ]
+        self.assert_answered(table, 0)
+        for given in (b"", b"\\x00", b"a b", bytes(range(256)), "é".encode()):
+            self.assertEqual(bytes_of(text_of(given)), given)
+
+    def test_help(self) -> None:
+        status, lines = answers("help\n")
+        self.assertEqual((status, len(lines)), (0, 18))
+
+    def test_another_program(self) -> None:
+        self.assertEqual(answers("begin\n", "--program", "true")[0], 2)
+        self.assertEqual(answers("begin\n", "--program", "/nowhere/tabletd")[0], 2)
+
+
+if __name__ == "__main__":
+    unittest.main()
