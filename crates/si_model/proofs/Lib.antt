@@ -27,3 +27,4 @@ pub mod ShownTouched
 pub mod Leaving
 pub mod Enduring
 pub mod Deciding
+pub mod Limits

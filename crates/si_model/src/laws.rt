@@ -7,7 +7,7 @@ ghost use Rattle.si_model.specs.Enduring.{Endures, HaveTried};
 ghost use Rattle.si_model.specs.ShowsCells.{IsFirst, ShowsCells};
 ghost use Rattle.si_model.specs.declared.replies.Cell.{Cell as CellValue};
 ghost use Rattle.si_model.specs.Kinds.{LeavesOthers, kind_of};
-ghost use Rattle.si_model.specs.Laws.{Bounds, ClearsItsFloor, CommitSeen, FateSeen, FirstCommitterWins, FloorStaysLow, Goes, GoneForGood, IsNeverStuck, IsSettled, Numbers, OneFate, OneMark, OneSnapshot, RefusesFirst, StartsLow, StaysCleared, TellsFate, TellsMarks};
+ghost use Rattle.si_model.specs.Laws.{Bounds, ClearsItsFloor, CommitSeen, FateSeen, FirstCommitterWins, FloorStaysLow, Goes, GoneForGood, IsNeverStuck, IsSettled, Numbers, OneFate, OneMark, OneSnapshot, RefusesFirst, StartsLow, StaysCleared, TellsFate, TellsMarks, WritesWithinLimits};
 ghost use Rattle.si_model.specs.Machine.{IsReached, Reply, Request, State, Step};
 
 /// Each answered value is the last one committed by its session's start, in the commits as they are now.
@@ -111,6 +111,11 @@ pub fn never_stuck()
 /// request of the storage leaves all. Marks are of sessions and of cleaners.
 pub fn leaves_others()
     ensures { (st next : State) (q : Request) (r : Reply) → Step st q r next → LeavesOthers (kind_of q) st next }
+{}
+
+/// The cells and values that sessions write keep to the limits of rows, families and values.
+pub fn writes_within_limits()
+    ensures { (st : State) → IsReached st → WritesWithinLimits st }
 {}
 
 /// The start of each mark has had its chance there, and so has that of each open cleaner.

@@ -9,7 +9,7 @@ pub use laws::{
     bounded, cleaners_know, clears_its_floor, commit_seen, endures, fate_seen, first_committer,
     floor_stays_low, goes_on, gone_for_good, have_tried, leaves_others, never_stuck, numbered,
     one_fate, one_mark, one_snapshot, refuses_first, settled, starts_low, stays_cleared,
-    tells_fate, tells_first, tells_marks,
+    tells_fate, tells_first, tells_marks, writes_within_limits,
 };
 pub use replies::{Cell, CleanReply, CleanStart, CollectReply, Found, Progress};
 pub use runs::{
