@@ -28,3 +28,7 @@ pub mod Leaving
 pub mod Enduring
 pub mod Deciding
 pub mod Limits
+pub mod Collected
+pub mod Fewer
+pub mod Left
+pub mod Coming

@@ -5,8 +5,12 @@ use Rattle.std.specs.FinMap.{FinMap, get, len}
 use Rattle.cell_key.specs.Names.{IsRow, IsFamily}
 use Rattle.cell_key.specs.declared.refusals.Refusal.{Refusal}
 use Rattle.si_model.specs.Sets.{◌∈◌}
-use Rattle.si_model.specs.Machine.{State, Value, Phase, Open, Holding, Finishing, end_of_stamps, most_sessions, most_writes, most_value, most_cleaners, most_collectors, most_tablets, Stamped, InPhase, Commit, Read, Request, Reply, Refused, Begin, Get, Set, Advance, Stop, CleanBegin, CleanStep, CollectStep, Pending, Conflict, NoLock, Cleaning, Blocked, Committed, Lost, Decided, RolledForward, RolledBack, Gone, Collected, Gives, Names, Marked, IsDead, CommittedAt, IsCommitted, Cleaner, Writes, Wrote, Puts, IsSnapshot, Clashes, IsAcceptable, IsFirstRefusal, IsStorageRefusal, Acts, Step, Run}
+use Rattle.si_model.specs.Machine.{State, Value, Phase, Open, Holding, Finishing, end_of_stamps, most_sessions, most_writes, most_value, most_cleaners, most_collectors, most_tablets, Stamped, InPhase, Commit, Read, Request, Reply, Refused, Begin, Get, Set, Advance, Stop, CleanBegin, CleanStep, CollectStep, Pending, Conflict, NoLock, Cleaning, Blocked, Committed, Lost, Decided, RolledForward, RolledBack, Gone, Collected, Gives, Names, Marked, IsDead, CommittedAt, IsCommitted, Cleaner, Writes, Wrote, Puts, IsSnapshot, Clashes, IsAcceptable, IsFirstRefusal, IsStorageRefusal, Acts, Step, Run, IsReached}
 use Rattle.si_model.specs.declared.replies.Cell.{Cell}
+
+-- a law of each step from a reached state
+abbrev pub AtEachStep : (State → State → Type 0) → Type 0
+AtEachStep Law = (st next : State) (q : Request) (r : Reply) → IsReached st → Step st q r next → Law st next
 
 -- each answer is the snapshot at its session's start, of the commits as they are now (snapshot isolation)
 abbrev pub IsSettled : State → Type 0
