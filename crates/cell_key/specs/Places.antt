@@ -31,6 +31,11 @@ pub record IsPlaceText (bytes : List ℕ) : Type 0 where
   pub is_family : IsFamily family
   pub is : bytes ≡ place_text row family
 
+-- the texts of two places are equal only where the places are
+abbrev pub OnePlaceAText : Type 0
+OnePlaceAText = (row family row' family' : List ℕ) → IsFamily family → IsFamily family' → place_text row family ≡ place_text row' family'
+    → (row ≡ row') × (family ≡ family')
+
 -- the order of rows, and then of families
 abbrev pub place_cmp : Place → Place → Ordering
 place_cmp = then_cmp (on (λ (place : Place). place.0) byte_cmp) (on (λ (place : Place). place.1) byte_cmp)

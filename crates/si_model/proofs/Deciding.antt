@@ -11,9 +11,10 @@ use Rattle.si_model.specs.Sets.{◌∈◌, here, there}
 use Rattle.si_model.specs.Laws.{Goes, FateOf}
 use Rattle.si_model.specs.Machine.{State, Commit, Names, Marked, IsCommitted, IsReached, Writes, Open, Puts, Request, Reply, Step}
 use Rattle.si_model.specs.declared.replies.Cell.{Cell}
-use Rattle.si_model.specs.ShowsCells.{at, IsThere, IsFirst, ShowsCells, start_text}
+use Rattle.si_model.specs.ShowsCells.{at, IsThere, ShowsCells, start_text}
 use Rattle.si_model.specs.Enduring.{HaveTried, Endures}
-use Rattle.si_model.specs.Deciding.{TellsFirst, Verdict, NotYet, Forward, Back, IsRight, CleanersKnow}
+use Rattle.si_model.specs.Collection.{NamesNearest}
+use Rattle.si_model.specs.Deciding.{FirstTells, Verdict, NotYet, Forward, Back, IsRight, CleanersKnow}
 use Rattle.si_model.proofs.Tools.{same_entry}
 use Rattle.si_model.proofs.Invariant.{StartsDiffer}
 use Rattle.si_model.proofs.Steps.{reached_sound}
@@ -72,19 +73,21 @@ module _ (cells : Cells) (st : State) (reached : IsReached st) (shown : ShowsCel
         ])
       ]
 
+  pub names_nearest : NamesNearest cells st
+  names_nearest x t c d low named above other = elim (cases_lt d c) [
+    | inl less ↦ absurd (let e = named_first x t c d low above (omega arith) named other in omega arith)
+    | inr most ↦ omega arith
+  ]
+
   -- what the first cell of a start tells
-  pub tells_first : (t : ℕ) (first : Cell) → IsFirst st t first → TellsFirst cells st t first
-  tells_first t first is = record {
+  pub first_tells : FirstTells cells st
+  first_tells t first is = record {
     locked = λ there. let m = shown.locks first t there.0 there.1 in ((λ c. fate.committed c m), (λ d. fate.dead d m));
     unlocked = λ gone i k g same. elim (fate.cleaned i k g same) [ inl m ↦ absurd (unmarked gone m) | inr f ↦ f ];
     forward = λ c named.
         let j = shown.records first c (start_text t) named in
         let e : j.commit.start ≡ t = same_start j.commit.start t (commit_low j.commit j.is_in) low (sym j.text) in
         (j.commit.writes, subst (λ (p : ℕ × ℕ). record { start = p.0; stamp = p.1; writes = j.commit.writes } ∈ st.commits) (λ i. (e i, j.stamp i)) j.is_in);
-    nearest = λ c d named above other. elim (cases_lt d c) [
-      | inl less ↦ absurd (let e = named_first first t c d low above (omega arith) named other in omega arith)
-      | inr most ↦ omega arith
-    ];
     back = λ gone none x m. elim (fate.marked x m) [
       | inl n ↦ absurd (unmarked gone n)
       | inr f ↦ elim f [ inl c ↦ absurd (uncommitted gone none x m c) | inr dead ↦ dead ]

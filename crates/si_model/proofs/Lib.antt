@@ -27,3 +27,8 @@ pub mod ShownTouched
 pub mod Leaving
 pub mod Enduring
 pub mod Deciding
+pub mod Limits
+pub mod Collected
+pub mod Fewer
+pub mod Left
+pub mod Coming

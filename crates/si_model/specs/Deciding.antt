@@ -1,5 +1,5 @@
 -- What stands at the first cell of a start tells its fate, and what a cleaner keeps of it.
-use Rattle.std.specs.Prelude.{◌≡◌, ◌≢◌, ℕ, ◌<◌, ◌≤◌, ◌⊎◌, Some, None}
+use Rattle.std.specs.Prelude.{◌≡◌, ◌≢◌, ℕ, ◌<◌, ◌⊎◌, Some, None}
 use Rattle.std.specs.FinMap.{get}
 use Rattle.cell_key.specs.Cells.{Cells}
 use Rattle.cell_key.specs.declared.keys.Qualifier.TheVariants.{Lock, Write}
@@ -15,11 +15,12 @@ pub record TellsFirst (cells : Cells) (st : State) (t : ℕ) (first : Cell) : Ty
   pub unlocked : at cells first Lock t ≡ None → (i : ℕ) (k : Cleaner) → get st.cleaners i ≡ Some k → k.start ≡ t → IsCommitted st t ⊎ IsDead st t
   -- a record names it: it was committed there
   pub forward : (c : ℕ) → at cells first Write c ≡ Some (start_text t) → CommittedAt st t c
-  -- no record but the first above it can name it
-  pub nearest : (c d : ℕ) → at cells first Write c ≡ Some (start_text t) → t < d → IsThere cells first Write d → c ≤ d
   -- Its lock is gone and no record names it: it was rolled back, as long as any mark of it stands. Its record may have been
   -- collected instead, but then none does: a record goes only where a later one lies at or below each mark.
   pub back : at cells first Lock t ≡ None → ((c : ℕ) → t < c → at cells first Write c ≢ Some (start_text t)) → (x : Cell) → Marked st x t → IsDead st t
+
+abbrev pub FirstTells : Cells → State → Type 0
+FirstTells cells st = (t : ℕ) (first : Cell) → IsFirst st t first → TellsFirst cells st t first
 
 -- what a cleaner has found of a start's fate: nothing yet, its commit stamp, or that it was rolled back
 pub data Verdict : Type 0 where

@@ -1,7 +1,8 @@
 -- The kinds of requests, and which part of a state each kind changes.
 use Rattle.std.specs.Prelude.{◌≡◌, ◌≢◌}
 use Rattle.si_model.specs.State.{State}
-use Rattle.si_model.specs.Messages.{Request, Begin, Get, Set, Advance, Stop, CleanBegin, CleanStep, CollectBegin, CollectStep, Minor, Merge, Major, Split, Move, Sweep, OracleRestart, Raw, Checkpoint}
+use Rattle.si_model.specs.Machine.{Step}
+use Rattle.si_model.specs.Messages.{Request, Reply, Begin, Get, Set, Advance, Stop, CleanBegin, CleanStep, CollectBegin, CollectStep, Minor, Merge, Major, Split, Move, Sweep, OracleRestart, Raw, Checkpoint}
 
 -- what a request is about: sessions, cleaners, collectors, the places of tablets, or none of these
 pub data Kind : Type 0 where
@@ -63,3 +64,7 @@ pub record LeavesOthers (kind : Kind) (st next : State) : Type 0 where
   pub collectors : kind ≢ OfCollectors → SameCollectors st next
   pub places : kind ≢ OfPlaces → SamePlaces st next
   pub marks : kind ≢ OfSessions → kind ≢ OfCleaners → next.marks ≡ st.marks
+
+-- each request leaves the parts that are of other kinds
+abbrev pub EachLeavesOthers : Type 0
+EachLeavesOthers = (st next : State) (q : Request) (r : Reply) → Step st q r next → LeavesOthers (kind_of q) st next

@@ -2,10 +2,15 @@
 use Rattle.std.specs.Prelude.{◌≡◌, ◌≢◌, ℕ, ◌<◌, ◌≤◌, ◌⊎◌, ⊤, ◌+◌, List, Option, slice_get, Some, length}
 use Rattle.std.specs.Ordering.{nat_cmp}
 use Rattle.std.specs.FinMap.{FinMap, get, len}
+use Rattle.cell_key.specs.Names.{IsRow, IsFamily}
 use Rattle.cell_key.specs.declared.refusals.Refusal.{Refusal}
 use Rattle.si_model.specs.Sets.{◌∈◌}
-use Rattle.si_model.specs.Machine.{State, Value, Phase, Open, Holding, Finishing, end_of_stamps, most_sessions, most_writes, most_cleaners, most_collectors, most_tablets, Stamped, InPhase, Commit, Read, Request, Reply, Refused, Begin, Get, Set, Advance, Stop, CleanBegin, CleanStep, CollectStep, Pending, Conflict, NoLock, Cleaning, Blocked, Committed, Lost, Decided, RolledForward, RolledBack, Gone, Collected, Names, Marked, IsDead, CommittedAt, IsCommitted, Cleaner, Writes, Wrote, Puts, IsSnapshot, Clashes, IsAcceptable, IsFirstRefusal, IsStorageRefusal, Acts, Step, Run}
+use Rattle.si_model.specs.Machine.{State, Value, Phase, Open, Holding, Finishing, end_of_stamps, most_sessions, most_writes, most_value, most_cleaners, most_collectors, most_tablets, Stamped, InPhase, Commit, Read, Request, Reply, Refused, Begin, Get, Set, Advance, Stop, CleanBegin, CleanStep, CollectStep, Pending, Conflict, NoLock, Cleaning, Blocked, Committed, Lost, Decided, RolledForward, RolledBack, Gone, Collected, Gives, Names, Marked, IsDead, CommittedAt, IsCommitted, Cleaner, Writes, Wrote, Puts, IsSnapshot, Clashes, IsAcceptable, IsFirstRefusal, IsStorageRefusal, Acts, Step, Run, IsReached}
 use Rattle.si_model.specs.declared.replies.Cell.{Cell}
+
+-- a law of each step from a reached state
+abbrev pub AtEachStep : (State → State → Type 0) → Type 0
+AtEachStep Law = (st next : State) (q : Request) (r : Reply) → IsReached st → Step st q r next → Law st next
 
 -- each answer is the snapshot at its session's start, of the commits as they are now (snapshot isolation)
 abbrev pub IsSettled : State → Type 0
@@ -133,6 +138,16 @@ pub record Bounds (st : State) : Type 0 where
   pub stamped_to : (t c : ℕ) → InPhase st t (Stamped c) → c < end_of_stamps
   pub finishing_to : (t c k : ℕ) → InPhase st t (Finishing c k) → c < end_of_stamps
   pub commit_to : (a : Commit) → a ∈ st.commits → a.stamp < end_of_stamps
+
+-- a cell and a value that a session may write
+pub record IsWritable (x : Cell) (v : Value) : Type 0 where
+  pub row : IsRow x.row
+  pub family : IsFamily x.family
+  pub value : length v ≤ most_value
+
+-- sessions write nothing else
+abbrev pub WritesWithinLimits : State → Type 0
+WritesWithinLimits st = (t : ℕ) (ws : Writes) → Wrote st t ws → (x : Cell) (v : Value) → Gives ws x v → IsWritable x v
 
 -- the open ones have numbers from 1 on, each below the next number
 pub record IsNumbered {X : Type 0} (open_ones : FinMap nat_cmp X) (next most : ℕ) : Type 0 where

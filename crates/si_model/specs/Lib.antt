@@ -10,3 +10,4 @@ pub mod ShowsCells
 pub mod Kinds
 pub mod Enduring
 pub mod Deciding
+pub mod Collection

@@ -9,7 +9,7 @@ use Rattle.cell_key.specs.declared.keys.Qualifier.{Qualifier}
 use Rattle.cell_key.specs.declared.keys.Qualifier.TheVariants.{Data, Lock, Write}
 use Rattle.si_model.specs.Sets.{◌∈◌}
 use Rattle.si_model.specs.Laws.{IsCleared}
-use Rattle.si_model.specs.Machine.{State, Value, Writes, Commit, Open, InPhase, Wrote, Puts, Gives, Names, Marked}
+use Rattle.si_model.specs.Machine.{State, Value, Writes, Commit, Open, InPhase, Wrote, Puts, Gives, Names, Marked, IsReached}
 use Rattle.si_model.specs.declared.replies.Cell.{Cell}
 
 abbrev pub key_of : Cell → Qualifier → ℕ → CellKey
@@ -73,6 +73,10 @@ pub record ShowsCells (cells : Cells) (st : State) : Type 0 where
       → (at cells x Write a.stamp ≡ Some (start_text a.start)) ⊎ IsReplaced st x a
   -- data is what its start gave
   pub given : (x : Cell) (t : ℕ) (b : List ℕ) → at cells x Data t ≡ Some b → IsGiven st x t b
+
+-- a law of each cell map that shows a reached state
+abbrev pub WhereShown : (Cells → State → Type 0) → Type 0
+WhereShown Law = (cells : Cells) (st : State) → IsReached st → ShowsCells cells st → Law cells st
 
 -- the cells after t put data and lock of x
 abbrev pub held_cells : Cells → Cell → ℕ → List ℕ → Cell → Cells

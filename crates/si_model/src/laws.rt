@@ -1,14 +1,13 @@
 //! The laws of the machine. Each is a call that does nothing: its contract is the law.
 
 ghost use Rattle.cell_key.specs.Cells.{Cells};
-ghost use Rattle.std.specs.Prelude.{ℕ};
-ghost use Rattle.si_model.specs.Deciding.{CleanersKnow, TellsFirst};
+ghost use Rattle.si_model.specs.Collection.{ComeStays, ComesFurther, LeftFalls, MayEraseBelow, NamesNearest, StaysShown};
+ghost use Rattle.si_model.specs.Deciding.{CleanersKnow, FirstTells};
 ghost use Rattle.si_model.specs.Enduring.{Endures, HaveTried};
-ghost use Rattle.si_model.specs.ShowsCells.{IsFirst, ShowsCells};
-ghost use Rattle.si_model.specs.declared.replies.Cell.{Cell as CellValue};
-ghost use Rattle.si_model.specs.Kinds.{LeavesOthers, kind_of};
-ghost use Rattle.si_model.specs.Laws.{Bounds, ClearsItsFloor, CommitSeen, FateSeen, FirstCommitterWins, FloorStaysLow, Goes, GoneForGood, IsNeverStuck, IsSettled, Numbers, OneFate, OneMark, OneSnapshot, RefusesFirst, StartsLow, StaysCleared, TellsFate, TellsMarks};
-ghost use Rattle.si_model.specs.Machine.{IsReached, Reply, Request, State, Step};
+ghost use Rattle.si_model.specs.Kinds.{EachLeavesOthers};
+ghost use Rattle.si_model.specs.Laws.{AtEachStep, Bounds, ClearsItsFloor, CommitSeen, FateSeen, FirstCommitterWins, FloorStaysLow, Goes, GoneForGood, IsNeverStuck, IsSettled, Numbers, OneFate, OneMark, OneSnapshot, RefusesFirst, StartsLow, StaysCleared, TellsFate, TellsMarks, WritesWithinLimits};
+ghost use Rattle.si_model.specs.Machine.{IsReached, State};
+ghost use Rattle.si_model.specs.ShowsCells.{ShowsCells, WhereShown};
 
 /// Each answered value is the last one committed by its session's start, in the commits as they are now.
 pub fn settled()
@@ -72,7 +71,7 @@ pub fn bounded()
 
 /// What each step keeps of starts that are open no more, and of what is cleared.
 pub fn goes_on()
-    ensures { (st next : State) (q : Request) (r : Reply) → IsReached st → Step st q r next → Goes st next }
+    ensures { AtEachStep Goes }
 {}
 
 /// What is told of a start's fate is so, and after a cleaner's second step the mark is gone.
@@ -110,7 +109,12 @@ pub fn never_stuck()
 /// A request about sessions, cleaners, collectors or the places of tablets leaves what the others are about, and a
 /// request of the storage leaves all. Marks are of sessions and of cleaners.
 pub fn leaves_others()
-    ensures { (st next : State) (q : Request) (r : Reply) → Step st q r next → LeavesOthers (kind_of q) st next }
+    ensures { EachLeavesOthers }
+{}
+
+/// The cells and values that sessions write keep to the limits of rows, families and values.
+pub fn writes_within_limits()
+    ensures { (st : State) → IsReached st → WritesWithinLimits st }
 {}
 
 /// The start of each mark has had its chance there, and so has that of each open cleaner.
@@ -121,15 +125,46 @@ pub fn have_tried()
 /// Whoever takes a step, a mark that left doesn't come back, one that joins is at or above the floor, and commits and
 /// rolled back starts stay.
 pub fn endures()
-    ensures { (st next : State) (q : Request) (r : Reply) → IsReached st → Step st q r next → Endures st next }
+    ensures { AtEachStep Endures }
 {}
 
 /// What stands at the first cell of a start tells its fate.
-pub fn tells_first()
-    ensures { (cells : Cells) (st : State) → IsReached st → ShowsCells cells st → (t : ℕ) (first : CellValue) → IsFirst st t first → TellsFirst cells st t first }
+pub fn first_tells()
+    ensures { WhereShown FirstTells }
 {}
 
 /// What an open cleaner knows stays right, whoever takes a step.
 pub fn cleaners_know()
-    ensures { (st next : State) (q : Request) (r : Reply) → IsReached st → Step st q r next → CleanersKnow st next }
+    ensures { AtEachStep CleanersKnow }
+{}
+
+/// Of a cell's records only the first above a start can name it.
+pub fn names_nearest()
+    ensures { WhereShown NamesNearest }
+{}
+
+/// What a collection leaves shows the same state.
+pub fn stays_shown()
+    ensures { (cells : Cells) (st : State) → ShowsCells cells st → StaysShown cells st }
+{}
+
+/// Where no mark stands below a floor, a collector may erase the records older than one at or below it, with their data,
+/// and data below it that no record names.
+pub fn may_erase()
+    ensures { WhereShown MayEraseBelow }
+{}
+
+/// How a collector goes on from a place.
+pub fn comes_further()
+    ensures { (cells : Cells) (st : State) → ShowsCells cells st → ComesFurther cells st }
+{}
+
+/// Whoever takes a step, a collector has come as far.
+pub fn come_stays()
+    ensures { WhereShown ComeStays }
+{}
+
+/// Each thing that a collector does takes one off what it has left, at least.
+pub fn left_falls()
+    ensures { (cells : Cells) → LeftFalls cells }
 {}

@@ -6,10 +6,11 @@ mod replies;
 mod runs;
 
 pub use laws::{
-    bounded, cleaners_know, clears_its_floor, commit_seen, endures, fate_seen, first_committer,
-    floor_stays_low, goes_on, gone_for_good, have_tried, leaves_others, never_stuck, numbered,
-    one_fate, one_mark, one_snapshot, refuses_first, settled, starts_low, stays_cleared,
-    tells_fate, tells_first, tells_marks,
+    bounded, cleaners_know, clears_its_floor, come_stays, comes_further, commit_seen, endures,
+    fate_seen, first_committer, first_tells, floor_stays_low, goes_on, gone_for_good, have_tried,
+    leaves_others, left_falls, may_erase, names_nearest, never_stuck, numbered, one_fate, one_mark,
+    one_snapshot, refuses_first, settled, starts_low, stays_cleared, stays_shown, tells_fate,
+    tells_marks, writes_within_limits,
 };
 pub use replies::{Cell, CleanReply, CleanStart, CollectReply, Found, Progress};
 pub use runs::{

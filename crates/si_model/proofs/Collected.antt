@@ -1,0 +1,279 @@
+-- What a collection keeps, and what a collector may erase.
+use Rattle.std.proofs.Common.{◌≡◌, ◌≢◌, ℕ, ◌<◌, ◌≤◌, ◌^◌, List, [], ◌∷◌, Option, Some, None, ◌⊎◌, inl, inr, refl, sym, ap, subst, ◌∙◌, arith}
+use Rattle.std.proofs.lemmas.Option.{none-some, same_Some}
+use Rattle.std.specs.FinMap.{get, remove}
+use Rattle.cell_key.specs.Cells.{Cells}
+use Rattle.cell_key.specs.Places.{Place}
+use Rattle.cell_key.specs.declared.keys.CellKey.{CellKey}
+use Rattle.cell_key.specs.declared.keys.Qualifier.TheVariants.{Data, Lock, Write}
+use Rattle.si_model.specs.Sets.{◌∈◌, here, there}
+use Rattle.si_model.specs.Machine.{State, Commit, Names, Marked, IsReached}
+use Rattle.si_model.specs.declared.replies.Cell.{Cell}
+use Rattle.si_model.specs.ShowsCells.{at, key_of, IsThere, IsReplaced, ShowsCells, start_text}
+use Rattle.si_model.specs.Collection.{Collects, IsNamed, IsTidy, IsUnmarkedBelow, Pass, FirstPass, SecondPass, HasCome, collected_cells, dropped_cells, IsOld, MayEraseBelow, StaysShown}
+use Rattle.si_model.proofs.ShownAt.{cases_key, erased_at, erased_off, key_cell, key_stamp, no_lock_data, no_lock_write, no_data_write, no_write_data}
+use Rattle.si_model.proofs.Steps.{reached_sound}
+use Rattle.si_model.proofs.Bounds.{reached_bounds}
+use Rattle.si_model.proofs.Deciding.{same_start, one_commit}
+
+module _ (cells cells' : Cells) (st : State) (shown : ShowsCells cells st) (gone : Collects cells cells' st) where
+  record_was : (x : Cell) (c : ℕ) (b : List ℕ) → at cells' x Write c ≡ Some b → at cells x Write c ≡ Some b
+  record_was x c b h = elim (gone.records x c) [
+    | inl same ↦ sym same ∙ h
+    | inr left ↦ absurd (none-some b (sym left.0 ∙ h))
+  ]
+
+  value_was : (x : Cell) (t : ℕ) (b : List ℕ) → at cells' x Data t ≡ Some b → at cells x Data t ≡ Some b
+  value_was x t b h = elim (gone.values x t) [
+    | inl same ↦ sym same ∙ h
+    | inr left ↦ absurd (none-some b (sym left.0 ∙ h))
+  ]
+
+  -- the data of a mark stays, and that of each record that stays
+  mark_value : (x : Cell) (t : ℕ) → Marked st x t → IsThere cells x Data t → IsThere cells' x Data t
+  mark_value x t m was = elim (gone.values x t) [
+    | inl same ↦ (was.0, same ∙ was.1)
+    | inr left ↦ absurd (left.1 m)
+  ]
+
+  named_value : (x : Cell) (c t : ℕ) → at cells' x Write c ≡ Some (start_text t) → IsThere cells x Data t → IsThere cells' x Data t
+  named_value x c t h was = elim (gone.values x t) [
+    | inl same ↦ (was.0, same ∙ was.1)
+    | inr left ↦ absurd (left.2 c h)
+  ]
+
+  pub shows_collected : ShowsCells cells' st
+  shows_collected = record {
+    marks = λ x t m. let k = shown.marks x t m in record { first = k.first; is_first = k.is_first; lock = gone.locks x t ∙ k.lock; value = mark_value x t m k.value };
+    locks = λ x t b h. shown.locks x t b (sym (gone.locks x t) ∙ h);
+    records = λ x c b h. let k = shown.records x c b (record_was x c b h) in record {
+      commit = k.commit;
+      is_in = k.is_in;
+      stamp = k.stamp;
+      writes = k.writes;
+      text = k.text;
+      unmarked = k.unmarked;
+      value = named_value x c k.commit.start (h ∙ ap (λ (t : List ℕ). Some t) k.text) k.value;
+    };
+    commits = λ a i x names unmarked. elim (shown.commits a i x names unmarked) [
+      | inl e ↦ elim (gone.records x a.stamp) [
+        | inl same ↦ inl (same ∙ e)
+        | inr left ↦ inr (left.1 a i names refl)
+      ]
+      | inr r ↦ inr r
+    ];
+    given = λ x t b h. let k = shown.given x t b (value_was x t b h) in record { ws = k.ws; wrote = k.wrote; gives = k.gives; late = k.late };
+  }
+
+  -- what was tidy stays so, for each floor
+  pub tidy_collected : (x : Cell) (floor : ℕ) → IsTidy cells x floor → IsTidy cells' x floor
+  tidy_collected x floor tidy = record {
+    one = λ c d lc ld hc hd. tidy.one c d lc ld (hc.0, record_was x c hc.0 hc.1) (hd.0, record_was x d hd.0 hd.1);
+    named = λ t low h. let was : IsThere cells x Data t = (h.0, value_was x t h.0 h.1) in let n = tidy.named t low was in elim (gone.records x n.0) [
+      | inl same ↦ (n.0, same ∙ n.1)
+      | inr left ↦ absurd (none-some h.0 (sym (gone.together x n.0 t was n.1 left.0) ∙ h.1))
+    ];
+  }
+
+  pub come_collected : (floor : ℕ) (pass : Pass) (after : Option Place) → HasCome cells st floor pass after → HasCome cells' st floor pass after
+  come_collected floor FirstPass after come = come
+  come_collected floor SecondPass after come = (come.0, λ x passed. tidy_collected x floor (come.1 x passed))
+
+-- what becomes of one key where records and their data are erased
+data Fate (cells cells' : Cells) (k : CellKey) (IsErased : Type 0) : Type 0 where
+  stays : get cells' k ≡ get cells k → Fate cells cells' k IsErased
+  goes : get cells' k ≡ None → IsErased → Fate cells cells' k IsErased
+
+abbrev IsOf : Cell → List (ℕ × ℕ) → CellKey → Type 0
+IsOf x vs k = (v : ℕ × ℕ) × (v ∈ vs) × ((k ≡ key_of x Write v.0) ⊎ (k ≡ key_of x Data v.1))
+
+-- an erased key stays erased
+none_stays : (x : Cell) (vs : List (ℕ × ℕ)) (cells : Cells) (k : CellKey) → get cells k ≡ None → get (collected_cells cells x vs) k ≡ None
+none_stays x [] cells k e = e
+none_stays x (v ∷ vs) cells k e = none_stays x vs (remove (remove cells (key_of x Write v.0)) (key_of x Data v.1)) k (elim (cases_key k (key_of x Data v.1)) [
+  | inl same ↦ ap (get (remove (remove cells (key_of x Write v.0)) (key_of x Data v.1))) same ∙ erased_at (remove cells (key_of x Write v.0)) (key_of x Data v.1)
+  | inr ne ↦ erased_off (remove cells (key_of x Write v.0)) (key_of x Data v.1) k ne ∙ elim (cases_key k (key_of x Write v.0)) [
+    | inl same ↦ ap (get (remove cells (key_of x Write v.0))) same ∙ erased_at cells (key_of x Write v.0)
+    | inr ne' ↦ erased_off cells (key_of x Write v.0) k ne' ∙ e
+  ]
+])
+
+collected_gone : (x : Cell) (vs : List (ℕ × ℕ)) (cells : Cells) (v : ℕ × ℕ) → v ∈ vs
+    → (get (collected_cells cells x vs) (key_of x Write v.0) ≡ None) × (get (collected_cells cells x vs) (key_of x Data v.1) ≡ None)
+collected_gone x [] cells v i = elim i [ ]
+collected_gone x (u ∷ vs) cells v here = (
+  none_stays x vs (remove (remove cells (key_of x Write v.0)) (key_of x Data v.1)) (key_of x Write v.0)
+      (erased_off (remove cells (key_of x Write v.0)) (key_of x Data v.1) (key_of x Write v.0) (no_write_data x x v.0 v.1) ∙ erased_at cells (key_of x Write v.0)),
+  none_stays x vs (remove (remove cells (key_of x Write v.0)) (key_of x Data v.1)) (key_of x Data v.1) (erased_at (remove cells (key_of x Write v.0)) (key_of x Data v.1)),
+)
+collected_gone x (u ∷ vs) cells v (there i) = collected_gone x vs (remove (remove cells (key_of x Write u.0)) (key_of x Data u.1)) v i
+
+collected_fate : (x : Cell) (vs : List (ℕ × ℕ)) (cells : Cells) (k : CellKey) → Fate cells (collected_cells cells x vs) k (IsOf x vs k)
+collected_fate x [] cells k = stays refl
+collected_fate x (v ∷ vs) cells k = elim (cases_key k (key_of x Write v.0)) [
+  | inl e ↦ goes (ap (get (collected_cells cells x (v ∷ vs))) e ∙ (collected_gone x (v ∷ vs) cells v here).0) (v, here, inl e)
+  | inr ne ↦ elim (cases_key k (key_of x Data v.1)) [
+    | inl e ↦ goes (ap (get (collected_cells cells x (v ∷ vs))) e ∙ (collected_gone x (v ∷ vs) cells v here).1) (v, here, inr e)
+    | inr ne' ↦ elim (collected_fate x vs (remove (remove cells (key_of x Write v.0)) (key_of x Data v.1)) k) [
+      | stays same ↦ stays (same ∙ (erased_off (remove cells (key_of x Write v.0)) (key_of x Data v.1) k ne' ∙ erased_off cells (key_of x Write v.0) k ne))
+      | goes none of ↦ goes none (of.0, there of.1, of.2)
+    ]
+  ]
+]
+
+-- Records of x older than one at or below the floor, and the data that they name, may go where no mark stands below the floor.
+module _ (cells : Cells) (st : State) (reached : IsReached st) (shown : ShowsCells cells st) (x : Cell) (floor : ℕ) (below : floor ≤ st.floor) (clear : IsUnmarkedBelow st floor) where
+  start_low : (a : Commit) → a ∈ st.commits → a.start < 2 ^ 64
+  start_low a i =
+      let low = (reached_sound reached).start_low a.start a.writes ((reached_sound reached).fair a i).wrote in
+      let top = (reached_bounds reached).top in
+      omega arith
+
+  value_low : (y : Cell) (t : ℕ) → IsThere cells y Data t → t < 2 ^ 64
+  value_low y t was =
+      let g = shown.given y t was.0 was.1 in
+      let low = (reached_sound reached).start_low t g.ws g.wrote in
+      let top = (reached_bounds reached).top in
+      omega arith
+
+  -- the commit that a record names
+  named_commit : (y : Cell) (c t : ℕ) → t < 2 ^ 64 → at cells y Write c ≡ Some (start_text t) → (a : Commit) × (a ∈ st.commits) × (a.stamp ≡ c) × Names a.writes y × (a.start ≡ t)
+  named_commit y c t low h =
+      let k = shown.records y c (start_text t) h in
+      (k.commit, k.is_in, k.stamp, k.writes, same_start k.commit.start t (start_low k.commit k.is_in) low (sym k.text))
+
+  -- two records of one start are one
+  one_record : (y : Cell) (c d t : ℕ) → t < 2 ^ 64 → at cells y Write c ≡ Some (start_text t) → at cells y Write d ≡ Some (start_text t) → c ≡ d
+  one_record y c d t low h g =
+      let a = named_commit y c t low h in
+      let b = named_commit y d t low g in
+      sym a.2 ∙ (ap (λ (m : Commit). m.stamp) (one_commit st.commits (reached_sound reached).starts_differ a.0 b.0 a.1 b.1 (a.4 ∙ sym b.4)) ∙ b.2)
+
+  module _ (w : ℕ) (text : List ℕ) (newest : at cells x Write w ≡ Some text) (at_most : w ≤ floor) where
+    -- the commit at c lies below the one at w, which is cleared
+    replaced : (c : ℕ) → c < w → (a : Commit) → a ∈ st.commits → Names a.writes x → a.stamp ≡ c → IsReplaced st x a
+    replaced c older a i names is =
+        let k = shown.records x w text newest in
+        let e = k.stamp in
+        (k.commit, k.is_in, k.writes, omega arith, (omega arith, λ y t m. let up = clear y t m in omega arith))
+
+    collects_old : (vs : List (ℕ × ℕ)) → ((v : ℕ × ℕ) → v ∈ vs → IsOld cells x w v) → Collects cells (collected_cells cells x vs) st
+    collects_old vs old = record {
+      locks = λ y t. elim (collected_fate x vs cells (key_of y Lock t)) [
+        | stays same ↦ same
+        | goes none of ↦ absurd (elim of.2 [ inl e ↦ no_lock_write y x t of.0.0 e | inr e ↦ no_lock_data y x t of.0.1 e ])
+      ];
+      records = λ y c. elim (collected_fate x vs cells (key_of y Write c)) [
+        | stays same ↦ inl same
+        | goes none of ↦ inr (
+          none,
+          elim of.2 [
+            | inl e ↦ λ a i names is. gone_record y c of.0 (old of.0 of.1) (key_cell y x Write Write c of.0.0 e) (key_stamp y x Write Write c of.0.0 e) a i names is
+            | inr e ↦ absurd (no_write_data y x c of.0.1 e)
+          ],
+        )
+      ];
+      values = λ y t. elim (collected_fate x vs cells (key_of y Data t)) [
+        | stays same ↦ inl same
+        | goes none of ↦ elim of.2 [
+          | inl e ↦ absurd (no_data_write y x t of.0.0 e)
+          | inr e ↦ let g = gone_value y t of.0 of.1 (key_cell y x Data Data t of.0.1 e) (key_stamp y x Data Data t of.0.1 e) in inr (none, g.0, g.1)
+        ]
+      ];
+      together = λ y c t was h none. elim (collected_fate x vs cells (key_of y Write c)) [
+        | stays same ↦ absurd (none-some (start_text t) (sym none ∙ (same ∙ h)))
+        | goes left of ↦ elim of.2 [
+          | inl e ↦ with_data y c t of.0 of.1 (key_cell y x Write Write c of.0.0 e) (key_stamp y x Write Write c of.0.0 e) (value_low y t was) h
+          | inr e ↦ absurd (no_write_data y x c of.0.1 e)
+        ]
+      ];
+    }
+      where
+        gone_record : (y : Cell) (c : ℕ) (v : ℕ × ℕ) → IsOld cells x w v → y ≡ x → c ≡ v.0 → (a : Commit) → a ∈ st.commits → Names a.writes y → a.stamp ≡ c → IsReplaced st y a
+        gone_record y c v o ey ec a i names is =
+            subst (λ (z : Cell). Names a.writes z → IsReplaced st z a) (sym ey) (λ n. replaced v.0 o.older a i n (is ∙ ec)) names
+
+        gone_value : (y : Cell) (t : ℕ) (v : ℕ × ℕ) → v ∈ vs → y ≡ x → t ≡ v.1
+            → (¬ Marked st y t) × ((c : ℕ) → at (collected_cells cells x vs) y Write c ≢ Some (start_text t))
+        gone_value y t v i ey et = subst (λ (p : Cell × ℕ). (¬ Marked st p.0 p.1) × ((c : ℕ) → at (collected_cells cells x vs) p.0 Write c ≢ Some (start_text p.1))) (λ j. (sym ey j, sym et j)) (unmarked, unnamed)
+          where
+            o : IsOld cells x w v
+            o = old v i
+
+            unmarked : ¬ Marked st x v.1
+            unmarked m =
+                let k = named_commit x v.0 v.1 o.low o.there in
+                let later = ((reached_sound reached).fair k.0 k.1).later in
+                let up = clear x v.1 m in
+                let older = o.older in
+                let es = k.2 in
+                let et = k.4 in
+                omega arith
+
+            unnamed : (c : ℕ) → at (collected_cells cells x vs) x Write c ≢ Some (start_text v.1)
+            unnamed c h = elim (collected_fate x vs cells (key_of x Write c)) [
+              | stays same ↦
+                  let e = one_record x c v.0 v.1 o.low (sym same ∙ h) o.there in
+                  none-some (start_text v.1) (sym (collected_gone x vs cells v i).0 ∙ (ap (at (collected_cells cells x vs) x Write) (sym e) ∙ h))
+              | goes none of ↦ none-some (start_text v.1) (sym none ∙ h)
+            ]
+
+        with_data : (y : Cell) (c t : ℕ) (v : ℕ × ℕ) → v ∈ vs → y ≡ x → c ≡ v.0 → t < 2 ^ 64 → at cells y Write c ≡ Some (start_text t) → at (collected_cells cells x vs) y Data t ≡ None
+        with_data y c t v i ey ec low h =
+            let o = old v i in
+            let here_too : at cells y Write c ≡ at cells x Write v.0 = ap (λ (p : Cell × ℕ). at cells p.0 Write p.1) (λ j. (ey j, ec j)) in
+            let e = same_start t v.1 low o.low (same_Some (start_text t) (start_text v.1) (sym h ∙ (here_too ∙ o.there))) in
+            ap (λ (p : Cell × ℕ). at (collected_cells cells x vs) p.0 Data p.1) (λ j. (ey j, e j)) ∙ (collected_gone x vs cells v i).1
+
+-- one key where data was erased
+abbrev IsOfData : Cell → List ℕ → CellKey → Type 0
+IsOfData x ts k = (t : ℕ) × (t ∈ ts) × (k ≡ key_of x Data t)
+
+data_none_stays : (x : Cell) (ts : List ℕ) (cells : Cells) (k : CellKey) → get cells k ≡ None → get (dropped_cells cells x ts) k ≡ None
+data_none_stays x [] cells k e = e
+data_none_stays x (t ∷ ts) cells k e = data_none_stays x ts (remove cells (key_of x Data t)) k (elim (cases_key k (key_of x Data t)) [
+  | inl same ↦ ap (get (remove cells (key_of x Data t))) same ∙ erased_at cells (key_of x Data t)
+  | inr ne ↦ erased_off cells (key_of x Data t) k ne ∙ e
+])
+
+dropped_fate : (x : Cell) (ts : List ℕ) (cells : Cells) (k : CellKey) → Fate cells (dropped_cells cells x ts) k (IsOfData x ts k)
+dropped_fate x [] cells k = stays refl
+dropped_fate x (t ∷ ts) cells k = elim (cases_key k (key_of x Data t)) [
+  | inl e ↦ goes (data_none_stays x ts (remove cells (key_of x Data t)) k (ap (get (remove cells (key_of x Data t))) e ∙ erased_at cells (key_of x Data t))) (t, here, e)
+  | inr ne ↦ elim (dropped_fate x ts (remove cells (key_of x Data t)) k) [
+    | stays same ↦ stays (same ∙ erased_off cells (key_of x Data t) k ne)
+    | goes none of ↦ goes none (of.0, there of.1, of.2)
+  ]
+]
+
+-- data below the floor that no record names may go where no mark stands below the floor
+module _ (cells : Cells) (st : State) (x : Cell) (floor : ℕ) (clear : IsUnmarkedBelow st floor) where
+  collects_unnamed : (ts : List ℕ) → ((t : ℕ) → t ∈ ts → (t < floor) × (¬ IsNamed cells x t)) → Collects cells (dropped_cells cells x ts) st
+  collects_unnamed ts old = record {
+    locks = λ y t. elim (dropped_fate x ts cells (key_of y Lock t)) [ stays same ↦ same | goes none of ↦ absurd (no_lock_data y x t of.0 of.2) ];
+    records = λ y c. elim (dropped_fate x ts cells (key_of y Write c)) [ stays same ↦ inl same | goes none of ↦ absurd (no_write_data y x c of.0 of.2) ];
+    values = λ y t. elim (dropped_fate x ts cells (key_of y Data t)) [
+      | stays same ↦ inl same
+      | goes none of ↦ let o = old of.0 of.1 in let g = gone_value y t of.0 o.0 o.1 (key_cell y x Data Data t of.0 of.2) (key_stamp y x Data Data t of.0 of.2) in inr (none, g.0, g.1)
+    ];
+    together = λ y c t was h none. elim (dropped_fate x ts cells (key_of y Write c)) [
+      | stays same ↦ absurd (none-some (start_text t) (sym none ∙ (same ∙ h)))
+      | goes left of ↦ absurd (no_write_data y x c of.0 of.2)
+    ];
+  }
+    where
+      record_same : (y : Cell) (c : ℕ) → at (dropped_cells cells x ts) y Write c ≡ at cells y Write c
+      record_same y c = elim (dropped_fate x ts cells (key_of y Write c)) [ stays same ↦ same | goes none of ↦ absurd (no_write_data y x c of.0 of.2) ]
+
+      gone_value : (y : Cell) (t u : ℕ) → u < floor → ¬ IsNamed cells x u → y ≡ x → t ≡ u → (¬ Marked st y t) × ((c : ℕ) → at (dropped_cells cells x ts) y Write c ≢ Some (start_text t))
+      gone_value y t u low unnamed ey et = subst (λ (p : Cell × ℕ). (¬ Marked st p.0 p.1) × ((c : ℕ) → at (dropped_cells cells x ts) p.0 Write c ≢ Some (start_text p.1))) (λ j. (sym ey j, sym et j))
+          ((λ m. let up = clear x u m in omega arith), (λ c h. unnamed (c, sym (record_same x c) ∙ h)))
+
+pub may_erase : (cells : Cells) (st : State) → IsReached st → ShowsCells cells st → MayEraseBelow cells st
+may_erase cells st reached shown floor below clear = record {
+  old = λ x w vs newest low old. collects_old cells st reached shown x floor below clear w newest.0 newest.1 low vs old;
+  unnamed = λ x ts old. collects_unnamed cells st x floor clear ts old;
+}
+
+pub stays_shown : (cells : Cells) (st : State) → ShowsCells cells st → StaysShown cells st
+stays_shown cells st shown cells' collects = shows_collected cells cells' st shown collects

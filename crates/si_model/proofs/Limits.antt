@@ -1,0 +1,117 @@
+-- What sessions write keeps to the limits of rows, families and values.
+use Rattle.std.proofs.Common.{◌≡◌, ℕ, zero, suc, List, [], ◌∷◌, length, ◌⊎◌, inl, inr, sym, subst, ◌∙◌, arith}
+use Rattle.std.specs.List.{AllByRecursion}
+use Rattle.std.specs.Ordering.{nat_cmp}
+use Rattle.std.specs.FinMap.{get-empty}
+use Rattle.std.proofs.lemmas.Bool.{cases_eq, cases_lt}
+use Rattle.std.proofs.lemmas.Option.{same_Some, none-some}
+use Rattle.cell_key.specs.Names.{IsRow, IsFamily, IsFamilyByte}
+use Rattle.cell_key.specs.declared.refusals.Refusal.TheVariants.{BadRow, BadColumn, BadValue}
+use Rattle.si_model.specs.declared.replies.Cell.{Cell}
+use Rattle.si_model.specs.Machine.{State, Value, Writes, Request, Reply, Set, Puts, Gives, Sets, appends, replaces, passes, IsAcceptable, most_value}
+use Rattle.si_model.specs.Machine.{Acts, tells, begins, reads, sets, holds, conflicts, draws, loses, commits, finishes, stops, opens, kills, learns, rolls_forward, rolls_back, finds_gone, collects, has_collected, splits, moves_tablet, refuses, accepts}
+use Rattle.si_model.specs.Machine.{Run, rests, goes_on, IsReached, begins_new, runs, reopens}
+use Rattle.si_model.specs.Refusing.{set_row, set_family, set_long}
+use Rattle.si_model.specs.Laws.{IsWritable, WritesWithinLimits}
+use Rattle.si_model.proofs.Tools.{each_insert}
+
+-- limits hold or don't
+
+row_or : (row : List ℕ) → IsRow row ⊎ (¬ IsRow row)
+row_or row = elim (cases_lt 0 (length row)) [
+  | inl some ↦ elim (cases_lt 4000 (length row)) [
+    | inl many ↦ inr (λ is. let few = is.few in omega arith)
+    | inr few ↦ inl (record { some = omega arith; few = few })
+  ]
+  | inr none ↦ inr (λ is. let some = is.some in omega arith)
+]
+
+byte_or : (b : ℕ) → IsFamilyByte b ⊎ (¬ IsFamilyByte b)
+byte_or b = elim (cases_lt b 33) [
+  | inl low ↦ inr (λ is. let from = is.low in omega arith)
+  | inr from ↦ elim (cases_lt 126 b) [
+    | inl high ↦ inr (λ is. let to = is.high in omega arith)
+    | inr to ↦ elim (cases_eq b 58) [
+      | inl colon ↦ inr (λ is. is.no_colon colon)
+      | inr none ↦ inl (record { low = from; high = to; no_colon = none })
+    ]
+  ]
+]
+
+bytes_or : (bytes : List ℕ) → AllByRecursion IsFamilyByte bytes ⊎ (¬ AllByRecursion IsFamilyByte bytes)
+bytes_or [] = inl tt
+bytes_or (b ∷ bytes) = elim (byte_or b) [
+  | inl is ↦ elim (bytes_or bytes) [ inl all ↦ inl (is, all) | inr none ↦ inr (λ all. none all.1) ]
+  | inr none ↦ inr (λ all. none all.0)
+]
+
+family_or : (family : List ℕ) → IsFamily family ⊎ (¬ IsFamily family)
+family_or family = elim (cases_lt 0 (length family)) [
+  | inl some ↦ elim (cases_lt 64 (length family)) [
+    | inl many ↦ inr (λ is. let few = is.few in omega arith)
+    | inr few ↦ elim (bytes_or family) [
+      | inl all ↦ inl (record { some = omega arith; few = few; bytes = all })
+      | inr none ↦ inr (λ is. none is.bytes)
+    ]
+  ]
+  | inr none ↦ inr (λ is. let some = is.some in omega arith)
+]
+
+-- what an accepted Set writes
+set_writable : (st : State) (s : ℕ) (x : Cell) (v : Value) → IsAcceptable st (Set s x v) → IsWritable x v
+set_writable st s x v ok = record {
+  row = elim (row_or x.row) [ inl is ↦ is | inr bad ↦ absurd (ok BadRow (set_row bad)) ];
+  family = elim (family_or x.family) [ inl is ↦ is | inr bad ↦ absurd (ok BadColumn (set_family bad)) ];
+  value = elim (cases_lt most_value (length v)) [ inl long ↦ absurd (ok BadValue (set_long long)) | inr few ↦ few ];
+}
+
+-- what the writes after a Set give, it gave, or they gave before
+set_puts : {x : Cell} {v : Value} {ws ws' : Writes} → Sets x v ws ws' → (k : ℕ) (y : Cell) (w : Value) → Puts ws' k y w → (◌≡◌ {A = Cell × Value} (x, v) (y, w)) ⊎ Gives ws y w
+set_puts {x} {v} appends zero y w h = inl (same_Some (x, v) (y, w) h)
+set_puts appends (suc k) y w h = absurd (none-some (y, w) h)
+set_puts {x} {v} replaces zero y w h = inl (same_Some (x, v) (y, w) h)
+set_puts replaces (suc k) y w h = inr (suc k, h)
+set_puts (passes ne by) zero y w h = inr (zero, h)
+set_puts (passes ne by) (suc k) y w h = elim (set_puts by k y w h) [ inl e ↦ inl e | inr g ↦ inr (suc g.0, g.1) ]
+
+acts_within : {st st' : State} {q : Request} {r : Reply} → IsAcceptable st q → Acts st q r st' → WritesWithinLimits st → WritesWithinLimits st'
+acts_within {st} ok (begins {s = s} d) within = each_insert st.begun s (λ t ws. (x : Cell) (v : Value) → Gives ws x v → IsWritable x v) []
+    (λ x v g. absurd (none-some (x, v) g.1)) (λ t ws ne w. within t ws w)
+acts_within {st} ok (sets {s = s} {x = x} {v = v} {ws = ws} {ws' = ws'} h w by) within = each_insert st.begun s (λ t us. (y : Cell) (u : Value) → Gives us y u → IsWritable y u) ws'
+    (λ y u g. elim (set_puts by g.0 y u g.1) [
+      | inl e ↦ subst (λ (p : Cell × Value). IsWritable p.0 p.1) e (set_writable st s x v ok)
+      | inr old ↦ within s ws w y u old
+    ])
+    (λ t us ne g. within t us g)
+acts_within ok (tells t) within = within
+acts_within ok (reads h none shown) within = within
+acts_within ok (holds h w puts free) within = within
+acts_within ok (conflicts h w puts clash) within = within
+acts_within ok (draws h w d) within = within
+acts_within ok (loses h d) within = within
+acts_within ok (commits h alive w puts less) within = within
+acts_within ok (finishes h w puts less) within = within
+acts_within ok (stops h) within = within
+acts_within ok (opens m room) within = within
+acts_within ok (kills is nc alive w puts less) within = within
+acts_within ok (learns is fate) within = within
+acts_within ok (rolls_forward is m committed less) within = within
+acts_within ok (rolls_back is m nc less) within = within
+acts_within ok (finds_gone is m) within = within
+acts_within ok (collects is_floor room) within = within
+acts_within ok (has_collected h none) within = within
+acts_within ok (splits cut) within = within
+acts_within ok (moves_tablet is_moved) within = within
+
+run_within : {st st' : State} {qs : List Request} {rs : List Reply} → Run st qs rs st' → WritesWithinLimits st → WritesWithinLimits st'
+run_within rests within = within
+run_within (goes_on (refuses n) r) within = run_within r within
+run_within (goes_on (accepts ok a) r) within = run_within r (acts_within ok a within)
+
+reached_within : {st : State} → IsReached st → WritesWithinLimits st
+reached_within begins_new = λ t ws w. absurd (none-some ws (sym (get-empty nat_cmp t) ∙ w))
+reached_within (runs r run) = run_within run (reached_within r)
+reached_within (reopens r) = reached_within r
+
+pub writes_within_limits : (st : State) → IsReached st → WritesWithinLimits st
+writes_within_limits st reached = reached_within reached

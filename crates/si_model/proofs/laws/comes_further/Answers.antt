@@ -1,0 +1,5 @@
+use Rattle.si_model.proofs.Coming.{comes_further}
+use Rattle.si_model.proofs.laws.comes_further.Goals as goal
+
+pub returns : goal.returns
+returns c = comes_further
