@@ -16,9 +16,9 @@ pub enum Input<'a> {
 impl<F: Files> Source<F> for Input<'_> {
     ghost use Rattle.compaction.specs.Inputs.{input_remaining, input_lent, input_left, InputHolds, input_list};
 
-    ghost holds = { λ _ s. InputHolds s };
+    ghost holds = { InputHolds };
 
-    ghost remaining = { λ _ s. input_remaining s };
+    ghost remaining = { input_remaining };
 
     ghost lent = { input_lent };
 
@@ -38,5 +38,5 @@ impl<F: Files> Source<F> for Input<'_> {
         }
     }
 
-    ghost list = { λ _ s h. input_list s h };
+    ghost list = { input_list };
 }

@@ -31,9 +31,9 @@ impl<F: Files> Source<F> for FileCursor<'_> {
     ghost use Rattle.std.specs.Prelude.{length};
     ghost use Rattle.sorted_file.specs.Cursors.{cursor_lent, cursor_remaining, CursorHolds};
 
-    ghost holds = { λ _ s. CursorHolds s };
+    ghost holds = { CursorHolds };
 
-    ghost remaining = { λ _ s. cursor_remaining s };
+    ghost remaining = { cursor_remaining };
 
     ghost lent = { cursor_lent };
 

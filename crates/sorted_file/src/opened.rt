@@ -99,11 +99,12 @@ impl SortedFile {
         Ok(Some(value))
     }
 
-    /// The entries from the first text on that isn't below `from`, which is any bytes.
-    pub fn cursor(&self, from: &[u8]) -> FileCursor<'_>
+    /// The entries from the first text on that isn't below `from`, which is any bytes. Takes no memory and reads
+    /// nothing.
+    pub fn cursor<'a>(&'a self, from: &'a [u8]) -> FileCursor<'a>
         ensures lent { cursor_lent result ≡ None }
-        ensures entries { (m : Contents) → IsOpen m self.now → cursor_remaining result ≡ entries_from from.now (listed m self.now) }
-        ensures holds { (m : Contents) → IsOpen m self.now → CursorHolds result }
+        ensures entries { (m : Contents) → IsOpen m self.now → cursor_remaining m result ≡ entries_from from.now (listed m self.now) }
+        ensures holds { (m : Contents) → IsOpen m self.now → CursorHolds m result }
     {
         let at = first_from(&self.entries, from);
         FileCursor::new(self.entries.split_at(at).1)

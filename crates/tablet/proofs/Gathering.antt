@@ -18,8 +18,8 @@ use Rattle.tablet.specs.Sources.{entries_between, lists_over, IsAtStart, remaini
 
 -- the sources are those of the memtable and of the first files
 pub record AreGathered (from : List ℕ) (end : Option (List ℕ)) (memtable : Option (List Entry)) (files : List SortedFile) (i : ℕ) (sources : List (Until Input)) : Type 0 where
-  pub start : (m : Contents) → AllByRecursion (IsOpen m) files → AllByRecursion IsAtStart sources
-  pub lists : (m : Contents) → AllByRecursion (IsOpen m) files → map remaining_of sources ≡ map (entries_between from end) (lists_over m memtable (take i files))
+  pub start : (m : Contents) → AllByRecursion (IsOpen m) files → AllByRecursion (IsAtStart m) sources
+  pub lists : (m : Contents) → AllByRecursion (IsOpen m) files → map (remaining_of m) sources ≡ map (entries_between from end) (lists_over m memtable (take i files))
 
 each-push : {A : Type 0} (P : A → Type 0) (xs : List A) (x : A) → AllByRecursion P xs → P x → AllByRecursion P (xs ++ x ∷ [])
 each-push P [] x all p = (p, tt)
@@ -37,13 +37,13 @@ one_more : {S : Type 0} (xs : List S) (i : ℕ) (s : S) → i < length xs → s 
 one_more xs i s l e = rw add-one (take-suc xs i s l ∙ ap (λ x. take i xs ++ x ∷ []) (sym e))
 
 module _ (from : List ℕ) (end : Option (List ℕ)) (memtable : Option (List Entry)) (files : List SortedFile) where
-  pub first_gathered : (sources : List (Until Input)) → AllByRecursion IsAtStart sources → map remaining_of sources ≡ map (entries_between from end) (option_to_list memtable) → AreGathered from end memtable files 0 sources
+  pub first_gathered : (sources : List (Until Input)) → ((m : Contents) → AllByRecursion (IsAtStart m) sources) → ((m : Contents) → map (remaining_of m) sources ≡ map (entries_between from end) (option_to_list memtable)) → AreGathered from end memtable files 0 sources
   first_gathered sources start lists = record {
-    start = λ m all. start;
-    lists = λ m all. lists ∙ ap (map (entries_between from end)) (sym (append-nil (option_to_list memtable)));
+    start = λ m all. start m;
+    lists = λ m all. lists m ∙ ap (map (entries_between from end)) (sym (append-nil (option_to_list memtable)));
   }
 
-  pub all_gathered : (i : ℕ) (sources : List (Until Input)) → AreGathered from end memtable files i sources → length files ≤ i → (m : Contents) → AllByRecursion (IsOpen m) files → map remaining_of sources ≡ map (entries_between from end) (lists_over m memtable files)
+  pub all_gathered : (i : ℕ) (sources : List (Until Input)) → AreGathered from end memtable files i sources → length files ≤ i → (m : Contents) → AllByRecursion (IsOpen m) files → map (remaining_of m) sources ≡ map (entries_between from end) (lists_over m memtable files)
   all_gathered i sources g h m all = g.lists m all ∙ ap (λ (xs : List SortedFile). map (entries_between from end) (lists_over m memtable xs)) (take_all i files h)
 
   lists_more : (m : Contents) (i : ℕ) (file : SortedFile) → i < length files → file ≡ get_or files i file → lists_over m memtable (take (i + 1) files) ≡ lists_over m memtable (take i files) ++ listed m file ∷ []
@@ -52,14 +52,14 @@ module _ (from : List ℕ) (end : Option (List ℕ)) (memtable : Option (List En
       ∙ ap (λ (xs : List (List Entry)). option_to_list memtable ++ xs) (map-push (listed m) (take i files) file)
       ∙ sym (append_assoc (option_to_list memtable) (map (listed m) (take i files)) (listed m file ∷ []))
 
-  pub one_gathered : (i : ℕ) (xs ys : List (Until Input)) (file : SortedFile) (s : Until Input) → AreGathered from end memtable files i xs → i < length files → file ≡ get_or files i file → ((m : Contents) → IsOpen m file → IsAtStart s) → ((m : Contents) → IsOpen m file → remaining_of s ≡ entries_between from end (listed m file)) → ys ≡ xs ++ s ∷ [] → AreGathered from end memtable files (i + 1) ys
+  pub one_gathered : (i : ℕ) (xs ys : List (Until Input)) (file : SortedFile) (s : Until Input) → AreGathered from end memtable files i xs → i < length files → file ≡ get_or files i file → ((m : Contents) → IsOpen m file → IsAtStart m s) → ((m : Contents) → IsOpen m file → remaining_of m s ≡ entries_between from end (listed m file)) → ys ≡ xs ++ s ∷ [] → AreGathered from end memtable files (i + 1) ys
   one_gathered i xs ys file s g l is start list pushed = record {
-    start = λ m all. subst (λ (zs : List (Until Input)). AllByRecursion IsAtStart zs) (sym pushed) (each-push IsAtStart xs s (g.start m all) (start m (opened m all)));
+    start = λ m all. subst (λ (zs : List (Until Input)). AllByRecursion (IsAtStart m) zs) (sym pushed) (each-push (IsAtStart m) xs s (g.start m all) (start m (opened m all)));
     lists =
         λ m all.
-        ap (map remaining_of) pushed
-        ∙ map-push remaining_of xs s
-        ∙ ap (λ (zs : List (List Entry)). zs ++ remaining_of s ∷ []) (g.lists m all)
+        ap (map (remaining_of m)) pushed
+        ∙ map-push (remaining_of m) xs s
+        ∙ ap (λ (zs : List (List Entry)). zs ++ remaining_of m s ∷ []) (g.lists m all)
         ∙ ap (λ (es : List Entry). map (entries_between from end) (lists_over m memtable (take i files)) ++ es ∷ []) (list m (opened m all))
         ∙ sym (map-push (entries_between from end) (lists_over m memtable (take i files)) (listed m file))
         ∙ sym (ap (map (entries_between from end)) (lists_more m i file l is));
@@ -69,11 +69,11 @@ module _ (from : List ℕ) (end : Option (List ℕ)) (memtable : Option (List En
       opened m all = subst (IsOpen m) (sym is) (All-from_recursion (IsOpen m) files all i file l)
 
 -- a source of an input that has not begun
-pub source_start : (s : Until Input) (x : Input) → source_of s ≡ x → InputHolds x → input_lent x ≡ None → IsAtStart s
-source_start s x e h l = (subst (λ (y : Input). InputHolds y) (sym e) h, ap (λ (y : Input). lent_until (end_of s) (input_lent y)) e ∙ ap (lent_until (end_of s)) l)
+pub source_start : (m : Contents) (s : Until Input) (x : Input) → source_of s ≡ x → InputHolds m x → input_lent x ≡ None → IsAtStart m s
+source_start m s x e h l = (subst (λ (y : Input). InputHolds m y) (sym e) h, ap (λ (y : Input). lent_until (end_of s) (input_lent y)) e ∙ ap (lent_until (end_of s)) l)
 
-pub source_remaining : (s : Until Input) (x : Input) (end : Option (List ℕ)) (es : List Entry) → source_of s ≡ x → end_of s ≡ end → input_remaining x ≡ es → remaining_of s ≡ entries_until end es
-source_remaining s x end es e f g =
-    ap (λ (y : Input). entries_until (end_of s) (input_remaining y)) e
-    ∙ ap (λ (u : Option (List ℕ)). entries_until u (input_remaining x)) f
+pub source_remaining : (m : Contents) (s : Until Input) (x : Input) (end : Option (List ℕ)) (es : List Entry) → source_of s ≡ x → end_of s ≡ end → input_remaining m x ≡ es → remaining_of m s ≡ entries_until end es
+source_remaining m s x end es e f g =
+    ap (λ (y : Input). entries_until (end_of s) (input_remaining m y)) e
+    ∙ ap (λ (u : Option (List ℕ)). entries_until u (input_remaining m x)) f
     ∙ ap (entries_until end) g

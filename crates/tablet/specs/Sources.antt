@@ -23,9 +23,9 @@ abbrev pub part : List ℕ → Option (List ℕ) → List (List Entry) → List 
 part from end lists = merged (map (entries_between from end) lists)
 
 -- a source is before its first entry
-abbrev pub IsAtStart : Until Input → Type 0
-IsAtStart s = InputHolds (source_of s) × (lent_until (end_of s) (input_lent (source_of s)) ≡ None)
+abbrev pub IsAtStart : Contents → Until Input → Type 0
+IsAtStart m s = InputHolds m (source_of s) × (lent_until (end_of s) (input_lent (source_of s)) ≡ None)
 
 -- the entries that it has
-abbrev pub remaining_of : Until Input → List Entry
-remaining_of s = entries_until (end_of s) (input_remaining (source_of s))
+abbrev pub remaining_of : Contents → Until Input → List Entry
+remaining_of m s = entries_until (end_of s) (input_remaining m (source_of s))

@@ -41,8 +41,8 @@ fn memtable_source<'a>(
     from: &[u8],
     end: Option<&'a [u8]>,
 ) -> Until<'a, Input<'a>>
-    ensures start { IsAtStart result }
-    ensures list { remaining_of result ≡ entries_between from.now (option_copied end.entry) memtable.now }
+    ensures start { (m : Contents) → IsAtStart m result }
+    ensures list { (m : Contents) → remaining_of m result ≡ entries_between from.now (option_copied end.entry) memtable.now }
 {
     Until::new(Input::Memtable(memtable.cursor(from)), end)
 }
@@ -54,8 +54,8 @@ fn memtable_sources<'a>(
     from: &[u8],
     end: Option<&'a [u8]>,
 ) -> Result<Vec<Until<'a, Input<'a>>>, Refusal>
-    ensures start { IfOk result (λ sources. AllByRecursion IsAtStart sources.items) }
-    ensures lists { IfOk result (λ sources. map remaining_of sources.items ≡ map (entries_between from.now (option_copied end.entry)) (option_to_list (option_copied memtable.entry))) }
+    ensures start { IfOk result (λ sources. (m : Contents) → AllByRecursion (IsAtStart m) sources.items) }
+    ensures lists { IfOk result (λ sources. (m : Contents) → map (remaining_of m) sources.items ≡ map (entries_between from.now (option_copied end.entry)) (option_to_list (option_copied memtable.entry))) }
     ensures refusal { IfErr result (λ refusal. refusal ≡ Refusal.NoMemory) }
 {
     let mut sources = Vec::new(alloc);
@@ -66,9 +66,13 @@ fn memtable_sources<'a>(
 }
 
 /// The entries of a file from a text on and below another.
-fn file_source<'a>(file: &'a SortedFile, from: &[u8], end: Option<&'a [u8]>) -> Until<'a, Input<'a>>
-    ensures start { (m : Contents) → IsOpen m file.now → IsAtStart result }
-    ensures list { (m : Contents) → IsOpen m file.now → remaining_of result ≡ entries_between from.now (option_copied end.entry) (listed m file.now) }
+fn file_source<'a>(
+    file: &'a SortedFile,
+    from: &'a [u8],
+    end: Option<&'a [u8]>,
+) -> Until<'a, Input<'a>>
+    ensures start { (m : Contents) → IsOpen m file.now → IsAtStart m result }
+    ensures list { (m : Contents) → IsOpen m file.now → remaining_of m result ≡ entries_between from.now (option_copied end.entry) (listed m file.now) }
 {
     Until::new(Input::File(file.cursor(from)), end)
 }
@@ -79,7 +83,7 @@ pub(crate) fn sources<'a, F: Files>(
     alloc: Global,
     memtable: Option<&'a Memtable>,
     files: &'a [SortedFile],
-    from: &[u8],
+    from: &'a [u8],
     end: Option<&'a [u8]>,
 ) -> Result<Vec<Until<'a, Input<'a>>>, Refusal>
     ensures start { IfOk result (λ sources. (m : Contents) → AllByRecursion (IsOpen m) files.now → AreAtStart ⟦<Until<'static, Input<'static>> as Source<F>>⟧.lent (⟦<Until<'static, Input<'static>> as Source<F>>⟧.holds m) sources.items) }

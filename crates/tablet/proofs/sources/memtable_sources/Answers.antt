@@ -1,0 +1,16 @@
+use Rattle.std.proofs.Common.{rules, ◌≡◌, [], ◌∷◌, sym, subst}
+use Rattle.std.specs.List.{AllByRecursion}
+use Rattle.tablet.specs.Sources.{IsAtStart}
+use Rattle.tablet.proofs.sources.memtable_sources.Goals as goal
+use Rattle.tablet.proofs.sources.memtable_sources.Goals.{in-Some+in_ok-push, in_default}
+
+pub returns-clause-start : goal.returns-clause-start
+returns-clause-start c = λ m.
+    elim c.match-memtable.branch [
+      | in-Some+in_ok-push w ↦
+          let one : c.match-memtable.sources.items ≡ w.memtable_source.result ∷ [] = search rules in
+          subst (AllByRecursion (IsAtStart m)) (sym one) (w.memtable_source.ensures.start m, tt)
+      | in_default w ↦
+          let none : c.match-memtable.sources.items ≡ [] = search rules in
+          subst (AllByRecursion (IsAtStart m)) (sym none) tt
+    ]
