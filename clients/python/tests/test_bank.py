@@ -2,6 +2,7 @@
 
 from __future__ import annotations
 
+import os
 import random
 import threading
 import unittest
@@ -21,6 +22,8 @@ from duqishom import (
     Value,
 )
 
+# How many transfers commit. A tabletd that is built with checks for tests is slow, and gets fewer.
+TRANSACTIONS = int(os.environ.get("BANK_TRANSACTIONS", "10000"))
 BALANCE = b"balance"
 FIRST = 100
 PLACE_END = b"\x00\x00"
@@ -192,7 +195,7 @@ class Interleaved(unittest.TestCase):
 
     def test_sum_never_changes(self) -> None:
         with Store() as store:
-            bank = Bank(store, seed=20, accounts=20, transactions=10_000, strandings=6)
+            bank = Bank(store, seed=20, accounts=20, transactions=TRANSACTIONS, strandings=6)
             bank.open()
             self.interleave(bank, [bank.client() for _ in range(5)])
             self.assertEqual(bank.counts["strandings"], 6)
