@@ -20,6 +20,8 @@ def lines() -> Iterator[str]:
         try:
             yield input(PROMPT if is_terminal else "")
         except EOFError:
+            if is_terminal:
+                print()
             return
 
 

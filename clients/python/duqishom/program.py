@@ -10,6 +10,9 @@ from duqishom.refusals import FrameTooLarge
 
 LONGEST_BODY = 1_048_576
 
+# How many seconds a program may take to end once its input has ended.
+PATIENCE = 60
+
 ENDS = {
     1: "the command line is refused",
     2: "the input ended inside a frame",
@@ -77,4 +80,8 @@ class Program:
                     pipe.close()
             except BrokenPipeError:
                 pass
-        return self._child.wait()
+        try:
+            return self._child.wait(PATIENCE)
+        except subprocess.TimeoutExpired:
+            self._child.kill()
+            return self._child.wait()

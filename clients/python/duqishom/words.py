@@ -134,7 +134,7 @@ class Words:
             Line("in START get ROW FAMILY", "reads a cell as of the start", self.session_get),
             Line("in START step", "takes the session's next step", self.session_step),
             Line("in START stop", "ends the session where it stands", self.session_stop),
-            Line("raw ROW FAMILY COLUMN LO HI", "the newest version in data, lock or write", self.raw),
+            Line("raw ROW FAMILY COLUMN LO HI", "the newest version in data, lock or write; HI may be last", self.raw),
             Line("tablets", "the tablets, in the order of their rows", self.tablets),
             Line("split ROW", "cuts the tablet that holds the row behind it", self.split),
             Line("move TABLET SERVER", "puts a tablet on a server", self.move),
@@ -171,6 +171,8 @@ class Words:
         return "\n".join(f"{line.usage:31}{line.help}" for line in self.lines)
 
     def set(self, row: str, family: str, value: str) -> str:
+        """Sets a cell, in a transaction."""
+
         def work(transaction: Transaction) -> Transaction:
             transaction.set(bytes_of(row), bytes_of(family), bytes_of(value))
             return transaction
@@ -178,10 +180,12 @@ class Words:
         return f"committed at {self._store.run(work).commit_stamp}"
 
     def get(self, row: str, family: str) -> str:
+        """Reads a cell, in a transaction."""
         value = self._store.run(lambda transaction: transaction.get(bytes_of(row), bytes_of(family)))
         return "nothing" if value is None else text_of(value)
 
     def transfer(self, giver: str, taker: str, family: str, amount: str) -> str:
+        """Moves an amount from one row to the other, in a transaction."""
         rows, column, moved = (bytes_of(giver), bytes_of(taker)), bytes_of(family), number_of(amount)
         if rows[0] == rows[1]:
             raise NotDone("the two rows are one")
@@ -199,54 +203,68 @@ class Words:
         return f"committed at {transaction.commit_stamp}: {giver} has {left}, {taker} has {got}"
 
     def begin(self) -> str:
+        """Begins a session."""
         return f"session {self._store.begin()}"
 
     def session_set(self, start: str, row: str, family: str, value: str) -> str:
+        """Buffers a write in a session."""
         self._store.set(number_of(start), bytes_of(row), bytes_of(family), bytes_of(value))
         return "set"
 
     def session_get(self, start: str, row: str, family: str) -> str:
+        """Reads a cell as of a session's start."""
         return text_of_found(self._store.get(number_of(start), bytes_of(row), bytes_of(family)))
 
     def session_step(self, start: str) -> str:
+        """Takes a session's next step."""
         return text_of_progress(self._store.step(number_of(start)))
 
     def session_stop(self, start: str) -> str:
+        """Ends a session where it stands."""
         self._store.stop(number_of(start))
         return "stopped"
 
     def raw(self, row: str, family: str, column: str, lo: str, hi: str) -> str:
+        """Reads the newest version of a column in a range of stamps."""
         qualifier = qualifier_of(column)
         most = MOST_STAMP if hi == "last" else number_of(hi)
         version = self._store.raw(bytes_of(row), bytes_of(family), qualifier, number_of(lo), most)
         return text_of_version(version, qualifier)
 
     def tablets(self) -> str:
+        """The tablets, in the order of their rows."""
         return "\n".join(f"{tablet.number} up to {text_of_end(tablet.end)}" for tablet in self._store.tablets())
 
     def split(self, row: str) -> str:
+        """Cuts the tablet that holds a row behind it."""
         return f"tablet {self._store.split(bytes_of(row))} ends with {row}"
 
     def move(self, tablet: str, server: str) -> str:
+        """Puts a tablet on a server."""
         self._store.move(number_of(tablet), number_of(server))
         return "moved"
 
     def minor(self, tablet: str) -> str:
+        """Writes a tablet's memtable as a file."""
         self._store.minor(number_of(tablet))
         return "compacted"
 
     def merge(self, tablet: str, count: str) -> str:
+        """Makes one file of so many newest ones."""
         self._store.merge(number_of(tablet), number_of(count))
         return "compacted"
 
     def major(self, tablet: str) -> str:
+        """Makes one file of all that a tablet has."""
         self._store.major(number_of(tablet))
         return "compacted"
 
     def sweep(self) -> str:
+        """Removes the files that no tablet names."""
         return f"{self._store.sweep()} files removed"
 
     def restart(self) -> str:
+        """Has the oracle go on from its mark."""
         self._store.restart_oracle()
         return "restarted"
 

@@ -2,6 +2,7 @@
 
 from __future__ import annotations
 
+import os
 import random
 import threading
 import unittest
@@ -21,6 +22,10 @@ from duqishom import (
     Value,
 )
 
+# How many transfers commit, and how many each of four threads makes. A tabletd that is built with checks is slow, and has
+# fewer to do.
+TRANSACTIONS = int(os.environ.get("BANK_TRANSACTIONS", "10000"))
+OF_A_THREAD = TRANSACTIONS // 40
 BALANCE = b"balance"
 FIRST = 100
 PLACE_END = b"\x00\x00"
@@ -192,7 +197,7 @@ class Interleaved(unittest.TestCase):
 
     def test_sum_never_changes(self) -> None:
         with Store() as store:
-            bank = Bank(store, seed=20, accounts=20, transactions=10_000, strandings=6)
+            bank = Bank(store, seed=20, accounts=20, transactions=TRANSACTIONS, strandings=6)
             bank.open()
             self.interleave(bank, [bank.client() for _ in range(5)])
             self.assertEqual(bank.counts["strandings"], 6)
@@ -238,13 +243,13 @@ class Threads(unittest.TestCase):
                 thread.start()
             for thread in threads:
                 thread.join()
-            self.assertEqual(sorted(done), [0] * 250 + [1] * 250 + [2] * 250 + [3] * 250)
+            self.assertEqual(Counter(done), dict.fromkeys(range(4), OF_A_THREAD))
             self.assertEqual(sum(bank.balances().values()), FIRST * 5)
 
     def transfers(self, bank: Bank, seed: int, done: list[int]) -> None:
         """Transfers of one thread. Each is done in the end."""
         chance = random.Random(seed)
-        for _ in range(250):
+        for _ in range(OF_A_THREAD):
             giver, taker = chance.sample(bank.accounts, 2)
 
             def work(transaction: Transaction) -> None:

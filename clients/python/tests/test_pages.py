@@ -3,23 +3,25 @@
 from __future__ import annotations
 
 import doctest
-import os
 import subprocess
+import threading
 import unittest
 
 from duqishom.program import default_program
 from tests.pages import TOP, Ends, Exchange, Got, Sent, commands, exchanges, fenced
 
-PROTOCOL = "docs/PROTOCOL.md"
-PAGES = ("README.md", PROTOCOL, "docs/CLIENT.md")
+README, PROTOCOL, CLIENT = "README.md", "docs/PROTOCOL.md", "docs/CLIENT.md"
+PAGES = (README, PROTOCOL, CLIENT)
 
 
 class Conversation:
-    """A program that is sent frames, byte by byte as they stand on a page."""
+    """A program that is sent frames, byte by byte as they stand on a page. It has a minute: it waits where a page is wrong."""
 
     def __init__(self) -> None:
         pipe = subprocess.PIPE
         self._child = subprocess.Popen([default_program()], stdin=pipe, stdout=pipe, stderr=pipe)
+        self._limit = threading.Timer(60, self._child.kill)
+        self._limit.start()
 
     def send(self, frame: bytes) -> None:
         assert self._child.stdin is not None
@@ -33,11 +35,12 @@ class Conversation:
     def end(self) -> tuple[bytes, int, str]:
         """What comes behind the last reply that was read, the exit status, and what the standard error says."""
         written, told = self._child.communicate()
+        self._limit.cancel()
         return written, self._child.returncode, told.decode().rstrip("\n")
 
 
 class Frames(unittest.TestCase):
-    """The frames of the protocol's page."""
+    """The frames of the pages."""
 
     def follow(self, conversation: Conversation, exchange: Exchange) -> None:
         for line in exchange.lines:
@@ -49,11 +52,9 @@ class Frames(unittest.TestCase):
                 case Ends(status, told):
                     self.assertEqual(conversation.end(), (b"", status, told))
 
-    def test_frames(self) -> None:
+    def assert_followed(self, page: str) -> None:
         conversation = Conversation()
-        blocks = exchanges(PROTOCOL)
-        self.assertGreater(len(blocks), 10)
-        for number, exchange in enumerate(blocks, start=1):
+        for number, exchange in enumerate(exchanges(page), start=1):
             if exchange.is_new:
                 conversation.end()
                 conversation = Conversation()
@@ -61,13 +62,15 @@ class Frames(unittest.TestCase):
                 self.follow(conversation, exchange)
         conversation.end()
 
-    def test_each_frame_is_whole(self) -> None:
-        for exchange in exchanges(PROTOCOL):
-            if any(isinstance(line, Ends) for line in exchange.lines):
-                continue
-            for line in exchange.lines:
-                if isinstance(line, Sent | Got):
-                    self.assertEqual(int.from_bytes(line.frame[:4], "big"), len(line.frame) - 4)
+    def test_protocol(self) -> None:
+        self.assertGreater(len(exchanges(PROTOCOL)), 10)
+        self.assert_followed(PROTOCOL)
+
+    def test_readme(self) -> None:
+        [first_cell] = exchanges(README)
+        sent = b"".join(line.frame for line in first_cell.lines if isinstance(line, Sent))
+        self.assertEqual(sent, (TOP / "examples" / "first_cell.frames").read_bytes())
+        self.assert_followed(README)
 
 
 class Commands(unittest.TestCase):
@@ -86,13 +89,12 @@ class Python(unittest.TestCase):
     """The lines of Python of all pages, each page's in one go."""
 
     def test_lines(self) -> None:
-        parser, runner = doctest.DocTestParser(), doctest.DocTestRunner()
-        for page in PAGES:
+        for page in (README, CLIENT):
             text = "\n".join(block.text for block in fenced(page, "python"))
-            test = parser.get_doctest(text, {}, page, page, 0)
-            runner.run(test)
-        self.assertEqual(runner.summarize().failed, 0)
-        self.assertGreater(runner.tries, 0)
+            test = doctest.DocTestParser().get_doctest(text, {}, page, page, 0)
+            result = doctest.DocTestRunner().run(test)
+            self.assertGreater(result.attempted, 0)
+            self.assertEqual(result.failed, 0)
 
 
 if __name__ == "__main__":
