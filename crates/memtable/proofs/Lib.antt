@@ -1,3 +1,5 @@
+mod BlockFacts
+mod BlockLists
 mod EntryLists
 mod OrderLemmas
 mod Places

@@ -3,7 +3,6 @@ use Rattle.std.proofs.Common.{◌≡◌, ◌≤◌, ◌+◌, ◌*◌, ◌^◌, �
 use Rattle.std.proofs.lemmas.Bool.Decides.{nat_tests}
 use Rattle.std.specs.List.{AllByRecursion}
 use Rattle.std.specs.Borrow.{Bor}
-use Rattle.std.specs.declared.boxed.Box.{Box}
 use Rattle.std.specs.Cmp.Lexicographic.{nat_list_cmp_total}
 use Rattle.std.specs.FinMap.Entries.{put, length-put}
 use Rattle.cell_key.specs.Keys.{byte_cmp, text, qualifier_name}
@@ -13,7 +12,9 @@ use Rattle.cell_key.specs.declared.keys.CellKey.{CellKey}
 use Rattle.cell_key.specs.declared.keys.Qualifier.{Qualifier}
 use Rattle.cell_key.specs.declared.keys.Qualifier.TheVariants.{Data, Lock, Write}
 use Rattle.memtable.specs.Edits.{bytes_of, IsWithinLimits}
-use Rattle.memtable.specs.Slots.{slot_entry, slot_entries, slot_len, over, IsSizeOf, IsKept}
+use Rattle.memtable.specs.Slots.{slot_entry, slot_len, over, IsSizeOf}
+use Rattle.memtable.specs.Blocks.{block_entries, AreBlocks, IsKept}
+use Rattle.memtable.specs.declared.blocks.Blocks.{Blocks}
 use Rattle.memtable.specs.declared.slots.Slot.{Slot}
 use Rattle.memtable.specs.declared.staging.Size.{Size}
 use Rattle.memtable.proofs.EntryLists.{stood_len, bytes-put, stood_within, over_rising, each-over}
@@ -83,8 +84,8 @@ module _ (es : List Entry) (name : List ℕ) (o : Option (Bor Slot)) (found : op
 pub within_limits : (es : List Entry) (size : Size) → IsSizeOf size es → size.entries ≤ 100000 → size.bytes ≤ 67108864 → IsWithinLimits es
 within_limits es size is few small = record { entries = let e = is.entries in omega (arith, e); bytes = let b = is.bytes in omega (arith, b) }
 
-pub kept : {A : Type 0} (slots : List (Box Slot A)) (staged base es : List Entry) (size : Size) → slot_entries slots ≡ over staged base → over staged base ≡ es → IsEntryList base → AllByRecursion IsEntry staged → IsSizeOf size es → size.entries ≤ 100000 → size.bytes ≤ 67108864 → IsKept slots size.bytes
-kept slots staged base es size made edited list limits is few small =
+pub kept : (blocks : Blocks) (staged base es : List Entry) (size : Size) → block_entries blocks.filled.items ≡ over staged base → over staged base ≡ es → IsEntryList base → AllByRecursion IsEntry staged → IsSizeOf size es → size.entries ≤ 100000 → size.bytes ≤ 67108864 → AreBlocks blocks → IsKept blocks size.entries size.bytes
+kept blocks staged base es size made edited list limits is few small are =
     let same = made ∙ edited in
     record {
       list =
@@ -93,5 +94,7 @@ kept slots staged base es size made edited list limits is few small =
             each = subst (λ (xs : List Entry). AllByRecursion IsEntry xs) (sym made) (each-over staged base limits list.each);
           };
       limits = subst (λ (xs : List Entry). IsWithinLimits xs) (sym same) (within_limits es size is few small);
+      count = is.entries ∙ ap length (sym same);
       bytes = is.bytes ∙ ap bytes_of (sym same);
+      blocks = are;
     }

@@ -4,11 +4,11 @@ use Rattle.std.specs.declared.boxed.Box.{Box}
 use Rattle.std.specs.Ordering.{is_eq}
 use Rattle.std.specs.FinMap.Entries.{put}
 use Rattle.cell_key.specs.Keys.{byte_cmp}
-use Rattle.cell_key.specs.Entries.{Entry, entry_len, IsEntryList}
+use Rattle.cell_key.specs.Entries.{Entry, entry_len}
 use Rattle.std.specs.Borrow.{Bor}
 use Rattle.memtable.specs.declared.slots.Slot.{Slot}
 use Rattle.memtable.specs.declared.staging.Size.{Size}
-use Rattle.memtable.specs.Edits.{bytes_of, IsWithinLimits}
+use Rattle.memtable.specs.Edits.{bytes_of}
 
 abbrev pub slot_entry : Slot → Entry
 slot_entry slot = (slot.text.items, option_map (λ value. value.items) slot.value)
@@ -36,9 +36,3 @@ slot_len (Some slot) = entry_len (slot_entry slot.now)
 pub record IsSizeOf (size : Size) (es : List Entry) : Type 0 where
   pub entries : size.entries ≡ length es
   pub bytes : size.bytes ≡ bytes_of es
-
--- what a memtable keeps
-pub record IsKept {A : Type 0} (slots : List (Box Slot A)) (total : ℕ) : Type 0 where
-  pub list : IsEntryList (slot_entries slots)
-  pub limits : IsWithinLimits (slot_entries slots)
-  pub bytes : total ≡ bytes_of (slot_entries slots)

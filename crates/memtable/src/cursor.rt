@@ -1,7 +1,10 @@
-ghost use Rattle.std.specs.Prelude.{◌≡◌, ◌↔◌, IsTrue, IsSome, None, option_map};
+ghost use Rattle.std.specs.Prelude.{◌≡◌, ◌↔◌, ◌++◌, ◌∷◌, [], IsTrue, IsSome, IfSome, MatchOption, None, option_map};
+ghost use Rattle.std.specs.List.{AllByRecursion};
 ghost use Rattle.cell_key.specs.Entries.{lent_entry, Takes};
-ghost use Rattle.memtable.specs.Slots.{slot_entries};
+ghost use Rattle.memtable.specs.Slots.{slot_entry, slot_entries};
+ghost use Rattle.memtable.specs.Blocks.{block_entries, IsBlock};
 
+use crate::blocks::Block;
 use crate::slots::Slot;
 use cell_key::EntryRef;
 use std::marker::Model;
@@ -12,26 +15,50 @@ use std::marker::Model;
 pub struct Cursor<'a> {
     current: Option<&'a Slot>,
     rest: &'a [Box<Slot>],
+    later: &'a [Block],
 }
 
 impl<'a> Model for Cursor<'a> {
-    ghost use Rattle.std.specs.Prelude.{List, Option, option_map};
+    ghost use Rattle.std.specs.Prelude.{List, Option, option_map, ◌++◌};
+    ghost use Rattle.std.specs.List.{AllByRecursion};
     ghost use Rattle.cell_key.specs.Entries.{Entry};
     ghost use Rattle.memtable.specs.Slots.{slot_entry, slot_entries};
+    ghost use Rattle.memtable.specs.Blocks.{block_entries, IsBlock};
 
     ghost Value = { Option Entry × List Entry };
 
-    ghost view = { λ cursor. (option_map (λ slot. slot_entry slot.now) cursor.current, slot_entries cursor.rest.now) };
+    ghost view = { λ cursor. (option_map (λ slot. slot_entry slot.now) cursor.current, slot_entries cursor.rest.now ++ block_entries cursor.later.now) };
+
+    ghost invariant = { λ cursor. AllByRecursion IsBlock cursor.later.now };
+}
+
+/// The first of some entries, with those after it in its block and the blocks after that.
+fn first<'a>(
+    rest: &'a [Box<Slot>],
+    later: &'a [Block],
+) -> Option<(&'a Slot, &'a [Box<Slot>], &'a [Block])>
+    requires { AllByRecursion IsBlock later.now }
+    ensures first { MatchOption result (slot_entries rest.now ++ block_entries later.now ≡ []) (λ t. slot_entries rest.now ++ block_entries later.now ≡ slot_entry t.0.now ∷ (slot_entries t.1.now ++ block_entries t.2.now)) }
+    ensures blocks { IfSome result (λ t. AllByRecursion IsBlock t.2.now) }
+{
+    if let Some((slot, rest)) = rest.split_first() {
+        return Some((slot, rest, later));
+    }
+    let (block, later) = later.split_first()?;
+    let (slot, rest) = block.split_first()?;
+    Some((slot, rest, later))
 }
 
 impl<'a> Cursor<'a> {
     /// A place before entries.
-    pub(crate) fn new(rest: &'a [Box<Slot>]) -> Cursor<'a>
-        ensures { result ≡ (None, slot_entries rest.now) }
+    pub(crate) fn new(rest: &'a [Box<Slot>], later: &'a [Block]) -> Cursor<'a>
+        requires { AllByRecursion IsBlock later.now }
+        ensures { result ≡ (None, slot_entries rest.now ++ block_entries later.now) }
     {
         Cursor {
             current: None,
             rest,
+            later,
         }
     }
 
@@ -40,12 +67,13 @@ impl<'a> Cursor<'a> {
         ensures more { IsTrue result ↔ IsSome self.new.0 }
         ensures takes { Takes self.new.0 self.old.1 self.new.1 }
     {
-        let Some((first, rest)) = self.rest.split_first() else {
+        let Some((slot, rest, later)) = first(self.rest, self.later) else {
             self.current = None;
             return false;
         };
-        self.current = Some(first);
+        self.current = Some(slot);
         self.rest = rest;
+        self.later = later;
         true
     }
 

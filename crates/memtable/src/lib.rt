@@ -1,6 +1,7 @@
 //! A sorted buffer of the recent writes of a tablet (Bigtable, tablet serving: the memtable).
 #![tactic(auto)]
 
+mod blocks;
 mod cursor;
 mod order;
 mod slots;

@@ -1,4 +1,4 @@
-//! Comparing the text of a key with bytes. The text isn't made, so this takes no memory.
+//! Comparing what is sought with texts. The text of a key isn't made, so this takes no memory.
 
 ghost use Rattle.std.specs.Prelude.{◌≡◌, ℕ, List, ◌++◌, MatchResult};
 ghost use Rattle.cell_key.specs.Keys.{byte_cmp, text};
@@ -57,12 +57,31 @@ fn cut_and_compare(key: &CellKey, bytes: &[u8]) -> Result<Ordering, Ordering>
     Ok(falling.as_slice().cmp(&after_name))
 }
 
-/// The byte order of a key's text and some bytes.
-pub(crate) fn text_cmp(key: &CellKey, bytes: &[u8]) -> Ordering
-    ensures { result ≡ byte_cmp (text key.now) bytes.now }
-{
-    match cut_and_compare(key, bytes) {
-        Ok(order) => order,
-        Err(order) => order,
+/// What is sought among texts: a text, or a key for its text.
+pub(crate) trait Sought: Copy {
+    /// The text.
+    ghost name: { Self → List ℕ };
+
+    /// The byte order of the text that is sought and another one.
+    fn compare(&self, text: &[u8]) -> Ordering
+        ensures { result ≡ byte_cmp (name self.now) text.now };
+}
+
+impl Sought for &[u8] {
+    ghost name = { λ sought. sought.now };
+
+    fn compare(&self, text: &[u8]) -> Ordering {
+        (*self).cmp(&text)
+    }
+}
+
+impl Sought for &CellKey {
+    ghost name = { λ key. text key.now };
+
+    fn compare(&self, text: &[u8]) -> Ordering {
+        match cut_and_compare(self, text) {
+            Ok(order) => order,
+            Err(order) => order,
+        }
     }
 }

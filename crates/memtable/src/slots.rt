@@ -1,13 +1,13 @@
-//! Entries that are kept, in the byte order of their texts. What is moved to make place is a pointer each.
+//! A list of entries in the byte order of their texts. What is moved to make place is a pointer each.
 
 ghost use Rattle.std.specs.Prelude.{◌≡◌, ◌+◌, ◌≤◌, ◌<◌, IfSome, option_map, length, vec_len, vec_capacity};
 ghost use Rattle.std.specs.FinMap.Entries.{put as put_entry};
-ghost use Rattle.cell_key.specs.Keys.{byte_cmp, text};
+ghost use Rattle.cell_key.specs.Keys.{byte_cmp};
 ghost use Rattle.cell_key.specs.Entries.{IsPlace, IsRising, entry_of_key, lent_entry, entry_len};
-ghost use Rattle.memtable.specs.Slots.{slot_entry, slot_entries, is_named, over};
+ghost use Rattle.memtable.specs.Slots.{slot_entry, slot_entries, is_named};
 
-use crate::order::text_cmp;
-use cell_key::{CellKey, EntryRef};
+use crate::order::Sought;
+use cell_key::EntryRef;
 
 /// An entry that is kept: the text of a key, and its value or an erasure.
 #[derive(Drop)]
@@ -43,13 +43,13 @@ impl Slot {
     }
 }
 
-/// The place of the first entry whose text isn't below this one.
-pub(crate) fn first_from(slots: &[Box<Slot>], text: &[u8]) -> usize
+/// The place of the first entry whose text isn't below what is sought.
+pub(crate) fn first_from<S: Sought>(slots: &[Box<Slot>], sought: S) -> usize
     requires { IsRising (slot_entries slots.now) }
     ensures bound { result ≤ length slots.now }
-    ensures place { IsPlace text.now (slot_entries slots.now) result }
+    ensures place { IsPlace (S.name sought) (slot_entries slots.now) result }
 {
-    slots.partition_point(|slot| text.cmp(&slot.text.as_slice()).is_gt())
+    slots.partition_point(|slot| sought.compare(&slot.text).is_gt())
 }
 
 /// Whether the entry at a place has this text.
@@ -62,36 +62,14 @@ fn is_named(slots: &[Box<Slot>], at: usize, text: &[u8]) -> bool
     }
 }
 
-/// The entry at a text.
-pub(crate) fn find<'a>(slots: &'a [Box<Slot>], text: &[u8]) -> Option<&'a Slot>
+/// The entry that is sought.
+pub(crate) fn find<S: Sought>(slots: &[Box<Slot>], sought: S) -> Option<&Slot>
     requires { IsRising (slot_entries slots.now) }
-    ensures found { option_map (λ slot. (slot_entry slot.now).1) result ≡ entry_of_key (slot_entries slots.now) text.now }
-    ensures named { IfSome result (λ slot. slot.now.text.items ≡ text.now) }
+    ensures found { option_map (λ slot. (slot_entry slot.now).1) result ≡ entry_of_key (slot_entries slots.now) (S.name sought) }
+    ensures named { IfSome result (λ slot. slot.now.text.items ≡ S.name sought) }
 {
-    let slot = slots.get(first_from(slots, text))?;
-    if text.cmp(&slot.text.as_slice()).is_eq() {
-        Some(slot)
-    } else {
-        None
-    }
-}
-
-/// The place of the first entry whose text isn't below that of a key.
-fn first_from_key(slots: &[Box<Slot>], key: &CellKey) -> usize
-    requires { IsRising (slot_entries slots.now) }
-    ensures { IsPlace (text key.now) (slot_entries slots.now) result }
-{
-    slots.partition_point(|slot| text_cmp(key, &slot.text).is_gt())
-}
-
-/// The entry of a key.
-pub(crate) fn find_key<'a>(slots: &'a [Box<Slot>], key: &CellKey) -> Option<&'a Slot>
-    requires { IsRising (slot_entries slots.now) }
-    ensures found { option_map (λ slot. (slot_entry slot.now).1) result ≡ entry_of_key (slot_entries slots.now) (text key.now) }
-    ensures named { IfSome result (λ slot. slot.now.text.items ≡ text key.now) }
-{
-    let slot = slots.get(first_from_key(slots, key))?;
-    if text_cmp(key, &slot.text).is_eq() {
+    let slot = slots.get(first_from(slots, sought))?;
+    if sought.compare(&slot.text).is_eq() {
         Some(slot)
     } else {
         None
@@ -103,24 +81,14 @@ pub(crate) fn put(slots: &mut Vec<Box<Slot>>, slot: Box<Slot>)
     requires rising { IsRising (slot_entries slots.old.items) }
     requires room { vec_len slots.old < vec_capacity slots.old }
     ensures entries { slot_entries slots.new.items ≡ put_entry byte_cmp (slot_entry slot.value).0 (slot_entry slot.value).1 (slot_entries slots.old.items) }
+    ensures some { 1 ≤ vec_len slots.new }
     ensures len { vec_len slots.new ≤ vec_len slots.old + 1 }
     ensures capacity { vec_capacity slots.old ≤ vec_capacity slots.new }
 {
-    let at = first_from(slots, &slot.text);
+    let at = first_from(slots, slot.text.as_slice());
     if is_named(slots, at, &slot.text) {
         slots[at] = slot;
     } else {
         slots.insert(at, slot).unwrap();
-    }
-}
-
-/// Puts entries over others, where there is room for all of them.
-pub(crate) fn put_all(slots: &mut Vec<Box<Slot>>, mut staged: Vec<Box<Slot>>)
-    requires rising { IsRising (slot_entries slots.old.items) }
-    requires room { vec_len slots.old + vec_len staged ≤ vec_capacity slots.old }
-    ensures { slot_entries slots.new.items ≡ over (slot_entries staged.items) (slot_entries slots.old.items) }
-{
-    while let Some(slot) = staged.pop() {
-        put(slots, slot);
     }
 }

@@ -7,8 +7,10 @@ ghost use Rattle.cell_key.specs.Names.{IsRow, IsFamily};
 ghost use Rattle.cell_key.specs.Cells.{IsEditOf};
 ghost use Rattle.cell_key.specs.Entries.{IsRising, IsEntry, or_else, entry_of_key, entry_len};
 ghost use Rattle.memtable.specs.Slots.{slot_entry, slot_entries, over, IsSizeOf, slot_len};
+ghost use Rattle.memtable.specs.Blocks.{block_entries, IsBlock};
 ghost use Rattle.memtable.specs.Edits.{edit_entry, with_edits, HasStoredKey};
 
+use crate::blocks::{self, Block};
 use crate::slots::{self, Slot};
 use cell_key::{CellKey, Edit, Refusal, Row};
 use std::alloc::Global;
@@ -78,33 +80,35 @@ fn slot_of(alloc: Global, row: &Row, edit: Edit) -> Result<Box<Slot>, Refusal>
 }
 
 /// The entry that stands at a text: the staged one, or else the table's.
-fn standing<'a>(staged: &'a [Box<Slot>], table: &'a [Box<Slot>], text: &[u8]) -> Option<&'a Slot>
+fn standing<'a>(staged: &'a [Box<Slot>], table: &'a [Block], text: &[u8]) -> Option<&'a Slot>
     requires staged { IsRising (slot_entries staged.now) }
-    requires table { IsRising (slot_entries table.now) }
-    ensures found { option_map (λ slot. (slot_entry slot.now).1) result ≡ or_else (entry_of_key (slot_entries staged.now) text.now) (entry_of_key (slot_entries table.now) text.now) }
+    requires table { IsRising (block_entries table.now) }
+    requires blocks { AllByRecursion IsBlock table.now }
+    ensures found { option_map (λ slot. (slot_entry slot.now).1) result ≡ or_else (entry_of_key (slot_entries staged.now) text.now) (entry_of_key (block_entries table.now) text.now) }
     ensures named { IfSome result (λ slot. slot.now.text.items ≡ text.now) }
 {
     match slots::find(staged, text) {
         Some(slot) => Some(slot),
-        None => slots::find(table, text),
+        None => blocks::find(table, text),
     }
 }
 
 /// Edits of a table as entries, the last of each text, and the size of the table with them.
 pub(crate) fn stage(
     alloc: Global,
-    table: &[Box<Slot>],
+    table: &[Block],
     before: Size,
     row: &Row,
     edits: Vec<Edit>,
 ) -> Result<(Vec<Box<Slot>>, Size), Refusal>
-    requires rising { IsRising (slot_entries table.now) }
-    requires before { IsSizeOf before (slot_entries table.now) }
+    requires rising { IsRising (block_entries table.now) }
+    requires blocks { AllByRecursion IsBlock table.now }
+    requires before { IsSizeOf before (block_entries table.now) }
     requires small { (before.entries ≤ 2 ^ 64) × (before.bytes ≤ 2 ^ 64) }
     requires edits { AllByRecursion (IsEditOf row.now) edits.items }
-    ensures staged { IfOk result (λ staged. over (slot_entries staged.0.items) (slot_entries table.now) ≡ with_edits (slot_entries table.now) edits.items) }
+    ensures staged { IfOk result (λ staged. over (slot_entries staged.0.items) (block_entries table.now) ≡ with_edits (block_entries table.now) edits.items) }
     ensures limits { IfOk result (λ staged. AllByRecursion IsEntry (slot_entries staged.0.items)) }
-    ensures size { IfOk result (λ staged. IsSizeOf staged.1 (with_edits (slot_entries table.now) edits.items)) }
+    ensures size { IfOk result (λ staged. IsSizeOf staged.1 (with_edits (block_entries table.now) edits.items)) }
     ensures keys { OnOk result (AllByRecursion HasStoredKey edits.items) }
     ensures refusal { IfErr result (λ refusal. refusal ≡ Refusal.NoMemory) }
 {

@@ -5,8 +5,9 @@ ghost use Rattle.cell_key.specs.Cells.{IsEditOf};
 ghost use Rattle.cell_key.specs.Entries.{IsEntryList, lent_entry, entry_of_key, entries_from};
 ghost use Rattle.memtable.specs.Edits.{with_edits, bytes_of, IsWithinLimits, HasStoredKey};
 
+use crate::blocks::{self, Blocks};
 use crate::cursor::Cursor;
-use crate::slots::{self, Slot};
+use crate::slots;
 use crate::staging::{self, Size};
 use cell_key::{CellKey, Edit, EntryRef, Refusal, Row};
 use std::alloc::Global;
@@ -17,20 +18,21 @@ use std::marker::Model;
 #[derive(Drop)]
 pub struct Memtable {
     alloc: Global,
-    slots: Vec<Box<Slot>>,
+    blocks: Blocks,
+    len: usize,
     bytes: usize,
 }
 
 impl Model for Memtable {
     ghost use Rattle.std.specs.Prelude.{List};
     ghost use Rattle.cell_key.specs.Entries.{Entry};
-    ghost use Rattle.memtable.specs.Slots.{slot_entries, IsKept};
+    ghost use Rattle.memtable.specs.Blocks.{block_entries, IsKept};
 
     ghost Value = { List Entry };
 
-    ghost view = { λ table. slot_entries table.slots.items };
+    ghost view = { λ table. block_entries table.blocks.filled.items };
 
-    ghost invariant = { λ table. IsKept table.slots.items table.bytes };
+    ghost invariant = { λ table. IsKept table.blocks table.len table.bytes };
 }
 
 impl Memtable {
@@ -46,7 +48,11 @@ impl Memtable {
     {
         Memtable {
             alloc,
-            slots: Vec::new(alloc),
+            blocks: Blocks {
+                filled: Vec::new(alloc),
+                spare: Vec::new(alloc),
+            },
+            len: 0,
             bytes: 0,
         }
     }
@@ -57,14 +63,14 @@ impl Memtable {
         ensures list { IsEntryList self.now }
         ensures limits { IsWithinLimits self.now }
     {
-        self.slots.len()
+        self.len
     }
 
     /// Whether there is no entry. Takes no memory.
     pub fn is_empty(&self) -> bool
         ensures { IsTrue result ↔ (self.now ≡ []) }
     {
-        self.slots.is_empty()
+        self.len == 0
     }
 
     /// How many bytes the entries have in a file, at most 67,108,864: of each 4 and those of its text, a
@@ -81,7 +87,7 @@ impl Memtable {
         ensures named { IfSome result (λ lent. lent.key.now ≡ text key.now) }
         ensures list { IsEntryList self.now }
     {
-        let slot = slots::find_key(&self.slots, key)?;
+        let slot = blocks::find(&self.blocks.filled, key)?;
         Some(slot.lend())
     }
 
@@ -90,8 +96,14 @@ impl Memtable {
         ensures cursor { result ≡ (None, entries_from from.now self.now) }
         ensures list { IsEntryList self.now }
     {
-        let at = slots::first_from(&self.slots, from);
-        Cursor::new(self.slots.split_at(at).1)
+        let at = blocks::place(&self.blocks.filled, from);
+        match self.blocks.filled.split_at(at).1.split_first() {
+            Some((block, later)) => {
+                let at = slots::first_from(block, from);
+                Cursor::new(block.split_at(at).1, later)
+            }
+            None => Cursor::new(&[], &[]),
+        }
     }
 
     /// Makes edits under one row in order, all of them or none: a put sets the entry of its key to the
@@ -112,17 +124,18 @@ impl Memtable {
         ensures refusal { IfErr result (λ refusal. (refusal ≡ Refusal.MemtableFull) ⊎ (refusal ≡ Refusal.NoMemory)) }
     {
         let before = Size {
-            entries: self.slots.len() as u128,
+            entries: self.len as u128,
             bytes: self.bytes as u128,
         };
-        let (staged, size) = staging::stage(self.alloc, &self.slots, before, row, edits)?;
+        let (staged, size) = staging::stage(self.alloc, &self.blocks.filled, before, row, edits)?;
         if size.entries > Memtable::MOST_ENTRIES as u128
             || size.bytes > Memtable::MOST_BYTES as u128
         {
             return Err(Refusal::MemtableFull);
         }
-        self.slots.reserve(staged.len())?;
-        slots::put_all(&mut self.slots, staged);
+        blocks::make_room(self.alloc, &mut self.blocks, staged.len())?;
+        blocks::put_all(&mut self.blocks, staged);
+        self.len = size.entries as usize;
         self.bytes = size.bytes as usize;
         Ok(())
     }

@@ -10,6 +10,7 @@ use Rattle.cell_key.specs.Entries.{Entry, IsRising, IsEntry, entry_of_key, entry
 use Rattle.cell_key.specs.declared.edits.Edit.{Edit}
 use Rattle.memtable.specs.declared.slots.Slot.{Slot}
 use Rattle.memtable.specs.Slots.{slot_entry, slot_entries, over, IsSizeOf}
+use Rattle.memtable.specs.Blocks.{block_entries}
 use Rattle.memtable.specs.Edits.{with_edit, with_edits, HasStoredKey}
 use Rattle.memtable.proofs.EntryLists.{over_rising, find-over, over-put, each-put}
 use Rattle.memtable.proofs.Sizes.{replaced_within, size_step, entry_small}
@@ -33,7 +34,7 @@ small_left n new old one r before e small len h = omega arith
 pub with-size-requires-clause-replaced : goal.with-size-requires-clause-replaced
 with-size-requires-clause-replaced c =
     let staged = slot_entries c.loop-edit.staged.items in
-    let table = slot_entries c.args.table.now in
+    let table = block_entries c.args.table.now in
     let text = c.in_ok-slot.slot.value.text.items in
     let name = c.deref-in-loop-edit-3.ensures.value ∙ ap (λ (s : Slot). s.text.items) c.deref-in-loop-edit-2.ensures in
     let found = rw c.deref-in-loop-edit.ensures.value at c.standing.ensures.found in
@@ -45,7 +46,7 @@ with-size-requires-clause-replaced c =
 pub loop-edit-preserved : goal.loop-edit-preserved
 loop-edit-preserved c =
     let staged = slot_entries c.loop-edit.staged.items in
-    let table = slot_entries c.args.table.now in
+    let table = block_entries c.args.table.now in
     let entry = slot_entry c.in_ok-slot.slot.value in
     let rest = into_iter_items c.next.new.self in
     let name = c.deref-in-loop-edit-3.ensures.value ∙ ap (λ (s : Slot). s.text.items) c.deref-in-loop-edit-2.ensures in

@@ -5,13 +5,14 @@ use Rattle.std.proofs.lemmas.List.{map-append}
 use Rattle.cell_key.specs.Keys.{byte_cmp}
 use Rattle.cell_key.specs.Entries.{Entry, IsRising}
 use Rattle.memtable.specs.Slots.{slot_entry, slot_entries, over}
+use Rattle.memtable.specs.Blocks.{block_entries, HasRoom}
 use Rattle.memtable.proofs.EntryLists.{over-push}
-use Rattle.memtable.proofs.slots.put_all.Goals as goal
+use Rattle.memtable.proofs.blocks.put_all.Goals as goal
 
 pub loop-slot-preserved : goal.loop-slot-preserved
 loop-slot-preserved c =
     let entry = slot_entry c.in-Some.slot.value in
-    let old = slot_entries c.loop-slot.slots.items in
+    let old = block_entries c.loop-slot.blocks.filled.items in
     let rest = slot_entries c.pop.new.self.items in
     let whole = ap slot_entries c.in-Some.ensures.items ∙ map-append (λ (s : _). slot_entry s.value) c.pop.new.self.items (c.in-Some.slot ∷ []) in
     record {
@@ -19,5 +20,6 @@ loop-slot-preserved c =
       entries =
           ap (over rest) c.put.ensures.entries ∙ sym (over-push rest entry old)
           ∙ ap (λ (es : List Entry). over es old) (sym whole) ∙ c.loop-slot.invariant.entries;
-      room = let a = c.loop-slot.invariant.room in let b = c.put.ensures.len in let d = c.put.ensures.capacity in let e = c.in-Some.ensures.len in omega arith;
+      blocks = c.put.ensures.blocks;
+      room = c.put.ensures.room _ (subst (λ n. HasRoom n c.loop-slot.blocks) (let e = c.in-Some.ensures.len in omega arith) c.loop-slot.invariant.room);
     }

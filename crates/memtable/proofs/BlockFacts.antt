@@ -1,0 +1,68 @@
+-- Blocks of slots.
+use Rattle.std.proofs.Common.{◌≡◌, ◌<◌, ◌≤◌, ◌+◌, ℕ, zero, suc, Bool, true, false, nat_eq, ◌≢◌, List, [], ◌∷◌, length, map, get_or, set, Option, refl, sym, ap, subst, ◌∙◌, arith, vec_len}
+use Rattle.std.proofs.lemmas.Bool.Decides.{nat_tests}
+use Rattle.std.proofs.lemmas.List.{length-map}
+use Rattle.std.specs.List.{AllByRecursion}
+use Rattle.std.specs.declared.boxed.Box.{Box}
+use Rattle.std.specs.declared.vec.Vec.{Vec}
+use Rattle.std.specs.Ordering.{is_gt}
+use Rattle.std.specs.FinMap.Entries.{put}
+use Rattle.cell_key.specs.Keys.{byte_cmp}
+use Rattle.cell_key.specs.Entries.{Entry, IsRising}
+use Rattle.memtable.specs.declared.slots.Slot.{Slot}
+use Rattle.memtable.specs.Slots.{slot_entry, slot_entries}
+use Rattle.memtable.specs.Blocks.{ends_below, lists_of, block_entries, IsBlockPlace, IsBlock, IsFullAt}
+use Rattle.memtable.proofs.BlockLists.{all_set, put_in, put_last}
+
+-- a block has entries
+block_some : {A Z : Type 0} (block : Vec (Box Slot A) Z) → IsBlock block → 1 ≤ length (slot_entries block.items)
+block_some block is = let some = is.some in let len = block.ok.0 in let same = length-map block.items (λ slot. slot_entry slot.value) in omega (arith, len, same)
+
+pub blocks_some : {A Z : Type 0} (blocks : List (Vec (Box Slot A) Z)) → AllByRecursion IsBlock blocks → AllByRecursion (λ block. 1 ≤ length (slot_entries block.items)) blocks
+blocks_some [] all = tt
+blocks_some (block ∷ blocks) all = (block_some block all.0, blocks_some blocks all.1)
+
+-- a list ends below a text where its last entry is below
+pub by_last : {X : Type 0} (f : X → Entry) (name : List ℕ) (xs : List X) (i : ℕ) (x : X) → i + 1 ≡ length xs → x ≡ get_or xs i x → is_gt (byte_cmp name (f x).0) ≡ ends_below name (map f xs)
+by_last f name [] i x e g = absurd (omega (arith, e))
+by_last f name (y ∷ []) zero x e g = ap (λ (z : _). is_gt (byte_cmp name (f z).0)) g
+by_last f name (y ∷ []) (suc i) x e g = absurd (omega (arith, e))
+by_last f name (y ∷ z ∷ xs) zero x e g = absurd (omega (arith, e))
+by_last f name (y ∷ z ∷ xs) (suc i) x e g = by_last f name (z ∷ xs) i x (omega (arith, e)) g
+
+set_again : {X : Type 0} (xs : List X) (i : ℕ) (x y : X) → set (set xs i x) i y ≡ set xs i y
+set_again [] zero x y = refl
+set_again [] (suc i) x y = refl
+set_again (z ∷ xs) zero x y = refl
+set_again (z ∷ xs) (suc i) x y = ap (λ (zs : List _). z ∷ zs) (set_again xs i x y)
+
+pub at_set : {X : Type 0} (xs : List X) (i : ℕ) (x d : X) → i < length xs → get_or (set xs i x) i d ≡ x
+at_set [] i x d lt = absurd (omega arith)
+at_set (z ∷ xs) zero x d lt = refl
+at_set (z ∷ xs) (suc i) x d lt = at_set xs i x d (omega arith)
+
+within_set : {X : Type 0} (xs : List X) (i : ℕ) (x : X) → i < length xs → i < length (set xs i x)
+within_set [] i x lt = absurd (omega arith)
+within_set (z ∷ xs) zero x lt = omega arith
+within_set (z ∷ xs) (suc i) x lt = let h = within_set xs i x (omega arith) in omega (arith, h)
+
+-- a block that became full
+pub full_at : {A Z : Type 0} (blocks : List (Vec (Box Slot A) Z)) (i : ℕ) (block : Vec (Box Slot A) Z) → i < length blocks → vec_len block ≡ 128 → AllByRecursion IsBlock blocks → IsFullAt (set blocks i block) i
+full_at blocks i block lt full all =
+    record {
+      within = within_set blocks i block lt;
+      full = λ d. ap (λ (b : _). vec_len b) (at_set blocks i block d lt) ∙ full;
+      others = λ other is. subst (AllByRecursion IsBlock) (sym (set_again blocks i block other)) (all_set IsBlock blocks i other all is);
+    }
+
+-- an entry put into the block at its place, or into the last one where that is behind all
+pub put_chosen : {A Z : Type 0} (name : List ℕ) (v : Option (List ℕ)) (old new : Vec (Box Slot A) Z) → slot_entries new.items ≡ put byte_cmp name v (slot_entries old.items) → (blocks : List (Vec (Box Slot A) Z)) (place at : ℕ) → IsRising (block_entries blocks) → AllByRecursion IsBlock blocks → IsBlockPlace name (lists_of blocks) place → at < length blocks → (at ≢ place → (at + 1 ≡ length blocks) × (length blocks ≤ place)) → old ≡ get_or blocks at old → block_entries (set blocks at new) ≡ put byte_cmp name v (block_entries blocks)
+put_chosen name v old new made blocks place at r all p lt last g = go (nat_eq at place) refl
+  where
+    go : (b : Bool) → nat_eq at place ≡ b → block_entries (set blocks at new) ≡ put byte_cmp name v (block_entries blocks)
+    go true e =
+        let same : at ≡ place = grind (arith, nat_tests) in
+        put_in (λ (block : _). slot_entries block.items) name v old new made blocks at r (blocks_some blocks all) (subst (IsBlockPlace name (lists_of blocks)) (sym same) p) lt g
+    go false e =
+        let other = last (λ same. grind (arith, nat_tests)) in
+        put_last (λ (block : _). slot_entries block.items) name v old new made blocks at place r p other.1 other.0 g

@@ -1,0 +1,69 @@
+-- The entries that blocks stand for.
+use Rattle.std.specs.Prelude.{◌≡◌, ◌≤◌, ◌<◌, ◌+◌, ⊤, ℕ, zero, suc, Bool, true, false, List, [], ◌∷◌, map, length, set, get_or, vec_len, vec_capacity}
+use Rattle.std.specs.declared.boxed.Box.{Box}
+use Rattle.std.specs.declared.vec.Vec.{Vec}
+use Rattle.std.specs.Ordering.{is_gt}
+use Rattle.std.specs.List.{AllByRecursion, flat_map}
+use Rattle.cell_key.specs.Keys.{byte_cmp}
+use Rattle.cell_key.specs.Entries.{Entry, IsEntryList}
+use Rattle.memtable.specs.declared.slots.Slot.{Slot}
+use Rattle.memtable.specs.declared.blocks.Blocks.{Blocks}
+use Rattle.memtable.specs.Slots.{slot_entries}
+use Rattle.memtable.specs.Edits.{bytes_of, IsWithinLimits}
+
+-- whether a list has entries, the last of which is below this text
+abbrev pub ends_below : List ℕ → List Entry → Bool
+ends_below name [] = false
+ends_below name (e ∷ []) = is_gt (byte_cmp name e.0)
+ends_below name (e ∷ f ∷ es) = ends_below name (f ∷ es)
+
+-- the lists before the place end below this text, and that at the place doesn't
+abbrev pub IsBlockPlace : List ℕ → List (List Entry) → ℕ → Type 0
+IsBlockPlace name [] zero = ⊤
+IsBlockPlace name [] (suc i) = ⊥
+IsBlockPlace name (es ∷ lists) zero = ends_below name es ≡ false
+IsBlockPlace name (es ∷ lists) (suc i) = (ends_below name es ≡ true) × IsBlockPlace name lists i
+
+module _ {A Z : Type 0} where
+  -- the entries of each block
+  abbrev pub lists_of : List (Vec (Box Slot A) Z) → List (List Entry)
+  lists_of blocks = map (λ block. slot_entries block.items) blocks
+
+  -- the entries of all blocks
+  abbrev pub block_entries : List (Vec (Box Slot A) Z) → List Entry
+  block_entries blocks = flat_map (λ block. slot_entries block.items) blocks
+
+  -- a block has entries, and room for one more
+  pub record IsBlock (block : Vec (Box Slot A) Z) : Type 0 where
+    pub some : 1 ≤ vec_len block
+    pub few : vec_len block < 128
+    pub room : 128 ≤ vec_capacity block
+
+  -- a block for entries to come
+  pub record IsSpare (block : Vec (Box Slot A) Z) : Type 0 where
+    pub empty : block.items ≡ []
+    pub room : 128 ≤ vec_capacity block
+
+  -- the block at the place is full, and all others have room
+  pub record IsFullAt (blocks : List (Vec (Box Slot A) Z)) (at : ℕ) : Type 0 where
+    pub within : at < length blocks
+    pub full : (d : Vec (Box Slot A) Z) → vec_len (get_or blocks at d) ≡ 128
+    pub others : (block : Vec (Box Slot A) Z) → IsBlock block → AllByRecursion IsBlock (set blocks at block)
+
+-- blocks with room each, and empty ones
+pub record AreBlocks (blocks : Blocks) : Type 0 where
+  pub filled : AllByRecursion IsBlock blocks.filled.items
+  pub spare : AllByRecursion IsSpare blocks.spare.items
+
+-- so many entries more can be put without memory: each of them fills no more than one block
+pub record HasRoom (count : ℕ) (blocks : Blocks) : Type 0 where
+  pub filled : vec_len blocks.filled + count ≤ vec_capacity blocks.filled
+  pub spare : count ≤ vec_len blocks.spare
+
+-- what a memtable keeps
+pub record IsKept (table : Blocks) (len total : ℕ) : Type 0 where
+  pub list : IsEntryList (block_entries table.filled.items)
+  pub limits : IsWithinLimits (block_entries table.filled.items)
+  pub count : len ≡ length (block_entries table.filled.items)
+  pub bytes : total ≡ bytes_of (block_entries table.filled.items)
+  pub blocks : AreBlocks table
