@@ -1,4 +1,5 @@
 pub mod Answering
+pub mod Calls
 pub mod Changing
 pub mod Commanding
 pub mod Cutting

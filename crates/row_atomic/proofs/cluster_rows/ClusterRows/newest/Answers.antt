@@ -1,5 +1,6 @@
 -- The cells of the row are those of its tablet.
 use Rattle.row_atomic.proofs.Answering.{found_there, newest_answer, owner_at, undamaged}
+use Rattle.row_atomic.proofs.Calls.{files_read, refused_read}
 use Rattle.row_atomic.proofs.cluster_rows.ClusterRows.newest.Goals as goal
 
 pub returns-clause-found : goal.returns-clause-found
@@ -11,12 +12,12 @@ returns-clause-found g c =
     let owns = owner_at c.self.inside.table ts c.args.row.now c.index_of-index.result c.index.result.now table c.self.invariant.placed c.self.invariant.as_many at there in
     rw (← c.self.view_is) (λ order. newest_answer (g.F.Files.contents c.self.inside.files) c.self.inside.next_name ts order c.stays_in_range.ensures _ c.args.row.now c.args.family.now c.args.qualifier c.args.lo c.args.hi c.index_of-index.result c.index.result.now c.newest.result owns c.newest.ensures.found)
 
-pub returns-clause-undamaged : goal.returns-clause-undamaged
-returns-clause-undamaged g c =
+pub returns-clause-refusal : goal.returns-clause-refusal
+returns-clause-refusal g c =
     let at = rw (← c.self.view_is) at c.index_of-index.ensures.holder in
     let ts = c.self.inside.tablets.items in
     let there = found_there ts c.index_of-index.result at.tablet c.index.result.now at.there c.index.ensures in
-    rw (← c.self.view_is) (λ order. undamaged (g.F.Files.contents c.self.inside.files) c.self.inside.next_name ts order c.index_of-index.result c.index.result.now _ there c.newest.ensures.damaged)
+    rw (← c.self.view_is) (refused_read _ c.newest.result (λ order. undamaged (g.F.Files.contents c.self.inside.files) c.self.inside.next_name ts order c.index_of-index.result c.index.result.now _ there c.newest.ensures.damaged) c.newest.ensures.refusal)
 
-pub returns-clause-storage : goal.returns-clause-storage
-returns-clause-storage g c = rw (← c.self.view_is) (λ i. record { told = c.newest.ensures.same i; file_limit = c.self.inside.file_limit; next_name = c.self.inside.next_name; places = c.self.inside.table })
+pub returns-clause-reads : goal.returns-clause-reads
+returns-clause-reads g c = rw (← c.self.view_is) (files_read g.F.Files.contents _ _ c.newest.ensures.same)
