@@ -1,5 +1,6 @@
 -- Calls of rows one after another.
 use Rattle.std.proofs.Common.{◌≡◌, ◌≢◌, ◌∙◌, ◌⊎◌, ℕ, List, ◌++◌, set, slice_get, Option, Some, Result, Ok, Err, IfErr, OnOk, OnErr, IsErrOf, refl, sym, ap, subst}
+use Rattle.std.specs.Result.{IsErrAnd}
 use Rattle.cell_key.specs.Cells.{Cells, after_edits}
 use Rattle.cell_key.specs.declared.edits.Edit.{Edit}
 use Rattle.cell_key.specs.declared.refusals.Refusal.{Refusal}
@@ -55,6 +56,17 @@ is_read_refusal H _ u = u
 pub read_undamaged : (Holds : Type 0) (e : Refusal) → IsRefusalOfRead Holds e → Holds → e ≢ Damaged
 read_undamaged H Damaged u held same = u held
 read_undamaged H _ u held same = cc
+
+-- a read that comes after another one is refused what that one may be
+refused_after : (Held HoldsNow : Type 0) (e : Refusal) → (Held → HoldsNow) → IsRefusalOfRead HoldsNow e → IsRefusalOfRead Held e
+refused_after H N Device still u = tt
+refused_after H N NoMemory still u = tt
+refused_after H N Damaged still u = λ held. u (still held)
+refused_after H N _ still u = u
+
+pub refused_later : {B : Type 0} (Held HoldsNow : Type 0) (r : Result B Refusal) (e : Refusal) → (Held → HoldsNow) → IsErrAnd r (λ f. f ≡ e) → IsRefusalOfRead HoldsNow e → IfErr r (IsRefusalOfRead Held)
+refused_later H N (Ok x) e still by u = tt
+refused_later H N (Err f) e still by u = subst (IsRefusalOfRead H) (sym by) (refused_after H N e still u)
 
 -- ---- a cluster
 

@@ -6,6 +6,7 @@ pub mod Cutting
 pub mod Emptying
 pub mod Firsts
 pub mod Fresh
+pub mod Halving
 pub mod Joined
 pub mod Limits
 pub mod Moving

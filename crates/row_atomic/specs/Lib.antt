@@ -4,6 +4,7 @@ pub mod Clusters
 pub mod Commands
 pub mod Compactions
 pub mod Laws
+pub mod Oldest
 pub mod Refusals
 pub mod Room
 pub mod Slots
