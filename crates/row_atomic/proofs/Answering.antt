@@ -8,18 +8,15 @@ use Rattle.cell_key.specs.Entries.{cells_of, merged}
 use Rattle.cell_key.specs.declared.edits.Edit.{Edit}
 use Rattle.cell_key.specs.declared.keys.Qualifier.{Qualifier}
 use Rattle.cell_key.specs.declared.refusals.Refusal.{Refusal}
-use Rattle.cell_key.specs.declared.refusals.Refusal.TheVariants.{Device, NoMemory, Damaged}
 use Rattle.file_store.specs.Store.{Contents}
 use Rattle.memtable.specs.Edits.{IsWithinLimits, with_edits}
 use Rattle.metadata_table.specs.Places.{PlaceView}
 use Rattle.metadata_table.specs.Table.{IsTable, IsHolder}
-use Rattle.sorted_file.specs.Sources as sources
 use Rattle.sorted_file.specs.Opened.{name_of}
 use Rattle.tablet.specs.Ranges.{has_row, seen}
 use Rattle.tablet.specs.Views.{Holds, IsBelow, IsSameTablet, cells_at, lists_of, range_of, files_of, names_of, memory_of}
 use Rattle.tablet.specs.Laws.{StaysInRange}
 use Rattle.tablet.specs.declared.tablet.Tablet.{Tablet}
-use Rattle.row_atomic.specs.Refusals.{IsReadRefusal}
 use Rattle.row_atomic.specs.Clusters.{tablet_numbered, cells_in, joined, edits_in, InOrder, ArePlaced, IsMatched, HasTabletAt, Overfills}
 use Rattle.row_atomic.proofs.Owners.{OwnsRow, index_of, holder_owns}
 use Rattle.row_atomic.proofs.Shares.{each_at, each_set, at_told, cells_told, newest_of_row, applied}
@@ -69,12 +66,6 @@ holder_index places ts row p placed holder =
 
 -- ---- reads
 
-pub read_refusal : (x : Refusal) → sources.IsReadRefusal x → IsReadRefusal x
-read_refusal Device h = tt
-read_refusal NoMemory h = tt
-read_refusal Damaged h = tt
-read_refusal _ h = h
-
 pub if_err : {A : Type 0} (P Q : Refusal → Type 0) → ((x : Refusal) → P x → Q x) → (r : Result A Refusal) → IfErr r P → IfErr r Q
 if_err P Q h (Ok x) k = tt
 if_err P Q h (Err e) k = h e k
@@ -121,11 +112,6 @@ module _ (o : Option Contents) (next : ℕ) (ts : List Tablet) (order : InOrder 
         cells_told o m (set ts i u) order.are_told
         ∙ applied law m ts row i t u edits order.each_open owns (still m holds) same_range under (made m holds owns.has)
         ∙ ap (λ (c : Cells). after_edits c edits) (sym (cells_told o m ts order.are_told))
-
-    -- a refusal leaves the cells
-    pub refused_answer : {A : Type 0} (r : Result A Refusal) → OnErr r (u ≡ t) → OnErr r (cells_in o (set ts i u) ≡ cells_in o ts)
-    refused_answer (Ok x) h = tt
-    refused_answer (Err e) h = ap (cells_in o) (ap (set ts i) h ∙ set_same ts i t there)
 
     holds_after : {A : Type 0} (r : Result A Refusal) → OnOk r ((m : Contents) → Holds m t → Holds m u) → OnErr r (u ≡ t) → Holds order.contents u
     holds_after (Ok x) still err = still order.contents (each_at (Holds order.contents) ts order.each_open i t there)

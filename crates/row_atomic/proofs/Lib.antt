@@ -1,10 +1,12 @@
 pub mod Answering
+pub mod Calls
 pub mod Changing
 pub mod Commanding
 pub mod Cutting
 pub mod Emptying
 pub mod Firsts
 pub mod Fresh
+pub mod Halving
 pub mod Joined
 pub mod Limits
 pub mod Moving

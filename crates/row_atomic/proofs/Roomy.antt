@@ -19,7 +19,6 @@ use Rattle.row_atomic.specs.Clusters.{HasTabletAt, InOrder, Overfills, edits_in,
 use Rattle.row_atomic.specs.Changes.{ComesOfWriting, IsFull, IsTooLarge, Numbered, OfHolder, written_by}
 use Rattle.row_atomic.specs.declared.cluster_compactions.Compaction.{Compaction}
 use Rattle.row_atomic.proofs.Changing.{at_order, numbered_at}
-use Rattle.row_atomic.proofs.Placing.{set_same}
 use Rattle.row_atomic.proofs.Shares.{at_told}
 use Rattle.row_atomic.proofs.Splitting.{one_holder}
 
@@ -164,9 +163,6 @@ room_after places ts at i t u edits there has under range memory row later full 
         ∙ with_both (memory_of t) edits (edits_in (range_of t) later)
         ∙ ap (λ (es : List Edit). with_edits (memory_of t) es) (sym (kept_before (range_of t) at edits later has under)) in
         inr (record { place = full.place; holder = full.holder; tablet = t; numbered = e.0; over = λ within. full.over (subst (λ (es : List Entry). IsWithinLimits es) (sym all) within) })
-
-pub room_stays : (places : List PlaceView) (ts : List Tablet) (i : ℕ) (t u : Tablet) → slice_get ts i ≡ Some t → u ≡ t → (row : List ℕ) (later : List Edit) → Overfills places (set ts i u) row later → Overfills places ts row later
-room_stays places ts i t u there same row later full = subst (λ (vs : List Tablet). Overfills places vs row later) (ap (set ts i) same ∙ set_same ts i t there) full
 
 -- a tablet of the same range and the same memtable has the same room
 pub room_same : (places : List PlaceView) (ts : List Tablet) (i : ℕ) (t u : Tablet) → slice_get ts i ≡ Some t → range_of u ≡ range_of t → memory_of u ≡ memory_of t → (row : List ℕ) (later : List Edit) → Overfills places (set ts i u) row later → Overfills places ts row later

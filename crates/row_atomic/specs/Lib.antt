@@ -1,8 +1,10 @@
+pub mod Calls
 pub mod Changes
 pub mod Clusters
 pub mod Commands
 pub mod Compactions
 pub mod Laws
+pub mod Oldest
 pub mod Refusals
 pub mod Room
 pub mod Slots

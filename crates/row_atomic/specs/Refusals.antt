@@ -15,3 +15,8 @@ abbrev pub IsApplyRefusal : Refusal → Type 0
 IsApplyRefusal MemtableFull = ⊤
 IsApplyRefusal NoMemory = ⊤
 IsApplyRefusal _ = ⊥
+
+-- what a read of rows may answer: damage is told only where they don't hold
+abbrev pub IsRefusalOfRead : Type 0 → Refusal → Type 0
+IsRefusalOfRead Holds Damaged = ¬ Holds
+IsRefusalOfRead Holds refusal = IsReadRefusal refusal

@@ -1,3 +1,5 @@
+//! Rows in one ordered map in memory.
+
 ghost use Rattle.std.specs.Prelude.{◌≡◌, ⊤};
 ghost use Rattle.row_atomic.specs.Clusters.{no_storage};
 ghost use Rattle.std.specs.FinMap.{empty};

@@ -1,12 +1,15 @@
-ghost use Rattle.std.specs.Prelude.{◌≡◌, ◌≤◌, ◌++◌, ◌⊎◌, ℕ, List, IfOk, OnOk, OnErr, IfErr, IsErrOf, IfSome, option_map};
+//! Rows of cells: what each kind of them can do, and what each call leaves.
+
+ghost use Rattle.std.specs.Prelude.{◌≡◌, ℕ, List, IfOk, OnOk, OnErr, IfErr, IsErrOf, IfSome, option_map};
 ghost use Rattle.std.specs.List.{AllByRecursion};
-ghost use Rattle.cell_key.specs.Cells.{Cells, IsNewest, IsEditOf, after_edits, version};
+ghost use Rattle.cell_key.specs.Cells.{Cells, IsNewest, IsEditOf, version};
 ghost use Rattle.cell_key.specs.declared.edits.Edit.{Edit as RowEdit};
-ghost use Rattle.cell_key.specs.Faults.{HasRisen};
+ghost use Rattle.cell_key.specs.Faults.{HasReason};
 ghost use Rattle.cell_key.specs.Places.{IsNextCell, place_named};
-ghost use Rattle.row_atomic.specs.Clusters.{Storage};
-ghost use Rattle.row_atomic.specs.Refusals.{IsReadRefusal, IsApplyRefusal};
 ghost use Rattle.cell_key.specs.Versions.{IsVersionIn, stamped};
+ghost use Rattle.row_atomic.specs.Calls.{Applies, OnlyReads};
+ghost use Rattle.row_atomic.specs.Clusters.{Storage};
+ghost use Rattle.row_atomic.specs.Refusals.{IsApplyRefusal, IsRefusalOfRead};
 
 use cell_key::{Edit, Family, Qualifier, Refusal, Row, Stamp};
 
@@ -48,17 +51,13 @@ pub trait Rows {
         lo: Stamp,
         hi: Stamp,
     ) -> Result<Option<(Stamp, Vec<u8>)>, Refusal>
-        ensures found { holds self.old → IfOk result (λ found. IsNewest (cells self.old) (version row.now family.now qualifier) lo hi (option_map stamped found)) }
-        ensures kept { holds self.old → cells self.new ≡ cells self.old }
-        ensures still { holds self.old → holds self.new }
-        ensures same_room { (row : List ℕ) (edits : List RowEdit) → overfills self.new row edits → overfills self.old row edits }
-        ensures storage { storage self.new ≡ storage self.old }
-        ensures undamaged { holds self.old → ¬ (IsErrOf result Refusal.Damaged) }
+        ensures found { holds self.old
+            → IfOk result (λ found.
+            IsNewest (cells self.old) (version row.now family.now qualifier) lo hi (option_map stamped found)) }
+        ensures reads { OnlyReads holds cells overfills storage self.old self.new }
         ensures limits { IfOk result (λ found. IfSome (option_map stamped found) (IsVersionIn lo hi)) }
-        ensures refusal { IfErr result IsReadRefusal }
-        ensures device { IsErrOf result Refusal.Device → HasRisen (faults self.old) (faults self.new) }
-        ensures later { faults self.old ≤ faults self.new }
-        ensures told { ¬ IsErrOf result Refusal.Device → faults self.new ≡ faults self.old };
+        ensures refusal { IfErr result (IsRefusalOfRead (holds self.old)) }
+        ensures reason { HasReason (faults self.old) (faults self.new) result };
 
     /// The next cell that has any key, in the order of rows and then of families, after the cell
     /// of `after`, or from the start where that is `None`. `None` where no cell is left.
@@ -70,16 +69,10 @@ pub trait Rows {
         &mut self,
         after: Option<(&Row, &Family)>,
     ) -> Result<Option<(Row, Family)>, Refusal>
-        ensures found { holds self.old → IfOk result (λ found. IsNextCell (cells self.old) (option_map place_named after.entry) found) }
-        ensures kept { holds self.old → cells self.new ≡ cells self.old }
-        ensures still { holds self.old → holds self.new }
-        ensures same_room { (row : List ℕ) (edits : List RowEdit) → overfills self.new row edits → overfills self.old row edits }
-        ensures storage { storage self.new ≡ storage self.old }
-        ensures undamaged { holds self.old → ¬ (IsErrOf result Refusal.Damaged) }
-        ensures refusal { IfErr result IsReadRefusal }
-        ensures device { IsErrOf result Refusal.Device → HasRisen (faults self.old) (faults self.new) }
-        ensures later { faults self.old ≤ faults self.new }
-        ensures told { ¬ IsErrOf result Refusal.Device → faults self.new ≡ faults self.old };
+        ensures found { holds self.old → IfOk result (IsNextCell (cells self.old) (option_map place_named after.entry)) }
+        ensures reads { OnlyReads holds cells overfills storage self.old self.new }
+        ensures refusal { IfErr result (IsRefusalOfRead (holds self.old)) }
+        ensures reason { HasReason (faults self.old) (faults self.new) result };
 
     /// Makes edits under one row in order, all of them or none. No device is touched, and nothing below the rows in
     /// memory changes.
@@ -90,15 +83,10 @@ pub trait Rows {
     /// growth was refused. The cells are then as before, and edits would pass a limit only where they did before.
     fn apply(&mut self, row: &Row, edits: Vec<Edit>) -> Result<(), Refusal>
         requires { AllByRecursion (IsEditOf row.now) edits.items }
-        ensures ok { holds self.old → OnOk result (cells self.new ≡ after_edits (cells self.old) edits.items) }
-        ensures err { holds self.old → OnErr result (cells self.new ≡ cells self.old) }
-        ensures still { holds self.old → holds self.new }
+        ensures ok { OnOk result (Applies holds cells overfills storage row.now edits.items self.old self.new) }
+        ensures err { OnErr result (OnlyReads holds cells overfills storage self.old self.new) }
         ensures refusal { IfErr result IsApplyRefusal }
         ensures full { IsErrOf result Refusal.MemtableFull → overfills self.old row.now edits.items }
-        ensures within { OnOk result (¬ overfills self.old row.now edits.items) }
-        ensures room { OnOk result ((row : List ℕ) (later : List RowEdit) → overfills self.new row later → overfills self.old row later ⊎ overfills self.old row (edits.items ++ later)) }
-        ensures err_room { OnErr result ((row : List ℕ) (later : List RowEdit) → overfills self.new row later → overfills self.old row later) }
-        ensures storage { storage self.new ≡ storage self.old }
         ensures untouched { faults self.new ≡ faults self.old };
 
     /// How often a device has failed. A count of 2^64 - 1 stays.

@@ -2,7 +2,9 @@ use Rattle.std.proofs.Common.{◌≡◌, ◌⊎◌, inl, inr, ap, refl, subst, �
 use Rattle.cell_key.specs.Places.{IsNextCell}
 use Rattle.cell_key.specs.declared.refusals.Refusal.{Refusal}
 use Rattle.cell_key.specs.declared.refusals.Refusal.TheVariants.{Damaged, Device, NoMemory, TooManyFiles}
-use Rattle.row_atomic.proofs.Changing.{if_err, if_ok, on_both}
+use Rattle.std.proofs.lemmas.Result.{on_err_weaker, on_ok_weaker}
+use Rattle.row_atomic.proofs.Calls.{either_way, is_read_refusal, read_undamaged}
+use Rattle.row_atomic.proofs.Changing.{if_ok, on_both}
 use Rattle.row_atomic.proofs.Commanding.{apply_tells, caused, done_answered, done_tells, done_upheld, move_answered, move_upheld, not_answered, ok_tells, one_answered, refused_tells, when_err, when_ok}
 use Rattle.row_atomic.specs.Changes.{IsMoveRefusal, IsNumberedRefusal}
 use Rattle.row_atomic.specs.Refusals.{IsApplyRefusal, IsReadRefusal}
@@ -206,24 +208,24 @@ returns-in-Apply-clause-faults g c = apply_tells g.F.Files.faults c.apply.result
 
 pub returns-in-Apply-clause-upholds : goal.returns-in-Apply-clause-upholds
 returns-in-Apply-clause-upholds g c =
-    rw (c.in-Apply.is) (λ order. done_upheld g.F.Files.contents (command.Apply c.in-Apply.row c.in-Apply.edits) c.apply.result c.done.result c.args.self.now c.apply.new.self c.done.ensures (if_ok _ c.apply.result c.apply.ensures.storage) c.apply.ensures.refusal (if_err _ c.apply.result c.apply.ensures.storage))
+    rw (c.in-Apply.is) (λ order. done_upheld g.F.Files.contents (command.Apply c.in-Apply.row c.in-Apply.edits) c.apply.result c.done.result c.args.self.now c.apply.new.self c.done.ensures (on_ok_weaker c.apply.result (λ made. made.stays) c.apply.ensures.ok) c.apply.ensures.refusal (on_err_weaker c.apply.result (λ same. same.stays) c.apply.ensures.err))
 
 pub returns-in-Apply-clause-answers : goal.returns-in-Apply-clause-answers
 returns-in-Apply-clause-answers g c =
-    rw (c.in-Apply.is) (λ order. done_answered (command.Apply c.in-Apply.row c.in-Apply.edits) c.apply.result c.done.result (cells_shown g.F.Files.contents c.args.self.now) (cells_shown g.F.Files.contents c.apply.new.self) c.done.ensures (c.apply.ensures.ok order)
-    (λ refusal is. ((λ damaged. absurd (not_answered IsApplyRefusal c.apply.result refusal _ c.apply.ensures.refusal is damaged)), when_err c.apply.result refusal (c.apply.ensures.err order) is)))
+    rw (c.in-Apply.is) (λ order. done_answered (command.Apply c.in-Apply.row c.in-Apply.edits) c.apply.result c.done.result (cells_shown g.F.Files.contents c.args.self.now) (cells_shown g.F.Files.contents c.apply.new.self) c.done.ensures (on_ok_weaker c.apply.result (λ made. made.made order) c.apply.ensures.ok)
+    (λ refusal is. ((λ damaged. absurd (not_answered IsApplyRefusal c.apply.result refusal _ c.apply.ensures.refusal is damaged)), (when_err c.apply.result refusal c.apply.ensures.err is).kept order)))
 
 pub returns-in-Ok-clause-faults : goal.returns-in-Ok-clause-faults
-returns-in-Ok-clause-faults g c = ok_tells g.F.Files.faults c.newest.result _ _ c.args.self.now c.newest.new.self c.in-Ok.is (λ is. cc) c.newest.ensures.later c.newest.ensures.device c.newest.ensures.told
+returns-in-Ok-clause-faults g c = ok_tells g.F.Files.faults c.newest.result _ _ c.args.self.now c.newest.new.self c.in-Ok.is (λ is. cc) c.newest.ensures.reason.later c.newest.ensures.reason.device c.newest.ensures.reason.told
 
 pub returns-in-Newest-clause-faults : goal.returns-in-Newest-clause-faults
-returns-in-Newest-clause-faults g c = refused_tells g.F.Files.faults c.newest.result _ c.args.self.now c.newest.new.self c.in-Err.is c.newest.ensures.later c.newest.ensures.device c.newest.ensures.told
+returns-in-Newest-clause-faults g c = refused_tells g.F.Files.faults c.newest.result _ c.args.self.now c.newest.new.self c.in-Err.is c.newest.ensures.reason.later c.newest.ensures.reason.device c.newest.ensures.reason.told
 
 pub returns-in-Ok-next_cell-clause-faults : goal.returns-in-Ok-next_cell-clause-faults
-returns-in-Ok-next_cell-clause-faults g c = ok_tells g.F.Files.faults c.next_cell.result _ _ c.args.self.now c.next_cell.new.self c.in-Ok-next_cell.is (λ is. cc) c.next_cell.ensures.later c.next_cell.ensures.device c.next_cell.ensures.told
+returns-in-Ok-next_cell-clause-faults g c = ok_tells g.F.Files.faults c.next_cell.result _ _ c.args.self.now c.next_cell.new.self c.in-Ok-next_cell.is (λ is. cc) c.next_cell.ensures.reason.later c.next_cell.ensures.reason.device c.next_cell.ensures.reason.told
 
 pub returns-in-NextCell-clause-faults : goal.returns-in-NextCell-clause-faults
-returns-in-NextCell-clause-faults g c = refused_tells g.F.Files.faults c.next_cell.result _ c.args.self.now c.next_cell.new.self c.in-Err-next_cell.is c.next_cell.ensures.later c.next_cell.ensures.device c.next_cell.ensures.told
+returns-in-NextCell-clause-faults g c = refused_tells g.F.Files.faults c.next_cell.result _ c.args.self.now c.next_cell.new.self c.in-Err-next_cell.is c.next_cell.ensures.reason.later c.next_cell.ensures.reason.device c.next_cell.ensures.reason.told
 
 pub returns-in-Ok-split-clause-faults : goal.returns-in-Ok-split-clause-faults
 returns-in-Ok-split-clause-faults g c = ok_tells g.F.Files.faults c.split.result _ _ c.args.self.now c.split.new.self c.in-Ok-split.is (λ is. cc) c.split.ensures.reason.later c.split.ensures.reason.device c.split.ensures.reason.told
@@ -244,67 +246,67 @@ pub returns-in-Split-clause-uses : goal.returns-in-Split-clause-uses
 returns-in-Split-clause-uses g c = rw (c.in-Split.is) (record { name = c.split.ensures.name; limit = c.split.ensures.limit; none = c.split.ensures.empty })
 
 pub returns-in-Ok-clause-still : goal.returns-in-Ok-clause-still
-returns-in-Ok-clause-still g c = c.newest.ensures.still
+returns-in-Ok-clause-still g c = c.newest.ensures.reads.still
 
 pub returns-in-Ok-clause-uses : goal.returns-in-Ok-clause-uses
 returns-in-Ok-clause-uses g c = rw (c.in-Newest.is) tt
 
 pub returns-in-Newest-clause-still : goal.returns-in-Newest-clause-still
-returns-in-Newest-clause-still g c = c.newest.ensures.still
+returns-in-Newest-clause-still g c = c.newest.ensures.reads.still
 
 pub returns-in-Newest-clause-uses : goal.returns-in-Newest-clause-uses
 returns-in-Newest-clause-uses g c = rw (c.in-Newest.is) tt
 
 pub returns-in-Ok-clause-answers : goal.returns-in-Ok-clause-answers
-returns-in-Ok-clause-answers g c = rw (c.in-Newest.is) (λ order. (c.in-Ok.ensures.found order, c.newest.ensures.kept order))
+returns-in-Ok-clause-answers g c = rw (c.in-Newest.is) (λ order. (c.in-Ok.ensures.found order, c.newest.ensures.reads.kept order))
 
 pub returns-in-Ok-clause-upholds : goal.returns-in-Ok-clause-upholds
-returns-in-Ok-clause-upholds g c = rw (c.in-Newest.is) (λ order. c.newest.ensures.storage)
+returns-in-Ok-clause-upholds g c = rw (c.in-Newest.is) (λ order. c.newest.ensures.reads.stays)
 
 pub returns-in-Ok-clause-cause : goal.returns-in-Ok-clause-cause
 returns-in-Ok-clause-cause g c = rw (c.in-Newest.is) (λ order. tt)
 
 pub returns-in-Newest-clause-answers : goal.returns-in-Newest-clause-answers
-returns-in-Newest-clause-answers g c = rw (c.in-Newest.is) (λ order. ((λ damaged. c.in-Err.ensures.undamaged order (ap (λ (r : Refusal). Err r) damaged)), c.newest.ensures.kept order))
+returns-in-Newest-clause-answers g c = rw (c.in-Newest.is) (λ order. (read_undamaged _ c.in-Err.refusal c.in-Err.ensures.refusal order, c.newest.ensures.reads.kept order))
 
 pub returns-in-Newest-clause-upholds : goal.returns-in-Newest-clause-upholds
-returns-in-Newest-clause-upholds g c = rw (c.in-Newest.is) (λ order. (c.in-Err.ensures.refusal, c.newest.ensures.storage))
+returns-in-Newest-clause-upholds g c = rw (c.in-Newest.is) (λ order. (is_read_refusal _ c.in-Err.refusal c.in-Err.ensures.refusal, c.newest.ensures.reads.stays))
 
 pub returns-in-Newest-clause-cause : goal.returns-in-Newest-clause-cause
-returns-in-Newest-clause-cause g c = rw (c.in-Newest.is) (λ order. record { due = tt; barred = λ bars. absurd bars; undone = λ same. absurd (subst IsReadRefusal same c.in-Err.ensures.refusal) })
+returns-in-Newest-clause-cause g c = rw (c.in-Newest.is) (λ order. record { due = tt; barred = λ bars. absurd bars; undone = λ same. absurd (subst IsReadRefusal same (is_read_refusal _ c.in-Err.refusal c.in-Err.ensures.refusal)) })
 
 pub returns-in-Ok-next_cell-clause-still : goal.returns-in-Ok-next_cell-clause-still
-returns-in-Ok-next_cell-clause-still g c = c.next_cell.ensures.still
+returns-in-Ok-next_cell-clause-still g c = c.next_cell.ensures.reads.still
 
 pub returns-in-Ok-next_cell-clause-uses : goal.returns-in-Ok-next_cell-clause-uses
 returns-in-Ok-next_cell-clause-uses g c = rw (c.in-NextCell.is) tt
 
 pub returns-in-NextCell-clause-still : goal.returns-in-NextCell-clause-still
-returns-in-NextCell-clause-still g c = c.next_cell.ensures.still
+returns-in-NextCell-clause-still g c = c.next_cell.ensures.reads.still
 
 pub returns-in-NextCell-clause-uses : goal.returns-in-NextCell-clause-uses
 returns-in-NextCell-clause-uses g c = rw (c.in-NextCell.is) tt
 
 pub returns-in-Ok-next_cell-clause-answers : goal.returns-in-Ok-next_cell-clause-answers
-returns-in-Ok-next_cell-clause-answers g c = rw (c.in-NextCell.is) (λ order. (subst (λ after. IsNextCell (cells_shown g.F.Files.contents c.args.self.now) after c.in-Ok-next_cell.found) c.lent.ensures (c.in-Ok-next_cell.ensures.found order), c.next_cell.ensures.kept order))
+returns-in-Ok-next_cell-clause-answers g c = rw (c.in-NextCell.is) (λ order. (subst (λ after. IsNextCell (cells_shown g.F.Files.contents c.args.self.now) after c.in-Ok-next_cell.found) c.lent.ensures (c.in-Ok-next_cell.ensures.found order), c.next_cell.ensures.reads.kept order))
 
 pub returns-in-Ok-next_cell-clause-upholds : goal.returns-in-Ok-next_cell-clause-upholds
-returns-in-Ok-next_cell-clause-upholds g c = rw (c.in-NextCell.is) (λ order. c.next_cell.ensures.storage)
+returns-in-Ok-next_cell-clause-upholds g c = rw (c.in-NextCell.is) (λ order. c.next_cell.ensures.reads.stays)
 
 pub returns-in-Ok-next_cell-clause-cause : goal.returns-in-Ok-next_cell-clause-cause
 returns-in-Ok-next_cell-clause-cause g c = rw (c.in-NextCell.is) (λ order. tt)
 
 pub returns-in-NextCell-clause-answers : goal.returns-in-NextCell-clause-answers
-returns-in-NextCell-clause-answers g c = rw (c.in-NextCell.is) (λ order. ((λ damaged. c.in-Err-next_cell.ensures.undamaged order (ap (λ (r : Refusal). Err r) damaged)), c.next_cell.ensures.kept order))
+returns-in-NextCell-clause-answers g c = rw (c.in-NextCell.is) (λ order. (read_undamaged _ c.in-Err-next_cell.refusal c.in-Err-next_cell.ensures.refusal order, c.next_cell.ensures.reads.kept order))
 
 pub returns-in-NextCell-clause-upholds : goal.returns-in-NextCell-clause-upholds
-returns-in-NextCell-clause-upholds g c = rw (c.in-NextCell.is) (λ order. (c.in-Err-next_cell.ensures.refusal, c.next_cell.ensures.storage))
+returns-in-NextCell-clause-upholds g c = rw (c.in-NextCell.is) (λ order. (is_read_refusal _ c.in-Err-next_cell.refusal c.in-Err-next_cell.ensures.refusal, c.next_cell.ensures.reads.stays))
 
 pub returns-in-NextCell-clause-cause : goal.returns-in-NextCell-clause-cause
-returns-in-NextCell-clause-cause g c = rw (c.in-NextCell.is) (λ order. record { due = tt; barred = λ bars. absurd bars; undone = λ same. absurd (subst IsReadRefusal same c.in-Err-next_cell.ensures.refusal) })
+returns-in-NextCell-clause-cause g c = rw (c.in-NextCell.is) (λ order. record { due = tt; barred = λ bars. absurd bars; undone = λ same. absurd (subst IsReadRefusal same (is_read_refusal _ c.in-Err-next_cell.refusal c.in-Err-next_cell.ensures.refusal)) })
 
 pub returns-in-Apply-clause-still : goal.returns-in-Apply-clause-still
-returns-in-Apply-clause-still g c = c.apply.ensures.still
+returns-in-Apply-clause-still g c = either_way c.apply.result (on_ok_weaker c.apply.result (λ made. made.still) c.apply.ensures.ok) (on_err_weaker c.apply.result (λ same. same.still) c.apply.ensures.err)
 
 pub returns-in-Apply-clause-uses : goal.returns-in-Apply-clause-uses
 returns-in-Apply-clause-uses g c = rw (c.in-Apply.is) tt
@@ -312,7 +314,7 @@ returns-in-Apply-clause-uses g c = rw (c.in-Apply.is) tt
 pub returns-in-Apply-clause-cause : goal.returns-in-Apply-clause-cause
 returns-in-Apply-clause-cause g c =
     rw (c.in-Apply.is) (λ order. caused g.F.Files.contents (command.Apply c.in-Apply.row c.in-Apply.edits) c.apply.result c.done.result c.args.self.now c.apply.new.self c.done.ensures
-    (λ x ok. when_ok c.apply.result x c.apply.ensures.within ok)
+    (λ x ok. (when_ok c.apply.result x c.apply.ensures.ok ok).within)
     (λ refusal is. record {
       due = λ same. c.apply.ensures.full (is ∙ ap (λ (r : Refusal). Err r) same);
       barred = λ bars. absurd bars;

@@ -1,0 +1,126 @@
+-- Calls of rows one after another.
+use Rattle.std.proofs.Common.{◌≡◌, ◌≢◌, ◌∙◌, ◌⊎◌, ℕ, List, ◌++◌, set, slice_get, Option, Some, Result, Ok, Err, IfErr, OnOk, OnErr, IsErrOf, refl, sym, ap, subst}
+use Rattle.std.specs.Result.{IsErrAnd}
+use Rattle.cell_key.specs.Cells.{Cells, after_edits}
+use Rattle.cell_key.specs.declared.edits.Edit.{Edit}
+use Rattle.cell_key.specs.declared.refusals.Refusal.{Refusal}
+use Rattle.cell_key.specs.declared.refusals.Refusal.TheVariants.{Damaged, Device, NoMemory}
+use Rattle.file_store.specs.Store.{Contents}
+use Rattle.sorted_file.specs.Sources as sources
+use Rattle.tablet.specs.Views.{IsSameTablet}
+use Rattle.tablet.specs.declared.tablet.Tablet.{Tablet}
+use Rattle.row_atomic.specs.Calls.{Applies, KeepsBelow, OnlyReads}
+use Rattle.row_atomic.specs.Clusters.{ClusterState, InOrder, Overfills, Storage, cells_in, storage_of}
+use Rattle.row_atomic.specs.Refusals.{IsReadRefusal, IsRefusalOfRead}
+use Rattle.row_atomic.proofs.Answering.{read_kept, read_still, same_cells_in, still_in_order}
+use Rattle.row_atomic.proofs.Roomy.{room_same}
+use Rattle.row_atomic.proofs.Placing.{set_same}
+
+module _ {R : Type 0} {holds : R → Type 0} {storage : R → Storage} where
+  pub keeps_then : {a b c : R} → KeepsBelow holds storage a b → KeepsBelow holds storage b c → KeepsBelow holds storage a c
+  keeps_then first second = record { still = λ held. second.still (first.still held); stays = second.stays ∙ first.stays }
+
+module _ {R : Type 0} {holds : R → Type 0} {cells : R → Cells} {overfills : R → List ℕ → List Edit → Type 0} {storage : R → Storage} where
+  -- nothing is changed where nothing is called
+  pub reads_none : {rows : R} → OnlyReads holds cells overfills storage rows rows
+  reads_none = record { still = λ held. held; kept = λ held. refl; room = λ row later full. full; stays = refl }
+
+  -- nor by a read after a read
+  pub reads_then : {a b c : R} → OnlyReads holds cells overfills storage a b → OnlyReads holds cells overfills storage b c → OnlyReads holds cells overfills storage a c
+  reads_then first second = record {
+    still = λ held. second.still (first.still held);
+    kept = λ held. second.kept (first.still held) ∙ first.kept held;
+    room = λ row later full. first.room row later (second.room row later full);
+    stays = second.stays ∙ first.stays;
+  }
+
+  -- what reads or applies keeps what lies below
+  pub reads_keep : {a b : R} → OnlyReads holds cells overfills storage a b → KeepsBelow holds storage a b
+  reads_keep reads = record { still = reads.still; stays = reads.stays }
+
+  pub applies_keep : {changed : List ℕ} {edits : List Edit} {a b : R} → Applies holds cells overfills storage changed edits a b → KeepsBelow holds storage a b
+  applies_keep applies = record { still = applies.still; stays = applies.stays }
+
+-- what is so whether edits were made or refused
+pub either_way : {A : Type 0} {P : Type 0} (r : Result A Refusal) → OnOk r P → OnErr r P → P
+either_way (Ok x) ok err = ok
+either_way (Err e) ok err = err
+
+-- ---- what a read may answer
+
+pub is_read_refusal : (Holds : Type 0) (e : Refusal) → IsRefusalOfRead Holds e → IsReadRefusal e
+is_read_refusal H Device u = tt
+is_read_refusal H NoMemory u = tt
+is_read_refusal H Damaged u = tt
+is_read_refusal H _ u = u
+
+-- damage is not told where the rows hold
+pub read_undamaged : (Holds : Type 0) (e : Refusal) → IsRefusalOfRead Holds e → Holds → e ≢ Damaged
+read_undamaged H Damaged u held same = u held
+read_undamaged H _ u held same = cc
+
+-- a read that comes after another one is refused what that one may be
+refused_after : (Held HoldsNow : Type 0) (e : Refusal) → (Held → HoldsNow) → IsRefusalOfRead HoldsNow e → IsRefusalOfRead Held e
+refused_after H N Device still u = tt
+refused_after H N NoMemory still u = tt
+refused_after H N Damaged still u = λ held. u (still held)
+refused_after H N _ still u = u
+
+pub refused_later : {B : Type 0} (Held HoldsNow : Type 0) (r : Result B Refusal) (e : Refusal) → (Held → HoldsNow) → IsErrAnd r (λ f. f ≡ e) → IsRefusalOfRead HoldsNow e → IfErr r (IsRefusalOfRead Held)
+refused_later H N (Ok x) e still by u = tt
+refused_later H N (Err f) e still by u = subst (IsRefusalOfRead H) (sym by) (refused_after H N e still u)
+
+-- ---- a cluster
+
+module _ {F : Type 0} (contents : F → Option Contents) (state : ClusterState F) where
+  abbrev IsOrdered : ClusterState F → Type 0
+  IsOrdered cluster = InOrder (contents cluster.files) cluster.next_name cluster.tablets
+
+  abbrev cells_shown : ClusterState F → Cells
+  cells_shown cluster = cells_in (contents cluster.files) cluster.tablets
+
+  abbrev IsOver : ClusterState F → List ℕ → List Edit → Type 0
+  IsOver cluster row edits = Overfills cluster.places cluster.tablets row edits
+
+  abbrev with_tablet : ℕ → Tablet → ClusterState F
+  with_tablet i u = record state { tablets = set state.tablets i u }
+
+  -- a read of the files that leaves what they tell
+  pub files_read : (files : F) → contents files ≡ contents state.files → OnlyReads IsOrdered cells_shown IsOver (storage_of contents) state (record state { files = files })
+  files_read files same = record {
+    still = λ order. still_in_order (contents state.files) (contents files) state.next_name state.tablets same order;
+    kept = λ order. same_cells_in (contents state.files) (contents files) state.tablets same;
+    room = λ row later full. full;
+    stays = λ i. record { told = same i; file_limit = state.file_limit; next_name = state.next_name; places = state.places };
+  }
+
+  -- a tablet that is as it was
+  pub same_tablet : (i : ℕ) (t u : Tablet) → slice_get state.tablets i ≡ Some t → u ≡ t → OnlyReads IsOrdered cells_shown IsOver (storage_of contents) state (with_tablet i u)
+  same_tablet i t u there same = subst (λ (ts : List Tablet). OnlyReads IsOrdered cells_shown IsOver (storage_of contents) state (record state { tablets = ts })) (sym (ap (set state.tablets i) same ∙ set_same state.tablets i t there)) reads_none
+
+  -- a read of a tablet that leaves it what it was, and what the files tell
+  pub tablet_read : (i : ℕ) (t u : Tablet) (files : F) → slice_get state.tablets i ≡ Some t → IsSameTablet (contents state.files) t u → contents files ≡ contents state.files
+      → OnlyReads IsOrdered cells_shown IsOver (storage_of contents) state (record state { files = files; tablets = set state.tablets i u })
+  tablet_read i t u files there stays same = record {
+    still = λ order. read_still (contents state.files) (contents files) state.next_name state.tablets i t u there stays same order;
+    kept = λ order. read_kept (contents state.files) (contents files) state.next_name state.tablets i t u there stays same order;
+    room = λ row later. room_same state.places state.tablets i t u there stays.range stays.memory row later;
+    stays = λ k. record { told = same k; file_limit = state.file_limit; next_name = state.next_name; places = state.places };
+  }
+
+  -- one in which edits were made
+  pub applied_in : (i : ℕ) (u : Tablet) (changed : List ℕ) (edits : List Edit) {A : Type 0} (r : Result A Refusal) → (IsOrdered state → IsOrdered (with_tablet i u))
+      → (IsOrdered state → OnOk r (cells_shown (with_tablet i u) ≡ after_edits (cells_shown state) edits))
+      → OnOk r (¬ IsOver state changed edits)
+      → OnOk r ((row : List ℕ) (later : List Edit) → IsOver (with_tablet i u) row later → IsOver state row later ⊎ IsOver state row (edits ++ later))
+      → OnOk r (Applies IsOrdered cells_shown IsOver (storage_of contents) changed edits state (with_tablet i u))
+  applied_in i u changed edits (Err e) still made within room = tt
+  applied_in i u changed edits (Ok x) still made within room = record { still = still; made = made; within = within; room = room; stays = refl }
+
+-- what a tablet's read is refused with, that of the cluster is
+pub refused_read : {A : Type 0} (Holds : Type 0) (r : Result A Refusal) → (Holds → ¬ IsErrOf r Damaged) → IfErr r sources.IsReadRefusal → IfErr r (IsRefusalOfRead Holds)
+refused_read Holds (Ok x) undamaged h = tt
+refused_read Holds (Err Damaged) undamaged h = λ held. undamaged held refl
+refused_read Holds (Err Device) undamaged h = tt
+refused_read Holds (Err NoMemory) undamaged h = tt
+refused_read Holds (Err _) undamaged h = h

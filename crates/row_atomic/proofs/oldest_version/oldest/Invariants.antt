@@ -1,0 +1,20 @@
+use Rattle.std.proofs.Common.{◌≡◌, ◌-◌, ◌≤◌}
+use Rattle.cell_key.specs.Cells.{version}
+use Rattle.cell_key.specs.Versions.{IsVersionIn, stamped}
+use Rattle.row_atomic.specs.Calls.{OnlyReads}
+use Rattle.row_atomic.proofs.Halving.{IsRest}
+use Rattle.row_atomic.proofs.oldest_version.oldest.Given as goal
+
+-- what was found is a version, and the oldest one stands between low and it
+abbrev pub invariant-loop-low : goal.invariant-loop-low
+invariant-loop-low g l = record {
+  reads : OnlyReads g.R.Rows.holds g.R.Rows.cells g.R.Rows.overfills g.R.Rows.storage l.fn.rows l.rows;
+  faults : g.R.Rows.faults l.rows ≡ g.R.Rows.faults l.fn.rows;
+  limits : IsVersionIn l.lo l.hi (stamped l.found);
+  from : l.lo ≤ l.low;
+  to : l.low ≤ l.found.0;
+  rest : g.R.Rows.holds l.fn.rows → IsRest (g.R.Rows.cells l.fn.rows) (version l.row l.family l.qualifier) l.lo l.low (stamped l.found);
+}
+
+abbrev pub decreases-loop-low : goal.decreases-loop-low
+decreases-loop-low g l = l.found.0 - l.low
