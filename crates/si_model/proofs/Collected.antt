@@ -1,16 +1,18 @@
 -- What a collection keeps, and what a collector may erase.
 use Rattle.std.proofs.Common.{◌≡◌, ◌≢◌, ℕ, ◌<◌, ◌≤◌, ◌^◌, List, [], ◌∷◌, Option, Some, None, ◌⊎◌, inl, inr, refl, sym, ap, subst, ◌∙◌, arith}
+use Rattle.std.specs.Prelude.{IsSome, is_some}
 use Rattle.std.proofs.lemmas.Option.{none-some, same_Some}
 use Rattle.std.specs.FinMap.{get, remove}
 use Rattle.cell_key.specs.Cells.{Cells}
 use Rattle.cell_key.specs.Places.{Place}
 use Rattle.cell_key.specs.declared.keys.CellKey.{CellKey}
+use Rattle.cell_key.specs.declared.keys.Qualifier.{Qualifier}
 use Rattle.cell_key.specs.declared.keys.Qualifier.TheVariants.{Data, Lock, Write}
 use Rattle.si_model.specs.Sets.{◌∈◌, here, there}
 use Rattle.si_model.specs.Machine.{State, Commit, Names, Marked, IsReached}
 use Rattle.si_model.specs.declared.replies.Cell.{Cell}
 use Rattle.si_model.specs.ShowsCells.{at, key_of, IsThere, IsReplaced, ShowsCells, start_text}
-use Rattle.si_model.specs.Collection.{Collects, IsNamed, IsTidy, IsUnmarkedBelow, Pass, FirstPass, SecondPass, HasCome, collected_cells, dropped_cells, IsOld, MayEraseBelow, StaysShown}
+use Rattle.si_model.specs.Collection.{Collects, IsNamed, IsTidy, IsUnmarkedBelow, Pass, FirstPass, SecondPass, HasCome, collected_cells, dropped_cells, IsOld, MayEraseBelow, HasNoNewKey, StaysShown}
 use Rattle.si_model.proofs.ShownAt.{cases_key, erased_at, erased_off, key_cell, key_stamp, no_lock_data, no_lock_write, no_data_write, no_write_data}
 use Rattle.si_model.proofs.Steps.{reached_sound}
 use Rattle.si_model.proofs.Bounds.{reached_bounds}
@@ -277,3 +279,16 @@ may_erase cells st reached shown floor below clear = record {
 
 pub stays_shown : (cells : Cells) (st : State) → ShowsCells cells st → StaysShown cells st
 stays_shown cells st shown cells' collects = shows_collected cells cells' st shown collects
+
+-- a collection puts no key
+pub no_new_key : (cells cells' : Cells) (st : State) → Collects cells cells' st → HasNoNewKey cells cells'
+no_new_key cells cells' st gone k = by_column k.qualifier (record { row = k.row; family = k.family }) k.stamp
+  where
+    was : (x y : Option (List ℕ)) → (y ≡ x) ⊎ (y ≡ None) → IsSome y → IsSome x
+    was x y (inl same) some = subst (λ (o : Option (List ℕ)). IsSome o) same some
+    was x y (inr none) some = absurd (cc (some, ap is_some none))
+
+    by_column : (q : Qualifier) (x : Cell) (s : ℕ) → IsSome (at cells' x q s) → IsSome (at cells x q s)
+    by_column Data x s = was (at cells x Data s) (at cells' x Data s) (elim (gone.values x s) [ inl same ↦ inl same | inr left ↦ inr left.0 ])
+    by_column Lock x s = was (at cells x Lock s) (at cells' x Lock s) (inl (gone.locks x s))
+    by_column Write x s = was (at cells x Write s) (at cells' x Write s) (elim (gone.records x s) [ inl same ↦ inl same | inr left ↦ inr left.0 ])
