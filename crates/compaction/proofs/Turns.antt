@@ -5,7 +5,7 @@ use Rattle.std.proofs.lemmas.List.Elements.{AllZip-push, All-from_recursion}
 use Rattle.std.proofs.Math.Seq.{take-suc, take-suc-set}
 use Rattle.std.proofs.lemmas.List.{drop-set-lt, take_all}
 use Rattle.std.proofs.lemmas.List.Sums.{sum_by-append}
-use Rattle.std.specs.Prelude.{Option, Some, None, IfSome, sum_by}
+use Rattle.std.specs.Prelude.{Option, sum_by}
 use Rattle.std.specs.List.{AllByRecursion, AllZip}
 use Rattle.std.proofs.Common.{Bool, true, false, cond, ◌*◌}
 use Rattle.std.specs.Prelude.{is_some}
@@ -14,12 +14,12 @@ use Rattle.compaction.specs.Merging.{cost, one}
 use Rattle.file_store.specs.Store.{Contents}
 
 -- At an index a list came from another: what is before it is changed, and the rest is the same.
-pub record Progress {S F : Type 0} (contents : F → Option Contents) (faults : F → ℕ) (price bonus : S → ℕ) (before : Contents → S → Type 0) (step : Contents → S → S → Type 0) (start files : F) (xs ys : List S) (i : ℕ) : Type 0 where
+pub record Progress {S F : Type 0} (contents : F → Option Contents) (faults : F → ℕ) (price bonus : S → ℕ) (before : S → Type 0) (step : S → S → Type 0) (start files : F) (xs ys : List S) (i : ℕ) : Type 0 where
   pub same : contents files ≡ contents start
   pub quiet : faults files ≡ faults start
   pub rest : drop i ys ≡ drop i xs
   pub paid : sum_by price (take i ys) + sum_by bonus (take i ys) ≤ sum_by price (take i xs)
-  pub steps : IfSome (contents start) (λ m. AllByRecursion (before m) xs → AllZip (step m) (take i xs) (take i ys))
+  pub steps : AllByRecursion before xs → AllZip step (take i xs) (take i ys)
 
 -- what an index has is the first of the rest
 item-rest : {S : Type 0} (xs ys : List S) (i : ℕ) (d : S) → drop i ys ≡ drop i xs → get_or ys i d ≡ get_or xs i d
@@ -28,19 +28,15 @@ item-rest xs ys i d e = grind (arith, common_steps)
 one_more : {S : Type 0} (xs : List S) (i : ℕ) (s : S) → i < length xs → s ≡ get_or xs i s → take (i + 1) xs ≡ take i xs ++ s ∷ []
 one_more xs i s l e = rw add-one (take-suc xs i s l ∙ ap (λ x. take i xs ++ x ∷ []) (sym e))
 
-both_some : {A : Type 0} {P Q R : A → Type 0} (o o' : Option A) → o' ≡ o → IfSome o P → IfSome o' Q → ((m : A) → P m → Q m → R m) → IfSome o R
-both_some None o' e p q f = tt
-both_some {Q = Q} (Some m) o' e p q f = f m p (subst (λ o. IfSome o Q) e q)
-
 rest_more : {S : Type 0} (xs ys : List S) (i : ℕ) → i < length xs → drop i ys ≡ drop i xs → drop (i + 1) ys ≡ drop (i + 1) xs
 rest_more xs ys i l e = grind (arith, common_steps)
 
 -- the element at the index became t
-pub go_on : {S F : Type 0} {contents : F → Option Contents} {faults : F → ℕ} {price bonus : S → ℕ} {before : Contents → S → Type 0} {step : Contents → S → S → Type 0} {start files : F} {xs ys : List S} {i : ℕ}
+pub go_on : {S F : Type 0} {contents : F → Option Contents} {faults : F → ℕ} {price bonus : S → ℕ} {before : S → Type 0} {step : S → S → Type 0} {start files : F} {xs ys : List S} {i : ℕ}
     → Progress contents faults price bonus before step start files xs ys i → (next : F) (zs : List S) (s t : S)
     → i < length xs → s ≡ get_or ys i s → contents next ≡ contents files → faults next ≡ faults files
     → take (i + 1) zs ≡ take i ys ++ t ∷ [] → drop (i + 1) zs ≡ drop (i + 1) ys → price t + bonus t ≤ price s
-    → IfSome (contents files) (λ m. before m s → step m s t)
+    → (before s → step s t)
     → Progress contents faults price bonus before step start next xs zs (i + 1)
 go_on {S} {F} {contents} {faults} {price} {bonus} {before} {step} {start} {files} {xs} {ys} {i} p next zs s t l is same quiet front rest cheaper here =
     let was : s ≡ get_or xs i s = is ∙ item-rest xs ys i s p.rest in
@@ -50,7 +46,7 @@ go_on {S} {F} {contents} {faults} {price} {bonus} {before} {step} {start} {files
       quiet = quiet ∙ p.quiet;
       rest = rest ∙ rest_more xs ys i l p.rest;
       paid = rw (front, old, sum_by-append price (take i ys) (t ∷ []), sum_by-append bonus (take i ys) (t ∷ []), sum_by-append price (take i xs) (s ∷ [])) (omega (arith, p.paid));
-      steps = both_some (contents start) (contents files) p.same p.steps here (λ m before_all step_now all. rw (front, old) (AllZip-push (step m) (take i xs) (take i ys) s t (before_all all) (step_now (at_place (before m) xs i s l was all))));
+      steps = λ all. rw (front, old) (AllZip-push step (take i xs) (take i ys) s t (p.steps all) (here (at_place before xs i s l was all)));
     }
   where
     at_place : (P : S → Type 0) (xs : List S) (i : ℕ) (s : S) → i < length xs → s ≡ get_or xs i s → AllByRecursion P xs → P s
@@ -64,14 +60,6 @@ front_same ys i s l e = one_more ys i s l e
 
 pub rest_set : {S : Type 0} (ys : List S) (i : ℕ) (t : S) → drop (i + 1) (set ys i t) ≡ drop (i + 1) ys
 rest_set ys i t = drop-set-lt (i + 1) ys i t (omega arith)
-
-pub if_both : {A : Type 0} {P Q R : A → Type 0} (o : Option A) → IfSome o P → IfSome o Q → ((m : A) → P m → Q m → R m) → IfSome o R
-if_both None p q f = tt
-if_both (Some m) p q f = f m p q
-
-pub if_each : {A : Type 0} {R : A → Type 0} (o : Option A) → ((m : A) → R m) → IfSome o R
-if_each None f = tt
-if_each (Some m) f = f m
 
 cheaper : (lt ls : ℕ) (x y : Bool) → lt + cond x 1 0 ≤ ls → (2 * lt + cond x 1 0) + cond x 1 0 ≤ 2 * ls + cond y 1 0
 cheaper lt ls true true h = omega arith
@@ -91,24 +79,18 @@ paid_tied lt ls false h = omega arith
 pub cost_falls_from : (lt ls : ℕ) (b : Bool) (t s : Option Entry) → b ≡ is_some t → is_some s ≡ true → lt + cond b 1 0 ≤ ls → cost lt t + 1 ≤ cost ls s
 cost_falls_from lt ls b t s e y h = rw y (paid_tied lt ls (is_some t) (subst (λ b. lt + cond b 1 0 ≤ ls) e h))
 
-pub if_map : {A : Type 0} {P Q : A → Type 0} (o : Option A) → IfSome o P → ((m : A) → P m → Q m) → IfSome o Q
-if_map None p f = tt
-if_map (Some m) p f = f m p
-
 -- the loop at its end
-module _ {S F : Type 0} {contents : F → Option Contents} {faults : F → ℕ} {price bonus : S → ℕ} {before : Contents → S → Type 0} {step : Contents → S → S → Type 0} {start files : F} {xs ys : List S} {i : ℕ} (p : Progress contents faults price bonus before step start files xs ys i) where
+module _ {S F : Type 0} {contents : F → Option Contents} {faults : F → ℕ} {price bonus : S → ℕ} {before : S → Type 0} {step : S → S → Type 0} {start files : F} {xs ys : List S} {i : ℕ} (p : Progress contents faults price bonus before step start files xs ys i) where
   pub paid_whole : length xs ≤ i → length ys ≡ length xs → sum_by price ys + sum_by bonus ys ≤ sum_by price xs
   paid_whole long same =
       subst (λ (zs : List S). sum_by price zs + sum_by bonus zs ≤ sum_by price xs) (take_all i ys (omega arith))
       (subst (λ (zs : List S). sum_by price (take i ys) + sum_by bonus (take i ys) ≤ sum_by price zs) (take_all i xs long) p.paid)
 
-  pub steps_whole : length xs ≤ i → length ys ≡ length xs → IfSome (contents start) (λ m. AllByRecursion (before m) xs → AllZip (step m) xs ys)
-  steps_whole long same = if_map (contents start) p.steps (λ m steps all.
-      subst (AllZip (step m) xs) (take_all i ys (omega arith)) (subst (λ (zs : List S). AllZip (step m) zs (take i ys)) (take_all i xs long) (steps all)))
+  pub steps_whole : length xs ≤ i → length ys ≡ length xs → AllByRecursion before xs → AllZip step xs ys
+  steps_whole long same all = subst (AllZip step xs) (take_all i ys (omega arith)) (subst (λ (zs : List S). AllZip step zs (take i ys)) (take_all i xs long) (p.steps all))
 
-  pub not_each : (P : Contents → S → Type 0) (d : S) → i < length xs → IfSome (contents files) (λ m. ¬ (P m (get_or ys i d))) → IfSome (contents start) (λ m. ¬ (AllByRecursion (P m) xs))
-  not_each P d l here =
-      both_some (contents start) (contents files) p.same p.steps here (λ m steps not all. not (subst (P m) (sym (item-rest xs ys i d p.rest)) (All-from_recursion (P m) xs all i d l)))
+  pub not_each : (P : Option Contents → S → Type 0) (d : S) → i < length xs → ¬ (P (contents files) (get_or ys i d)) → ¬ (AllByRecursion (P (contents start)) xs)
+  not_each P d l here all = here (subst (λ (told : Option Contents). P told (get_or ys i d)) (sym p.same) (subst (P (contents start)) (sym (item-rest xs ys i d p.rest)) (All-from_recursion (P (contents start)) xs all i d l)))
 
 pub first_within : (a b c : ℕ) → a + b ≤ c → a ≤ c
 first_within a b c h = omega arith

@@ -41,9 +41,9 @@ impl<S> Kept<S> {
 impl<F: Files, S: Source<F>> Source<F> for Kept<S> {
     ghost use Rattle.compaction.specs.Writing.{kept, kept_list};
 
-    ghost holds = { λ m s. S.holds m s.source };
+    ghost holds = { λ told s. S.holds told s.source };
 
-    ghost remaining = { λ m s. kept s.keep_erasures (S.remaining m s.source) };
+    ghost remaining = { λ told s. kept s.keep_erasures (S.remaining told s.source) };
 
     ghost lent = { λ s. S.lent s.source };
 
@@ -62,5 +62,5 @@ impl<F: Files, S: Source<F>> Source<F> for Kept<S> {
         self.source.current()
     }
 
-    ghost list = { λ m s h. kept_list s.keep_erasures (S.lent s.source) (S.remaining m s.source) (S.list m s.source h) };
+    ghost list = { λ told s h. kept_list s.keep_erasures (S.lent s.source) (S.remaining told s.source) (S.list told s.source h) };
 }

@@ -1,6 +1,6 @@
 //! Several sources as one.
 
-ghost use Rattle.std.specs.Prelude.{ℕ, ◌≡◌, ◌≤◌, ◌+◌, None, length, map, is_some, sum_by, IsTrue, IsSome, OnOk, IfErr, IfSome, IsErrOf, option_and_then, option_copied};
+ghost use Rattle.std.specs.Prelude.{ℕ, ◌≡◌, ◌≤◌, ◌+◌, None, length, map, is_some, sum_by, IsTrue, IsSome, OnOk, IfErr, IsErrOf, Option, option_and_then, option_copied};
 ghost use Rattle.std.specs.List.{AllByRecursion, AllZip};
 ghost use Rattle.file_store.specs.Store.{Contents};
 ghost use Rattle.cell_key.specs.Entries.{merged};
@@ -69,9 +69,9 @@ fn step_all<F: Files, S: Source<F>>(sources: &mut [S], files: &mut F) -> Result<
     ensures refusal { IfErr result IsReadRefusal }
     ensures cost { OnOk result (sum_by (λ s. cost (S.left s) (S.lent s)) sources.new + sum_by (λ s. one (S.lent s)) sources.new
         ≤ sum_by (λ s. cost (S.left s) (S.lent s)) sources.old) }
-    ensures steps { OnOk result (IfSome (F.contents files.old) (λ m. AreAtStart S.lent (S.holds m) sources.old
-        → AllZip (StepsTo S.lent (S.remaining m) (S.holds m) None) sources.old sources.new)) }
-    ensures damaged { IsErrOf result Refusal.Damaged → IfSome (F.contents files.old) (λ m. ¬ AllByRecursion (S.holds m) sources.old) }
+    ensures steps { OnOk result (AreAtStart S.lent (S.holds (F.contents files.old)) sources.old
+        → AllZip (StepsTo S.lent (S.remaining (F.contents files.old)) (S.holds (F.contents files.old)) None) sources.old sources.new) }
+    ensures damaged { IsErrOf result Refusal.Damaged → ¬ AllByRecursion (S.holds (F.contents files.old)) sources.old }
 {
     for source in sources.iter_mut() {
         let _ = source.advance(files)?;
@@ -90,9 +90,9 @@ fn step_after<F: Files, S: Source<F>>(
     ensures refusal { IfErr result IsReadRefusal }
     ensures cost { OnOk result (sum_by (λ s. cost (S.left s) (S.lent s)) sources.new
         ≤ sum_by (λ s. cost (S.left s) (S.lent s)) sources.old) }
-    ensures steps { OnOk result (IfSome (F.contents files.old) (λ m. AllByRecursion (λ s. S.holds m s × HasStarted S.lent (S.remaining m) s) sources.old
-        → AllZip (StepsTo S.lent (S.remaining m) (S.holds m) (S.lent least.now)) sources.old sources.new)) }
-    ensures damaged { IsErrOf result Refusal.Damaged → IfSome (F.contents files.old) (λ m. ¬ AllByRecursion (S.holds m) sources.old) }
+    ensures steps { OnOk result (AllByRecursion (λ s. S.holds (F.contents files.old) s × HasStarted S.lent (S.remaining (F.contents files.old)) s) sources.old
+        → AllZip (StepsTo S.lent (S.remaining (F.contents files.old)) (S.holds (F.contents files.old)) (S.lent least.now)) sources.old sources.new) }
+    ensures damaged { IsErrOf result Refusal.Damaged → ¬ AllByRecursion (S.holds (F.contents files.old)) sources.old }
 {
     for source in sources.iter_mut() {
         if is_tied(least, source) {
@@ -114,10 +114,9 @@ fn step_tied<F: Files, S: Source<F>>(
     ensures refusal { IfErr result IsReadRefusal }
     ensures cost { OnOk result (sum_by (λ s. cost (S.left s) (S.lent s)) sources.new + 1
         ≤ sum_by (λ s. cost (S.left s) (S.lent s)) sources.old) }
-    ensures steps { OnOk result (IfSome (F.contents files.old) (λ m.
-        MergeHolds S.lent (S.remaining m) (S.holds m) sources.old at
-        → AllZip (StepsTo S.lent (S.remaining m) (S.holds m) (lent_at S.lent sources.old at)) sources.old sources.new)) }
-    ensures damaged { IsErrOf result Refusal.Damaged → IfSome (F.contents files.old) (λ m. ¬ AllByRecursion (S.holds m) sources.old) }
+    ensures steps { OnOk result (MergeHolds S.lent (S.remaining (F.contents files.old)) (S.holds (F.contents files.old)) sources.old at
+        → AllZip (StepsTo S.lent (S.remaining (F.contents files.old)) (S.holds (F.contents files.old)) (lent_at S.lent sources.old at)) sources.old sources.new) }
+    ensures damaged { IsErrOf result Refusal.Damaged → ¬ AllByRecursion (S.holds (F.contents files.old)) sources.old }
 {
     let (_before, rest) = sources.split_at_mut(at);
     let (least, after) = rest.split_first_mut().unwrap();
@@ -144,10 +143,9 @@ fn step<F: Files, S: Source<F>>(sources: &mut [S], at: usize, files: &mut F) -> 
     ensures paid { OnOk result (sum_by (λ s. cost (S.left s) (S.lent s)) sources.new ≤ sum_by (λ s. cost (S.left s) (S.lent s)) sources.old) }
     ensures lower { OnOk result ((k : ℕ) → IsSome (lent_at S.lent sources.new k)
         → sum_by (λ s. cost (S.left s) (S.lent s)) sources.new + 1 ≤ sum_by (λ s. cost (S.left s) (S.lent s)) sources.old) }
-    ensures steps { OnOk result (IfSome (F.contents files.old) (λ m.
-        MergeHolds S.lent (S.remaining m) (S.holds m) sources.old at
-        → AllZip (StepsTo S.lent (S.remaining m) (S.holds m) (lent_at S.lent sources.old at)) sources.old sources.new)) }
-    ensures damaged { IsErrOf result Refusal.Damaged → IfSome (F.contents files.old) (λ m. ¬ AllByRecursion (S.holds m) sources.old) }
+    ensures steps { OnOk result (MergeHolds S.lent (S.remaining (F.contents files.old)) (S.holds (F.contents files.old)) sources.old at
+        → AllZip (StepsTo S.lent (S.remaining (F.contents files.old)) (S.holds (F.contents files.old)) (lent_at S.lent sources.old at)) sources.old sources.new) }
+    ensures damaged { IsErrOf result Refusal.Damaged → ¬ AllByRecursion (S.holds (F.contents files.old)) sources.old }
 {
     if is_at_entry(sources, at) {
         step_tied(sources, at, files)
@@ -162,8 +160,8 @@ impl<S> Merge<S> {
     where
         S: Source<F>,
         ensures lent { ⟦<Merge<S> as Source<F>>⟧.lent result ≡ None }
-        ensures remaining { (m : Contents) → AreAtStart S.lent (S.holds m) sources.items → ⟦<Merge<S> as Source<F>>⟧.remaining m result ≡ merged (map (S.remaining m) sources.items) }
-        ensures holds { (m : Contents) → AreAtStart S.lent (S.holds m) sources.items → ⟦<Merge<S> as Source<F>>⟧.holds m result }
+        ensures remaining { (told : Option Contents) → AreAtStart S.lent (S.holds told) sources.items → ⟦<Merge<S> as Source<F>>⟧.remaining told result ≡ merged (map (S.remaining told) sources.items) }
+        ensures holds { (told : Option Contents) → AreAtStart S.lent (S.holds told) sources.items → ⟦<Merge<S> as Source<F>>⟧.holds told result }
     {
         let at = sources.len();
         Merge { sources, at }
@@ -175,9 +173,9 @@ impl<F: Files, S: Source<F>> Source<F> for Merge<S> {
     ghost use Rattle.compaction.specs.Merging.{lent_at, merge_remaining, MergeHolds, cost};
     ghost use Rattle.compaction.specs.MergeLaws.{merge_list};
 
-    ghost holds = { λ m s. MergeHolds S.lent (S.remaining m) (S.holds m) s.sources.items s.at };
+    ghost holds = { λ told s. MergeHolds S.lent (S.remaining told) (S.holds told) s.sources.items s.at };
 
-    ghost remaining = { λ m s. merge_remaining S.lent (S.remaining m) s.sources.items s.at };
+    ghost remaining = { λ told s. merge_remaining S.lent (S.remaining told) s.sources.items s.at };
 
     ghost lent = { λ s. lent_at S.lent s.sources.items s.at };
 
@@ -193,5 +191,5 @@ impl<F: Files, S: Source<F>> Source<F> for Merge<S> {
         self.sources.get(self.at)?.current()
     }
 
-    ghost list = { λ m s h. merge_list S.lent (S.remaining m) (S.holds m) (S.list m) s.sources.items s.at h };
+    ghost list = { λ told s h. merge_list S.lent (S.remaining told) (S.holds told) (S.list told) s.sources.items s.at h };
 }

@@ -51,9 +51,9 @@ impl<'a, S> Until<'a, S> {
 impl<F: Files, S: Source<F>> Source<F> for Until<'_, S> {
     ghost use Rattle.compaction.specs.Ends.{entries_until, lent_until, until_list, end_of, source_of};
 
-    ghost holds = { λ m s. S.holds m (source_of s) };
+    ghost holds = { λ told s. S.holds told (source_of s) };
 
-    ghost remaining = { λ m s. entries_until (end_of s) (S.remaining m (source_of s)) };
+    ghost remaining = { λ told s. entries_until (end_of s) (S.remaining told (source_of s)) };
 
     ghost lent = { λ s. lent_until (end_of s) (S.lent (source_of s)) };
 
@@ -76,5 +76,5 @@ impl<F: Files, S: Source<F>> Source<F> for Until<'_, S> {
         }
     }
 
-    ghost list = { λ m s h. until_list (end_of s) (S.lent (source_of s)) (S.remaining m (source_of s)) (S.list m (source_of s) h) };
+    ghost list = { λ told s h. until_list (end_of s) (S.lent (source_of s)) (S.remaining told (source_of s)) (S.list told (source_of s) h) };
 }

@@ -30,16 +30,20 @@ empty_fits limit least = record {
   within = least;
 }
 
-pub minor_fits : (limit : ℕ) (o : Option Contents) (t : Tablet) → 32 ≤ limit → (memory_of t ≢ [] → IfSome o (λ m. Holds m t → FitsIn limit (seen (range_of t) (memory_of t)))) → IfSome o (λ m. Holds m t → FitsIn limit (seen (range_of t) (memory_of t)))
-minor_fits limit None t least fits = tt
-minor_fits limit (Some m) t least fits = go (memory_of t) fits
+-- what is true is true of held files
+pub of_held : (o : Option Contents) (t : Tablet) {P : Type 0} → P → IfSome o (λ m. Holds m t → P)
+of_held None t p = tt
+of_held (Some m) t p = λ held. p
+
+pub minor_fits : (limit : ℕ) (o : Option Contents) (t : Tablet) → 32 ≤ limit → (memory_of t ≢ [] → FitsIn limit (seen (range_of t) (memory_of t))) → IfSome o (λ m. Holds m t → FitsIn limit (seen (range_of t) (memory_of t)))
+minor_fits limit o t least fits = of_held o t (go (memory_of t) fits)
   where
     not_empty : (e : Entry) (es : List Entry) → (e ∷ es) ≢ []
     not_empty e es same = cc
 
-    go : (es : List Entry) → (es ≢ [] → Holds m t → FitsIn limit (seen (range_of t) es)) → Holds m t → FitsIn limit (seen (range_of t) es)
-    go [] h holds = empty_fits limit least
-    go (e ∷ es) h holds = h (not_empty e es) holds
+    go : (es : List Entry) → (es ≢ [] → FitsIn limit (seen (range_of t) es)) → FitsIn limit (seen (range_of t) es)
+    go [] h = empty_fits limit least
+    go (e ∷ es) h = h (not_empty e es)
 
 pub has_room : (t : Tablet) → (memory_of t ≢ [] → length (names_of t) < 64) → ¬ IsFull t
 has_room t room full =

@@ -1,6 +1,6 @@
 -- A source is written as a file.
-use Rattle.std.proofs.Common.{◌≡◌, ℕ, ◌+◌, ◌≤◌, ◌<◌, List, [], ◌∷◌, ◌++◌, length, refl, sym, ap, subst, ◌∙◌, arith, length-append, append_assoc}
-use Rattle.std.specs.Prelude.{flat_map, codes, Option, Some, None, IfSome}
+use Rattle.std.proofs.Common.{◌≡◌, ℕ, ◌+◌, ◌≤◌, ◌<◌, false, List, [], ◌∷◌, ◌++◌, length, refl, sym, ap, subst, ◌∙◌, arith, length-append, append_assoc}
+use Rattle.std.specs.Prelude.{flat_map, codes, Option, Some, None, is_some}
 use Rattle.std.proofs.lemmas.List.Concat.{flat_map-append}
 use Rattle.cell_key.specs.Entries.{Entry, spelled, entry_len, Takes}
 use Rattle.file_store.specs.Store.{Contents, KeepsOthers, HasRisen}
@@ -52,13 +52,9 @@ keeps_same name old new e = subst (KeepsOthers name old) (sym e) (itself old)
 pub risen_later : (before mid now : ℕ) → before ≤ mid → HasRisen mid now → HasRisen before now
 risen_later before mid now h r = omega (arith, h, r)
 
--- what is told of the contents goes on through a step
-pub told_step : (o p : Option Contents) → p ≡ o → (A H T B : Contents → Type 0) → ((m : Contents) → A m → H m → T m → B m) → IfSome o A → IfSome p H → IfSome p T → IfSome o B
-told_step o p e A H T B f a h t = joined o a (subst (λ (q : Option Contents). IfSome q H) e h) (subst (λ (q : Option Contents). IfSome q T) e t)
-  where
-    joined : (q : Option Contents) → IfSome q A → IfSome q H → IfSome q T → IfSome q B
-    joined None a h t = a
-    joined (Some m) a h t = f m a h t
-
 pub takes_some : (o : Option Entry) (e : Entry) (old new : List Entry) → o ≡ Some e → Takes o old new → old ≡ e ∷ new
 takes_some o e old new is t = subst (λ (q : Option Entry). Takes q old new) is t
+
+pub takes_none : (o : Option Entry) (old new : List Entry) → is_some o ≡ false → Takes o old new → old ≡ []
+takes_none None old new is t = t.0
+takes_none (Some e) old new is t = cc

@@ -1,5 +1,5 @@
 -- What a cursor of an open file stands for, over files.
-use Rattle.std.specs.Prelude.{List, Option, option_map}
+use Rattle.std.specs.Prelude.{List, Option, option_map, IsSome}
 use Rattle.cell_key.specs.Entries.{Entry, IsEntryList}
 use Rattle.file_store.specs.Store.{Contents}
 use Rattle.sorted_file.specs.declared.cursors.FileCursor.{FileCursor}
@@ -10,9 +10,12 @@ use Rattle.sorted_file.specs.Sources.{pending}
 abbrev pub cursor_lent : FileCursor → Option Entry
 cursor_lent s = option_map (λ entry. file_entry entry.now) s.current
 
-abbrev pub cursor_remaining : Contents → FileCursor → List Entry
-cursor_remaining m s = kept s.rest.now
+abbrev pub cursor_remaining : Option Contents → FileCursor → List Entry
+cursor_remaining told s = kept s.rest.now
 
--- they are an entry list
-abbrev pub CursorHolds : Contents → FileCursor → Type 0
-CursorHolds m s = IsEntryList (pending (cursor_lent s) (cursor_remaining m s))
+-- the files are told, and these entries are a list
+abbrev pub CursorHolds : Option Contents → FileCursor → Type 0
+CursorHolds told s = IsSome told × IsEntryList (pending (cursor_lent s) (cursor_remaining told s))
+
+pub cursor_list : (told : Option Contents) (s : FileCursor) → CursorHolds told s → IsEntryList (pending (cursor_lent s) (cursor_remaining told s))
+cursor_list told s h = h.1

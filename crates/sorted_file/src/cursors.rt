@@ -29,7 +29,7 @@ impl<'a> FileCursor<'a> {
 
 impl<F: Files> Source<F> for FileCursor<'_> {
     ghost use Rattle.std.specs.Prelude.{length};
-    ghost use Rattle.sorted_file.specs.Cursors.{cursor_lent, cursor_remaining, CursorHolds};
+    ghost use Rattle.sorted_file.specs.Cursors.{cursor_lent, cursor_list, cursor_remaining, CursorHolds};
 
     ghost holds = { CursorHolds };
 
@@ -55,5 +55,5 @@ impl<F: Files> Source<F> for FileCursor<'_> {
         Some(entry.lend())
     }
 
-    ghost list = { λ _ s h. h };
+    ghost list = { cursor_list };
 }

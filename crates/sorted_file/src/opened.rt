@@ -103,8 +103,8 @@ impl SortedFile {
     /// nothing.
     pub fn cursor<'a>(&'a self, from: &'a [u8]) -> FileCursor<'a>
         ensures lent { cursor_lent result ≡ None }
-        ensures entries { (m : Contents) → IsOpen m self.now → cursor_remaining m result ≡ entries_from from.now (listed m self.now) }
-        ensures holds { (m : Contents) → IsOpen m self.now → CursorHolds m result }
+        ensures entries { (m : Contents) → IsOpen m self.now → cursor_remaining (Some m) result ≡ entries_from from.now (listed m self.now) }
+        ensures holds { (m : Contents) → IsOpen m self.now → CursorHolds (Some m) result }
     {
         let at = first_from(&self.entries, from);
         FileCursor::new(self.entries.split_at(at).1)

@@ -1,6 +1,6 @@
 //! Writing a file.
 
-ghost use Rattle.std.specs.Prelude.{◌≡◌, ◌≤◌, ◌⊎◌, ℕ, List, length, IfOk, IfErr, OnOk, OnErr, IfSome, IsErrOf};
+ghost use Rattle.std.specs.Prelude.{◌≡◌, ◌≤◌, ◌⊎◌, ℕ, List, length, IfOk, IfErr, OnOk, OnErr, IsErrOf};
 ghost use Rattle.file_store.specs.Store.{KeepsOthers, with_file};
 ghost use Rattle.sorted_file.specs.Grammar.{IsFile, FitsIn};
 ghost use Rattle.sorted_file.specs.Sources.{IsWriteRefusal};
@@ -20,10 +20,10 @@ fn image_of_rest<F: Files, S: Source<F>>(
     files: &mut F,
 ) -> Result<Vec<u8>, Refusal>
     requires { 8 ≤ limit }
-    ensures file { IfOk result (λ image. IfSome (F.contents files.old) (λ m. S.holds m source.old → IsFile (S.remaining m source.old) image.items)) }
+    ensures file { IfOk result (λ image. S.holds (F.contents files.old) source.old → IsFile (S.remaining (F.contents files.old) source.old) image.items) }
     ensures within { IfOk result (λ image. length image.items ≤ limit) }
-    ensures large { IsErrOf result Refusal.FileTooLarge → IfSome (F.contents files.old) (λ m. S.holds m source.old → ¬ FitsIn limit (S.remaining m source.old)) }
-    ensures damaged { IsErrOf result Refusal.Damaged → IfSome (F.contents files.old) (λ m. ¬ S.holds m source.old) }
+    ensures large { IsErrOf result Refusal.FileTooLarge → S.holds (F.contents files.old) source.old → ¬ FitsIn limit (S.remaining (F.contents files.old) source.old) }
+    ensures damaged { IsErrOf result Refusal.Damaged → ¬ S.holds (F.contents files.old) source.old }
     ensures refusal { IfErr result IsWriteRefusal }
     ensures same { F.contents files.new ≡ F.contents files.old }
     ensures reason { HasReason (F.faults files.old) (F.faults files.new) result }
@@ -63,9 +63,9 @@ pub fn write_file<F: Files, S: Source<F>>(
 ) -> Result<(), Refusal>
     requires least { 32 ≤ file_limit }
     requires most { file_limit ≤ 1_073_741_824 }
-    ensures written { OnOk result ((image : List ℕ) × ((F.contents files.new ≡ with_file name image (F.contents files.old)) × (length image ≤ file_limit) × IfSome (F.contents files.old) (λ m. S.holds m source.old → IsFile (S.remaining m source.old) image))) }
-    ensures large { IsErrOf result Refusal.FileTooLarge → IfSome (F.contents files.old) (λ m. S.holds m source.old → ¬ FitsIn file_limit (S.remaining m source.old)) }
-    ensures damaged { IsErrOf result Refusal.Damaged → IfSome (F.contents files.old) (λ m. ¬ S.holds m source.old) }
+    ensures written { OnOk result ((image : List ℕ) × ((F.contents files.new ≡ with_file name image (F.contents files.old)) × (length image ≤ file_limit) × (S.holds (F.contents files.old) source.old → IsFile (S.remaining (F.contents files.old) source.old) image))) }
+    ensures large { IsErrOf result Refusal.FileTooLarge → S.holds (F.contents files.old) source.old → ¬ FitsIn file_limit (S.remaining (F.contents files.old) source.old) }
+    ensures damaged { IsErrOf result Refusal.Damaged → ¬ S.holds (F.contents files.old) source.old }
     ensures large_same { IsErrOf result Refusal.FileTooLarge → F.contents files.new ≡ F.contents files.old }
     ensures damaged_same { IsErrOf result Refusal.Damaged → F.contents files.new ≡ F.contents files.old }
     ensures others { OnErr result (KeepsOthers name (F.contents files.old) (F.contents files.new)) }

@@ -6,7 +6,7 @@ use Rattle.std.specs.List.{AllByRecursion}
 use Rattle.cell_key.specs.Names.{IsRow, IsFamily}
 use Rattle.cell_key.specs.Keys.{text, IsStored}
 use Rattle.cell_key.specs.Cells.{IsNewest, version}
-use Rattle.cell_key.specs.Entries.{first_naming, value_of}
+use Rattle.cell_key.specs.Entries.{Entry, first_naming, value_of}
 use Rattle.cell_key.specs.Places.{Place, place_of, IsNextCell}
 use Rattle.cell_key.specs.declared.keys.CellKey.{CellKey}
 use Rattle.cell_key.specs.declared.keys.Qualifier.{Qualifier}
@@ -15,7 +15,7 @@ use Rattle.sorted_file.specs.Opened.{IsOpen, listed}
 use Rattle.sorted_file.specs.declared.opened.SortedFile.{SortedFile}
 use Rattle.tablet.specs.Ranges.{has_row, upper_fence}
 use Rattle.tablet.specs.Reads.{first_value, start_of, IsPlaceOrNone}
-use Rattle.tablet.specs.Sources.{part}
+use Rattle.tablet.specs.Sources.{IsOpenIn, listed_in, part}
 use Rattle.tablet.specs.Views.{range_of, memory_of, files_of, lists_of, cells_at, Holds}
 use Rattle.tablet.specs.declared.tablet.Tablet.{Tablet}
 use Rattle.tablet.proofs.Found.{has_none, has_first}
@@ -32,6 +32,21 @@ pub if_ok_one : {T E A : Type 0} {P Q : T → A → Type 0} (r : Result T E) (o 
 if_ok_one (Ok x) None h f = tt
 if_ok_one (Ok x) (Some m) h f = f x m h
 if_ok_one (Err e) o h f = tt
+
+pub ok_map : {T E : Type 0} {P Q : T → Type 0} (r : Result T E) → IfOk r P → ((x : T) → P x → Q x) → IfOk r Q
+ok_map (Ok x) h f = f x h
+ok_map (Err e) h f = tt
+
+-- what is said of files that tell anything is said of those that tell something
+pub told_found : {T E : Type 0} (told : Option Contents) (files : List SortedFile) (P : T → List (List Entry) → Type 0) (r : Result T E) → IfOk r (λ x. AllByRecursion (IsOpenIn told) files → P x (map (listed_in told) files))
+    → IfOk r (λ x. IfSome told (λ m. AllByRecursion (IsOpen m) files → P x (map (listed m) files)))
+told_found None files P (Ok x) h = tt
+told_found (Some m) files P (Ok x) h = h
+told_found told files P (Err e) h = tt
+
+pub told_closed : (told : Option Contents) (files : List SortedFile) → ¬ AllByRecursion (IsOpenIn told) files → IfSome told (λ m. ¬ AllByRecursion (IsOpen m) files)
+told_closed None files closed = tt
+told_closed (Some m) files closed = closed
 
 module _ (m : Contents) (t : Tablet) (held : Holds m t) (row family : List ℕ) (q : Qualifier) where
   stored_or_not : (s : ℕ) → IsStored (version row family q s) ⊎ (get (cells_at m t) (version row family q s) ≡ None)

@@ -10,15 +10,17 @@ use Rattle.cell_key.specs.Entries.{Entry, IsEntryList}
 use Rattle.cell_key.specs.declared.refusals.Refusal.{Refusal}
 use Rattle.file_store.specs.Store.{Contents, KeepsOthers, with_file}
 use Rattle.sorted_file.specs.Grammar.{FitsIn, IsFile}
-use Rattle.sorted_file.specs.Opened.{HasFile, IsOpen, WrittenIsListed, WrittenIsThere, name_of}
+use Rattle.sorted_file.specs.Opened.{HasFile, IsOpen, WrittenIsListed, WrittenIsThere, listed, name_of}
 use Rattle.sorted_file.specs.Sources.{pending}
 use Rattle.sorted_file.specs.declared.opened.SortedFile.{SortedFile}
 use Rattle.compaction.specs.Merging.{AreAtStart}
 use Rattle.compaction.specs.OrderLaws.{equal}
 use Rattle.compaction.specs.Writing.{WritesEntryLists, written}
-use Rattle.tablet.specs.Compactions.{IsNewFile, compacted, inputs_of, keeps_erasures}
+use Rattle.tablet.specs.Compactions.{IsNewFile, ReadsOpen, compacted, inputs_of, keeps_erasures}
 use Rattle.tablet.specs.Ranges.{lower_fence, seen, upper_fence}
-use Rattle.tablet.specs.Sources.{entries_between}
+use Rattle.tablet.specs.Sources.{IsOpenIn, entries_between, listed_in}
+use Rattle.tablet.specs.Views.{Holds, files_of}
+use Rattle.tablet.specs.declared.tablet.Tablet.{Tablet}
 use Rattle.tablet.specs.declared.compactions.Compaction.{Compaction}
 use Rattle.tablet.specs.declared.compactions.Compaction.TheVariants.{Minor, Merge, Major}
 use Rattle.tablet.specs.declared.ranges.RowRange.{RowRange}
@@ -43,8 +45,8 @@ others_kept None new name image e = subst IsNone (sym e) refl
 others_kept (Some m) new name image e = subst (λ (o : Option Contents). KeepsOthers name (Some m) o) (sym e) (λ other n. get_other m name image other n)
 
 -- what was written of sources, where they stand for their lists
-abbrev pub IsWritten : Option Contents → Option Contents → ℕ → ℕ → (Contents → Type 0) → (Contents → List Entry) → Type 0
-IsWritten old new name limit at_start es = (image : List ℕ) × ((new ≡ with_file name image old) × (length image ≤ limit) × IfSome old (λ m. at_start m → IsFile (es m) image))
+abbrev pub IsWritten : Option Contents → Option Contents → ℕ → ℕ → (Option Contents → Type 0) → (Option Contents → List Entry) → Type 0
+IsWritten old new name limit at_start es = (image : List ℕ) × ((new ≡ with_file name image old) × (length image ≤ limit) × (at_start old → IsFile (es old) image))
 
 opens_it : WrittenIsListed → (m : Contents) (name : ℕ) (image : List ℕ) (es : List Entry) (file : SortedFile) → IsFile es image → name_of file ≡ name → IsOpen (insert m name image) file → IsNewFile (insert m name image) file es
 opens_it law m name image es file form named read = record {
@@ -52,27 +54,26 @@ opens_it law m name image es file form named read = record {
   lists = law (insert m name image) file es image read form (ap (get (insert m name image)) named ∙ get_own m name image);
 }
 
-pub opened_as_written : WrittenIsListed → (r : Result SortedFile Refusal) (old mid new : Option Contents) (name limit : ℕ) (at_start : Contents → Type 0) (es : Contents → List Entry) → IsWritten old mid name limit at_start es → new ≡ mid
+pub opened_as_written : WrittenIsListed → (r : Result SortedFile Refusal) (old mid new : Option Contents) (name limit : ℕ) (at_start : Option Contents → Type 0) (es : Option Contents → List Entry) → IsWritten old mid name limit at_start es → new ≡ mid
     → IfOk r (λ file. IfSome mid (λ n. IsOpen n file)) → IfOk r (λ file. name_of file ≡ name)
-    → IfOk r (λ file. IfSome old (λ m. at_start m → IsSomeAnd new (λ n. IsNewFile n file (es m))))
+    → IfOk r (λ file. IfSome old (λ m. at_start (Some m) → IsSomeAnd new (λ n. IsNewFile n file (es (Some m)))))
 opened_as_written law (Err x) old mid new name limit at_start es w same read named = tt
 opened_as_written law (Ok file) None mid new name limit at_start es w same read named = tt
 opened_as_written law (Ok file) (Some m) mid new name limit at_start es w same read named =
-    λ start. subst (λ (o : Option Contents). IsSomeAnd o (λ n. IsNewFile n file (es m))) (sym (same ∙ w.1.0))
-    (opens_it law m name w.0 (es m) file (w.1.2 start) named (subst (λ (o : Option Contents). IfSome o (λ n. IsOpen n file)) w.1.0 read))
+    λ start. subst (λ (o : Option Contents). IsSomeAnd o (λ n. IsNewFile n file (es (Some m)))) (sym (same ∙ w.1.0))
+    (opens_it law m name w.0 (es (Some m)) file (w.1.2 start) named (subst (λ (o : Option Contents). IfSome o (λ n. IsOpen n file)) w.1.0 read))
 
 -- what was written keeps to the limit
-pub within_limit : (old mid : Option Contents) (name limit : ℕ) (at_start : Contents → Type 0) (es : Contents → List Entry) → IsWritten old mid name limit at_start es → IfSome old (λ m. at_start m → FitsIn limit (es m))
-within_limit None mid name limit at_start es w = tt
-within_limit (Some m) mid name limit at_start es w = λ start. record { image = w.0; form = w.1.2 start; within = w.1.1 }
+pub within_limit : (old mid : Option Contents) (name limit : ℕ) (at_start : Option Contents → Type 0) (es : Option Contents → List Entry) → IsWritten old mid name limit at_start es → at_start old → FitsIn limit (es old)
+within_limit old mid name limit at_start es w = λ start. record { image = w.0; form = w.1.2 start; within = w.1.1 }
 
 -- what was written is there
-pub not_missing : WrittenIsThere → (old mid : Option Contents) (name limit : ℕ) (at_start : Contents → Type 0) (es : Contents → List Entry) → ((m : Contents) → at_start m → IsEntryList (es m)) → IsWritten old mid name limit at_start es
-    → IfSome mid (λ n. ¬ (HasFile n name)) → IfSome old (λ m. ¬ (at_start m))
+pub not_missing : WrittenIsThere → (old mid : Option Contents) (name limit : ℕ) (at_start : Option Contents → Type 0) (es : Option Contents → List Entry) → ((told : Option Contents) → at_start told → IsEntryList (es told)) → IsWritten old mid name limit at_start es
+    → IfSome mid (λ n. ¬ (HasFile n name)) → IfSome old (λ m. ¬ (at_start (Some m)))
 not_missing law None mid name limit at_start es list w missing = tt
 not_missing law (Some m) mid name limit at_start es list w missing =
     λ start. subst (λ (o : Option Contents). IfSome o (λ n. ¬ (HasFile n name))) w.1.0 missing
-    (law (insert m name w.0) name (es m) w.0 (list m start) (w.1.2 start) (get_own m name w.0))
+    (law (insert m name w.0) name (es (Some m)) w.0 (list (Some m) start) (w.1.2 start) (get_own m name w.0))
 
 -- sources at their start stand for entry lists
 start_lists : {S : Type 0} (lent : S → Option Entry) (holds : S → Type 0) (remaining : S → List Entry) → ((s : S) → holds s → IsEntryList (pending (lent s) (remaining s))) → (ss : List S) → AreAtStart lent holds ss → AllByRecursion IsEntryList (map remaining ss)
@@ -84,27 +85,22 @@ start_written writes keep lent holds remaining law ss h = writes keep (map remai
 
 -- ---- what a compaction writes
 
-all_take : (count : ℕ) (lists : List (List Entry)) → AllByRecursion IsEntryList lists → AllByRecursion IsEntryList (take count lists)
-all_take zero lists h = tt
-all_take (suc count) [] h = tt
-all_take (suc count) (es ∷ lists) h = (h.0, all_take count lists h.1)
-
-pub inputs_lists : (compaction : Compaction) (memory : List Entry) (lists : List (List Entry)) → AllByRecursion IsEntryList (memory ∷ lists) → AllByRecursion IsEntryList (inputs_of compaction memory lists)
-inputs_lists Minor memory lists h = (h.0, tt)
-inputs_lists (Merge count) memory lists h = all_take count lists h.1
-inputs_lists Major memory lists h = h
+pub all_take : {A : Type 0} (P : A → Type 0) (count : ℕ) (xs : List A) → AllByRecursion P xs → AllByRecursion P (take count xs)
+all_take P zero xs h = tt
+all_take P (suc count) [] h = tt
+all_take P (suc count) (x ∷ xs) h = (h.0, all_take P count xs h.1)
 
 between_seen : (range : RowRange) (lists : List (List Entry)) → AllByRecursion IsEntryList lists → map (entries_between (lower_fence range) (upper_fence range)) lists ≡ map (seen range) lists
 between_seen range [] h = refl
 between_seen range (es ∷ lists) h = λ i. seen_between range es h.0.each i ∷ between_seen range lists h.1 i
 
 -- what sources between the fences of a range give is what the compaction writes
-pub compacts : (compaction : Compaction) (range : RowRange) (memory : List Entry) (lists : List (List Entry)) (files : ℕ) (keep : Bool) (from : List ℕ) (end : Option (List ℕ)) (inputs xs : List (List Entry)) → AllByRecursion IsEntryList (memory ∷ lists)
+pub compacts : (compaction : Compaction) (range : RowRange) (memory : List Entry) (lists : List (List Entry)) (files : ℕ) (keep : Bool) (from : List ℕ) (end : Option (List ℕ)) (inputs xs : List (List Entry)) → AllByRecursion IsEntryList inputs
     → length lists ≡ files → keep ≡ keeps_erasures compaction files → from ≡ lower_fence range → end ≡ upper_fence range → inputs ≡ inputs_of compaction memory lists → xs ≡ map (entries_between from end) inputs
     → written keep xs ≡ compacted compaction range memory lists
 compacts compaction range memory lists files keep from end inputs xs h count keeps lower upper are is =
     (λ i. written ((keeps ∙ ap (keeps_erasures compaction) (sym count)) i) (is i))
-    ∙ ap (written (keeps_erasures compaction (length lists))) ((λ i. map (entries_between (lower i) (upper i)) (are i)) ∙ between_seen range (inputs_of compaction memory lists) (inputs_lists compaction memory lists h))
+    ∙ ap (written (keeps_erasures compaction (length lists))) ((λ i. map (entries_between (lower i) (upper i)) (are i)) ∙ between_seen range (inputs_of compaction memory lists) (subst (AllByRecursion IsEntryList) are h))
 
 -- ---- premises
 
@@ -114,14 +110,24 @@ if_ok_holds (Err e) old new A H x y f g h = tt
 if_ok_holds (Ok file) None new A H x y f g h = tt
 if_ok_holds (Ok file) (Some m) new A H x y f g h = λ held. subst (λ (es : List Entry). IsSomeAnd new (λ n. IsNewFile n file es)) (g m held) (h (f m held))
 
-pub if_some_holds : (old : Option Contents) (A H : Contents → Type 0) (x y : Contents → List Entry) (G : List Entry → Type 0) → ((m : Contents) → H m → A m) → ((m : Contents) → H m → x m ≡ y m) → IfSome old (λ m. A m → G (x m)) → IfSome old (λ m. H m → G (y m))
-if_some_holds None A H x y G f g h = tt
-if_some_holds (Some m) A H x y G f g h = λ held. subst G (g m held) (h (f m held))
+pub on_ok_map : {A E P Q : Type 0} (r : Result A E) → (P → Q) → OnOk r P → OnOk r Q
+on_ok_map (Ok x) f p = f p
+on_ok_map (Err e) f p = tt
 
-pub on_ok_holds : {T E : Type 0} (r : Result T E) (old : Option Contents) (A H : Contents → Type 0) (x y : Contents → List Entry) (G : List Entry → Type 0) → ((m : Contents) → H m → A m) → ((m : Contents) → H m → x m ≡ y m)
-    → OnOk r (IfSome old (λ m. A m → G (x m))) → OnOk r (IfSome old (λ m. H m → G (y m)))
-on_ok_holds (Err e) old A H x y G f g h = tt
-on_ok_holds (Ok t) old A H x y G f g h = if_some_holds old A H x y G f g h
+pub told_not : (told : Option Contents) (P : Option Contents → Type 0) → ¬ P told → IfSome told (λ m. ¬ P (Some m))
+told_not None P not = tt
+told_not (Some m) P not = not
+
+-- over files that are held, what a compaction reads is open
+pub reads_held : (compaction : Compaction) (m : Contents) (t : Tablet) → Holds m t → ReadsOpen compaction (Some m) t
+reads_held Minor m t h = tt
+reads_held (Merge count) m t h = h.files
+reads_held Major m t h = h.files
+
+-- a merge and a major compaction say so of files that tell something
+pub told_written : (told : Option Contents) (t : Tablet) (P : List (List Entry) → Type 0) → (AllByRecursion (IsOpenIn told) (files_of t) → P (map (listed_in told) (files_of t))) → IfSome told (λ m. Holds m t → P (map (listed m) (files_of t)))
+told_written None t P h = tt
+told_written (Some m) t P h = λ held. h held.files
 
 pub if_some_not : (old : Option Contents) (A H : Contents → Type 0) → ((m : Contents) → H m → A m) → IfSome old (λ m. ¬ (A m)) → IfSome old (λ m. ¬ (H m))
 if_some_not None A H f h = tt

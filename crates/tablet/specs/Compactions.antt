@@ -1,5 +1,6 @@
 -- What a compaction writes, and the file that it makes.
-use Rattle.std.specs.Prelude.{◌≡◌, ◌≤◌, ℕ, Bool, true, false, nat_lt, List, [], ◌∷◌, map, take, length}
+use Rattle.std.specs.Prelude.{◌≡◌, ◌≤◌, ℕ, Bool, true, false, nat_lt, Option, List, [], ◌∷◌, map, take, drop, length}
+use Rattle.std.specs.List.{AllByRecursion}
 use Rattle.cell_key.specs.Entries.{Entry}
 use Rattle.cell_key.specs.declared.refusals.Refusal.{Refusal}
 use Rattle.cell_key.specs.declared.refusals.Refusal.TheVariants as refused
@@ -9,6 +10,9 @@ use Rattle.sorted_file.specs.Sources.{IsWriteRefusal}
 use Rattle.sorted_file.specs.declared.opened.SortedFile.{SortedFile}
 use Rattle.compaction.specs.Writing.{written}
 use Rattle.tablet.specs.Ranges.{seen}
+use Rattle.tablet.specs.Sources.{IsOpenIn}
+use Rattle.tablet.specs.Views.{files_of, MakesLists, flushed, range_of}
+use Rattle.tablet.specs.declared.tablet.Tablet.{Tablet}
 use Rattle.tablet.specs.declared.ranges.RowRange.{RowRange}
 use Rattle.tablet.specs.declared.compactions.Compaction.{Compaction}
 use Rattle.tablet.specs.declared.compactions.Compaction.TheVariants.{Minor, Merge, Major}
@@ -31,9 +35,25 @@ IsWithin Minor files = Unit {0}
 IsWithin (Merge count) files = count ≤ files
 IsWithin Major files = Unit {0}
 
+-- the files that it may read are open over files that tell this: a minor one reads none
+abbrev pub ReadsOpen : Compaction → Option Contents → Tablet → Type 0
+ReadsOpen Minor told t = Unit {0}
+ReadsOpen (Merge count) told t = AllByRecursion (IsOpenIn told) (files_of t)
+ReadsOpen Major told t = AllByRecursion (IsOpenIn told) (files_of t)
+
 -- what it writes
 abbrev pub compacted : Compaction → RowRange → List Entry → List (List Entry) → List Entry
 compacted compaction range memory lists = written (keeps_erasures compaction (length lists)) (map (seen range) (inputs_of compaction memory lists))
+
+-- the lists of a tablet after a compaction, its memtable's first, then those of its files, the newest first
+abbrev pub lists_after : Compaction → RowRange → List Entry → List (List Entry) → List (List Entry)
+lists_after Minor range memory lists = [] ∷ flushed range memory lists
+lists_after (Merge count) range memory lists = memory ∷ compacted (Merge count) range memory lists ∷ drop count lists
+lists_after Major range memory lists = [] ∷ compacted Major range memory lists ∷ []
+
+-- Over the files before and after it a compaction made these lists of a tablet's.
+abbrev pub Compacts : Compaction → Option Contents → ℕ → Option Contents → Tablet → Tablet → Type 0
+Compacts compaction old before new t u = MakesLists old before t new u (lists_after compaction (range_of t))
 
 -- an open file stands for these entries
 pub record IsNewFile (n : Contents) (file : SortedFile) (es : List Entry) : Type 0 where

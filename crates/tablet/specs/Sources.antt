@@ -1,9 +1,9 @@
 -- The lists that a tablet reads, and parts of them.
-use Rattle.std.specs.Prelude.{◌≡◌, ℕ, List, ◌++◌, map, Option, None}
+use Rattle.std.specs.Prelude.{◌≡◌, ℕ, List, [], ◌++◌, map, Option, Some, None}
 use Rattle.std.specs.Option.{option_to_list}
 use Rattle.cell_key.specs.Entries.{Entry, entries_from, merged}
 use Rattle.file_store.specs.Store.{Contents}
-use Rattle.sorted_file.specs.Opened.{listed}
+use Rattle.sorted_file.specs.Opened.{IsOpen, listed}
 use Rattle.sorted_file.specs.declared.opened.SortedFile.{SortedFile}
 use Rattle.compaction.specs.Ends.{entries_until, lent_until, source_of, end_of}
 use Rattle.compaction.specs.Inputs.{InputHolds, input_lent, input_remaining}
@@ -14,18 +14,27 @@ use Rattle.compaction.specs.declared.until.Until.{Until}
 abbrev pub entries_between : List ℕ → Option (List ℕ) → List Entry → List Entry
 entries_between from end es = entries_until end (entries_from from es)
 
+-- an open file over files that tell this, and its list: where nothing is told no file is open
+abbrev pub IsOpenIn : Option Contents → SortedFile → Type 0
+IsOpenIn None file = ⊥
+IsOpenIn (Some m) file = IsOpen m file
+
+abbrev pub listed_in : Option Contents → SortedFile → List Entry
+listed_in None file = []
+listed_in (Some m) file = listed m file
+
 -- the list of a memtable, if there is one, and those of files
-abbrev pub lists_over : Contents → Option (List Entry) → List SortedFile → List (List Entry)
-lists_over m memtable files = option_to_list memtable ++ map (listed m) files
+abbrev pub lists_over : Option Contents → Option (List Entry) → List SortedFile → List (List Entry)
+lists_over told memtable files = option_to_list memtable ++ map (listed_in told) files
 
 -- what lists mean together from a text on, and below another one if there is one
 abbrev pub part : List ℕ → Option (List ℕ) → List (List Entry) → List Entry
 part from end lists = merged (map (entries_between from end) lists)
 
 -- a source is before its first entry
-abbrev pub IsAtStart : Contents → Until Input → Type 0
-IsAtStart m s = InputHolds m (source_of s) × (lent_until (end_of s) (input_lent (source_of s)) ≡ None)
+abbrev pub IsAtStart : Option Contents → Until Input → Type 0
+IsAtStart told s = InputHolds told (source_of s) × (lent_until (end_of s) (input_lent (source_of s)) ≡ None)
 
 -- the entries that it has
-abbrev pub remaining_of : Contents → Until Input → List Entry
-remaining_of m s = entries_until (end_of s) (input_remaining m (source_of s))
+abbrev pub remaining_of : Option Contents → Until Input → List Entry
+remaining_of told s = entries_until (end_of s) (input_remaining told (source_of s))

@@ -2,7 +2,7 @@
 //! and the file is written and opened before the tablet changes. The calls of laws of lower crates, as
 //! `stays_open()`, do nothing: what is ensured here rests on them.
 
-ghost use Rattle.std.specs.Prelude.{◌≡◌, ◌≢◌, ◌≤◌, ◌<◌, ◌+◌, ◌^◌, ◌∷◌, ◌↔◌, [], length, map, drop, take, false, nat_lt, option_map, vec_len, IfOk, IfErr, OnOk, OnErr, IfSome, IsOk, IsSomeAnd, IsErrOf};
+ghost use Rattle.std.specs.Prelude.{◌≡◌, ◌≢◌, ◌≤◌, ◌<◌, ◌+◌, ◌^◌, ◌∷◌, ◌↔◌, [], Option, Some, length, map, drop, take, false, nat_lt, option_map, vec_len, IfOk, IfErr, OnOk, OnErr, IfSome, IsOk, IsSomeAnd, IsErrOf};
 ghost use Rattle.std.specs.Option.{option_copied};
 ghost use Rattle.std.specs.List.{AllByRecursion};
 ghost use Rattle.file_store.specs.Store.{Contents, KeepsOthers};
@@ -12,9 +12,10 @@ ghost use Rattle.cell_key.specs.Faults.{HasReason};
 ghost use Rattle.compaction.specs.Merging.{AreAtStart};
 ghost use Rattle.compaction.specs.Writing.{written};
 ghost use Rattle.tablet.specs.Ranges.{seen};
-ghost use Rattle.tablet.specs.Sources.{lists_over};
-ghost use Rattle.tablet.specs.Views.{range_of, memory_of, files_of, names_of, Holds, IsUnchanged, UsesName, Keeps, MakesLists, flushed, with_name};
-ghost use Rattle.tablet.specs.Compactions.{IsNewFile, IsWithin, IsCompactionRefusal, IsMinorRefusal, IsMergeRefusal, compacted, inputs_of, keeps_erasures};
+ghost use Rattle.tablet.specs.Sources.{IsOpenIn, listed_in, lists_over};
+ghost use Rattle.tablet.specs.Views.{range_of, memory_of, files_of, names_of, Holds, IsUnchanged, UsesName, Keeps, with_name};
+ghost use Rattle.tablet.specs.declared.compactions.Compaction.TheVariants.{Minor, Merge, Major};
+ghost use Rattle.tablet.specs.Compactions.{Compacts, IsNewFile, IsWithin, IsCompactionRefusal, IsMinorRefusal, IsMergeRefusal, ReadsOpen, compacted, inputs_of, keeps_erasures};
 
 use crate::sources::{fences, sources};
 use crate::tablet::Tablet;
@@ -28,9 +29,9 @@ use std::alloc::Global;
 /// The greatest name of a file.
 const MOST_NAME: u64 = 9_223_372_036_854_775_807;
 
-/// What a compaction writes.
+/// What a compaction of a tablet writes as one file.
 #[derive(Clone, Copy)]
-pub(crate) enum Compaction {
+pub enum Compaction {
     /// The memtable.
     Minor,
     /// This many of the newest files.
@@ -78,16 +79,16 @@ fn write_new<F: Files, S: Source<F> + Drop>(
     requires least { 32 ≤ file_limit }
     requires most { file_limit ≤ 1_073_741_824 }
     ensures named { IfOk result (λ file. name_of file ≡ next_name.old) }
-    ensures made { IfOk result (λ file. IfSome (F.contents files.old) (λ m. AreAtStart S.lent (S.holds m) sources.items → IsSomeAnd (F.contents files.new) (λ n. IsNewFile n file (written keep_erasures (map (S.remaining m) sources.items))))) }
+    ensures made { IfOk result (λ file. IfSome (F.contents files.old) (λ m. AreAtStart S.lent (S.holds (Some m)) sources.items → IsSomeAnd (F.contents files.new) (λ n. IsNewFile n file (written keep_erasures (map (S.remaining (Some m)) sources.items))))) }
     ensures used { OnOk result (next_name.new ≡ next_name.old + 1) }
     ensures others { OnOk result (KeepsOthers next_name.old (F.contents files.old) (F.contents files.new)) }
     ensures name { UsesName (F.contents files.old) next_name.old (F.contents files.new) next_name.new }
     ensures limit { next_name.old ≤ 2 ^ 63 → next_name.new ≤ 2 ^ 63 }
     ensures left { OnOk result (next_name.old < 2 ^ 63) }
     ensures exhausted { IsErrOf result Refusal.Exhausted → 2 ^ 63 ≤ next_name.old }
-    ensures large { IsErrOf result Refusal.FileTooLarge → IfSome (F.contents files.old) (λ m. AreAtStart S.lent (S.holds m) sources.items → ¬ FitsIn file_limit (written keep_erasures (map (S.remaining m) sources.items))) }
-    ensures fits { OnOk result (IfSome (F.contents files.old) (λ m. AreAtStart S.lent (S.holds m) sources.items → FitsIn file_limit (written keep_erasures (map (S.remaining m) sources.items)))) }
-    ensures damaged { IsErrOf result Refusal.Damaged → IfSome (F.contents files.old) (λ m. ¬ AreAtStart S.lent (S.holds m) sources.items) }
+    ensures large { IsErrOf result Refusal.FileTooLarge → AreAtStart S.lent (S.holds (F.contents files.old)) sources.items → ¬ FitsIn file_limit (written keep_erasures (map (S.remaining (F.contents files.old)) sources.items)) }
+    ensures fits { OnOk result (AreAtStart S.lent (S.holds (F.contents files.old)) sources.items → FitsIn file_limit (written keep_erasures (map (S.remaining (F.contents files.old)) sources.items))) }
+    ensures damaged { IsErrOf result Refusal.Damaged → IfSome (F.contents files.old) (λ m. ¬ AreAtStart S.lent (S.holds (Some m)) sources.items) }
     ensures refusal { IfErr result IsCompactionRefusal }
     ensures reason { HasReason (F.faults files.old) (F.faults files.new) result }
 {
@@ -115,8 +116,8 @@ impl Tablet {
     /// The memtable, if a compaction writes it, and the files that it writes.
     fn inputs(&self, compaction: Compaction) -> (Option<&Memtable>, &[SortedFile])
         requires { IsWithin compaction (length (files_of self.now)) }
-        ensures lists { (m : Contents) → lists_over m (option_copied result.0) result.1.now ≡ inputs_of compaction (memory_of self.now) (map (listed m) (files_of self.now)) }
-        ensures open { (m : Contents) → AllByRecursion (IsOpen m) (files_of self.now) → AllByRecursion (IsOpen m) result.1.now }
+        ensures lists { (told : Option Contents) → lists_over told (option_copied result.0) result.1.now ≡ inputs_of compaction (memory_of self.now) (map (listed_in told) (files_of self.now)) }
+        ensures open { (told : Option Contents) → ReadsOpen compaction told self.now → AllByRecursion (IsOpenIn told) result.1.now }
     {
         match compaction {
             Compaction::Minor => (Some(&self.memtable), &[]),
@@ -156,8 +157,8 @@ impl Tablet {
         ensures limit { next_name.old ≤ 2 ^ 63 → next_name.new ≤ 2 ^ 63 }
         ensures left { OnOk result (next_name.old < 2 ^ 63) }
         ensures exhausted { IsErrOf result Refusal.Exhausted → 2 ^ 63 ≤ next_name.old }
-        ensures large { IsErrOf result Refusal.FileTooLarge → IfSome (F.contents files.old) (λ m. Holds m self.now → ¬ FitsIn file_limit (compacted compaction (range_of self.now) (memory_of self.now) (map (listed m) (files_of self.now)))) }
-        ensures fits { OnOk result (IfSome (F.contents files.old) (λ m. Holds m self.now → FitsIn file_limit (compacted compaction (range_of self.now) (memory_of self.now) (map (listed m) (files_of self.now))))) }
+        ensures large { IsErrOf result Refusal.FileTooLarge → ReadsOpen compaction (F.contents files.old) self.now → ¬ FitsIn file_limit (compacted compaction (range_of self.now) (memory_of self.now) (map (listed_in (F.contents files.old)) (files_of self.now))) }
+        ensures fits { OnOk result (ReadsOpen compaction (F.contents files.old) self.now → FitsIn file_limit (compacted compaction (range_of self.now) (memory_of self.now) (map (listed_in (F.contents files.old)) (files_of self.now)))) }
         ensures damaged { IsErrOf result Refusal.Damaged → IfSome (F.contents files.old) (λ m. ¬ Holds m self.now) }
         ensures refusal { IfErr result IsCompactionRefusal }
         ensures reason { HasReason (F.faults files.old) (F.faults files.new) result }
@@ -195,7 +196,7 @@ impl Tablet {
         requires most { file_limit ≤ 1_073_741_824 }
         ensures names { OnOk result (names_of self.new ≡ with_name next_name.old (memory_of self.old) (names_of self.old)) }
         ensures memory { OnOk result (memory_of self.new ≡ []) }
-        ensures lists { OnOk result (MakesLists (F.contents files.old) next_name.old self.old (F.contents files.new) self.new (λ memory lists. [] ∷ flushed (range_of self.old) memory lists)) }
+        ensures lists { OnOk result (Compacts Minor (F.contents files.old) next_name.old (F.contents files.new) self.old self.new) }
         ensures keeps { Keeps (F.contents files.old) next_name.old self.old (F.contents files.new) next_name.new self.new }
         ensures empty { memory_of self.old ≡ [] → IsOk result × (IsUnchanged self.old self.new × ((next_name.new ≡ next_name.old) × (F.contents files.new ≡ F.contents files.old))) }
         ensures range { range_of self.new ≡ range_of self.old }
@@ -206,8 +207,8 @@ impl Tablet {
         ensures room { OnOk result (memory_of self.old ≢ [] → length (names_of self.old) < 64) }
         ensures exhausted { IsErrOf result Refusal.Exhausted → (memory_of self.old ≢ []) × (2 ^ 63 ≤ next_name.old) }
         ensures left { OnOk result (memory_of self.old ≢ [] → next_name.old < 2 ^ 63) }
-        ensures large { IsErrOf result Refusal.FileTooLarge → (memory_of self.old ≢ []) × IfSome (F.contents files.old) (λ m. Holds m self.old → ¬ FitsIn file_limit (seen (range_of self.old) (memory_of self.old))) }
-        ensures fits { OnOk result (memory_of self.old ≢ [] → IfSome (F.contents files.old) (λ m. Holds m self.old → FitsIn file_limit (seen (range_of self.old) (memory_of self.old)))) }
+        ensures large { IsErrOf result Refusal.FileTooLarge → (memory_of self.old ≢ []) × ¬ FitsIn file_limit (seen (range_of self.old) (memory_of self.old)) }
+        ensures fits { OnOk result (memory_of self.old ≢ [] → FitsIn file_limit (seen (range_of self.old) (memory_of self.old))) }
         ensures damaged { IsErrOf result Refusal.Damaged → IfSome (F.contents files.old) (λ m. ¬ Holds m self.old) }
         ensures refusal { IfErr result IsMinorRefusal }
         ensures reason { HasReason (F.faults files.old) (F.faults files.new) result }
@@ -224,6 +225,7 @@ impl Tablet {
         if self.files.len() >= Tablet::MOST_FILES {
             return Err(Refusal::TooManyFiles);
         }
+        let _ = self.memtable.len();
         self.files.reserve(1)?;
         let file = self.write(Compaction::Minor, file_limit, next_name, files)?;
         self.files.insert(0, file).unwrap();
@@ -250,7 +252,7 @@ impl Tablet {
         requires most { file_limit ≤ 1_073_741_824 }
         ensures names { OnOk result (names_of self.new ≡ next_name.old ∷ drop count (names_of self.old)) }
         ensures memory { memory_of self.new ≡ memory_of self.old }
-        ensures lists { OnOk result (MakesLists (F.contents files.old) next_name.old self.old (F.contents files.new) self.new (λ memory lists. memory ∷ written (nat_lt count (length lists)) (map (seen (range_of self.old)) (take count lists)) ∷ drop count lists)) }
+        ensures lists { OnOk result (Compacts (Merge count) (F.contents files.old) next_name.old (F.contents files.new) self.old self.new) }
         ensures keeps { Keeps (F.contents files.old) next_name.old self.old (F.contents files.new) next_name.new self.new }
         ensures range { range_of self.new ≡ range_of self.old }
         ensures err { OnErr result (IsUnchanged self.old self.new) }
@@ -295,7 +297,7 @@ impl Tablet {
         requires most { file_limit ≤ 1_073_741_824 }
         ensures names { OnOk result (names_of self.new ≡ next_name.old ∷ []) }
         ensures memory { OnOk result (memory_of self.new ≡ []) }
-        ensures lists { OnOk result (MakesLists (F.contents files.old) next_name.old self.old (F.contents files.new) self.new (λ memory lists. [] ∷ written false (map (seen (range_of self.old)) (memory ∷ lists)) ∷ [])) }
+        ensures lists { OnOk result (Compacts Major (F.contents files.old) next_name.old (F.contents files.new) self.old self.new) }
         ensures keeps { Keeps (F.contents files.old) next_name.old self.old (F.contents files.new) next_name.new self.new }
         ensures range { range_of self.new ≡ range_of self.old }
         ensures err { OnErr result (IsUnchanged self.old self.new) }

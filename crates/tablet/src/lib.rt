@@ -11,6 +11,7 @@ mod serving;
 mod sources;
 mod tablet;
 
+pub use compactions::Compaction;
 pub use laws::{
     files_are_there, others_stay, same_cells, shows_its_lists, stays_in_range, unnamed_may_go,
 };

@@ -8,8 +8,9 @@ ghost use Rattle.sorted_file.specs.Opened.{HasFile};
 ghost use Rattle.sorted_file.specs.Sources.{IsReadRefusal};
 ghost use Rattle.cell_key.specs.Faults.{HasReason};
 ghost use Rattle.tablet.specs.Ranges.{has_row, seen};
-ghost use Rattle.tablet.specs.Views.{range_of, memory_of, names_of, Holds, IsBelow, IsUnchanged, MayBeFlushed, UsesName, Keeps, MakesLists, AreParts, flushed, with_name};
-ghost use Rattle.tablet.specs.Compactions.{IsMinorRefusal};
+ghost use Rattle.tablet.specs.Views.{range_of, memory_of, names_of, Holds, IsBelow, IsUnchanged, MayBeFlushed, UsesName, Keeps, AreParts, with_name};
+ghost use Rattle.tablet.specs.declared.compactions.Compaction.TheVariants.{Minor};
+ghost use Rattle.tablet.specs.Compactions.{Compacts, IsMinorRefusal};
 
 use crate::ranges::RowRange;
 use crate::tablet::Tablet;
@@ -94,7 +95,7 @@ impl Tablet {
         ensures listed { IfOk result (λ names. names.items ≡ names_of self.new) }
         ensures names { OnOk result (names_of self.new ≡ with_name next_name.old (memory_of self.old) (names_of self.old)) }
         ensures memory { OnOk result (memory_of self.new ≡ []) }
-        ensures lists { OnOk result (MakesLists (F.contents files.old) next_name.old self.old (F.contents files.new) self.new (λ memory lists. [] ∷ flushed (range_of self.old) memory lists)) }
+        ensures lists { OnOk result (Compacts Minor (F.contents files.old) next_name.old (F.contents files.new) self.old self.new) }
         ensures keeps { Keeps (F.contents files.old) next_name.old self.old (F.contents files.new) next_name.new self.new }
         ensures range { range_of self.new ≡ range_of self.old }
         ensures err { OnErr result (memory_of self.old ≡ [] → IsUnchanged self.old self.new) }
@@ -103,13 +104,13 @@ impl Tablet {
         ensures limit { next_name.old ≤ 2 ^ 63 → next_name.new ≤ 2 ^ 63 }
         ensures full { IsErrOf result Refusal.TooManyFiles → (memory_of self.old ≢ []) × (64 ≤ length (names_of self.old)) }
         ensures exhausted { IsErrOf result Refusal.Exhausted → (memory_of self.old ≢ []) × (2 ^ 63 ≤ next_name.old) }
-        ensures large { IsErrOf result Refusal.FileTooLarge → (memory_of self.old ≢ []) × IfSome (F.contents files.old) (λ m. Holds m self.old → ¬ FitsIn file_limit (seen (range_of self.old) (memory_of self.old))) }
+        ensures large { IsErrOf result Refusal.FileTooLarge → (memory_of self.old ≢ []) × ¬ FitsIn file_limit (seen (range_of self.old) (memory_of self.old)) }
         ensures damaged { IsErrOf result Refusal.Damaged → IfSome (F.contents files.old) (λ m. ¬ Holds m self.old) }
         ensures refusal { IfErr result IsMinorRefusal }
         ensures reason { HasReason (F.faults files.old) (F.faults files.new) result }
         ensures room { OnOk result (memory_of self.old ≢ [] → length (names_of self.old) < 64) }
         ensures left { OnOk result (memory_of self.old ≢ [] → next_name.old < 2 ^ 63) }
-        ensures fits { OnOk result (memory_of self.old ≢ [] → IfSome (F.contents files.old) (λ m. Holds m self.old → FitsIn file_limit (seen (range_of self.old) (memory_of self.old)))) }
+        ensures fits { OnOk result (memory_of self.old ≢ [] → FitsIn file_limit (seen (range_of self.old) (memory_of self.old))) }
         ensures unwritten { IsErrOf result Refusal.TooManyFiles → IsUnchanged self.old self.new × ((next_name.new ≡ next_name.old) × (F.contents files.new ≡ F.contents files.old)) }
         ensures empty { memory_of self.old ≡ [] → (next_name.new ≡ next_name.old) × (F.contents files.new ≡ F.contents files.old) }
         ensures used { OnOk result (memory_of self.old ≢ [] → next_name.new ≡ next_name.old + 1) }
@@ -162,13 +163,13 @@ impl Tablet {
         ensures limit { next_name.old ≤ 2 ^ 63 → next_name.new ≤ 2 ^ 63 }
         ensures full { IsErrOf result Refusal.TooManyFiles → (memory_of self.old ≢ []) × (64 ≤ length (names_of self.old)) }
         ensures exhausted { IsErrOf result Refusal.Exhausted → (memory_of self.old ≢ []) × (2 ^ 63 ≤ next_name.old) }
-        ensures large { IsErrOf result Refusal.FileTooLarge → (memory_of self.old ≢ []) × IfSome (F.contents files.old) (λ m. Holds m self.old → ¬ FitsIn file_limit (seen (range_of self.old) (memory_of self.old))) }
+        ensures large { IsErrOf result Refusal.FileTooLarge → (memory_of self.old ≢ []) × ¬ FitsIn file_limit (seen (range_of self.old) (memory_of self.old)) }
         ensures damaged { IsErrOf result Refusal.Damaged → IfSome (F.contents files.old) (λ m. Holds m self.old → ¬ IsBelow next_name.old self.old) }
         ensures refusal { IfErr result IsMinorRefusal }
         ensures reason { HasReason (F.faults files.old) (F.faults files.new) result }
         ensures room { OnOk result (memory_of self.old ≢ [] → length (names_of self.old) < 64) }
         ensures left { OnOk result (memory_of self.old ≢ [] → next_name.old < 2 ^ 63) }
-        ensures fits { OnOk result (memory_of self.old ≢ [] → IfSome (F.contents files.old) (λ m. Holds m self.old → FitsIn file_limit (seen (range_of self.old) (memory_of self.old)))) }
+        ensures fits { OnOk result (memory_of self.old ≢ [] → FitsIn file_limit (seen (range_of self.old) (memory_of self.old))) }
         ensures unwritten { IsErrOf result Refusal.TooManyFiles → IsUnchanged self.old self.new × ((next_name.new ≡ next_name.old) × (F.contents files.new ≡ F.contents files.old)) }
         ensures empty { memory_of self.old ≡ [] → (next_name.new ≡ next_name.old) × (F.contents files.new ≡ F.contents files.old) }
         ensures used { OnOk result (memory_of self.old ≢ [] → next_name.new ≡ next_name.old + 1) }

@@ -80,9 +80,9 @@ fn next_value<F: Files, S: Source<F>>(
     source: &mut S,
     store: &mut F,
 ) -> Result<Option<(CellKey, Vec<u8>)>, Refusal>
-    ensures found { IfOk result (λ found. IfSome (F.contents store.old) (λ m. S.holds m source.old → option_map texted found ≡ first_value (S.remaining m source.old))) }
+    ensures found { IfOk result (λ found. S.holds (F.contents store.old) source.old → option_map texted found ≡ first_value (S.remaining (F.contents store.old) source.old)) }
     ensures limits { IfOk result (λ found. IfSome found (λ p. IsFound p.0 p.1.items)) }
-    ensures damaged { IsErrOf result Refusal.Damaged → IfSome (F.contents store.old) (λ m. ¬ S.holds m source.old) }
+    ensures damaged { IsErrOf result Refusal.Damaged → ¬ S.holds (F.contents store.old) source.old }
     ensures refusal { IfErr result IsReadRefusal }
     ensures same { F.contents store.new ≡ F.contents store.old }
     ensures reason { HasReason (F.faults store.old) (F.faults store.new) result }

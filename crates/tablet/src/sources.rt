@@ -1,13 +1,13 @@
 //! What a tablet reads: its memtable and its files, from a text on and up to another.
 
-ghost use Rattle.std.specs.Prelude.{◌≡◌, map, option_map, IfOk, IfErr};
+ghost use Rattle.std.specs.Prelude.{◌≡◌, map, Option, option_map, IfOk, IfErr};
 ghost use Rattle.std.specs.Option.{option_copied, option_to_list};
 ghost use Rattle.std.specs.List.{AllByRecursion};
 ghost use Rattle.file_store.specs.Store.{Contents};
-ghost use Rattle.sorted_file.specs.Opened.{IsOpen, listed};
+ghost use Rattle.cell_key.specs.Entries.{IsEntryList};
 ghost use Rattle.compaction.specs.Merging.{AreAtStart};
 ghost use Rattle.tablet.specs.Ranges.{lower_fence, upper_fence};
-ghost use Rattle.tablet.specs.Sources.{entries_between, lists_over, IsAtStart, remaining_of};
+ghost use Rattle.tablet.specs.Sources.{entries_between, listed_in, lists_over, IsAtStart, IsOpenIn, remaining_of};
 
 use crate::ranges::RowRange;
 use cell_key::{Refusal, Row};
@@ -41,8 +41,9 @@ fn memtable_source<'a>(
     from: &[u8],
     end: Option<&'a [u8]>,
 ) -> Until<'a, Input<'a>>
-    ensures start { (m : Contents) → IsAtStart m result }
-    ensures list { (m : Contents) → remaining_of m result ≡ entries_between from.now (option_copied end.entry) memtable.now }
+    ensures start { (told : Option Contents) → IsAtStart told result }
+    ensures list { (told : Option Contents) → remaining_of told result ≡ entries_between from.now (option_copied end.entry) memtable.now }
+    ensures entries { IsEntryList memtable.now }
 {
     Until::new(Input::Memtable(memtable.cursor(from)), end)
 }
@@ -54,8 +55,9 @@ fn memtable_sources<'a>(
     from: &[u8],
     end: Option<&'a [u8]>,
 ) -> Result<Vec<Until<'a, Input<'a>>>, Refusal>
-    ensures start { IfOk result (λ sources. (m : Contents) → AllByRecursion (IsAtStart m) sources.items) }
-    ensures lists { IfOk result (λ sources. (m : Contents) → map (remaining_of m) sources.items ≡ map (entries_between from.now (option_copied end.entry)) (option_to_list (option_copied memtable.entry))) }
+    ensures start { IfOk result (λ sources. (told : Option Contents) → AllByRecursion (IsAtStart told) sources.items) }
+    ensures lists { IfOk result (λ sources. (told : Option Contents) → map (remaining_of told) sources.items ≡ map (entries_between from.now (option_copied end.entry)) (option_to_list (option_copied memtable.entry))) }
+    ensures entries { IfOk result (λ sources. AllByRecursion IsEntryList (option_to_list (option_copied memtable.entry))) }
     ensures refusal { IfErr result (λ refusal. refusal ≡ Refusal.NoMemory) }
 {
     let mut sources = Vec::new(alloc);
@@ -71,8 +73,8 @@ fn file_source<'a>(
     from: &'a [u8],
     end: Option<&'a [u8]>,
 ) -> Until<'a, Input<'a>>
-    ensures start { (m : Contents) → IsOpen m file.now → IsAtStart m result }
-    ensures list { (m : Contents) → IsOpen m file.now → remaining_of m result ≡ entries_between from.now (option_copied end.entry) (listed m file.now) }
+    ensures start { (told : Option Contents) → IsOpenIn told file.now → IsAtStart told result }
+    ensures list { (told : Option Contents) → IsOpenIn told file.now → remaining_of told result ≡ entries_between from.now (option_copied end.entry) (listed_in told file.now) }
 {
     Until::new(Input::File(file.cursor(from)), end)
 }
@@ -86,8 +88,9 @@ pub(crate) fn sources<'a, F: Files>(
     from: &'a [u8],
     end: Option<&'a [u8]>,
 ) -> Result<Vec<Until<'a, Input<'a>>>, Refusal>
-    ensures start { IfOk result (λ sources. (m : Contents) → AllByRecursion (IsOpen m) files.now → AreAtStart ⟦<Until<'static, Input<'static>> as Source<F>>⟧.lent (⟦<Until<'static, Input<'static>> as Source<F>>⟧.holds m) sources.items) }
-    ensures lists { IfOk result (λ sources. (m : Contents) → AllByRecursion (IsOpen m) files.now → map (⟦<Until<'static, Input<'static>> as Source<F>>⟧.remaining m) sources.items ≡ map (entries_between from.now (option_copied end.entry)) (lists_over m (option_copied memtable.entry) files.now)) }
+    ensures start { IfOk result (λ sources. (told : Option Contents) → AllByRecursion (IsOpenIn told) files.now → AreAtStart ⟦<Until<'static, Input<'static>> as Source<F>>⟧.lent (⟦<Until<'static, Input<'static>> as Source<F>>⟧.holds told) sources.items) }
+    ensures lists { IfOk result (λ sources. (told : Option Contents) → AllByRecursion (IsOpenIn told) files.now → map (⟦<Until<'static, Input<'static>> as Source<F>>⟧.remaining told) sources.items ≡ map (entries_between from.now (option_copied end.entry)) (lists_over told (option_copied memtable.entry) files.now)) }
+    ensures entries { IfOk result (λ sources. (told : Option Contents) → AllByRecursion (IsOpenIn told) files.now → AllByRecursion IsEntryList (lists_over told (option_copied memtable.entry) files.now)) }
     ensures refusal { IfErr result (λ refusal. refusal ≡ Refusal.NoMemory) }
 {
     let mut sources = memtable_sources(alloc, memtable, from, end)?;

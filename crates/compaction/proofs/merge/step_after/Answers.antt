@@ -1,9 +1,10 @@
 use Rattle.std.proofs.Common.{◌≡◌, true, false, ◌≤◌, ◌+◌, ◌<◌, length, arith, subst, sym, cond, get_or, refl, ◌∙◌}
-use Rattle.std.specs.Prelude.{IfSome}
+use Rattle.std.specs.Prelude.{Option}
+use Rattle.file_store.specs.Store.{Contents}
 use Rattle.cell_key.specs.Entries.{Takes}
 use Rattle.compaction.specs.Ties.{ties}
 use Rattle.compaction.specs.Merging.{cost, StepsTo}
-use Rattle.compaction.proofs.Turns.{first_within, go_on, front_set, rest_set, if_both, if_each, cost_falls, not_each, paid_whole, steps_whole}
+use Rattle.compaction.proofs.Turns.{first_within, go_on, front_set, rest_set, cost_falls, not_each, paid_whole, steps_whole}
 use Rattle.compaction.specs.MergeLaws.{step_tie, step_same}
 use Rattle.cell_key.specs.declared.refusals.Refusal.TheVariants.{Device}
 use Rattle.compaction.proofs.Passed.{not_err, passed_err, passed_none, passed_on, passed_reason, quiet_reason, reason_after}
@@ -18,6 +19,9 @@ loop-source-preserved g c =
     let s = c.source-item.result in
     let is = c.source-item.is in
     let now = get_or c.loop-source.sources i s in
+    let told = g.F.Files.contents c.args.files.now in
+    let here_told = g.F.Files.contents c.loop-source.files in
+    let same = c.loop-source.invariant.same in
     elim c.if-is_tied.branch [
       | then-is_tied+in_ok-advance w ↦
           let t = w.advance.new.self in
@@ -25,15 +29,15 @@ loop-source-preserved g c =
           omega (arith, cost_falls (g.S.Source.left t) (g.S.Source.left s) w.in_ok-advance.field-0 (g.S.Source.lent t) (g.S.Source.lent s) w.in_ok-advance.ensures.more (subst (λ s. g.S.Source.left t + cond w.in_ok-advance.field-0 1 0 ≤ g.S.Source.left s) (sym is) w.in_ok-advance.ensures.lower)) in
           rw (w.sources-is, w.files-is) (go_on c.loop-source.invariant w.advance.new.files _ s t l is w.advance.ensures.files (w.in_ok-advance.ensures.reason.told (not_err _ Device))
           (front_set c.loop-source.sources i t here) (rest_set c.loop-source.sources i t) paid
-          (if_both (g.F.Files.contents c.loop-source.files)
-          (subst (λ s. IfSome (g.F.Files.contents c.loop-source.files) (λ m. g.S.Source.holds m s → g.S.Source.holds m t)) (sym is) w.in_ok-advance.ensures.holds)
-          (subst (λ s. IfSome (g.F.Files.contents c.loop-source.files) (λ m. g.S.Source.holds m s → Takes (g.S.Source.lent t) (g.S.Source.remaining m s) (g.S.Source.remaining m t))) (sym is) w.in_ok-advance.ensures.takes)
-          (λ m holds takes before. step_tie g.S.Source.lent (g.S.Source.remaining m) (g.S.Source.holds m) (g.S.Source.lent c.args.least.now) s t (sym (subst (λ s. true ≡ ties (g.S.Source.lent c.args.least.now) (g.S.Source.lent s)) (sym is) w.if-is_tied.ensures)) (holds before.0) (takes before.0))))
+          (let holds = subst (λ (o : Option Contents). g.S.Source.holds o s → g.S.Source.holds o t) same (subst (λ s. g.S.Source.holds here_told s → g.S.Source.holds here_told t) (sym is) w.in_ok-advance.ensures.holds) in
+          let takes = subst (λ (o : Option Contents). g.S.Source.holds o s → Takes (g.S.Source.lent t) (g.S.Source.remaining o s) (g.S.Source.remaining o t)) same
+          (subst (λ s. g.S.Source.holds here_told s → Takes (g.S.Source.lent t) (g.S.Source.remaining here_told s) (g.S.Source.remaining here_told t)) (sym is) w.in_ok-advance.ensures.takes) in
+          λ before. step_tie g.S.Source.lent (g.S.Source.remaining told) (g.S.Source.holds told) (g.S.Source.lent c.args.least.now) s t (sym (subst (λ s. true ≡ ties (g.S.Source.lent c.args.least.now) (g.S.Source.lent s)) (sym is) w.if-is_tied.ensures)) (holds before.0) (takes before.0)))
       | else-is_tied w ↦
           rw (w.sources-is, w.files-is) (go_on c.loop-source.invariant c.loop-source.files _ s now l is refl refl
           (front_set c.loop-source.sources i now here) (rest_set c.loop-source.sources i now) (subst (λ t. cost (g.S.Source.left t) (g.S.Source.lent t) + 0 ≤ cost (g.S.Source.left s) (g.S.Source.lent s)) is (omega arith))
-          (if_each (g.F.Files.contents c.loop-source.files) (λ m before. subst (λ t. StepsTo g.S.Source.lent (g.S.Source.remaining m) (g.S.Source.holds m) (g.S.Source.lent c.args.least.now) s t) is
-          (step_same g.S.Source.lent (g.S.Source.remaining m) (g.S.Source.holds m) (g.S.Source.lent c.args.least.now) s (sym (subst (λ s. false ≡ ties (g.S.Source.lent c.args.least.now) (g.S.Source.lent s)) (sym is) w.if-is_tied.ensures)) before.0 before.1))))
+          (λ before. subst (λ t. StepsTo g.S.Source.lent (g.S.Source.remaining told) (g.S.Source.holds told) (g.S.Source.lent c.args.least.now) s t) is
+          (step_same g.S.Source.lent (g.S.Source.remaining told) (g.S.Source.holds told) (g.S.Source.lent c.args.least.now) s (sym (subst (λ s. false ≡ ties (g.S.Source.lent c.args.least.now) (g.S.Source.lent s)) (sym is) w.if-is_tied.ensures)) before.0 before.1)))
     ]
 
 pub returns-in_err-advance-clause-files : goal.returns-in_err-advance-clause-files

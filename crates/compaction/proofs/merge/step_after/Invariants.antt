@@ -5,6 +5,6 @@ use Rattle.compaction.proofs.merge.step_after.Given as goal
 abbrev pub invariant-loop-source : goal.invariant-loop-source
 invariant-loop-source g l =
     Progress g.F.Files.contents g.F.Files.faults (λ s. cost (g.S.Source.left s) (g.S.Source.lent s)) (λ _. 0)
-    (λ m s. g.S.Source.holds m s × HasStarted g.S.Source.lent (g.S.Source.remaining m) s)
-    (λ m. StepsTo g.S.Source.lent (g.S.Source.remaining m) (g.S.Source.holds m) (g.S.Source.lent l.least))
+    (λ s. g.S.Source.holds (g.F.Files.contents l.initial.files) s × HasStarted g.S.Source.lent (g.S.Source.remaining (g.F.Files.contents l.initial.files)) s)
+    (StepsTo g.S.Source.lent (g.S.Source.remaining (g.F.Files.contents l.initial.files)) (g.S.Source.holds (g.F.Files.contents l.initial.files)) (g.S.Source.lent l.least))
     l.initial.files l.files l.initial.sources l.sources l.source-index

@@ -1,7 +1,8 @@
 use Rattle.std.proofs.Common.{◌≤◌, ◌+◌, ◌<◌, length, arith, subst, sym, cond, refl, ◌∙◌}
 use Rattle.cell_key.specs.Entries.{Takes}
-use Rattle.std.specs.Prelude.{IfSome}
-use Rattle.compaction.proofs.Turns.{go_on, front_set, rest_set, if_both, cost_falls, not_each, paid_whole}
+use Rattle.std.specs.Prelude.{Option}
+use Rattle.file_store.specs.Store.{Contents}
+use Rattle.compaction.proofs.Turns.{go_on, front_set, rest_set, cost_falls, not_each, paid_whole, steps_whole}
 use Rattle.compaction.specs.MergeLaws.{step_none}
 use Rattle.cell_key.specs.declared.refusals.Refusal.TheVariants.{Device}
 use Rattle.compaction.proofs.Passed.{not_err, passed_err, passed_none, passed_on, passed_reason, quiet_reason, reason_after}
@@ -10,12 +11,17 @@ use Rattle.compaction.proofs.merge.step_all.Goals as goal
 pub loop-source-preserved : goal.loop-source-preserved
 loop-source-preserved g c =
     let l : c.loop-source.source-index < length c.args.sources.now = omega arith in
-    go_on c.loop-source.invariant c.advance.new.files _ c.source-item.result c.advance.new.self l c.source-item.is c.advance.ensures.files (c.in_ok-advance.ensures.reason.told (not_err _ Device))
-    (front_set c.loop-source.sources c.loop-source.source-index c.advance.new.self (omega arith)) (rest_set c.loop-source.sources c.loop-source.source-index c.advance.new.self)
-    (cost_falls _ _ c.in_ok-advance.field-0 (g.S.Source.lent c.advance.new.self) (g.S.Source.lent c.source-item.result) c.in_ok-advance.ensures.more (subst (λ s. g.S.Source.left c.advance.new.self + cond c.in_ok-advance.field-0 1 0 ≤ g.S.Source.left s) (sym c.source-item.is) c.in_ok-advance.ensures.lower))
-    (if_both (g.F.Files.contents c.loop-source.files) (subst (λ s. IfSome (g.F.Files.contents c.loop-source.files) (λ m. g.S.Source.holds m s → g.S.Source.holds m c.advance.new.self)) (sym c.source-item.is) c.in_ok-advance.ensures.holds)
-    (subst (λ s. IfSome (g.F.Files.contents c.loop-source.files) (λ m. g.S.Source.holds m s → Takes (g.S.Source.lent c.advance.new.self) (g.S.Source.remaining m s) (g.S.Source.remaining m c.advance.new.self))) (sym c.source-item.is) c.in_ok-advance.ensures.takes) (λ m holds takes before.
-    step_none g.S.Source.lent (g.S.Source.remaining m) (g.S.Source.holds m) c.source-item.result c.advance.new.self before.1 (holds before.0) (takes before.0)))
+    let told = g.F.Files.contents c.args.files.now in
+    let now = g.F.Files.contents c.loop-source.files in
+    let s = c.source-item.result in
+    let t = c.advance.new.self in
+    let holds = subst (λ (o : Option Contents). g.S.Source.holds o s → g.S.Source.holds o t) c.loop-source.invariant.same (subst (λ s. g.S.Source.holds now s → g.S.Source.holds now t) (sym c.source-item.is) c.in_ok-advance.ensures.holds) in
+    let takes = subst (λ (o : Option Contents). g.S.Source.holds o s → Takes (g.S.Source.lent t) (g.S.Source.remaining o s) (g.S.Source.remaining o t)) c.loop-source.invariant.same
+    (subst (λ s. g.S.Source.holds now s → Takes (g.S.Source.lent t) (g.S.Source.remaining now s) (g.S.Source.remaining now t)) (sym c.source-item.is) c.in_ok-advance.ensures.takes) in
+    go_on c.loop-source.invariant c.advance.new.files _ s t l c.source-item.is c.advance.ensures.files (c.in_ok-advance.ensures.reason.told (not_err _ Device))
+    (front_set c.loop-source.sources c.loop-source.source-index t (omega arith)) (rest_set c.loop-source.sources c.loop-source.source-index t)
+    (cost_falls _ _ c.in_ok-advance.field-0 (g.S.Source.lent t) (g.S.Source.lent s) c.in_ok-advance.ensures.more (subst (λ s. g.S.Source.left t + cond c.in_ok-advance.field-0 1 0 ≤ g.S.Source.left s) (sym c.source-item.is) c.in_ok-advance.ensures.lower))
+    (λ before. step_none g.S.Source.lent (g.S.Source.remaining told) (g.S.Source.holds told) s t before.1 (holds before.0) (takes before.0))
 
 pub returns-in_err-advance-clause-files : goal.returns-in_err-advance-clause-files
 returns-in_err-advance-clause-files g c = c.in_err-advance.ensures.files ∙ c.loop-source.invariant.same
@@ -51,3 +57,6 @@ pub returns-in_err-advance-clause-damaged : goal.returns-in_err-advance-clause-d
 returns-in_err-advance-clause-damaged g c = λ is.
     not_each c.loop-source.invariant g.S.Source.holds c.source-item.result c.loop-source-test.true
     (c.in_err-advance.ensures.damaged (passed_on c.from_residual.result _ c.in_err-advance.field-0.0 _ c.from_residual.ensures.1 refl is))
+
+pub returns-clause-steps : goal.returns-clause-steps
+returns-clause-steps g c = steps_whole c.loop-source.invariant c.loop-source-test.false c.loop-source.auto.sources

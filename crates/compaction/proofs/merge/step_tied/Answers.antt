@@ -1,10 +1,11 @@
 use Rattle.std.proofs.Common.{◌≡◌, ◌∙◌, ap, ◌++◌, ◌∷◌, length, subst, refl}
-use Rattle.std.specs.Prelude.{IfSome, MatchOption, IsSome}
+use Rattle.std.specs.Prelude.{MatchOption, IsSome, Option}
 use Rattle.std.specs.List.{AllByRecursion, IsFirstAndRest}
 use Rattle.cell_key.specs.Entries.{Takes}
+use Rattle.file_store.specs.Store.{Contents}
 use Rattle.compaction.specs.Merging.{cost}
 use Rattle.compaction.proofs.Tied.{all_tied_part, cost_tied, lent_there, tied_whole}
-use Rattle.compaction.proofs.Turns.{cost_falls_from, if_both, if_map}
+use Rattle.compaction.proofs.Turns.{cost_falls_from}
 use Rattle.cell_key.specs.declared.refusals.Refusal.TheVariants.{Device}
 use Rattle.compaction.proofs.Passed.{not_err, passed_err, passed_none, passed_on, passed_reason, reason_after, reason_of_ok}
 use Rattle.compaction.proofs.merge.step_tied.Goals as goal
@@ -14,15 +15,12 @@ returns-clause-steps g c =
     let whole = c.split_at_mut-before.result.1.now in
     let s = c.unwrap.result.0.now in
     let t = c.advance.new.self in
-    let o = g.F.Files.contents c.args.files.now in
+    let told = g.F.Files.contents c.args.files.now in
     let first = subst (λ o. MatchOption o (length whole ≡ 0) (λ p. IsFirstAndRest whole p.0.now p.1.now)) c.unwrap.ensures c.split_first_mut.ensures.cases in
-    if_both {Q = λ m. (g.S.Source.holds m s → g.S.Source.holds m t) × (g.S.Source.holds m s → Takes (g.S.Source.lent t) (g.S.Source.remaining m s) (g.S.Source.remaining m t))} o c.in_ok-step_after.ensures.steps
-    (if_both o
-    (subst (λ o. IfSome o (λ m. g.S.Source.holds m s → g.S.Source.holds m t)) c.step_after.ensures.files c.in_ok-advance.ensures.holds)
-    (subst (λ o. IfSome o (λ m. g.S.Source.holds m s → Takes (g.S.Source.lent t) (g.S.Source.remaining m s) (g.S.Source.remaining m t))) c.step_after.ensures.files c.in_ok-advance.ensures.takes)
-    (λ m still takes. (still, takes)))
-    (λ m rest one h. tied_whole g.S.Source.lent (g.S.Source.remaining m) (g.S.Source.holds m) s t c.unwrap.result.1.now c.step_after.new.sources c.args.sources.now c.split_at_mut-before.result.0.now c.args.at
-    (c.split_at_mut-before.ensures.value ∙ ap (λ xs. c.split_at_mut-before.result.0.now ++ xs) first.0) c.split_at_mut-before.ensures.front_len c.requires h rest one.0 one.1)
+    let holds = subst (λ (o : Option Contents). g.S.Source.holds o s → g.S.Source.holds o t) c.step_after.ensures.files c.in_ok-advance.ensures.holds in
+    let takes = subst (λ (o : Option Contents). g.S.Source.holds o s → Takes (g.S.Source.lent t) (g.S.Source.remaining o s) (g.S.Source.remaining o t)) c.step_after.ensures.files c.in_ok-advance.ensures.takes in
+    λ h. tied_whole g.S.Source.lent (g.S.Source.remaining told) (g.S.Source.holds told) s t c.unwrap.result.1.now c.step_after.new.sources c.args.sources.now c.split_at_mut-before.result.0.now c.args.at
+    (c.split_at_mut-before.ensures.value ∙ ap (λ xs. c.split_at_mut-before.result.0.now ++ xs) first.0) c.split_at_mut-before.ensures.front_len c.requires h c.in_ok-step_after.ensures.steps holds takes
 
 pub returns-clause-cost : goal.returns-clause-cost
 returns-clause-cost g c =
@@ -39,21 +37,23 @@ returns-clause-cost g c =
     c.in_ok-step_after.ensures.cost
 
 pub returns-in_err-step_after-clause-damaged : goal.returns-in_err-step_after-clause-damaged
-returns-in_err-step_after-clause-damaged g c = λ err.
+returns-in_err-step_after-clause-damaged g c = λ err all.
     let whole = c.split_at_mut-before.result.1.now in
     let first = subst (λ o. MatchOption o (length whole ≡ 0) (λ p. IsFirstAndRest whole p.0.now p.1.now)) c.unwrap.ensures c.split_first_mut.ensures.cases in
-    if_map (g.F.Files.contents c.args.files.now) (c.in_err-step_after.ensures.damaged (passed_on c.from_residual.result _ c.in_err-step_after.field-0.0 _ c.from_residual.ensures.1 refl err)) (λ m not all.
-    not (all_tied_part (g.S.Source.holds m) c.unwrap.result.0.now c.split_at_mut-before.result.0.now c.unwrap.result.1.now
-    (subst (AllByRecursion (g.S.Source.holds m)) (c.split_at_mut-before.ensures.value ∙ ap (λ xs. c.split_at_mut-before.result.0.now ++ xs) first.0) all)).1)
+    let told = g.F.Files.contents c.args.files.now in
+    c.in_err-step_after.ensures.damaged (passed_on c.from_residual.result _ c.in_err-step_after.field-0.0 _ c.from_residual.ensures.1 refl err)
+    (all_tied_part (g.S.Source.holds told) c.unwrap.result.0.now c.split_at_mut-before.result.0.now c.unwrap.result.1.now
+    (subst (AllByRecursion (g.S.Source.holds told)) (c.split_at_mut-before.ensures.value ∙ ap (λ xs. c.split_at_mut-before.result.0.now ++ xs) first.0) all)).1
 
 pub returns-in_err-advance-clause-damaged : goal.returns-in_err-advance-clause-damaged
-returns-in_err-advance-clause-damaged g c = λ err.
+returns-in_err-advance-clause-damaged g c = λ err all.
     let whole = c.split_at_mut-before.result.1.now in
     let s = c.unwrap.result.0.now in
     let first = subst (λ o. MatchOption o (length whole ≡ 0) (λ p. IsFirstAndRest whole p.0.now p.1.now)) c.unwrap.ensures c.split_first_mut.ensures.cases in
-    if_map (g.F.Files.contents c.args.files.now) (subst (λ o. IfSome o (λ m. ¬ g.S.Source.holds m s)) c.step_after.ensures.files (c.in_err-advance.ensures.damaged (passed_on c.from_residual-in_err-advance.result _ c.in_err-advance.field-0.0 _ c.from_residual-in_err-advance.ensures.1 refl err))) (λ m not all.
-    not (all_tied_part (g.S.Source.holds m) s c.split_at_mut-before.result.0.now c.unwrap.result.1.now
-    (subst (AllByRecursion (g.S.Source.holds m)) (c.split_at_mut-before.ensures.value ∙ ap (λ xs. c.split_at_mut-before.result.0.now ++ xs) first.0) all)).0)
+    let told = g.F.Files.contents c.args.files.now in
+    subst (λ (o : Option Contents). ¬ g.S.Source.holds o s) c.step_after.ensures.files (c.in_err-advance.ensures.damaged (passed_on c.from_residual-in_err-advance.result _ c.in_err-advance.field-0.0 _ c.from_residual-in_err-advance.ensures.1 refl err))
+    (all_tied_part (g.S.Source.holds told) s c.split_at_mut-before.result.0.now c.unwrap.result.1.now
+    (subst (AllByRecursion (g.S.Source.holds told)) (c.split_at_mut-before.ensures.value ∙ ap (λ xs. c.split_at_mut-before.result.0.now ++ xs) first.0) all)).0
 
 pub returns-in_err-step_after-clause-files : goal.returns-in_err-step_after-clause-files
 returns-in_err-step_after-clause-files g c = c.in_err-step_after.ensures.files

@@ -4,7 +4,6 @@ use Rattle.sorted_file.specs.Grammar.{IsFile}
 use Rattle.compaction.specs.Merging.{MergeHolds, merge_remaining}
 use Rattle.compaction.specs.Writing.{kept}
 use Rattle.compaction.proofs.Falls.{on_ok}
-use Rattle.compaction.proofs.Turns.{if_map}
 use Rattle.compaction.proofs.writing.merge_into.Goals as goal
 
 pub returns-clause-written : goal.returns-clause-written
@@ -15,8 +14,9 @@ returns-clause-written g c =
       (
         w.1.0,
         w.1.1,
-        if_map (g.F.Files.contents c.args.files.now) w.1.2 (λ m told h.
-            let of_merge = subst (λ s. MergeHolds g.S.Source.lent (g.S.Source.remaining m) (g.S.Source.holds m) s.sources.items s.at → IsFile (kept keep (merge_remaining g.S.Source.lent (g.S.Source.remaining m) s.sources.items s.at)) w.0) c.new-kept.ensures.source told in
+        (λ h.
+            let m = g.F.Files.contents c.args.files.now in
+            let of_merge = subst (λ s. MergeHolds g.S.Source.lent (g.S.Source.remaining m) (g.S.Source.holds m) s.sources.items s.at → IsFile (kept keep (merge_remaining g.S.Source.lent (g.S.Source.remaining m) s.sources.items s.at)) w.0) c.new-kept.ensures.source w.1.2 in
             let of_lists = subst (λ es. IsFile (kept keep es) w.0) (c.new-merge.ensures.remaining m h) (of_merge (c.new-merge.ensures.holds m h)) in
             subst (λ k. IsFile (kept k (merged (map (g.S.Source.remaining m) c.args.sources.items))) w.0) c.new-kept.ensures.keep of_lists),
       ),

@@ -5,11 +5,11 @@ use Rattle.tablet.specs.Compactions.{IsCompactionRefusal, IsMergeRefusal, IsMino
 use Rattle.row_atomic.proofs.Changing.{cleaned, if_ok, on_ok}
 use Rattle.row_atomic.proofs.Commanding.{not_answered}
 use Rattle.row_atomic.proofs.Passing.{each_refusal}
-use Rattle.row_atomic.proofs.Roomy.{has_room, minor_fits, none_written, not_full_written, not_least}
+use Rattle.row_atomic.proofs.Roomy.{has_room, minor_fits, of_held, none_written, not_full_written, not_least}
 use Rattle.row_atomic.proofs.cluster_compactions.compact.Goals as goal
 
 pub returns-in-Minor-clause-large : goal.returns-in-Minor-clause-large
-returns-in-Minor-clause-large g c = rw (c.in-Minor.is) (λ large. (c.minor.ensures.large large).1)
+returns-in-Minor-clause-large g c = rw (c.in-Minor.is) (λ large. of_held (g.F.Files.contents c.args.files.now) c.args.tablet.now (c.minor.ensures.large large).1)
 
 pub returns-in-Merge-clause-large : goal.returns-in-Merge-clause-large
 returns-in-Merge-clause-large g c = rw (c.in-Merge.is) (c.merge.ensures.large)

@@ -1,5 +1,4 @@
 use Rattle.std.proofs.Common.{◌≡◌}
-use Rattle.std.specs.Prelude.{IfSome}
 use Rattle.sorted_file.specs.Building.{IsSound, IsWriting, state_of}
 use Rattle.sorted_file.proofs.writing.image_of_rest.Given as goal
 
@@ -9,7 +8,7 @@ invariant-entries g l = record {
   quiet : g.F.Files.faults l.files ≡ g.F.Files.faults l.initial.files;
   sound : IsSound (state_of l.builder);
   limit : l.builder.limit ≡ l.fn.limit;
-  told : IfSome (g.F.Files.contents l.initial.files) (λ m. g.S.Source.holds m l.initial.source → g.S.Source.holds m l.source × IsWriting (state_of l.builder) (g.S.Source.remaining m l.initial.source) (g.S.Source.remaining m l.source));
+  told : g.S.Source.holds (g.F.Files.contents l.initial.files) l.initial.source → g.S.Source.holds (g.F.Files.contents l.initial.files) l.source × IsWriting (state_of l.builder) (g.S.Source.remaining (g.F.Files.contents l.initial.files) l.initial.source) (g.S.Source.remaining (g.F.Files.contents l.initial.files) l.source);
 }
 
 abbrev pub decreases-entries : goal.decreases-entries

@@ -9,7 +9,7 @@ use Rattle.compaction.specs.Merging.{AreAtStart}
 use Rattle.compaction.specs.Writing.{written}
 use Rattle.tablet.specs.Compactions.{IsCompactionRefusal}
 use Rattle.tablet.proofs.Passed.{err_kind, err_map, not_err, passed_err, passed_kind, passed_none, passed_on, passed_reason, quiet_reason, reason_after, writes_of}
-use Rattle.tablet.proofs.Writing.{as_on_ok, not_missing, opened_as_written, others_kept, start_written, within_limit}
+use Rattle.tablet.proofs.Writing.{as_on_ok, not_missing, opened_as_written, others_kept, start_written, told_not, within_limit}
 use Rattle.tablet.proofs.compactions.write_new.Goals as goal
 
 abbrev pub IsExhausted : Refusal → Type 0
@@ -127,7 +127,8 @@ pub returns-in_err-merge_into-clause-large : goal.returns-in_err-merge_into-clau
 returns-in_err-merge_into-clause-large g c = λ is. c.in_err-merge_into.ensures.large (passed_on c.from_residual-in_err-merge_into.result _ c.in_err-merge_into.field-0.0 _ c.from_residual-in_err-merge_into.ensures.1 refl is)
 
 pub returns-in_err-merge_into-clause-damaged : goal.returns-in_err-merge_into-clause-damaged
-returns-in_err-merge_into-clause-damaged g c = λ is. c.in_err-merge_into.ensures.damaged (passed_on c.from_residual-in_err-merge_into.result _ c.in_err-merge_into.field-0.0 _ c.from_residual-in_err-merge_into.ensures.1 refl is)
+returns-in_err-merge_into-clause-damaged g c = λ is.
+    told_not (g.F.Files.contents c.args.files.now) (λ m. AreAtStart g.S.Source.lent (g.S.Source.holds m) c.args.sources.items) (c.in_err-merge_into.ensures.damaged (passed_on c.from_residual-in_err-merge_into.result _ c.in_err-merge_into.field-0.0 _ c.from_residual-in_err-merge_into.ensures.1 refl is))
 
 pub returns-in_err-merge_into-clause-refusal : goal.returns-in_err-merge_into-clause-refusal
 returns-in_err-merge_into-clause-refusal g c = passed_err c.from_residual-in_err-merge_into.result c.in_err-merge_into.field-0.0 _ c.from_residual-in_err-merge_into.ensures.1 (writes_of c.in_err-merge_into.field-0.0 c.in_err-merge_into.ensures.refusal)

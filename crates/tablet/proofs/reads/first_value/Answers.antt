@@ -1,19 +1,25 @@
-use Rattle.std.proofs.Common.{ap, ◌∙◌, refl, sym, subst}
+use Rattle.std.proofs.Common.{◌≡◌, ◌∷◌, ap, ◌∙◌, refl, sym, subst}
 use Rattle.sorted_file.specs.Sources.{IsReadRefusal}
 use Rattle.cell_key.specs.Entries.{merged}
-use Rattle.tablet.specs.Reads.{first_value}
-use Rattle.tablet.proofs.Answering.{if_one, if_ok_one}
+use Rattle.std.specs.Option.{option_copied}
+use Rattle.std.specs.Prelude.{option_map}
+use Rattle.tablet.specs.Reads.{first_value, texted}
+use Rattle.tablet.specs.Sources.{part}
+use Rattle.tablet.proofs.Answering.{ok_map, told_closed, told_found}
 use Rattle.tablet.proofs.Passed.{IsNoMemory, no_memory, passed_err, passed_kind, passed_none, quiet_reason}
 use Rattle.tablet.proofs.reads.first_value.Goals as goal
 
 pub returns-clause-found : goal.returns-clause-found
 returns-clause-found g c =
-    if_ok_one c.next_value.result (g.F.Files.contents c.args.store.now) c.next_value.ensures.found
-    (λ found m h opened. h (c.new-merge.ensures.holds m (c.in_ok-sources.ensures.start m opened)) ∙ ap first_value (c.new-merge.ensures.remaining m (c.in_ok-sources.ensures.start m opened) ∙ ap merged (c.in_ok-sources.ensures.lists m opened)))
+    let m = g.F.Files.contents c.args.store.now in
+    told_found m c.args.files.now (λ found lists. option_map texted found ≡ first_value (part c.args.from.now (option_copied c.args.end) (c.args.memtable.now ∷ lists))) c.next_value.result
+    (ok_map c.next_value.result c.next_value.ensures.found
+    (λ found h opened. h (c.new-merge.ensures.holds m (c.in_ok-sources.ensures.start m opened)) ∙ ap first_value (c.new-merge.ensures.remaining m (c.in_ok-sources.ensures.start m opened) ∙ ap merged (c.in_ok-sources.ensures.lists m opened))))
 
 pub returns-clause-damaged : goal.returns-clause-damaged
 returns-clause-damaged g c =
-    λ e. if_one (g.F.Files.contents c.args.store.now) (c.next_value.ensures.damaged e) (λ m closed opened. closed (c.new-merge.ensures.holds m (c.in_ok-sources.ensures.start m opened)))
+    let m = g.F.Files.contents c.args.store.now in
+    λ e. told_closed m c.args.files.now (λ opened. c.next_value.ensures.damaged e (c.new-merge.ensures.holds m (c.in_ok-sources.ensures.start m opened)))
 
 pub returns-in_err-sources-clause-found : goal.returns-in_err-sources-clause-found
 returns-in_err-sources-clause-found g c = passed_none c.from_residual.result c.in_err-sources.field-0.0 _ c.from_residual.ensures.1

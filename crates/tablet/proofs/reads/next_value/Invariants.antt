@@ -1,5 +1,4 @@
 use Rattle.std.proofs.Common.{◌≡◌}
-use Rattle.std.specs.Prelude.{IfSome}
 use Rattle.tablet.specs.Reads.{first_value}
 use Rattle.tablet.proofs.reads.next_value.Given as goal
 
@@ -7,8 +6,8 @@ abbrev pub invariant-loop-source : goal.invariant-loop-source
 invariant-loop-source g l = record {
   same : g.F.Files.contents l.store ≡ g.F.Files.contents l.initial.store;
   quiet : g.F.Files.faults l.store ≡ g.F.Files.faults l.initial.store;
-  told : IfSome (g.F.Files.contents l.initial.store) (λ m. g.S.Source.holds m l.initial.source → g.S.Source.holds m l.source
-      × (first_value (g.S.Source.remaining m l.source) ≡ first_value (g.S.Source.remaining m l.initial.source)));
+  told : g.S.Source.holds (g.F.Files.contents l.initial.store) l.initial.source → g.S.Source.holds (g.F.Files.contents l.initial.store) l.source
+      × (first_value (g.S.Source.remaining (g.F.Files.contents l.initial.store) l.source) ≡ first_value (g.S.Source.remaining (g.F.Files.contents l.initial.store) l.initial.source));
 }
 
 abbrev pub decreases-loop-source : goal.decreases-loop-source

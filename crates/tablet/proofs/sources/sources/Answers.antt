@@ -1,6 +1,6 @@
 use Rattle.std.proofs.Common.{arith}
 use Rattle.std.specs.Option.{option_copied}
-use Rattle.tablet.proofs.Gathering.{first_gathered, one_gathered, all_gathered}
+use Rattle.tablet.proofs.Gathering.{entry_lists, first_gathered, one_gathered, all_gathered}
 use Rattle.tablet.proofs.sources.sources.Goals as goal
 
 pub loop-file-init : goal.loop-file-init
@@ -13,3 +13,6 @@ loop-file-preserved g c =
 
 pub returns-clause-lists : goal.returns-clause-lists
 returns-clause-lists g c = λ m opened. all_gathered c.args.from.now (option_copied c.args.end) (option_copied c.args.memtable) c.args.files.now c.loop-file.file-index c.loop-file.sources.items c.loop-file.invariant (omega arith) m opened
+
+pub returns-clause-entries : goal.returns-clause-entries
+returns-clause-entries g c = entry_lists (option_copied c.args.memtable) c.args.files.now c.in_ok-sources.ensures.entries

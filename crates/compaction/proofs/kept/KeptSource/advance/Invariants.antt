@@ -1,5 +1,4 @@
 use Rattle.std.proofs.Common.{◌≡◌, ◌≤◌}
-use Rattle.std.specs.Prelude.{IfSome}
 use Rattle.compaction.specs.Writing.{kept}
 use Rattle.compaction.proofs.kept.KeptSource.advance.Given as goal
 
@@ -9,8 +8,8 @@ invariant-loop-self g l = record {
   quiet : g.F.Files.faults l.files ≡ g.F.Files.faults l.initial.files;
   keep : l.self.keep_erasures ≡ l.initial.self.keep_erasures;
   lower : g.S.Source.left l.self.source ≤ g.S.Source.left l.initial.self.source;
-  told : IfSome (g.F.Files.contents l.initial.files) (λ m. g.S.Source.holds m l.initial.self.source → g.S.Source.holds m l.self.source
-      × (kept l.self.keep_erasures (g.S.Source.remaining m l.self.source) ≡ kept l.initial.self.keep_erasures (g.S.Source.remaining m l.initial.self.source)));
+  told : g.S.Source.holds (g.F.Files.contents l.initial.files) l.initial.self.source → g.S.Source.holds (g.F.Files.contents l.initial.files) l.self.source
+      × (kept l.self.keep_erasures (g.S.Source.remaining (g.F.Files.contents l.initial.files) l.self.source) ≡ kept l.initial.self.keep_erasures (g.S.Source.remaining (g.F.Files.contents l.initial.files) l.initial.self.source));
 }
 
 abbrev pub decreases-loop-self : goal.decreases-loop-self

@@ -2,7 +2,6 @@ use Rattle.std.proofs.Common.{◌≡◌, ◌∙◌, ap, sym, ◌++◌, map, take
 use Rattle.std.specs.Prelude.{nat_lt}
 use Rattle.compaction.specs.Least.{IsLeast}
 use Rattle.compaction.proofs.Falls.{merge_falls, back_whole, least_within}
-use Rattle.compaction.proofs.Turns.{if_map}
 use Rattle.compaction.specs.MergeLaws.{merge_takes, merge_holds}
 use Rattle.compaction.proofs.merge.MergeSource.advance.Goals as goal
 use Rattle.compaction.proofs.merge.MergeSource.advance.Goals.{After-len}
@@ -27,9 +26,9 @@ pub returns-clause-lower : goal.returns-clause-lower
 returns-clause-lower g c = rw (news_are g c, ← c.deref_mut.ensures.value) (merge_falls g.S.Source.lent c.step.new.sources c.least-self.result c.len.result _ _ (least_of g c) (length_of g c) c.in_ok-step.ensures.paid c.in_ok-step.ensures.lower)
 
 pub returns-clause-holds : goal.returns-clause-holds
-returns-clause-holds g c = rw (news_are g c, ← c.deref_mut.ensures.value) (if_map (g.F.Files.contents c.args.files.now) c.in_ok-step.ensures.steps (λ m steps h.
-    merge_holds g.S.Source.lent (g.S.Source.remaining m) (g.S.Source.holds m) c.deref_mut.result.now c.step.new.sources _ c.least-self.result (steps h) (least_of g c)))
+returns-clause-holds g c = rw (news_are g c, ← c.deref_mut.ensures.value) (λ h.
+    merge_holds g.S.Source.lent (g.S.Source.remaining (g.F.Files.contents c.args.files.now)) (g.S.Source.holds (g.F.Files.contents c.args.files.now)) c.deref_mut.result.now c.step.new.sources _ c.least-self.result (c.in_ok-step.ensures.steps h) (least_of g c))
 
 pub returns-clause-takes : goal.returns-clause-takes
-returns-clause-takes g c = rw (news_are g c, ← c.deref_mut.ensures.value) (if_map (g.F.Files.contents c.args.files.now) c.in_ok-step.ensures.steps (λ m steps h.
-    merge_takes g.S.Source.lent (g.S.Source.remaining m) (g.S.Source.holds m) (λ s k. (g.met.S.Source.list m s k).rising) c.deref_mut.result.now c.step.new.sources c.args.self.now.at c.least-self.result (steps h) (least_of g c)))
+returns-clause-takes g c = rw (news_are g c, ← c.deref_mut.ensures.value) (λ h.
+    merge_takes g.S.Source.lent (g.S.Source.remaining (g.F.Files.contents c.args.files.now)) (g.S.Source.holds (g.F.Files.contents c.args.files.now)) (λ s k. (g.met.S.Source.list (g.F.Files.contents c.args.files.now) s k).rising) c.deref_mut.result.now c.step.new.sources c.args.self.now.at c.least-self.result (c.in_ok-step.ensures.steps h) (least_of g c))

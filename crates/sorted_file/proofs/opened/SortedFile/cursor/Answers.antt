@@ -18,6 +18,8 @@ returns-clause-entries c = λ m o.
 
 pub returns-clause-holds : goal.returns-clause-holds
 returns-clause-holds c = λ m o.
-    let rest = c.new.ensures.rest ∙ c.split_at.ensures.back ∙ ap (λ (l : List FileEntry). drop c.first_from-at.result l) c.deref-2.ensures.value in
-    subst (λ (lent : Option (Bor FileEntry)). IsEntryList (pending (option_map (λ entry. file_entry entry.now) lent) (kept c.new.result.rest.now))) (sym c.new.ensures.current)
-    (subst IsEntryList (sym (ap kept rest)) (cursor_list file_entry c.args.self.now.entries.items _ c.first_from-at.result refl o.list))
+    let rest = c.new.ensures.rest ∙ c.split_at.ensures.back ∙ ap (λ (l : List FileEntry). drop c.first_from-at.result l) c.deref-2.ensures.value in (
+      refl,
+      subst (λ (lent : Option (Bor FileEntry)). IsEntryList (pending (option_map (λ entry. file_entry entry.now) lent) (kept c.new.result.rest.now))) (sym c.new.ensures.current)
+          (subst IsEntryList (sym (ap kept rest)) (cursor_list file_entry c.args.self.now.entries.items _ c.first_from-at.result refl o.list)),
+    )

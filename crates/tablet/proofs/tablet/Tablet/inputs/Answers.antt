@@ -1,15 +1,30 @@
-use Rattle.std.proofs.Common.{map, take, sym, ap, ◌∙◌}
+use Rattle.std.proofs.Common.{List, map, take, sym, ap, subst, ◌∙◌}
 use Rattle.std.proofs.lemmas.List.{take-map}
-use Rattle.sorted_file.specs.Opened.{listed}
+use Rattle.std.specs.List.{AllByRecursion}
+use Rattle.sorted_file.specs.declared.opened.SortedFile.{SortedFile}
+use Rattle.tablet.specs.Sources.{IsOpenIn, listed_in}
 use Rattle.tablet.specs.Views.{files_of, memory_of}
-use Rattle.tablet.specs.Compactions.{inputs_of}
+use Rattle.tablet.specs.Compactions.{ReadsOpen, inputs_of}
+use Rattle.tablet.proofs.Writing.{all_take}
 use Rattle.tablet.proofs.tablet.Tablet.inputs.Goals as goal
 
 pub returns-in-Minor-clause-lists : goal.returns-in-Minor-clause-lists
-returns-in-Minor-clause-lists c = λ m. ap (λ (k : _). inputs_of k (memory_of c.args.self.now) (map (listed m) (files_of c.args.self.now))) (sym c.in-Minor.is)
+returns-in-Minor-clause-lists c = λ m. ap (λ (k : _). inputs_of k (memory_of c.args.self.now) (map (listed_in m) (files_of c.args.self.now))) (sym c.in-Minor.is)
 
 pub returns-in-Merge-clause-lists : goal.returns-in-Merge-clause-lists
 returns-in-Merge-clause-lists c = λ m.
-    ap (λ (fs : _). map (listed m) (take c.in-Merge.count fs)) c.deref.ensures.value
-    ∙ sym (take-map (listed m) c.in-Merge.count (files_of c.args.self.now))
-    ∙ ap (λ (k : _). inputs_of k (memory_of c.args.self.now) (map (listed m) (files_of c.args.self.now))) (sym c.in-Merge.is)
+    ap (λ (fs : _). map (listed_in m) (take c.in-Merge.count fs)) c.deref.ensures.value
+    ∙ sym (take-map (listed_in m) c.in-Merge.count (files_of c.args.self.now))
+    ∙ ap (λ (k : _). inputs_of k (memory_of c.args.self.now) (map (listed_in m) (files_of c.args.self.now))) (sym c.in-Merge.is)
+
+pub returns-in-Minor-clause-open : goal.returns-in-Minor-clause-open
+returns-in-Minor-clause-open c = λ told reads. tt
+
+pub returns-in-Merge-clause-open : goal.returns-in-Merge-clause-open
+returns-in-Merge-clause-open c = λ told reads.
+    all_take (IsOpenIn told) c.in-Merge.count c.deref.result.now
+    (subst (λ (fs : List SortedFile). AllByRecursion (IsOpenIn told) fs) (sym c.deref.ensures.value) (subst (λ (k : _). ReadsOpen k told c.args.self.now) c.in-Merge.is reads))
+
+pub returns-in-Major-clause-open : goal.returns-in-Major-clause-open
+returns-in-Major-clause-open c = λ told reads.
+    subst (λ (fs : List SortedFile). AllByRecursion (IsOpenIn told) fs) (sym c.deref-in-Major.ensures.value) (subst (λ (k : _). ReadsOpen k told c.args.self.now) c.in-Major.is reads)

@@ -14,7 +14,7 @@ use Rattle.tablet.proofs.Compacting.{major_cells, no_entries}
 use Rattle.tablet.proofs.Held.{held_lists}
 use Rattle.tablet.proofs.Making.{large_of, made_keeps, made_lists, made_of, still_holds, still_keeps}
 use Rattle.tablet.proofs.Passed.{IsNoMemory, inserted, not_err, passed_err, passed_kept, passed_kind, passed_none, passed_on, passed_reason, quiet_reason, reason_of_ok}
-use Rattle.tablet.proofs.Writing.{if_some_not}
+use Rattle.tablet.proofs.Writing.{if_some_not, told_written}
 use Rattle.cell_key.specs.Entries.{cells_of}
 use Rattle.tablet.proofs.Seen.{shown}
 use Rattle.tablet.proofs.tablet.Tablet.major.Goals as goal
@@ -36,7 +36,8 @@ returns-in_err-file-clause-large g c = λ err.
     let memory = memory_of c.args.self.now in
     let old = files_of c.args.self.now in
     large_of (g.F.Files.contents c.args.files.now) c.args.self.now (record c.args.self.now { files = c.reserve.new.self }) (λ m. written false (map (seen range) (memory ∷ map (listed m) c.reserve.new.self.items))) (λ m. written false (map (seen range) (memory ∷ map (listed m) old))) (λ es. ¬ (FitsIn c.args.file_limit es))
-    (record { range = refl; memory = refl; files = c.in_ok-reserve.ensures.items }) (λ m h. ap (λ (fs : List SortedFile). written false (map (seen range) (memory ∷ map (listed m) fs))) c.in_ok-reserve.ensures.items) (c.in_err-file.ensures.large (passed_on c.from_residual-in_err-file.result _ c.in_err-file.field-0.0 _ c.from_residual-in_err-file.ensures.1 refl err))
+    (record { range = refl; memory = refl; files = c.in_ok-reserve.ensures.items }) (λ m h. ap (λ (fs : List SortedFile). written false (map (seen range) (memory ∷ map (listed m) fs))) c.in_ok-reserve.ensures.items)
+    (told_written (g.F.Files.contents c.args.files.now) (record c.args.self.now { files = c.reserve.new.self }) (λ lists. ¬ (FitsIn c.args.file_limit (written false (map (seen range) (memory ∷ lists))))) (c.in_err-file.ensures.large (passed_on c.from_residual-in_err-file.result _ c.in_err-file.field-0.0 _ c.from_residual-in_err-file.ensures.1 refl err)))
 
 none_left : (m : Contents) (files : List SortedFile) → drop (length files) (map (listed m) files) ≡ []
 none_left m files = drop_all (length files) (map (listed m) files) (let e = length-map files (listed m) in omega arith)
@@ -75,7 +76,8 @@ returns-clause-fits g c =
     let memory = memory_of c.args.self.now in
     let old = files_of c.args.self.now in
     large_of (g.F.Files.contents c.args.files.now) c.args.self.now (record c.args.self.now { files = c.reserve.new.self }) (λ m. written false (map (seen range) (memory ∷ map (listed m) c.reserve.new.self.items))) (λ m. written false (map (seen range) (memory ∷ map (listed m) old))) (λ es. FitsIn c.args.file_limit es)
-    (record { range = refl; memory = refl; files = c.in_ok-reserve.ensures.items }) (λ m h. ap (λ (fs : List SortedFile). written false (map (seen range) (memory ∷ map (listed m) fs))) c.in_ok-reserve.ensures.items) c.in_ok-file.ensures.fits
+    (record { range = refl; memory = refl; files = c.in_ok-reserve.ensures.items }) (λ m h. ap (λ (fs : List SortedFile). written false (map (seen range) (memory ∷ map (listed m) fs))) c.in_ok-reserve.ensures.items)
+    (told_written (g.F.Files.contents c.args.files.now) (record c.args.self.now { files = c.reserve.new.self }) (λ lists. FitsIn c.args.file_limit (written false (map (seen range) (memory ∷ lists)))) c.in_ok-file.ensures.fits)
 
 pub returns-in_err-file-clause-names : goal.returns-in_err-file-clause-names
 returns-in_err-file-clause-names g c = passed_none c.from_residual-in_err-file.result c.in_err-file.field-0.0 _ c.from_residual-in_err-file.ensures.1

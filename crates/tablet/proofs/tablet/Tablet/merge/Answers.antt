@@ -16,6 +16,7 @@ use Rattle.tablet.proofs.Compacting.{merge_cells}
 use Rattle.tablet.proofs.Held.{held_lists}
 use Rattle.tablet.proofs.Making.{large_of, made_keeps, made_lists, still_keeps}
 use Rattle.tablet.proofs.Passed.{IsBadCount, merge_of, not_err, passed_err, passed_kept, passed_kind, passed_none, passed_on, passed_reason, quiet_reason, reason_of_ok, told_kind}
+use Rattle.tablet.proofs.Writing.{told_written}
 use Rattle.tablet.proofs.tablet.Tablet.merge.Goals as goal
 
 within : (files : List SortedFile) (len count : ℕ) → len ≡ length files → count ≤ len → count ≤ length (map name_of files)
@@ -98,7 +99,8 @@ returns-in_err-file-clause-exhausted g c = λ is. c.in_err-file.ensures.exhauste
 pub returns-in_err-file-clause-large : goal.returns-in_err-file-clause-large
 returns-in_err-file-clause-large g c = λ is.
     same_written (g.F.Files.contents c.args.files.now) c.args.self.now c.args.count (λ es. ¬ (FitsIn c.args.file_limit es))
-    (c.in_err-file.ensures.large (passed_on c.from_residual.result _ c.in_err-file.field-0.0 _ c.from_residual.ensures.1 refl is))
+    (told_written (g.F.Files.contents c.args.files.now) c.args.self.now (λ lists. ¬ (FitsIn c.args.file_limit (written (nat_lt c.args.count (length lists)) (map (seen (range_of c.args.self.now)) (take c.args.count lists)))))
+    (c.in_err-file.ensures.large (passed_on c.from_residual.result _ c.in_err-file.field-0.0 _ c.from_residual.ensures.1 refl is)))
 
 pub returns-in_err-file-clause-damaged : goal.returns-in_err-file-clause-damaged
 returns-in_err-file-clause-damaged g c = λ is. c.in_err-file.ensures.damaged (passed_on c.from_residual.result _ c.in_err-file.field-0.0 _ c.from_residual.ensures.1 refl is)
@@ -204,7 +206,8 @@ returns-clause-used g c = c.in_ok-file.ensures.used
 pub returns-clause-fits : goal.returns-clause-fits
 returns-clause-fits g c =
     same_written (g.F.Files.contents c.args.files.now) c.args.self.now c.args.count (FitsIn c.args.file_limit)
-    (c.in_ok-file.ensures.fits)
+    (told_written (g.F.Files.contents c.args.files.now) c.args.self.now (λ lists. FitsIn c.args.file_limit (written (nat_lt c.args.count (length lists)) (map (seen (range_of c.args.self.now)) (take c.args.count lists))))
+    c.in_ok-file.ensures.fits)
 
 pub returns-clause-reason : goal.returns-clause-reason
 returns-clause-reason g c = reason_of_ok _ _ _ _ c.in_ok-file.ensures.reason

@@ -1,4 +1,4 @@
-use Rattle.std.proofs.Common.{◌≡◌, ℕ, List, [], ◌∷◌, map, refl, true, ap, ◌∙◌, inl, inr}
+use Rattle.std.proofs.Common.{◌≡◌, ℕ, List, [], ◌∷◌, map, refl, true, ap, subst, ◌∙◌, inl, inr}
 use Rattle.std.specs.Prelude.{◌≢◌}
 use Rattle.sorted_file.specs.Grammar.{FitsIn}
 use Rattle.cell_key.specs.Entries.{Entry}
@@ -10,7 +10,7 @@ use Rattle.tablet.specs.Ranges.{seen}
 use Rattle.tablet.specs.Compactions.{IsCompactionRefusal}
 use Rattle.tablet.specs.Views.{Holds, files_of, flushed, memory_of, range_of, with_name}
 use Rattle.tablet.proofs.Compacting.{minor_cells, minor_form, minor_writes, no_entries}
-use Rattle.tablet.proofs.Making.{large_of, made_keeps, made_lists, made_of, still_holds, still_keeps}
+use Rattle.tablet.proofs.Making.{made_keeps, made_lists, made_of, still_holds, still_keeps}
 use Rattle.tablet.proofs.Passed.{IsNoMemory, IsTooManyFiles, inserted, minor_of, not_both, not_empty, not_err, passed_err, passed_kept, passed_kind, passed_none, passed_on, passed_reason, quiet_reason, reason_of_ok, told_kind, too_few, too_many}
 use Rattle.tablet.proofs.Writing.{if_some_not}
 use Rattle.tablet.proofs.tablet.Tablet.minor.Goals as goal
@@ -30,8 +30,7 @@ returns-in_err-file-clause-large g c = λ err.
     let memory = memory_of c.args.self.now in
     let some = not_empty _ _ c.is_empty.ensures c.if-is_empty.false in (
       some,
-      large_of (g.F.Files.contents c.args.files.now) c.args.self.now (record c.args.self.now { files = c.reserve.new.self }) (λ m. written true (seen range memory ∷ [])) (λ m. seen range memory) (λ es. ¬ (FitsIn c.args.file_limit es))
-          (record { range = refl; memory = refl; files = c.in_ok-reserve.ensures.items }) (λ m h. minor_writes c.keeps_one_list.ensures range memory h.memory) (c.in_err-file.ensures.large (passed_on c.from_residual-in_err-file.result _ c.in_err-file.field-0.0 _ c.from_residual-in_err-file.ensures.1 refl err)),
+      subst (λ (es : List Entry). ¬ (FitsIn c.args.file_limit es)) (minor_writes c.keeps_one_list.ensures range memory c.len-2.ensures.list) (c.in_err-file.ensures.large (passed_on c.from_residual-in_err-file.result _ c.in_err-file.field-0.0 _ c.from_residual-in_err-file.ensures.1 refl err) tt),
     )
 
 pub returns-clause-lists : goal.returns-clause-lists
@@ -62,8 +61,7 @@ pub returns-clause-fits : goal.returns-clause-fits
 returns-clause-fits g c = λ some.
     let range = range_of c.args.self.now in
     let memory = memory_of c.args.self.now in
-    large_of (g.F.Files.contents c.args.files.now) c.args.self.now (record c.args.self.now { files = c.reserve.new.self }) (λ m. written true (seen range memory ∷ [])) (λ m. seen range memory) (λ es. FitsIn c.args.file_limit es)
-    (record { range = refl; memory = refl; files = c.in_ok-reserve.ensures.items }) (λ m h. minor_writes c.keeps_one_list.ensures range memory h.memory) c.in_ok-file.ensures.fits
+    subst (λ (es : List Entry). FitsIn c.args.file_limit es) (minor_writes c.keeps_one_list.ensures range memory c.len-2.ensures.list) (c.in_ok-file.ensures.fits tt)
 
 pub returns-then-len-ge-MOST_FILES-clause-unwritten : goal.returns-then-len-ge-MOST_FILES-clause-unwritten
 returns-then-len-ge-MOST_FILES-clause-unwritten g c = λ err. (refl, refl)
