@@ -16,7 +16,6 @@ mod sorted_files;
 mod stamps;
 mod statuses;
 mod streams;
-mod tablets;
 mod upkeep;
 
 use crate::FILE_LIMIT;
@@ -56,11 +55,14 @@ const ROWS: [&[Exchange]; 16] = [
 /// How a server ended.
 type Ended = Result<End, ServeFault>;
 
-/// A server over files in memory.
-fn new_server(alloc: Global) -> Result<MemServer, Refusal> {
+/// A server over files in memory, of so many bytes at most.
+fn new_server(alloc: Global, file_limit: u64) -> Result<MemServer, Refusal> {
+    if file_limit < 32 || file_limit > FILE_LIMIT {
+        return Err(Refusal::FileTooLarge);
+    }
     let config = Config {
         flush: 10_000,
-        file_limit: FILE_LIMIT,
+        file_limit,
     };
     match Server::new(alloc, MemFiles::new(alloc), MemMark::new(), config) {
         Ok(server) => Ok(server),
@@ -75,61 +77,50 @@ fn served<I: Read, O: Write>(
     writer: &mut O,
     most_reads: u64,
 ) -> Result<Ended, Refusal> {
-    let mut server = new_server(alloc)?;
+    let mut server = new_server(alloc, FILE_LIMIT)?;
     Ok(server.serve(reader, writer, most_reads))
 }
 
 /// How a new server ends, with so many reads at most, and what it writes.
-fn outcome(
-    alloc: Global,
-    mut reader: Pieces,
-    most_reads: u64,
-) -> Result<(Ended, Vec<u8>), Refusal> {
+fn outcome(alloc: Global, reader: Pieces, most_reads: u64) -> Result<(Ended, Vec<u8>), Refusal> {
+    let mut reader = reader;
     let mut written = Vec::new(alloc);
     let ended = served(alloc, &mut reader, &mut written, most_reads)?;
     Ok((ended, written))
 }
 
-/// What a new server writes for what the reader gives, where it ends cleanly.
-fn answers_to(alloc: Global, reader: Pieces) -> Result<Option<Vec<u8>>, Refusal> {
-    match outcome(alloc, reader, u64::MAX)? {
-        (Ok(End::Clean), written) => Ok(Some(written)),
-        _ => Ok(None),
+/// The frames of some bodies.
+fn stream_of(alloc: Global, bodies: &[&[u8]]) -> Result<Vec<u8>, AllocError> {
+    let mut stream = Vec::new(alloc);
+    for body in bodies {
+        let length = u32::try_from(body.len()).unwrap_or(0);
+        stream.extend_from_slice(&length.to_be_bytes())?;
+        stream.extend_from_slice(body)?;
     }
-}
-
-fn push_frame(out: &mut Vec<u8>, body: &[u8]) -> Result<(), AllocError> {
-    let length = u32::try_from(body.len()).unwrap_or(0);
-    out.extend_from_slice(&length.to_be_bytes())?;
-    out.extend_from_slice(body)
+    Ok(stream)
 }
 
 /// The stream of a row's requests, and that of its replies.
 fn streams_of(alloc: Global, row: &[Exchange]) -> Result<(Vec<u8>, Vec<u8>), AllocError> {
-    let mut requests = Vec::new(alloc);
-    let mut replies = Vec::new(alloc);
+    let mut requests: Vec<&[u8]> = Vec::new(alloc);
+    let mut replies: Vec<&[u8]> = Vec::new(alloc);
     for (request, reply) in row {
-        push_frame(&mut requests, request)?;
-        push_frame(&mut replies, reply)?;
+        requests.push(request)?;
+        replies.push(reply)?;
     }
-    Ok((requests, replies))
+    Ok((stream_of(alloc, &requests)?, stream_of(alloc, &replies)?))
 }
 
-/// Whether the row is met where a read gives so many bytes at most, and none past a place in the same call as one
-/// before it.
-fn is_met(alloc: Global, row: &[Exchange], most: usize, cut: usize) -> Result<bool, Refusal> {
+/// Whether a new server ends cleanly, and writes the row's replies: where each read gives a byte, and where the stream is
+/// cut in two at each place.
+fn is_met(alloc: Global, row: &[Exchange]) -> Result<bool, Refusal> {
     let (requests, replies) = streams_of(alloc, row)?;
-    let mut reader = Pieces::new(alloc, &requests)?;
-    reader.most = most;
-    reader.cut = cut;
-    Ok(answers_to(alloc, reader)? == Some(replies))
-}
-
-/// Whether the row is met where its stream is cut in two at each place.
-fn is_met_in_two(alloc: Global, row: &[Exchange]) -> Result<bool, Refusal> {
-    let (requests, _) = streams_of(alloc, row)?;
-    for cut in 0..requests.len() {
-        if !is_met(alloc, row, usize::MAX, cut)? {
+    for cut in 0..=requests.len() {
+        let mut reader = Pieces::new(alloc, &requests)?;
+        reader.most = if cut == 0 { 1 } else { usize::MAX };
+        reader.cut = cut;
+        let (ended, written) = outcome(alloc, reader, u64::MAX)?;
+        if !matches!(ended, Ok(End::Clean)) || written != replies {
             return Ok(false);
         }
     }
@@ -139,8 +130,7 @@ fn is_met_in_two(alloc: Global, row: &[Exchange]) -> Result<bool, Refusal> {
 #[test]
 fn rows_are_met(rt: HostRuntime) -> Result<(), Fail> {
     for row in ROWS {
-        assert!(rt; is_met(rt.alloc(), row, 1, 0)?);
-        assert!(rt; is_met_in_two(rt.alloc(), row)?);
+        assert!(rt; is_met(rt.alloc(), row)?);
     }
     Ok(())
 }
@@ -171,8 +161,7 @@ const ENDS: [(&[u8], &[u8], u8); 8] = [
 #[test]
 fn ends_of_streams(rt: HostRuntime) -> Result<(), Fail> {
     for (input, output, status) in ENDS {
-        let reader = Pieces::new(rt.alloc(), input)?;
-        let (ended, written) = outcome(rt.alloc(), reader, u64::MAX)?;
+        let (ended, written) = outcome(rt.alloc(), Pieces::new(rt.alloc(), input)?, u64::MAX)?;
         assert!(rt; written.as_slice() == output);
         assert!(rt; end_status(&ended).0 == status);
     }
@@ -181,28 +170,32 @@ fn ends_of_streams(rt: HostRuntime) -> Result<(), Fail> {
 
 const BEGIN: &[u8] = b"\0\0\0\x01\x01";
 
-/// Two requests, and the reply to the first.
+/// Two requests.
 const TWO_BEGINS: &[u8] = b"\0\0\0\x01\x01\0\0\0\x01\x01";
 
-const FIRST_REPLY: &[u8] = b"\0\0\0\x09\x81\0\0\0\0\0\0\0\x01";
+/// Their replies.
+const TWO_REPLIES: &[u8] = b"\0\0\0\x09\x81\0\0\0\0\0\0\0\x01\0\0\0\x09\x81\0\0\0\0\0\0\0\x02";
 
+/// A reader that fails at each place of two requests: the requests before it are answered. So it is where the reads are
+/// used up there.
 #[test]
-fn reads_are_counted(rt: HostRuntime) -> Result<(), Fail> {
-    let reader = Pieces::new(rt.alloc(), TWO_BEGINS)?;
-    let (ended, written) = outcome(rt.alloc(), reader, 3)?;
-    assert!(rt; matches!(&ended, Ok(End::ReadsUsedUp)));
-    assert!(rt; written.as_slice() == FIRST_REPLY);
-    Ok(())
-}
-
-#[test]
-fn a_read_fails_inside_a_frame(rt: HostRuntime) -> Result<(), Fail> {
-    let mut reader = Pieces::new(rt.alloc(), TWO_BEGINS)?;
-    reader.most = 1;
-    reader.fails_at = 7;
-    let (ended, written) = outcome(rt.alloc(), reader, u64::MAX)?;
-    assert!(rt; matches!(&ended, Err(ServeFault::Read)));
-    assert!(rt; written.as_slice() == FIRST_REPLY);
+fn a_read_fails_at_each_place(rt: HostRuntime) -> Result<(), Fail> {
+    for place in 0..10 {
+        let (replies, _) = TWO_REPLIES
+            .split_at_checked(place / 5 * 13)
+            .ok_or("too far")?;
+        let mut reader = Pieces::new(rt.alloc(), TWO_BEGINS)?;
+        reader.most = 1;
+        reader.fails_at = place;
+        let (ended, written) = outcome(rt.alloc(), reader, u64::MAX)?;
+        assert!(rt; matches!(ended, Err(ServeFault::Read)));
+        assert!(rt; written.as_slice() == replies);
+        let mut reader = Pieces::new(rt.alloc(), TWO_BEGINS)?;
+        reader.most = 1;
+        let (ended, written) = outcome(rt.alloc(), reader, place as u64)?;
+        assert!(rt; matches!(ended, Ok(End::ReadsUsedUp)));
+        assert!(rt; written.as_slice() == replies);
+    }
     Ok(())
 }
 
@@ -216,16 +209,13 @@ fn is_cut_short(alloc: Global, calls_left: usize, stalls: bool) -> Result<bool, 
         stalls,
     };
     let ended = served(alloc, &mut reader, &mut writer, u64::MAX)?;
-    let Some(beginning) = replies.get(..calls_left) else {
-        return Ok(matches!(&ended, Ok(End::Clean)) && writer.written == replies);
-    };
-    let is_whole = calls_left == replies.len();
-    let is_told = match &ended {
-        Err(ServeFault::Write) => !is_whole,
-        Ok(End::Clean) => is_whole,
+    let is_told = match ended {
+        Err(ServeFault::Write) => calls_left < replies.len(),
+        Ok(End::Clean) => calls_left >= replies.len(),
         _ => false,
     };
-    Ok(is_told && writer.written.as_slice() == beginning)
+    let most = calls_left.min(replies.len());
+    Ok(is_told && writer.written.as_slice() == &replies[..most])
 }
 
 #[test]
@@ -250,7 +240,7 @@ fn a_reply_leaves_before_the_next_read(rt: HostRuntime) -> Result<(), Fail> {
         left: &left,
     };
     let ended = served(rt.alloc(), &mut reader, &mut writer, u64::MAX)?;
-    assert!(rt; matches!(&ended, Ok(End::Clean)));
-    assert!(rt; writer.written.len() == 26);
+    assert!(rt; matches!(ended, Ok(End::Clean)));
+    assert!(rt; writer.written.as_slice() == TWO_REPLIES);
     Ok(())
 }

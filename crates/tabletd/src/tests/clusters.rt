@@ -1,63 +1,19 @@
-//! A cluster of tablets, beside one map in memory.
+//! A cluster of tablets: what it shows after a list of commands.
 
 ghost use Rattle.std.specs.Prelude.{IfOk};
 ghost use Rattle.row_atomic.specs.Commands.{IsUnderRow};
 
-use crate::tests::edits::{Write, edits_of};
-use crate::tests::memory::rows::new_cluster;
-use cell_key::{Family, Qualifier, Refusal, Row, Stamp};
-use file_store::MemFiles;
-use row_atomic::{Cluster, Command, Outcome, PlainRows, Rows, one_newest, one_next_cell};
+use crate::tests::edits::edits_of;
+use crate::tests::memory::rows::{new_cluster, newest, next};
+use cell_key::{Refusal, Row, Stamp};
+use row_atomic::{Command, Outcome, Rows, one_newest, one_next_cell};
 use std::alloc::Global;
 use std::test::Fail;
 
-fn write(alloc: Global, rows: &mut PlainRows, write: Write) -> Result<(), Refusal> {
-    let row = Row::new(alloc, write.0)?;
-    let edits = edits_of(alloc, &row, write)?;
-    rows.apply(&row, edits)
-}
-
-/// The stamp of the newest data of a row's `bal`, or 0.
-fn newest_stamp<R: Rows>(
-    alloc: Global,
-    rows: &mut R,
-    row: &[u8],
-    lo: Stamp,
-    hi: Stamp,
-) -> Result<Stamp, Refusal> {
-    let row = Row::new(alloc, row)?;
-    let family = Family::new(alloc, b"bal")?;
-    match rows.newest(&row, &family, Qualifier::Data, lo, hi)? {
-        Some((stamp, _)) => Ok(stamp),
-        None => Ok(0),
-    }
-}
-
-/// The places of the cells in order, one after the other.
-fn places<R: Rows>(alloc: Global, rows: &mut R) -> Result<Vec<u8>, Refusal> {
-    let mut out = Vec::new(alloc);
-    let mut after: Option<(Row, Family)> = None;
-    for _ in 0..16 {
-        let found = match &after {
-            Some((row, family)) => rows.next_cell(Some((row, family)))?,
-            None => rows.next_cell(None)?,
-        };
-        let Some((row, family)) = &found else {
-            return Ok(out);
-        };
-        out.extend_from_slice(row.as_bytes())?;
-        out.push(b' ')?;
-        out.extend_from_slice(family.as_bytes())?;
-        out.push(b'\n')?;
-        after = found;
-    }
-    Ok(out)
-}
-
-/// What is done to a cluster and, where it is a write, to a plain map too.
+/// What is done to a cluster. A write has a row, a stamp of `bal` and a value, or is an erasure.
 #[derive(Clone, Copy)]
 enum Step {
-    Write(Write),
+    Write(u8, Stamp, Option<&'static [u8]>),
     Minor(u32),
     Merge(u32, u32),
     Major(u32),
@@ -68,29 +24,29 @@ enum Step {
 /// Splits at the middle, the first and the last row of a tablet, writes on both sides of an end, a merge of a file that
 /// two tablets have, moves, and a major compaction.
 const STEPS: [Step; 25] = [
-    Step::Write((b"a", b"bal", 1, Some(b"10"))),
-    Step::Write((b"b", b"bal", 1, Some(b"10"))),
-    Step::Write((b"c", b"bal", 1, Some(b"10"))),
-    Step::Write((b"d", b"bal", 1, Some(b"10"))),
-    Step::Write((b"e", b"bal", 1, Some(b"10"))),
+    Step::Write(b'a', 1, Some(b"1")),
+    Step::Write(b'b', 1, Some(b"1")),
+    Step::Write(b'c', 1, Some(b"1")),
+    Step::Write(b'd', 1, Some(b"1")),
+    Step::Write(b'e', 1, Some(b"1")),
     Step::Minor(1),
-    Step::Write((b"c", b"bal", 2, Some(b"10"))),
-    Step::Write((b"b", b"bal", 1, None)),
+    Step::Write(b'c', 2, Some(b"2")),
+    Step::Write(b'b', 1, None),
     Step::Split(b'c'),
-    Step::Write((b"c", b"bal", 3, Some(b"10"))),
-    Step::Write((b"d", b"bal", 3, Some(b"10"))),
+    Step::Write(b'c', 3, Some(b"3")),
+    Step::Write(b'd', 3, Some(b"3")),
     Step::Minor(2),
     Step::Merge(2, 3),
     Step::Split(b'a'),
     Step::Split(b'e'),
-    Step::Write((b"b", b"bal", 2, Some(b"10"))),
-    Step::Write((b"f", b"bal", 2, Some(b"10"))),
+    Step::Write(b'b', 2, Some(b"2")),
+    Step::Write(b'f', 2, Some(b"2")),
     Step::Move(2, 3),
     Step::Move(1, 15),
     Step::Move(1, 15),
-    Step::Write((b"d", b"bal", 1, None)),
+    Step::Write(b'd', 1, None),
     Step::Major(4),
-    Step::Write((b"d", b"bal", 4, Some(b"10"))),
+    Step::Write(b'd', 4, Some(b"4")),
     Step::Minor(4),
     Step::Merge(4, 2),
 ];
@@ -99,9 +55,9 @@ fn command_of(alloc: Global, step: Step) -> Result<Command, Refusal>
     ensures { IfOk result IsUnderRow }
 {
     match step {
-        Step::Write(write) => {
-            let row = Row::new(alloc, write.0)?;
-            let edits = edits_of(alloc, &row, write)?;
+        Step::Write(row, stamp, value) => {
+            let row = Row::new(alloc, &[row])?;
+            let edits = edits_of(alloc, &row, stamp, value, None)?;
             Ok(Command::Apply { row, edits })
         }
         Step::Minor(tablet) => Ok(Command::Minor { tablet }),
@@ -114,72 +70,30 @@ fn command_of(alloc: Global, step: Step) -> Result<Command, Refusal>
     }
 }
 
-/// Runs one command, which must be done.
-fn run_one(alloc: Global, cluster: &mut Cluster<MemFiles>, command: Command) -> Result<(), Refusal>
-    requires { IsUnderRow command }
-{
-    let mut commands = Vec::new(alloc);
-    commands.push(command)?;
-    match cluster.run(commands)?.get(0) {
-        Some(Outcome::Refused(refusal)) => Err(*refusal),
-        _ => Ok(()),
-    }
-}
-
-fn take(
-    alloc: Global,
-    cluster: &mut Cluster<MemFiles>,
-    plain: &mut PlainRows,
-    step: Step,
-) -> Result<(), Refusal> {
-    if let Step::Write(one) = step {
-        write(alloc, plain, one)?;
-    }
-    let command = command_of(alloc, step)?;
-    run_one(alloc, cluster, command)
-}
-
-/// Whether both show the same newest versions of a row in some ranges of stamps.
-fn row_agrees(
-    alloc: Global,
-    cluster: &mut Cluster<MemFiles>,
-    plain: &mut PlainRows,
-    row: u8,
-) -> Result<bool, Refusal> {
-    for (lo, hi) in [(0, 9), (0, 1), (2, 2), (2, 3)] {
-        let shown = newest_stamp(alloc, cluster, &[row], lo, hi)?;
-        if shown != newest_stamp(alloc, plain, &[row], lo, hi)? {
-            return Ok(false);
-        }
-    }
-    Ok(true)
-}
-
-fn agrees(
-    alloc: Global,
-    cluster: &mut Cluster<MemFiles>,
-    plain: &mut PlainRows,
-) -> Result<bool, Refusal> {
-    for row in [b'a', b'b', b'c', b'd', b'e', b'f'] {
-        if !row_agrees(alloc, cluster, plain, row)? {
-            return Ok(false);
-        }
-    }
-    let shown = places(alloc, cluster)?;
-    Ok(shown.as_slice() == places(alloc, plain)?.as_slice())
-}
+/// Rows, their newest values and the rows of the next cells. Each value is its stamp.
+const SHOWN: [(u8, u8, u8); 6] = [
+    (b'a', b'1', b'b'),
+    (b'b', b'2', b'c'),
+    (b'c', b'3', b'd'),
+    (b'd', b'4', b'e'),
+    (b'e', b'1', b'f'),
+    (b'f', b'2', b'-'),
+];
 
 #[test]
 fn tablets_keep_the_cells(rt: HostRuntime) -> Result<(), Fail> {
     let mut cluster = new_cluster(rt.alloc())?;
-    let mut plain = PlainRows::new(rt.alloc());
     let mut swept: u64 = 0;
     for step in STEPS {
-        take(rt.alloc(), &mut cluster, &mut plain, step)?;
-        assert!(rt; agrees(rt.alloc(), &mut cluster, &mut plain)?);
+        let commands = vec![in rt.alloc(); command_of(rt.alloc(), step)?]?;
+        let outcomes = cluster.run(commands)?;
+        assert!(rt; !matches!(outcomes.get(0), Some(Outcome::Refused(_)) | None));
         swept = swept.saturating_add(cluster.sweep()?);
     }
-    assert!(rt; agrees(rt.alloc(), &mut cluster, &mut plain)?);
+    for (row, value, after) in SHOWN {
+        assert!(rt; newest(rt.alloc(), &mut cluster, row)? == value);
+        assert!(rt; next(rt.alloc(), &mut cluster, row)? == after);
+    }
     assert!(rt; swept == 3 && cluster.faults() == 0);
     one_newest();
     one_next_cell();

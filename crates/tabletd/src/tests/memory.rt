@@ -5,7 +5,7 @@ pub mod files;
 mod keys;
 pub mod rows;
 mod servers;
-mod sessions;
+pub mod sessions;
 pub mod tablets;
 
 use cell_key::Refusal;
@@ -23,16 +23,11 @@ pub trait Subject: Sized + Drop {
     /// What stands before a call.
     fn set_up(alloc: Global) -> Result<Self, Refusal>;
 
-    /// Makes a call, and appends its answer.
-    fn call(&mut self, alloc: Global, number: usize, out: &mut Vec<u8>) -> Result<(), Refusal>;
+    /// Makes a call: whether it gives this answer. Once the call has changed something this takes no more memory.
+    fn answers(&mut self, alloc: Global, number: usize, wanted: &[u8]) -> Result<bool, Refusal>;
 
-    /// Appends what is read.
-    fn read(&mut self, alloc: Global, out: &mut Vec<u8>) -> Result<(), Refusal>;
-}
-
-/// Appends the lowest byte of a number.
-pub fn push_number(number: u64, out: &mut Vec<u8>) -> Result<(), Refusal> {
-    Ok(out.push((number % 256) as u8)?)
+    /// What is read.
+    fn read(&mut self, alloc: Global) -> Result<Vec<u8>, Refusal>;
 }
 
 /// What came of a call.
@@ -52,118 +47,53 @@ pub enum Came {
     WrongAfter,
 }
 
-/// A subject, and room for answers that needs no more memory.
-#[derive(Drop)]
-pub struct Trial<S: Subject> {
-    pub alloc: Global,
-    pub subject: S,
-    pub table: Table,
-    pub number: usize,
-    pub out: Vec<u8>,
-}
-
-impl<S: Subject> Trial<S> {
-    pub fn new(alloc: Global, table: Table, number: usize) -> Result<Trial<S>, Refusal> {
-        let out = Vec::with_capacity(alloc, 4096)?;
-        let subject = S::set_up(alloc)?;
-        Ok(Trial {
-            alloc,
-            subject,
-            table,
-            number,
-            out,
-        })
-    }
-
-    /// Whether this is read.
-    pub fn reads(&mut self, wanted: &[u8]) -> Result<bool, Refusal> {
-        self.out.clear();
-        self.subject.read(self.alloc, &mut self.out)?;
-        Ok(self.out.as_slice() == wanted)
-    }
-
-    /// Whether the call gives this answer.
-    pub fn answers(&mut self, wanted: &[u8]) -> Result<bool, Refusal> {
-        self.out.clear();
-        self.subject.call(self.alloc, self.number, &mut self.out)?;
-        Ok(self.out.as_slice() == wanted)
-    }
-
-    /// Makes the call again, where what is read is as before.
-    fn again(&mut self, wanted: &[u8]) -> Result<Came, Refusal> {
-        if !self.reads(self.table.0)? {
-            return Ok(Came::WrongRefused);
-        }
-        if !self.answers(wanted)? {
-            return Ok(Came::WrongAnswer);
-        }
-        Ok(Came::AnsweredLater)
-    }
-
-    /// Makes the call, and once more where it was refused for memory.
-    fn until_answered(&mut self, wanted: &[u8]) -> Result<Came, Refusal> {
-        match self.answers(wanted) {
-            Ok(true) => Ok(Came::Answered),
-            Ok(false) => Ok(Came::WrongAnswer),
-            Err(Refusal::NoMemory) => self.again(wanted),
-            Err(refusal) => Err(refusal),
-        }
-    }
-
-    /// What comes of the call.
-    pub fn comes(&mut self) -> Result<Came, Refusal> {
-        let Some((answer, after)) = self.table.1.get(self.number) else {
-            return Ok(Came::WrongAnswer);
-        };
-        let came = self.until_answered(answer)?;
-        if !self.reads(after)? && matches!(came, Came::Answered | Came::AnsweredLater) {
-            return Ok(Came::WrongAfter);
-        }
-        Ok(came)
-    }
-}
-
-/// What comes of a call, on a subject of its own.
+/// What comes of a call, on a subject of its own. It is made once more where it was refused for memory.
 pub fn tried<S: Subject>(alloc: Global, table: Table, number: usize) -> Result<Came, Refusal> {
-    let mut trial: Trial<S> = Trial::new(alloc, table, number)?;
-    if !trial.reads(table.0)? {
+    let Some((answer, after)) = table.1.get(number) else {
+        return Ok(Came::WrongAnswer);
+    };
+    let mut subject = S::set_up(alloc)?;
+    if subject.read(alloc)?.as_slice() != table.0 {
         return Ok(Came::WrongBefore);
     }
-    trial.comes()
+    let mut came = Came::Answered;
+    let mut answered = subject.answers(alloc, number, answer);
+    if answered == Err(Refusal::NoMemory) {
+        if subject.read(alloc)?.as_slice() != table.0 {
+            return Ok(Came::WrongRefused);
+        }
+        came = Came::AnsweredLater;
+        answered = subject.answers(alloc, number, answer);
+    }
+    if !answered? {
+        return Ok(Came::WrongAnswer);
+    }
+    if subject.read(alloc)?.as_slice() != *after {
+        return Ok(Came::WrongAfter);
+    }
+    Ok(came)
 }
 
-/// The first call that isn't answered as it must be, and what came of it.
-fn first_wrong<S: Subject>(alloc: Global, table: Table) -> Result<Option<(usize, Came)>, Refusal> {
+/// Whether each call of a table is answered as it must be.
+fn are_answered<S: Subject>(alloc: Global, table: Table) -> Result<bool, Refusal> {
     for number in 0..table.1.len() {
-        let came = tried::<S>(alloc, table, number)?;
-        if !matches!(came, Came::Answered) {
-            return Ok(Some((number, came)));
+        if !matches!(tried::<S>(alloc, table, number)?, Came::Answered) {
+            return Ok(false);
         }
     }
-    Ok(None)
+    Ok(true)
 }
 
 #[test]
-fn calls_of_names_and_files(rt: HostRuntime) -> Result<(), Fail> {
-    assert!(rt; first_wrong::<keys::Keys>(rt.alloc(), keys::KEYS)?.is_none());
-    assert!(rt; first_wrong::<files::Stored>(rt.alloc(), files::STORED)?.is_none());
-    assert!(rt; first_wrong::<files::Sorted>(rt.alloc(), files::SORTED)?.is_none());
-    Ok(())
-}
-
-#[test]
-fn calls_of_tablets_and_rows(rt: HostRuntime) -> Result<(), Fail> {
-    assert!(rt; first_wrong::<tablets::Served>(rt.alloc(), tablets::SERVED)?.is_none());
-    assert!(rt; first_wrong::<tablets::Placed>(rt.alloc(), tablets::PLACED)?.is_none());
-    assert!(rt; first_wrong::<rows::Plain>(rt.alloc(), rows::PLAIN)?.is_none());
-    assert!(rt; first_wrong::<rows::Clustered>(rt.alloc(), rows::CLUSTERED)?.is_none());
-    Ok(())
-}
-
-#[test]
-fn calls_of_sessions_and_servers(rt: HostRuntime) -> Result<(), Fail> {
-    assert!(rt; first_wrong::<sessions::Sessions>(rt.alloc(), sessions::SESSIONS)?.is_none());
-    assert!(rt; first_wrong::<servers::Asked>(rt.alloc(), servers::ASKED)?.is_none());
-    assert!(rt; first_wrong::<servers::Streamed>(rt.alloc(), servers::STREAMED)?.is_none());
+fn calls_of_all_crates(rt: HostRuntime) -> Result<(), Fail> {
+    assert!(rt; are_answered::<keys::Keys>(rt.alloc(), keys::KEYS)?);
+    assert!(rt; are_answered::<files::Stored>(rt.alloc(), files::STORED)?);
+    assert!(rt; are_answered::<files::Sorted>(rt.alloc(), files::SORTED)?);
+    assert!(rt; are_answered::<tablets::Served>(rt.alloc(), tablets::SERVED)?);
+    assert!(rt; are_answered::<tablets::Placed>(rt.alloc(), tablets::PLACED)?);
+    assert!(rt; are_answered::<rows::Plain>(rt.alloc(), rows::PLAIN)?);
+    assert!(rt; are_answered::<rows::Clustered>(rt.alloc(), rows::CLUSTERED)?);
+    assert!(rt; are_answered::<sessions::Sessions>(rt.alloc(), sessions::SESSIONS)?);
+    assert!(rt; are_answered::<servers::Asked>(rt.alloc(), servers::ASKED)?);
     Ok(())
 }

@@ -85,28 +85,10 @@ fn three(alloc: Global) -> Result<Vec<u8>, AllocError> {
 
 #[test]
 fn files_of_literal_bytes(rt: HostRuntime) -> Result<(), Fail> {
-    for (bytes, len) in [(EMPTY, 32), (ONE, 99), (TWO, 132)] {
+    let three = three(rt.alloc())?;
+    for (bytes, len) in [(EMPTY, 32), (ONE, 99), (TWO, 132), (&three, 6244)] {
         assert!(rt; bytes.len() == len);
         assert!(rt; is_written_again(rt.alloc(), bytes)?);
-    }
-    Ok(())
-}
-
-#[test]
-fn a_file_of_two_blocks(rt: HostRuntime) -> Result<(), Fail> {
-    let bytes = three(rt.alloc())?;
-    assert!(rt; bytes.len() == 6244);
-    assert!(rt; is_written_again(rt.alloc(), &bytes)?);
-    Ok(())
-}
-
-#[test]
-fn damaged_files(rt: HostRuntime) -> Result<(), Fail> {
-    assert!(rt; SPLIT_EARLY.len() == 166);
-    assert!(rt; is_damaged(rt.alloc(), SPLIT_EARLY));
-    for len in 0..99 {
-        let (beginning, _) = ONE.split_at_checked(len).ok_or("too long")?;
-        assert!(rt; is_damaged(rt.alloc(), beginning));
     }
     Ok(())
 }
@@ -120,7 +102,12 @@ const CHANGES: [(usize, u8, bool); 4] = [
 ];
 
 #[test]
-fn one_byte_changed(rt: HostRuntime) -> Result<(), Fail> {
+fn damaged_files(rt: HostRuntime) -> Result<(), Fail> {
+    assert!(rt; SPLIT_EARLY.len() == 166);
+    assert!(rt; is_damaged(rt.alloc(), SPLIT_EARLY));
+    for len in 0..99 {
+        assert!(rt; is_damaged(rt.alloc(), &ONE[..len]));
+    }
     for (at, byte, damaged) in CHANGES {
         let mut bytes = Vec::from_slice(rt.alloc(), ONE)?;
         if let Some(place) = bytes.get_mut(at) {

@@ -1,6 +1,7 @@
-//! Exit statuses and the command line.
+//! Exit statuses, the command line, and the texts of refusals and faults.
 
 use cell_key::Refusal;
+use file_store::FileFault;
 use server_loop::{End, ServeFault, end_status, open_status, options};
 use std::test::Fail;
 
@@ -50,14 +51,17 @@ fn command_lines(rt: HostRuntime) -> Result<(), Fail> {
         (&["tabletd", "--help"], None),
     ];
     for (words, flush) in table {
-        let read = options(rt.alloc(), words).ok().map(|options| options.flush);
+        let read = match options(rt.alloc(), words) {
+            Ok(options) => Some(options.flush),
+            Err(_) => None,
+        };
         assert!(rt; read == flush);
     }
     Ok(())
 }
 
 #[test]
-fn texts_of_faults(rt: HostRuntime) -> Result<(), Fail> {
+fn texts(rt: HostRuntime) -> Result<(), Fail> {
     let table = [
         (ServeFault::Read, "read failed"),
         (ServeFault::Write, "write failed"),
@@ -67,5 +71,11 @@ fn texts_of_faults(rt: HostRuntime) -> Result<(), Fail> {
         let told = fault.to_string(rt.alloc())?;
         assert!(rt; told.as_str() == *text);
     }
+    let told = Refusal::NoMemory.to_string(rt.alloc())?;
+    assert!(rt; told.as_str() == "refused 20: NoMemory");
+    let told = FileFault::Device.to_string(rt.alloc())?;
+    assert!(rt; told.as_str() == "device failed");
+    let told = FileFault::Memory.to_string(rt.alloc())?;
+    assert!(rt; told.as_str() == "no memory");
     Ok(())
 }

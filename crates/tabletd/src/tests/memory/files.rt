@@ -1,64 +1,14 @@
 //! Memtables, files in memory, and sorted files.
 
-ghost use Rattle.std.specs.Prelude.{◌<◌, ◌≤◌, ◌^◌, IfOk};
-ghost use Rattle.std.specs.List.{AllByRecursion};
-ghost use Rattle.cell_key.specs.Cells.{IsEditOf};
-
 use crate::FILE_LIMIT;
-use crate::tests::edits::{data_key, erase, put, two};
+use crate::tests::edits::{data_key, edits_of};
 use crate::tests::memory::{Call, Subject, Table};
-use cell_key::{Edit, EntryRef, Refusal, Row, Stamp};
+use cell_key::{EntryRef, Refusal, Row, Stamp};
 use compaction::{Input, merge_into};
 use file_store::{FileFault, Files, MemFiles, read_whole};
 use memtable::Memtable;
 use sorted_file::{SortedFile, refusal_of, write_file};
 use std::alloc::Global;
-
-/// A write of a row's data, and an erasure at the stamp 9.
-pub fn edits_of(alloc: Global, row: &Row, stamp: Stamp, value: u8) -> Result<Vec<Edit>, Refusal>
-    requires from { 1 ≤ stamp }
-    requires to { stamp < 2 ^ 63 }
-    ensures { IfOk result (λ edits. AllByRecursion (IsEditOf row.now) edits.items) }
-{
-    let put = put(alloc, row, b"bal", stamp, &[value])?;
-    let erasure = erase(alloc, row, b"bal", 9)?;
-    two(alloc, row, put, erasure)
-}
-
-/// Appends an entry's value, or x for an erasure.
-fn push_value(entry: Option<EntryRef<'_>>, out: &mut Vec<u8>) -> Result<(), Refusal> {
-    match entry {
-        Some(entry) => out.extend_from_slice(entry.value.unwrap_or(b"x"))?,
-        None => out.push(b'-')?,
-    }
-    Ok(())
-}
-
-fn write(
-    alloc: Global,
-    table: &mut Memtable,
-    row: u8,
-    stamp: Stamp,
-    value: u8,
-) -> Result<(), Refusal>
-    requires from { 1 ≤ stamp }
-    requires to { stamp < 2 ^ 63 }
-{
-    let row = Row::new(alloc, &[row])?;
-    let edits = edits_of(alloc, &row, stamp, value)?;
-    table.apply(&row, edits)
-}
-
-/// Appends the values of a memtable in the order of their keys.
-fn push_table(table: &Memtable, out: &mut Vec<u8>) -> Result<(), Refusal> {
-    let mut cursor = table.cursor(b"");
-    for _ in 0..table.len() {
-        if cursor.advance() {
-            push_value(cursor.current(), out)?;
-        }
-    }
-    Ok(())
-}
 
 /// The refusal of a call of files.
 fn refused<T>(call: Result<T, FileFault>) -> Result<T, Refusal> {
@@ -68,17 +18,6 @@ fn refused<T>(call: Result<T, FileFault>) -> Result<T, Refusal> {
     }
 }
 
-/// Appends the number of bytes of each file from 1 to 3.
-pub fn push_sizes(files: &mut MemFiles, out: &mut Vec<u8>) -> Result<(), Refusal> {
-    for name in 1..=3 {
-        match refused(files.size(name))? {
-            Some(size) => out.push((size % 256) as u8)?,
-            None => out.push(b'-')?,
-        }
-    }
-    Ok(())
-}
-
 /// Files in memory, and names that others are appended to.
 #[derive(Drop)]
 pub struct Stored {
@@ -86,67 +25,55 @@ pub struct Stored {
     names: Vec<u64>,
 }
 
+/// What is read are how many names there are, and the first four bytes of the files 1 to 3.
 const FILE_CALLS: [Call; 5] = [
     // put of a new file
-    (b"", b"\x09one-two-6789"),
+    (b"", b"\x01one-two-6789"),
     // put in place of a file
-    (b"", b"\x09six-two-----"),
+    (b"", b"\x01six-two-----"),
     // list
-    (b"", b"\x09\x01\x02one-two-----"),
+    (b"", b"\x03one-two-----"),
     // read_whole
-    (b"two", b"\x09one-two-----"),
+    (b"two", b"\x01one-two-----"),
     // remove
-    (b"", b"\x09----two-----"),
+    (b"", b"\x01----two-----"),
 ];
 
-impl Stored {
-    /// Appends the first four bytes of a file, and dashes where it has fewer.
-    fn push_file(&mut self, name: u64, out: &mut Vec<u8>) -> Result<(), Refusal> {
-        let mut bytes = *b"----";
-        refused(self.files.read_at(name, 0, &mut bytes))?;
-        out.extend_from_slice(&bytes)?;
-        Ok(())
-    }
-
-    /// Appends the bytes of the file 2.
-    fn push_whole(&mut self, alloc: Global, out: &mut Vec<u8>) -> Result<(), Refusal> {
-        if let Some(bytes) = refused(read_whole(alloc, &mut self.files, 2))? {
-            out.extend_from_slice(&bytes)?;
-        }
-        Ok(())
-    }
-}
-
-pub const STORED: Table = (b"\x09one-two-----", &FILE_CALLS);
+pub const STORED: Table = (b"\x01one-two-----", &FILE_CALLS);
 
 impl Subject for Stored {
     fn set_up(alloc: Global) -> Result<Stored, Refusal> {
+        let names = vec![in alloc; 9]?;
         let mut files = MemFiles::new(alloc);
         refused(files.put(1, b"one"))?;
         refused(files.put(2, b"two"))?;
-        Ok(Stored {
-            files,
-            names: vec![in alloc; 9]?,
-        })
+        Ok(Stored { files, names })
     }
 
-    fn call(&mut self, alloc: Global, number: usize, out: &mut Vec<u8>) -> Result<(), Refusal> {
+    fn answers(&mut self, alloc: Global, number: usize, wanted: &[u8]) -> Result<bool, Refusal> {
         match number {
-            0 => refused(self.files.put(3, b"6789")),
-            1 => refused(self.files.put(1, b"six")),
-            2 => refused(self.files.list(&mut self.names)),
-            3 => self.push_whole(alloc, out),
-            _ => refused(self.files.remove(1)),
+            0 => refused(self.files.put(3, b"6789"))?,
+            1 => refused(self.files.put(1, b"six"))?,
+            2 => refused(self.files.list(&mut self.names))?,
+            3 => {
+                return match refused(read_whole(alloc, &mut self.files, 2))? {
+                    Some(bytes) => Ok(bytes.as_slice() == wanted),
+                    None => Ok(false),
+                };
+            }
+            _ => refused(self.files.remove(1))?,
         }
+        Ok(wanted.is_empty())
     }
 
-    fn read(&mut self, _alloc: Global, out: &mut Vec<u8>) -> Result<(), Refusal> {
-        for name in &self.names {
-            out.push((*name % 256) as u8)?;
+    fn read(&mut self, alloc: Global) -> Result<Vec<u8>, Refusal> {
+        let mut out = vec![in alloc; (self.names.len() % 256) as u8]?;
+        for name in 1..=3 {
+            let mut bytes = *b"----";
+            refused(self.files.read_at(name, 0, &mut bytes))?;
+            out.extend_from_slice(&bytes)?;
         }
-        self.push_file(1, out)?;
-        self.push_file(2, out)?;
-        self.push_file(3, out)
+        Ok(out)
     }
 }
 
@@ -158,11 +85,13 @@ pub struct Sorted {
     table: Memtable,
 }
 
+/// What is read are the sizes of the files 1 to 3, the values of the memtable in the order of their keys, with x for an
+/// erasure, and those of the sorted file at 9 and 1.
 const SORTED_CALLS: [Call; 7] = [
     // write_file
     (b"", b"\x7D\x7D-x2x1"),
     // SortedFile::open
-    (b"x1", b"\x7D--x2x1"),
+    (b"x", b"\x7D--x2x1"),
     // SortedFile::lookup
     (b"1", b"\x7D--x2x1"),
     // merge_into
@@ -175,64 +104,71 @@ const SORTED_CALLS: [Call; 7] = [
     (b"", b"\x7D--x2x3x1"),
 ];
 
-/// Appends the value of a file at a stamp of `a`.
-fn push_at(
+/// Writes a value of one byte into a row, and an erasure at the stamp 9.
+fn write(
+    alloc: Global,
+    table: &mut Memtable,
+    row: u8,
+    stamp: Stamp,
+    value: u8,
+) -> Result<(), Refusal> {
+    let row = Row::new(alloc, &[row])?;
+    let edits = edits_of(alloc, &row, stamp, Some(&[value]), Some(9))?;
+    table.apply(&row, edits)
+}
+
+/// The first byte of an entry's value, x for an erasure, or a dash.
+fn first_byte(entry: Option<EntryRef<'_>>) -> u8 {
+    match entry {
+        Some(entry) => entry.value.unwrap_or(b"x").first().copied().unwrap_or(b' '),
+        None => b'-',
+    }
+}
+
+/// What a sorted file has at a stamp of `a`.
+fn found(
     alloc: Global,
     file: &mut SortedFile,
     files: &mut MemFiles,
     stamp: Stamp,
-    out: &mut Vec<u8>,
-) -> Result<(), Refusal> {
-    let row = Row::new(alloc, b"a")?;
-    let key = data_key(alloc, &row, b"bal", stamp)?;
+) -> Result<u8, Refusal> {
+    let key = data_key(alloc, &Row::new(alloc, b"a")?, stamp)?;
     match file.lookup(&key, files)? {
-        Some(Some(value)) => out.extend_from_slice(&value)?,
-        Some(None) => out.push(b'x')?,
-        None => out.push(b'-')?,
-    }
-    Ok(())
-}
-
-/// Appends the values of a file in the order of their keys.
-fn push_sorted(
-    alloc: Global,
-    file: &mut SortedFile,
-    files: &mut MemFiles,
-    out: &mut Vec<u8>,
-) -> Result<(), Refusal> {
-    push_at(alloc, file, files, 9, out)?;
-    push_at(alloc, file, files, 1, out)
-}
-
-impl Sorted {
-    fn open_again(&mut self, alloc: Global, out: &mut Vec<u8>) -> Result<(), Refusal> {
-        let mut file = SortedFile::open(alloc, 1, &mut self.files)?;
-        push_sorted(alloc, &mut file, &mut self.files, out)
-    }
-
-    fn write_again(&mut self, alloc: Global) -> Result<(), Refusal> {
-        let mut cursor = self.file.cursor(b"");
-        write_file(alloc, &mut cursor, 2, FILE_LIMIT, &mut self.files)
-    }
-
-    fn merge(&mut self, alloc: Global) -> Result<(), Refusal> {
-        let mut sources = Vec::new(alloc);
-        sources.push(Input::Memtable(self.table.cursor(b"")))?;
-        sources.push(Input::File(self.file.cursor(b"")))?;
-        merge_into(alloc, sources, true, 2, FILE_LIMIT, &mut self.files)
+        Some(Some(value)) => Ok(value.first().copied().unwrap_or(b' ')),
+        Some(None) => Ok(b'x'),
+        None => Ok(b'-'),
     }
 }
 
-/// Writes a memtable as the file 1, and opens it.
-pub fn written(
+/// The lowest byte of a file's size, or a dash.
+fn size_of(files: &mut MemFiles, name: u64) -> Result<u8, Refusal> {
+    match refused(files.size(name))? {
+        Some(size) => Ok((size % 256) as u8),
+        None => Ok(b'-'),
+    }
+}
+
+/// Writes a memtable and perhaps a file, the newer first, as a file of a name.
+pub fn merge(
     alloc: Global,
     table: &Memtable,
+    file: Option<&SortedFile>,
+    keep_erasures: bool,
+    name: u64,
     files: &mut MemFiles,
-) -> Result<SortedFile, Refusal> {
+) -> Result<(), Refusal> {
     let mut sources = Vec::new(alloc);
     sources.push(Input::Memtable(table.cursor(b"")))?;
-    merge_into(alloc, sources, true, 1, FILE_LIMIT, files)?;
-    SortedFile::open(alloc, 1, files)
+    if let Some(file) = file {
+        sources.push(Input::File(file.cursor(b"")))?;
+    }
+    merge_into(alloc, sources, keep_erasures, name, FILE_LIMIT, files)
+}
+
+/// Writes a sorted file again as the file 2.
+fn write_again(alloc: Global, file: &SortedFile, files: &mut MemFiles) -> Result<(), Refusal> {
+    let mut cursor = file.cursor(b"");
+    write_file(alloc, &mut cursor, 2, FILE_LIMIT, files)
 }
 
 pub const SORTED: Table = (b"\x7D--x2x1", &SORTED_CALLS);
@@ -244,25 +180,41 @@ impl Subject for Sorted {
         let mut table = Memtable::new(alloc);
         write(alloc, &mut table, b'a', 2, b'2')?;
         let mut files = MemFiles::new(alloc);
-        let file = written(alloc, &older, &mut files)?;
+        merge(alloc, &older, None, true, 1, &mut files)?;
+        let file = SortedFile::open(alloc, 1, &mut files)?;
         Ok(Sorted { files, file, table })
     }
 
-    fn call(&mut self, alloc: Global, number: usize, out: &mut Vec<u8>) -> Result<(), Refusal> {
+    fn answers(&mut self, alloc: Global, number: usize, wanted: &[u8]) -> Result<bool, Refusal> {
+        let files = &mut self.files;
         match number {
-            0 => self.write_again(alloc),
-            1 => self.open_again(alloc, out),
-            2 => push_at(alloc, &mut self.file, &mut self.files, 1, out),
-            3 => self.merge(alloc),
-            4 => write(alloc, &mut self.table, b'a', 3, b'3'),
-            5 => write(alloc, &mut self.table, b'a', 2, b'3'),
-            _ => write(alloc, &mut self.table, b'b', 1, b'3'),
+            0 => write_again(alloc, &self.file, files)?,
+            1 => {
+                let mut file = SortedFile::open(alloc, 1, files)?;
+                return Ok(wanted == [found(alloc, &mut file, files, 9)?].as_slice());
+            }
+            2 => return Ok(wanted == [found(alloc, &mut self.file, files, 1)?].as_slice()),
+            3 => merge(alloc, &self.table, Some(&self.file), true, 2, files)?,
+            4 => write(alloc, &mut self.table, b'a', 3, b'3')?,
+            5 => write(alloc, &mut self.table, b'a', 2, b'3')?,
+            _ => write(alloc, &mut self.table, b'b', 1, b'3')?,
         }
+        Ok(wanted.is_empty())
     }
 
-    fn read(&mut self, alloc: Global, out: &mut Vec<u8>) -> Result<(), Refusal> {
-        push_sizes(&mut self.files, out)?;
-        push_table(&self.table, out)?;
-        push_sorted(alloc, &mut self.file, &mut self.files, out)
+    fn read(&mut self, alloc: Global) -> Result<Vec<u8>, Refusal> {
+        let mut out = Vec::new(alloc);
+        for name in 1..=3 {
+            out.push(size_of(&mut self.files, name)?)?;
+        }
+        let mut cursor = self.table.cursor(b"");
+        for _ in 0..self.table.len() {
+            if cursor.advance() {
+                out.push(first_byte(cursor.current()))?;
+            }
+        }
+        out.push(found(alloc, &mut self.file, &mut self.files, 9)?)?;
+        out.push(found(alloc, &mut self.file, &mut self.files, 1)?)?;
+        Ok(out)
     }
 }

@@ -37,7 +37,7 @@ const CALLS: [Call; 11] = [
     // CellKey::decode
     (b"a\0b", b"text"),
     // CellKey::decode of no key
-    (b"none", b"text"),
+    (b"", b"text"),
     // encode_request
     (b"", b"text\x02\0\0\0\0\0\0\0\x01\0\0\0\x01a\0\0\0\x03bal"),
     // encode_reply
@@ -46,48 +46,28 @@ const CALLS: [Call; 11] = [
     (b"m\0\0c\0\0", b"text"),
 ];
 
-fn new_key(alloc: Global) -> Result<CellKey, Refusal> {
-    Ok(CellKey {
-        row: Row::new(alloc, b"a\0b")?,
-        family: Family::new(alloc, b"bal")?,
-        qualifier: Qualifier::Data,
-        stamp: 1,
-    })
-}
-
-/// Appends the row of the key of a text.
-fn push_decoded(alloc: Global, text: &[u8], out: &mut Vec<u8>) -> Result<(), Refusal> {
+/// Whether the key of a text has this row, or there is none and no bytes are wanted.
+fn is_decoded(alloc: Global, text: &[u8], wanted: &[u8]) -> Result<bool, Refusal> {
     match CellKey::decode(alloc, text)? {
-        Some(key) => out.extend_from_slice(key.row.as_bytes())?,
-        None => out.extend_from_slice(b"none")?,
+        Some(key) => Ok(key.row.as_bytes() == wanted),
+        None => Ok(wanted.is_empty()),
     }
-    Ok(())
-}
-
-/// Appends the value of a raw reply.
-fn push_raw(alloc: Global, out: &mut Vec<u8>) -> Result<(), Refusal> {
-    if let Some(Reply::Raw(Some((_, value)))) = decode_reply(alloc, RAW)? {
-        out.extend_from_slice(&value)?;
-    }
-    Ok(())
 }
 
 impl Keys {
-    /// Calls of names and keys.
-    fn call_names(
-        &mut self,
-        alloc: Global,
-        number: usize,
-        out: &mut Vec<u8>,
-    ) -> Result<(), Refusal> {
+    /// Calls of names, and of a raw reply.
+    fn names(&self, alloc: Global, number: usize, wanted: &[u8]) -> Result<bool, Refusal> {
         match number {
-            0 => out.extend_from_slice(Row::new(alloc, b"m\0")?.as_bytes())?,
-            1 => out.extend_from_slice(Family::new(alloc, b"c")?.as_bytes())?,
-            2 => out.extend_from_slice(self.key.clone()?.row.as_bytes())?,
-            3 => out.extend_from_slice(&self.key.row.fence(alloc)?)?,
-            _ => out.extend_from_slice(&place(alloc, &self.key.row, &self.key.family)?)?,
+            0 => Ok(Row::new(alloc, b"m\0")?.as_bytes() == wanted),
+            1 => Ok(Family::new(alloc, b"c")?.as_bytes() == wanted),
+            2 => Ok(self.key.clone()?.row.as_bytes() == wanted),
+            3 => Ok(self.key.row.fence(alloc)?.as_slice() == wanted),
+            4 => Ok(place(alloc, &self.key.row, &self.key.family)?.as_slice() == wanted),
+            _ => match decode_reply(alloc, RAW)? {
+                Some(Reply::Raw(Some((_, value)))) => Ok(value.as_slice() == wanted),
+                _ => Ok(false),
+            },
         }
-        Ok(())
     }
 
     /// Writes a request after the text.
@@ -103,26 +83,31 @@ pub const KEYS: Table = (b"text", &CALLS);
 
 impl Subject for Keys {
     fn set_up(alloc: Global) -> Result<Keys, Refusal> {
-        Ok(Keys {
-            key: new_key(alloc)?,
-            text: Vec::from_slice(alloc, b"text")?,
-        })
+        let row = Row::new(alloc, b"a\0b")?;
+        let family = Family::new(alloc, b"bal")?;
+        let text = Vec::from_slice(alloc, b"text")?;
+        let key = CellKey {
+            row,
+            family,
+            qualifier: Qualifier::Data,
+            stamp: 1,
+        };
+        Ok(Keys { key, text })
     }
 
-    fn call(&mut self, alloc: Global, number: usize, out: &mut Vec<u8>) -> Result<(), Refusal> {
+    fn answers(&mut self, alloc: Global, number: usize, wanted: &[u8]) -> Result<bool, Refusal> {
         match number {
-            5 => self.key.encode(&mut self.text),
-            6 => push_decoded(alloc, KEY, out),
-            7 => push_decoded(alloc, b"a\0", out),
-            8 => self.write_request(),
-            9 => encode_reply(&Reply::Begin(7), &mut self.text),
-            10 => push_raw(alloc, out),
-            _ => self.call_names(alloc, number, out),
+            5 => self.key.encode(&mut self.text)?,
+            6 => return is_decoded(alloc, KEY, wanted),
+            7 => return is_decoded(alloc, b"a\0", wanted),
+            8 => self.write_request()?,
+            9 => encode_reply(&Reply::Begin(7), &mut self.text)?,
+            _ => return self.names(alloc, number, wanted),
         }
+        Ok(wanted.is_empty())
     }
 
-    fn read(&mut self, _alloc: Global, out: &mut Vec<u8>) -> Result<(), Refusal> {
-        out.extend_from_slice(&self.text)?;
-        Ok(())
+    fn read(&mut self, alloc: Global) -> Result<Vec<u8>, Refusal> {
+        Ok(Vec::from_slice(alloc, &self.text)?)
     }
 }

@@ -1,74 +1,61 @@
 //! Rows: in memory, and in a cluster of tablets.
 
-ghost use Rattle.std.specs.Prelude.{◌<◌, ◌≤◌, ◌^◌};
-
 use crate::FILE_LIMIT;
-use crate::tests::memory::files::edits_of;
-use crate::tests::memory::{Call, Subject, Table, push_number};
+use crate::tests::edits::edits_of;
+use crate::tests::memory::{Call, Subject, Table};
 use cell_key::{Family, Qualifier, Refusal, Row, Stamp};
 use file_store::MemFiles;
 use row_atomic::{Cluster, Command, Outcome, PlainRows, Rows};
 use std::alloc::Global;
 
+/// Writes a value of one byte into a row, and an erasure at the stamp 9.
 fn write<R: Rows>(
     alloc: Global,
     rows: &mut R,
     row: u8,
     stamp: Stamp,
     value: u8,
-) -> Result<(), Refusal>
-    requires from { 1 ≤ stamp }
-    requires to { stamp < 2 ^ 63 }
-{
+) -> Result<(), Refusal> {
     let row = Row::new(alloc, &[row])?;
-    let edits = edits_of(alloc, &row, stamp, value)?;
+    let edits = edits_of(alloc, &row, stamp, Some(&[value]), Some(9))?;
     rows.apply(&row, edits)
 }
 
-/// Appends the value of the newest data of a row in the family `bal`.
-pub fn push_newest<R: Rows>(
-    alloc: Global,
-    rows: &mut R,
-    row: u8,
-    out: &mut Vec<u8>,
-) -> Result<(), Refusal> {
+/// The first byte of the newest data of a row in the family `bal`, or a dash.
+pub fn newest<R: Rows>(alloc: Global, rows: &mut R, row: u8) -> Result<u8, Refusal> {
     let row = Row::new(alloc, &[row])?;
     let family = Family::new(alloc, b"bal")?;
     match rows.newest(&row, &family, Qualifier::Data, 0, 9)? {
-        Some((_, value)) => out.extend_from_slice(&value)?,
-        None => out.push(b'-')?,
+        Some((_, value)) => Ok(value.first().copied().unwrap_or(b' ')),
+        None => Ok(b'-'),
     }
-    Ok(())
 }
 
-/// Appends the row of the next cell after that of `a`.
-fn push_next<R: Rows>(alloc: Global, rows: &mut R, out: &mut Vec<u8>) -> Result<(), Refusal> {
-    let row = Row::new(alloc, b"a")?;
+/// The first byte of the row of the next cell after that of a row, or a dash.
+pub fn next<R: Rows>(alloc: Global, rows: &mut R, row: u8) -> Result<u8, Refusal> {
+    let row = Row::new(alloc, &[row])?;
     let family = Family::new(alloc, b"bal")?;
-    if let Some((row, _)) = rows.next_cell(Some((&row, &family)))? {
-        out.extend_from_slice(row.as_bytes())?;
+    match rows.next_cell(Some((&row, &family)))? {
+        Some((row, _)) => Ok(row.as_bytes().first().copied().unwrap_or(b' ')),
+        None => Ok(b'-'),
     }
-    Ok(())
 }
 
 /// The calls of any rows, with `a` and `n`.
-fn call_rows<R: Rows>(
+fn rows_answer<R: Rows>(
     alloc: Global,
     rows: &mut R,
     number: usize,
-    out: &mut Vec<u8>,
-) -> Result<(), Refusal> {
+    wanted: &[u8],
+) -> Result<bool, Refusal> {
     match number {
-        0 => push_newest(alloc, rows, b'a', out),
-        1 => push_next(alloc, rows, out),
-        _ => write(alloc, rows, b'n', 3, b'6'),
+        0 => Ok(wanted == [newest(alloc, rows, b'a')?].as_slice()),
+        1 => Ok(wanted == [next(alloc, rows, b'a')?].as_slice()),
+        _ => {
+            write(alloc, rows, b'n', 3, b'6')?;
+            Ok(wanted.is_empty())
+        }
     }
-}
-
-/// Appends the newest data of `a` and `n`.
-fn push_rows<R: Rows>(alloc: Global, rows: &mut R, out: &mut Vec<u8>) -> Result<(), Refusal> {
-    push_newest(alloc, rows, b'a', out)?;
-    push_newest(alloc, rows, b'n', out)
 }
 
 /// Rows in memory.
@@ -96,12 +83,14 @@ impl Subject for Plain {
         Ok(Plain { rows })
     }
 
-    fn call(&mut self, alloc: Global, number: usize, out: &mut Vec<u8>) -> Result<(), Refusal> {
-        call_rows(alloc, &mut self.rows, number, out)
+    fn answers(&mut self, alloc: Global, number: usize, wanted: &[u8]) -> Result<bool, Refusal> {
+        rows_answer(alloc, &mut self.rows, number, wanted)
     }
 
-    fn read(&mut self, alloc: Global, out: &mut Vec<u8>) -> Result<(), Refusal> {
-        push_rows(alloc, &mut self.rows, out)
+    fn read(&mut self, alloc: Global) -> Result<Vec<u8>, Refusal> {
+        let first = newest(alloc, &mut self.rows, b'a')?;
+        let second = newest(alloc, &mut self.rows, b'n')?;
+        Ok(vec![in alloc; first, second]?)
     }
 }
 
@@ -143,85 +132,76 @@ pub fn new_cluster(alloc: Global) -> Result<Cluster<MemFiles>, Refusal> {
     }
 }
 
-/// Appends the row of a cell that was found.
-fn push_outcome(outcome: &Outcome, out: &mut Vec<u8>) -> Result<(), Refusal> {
-    match outcome {
-        Outcome::NextCell(Some((row, _))) => Ok(out.extend_from_slice(row.as_bytes())?),
-        Outcome::Refused(refusal) => Err(*refusal),
-        _ => Ok(()),
+/// The number of the refusal of a merge of more files than a tablet has.
+fn refused_merge(cluster: &mut Cluster<MemFiles>, tablet: u32) -> u8 {
+    match cluster.merge(tablet, 9) {
+        Err(refusal) => refusal.number(),
+        Ok(()) => 0,
     }
 }
 
-impl Clustered {
-    /// Writes two files and merges them.
-    fn write_oldest(&mut self, alloc: Global) -> Result<(), Refusal> {
-        write(alloc, &mut self.cluster, b'a', 1, b'1')?;
-        write(alloc, &mut self.cluster, b'n', 1, b'2')?;
-        self.cluster.minor(1)?;
-        write(alloc, &mut self.cluster, b'a', 2, b'3')?;
-        self.cluster.minor(1)?;
-        self.cluster.merge(1, 2)
-    }
-
-    /// Writes a further file, and a memtable.
-    fn write_newest(&mut self, alloc: Global) -> Result<(), Refusal> {
-        write(alloc, &mut self.cluster, b'a', 3, b'5')?;
-        self.cluster.minor(1)?;
-        write(alloc, &mut self.cluster, b'n', 2, b'4')
-    }
-
-    fn split(&mut self, alloc: Global, out: &mut Vec<u8>) -> Result<(), Refusal> {
-        let row = Row::new(alloc, b"m")?;
-        push_number(u64::from(self.cluster.split(&row)?), out)
-    }
-
-    /// Runs a command that looks for the first cell, and appends its row.
-    fn run(&mut self, alloc: Global, out: &mut Vec<u8>) -> Result<(), Refusal> {
-        let commands = vec![in alloc; Command::NextCell { after: None }]?;
-        let outcomes = self.cluster.run(commands)?;
-        for outcome in &outcomes {
-            push_outcome(outcome, out)?;
-        }
-        Ok(())
-    }
-
-    /// Appends the refusal of a merge of more files than a tablet has.
-    fn push_merge(&mut self, tablet: u32, out: &mut Vec<u8>) -> Result<(), Refusal> {
-        match self.cluster.merge(tablet, 9) {
-            Err(refusal) => out.push(refusal.number())?,
-            Ok(()) => out.push(0)?,
-        }
-        Ok(())
+/// Runs a command that looks for the first cell: whether its row is this.
+fn is_first(
+    alloc: Global,
+    cluster: &mut Cluster<MemFiles>,
+    wanted: &[u8],
+) -> Result<bool, Refusal> {
+    let commands = vec![in alloc; Command::NextCell { after: None }]?;
+    match cluster.run(commands)?.get(0) {
+        Some(Outcome::NextCell(Some((row, _)))) => Ok(row.as_bytes() == wanted),
+        Some(Outcome::Refused(refusal)) => Err(*refusal),
+        _ => Ok(false),
     }
 }
+
+/// The writes of a new cluster, each followed by so many minor compactions, and by a merge of two files where it is two.
+const WRITES: [(u8, Stamp, u8, u8); 5] = [
+    (b'a', 1, b'1', 0),
+    (b'n', 1, b'2', 1),
+    (b'a', 2, b'3', 2),
+    (b'a', 3, b'5', 1),
+    (b'n', 2, b'4', 0),
+];
 
 pub const CLUSTERED: Table = (b"54\x0E\x0B", &CLUSTER_CALLS);
 
 impl Subject for Clustered {
     fn set_up(alloc: Global) -> Result<Clustered, Refusal> {
-        let cluster = new_cluster(alloc)?;
-        let mut clustered = Clustered { cluster };
-        clustered.write_oldest(alloc)?;
-        clustered.write_newest(alloc)?;
-        Ok(clustered)
-    }
-
-    fn call(&mut self, alloc: Global, number: usize, out: &mut Vec<u8>) -> Result<(), Refusal> {
-        match number {
-            3 => self.cluster.minor(1),
-            4 => self.cluster.merge(1, 2),
-            5 => self.cluster.major(1),
-            6 => self.split(alloc, out),
-            7 => self.cluster.move_to(1, 3),
-            8 => push_number(self.cluster.sweep()?, out),
-            9 => self.run(alloc, out),
-            _ => call_rows(alloc, &mut self.cluster, number, out),
+        let mut cluster = new_cluster(alloc)?;
+        for (row, stamp, value, compactions) in WRITES {
+            write(alloc, &mut cluster, row, stamp, value)?;
+            if compactions > 0 {
+                cluster.minor(1)?;
+            }
+            if compactions > 1 {
+                cluster.merge(1, 2)?;
+            }
         }
+        Ok(Clustered { cluster })
     }
 
-    fn read(&mut self, alloc: Global, out: &mut Vec<u8>) -> Result<(), Refusal> {
-        push_rows(alloc, &mut self.cluster, out)?;
-        self.push_merge(1, out)?;
-        self.push_merge(2, out)
+    fn answers(&mut self, alloc: Global, number: usize, wanted: &[u8]) -> Result<bool, Refusal> {
+        match number {
+            3 => self.cluster.minor(1)?,
+            4 => self.cluster.merge(1, 2)?,
+            5 => self.cluster.major(1)?,
+            6 => {
+                let row = Row::new(alloc, b"m")?;
+                return Ok(wanted == [(self.cluster.split(&row)? % 256) as u8].as_slice());
+            }
+            7 => self.cluster.move_to(1, 3)?,
+            8 => return Ok(wanted == [(self.cluster.sweep()? % 256) as u8].as_slice()),
+            9 => return is_first(alloc, &mut self.cluster, wanted),
+            _ => return rows_answer(alloc, &mut self.cluster, number, wanted),
+        }
+        Ok(wanted.is_empty())
+    }
+
+    fn read(&mut self, alloc: Global) -> Result<Vec<u8>, Refusal> {
+        let first = newest(alloc, &mut self.cluster, b'a')?;
+        let second = newest(alloc, &mut self.cluster, b'n')?;
+        let one = refused_merge(&mut self.cluster, 1);
+        let two = refused_merge(&mut self.cluster, 2);
+        Ok(vec![in alloc; first, second, one, two]?)
     }
 }

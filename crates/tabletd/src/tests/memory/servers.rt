@@ -1,7 +1,8 @@
 //! Servers: asked by requests, and over streams of frames.
 
+use crate::FILE_LIMIT;
 use crate::tests::memory::{Call, Subject, Table};
-use crate::tests::{MemServer, new_server, push_frame};
+use crate::tests::{MemServer, new_server, stream_of};
 use cell_key::Refusal;
 use request_codec::{Reply, decode_request};
 use server_loop::{End, ServeFault};
@@ -211,8 +212,53 @@ const SPLIT: &[u8] = b"\
 /// The frame of the refusal NoMemory.
 const NO_MEMORY: &[u8] = b"\0\0\0\x02\xFF\x14";
 
-/// The replies to the requests, as frames.
-const REPLIES: [Call; 21] = [
+/// The calls: each request by itself, with the number of its refusal or 0, a new server, and then each request as a
+/// frame, with the frame of its reply.
+const CALLS: [Call; 43] = [
+    // Begin: 13
+    (b"\0", STILL),
+    // Get 12 a c: 3
+    (b"\0", STILL),
+    // Get 12 b c: pending at 9
+    (b"\0", STILL),
+    // Get 12 z c: nothing
+    (b"\0", STILL),
+    // Set 12 a c 7: done
+    (b"\0", STILL),
+    // Set 10 n c 8: done
+    (b"\0", STILL),
+    // Step 10: Held 1 1
+    (b"\0", HELD),
+    // Step 11: Conflict 1
+    (b"\0", STILL),
+    // Step 9: Stamped 13
+    (b"\0", STILL),
+    // Step 5: Committed 6
+    (b"\0", COMMITTED),
+    // Step 7: Finished 2 2
+    (b"\0", FINISHED),
+    // Stop 10: stopped
+    (b"\0", STILL),
+    // Minor 1: done
+    (b"\0", STILL),
+    // Merge 1 2: done
+    (b"\0", STILL),
+    // Major 1: done
+    (b"\0", STILL),
+    // Split m: 2
+    (b"\0", SPLIT),
+    // Move 1 3: done
+    (b"\0", STILL),
+    // Sweep: 2
+    (b"\0", STILL),
+    // Restart: done
+    (b"\0", STILL),
+    // Raw n c data: stamp 1, 2
+    (b"\0", STILL),
+    // Raw p c lock: stamp 5, 70 00 00 63 00 00
+    (b"\0", STILL),
+    // Server::new
+    (b"\0", STILL),
     // Begin: 13
     (b"\0\0\0\x09\x81\0\0\0\0\0\0\0\x0D", STILL),
     // Get 12 a c: 3
@@ -260,169 +306,68 @@ const REPLIES: [Call; 21] = [
     ),
 ];
 
-/// The numbers of the refusals of the requests, and of a new server.
-const REFUSALS: [Call; 22] = [
-    // Begin: 13
-    (b"\0", STILL),
-    // Get 12 a c: 3
-    (b"\0", STILL),
-    // Get 12 b c: pending at 9
-    (b"\0", STILL),
-    // Get 12 z c: nothing
-    (b"\0", STILL),
-    // Set 12 a c 7: done
-    (b"\0", STILL),
-    // Set 10 n c 8: done
-    (b"\0", STILL),
-    // Step 10: Held 1 1
-    (b"\0", HELD),
-    // Step 11: Conflict 1
-    (b"\0", STILL),
-    // Step 9: Stamped 13
-    (b"\0", STILL),
-    // Step 5: Committed 6
-    (b"\0", COMMITTED),
-    // Step 7: Finished 2 2
-    (b"\0", FINISHED),
-    // Stop 10: stopped
-    (b"\0", STILL),
-    // Minor 1: done
-    (b"\0", STILL),
-    // Merge 1 2: done
-    (b"\0", STILL),
-    // Major 1: done
-    (b"\0", STILL),
-    // Split m: 2
-    (b"\0", SPLIT),
-    // Move 1 3: done
-    (b"\0", STILL),
-    // Sweep: 2
-    (b"\0", STILL),
-    // Restart: done
-    (b"\0", STILL),
-    // Raw n c data: stamp 1, 2
-    (b"\0", STILL),
-    // Raw p c lock: stamp 5, 70 00 00 63 00 00
-    (b"\0", STILL),
-    // Server::new
-    (b"\0", STILL),
-];
-
-/// Appends the number of a refusal, or 0, where memory was not refused.
-fn push_refusal(reply: &Reply, out: &mut Vec<u8>) -> Result<(), Refusal> {
-    match reply {
+/// The number of the refusal of a request, or 0, where memory was not refused.
+fn number_of(server: &mut MemServer, body: &[u8]) -> Result<u8, Refusal> {
+    let Some(request) = decode_request(body) else {
+        return Err(Refusal::BadRequest);
+    };
+    match server.answer(request) {
         Reply::Refused(Refusal::NoMemory) => Err(Refusal::NoMemory),
-        Reply::Refused(refusal) => Ok(out.push(refusal.number())?),
-        _ => Ok(out.push(0)?),
+        Reply::Refused(refusal) => Ok(refusal.number()),
+        _ => Ok(0),
     }
 }
 
-fn ask(server: &mut MemServer, body: &[u8], out: &mut Vec<u8>) -> Result<(), Refusal> {
-    match decode_request(body) {
-        Some(request) => push_refusal(&server.answer(request), out),
-        None => Err(Refusal::BadRequest),
-    }
-}
-
-/// A server after the first requests.
-fn asked_server(alloc: Global) -> Result<MemServer, Refusal> {
-    let mut replies = Vec::with_capacity(alloc, 64)?;
-    let mut server = new_server(alloc)?;
-    for body in SET_UP {
-        ask(&mut server, body, &mut replies)?;
-    }
-    Ok(server)
-}
-
-/// Appends what a server writes for a stream.
-fn serve_stream(
-    server: &mut MemServer,
-    mut stream: &[u8],
-    out: &mut Vec<u8>,
-) -> Result<(), Refusal> {
-    match server.serve(&mut stream, out, u64::MAX) {
-        Ok(End::Clean) => Ok(()),
+/// What a server writes for a stream, after what is there.
+fn written(server: &mut MemServer, stream: &[u8], out: Vec<u8>) -> Result<Vec<u8>, Refusal> {
+    let mut stream = stream;
+    let mut out = out;
+    match server.serve(&mut stream, &mut out, u64::MAX) {
+        Ok(End::Clean) => Ok(out),
         Err(ServeFault::NoMemory) => Err(Refusal::NoMemory),
         _ => Err(Refusal::BadRequest),
     }
 }
 
-/// Puts what a server writes for one frame in place of what was there.
-fn serve(
-    alloc: Global,
-    server: &mut MemServer,
-    body: &[u8],
-    out: &mut Vec<u8>,
-) -> Result<(), Refusal> {
-    let mut frame = Vec::new(alloc);
-    push_frame(&mut frame, body)?;
-    out.clear();
-    serve_stream(server, &frame, out)?;
-    if out.as_slice() == NO_MEMORY {
-        return Err(Refusal::NoMemory);
-    }
-    Ok(())
-}
-
-/// Appends what a server writes for the reads.
-fn push_reads(alloc: Global, server: &mut MemServer, out: &mut Vec<u8>) -> Result<(), Refusal> {
-    let mut stream = Vec::new(alloc);
-    for body in READS {
-        push_frame(&mut stream, body)?;
-    }
-    serve_stream(server, &stream, out)
-}
-
-/// A server that is asked by requests.
+/// A server that is asked by requests and by frames.
 #[derive(Drop)]
 pub struct Asked {
     server: MemServer,
 }
 
-/// A server that is asked by frames.
-#[derive(Drop)]
-pub struct Streamed {
-    server: MemServer,
-}
-
-pub const ASKED: Table = (STILL, &REFUSALS);
+pub const ASKED: Table = (STILL, &CALLS);
 
 impl Subject for Asked {
     fn set_up(alloc: Global) -> Result<Asked, Refusal> {
-        Ok(Asked {
-            server: asked_server(alloc)?,
-        })
-    }
-
-    fn call(&mut self, alloc: Global, number: usize, out: &mut Vec<u8>) -> Result<(), Refusal> {
-        match REQUESTS.get(number) {
-            Some(body) => ask(&mut self.server, body, out),
-            None => ask(&mut new_server(alloc)?, b"\x01", out),
+        let mut server = new_server(alloc, FILE_LIMIT)?;
+        for body in SET_UP {
+            number_of(&mut server, body)?;
         }
+        Ok(Asked { server })
     }
 
-    fn read(&mut self, alloc: Global, out: &mut Vec<u8>) -> Result<(), Refusal> {
-        push_reads(alloc, &mut self.server, out)
-    }
-}
-
-pub const STREAMED: Table = (STILL, &REPLIES);
-
-impl Subject for Streamed {
-    fn set_up(alloc: Global) -> Result<Streamed, Refusal> {
-        Ok(Streamed {
-            server: asked_server(alloc)?,
-        })
-    }
-
-    fn call(&mut self, alloc: Global, number: usize, out: &mut Vec<u8>) -> Result<(), Refusal> {
-        match REQUESTS.get(number) {
-            Some(body) => serve(alloc, &mut self.server, body, out),
-            None => Err(Refusal::BadRequest),
+    fn answers(&mut self, alloc: Global, number: usize, wanted: &[u8]) -> Result<bool, Refusal> {
+        if number == REQUESTS.len() {
+            let mut server = new_server(alloc, FILE_LIMIT)?;
+            return Ok(wanted == [number_of(&mut server, b"\x01")?].as_slice());
         }
+        if let Some(body) = REQUESTS.get(number) {
+            return Ok(wanted == [number_of(&mut self.server, body)?].as_slice());
+        }
+        let Some(body) = REQUESTS.get(number.saturating_sub(REQUESTS.len() + 1)) else {
+            return Ok(false);
+        };
+        let out = Vec::with_capacity(alloc, 64)?;
+        let stream = stream_of(alloc, &[*body])?;
+        let reply = written(&mut self.server, &stream, out)?;
+        if reply.as_slice() == NO_MEMORY {
+            return Err(Refusal::NoMemory);
+        }
+        Ok(reply.as_slice() == wanted)
     }
 
-    fn read(&mut self, alloc: Global, out: &mut Vec<u8>) -> Result<(), Refusal> {
-        push_reads(alloc, &mut self.server, out)
+    fn read(&mut self, alloc: Global) -> Result<Vec<u8>, Refusal> {
+        let stream = stream_of(alloc, &READS)?;
+        written(&mut self.server, &stream, Vec::new(alloc))
     }
 }

@@ -1,7 +1,7 @@
 //! Sessions over rows in memory.
 
-use crate::tests::memory::rows::push_newest;
-use crate::tests::memory::{Call, Subject, Table, push_number};
+use crate::tests::memory::rows::newest;
+use crate::tests::memory::{Call, Subject, Table};
 use cell_key::{Refusal, Stamp};
 use oracle::{MemMark, Oracle};
 use row_atomic::PlainRows;
@@ -40,60 +40,61 @@ const CALLS: [Call; 9] = [
     (b"", b"1L162\x06"),
 ];
 
-fn new_oracle() -> Result<Oracle<MemMark>, Refusal> {
-    match Oracle::open(MemMark::new()) {
+/// An oracle whose mark is in memory, with nothing drawn.
+pub fn new_oracle(mark: MemMark) -> Result<Oracle<MemMark>, Refusal> {
+    match Oracle::open(mark) {
         Ok(oracle) => Ok(oracle),
         Err((refusal, _)) => Err(refusal),
     }
 }
 
-impl Sessions {
-    fn commit_first(&mut self) -> Result<(), Refusal> {
-        self.clients.begin(&mut self.oracle)?;
-        self.clients.set(1, b"a", b"bal", b"1")?;
-        self.clients.set(1, b"n", b"bal", b"2")?;
-        for _ in 0..5 {
-            self.clients.step(&mut self.rows, &mut self.oracle, 1)?;
-        }
-        Ok(())
-    }
+/// What a step came to, and the lowest byte of its cell or stamp.
+fn told(progress: Progress) -> [u8; 2] {
+    let (kind, number) = match progress {
+        Progress::Held(cell, _) => (1, u64::from(cell)),
+        Progress::Conflict(cell) => (2, u64::from(cell)),
+        Progress::Stamped(stamp) => (3, stamp),
+        Progress::Committed(stamp) => (4, stamp),
+        Progress::Lost => (5, 0),
+        Progress::Finished(cell, _) => (6, u64::from(cell)),
+    };
+    [kind, (number % 256) as u8]
+}
 
-    fn begin_others(&mut self) -> Result<(), Refusal> {
-        for _ in 0..4 {
+/// What session 6 finds at a row.
+fn get(clients: &mut Clients, rows: &mut PlainRows, row: &[u8]) -> Result<u8, Refusal> {
+    match clients.get(rows, 6, row, b"bal")? {
+        Found::Value(value) => Ok(value.first().copied().unwrap_or(b' ')),
+        Found::Nothing => Ok(b'-'),
+        Found::Pending(_) => Ok(b'L'),
+    }
+}
+
+/// Sets of the sessions.
+const SETS: [(Stamp, &[u8], &[u8]); 5] = [
+    (1, b"a", b"1"),
+    (1, b"n", b"2"),
+    (3, b"b", b"6"),
+    (4, b"n", b"8"),
+    (5, b"b", b"9"),
+];
+
+impl Sessions {
+    /// Begins so many sessions, makes their sets, and steps of one.
+    fn begin(&mut self, count: u8, starts: (Stamp, Stamp), steps: u8) -> Result<(), Refusal> {
+        for _ in 0..count {
             self.clients.begin(&mut self.oracle)?;
         }
-        self.clients.set(3, b"b", b"bal", b"6")?;
-        self.clients.set(4, b"n", b"bal", b"8")?;
-        self.clients.set(5, b"b", b"bal", b"9")?;
-        self.clients.step(&mut self.rows, &mut self.oracle, 3)?;
-        Ok(())
-    }
-
-    fn begin(&mut self, out: &mut Vec<u8>) -> Result<(), Refusal> {
-        push_number(self.clients.begin(&mut self.oracle)?, out)
-    }
-
-    fn get(&mut self, row: &[u8], out: &mut Vec<u8>) -> Result<(), Refusal> {
-        match self.clients.get(&mut self.rows, 6, row, b"bal")? {
-            Found::Value(value) => out.extend_from_slice(&value)?,
-            Found::Nothing => out.push(b'-')?,
-            Found::Pending(_) => out.push(b'L')?,
+        for (start, row, value) in SETS {
+            if start >= starts.0 && start <= starts.1 {
+                self.clients.set(start, row, b"bal", value)?;
+            }
+        }
+        for _ in 0..steps {
+            self.clients
+                .step(&mut self.rows, &mut self.oracle, starts.0)?;
         }
         Ok(())
-    }
-
-    fn step(&mut self, start: Stamp, out: &mut Vec<u8>) -> Result<(), Refusal> {
-        let progress = self.clients.step(&mut self.rows, &mut self.oracle, start)?;
-        let (kind, number) = match progress {
-            Progress::Held(cell, _) => (1, u64::from(cell)),
-            Progress::Conflict(cell) => (2, u64::from(cell)),
-            Progress::Stamped(stamp) => (3, stamp),
-            Progress::Committed(stamp) => (4, stamp),
-            Progress::Lost => (5, 0),
-            Progress::Finished(cell, _) => (6, u64::from(cell)),
-        };
-        push_number(kind, out)?;
-        push_number(number, out)
     }
 }
 
@@ -104,33 +105,49 @@ impl Subject for Sessions {
         let mut sessions = Sessions {
             clients: Clients::new(alloc, 0),
             rows: PlainRows::new(alloc),
-            oracle: new_oracle()?,
+            oracle: new_oracle(MemMark::new())?,
         };
-        sessions.commit_first()?;
-        sessions.begin_others()?;
+        sessions.begin(1, (1, 2), 5)?;
+        sessions.begin(4, (3, 6), 1)?;
         Ok(sessions)
     }
 
-    fn call(&mut self, _alloc: Global, number: usize, out: &mut Vec<u8>) -> Result<(), Refusal> {
-        match number {
-            0 => self.begin(out),
-            1 => self.get(b"a", out),
-            2 => self.get(b"b", out),
-            3 => self.clients.set(4, b"a", b"bal", b"7"),
-            4 => self.clients.set(4, b"n", b"bal", b"7"),
-            5 => self.step(3, out),
-            6 => self.step(4, out),
-            7 => self.step(5, out),
-            _ => self.clients.stop(3),
-        }
+    fn answers(&mut self, _alloc: Global, number: usize, wanted: &[u8]) -> Result<bool, Refusal> {
+        let start = match number {
+            0 => {
+                let start = self.clients.begin(&mut self.oracle)?;
+                return Ok(wanted == [(start % 256) as u8].as_slice());
+            }
+            1 => return Ok(wanted == [get(&mut self.clients, &mut self.rows, b"a")?].as_slice()),
+            2 => return Ok(wanted == [get(&mut self.clients, &mut self.rows, b"b")?].as_slice()),
+            3 => {
+                self.clients.set(4, b"a", b"bal", b"7")?;
+                return Ok(wanted.is_empty());
+            }
+            4 => {
+                self.clients.set(4, b"n", b"bal", b"7")?;
+                return Ok(wanted.is_empty());
+            }
+            8 => {
+                self.clients.stop(3)?;
+                return Ok(wanted.is_empty());
+            }
+            5 => 3,
+            6 => 4,
+            _ => 5,
+        };
+        let progress = self.clients.step(&mut self.rows, &mut self.oracle, start)?;
+        Ok(wanted == told(progress).as_slice())
     }
 
-    fn read(&mut self, alloc: Global, out: &mut Vec<u8>) -> Result<(), Refusal> {
-        self.get(b"a", out)?;
-        self.get(b"b", out)?;
+    fn read(&mut self, alloc: Global) -> Result<Vec<u8>, Refusal> {
+        let first = get(&mut self.clients, &mut self.rows, b"a")?;
+        let second = get(&mut self.clients, &mut self.rows, b"b")?;
+        let mut out = vec![in alloc; first, second]?;
         for row in [b'a', b'b', b'n'] {
-            push_newest(alloc, &mut self.rows, row, out)?;
+            out.push(newest(alloc, &mut self.rows, row)?)?;
         }
-        push_number(self.clients.top(), out)
+        out.push((self.clients.top() % 256) as u8)?;
+        Ok(out)
     }
 }

@@ -1,10 +1,8 @@
 //! Tablets, and the table of their places.
 
-ghost use Rattle.std.specs.Prelude.{◌<◌, ◌≤◌, ◌^◌};
-
 use crate::FILE_LIMIT;
-use crate::tests::memory::files::edits_of;
-use crate::tests::memory::{Call, Subject, Table, push_number};
+use crate::tests::edits::edits_of;
+use crate::tests::memory::{Call, Subject, Table};
 use cell_key::{Family, Qualifier, Refusal, Row, Stamp};
 use file_store::MemFiles;
 use metadata_table::MetadataTable;
@@ -20,188 +18,173 @@ pub struct Served {
     names: Vec<u64>,
 }
 
-/// Compactions answer how many files the tablet has then. What is read are the row of the first cell, the values of `a`,
-/// `b` and `c`, where the tablet holds them, and how many names there are.
+/// What is read are the row of the first cell, the values of `a`, `b` and `c`, and how many files and names there are.
 const CALLS: [Call; 11] = [
     // newest
-    (b"3", b"a345\x01"),
+    (b"3", b"a345\x02\x01"),
     // next_cell from the start
-    (b"a", b"a345\x01"),
+    (b"a", b"a345\x02\x01"),
     // next_cell after `a`
-    (b"b", b"a345\x01"),
+    (b"b", b"a345\x02\x01"),
     // apply
-    (b"", b"a365\x01"),
+    (b"", b"a365\x02\x01"),
     // minor
-    (b"\x03", b"a345\x01"),
+    (b"", b"a345\x03\x01"),
     // merge
-    (b"\x01", b"a345\x01"),
+    (b"", b"a345\x01\x01"),
     // major
-    (b"\x01", b"a345\x01"),
-    // split
-    (b"\x03\x03", b"c5\x01"),
+    (b"", b"a345\x01\x01"),
+    // split: how many files the left part has
+    (b"\x03", b"c5\x03\x01"),
     // unload
-    (b"\x03", b"a345\x01"),
+    (b"\x03", b"a345\x03\x01"),
     // load
-    (b"\x02", b"a345\x01"),
+    (b"\x02", b"a345\x02\x01"),
     // push_names
-    (b"", b"a345\x03"),
+    (b"", b"a345\x02\x03"),
 ];
 
+/// Writes a value of one byte into a row, and an erasure at the stamp 9.
 fn write(
     alloc: Global,
     tablet: &mut Tablet,
     row: u8,
     stamp: Stamp,
     value: u8,
-) -> Result<(), Refusal>
-    requires from { 1 ≤ stamp }
-    requires to { stamp < 2 ^ 63 }
-{
+) -> Result<(), Refusal> {
     let row = Row::new(alloc, &[row])?;
-    let edits = edits_of(alloc, &row, stamp, value)?;
+    let edits = edits_of(alloc, &row, stamp, Some(&[value]), Some(9))?;
     tablet.apply(&row, edits)
 }
 
-impl Served {
-    fn new(alloc: Global) -> Result<Served, Refusal> {
-        Ok(Served {
-            tablet: Tablet::new(alloc),
-            files: MemFiles::new(alloc),
-            next_name: 1,
-            names: vec![in alloc; 9]?,
-        })
-    }
+/// The writes of a new tablet, and whether a minor compaction follows.
+const WRITES: [(u8, Stamp, u8, bool); 5] = [
+    (b'a', 1, b'1', false),
+    (b'b', 1, b'2', true),
+    (b'a', 2, b'3', true),
+    (b'b', 2, b'4', false),
+    (b'c', 1, b'5', false),
+];
 
-    fn write_older(&mut self, alloc: Global) -> Result<(), Refusal> {
-        write(alloc, &mut self.tablet, b'a', 1, b'1')?;
-        write(alloc, &mut self.tablet, b'b', 1, b'2')?;
-        self.minor()?;
-        write(alloc, &mut self.tablet, b'a', 2, b'3')?;
-        self.minor()
-    }
-
-    fn write_newer(&mut self, alloc: Global) -> Result<(), Refusal> {
-        write(alloc, &mut self.tablet, b'b', 2, b'4')?;
-        write(alloc, &mut self.tablet, b'c', 1, b'5')
-    }
-
-    fn minor(&mut self) -> Result<(), Refusal> {
-        self.tablet
-            .minor(FILE_LIMIT, &mut self.next_name, &mut self.files)
-    }
-
-    /// Appends the value of the newest data of a row.
-    fn push_newest(&mut self, alloc: Global, row: u8, out: &mut Vec<u8>) -> Result<(), Refusal> {
-        let row = Row::new(alloc, &[row])?;
-        let family = Family::new(alloc, b"bal")?;
-        match self
-            .tablet
-            .newest(&row, &family, Qualifier::Data, 0, 9, &mut self.files)?
-        {
-            Some((_, value)) => out.extend_from_slice(&value)?,
-            None => out.push(b'-')?,
-        }
-        Ok(())
-    }
-
-    /// Appends the row of the first cell.
-    fn push_first(&mut self, out: &mut Vec<u8>) -> Result<(), Refusal> {
-        if let Some((row, _)) = self.tablet.next_cell(None, &mut self.files)? {
-            out.extend_from_slice(row.as_bytes())?;
-        }
-        Ok(())
-    }
-
-    /// Appends the row of the cell after that of `a`.
-    fn push_next(&mut self, alloc: Global, out: &mut Vec<u8>) -> Result<(), Refusal> {
-        let row = Row::new(alloc, b"a")?;
-        let family = Family::new(alloc, b"bal")?;
-        let found = self
-            .tablet
-            .next_cell(Some((&row, &family)), &mut self.files)?;
-        if let Some((next, _)) = &found {
-            out.extend_from_slice(next.as_bytes())?;
-        }
-        Ok(())
-    }
-
-    /// Appends how many files the tablet has.
-    fn push_count(&mut self, out: &mut Vec<u8>) -> Result<(), Refusal> {
-        push_number(self.tablet.file_count() as u64, out)
-    }
-
-    /// Compacts, and appends how many files there are.
-    fn compact(&mut self, number: usize, out: &mut Vec<u8>) -> Result<(), Refusal> {
-        let files = &mut self.files;
-        match number {
-            4 => self.tablet.minor(FILE_LIMIT, &mut self.next_name, files)?,
-            5 => self
-                .tablet
-                .merge(2, FILE_LIMIT, &mut self.next_name, files)?,
-            _ => self.tablet.major(FILE_LIMIT, &mut self.next_name, files)?,
-        }
-        self.push_count(out)
-    }
-
-    /// Splits after `b`, and appends how many files each part has.
-    fn split(&mut self, alloc: Global, out: &mut Vec<u8>) -> Result<(), Refusal> {
-        let row = Row::new(alloc, b"b")?;
-        let left = self
-            .tablet
-            .split(&row, FILE_LIMIT, &mut self.next_name, &mut self.files)?;
-        push_number(left.file_count() as u64, out)?;
-        self.push_count(out)
-    }
-
-    fn unload(&mut self, out: &mut Vec<u8>) -> Result<(), Refusal> {
-        let names = self
-            .tablet
-            .unload(FILE_LIMIT, &mut self.next_name, &mut self.files)?;
-        push_number(names.len() as u64, out)
-    }
-
-    fn load(&mut self, alloc: Global, out: &mut Vec<u8>) -> Result<(), Refusal> {
-        let range = RowRange {
-            after: None,
-            end: None,
-        };
-        let tablet = Tablet::load(alloc, range, &[2, 1], &mut self.files)?;
-        push_number(tablet.file_count() as u64, out)
+/// The first byte of the newest data of a row, or a dash.
+fn newest(
+    alloc: Global,
+    tablet: &mut Tablet,
+    files: &mut MemFiles,
+    row: u8,
+) -> Result<u8, Refusal> {
+    let row = Row::new(alloc, &[row])?;
+    let family = Family::new(alloc, b"bal")?;
+    match tablet.newest(&row, &family, Qualifier::Data, 0, 9, files)? {
+        Some((_, value)) => Ok(value.first().copied().unwrap_or(b' ')),
+        None => Ok(b'-'),
     }
 }
 
-pub const SERVED: Table = (b"a345\x01", &CALLS);
+/// The first byte of the row of the first cell, or a dash.
+fn first(tablet: &Tablet, files: &mut MemFiles) -> Result<u8, Refusal> {
+    match tablet.next_cell(None, files)? {
+        Some((row, _)) => Ok(row.as_bytes().first().copied().unwrap_or(b' ')),
+        None => Ok(b'-'),
+    }
+}
+
+/// The first byte of the row of the cell after that of `a`, or a dash.
+fn next(alloc: Global, tablet: &Tablet, files: &mut MemFiles) -> Result<u8, Refusal> {
+    let row = Row::new(alloc, b"a")?;
+    let family = Family::new(alloc, b"bal")?;
+    match tablet.next_cell(Some((&row, &family)), files)? {
+        Some((row, _)) => Ok(row.as_bytes().first().copied().unwrap_or(b' ')),
+        None => Ok(b'-'),
+    }
+}
+
+impl Served {
+    /// Calls that may write files.
+    fn compact(&mut self, alloc: Global, number: usize, wanted: &[u8]) -> Result<bool, Refusal> {
+        let name = &mut self.next_name;
+        let files = &mut self.files;
+        match number {
+            4 => self.tablet.minor(FILE_LIMIT, name, files)?,
+            5 => self.tablet.merge(2, FILE_LIMIT, name, files)?,
+            6 => self.tablet.major(FILE_LIMIT, name, files)?,
+            7 => {
+                let row = Row::new(alloc, b"b")?;
+                let left = self.tablet.split(&row, FILE_LIMIT, name, files)?;
+                return Ok(wanted == [(left.file_count() % 256) as u8].as_slice());
+            }
+            _ => {
+                let names = self.tablet.unload(FILE_LIMIT, name, files)?;
+                return Ok(wanted == [(names.len() % 256) as u8].as_slice());
+            }
+        }
+        Ok(wanted.is_empty())
+    }
+}
+
+/// Loads a tablet of all rows: how many files it has.
+fn load(alloc: Global, files: &mut MemFiles) -> Result<u8, Refusal> {
+    let range = RowRange {
+        after: None,
+        end: None,
+    };
+    let tablet = Tablet::load(alloc, range, &[2, 1], files)?;
+    Ok((tablet.file_count() % 256) as u8)
+}
+
+pub const SERVED: Table = (b"a345\x02\x01", &CALLS);
 
 impl Subject for Served {
     fn set_up(alloc: Global) -> Result<Served, Refusal> {
-        let mut served = Served::new(alloc)?;
-        served.write_older(alloc)?;
-        served.write_newer(alloc)?;
-        Ok(served)
-    }
-
-    fn call(&mut self, alloc: Global, number: usize, out: &mut Vec<u8>) -> Result<(), Refusal> {
-        match number {
-            0 => self.push_newest(alloc, b'a', out),
-            1 => self.push_first(out),
-            2 => self.push_next(alloc, out),
-            3 => write(alloc, &mut self.tablet, b'b', 3, b'6'),
-            7 => self.split(alloc, out),
-            8 => self.unload(out),
-            9 => self.load(alloc, out),
-            10 => self.tablet.push_names(&mut self.names),
-            _ => self.compact(number, out),
+        let names = vec![in alloc; 9]?;
+        let mut tablet = Tablet::new(alloc);
+        let mut files = MemFiles::new(alloc);
+        let mut next_name = 1;
+        for (row, stamp, value, is_followed) in WRITES {
+            write(alloc, &mut tablet, row, stamp, value)?;
+            if is_followed {
+                tablet.minor(FILE_LIMIT, &mut next_name, &mut files)?;
+            }
         }
+        Ok(Served {
+            tablet,
+            files,
+            next_name,
+            names,
+        })
     }
 
-    fn read(&mut self, alloc: Global, out: &mut Vec<u8>) -> Result<(), Refusal> {
-        self.push_first(out)?;
+    fn answers(&mut self, alloc: Global, number: usize, wanted: &[u8]) -> Result<bool, Refusal> {
+        let files = &mut self.files;
+        let answer = match number {
+            0 => newest(alloc, &mut self.tablet, files, b'a')?,
+            1 => first(&self.tablet, files)?,
+            2 => next(alloc, &self.tablet, files)?,
+            3 => {
+                write(alloc, &mut self.tablet, b'b', 3, b'6')?;
+                return Ok(wanted.is_empty());
+            }
+            9 => load(alloc, files)?,
+            10 => {
+                self.tablet.push_names(&mut self.names)?;
+                return Ok(wanted.is_empty());
+            }
+            _ => return self.compact(alloc, number, wanted),
+        };
+        Ok(wanted == [answer].as_slice())
+    }
+
+    fn read(&mut self, alloc: Global) -> Result<Vec<u8>, Refusal> {
+        let files = &mut self.files;
+        let mut out = vec![in alloc; first(&self.tablet, files)?]?;
         if self.tablet.range().after.is_none() {
-            self.push_newest(alloc, b'a', out)?;
-            self.push_newest(alloc, b'b', out)?;
+            out.push(newest(alloc, &mut self.tablet, files, b'a')?)?;
+            out.push(newest(alloc, &mut self.tablet, files, b'b')?)?;
         }
-        self.push_newest(alloc, b'c', out)?;
-        push_number(self.names.len() as u64, out)
+        out.push(newest(alloc, &mut self.tablet, files, b'c')?)?;
+        out.push((self.tablet.file_count() % 256) as u8)?;
+        out.push((self.names.len() % 256) as u8)?;
+        Ok(out)
     }
 }
 
@@ -211,57 +194,64 @@ pub struct Placed {
     table: MetadataTable,
 }
 
+/// What is read are of each place the tablet, the server, how many files it has, and the first byte of its end.
 const PLACE_CALLS: [Call; 4] = [
     // MetadataTable::new
-    (b"\x01", b"\x02\x03\x01m\x01\x03\x01"),
+    (b"\x01", b"\x02\x03\x01m\x01\x03\x01-"),
     // split_at
-    (b"\x03", b"\x03\x03\x01a\x02\x03\x01m\x01\x03\x01"),
+    (b"\x03", b"\x03\x03\x01a\x02\x03\x01m\x01\x03\x01-"),
     // set_files
-    (b"", b"\x02\x03\x02m\x01\x03\x01"),
+    (b"", b"\x02\x03\x02m\x01\x03\x01-"),
     // clone
-    (b"\x02", b"\x02\x03\x01m\x01\x03\x01"),
+    (b"\x02", b"\x02\x03\x01m\x01\x03\x01-"),
 ];
 
-/// Appends of each place the tablet, the server, how many files it has, and its end.
-pub fn push_places(table: &MetadataTable, out: &mut Vec<u8>) -> Result<(), Refusal> {
-    for place in table.places() {
-        push_number(u64::from(place.tablet), out)?;
-        push_number(u64::from(place.server), out)?;
-        push_number(place.files.len() as u64, out)?;
-        if let Some(end) = &place.end {
-            out.extend_from_slice(end.as_bytes())?;
-        }
-    }
-    Ok(())
-}
+pub const PLACED: Table = (b"\x02\x03\x01m\x01\x03\x01-", &PLACE_CALLS);
 
-/// Splits a table of places at a row.
-pub fn split_at(alloc: Global, table: &mut MetadataTable, row: &[u8]) -> Result<u32, Refusal> {
+/// Splits a table of places at a row: the number of the left part.
+pub fn split_at(alloc: Global, table: &mut MetadataTable, row: &[u8]) -> Result<u8, Refusal> {
     let row = Row::new(alloc, row)?;
-    table.split_at(&row)
+    Ok((table.split_at(&row)? % 256) as u8)
 }
 
-pub const PLACED: Table = (b"\x02\x03\x01m\x01\x03\x01", &PLACE_CALLS);
+/// The first byte of the end of a place, or a dash.
+fn end_of(end: Option<&Row>) -> u8 {
+    match end {
+        Some(end) => end.as_bytes().first().copied().unwrap_or(b' '),
+        None => b'-',
+    }
+}
 
 impl Subject for Placed {
     fn set_up(alloc: Global) -> Result<Placed, Refusal> {
+        let names = vec![in alloc; 7]?;
         let mut table = MetadataTable::new(alloc)?;
         table.assign(1, 3)?;
-        table.set_files(1, vec![in alloc; 7]?)?;
+        table.set_files(1, names)?;
         split_at(alloc, &mut table, b"m")?;
         Ok(Placed { table })
     }
 
-    fn call(&mut self, alloc: Global, number: usize, out: &mut Vec<u8>) -> Result<(), Refusal> {
-        match number {
-            0 => push_number(MetadataTable::new(alloc)?.len() as u64, out),
-            1 => push_number(u64::from(split_at(alloc, &mut self.table, b"a")?), out),
-            2 => self.table.set_files(2, vec![in alloc; 8, 9]?),
-            _ => push_number(self.table.clone()?.len() as u64, out),
-        }
+    fn answers(&mut self, alloc: Global, number: usize, wanted: &[u8]) -> Result<bool, Refusal> {
+        let answer = match number {
+            0 => (MetadataTable::new(alloc)?.len() % 256) as u8,
+            1 => split_at(alloc, &mut self.table, b"a")?,
+            2 => {
+                self.table.set_files(2, vec![in alloc; 8, 9]?)?;
+                return Ok(wanted.is_empty());
+            }
+            _ => (self.table.clone()?.len() % 256) as u8,
+        };
+        Ok(wanted == [answer].as_slice())
     }
 
-    fn read(&mut self, _alloc: Global, out: &mut Vec<u8>) -> Result<(), Refusal> {
-        push_places(&self.table, out)
+    fn read(&mut self, alloc: Global) -> Result<Vec<u8>, Refusal> {
+        let mut out = Vec::new(alloc);
+        for place in self.table.places() {
+            let tablet = (place.tablet % 256) as u8;
+            let files = (place.files.len() % 256) as u8;
+            out.extend_from_slice(&[tablet, place.server, files, end_of(place.end.as_ref())])?;
+        }
+        Ok(out)
     }
 }
