@@ -12,7 +12,8 @@ use file_store::{FileFault, Files};
 /// Entries, one after the other. After an `Err` of `advance` a source is given up: only the files, the
 /// count of faults and damage are spoken of.
 pub trait Source<F: Files> {
-    /// Over files that tell this it stands for a list of entries. A source that reads no files does whatever they tell.
+    /// Over files that tell this it stands for a list of entries: one that reads no files does so whatever they
+    /// tell.
     ghost holds: { Option Contents → Self → Type 0 };
 
     /// The entries that it has not come to.
