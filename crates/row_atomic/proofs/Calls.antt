@@ -1,5 +1,5 @@
 -- Calls of rows one after another.
-use Rattle.std.proofs.Common.{◌≡◌, ◌≢◌, ◌∙◌, ◌⊎◌, ℕ, List, ◌++◌, set, slice_get, Option, Some, Result, Ok, Err, IfErr, OnOk, OnErr, IsErrOf, refl, sym, ap, subst}
+use Rattle.std.proofs.Common.{◌≡◌, ◌≢◌, ◌∙◌, ◌⊎◌, inl, inr, ℕ, List, ◌++◌, set, slice_get, Option, Some, Result, Ok, Err, IfErr, OnOk, OnErr, IsErrOf, refl, sym, ap, subst}
 use Rattle.std.specs.Result.{IsErrAnd}
 use Rattle.cell_key.specs.Cells.{Cells, after_edits}
 use Rattle.cell_key.specs.declared.edits.Edit.{Edit}
@@ -9,7 +9,7 @@ use Rattle.file_store.specs.Store.{Contents}
 use Rattle.sorted_file.specs.Sources as sources
 use Rattle.tablet.specs.Views.{IsSameTablet}
 use Rattle.tablet.specs.declared.tablet.Tablet.{Tablet}
-use Rattle.row_atomic.specs.Calls.{Applies, KeepsBelow, OnlyReads}
+use Rattle.row_atomic.specs.Calls.{Applies, AppliesSuch, KeepsBelow, OnlyReads}
 use Rattle.row_atomic.specs.Clusters.{ClusterState, InOrder, Overfills, Storage, cells_in, storage_of}
 use Rattle.row_atomic.specs.Refusals.{IsReadRefusal, IsRefusalOfRead}
 use Rattle.row_atomic.proofs.Answering.{read_kept, read_still, same_cells_in, still_in_order}
@@ -38,8 +38,27 @@ module _ {R : Type 0} {holds : R → Type 0} {cells : R → Cells} {overfills : 
   pub reads_keep : {a b : R} → OnlyReads holds cells overfills storage a b → KeepsBelow holds storage a b
   reads_keep reads = record { still = reads.still; stays = reads.stays }
 
-  pub applies_keep : {changed : List ℕ} {edits : List Edit} {a b : R} → Applies holds cells overfills storage changed edits a b → KeepsBelow holds storage a b
+  pub applies_keep : {edits : List Edit} {a b : R} → Applies holds cells overfills storage edits a b → KeepsBelow holds storage a b
   applies_keep applies = record { still = applies.still; stays = applies.stays }
+
+  -- edits are made after a read
+  pub applies_after : {edits : List Edit} {a b c : R} → OnlyReads holds cells overfills storage a b → Applies holds cells overfills storage edits b c → Applies holds cells overfills storage edits a c
+  applies_after {edits} reads applies = record {
+    still = λ held. applies.still (reads.still held);
+    made = λ held. applies.made (reads.still held) ∙ ap (λ (cs : Cells). after_edits cs edits) (reads.kept held);
+    room = λ row later full. elim (applies.room row later full) [
+      | inl before ↦ inl (reads.room row later before)
+      | inr after ↦ inr (reads.room row (edits ++ later) after)
+    ];
+    stays = applies.stays ∙ reads.stays;
+  }
+
+  -- what edits such as these are said to be
+  pub such_so : {P Q : List ℕ → List Edit → Type 0} {a b : R} → ((row : List ℕ) (edits : List Edit) → P row edits → Q row edits) → AppliesSuch holds cells overfills storage P a b → AppliesSuch holds cells overfills storage Q a b
+  such_so so made = record { row = made.row; edits = made.edits; such = so made.row made.edits made.such; applied = made.applied }
+
+  pub such_after : {P : List ℕ → List Edit → Type 0} {a b c : R} → OnlyReads holds cells overfills storage a b → AppliesSuch holds cells overfills storage P b c → AppliesSuch holds cells overfills storage P a c
+  such_after reads made = record { row = made.row; edits = made.edits; such = made.such; applied = applies_after reads made.applied }
 
 -- what is so whether edits were made or refused
 pub either_way : {A : Type 0} {P : Type 0} (r : Result A Refusal) → OnOk r P → OnErr r P → P
@@ -59,16 +78,16 @@ pub read_undamaged : (Holds : Type 0) (e : Refusal) → IsRefusalOfRead Holds e 
 read_undamaged H Damaged u held same = u held
 read_undamaged H _ u held same = cc
 
--- a read that comes after another one is refused what that one may be
-refused_after : (Held HoldsNow : Type 0) (e : Refusal) → (Held → HoldsNow) → IsRefusalOfRead HoldsNow e → IsRefusalOfRead Held e
-refused_after H N Device still u = tt
-refused_after H N NoMemory still u = tt
-refused_after H N Damaged still u = λ held. u (still held)
-refused_after H N _ still u = u
+-- what a read after a read may answer
+pub refusal_after : (Before Now : Type 0) (e : Refusal) → (Before → Now) → IsRefusalOfRead Now e → IsRefusalOfRead Before e
+refusal_after H I Damaged so u = λ held. u (so held)
+refusal_after H I Device so u = tt
+refusal_after H I NoMemory so u = tt
+refusal_after H I _ so u = u
 
-pub refused_later : {B : Type 0} (Held HoldsNow : Type 0) (r : Result B Refusal) (e : Refusal) → (Held → HoldsNow) → IsErrAnd r (λ f. f ≡ e) → IsRefusalOfRead HoldsNow e → IfErr r (IsRefusalOfRead Held)
-refused_later H N (Ok x) e still by u = tt
-refused_later H N (Err f) e still by u = subst (IsRefusalOfRead H) (sym by) (refused_after H N e still u)
+pub refused_later : {B : Type 0} (Before Now : Type 0) (r : Result B Refusal) (e : Refusal) → (Before → Now) → IsErrAnd r (λ f. f ≡ e) → IsRefusalOfRead Now e → IfErr r (IsRefusalOfRead Before)
+refused_later H I (Ok x) e so by u = tt
+refused_later H I (Err f) e so by u = subst (IsRefusalOfRead H) (sym by) (refusal_after H I e so u)
 
 -- ---- a cluster
 
@@ -109,13 +128,12 @@ module _ {F : Type 0} (contents : F → Option Contents) (state : ClusterState F
   }
 
   -- one in which edits were made
-  pub applied_in : (i : ℕ) (u : Tablet) (changed : List ℕ) (edits : List Edit) {A : Type 0} (r : Result A Refusal) → (IsOrdered state → IsOrdered (with_tablet i u))
+  pub applied_in : (i : ℕ) (u : Tablet) (edits : List Edit) {A : Type 0} (r : Result A Refusal) → (IsOrdered state → IsOrdered (with_tablet i u))
       → (IsOrdered state → OnOk r (cells_shown (with_tablet i u) ≡ after_edits (cells_shown state) edits))
-      → OnOk r (¬ IsOver state changed edits)
       → OnOk r ((row : List ℕ) (later : List Edit) → IsOver (with_tablet i u) row later → IsOver state row later ⊎ IsOver state row (edits ++ later))
-      → OnOk r (Applies IsOrdered cells_shown IsOver (storage_of contents) changed edits state (with_tablet i u))
-  applied_in i u changed edits (Err e) still made within room = tt
-  applied_in i u changed edits (Ok x) still made within room = record { still = still; made = made; within = within; room = room; stays = refl }
+      → OnOk r (Applies IsOrdered cells_shown IsOver (storage_of contents) edits state (with_tablet i u))
+  applied_in i u edits (Err e) still made room = tt
+  applied_in i u edits (Ok x) still made room = record { still = still; made = made; room = room; stays = refl }
 
 -- what a tablet's read is refused with, that of the cluster is
 pub refused_read : {A : Type 0} (Holds : Type 0) (r : Result A Refusal) → (Holds → ¬ IsErrOf r Damaged) → IfErr r sources.IsReadRefusal → IfErr r (IsRefusalOfRead Holds)

@@ -83,10 +83,11 @@ pub trait Rows {
     /// growth was refused. The cells are then as before, and edits would pass a limit only where they did before.
     fn apply(&mut self, row: &Row, edits: Vec<Edit>) -> Result<(), Refusal>
         requires { AllByRecursion (IsEditOf row.now) edits.items }
-        ensures ok { OnOk result (Applies holds cells overfills storage row.now edits.items self.old self.new) }
+        ensures ok { OnOk result (Applies holds cells overfills storage edits.items self.old self.new) }
         ensures err { OnErr result (OnlyReads holds cells overfills storage self.old self.new) }
         ensures refusal { IfErr result IsApplyRefusal }
         ensures full { IsErrOf result Refusal.MemtableFull → overfills self.old row.now edits.items }
+        ensures within { OnOk result (¬ overfills self.old row.now edits.items) }
         ensures untouched { faults self.new ≡ faults self.old };
 
     /// How often a device has failed. A count of 2^64 - 1 stays.

@@ -27,11 +27,11 @@ draw_begin Exhausted u = tt
 draw_begin Device u = tt
 draw_begin _ u = absurd u
 
-pub advance_storage : (P : Type 0) (e : Refusal) → IsAdvanceRefusal P e → (P × (e ≡ EmptyCommit)) ⊎ IsStorageRefusal e
-advance_storage P EmptyCommit u = inl (u, refl)
-advance_storage P MemtableFull u = inr tt
-advance_storage P Exhausted u = inr tt
-advance_storage P Device u = inr tt
-advance_storage P NoMemory u = inr tt
-advance_storage P Damaged u = inr tt
-advance_storage P _ u = absurd u
+pub advance_storage : (Holds P : Type 0) (e : Refusal) → IsAdvanceRefusal Holds P e → (P × (e ≡ EmptyCommit)) ⊎ IsStorageRefusal e
+advance_storage H P EmptyCommit u = inl (u, refl)
+advance_storage H P MemtableFull u = inr tt
+advance_storage H P Exhausted u = inr tt
+advance_storage H P Device u = inr tt
+advance_storage H P NoMemory u = inr tt
+advance_storage H P Damaged u = inr tt
+advance_storage H P _ u = absurd u

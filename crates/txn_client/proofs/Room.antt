@@ -1,140 +1,192 @@
--- Where the rows have no room for a step, as session and state show it.
-use Rattle.std.proofs.Common.{◌≡◌, ℕ, List, ◌++◌, length, Some, refl, inl, inr, sym, subst}
+-- What a step does to the rows, as session and state show it.
+use Rattle.std.proofs.Common.{◌≡◌, ◌∙◌, ℕ, List, [], ◌∷◌, ◌++◌, length, Some, refl, inl, inr, sym, subst, ap}
 use Rattle.std.specs.Prelude.{slice_get}
+use Rattle.std.specs.FinMap.{insert, remove}
 use Rattle.std.specs.Ordering.{nat_cmp}
 use Rattle.std.specs.BTreeMap as btree
-use Rattle.std.specs.Result.{IfOk}
-use Rattle.cell_key.specs.Cells.{Cells}
-use Rattle.std.specs.declared.result.Result.{Result}
+use Rattle.cell_key.specs.Cells.{Cells, after_edits}
 use Rattle.cell_key.specs.declared.edits.Edit.{Edit}
-use Rattle.cell_key.specs.declared.keys.Qualifier.TheVariants.{Lock}
-use Rattle.cell_key.specs.declared.refusals.Refusal.{Refusal}
+use Rattle.cell_key.specs.declared.edits.Edit.TheVariants.{Put, Erase}
+use Rattle.cell_key.specs.declared.keys.CellKey.{CellKey}
+use Rattle.row_atomic.specs.Calls.{AppliesSuch, KeepsBelow, OnlyReads}
+use Rattle.row_atomic.specs.Clusters.{Storage}
+use Rattle.row_atomic.specs.Room.{HasNoRoom, TakesRoomOf}
+use Rattle.row_atomic.proofs.Calls.{applies_keep, reads_keep, reads_none, such_so}
 use Rattle.si_model.specs.Machine as machine
-use Rattle.si_model.specs.Machine.{State, InPhase, IsReached}
-use Rattle.si_model.specs.ShowsCells.{IsThere, ShowsCells}
+use Rattle.si_model.specs.Machine.{State, Value, InPhase, IsReached}
+use Rattle.si_model.specs.ShowsCells.{ShowsCells, Touches, TouchesOneRow, held_cells, recorded_cells}
+use Rattle.si_model.specs.declared.replies.Cell.{Cell}
 use Rattle.si_model.specs.declared.replies.Progress.{Progress}
 use Rattle.si_model.specs.declared.replies.Progress.TheVariants as progress
 use Rattle.si_model.proofs.Kept.{held_phase}
-use Rattle.txn_client.specs.Reads.{IsFree}
-use Rattle.row_atomic.specs.Room.{HasNoRoom, TakesRoomOf}
-use Rattle.txn_client.specs.Room.{IsHolding, IsRecording, HoldsNext, RecordsNext, ChangesIn, ChangesNext, IsStamped, Makes, TakesRoom}
-use Rattle.txn_client.specs.Shows.{phase_of, writes_of, HasHeldSo, ShowsClients, ShowsSession, IsAboutToDraw}
+use Rattle.si_model.proofs.ShownTouched.{touches_held, touches_recorded}
+use Rattle.txn_client.specs.Room.{ChangesIn, ChangesNext, Does, EditsIn, EditsOf, EditsOfStep, HoldsAt, HoldsNext, IsHolding, IsPut, IsErase, IsRecording, IsStamped, Makes, RecordsAt, RecordsNext, TakesRoom}
+use Rattle.txn_client.specs.Shows.{phase_of, writes_of, HasHeldSo, ShowsClients, ShowsSession, IsAboutToDraw, TouchesBy}
 use Rattle.txn_client.specs.declared.clients.Clients.{Clients}
-use Rattle.txn_client.specs.declared.session.Outcome.{Outcome}
 use Rattle.txn_client.specs.declared.session.Phase.{Phase}
-use Rattle.txn_client.specs.declared.session.Phase.TheVariants.{Holding}
+use Rattle.txn_client.specs.declared.session.Phase.TheVariants.{Open, Holding, Stamped, Finishing}
 use Rattle.txn_client.specs.declared.session.Session.{Session}
-use Rattle.txn_client.specs.declared.writes.Write.{Write}
 use Rattle.txn_client.proofs.Advance.{free_open}
+use Rattle.txn_client.proofs.Passed.{touches_kept}
 use Rattle.txn_client.proofs.Sessions.{held_of, puts_of, count_of}
 use Rattle.txn_client.proofs.Table.{shown_some}
 
+-- ---- what the edits of a row transaction make of the cells
+
+put_so : (cells : Cells) (e : Edit) (es : List Edit) (key : CellKey) (bytes : List ℕ) → IsPut e key bytes → after_edits cells (e ∷ es) ≡ after_edits (insert cells key bytes) es
+put_so cells (Put at value) es key bytes (same, text) = ap (λ (k : CellKey). after_edits (insert cells k value.items) es) same ∙ ap (λ (b : List ℕ). after_edits (insert cells key b) es) text
+put_so cells (Erase at) es key bytes is = absurd is
+
+erase_so : (cells : Cells) (e : Edit) (es : List Edit) (key : CellKey) → IsErase e key → after_edits cells (e ∷ es) ≡ after_edits (remove cells key) es
+erase_so cells (Erase at) es key same = ap (λ (k : CellKey). after_edits (remove cells k) es) same
+erase_so cells (Put at value) es key is = absurd is
+
+pub holding_makes : (cells : Cells) (x first : Cell) (t : ℕ) (v : Value) (edits : List Edit) → IsHolding x t v first edits → after_edits cells edits ≡ held_cells cells x t v first
+holding_makes cells x first t v [] is = absurd is
+holding_makes cells x first t v (a ∷ []) is = absurd is
+holding_makes cells x first t v (a ∷ b ∷ []) (value, lock) = put_so cells a (b ∷ []) _ _ value ∙ put_so _ b [] _ _ lock
+holding_makes cells x first t v (a ∷ b ∷ c ∷ es) is = absurd is
+
+pub recording_makes : (cells : Cells) (x : Cell) (t c : ℕ) (edits : List Edit) → IsRecording x t c edits → after_edits cells edits ≡ recorded_cells cells x t c
+recording_makes cells x t c [] is = absurd is
+recording_makes cells x t c (a ∷ []) is = absurd is
+recording_makes cells x t c (a ∷ b ∷ []) (written, lock) = put_so cells a (b ∷ []) _ _ written ∙ erase_so _ b [] _ lock
+recording_makes cells x t c (a ∷ b ∷ d ∷ es) is = absurd is
+
+-- ---- what a step does
+
 -- edits that are of one kind are of another
-makes_so : {P Q : List ℕ → List Edit → Type 0} (old new : Cells) (p : Progress) → ((row : List ℕ) (edits : List Edit) → P row edits → Q row edits) → Makes P p old new → Makes Q p old new
-makes_so old new (progress.Held k n) so (row, edits, changes, is) = (row, edits, so row edits changes, is)
-makes_so old new (progress.Conflict k) so same = same
-makes_so old new (progress.Stamped c) so same = same
-makes_so old new (progress.Committed c) so (row, edits, changes, is) = (row, edits, so row edits changes, is)
-makes_so old new progress.Lost so same = same
-makes_so old new (progress.Finished k n) so (inl (row, edits, changes, is)) = inl (row, edits, so row edits changes, is)
-makes_so old new (progress.Finished k n) so (inr same) = inr same
+pub no_room_so : {R : Type 0} (overfills : R → List ℕ → List Edit → Type 0) (rows : R) {P Q : List ℕ → List Edit → Type 0} → ((row : List ℕ) (edits : List Edit) → P row edits → Q row edits) → HasNoRoom overfills rows P → HasNoRoom overfills rows Q
+no_room_so overfills rows so (row, edits, changes, full) = (row, edits, so row edits changes, full)
 
--- a step that draws a stamp changes no cell
-pub stamped_makes : (P : List ℕ → List Edit → Type 0) (cells : Cells) (p : Progress) → IsStamped p → Makes P p cells cells
-stamped_makes P cells (progress.Stamped c) is = refl
-stamped_makes P cells (progress.Held k n) is = absurd is
-stamped_makes P cells (progress.Conflict k) is = absurd is
-stamped_makes P cells (progress.Committed c) is = absurd is
-stamped_makes P cells progress.Lost is = absurd is
-stamped_makes P cells (progress.Finished k n) is = absurd is
+module _ {R : Type 0} (holds : R → Type 0) (cells : R → Cells) (overfills : R → List ℕ → List Edit → Type 0) (storage : R → Storage) (old new : R) where
+  abbrev Made : (List ℕ → List Edit → Type 0) → Type 0
+  Made P = AppliesSuch holds cells overfills storage P old new
 
--- a step that draws a stamp takes no room
-pub stamped_takes : {R : Type 0} (overfills : R → List ℕ → List Edit → Type 0) (P : List ℕ → List Edit → Type 0) (rows : R) (p : Progress) → IsStamped p → TakesRoom overfills P p rows rows
-stamped_takes overfills P rows (progress.Stamped c) is = λ row later full. full
-stamped_takes overfills P rows (progress.Held k n) is = absurd is
-stamped_takes overfills P rows (progress.Conflict k) is = absurd is
-stamped_takes overfills P rows (progress.Committed c) is = absurd is
-stamped_takes overfills P rows progress.Lost is = absurd is
-stamped_takes overfills P rows (progress.Finished k n) is = absurd is
+  -- edits that are of one kind are of another
+  pub does_so : {P Q : List ℕ → List Edit → Type 0} (p : Progress) → ((row : List ℕ) (edits : List Edit) → P row edits → Q row edits) → Does holds cells overfills storage P p old new → Does holds cells overfills storage Q p old new
+  does_so (progress.Held k n) so made = such_so so made
+  does_so (progress.Committed c) so made = such_so so made
+  does_so (progress.Finished k n) so (inl made) = inl (such_so so made)
+  does_so (progress.Finished k n) so (inr reads) = inr reads
+  does_so (progress.Conflict k) so reads = reads
+  does_so (progress.Stamped c) so reads = reads
+  does_so progress.Lost so reads = reads
 
--- room that edits of one kind take is taken by edits of another
-pub takes_so : {R : Type 0} (overfills : R → List ℕ → List Edit → Type 0) {P Q : List ℕ → List Edit → Type 0} (old new : R)
-    → ((row : List ℕ) (later : List Edit) → HasNoRoom (λ rows changed edits. overfills rows row (edits ++ later)) old P → HasNoRoom (λ rows changed edits. overfills rows row (edits ++ later)) old Q)
-    → TakesRoomOf overfills P old new → TakesRoomOf overfills Q old new
-takes_so overfills old new so takes row later full = elim (takes row later full) [
-  | inl before ↦ inl before
-  | inr after ↦ inr (so row later after)
-]
+  made_below : {P : List ℕ → List Edit → Type 0} → Made P → KeepsBelow holds storage old new
+  made_below made = applies_keep made.applied
 
-room_so : {R : Type 0} (overfills : R → List ℕ → List Edit → Type 0) {P Q : List ℕ → List Edit → Type 0} (old new : R) (p : Progress)
-    → ((row : List ℕ) (later : List Edit) → HasNoRoom (λ rows changed edits. overfills rows row (edits ++ later)) old P → HasNoRoom (λ rows changed edits. overfills rows row (edits ++ later)) old Q)
-    → TakesRoom overfills P p old new → TakesRoom overfills Q p old new
-room_so overfills old new (progress.Held k n) so takes = takes_so overfills old new so takes
-room_so overfills old new (progress.Conflict k) so takes = takes
-room_so overfills old new (progress.Stamped c) so takes = takes
-room_so overfills old new (progress.Committed c) so takes = takes_so overfills old new so takes
-room_so overfills old new progress.Lost so takes = takes
-room_so overfills old new (progress.Finished k n) so takes = takes_so overfills old new so takes
+  pub does_below : (P : List ℕ → List Edit → Type 0) (p : Progress) → Does holds cells overfills storage P p old new → KeepsBelow holds storage old new
+  does_below P (progress.Held k n) made = made_below made
+  does_below P (progress.Committed c) made = made_below made
+  does_below P (progress.Finished k n) (inl made) = made_below made
+  does_below P (progress.Finished k n) (inr reads) = reads_keep reads
+  does_below P (progress.Conflict k) reads = reads_keep reads
+  does_below P (progress.Stamped c) reads = reads_keep reads
+  does_below P progress.Lost reads = reads_keep reads
 
-module _ {R : Type 0} (overfills : R → List ℕ → List Edit → Type 0) (rows : R) (cells : Cells) (session : Session) where
-  -- the cell is tested before it is held: it is free
-  pub no_room_to_hold : (rows' : R) → ((row : List ℕ) (edits : List Edit) → overfills rows' row edits → overfills rows row edits)
-      → (k : ℕ) (w first : Write) → HasHeldSo session.phase k → slice_get session.writes k ≡ Some w → slice_get session.writes 0 ≡ Some first → IsFree cells w.cell session.start
-      → HasNoRoom overfills rows' (λ row edits. (row ≡ w.cell.row) × IsHolding w.cell session.start w.value first.cell edits)
-      → (st : State) → IsReached st → ShowsCells cells st → ShowsSession session session.start st → HasNoRoom overfills rows (HoldsNext st (writes_of session) k session.start)
-  no_room_to_hold rows' same k w first held e e0 free (row, edits, changes, full) st reached shown mine =
-      let phase = held_phase st session.start k (held_of session st k mine held) in
-      let may = free_open cells st reached shown w.cell session.start phase.p phase.is free in
-      (row, edits, (w.cell, first.cell, w.value, first.value, puts_of session k w e, puts_of session 0 first e0, may, changes.0, changes.1), same row edits full)
+  module _ (held : holds old) where
+    pub does_make : (P : List ℕ → List Edit → Type 0) (p : Progress) → Does holds cells overfills storage P p old new → Makes P p (cells old) (cells new)
+    does_make P (progress.Held k n) made = (made.row, made.edits, made.such, made.applied.made held)
+    does_make P (progress.Committed c) made = (made.row, made.edits, made.such, made.applied.made held)
+    does_make P (progress.Finished k n) (inl made) = inl (made.row, made.edits, made.such, made.applied.made held)
+    does_make P (progress.Finished k n) (inr reads) = inr (reads.kept held)
+    does_make P (progress.Conflict k) reads = reads.kept held
+    does_make P (progress.Stamped c) reads = reads.kept held
+    does_make P progress.Lost reads = reads.kept held
 
-  -- the lock is found before its record is put: the mark stands
-  pub no_room_to_record : (k : ℕ) (w : Write) → slice_get session.writes k ≡ Some w → IsThere cells w.cell Lock session.start
-      → HasNoRoom overfills rows (λ row edits. (row ≡ w.cell.row) × IsRecording w.cell session.start session.commit edits)
-      → (st : State) → IsReached st → ShowsCells cells st → ShowsSession session session.start st → HasNoRoom overfills rows (RecordsNext st (writes_of session) k session.start session.commit)
-  no_room_to_record k w e lock (row, edits, changes, full) st reached shown mine =
-      (row, edits, (w.cell, w.value, puts_of session k w e, shown.locks w.cell session.start lock.0 lock.1, changes.0, changes.1), full)
+    -- what joins or goes stands where edits such as these touch it
+    pub does_touch : (P : List ℕ → List Edit → Type 0) (p : Progress) (T : Type 0) → ((row : List ℕ) (edits : List Edit) → P row edits → cells new ≡ after_edits (cells old) edits → T) → (cells new ≡ cells old → T) → Does holds cells overfills storage P p old new → T
+    does_touch P (progress.Held k n) T changed kept made = changed made.row made.edits made.such (made.applied.made held)
+    does_touch P (progress.Committed c) T changed kept made = changed made.row made.edits made.such (made.applied.made held)
+    does_touch P (progress.Finished k n) T changed kept (inl made) = changed made.row made.edits made.such (made.applied.made held)
+    does_touch P (progress.Finished k n) T changed kept (inr reads) = kept (reads.kept held)
+    does_touch P (progress.Conflict k) T changed kept reads = kept (reads.kept held)
+    does_touch P (progress.Stamped c) T changed kept reads = kept (reads.kept held)
+    does_touch P progress.Lost T changed kept reads = kept (reads.kept held)
 
-  -- what a step makes in a phase that is known
-  pub made_in : (phase : Phase) (new : Cells) (r : Result Outcome Refusal) → session.phase ≡ phase
-      → IfOk r (λ outcome. (st : State) → IsReached st → ShowsCells cells st → ShowsSession session session.start st → Makes (ChangesIn st (phase_of phase session.commit) (writes_of session) session.start) outcome.progress cells new)
-      → IfOk r (λ outcome. (st : State) → IsReached st → ShowsCells cells st → ShowsSession session session.start st → Makes (ChangesIn st (phase_of session.phase session.commit) (writes_of session) session.start) outcome.progress cells new)
-  made_in phase new r is = subst (λ (p : Phase). IfOk r (λ outcome. (st : State) → IsReached st → ShowsCells cells st → ShowsSession session session.start st → Makes (ChangesIn st (phase_of p session.commit) (writes_of session) session.start) outcome.progress cells new)) (sym is)
+  made_takes : (P : List ℕ → List Edit → Type 0) → Made P → TakesRoomOf overfills P old new
+  made_takes P made row later full = elim (made.applied.room row later full) [
+    | inl before ↦ inl before
+    | inr after ↦ inr (made.row, made.edits, made.such, after)
+  ]
 
-  -- so what a step makes in this phase is what its session makes next
-  pub made_shown : (p : Progress) (new : Cells) (clients : Clients) (t : ℕ) → btree.get nat_cmp clients.sessions t ≡ Some session
-      → ((st : State) → IsReached st → ShowsCells cells st → ShowsSession session session.start st → Makes (ChangesIn st (phase_of session.phase session.commit) (writes_of session) session.start) p cells new)
-      → (st : State) → IsReached st → ShowsCells cells st → ShowsClients clients st → Makes (ChangesNext st t) p cells new
-  made_shown p new clients t was makes st reached shown kept =
-      let mine = shown_some clients t st session kept was in
-      let phase = phase_of session.phase session.commit in
-      makes_so cells new p (λ row edits changes. (phase, writes_of session, mine.phase, mine.writes, subst (λ (n : ℕ). ChangesIn st phase (writes_of session) n row edits) mine.start changes))
-      (makes st reached shown (subst (λ (n : ℕ). ShowsSession session n st) (sym mine.start) mine))
+  pub does_take : (P : List ℕ → List Edit → Type 0) (p : Progress) → Does holds cells overfills storage P p old new → TakesRoom overfills P p old new
+  does_take P (progress.Held k n) made = made_takes P made
+  does_take P (progress.Committed c) made = made_takes P made
+  does_take P (progress.Finished k n) (inl made) = made_takes P made
+  does_take P (progress.Finished k n) (inr reads) = λ row later full. inl (reads.room row later full)
+  does_take P (progress.Conflict k) reads = reads.room
+  does_take P (progress.Stamped c) reads = reads.room
+  does_take P progress.Lost reads = reads.room
 
-  pub no_room_shown : (clients : Clients) (t : ℕ) → btree.get nat_cmp clients.sessions t ≡ Some session
-      → ((st : State) → IsReached st → ShowsCells cells st → ShowsSession session session.start st → HasNoRoom overfills rows (ChangesIn st (phase_of session.phase session.commit) (writes_of session) session.start))
-      → (st : State) → IsReached st → ShowsCells cells st → ShowsClients clients st → HasNoRoom overfills rows (ChangesNext st t)
-  no_room_shown clients t was lacks st reached shown kept =
-      let mine = shown_some clients t st session kept was in
-      let phase = phase_of session.phase session.commit in
-      let lack = lacks st reached shown (subst (λ (n : ℕ). ShowsSession session n st) (sym mine.start) mine) in
-      (lack.0, lack.1, (phase, writes_of session, mine.phase, mine.writes, subst (λ (n : ℕ). ChangesIn st phase (writes_of session) n lack.0 lack.1) mine.start lack.2), lack.3)
+-- a step that draws a stamp only reads
+pub stamped_does : {R : Type 0} (holds : R → Type 0) (cells : R → Cells) (overfills : R → List ℕ → List Edit → Type 0) (storage : R → Storage) (rows : R) (P : List ℕ → List Edit → Type 0) (p : Progress) → IsStamped p → Does holds cells overfills storage P p rows rows
+stamped_does holds cells overfills storage rows P (progress.Stamped c) is = reads_none
+stamped_does holds cells overfills storage rows P (progress.Held k n) is = absurd is
+stamped_does holds cells overfills storage rows P (progress.Conflict k) is = absurd is
+stamped_does holds cells overfills storage rows P (progress.Committed c) is = absurd is
+stamped_does holds cells overfills storage rows P progress.Lost is = absurd is
+stamped_does holds cells overfills storage rows P (progress.Finished k n) is = absurd is
 
-module _ {R : Type 0} (overfills : R → List ℕ → List Edit → Type 0) (rows new : R) (cells : Cells) (session : Session) where
-  -- so it is with the room that a step takes
-  pub room_in : (phase : Phase) (r : Result Outcome Refusal) → session.phase ≡ phase
-      → IfOk r (λ outcome. (st : State) → IsReached st → ShowsCells cells st → ShowsSession session session.start st → TakesRoom overfills (ChangesIn st (phase_of phase session.commit) (writes_of session) session.start) outcome.progress rows new)
-      → IfOk r (λ outcome. (st : State) → IsReached st → ShowsCells cells st → ShowsSession session session.start st → TakesRoom overfills (ChangesIn st (phase_of session.phase session.commit) (writes_of session) session.start) outcome.progress rows new)
-  room_in phase r is = subst (λ (p : Phase). IfOk r (λ outcome. (st : State) → IsReached st → ShowsCells cells st → ShowsSession session session.start st → TakesRoom overfills (ChangesIn st (phase_of p session.commit) (writes_of session) session.start) outcome.progress rows new)) (sym is)
+module _ (Holds : Type 0) (cells : Cells) (session : Session) where
+  -- the edits of a phase that is known
+  pub edits_in : (phase : Phase) → session.phase ≡ phase → (row : List ℕ) (edits : List Edit) → EditsIn phase Holds cells session row edits → EditsOf Holds cells session row edits
+  edits_in phase is row edits = subst (λ (p : Phase). EditsIn p Holds cells session row edits) (sym is)
 
-  pub room_shown : (p : Progress) (clients : Clients) (t : ℕ) → btree.get nat_cmp clients.sessions t ≡ Some session
-      → ((st : State) → IsReached st → ShowsCells cells st → ShowsSession session session.start st → TakesRoom overfills (ChangesIn st (phase_of session.phase session.commit) (writes_of session) session.start) p rows new)
-      → (st : State) → IsReached st → ShowsCells cells st → ShowsClients clients st → TakesRoom overfills (ChangesNext st t) p rows new
-  room_shown p clients t was takes st reached shown kept =
-      let mine = shown_some clients t st session kept was in
-      let phase = phase_of session.phase session.commit in
-      room_so overfills rows new p
-      (λ row later after. (after.0, after.1, (phase, writes_of session, mine.phase, mine.writes, subst (λ (n : ℕ). ChangesIn st phase (writes_of session) n after.0 after.1) mine.start after.2), after.3))
-      (takes st reached shown (subst (λ (n : ℕ). ShowsSession session n st) (sym mine.start) mine))
+  -- which row they touch, and at which stamps
+  holding_touches : (k : ℕ) (new : Cells) (row : List ℕ) (edits : List Edit) → HoldsAt Holds cells session k row edits → new ≡ after_edits cells edits → TouchesOneRow cells new session.start session.start
+  holding_touches k new row edits (w, first, e, e0, free, at) after =
+      (w.cell.row, subst (λ (cs : Cells). Touches cells cs w.cell.row session.start session.start) (sym (after ∙ holding_makes cells w.cell first.cell session.start w.value edits at.1)) (touches_held cells w.cell session.start session.start w.value first.cell))
+
+  recording_touches : (k : ℕ) (new : Cells) (row : List ℕ) (edits : List Edit) → RecordsAt Holds cells session k row edits → new ≡ after_edits cells edits → TouchesOneRow cells new session.start session.commit
+  recording_touches k new row edits (w, e, at) after =
+      (w.cell.row, subst (λ (cs : Cells). Touches cells cs w.cell.row session.start session.commit) (sym (after ∙ recording_makes cells w.cell session.start session.commit edits at.2)) (touches_recorded cells w.cell session.start session.commit))
+
+  pub edits_touch : (phase : Phase) (new : Cells) (row : List ℕ) (edits : List Edit) → EditsIn phase Holds cells session row edits → new ≡ after_edits cells edits → TouchesBy phase cells new session.start session.commit
+  edits_touch Open new = holding_touches 0 new
+  edits_touch (Holding k) new = holding_touches k new
+  edits_touch Stamped new = recording_touches 0 new
+  edits_touch (Finishing k) new = recording_touches k new
+
+  pub same_touch : (phase : Phase) (new : Cells) → new ≡ cells → TouchesBy phase cells new session.start session.commit
+  same_touch Open new same = ([], touches_kept cells new [] _ _ same)
+  same_touch (Holding k) new same = ([], touches_kept cells new [] _ _ same)
+  same_touch Stamped new same = ([], touches_kept cells new [] _ _ same)
+  same_touch (Finishing k) new same = ([], touches_kept cells new [] _ _ same)
+
+  -- ---- where a state is shown
+
+  module _ (held : Holds) (st : State) (reached : IsReached st) (shown : ShowsCells cells st) (mine : ShowsSession session session.start st) where
+    -- a cell that is free may be held
+    holds_next : (k : ℕ) → HasHeldSo session.phase k → (row : List ℕ) (edits : List Edit) → HoldsAt Holds cells session k row edits → HoldsNext st (writes_of session) k session.start row edits
+    holds_next k so row edits (w, first, e, e0, free, at) =
+        let phase = held_phase st session.start k (held_of session st k mine so) in
+        (w.cell, first.cell, w.value, first.value, puts_of session k w e, puts_of session 0 first e0, free_open cells st reached shown w.cell session.start phase.p phase.is (free held), at.0, at.1)
+
+    -- where a lock stands, the mark does
+    records_next : (k : ℕ) (row : List ℕ) (edits : List Edit) → RecordsAt Holds cells session k row edits → RecordsNext st (writes_of session) k session.start session.commit row edits
+    records_next k row edits (w, e, at) =
+        let stands = at.1 held in
+        (w.cell, w.value, puts_of session k w e, shown.locks w.cell session.start stands.0 stands.1, at.0, at.2)
+
+    pub changes_in : (phase : Phase) → session.phase ≡ phase → (row : List ℕ) (edits : List Edit) → EditsIn phase Holds cells session row edits → ChangesIn st (phase_of phase session.commit) (writes_of session) session.start row edits
+    changes_in Open is = holds_next 0 (inr (is, refl))
+    changes_in (Holding k) is = holds_next k (inl is)
+    changes_in Stamped is = records_next 0
+    changes_in (Finishing k) is = records_next k
+
+-- the edits of the session that is kept are those that a shown state changes next
+pub changes_shown : (Holds : Type 0) (cells : Cells) (clients : Clients) (t : ℕ) → Holds → (st : State) → IsReached st → ShowsCells cells st → ShowsClients clients st → (row : List ℕ) (edits : List Edit) → EditsOfStep Holds cells clients t row edits → ChangesNext st t row edits
+changes_shown Holds cells clients t held st reached shown kept row edits (session, was, is) =
+    let mine = shown_some clients t st session kept was in
+    let phase = phase_of session.phase session.commit in (
+      phase,
+      writes_of session,
+      mine.phase,
+      mine.writes,
+      subst (λ (n : ℕ). ChangesIn st phase (writes_of session) n row edits) mine.start (changes_in Holds cells session held st reached shown (subst (λ (n : ℕ). ShowsSession session n st) (sym mine.start) mine) session.phase refl row edits is),
+    )
 
 pub draws_shown : (clients : Clients) (t : ℕ) (session : Session) → btree.get nat_cmp clients.sessions t ≡ Some session → session.phase ≡ Holding (length session.writes)
     → (st : State) → ShowsClients clients st → IsAboutToDraw st t

@@ -250,13 +250,13 @@ empty_step st t session reached mine = by session.phase refl
     by (Finishing k) e none = let f = fits (Finishing k) e in absurd (omega arith)
 
 -- a refused step: the session is as it was
-pub steps_refused : (cells : Cells) (old new : Clients) (last last' t : ℕ) (session session' : Session) (e : Refusal) → btree.get nat_cmp old.sessions t ≡ Some session → session' ≡ session → new.top ≡ old.top
+pub steps_refused : (Holds : Type 0) (cells : Cells) (old new : Clients) (last last' t : ℕ) (session session' : Session) (e : Refusal) → btree.get nat_cmp old.sessions t ≡ Some session → session' ≡ session → new.top ≡ old.top
     → ((q : ℕ) → btree.get nat_cmp new.sessions q ≡ cond (is_eq (nat_cmp t q)) (Some session') (btree.get nat_cmp old.sessions q))
     → btree.btree_map_len new.sessions ≡ btree.btree_map_len old.sessions → last ≤ last'
-    → IsAdvanceRefusal (HasNoNext session.phase (length session.writes)) e → Steps cells old last (machine.Advance t) (Refused e) cells new last'
-steps_refused cells old new last last' t session session' e was same top at len le refusal st reached shown = (
+    → IsAdvanceRefusal Holds (HasNoNext session.phase (length session.writes)) e → Steps cells old last (machine.Advance t) (Refused e) cells new last'
+steps_refused Holds cells old new last last' t session session' e was same top at len le refusal st reached shown = (
   st,
-  elim (advance_storage (HasNoNext session.phase (length session.writes)) e refusal) [
+  elim (advance_storage Holds (HasNoNext session.phase (length session.writes)) e refusal) [
     | inl (none, is) ↦ subst (λ (f : Refusal). Step st (machine.Advance t) (Refused f) st) (sym is) (empty_step st t session reached (subst (λ (o : Option Session). ShowsAt o t st) was (shown.sessions.sessions t)) none)
     | inr u ↦ refused_storage u
   ],

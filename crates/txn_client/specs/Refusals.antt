@@ -1,5 +1,6 @@
 -- Which refusals a call answers.
-use Rattle.std.specs.Prelude.{⊤}
+use Rattle.std.specs.Prelude.{◌≡◌, ◌⊎◌, ⊤, ℕ, Result}
+use Rattle.cell_key.specs.Faults.{HasReason}
 use Rattle.cell_key.specs.declared.refusals.Refusal.{Refusal}
 use Rattle.cell_key.specs.declared.refusals.Refusal.TheVariants.{UnknownSession, WrongPhase, BadRow, BadColumn, BadValue, TooManyWrites, TooManySessions, EmptyCommit, MemtableFull, Exhausted, Device, NoMemory, Damaged}
 
@@ -40,20 +41,24 @@ IsStepRefusal NoMemory = ⊤
 IsStepRefusal Damaged = ⊤
 IsStepRefusal _ = ⊥
 
--- a step of one session is refused by the rows or the oracle, or it has no write to take
-abbrev pub IsAdvanceRefusal : Type 0 → Refusal → Type 0
-IsAdvanceRefusal HasNone EmptyCommit = HasNone
-IsAdvanceRefusal HasNone MemtableFull = ⊤
-IsAdvanceRefusal HasNone Exhausted = ⊤
-IsAdvanceRefusal HasNone Device = ⊤
-IsAdvanceRefusal HasNone NoMemory = ⊤
-IsAdvanceRefusal HasNone Damaged = ⊤
-IsAdvanceRefusal HasNone _ = ⊥
+-- A row transaction is refused by the rows: damage is told only where they don't hold.
+abbrev pub IsRowRefusal : Type 0 → Refusal → Type 0
+IsRowRefusal Holds MemtableFull = ⊤
+IsRowRefusal Holds Device = ⊤
+IsRowRefusal Holds NoMemory = ⊤
+IsRowRefusal Holds Damaged = ¬ Holds
+IsRowRefusal Holds _ = ⊥
 
--- a row transaction is refused by the rows
-abbrev pub IsRowRefusal : Refusal → Type 0
-IsRowRefusal MemtableFull = ⊤
-IsRowRefusal Device = ⊤
-IsRowRefusal NoMemory = ⊤
-IsRowRefusal Damaged = ⊤
-IsRowRefusal _ = ⊥
+-- So is a step of a session on a cell, or the session has no cell to take.
+abbrev pub IsCellStepRefusal : Type 0 → Type 0 → Refusal → Type 0
+IsCellStepRefusal Holds HasNone EmptyCommit = HasNone
+IsCellStepRefusal Holds HasNone refusal = IsRowRefusal Holds refusal
+
+-- A step of a session is refused so, or by the oracle.
+abbrev pub IsAdvanceRefusal : Type 0 → Type 0 → Refusal → Type 0
+IsAdvanceRefusal Holds HasNone Exhausted = ⊤
+IsAdvanceRefusal Holds HasNone refusal = IsCellStepRefusal Holds HasNone refusal
+
+-- A device's fault is told where one of two counts has risen. The other count stays.
+abbrev pub HasOneReason : {T : Type 0} → ℕ → ℕ → ℕ → ℕ → Result T Refusal → Type 0
+HasOneReason before now before' now' result = (HasReason before now result × (now' ≡ before')) ⊎ (HasReason before' now' result × (now ≡ before))

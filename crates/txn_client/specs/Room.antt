@@ -1,17 +1,27 @@
 -- What a step of a session changes in the rows, and what the cells and the room in memory are then.
-use Rattle.std.specs.Prelude.{◌≡◌, ◌⊎◌, ℕ, List, [], ◌∷◌, ⊤}
+use Rattle.std.specs.Prelude.{◌≡◌, ◌⊎◌, ℕ, List, [], ◌∷◌, Some, slice_get, ⊤}
+use Rattle.std.specs.Ordering.{nat_cmp}
+use Rattle.std.specs.BTreeMap as btree
 use Rattle.cell_key.specs.Cells.{Cells}
 use Rattle.cell_key.specs.declared.edits.Edit.{Edit}
 use Rattle.cell_key.specs.declared.edits.Edit.TheVariants.{Put, Erase}
 use Rattle.cell_key.specs.declared.keys.CellKey.{CellKey}
 use Rattle.cell_key.specs.declared.keys.Qualifier.TheVariants.{Data, Lock, Write}
+use Rattle.row_atomic.specs.Calls.{AppliesSuch, OnlyReads}
+use Rattle.row_atomic.specs.Clusters.{Storage}
 use Rattle.row_atomic.specs.Room.{AreAfter, TakesNoRoom, TakesRoomOf}
 use Rattle.si_model.specs.Machine as machine
 use Rattle.si_model.specs.Machine.{State, Value, Writes, InPhase, Wrote, Puts, Marked, Clashes}
-use Rattle.si_model.specs.ShowsCells.{key_of, lock_text, start_text}
+use Rattle.si_model.specs.ShowsCells.{IsThere, key_of, lock_text, start_text}
 use Rattle.si_model.specs.declared.replies.Cell.{Cell}
 use Rattle.si_model.specs.declared.replies.Progress.{Progress}
 use Rattle.si_model.specs.declared.replies.Progress.TheVariants as progress
+use Rattle.txn_client.specs.Reads.{IsFree}
+use Rattle.txn_client.specs.declared.clients.Clients.{Clients}
+use Rattle.txn_client.specs.declared.session.Phase.{Phase}
+use Rattle.txn_client.specs.declared.session.Phase.TheVariants.{Open, Holding, Stamped, Finishing}
+use Rattle.txn_client.specs.declared.session.Session.{Session}
+use Rattle.txn_client.specs.declared.writes.Write.{Write as Writing}
 
 -- what an edit does: it puts bytes at a key, or erases the key
 abbrev pub IsPut : Edit → CellKey → List ℕ → Type 0
@@ -31,6 +41,52 @@ IsHolding x t v first edits = ⊥
 abbrev pub IsRecording : Cell → ℕ → ℕ → List Edit → Type 0
 IsRecording x t c (written ∷ lock ∷ []) = IsPut written (key_of x Write c) (start_text t) × IsErase lock (key_of x Lock t)
 IsRecording x t c edits = ⊥
+
+-- the row and the edits by which t holds x
+abbrev pub HoldsCell : Cell → ℕ → Value → Cell → List ℕ → List Edit → Type 0
+HoldsCell x t v first row edits = (row ≡ x.row) × IsHolding x t v first edits
+
+-- The row and the edits by which t records x at c. Where the rows hold, the lock of x stands.
+abbrev pub RecordsCell : Type 0 → Cells → Cell → ℕ → ℕ → List ℕ → List Edit → Type 0
+RecordsCell Holds cells x t c row edits = (row ≡ x.row) × (Holds → IsThere cells x Lock t) × IsRecording x t c edits
+
+-- ---- the edits of a session's next step, as its phase, its commit stamp and its writes name them
+
+-- the row and the edits by which a session holds its cell k; where the rows hold, the cell is free
+abbrev pub HoldsAt : Type 0 → Cells → Session → ℕ → List ℕ → List Edit → Type 0
+HoldsAt Holds cells session k row edits =
+    (write first : Writing) × (slice_get session.writes k ≡ Some write) × (slice_get session.writes 0 ≡ Some first)
+    × (Holds → IsFree cells write.cell session.start) × HoldsCell write.cell session.start write.value first.cell row edits
+
+-- the row and the edits by which a session records its cell k
+abbrev pub RecordsAt : Type 0 → Cells → Session → ℕ → List ℕ → List Edit → Type 0
+RecordsAt Holds cells session k row edits =
+    (write : Writing) × (slice_get session.writes k ≡ Some write) × RecordsCell Holds cells write.cell session.start session.commit row edits
+
+abbrev pub EditsIn : Phase → Type 0 → Cells → Session → List ℕ → List Edit → Type 0
+EditsIn Open Holds cells session row edits = HoldsAt Holds cells session 0 row edits
+EditsIn (Holding k) Holds cells session row edits = HoldsAt Holds cells session k row edits
+EditsIn Stamped Holds cells session row edits = RecordsAt Holds cells session 0 row edits
+EditsIn (Finishing k) Holds cells session row edits = RecordsAt Holds cells session k row edits
+
+abbrev pub EditsOf : Type 0 → Cells → Session → List ℕ → List Edit → Type 0
+EditsOf Holds cells session row edits = EditsIn session.phase Holds cells session row edits
+
+-- those of the session that is kept at t
+abbrev pub EditsOfStep : Type 0 → Cells → Clients → ℕ → List ℕ → List Edit → Type 0
+EditsOfStep Holds cells clients t row edits =
+    (session : Session) × (btree.get nat_cmp clients.sessions t ≡ Some session) × EditsOf Holds cells session row edits
+
+-- A step that holds a cell or commits makes such edits, and one that finishes a cell makes them or none. No other changes a cell or
+-- takes room.
+abbrev pub Does : {R : Type 0} → (R → Type 0) → (R → Cells) → (R → List ℕ → List Edit → Type 0) → (R → Storage) → (List ℕ → List Edit → Type 0) → Progress → R → R → Type 0
+Does holds cells overfills storage Such (progress.Held k n) old new = AppliesSuch holds cells overfills storage Such old new
+Does holds cells overfills storage Such (progress.Committed c) old new = AppliesSuch holds cells overfills storage Such old new
+Does holds cells overfills storage Such (progress.Finished k n) old new =
+    AppliesSuch holds cells overfills storage Such old new ⊎ OnlyReads holds cells overfills storage old new
+Does holds cells overfills storage Such p old new = OnlyReads holds cells overfills storage old new
+
+-- ---- as a state of the machine shows them
 
 -- the row and the edits by which t holds its cell k, as it does where it may
 abbrev pub HoldsNext : State → Writes → ℕ → ℕ → List ℕ → List Edit → Type 0

@@ -63,6 +63,10 @@ abbrev pub Steps : Cells → Clients → ℕ → Request → Reply → Cells →
 Steps cells clients last request reply cells' clients' last' =
     (st : State) → IsReached st → Shows cells clients last st → (next : State) × Step st request reply next × Shows cells' clients' last' next
 
+-- so it is in each reached state that cells and sessions show
+abbrev pub InEachShown : Cells → Clients → (State → Type 0) → Type 0
+InEachShown cells clients IsSo = (st : State) → IsReached st → ShowsCells cells st → ShowsClients clients st → IsSo st
+
 -- c is the commit stamp that t has drawn
 abbrev pub HasDrawn : State → ℕ → ℕ → Type 0
 HasDrawn st t c = InPhase st t (machine.Stamped c) ⊎ ((k : ℕ) × InPhase st t (machine.Finishing c k))

@@ -2,20 +2,18 @@
 
 ghost use Rattle.std.specs.Prelude.{◌≡◌, ◌≢◌, ◌<◌, ◌≤◌, ◌^◌, [], ◌∷◌, ℕ, List, length, IfOk, OnOk, OnErr, IfErr, IsErrOf, IfSome, IfNone, OnSome};
 ghost use Rattle.std.specs.Bool.{OnTrue, OnFalse};
-ghost use Rattle.std.specs.FinMap.{insert};
 ghost use Rattle.std.specs.List.{AllByRecursion};
-ghost use Rattle.cell_key.specs.Cells.{Cells, version, after_edits, IsEditOf};
-ghost use Rattle.cell_key.specs.declared.edits.Edit.{Edit as RowEdit};
-ghost use Rattle.cell_key.specs.declared.keys.Qualifier.TheVariants.{Data as DataOf, Lock as LockOf};
 ghost use Rattle.byteorder.specs.Endian.{big_number};
-ghost use Rattle.cell_key.specs.Faults.{HasRisen};
-ghost use Rattle.row_atomic.specs.Refusals.{IsReadRefusal};
-ghost use Rattle.si_model.specs.ShowsCells.{IsThere, Touches, held_cells, key_of, lock_text, recorded_cells};
+ghost use Rattle.cell_key.specs.Cells.{IsEditOf};
+ghost use Rattle.cell_key.specs.Faults.{HasReason};
+ghost use Rattle.row_atomic.specs.Calls.{AppliesSuch, OnlyReads};
+ghost use Rattle.row_atomic.specs.Refusals.{IsApplyRefusal, IsReadRefusal, IsRefusalOfRead};
+ghost use Rattle.row_atomic.specs.Room.{HasNoRoom};
+ghost use Rattle.si_model.specs.ShowsCells.{key_of, lock_text};
 ghost use Rattle.si_model.specs.declared.replies.Cell.{Cell as CellOf};
 ghost use Rattle.txn_client.specs.Reads.{IsFound, IsShort, IsDamaged, IsTaken, IsFree, IsGone};
 ghost use Rattle.txn_client.specs.Refusals.{IsRowRefusal};
-ghost use Rattle.row_atomic.specs.Room.{AreAfter, HasNoRoom, TakesNoRoom, TakesRoomOf};
-ghost use Rattle.txn_client.specs.Room.{IsHolding, IsRecording};
+ghost use Rattle.txn_client.specs.Room.{HoldsCell, IsHolding, IsRecording, RecordsCell};
 
 use crate::limits::Moment;
 use crate::writes::Write;
@@ -51,16 +49,12 @@ fn named_start(text: &[u8]) -> Option<Stamp>
 /// What a session that began at `start` reads of a cell (Percolator, Get).
 pub(crate) fn read_cell<R: Rows>(rows: &mut R, cell: &Cell, start: Stamp) -> Result<Found, Refusal>
     ensures found { R.holds rows.old → IfOk result (IsFound (R.cells rows.old) cell.now start) }
-    ensures damaged { R.holds rows.old → IfErr result (λ refusal. refusal ≡ Refusal.Damaged → IsDamaged (R.cells rows.old) cell.now start) }
-    ensures kept { R.holds rows.old → R.cells rows.new ≡ R.cells rows.old }
-    ensures still { R.holds rows.old → R.holds rows.new }
-    ensures storage { R.storage rows.new ≡ R.storage rows.old }
-    ensures same_room { (row : List ℕ) (edits : List RowEdit) → R.overfills rows.new row edits → R.overfills rows.old row edits }
     ensures short { IfOk result IsShort }
+    ensures reads { OnlyReads R.holds R.cells R.overfills R.storage rows.old rows.new }
     ensures refusal { IfErr result IsReadRefusal }
-    ensures device { IsErrOf result Refusal.Device → HasRisen (R.faults rows.old) (R.faults rows.new) }
-    ensures later { R.faults rows.old ≤ R.faults rows.new }
-    ensures told { ¬ IsErrOf result Refusal.Device → R.faults rows.new ≡ R.faults rows.old }
+    ensures damaged { R.holds rows.old
+        → IfErr result (λ refusal. refusal ≡ Refusal.Damaged → IsDamaged (R.cells rows.old) cell.now start) }
+    ensures reason { HasReason (R.faults rows.old) (R.faults rows.new) result }
 {
     let lock = rows.newest(&cell.row, &cell.family, Qualifier::Lock, 0, start)?;
     if let Some((pending, _)) = lock {
@@ -83,15 +77,9 @@ pub(crate) fn read_cell<R: Rows>(rows: &mut R, cell: &Cell, start: Stamp) -> Res
 pub(crate) fn is_taken<R: Rows>(rows: &mut R, cell: &Cell, start: Stamp) -> Result<bool, Refusal>
     ensures taken { R.holds rows.old → IfOk result (λ taken. OnTrue taken (IsTaken (R.cells rows.old) cell.now start)) }
     ensures free { R.holds rows.old → IfOk result (λ taken. OnFalse taken (IsFree (R.cells rows.old) cell.now start)) }
-    ensures undamaged { R.holds rows.old → ¬ (IsErrOf result Refusal.Damaged) }
-    ensures kept { R.holds rows.old → R.cells rows.new ≡ R.cells rows.old }
-    ensures same_room { (row : List ℕ) (edits : List RowEdit) → R.overfills rows.new row edits → R.overfills rows.old row edits }
-    ensures still { R.holds rows.old → R.holds rows.new }
-    ensures storage { R.storage rows.new ≡ R.storage rows.old }
-    ensures refusal { IfErr result IsReadRefusal }
-    ensures device { IsErrOf result Refusal.Device → HasRisen (R.faults rows.old) (R.faults rows.new) }
-    ensures later { R.faults rows.old ≤ R.faults rows.new }
-    ensures told { ¬ IsErrOf result Refusal.Device → R.faults rows.new ≡ R.faults rows.old }
+    ensures reads { OnlyReads R.holds R.cells R.overfills R.storage rows.old rows.new }
+    ensures refusal { IfErr result (IsRefusalOfRead (R.holds rows.old)) }
+    ensures reason { HasReason (R.faults rows.old) (R.faults rows.new) result }
 {
     let lock = rows.newest(&cell.row, &cell.family, Qualifier::Lock, 0, u64::MAX)?;
     if lock.is_some() {
@@ -113,7 +101,6 @@ fn holding(
     requires to { start < 2 ^ 63 }
     requires value { length value.items ≤ 65536 }
     requires place { length place.items ≤ 65536 }
-    ensures edits { IfOk result (λ edits. (cells : Cells) → after_edits cells edits.items ≡ insert (insert cells (key_of cell.now DataOf start) value.items) (key_of cell.now LockOf start) place.items) }
     ensures holding { IfOk result (λ edits. (first : CellOf) → place.items ≡ lock_text first → IsHolding cell.now start value.items first edits.items) }
     ensures under { IfOk result (λ edits. AllByRecursion (IsEditOf cell.now.row) edits.items) }
     ensures refusal { IfErr result (λ refusal. refusal ≡ Refusal.NoMemory) }
@@ -134,18 +121,12 @@ pub(crate) fn hold<R: Rows>(
     start: Moment,
     first: &Write,
 ) -> Result<(), Refusal>
-    ensures held { R.holds rows.old → OnOk result (R.cells rows.new ≡ held_cells (R.cells rows.old) write.now.cell start write.now.value first.now.cell) }
-    ensures kept { R.holds rows.old → OnErr result (R.cells rows.new ≡ R.cells rows.old) }
-    ensures made { R.holds rows.old → OnOk result (AreAfter (λ row edits. (row ≡ write.now.cell.row) × IsHolding write.now.cell start write.now.value first.now.cell edits) (R.cells rows.old) (R.cells rows.new)) }
-    ensures touched { R.holds rows.old → Touches (R.cells rows.old) (R.cells rows.new) write.now.cell.row start start }
-    ensures still { R.holds rows.old → R.holds rows.new }
-    ensures storage { R.storage rows.new ≡ R.storage rows.old }
-    ensures undamaged { ¬ (IsErrOf result Refusal.Damaged) }
-    ensures refusal { IfErr result IsRowRefusal }
-    ensures full { IsErrOf result Refusal.MemtableFull → HasNoRoom R.overfills rows.old (λ row edits. (row ≡ write.now.cell.row) × IsHolding write.now.cell start write.now.value first.now.cell edits) }
-    ensures room { OnOk result (TakesRoomOf R.overfills (λ row edits. (row ≡ write.now.cell.row) × IsHolding write.now.cell start write.now.value first.now.cell edits) rows.old rows.new) }
-    ensures err_room { OnErr result (TakesNoRoom R.overfills rows.old rows.new) }
-    ensures no_device { ¬ (IsErrOf result Refusal.Device) }
+    ensures ok { OnOk result (AppliesSuch R.holds R.cells R.overfills R.storage
+        (HoldsCell write.now.cell start write.now.value first.now.cell) rows.old rows.new) }
+    ensures err { OnErr result (OnlyReads R.holds R.cells R.overfills R.storage rows.old rows.new) }
+    ensures refusal { IfErr result IsApplyRefusal }
+    ensures full { IsErrOf result Refusal.MemtableFull
+        → HasNoRoom R.overfills rows.old (HoldsCell write.now.cell start write.now.value first.now.cell) }
     ensures untouched { R.faults rows.new ≡ R.faults rows.old }
 {
     let start = start.stamp();
@@ -162,7 +143,6 @@ fn recording(alloc: Global, cell: &Cell, start: Stamp, commit: Stamp) -> Result<
     requires to { start < 2 ^ 63 }
     requires commit_from { 1 ≤ commit }
     requires commit_to { commit < 2 ^ 63 }
-    ensures edits { IfOk result (λ edits. (cells : Cells) → after_edits cells edits.items ≡ recorded_cells cells cell.now start commit) }
     ensures recording { IfOk result (λ edits. IsRecording cell.now start commit edits.items) }
     ensures under { IfOk result (λ edits. AllByRecursion (IsEditOf cell.now.row) edits.items) }
     ensures refusal { IfErr result (λ refusal. refusal ≡ Refusal.NoMemory) }
@@ -186,25 +166,16 @@ pub(crate) fn record<R: Rows>(
     start: Moment,
     commit: Moment,
 ) -> Result<bool, Refusal>
-    ensures stood { R.holds rows.old → IfOk result (λ stood. OnTrue stood (IsThere (R.cells rows.old) cell.now LockOf start)) }
+    ensures made { IfOk result (λ stood. OnTrue stood (AppliesSuch R.holds R.cells R.overfills R.storage
+        (RecordsCell (R.holds rows.old) (R.cells rows.old) cell.now start commit) rows.old rows.new)) }
     ensures gone { R.holds rows.old → IfOk result (λ stood. OnFalse stood (IsGone (R.cells rows.old) cell.now start)) }
-    ensures recorded { R.holds rows.old → IfOk result (λ stood. OnTrue stood (R.cells rows.new ≡ recorded_cells (R.cells rows.old) cell.now start commit)) }
-    ensures left { R.holds rows.old → IfOk result (λ stood. OnFalse stood (R.cells rows.new ≡ R.cells rows.old)) }
-    ensures kept { R.holds rows.old → OnErr result (R.cells rows.new ≡ R.cells rows.old) }
-    ensures made { R.holds rows.old → IfOk result (λ stood. OnTrue stood (AreAfter (λ row edits. (row ≡ cell.now.row) × IsRecording cell.now start commit edits) (R.cells rows.old) (R.cells rows.new))) }
-    ensures touched { R.holds rows.old → Touches (R.cells rows.old) (R.cells rows.new) cell.now.row start commit }
-    ensures still { R.holds rows.old → R.holds rows.new }
-    ensures storage { R.storage rows.new ≡ R.storage rows.old }
-    ensures undamaged { R.holds rows.old → ¬ (IsErrOf result Refusal.Damaged) }
-    ensures refusal { IfErr result IsRowRefusal }
-    ensures full { IsErrOf result Refusal.MemtableFull → HasNoRoom R.overfills rows.old (λ row edits. (row ≡ cell.now.row) × IsRecording cell.now start commit edits) }
-    ensures room { IfOk result (λ stood. OnTrue stood (TakesRoomOf R.overfills (λ row edits. (row ≡ cell.now.row) × IsRecording cell.now start commit edits) rows.old rows.new)) }
-    ensures left_room { IfOk result (λ stood. OnFalse stood (TakesNoRoom R.overfills rows.old rows.new)) }
-    ensures err_room { OnErr result (TakesNoRoom R.overfills rows.old rows.new) }
-    ensures due { R.holds rows.old → IsErrOf result Refusal.MemtableFull → IsThere (R.cells rows.old) cell.now LockOf start }
-    ensures device { IsErrOf result Refusal.Device → HasRisen (R.faults rows.old) (R.faults rows.new) }
-    ensures later { R.faults rows.old ≤ R.faults rows.new }
-    ensures told { ¬ IsErrOf result Refusal.Device → R.faults rows.new ≡ R.faults rows.old }
+    ensures left { IfOk result (λ stood. OnFalse stood (OnlyReads R.holds R.cells R.overfills R.storage rows.old rows.new)) }
+    ensures err { OnErr result (OnlyReads R.holds R.cells R.overfills R.storage rows.old rows.new) }
+    ensures refusal { IfErr result (IsRowRefusal (R.holds rows.old)) }
+    ensures full { IsErrOf result Refusal.MemtableFull
+        → HasNoRoom R.overfills rows.old
+        (RecordsCell (R.holds rows.old) (R.cells rows.old) cell.now start commit) }
+    ensures reason { HasReason (R.faults rows.old) (R.faults rows.new) result }
 {
     let start = start.stamp();
     let commit = commit.stamp();

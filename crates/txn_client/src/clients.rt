@@ -1,23 +1,25 @@
-ghost use Rattle.std.specs.Prelude.{◌≡◌, ◌+◌, ◌<◌, ◌^◌, ◌⊎◌, ℕ, List, IfErr, IfOk, IsErrOf, OnErr, OnOk};
+//! The sessions that are active.
+
+ghost use Rattle.std.specs.Prelude.{◌≡◌, ◌+◌, ◌<◌, ◌^◌, ◌⊎◌, ℕ, IfErr, IfOk, IsErrOf, OnErr, OnOk};
 ghost use Rattle.std.specs.Prelude.{◌≤◌, Some, is_some, if◌then◌else◌};
 ghost use Rattle.std.specs.BTreeMap as btree;
 ghost use Rattle.std.specs.BTreeMap.{Updates, btree_map_len};
 ghost use Rattle.std.specs.FinMap.{empty};
 ghost use Rattle.std.specs.Ordering.{nat_cmp};
 ghost use Rattle.cell_key.specs.Cells.{Cells};
-ghost use Rattle.cell_key.specs.declared.edits.Edit.{Edit as RowEdit};
 ghost use Rattle.cell_key.specs.Names.{IsFamily, IsRow};
 ghost use Rattle.oracle.specs.Ranges.{IsDrawRefusal};
-ghost use Rattle.cell_key.specs.Faults.{HasRisen};
+ghost use Rattle.cell_key.specs.Faults.{HasReason};
 ghost use Rattle.si_model.specs.Machine as machine;
 ghost use Rattle.si_model.specs.Machine.{IsReached, State};
 ghost use Rattle.si_model.specs.Replies.{found_reply, progress_reply, result_reply};
 ghost use Rattle.si_model.specs.ShowsCells.{ShowsCells};
 ghost use Rattle.txn_client.specs.Reads.{IsShort, cell_of};
-ghost use Rattle.txn_client.specs.Refusals.{IsBeginRefusal, IsGetRefusal, IsSetRefusal, IsStepRefusal};
-ghost use Rattle.row_atomic.specs.Room.{HasNoRoom, TakesNoRoom};
-ghost use Rattle.txn_client.specs.Room.{ChangesNext, Makes, TakesRoom};
-ghost use Rattle.txn_client.specs.Shows.{DrawsNext, IsAboutToDraw, IsCellRefusal, IsCrowded, IsInactive, IsNameRefusal, IsOpen, IsUnwritten, SameSessions, Shows, ShowsClients, Steps, TouchesFor, open_session, top_after};
+ghost use Rattle.txn_client.specs.Refusals.{HasOneReason, IsBeginRefusal, IsGetRefusal, IsSetRefusal, IsStepRefusal};
+ghost use Rattle.row_atomic.specs.Calls.{KeepsBelow, OnlyReads};
+ghost use Rattle.row_atomic.specs.Room.{HasNoRoom};
+ghost use Rattle.txn_client.specs.Room.{ChangesNext, Does, EditsOfStep, Makes, TakesRoom};
+ghost use Rattle.txn_client.specs.Shows.{DrawsNext, InEachShown, IsAboutToDraw, IsCellRefusal, IsCrowded, IsInactive, IsNameRefusal, IsOpen, IsUnwritten, SameSessions, Shows, ShowsClients, Steps, TouchesFor, open_session, top_after};
 
 use crate::cells;
 use crate::limits::{Moment, Value};
@@ -114,9 +116,7 @@ impl Clients {
         ensures crowded { (st : State) → ShowsClients self.old st → IsCrowded st → IsErrOf result Refusal.TooManySessions }
         ensures undrawn { IsErrOf result Refusal.TooManySessions ⊎ (IsErrOf result Refusal.Exhausted ⊎ IsErrOf result Refusal.NoMemory) → oracle.new ≡ oracle.old }
         ensures exhausted { IsErrOf result Refusal.Exhausted → oracle.old.last ≡ MOST_STAMP }
-        ensures device { IsErrOf result Refusal.Device → HasRisen (M.faults oracle.old.marks) (M.faults oracle.new.marks) }
-        ensures later { M.faults oracle.old.marks ≤ M.faults oracle.new.marks }
-        ensures told { ¬ IsErrOf result Refusal.Device → M.faults oracle.new.marks ≡ M.faults oracle.old.marks }
+        ensures reason { HasReason (M.faults oracle.old.marks) (M.faults oracle.new.marks) result }
     {
         if self.sessions.len() >= MOST_SESSIONS {
             return Err(Refusal::TooManySessions);
@@ -203,18 +203,14 @@ impl Clients {
         family: &[u8],
     ) -> Result<Found, Refusal>
         ensures step { R.holds rows.old → (last : ℕ) → Steps (R.cells rows.old) self.now last (machine.Get start (cell_of row.now family.now)) (result_reply found_reply result) (R.cells rows.new) self.now last }
-        ensures kept { R.holds rows.old → R.cells rows.new ≡ R.cells rows.old }
-        ensures still { R.holds rows.old → R.holds rows.new }
-        ensures storage { R.storage rows.new ≡ R.storage rows.old }
+        ensures reads { OnlyReads R.holds R.cells R.overfills R.storage rows.old rows.new }
         // What is shown is never answered as damaged.
-        ensures undamaged { R.holds rows.old → (st : State) → IsReached st → ShowsCells (R.cells rows.old) st → ¬ (IsErrOf result Refusal.Damaged) }
-        ensures same_room { (row : List ℕ) (edits : List RowEdit) → R.overfills rows.new row edits → R.overfills rows.old row edits }
+        ensures undamaged { R.holds rows.old
+            → (st : State) → IsReached st → ShowsCells (R.cells rows.old) st → ¬ (IsErrOf result Refusal.Damaged) }
         ensures short { IfOk result IsShort }
         ensures refusal { IfErr result IsGetRefusal }
         ensures unknown { (st : State) → ShowsClients self.now st → IsInactive st start → IsErrOf result Refusal.UnknownSession }
-        ensures device { IsErrOf result Refusal.Device → HasRisen (R.faults rows.old) (R.faults rows.new) }
-        ensures later { R.faults rows.old ≤ R.faults rows.new }
-        ensures told { ¬ IsErrOf result Refusal.Device → R.faults rows.new ≡ R.faults rows.old }
+        ensures reason { HasReason (R.faults rows.old) (R.faults rows.new) result }
     {
         let cell = self.open_cell(start, row, family)?;
         cells::read_cell(rows, &cell, start)
@@ -263,18 +259,24 @@ impl Clients {
         oracle: &mut Oracle<M>,
         start: Stamp,
     ) -> Result<Progress, Refusal>
-        ensures step { R.holds rows.old → Steps (R.cells rows.old) self.old oracle.old.last (machine.Advance start) (result_reply progress_reply result) (R.cells rows.new) self.new oracle.new.last }
-        ensures kept { R.holds rows.old → OnErr result (R.cells rows.new ≡ R.cells rows.old) }
-        ensures still { R.holds rows.old → R.holds rows.new }
-        ensures storage { R.storage rows.new ≡ R.storage rows.old }
+        ensures step { R.holds rows.old
+            → Steps (R.cells rows.old) self.old oracle.old.last (machine.Advance start)
+            (result_reply progress_reply result) (R.cells rows.new) self.new oracle.new.last }
+        // The edits that the session names are made, or nothing is changed.
+        ensures does { IfOk result (λ progress. Does R.holds R.cells R.overfills R.storage
+            (EditsOfStep (R.holds rows.old) (R.cells rows.old) self.old start) progress rows.old rows.new) }
+        ensures same { OnErr result (OnlyReads R.holds R.cells R.overfills R.storage rows.old rows.new) }
+        ensures below { KeepsBelow R.holds R.storage rows.old rows.new }
         // One row changes, and what joins stands at the session's start or its commit stamp.
-        ensures touched { R.holds rows.old → (st : State) → ShowsClients self.old st → TouchesFor st start (R.cells rows.old) (R.cells rows.new) }
+        ensures touched { R.holds rows.old
+            → (st : State) → ShowsClients self.old st → TouchesFor st start (R.cells rows.old) (R.cells rows.new) }
         // What changes are the edits of the session's next step, and nothing else.
-        ensures made { R.holds rows.old → IfOk result (λ progress. (st : State) → IsReached st → ShowsCells (R.cells rows.old) st → ShowsClients self.old st → Makes (ChangesNext st start) progress (R.cells rows.old) (R.cells rows.new)) }
+        ensures made { R.holds rows.old
+            → IfOk result (λ progress. InEachShown (R.cells rows.old) self.old (λ st.
+            Makes (ChangesNext st start) progress (R.cells rows.old) (R.cells rows.new))) }
         ensures draws { IfOk result (DrawsNext oracle.old.last) }
         ensures last { IfOk result (λ progress. oracle.new.last ≡ top_after oracle.old.last progress) }
         ensures stays { OnErr result (oracle.new.last ≡ oracle.old.last) }
-
         ensures undamaged { R.holds rows.old → ¬ (IsErrOf result Refusal.Damaged) }
         ensures refusal { IfErr result IsStepRefusal }
         ensures err { OnErr result (SameSessions self.old self.new) }
@@ -288,16 +290,18 @@ impl Clients {
         ensures undrawn { IsErrOf result Refusal.Exhausted → oracle.new ≡ oracle.old }
         // A step that doesn't draw leaves the oracle as it is.
         ensures aside { (st : State) → ShowsClients self.old st → ¬ IsAboutToDraw st start → oracle.new ≡ oracle.old }
-        // A step is refused MemtableFull where it makes edits and the rows have no room for them.
-        ensures full { R.holds rows.old → IsErrOf result Refusal.MemtableFull → (st : State) → IsReached st → ShowsCells (R.cells rows.old) st → ShowsClients self.old st → HasNoRoom R.overfills rows.old (ChangesNext st start) }
+        // A step is refused MemtableFull where the rows have no room for the edits that its session names.
+        ensures full { IsErrOf result Refusal.MemtableFull
+            → HasNoRoom R.overfills rows.old (EditsOfStep (R.holds rows.old) (R.cells rows.old) self.old start) }
+        ensures full_shown { R.holds rows.old
+            → IsErrOf result Refusal.MemtableFull
+            → InEachShown (R.cells rows.old) self.old (λ st. HasNoRoom R.overfills rows.old (ChangesNext st start)) }
         // A step that makes edits takes their room, and no other takes any.
-        ensures room { R.holds rows.old → IfOk result (λ progress. (st : State) → IsReached st → ShowsCells (R.cells rows.old) st → ShowsClients self.old st → TakesRoom R.overfills (ChangesNext st start) progress rows.old rows.new) }
-        ensures err_room { OnErr result (TakesNoRoom R.overfills rows.old rows.new) }
-        ensures device { IsErrOf result Refusal.Device → HasRisen (R.faults rows.old) (R.faults rows.new) ⊎ HasRisen (M.faults oracle.old.marks) (M.faults oracle.new.marks) }
-        ensures later { R.faults rows.old ≤ R.faults rows.new }
-        ensures told { ¬ IsErrOf result Refusal.Device → R.faults rows.new ≡ R.faults rows.old }
-        ensures mark_later { M.faults oracle.old.marks ≤ M.faults oracle.new.marks }
-        ensures mark_told { ¬ IsErrOf result Refusal.Device → M.faults oracle.new.marks ≡ M.faults oracle.old.marks }
+        ensures room { R.holds rows.old
+            → IfOk result (λ progress. InEachShown (R.cells rows.old) self.old (λ st.
+            TakesRoom R.overfills (ChangesNext st start) progress rows.old rows.new)) }
+        ensures reason { HasOneReason (R.faults rows.old) (R.faults rows.new)
+            (M.faults oracle.old.marks) (M.faults oracle.new.marks) result }
     {
         let Some(session) = self.sessions.get_mut(&start) else {
             return Err(Refusal::UnknownSession);

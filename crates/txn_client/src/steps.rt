@@ -1,15 +1,14 @@
 //! The steps of one session.
 
-ghost use Rattle.std.specs.Prelude.{◌≡◌, ◌≢◌, ◌+◌, ◌≤◌, ◌⊎◌, ℕ, length, IfOk, OnErr, IfErr, IsErrOf};
+ghost use Rattle.std.specs.Prelude.{◌≡◌, ◌≢◌, ◌+◌, ◌≤◌, ℕ, length, IfOk, OnErr, IfErr, IsErrOf};
 ghost use Rattle.cell_key.specs.Cells.{Cells};
+ghost use Rattle.cell_key.specs.Faults.{HasReason};
 ghost use Rattle.oracle.specs.Ranges.{IsDrawRefusal};
-ghost use Rattle.cell_key.specs.Faults.{HasRisen};
-ghost use Rattle.si_model.specs.Machine.{IsReached, State};
-ghost use Rattle.si_model.specs.ShowsCells.{ShowsCells, TouchesOneRow};
-ghost use Rattle.txn_client.specs.Shows.{Advances, DrawsNext, HasHeldSo, HasNoNext, ShowsSession, TouchesBy, phase_of, top_after, writes_of};
-ghost use Rattle.row_atomic.specs.Room.{HasNoRoom, TakesNoRoom};
-ghost use Rattle.txn_client.specs.Room.{ChangesIn, HoldsNext, IsStamped, Makes, RecordsNext, TakesRoom};
-ghost use Rattle.txn_client.specs.Refusals.{IsAdvanceRefusal};
+ghost use Rattle.row_atomic.specs.Calls.{OnlyReads};
+ghost use Rattle.row_atomic.specs.Room.{HasNoRoom};
+ghost use Rattle.txn_client.specs.Shows.{Advances, DrawsNext, HasHeldSo, HasNoNext, top_after};
+ghost use Rattle.txn_client.specs.Room.{Does, EditsOf, HoldsAt, IsStamped, RecordsAt};
+ghost use Rattle.txn_client.specs.Refusals.{HasOneReason, IsAdvanceRefusal, IsCellStepRefusal};
 ghost use Rattle.txn_client.specs.declared.session.Phase.TheVariants as phase;
 
 use crate::cells;
@@ -30,26 +29,22 @@ impl Session {
         k: u16,
     ) -> Result<Outcome, Refusal>
         requires { HasHeldSo self.old.phase k }
-        ensures step { R.holds rows.old → IfOk result (λ outcome. (last : ℕ) → Advances (R.cells rows.old) self.old last outcome (R.cells rows.new) self.new last) }
-        ensures draws { IfOk result (λ outcome. (last : ℕ) → (DrawsNext last outcome.progress) × (last ≡ top_after last outcome.progress)) }
+        ensures step { R.holds rows.old
+            → IfOk result (λ outcome. (last : ℕ)
+            → Advances (R.cells rows.old) self.old last outcome (R.cells rows.new) self.new last) }
+        ensures draws { IfOk result (λ outcome. (last : ℕ)
+            → (DrawsNext last outcome.progress) × (last ≡ top_after last outcome.progress)) }
         ensures start { self.new.start ≡ self.old.start }
         ensures writes { self.new.writes ≡ self.old.writes }
         ensures err { OnErr result (self.new ≡ self.old) }
-        ensures kept { R.holds rows.old → OnErr result (R.cells rows.new ≡ R.cells rows.old) }
-        ensures touched { R.holds rows.old → TouchesOneRow (R.cells rows.old) (R.cells rows.new) self.old.start self.old.start }
-        ensures still { R.holds rows.old → R.holds rows.new }
-        ensures storage { R.storage rows.new ≡ R.storage rows.old }
-        ensures undamaged { R.holds rows.old → ¬ (IsErrOf result Refusal.Damaged) }
-        ensures refusal { IfErr result (IsAdvanceRefusal (length self.old.writes ≤ k)) }
+        ensures does { IfOk result (λ outcome. Does R.holds R.cells R.overfills R.storage
+            (HoldsAt (R.holds rows.old) (R.cells rows.old) self.old k) outcome.progress rows.old rows.new) }
+        ensures same { OnErr result (OnlyReads R.holds R.cells R.overfills R.storage rows.old rows.new) }
+        ensures refusal { IfErr result (IsCellStepRefusal (R.holds rows.old) (length self.old.writes ≤ k)) }
         ensures empty { length self.old.writes ≤ k → IsErrOf result Refusal.EmptyCommit }
-        ensures made { R.holds rows.old → IfOk result (λ outcome. (st : State) → IsReached st → ShowsCells (R.cells rows.old) st → ShowsSession self.old self.old.start st → Makes (HoldsNext st (writes_of self.old) k self.old.start) outcome.progress (R.cells rows.old) (R.cells rows.new)) }
-        ensures full { R.holds rows.old → IsErrOf result Refusal.MemtableFull → (st : State) → IsReached st → ShowsCells (R.cells rows.old) st → ShowsSession self.old self.old.start st → HasNoRoom R.overfills rows.old (HoldsNext st (writes_of self.old) k self.old.start) }
-        ensures room { R.holds rows.old → IfOk result (λ outcome. (st : State) → IsReached st → ShowsCells (R.cells rows.old) st → ShowsSession self.old self.old.start st → TakesRoom R.overfills (HoldsNext st (writes_of self.old) k self.old.start) outcome.progress rows.old rows.new) }
-        ensures err_room { OnErr result (TakesNoRoom R.overfills rows.old rows.new) }
-        ensures device { IsErrOf result Refusal.Device → HasRisen (R.faults rows.old) (R.faults rows.new) }
-        ensures later { R.faults rows.old ≤ R.faults rows.new }
-        ensures told { ¬ IsErrOf result Refusal.Device → R.faults rows.new ≡ R.faults rows.old }
-        ensures not_exhausted { ¬ (IsErrOf result Refusal.Exhausted) }
+        ensures full { IsErrOf result Refusal.MemtableFull
+            → HasNoRoom R.overfills rows.old (HoldsAt (R.holds rows.old) (R.cells rows.old) self.old k) }
+        ensures reason { HasReason (R.faults rows.old) (R.faults rows.new) result }
     {
         let Some(write) = self.writes.get(k) else {
             return Err(Refusal::EmptyCommit);
@@ -83,9 +78,7 @@ impl Session {
         ensures err { OnErr result (self.new ≡ self.old) }
         ensures stays { OnErr result (oracle.new.last ≡ oracle.old.last) }
         ensures refusal { IfErr result IsDrawRefusal }
-        ensures device { IsErrOf result Refusal.Device → HasRisen (M.faults oracle.old.marks) (M.faults oracle.new.marks) }
-        ensures later { M.faults oracle.old.marks ≤ M.faults oracle.new.marks }
-        ensures told { ¬ IsErrOf result Refusal.Device → M.faults oracle.new.marks ≡ M.faults oracle.old.marks }
+        ensures reason { HasReason (M.faults oracle.old.marks) (M.faults oracle.new.marks) result }
         ensures exhausted { IsErrOf result Refusal.Exhausted → oracle.old.last ≡ MOST_STAMP }
         ensures undrawn { IsErrOf result Refusal.Exhausted → oracle.new ≡ oracle.old }
     {
@@ -101,25 +94,21 @@ impl Session {
     /// Puts the write record of the first cell in the place of its lock: the commit.
     fn commit_first<R: Rows>(&mut self, alloc: Global, rows: &mut R) -> Result<Outcome, Refusal>
         requires { self.old.phase ≡ phase.Stamped }
-        ensures step { R.holds rows.old → IfOk result (λ outcome. (last : ℕ) → Advances (R.cells rows.old) self.old last outcome (R.cells rows.new) self.new last) }
-        ensures draws { IfOk result (λ outcome. (last : ℕ) → (DrawsNext last outcome.progress) × (last ≡ top_after last outcome.progress)) }
+        ensures step { R.holds rows.old
+            → IfOk result (λ outcome. (last : ℕ)
+            → Advances (R.cells rows.old) self.old last outcome (R.cells rows.new) self.new last) }
+        ensures draws { IfOk result (λ outcome. (last : ℕ)
+            → (DrawsNext last outcome.progress) × (last ≡ top_after last outcome.progress)) }
         ensures start { self.new.start ≡ self.old.start }
         ensures writes { self.new.writes ≡ self.old.writes }
         ensures err { OnErr result (self.new ≡ self.old) }
-        ensures kept { R.holds rows.old → OnErr result (R.cells rows.new ≡ R.cells rows.old) }
-        ensures touched { R.holds rows.old → TouchesOneRow (R.cells rows.old) (R.cells rows.new) self.old.start self.old.commit }
-        ensures still { R.holds rows.old → R.holds rows.new }
-        ensures storage { R.storage rows.new ≡ R.storage rows.old }
-        ensures undamaged { R.holds rows.old → ¬ (IsErrOf result Refusal.Damaged) }
-        ensures refusal { IfErr result (IsAdvanceRefusal (length self.old.writes ≤ 0)) }
-        ensures made { R.holds rows.old → IfOk result (λ outcome. (st : State) → IsReached st → ShowsCells (R.cells rows.old) st → ShowsSession self.old self.old.start st → Makes (RecordsNext st (writes_of self.old) 0 self.old.start self.old.commit) outcome.progress (R.cells rows.old) (R.cells rows.new)) }
-        ensures full { R.holds rows.old → IsErrOf result Refusal.MemtableFull → (st : State) → IsReached st → ShowsCells (R.cells rows.old) st → ShowsSession self.old self.old.start st → HasNoRoom R.overfills rows.old (RecordsNext st (writes_of self.old) 0 self.old.start self.old.commit) }
-        ensures room { R.holds rows.old → IfOk result (λ outcome. (st : State) → IsReached st → ShowsCells (R.cells rows.old) st → ShowsSession self.old self.old.start st → TakesRoom R.overfills (RecordsNext st (writes_of self.old) 0 self.old.start self.old.commit) outcome.progress rows.old rows.new) }
-        ensures err_room { OnErr result (TakesNoRoom R.overfills rows.old rows.new) }
-        ensures device { IsErrOf result Refusal.Device → HasRisen (R.faults rows.old) (R.faults rows.new) }
-        ensures later { R.faults rows.old ≤ R.faults rows.new }
-        ensures told { ¬ IsErrOf result Refusal.Device → R.faults rows.new ≡ R.faults rows.old }
-        ensures not_exhausted { ¬ (IsErrOf result Refusal.Exhausted) }
+        ensures does { IfOk result (λ outcome. Does R.holds R.cells R.overfills R.storage
+            (RecordsAt (R.holds rows.old) (R.cells rows.old) self.old 0) outcome.progress rows.old rows.new) }
+        ensures same { OnErr result (OnlyReads R.holds R.cells R.overfills R.storage rows.old rows.new) }
+        ensures refusal { IfErr result (IsCellStepRefusal (R.holds rows.old) (length self.old.writes ≤ 0)) }
+        ensures full { IsErrOf result Refusal.MemtableFull
+            → HasNoRoom R.overfills rows.old (RecordsAt (R.holds rows.old) (R.cells rows.old) self.old 0) }
+        ensures reason { HasReason (R.faults rows.old) (R.faults rows.new) result }
     {
         let Some(first) = self.writes.get(0) else {
             return Err(Refusal::EmptyCommit);
@@ -145,25 +134,21 @@ impl Session {
         k: u16,
     ) -> Result<Outcome, Refusal>
         requires { self.old.phase ≡ phase.Finishing k }
-        ensures step { R.holds rows.old → IfOk result (λ outcome. (last : ℕ) → Advances (R.cells rows.old) self.old last outcome (R.cells rows.new) self.new last) }
-        ensures draws { IfOk result (λ outcome. (last : ℕ) → (DrawsNext last outcome.progress) × (last ≡ top_after last outcome.progress)) }
+        ensures step { R.holds rows.old
+            → IfOk result (λ outcome. (last : ℕ)
+            → Advances (R.cells rows.old) self.old last outcome (R.cells rows.new) self.new last) }
+        ensures draws { IfOk result (λ outcome. (last : ℕ)
+            → (DrawsNext last outcome.progress) × (last ≡ top_after last outcome.progress)) }
         ensures start { self.new.start ≡ self.old.start }
         ensures writes { self.new.writes ≡ self.old.writes }
         ensures err { OnErr result (self.new ≡ self.old) }
-        ensures kept { R.holds rows.old → OnErr result (R.cells rows.new ≡ R.cells rows.old) }
-        ensures touched { R.holds rows.old → TouchesOneRow (R.cells rows.old) (R.cells rows.new) self.old.start self.old.commit }
-        ensures still { R.holds rows.old → R.holds rows.new }
-        ensures storage { R.storage rows.new ≡ R.storage rows.old }
-        ensures undamaged { R.holds rows.old → ¬ (IsErrOf result Refusal.Damaged) }
-        ensures refusal { IfErr result (IsAdvanceRefusal (length self.old.writes ≤ k)) }
-        ensures made { R.holds rows.old → IfOk result (λ outcome. (st : State) → IsReached st → ShowsCells (R.cells rows.old) st → ShowsSession self.old self.old.start st → Makes (RecordsNext st (writes_of self.old) k self.old.start self.old.commit) outcome.progress (R.cells rows.old) (R.cells rows.new)) }
-        ensures full { R.holds rows.old → IsErrOf result Refusal.MemtableFull → (st : State) → IsReached st → ShowsCells (R.cells rows.old) st → ShowsSession self.old self.old.start st → HasNoRoom R.overfills rows.old (RecordsNext st (writes_of self.old) k self.old.start self.old.commit) }
-        ensures room { R.holds rows.old → IfOk result (λ outcome. (st : State) → IsReached st → ShowsCells (R.cells rows.old) st → ShowsSession self.old self.old.start st → TakesRoom R.overfills (RecordsNext st (writes_of self.old) k self.old.start self.old.commit) outcome.progress rows.old rows.new) }
-        ensures err_room { OnErr result (TakesNoRoom R.overfills rows.old rows.new) }
-        ensures device { IsErrOf result Refusal.Device → HasRisen (R.faults rows.old) (R.faults rows.new) }
-        ensures later { R.faults rows.old ≤ R.faults rows.new }
-        ensures told { ¬ IsErrOf result Refusal.Device → R.faults rows.new ≡ R.faults rows.old }
-        ensures not_exhausted { ¬ (IsErrOf result Refusal.Exhausted) }
+        ensures does { IfOk result (λ outcome. Does R.holds R.cells R.overfills R.storage
+            (RecordsAt (R.holds rows.old) (R.cells rows.old) self.old k) outcome.progress rows.old rows.new) }
+        ensures same { OnErr result (OnlyReads R.holds R.cells R.overfills R.storage rows.old rows.new) }
+        ensures refusal { IfErr result (IsCellStepRefusal (R.holds rows.old) (length self.old.writes ≤ k)) }
+        ensures full { IsErrOf result Refusal.MemtableFull
+            → HasNoRoom R.overfills rows.old (RecordsAt (R.holds rows.old) (R.cells rows.old) self.old k) }
+        ensures reason { HasReason (R.faults rows.old) (R.faults rows.new) result }
     {
         let Some(write) = self.writes.get(k) else {
             return Err(Refusal::EmptyCommit);
@@ -183,33 +168,29 @@ impl Session {
         rows: &mut R,
         oracle: &mut Oracle<M>,
     ) -> Result<Outcome, Refusal>
-        ensures step { R.holds rows.old → IfOk result (λ outcome. Advances (R.cells rows.old) self.old oracle.old.last outcome (R.cells rows.new) self.new oracle.new.last) }
-        ensures draws { IfOk result (λ outcome. (DrawsNext oracle.old.last outcome.progress) × (oracle.new.last ≡ top_after oracle.old.last outcome.progress)) }
+        ensures step { R.holds rows.old
+            → IfOk result (λ outcome.
+            Advances (R.cells rows.old) self.old oracle.old.last outcome (R.cells rows.new) self.new oracle.new.last) }
+        ensures draws { IfOk result (λ outcome. (DrawsNext oracle.old.last outcome.progress)
+            × (oracle.new.last ≡ top_after oracle.old.last outcome.progress)) }
         ensures start { self.new.start ≡ self.old.start }
         ensures writes { self.new.writes ≡ self.old.writes }
         ensures err { OnErr result (self.new ≡ self.old) }
         ensures stays { OnErr result (oracle.new.last ≡ oracle.old.last) }
-        ensures kept { R.holds rows.old → OnErr result (R.cells rows.new ≡ R.cells rows.old) }
-        ensures touched { R.holds rows.old → TouchesBy self.old.phase (R.cells rows.old) (R.cells rows.new) self.old.start self.old.commit }
-        ensures still { R.holds rows.old → R.holds rows.new }
-        ensures storage { R.storage rows.new ≡ R.storage rows.old }
-        ensures undamaged { R.holds rows.old → ¬ (IsErrOf result Refusal.Damaged) }
-        ensures refusal { IfErr result (IsAdvanceRefusal (HasNoNext self.old.phase (length self.old.writes))) }
+        ensures does { IfOk result (λ outcome. Does R.holds R.cells R.overfills R.storage
+            (EditsOf (R.holds rows.old) (R.cells rows.old) self.old) outcome.progress rows.old rows.new) }
+        ensures same { OnErr result (OnlyReads R.holds R.cells R.overfills R.storage rows.old rows.new) }
+        ensures refusal { IfErr result (IsAdvanceRefusal (R.holds rows.old) (HasNoNext self.old.phase (length self.old.writes))) }
         ensures empty { self.old.phase ≡ phase.Open → length self.old.writes ≤ 0 → IsErrOf result Refusal.EmptyCommit }
         ensures drawing { self.old.phase ≡ phase.Holding (length self.old.writes) → IfErr result IsDrawRefusal }
-        ensures made { R.holds rows.old → IfOk result (λ outcome. (st : State) → IsReached st → ShowsCells (R.cells rows.old) st → ShowsSession self.old self.old.start st → Makes (ChangesIn st (phase_of self.old.phase self.old.commit) (writes_of self.old) self.old.start) outcome.progress (R.cells rows.old) (R.cells rows.new)) }
-        ensures full { R.holds rows.old → IsErrOf result Refusal.MemtableFull → (st : State) → IsReached st → ShowsCells (R.cells rows.old) st → ShowsSession self.old self.old.start st → HasNoRoom R.overfills rows.old (ChangesIn st (phase_of self.old.phase self.old.commit) (writes_of self.old) self.old.start) }
-        ensures room { R.holds rows.old → IfOk result (λ outcome. (st : State) → IsReached st → ShowsCells (R.cells rows.old) st → ShowsSession self.old self.old.start st → TakesRoom R.overfills (ChangesIn st (phase_of self.old.phase self.old.commit) (writes_of self.old) self.old.start) outcome.progress rows.old rows.new) }
-        ensures err_room { OnErr result (TakesNoRoom R.overfills rows.old rows.new) }
+        ensures full { IsErrOf result Refusal.MemtableFull
+            → HasNoRoom R.overfills rows.old (EditsOf (R.holds rows.old) (R.cells rows.old) self.old) }
         ensures exhausted { IsErrOf result Refusal.Exhausted → oracle.old.last ≡ MOST_STAMP }
         ensures draw_only { IsErrOf result Refusal.Exhausted → self.old.phase ≡ phase.Holding (length self.old.writes) }
         ensures aside { self.old.phase ≢ phase.Holding (length self.old.writes) → oracle.new ≡ oracle.old }
         ensures undrawn { IsErrOf result Refusal.Exhausted → oracle.new ≡ oracle.old }
-        ensures device { IsErrOf result Refusal.Device → HasRisen (R.faults rows.old) (R.faults rows.new) ⊎ HasRisen (M.faults oracle.old.marks) (M.faults oracle.new.marks) }
-        ensures later { R.faults rows.old ≤ R.faults rows.new }
-        ensures told { ¬ IsErrOf result Refusal.Device → R.faults rows.new ≡ R.faults rows.old }
-        ensures mark_later { M.faults oracle.old.marks ≤ M.faults oracle.new.marks }
-        ensures mark_told { ¬ IsErrOf result Refusal.Device → M.faults oracle.new.marks ≡ M.faults oracle.old.marks }
+        ensures reason { HasOneReason (R.faults rows.old) (R.faults rows.new)
+            (M.faults oracle.old.marks) (M.faults oracle.new.marks) result }
     {
         match self.phase {
             Phase::Open => self.hold_next(alloc, rows, 0),

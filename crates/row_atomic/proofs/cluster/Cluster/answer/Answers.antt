@@ -314,7 +314,7 @@ returns-in-Apply-clause-uses g c = rw (c.in-Apply.is) tt
 pub returns-in-Apply-clause-cause : goal.returns-in-Apply-clause-cause
 returns-in-Apply-clause-cause g c =
     rw (c.in-Apply.is) (λ order. caused g.F.Files.contents (command.Apply c.in-Apply.row c.in-Apply.edits) c.apply.result c.done.result c.args.self.now c.apply.new.self c.done.ensures
-    (λ x ok. (when_ok c.apply.result x c.apply.ensures.ok ok).within)
+    (λ x ok. when_ok c.apply.result x c.apply.ensures.within ok)
     (λ refusal is. record {
       due = λ same. c.apply.ensures.full (is ∙ ap (λ (r : Refusal). Err r) same);
       barred = λ bars. absurd bars;

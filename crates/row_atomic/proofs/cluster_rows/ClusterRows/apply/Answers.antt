@@ -26,11 +26,9 @@ returns-clause-ok g c =
     let t = c.index_mut.result.now in
     let there = found_there ts c.index_of-index.result at.tablet t at.there c.index_mut.ensures.value in
     let owns = owner_at c.self.inside.table ts row c.index_of-index.result t table c.self.invariant.placed c.self.invariant.as_many at there in
-    let all = all_kept (range_of t) row edits owns.has c.requires in
-    rw (← c.self.view_is) (applied_in g.F.Files.contents _ c.index_of-index.result c.apply.new.self row edits c.apply.result
+    rw (← c.self.view_is) (applied_in g.F.Files.contents _ c.index_of-index.result c.apply.new.self edits c.apply.result
     (λ order. apply_still (g.F.Files.contents c.self.inside.files) c.self.inside.next_name ts order c.index_of-index.result t c.apply.new.self there c.apply.result c.apply.ensures.files c.apply.ensures.still c.apply.ensures.err)
     (λ order. apply_answer (g.F.Files.contents c.self.inside.files) c.self.inside.next_name ts order c.index_of-index.result t c.apply.new.self there c.stays_in_range.ensures row edits c.apply.result owns c.apply.ensures.range c.requires c.apply.ensures.ok c.apply.ensures.still)
-    (on_ok _ _ c.apply.result (not_full c.self.inside.table ts row edits c.index_of-index.result t at there all) c.apply.ensures.within)
     (on_ok _ _ c.apply.result (room_after c.self.inside.table ts row c.index_of-index.result t c.apply.new.self edits there owns.has c.requires c.apply.ensures.range) c.apply.ensures.memory))
 
 pub returns-clause-err : goal.returns-clause-err
@@ -49,3 +47,13 @@ returns-clause-full g c =
     let owns = owner_at c.self.inside.table ts c.args.row.now c.index_of-index.result c.index_mut.result.now table c.self.invariant.placed c.self.invariant.as_many at there in
     let all = all_kept (range_of c.index_mut.result.now) c.args.row.now c.args.edits.items owns.has c.requires in
     rw (← c.self.view_is) (λ full. over_full c.self.inside.table ts c.args.row.now c.args.edits.items c.index_of-index.result c.index_mut.result.now at there all (c.apply.ensures.full full))
+
+pub returns-clause-within : goal.returns-clause-within
+returns-clause-within g c =
+    let at = rw (← c.self.view_is) at c.index_of-index.ensures.holder in
+    let table = rw (← c.self.view_is) at c.index_of-index.ensures.table in
+    let ts = c.self.inside.tablets.items in
+    let there = found_there ts c.index_of-index.result at.tablet c.index_mut.result.now at.there c.index_mut.ensures.value in
+    let owns = owner_at c.self.inside.table ts c.args.row.now c.index_of-index.result c.index_mut.result.now table c.self.invariant.placed c.self.invariant.as_many at there in
+    let all = all_kept (range_of c.index_mut.result.now) c.args.row.now c.args.edits.items owns.has c.requires in
+    rw (← c.self.view_is) (on_ok _ _ c.apply.result (not_full c.self.inside.table ts c.args.row.now c.args.edits.items c.index_of-index.result c.index_mut.result.now at there all) c.apply.ensures.within)

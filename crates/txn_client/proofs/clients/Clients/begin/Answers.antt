@@ -9,7 +9,8 @@ use Rattle.oracle.specs.Ranges.{IsDrawRefusal}
 use Rattle.txn_client.specs.Refusals.{IsBeginRefusal}
 use Rattle.txn_client.specs.Shows.{Steps}
 use Rattle.txn_client.proofs.Exact.{not_crowded}
-use Rattle.txn_client.proofs.Passed.{at_most_itself, passed_err, passed_none, passed_kept, not_err, no_memory_only, device_not, refused_not}
+use Rattle.cell_key.proofs.Reasons.{not_refused, reason_none}
+use Rattle.txn_client.proofs.Passed.{at_most_itself, passed_err, passed_none, passed_kept, no_memory_only, device_not, refused_not}
 use Rattle.txn_client.proofs.Refused.{draw_begin, draw_storage}
 use Rattle.txn_client.proofs.Table.{begins_at, begin_full_at, begin_storage_at, begin_undone_key, as_err}
 use Rattle.txn_client.proofs.clients.Clients.begin.Goals as goal
@@ -21,9 +22,9 @@ too_many_no_device : {A : Type 0} → IsErrOf {T = A} (Err TooManySessions) Devi
 too_many_no_device is = cc
 
 not_undrawn : {A : Type 0} (x : A) (m n o : Refusal) → IsErrOf (Ok x) m ⊎ (IsErrOf (Ok x) n ⊎ IsErrOf (Ok x) o) → ⊥
-not_undrawn x m n o (inl is) = not_err x m is
-not_undrawn x m n o (inr (inl is)) = not_err x n is
-not_undrawn x m n o (inr (inr is)) = not_err x o is
+not_undrawn x m n o (inl is) = not_refused x m is
+not_undrawn x m n o (inr (inl is)) = not_refused x n is
+not_undrawn x m n o (inr (inr is)) = not_refused x o is
 
 undrawn_at : {A B : Type 0} (e : Refusal) (P : Type 0) → IsDrawRefusal e → (IsErrOf {T = A} (Err e) Exhausted → P) → IsErrOf {T = B} (Err e) TooManySessions ⊎ (IsErrOf {T = B} (Err e) Exhausted ⊎ IsErrOf {T = B} (Err e) NoMemory) → P
 undrawn_at e P u so (inl is) = let same : e ≡ TooManySessions = cc in absurd (subst IsDrawRefusal same u)
@@ -98,14 +99,8 @@ returns-in_err-start-clause-refusal g c = passed_err c.from_residual.result c.in
 pub returns-in_err-start-clause-undrawn : goal.returns-in_err-start-clause-undrawn
 returns-in_err-start-clause-undrawn g c = λ is. refl
 
-pub returns-in_err-start-clause-told : goal.returns-in_err-start-clause-told
-returns-in_err-start-clause-told g c = λ other. refl
-
 pub returns-in_err-start-clause-exhausted : goal.returns-in_err-start-clause-exhausted
 returns-in_err-start-clause-exhausted g c = λ is. sym c.last.ensures.last ∙ c.in_err-start.ensures.refusal.1
-
-pub returns-in_err-start-clause-device : goal.returns-in_err-start-clause-device
-returns-in_err-start-clause-device g c = λ is. absurd (refused_not c.from_residual.result c.in_err-start.field-0.0 _ (λ f. f ≡ Exhausted) exhausted_no_device c.from_residual.ensures.1 c.in_err-start.ensures.refusal.0 is)
 
 pub returns-in_err-make_session-clause-next : goal.returns-in_err-make_session-clause-next
 returns-in_err-make_session-clause-next g c = passed_none c.from_residual-in_err-make_session.result c.in_err-make_session.field-0.0 _ c.from_residual-in_err-make_session.ensures.1
@@ -119,44 +114,20 @@ returns-in_err-make_session-clause-refusal g c = passed_err c.from_residual-in_e
 pub returns-in_err-make_session-clause-undrawn : goal.returns-in_err-make_session-clause-undrawn
 returns-in_err-make_session-clause-undrawn g c = λ is. refl
 
-pub returns-in_err-make_session-clause-told : goal.returns-in_err-make_session-clause-told
-returns-in_err-make_session-clause-told g c = λ other. refl
-
 pub returns-in_err-make_session-clause-exhausted : goal.returns-in_err-make_session-clause-exhausted
 returns-in_err-make_session-clause-exhausted g c = λ is. absurd (no_memory_only c.from_residual-in_err-make_session.result c.in_err-make_session.field-0.0 _ no_memory_not_exhausted c.from_residual-in_err-make_session.ensures.1 c.in_err-make_session.ensures.refusal is)
-
-pub returns-in_err-make_session-clause-device : goal.returns-in_err-make_session-clause-device
-returns-in_err-make_session-clause-device g c = λ is. absurd (no_memory_only c.from_residual-in_err-make_session.result c.in_err-make_session.field-0.0 _ device_not c.from_residual-in_err-make_session.ensures.1 c.in_err-make_session.ensures.refusal is)
 
 pub returns-in-Ok-clause-next : goal.returns-in-Ok-clause-next
 returns-in-Ok-clause-next g c = (c.in-Ok.ensures.next, c.in-Ok.ensures.last)
 
 pub returns-in-Ok-clause-exhausted : goal.returns-in-Ok-clause-exhausted
-returns-in-Ok-clause-exhausted g c = λ is. absurd (not_err _ _ is)
-
-pub returns-in-Ok-clause-device : goal.returns-in-Ok-clause-device
-returns-in-Ok-clause-device g c = λ is. absurd (not_err _ _ is)
-
-pub returns-in-Ok-clause-told : goal.returns-in-Ok-clause-told
-returns-in-Ok-clause-told g c = λ other. c.in-Ok.ensures.told (λ is. not_err _ _ is)
-
-pub returns-in-Ok-clause-later : goal.returns-in-Ok-clause-later
-returns-in-Ok-clause-later g c = c.in-Ok.ensures.later
+returns-in-Ok-clause-exhausted g c = λ is. absurd (not_refused _ _ is)
 
 pub returns-in-Err-clause-stays : goal.returns-in-Err-clause-stays
 returns-in-Err-clause-stays g c = c.in-Err.ensures.err.last
 
 pub returns-in-Err-clause-refusal : goal.returns-in-Err-clause-refusal
 returns-in-Err-clause-refusal g c = draw_begin c.in-Err.refusal c.in-Err.ensures.refusals
-
-pub returns-in-Err-clause-device : goal.returns-in-Err-clause-device
-returns-in-Err-clause-device g c = λ is. c.in-Err.ensures.device is
-
-pub returns-in-Err-clause-told : goal.returns-in-Err-clause-told
-returns-in-Err-clause-told g c = λ other. c.in-Err.ensures.told other
-
-pub returns-in-Err-clause-later : goal.returns-in-Err-clause-later
-returns-in-Err-clause-later g c = c.in-Err.ensures.later
 
 pub returns-in-Err-clause-exhausted : goal.returns-in-Err-clause-exhausted
 returns-in-Err-clause-exhausted g c = λ is. c.in-Err.ensures.exhausted.0 is
@@ -179,21 +150,6 @@ returns-then-len-ge-MOST_SESSIONS-clause-undrawn g c = λ is. refl
 pub returns-then-len-ge-MOST_SESSIONS-clause-exhausted : goal.returns-then-len-ge-MOST_SESSIONS-clause-exhausted
 returns-then-len-ge-MOST_SESSIONS-clause-exhausted g c = λ is. absurd (too_many_not_exhausted is)
 
-pub returns-then-len-ge-MOST_SESSIONS-clause-device : goal.returns-then-len-ge-MOST_SESSIONS-clause-device
-returns-then-len-ge-MOST_SESSIONS-clause-device g c = λ is. absurd (too_many_no_device is)
-
-pub returns-then-len-ge-MOST_SESSIONS-clause-later : goal.returns-then-len-ge-MOST_SESSIONS-clause-later
-returns-then-len-ge-MOST_SESSIONS-clause-later g c = at_most_itself _
-
-pub returns-then-len-ge-MOST_SESSIONS-clause-told : goal.returns-then-len-ge-MOST_SESSIONS-clause-told
-returns-then-len-ge-MOST_SESSIONS-clause-told g c = λ other. refl
-
-pub returns-in_err-start-clause-later : goal.returns-in_err-start-clause-later
-returns-in_err-start-clause-later g c = at_most_itself _
-
-pub returns-in_err-make_session-clause-later : goal.returns-in_err-make_session-clause-later
-returns-in_err-make_session-clause-later g c = at_most_itself _
-
 pub returns-in-Ok-clause-stays : goal.returns-in-Ok-clause-stays
 returns-in-Ok-clause-stays g c = tt
 
@@ -208,3 +164,18 @@ returns-in-Err-clause-next g c = tt
 
 pub returns-in-Err-clause-undrawn : goal.returns-in-Err-clause-undrawn
 returns-in-Err-clause-undrawn g c = undrawn_at c.in-Err.refusal _ c.in-Err.ensures.refusals c.in-Err.ensures.unchanged
+
+pub returns-then-len-ge-MOST_SESSIONS-clause-reason : goal.returns-then-len-ge-MOST_SESSIONS-clause-reason
+returns-then-len-ge-MOST_SESSIONS-clause-reason g c = reason_none _ _ too_many_no_device
+
+pub returns-in_err-start-clause-reason : goal.returns-in_err-start-clause-reason
+returns-in_err-start-clause-reason g c = reason_none _ _ (refused_not c.from_residual.result c.in_err-start.field-0.0 _ (λ f. f ≡ Exhausted) exhausted_no_device c.from_residual.ensures.1 c.in_err-start.ensures.refusal.0)
+
+pub returns-in_err-make_session-clause-reason : goal.returns-in_err-make_session-clause-reason
+returns-in_err-make_session-clause-reason g c = reason_none _ _ (no_memory_only c.from_residual-in_err-make_session.result c.in_err-make_session.field-0.0 _ device_not c.from_residual-in_err-make_session.ensures.1 c.in_err-make_session.ensures.refusal)
+
+pub returns-in-Ok-clause-reason : goal.returns-in-Ok-clause-reason
+returns-in-Ok-clause-reason g c = record { later = c.in-Ok.ensures.later; device = λ is. absurd (not_refused _ _ is); told = λ other. c.in-Ok.ensures.told (not_refused _ _) }
+
+pub returns-in-Err-clause-reason : goal.returns-in-Err-clause-reason
+returns-in-Err-clause-reason g c = record { later = c.in-Err.ensures.later; device = c.in-Err.ensures.device; told = c.in-Err.ensures.told }

@@ -7,7 +7,10 @@ use Rattle.si_model.specs.declared.replies.Cell.{Cell}
 use Rattle.si_model.specs.Machine as machine
 use Rattle.si_model.specs.Replies.{found_reply, result_reply}
 use Rattle.txn_client.specs.Reads.{cell_of}
-use Rattle.txn_client.specs.Shows.{Steps}
+use Rattle.cell_key.proofs.Reasons.{reason_none}
+use Rattle.row_atomic.proofs.Calls.{reads_none}
+use Rattle.txn_client.specs.Shows.{IsCellRefusal, Steps}
+use Rattle.txn_client.proofs.Passed.{refused_not}
 use Rattle.txn_client.proofs.Table.{reads_open_at, undamaged_at, get_refused_at, as_err}
 use Rattle.txn_client.proofs.clients.Clients.get.Goals as goal
 
@@ -19,7 +22,7 @@ returns-in_err-cell-clause-step g c = λ held last.
 pub returns-clause-step : goal.returns-clause-step
 returns-clause-step g c = λ held last.
     let same = c.in_ok-cell.ensures.ok in
-    rw (c.read_cell.ensures.kept held) (subst (λ (x : Cell). Steps (g.R.Rows.cells c.args.rows.now) c.args.self.now last (machine.Get c.args.start x) (result_reply found_reply c.read_cell.result) (g.R.Rows.cells c.args.rows.now) c.args.self.now last) same
+    rw (c.read_cell.ensures.reads.kept held) (subst (λ (x : Cell). Steps (g.R.Rows.cells c.args.rows.now) c.args.self.now last (machine.Get c.args.start x) (result_reply found_reply c.read_cell.result) (g.R.Rows.cells c.args.rows.now) c.args.self.now last) same
     (reads_open_at (g.R.Rows.cells c.args.rows.now) c.args.self.now last c.args.start c.in_ok-cell.cell c.read_cell.result c.in_ok-cell.ensures.open
     (subst (λ (x : Cell). IsRow x.row) (sym same) c.in_ok-cell.ensures.row) (subst (λ (x : Cell). IsFamily x.family) (sym same) c.in_ok-cell.ensures.family) (c.read_cell.ensures.found held) c.read_cell.ensures.refusal))
 
@@ -33,3 +36,9 @@ returns-in_err-cell-clause-unknown g c = λ st shown gone.
 
 pub returns-clause-unknown : goal.returns-clause-unknown
 returns-clause-unknown g c = λ st shown gone. absurd (is_open c.args.self.now c.args.start st shown gone c.in_ok-cell.ensures.open)
+
+pub returns-in_err-cell-clause-reads : goal.returns-in_err-cell-clause-reads
+returns-in_err-cell-clause-reads g c = reads_none
+
+pub returns-in_err-cell-clause-reason : goal.returns-in_err-cell-clause-reason
+returns-in_err-cell-clause-reason g c = reason_none _ _ (refused_not c.from_residual.result c.in_err-cell.field-0.0 _ (IsCellRefusal c.args.self.now c.args.start (cell_of c.args.row.now c.args.family.now)) (λ u. u.1) c.from_residual.ensures.1 c.in_err-cell.ensures.refusal)

@@ -1,16 +1,29 @@
-use Rattle.std.proofs.Common.{◌≡◌, ◌∙◌, sym, ap, subst, refl, Option, Some, None, true, cond, inl, ℕ, ◌≤◌, arith}
+use Rattle.std.proofs.Common.{◌≡◌, ◌∙◌, sym, ap, subst, refl, Option, Some, None, true, cond, inl, inr, ℕ, ◌≤◌, arith}
 use Rattle.std.specs.Prelude.{is_some, IsSome}
 use Rattle.std.specs.Ordering.{nat_cmp, is_eq}
 use Rattle.std.specs.BTreeMap as btree
-use Rattle.std.specs.Result.{IsErrOf}
-use Rattle.std.specs.declared.result.Result.TheVariants.{Err}
+use Rattle.std.specs.Result.{IsErrAnd, IsErrOf}
+use Rattle.std.specs.declared.result.Result.{Result}
+use Rattle.std.specs.declared.result.Result.TheVariants.{Ok, Err}
+use Rattle.cell_key.specs.declared.refusals.Refusal.{Refusal}
 use Rattle.cell_key.specs.declared.refusals.Refusal.TheVariants.{UnknownSession, MemtableFull, Exhausted, Device, Damaged}
+use Rattle.cell_key.proofs.Reasons.{not_refused, reason_kept, reason_none, reason_passed}
+use Rattle.row_atomic.proofs.Calls.{reads_keep, reads_none}
+use Rattle.txn_client.specs.Refusals.{HasOneReason, IsAdvanceRefusal}
 use Rattle.txn_client.specs.declared.session.Session.{Session}
-use Rattle.txn_client.proofs.Room.{made_shown, no_room_shown, room_shown, draws_shown}
-use Rattle.txn_client.proofs.Passed.{passed_on, passed_err, passed_none, passed_kept, passed_back, not_err, advance_step, at_most_itself}
+use Rattle.txn_client.proofs.Room.{changes_shown, does_below, does_make, does_so, does_take, does_touch, draws_shown, edits_touch, no_room_so, same_touch}
+use Rattle.txn_client.proofs.Passed.{passed_on, passed_err, passed_none, passed_kept, refused_not, advance_step}
 use Rattle.txn_client.proofs.Exact.{is_kept, is_there, passes, unwritten_none, unwritten_phase}
 use Rattle.txn_client.proofs.Table.{entries_each, same_each, takes_at, steps_refused, advance_unknown_at, as_err, twice, with_none, touches_at, draws_next, never_draws}
 use Rattle.txn_client.proofs.clients.Clients.step.Goals as goal
+
+one_reason_kept : {A B : Type 0} (x : A) (y : B) (before now before' now' : ℕ) → HasOneReason before now before' now' (Ok x) → HasOneReason before now before' now' (Ok y)
+one_reason_kept x y before now before' now' (inl (reason, same)) = inl (reason_kept x (Ok y) _ _ (not_refused y Device) reason, same)
+one_reason_kept x y before now before' now' (inr (reason, same)) = inr (reason_kept x (Ok y) _ _ (not_refused y Device) reason, same)
+
+one_reason_passed : {A B : Type 0} (r : Result B Refusal) (e : Refusal) (before now before' now' : ℕ) → IsErrAnd r (λ f. f ≡ e) → HasOneReason {T = A} before now before' now' (Err e) → HasOneReason before now before' now' r
+one_reason_passed r e before now before' now' by (inl (reason, same)) = inl (reason_passed r e _ _ by reason, same)
+one_reason_passed r e before now before' now' by (inr (reason, same)) = inr (reason_passed r e _ _ by reason, same)
 
 unknown_undamaged : {A : Type 0} → IsErrOf {T = A} (Err UnknownSession) Damaged → ⊥
 unknown_undamaged is = cc
@@ -57,7 +70,7 @@ returns-in_err-outcome-clause-step g c = λ held.
     let w = c.advance.new.self in
     let lent = c.get_mut.follows.holds w in
     let e = as_err c.from_residual.result c.in_err-outcome.field-0.0 c.from_residual.ensures.1 in
-    rw (e, c.in_err-outcome.ensures.kept held) (steps_refused (g.R.Rows.cells c.args.rows.now) c.args.self.now (record c.args.self.now { sessions = c.get_mut.follows.lender w }) c.args.oracle.now.last c.advance.new.oracle.last c.args.start
+    rw (e, c.in_err-outcome.ensures.same.kept held) (steps_refused _ (g.R.Rows.cells c.args.rows.now) c.args.self.now (record c.args.self.now { sessions = c.get_mut.follows.lender w }) c.args.oracle.now.last c.advance.new.oracle.last c.args.start
     c.in-Some.session.now w c.in_err-outcome.field-0.0 was c.in_err-outcome.ensures.err refl (lent.3 there).0 lent.2 (not_less _ _ c.in_err-outcome.ensures.stays) c.in_err-outcome.ensures.refusal)
 
 pub returns-in_default-clause-step : goal.returns-in_default-clause-step
@@ -78,13 +91,13 @@ pub returns-then-outcome-clause-empty : goal.returns-then-outcome-clause-empty
 returns-then-outcome-clause-empty g c = λ st shown none.
     let was = sym c.in-Some.ensures.value in
     let e = c.in_ok-outcome.ensures.empty (unwritten_phase c.args.self.now c.args.start st shown none c.in-Some.session.now was) (unwritten_none c.args.self.now c.args.start st shown none c.in-Some.session.now was) in
-    absurd (not_err _ _ e)
+    absurd (not_refused _ _ e)
 
 pub returns-else-outcome-clause-empty : goal.returns-else-outcome-clause-empty
 returns-else-outcome-clause-empty g c = λ st shown none.
     let was = sym c.in-Some.ensures.value in
     let e = c.in_ok-outcome.ensures.empty (unwritten_phase c.args.self.now c.args.start st shown none c.in-Some.session.now was) (unwritten_none c.args.self.now c.args.start st shown none c.in-Some.session.now was) in
-    absurd (not_err _ _ e)
+    absurd (not_refused _ _ e)
 
 pub returns-in_err-outcome-clause-empty : goal.returns-in_err-outcome-clause-empty
 returns-in_err-outcome-clause-empty g c = λ st shown none.
@@ -111,26 +124,6 @@ returns-in_default-clause-err g c = record {
   each = entries_each c.args.self.now (record c.args.self.now { sessions = c.get_mut.follows.lender-at-none }) (ap (λ m. m.entries) c.get_mut.follows.holds-at-none);
 }
 
-pub returns-then-outcome-clause-made : goal.returns-then-outcome-clause-made
-returns-then-outcome-clause-made g c = λ held.
-    made_shown g.R.Rows.overfills c.args.rows.now (g.R.Rows.cells c.args.rows.now) c.in-Some.session.now c.in_ok-outcome.outcome.progress (g.R.Rows.cells c.advance.new.rows) c.args.self.now c.args.start (sym c.in-Some.ensures.value) (c.in_ok-outcome.ensures.made held)
-
-pub returns-else-outcome-clause-made : goal.returns-else-outcome-clause-made
-returns-else-outcome-clause-made g c = λ held.
-    made_shown g.R.Rows.overfills c.args.rows.now (g.R.Rows.cells c.args.rows.now) c.in-Some.session.now c.in_ok-outcome.outcome.progress (g.R.Rows.cells c.advance.new.rows) c.args.self.now c.args.start (sym c.in-Some.ensures.value) (c.in_ok-outcome.ensures.made held)
-
-pub returns-then-outcome-clause-kept : goal.returns-then-outcome-clause-kept
-returns-then-outcome-clause-kept g c = λ held. tt
-
-pub returns-then-outcome-clause-still : goal.returns-then-outcome-clause-still
-returns-then-outcome-clause-still g c = λ held. c.in_ok-outcome.ensures.still held
-
-pub returns-then-outcome-clause-storage : goal.returns-then-outcome-clause-storage
-returns-then-outcome-clause-storage g c = c.in_ok-outcome.ensures.storage
-
-pub returns-then-outcome-clause-touched : goal.returns-then-outcome-clause-touched
-returns-then-outcome-clause-touched g c = λ held. touches_at c.args.self.now c.args.start c.in-Some.session.now (g.R.Rows.cells c.args.rows.now) (g.R.Rows.cells c.advance.new.rows) (sym c.in-Some.ensures.value) (c.in_ok-outcome.ensures.touched held)
-
 pub returns-then-outcome-clause-draws : goal.returns-then-outcome-clause-draws
 returns-then-outcome-clause-draws g c = c.in_ok-outcome.ensures.draws.0
 
@@ -139,9 +132,6 @@ returns-then-outcome-clause-last g c = c.in_ok-outcome.ensures.draws.1
 
 pub returns-then-outcome-clause-stays : goal.returns-then-outcome-clause-stays
 returns-then-outcome-clause-stays g c = tt
-
-pub returns-then-outcome-clause-undamaged : goal.returns-then-outcome-clause-undamaged
-returns-then-outcome-clause-undamaged g c = λ held is. not_err _ _ is
 
 pub returns-then-outcome-clause-refusal : goal.returns-then-outcome-clause-refusal
 returns-then-outcome-clause-refusal g c = tt
@@ -153,46 +143,16 @@ pub returns-then-outcome-clause-drawing : goal.returns-then-outcome-clause-drawi
 returns-then-outcome-clause-drawing g c = λ st shown about. tt
 
 pub returns-then-outcome-clause-exhausted : goal.returns-then-outcome-clause-exhausted
-returns-then-outcome-clause-exhausted g c = λ is. absurd (not_err _ _ is)
+returns-then-outcome-clause-exhausted g c = λ is. absurd (not_refused _ _ is)
 
 pub returns-then-outcome-clause-exhausted_draw : goal.returns-then-outcome-clause-exhausted_draw
-returns-then-outcome-clause-exhausted_draw g c = λ is. absurd (not_err _ _ is)
+returns-then-outcome-clause-exhausted_draw g c = λ is. absurd (not_refused _ _ is)
 
 pub returns-then-outcome-clause-undrawn : goal.returns-then-outcome-clause-undrawn
-returns-then-outcome-clause-undrawn g c = λ is. absurd (not_err _ _ is)
+returns-then-outcome-clause-undrawn g c = λ is. absurd (not_refused _ _ is)
 
 pub returns-then-outcome-clause-aside : goal.returns-then-outcome-clause-aside
 returns-then-outcome-clause-aside g c = λ st shown other. c.in_ok-outcome.ensures.aside (λ held. other (draws_shown c.args.self.now c.args.start c.in-Some.session.now (sym c.in-Some.ensures.value) held st shown))
-
-pub returns-then-outcome-clause-full : goal.returns-then-outcome-clause-full
-returns-then-outcome-clause-full g c = λ held is. absurd (not_err _ _ is)
-
-pub returns-then-outcome-clause-device : goal.returns-then-outcome-clause-device
-returns-then-outcome-clause-device g c = λ is. absurd (not_err _ _ is)
-
-pub returns-then-outcome-clause-later : goal.returns-then-outcome-clause-later
-returns-then-outcome-clause-later g c = c.in_ok-outcome.ensures.later
-
-pub returns-then-outcome-clause-told : goal.returns-then-outcome-clause-told
-returns-then-outcome-clause-told g c = λ other. c.in_ok-outcome.ensures.told (λ is. not_err _ _ is)
-
-pub returns-then-outcome-clause-mark_later : goal.returns-then-outcome-clause-mark_later
-returns-then-outcome-clause-mark_later g c = c.in_ok-outcome.ensures.mark_later
-
-pub returns-then-outcome-clause-mark_told : goal.returns-then-outcome-clause-mark_told
-returns-then-outcome-clause-mark_told g c = λ other. c.in_ok-outcome.ensures.mark_told (λ is. not_err _ _ is)
-
-pub returns-else-outcome-clause-kept : goal.returns-else-outcome-clause-kept
-returns-else-outcome-clause-kept g c = λ held. tt
-
-pub returns-else-outcome-clause-still : goal.returns-else-outcome-clause-still
-returns-else-outcome-clause-still g c = λ held. c.in_ok-outcome.ensures.still held
-
-pub returns-else-outcome-clause-storage : goal.returns-else-outcome-clause-storage
-returns-else-outcome-clause-storage g c = c.in_ok-outcome.ensures.storage
-
-pub returns-else-outcome-clause-touched : goal.returns-else-outcome-clause-touched
-returns-else-outcome-clause-touched g c = λ held. touches_at c.args.self.now c.args.start c.in-Some.session.now (g.R.Rows.cells c.args.rows.now) (g.R.Rows.cells c.advance.new.rows) (sym c.in-Some.ensures.value) (c.in_ok-outcome.ensures.touched held)
 
 pub returns-else-outcome-clause-draws : goal.returns-else-outcome-clause-draws
 returns-else-outcome-clause-draws g c = c.in_ok-outcome.ensures.draws.0
@@ -202,9 +162,6 @@ returns-else-outcome-clause-last g c = c.in_ok-outcome.ensures.draws.1
 
 pub returns-else-outcome-clause-stays : goal.returns-else-outcome-clause-stays
 returns-else-outcome-clause-stays g c = tt
-
-pub returns-else-outcome-clause-undamaged : goal.returns-else-outcome-clause-undamaged
-returns-else-outcome-clause-undamaged g c = λ held is. not_err _ _ is
 
 pub returns-else-outcome-clause-refusal : goal.returns-else-outcome-clause-refusal
 returns-else-outcome-clause-refusal g c = tt
@@ -216,49 +173,16 @@ pub returns-else-outcome-clause-drawing : goal.returns-else-outcome-clause-drawi
 returns-else-outcome-clause-drawing g c = λ st shown about. tt
 
 pub returns-else-outcome-clause-exhausted : goal.returns-else-outcome-clause-exhausted
-returns-else-outcome-clause-exhausted g c = λ is. absurd (not_err _ _ is)
+returns-else-outcome-clause-exhausted g c = λ is. absurd (not_refused _ _ is)
 
 pub returns-else-outcome-clause-exhausted_draw : goal.returns-else-outcome-clause-exhausted_draw
-returns-else-outcome-clause-exhausted_draw g c = λ is. absurd (not_err _ _ is)
+returns-else-outcome-clause-exhausted_draw g c = λ is. absurd (not_refused _ _ is)
 
 pub returns-else-outcome-clause-undrawn : goal.returns-else-outcome-clause-undrawn
-returns-else-outcome-clause-undrawn g c = λ is. absurd (not_err _ _ is)
+returns-else-outcome-clause-undrawn g c = λ is. absurd (not_refused _ _ is)
 
 pub returns-else-outcome-clause-aside : goal.returns-else-outcome-clause-aside
 returns-else-outcome-clause-aside g c = λ st shown other. c.in_ok-outcome.ensures.aside (λ held. other (draws_shown c.args.self.now c.args.start c.in-Some.session.now (sym c.in-Some.ensures.value) held st shown))
-
-pub returns-else-outcome-clause-full : goal.returns-else-outcome-clause-full
-returns-else-outcome-clause-full g c = λ held is. absurd (not_err _ _ is)
-
-pub returns-else-outcome-clause-device : goal.returns-else-outcome-clause-device
-returns-else-outcome-clause-device g c = λ is. absurd (not_err _ _ is)
-
-pub returns-else-outcome-clause-later : goal.returns-else-outcome-clause-later
-returns-else-outcome-clause-later g c = c.in_ok-outcome.ensures.later
-
-pub returns-else-outcome-clause-told : goal.returns-else-outcome-clause-told
-returns-else-outcome-clause-told g c = λ other. c.in_ok-outcome.ensures.told (λ is. not_err _ _ is)
-
-pub returns-else-outcome-clause-mark_later : goal.returns-else-outcome-clause-mark_later
-returns-else-outcome-clause-mark_later g c = c.in_ok-outcome.ensures.mark_later
-
-pub returns-else-outcome-clause-mark_told : goal.returns-else-outcome-clause-mark_told
-returns-else-outcome-clause-mark_told g c = λ other. c.in_ok-outcome.ensures.mark_told (λ is. not_err _ _ is)
-
-pub returns-in_err-outcome-clause-kept : goal.returns-in_err-outcome-clause-kept
-returns-in_err-outcome-clause-kept g c = λ held. passed_kept c.from_residual.result _ (c.in_err-outcome.ensures.kept held)
-
-pub returns-in_err-outcome-clause-still : goal.returns-in_err-outcome-clause-still
-returns-in_err-outcome-clause-still g c = λ held. c.in_err-outcome.ensures.still held
-
-pub returns-in_err-outcome-clause-storage : goal.returns-in_err-outcome-clause-storage
-returns-in_err-outcome-clause-storage g c = c.in_err-outcome.ensures.storage
-
-pub returns-in_err-outcome-clause-touched : goal.returns-in_err-outcome-clause-touched
-returns-in_err-outcome-clause-touched g c = λ held. touches_at c.args.self.now c.args.start c.in-Some.session.now (g.R.Rows.cells c.args.rows.now) (g.R.Rows.cells c.advance.new.rows) (sym c.in-Some.ensures.value) (c.in_err-outcome.ensures.touched held)
-
-pub returns-in_err-outcome-clause-made : goal.returns-in_err-outcome-clause-made
-returns-in_err-outcome-clause-made g c = λ held. passed_none c.from_residual.result c.in_err-outcome.field-0.0 _ c.from_residual.ensures.1
 
 pub returns-in_err-outcome-clause-draws : goal.returns-in_err-outcome-clause-draws
 returns-in_err-outcome-clause-draws g c = passed_none c.from_residual.result c.in_err-outcome.field-0.0 _ c.from_residual.ensures.1
@@ -269,11 +193,8 @@ returns-in_err-outcome-clause-last g c = passed_none c.from_residual.result c.in
 pub returns-in_err-outcome-clause-stays : goal.returns-in_err-outcome-clause-stays
 returns-in_err-outcome-clause-stays g c = passed_kept c.from_residual.result _ c.in_err-outcome.ensures.stays
 
-pub returns-in_err-outcome-clause-undamaged : goal.returns-in_err-outcome-clause-undamaged
-returns-in_err-outcome-clause-undamaged g c = λ held is. c.in_err-outcome.ensures.undamaged held (passed_on c.from_residual.result _ c.in_err-outcome.field-0.0 _ c.from_residual.ensures.1 refl is)
-
 pub returns-in_err-outcome-clause-refusal : goal.returns-in_err-outcome-clause-refusal
-returns-in_err-outcome-clause-refusal g c = passed_err c.from_residual.result c.in_err-outcome.field-0.0 _ c.from_residual.ensures.1 (advance_step _ c.in_err-outcome.field-0.0 c.in_err-outcome.ensures.refusal)
+returns-in_err-outcome-clause-refusal g c = passed_err c.from_residual.result c.in_err-outcome.field-0.0 _ c.from_residual.ensures.1 (advance_step _ _ c.in_err-outcome.field-0.0 c.in_err-outcome.ensures.refusal)
 
 pub returns-in_err-outcome-clause-drawing : goal.returns-in_err-outcome-clause-drawing
 returns-in_err-outcome-clause-drawing g c = λ st shown about. passed_err c.from_residual.result c.in_err-outcome.field-0.0 _ c.from_residual.ensures.1 (c.in_err-outcome.ensures.drawing (draws_next c.args.self.now c.args.start c.in-Some.session.now st (sym c.in-Some.ensures.value) shown about))
@@ -290,44 +211,11 @@ returns-in_err-outcome-clause-undrawn g c = λ is. c.in_err-outcome.ensures.undr
 pub returns-in_err-outcome-clause-aside : goal.returns-in_err-outcome-clause-aside
 returns-in_err-outcome-clause-aside g c = λ st shown other. c.in_err-outcome.ensures.aside (λ held. other (draws_shown c.args.self.now c.args.start c.in-Some.session.now (sym c.in-Some.ensures.value) held st shown))
 
-pub returns-in_err-outcome-clause-full : goal.returns-in_err-outcome-clause-full
-returns-in_err-outcome-clause-full g c = λ held is. no_room_shown g.R.Rows.overfills c.args.rows.now (g.R.Rows.cells c.args.rows.now) c.in-Some.session.now c.args.self.now c.args.start (sym c.in-Some.ensures.value) (c.in_err-outcome.ensures.full held (passed_on c.from_residual.result _ c.in_err-outcome.field-0.0 _ c.from_residual.ensures.1 refl is))
-
-pub returns-in_err-outcome-clause-device : goal.returns-in_err-outcome-clause-device
-returns-in_err-outcome-clause-device g c = λ is. c.in_err-outcome.ensures.device (passed_on c.from_residual.result _ c.in_err-outcome.field-0.0 _ c.from_residual.ensures.1 refl is)
-
-pub returns-in_err-outcome-clause-later : goal.returns-in_err-outcome-clause-later
-returns-in_err-outcome-clause-later g c = c.in_err-outcome.ensures.later
-
-pub returns-in_err-outcome-clause-told : goal.returns-in_err-outcome-clause-told
-returns-in_err-outcome-clause-told g c = λ other. c.in_err-outcome.ensures.told (λ is. other (passed_back c.from_residual.result _ c.in_err-outcome.field-0.0 _ c.from_residual.ensures.1 refl is))
-
-pub returns-in_err-outcome-clause-mark_later : goal.returns-in_err-outcome-clause-mark_later
-returns-in_err-outcome-clause-mark_later g c = c.in_err-outcome.ensures.mark_later
-
-pub returns-in_err-outcome-clause-mark_told : goal.returns-in_err-outcome-clause-mark_told
-returns-in_err-outcome-clause-mark_told g c = λ other. c.in_err-outcome.ensures.mark_told (λ is. other (passed_back c.from_residual.result _ c.in_err-outcome.field-0.0 _ c.from_residual.ensures.1 refl is))
-
 pub returns-in_default-clause-drawing : goal.returns-in_default-clause-drawing
 returns-in_default-clause-drawing g c = λ st shown about. absurd (never_draws c.args.self.now c.args.start st (sym c.in_default.ensures.value) shown about)
 
 pub returns-in_default-clause-aside : goal.returns-in_default-clause-aside
 returns-in_default-clause-aside g c = λ st shown other. refl
-
-pub returns-in_default-clause-touched : goal.returns-in_default-clause-touched
-returns-in_default-clause-touched g c = λ held st shown. inl refl
-
-pub returns-in_default-clause-kept : goal.returns-in_default-clause-kept
-returns-in_default-clause-kept g c = λ held. refl
-
-pub returns-in_default-clause-still : goal.returns-in_default-clause-still
-returns-in_default-clause-still g c = λ held. held
-
-pub returns-in_default-clause-storage : goal.returns-in_default-clause-storage
-returns-in_default-clause-storage g c = refl
-
-pub returns-in_default-clause-made : goal.returns-in_default-clause-made
-returns-in_default-clause-made g c = λ held. tt
 
 pub returns-in_default-clause-draws : goal.returns-in_default-clause-draws
 returns-in_default-clause-draws g c = tt
@@ -337,9 +225,6 @@ returns-in_default-clause-last g c = tt
 
 pub returns-in_default-clause-stays : goal.returns-in_default-clause-stays
 returns-in_default-clause-stays g c = refl
-
-pub returns-in_default-clause-undamaged : goal.returns-in_default-clause-undamaged
-returns-in_default-clause-undamaged g c = λ held is. unknown_undamaged is
 
 pub returns-in_default-clause-refusal : goal.returns-in_default-clause-refusal
 returns-in_default-clause-refusal g c = tt
@@ -356,46 +241,140 @@ returns-in_default-clause-exhausted_draw g c = λ is. absurd (unknown_not_exhaus
 pub returns-in_default-clause-undrawn : goal.returns-in_default-clause-undrawn
 returns-in_default-clause-undrawn g c = λ is. absurd (unknown_not_exhausted is)
 
-pub returns-in_default-clause-full : goal.returns-in_default-clause-full
-returns-in_default-clause-full g c = λ held is. absurd (unknown_not_full is)
+pub returns-then-outcome-clause-does : goal.returns-then-outcome-clause-does
+returns-then-outcome-clause-does g c = does_so g.R.Rows.holds g.R.Rows.cells g.R.Rows.overfills g.R.Rows.storage c.args.rows.now c.advance.new.rows c.in_ok-outcome.outcome.progress (λ row edits is. (c.in-Some.session.now, sym c.in-Some.ensures.value, is)) c.in_ok-outcome.ensures.does
 
-pub returns-in_default-clause-device : goal.returns-in_default-clause-device
-returns-in_default-clause-device g c = λ is. absurd (unknown_no_device is)
+pub returns-then-outcome-clause-same : goal.returns-then-outcome-clause-same
+returns-then-outcome-clause-same g c = tt
 
-pub returns-in_default-clause-later : goal.returns-in_default-clause-later
-returns-in_default-clause-later g c = at_most_itself _
+pub returns-then-outcome-clause-below : goal.returns-then-outcome-clause-below
+returns-then-outcome-clause-below g c = does_below g.R.Rows.holds g.R.Rows.cells g.R.Rows.overfills g.R.Rows.storage c.args.rows.now c.advance.new.rows _ c.in_ok-outcome.outcome.progress c.in_ok-outcome.ensures.does
 
-pub returns-in_default-clause-told : goal.returns-in_default-clause-told
-returns-in_default-clause-told g c = λ other. refl
+pub returns-then-outcome-clause-touched : goal.returns-then-outcome-clause-touched
+returns-then-outcome-clause-touched g c = λ held.
+    let session = c.in-Some.session.now in
+    touches_at c.args.self.now c.args.start session (g.R.Rows.cells c.args.rows.now) (g.R.Rows.cells c.advance.new.rows) (sym c.in-Some.ensures.value)
+    (does_touch g.R.Rows.holds g.R.Rows.cells g.R.Rows.overfills g.R.Rows.storage c.args.rows.now c.advance.new.rows held _ c.in_ok-outcome.outcome.progress _ (edits_touch (g.R.Rows.holds c.args.rows.now) (g.R.Rows.cells c.args.rows.now) session session.phase (g.R.Rows.cells c.advance.new.rows)) (same_touch (g.R.Rows.holds c.args.rows.now) (g.R.Rows.cells c.args.rows.now) session session.phase (g.R.Rows.cells c.advance.new.rows)) c.in_ok-outcome.ensures.does)
 
-pub returns-in_default-clause-mark_later : goal.returns-in_default-clause-mark_later
-returns-in_default-clause-mark_later g c = at_most_itself _
-
-pub returns-in_default-clause-mark_told : goal.returns-in_default-clause-mark_told
-returns-in_default-clause-mark_told g c = λ other. refl
+pub returns-then-outcome-clause-made : goal.returns-then-outcome-clause-made
+returns-then-outcome-clause-made g c = λ held st reached shown kept.
+    does_make g.R.Rows.holds g.R.Rows.cells g.R.Rows.overfills g.R.Rows.storage c.args.rows.now c.advance.new.rows held _ c.in_ok-outcome.outcome.progress
+    (does_so g.R.Rows.holds g.R.Rows.cells g.R.Rows.overfills g.R.Rows.storage c.args.rows.now c.advance.new.rows c.in_ok-outcome.outcome.progress (λ row edits is. changes_shown (g.R.Rows.holds c.args.rows.now) (g.R.Rows.cells c.args.rows.now) c.args.self.now c.args.start held st reached shown kept row edits (c.in-Some.session.now, sym c.in-Some.ensures.value, is)) c.in_ok-outcome.ensures.does)
 
 pub returns-then-outcome-clause-room : goal.returns-then-outcome-clause-room
-returns-then-outcome-clause-room g c = λ held.
-    room_shown g.R.Rows.overfills c.args.rows.now c.advance.new.rows (g.R.Rows.cells c.args.rows.now) c.in-Some.session.now c.in_ok-outcome.outcome.progress c.args.self.now c.args.start (sym c.in-Some.ensures.value) (c.in_ok-outcome.ensures.room held)
+returns-then-outcome-clause-room g c = λ held st reached shown kept.
+    does_take g.R.Rows.holds g.R.Rows.cells g.R.Rows.overfills g.R.Rows.storage c.args.rows.now c.advance.new.rows _ c.in_ok-outcome.outcome.progress
+    (does_so g.R.Rows.holds g.R.Rows.cells g.R.Rows.overfills g.R.Rows.storage c.args.rows.now c.advance.new.rows c.in_ok-outcome.outcome.progress (λ row edits is. changes_shown (g.R.Rows.holds c.args.rows.now) (g.R.Rows.cells c.args.rows.now) c.args.self.now c.args.start held st reached shown kept row edits (c.in-Some.session.now, sym c.in-Some.ensures.value, is)) c.in_ok-outcome.ensures.does)
 
-pub returns-then-outcome-clause-err_room : goal.returns-then-outcome-clause-err_room
-returns-then-outcome-clause-err_room g c = tt
+pub returns-then-outcome-clause-undamaged : goal.returns-then-outcome-clause-undamaged
+returns-then-outcome-clause-undamaged g c = λ held is. not_refused _ _ is
+
+pub returns-then-outcome-clause-full : goal.returns-then-outcome-clause-full
+returns-then-outcome-clause-full g c = λ is. absurd (not_refused _ _ is)
+
+pub returns-then-outcome-clause-full_shown : goal.returns-then-outcome-clause-full_shown
+returns-then-outcome-clause-full_shown g c = λ held is. absurd (not_refused _ _ is)
+
+pub returns-then-outcome-clause-reason : goal.returns-then-outcome-clause-reason
+returns-then-outcome-clause-reason g c = one_reason_kept _ _ _ _ _ _ c.in_ok-outcome.ensures.reason
+
+pub returns-else-outcome-clause-does : goal.returns-else-outcome-clause-does
+returns-else-outcome-clause-does g c = does_so g.R.Rows.holds g.R.Rows.cells g.R.Rows.overfills g.R.Rows.storage c.args.rows.now c.advance.new.rows c.in_ok-outcome.outcome.progress (λ row edits is. (c.in-Some.session.now, sym c.in-Some.ensures.value, is)) c.in_ok-outcome.ensures.does
+
+pub returns-else-outcome-clause-same : goal.returns-else-outcome-clause-same
+returns-else-outcome-clause-same g c = tt
+
+pub returns-else-outcome-clause-below : goal.returns-else-outcome-clause-below
+returns-else-outcome-clause-below g c = does_below g.R.Rows.holds g.R.Rows.cells g.R.Rows.overfills g.R.Rows.storage c.args.rows.now c.advance.new.rows _ c.in_ok-outcome.outcome.progress c.in_ok-outcome.ensures.does
+
+pub returns-else-outcome-clause-touched : goal.returns-else-outcome-clause-touched
+returns-else-outcome-clause-touched g c = λ held.
+    let session = c.in-Some.session.now in
+    touches_at c.args.self.now c.args.start session (g.R.Rows.cells c.args.rows.now) (g.R.Rows.cells c.advance.new.rows) (sym c.in-Some.ensures.value)
+    (does_touch g.R.Rows.holds g.R.Rows.cells g.R.Rows.overfills g.R.Rows.storage c.args.rows.now c.advance.new.rows held _ c.in_ok-outcome.outcome.progress _ (edits_touch (g.R.Rows.holds c.args.rows.now) (g.R.Rows.cells c.args.rows.now) session session.phase (g.R.Rows.cells c.advance.new.rows)) (same_touch (g.R.Rows.holds c.args.rows.now) (g.R.Rows.cells c.args.rows.now) session session.phase (g.R.Rows.cells c.advance.new.rows)) c.in_ok-outcome.ensures.does)
+
+pub returns-else-outcome-clause-made : goal.returns-else-outcome-clause-made
+returns-else-outcome-clause-made g c = λ held st reached shown kept.
+    does_make g.R.Rows.holds g.R.Rows.cells g.R.Rows.overfills g.R.Rows.storage c.args.rows.now c.advance.new.rows held _ c.in_ok-outcome.outcome.progress
+    (does_so g.R.Rows.holds g.R.Rows.cells g.R.Rows.overfills g.R.Rows.storage c.args.rows.now c.advance.new.rows c.in_ok-outcome.outcome.progress (λ row edits is. changes_shown (g.R.Rows.holds c.args.rows.now) (g.R.Rows.cells c.args.rows.now) c.args.self.now c.args.start held st reached shown kept row edits (c.in-Some.session.now, sym c.in-Some.ensures.value, is)) c.in_ok-outcome.ensures.does)
 
 pub returns-else-outcome-clause-room : goal.returns-else-outcome-clause-room
-returns-else-outcome-clause-room g c = λ held.
-    room_shown g.R.Rows.overfills c.args.rows.now c.advance.new.rows (g.R.Rows.cells c.args.rows.now) c.in-Some.session.now c.in_ok-outcome.outcome.progress c.args.self.now c.args.start (sym c.in-Some.ensures.value) (c.in_ok-outcome.ensures.room held)
+returns-else-outcome-clause-room g c = λ held st reached shown kept.
+    does_take g.R.Rows.holds g.R.Rows.cells g.R.Rows.overfills g.R.Rows.storage c.args.rows.now c.advance.new.rows _ c.in_ok-outcome.outcome.progress
+    (does_so g.R.Rows.holds g.R.Rows.cells g.R.Rows.overfills g.R.Rows.storage c.args.rows.now c.advance.new.rows c.in_ok-outcome.outcome.progress (λ row edits is. changes_shown (g.R.Rows.holds c.args.rows.now) (g.R.Rows.cells c.args.rows.now) c.args.self.now c.args.start held st reached shown kept row edits (c.in-Some.session.now, sym c.in-Some.ensures.value, is)) c.in_ok-outcome.ensures.does)
 
-pub returns-else-outcome-clause-err_room : goal.returns-else-outcome-clause-err_room
-returns-else-outcome-clause-err_room g c = tt
+pub returns-else-outcome-clause-undamaged : goal.returns-else-outcome-clause-undamaged
+returns-else-outcome-clause-undamaged g c = λ held is. not_refused _ _ is
+
+pub returns-else-outcome-clause-full : goal.returns-else-outcome-clause-full
+returns-else-outcome-clause-full g c = λ is. absurd (not_refused _ _ is)
+
+pub returns-else-outcome-clause-full_shown : goal.returns-else-outcome-clause-full_shown
+returns-else-outcome-clause-full_shown g c = λ held is. absurd (not_refused _ _ is)
+
+pub returns-else-outcome-clause-reason : goal.returns-else-outcome-clause-reason
+returns-else-outcome-clause-reason g c = one_reason_kept _ _ _ _ _ _ c.in_ok-outcome.ensures.reason
+
+pub returns-in_err-outcome-clause-does : goal.returns-in_err-outcome-clause-does
+returns-in_err-outcome-clause-does g c = passed_none c.from_residual.result c.in_err-outcome.field-0.0 _ c.from_residual.ensures.1
+
+pub returns-in_err-outcome-clause-same : goal.returns-in_err-outcome-clause-same
+returns-in_err-outcome-clause-same g c = passed_kept c.from_residual.result _ c.in_err-outcome.ensures.same
+
+pub returns-in_err-outcome-clause-below : goal.returns-in_err-outcome-clause-below
+returns-in_err-outcome-clause-below g c = reads_keep c.in_err-outcome.ensures.same
+
+pub returns-in_err-outcome-clause-touched : goal.returns-in_err-outcome-clause-touched
+returns-in_err-outcome-clause-touched g c = λ held.
+    let session = c.in-Some.session.now in
+    touches_at c.args.self.now c.args.start session (g.R.Rows.cells c.args.rows.now) (g.R.Rows.cells c.advance.new.rows) (sym c.in-Some.ensures.value)
+    (same_touch (g.R.Rows.holds c.args.rows.now) (g.R.Rows.cells c.args.rows.now) session session.phase (g.R.Rows.cells c.advance.new.rows) (c.in_err-outcome.ensures.same.kept held))
+
+pub returns-in_err-outcome-clause-made : goal.returns-in_err-outcome-clause-made
+returns-in_err-outcome-clause-made g c = λ held. passed_none c.from_residual.result c.in_err-outcome.field-0.0 _ c.from_residual.ensures.1
 
 pub returns-in_err-outcome-clause-room : goal.returns-in_err-outcome-clause-room
 returns-in_err-outcome-clause-room g c = λ held. passed_none c.from_residual.result c.in_err-outcome.field-0.0 _ c.from_residual.ensures.1
 
-pub returns-in_err-outcome-clause-err_room : goal.returns-in_err-outcome-clause-err_room
-returns-in_err-outcome-clause-err_room g c = passed_kept c.from_residual.result _ c.in_err-outcome.ensures.err_room
+pub returns-in_err-outcome-clause-undamaged : goal.returns-in_err-outcome-clause-undamaged
+returns-in_err-outcome-clause-undamaged g c = λ held is. refused_not c.from_residual.result c.in_err-outcome.field-0.0 Damaged (IsAdvanceRefusal (g.R.Rows.holds c.args.rows.now) _) (λ u. u held) c.from_residual.ensures.1 c.in_err-outcome.ensures.refusal is
+
+pub returns-in_err-outcome-clause-full : goal.returns-in_err-outcome-clause-full
+returns-in_err-outcome-clause-full g c = λ is. no_room_so g.R.Rows.overfills c.args.rows.now (λ row edits so. (c.in-Some.session.now, sym c.in-Some.ensures.value, so)) (c.in_err-outcome.ensures.full (passed_on c.from_residual.result _ c.in_err-outcome.field-0.0 _ c.from_residual.ensures.1 refl is))
+
+pub returns-in_err-outcome-clause-full_shown : goal.returns-in_err-outcome-clause-full_shown
+returns-in_err-outcome-clause-full_shown g c = λ held is st reached shown kept.
+    no_room_so g.R.Rows.overfills c.args.rows.now (λ row edits so. changes_shown (g.R.Rows.holds c.args.rows.now) (g.R.Rows.cells c.args.rows.now) c.args.self.now c.args.start held st reached shown kept row edits (c.in-Some.session.now, sym c.in-Some.ensures.value, so)) (c.in_err-outcome.ensures.full (passed_on c.from_residual.result _ c.in_err-outcome.field-0.0 _ c.from_residual.ensures.1 refl is))
+
+pub returns-in_err-outcome-clause-reason : goal.returns-in_err-outcome-clause-reason
+returns-in_err-outcome-clause-reason g c = one_reason_passed c.from_residual.result c.in_err-outcome.field-0.0 _ _ _ _ c.from_residual.ensures.1 c.in_err-outcome.ensures.reason
+
+pub returns-in_default-clause-does : goal.returns-in_default-clause-does
+returns-in_default-clause-does g c = tt
+
+pub returns-in_default-clause-same : goal.returns-in_default-clause-same
+returns-in_default-clause-same g c = reads_none
+
+pub returns-in_default-clause-below : goal.returns-in_default-clause-below
+returns-in_default-clause-below g c = record { still = λ held. held; stays = refl }
+
+pub returns-in_default-clause-touched : goal.returns-in_default-clause-touched
+returns-in_default-clause-touched g c = λ held st shown. inl refl
+
+pub returns-in_default-clause-made : goal.returns-in_default-clause-made
+returns-in_default-clause-made g c = λ held. tt
 
 pub returns-in_default-clause-room : goal.returns-in_default-clause-room
 returns-in_default-clause-room g c = λ held. tt
 
-pub returns-in_default-clause-err_room : goal.returns-in_default-clause-err_room
-returns-in_default-clause-err_room g c = λ row later full. full
+pub returns-in_default-clause-undamaged : goal.returns-in_default-clause-undamaged
+returns-in_default-clause-undamaged g c = λ held is. unknown_undamaged is
+
+pub returns-in_default-clause-full : goal.returns-in_default-clause-full
+returns-in_default-clause-full g c = λ is. absurd (unknown_not_full is)
+
+pub returns-in_default-clause-full_shown : goal.returns-in_default-clause-full_shown
+returns-in_default-clause-full_shown g c = λ held is. absurd (unknown_not_full is)
+
+pub returns-in_default-clause-reason : goal.returns-in_default-clause-reason
+returns-in_default-clause-reason g c = inl (reason_none _ _ unknown_no_device, refl)

@@ -4,7 +4,7 @@ use Rattle.si_model.specs.Machine.{Sets}
 use Rattle.txn_client.specs.Writes.{write_of}
 use Rattle.txn_client.specs.declared.writes.Write.{Write}
 use Rattle.txn_client.proofs.Placing.{sets_last, sets_there, named_there, unnamed}
-use Rattle.txn_client.proofs.Passed.{not_err}
+use Rattle.cell_key.proofs.Reasons.{not_refused}
 use Rattle.txn_client.proofs.writes.Writes.set.Goals as goal
 
 pub returns-then-len-ge-MOST-clause-full : goal.returns-then-len-ge-MOST-clause-full
@@ -35,7 +35,7 @@ pub returns-then-len-ge-MOST-clause-refusal : goal.returns-then-len-ge-MOST-clau
 returns-then-len-ge-MOST-clause-refusal c = inl refl
 
 pub returns-in-Some-clause-full : goal.returns-in-Some-clause-full
-returns-in-Some-clause-full c = λ e. absurd (not_err _ _ e)
+returns-in-Some-clause-full c = λ e. absurd (not_refused _ _ e)
 
 pub returns-in-Some-clause-err : goal.returns-in-Some-clause-err
 returns-in-Some-clause-err c = tt
@@ -44,7 +44,7 @@ pub returns-in-Some-clause-refusal : goal.returns-in-Some-clause-refusal
 returns-in-Some-clause-refusal c = tt
 
 pub returns-in_ok-push-in-None-clause-full : goal.returns-in_ok-push-in-None-clause-full
-returns-in_ok-push-in-None-clause-full c = λ e. absurd (not_err _ _ e)
+returns-in_ok-push-in-None-clause-full c = λ e. absurd (not_refused _ _ e)
 
 pub returns-in_ok-push-in-None-clause-err : goal.returns-in_ok-push-in-None-clause-err
 returns-in_ok-push-in-None-clause-err c = tt
