@@ -12,6 +12,7 @@ pub mod Limits
 pub mod Moving
 pub mod Nexts
 pub mod Numbers
+pub mod Outcomes
 pub mod Owners
 pub mod Parts
 pub mod Passing

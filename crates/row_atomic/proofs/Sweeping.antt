@@ -1,5 +1,5 @@
 -- A sweep removes what its list of names doesn't keep, and tablets don't see it.
-use Rattle.std.proofs.Common.{◌≡◌, ◌≢◌, ◌==◌, ◌||◌, ◌&&◌, ◌⊎◌, inl, inr, ℕ, zero, suc, Bool, true, false, not, cond, List, [], ◌∷◌, map, length, Option, Some, None, option_map, IfSome, Result, Ok, Err, OnOk, IsTrue, slice_get, refl, sym, ap, ◌∙◌, subst, arith}
+use Rattle.std.proofs.Common.{◌≡◌, ◌≢◌, ◌==◌, ◌||◌, ◌&&◌, ◌⊎◌, inl, inr, ℕ, zero, suc, Bool, true, false, not, cond, List, [], ◌∷◌, map, length, Option, Some, None, option_map, IfSome, IfOk, Result, Ok, Err, OnOk, IsTrue, slice_get, refl, sym, ap, ◌∙◌, subst, arith}
 use Rattle.std.proofs.lemmas.Option.{same_Some}
 use Rattle.std.specs.Prelude.{◌↔◌, is_some}
 use Rattle.std.specs.Ordering.{nat_cmp, eq_by_cmp, is_eq}
@@ -17,7 +17,7 @@ use Rattle.tablet.specs.Views.{Holds, IsBelow, cells_at, names_of}
 use Rattle.tablet.specs.Laws.{UnnamedMayGo}
 use Rattle.tablet.specs.declared.tablet.Tablet.{Tablet}
 use Rattle.row_atomic.specs.Clusters.{tablet_numbered, cells_in, joined, InOrder, ArePlaced}
-use Rattle.row_atomic.specs.Sweeps.{MayLackUnkept, is_kept, swept, unkept, without_files}
+use Rattle.row_atomic.specs.Sweeps.{MayLackUnkept, is_kept, swept, unkept, without_files, count_swept}
 use Rattle.row_atomic.proofs.Owners.{each_placed}
 use Rattle.row_atomic.proofs.Placing.{is_placed}
 use Rattle.row_atomic.proofs.Shares.{each_at, each_map}
@@ -306,3 +306,9 @@ module _ (places : List PlaceView) (ts : List Tablet) (table : IsTable places) (
 pub on_ok : {A E : Type 0} {P Q : Type 0} (r : Result A E) → (P → Q) → OnOk r P → OnOk r Q
 on_ok (Ok x) f h = f h
 on_ok (Err e) f h = tt
+
+-- as many as don't stay
+pub counted : {E : Type 0} (places : List PlaceView) (o : Option Contents) (names : List ℕ) (r : Result ℕ E) → IfSome o (λ m. names ≡ finite.keys m) → IfOk r (λ count. count ≡ length (unkept places names)) → IfOk r (λ count. IfSome o (λ m. count ≡ count_swept places m))
+counted places None names (Ok count) keyed is = tt
+counted places (Some m) names (Ok count) keyed is = is ∙ ap (λ (ns : List ℕ). length (unkept places ns)) keyed
+counted places o names (Err e) keyed is = tt

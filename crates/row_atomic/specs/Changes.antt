@@ -101,6 +101,11 @@ abbrev pub IsCleaned : Compaction → Option Contents → Tablet → Type 0
 IsCleaned Major told t = LacksErasures told t
 IsCleaned _ told t = ⊤
 
+-- the tablet of a number was compacted
+pub record IsCompacted {F : Type 0} (contents : F → Option Contents) (compaction : Compaction) (tablet : ℕ) (old new : ClusterState F) : Type 0 where
+  pub made : Remakes (IsMade compaction old.next_name) tablet old.tablets new.tablets
+  pub cleaned : Holds contents old → Numbered (IsCleaned compaction (contents new.files)) tablet new.tablets
+
 -- the entries that a compaction writes
 abbrev pub written_by : Compaction → Contents → Tablet → List Entry
 written_by Minor m t = seen (range_of t) (memory_of t)
@@ -206,11 +211,15 @@ pub record IsMoved (n server : ℕ) (old new : List PlaceView) : Type 0 where
 abbrev pub IsOn : ℕ → ℕ → List PlaceView → Type 0
 IsOn n server places = (p : PlaceView) × Contains places p × (p.tablet ≡ n) × (p.server ≡ server)
 
--- A tablet that is on the server stays so, and nothing is done. Any other is flushed and put there.
+-- a tablet that was on another server was flushed and put on this one
 pub record IsPut {F : Type 0} (n server : ℕ) (old new : ClusterState F) : Type 0 where
-  pub same : IsOn n server old.places → new ≡ old
-  pub put : ¬ IsOn n server old.places → IsMoved n server old.places new.places
-  pub flushed : ¬ IsOn n server old.places → Remakes (IsFlushed old.next_name) n old.tablets new.tablets
+  pub elsewhere : ¬ IsOn n server old.places
+  pub moved : IsMoved n server old.places new.places
+  pub flushed : Remakes (IsFlushed old.next_name) n old.tablets new.tablets
+
+-- a tablet that is on the server stays so, and nothing is done; any other is put there
+abbrev pub ComesTo : {F : Type 0} → ℕ → ℕ → ClusterState F → ClusterState F → Type 0
+ComesTo n server old new = (IsOn n server old.places × (new ≡ old)) ⊎ IsPut n server old new
 
 abbrev pub IsSplitRefusal : Refusal → Type 0
 IsSplitRefusal refused.BadSplit = ⊤

@@ -1,21 +1,24 @@
--- What a list of commands answers, and what it leaves of the one cell map and of tablets and files.
-use Rattle.std.specs.Prelude.{◌≡◌, ◌≢◌, ◌≤◌, ◌+◌, ◌^◌, ◌↔◌, ◌⊎◌, ℕ, List, [], ◌∷◌, Option, length, option_map, ⊤}
+-- What a command answers, and what it leaves of the one cell map, of tablets and files, and of the room in memory.
+use Rattle.std.specs.Prelude.{◌≡◌, ◌≢◌, ◌<◌, ◌≤◌, ◌+◌, ◌^◌, ◌↔◌, ◌⊎◌, ℕ, List, [], ◌∷◌, Option, Result, Ok, Err, length, option_map, ⊤}
 use Rattle.std.specs.List.{AllByRecursion}
 use Rattle.cell_key.specs.Cells.{Cells, IsEditOf, IsNewest, after_edits, version}
 use Rattle.cell_key.specs.Faults.{HasRisen}
 use Rattle.cell_key.specs.Places.{IsNextCell}
 use Rattle.cell_key.specs.Versions.{stamped}
+use Rattle.cell_key.specs.declared.edits.Edit.{Edit}
 use Rattle.cell_key.specs.declared.refusals.Refusal.{Refusal}
 use Rattle.cell_key.specs.declared.refusals.Refusal.TheVariants as refused
 use Rattle.file_store.specs.Store.{Contents}
 use Rattle.metadata_table.specs.Table.{BarsSplit, HasTablet, most_servers}
 use Rattle.tablet.specs.Views.{UsesName}
-use Rattle.row_atomic.specs.Changes.{ComesOfWriting, IsAsBefore, IsCut, IsEmptied, IsFlushed, IsFull, IsHalved, IsMerged, IsMoveRefusal, IsNumberedRefusal, IsOn, IsPut, IsSplitRefusal, IsTooLarge, IsUndone, IsWhole, LacksErasures, MayBeFlushed, MayHolderBeFlushed, MeetsBadCount, MeetsFull, Numbered, OfHolder, Remakes, WritesNone}
+use Rattle.row_atomic.specs.Changes.{ComesOfWriting, ComesTo, Holds, IsAsBefore, IsCompacted, IsCut, IsEmptied, IsFull, IsHalved, IsMoveRefusal, IsNumberedRefusal, IsOn, IsSplitRefusal, IsTooLarge, IsUndone, MayBeFlushed, MayHolderBeFlushed, MeetsBadCount, MeetsFull, Numbered, OfHolder, WritesNone}
 use Rattle.row_atomic.specs.Clusters.{ClusterState, Overfills, cells_in, spots_of, storage_of}
 use Rattle.row_atomic.specs.Compactions as compaction
 use Rattle.row_atomic.specs.Refusals.{IsApplyRefusal, IsReadRefusal}
+use Rattle.row_atomic.specs.Room.{TakesNoRoom, TakesRoomOf}
 use Rattle.row_atomic.specs.Sweeps.{IsSwept, IsSweptInPart}
 use Rattle.row_atomic.specs.declared.cluster_compactions.Compaction.{Compaction}
+use Rattle.row_atomic.specs.declared.cluster_compactions.Compaction.TheVariants as compactions
 use Rattle.row_atomic.specs.declared.commands.Command.{Command}
 use Rattle.row_atomic.specs.declared.commands.Command.TheVariants as command
 use Rattle.row_atomic.specs.declared.commands.Outcome.{Outcome}
@@ -25,6 +28,25 @@ use Rattle.row_atomic.specs.declared.commands.Outcome.TheVariants as outcome
 abbrev pub IsUnderRow : Command → Type 0
 IsUnderRow (command.Apply row edits) = AllByRecursion (IsEditOf row) edits.items
 IsUnderRow _ = ⊤
+
+-- the outcome of a call that answers nothing, of a split, and of a sweep
+abbrev pub done_of : Result (Unit {0}) Refusal → Outcome
+done_of (Ok _) = outcome.Done
+done_of (Err refusal) = outcome.Refused refusal
+
+abbrev pub split_of : Result ℕ Refusal → Outcome
+split_of (Ok left) = outcome.Split left
+split_of (Err refusal) = outcome.Refused refusal
+
+abbrev pub swept_of : Result ℕ Refusal → Outcome
+swept_of (Ok count) = outcome.Swept count
+swept_of (Err refusal) = outcome.Refused refusal
+
+-- the command that compacts the tablet of a number
+abbrev pub compacting : Compaction → ℕ → Command
+compacting compactions.Minor tablet = command.Minor tablet
+compacting (compactions.Merge count) tablet = command.Merge tablet count
+compacting compactions.Major tablet = command.Major tablet
 
 -- ---- the one cell map
 
@@ -62,12 +84,12 @@ MayRefuse command.Sweep refusal = (refusal ≡ refused.Device) ⊎ (refusal ≡ 
 
 -- what a command that is done does to tablets and files
 abbrev pub Does : {F : Type 0} → (F → Option Contents) → Command → Outcome → ClusterState F → ClusterState F → Type 0
-Does contents (command.Minor tablet) outcome.Done old new = Remakes (IsFlushed old.next_name) tablet old.tablets new.tablets
-Does contents (command.Merge tablet count) outcome.Done old new = Remakes (IsMerged count old.next_name) tablet old.tablets new.tablets
-Does contents (command.Major tablet) outcome.Done old new = Remakes (IsWhole old.next_name) tablet old.tablets new.tablets × Numbered (LacksErasures (contents new.files)) tablet new.tablets
+Does contents (command.Minor tablet) outcome.Done old new = IsCompacted contents compaction.minor tablet old new
+Does contents (command.Merge tablet count) outcome.Done old new = IsCompacted contents (compaction.merging count) tablet old new
+Does contents (command.Major tablet) outcome.Done old new = IsCompacted contents compaction.major tablet old new
 Does contents (command.Split row) (outcome.Split left) old new =
     (left ≡ length old.places + 1) × IsCut row left old.places new.places × IsHalved old.next_name row left old.places old.tablets new.tablets
-Does contents (command.Move tablet server) outcome.Done old new = IsPut tablet server old new
+Does contents (command.Move tablet server) outcome.Done old new = ComesTo tablet server old new
 Does contents command.Sweep (outcome.Swept count) old new = IsSwept contents count old new
 Does contents _ _ old new = storage_of contents new ≡ storage_of contents old
 
@@ -112,6 +134,29 @@ UsesFiles contents (command.Split row) old new = WritesOne contents (command.Spl
 UsesFiles contents (command.Move tablet server) old new = WritesOne contents (command.Move tablet server) old new
 UsesFiles contents _ old new = ⊤
 
+-- ---- the room in memory
+
+-- edits of a row would pass a limit of what a cluster keeps in memory
+abbrev pub OverfillsCluster : {F : Type 0} → ClusterState F → List ℕ → List Edit → Type 0
+OverfillsCluster state row edits = Overfills state.places state.tablets row edits
+
+-- the memtables have as much room as they had
+abbrev pub IsNoFuller : {F : Type 0} → ClusterState F → ClusterState F → Type 0
+IsNoFuller old new = TakesNoRoom OverfillsCluster old new
+
+-- a row and edits are these
+abbrev pub AreThese : List ℕ → List Edit → List ℕ → List Edit → Type 0
+AreThese row edits other others = (other ≡ row) × (others ≡ edits)
+
+-- An apply that is done takes the room of its edits. A read, a sweep and an apply that is refused take none.
+abbrev pub LeavesRoom : {F : Type 0} → Command → Outcome → ClusterState F → ClusterState F → Type 0
+LeavesRoom (command.Newest row family qualifier lo hi) result old new = IsNoFuller old new
+LeavesRoom (command.NextCell after) result old new = IsNoFuller old new
+LeavesRoom (command.Apply row edits) outcome.Done old new = TakesRoomOf OverfillsCluster (AreThese row edits.items) old new
+LeavesRoom (command.Apply row edits) (outcome.Refused refusal) old new = IsNoFuller old new
+LeavesRoom command.Sweep result old new = IsNoFuller old new
+LeavesRoom _ result old new = ⊤
+
 -- ---- why a command is refused
 
 -- why a compaction of the tablet of a number is refused so
@@ -121,7 +166,7 @@ pub record BarsCompaction {F : Type 0} (contents : F → Option Contents) (compa
   pub full : refusal ≡ refused.TooManyFiles → Numbered (MeetsFull compaction) tablet old.tablets
   pub unfilled : ComesOfWriting refusal → ¬ Numbered (MeetsFull compaction) tablet old.tablets
   pub exhausted : refusal ≡ refused.Exhausted → (2 ^ 63 ≤ old.next_name) × (¬ Numbered (WritesNone compaction) tablet old.tablets)
-  pub large : refusal ≡ refused.FileTooLarge → Numbered (IsTooLarge old.file_limit (contents old.files) compaction) tablet old.tablets
+  pub large : Holds contents old → refusal ≡ refused.FileTooLarge → Numbered (IsTooLarge old.file_limit (contents old.files) compaction) tablet old.tablets
 
 -- and why a split at a row is, which flushes the tablet that holds it
 pub record BarsCut {F : Type 0} (contents : F → Option Contents) (row : List ℕ) (refusal : Refusal) (old : ClusterState F) : Type 0 where
@@ -129,7 +174,7 @@ pub record BarsCut {F : Type 0} (contents : F → Option Contents) (row : List �
   pub full : refusal ≡ refused.TooManyFiles → OfHolder IsFull row old.places old.tablets
   pub unfilled : ComesOfWriting refusal → ¬ OfHolder IsFull row old.places old.tablets
   pub exhausted : refusal ≡ refused.Exhausted → (2 ^ 63 ≤ old.next_name) × (¬ OfHolder IsEmptied row old.places old.tablets)
-  pub large : refusal ≡ refused.FileTooLarge → OfHolder (IsTooLarge old.file_limit (contents old.files) compaction.minor) row old.places old.tablets
+  pub large : Holds contents old → refusal ≡ refused.FileTooLarge → OfHolder (IsTooLarge old.file_limit (contents old.files) compaction.minor) row old.places old.tablets
 
 -- Why a command is refused so. Of a device's fault more is said below, and of want of memory nothing.
 abbrev pub IsDue : {F : Type 0} → (F → Option Contents) → Command → Refusal → ClusterState F → Type 0
@@ -142,30 +187,38 @@ IsDue contents (command.Move tablet server) refusal old =
     (refusal ≡ refused.UnknownServer ↔ (HasTablet tablet old.places × (most_servers ≤ server))) × BarsCompaction contents compaction.minor tablet refusal old
 IsDue contents _ refusal old = ⊤
 
--- ---- limits
+-- ---- what may be done
 
--- A compaction of the tablet of a number passes no limit: the tablet may have one more file where one comes, a name is left where
--- one is used, and the file may have its bytes.
-pub record HasRoom {F : Type 0} (contents : F → Option Contents) (compaction : Compaction) (tablet : ℕ) (old : ClusterState F) : Type 0 where
+-- A compaction of the tablet of a number may be done: there is such a tablet, it has as many files as are to be merged, it may have
+-- one more file where one comes, a name is left where one is used, and the file may have its bytes.
+pub record MayCompact {F : Type 0} (contents : F → Option Contents) (compaction : Compaction) (tablet : ℕ) (old : ClusterState F) : Type 0 where
+  pub known : HasTablet tablet old.places
+  pub counted : ¬ Numbered (MeetsBadCount compaction) tablet old.tablets
   pub room : ¬ Numbered (MeetsFull compaction) tablet old.tablets
   pub named : 2 ^ 63 ≤ old.next_name → Numbered (WritesNone compaction) tablet old.tablets
-  pub fits : ¬ Numbered (IsTooLarge old.file_limit (contents old.files) compaction) tablet old.tablets
+  pub fits : Holds contents old → ¬ Numbered (IsTooLarge old.file_limit (contents old.files) compaction) tablet old.tablets
 
--- nor does a split at a row
-pub record HasRoomToCut {F : Type 0} (contents : F → Option Contents) (row : List ℕ) (old : ClusterState F) : Type 0 where
+-- and so may a split at a row, which flushes the tablet that holds it
+pub record MayCut {F : Type 0} (contents : F → Option Contents) (row : List ℕ) (old : ClusterState F) : Type 0 where
+  pub free : ¬ BarsSplit row old.places
   pub room : ¬ OfHolder IsFull row old.places old.tablets
   pub named : 2 ^ 63 ≤ old.next_name → OfHolder IsEmptied row old.places old.tablets
-  pub fits : ¬ OfHolder (IsTooLarge old.file_limit (contents old.files) compaction.minor) row old.places old.tablets
+  pub fits : Holds contents old → ¬ OfHolder (IsTooLarge old.file_limit (contents old.files) compaction.minor) row old.places old.tablets
 
--- nor does a command. A move to the server where the tablet is already writes nothing.
-abbrev pub PassesNoLimit : {F : Type 0} → (F → Option Contents) → Command → ClusterState F → Type 0
-PassesNoLimit contents (command.Apply row edits) old = ¬ Overfills old.places old.tablets row edits.items
-PassesNoLimit contents (command.Minor tablet) old = HasRoom contents compaction.minor tablet old
-PassesNoLimit contents (command.Merge tablet count) old = HasRoom contents (compaction.merging count) tablet old
-PassesNoLimit contents (command.Major tablet) old = HasRoom contents compaction.major tablet old
-PassesNoLimit contents (command.Split row) old = HasRoomToCut contents row old
-PassesNoLimit contents (command.Move tablet server) old = ¬ IsOn tablet server old.places → HasRoom contents compaction.minor tablet old
-PassesNoLimit contents _ old = ⊤
+-- and a move, which flushes a tablet that is on another server
+pub record MayMove {F : Type 0} (contents : F → Option Contents) (tablet server : ℕ) (old : ClusterState F) : Type 0 where
+  pub known : HasTablet tablet old.places
+  pub near : server < most_servers
+  pub flushes : ¬ IsOn tablet server old.places → MayCompact contents compaction.minor tablet old
+
+abbrev pub MayBeDone : {F : Type 0} → (F → Option Contents) → Command → ClusterState F → Type 0
+MayBeDone contents (command.Apply row edits) old = ¬ Overfills old.places old.tablets row edits.items
+MayBeDone contents (command.Minor tablet) old = MayCompact contents compaction.minor tablet old
+MayBeDone contents (command.Merge tablet count) old = MayCompact contents (compaction.merging count) tablet old
+MayBeDone contents (command.Major tablet) old = MayCompact contents compaction.major tablet old
+MayBeDone contents (command.Split row) old = MayCut contents row old
+MayBeDone contents (command.Move tablet server) old = MayMove contents tablet server old
+MayBeDone contents _ old = ⊤
 
 -- ---- causes and faults
 
@@ -184,10 +237,10 @@ pub record IsRefused {F : Type 0} (contents : F → Option Contents) (command : 
   pub barred : IsBarred command refusal → new ≡ old
   pub undone : refusal ≡ refused.TooManyFiles → IsUndone contents old new
 
--- A command that is done passes no limit, and one that is refused has a cause.
+-- A command that is done may be done, and one that is refused has a cause.
 abbrev pub HasCause : {F : Type 0} → (F → Option Contents) → Command → Outcome → ClusterState F → ClusterState F → Type 0
 HasCause contents command (outcome.Refused refusal) old new = IsRefused contents command refusal old new
-HasCause contents command _ old new = PassesNoLimit contents command old
+HasCause contents command _ old new = MayBeDone contents command old
 
 -- A device has failed where an outcome says so, and else none has.
 pub record TellsFaults {F : Type 0} (faults : F → ℕ) (result : Outcome) (old new : ClusterState F) : Type 0 where
@@ -195,17 +248,31 @@ pub record TellsFaults {F : Type 0} (faults : F → ℕ) (result : Outcome) (old
   pub device : result ≡ outcome.Refused refused.Device → HasRisen (faults old.files) (faults new.files)
   pub told : result ≢ outcome.Refused refused.Device → faults new.files ≡ faults old.files
 
+-- ---- one command
+
+-- A command had this outcome: over the files' bytes and the count of their faults. What needs the tablets to be in order over their
+-- files says so.
+pub record IsOutcome {F : Type 0} (contents : F → Option Contents) (count : F → ℕ) (command : Command) (result : Outcome) (old new : ClusterState F) : Type 0 where
+  -- tablets that were in order are
+  pub still : Holds contents old → Holds contents new
+  -- it answers what is true of the one cell map
+  pub answers : Holds contents old → Answers (cells_shown contents old) command result (cells_shown contents new)
+  -- what it is for was done to tablets, places and files, or it was refused what it may be refused
+  pub upholds : Upholds contents command result old new
+  -- it wrote one file at most
+  pub files : UsesFiles contents command old new
+  -- the room in memory that it took
+  pub room : LeavesRoom command result old new
+  -- nothing stood against it, or its refusal has a cause
+  pub cause : HasCause contents command result old new
+  -- a device's fault is told, and no other
+  pub faults : TellsFaults count result old new
+
 -- ---- a list of commands
 
--- Commands answer, one after the other, by the cells that the cluster then shows, and each does to tablets and files what it is for.
+-- commands were done one after the other
 abbrev pub AnswersAll : {F : Type 0} → (F → Option Contents) → (F → ℕ) → ClusterState F → List Command → List Outcome → ClusterState F → Type 0
 AnswersAll contents faults old [] [] new = new ≡ old
 AnswersAll {F} contents faults old (command ∷ commands) (outcome ∷ outcomes) new =
-    (next : ClusterState F)
-    × Answers (cells_shown contents old) command outcome (cells_shown contents next)
-    × Upholds contents command outcome old next
-    × UsesFiles contents command old next
-    × HasCause contents command outcome old next
-    × TellsFaults faults outcome old next
-    × AnswersAll contents faults next commands outcomes new
+    (next : ClusterState F) × IsOutcome contents faults command outcome old next × AnswersAll contents faults next commands outcomes new
 AnswersAll contents faults old _ _ new = ⊥

@@ -1,14 +1,15 @@
 //! Compactions of a cluster's tablets. Room for the new list of names is made before the tablet changes.
 
-ghost use Rattle.std.specs.Prelude.{◌≡◌, ◌≤◌, ◌<◌, ◌+◌, ◌^◌, ◌↔◌, ◌⊎◌, [], length, vec_capacity, IfErr, IfOk, IfSome, IsErrOf, IsOk, OnErr, OnOk};
+ghost use Rattle.std.specs.Prelude.{◌≡◌, ◌≤◌, ◌<◌, ◌+◌, ◌^◌, [], length, vec_capacity, IfErr, IfOk, IfSome, IsErrOf, IsOk, OnErr, OnOk};
 ghost use Rattle.metadata_table.specs.Table.{HasTablet, IsTable, with_files};
 ghost use Rattle.sorted_file.specs.Grammar.{FitsIn};
 ghost use Rattle.cell_key.specs.Faults.{HasReason};
 ghost use Rattle.tablet.specs.Views.{Holds as HoldsAt, IsBelow, IsUnchanged, Keeps, UsesName, names_of, range_of};
-ghost use Rattle.row_atomic.specs.Clusters.{spots_of};
-ghost use Rattle.row_atomic.specs.Changes.{ComesOfWriting, Holds, IsAsBefore, IsAt, IsBadCount, IsCleaned, IsEmptied, IsFlushed, IsFull, IsMade, IsMerged, IsNumberedRefusal, IsRefusalOf, IsTooLarge, IsUndone, IsWhole, KeepsMap, LacksErasures, MeetsBadCount, MeetsFull, Numbered, Remakes, WritesNone, written_by};
+ghost use Rattle.row_atomic.specs.Changes.{ComesOfWriting, IsAt, IsBadCount, IsCleaned, IsFull, IsMade, IsRefusalOf, MeetsBadCount, MeetsFull, Numbered, WritesNone, written_by};
+ghost use Rattle.row_atomic.specs.Commands.{IsOutcome, compacting, done_of};
 
 use crate::cluster::Cluster;
+use crate::commands::Command;
 use cell_key::Refusal;
 use file_store::Files;
 use metadata_table::MetadataTable;
@@ -132,28 +133,9 @@ impl<F: Files> Cluster<F> {
         compaction: Compaction,
     ) -> Result<(), Refusal>
         requires known { HasTablet tablet self.old.places }
-        ensures kept { KeepsMap F.contents self.old self.new }
-        ensures limit { self.new.file_limit ≡ self.old.file_limit }
-        ensures name { UsesName (F.contents self.old.files) self.old.next_name (F.contents self.new.files) self.new.next_name }
-        ensures made { OnOk result (Remakes (IsMade compaction self.old.next_name) tablet self.old.tablets self.new.tablets) }
-        ensures cleaned { Holds F.contents self.old → OnOk result (Numbered (IsCleaned compaction (F.contents self.new.files)) tablet self.new.tablets) }
+        requires counted { ¬ Numbered (MeetsBadCount compaction) tablet self.old.tablets }
+        ensures outcome { IsOutcome F.contents F.faults (compacting compaction tablet) (done_of result) self.old self.new }
         ensures listed { OnOk result (Numbered (λ t. self.new.places ≡ with_files tablet (names_of t) self.old.places) tablet self.new.tablets) }
-        ensures err { OnErr result (IsAsBefore self.old self.new) }
-        ensures spots { spots_of self.new ≡ spots_of self.old }
-        ensures count { IsErrOf result Refusal.BadCount → Numbered (MeetsBadCount compaction) tablet self.old.tablets }
-        ensures full { IsErrOf result Refusal.TooManyFiles → Numbered IsFull tablet self.old.tablets }
-        ensures undone { IsErrOf result Refusal.TooManyFiles → IsUndone F.contents self.old self.new }
-        ensures room { OnOk result (¬ Numbered (MeetsFull compaction) tablet self.old.tablets) }
-        ensures unfilled { IfErr result (λ refusal. ComesOfWriting refusal → ¬ Numbered (MeetsFull compaction) tablet self.old.tablets) }
-        ensures exhausted { IsErrOf result Refusal.Exhausted → 2 ^ 63 ≤ self.old.next_name }
-        ensures needed { IsErrOf result Refusal.Exhausted → ¬ Numbered (WritesNone compaction) tablet self.old.tablets }
-        ensures left { OnOk result (2 ^ 63 ≤ self.old.next_name → Numbered (WritesNone compaction) tablet self.old.tablets) }
-        ensures empty { Numbered (WritesNone compaction) tablet self.old.tablets → (self.new.next_name ≡ self.old.next_name) × (F.contents self.new.files ≡ F.contents self.old.files) }
-        ensures large { Holds F.contents self.old → IsErrOf result Refusal.FileTooLarge → Numbered (IsTooLarge self.old.file_limit (F.contents self.old.files) compaction) tablet self.old.tablets }
-        ensures fits { Holds F.contents self.old → OnOk result (¬ Numbered (IsTooLarge self.old.file_limit (F.contents self.old.files) compaction) tablet self.old.tablets) }
-        ensures undamaged { Holds F.contents self.old → ¬ IsErrOf result Refusal.Damaged }
-        ensures refusal { IfErr result (IsRefusalOf compaction) }
-        ensures reason { HasReason (F.faults self.old.files) (F.faults self.new.files) result }
     {
         others_stay();
         let index = self.position(tablet);
@@ -178,29 +160,7 @@ impl<F: Files> Cluster<F> {
     /// already, `FileTooLarge`, `Exhausted` where no name is left, `Device` and `NoMemory`. The tablets are then
     /// as before.
     pub fn minor(&mut self, tablet: u32) -> Result<(), Refusal>
-        ensures kept { KeepsMap F.contents self.old self.new }
-        ensures limit { self.new.file_limit ≡ self.old.file_limit }
-        ensures name { UsesName (F.contents self.old.files) self.old.next_name (F.contents self.new.files) self.new.next_name }
-        ensures spots { spots_of self.new ≡ spots_of self.old }
-        ensures table { IsTable self.old.places }
-        ensures made { OnOk result (Remakes (IsFlushed self.old.next_name) tablet self.old.tablets self.new.tablets) }
-        ensures err { OnErr result (IsAsBefore self.old self.new) }
-        ensures unknown { IsErrOf result Refusal.UnknownTablet ↔ ¬ HasTablet tablet self.old.places }
-        ensures barred { IsErrOf result Refusal.UnknownTablet → self.new ≡ self.old }
-        ensures full { IsErrOf result Refusal.TooManyFiles → Numbered IsFull tablet self.old.tablets }
-        ensures undone { IsErrOf result Refusal.TooManyFiles → IsUndone F.contents self.old self.new }
-        ensures room { OnOk result (¬ Numbered IsFull tablet self.old.tablets) }
-        // A full tablet is told so before anything is written.
-        ensures unfilled { IfErr result (λ refusal. ComesOfWriting refusal → ¬ Numbered IsFull tablet self.old.tablets) }
-        ensures exhausted { IsErrOf result Refusal.Exhausted → 2 ^ 63 ≤ self.old.next_name }
-        ensures needed { IsErrOf result Refusal.Exhausted → ¬ Numbered IsEmptied tablet self.old.tablets }
-        ensures left { OnOk result (2 ^ 63 ≤ self.old.next_name → Numbered IsEmptied tablet self.old.tablets) }
-        ensures empty { Numbered IsEmptied tablet self.old.tablets → (self.new.next_name ≡ self.old.next_name) × (F.contents self.new.files ≡ F.contents self.old.files) }
-        ensures large { Holds F.contents self.old → IsErrOf result Refusal.FileTooLarge → Numbered (IsTooLarge self.old.file_limit (F.contents self.old.files) Compaction.Minor) tablet self.old.tablets }
-        ensures fits { Holds F.contents self.old → OnOk result (¬ Numbered (IsTooLarge self.old.file_limit (F.contents self.old.files) Compaction.Minor) tablet self.old.tablets) }
-        ensures undamaged { Holds F.contents self.old → ¬ IsErrOf result Refusal.Damaged }
-        ensures refusal { IfErr result (IsNumberedRefusal Compaction.Minor) }
-        ensures reason { HasReason (F.faults self.old.files) (F.faults self.new.files) result }
+        ensures { IsOutcome F.contents F.faults (Command.Minor tablet) (done_of result) self.old self.new }
     {
         self.check_tablet(tablet)?;
         self.compact_tablet(tablet, Compaction::Minor)
@@ -215,23 +175,7 @@ impl<F: Files> Cluster<F> {
     /// tablet's number of files, and then `FileTooLarge`, `Exhausted` where no name is left, `Device` and
     /// `NoMemory`. The tablets are then as before.
     pub fn merge(&mut self, tablet: u32, count: u32) -> Result<(), Refusal>
-        ensures kept { KeepsMap F.contents self.old self.new }
-        ensures limit { self.new.file_limit ≡ self.old.file_limit }
-        ensures name { UsesName (F.contents self.old.files) self.old.next_name (F.contents self.new.files) self.new.next_name }
-        ensures spots { spots_of self.new ≡ spots_of self.old }
-        ensures table { IsTable self.old.places }
-        ensures made { OnOk result (Remakes (IsMerged count self.old.next_name) tablet self.old.tablets self.new.tablets) }
-        ensures err { OnErr result (IsAsBefore self.old self.new) }
-        ensures unknown { IsErrOf result Refusal.UnknownTablet ↔ ¬ HasTablet tablet self.old.places }
-        ensures count { IsErrOf result Refusal.BadCount ↔ (HasTablet tablet self.old.places × Numbered (IsBadCount count) tablet self.old.tablets) }
-        ensures barred { IsErrOf result Refusal.UnknownTablet ⊎ IsErrOf result Refusal.BadCount → self.new ≡ self.old }
-        ensures exhausted { IsErrOf result Refusal.Exhausted → 2 ^ 63 ≤ self.old.next_name }
-        ensures left { OnOk result (self.old.next_name < 2 ^ 63) }
-        ensures large { Holds F.contents self.old → IsErrOf result Refusal.FileTooLarge → Numbered (IsTooLarge self.old.file_limit (F.contents self.old.files) (Compaction.Merge count)) tablet self.old.tablets }
-        ensures fits { Holds F.contents self.old → OnOk result (¬ Numbered (IsTooLarge self.old.file_limit (F.contents self.old.files) (Compaction.Merge count)) tablet self.old.tablets) }
-        ensures undamaged { Holds F.contents self.old → ¬ IsErrOf result Refusal.Damaged }
-        ensures refusal { IfErr result (IsNumberedRefusal (Compaction.Merge count)) }
-        ensures reason { HasReason (F.faults self.old.files) (F.faults self.new.files) result }
+        ensures { IsOutcome F.contents F.faults (Command.Merge tablet count) (done_of result) self.old self.new }
     {
         self.check_tablet(tablet)?;
         self.check_count(tablet, count)?;
@@ -246,23 +190,7 @@ impl<F: Files> Cluster<F> {
     /// `UnknownTablet` where no tablet has the number, and then `FileTooLarge`, `Exhausted` where no name is
     /// left, `Device` and `NoMemory`. The tablets are then as before.
     pub fn major(&mut self, tablet: u32) -> Result<(), Refusal>
-        ensures kept { KeepsMap F.contents self.old self.new }
-        ensures limit { self.new.file_limit ≡ self.old.file_limit }
-        ensures name { UsesName (F.contents self.old.files) self.old.next_name (F.contents self.new.files) self.new.next_name }
-        ensures spots { spots_of self.new ≡ spots_of self.old }
-        ensures table { IsTable self.old.places }
-        ensures made { OnOk result (Remakes (IsWhole self.old.next_name) tablet self.old.tablets self.new.tablets) }
-        ensures cleaned { Holds F.contents self.old → OnOk result (Numbered (LacksErasures (F.contents self.new.files)) tablet self.new.tablets) }
-        ensures err { OnErr result (IsAsBefore self.old self.new) }
-        ensures unknown { IsErrOf result Refusal.UnknownTablet ↔ ¬ HasTablet tablet self.old.places }
-        ensures barred { IsErrOf result Refusal.UnknownTablet → self.new ≡ self.old }
-        ensures exhausted { IsErrOf result Refusal.Exhausted → 2 ^ 63 ≤ self.old.next_name }
-        ensures left { OnOk result (self.old.next_name < 2 ^ 63) }
-        ensures large { Holds F.contents self.old → IsErrOf result Refusal.FileTooLarge → Numbered (IsTooLarge self.old.file_limit (F.contents self.old.files) Compaction.Major) tablet self.old.tablets }
-        ensures fits { Holds F.contents self.old → OnOk result (¬ Numbered (IsTooLarge self.old.file_limit (F.contents self.old.files) Compaction.Major) tablet self.old.tablets) }
-        ensures undamaged { Holds F.contents self.old → ¬ IsErrOf result Refusal.Damaged }
-        ensures refusal { IfErr result (IsNumberedRefusal Compaction.Major) }
-        ensures reason { HasReason (F.faults self.old.files) (F.faults self.new.files) result }
+        ensures { IsOutcome F.contents F.faults (Command.Major tablet) (done_of result) self.old self.new }
     {
         self.check_tablet(tablet)?;
         self.compact_tablet(tablet, Compaction::Major)

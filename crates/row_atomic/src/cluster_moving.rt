@@ -1,16 +1,17 @@
 //! Cutting a tablet of a cluster in two, and moving one to another server. A minor compaction comes first.
 
-ghost use Rattle.std.specs.Prelude.{◌≡◌, ◌≤◌, ◌<◌, ◌+◌, ◌^◌, ◌↔◌, ◌⊎◌, [], length, IfErr, IfOk, IfSome, IsErrOf, IsOk, IsTrue, OnErr, OnOk};
+ghost use Rattle.std.specs.Prelude.{◌≡◌, ◌≤◌, ◌<◌, ◌+◌, ◌↔◌, ◌⊎◌, [], length, IfErr, IfOk, IfSome, IsErrOf, IsTrue, OnErr, OnOk};
 ghost use Rattle.metadata_table.specs.Places.{PlaceView};
 ghost use Rattle.metadata_table.specs.Table.{BarsSplit, Cuts, HasTablet, IsHolder, IsTable, most_servers, moved};
 ghost use Rattle.sorted_file.specs.Sources.{IsReadRefusal};
 ghost use Rattle.cell_key.specs.Faults.{HasReason};
-ghost use Rattle.tablet.specs.Views.{Holds as HoldsAt, IsUnchanged, UsesName, memory_of, names_of, range_of};
-ghost use Rattle.row_atomic.specs.Clusters.{spots_of};
-ghost use Rattle.row_atomic.specs.Changes.{ComesOfWriting, Holds, IsCut, IsEmptied, IsFlushed, IsFull, IsHalved, IsMoveRefusal, IsMoved, IsOn, IsReopened, IsSplitRefusal, IsTooLarge, IsUndone, KeepsMap, MayBeFlushed, MayHolderBeFlushed, Numbered, OfHolder, Remakes};
+ghost use Rattle.tablet.specs.Views.{Holds as HoldsAt, IsUnchanged, memory_of, names_of, range_of};
+ghost use Rattle.row_atomic.specs.Changes.{Holds, IsEmptied, IsHalved, IsOn, IsReopened, KeepsMap, Numbered, OfHolder, Remakes};
+ghost use Rattle.row_atomic.specs.Commands.{IsOutcome, done_of, split_of};
 
 use crate::cluster::Cluster;
 use crate::cluster_compactions::Compaction;
+use crate::commands::Command;
 use cell_key::{Refusal, Row};
 use file_store::Files;
 use metadata_table::MetadataTable;
@@ -80,30 +81,7 @@ impl<F: Files> Cluster<F> {
     /// `BadSplit` where the row is already the end of its tablet, or there are 1,024 tablets, and then those of
     /// `minor`. The places of the tablets are then as before, but the minor compaction may have been done.
     pub fn split(&mut self, row: &Row) -> Result<u32, Refusal>
-        ensures kept { KeepsMap F.contents self.old self.new }
-        ensures limit { self.new.file_limit ≡ self.old.file_limit }
-        ensures name { UsesName (F.contents self.old.files) self.old.next_name (F.contents self.new.files) self.new.next_name }
-        ensures table { IsTable self.old.places }
-        ensures number { IfOk result (λ left. left ≡ length self.old.places + 1) }
-        ensures cut { IfOk result (λ left. IsCut row.now left self.old.places self.new.places) }
-        ensures halved { IfOk result (λ left. IsHalved self.old.next_name row.now left self.old.places self.old.tablets self.new.tablets) }
-        ensures bad { IsErrOf result Refusal.BadSplit ↔ BarsSplit row.now self.old.places }
-        ensures barred { IsErrOf result Refusal.BadSplit → self.new ≡ self.old }
-        ensures err { OnErr result (spots_of self.new ≡ spots_of self.old) }
-        ensures may { OnErr result (MayHolderBeFlushed self.old.next_name row.now self.old.places self.old.tablets self.new.tablets) }
-        ensures full { IsErrOf result Refusal.TooManyFiles → OfHolder IsFull row.now self.old.places self.old.tablets }
-        ensures undone { IsErrOf result Refusal.TooManyFiles → IsUndone F.contents self.old self.new }
-        ensures room { OnOk result (¬ OfHolder IsFull row.now self.old.places self.old.tablets) }
-        ensures unfilled { IfErr result (λ refusal. ComesOfWriting refusal → ¬ OfHolder IsFull row.now self.old.places self.old.tablets) }
-        ensures exhausted { IsErrOf result Refusal.Exhausted → 2 ^ 63 ≤ self.old.next_name }
-        ensures needed { IsErrOf result Refusal.Exhausted → ¬ OfHolder IsEmptied row.now self.old.places self.old.tablets }
-        ensures left { OnOk result (2 ^ 63 ≤ self.old.next_name → OfHolder IsEmptied row.now self.old.places self.old.tablets) }
-        ensures empty { OfHolder IsEmptied row.now self.old.places self.old.tablets → (self.new.next_name ≡ self.old.next_name) × (F.contents self.new.files ≡ F.contents self.old.files) }
-        ensures large { Holds F.contents self.old → IsErrOf result Refusal.FileTooLarge → OfHolder (IsTooLarge self.old.file_limit (F.contents self.old.files) Compaction.Minor) row.now self.old.places self.old.tablets }
-        ensures fits { Holds F.contents self.old → OnOk result (¬ OfHolder (IsTooLarge self.old.file_limit (F.contents self.old.files) Compaction.Minor) row.now self.old.places self.old.tablets) }
-        ensures undamaged { Holds F.contents self.old → ¬ IsErrOf result Refusal.Damaged }
-        ensures refusal { IfErr result IsSplitRefusal }
-        ensures reason { HasReason (F.faults self.old.files) (F.faults self.new.files) result }
+        ensures { IsOutcome F.contents F.faults (Command.Split row.now) (split_of result) self.old self.new }
     {
         let holder = self.table.locate(row).tablet;
         self.table.check_split(row)?;
@@ -162,31 +140,8 @@ impl<F: Files> Cluster<F> {
     /// 15, and then those of `minor`. The places of the tablets are then as before, but the minor compaction may
     /// have been done.
     pub fn move_to(&mut self, tablet: u32, server: u8) -> Result<(), Refusal>
-        ensures kept { KeepsMap F.contents self.old self.new }
-        ensures limit { self.new.file_limit ≡ self.old.file_limit }
-        ensures name { UsesName (F.contents self.old.files) self.old.next_name (F.contents self.new.files) self.new.next_name }
+        ensures outcome { IsOutcome F.contents F.faults (Command.Move tablet server) (done_of result) self.old self.new }
         ensures table { IsTable self.old.places }
-        ensures moved { OnOk result (((self.new ≡ self.old) × IsOn tablet server self.old.places) ⊎ IsMoved tablet server self.old.places self.new.places) }
-        ensures flushed { OnOk result (¬ IsOn tablet server self.old.places → Remakes (IsFlushed self.old.next_name) tablet self.old.tablets self.new.tablets) }
-        ensures same { IsOn tablet server self.old.places → IsOk result × (self.new ≡ self.old) }
-        ensures unknown { IsErrOf result Refusal.UnknownTablet ↔ ¬ HasTablet tablet self.old.places }
-        ensures server { IsErrOf result Refusal.UnknownServer ↔ (HasTablet tablet self.old.places × (most_servers ≤ server)) }
-        ensures unmoved { IsErrOf result Refusal.UnknownTablet ⊎ IsErrOf result Refusal.UnknownServer → self.new ≡ self.old }
-        ensures err { OnErr result (spots_of self.new ≡ spots_of self.old) }
-        ensures may { OnErr result (MayBeFlushed self.old.next_name tablet self.old.tablets self.new.tablets) }
-        ensures full { IsErrOf result Refusal.TooManyFiles → Numbered IsFull tablet self.old.tablets }
-        ensures undone { IsErrOf result Refusal.TooManyFiles → IsUndone F.contents self.old self.new }
-        ensures room { OnOk result (¬ IsOn tablet server self.old.places → ¬ Numbered IsFull tablet self.old.tablets) }
-        ensures unfilled { IfErr result (λ refusal. ComesOfWriting refusal → ¬ Numbered IsFull tablet self.old.tablets) }
-        ensures exhausted { IsErrOf result Refusal.Exhausted → 2 ^ 63 ≤ self.old.next_name }
-        ensures needed { IsErrOf result Refusal.Exhausted → ¬ Numbered IsEmptied tablet self.old.tablets }
-        ensures left { OnOk result (¬ IsOn tablet server self.old.places → 2 ^ 63 ≤ self.old.next_name → Numbered IsEmptied tablet self.old.tablets) }
-        ensures empty { Numbered IsEmptied tablet self.old.tablets → (self.new.next_name ≡ self.old.next_name) × (F.contents self.new.files ≡ F.contents self.old.files) }
-        ensures large { Holds F.contents self.old → IsErrOf result Refusal.FileTooLarge → Numbered (IsTooLarge self.old.file_limit (F.contents self.old.files) Compaction.Minor) tablet self.old.tablets }
-        ensures fits { Holds F.contents self.old → OnOk result (¬ IsOn tablet server self.old.places → ¬ Numbered (IsTooLarge self.old.file_limit (F.contents self.old.files) Compaction.Minor) tablet self.old.tablets) }
-        ensures undamaged { Holds F.contents self.old → ¬ IsErrOf result Refusal.Damaged }
-        ensures refusal { IfErr result IsMoveRefusal }
-        ensures reason { HasReason (F.faults self.old.files) (F.faults self.new.files) result }
     {
         if self.is_on(tablet, server)? {
             return Ok(());

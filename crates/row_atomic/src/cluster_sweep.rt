@@ -1,13 +1,14 @@
 //! Removal of files that no tablet has.
 
-ghost use Rattle.std.specs.Prelude.{◌≡◌, ◌≤◌, ◌⊎◌, IfErr, IfOk, IfSome, IsErrOf, OnErr, OnOk, length, option_map};
+ghost use Rattle.std.specs.Prelude.{◌≡◌, ◌⊎◌, IfErr, IfOk, IfSome, OnErr, OnOk, length};
 ghost use Rattle.std.specs.FinMap.{keys};
-ghost use Rattle.cell_key.specs.Faults.{HasReason, HasRisen};
+ghost use Rattle.cell_key.specs.Faults.{HasReason};
 ghost use Rattle.file_store.specs.Store.{MayLack, without_file};
-ghost use Rattle.row_atomic.specs.Changes.{KeepsMap};
-ghost use Rattle.row_atomic.specs.Sweeps.{MayLackUnkept, count_swept, is_kept, swept, unkept, without_files};
+ghost use Rattle.row_atomic.specs.Sweeps.{MayLackUnkept, is_kept, unkept, without_files};
+ghost use Rattle.row_atomic.specs.Commands.{IsOutcome, swept_of};
 
 use crate::cluster::Cluster;
+use crate::commands::Command;
 use cell_key::Refusal;
 use file_store::Files;
 use metadata_table::MetadataTable;
@@ -80,15 +81,7 @@ impl<F: Files> Cluster<F> {
     /// `Device` where a device failed during the call, and `NoMemory` where a growth was refused. Some of the files
     /// may then be gone.
     pub fn sweep(&mut self) -> Result<u64, Refusal>
-        ensures swept { OnOk result (F.contents self.new.files ≡ option_map (swept self.old.places) (F.contents self.old.files)) }
-        ensures count { IfOk result (λ count. IfSome (F.contents self.old.files) (λ m. count ≡ count_swept self.old.places m)) }
-        ensures lacks { MayLackUnkept self.old.places (F.contents self.old.files) (F.contents self.new.files) }
-        ensures kept { KeepsMap F.contents self.old self.new }
-        ensures rest { self.new ≡ record self.old { files = self.new.files } }
-        ensures refusal { IfErr result (λ refusal. (refusal ≡ Refusal.Device) ⊎ (refusal ≡ Refusal.NoMemory)) }
-        ensures device { IsErrOf result Refusal.Device → HasRisen (F.faults self.old.files) (F.faults self.new.files) }
-        ensures later { F.faults self.old.files ≤ F.faults self.new.files }
-        ensures told { ¬ IsErrOf result Refusal.Device → F.faults self.new.files ≡ F.faults self.old.files }
+        ensures { IsOutcome F.contents F.faults Command.Sweep (swept_of result) self.old self.new }
     {
         unnamed_may_go();
         let _ = self.table.len();

@@ -1,10 +1,10 @@
 //! A list of commands on a cluster, one after the other.
 
-ghost use Rattle.std.specs.Prelude.{◌≡◌, ◌<◌, ◌≤◌, ◌++◌, ◌+◌, ◌∷◌, [], IfErr, IfOk, MatchResult, OnErr, length, option_map, vec_capacity, vec_len};
+ghost use Rattle.std.specs.Prelude.{◌≡◌, ◌<◌, ◌≤◌, ◌++◌, ◌+◌, ◌∷◌, [], IfErr, IfOk, OnErr, option_map, vec_capacity, vec_len};
 ghost use Rattle.std.specs.List.{AllByRecursion};
 ghost use Rattle.cell_key.specs.Places.{place_named};
 ghost use Rattle.row_atomic.specs.Changes.{Holds};
-ghost use Rattle.row_atomic.specs.Commands.{Answers, AnswersAll, HasCause, IsUnderRow, TellsFaults, Upholds, UsesFiles, cells_shown};
+ghost use Rattle.row_atomic.specs.Commands.{AnswersAll, IsOutcome, IsUnderRow, done_of};
 
 use crate::cluster::Cluster;
 use crate::rows::Rows;
@@ -86,7 +86,7 @@ fn push_outcome(outcomes: &mut Vec<Outcome>, outcome: Outcome)
 
 /// The outcome of a call that answers nothing.
 fn done(call: Result<(), Refusal>) -> Outcome
-    ensures { MatchResult call (λ _. result ≡ Outcome.Done) (λ refusal. result ≡ Outcome.Refused refusal) }
+    ensures { result ≡ done_of call }
 {
     match call {
         Ok(()) => Outcome::Done,
@@ -108,12 +108,7 @@ impl<F: Files> Cluster<F> {
     /// Does one command.
     fn answer(&mut self, command: Command) -> Outcome
         requires { IsUnderRow command }
-        ensures still { Holds F.contents self.old → Holds F.contents self.new }
-        ensures answers { Holds F.contents self.old → Answers (cells_shown F.contents self.old) command result (cells_shown F.contents self.new) }
-        ensures upholds { Holds F.contents self.old → Upholds F.contents command result self.old self.new }
-        ensures uses { UsesFiles F.contents command self.old self.new }
-        ensures cause { Holds F.contents self.old → HasCause F.contents command result self.old self.new }
-        ensures faults { TellsFaults F.faults result self.old self.new }
+        ensures { IsOutcome F.contents F.faults command result self.old self.new }
     {
         match command {
             Command::Newest {
@@ -157,7 +152,7 @@ impl<F: Files> Cluster<F> {
     pub fn run(&mut self, commands: Vec<Command>) -> Result<Vec<Outcome>, Refusal>
         requires { AllByRecursion IsUnderRow commands.items }
         ensures still { Holds F.contents self.old → Holds F.contents self.new }
-        ensures answers { IfOk result (λ outcomes. Holds F.contents self.old → AnswersAll F.contents F.faults self.old commands.items outcomes.items self.new) }
+        ensures answers { IfOk result (λ outcomes. AnswersAll F.contents F.faults self.old commands.items outcomes.items self.new) }
         ensures err { OnErr result (self.new ≡ self.old) }
         ensures refusal { IfErr result (λ refusal. refusal ≡ Refusal.NoMemory) }
     {

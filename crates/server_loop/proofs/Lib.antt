@@ -1,8 +1,10 @@
+mod Causes
 mod Filled
 mod Framing
 mod Lengths
 mod Placing
 mod Reaching
+mod RawReads
 mod Refusing
 mod Relocating
 mod Replacing

@@ -4,7 +4,7 @@ use Rattle.std.specs.Prelude.{⊤}
 use Rattle.std.specs.FinMap.{empty, get-empty}
 use Rattle.cell_key.specs.Keys.{key_cmp}
 use Rattle.cell_key.specs.declared.refusals.Refusal.{Refusal}
-use Rattle.cell_key.specs.declared.refusals.Refusal.TheVariants.{BadRow, BadColumn, TooManyFiles, FileTooLarge, Exhausted, Damaged, Device, NoMemory}
+use Rattle.cell_key.specs.declared.refusals.Refusal.TheVariants.{BadRow, BadColumn, Damaged, Device, NoMemory}
 use Rattle.si_model.specs.Machine.{State, Request, Reply, Begun, SetDone, StopDone, Refused, IsReached, OracleRestart, RestartDone, accepts, refuses, tells, restarts, new_machine}
 use Rattle.si_model.specs.ShowsCells.{ShowsCells}
 use Rattle.si_model.specs.Refusing.{Refuses, gives_up}
@@ -14,18 +14,17 @@ use Rattle.si_model.specs.declared.replies.Found.TheVariants as founds
 use Rattle.si_model.specs.declared.replies.Progress.{Progress}
 use Rattle.si_model.specs.declared.replies.Progress.TheVariants as steps
 use Rattle.file_store.specs.Store.{Contents}
-use Rattle.row_atomic.specs.Changes.{ComesOfWriting, Holds}
+use Rattle.row_atomic.specs.Changes.{Holds}
 use Rattle.row_atomic.specs.Clusters.{Spot, Storage, cells_in, spot_of, storage_of}
 use Rattle.txn_client.specs.Reads.{IsShort}
 use Rattle.txn_client.specs.Shows as clients
+use Rattle.txn_client.specs.Shows.{DrawsNext, top_after}
 use Rattle.request_codec.specs.Replies.{replied}
 use Rattle.request_codec.specs.declared.replies.Reply.{Reply as Kept}
 use Rattle.request_codec.specs.declared.replies.Reply.TheVariants as kept
 use Rattle.server_loop.specs.declared.server.Server.{Server}
 use Rattle.server_loop.specs.Server.{Shows}
-use Rattle.server_loop.specs.Refusals.{IsSweepRefusal}
 use Rattle.server_loop.specs.Runs.{HasShortValue, StampsGoOn, StepsAs, IfRefused}
-use Rattle.server_loop.specs.Upkeep.{IsDone}
 use Rattle.server_loop.proofs.Replacing.{KeepsPlaces}
 use Rattle.server_loop.proofs.Relocating.{still_placed, still_next}
 
@@ -69,7 +68,7 @@ name_undamaged refusal none same = none (subst (IfRefused (λ (r : Refusal). ref
 pub err_undamaged : {A : Type 0} (result : Result A Refusal) (refusal : Refusal) → result ≡ Err refusal → (IsErrOf result Damaged → ⊥) → Refused refusal ≡ Refused Damaged → ⊥
 err_undamaged result refusal is none same = none (is ∙ ap (λ (r : Refusal). Err r) (subst (IfRefused (λ (r : Refusal). refusal ≡ r)) same refl))
 
-abbrev IfTold : (Refusal → Type 0) → Kept → Type 0
+abbrev pub IfTold : (Refusal → Type 0) → Kept → Type 0
 IfTold P (kept.Refused refusal) = P refusal
 IfTold P reply = ⊤
 
@@ -120,30 +119,18 @@ module _ {F M : Type 0} (contents : F → Option Contents) (old new : Server F M
     undamaged (λ (r : Refusal). r ≡ Device) refusal device (λ h. cc),
   )
 
--- a request that flushes nothing finds no full tablet
-pub never_full : (reply : Reply) → IfRefused (λ refusal. ComesOfWriting refusal → ¬ ⊥) reply
-never_full (Refused refusal) = λ of none. none
-never_full _ = tt
-
 -- a reply is no refusal that the request can't have
 pub never : (P : Refusal → Type 0) (reply : Kept) (refusal : Refusal) → IfRefused P (replied reply) → (P refusal → ⊥) → reply ≡ kept.Refused refusal → ⊥
 never P reply refusal told none is = none (subst (λ (r : Kept). IfRefused P (replied r)) is told)
 
--- a sweep is refused for two reasons alone
-pub not_swept : (refusal : Refusal) → (refusal ≡ Device → ⊥) → (refusal ≡ NoMemory → ⊥) → IsSweepRefusal refusal → ⊥
-not_swept refusal device memory which = elim which [
-  | inl is ↦ device is
-  | inr is ↦ memory is
-]
-
-pub sweep_not_exhausted : IsSweepRefusal Exhausted → ⊥
-sweep_not_exhausted = not_swept Exhausted (λ e. cc) (λ e. cc)
-
-pub sweep_not_many : IsSweepRefusal TooManyFiles → ⊥
-sweep_not_many = not_swept TooManyFiles (λ e. cc) (λ e. cc)
-
-pub sweep_not_large : IsSweepRefusal FileTooLarge → ⊥
-sweep_not_large = not_swept FileTooLarge (λ e. cc) (λ e. cc)
+-- a step's stamp is the oracle's next one
+pub progress_goes : (progress : Progress) (old new : ℕ) → DrawsNext old progress → new ≡ top_after old progress → StampsGoOn (progress_reply progress) old new
+progress_goes (steps.Held place count) old new draws last = last
+progress_goes (steps.Conflict place) old new draws last = last
+progress_goes (steps.Stamped stamp) old new draws last = (draws, last)
+progress_goes (steps.Committed stamp) old new draws last = last
+progress_goes steps.Lost old new draws last = last
+progress_goes (steps.Finished place count) old new draws last = last
 
 -- what is found is no refusal and no stamp
 pub found_told : (P : Refusal → Type 0) (found : Found) → IfRefused P (found_reply found)
@@ -162,7 +149,11 @@ short_found (founds.Value value) short = short
 short_found founds.Nothing short = tt
 short_found (founds.Pending start) short = tt
 
--- what is done is no refusal
+-- a reply is no refusal
+abbrev pub IsDone : Kept → Type 0
+IsDone (kept.Refused refusal) = ⊥
+IsDone reply = ⊤
+
 pub not_done : (reply : Kept) (refusal : Refusal) → IsDone reply → reply ≡ kept.Refused refusal → ⊥
 not_done reply refusal done same = subst IsDone same done
 
@@ -182,11 +173,11 @@ named_not refusal other bad memory which same =
       | inr e ↦ memory (sym e ∙ is)
     ]
 
--- nor does that come of writing
-pub named_unwritten : (refusal : Refusal) → (refusal ≡ BadRow) ⊎ (refusal ≡ NoMemory) → ¬ ComesOfWriting refusal
-named_unwritten refusal which of = elim which [
-  | inl e ↦ subst ComesOfWriting e of
-  | inr e ↦ subst ComesOfWriting e of
+-- a refusal is one of two
+pub refused_either : (e a b : Refusal) → (e ≡ a) ⊎ (e ≡ b) → (kept.Refused e ≡ kept.Refused a) ⊎ (kept.Refused e ≡ kept.Refused b)
+refused_either e a b which = elim which [
+  | inl is ↦ inl (ap (λ (r : Refusal). kept.Refused r) is)
+  | inr is ↦ inr (ap (λ (r : Refusal). kept.Refused r) is)
 ]
 
 never_some : {X P : Type 0} (x : X) → None ≡ Some x → P
@@ -203,29 +194,11 @@ new_cells = record {
 }
 
 -- refusals that differ
-pub row_not_exhausted : BadRow ≡ Exhausted → ⊥
-row_not_exhausted is = cc
-
-pub row_not_many : BadRow ≡ TooManyFiles → ⊥
-row_not_many is = cc
-
-pub row_not_large : BadRow ≡ FileTooLarge → ⊥
-row_not_large is = cc
-
 pub row_not_device : BadRow ≡ Device → ⊥
 row_not_device is = cc
 
 pub column_not_device : BadColumn ≡ Device → ⊥
 column_not_device is = cc
-
-pub memory_not_exhausted : NoMemory ≡ Exhausted → ⊥
-memory_not_exhausted is = cc
-
-pub memory_not_many : NoMemory ≡ TooManyFiles → ⊥
-memory_not_many is = cc
-
-pub memory_not_large : NoMemory ≡ FileTooLarge → ⊥
-memory_not_large is = cc
 
 pub memory_not_device : NoMemory ≡ Device → ⊥
 memory_not_device is = cc

@@ -1,6 +1,6 @@
 -- The machine's steps where a server keeps up its tablets, and where cells are read raw.
-use Rattle.std.proofs.Common.{◌≡◌, ◌<◌, ◌≤◌, ◌+◌, ◌⊎◌, ℕ, inl, inr, List, [], ◌∷◌, length, map, Option, zero, suc, refl, sym, ap, subst, ◌∙◌, arith}
-use Rattle.std.proofs.lemmas.Bool.{cases_eq, cases_lt}
+use Rattle.std.proofs.Common.{◌≡◌, ◌<◌, ◌≤◌, ◌+◌, ◌⊎◌, ℕ, inl, inr, List, length, map, Option, refl, sym, ap, subst, ◌∙◌, arith}
+use Rattle.std.proofs.lemmas.Bool.{cases_lt}
 use Rattle.cell_key.specs.Cells.{Cells}
 use Rattle.cell_key.specs.Names.{IsRow, IsFamily}
 use Rattle.cell_key.specs.declared.keys.Qualifier.{Qualifier}
@@ -9,7 +9,7 @@ use Rattle.cell_key.specs.declared.refusals.Refusal.TheVariants.{BadRow, BadColu
 use Rattle.file_store.specs.Store.{Contents}
 use Rattle.metadata_table.specs.Places.{PlaceView}
 use Rattle.metadata_table.specs.Table.{BarsSplit, HasTablet, IsTable, most_servers}
-use Rattle.row_atomic.specs.Changes.{Holds, IsBadCount, IsCut, IsFlushed, IsMerged, IsMoved, IsMoveRefusal, IsNumberedRefusal, IsOn, IsPut, IsSplitRefusal, KeepsMap, Numbered, Remakes}
+use Rattle.row_atomic.specs.Changes.{ComesTo, Holds, IsBadCount, IsCut, IsMerged, IsMoveRefusal, IsNumberedRefusal, IsSplitRefusal, KeepsMap, Numbered, Remakes}
 use Rattle.row_atomic.specs.Clusters.{ClusterState, cells_in, spots_of}
 use Rattle.row_atomic.specs.Refusals.{IsReadRefusal}
 use Rattle.row_atomic.specs.Compactions as compaction
@@ -26,68 +26,6 @@ use Rattle.server_loop.proofs.Placing.{has_tablet_so, has_tablet_back, length_so
 use Rattle.server_loop.proofs.Refusing.{minor_unknown_first, minor_accepted, merge_unknown_first, merge_bad, merge_accepted, major_unknown_first, major_accepted, split_row_first, sweep_accepted, raw_row_first, raw_family_first, raw_accepted}
 use Rattle.server_loop.proofs.Relocating.{splits_so, split_next, split_barred, moves_step, stays_step, move_unknown, move_far, move_next}
 use Rattle.server_loop.proofs.Replacing.{placed, shows_placed}
-
--- ---- whether there is a tablet
-
-has_later : (n : ℕ) (p : PlaceView) (ps : List PlaceView) → HasTablet n ps → HasTablet n (p ∷ ps)
-has_later n p ps (q, (k, less, at), is) = (q, (suc k, omega (arith, less), at), is)
-
-has_first : (n : ℕ) (p : PlaceView) (ps : List PlaceView) → ¬ (p.tablet ≡ n) → HasTablet n (p ∷ ps) → HasTablet n ps
-has_first n p ps other (q, (zero, less, at), is) = absurd (other (ap (λ (v : PlaceView). v.tablet) at ∙ is))
-has_first n p ps other (q, (suc k, less, at), is) = (q, (k, omega (arith, less), at), is)
-
-decides : (n : ℕ) (ps : List PlaceView) → HasTablet n ps ⊎ (¬ HasTablet n ps)
-decides n [] = inr (λ h. omega (arith, h.1.1))
-decides n (p ∷ ps) = elim (cases_eq p.tablet n) [
-  | inl is ↦ inl (p, (0, omega arith, refl), is)
-  | inr other ↦ elim (decides n ps) [
-    | inl later ↦ inl (has_later n p ps later)
-    | inr none ↦ inr (λ h. none (has_first n p ps other h))
-  ]
-]
-
--- there is a tablet where there can't be none
-pub has_stable : (n : ℕ) (ps : List PlaceView) → ¬ (¬ HasTablet n ps) → HasTablet n ps
-has_stable n ps h = elim (decides n ps) [
-  | inl has ↦ has
-  | inr none ↦ absurd (h none)
-]
-
--- whether a tablet is on a server
-on_later : (n server : ℕ) (p : PlaceView) (ps : List PlaceView) → IsOn n server ps → IsOn n server (p ∷ ps)
-on_later n server p ps (q, (k, less, at), is, on) = (q, (suc k, omega (arith, less), at), is, on)
-
-on_first : (n server : ℕ) (p : PlaceView) (ps : List PlaceView) → ¬ ((p.tablet ≡ n) × (p.server ≡ server)) → IsOn n server (p ∷ ps) → IsOn n server ps
-on_first n server p ps other (q, (zero, less, at), is, on) = absurd (other (ap (λ (v : PlaceView). v.tablet) at ∙ is, ap (λ (v : PlaceView). v.server) at ∙ on))
-on_first n server p ps other (q, (suc k, less, at), is, on) = (q, (k, omega (arith, less), at), is, on)
-
-decides_on : (n server : ℕ) (ps : List PlaceView) → IsOn n server ps ⊎ (¬ IsOn n server ps)
-decides_on n server [] = inr (λ h. omega (arith, h.1.1))
-decides_on n server (p ∷ ps) =
-    let later : ¬ ((p.tablet ≡ n) × (p.server ≡ server)) → IsOn n server (p ∷ ps) ⊎ (¬ IsOn n server (p ∷ ps)) = λ other. elim (decides_on n server ps) [
-      | inl on ↦ inl (on_later n server p ps on)
-      | inr none ↦ inr (λ h. none (on_first n server p ps other h))
-    ] in
-    elim (cases_eq p.tablet n) [
-      | inl is ↦ elim (cases_eq p.server server) [
-        | inl on ↦ inl (p, (0, omega arith, refl), is, on)
-        | inr other ↦ later (λ both. other both.1)
-      ]
-      | inr other ↦ later (λ both. other both.0)
-    ]
-
--- what a move has done
-pub puts_as : {F : Type 0} (n server : ℕ) (old new : ClusterState F) → (IsOn n server old.places → new ≡ old)
-    → ((new ≡ old) × IsOn n server old.places) ⊎ IsMoved n server old.places new.places
-    → (¬ IsOn n server old.places → Remakes (IsFlushed old.next_name) n old.tablets new.tablets) → IsPut n server old new
-puts_as n server old new same moved flushed = record {
-  same = same;
-  put = λ leaves. elim moved [
-    | inl stays ↦ absurd (leaves stays.1)
-    | inr goes ↦ goes
-  ];
-  flushed = flushed;
-}
 
 -- ---- refusals, and what is done
 
@@ -170,9 +108,9 @@ pub raw_done : (st : State) (x : Cell) (q : Qualifier) (lo hi : ℕ) (found : Op
 raw_done st x q lo hi found row family = accepts (raw_accepted st x q lo hi row family) (tells finds_raw)
 
 -- a count of which a merge was made is two or more
-pub two_merged : (k n next : ℕ) (old new : List Tablet) (places : List PlaceView) → ¬ (HasTablet k places × Numbered (IsBadCount n) k old) → HasTablet k places → Remakes (IsMerged n next) k old new → 2 ≤ n
-two_merged k n next old new places good has made = elim (cases_lt n 2) [
-  | inl few ↦ absurd (good (has, record { tablet = made.was; numbered = made.was_numbered; such = λ within. omega (arith, few, within.0) }))
+pub two_merged : (k n next : ℕ) (old new : List Tablet) → ¬ Numbered (IsBadCount n) k old → Remakes (IsMerged n next) k old new → 2 ≤ n
+two_merged k n next old new good made = elim (cases_lt n 2) [
+  | inl few ↦ absurd (good (record { tablet = made.was; numbered = made.was_numbered; such = λ within. omega (arith, few, within.0) }))
   | inr two ↦ two
 ]
 
@@ -220,21 +158,20 @@ module _ {F M : Type 0} (contents : F → Option Contents) (old new : Server F M
       (placed before (machine_places new.cluster.places) (left + 1), splits_so before old.cluster.places same row left cut.place.tablet cut.names new.cluster.places is free number cut.cut, after, λ e. cc)
 
   -- a tablet is put on a server
-  pub moves_as : (n server : ℕ) → IsTable old.cluster.places → HasTablet n old.cluster.places → ¬ (most_servers ≤ server) → IsPut n server old.cluster new.cluster
+  pub moves_as : (n server : ℕ) → IsTable old.cluster.places → HasTablet n old.cluster.places → server < most_servers → ComesTo n server old.cluster new.cluster
       → StepsAs (Shows contents) old new (Move n server) MoveDone
-  moves_as n server table has near puts = λ before reached shown.
+  moves_as n server table has near comes = λ before reached shown.
       let same = sym shown.places in
-      let known : server < most_servers = omega (arith, near) in
-      elim (decides_on n server old.cluster.places) [
-        | inl on ↦ (
+      elim comes [
+        | inl stays ↦ (
           before,
-          stays_step before old.cluster.places same n server on.0 table known on.1 on.2 on.3,
-          still_shown before (ap (λ (cluster : ClusterState F). spots_of cluster) (puts.same on)) shown,
+          stays_step before old.cluster.places same n server stays.0.0 table near stays.0.1 stays.0.2 stays.0.3,
+          still_shown before (ap (λ (cluster : ClusterState F). spots_of cluster) stays.1) shown,
           λ e. cc,
         )
-        | inr leaves ↦ let goes = puts.put leaves in (
+        | inr put ↦ let goes = put.moved in (
           placed before (machine_places new.cluster.places) before.next_tablet,
-          moves_step before old.cluster.places same n server goes.names new.cluster.places table has known goes.moved,
+          moves_step before old.cluster.places same n server goes.names new.cluster.places table has near goes.moved,
           record {
             in_order = (kept shown.in_order).0;
             shows = shows_placed before (machine_places new.cluster.places) before.next_tablet _ new.clients new.oracle.last (shows_kept before shown.in_order shown.shows);
@@ -244,13 +181,6 @@ module _ {F M : Type 0} (contents : F → Option Contents) (old new : Server F M
           λ e. cc,
         )
       ]
-
--- no removal of files finds damage
-pub sweeps_whole : ¬ IsSweepRefusal Damaged
-sweeps_whole which = elim which [
-  | inl e ↦ cc
-  | inr e ↦ cc
-]
 
 -- what a name is refused for
 pub split_named : (st : State) (row : List ℕ) (e : Refusal) → (e ≡ BadRow) ⊎ (e ≡ NoMemory) → (e ≡ BadRow → ¬ IsRow row) → Refuses st (Split row) e

@@ -1,52 +1,95 @@
--- All that is said of an answer to a request.
-use Rattle.std.specs.Prelude.{◌≡◌, ◌↔◌, ℕ, Option, IfSome}
-use Rattle.cell_key.specs.declared.refusals.Refusal.TheVariants as refused
+-- All that is said of an answer to a request, in six parts.
+use Rattle.std.specs.Prelude.{◌≡◌, ℕ, Option, IfSome, ⊤}
+use Rattle.cell_key.specs.declared.refusals.Refusal.TheVariants.{Device, Exhausted, MemtableFull}
 use Rattle.file_store.specs.Store.{Contents}
-use Rattle.metadata_table.specs.Table.{HasTablet}
 use Rattle.request_codec.specs.Replies.{replied}
 use Rattle.request_codec.specs.Requests.{asked}
 use Rattle.request_codec.specs.declared.replies.Reply.{Reply}
-use Rattle.request_codec.specs.declared.replies.Reply.TheVariants.{Refused, OracleRestart}
+use Rattle.request_codec.specs.declared.replies.Reply.TheVariants as kept
 use Rattle.request_codec.specs.declared.requests.Request.{Request}
-use Rattle.row_atomic.specs.Changes.{ComesOfWriting, Holds, IsBadCount, IsUndone, KeepsMap, Numbered}
-use Rattle.si_model.specs.Machine.{IsReached, State}
-use Rattle.server_loop.specs.Refusals.{IsLackOf, IsRefusalOf, OnMerge, OnRestart, OnStep, OnUpkeep}
-use Rattle.server_loop.specs.Runs.{HasShortValue, IfRefused, StampsGoOn, StepsAs}
-use Rattle.server_loop.specs.Sessions.{ChangesCells, IsExact, LeavesRoom, LeavesSessions, OverfillsCluster, TellsCrowd}
-use Rattle.server_loop.specs.Server.{IsFaultSeen, KeepsSessions, SeesNoFault, Shows, cluster_of, last_of, marks_of}
-use Rattle.server_loop.specs.Upkeep.{FitsInFiles, IsBarred, IsDone, LacksName, Maintains, MeetsFull, MeetsTooLarge, UsesFiles}
-use Rattle.server_loop.specs.declared.server.Server.{Server}
+use Rattle.request_codec.specs.declared.requests.Request.TheVariants.{Begin, Step}
+use Rattle.row_atomic.specs.Commands.{OverfillsCluster}
 use Rattle.row_atomic.specs.Room.{HasNoRoom}
+use Rattle.si_model.specs.Machine.{IsReached, State}
+use Rattle.server_loop.specs.Commands.{HasOutcome, command_of}
+use Rattle.server_loop.specs.Refusals.{IsRefusalOf}
+use Rattle.server_loop.specs.Runs.{HasShortValue, IfRefused, StampsGoOn, StepsAs}
+use Rattle.server_loop.specs.Sessions.{ChangesCells, IsAlwaysTold, KeepsOracle, KeepsSessions, LeavesRoom}
+use Rattle.server_loop.specs.Server.{IsFaultSeen, SeesNoFault, Shows, cluster_of, last_of, marks_of}
+use Rattle.server_loop.specs.declared.server.Server.{Server}
 use Rattle.txn_client.specs.Room.{ChangesNext}
 use Rattle.txn_client.specs.Shows.{IsAboutToDraw}
 
--- What the clauses of `answer` say, in one: over the files' bytes, the counts of faults and the mark, as far as they are told.
-pub record IsAnswer {F M : Type 0} (contents : F → Option Contents) (file_faults : F → ℕ) (mark : M → Option ℕ) (mark_faults : M → ℕ)
-    (old : Server F M) (request : Request) (reply : Reply) (new : Server F M) : Type 0 where
+-- ---- the machine
+
+-- The answer is a step of the machine. It is refused what such a request may be, and a value in it is short.
+pub record IsMachineStep {F M : Type 0} (contents : F → Option Contents) (request : Request) (reply : Reply) (old new : Server F M) : Type 0 where
   pub step : StepsAs (Shows contents) old new (asked request) (replied reply)
   pub refusal : IfRefused (IsRefusalOf request) (replied reply)
-  pub exhausted : reply ≡ Refused refused.Exhausted → IsLackOf request (LacksName request (cluster_of old)) (last_of old ≡ 9_223_372_036_854_775_807)
-  pub draw_only : OnStep request (λ start. reply ≡ Refused refused.Exhausted → (st : State) → Shows contents old st → IsAboutToDraw st start)
-  pub full : OnStep request (λ start. reply ≡ Refused refused.MemtableFull
-      → (st : State) → IsReached st → Shows contents old st → HasNoRoom OverfillsCluster (cluster_of old) (ChangesNext st start))
-  pub restarted : OnRestart request (reply ≡ OracleRestart → IfSome (mark (marks_of old)) (λ n. last_of new ≡ n))
+  pub short : HasShortValue reply
+
+-- ---- stamps
+
+-- the oracle that was restarted goes on from its mark, where that is told
+abbrev pub FollowsMark : {F M : Type 0} → (M → Option ℕ) → Reply → Server F M → Server F M → Type 0
+FollowsMark mark kept.OracleRestart old new = IfSome (mark (marks_of old)) (λ n. last_of new ≡ n)
+FollowsMark mark reply old new = ⊤
+
+-- What Exhausted means: no stamp is left, for a Begin and for a Step that comes to draw one. Of a command its outcome says what.
+abbrev pub LacksStamp : {F M : Type 0} → (F → Option Contents) → Request → Server F M → Type 0
+LacksStamp contents Begin old = last_of old ≡ 9_223_372_036_854_775_807
+LacksStamp contents (Step start) old = (last_of old ≡ 9_223_372_036_854_775_807) × ((st : State) → Shows contents old st → IsAboutToDraw st start)
+LacksStamp contents request old = ⊤
+
+-- A stamp that is answered is the oracle's next one, and nothing else but a restart moves the last one.
+pub record DrawsStamps {F M : Type 0} (contents : F → Option Contents) (mark : M → Option ℕ) (request : Request) (reply : Reply) (old new : Server F M) : Type 0 where
   pub last : StampsGoOn (replied reply) (last_of old) (last_of new)
+  pub restarted : FollowsMark mark reply old new
+  pub exhausted : reply ≡ kept.Refused Exhausted → LacksStamp contents request old
+
+-- ---- cells and room
+
+-- A step makes its session's next edits and takes their room in memory. Nothing else changes a cell, and what room a command takes
+-- its outcome says.
+pub record MakesEdits {F M : Type 0} (contents : F → Option Contents) (request : Request) (reply : Reply) (old new : Server F M) : Type 0 where
   pub changes : ChangesCells contents request reply old new
   pub room : LeavesRoom contents request reply old new
-  pub crowd : TellsCrowd contents old request reply
-  pub exact : IsExact contents old request reply
-  pub leaves : LeavesSessions request reply old new
-  pub kept : OnUpkeep request (KeepsMap contents (cluster_of old) (cluster_of new))
-  pub upkeep : Maintains contents request reply (cluster_of old) (cluster_of new)
-  pub files : UsesFiles contents request (cluster_of old) (cluster_of new)
-  pub barred : IsBarred request reply → cluster_of new ≡ cluster_of old
-  pub beside : OnUpkeep request (KeepsSessions old new)
-  pub count : OnMerge request (λ tablet count. reply ≡ Refused refused.BadCount ↔ (HasTablet tablet (cluster_of old).places × Numbered (IsBadCount count) tablet (cluster_of old).tablets))
-  pub many : reply ≡ Refused refused.TooManyFiles → MeetsFull request (cluster_of old)
-  pub unfilled : IfRefused (λ refusal. ComesOfWriting refusal → ¬ MeetsFull request (cluster_of old)) (replied reply)
-  pub undone : reply ≡ Refused refused.TooManyFiles → IsUndone contents (cluster_of old) (cluster_of new)
-  pub large : Holds contents (cluster_of old) → reply ≡ Refused refused.FileTooLarge → MeetsTooLarge contents request (cluster_of old)
-  pub within : IsDone reply → FitsInFiles contents request (cluster_of old)
-  pub short : HasShortValue reply
-  pub device : reply ≡ Refused refused.Device → IsFaultSeen file_faults mark_faults old new
-  pub told : ¬ (reply ≡ Refused refused.Device) → SeesNoFault file_faults mark_faults old new
+
+-- ---- sessions
+
+-- What is always told where a state is shown, and what a request leaves of the sessions and of the oracle.
+pub record ServesSessions {F M : Type 0} (contents : F → Option Contents) (request : Request) (reply : Reply) (old new : Server F M) : Type 0 where
+  pub told : (st : State) → Shows contents old st → IsAlwaysTold request reply st
+  pub sessions : KeepsSessions request reply old.clients new.clients
+  pub oracle : KeepsOracle contents request old new
+
+-- ---- tablets and files
+
+-- What a request did to tablets and files.
+abbrev pub TendsTablets : {F M : Type 0} → (F → Option Contents) → (F → ℕ) → Request → Reply → Server F M → Server F M → Type 0
+TendsTablets contents faults request reply old new = HasOutcome contents faults (command_of request) request reply (cluster_of old) (cluster_of new)
+
+-- ---- faults and causes
+
+-- a step comes to make edits for which the memtable of their row's tablet has no room
+abbrev pub LacksRoom : {F M : Type 0} → (F → Option Contents) → Request → Server F M → Type 0
+LacksRoom contents (Step start) old = (st : State) → IsReached st → Shows contents old st → HasNoRoom OverfillsCluster (cluster_of old) (ChangesNext st start)
+LacksRoom contents request old = ⊤
+
+-- A device's fault is told where a count of them rose, and nowhere else. Of a command the outcome says why it is refused.
+pub record TellsCauses {F M : Type 0} (contents : F → Option Contents) (file_faults : F → ℕ) (mark_faults : M → ℕ) (request : Request) (reply : Reply) (old new : Server F M) : Type 0 where
+  pub device : reply ≡ kept.Refused Device → IsFaultSeen file_faults mark_faults old new
+  pub told : ¬ (reply ≡ kept.Refused Device) → SeesNoFault file_faults mark_faults old new
+  pub full : reply ≡ kept.Refused MemtableFull → LacksRoom contents request old
+
+-- ---- all of them
+
+-- What is said of an answer: over the files' bytes, the counts of faults and the mark, as far as they are told.
+pub record IsAnswer {F M : Type 0} (contents : F → Option Contents) (file_faults : F → ℕ) (mark : M → Option ℕ) (mark_faults : M → ℕ)
+    (old : Server F M) (request : Request) (reply : Reply) (new : Server F M) : Type 0 where
+  pub step : IsMachineStep contents request reply old new
+  pub stamps : DrawsStamps contents mark request reply old new
+  pub edits : MakesEdits contents request reply old new
+  pub sessions : ServesSessions contents request reply old new
+  pub tablets : TendsTablets contents file_faults request reply old new
+  pub causes : TellsCauses contents file_faults mark_faults request reply old new

@@ -3,7 +3,7 @@ pub mod Refusals
 pub mod Runs
 pub mod Serve
 pub mod Server
-pub mod Upkeep
+pub mod Commands
 pub mod Sessions
 pub mod Answer
 pub mod Filling

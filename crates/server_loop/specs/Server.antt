@@ -49,8 +49,3 @@ pub record SeesNoFault {F M : Type 0} (file_faults : F → ℕ) (mark_faults : M
 -- all cells
 abbrev pub cells_of : {F M : Type 0} → (F → Option Contents) → Server F M → Cells
 cells_of contents server = cells_in (contents server.cluster.files) server.cluster.tablets
-
--- its sessions and its oracle are as before
-pub record KeepsSessions {F M : Type 0} (old new : Server F M) : Type 0 where
-  pub clients : new.clients ≡ old.clients
-  pub oracle : new.oracle ≡ old.oracle

@@ -1,23 +1,21 @@
--- What a request does to the cells and to the room in memory, and when a session is told that it isn't there or has nothing to commit.
-use Rattle.std.specs.Prelude.{◌≡◌, ℕ, List, Option, ⊤}
-use Rattle.cell_key.specs.declared.edits.Edit.{Edit}
+-- What a request does to the cells, to the room in memory, to the sessions and to the oracle, and what it is always told.
+use Rattle.std.specs.Prelude.{◌≡◌, Option, ⊤}
 use Rattle.cell_key.specs.declared.refusals.Refusal.TheVariants.{UnknownSession, EmptyCommit, TooManySessions}
 use Rattle.file_store.specs.Store.{Contents}
 use Rattle.row_atomic.specs.Changes.{Holds}
-use Rattle.row_atomic.specs.Clusters.{ClusterState, Overfills}
+use Rattle.row_atomic.specs.Commands.{IsNoFuller, OverfillsCluster}
 use Rattle.si_model.specs.Machine.{IsReached, State}
 use Rattle.oracle.specs.Ranges.{IsDrawRefusal}
 use Rattle.request_codec.specs.Replies.{replied}
 use Rattle.request_codec.specs.declared.replies.Reply.{Reply}
 use Rattle.request_codec.specs.declared.replies.Reply.TheVariants as kept
 use Rattle.request_codec.specs.declared.requests.Request.{Request}
-use Rattle.request_codec.specs.declared.requests.Request.TheVariants.{Begin, Get, Set, Step, Stop, OracleRestart, Raw}
-use Rattle.server_loop.specs.Refusals.{OnStep}
+use Rattle.request_codec.specs.declared.requests.Request.TheVariants.{Begin, Get, Set, Step, Stop, OracleRestart}
 use Rattle.server_loop.specs.Runs.{IfRefused}
 use Rattle.server_loop.specs.Server.{Shows, cells_of, cluster_of}
 use Rattle.server_loop.specs.declared.server.Server.{Server}
-use Rattle.row_atomic.specs.Room.{TakesNoRoom}
 use Rattle.txn_client.specs.Room.{ChangesNext, Makes, TakesRoom}
+use Rattle.txn_client.specs.declared.clients.Clients.{Clients}
 use Rattle.txn_client.specs.Shows.{IsAboutToDraw, IsCrowded, IsInactive, IsUnwritten, SameSessions, TouchesFor}
 
 -- A step that is done makes the edits of its session's next step, or none where it makes none: cells of one row at most, at the
@@ -28,15 +26,7 @@ ChangesCells contents (Step start) (kept.Step progress) old new =
     × (IsReached st → Makes (ChangesNext st start) progress (cells_of contents old) (cells_of contents new))
 ChangesCells contents request reply old new = Holds contents (cluster_of old) → cells_of contents new ≡ cells_of contents old
 
--- edits of a row would pass a limit of what a cluster keeps in memory
-abbrev pub OverfillsCluster : {F : Type 0} → ClusterState F → List ℕ → List Edit → Type 0
-OverfillsCluster cluster row edits = Overfills cluster.places cluster.tablets row edits
-
--- the memtables have as much room as they had
-abbrev pub IsNoFuller : {F : Type 0} → ClusterState F → ClusterState F → Type 0
-IsNoFuller old new = TakesNoRoom OverfillsCluster old new
-
--- Reads, and what is for sessions and the oracle alone, take no room in memory, and a step takes that of its edits.
+-- What is for sessions and the oracle takes no room in memory, but a step that of its edits. What a command takes its outcome says.
 abbrev pub LeavesRoom : {F M : Type 0} → (F → Option Contents) → Request → Reply → Server F M → Server F M → Type 0
 LeavesRoom contents Begin reply old new = IsNoFuller (cluster_of old) (cluster_of new)
 LeavesRoom contents (Get start row family) reply old new = IsNoFuller (cluster_of old) (cluster_of new)
@@ -46,34 +36,32 @@ LeavesRoom contents (Step start) (kept.Step progress) old new =
 LeavesRoom contents (Step start) (kept.Refused refusal) old new = IsNoFuller (cluster_of old) (cluster_of new)
 LeavesRoom contents (Stop start) reply old new = IsNoFuller (cluster_of old) (cluster_of new)
 LeavesRoom contents OracleRestart reply old new = IsNoFuller (cluster_of old) (cluster_of new)
-LeavesRoom contents (Raw row family qualifier lo hi) reply old new = IsNoFuller (cluster_of old) (cluster_of new)
 LeavesRoom contents request reply old new = ⊤
 
--- A read, a restart of the oracle, and a write, a step or an end that is refused leave the sessions as they are.
-abbrev pub LeavesSessions : {F M : Type 0} → Request → Reply → Server F M → Server F M → Type 0
-LeavesSessions (Get start row family) reply old new = SameSessions old.clients new.clients
-LeavesSessions OracleRestart reply old new = SameSessions old.clients new.clients
-LeavesSessions (Set start row family value) (kept.Refused refusal) old new = SameSessions old.clients new.clients
-LeavesSessions (Step start) (kept.Refused refusal) old new = SameSessions old.clients new.clients
-LeavesSessions (Stop start) (kept.Refused refusal) old new = SameSessions old.clients new.clients
-LeavesSessions request reply old new = ⊤
+-- What takes no memory is told exactly: that as many sessions are active as there may be, that one isn't active, that a commit has
+-- no writes, and why a step that draws is refused.
+abbrev pub IsAlwaysTold : Request → Reply → State → Type 0
+IsAlwaysTold Begin reply st = IsCrowded st → reply ≡ kept.Refused TooManySessions
+IsAlwaysTold (Get start row family) reply st = IsInactive st start → reply ≡ kept.Refused UnknownSession
+IsAlwaysTold (Set start row family value) reply st = IsInactive st start → reply ≡ kept.Refused UnknownSession
+IsAlwaysTold (Step start) reply st =
+    (IsInactive st start → reply ≡ kept.Refused UnknownSession)
+    × (IsUnwritten st start → reply ≡ kept.Refused EmptyCommit)
+    × (IsAboutToDraw st start → IfRefused IsDrawRefusal (replied reply))
+IsAlwaysTold (Stop start) reply st = IsInactive st start → reply ≡ kept.Refused UnknownSession
+IsAlwaysTold request reply st = ⊤
 
--- said of a request of a session alone, by its start
-abbrev pub OnSession : Request → (ℕ → Type 0) → Type 0
-OnSession (Get start row family) P = P start
-OnSession (Set start row family value) P = P start
-OnSession (Step start) P = P start
-OnSession (Stop start) P = P start
-OnSession request P = ⊤
+-- A begin, and a write, a step or an end that is done, change the sessions as the machine's step says. All else leaves them.
+abbrev pub KeepsSessions : Request → Reply → Clients → Clients → Type 0
+KeepsSessions Begin reply old new = ⊤
+KeepsSessions (Set start row family value) kept.Set old new = ⊤
+KeepsSessions (Step start) (kept.Step progress) old new = ⊤
+KeepsSessions (Stop start) kept.Stop old new = ⊤
+KeepsSessions request reply old new = SameSessions old new
 
--- A Begin is always told that as many sessions are active as there may be.
-abbrev pub TellsCrowd : {F M : Type 0} → (F → Option Contents) → Server F M → Request → Reply → Type 0
-TellsCrowd contents old Begin reply = (st : State) → Shows contents old st → IsCrowded st → reply ≡ kept.Refused TooManySessions
-TellsCrowd contents old request reply = ⊤
-
--- What takes no memory is told exactly: where a session isn't active, where a commit has no writes, and why a step that draws
--- is refused.
-pub record IsExact {F M : Type 0} (contents : F → Option Contents) (old : Server F M) (request : Request) (reply : Reply) : Type 0 where
-  pub unknown : OnSession request (λ start. (st : State) → Shows contents old st → IsInactive st start → reply ≡ kept.Refused UnknownSession)
-  pub empty : OnStep request (λ start. (st : State) → Shows contents old st → IsUnwritten st start → reply ≡ kept.Refused EmptyCommit)
-  pub drawing : OnStep request (λ start. (st : State) → Shows contents old st → IsAboutToDraw st start → IfRefused IsDrawRefusal (replied reply))
+-- Only a begin, a step that comes to draw a stamp, and a restart use the oracle.
+abbrev pub KeepsOracle : {F M : Type 0} → (F → Option Contents) → Request → Server F M → Server F M → Type 0
+KeepsOracle contents Begin old new = ⊤
+KeepsOracle contents (Step start) old new = (st : State) → Shows contents old st → ¬ IsAboutToDraw st start → new.oracle ≡ old.oracle
+KeepsOracle contents OracleRestart old new = ⊤
+KeepsOracle contents request old new = new.oracle ≡ old.oracle

@@ -1,20 +1,9 @@
 //! The server.
 
-ghost use Rattle.std.specs.Prelude.{◌≡◌, ◌≢◌, ◌≤◌, ◌^◌, ◌↔◌, ◌⊎◌, IfErr, IfOk, IfSome, IsSome};
+ghost use Rattle.std.specs.Prelude.{◌≡◌, ◌≢◌, ◌≤◌, ◌⊎◌, IfErr, IfOk, IfSome, IsSome};
 ghost use Rattle.cell_key.specs.Faults.{HasRisen};
-ghost use Rattle.metadata_table.specs.Table.{HasTablet};
-ghost use Rattle.request_codec.specs.Replies.{replied};
-ghost use Rattle.request_codec.specs.Requests.{asked};
-ghost use Rattle.row_atomic.specs.Changes.{ComesOfWriting, Holds, IsBadCount, IsUndone, KeepsMap, Numbered};
-ghost use Rattle.server_loop.specs.Refusals.{IsLackOf, IsRefusalOf, OnMerge, OnRestart, OnStep, OnUpkeep};
-ghost use Rattle.server_loop.specs.Runs.{HasShortValue, IfRefused, StampsGoOn, StepsAs};
 ghost use Rattle.server_loop.specs.Serve.{Serves, ServesStream};
-ghost use Rattle.server_loop.specs.Sessions.{ChangesCells, IsExact, LeavesRoom, LeavesSessions, OverfillsCluster, TellsCrowd};
-ghost use Rattle.server_loop.specs.Upkeep.{FitsInFiles, IsBarred, IsDone, LacksName, Maintains, MeetsFull, MeetsTooLarge, UsesFiles};
-ghost use Rattle.si_model.specs.Machine.{IsReached, State, new_machine};
-ghost use Rattle.row_atomic.specs.Room.{HasNoRoom};
-ghost use Rattle.txn_client.specs.Room.{ChangesNext};
-ghost use Rattle.txn_client.specs.Shows.{IsAboutToDraw};
+ghost use Rattle.si_model.specs.Machine.{new_machine};
 
 use crate::ends::{End, ServeFault};
 use crate::serving::{Answering, serve_all};
@@ -49,8 +38,8 @@ pub struct Server<F, M: MarkStore> {
 }
 
 impl<F: Files + Drop, M: MarkStore + Drop> Server<F, M> {
-    ghost use Rattle.server_loop.specs.Answer.{IsAnswer};
-    ghost use Rattle.server_loop.specs.Server.{IsFaultSeen, KeepsSessions, SeesNoFault, Shows, cluster_of, last_of, marks_of};
+    ghost use Rattle.server_loop.specs.Answer.{DrawsStamps, IsAnswer, IsMachineStep, MakesEdits, ServesSessions, TellsCauses, TendsTablets};
+    ghost use Rattle.server_loop.specs.Server.{Shows, cluster_of, last_of, marks_of};
 
     /// A server over these files and this mark store, with one tablet of no cells. It shows the new machine.
     ///
@@ -99,47 +88,12 @@ impl<F: Files + Drop, M: MarkStore + Drop> Server<F, M> {
 
     /// Answers a request: one step of the snapshot machine, from each reached state that is shown.
     pub fn answer(&mut self, request: Request<'_>) -> Reply
-        ensures step { StepsAs (Shows F.contents) self.old self.new (asked request.entry) (replied result) }
-        ensures refusal { IfRefused (IsRefusalOf request.entry) (replied result) }
-        // No stamp is left: a begin is refused, and a step that draws. Or no name is left for the file that is to be written.
-        ensures exhausted { result ≡ Reply.Refused Refusal.Exhausted
-            → IsLackOf request.entry (LacksName request.entry (cluster_of self.old)) (last_of self.old ≡ MOST_STAMP) }
-        ensures draw_only { OnStep request.entry (λ start. result ≡ Reply.Refused Refusal.Exhausted
-            → (st : State) → Shows F.contents self.old st → IsAboutToDraw st start) }
-        // The step makes edits, and the memtable of the row's tablet has no room for them.
-        ensures full { OnStep request.entry (λ start. result ≡ Reply.Refused Refusal.MemtableFull
-            → (st : State) → IsReached st → Shows F.contents self.old st → HasNoRoom OverfillsCluster (cluster_of self.old) (ChangesNext st start)) }
-        // Where the mark is told, a restarted oracle goes on from it.
-        ensures restarted { OnRestart request.entry (result ≡ Reply.OracleRestart → IfSome (M.mark (marks_of self.old)) (λ mark. last_of self.new ≡ mark)) }
-        // A stamp that is answered is the oracle's next one.
-        ensures last { StampsGoOn (replied result) (last_of self.old) (last_of self.new) }
-        // A step changes cells of one row at most, and all else none.
-        ensures changes { ChangesCells F.contents request.entry result self.old self.new }
-        // Nothing but upkeep takes room in memory, and a step what its edits take.
-        ensures room { LeavesRoom F.contents request.entry result self.old self.new }
-        // Too many sessions, an unknown session and a commit without writes are always told so.
-        ensures crowd { TellsCrowd F.contents self.old request.entry result }
-        ensures exact { IsExact F.contents self.old request.entry result }
-        ensures leaves { LeavesSessions request.entry result self.old self.new }
-        // Upkeep and raw reads keep the tablets in order, also where they are refused. All else changes no file, name or place.
-        ensures kept { OnUpkeep request.entry (KeepsMap F.contents (cluster_of self.old) (cluster_of self.new)) }
-        ensures upkeep { Maintains F.contents request.entry result (cluster_of self.old) (cluster_of self.new) }
-        ensures files { UsesFiles F.contents request.entry (cluster_of self.old) (cluster_of self.new) }
-        ensures barred { IsBarred request.entry result → cluster_of self.new ≡ cluster_of self.old }
-        // Sessions and oracle stay as they are.
-        ensures beside { OnUpkeep request.entry (KeepsSessions self.old self.new) }
-        ensures count { OnMerge request.entry (λ tablet count. result ≡ Reply.Refused Refusal.BadCount
-            ↔ (HasTablet tablet (cluster_of self.old).places × Numbered (IsBadCount count) tablet (cluster_of self.old).tablets)) }
-        ensures many { result ≡ Reply.Refused Refusal.TooManyFiles → MeetsFull request.entry (cluster_of self.old) }
-        // A full tablet is told so before anything is written.
-        ensures unfilled { IfRefused (λ refusal. ComesOfWriting refusal → ¬ MeetsFull request.entry (cluster_of self.old)) (replied result) }
-        // Nothing was done then.
-        ensures undone { result ≡ Reply.Refused Refusal.TooManyFiles → IsUndone F.contents (cluster_of self.old) (cluster_of self.new) }
-        ensures large { Holds F.contents (cluster_of self.old) → result ≡ Reply.Refused Refusal.FileTooLarge → MeetsTooLarge F.contents request.entry (cluster_of self.old) }
-        ensures within { IsDone result → FitsInFiles F.contents request.entry (cluster_of self.old) }
-        ensures short { HasShortValue result }
-        ensures device { result ≡ Reply.Refused Refusal.Device → IsFaultSeen F.faults M.faults self.old self.new }
-        ensures told { ¬ (result ≡ Reply.Refused Refusal.Device) → SeesNoFault F.faults M.faults self.old self.new }
+        ensures step { IsMachineStep F.contents request.entry result self.old self.new }
+        ensures stamps { DrawsStamps F.contents M.mark request.entry result self.old self.new }
+        ensures edits { MakesEdits F.contents request.entry result self.old self.new }
+        ensures sessions { ServesSessions F.contents request.entry result self.old self.new }
+        ensures tablets { TendsTablets F.contents F.faults request.entry result self.old self.new }
+        ensures causes { TellsCauses F.contents F.faults M.faults request.entry result self.old self.new }
     {
         self.reply_to(request)
     }

@@ -1,6 +1,6 @@
 //! The loop of a server, over whatever answers as the snapshot machine does.
 
-ghost use Rattle.std.specs.Prelude.{◌≡◌, ℕ, ◌≤◌, ◌<◌, ◌∷◌, [], ◌+◌, length, Ok, Err, None, IfOk, MatchResult, MatchOption, vec_capacity};
+ghost use Rattle.std.specs.Prelude.{◌≡◌, ◌≤◌, ◌<◌, ◌∷◌, [], length, Ok, Err, None, IfOk, MatchResult, MatchOption, vec_capacity};
 ghost use Rattle.si_model.specs.Machine.{State};
 ghost use Rattle.request_codec.specs.Replies.{replied};
 ghost use Rattle.request_codec.specs.declared.replies.Reply.{Reply as Kept};

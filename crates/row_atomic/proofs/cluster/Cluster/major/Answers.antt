@@ -1,8 +1,16 @@
--- Where a file was written a name was left.
-use Rattle.std.proofs.Common.{◌^◌}
-use Rattle.row_atomic.proofs.Changing.{on_ok}
-use Rattle.row_atomic.proofs.Roomy.{is_less}
+-- The tablet of a number is looked for first.
+use Rattle.cell_key.specs.declared.refusals.Refusal.TheVariants.{UnknownTablet}
+use Rattle.row_atomic.specs.declared.cluster_compactions.Compaction.TheVariants.{Major}
+use Rattle.row_atomic.proofs.Outcomes.{refused_done, unknown}
 use Rattle.row_atomic.proofs.cluster.Cluster.major.Goals as goal
 
-pub returns-clause-left : goal.returns-clause-left
-returns-clause-left g c = on_ok _ _ c.compact_tablet.result (λ left. is_less (2 ^ 63) c.args.self.now.next_name (λ most. (left most).such)) c.compact_tablet.ensures.left
+pub compact_tablet-requires-clause-counted : goal.compact_tablet-requires-clause-counted
+compact_tablet-requires-clause-counted g c = λ bad. absurd bad.such
+
+pub returns-in_err-check_tablet : goal.returns-in_err-check_tablet
+returns-in_err-check_tablet g c =
+    refused_done g.F.Files.contents g.F.Files.faults _ c.from_residual.result c.in_err-check_tablet.field-0.0 UnknownTablet _ _ c.from_residual.ensures.1 c.in_err-check_tablet.ensures.refusal
+    (unknown g.F.Files.contents g.F.Files.faults c.args.tablet c.args.self.now Major c.in_err-check_tablet.ensures.unknown)
+
+pub returns : goal.returns
+returns g c = c.compact_tablet.ensures.outcome

@@ -19,14 +19,14 @@ loop-command-preserved g c =
       room = omega (arith, c.loop-command.invariant.room, shorter, c.push_outcome.ensures.len, c.push_outcome.ensures.room);
       under = (subst (λ (cs : List Command). AllByRecursion IsUnderRow cs) first c.loop-command.invariant.under).1;
       still = λ holds. c.answer-outcome.ensures.still (c.loop-command.invariant.still holds);
-      answers = λ holds.
+      answers =
           answered g.F.Files.contents g.F.Files.faults c.args.self.now c.loop-command.self c.answer-outcome.new.self
           c.args.commands.items (into_iter_items c.loop-command.command-iterator) rest c.in-Some.command c.loop-command.outcomes.items c.push_outcome.new.outcomes.items c.answer-outcome.result
-          first c.push_outcome.ensures.items (c.answer-outcome.ensures.answers (c.loop-command.invariant.still holds)) (c.answer-outcome.ensures.upholds (c.loop-command.invariant.still holds)) c.answer-outcome.ensures.uses (c.answer-outcome.ensures.cause (c.loop-command.invariant.still holds)) c.answer-outcome.ensures.faults (c.loop-command.invariant.answers holds);
+          first c.push_outcome.ensures.items c.answer-outcome.ensures c.loop-command.invariant.answers;
     }
 
 pub returns-clause-answers : goal.returns-clause-answers
-returns-clause-answers g c = λ holds.
+returns-clause-answers g c =
     all_answered g.F.Files.contents g.F.Files.faults c.args.self.now c.loop-command.self
     c.args.commands.items (into_iter_items c.loop-command.command-iterator) c.loop-command.outcomes.items
-    (none_left (into_iter_items c.loop-command.command-iterator) (sym c.loop-command.command-iterator.rest.ok.0 ∙ c.in-None.ensures.steps.0)) (c.loop-command.invariant.answers holds)
+    (none_left (into_iter_items c.loop-command.command-iterator) (sym c.loop-command.command-iterator.rest.ok.0 ∙ c.in-None.ensures.steps.0)) c.loop-command.invariant.answers

@@ -13,6 +13,5 @@ invariant-loop-command g l = record {
   room : vec_len l.outcomes + length (into_iter_items l.command-iterator) ≤ vec_capacity l.outcomes;
   under : AllByRecursion IsUnderRow (into_iter_items l.command-iterator);
   still : Holds g.F.Files.contents l.initial.self → Holds g.F.Files.contents l.self;
-  answers : Holds g.F.Files.contents l.initial.self
-      → Completes g.F.Files.contents g.F.Files.faults l.initial.self l.fn.commands.items l.outcomes.items l.self (into_iter_items l.command-iterator);
+  answers : Completes g.F.Files.contents g.F.Files.faults l.initial.self l.fn.commands.items l.outcomes.items l.self (into_iter_items l.command-iterator);
 }

@@ -1,130 +1,26 @@
-use Rattle.std.proofs.Common.{refl, ap, sym, inl, inr}
-use Rattle.std.proofs.lemmas.Bool.{false≢true}
-use Rattle.std.specs.declared.result.Result.TheVariants.{Err}
-use Rattle.cell_key.specs.declared.refusals.Refusal.{Refusal}
+use Rattle.std.proofs.Common.{refl, sym, inl}
 use Rattle.si_model.specs.Machine.{refuses}
-use Rattle.server_loop.proofs.Stepping.{as_err, err_undamaged, as_refused, not_done, ok_not}
-use Rattle.server_loop.proofs.Upkeeping.{has_stable, move_refuses, moves_as, puts_as, tells_as}
+use Rattle.server_loop.proofs.Causes.{done_causes, refused_causes}
+use Rattle.server_loop.proofs.Stepping.{name_undamaged, not_done}
+use Rattle.server_loop.proofs.Upkeeping.{move_refuses, moves_as, tells_as}
 use Rattle.server_loop.proofs.server.Server.move_to.Goals as goal
 
-pub returns-in-Ok-clause-step : goal.returns-in-Ok-clause-step
-returns-in-Ok-clause-step g c =
-    let has = has_stable _ _ (λ none. ok_not _ _ (c.in-Ok.ensures.unknown.1 none)) in
-    moves_as _ _ _ c.in-Ok.ensures.kept refl refl _ _ c.in-Ok.ensures.table has (λ far. ok_not _ _ (c.in-Ok.ensures.server.1 (has, far)))
-    (puts_as _ _ _ _ (λ on. (c.in-Ok.ensures.same on).1) c.in-Ok.ensures.moved c.in-Ok.ensures.flushed)
-
-pub returns-in-Err-clause-step : goal.returns-in-Err-clause-step
-returns-in-Err-clause-step g c = tells_as _ _ _ c.in-Err.ensures.kept refl refl _ _ c.in-Err.ensures.err
-    (λ st shown. refuses (move_refuses st _ (sym shown.places) _ _ _ c.in-Err.ensures.refusal (λ is. c.in-Err.ensures.unknown.0 (ap (λ (r : Refusal). Err r) is)) (λ is. c.in-Err.ensures.server.0 (ap (λ (r : Refusal). Err r) is)))) (λ held. err_undamaged _ _ refl (c.in-Err.ensures.undamaged held))
-
-pub returns-in-Err-clause-many : goal.returns-in-Err-clause-many
-returns-in-Err-clause-many g c = λ same. (λ on. false≢true (c.in-Err.ensures.same on).0, c.in-Err.ensures.full (as_err _ _ _ refl same))
-
-pub returns-in-Err-clause-large : goal.returns-in-Err-clause-large
-returns-in-Err-clause-large g c = λ held same. (λ on. false≢true (c.in-Err.ensures.same on).0, c.in-Err.ensures.large held (as_err _ _ _ refl same))
-
-pub returns-in-Err-clause-exhausted : goal.returns-in-Err-clause-exhausted
-returns-in-Err-clause-exhausted g c = λ same.
-    let is = as_err _ _ _ refl same in
-    (c.in-Err.ensures.exhausted is, (λ on. false≢true (c.in-Err.ensures.same on).0, c.in-Err.ensures.needed is))
-
-pub returns-in-Err-clause-upkeep : goal.returns-in-Err-clause-upkeep
-returns-in-Err-clause-upkeep g c = record {
-  leaves = λ on. false≢true (c.in-Err.ensures.same on).0;
-  spots = c.in-Err.ensures.err;
-  may = c.in-Err.ensures.may;
+pub returns-in-Ok : goal.returns-in-Ok
+returns-in-Ok g c = let o = c.in-Ok.ensures.outcome in record {
+  step = record { step = moves_as _ _ _ (λ held. (o.still held, o.answers held)) refl refl _ _ c.in-Ok.ensures.table o.cause.known o.cause.near o.upholds; refusal = tt; short = tt };
+  stamps = record { last = refl; restarted = tt; exhausted = λ _. tt };
+  edits = record { changes = o.answers; room = tt };
+  sessions = record { told = λ st shown. tt; sessions = record { top = refl; each = λ t. refl }; oracle = refl };
+  tablets = inl o;
+  causes = (done_causes g.F.Files.contents g.F.Files.faults g.M.MarkStore.faults _ _ _ _ _ refl (λ is. absurd (not_done _ _ tt is)) (λ is. cc) o.faults (λ _. tt));
 }
 
-pub returns-in-Ok-clause-upkeep : goal.returns-in-Ok-clause-upkeep
-returns-in-Ok-clause-upkeep g c = puts_as _ _ _ _ (λ on. (c.in-Ok.ensures.same on).1) c.in-Ok.ensures.moved c.in-Ok.ensures.flushed
-
-pub returns-in-Ok-clause-within : goal.returns-in-Ok-clause-within
-returns-in-Ok-clause-within g c = λ _. record {
-  room = λ meets. c.in-Ok.ensures.room meets.0 meets.1;
-  named = λ lacks. lacks.1.1 (c.in-Ok.ensures.left lacks.1.0 lacks.0);
-  fits = λ held meets. c.in-Ok.ensures.fits held meets.0 meets.1;
+pub returns-in-Err : goal.returns-in-Err
+returns-in-Err g c = let o = c.in-Err.ensures.outcome in record {
+  step = record { step = tells_as _ _ _ (λ held. (o.still held, (o.answers held).1)) refl refl _ _ o.upholds.1.1 (λ st shown. refuses (move_refuses st _ (sym shown.places) _ _ _ o.upholds.0 o.cause.due.1.unknown.0 o.cause.due.0.0)) (λ held. name_undamaged _ (o.answers held).0); refusal = o.upholds.0; short = tt };
+  stamps = record { last = refl; restarted = tt; exhausted = λ _. tt };
+  edits = record { changes = λ held. (o.answers held).1; room = tt };
+  sessions = record { told = λ st shown. tt; sessions = record { top = refl; each = λ t. refl }; oracle = refl };
+  tablets = inl o;
+  causes = (refused_causes g.F.Files.contents g.F.Files.faults g.M.MarkStore.faults _ _ _ _ refl o.faults (λ _. tt));
 }
-
-pub returns-in-Err-clause-undone : goal.returns-in-Err-clause-undone
-returns-in-Err-clause-undone g c = λ same. c.in-Err.ensures.undone (as_err _ _ _ refl same)
-
-pub returns-in-Ok-clause-refusal : goal.returns-in-Ok-clause-refusal
-returns-in-Ok-clause-refusal g c = tt
-
-pub returns-in-Ok-clause-exhausted : goal.returns-in-Ok-clause-exhausted
-returns-in-Ok-clause-exhausted g c = λ same. absurd (not_done _ _ tt same)
-
-pub returns-in-Ok-clause-last : goal.returns-in-Ok-clause-last
-returns-in-Ok-clause-last g c = refl
-
-pub returns-in-Ok-clause-kept : goal.returns-in-Ok-clause-kept
-returns-in-Ok-clause-kept g c = c.in-Ok.ensures.kept
-
-pub returns-in-Ok-clause-files : goal.returns-in-Ok-clause-files
-returns-in-Ok-clause-files g c = record { name = c.in-Ok.ensures.name; limit = c.in-Ok.ensures.limit; none = c.in-Ok.ensures.empty }
-
-pub returns-in-Ok-clause-barred : goal.returns-in-Ok-clause-barred
-returns-in-Ok-clause-barred g c = λ which. elim which [
-  | inl same ↦ absurd (not_done _ _ tt same)
-  | inr same ↦ absurd (not_done _ _ tt same)
-]
-
-pub returns-in-Ok-clause-many : goal.returns-in-Ok-clause-many
-returns-in-Ok-clause-many g c = λ same. absurd (not_done _ _ tt same)
-
-pub returns-in-Ok-clause-undone : goal.returns-in-Ok-clause-undone
-returns-in-Ok-clause-undone g c = λ same. absurd (not_done _ _ tt same)
-
-pub returns-in-Ok-clause-large : goal.returns-in-Ok-clause-large
-returns-in-Ok-clause-large g c = λ _ same. absurd (not_done _ _ tt same)
-
-pub returns-in-Ok-clause-beside : goal.returns-in-Ok-clause-beside
-returns-in-Ok-clause-beside g c = record { clients = refl; oracle = refl }
-
-pub returns-in-Ok-clause-short : goal.returns-in-Ok-clause-short
-returns-in-Ok-clause-short g c = tt
-
-pub returns-in-Ok-clause-device : goal.returns-in-Ok-clause-device
-returns-in-Ok-clause-device g c = λ same. absurd (not_done _ _ tt same)
-
-pub returns-in-Ok-clause-told : goal.returns-in-Ok-clause-told
-returns-in-Ok-clause-told g c = λ _. record { files = c.in-Ok.ensures.reason.told (ok_not _ _); marks = refl }
-
-pub returns-in-Err-clause-refusal : goal.returns-in-Err-clause-refusal
-returns-in-Err-clause-refusal g c = c.in-Err.ensures.refusal
-
-pub returns-in-Err-clause-last : goal.returns-in-Err-clause-last
-returns-in-Err-clause-last g c = refl
-
-pub returns-in-Err-clause-kept : goal.returns-in-Err-clause-kept
-returns-in-Err-clause-kept g c = c.in-Err.ensures.kept
-
-pub returns-in-Err-clause-files : goal.returns-in-Err-clause-files
-returns-in-Err-clause-files g c = record { name = c.in-Err.ensures.name; limit = c.in-Err.ensures.limit; none = c.in-Err.ensures.empty }
-
-pub returns-in-Err-clause-barred : goal.returns-in-Err-clause-barred
-returns-in-Err-clause-barred g c = λ which. c.in-Err.ensures.unmoved (elim which [
-  | inl same ↦ inl (as_err _ _ _ refl same)
-  | inr same ↦ inr (as_err _ _ _ refl same)
-])
-
-pub returns-in-Err-clause-within : goal.returns-in-Err-clause-within
-returns-in-Err-clause-within g c = λ done. absurd done
-
-pub returns-in-Err-clause-beside : goal.returns-in-Err-clause-beside
-returns-in-Err-clause-beside g c = record { clients = refl; oracle = refl }
-
-pub returns-in-Err-clause-short : goal.returns-in-Err-clause-short
-returns-in-Err-clause-short g c = tt
-
-pub returns-in-Err-clause-device : goal.returns-in-Err-clause-device
-returns-in-Err-clause-device g c = λ same. inl (c.in-Err.ensures.reason.device (as_err _ _ _ refl same))
-
-pub returns-in-Err-clause-told : goal.returns-in-Err-clause-told
-returns-in-Err-clause-told g c = λ none. record { files = c.in-Err.ensures.reason.told (λ is. none (as_refused _ _ _ refl is)); marks = refl }
-
-pub returns-in-Ok-clause-unfilled : goal.returns-in-Ok-clause-unfilled
-returns-in-Ok-clause-unfilled g c = tt
-
-pub returns-in-Err-clause-unfilled : goal.returns-in-Err-clause-unfilled
-returns-in-Err-clause-unfilled g c = λ of meets. c.in-Err.ensures.unfilled of meets.1

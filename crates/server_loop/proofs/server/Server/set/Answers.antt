@@ -1,70 +1,24 @@
 use Rattle.std.proofs.Common.{refl}
 use Rattle.txn_client.specs.Refusals.{IsSetRefusal}
-use Rattle.server_loop.proofs.Stepping.{as_refused, steps_as, set_undamaged, undamaged, never, not_done, ok_not}
+use Rattle.server_loop.proofs.Stepping.{as_refused, never, not_done, ok_not, set_undamaged, steps_as, undamaged}
 use Rattle.server_loop.proofs.server.Server.set.Goals as goal
 
-pub returns-in-Ok-clause-step : goal.returns-in-Ok-clause-step
-returns-in-Ok-clause-step g c = steps_as _ _ _ _ _ tt (λ _. c.in-Ok.ensures.step _ _) (λ h. h) refl (λ st reached held shown. set_undamaged)
+pub returns-in-Ok : goal.returns-in-Ok
+returns-in-Ok g c = let told = c.in-Ok.ensures in record {
+  step = record { step = steps_as _ _ _ _ _ tt (λ _. told.step _ _) (λ h. h) refl (λ st reached held shown. set_undamaged); refusal = tt; short = tt };
+  stamps = record { last = refl; restarted = tt; exhausted = λ _. tt };
+  edits = record { changes = λ held. refl; room = λ row edits over. over };
+  sessions = record { told = λ st shown gone. absurd (ok_not _ _ (told.unknown st shown.shows.sessions gone)); sessions = tt; oracle = refl };
+  tablets = refl;
+  causes = record { device = λ is. absurd (not_done _ _ tt is); told = λ _. record { files = refl; marks = refl }; full = λ _. tt };
+}
 
-pub returns-in-Err-clause-step : goal.returns-in-Err-clause-step
-returns-in-Err-clause-step g c = steps_as _ _ _ _ _ tt (λ _. c.in-Err.ensures.step _ _) (λ h. h) refl (λ st reached held shown. undamaged IsSetRefusal _ c.in-Err.ensures.refusal (λ h. h))
-
-pub returns-in-Ok-clause-exact : goal.returns-in-Ok-clause-exact
-returns-in-Ok-clause-exact g c = record { unknown = λ st shown gone. absurd (ok_not _ _ (c.in-Ok.ensures.unknown st shown.shows.sessions gone)); empty = tt; drawing = tt }
-
-pub returns-in-Err-clause-exact : goal.returns-in-Err-clause-exact
-returns-in-Err-clause-exact g c = record { unknown = λ st shown gone. as_refused _ _ _ refl (c.in-Err.ensures.unknown st shown.shows.sessions gone); empty = tt; drawing = tt }
-
-pub returns-in-Err-clause-leaves : goal.returns-in-Err-clause-leaves
-returns-in-Err-clause-leaves g c = c.in-Err.ensures.err
-
-pub returns-in-Ok-clause-refusal : goal.returns-in-Ok-clause-refusal
-returns-in-Ok-clause-refusal g c = tt
-
-pub returns-in-Ok-clause-last : goal.returns-in-Ok-clause-last
-returns-in-Ok-clause-last g c = refl
-
-pub returns-in-Ok-clause-storage : goal.returns-in-Ok-clause-storage
-returns-in-Ok-clause-storage g c = refl
-
-pub returns-in-Ok-clause-changes : goal.returns-in-Ok-clause-changes
-returns-in-Ok-clause-changes g c = λ held. refl
-
-pub returns-in-Ok-clause-room : goal.returns-in-Ok-clause-room
-returns-in-Ok-clause-room g c = λ row edits full. full
-
-pub returns-in-Ok-clause-short : goal.returns-in-Ok-clause-short
-returns-in-Ok-clause-short g c = tt
-
-pub returns-in-Ok-clause-leaves : goal.returns-in-Ok-clause-leaves
-returns-in-Ok-clause-leaves g c = tt
-
-pub returns-in-Ok-clause-device : goal.returns-in-Ok-clause-device
-returns-in-Ok-clause-device g c = λ same. absurd (not_done _ _ tt same)
-
-pub returns-in-Ok-clause-told : goal.returns-in-Ok-clause-told
-returns-in-Ok-clause-told g c = λ _. record { files = refl; marks = refl }
-
-pub returns-in-Err-clause-refusal : goal.returns-in-Err-clause-refusal
-returns-in-Err-clause-refusal g c = c.in-Err.ensures.refusal
-
-pub returns-in-Err-clause-last : goal.returns-in-Err-clause-last
-returns-in-Err-clause-last g c = refl
-
-pub returns-in-Err-clause-storage : goal.returns-in-Err-clause-storage
-returns-in-Err-clause-storage g c = refl
-
-pub returns-in-Err-clause-changes : goal.returns-in-Err-clause-changes
-returns-in-Err-clause-changes g c = λ held. refl
-
-pub returns-in-Err-clause-room : goal.returns-in-Err-clause-room
-returns-in-Err-clause-room g c = λ row edits full. full
-
-pub returns-in-Err-clause-short : goal.returns-in-Err-clause-short
-returns-in-Err-clause-short g c = tt
-
-pub returns-in-Err-clause-device : goal.returns-in-Err-clause-device
-returns-in-Err-clause-device g c = λ same. absurd (never IsSetRefusal _ _ c.in-Err.ensures.refusal (λ h. h) same)
-
-pub returns-in-Err-clause-told : goal.returns-in-Err-clause-told
-returns-in-Err-clause-told g c = λ _. record { files = refl; marks = refl }
+pub returns-in-Err : goal.returns-in-Err
+returns-in-Err g c = let told = c.in-Err.ensures in record {
+  step = record { step = steps_as _ _ _ _ _ tt (λ _. told.step _ _) (λ h. h) refl (λ st reached held shown. undamaged IsSetRefusal _ told.refusal (λ h. h)); refusal = told.refusal; short = tt };
+  stamps = record { last = refl; restarted = tt; exhausted = λ _. tt };
+  edits = record { changes = λ held. refl; room = λ row edits over. over };
+  sessions = record { told = λ st shown gone. as_refused _ _ _ refl (told.unknown st shown.shows.sessions gone); sessions = told.err; oracle = refl };
+  tablets = refl;
+  causes = record { device = λ is. absurd (never IsSetRefusal _ _ told.refusal (λ h. h) is); told = λ _. record { files = refl; marks = refl }; full = λ _. tt };
+}

@@ -1,0 +1,39 @@
+-- What a reply tells of a device's faults, where its command's outcome tells it.
+use Rattle.std.proofs.Common.{◌≡◌, ℕ, inl, Option, ap, refl, subst}
+use Rattle.cell_key.specs.declared.refusals.Refusal.{Refusal}
+use Rattle.cell_key.specs.declared.refusals.Refusal.TheVariants.{Device, MemtableFull}
+use Rattle.file_store.specs.Store.{Contents}
+use Rattle.request_codec.specs.declared.replies.Reply.{Reply as Kept}
+use Rattle.request_codec.specs.declared.replies.Reply.TheVariants as kept
+use Rattle.request_codec.specs.declared.requests.Request.{Request}
+use Rattle.row_atomic.specs.Commands.{TellsFaults}
+use Rattle.row_atomic.specs.declared.commands.Outcome.{Outcome}
+use Rattle.row_atomic.specs.declared.commands.Outcome.TheVariants.{Refused}
+use Rattle.server_loop.specs.Answer.{LacksRoom, TellsCauses}
+use Rattle.server_loop.specs.declared.server.Server.{Server}
+use Rattle.server_loop.proofs.Stepping.{IfTold}
+
+module _ {F M : Type 0} (contents : F → Option Contents) (file_faults : F → ℕ) (mark_faults : M → ℕ) (request : Request) where
+  pub done_causes : (reply : Kept) (outcome : Outcome) (old new : Server F M) → new.oracle ≡ old.oracle → (reply ≡ kept.Refused Device → outcome ≡ Refused Device) → (outcome ≡ Refused Device → reply ≡ kept.Refused Device)
+      → TellsFaults file_faults outcome old.cluster new.cluster → (reply ≡ kept.Refused MemtableFull → LacksRoom contents request old) → TellsCauses contents file_faults mark_faults request reply old new
+  done_causes reply outcome old new same to from told full = record {
+    device = λ is. inl (told.device (to is));
+    told = λ none. record { files = told.told (λ is. none (from is)); marks = ap (λ oracle. mark_faults oracle.marks) same };
+    full = full;
+  }
+
+  pub refused_causes : (e : Refusal) (old new : Server F M) → new.oracle ≡ old.oracle → TellsFaults file_faults (Refused e) old.cluster new.cluster
+      → (kept.Refused e ≡ kept.Refused MemtableFull → LacksRoom contents request old) → TellsCauses contents file_faults mark_faults request (kept.Refused e) old new
+  refused_causes e old new same told full =
+      done_causes (kept.Refused e) (Refused e) old new same
+      (λ is. let that : e ≡ Device = subst (IfTold (λ (r : Refusal). e ≡ r)) is refl in ap (λ (r : Refusal). Refused r) that)
+      (λ is. let that : e ≡ Device = cc in ap (λ (r : Refusal). kept.Refused r) that) told full
+
+  -- no device was met
+  pub unmet_causes : (reply : Kept) (old new : Server F M) → new.cluster ≡ old.cluster → new.oracle ≡ old.oracle → ¬ (reply ≡ kept.Refused Device)
+      → (reply ≡ kept.Refused MemtableFull → LacksRoom contents request old) → TellsCauses contents file_faults mark_faults request reply old new
+  unmet_causes reply old new same_cluster same_oracle not full = record {
+    device = λ is. absurd (not is);
+    told = λ _. record { files = ap (λ cluster. file_faults cluster.files) same_cluster; marks = ap (λ oracle. mark_faults oracle.marks) same_oracle };
+    full = full;
+  }

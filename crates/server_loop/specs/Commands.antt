@@ -1,0 +1,46 @@
+-- The command of a cluster that a request is, and what it did there.
+use Rattle.std.specs.Prelude.{◌≡◌, ◌⊎◌, ℕ, Option, None, Some}
+use Rattle.cell_key.specs.declared.refusals.Refusal.TheVariants.{BadRow, BadColumn, NoMemory}
+use Rattle.file_store.specs.Store.{Contents}
+use Rattle.request_codec.specs.declared.replies.Reply.{Reply}
+use Rattle.request_codec.specs.declared.replies.Reply.TheVariants as kept
+use Rattle.request_codec.specs.declared.requests.Request.{Request}
+use Rattle.request_codec.specs.declared.requests.Request.TheVariants.{Minor, Merge, Major, Split, Move, Sweep, Raw}
+use Rattle.row_atomic.specs.Clusters.{ClusterState, storage_of}
+use Rattle.row_atomic.specs.Commands.{IsOutcome}
+use Rattle.row_atomic.specs.declared.commands.Command.{Command}
+use Rattle.row_atomic.specs.declared.commands.Command.TheVariants as command
+use Rattle.row_atomic.specs.declared.commands.Outcome.{Outcome}
+use Rattle.row_atomic.specs.declared.commands.Outcome.TheVariants as outcome
+
+-- the command that a request is: the upkeep of tablets and a raw read are one
+abbrev pub command_of : Request → Option Command
+command_of (Minor tablet) = Some (command.Minor tablet)
+command_of (Merge tablet count) = Some (command.Merge tablet count)
+command_of (Major tablet) = Some (command.Major tablet)
+command_of (Split row) = Some (command.Split row.now)
+command_of (Move tablet server) = Some (command.Move tablet server)
+command_of Sweep = Some command.Sweep
+command_of (Raw row family qualifier lo hi) = Some (command.Newest row.now family.now qualifier lo hi)
+command_of request = None
+
+-- the outcome of a command that a reply tells
+abbrev pub outcome_of : Reply → Outcome
+outcome_of (kept.Split left) = outcome.Split left
+outcome_of (kept.Sweep count) = outcome.Swept count
+outcome_of (kept.Raw found) = outcome.Newest found
+outcome_of (kept.Refused refusal) = outcome.Refused refusal
+outcome_of reply = outcome.Done
+
+-- a name in a request is none, or there is no memory to copy it
+abbrev pub RefusesName : Request → Reply → Type 0
+RefusesName (Split row) reply = (reply ≡ kept.Refused BadRow) ⊎ (reply ≡ kept.Refused NoMemory)
+RefusesName (Raw row family qualifier lo hi) reply = (reply ≡ kept.Refused BadRow) ⊎ ((reply ≡ kept.Refused BadColumn) ⊎ (reply ≡ kept.Refused NoMemory))
+RefusesName request reply = ⊥
+
+-- A request that is a command has the outcome that its reply tells, or a name in it was refused and nothing was done. Any other
+-- leaves what lies below the memtables.
+abbrev pub HasOutcome : {F : Type 0} → (F → Option Contents) → (F → ℕ) → Option Command → Request → Reply → ClusterState F → ClusterState F → Type 0
+HasOutcome contents faults None request reply old new = storage_of contents new ≡ storage_of contents old
+HasOutcome contents faults (Some command) request reply old new =
+    IsOutcome contents faults command (outcome_of reply) old new ⊎ (RefusesName request reply × (new ≡ old))
