@@ -22,7 +22,7 @@ returns-in-Ok g c =
       files = tt;
       room = told.reads.room;
       cause = tt;
-      faults = tells_read g.F.Files.faults c.newest.result c.in-Ok.found (outcome.Newest c.in-Ok.found) c.args.self.now c.newest.new.self c.in-Ok.is (λ is. cc) told.later told.told;
+      faults = tells_read g.F.Files.faults c.newest.result c.in-Ok.found (outcome.Newest c.in-Ok.found) c.args.self.now c.newest.new.self c.in-Ok.is (λ is. cc) told.reason.later told.reason.told;
     })
 
 pub returns-in-Newest : goal.returns-in-Newest
@@ -41,7 +41,7 @@ returns-in-Ok-next_cell g c =
       files = tt;
       room = told.reads.room;
       cause = tt;
-      faults = tells_read g.F.Files.faults c.next_cell.result c.in-Ok-next_cell.found (outcome.NextCell c.in-Ok-next_cell.found) c.args.self.now c.next_cell.new.self c.in-Ok-next_cell.is (λ is. cc) told.later told.told;
+      faults = tells_read g.F.Files.faults c.next_cell.result c.in-Ok-next_cell.found (outcome.NextCell c.in-Ok-next_cell.found) c.args.self.now c.next_cell.new.self c.in-Ok-next_cell.is (λ is. cc) told.reason.later told.reason.told;
     })
 
 pub returns-in-NextCell : goal.returns-in-NextCell
