@@ -35,13 +35,13 @@ module _ {F : Type 0} (contents : F → Option Contents) (faults : F → ℕ) (r
   }
 
   pub refused_outcome : {A : Type 0} (e : Refusal) (old new : ClusterState F) → (Holds contents old → Holds contents new)
-      → (Holds contents old → cells_shown contents new ≡ cells_shown contents old) → (Holds contents old → ¬ IsErrOf {T = A} (Err e) Damaged)
+      → (Holds contents old → cells_shown contents new ≡ cells_shown contents old) → (Holds contents old → ¬ (e ≡ Damaged))
       → storage_of contents new ≡ storage_of contents old → IsNoFuller old new → IsReadRefusal e
       → faults old.files ≤ faults new.files → (IsErrOf {T = A} (Err e) Device → HasRisen (faults old.files) (faults new.files)) → (¬ IsErrOf {T = A} (Err e) Device → faults new.files ≡ faults old.files)
       → IsOutcome contents faults (command.Newest row family qualifier lo hi) (Refused e) old new
   refused_outcome e old new still kept whole storage room refusal later device told = record {
     still = still;
-    answers = λ order. ((λ is. whole order (ap (λ (r : Refusal). Err r) is)), kept order);
+    answers = λ order. (whole order, kept order);
     upholds = (refusal, storage);
     files = tt;
     room = room;

@@ -2,6 +2,7 @@
 use Rattle.std.proofs.Common.{◌≡◌, ℕ, List, map, Option, Some, None, Result, Ok, Err, IsErrOf, refl, ap, ◌∙◌, ◌⊎◌, subst, sym, inl, inr}
 use Rattle.std.specs.Prelude.{⊤}
 use Rattle.std.specs.FinMap.{empty, get-empty}
+use Rattle.cell_key.specs.Faults.{HasRisen}
 use Rattle.cell_key.specs.Keys.{key_cmp}
 use Rattle.cell_key.specs.declared.refusals.Refusal.{Refusal}
 use Rattle.cell_key.specs.declared.refusals.Refusal.TheVariants.{BadRow, BadColumn, Damaged, Device, NoMemory}
@@ -17,6 +18,7 @@ use Rattle.file_store.specs.Store.{Contents}
 use Rattle.row_atomic.specs.Changes.{Holds}
 use Rattle.row_atomic.specs.Clusters.{Spot, Storage, cells_in, spot_of, storage_of}
 use Rattle.txn_client.specs.Reads.{IsShort}
+use Rattle.txn_client.specs.Refusals.{HasOneReason}
 use Rattle.txn_client.specs.Shows as clients
 use Rattle.txn_client.specs.Shows.{DrawsNext, top_after}
 use Rattle.request_codec.specs.Replies.{replied}
@@ -178,6 +180,25 @@ pub refused_either : (e a b : Refusal) → (e ≡ a) ⊎ (e ≡ b) → (kept.Ref
 refused_either e a b which = elim which [
   | inl is ↦ inl (ap (λ (r : Refusal). kept.Refused r) is)
   | inr is ↦ inr (ap (λ (r : Refusal). kept.Refused r) is)
+]
+
+-- one of two counts tells a device's fault, and the other stays
+pub first_stays : {A : Type 0} {a b c d : ℕ} {r : Result A Refusal} → HasOneReason a b c d r → ¬ IsErrOf r Device → b ≡ a
+first_stays one none = elim one [
+  | inl first ↦ first.0.told none
+  | inr second ↦ second.1
+]
+
+pub second_stays : {A : Type 0} {a b c d : ℕ} {r : Result A Refusal} → HasOneReason a b c d r → ¬ IsErrOf r Device → d ≡ c
+second_stays one none = elim one [
+  | inl first ↦ first.1
+  | inr second ↦ second.0.told none
+]
+
+pub one_rose : {A : Type 0} {a b c d : ℕ} {r : Result A Refusal} → HasOneReason a b c d r → IsErrOf r Device → HasRisen a b ⊎ HasRisen c d
+one_rose one is = elim one [
+  | inl first ↦ inl (first.0.device is)
+  | inr second ↦ inr (second.0.device is)
 ]
 
 never_some : {X P : Type 0} (x : X) → None ≡ Some x → P

@@ -8,6 +8,7 @@ use Rattle.request_codec.specs.declared.replies.Reply.{Reply}
 use Rattle.request_codec.specs.declared.replies.Reply.TheVariants as kept
 use Rattle.request_codec.specs.declared.requests.Request.{Request}
 use Rattle.request_codec.specs.declared.requests.Request.TheVariants.{Begin, Step}
+use Rattle.row_atomic.specs.Changes.{Holds}
 use Rattle.row_atomic.specs.Commands.{OverfillsCluster}
 use Rattle.row_atomic.specs.Room.{HasNoRoom}
 use Rattle.si_model.specs.Machine.{IsReached, State}
@@ -15,9 +16,9 @@ use Rattle.server_loop.specs.Commands.{HasOutcome, command_of}
 use Rattle.server_loop.specs.Refusals.{IsRefusalOf}
 use Rattle.server_loop.specs.Runs.{HasShortValue, IfRefused, StampsGoOn, StepsAs}
 use Rattle.server_loop.specs.Sessions.{ChangesCells, IsAlwaysTold, KeepsOracle, KeepsSessions, LeavesRoom}
-use Rattle.server_loop.specs.Server.{IsFaultSeen, SeesNoFault, Shows, cluster_of, last_of, marks_of}
+use Rattle.server_loop.specs.Server.{IsFaultSeen, SeesNoFault, Shows, cells_of, cluster_of, last_of, marks_of}
 use Rattle.server_loop.specs.declared.server.Server.{Server}
-use Rattle.txn_client.specs.Room.{ChangesNext}
+use Rattle.txn_client.specs.Room.{ChangesNext, EditsOfStep}
 use Rattle.txn_client.specs.Shows.{IsAboutToDraw}
 
 -- ---- the machine
@@ -71,9 +72,12 @@ TendsTablets contents faults request reply old new = HasOutcome contents faults 
 
 -- ---- faults and causes
 
--- a step comes to make edits for which the memtable of their row's tablet has no room
+-- A step comes to make the edits that its session names, and the memtable of their row's tablet has no room for them. Where a state is
+-- shown they are those of the session's next step there.
 abbrev pub LacksRoom : {F M : Type 0} → (F → Option Contents) → Request → Server F M → Type 0
-LacksRoom contents (Step start) old = (st : State) → IsReached st → Shows contents old st → HasNoRoom OverfillsCluster (cluster_of old) (ChangesNext st start)
+LacksRoom contents (Step start) old =
+    HasNoRoom OverfillsCluster (cluster_of old) (EditsOfStep (Holds contents (cluster_of old)) (cells_of contents old) old.clients start)
+    × ((st : State) → IsReached st → Shows contents old st → HasNoRoom OverfillsCluster (cluster_of old) (ChangesNext st start))
 LacksRoom contents request old = ⊤
 
 -- A device's fault is told where a count of them rose, and nowhere else. Of a command the outcome says why it is refused.

@@ -10,7 +10,7 @@ returns-in-Ok g c = let told = c.in-Ok.ensures in record {
   edits = record { changes = λ held. refl; room = λ row edits over. over };
   sessions = record { told = λ st shown many. absurd (ok_not _ _ (told.crowded st shown.shows.sessions many)); sessions = tt; oracle = tt };
   tablets = refl;
-  causes = record { device = λ is. absurd (not_done _ _ tt is); told = λ _. record { files = refl; marks = told.told (ok_not _ _) }; full = λ _. tt };
+  causes = record { device = λ is. absurd (not_done _ _ tt is); told = λ _. record { files = refl; marks = told.reason.told (ok_not _ _) }; full = λ _. tt };
 }
 
 pub returns-in-Err : goal.returns-in-Err
@@ -20,5 +20,5 @@ returns-in-Err g c = let told = c.in-Err.ensures in record {
   edits = record { changes = λ held. refl; room = λ row edits over. over };
   sessions = record { told = λ st shown many. as_refused _ _ _ refl (told.crowded st shown.shows.sessions many); sessions = tt; oracle = tt };
   tablets = refl;
-  causes = record { device = λ is. inr (told.device (as_err _ _ _ refl is)); told = λ none. record { files = refl; marks = told.told (λ is. none (as_refused _ _ _ refl is)) }; full = λ _. tt };
+  causes = record { device = λ is. inr (told.reason.device (as_err _ _ _ refl is)); told = λ none. record { files = refl; marks = told.reason.told (λ is. none (as_refused _ _ _ refl is)) }; full = λ _. tt };
 }

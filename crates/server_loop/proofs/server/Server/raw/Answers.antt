@@ -7,10 +7,11 @@ use Rattle.cell_key.specs.Versions.{stamped, IsVersionIn}
 use Rattle.cell_key.specs.declared.refusals.Refusal.{Refusal}
 use Rattle.si_model.specs.Machine.{refuses}
 use Rattle.request_codec.specs.declared.replies.Reply.TheVariants as kept
+use Rattle.row_atomic.proofs.Calls.{is_read_refusal, read_undamaged}
 use Rattle.server_loop.specs.Runs.{HasShortValue}
 use Rattle.server_loop.proofs.Causes.{unmet_causes}
 use Rattle.server_loop.proofs.RawReads.{found_outcome, refused_outcome}
-use Rattle.server_loop.proofs.Stepping.{as_err, as_refused, column_not_device, err_undamaged, memory_not_device, name_undamaged, named_not, not_done, ok_not, refused_either, row_not_device, spots_in}
+use Rattle.server_loop.proofs.Stepping.{as_err, as_refused, column_not_device, memory_not_device, name_undamaged, named_not, not_done, ok_not, refused_either, row_not_device, spots_in}
 use Rattle.server_loop.proofs.Upkeeping.{family_whole, raw_unnamed, raw_refused, raw_done, raw_family_named, raw_refuses, raw_row_named, row_whole, tells_as, raw_whole}
 use Rattle.server_loop.proofs.server.Server.raw.Goals as goal
 
@@ -42,22 +43,23 @@ pub returns-in-Ok-newest : goal.returns-in-Ok-newest
 returns-in-Ok-newest g c =
     let told = c.in-Ok-newest.ensures in
     record {
-  step = record { step = tells_as _ _ _ (λ held. (told.still held, told.kept held)) refl refl _ _ (ap spots_in told.storage) (λ st shown. raw_done st _ _ _ _ _ c.in-Ok.ensures.valid c.in-Ok-new.ensures.valid) (λ held. raw_whole _); refusal = tt; short = short_found c.args.lo c.args.hi c.in-Ok-newest.found told.limits };
+  step = record { step = tells_as _ _ _ (λ held. (told.reads.still held, told.reads.kept held)) refl refl _ _ (ap spots_in told.reads.stays) (λ st shown. raw_done st _ _ _ _ _ c.in-Ok.ensures.valid c.in-Ok-new.ensures.valid) (λ held. raw_whole _); refusal = tt; short = short_found c.args.lo c.args.hi c.in-Ok-newest.found told.limits };
   stamps = record { last = refl; restarted = tt; exhausted = λ _. tt };
-  edits = record { changes = told.kept; room = tt };
+  edits = record { changes = told.reads.kept; room = tt };
   sessions = record { told = λ st shown. tt; sessions = record { top = refl; each = λ t. refl }; oracle = refl };
-  tablets = inl (rw (← c.in-Ok.ensures.ok) (rw (← c.in-Ok-new.ensures.ok) (found_outcome g.F.Files.contents g.F.Files.faults c.in-Ok.row c.in-Ok-new.family c.args.qualifier c.args.lo c.args.hi c.in-Ok-newest.found _ _ told.still told.found told.kept told.storage told.same_room (told.told (ok_not _ _)))));
-  causes = record { device = λ is. absurd (not_done _ _ tt is); told = λ _. record { files = told.told (ok_not _ _); marks = refl }; full = λ _. tt };
+  tablets = inl (rw (← c.in-Ok.ensures.ok) (rw (← c.in-Ok-new.ensures.ok) (found_outcome g.F.Files.contents g.F.Files.faults c.in-Ok.row c.in-Ok-new.family c.args.qualifier c.args.lo c.args.hi c.in-Ok-newest.found _ _ told.reads.still told.found told.reads.kept told.reads.stays told.reads.room (told.reason.told (ok_not _ _)))));
+  causes = record { device = λ is. absurd (not_done _ _ tt is); told = λ _. record { files = told.reason.told (ok_not _ _); marks = refl }; full = λ _. tt };
 }
 
 pub returns : goal.returns
 returns g c =
     let told = c.in-Err-newest.ensures in
+    let refusal = is_read_refusal _ c.in-Err-newest.refusal told.refusal in
     record {
-  step = record { step = tells_as _ _ _ (λ held. (told.still held, told.kept held)) refl refl _ _ (ap spots_in told.storage) (λ st shown. refuses (raw_refuses st _ _ _ _ _ told.refusal)) (λ held. err_undamaged _ _ refl (told.undamaged held)); refusal = raw_refused _ told.refusal; short = tt };
+  step = record { step = tells_as _ _ _ (λ held. (told.reads.still held, told.reads.kept held)) refl refl _ _ (ap spots_in told.reads.stays) (λ st shown. refuses (raw_refuses st _ _ _ _ _ refusal)) (λ held. name_undamaged _ (read_undamaged _ _ told.refusal held)); refusal = raw_refused _ refusal; short = tt };
   stamps = record { last = refl; restarted = tt; exhausted = λ _. tt };
-  edits = record { changes = told.kept; room = tt };
+  edits = record { changes = told.reads.kept; room = tt };
   sessions = record { told = λ st shown. tt; sessions = record { top = refl; each = λ t. refl }; oracle = refl };
-  tablets = inl (rw (← c.in-Ok.ensures.ok) (rw (← c.in-Ok-new.ensures.ok) (refused_outcome g.F.Files.contents g.F.Files.faults c.in-Ok.row c.in-Ok-new.family c.args.qualifier c.args.lo c.args.hi c.in-Err-newest.refusal _ _ told.still told.kept told.undamaged told.storage told.same_room told.refusal told.later told.device told.told)));
-  causes = record { device = λ is. inl (told.device (as_err _ _ _ refl is)); told = λ none. record { files = told.told (λ is. none (as_refused _ _ _ refl is)); marks = refl }; full = λ _. tt };
+  tablets = inl (rw (← c.in-Ok.ensures.ok) (rw (← c.in-Ok-new.ensures.ok) (refused_outcome g.F.Files.contents g.F.Files.faults c.in-Ok.row c.in-Ok-new.family c.args.qualifier c.args.lo c.args.hi c.in-Err-newest.refusal _ _ told.reads.still told.reads.kept (λ held. read_undamaged _ _ told.refusal held) told.reads.stays told.reads.room refusal told.reason.later told.reason.device told.reason.told)));
+  causes = record { device = λ is. inl (told.reason.device (as_err _ _ _ refl is)); told = λ none. record { files = told.reason.told (λ is. none (as_refused _ _ _ refl is)); marks = refl }; full = λ _. tt };
 }
