@@ -5,6 +5,8 @@ mod clusters;
 mod compactions;
 mod edits;
 mod files;
+mod folders;
+mod framers;
 mod keys;
 mod limits;
 mod memory;
