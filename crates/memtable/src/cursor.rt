@@ -1,3 +1,5 @@
+//! A place among the entries of a memtable.
+
 ghost use Rattle.std.specs.Prelude.{◌≡◌, ◌↔◌, ◌++◌, ◌∷◌, [], IsTrue, IsSome, IfSome, MatchOption, None, option_map};
 ghost use Rattle.std.specs.List.{AllByRecursion};
 ghost use Rattle.cell_key.specs.Entries.{lent_entry, Takes};

@@ -1,3 +1,5 @@
+//! The memtable: recent writes, in the order of their keys.
+
 ghost use Rattle.std.specs.Prelude.{◌≡◌, ◌↔◌, [], length, IsTrue, OnOk, OnErr, IfErr, IfSome, IsErrOf, option_map, None, ◌⊎◌};
 ghost use Rattle.std.specs.List.{AllByRecursion};
 ghost use Rattle.cell_key.specs.Keys.{text};

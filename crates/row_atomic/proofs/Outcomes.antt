@@ -202,10 +202,14 @@ module _ {F : Type 0} (contents : F → Option Contents) (count : F → ℕ) (n 
     upholds = (numbered_refusal (compactions.Merge many) e refusal, as_before);
     files = (record { name = uses.name; limit = uses.limit; none = λ none. absurd none }, uses.spots);
     room = tt;
-    cause = record { due = bars; barred = λ barred. elim barred [
-      | inl same ↦ absurd (known same)
-      | inr same ↦ absurd (counted same)
-    ]; undone = undone };
+    cause = record {
+      due = bars;
+      barred = λ barred. elim barred [
+        | inl same ↦ absurd (known same)
+        | inr same ↦ absurd (counted same)
+      ];
+      undone = undone;
+    };
     faults = told;
   }
   uncompacted compactions.Major e kept whole refusal as_before uses bars known counted undone told = record {
@@ -392,14 +396,17 @@ module _ {F : Type 0} (contents : F → Option Contents) (count : F → ℕ) (n 
         files = record { name = inl (refl, refl); limit = refl; none = λ _. (refl, refl) };
         room = tt;
         cause = record {
-          due = (near, record {
-            unknown = known;
-            count = ((λ is. absurd (subst IsUnknown is unknown)), λ bad. absurd bad.1.such);
-            full = λ is. absurd (subst IsUnknown is unknown);
-            unfilled = λ of. absurd (unknown_unwritten e unknown of);
-            exhausted = λ is. absurd (subst IsUnknown is unknown);
-            large = λ order is. absurd (subst IsUnknown is unknown);
-          });
+          due = (
+            near,
+            record {
+              unknown = known;
+              count = ((λ is. absurd (subst IsUnknown is unknown)), λ bad. absurd bad.1.such);
+              full = λ is. absurd (subst IsUnknown is unknown);
+              unfilled = λ of. absurd (unknown_unwritten e unknown of);
+              exhausted = λ is. absurd (subst IsUnknown is unknown);
+              large = λ order is. absurd (subst IsUnknown is unknown);
+            },
+          );
           barred = λ _. refl;
           undone = λ _. none_done contents state;
         };
@@ -463,14 +470,17 @@ module _ {F : Type 0} (contents : F → Option Contents) (count : F → ℕ) (n 
       files = record { name = name; limit = limit ∙ flush.files.0.limit; none = none };
       room = tt;
       cause = record {
-        due = (((λ is. absurd (read_not_server (subst IsFileRefusal is refusal))), λ far. absurd (below_only _ _ below far.1)), record {
-          unknown = ((λ is. absurd (read_not_unknown (subst IsFileRefusal is refusal))), λ not. absurd (not known));
-          count = ((λ is. absurd (read_not_count (subst IsFileRefusal is refusal))), λ bad. absurd bad.1.such);
-          full = λ is. absurd (read_not_many (subst IsFileRefusal is refusal));
-          unfilled = λ of. flush.cause.room;
-          exhausted = λ is. absurd (read_not_out (subst IsFileRefusal is refusal));
-          large = λ order is. absurd (read_not_large (subst IsFileRefusal is refusal));
-        });
+        due = (
+          ((λ is. absurd (read_not_server (subst IsFileRefusal is refusal))), λ far. absurd (below_only _ _ below far.1)),
+          record {
+            unknown = ((λ is. absurd (read_not_unknown (subst IsFileRefusal is refusal))), λ not. absurd (not known));
+            count = ((λ is. absurd (read_not_count (subst IsFileRefusal is refusal))), λ bad. absurd bad.1.such);
+            full = λ is. absurd (read_not_many (subst IsFileRefusal is refusal));
+            unfilled = λ of. flush.cause.room;
+            exhausted = λ is. absurd (read_not_out (subst IsFileRefusal is refusal));
+            large = λ order is. absurd (read_not_large (subst IsFileRefusal is refusal));
+          },
+        );
         barred = λ barred. elim barred [
           | inl is ↦ absurd (read_not_unknown (subst IsFileRefusal is refusal))
           | inr is ↦ absurd (read_not_server (subst IsFileRefusal is refusal))
@@ -500,17 +510,24 @@ module _ {F : Type 0} (contents : F → Option Contents) (count : F → ℕ) (ol
   }
   swept_so (Err e) files counted lacks refusal reason = record {
     still = λ order. (kept order).0;
-    answers = λ order. ((λ is. elim refusal [
-      | inl device ↦ (let wrong = sym is ∙ device in cc)
-      | inr want ↦ (let wrong = sym is ∙ want in cc)
-    ]), (kept order).1);
+    answers = λ order. (
+      (λ is. elim refusal [
+        | inl device ↦ (let wrong = sym is ∙ device in cc)
+        | inr want ↦ (let wrong = sym is ∙ want in cc)
+      ]),
+      (kept order).1,
+    );
     upholds = (refusal, record { files = lacks; rest = rest });
     files = tt;
     room = same_room;
-    cause = record { due = tt; barred = λ bars. absurd bars; undone = λ is. elim refusal [
-      | inl device ↦ (let wrong = sym is ∙ device in cc)
-      | inr want ↦ (let wrong = sym is ∙ want in cc)
-    ] };
+    cause = record {
+      due = tt;
+      barred = λ bars. absurd bars;
+      undone = λ is. elim refusal [
+        | inl device ↦ (let wrong = sym is ∙ device in cc)
+        | inr want ↦ (let wrong = sym is ∙ want in cc)
+      ];
+    };
     faults = tells_refused count e old new reason;
   }
 

@@ -1,3 +1,5 @@
+//! A cluster of tablets over one store of files.
+
 ghost use Rattle.std.specs.Prelude.{◌≡◌, ◌≤◌, ◌∷◌, [], IfErr, IfOk, IsSome};
 ghost use Rattle.std.specs.FinMap.{empty};
 ghost use Rattle.metadata_table.specs.Table.{first_place};

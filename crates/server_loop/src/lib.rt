@@ -10,7 +10,7 @@ mod sessions;
 mod upkeep;
 mod words;
 
-pub use command_line::{DEFAULT_FLUSH, MOST_FLUSH, Options};
+pub use command_line::options;
 pub use ends::{End, ServeFault, end_status, open_status};
 pub use server::{Config, Server};
-pub use words::options;
+pub use words::{DEFAULT_FLUSH, MOST_FLUSH, Options};

@@ -2,6 +2,7 @@
 
 ghost use Rattle.std.specs.Prelude.{◌≡◌, ◌≢◌, ◌≤◌, ◌⊎◌, IfErr, IfOk, IfSome, IsSome};
 ghost use Rattle.cell_key.specs.Faults.{HasRisen};
+ghost use Rattle.row_atomic.specs.Clusters.{IsFirstTablet};
 ghost use Rattle.server_loop.specs.Serve.{Serves, ServesStream};
 ghost use Rattle.si_model.specs.Machine.{new_machine};
 
@@ -60,6 +61,8 @@ impl<F: Files + Drop, M: MarkStore + Drop> Server<F, M> {
         ensures new { IsSome (F.contents files) → IfOk result (λ server. Shows F.contents server new_machine) }
         ensures kept { IfOk result (λ server. (cluster_of server).files ≡ files) }
         ensures name { IfOk result (λ server. (cluster_of server).next_name ≡ 1) }
+        // One tablet, whose memtable is empty.
+        ensures tablet { IfOk result (λ server. IsFirstTablet (cluster_of server).tablets) }
         // Where the mark is told, the oracle goes on from it.
         ensures last { IfOk result (λ server. IfSome (M.mark marks) (λ mark. last_of server ≡ mark)) }
         ensures mark { IfOk result (λ server. M.mark (marks_of server) ≡ M.mark marks) }

@@ -1,6 +1,5 @@
 //! What a server does for sessions and for its oracle, one step of the snapshot machine each.
 
-
 use crate::server::Server;
 use cell_key::{MOST_STAMP, Refusal, Stamp};
 use file_store::Files;

@@ -1,6 +1,5 @@
 //! What a server does for the upkeep of its tablets, and raw reads, one step of the snapshot machine each.
 
-
 use crate::server::Server;
 use cell_key::{Family, Qualifier, Refusal, Row, Stamp};
 use file_store::Files;

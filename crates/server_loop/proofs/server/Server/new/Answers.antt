@@ -30,6 +30,9 @@ returns-in-Ok-open-clause-kept g c = c.in-Ok.ensures.files
 pub returns-in-Ok-open-clause-name : goal.returns-in-Ok-open-clause-name
 returns-in-Ok-open-clause-name g c = c.in-Ok.ensures.name
 
+pub returns-in-Ok-open-clause-tablet : goal.returns-in-Ok-open-clause-tablet
+returns-in-Ok-open-clause-tablet g c = c.in-Ok.ensures.tablet
+
 pub returns-in-Ok-open-clause-last : goal.returns-in-Ok-open-clause-last
 returns-in-Ok-open-clause-last g c = c.in-Ok-open.ensures.mark
 

@@ -9,12 +9,16 @@ no_later top last last' low rises = omega arith
 
 pub returns-in-Ok : goal.returns-in-Ok
 returns-in-Ok g c = let told = c.in-Ok.ensures in record {
-  step = record { step = restart_done _ _ _ (λ st shown. record {
-  in_order = shown.in_order;
-  places = shown.places;
-  next = shown.next;
-  shows = record { store = shown.shows.store; sessions = shown.shows.sessions; top = no_later _ _ _ shown.shows.top told.rises };
-}); refusal = tt; short = tt };
+  step = record {
+    step = restart_done _ _ _ (λ st shown. record {
+      in_order = shown.in_order;
+      places = shown.places;
+      next = shown.next;
+      shows = record { store = shown.shows.store; sessions = shown.shows.sessions; top = no_later _ _ _ shown.shows.top told.rises };
+    });
+    refusal = tt;
+    short = tt;
+  };
   stamps = record { last = told.rises; restarted = told.mark; exhausted = λ _. tt };
   edits = record { changes = λ held. refl; room = λ row edits over. over };
   sessions = record { told = λ st shown. tt; sessions = record { top = refl; each = λ t. refl }; oracle = tt };
@@ -24,12 +28,16 @@ returns-in-Ok g c = let told = c.in-Ok.ensures in record {
 
 pub returns-in-Err : goal.returns-in-Err
 returns-in-Err g c = let told = c.in-Err.ensures in record {
-  step = record { step = restart_refused _ _ _ _ told.refusal (λ st shown. record {
-  in_order = shown.in_order;
-  places = shown.places;
-  next = shown.next;
-  shows = record { store = shown.shows.store; sessions = shown.shows.sessions; top = no_later _ _ _ shown.shows.top told.rises };
-}); refusal = told.refusal; short = tt };
+  step = record {
+    step = restart_refused _ _ _ _ told.refusal (λ st shown. record {
+      in_order = shown.in_order;
+      places = shown.places;
+      next = shown.next;
+      shows = record { store = shown.shows.store; sessions = shown.shows.sessions; top = no_later _ _ _ shown.shows.top told.rises };
+    });
+    refusal = told.refusal;
+    short = tt;
+  };
   stamps = record { last = told.err.last; restarted = tt; exhausted = λ _. tt };
   edits = record { changes = λ held. refl; room = λ row edits over. over };
   sessions = record { told = λ st shown. tt; sessions = record { top = refl; each = λ t. refl }; oracle = tt };

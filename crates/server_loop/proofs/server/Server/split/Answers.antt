@@ -22,23 +22,23 @@ returns-in-Ok-split g c =
     let is_row = rw (← c.in-Ok.ensures.ok) at c.in-Ok.ensures.valid in
     let o = c.in-Ok-split.ensures in
     rw (← c.in-Ok.ensures.ok) (record {
-  step = record { step = splits_as _ _ _ (λ held. (o.still held, o.answers held)) refl refl _ _ is_row o.cause.free o.upholds.0 o.upholds.1; refusal = tt; short = tt };
-  stamps = record { last = refl; restarted = tt; exhausted = λ _. tt };
-  edits = record { changes = o.answers; room = tt };
-  sessions = record { told = λ st shown. tt; sessions = record { top = refl; each = λ t. refl }; oracle = refl };
-  tablets = inl o;
-  causes = (done_causes g.F.Files.contents g.F.Files.faults g.M.MarkStore.faults _ _ _ _ _ refl (λ is. absurd (not_done _ _ tt is)) (λ is. cc) o.faults (λ _. tt));
-})
+      step = record { step = splits_as _ _ _ (λ held. (o.still held, o.answers held)) refl refl _ _ is_row o.cause.free o.upholds.0 o.upholds.1; refusal = tt; short = tt };
+      stamps = record { last = refl; restarted = tt; exhausted = λ _. tt };
+      edits = record { changes = o.answers; room = tt };
+      sessions = record { told = λ st shown. tt; sessions = record { top = refl; each = λ t. refl }; oracle = refl };
+      tablets = inl o;
+      causes = (done_causes g.F.Files.contents g.F.Files.faults g.M.MarkStore.faults _ _ _ _ _ refl (λ is. absurd (not_done _ _ tt is)) (λ is. cc) o.faults (λ _. tt));
+    })
 
 pub returns : goal.returns
 returns g c =
     let is_row = rw (← c.in-Ok.ensures.ok) at c.in-Ok.ensures.valid in
     let o = c.in-Err-split.ensures in
     rw (← c.in-Ok.ensures.ok) (record {
-  step = record { step = tells_as _ _ _ (λ held. (o.still held, (o.answers held).1)) refl refl _ _ o.upholds.1.0 (λ st shown. refuses (split_refuses st _ (sym shown.places) _ _ is_row o.upholds.0 o.cause.due.bad.0)) (λ held. name_undamaged _ (o.answers held).0); refusal = cut_refused _ o.upholds.0; short = tt };
-  stamps = record { last = refl; restarted = tt; exhausted = λ _. tt };
-  edits = record { changes = λ held. (o.answers held).1; room = tt };
-  sessions = record { told = λ st shown. tt; sessions = record { top = refl; each = λ t. refl }; oracle = refl };
-  tablets = inl o;
-  causes = (refused_causes g.F.Files.contents g.F.Files.faults g.M.MarkStore.faults _ _ _ _ refl o.faults (λ _. tt));
-})
+      step = record { step = tells_as _ _ _ (λ held. (o.still held, (o.answers held).1)) refl refl _ _ o.upholds.1.0 (λ st shown. refuses (split_refuses st _ (sym shown.places) _ _ is_row o.upholds.0 o.cause.due.bad.0)) (λ held. name_undamaged _ (o.answers held).0); refusal = cut_refused _ o.upholds.0; short = tt };
+      stamps = record { last = refl; restarted = tt; exhausted = λ _. tt };
+      edits = record { changes = λ held. (o.answers held).1; room = tt };
+      sessions = record { told = λ st shown. tt; sessions = record { top = refl; each = λ t. refl }; oracle = refl };
+      tablets = inl o;
+      causes = (refused_causes g.F.Files.contents g.F.Files.faults g.M.MarkStore.faults _ _ _ _ refl o.faults (λ _. tt));
+    })

@@ -1,5 +1,5 @@
 use Rattle.std.proofs.Common.{arith}
-use Rattle.server_loop.proofs.words.flush_of.Goals as goal
+use Rattle.server_loop.proofs.command_line.flush_of.Goals as goal
 
 pub returns-in-Some-clause-least : goal.returns-in-Some-clause-least
 returns-in-Some-clause-least c = omega arith
