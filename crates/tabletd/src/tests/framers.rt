@@ -38,21 +38,3 @@ fn frames_in_pieces_of_each_size(rt: HostRuntime) -> Result<(), Fail> {
     }
     Ok(())
 }
-
-/// Frames of 65,536 bytes each, more than there is room for at once.
-#[test]
-fn frames_past_the_end_of_the_ring(rt: HostRuntime) -> Result<(), Fail> {
-    let mut framer = Framer::new(rt.alloc())?;
-    let mut frame = vec![in rt.alloc(); 7u8; 65_536]?;
-    frame[..4].copy_from_slice(b"\0\0\xFF\xFC");
-    let mut out = Vec::new(rt.alloc());
-    for _ in 0..40 {
-        assert_eq!(rt; framer.feed(&frame[..9]), 9);
-        assert_eq!(rt; framer.feed(&frame[9..]), 65_527);
-        out.clear();
-        assert!(rt; push_next(&mut framer, &mut out)?);
-        assert_eq!(rt; out.len(), 65_533);
-        assert_eq!(rt; out.iter().filter(|byte| **byte == 7).count(), 65_532);
-    }
-    Ok(())
-}
