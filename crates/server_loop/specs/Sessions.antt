@@ -16,7 +16,7 @@ use Rattle.server_loop.specs.Server.{Shows, cells_of, cluster_of}
 use Rattle.server_loop.specs.declared.server.Server.{Server}
 use Rattle.txn_client.specs.Room.{ChangesNext, Makes, TakesRoom}
 use Rattle.txn_client.specs.declared.clients.Clients.{Clients}
-use Rattle.txn_client.specs.Shows.{IsAboutToDraw, IsCrowded, IsInactive, IsUnwritten, SameSessions, TouchesFor}
+use Rattle.txn_client.specs.Shows.{IsAboutToDraw, IsCrowded, IsInactive, IsUnwritten, SameClients, TouchesFor}
 
 -- A step that is done makes the edits of its session's next step, or none where it makes none: cells of one row at most, at the
 -- session's stamps. All else changes none.
@@ -57,7 +57,7 @@ KeepsSessions Begin reply old new = ⊤
 KeepsSessions (Set start row family value) kept.Set old new = ⊤
 KeepsSessions (Step start) (kept.Step progress) old new = ⊤
 KeepsSessions (Stop start) kept.Stop old new = ⊤
-KeepsSessions request reply old new = SameSessions old new
+KeepsSessions request reply old new = SameClients old new
 
 -- Only a begin, a step that comes to draw a stamp, and a restart use the oracle.
 abbrev pub KeepsOracle : {F M : Type 0} → (F → Option Contents) → Request → Server F M → Server F M → Type 0

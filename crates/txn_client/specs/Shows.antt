@@ -87,7 +87,7 @@ DrawsNext last (progress.Stamped c) = c ≡ last + 1
 DrawsNext last p = ⊤
 
 -- the same sessions, and the same top
-pub record SameSessions (old new : Clients) : Type 0 where
+pub record SameClients (old new : Clients) : Type 0 where
   pub top : new.top ≡ old.top
   pub each : (t : ℕ) → btree.get nat_cmp new.sessions t ≡ btree.get nat_cmp old.sessions t
 

@@ -20,7 +20,7 @@ ghost use Rattle.txn_client.specs.Refusals.{HasOneReason, IsBeginRefusal, IsGetR
 ghost use Rattle.row_atomic.specs.Calls.{KeepsBelow, OnlyReads};
 ghost use Rattle.row_atomic.specs.Room.{HasNoRoom};
 ghost use Rattle.txn_client.specs.Room.{ChangesNext, Does, EditsOfStep, Makes, TakesRoom};
-ghost use Rattle.txn_client.specs.Shows.{DrawsNext, InEachShown, IsAboutToDraw, IsCellRefusal, IsCrowded, IsInactive, IsOpen, IsUnwritten, SameSessions, Shows, ShowsClients, Steps, TouchesFor, open_session, top_after};
+ghost use Rattle.txn_client.specs.Shows.{DrawsNext, InEachShown, IsAboutToDraw, IsCellRefusal, IsCrowded, IsInactive, IsOpen, IsUnwritten, SameClients, Shows, ShowsClients, Steps, TouchesFor, open_session, top_after};
 
 use crate::cells;
 use crate::limits::Value;
@@ -150,7 +150,7 @@ impl Clients {
     pub fn stop(&mut self, start: Stamp) -> Result<(), Refusal>
         ensures step { (cells : Cells) (last : ℕ) → Steps cells self.old last (machine.Stop start) (result_reply (λ _. machine.StopDone) result) cells self.new last }
         ensures refusal { IfErr result (λ refusal. refusal ≡ Refusal.UnknownSession) }
-        ensures err { OnErr result (SameSessions self.old self.new) }
+        ensures err { OnErr result (SameClients self.old self.new) }
         ensures unknown { (st : State) → ShowsClients self.old st → IsInactive st start → IsErrOf result Refusal.UnknownSession }
     {
         let Some(_session) = self.sessions.remove(&start) else {
@@ -221,7 +221,7 @@ impl Clients {
     ) -> Result<(), Refusal>
         ensures step { (cells : Cells) (last : ℕ) → Steps cells self.old last (machine.Set start (cell_of row.now family.now) value.now) (result_reply (λ _. machine.SetDone) result) cells self.new last }
         ensures refusal { IfErr result IsSetRefusal }
-        ensures err { OnErr result (SameSessions self.old self.new) }
+        ensures err { OnErr result (SameClients self.old self.new) }
         ensures unknown { (st : State) → ShowsClients self.old st → IsInactive st start → IsErrOf result Refusal.UnknownSession }
     {
         let cell = self.open_cell(start, row, family)?;
@@ -268,7 +268,7 @@ impl Clients {
         ensures stays { OnErr result (oracle.new.last ≡ oracle.old.last) }
         ensures undamaged { R.holds rows.old → ¬ (IsErrOf result Refusal.Damaged) }
         ensures refusal { IfErr result IsStepRefusal }
-        ensures err { OnErr result (SameSessions self.old self.new) }
+        ensures err { OnErr result (SameClients self.old self.new) }
         ensures unknown { (st : State) → ShowsClients self.old st → IsInactive st start → IsErrOf result Refusal.UnknownSession }
         ensures empty { (st : State) → ShowsClients self.old st → IsUnwritten st start → IsErrOf result Refusal.EmptyCommit }
         // Where the next step draws the commit stamp, no memory is taken.
