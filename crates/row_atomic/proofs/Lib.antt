@@ -5,6 +5,7 @@ pub mod Commanding
 pub mod Cutting
 pub mod Emptying
 pub mod Firsts
+pub mod Flushes
 pub mod Fresh
 pub mod Halving
 pub mod Joined

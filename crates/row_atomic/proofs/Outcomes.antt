@@ -260,7 +260,7 @@ module _ {F : Type 0} (contents : F → Option Contents) (count : F → ℕ) (n 
     full = λ is. cc;
     unfilled = λ of. absurd of;
     exhausted = λ is. cc;
-    large = λ order is. cc;
+    large = λ is. cc;
   })
 
   pub uncounted : (many : ℕ) → HasTablet n state.places → Numbered (MeetsBadCount (compactions.Merge many)) n state.tablets → IsOutcome contents count (command.Merge n many) (Refused BadCount) state state
@@ -270,7 +270,7 @@ module _ {F : Type 0} (contents : F → Option Contents) (count : F → ℕ) (n 
     full = λ is. cc;
     unfilled = λ of. absurd of;
     exhausted = λ is. cc;
-    large = λ order is. cc;
+    large = λ is. cc;
   })
 
   pub unstarted : (compaction : Compaction) → HasTablet n state.places → ¬ Numbered (MeetsBadCount compaction) n state.tablets → IsOutcome contents count (compacting compaction n) (Refused NoMemory) state state
@@ -280,7 +280,7 @@ module _ {F : Type 0} (contents : F → Option Contents) (count : F → ℕ) (n 
     full = λ is. cc;
     unfilled = λ of. absurd of;
     exhausted = λ is. cc;
-    large = λ order is. cc;
+    large = λ is. cc;
   })
 
 -- ---- splits
@@ -294,7 +294,7 @@ module _ {F : Type 0} (contents : F → Option Contents) (count : F → ℕ) (ro
     files = record { name = inl (refl, refl); limit = refl; none = λ _. (refl, refl) };
     room = tt;
     cause = record {
-      due = record { bad = ((λ _. bars), λ _. refl); full = λ is. cc; unfilled = λ of. absurd of; exhausted = λ is. cc; large = λ order is. cc };
+      due = record { bad = ((λ _. bars), λ _. refl); full = λ is. cc; unfilled = λ of. absurd of; exhausted = λ is. cc; large = λ is. cc };
       barred = λ _. refl;
       undone = λ _. none_done contents state;
     };
@@ -318,7 +318,7 @@ module _ {F : Type 0} (contents : F → Option Contents) (count : F → ℕ) (ro
               full = λ is. record { place = p; holder = holder; tablet = due.full is };
               unfilled = λ of. holder_not IsFull row old.places old.tablets p holder (due.unfilled of);
               exhausted = λ is. let none_left = due.exhausted is in (none_left.0, holder_not IsEmptied row old.places old.tablets p holder none_left.1);
-              large = λ order is. record { place = p; holder = holder; tablet = due.large order is };
+              large = λ is. record { place = p; holder = holder; tablet = due.large is };
             };
             barred = λ is. absurd (flush_bad (subst (IsNumberedRefusal compactions.Minor) is flush.upholds.0));
             undone = flush.cause.undone;
@@ -343,7 +343,7 @@ module _ {F : Type 0} (contents : F → Option Contents) (count : F → ℕ) (ro
         free = free;
         room = holder_not IsFull row old.places old.tablets p holder flush.cause.room;
         named = λ most. record { place = p; holder = holder; tablet = flush.cause.named most };
-        fits = λ order. holder_not _ row old.places old.tablets p holder (flush.cause.fits order);
+        fits = record { place = p; holder = holder; tablet = flush.cause.fits };
       };
       faults = told_after count (Split left) old mid new (flush.faults.told (λ is. cc)) (tells_done count left (Split left) mid new (λ is. cc) reason);
     }
@@ -359,7 +359,7 @@ module _ {F : Type 0} (contents : F → Option Contents) (count : F → ℕ) (ro
           full = λ is. absurd (read_not_many (subst IsFileRefusal is refusal));
           unfilled = λ of. holder_not IsFull row old.places old.tablets p holder flush.cause.room;
           exhausted = λ is. absurd (read_not_out (subst IsFileRefusal is refusal));
-          large = λ order is. absurd (read_not_large (subst IsFileRefusal is refusal));
+          large = λ is. absurd (read_not_large (subst IsFileRefusal is refusal));
         };
         barred = λ is. absurd (read_not_bad (subst IsFileRefusal is refusal));
         undone = λ is. absurd (read_not_many (subst IsFileRefusal is refusal));
@@ -404,7 +404,7 @@ module _ {F : Type 0} (contents : F → Option Contents) (count : F → ℕ) (n 
               full = λ is. absurd (subst IsUnknown is unknown);
               unfilled = λ of. absurd (unknown_unwritten e unknown of);
               exhausted = λ is. absurd (subst IsUnknown is unknown);
-              large = λ order is. absurd (subst IsUnknown is unknown);
+              large = λ is. absurd (subst IsUnknown is unknown);
             },
           );
           barred = λ _. refl;
@@ -478,7 +478,7 @@ module _ {F : Type 0} (contents : F → Option Contents) (count : F → ℕ) (n 
             full = λ is. absurd (read_not_many (subst IsFileRefusal is refusal));
             unfilled = λ of. flush.cause.room;
             exhausted = λ is. absurd (read_not_out (subst IsFileRefusal is refusal));
-            large = λ order is. absurd (read_not_large (subst IsFileRefusal is refusal));
+            large = λ is. absurd (read_not_large (subst IsFileRefusal is refusal));
           },
         );
         barred = λ barred. elim barred [

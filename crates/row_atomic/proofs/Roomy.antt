@@ -1,5 +1,5 @@
 -- What an accepted compaction tells of the limits.
-use Rattle.std.proofs.Common.{◌≡◌, ◌≢◌, ◌≤◌, ◌<◌, ◌^◌, ◌+◌, ℕ, Bool, true, cond, List, [], ◌∷◌, length, Option, Some, None, Result, Ok, Err, IfSome, IfErr, IsErrOf, slice_get, set, ◌++◌, ◌⊎◌, inl, inr, zero, suc, refl, sym, ap, ◌∙◌, subst, arith}
+use Rattle.std.proofs.Common.{◌≡◌, ◌≢◌, ◌≤◌, ◌<◌, ◌^◌, ◌+◌, ℕ, Bool, true, cond, List, [], ◌∷◌, length, Option, Some, Result, Ok, Err, IfErr, IsErrOf, slice_get, set, ◌++◌, ◌⊎◌, inl, inr, zero, suc, refl, sym, ap, ◌∙◌, subst, arith}
 use Rattle.std.specs.List.{AllByRecursion}
 use Rattle.cell_key.specs.Cells.{IsEditOf}
 use Rattle.cell_key.specs.Entries.{Entry}
@@ -12,14 +12,12 @@ use Rattle.metadata_table.specs.Places.{PlaceView}
 use Rattle.metadata_table.specs.Table.{IsHolder}
 use Rattle.sorted_file.specs.Grammar.{FitsIn, image_of}
 use Rattle.tablet.specs.Ranges.{has_row, seen}
-use Rattle.tablet.specs.Views.{Holds, UsesName, memory_of, names_of, range_of}
+use Rattle.tablet.specs.Views.{UsesName, memory_of, names_of, range_of}
 use Rattle.tablet.specs.declared.ranges.RowRange.{RowRange}
 use Rattle.tablet.specs.declared.tablet.Tablet.{Tablet}
-use Rattle.row_atomic.specs.Clusters.{HasTabletAt, InOrder, Overfills, edits_in, tablet_numbered}
-use Rattle.row_atomic.specs.Changes.{ComesOfWriting, IsFull, IsTooLarge, Numbered, OfHolder, written_by}
-use Rattle.row_atomic.specs.declared.cluster_compactions.Compaction.{Compaction}
-use Rattle.row_atomic.proofs.Changing.{at_order, numbered_at}
-use Rattle.row_atomic.proofs.Shares.{at_told}
+use Rattle.row_atomic.specs.Clusters.{HasTabletAt, Overfills, edits_in, tablet_numbered}
+use Rattle.row_atomic.specs.Changes.{ComesOfWriting, IsFull, Numbered, OfHolder}
+use Rattle.row_atomic.proofs.Changing.{numbered_at}
 use Rattle.row_atomic.proofs.Splitting.{one_holder}
 
 -- a file of no entries is a head and a foot
@@ -30,13 +28,8 @@ empty_fits limit least = record {
   within = least;
 }
 
--- what is true is true of held files
-pub of_held : (o : Option Contents) (t : Tablet) {P : Type 0} → P → IfSome o (λ m. Holds m t → P)
-of_held None t p = tt
-of_held (Some m) t p = λ held. p
-
-pub minor_fits : (limit : ℕ) (o : Option Contents) (t : Tablet) → 32 ≤ limit → (memory_of t ≢ [] → FitsIn limit (seen (range_of t) (memory_of t))) → IfSome o (λ m. Holds m t → FitsIn limit (seen (range_of t) (memory_of t)))
-minor_fits limit o t least fits = of_held o t (go (memory_of t) fits)
+pub minor_fits : (limit : ℕ) (t : Tablet) → 32 ≤ limit → (memory_of t ≢ [] → FitsIn limit (seen (range_of t) (memory_of t))) → FitsIn limit (seen (range_of t) (memory_of t))
+minor_fits limit t least fits = go (memory_of t) fits
   where
     not_empty : (e : Entry) (es : List Entry) → (e ∷ es) ≢ []
     not_empty e es same = cc
@@ -90,12 +83,6 @@ module _ (ts : List Tablet) (i : ℕ) (t : Tablet) (there : slice_get ts i ≡ S
     where
       same : (o : Option Tablet) (v : Tablet) → o ≡ Some v → o ≡ Some t → v ≡ t
       same o v f g = cc
-
-  -- where the tablets are in order
-  pub fits_order : (limit : ℕ) (o : Option Contents) (next : ℕ) (compaction : Compaction) → InOrder o next ts → IfSome o (λ m. Holds m t → FitsIn limit (written_by compaction m t)) → ¬ IsTooLarge limit o compaction t
-  fits_order limit o next compaction order fits large =
-      let held = at_order (λ m. FitsIn limit (written_by compaction m t)) o next ts i t there order fits in
-      at_told (λ m. ¬ FitsIn limit (written_by compaction m t)) o order.contents order.are_told large (at_told (λ m. FitsIn limit (written_by compaction m t)) o order.contents order.are_told held)
 
 -- the tablet of the place that holds a row
 pub holder_not : (P : Tablet → Type 0) (row : List ℕ) (places : List PlaceView) (ts : List Tablet) (p : PlaceView) → IsHolder row places p → ¬ Numbered P p.tablet ts → ¬ OfHolder P row places ts

@@ -12,8 +12,10 @@ use Rattle.compaction.specs.Writing.{written}
 use Rattle.metadata_table.specs.Places.{PlaceView}
 use Rattle.metadata_table.specs.Table.{IsHolder, Cuts, moved, with_files}
 use Rattle.tablet.specs.Ranges.{seen}
-use Rattle.tablet.specs.Views.{range_of, memory_of, files_of, names_of, lists_of, with_name}
-use Rattle.tablet.specs.Compactions.{IsCompactionRefusal}
+use Rattle.tablet.specs.Views.{Holds as HoldsAt, range_of, memory_of, files_of, names_of, lists_of, with_name}
+use Rattle.tablet.specs.Compactions.{Compacts, IsCompactionRefusal}
+use Rattle.tablet.specs.declared.compactions.Compaction.{Compaction as Kind}
+use Rattle.tablet.specs.declared.compactions.Compaction.TheVariants as kinds
 use Rattle.tablet.specs.declared.ranges.RowRange.{RowRange}
 use Rattle.tablet.specs.declared.tablet.Tablet.{Tablet}
 use Rattle.row_atomic.specs.Clusters.{ClusterState, InOrder, cells_in, tablet_numbered}
@@ -101,9 +103,16 @@ abbrev pub IsCleaned : Compaction → Option Contents → Tablet → Type 0
 IsCleaned Major told t = LacksErasures told t
 IsCleaned _ told t = ⊤
 
--- the tablet of a number was compacted
+-- a compaction, as the tablet says it
+abbrev pub kind_of : Compaction → Kind
+kind_of Minor = kinds.Minor
+kind_of (Merge count) = kinds.Merge count
+kind_of Major = kinds.Major
+
+-- The tablet of a number was compacted: its file has keys of the tablet's range alone, and erasures unless all files were merged.
 pub record IsCompacted {F : Type 0} (contents : F → Option Contents) (compaction : Compaction) (tablet : ℕ) (old new : ClusterState F) : Type 0 where
   pub made : Remakes (IsMade compaction old.next_name) tablet old.tablets new.tablets
+  pub lists : Remakes (Compacts (kind_of compaction) (contents old.files) old.next_name (contents new.files)) tablet old.tablets new.tablets
   pub cleaned : Holds contents old → Numbered (IsCleaned compaction (contents new.files)) tablet new.tablets
 
 -- the entries that a compaction writes
@@ -112,9 +121,15 @@ written_by Minor m t = seen (range_of t) (memory_of t)
 written_by (Merge count) m t = written (nat_lt count (length (names_of t))) (map (seen (range_of t)) (take count (map (listed m) (files_of t))))
 written_by Major m t = written false (map (seen (range_of t)) (memory_of t ∷ map (listed m) (files_of t)))
 
--- their file would have more bytes than a file may have
+-- Their file would have more bytes than a file may have. Those of a merging or a major one are told where the tablet's files are open.
 abbrev pub IsTooLarge : ℕ → Option Contents → Compaction → Tablet → Type 0
-IsTooLarge limit told compaction t = IfSome told (λ m. ¬ FitsIn limit (written_by compaction m t))
+IsTooLarge limit told Minor t = ¬ FitsIn limit (seen (range_of t) (memory_of t))
+IsTooLarge limit told compaction t = IfSome told (λ m. HoldsAt m t → ¬ FitsIn limit (written_by compaction m t))
+
+-- or it has as many at most
+abbrev pub Fits : ℕ → Option Contents → Compaction → Tablet → Type 0
+Fits limit told Minor t = FitsIn limit (seen (range_of t) (memory_of t))
+Fits limit told compaction t = IfSome told (λ m. HoldsAt m t → FitsIn limit (written_by compaction m t))
 
 -- this many files can't be merged
 abbrev pub IsBadCount : ℕ → Tablet → Type 0

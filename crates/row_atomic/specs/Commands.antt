@@ -11,7 +11,7 @@ use Rattle.cell_key.specs.declared.refusals.Refusal.TheVariants as refused
 use Rattle.file_store.specs.Store.{Contents}
 use Rattle.metadata_table.specs.Table.{BarsSplit, HasTablet, most_servers}
 use Rattle.tablet.specs.Views.{UsesName}
-use Rattle.row_atomic.specs.Changes.{ComesOfWriting, ComesTo, Holds, IsAsBefore, IsCompacted, IsCut, IsEmptied, IsFull, IsHalved, IsMoveRefusal, IsNumberedRefusal, IsOn, IsSplitRefusal, IsTooLarge, IsUndone, MayBeFlushed, MayHolderBeFlushed, MeetsBadCount, MeetsFull, Numbered, OfHolder, WritesNone}
+use Rattle.row_atomic.specs.Changes.{ComesOfWriting, ComesTo, Fits, Holds, IsAsBefore, IsCompacted, IsCut, IsEmptied, IsFull, IsHalved, IsMoveRefusal, IsNumberedRefusal, IsOn, IsSplitRefusal, IsTooLarge, IsUndone, MayBeFlushed, MayHolderBeFlushed, MeetsBadCount, MeetsFull, Numbered, OfHolder, WritesNone}
 use Rattle.row_atomic.specs.Clusters.{ClusterState, Overfills, cells_in, spots_of, storage_of}
 use Rattle.row_atomic.specs.Compactions as compaction
 use Rattle.row_atomic.specs.Refusals.{IsApplyRefusal, IsReadRefusal}
@@ -166,7 +166,7 @@ pub record BarsCompaction {F : Type 0} (contents : F → Option Contents) (compa
   pub full : refusal ≡ refused.TooManyFiles → Numbered (MeetsFull compaction) tablet old.tablets
   pub unfilled : ComesOfWriting refusal → ¬ Numbered (MeetsFull compaction) tablet old.tablets
   pub exhausted : refusal ≡ refused.Exhausted → (2 ^ 63 ≤ old.next_name) × (¬ Numbered (WritesNone compaction) tablet old.tablets)
-  pub large : Holds contents old → refusal ≡ refused.FileTooLarge → Numbered (IsTooLarge old.file_limit (contents old.files) compaction) tablet old.tablets
+  pub large : refusal ≡ refused.FileTooLarge → Numbered (IsTooLarge old.file_limit (contents old.files) compaction) tablet old.tablets
 
 -- and why a split at a row is, which flushes the tablet that holds it
 pub record BarsCut {F : Type 0} (contents : F → Option Contents) (row : List ℕ) (refusal : Refusal) (old : ClusterState F) : Type 0 where
@@ -174,7 +174,7 @@ pub record BarsCut {F : Type 0} (contents : F → Option Contents) (row : List �
   pub full : refusal ≡ refused.TooManyFiles → OfHolder IsFull row old.places old.tablets
   pub unfilled : ComesOfWriting refusal → ¬ OfHolder IsFull row old.places old.tablets
   pub exhausted : refusal ≡ refused.Exhausted → (2 ^ 63 ≤ old.next_name) × (¬ OfHolder IsEmptied row old.places old.tablets)
-  pub large : Holds contents old → refusal ≡ refused.FileTooLarge → OfHolder (IsTooLarge old.file_limit (contents old.files) compaction.minor) row old.places old.tablets
+  pub large : refusal ≡ refused.FileTooLarge → OfHolder (IsTooLarge old.file_limit (contents old.files) compaction.minor) row old.places old.tablets
 
 -- Why a command is refused so. Of a device's fault more is said below, and of want of memory nothing.
 abbrev pub IsDue : {F : Type 0} → (F → Option Contents) → Command → Refusal → ClusterState F → Type 0
@@ -196,14 +196,14 @@ pub record MayCompact {F : Type 0} (contents : F → Option Contents) (compactio
   pub counted : ¬ Numbered (MeetsBadCount compaction) tablet old.tablets
   pub room : ¬ Numbered (MeetsFull compaction) tablet old.tablets
   pub named : 2 ^ 63 ≤ old.next_name → Numbered (WritesNone compaction) tablet old.tablets
-  pub fits : Holds contents old → ¬ Numbered (IsTooLarge old.file_limit (contents old.files) compaction) tablet old.tablets
+  pub fits : Numbered (Fits old.file_limit (contents old.files) compaction) tablet old.tablets
 
 -- and so may a split at a row, which flushes the tablet that holds it
 pub record MayCut {F : Type 0} (contents : F → Option Contents) (row : List ℕ) (old : ClusterState F) : Type 0 where
   pub free : ¬ BarsSplit row old.places
   pub room : ¬ OfHolder IsFull row old.places old.tablets
   pub named : 2 ^ 63 ≤ old.next_name → OfHolder IsEmptied row old.places old.tablets
-  pub fits : Holds contents old → ¬ OfHolder (IsTooLarge old.file_limit (contents old.files) compaction.minor) row old.places old.tablets
+  pub fits : OfHolder (Fits old.file_limit (contents old.files) compaction.minor) row old.places old.tablets
 
 -- and a move, which flushes a tablet that is on another server
 pub record MayMove {F : Type 0} (contents : F → Option Contents) (tablet server : ℕ) (old : ClusterState F) : Type 0 where

@@ -3,6 +3,7 @@ pub mod Changes
 pub mod Clusters
 pub mod Commands
 pub mod Compactions
+pub mod Flushes
 pub mod Laws
 pub mod Oldest
 pub mod Refusals

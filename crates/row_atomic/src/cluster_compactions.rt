@@ -2,10 +2,10 @@
 
 ghost use Rattle.std.specs.Prelude.{◌≡◌, ◌≤◌, ◌<◌, ◌+◌, ◌^◌, [], length, vec_capacity, IfErr, IfOk, IfSome, IsErrOf, IsOk, OnErr, OnOk};
 ghost use Rattle.metadata_table.specs.Table.{HasTablet, IsTable, with_files};
-ghost use Rattle.sorted_file.specs.Grammar.{FitsIn};
 ghost use Rattle.cell_key.specs.Faults.{HasReason};
+ghost use Rattle.tablet.specs.Compactions.{Compacts};
 ghost use Rattle.tablet.specs.Views.{Holds as HoldsAt, IsBelow, IsUnchanged, Keeps, UsesName, names_of, range_of};
-ghost use Rattle.row_atomic.specs.Changes.{ComesOfWriting, IsAt, IsBadCount, IsCleaned, IsFull, IsMade, IsRefusalOf, MeetsBadCount, MeetsFull, Numbered, WritesNone, written_by};
+ghost use Rattle.row_atomic.specs.Changes.{ComesOfWriting, Fits, IsAt, IsBadCount, IsCleaned, IsFull, IsMade, IsRefusalOf, IsTooLarge, MeetsBadCount, MeetsFull, Numbered, WritesNone, kind_of};
 ghost use Rattle.row_atomic.specs.Commands.{IsOutcome, compacting, done_of};
 
 use crate::cluster::Cluster;
@@ -54,8 +54,9 @@ fn compact<F: Files>(
     ensures needed { IsErrOf result Refusal.Exhausted → ¬ WritesNone compaction tablet.old }
     ensures left { OnOk result (2 ^ 63 ≤ next_name.old → WritesNone compaction tablet.old) }
     ensures empty { WritesNone compaction tablet.old → IsOk result × ((next_name.new ≡ next_name.old) × (F.contents files.new ≡ F.contents files.old)) }
-    ensures large { IsErrOf result Refusal.FileTooLarge → IfSome (F.contents files.old) (λ m. HoldsAt m tablet.old → ¬ FitsIn file_limit (written_by compaction m tablet.old)) }
-    ensures fits { OnOk result (IfSome (F.contents files.old) (λ m. HoldsAt m tablet.old → FitsIn file_limit (written_by compaction m tablet.old))) }
+    ensures large { IsErrOf result Refusal.FileTooLarge → IsTooLarge file_limit (F.contents files.old) compaction tablet.old }
+    ensures fits { OnOk result (Fits file_limit (F.contents files.old) compaction tablet.old) }
+    ensures lists { OnOk result (Compacts (kind_of compaction) (F.contents files.old) next_name.old (F.contents files.new) tablet.old tablet.new) }
     ensures damaged { IsErrOf result Refusal.Damaged → IfSome (F.contents files.old) (λ m. ¬ HoldsAt m tablet.old) }
     ensures refusal { IfErr result (IsRefusalOf compaction) }
     ensures reason { HasReason (F.faults files.old) (F.faults files.new) result }

@@ -3,6 +3,7 @@
 
 mod cluster;
 mod cluster_compactions;
+mod cluster_full;
 mod cluster_laws;
 mod cluster_moving;
 mod cluster_rows;

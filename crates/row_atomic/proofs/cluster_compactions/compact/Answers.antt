@@ -5,11 +5,11 @@ use Rattle.tablet.specs.Compactions.{IsCompactionRefusal, IsMergeRefusal, IsMino
 use Rattle.row_atomic.proofs.Changing.{cleaned, if_ok, on_ok}
 use Rattle.row_atomic.proofs.Commanding.{not_answered}
 use Rattle.row_atomic.proofs.Passing.{each_refusal}
-use Rattle.row_atomic.proofs.Roomy.{has_room, minor_fits, of_held, none_written, not_full_written, not_least}
+use Rattle.row_atomic.proofs.Roomy.{has_room, minor_fits, none_written, not_full_written, not_least}
 use Rattle.row_atomic.proofs.cluster_compactions.compact.Goals as goal
 
 pub returns-in-Minor-clause-large : goal.returns-in-Minor-clause-large
-returns-in-Minor-clause-large g c = rw (c.in-Minor.is) (λ large. of_held (g.F.Files.contents c.args.files.now) c.args.tablet.now (c.minor.ensures.large large).1)
+returns-in-Minor-clause-large g c = rw (c.in-Minor.is) (λ large. (c.minor.ensures.large large).1)
 
 pub returns-in-Merge-clause-large : goal.returns-in-Merge-clause-large
 returns-in-Merge-clause-large g c = rw (c.in-Merge.is) (c.merge.ensures.large)
@@ -39,7 +39,7 @@ pub returns-in-Major-clause-left : goal.returns-in-Major-clause-left
 returns-in-Major-clause-left g c = rw (c.in-Major.is) (on_ok _ _ c.major.result (not_least (2 ^ 63) c.args.next_name.now) c.major.ensures.left)
 
 pub returns-in-Minor-clause-fits : goal.returns-in-Minor-clause-fits
-returns-in-Minor-clause-fits g c = rw (c.in-Minor.is) (on_ok _ _ c.minor.result (minor_fits c.args.file_limit (g.F.Files.contents c.args.files.now) c.args.tablet.now c.requires.least) c.minor.ensures.fits)
+returns-in-Minor-clause-fits g c = rw (c.in-Minor.is) (on_ok _ _ c.minor.result (minor_fits c.args.file_limit c.args.tablet.now c.requires.least) c.minor.ensures.fits)
 
 pub returns-in-Merge-clause-fits : goal.returns-in-Merge-clause-fits
 returns-in-Merge-clause-fits g c = rw (c.in-Merge.is) (c.merge.ensures.fits)
@@ -175,3 +175,12 @@ returns-in-Merge-clause-unfilled g c = rw (c.in-Merge.is) (each_refusal c.merge.
 
 pub returns-in-Major-clause-unfilled : goal.returns-in-Major-clause-unfilled
 returns-in-Major-clause-unfilled g c = rw (c.in-Major.is) (each_refusal c.major.result _ (λ refusal of full. full))
+
+pub returns-in-Minor-clause-lists : goal.returns-in-Minor-clause-lists
+returns-in-Minor-clause-lists g c = rw (c.in-Minor.is) (c.minor.ensures.lists)
+
+pub returns-in-Merge-clause-lists : goal.returns-in-Merge-clause-lists
+returns-in-Merge-clause-lists g c = rw (c.in-Merge.is) (c.merge.ensures.lists)
+
+pub returns-in-Major-clause-lists : goal.returns-in-Major-clause-lists
+returns-in-Major-clause-lists g c = rw (c.in-Major.is) (c.major.ensures.lists)

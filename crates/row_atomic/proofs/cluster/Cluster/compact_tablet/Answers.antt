@@ -6,13 +6,14 @@ use Rattle.cell_key.specs.declared.refusals.Refusal.TheVariants.{BadCount, Damag
 use Rattle.metadata_table.specs.Table.{with_files}
 use Rattle.tablet.specs.Views.{names_of}
 use Rattle.row_atomic.specs.Clusters.{spot_of}
-use Rattle.row_atomic.specs.Changes.{IsCleaned, IsFull, IsMade, IsTooLarge, MeetsBadCount, MeetsFull, WritesNone}
+use Rattle.row_atomic.specs.Changes.{Fits, IsCleaned, IsFull, IsMade, IsTooLarge, MeetsBadCount, MeetsFull, WritesNone, kind_of}
+use Rattle.tablet.specs.Compactions.{Compacts}
 use Rattle.row_atomic.proofs.Answering.{found_there, undamaged}
-use Rattle.row_atomic.proofs.Changing.{at_order, has_room, in_order, is_set, matched_unchanged, matched_listed, numbered_new, numbered_old, parts_stay, remade, same_spots, stays}
+use Rattle.row_atomic.proofs.Changing.{has_room, in_order, is_set, matched_unchanged, matched_listed, numbered_new, numbered_old, parts_stay, remade, same_spots, stays}
 use Rattle.row_atomic.specs.declared.commands.Outcome.TheVariants.{Done}
 use Rattle.row_atomic.proofs.Outcomes.{compacted, err_of, full_meets, known_refusal, refused_done, tells_done, tells_refused, uncompacted, unstarted}
 use Rattle.row_atomic.proofs.Passing.{none_answered}
-use Rattle.row_atomic.proofs.Roomy.{fits_order, numbered_not, numbered_that}
+use Rattle.row_atomic.proofs.Roomy.{numbered_not, numbered_that}
 use Rattle.row_atomic.proofs.cluster.Cluster.compact_tablet.Goals as goal
 
 pub invariant_of-self : goal.invariant_of-self
@@ -79,7 +80,7 @@ returns-in_err-compact-clause-outcome g c =
       full = full_meets c.args.compaction e refused.refusal (λ is. numbered_old c.self.inside.tablets.items c.position-index.result c.index_mut.result.now c.compact.new.tablet there (IsFull) c.args.tablet at.number (refused.full (err_of e TooManyFiles is)));
       unfilled = λ of. numbered_not c.self.inside.tablets.items c.position-index.result c.index_mut.result.now there (MeetsFull c.args.compaction) c.args.tablet at.number (refused.unfilled of);
       exhausted = λ is. (refused.exhausted (err_of e Exhausted is), numbered_not c.self.inside.tablets.items c.position-index.result c.index_mut.result.now there (WritesNone c.args.compaction) c.args.tablet at.number (refused.needed (err_of e Exhausted is)));
-      large = λ order is. numbered_old c.self.inside.tablets.items c.position-index.result c.index_mut.result.now c.compact.new.tablet there (IsTooLarge c.self.inside.file_limit (g.F.Files.contents c.self.inside.files) c.args.compaction) c.args.tablet at.number (at_order _ (g.F.Files.contents c.self.inside.files) c.self.inside.next_name c.self.inside.tablets.items c.position-index.result c.index_mut.result.now there order (refused.large (err_of e FileTooLarge is)));
+      large = λ is. numbered_old c.self.inside.tablets.items c.position-index.result c.index_mut.result.now c.compact.new.tablet there (IsTooLarge c.self.inside.file_limit (g.F.Files.contents c.self.inside.files) c.args.compaction) c.args.tablet at.number (refused.large (err_of e FileTooLarge is));
     })
     (known_refusal c.args.compaction e refused.refusal) within
     (λ is. let same = refused.undone (err_of e TooManyFiles is) in record { as_before = record { places = refl; tablets = parts_stay c.self.inside.tablets.items c.position-index.result c.index_mut.result.now c.compact.new.tablet there refused.err }; name = same.0; files = same.1 })
@@ -91,7 +92,7 @@ returns-clause-outcome g c =
     let there = found_there c.self.inside.tablets.items c.position-index.result at.tablet c.index_mut.result.now at.there c.index_mut.ensures.value in
     rw (← c.self.view_is) (compacted g.F.Files.contents g.F.Files.faults c.args.tablet _ _ c.args.compaction
     (λ order. stays c.self.inside.tablets.items c.position-index.result c.index_mut.result.now c.compact.new.tablet there c.others_stay.ensures (g.F.Files.contents c.self.inside.files) (g.F.Files.contents c.compact.new.files) c.self.inside.next_name c.compact.new.next_name c.compact.ensures.name c.compact.ensures.keeps order)
-    (record { made = remade c.self.inside.tablets.items c.position-index.result c.index_mut.result.now c.compact.new.tablet there (IsMade c.args.compaction c.self.inside.next_name) c.args.tablet at.number c.in_ok-compact.ensures.made; cleaned = λ order. numbered_new c.self.inside.tablets.items c.position-index.result c.index_mut.result.now c.compact.new.tablet there (IsCleaned c.args.compaction (g.F.Files.contents c.compact.new.files)) c.args.tablet at.number (in_order _ (g.F.Files.contents c.self.inside.files) c.self.inside.next_name c.self.inside.tablets.items c.position-index.result c.index_mut.result.now there order c.in_ok-compact.ensures.cleaned) })
+    (record { made = remade c.self.inside.tablets.items c.position-index.result c.index_mut.result.now c.compact.new.tablet there (IsMade c.args.compaction c.self.inside.next_name) c.args.tablet at.number c.in_ok-compact.ensures.made; lists = remade c.self.inside.tablets.items c.position-index.result c.index_mut.result.now c.compact.new.tablet there (Compacts (kind_of c.args.compaction) (g.F.Files.contents c.self.inside.files) c.self.inside.next_name (g.F.Files.contents c.compact.new.files)) c.args.tablet at.number c.in_ok-compact.ensures.lists; cleaned = λ order. numbered_new c.self.inside.tablets.items c.position-index.result c.index_mut.result.now c.compact.new.tablet there (IsCleaned c.args.compaction (g.F.Files.contents c.compact.new.files)) c.args.tablet at.number (in_order _ (g.F.Files.contents c.self.inside.files) c.self.inside.next_name c.self.inside.tablets.items c.position-index.result c.index_mut.result.now there order c.in_ok-compact.ensures.cleaned) })
     (record {
       name = c.compact.ensures.name;
       limit = refl;
@@ -103,6 +104,6 @@ returns-clause-outcome g c =
       counted = rw (← c.self.view_is) at c.requires.counted;
       room = numbered_not c.self.inside.tablets.items c.position-index.result c.index_mut.result.now there (MeetsFull c.args.compaction) c.args.tablet at.number c.in_ok-compact.ensures.room;
       named = λ most. numbered_old c.self.inside.tablets.items c.position-index.result c.index_mut.result.now c.compact.new.tablet there (WritesNone c.args.compaction) c.args.tablet at.number (c.in_ok-compact.ensures.left most);
-      fits = λ order. numbered_not c.self.inside.tablets.items c.position-index.result c.index_mut.result.now there (IsTooLarge c.self.inside.file_limit (g.F.Files.contents c.self.inside.files) c.args.compaction) c.args.tablet at.number (fits_order c.self.inside.tablets.items c.position-index.result c.index_mut.result.now there c.self.inside.file_limit (g.F.Files.contents c.self.inside.files) c.self.inside.next_name c.args.compaction order c.in_ok-compact.ensures.fits);
+      fits = numbered_old c.self.inside.tablets.items c.position-index.result c.index_mut.result.now c.compact.new.tablet there (Fits c.self.inside.file_limit (g.F.Files.contents c.self.inside.files) c.args.compaction) c.args.tablet at.number c.in_ok-compact.ensures.fits;
     })
     (tells_done g.F.Files.faults _ Done _ _ (λ is. cc) c.in_ok-compact.ensures.reason))

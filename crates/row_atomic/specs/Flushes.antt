@@ -1,0 +1,36 @@
+-- Compactions that no command asks for: of each tablet whose memtable has many entries.
+use Rattle.std.specs.Prelude.{◌≡◌, ◌≤◌, ℕ, Bool, false, nat_le, List, length, map, filter, Option, None, Some}
+use Rattle.file_store.specs.Store.{Contents}
+use Rattle.metadata_table.specs.Places.{PlaceView}
+use Rattle.tablet.specs.Views.{memory_of}
+use Rattle.tablet.specs.declared.tablet.Tablet.{Tablet}
+use Rattle.row_atomic.specs.Changes.{KeepsMap}
+use Rattle.row_atomic.specs.Clusters.{ClusterState, spots_of, tablet_numbered}
+use Rattle.row_atomic.specs.Commands.{AnswersAll}
+use Rattle.row_atomic.specs.declared.commands.Command.TheVariants as command
+use Rattle.row_atomic.specs.declared.commands.Outcome.{Outcome}
+
+-- whether there is a tablet, and its memtable has this many entries or more
+abbrev pub has_entries : ℕ → Option Tablet → Bool
+has_entries flush None = false
+has_entries flush (Some t) = nat_le flush (length (memory_of t))
+
+-- the numbers of tablets, in the order of their ends
+abbrev pub numbers_of : List PlaceView → List ℕ
+numbers_of places = map (λ p. p.tablet) places
+
+-- those of the tablets whose memtables have this many entries or more
+abbrev pub numbers_with : {F : Type 0} → ℕ → ClusterState F → List ℕ
+numbers_with flush state = filter (λ n. has_entries flush (tablet_numbered n state.tablets)) (numbers_of state.places)
+
+-- Minor compactions of these tablets, and of no other, were done one after the other, or refused. Their outcomes are not told.
+abbrev pub CompactsFull : {F : Type 0} → (F → Option Contents) → (F → ℕ) → ℕ → ClusterState F → ClusterState F → Type 0
+CompactsFull contents faults flush old new = (outcomes : List Outcome) × AnswersAll contents faults old (map command.Minor (numbers_with flush old)) outcomes new
+
+-- Tablets that were in order are, with the same cells. They are where they were, with the same limit of a file, and no fault was
+-- forgotten.
+pub record KeepsShown {F : Type 0} (contents : F → Option Contents) (faults : F → ℕ) (old new : ClusterState F) : Type 0 where
+  pub kept : KeepsMap contents old new
+  pub spots : spots_of new ≡ spots_of old
+  pub limit : new.file_limit ≡ old.file_limit
+  pub later : faults old.files ≤ faults new.files
