@@ -6,8 +6,7 @@ use Rattle.std.specs.List.{AllByRecursion}
 use Rattle.std.specs.declared.cmp.Ordering.TheVariants.{Less}
 use Rattle.std.specs.Ordering.{eq_by_cmp}
 use Rattle.std.specs.FinMap.Entries.{find}
-use Rattle.cell_key.specs.Names.{IsRow, IsFamily}
-use Rattle.cell_key.specs.Keys.{byte_cmp, text, IsKeyText, IsStored}
+use Rattle.cell_key.specs.Keys.{byte_cmp, text, IsKeyText}
 use Rattle.cell_key.specs.Cells.{version}
 use Rattle.cell_key.specs.Entries.{Entry, IsEntry, IsEntryList, entry_of_key, first_naming, or_else, value_of}
 use Rattle.cell_key.specs.declared.keys.CellKey.{CellKey}
@@ -22,7 +21,7 @@ use Rattle.tablet.specs.Views.{lists_of, files_of, memory_of, Holds}
 use Rattle.tablet.specs.declared.tablet.Tablet.{Tablet}
 use Rattle.tablet.proofs.Answering.{if_ok_one}
 use Rattle.tablet.proofs.Filters.{is_between, one_text}
-use Rattle.tablet.proofs.FirstValues.{IsFirstAt, first_none, first_some, first_is, none_is}
+use Rattle.tablet.proofs.FirstValues.{first_none, first_some, first_is, none_is}
 use Rattle.tablet.proofs.Held.{held_lists}
 use Rattle.tablet.proofs.Shown.{part_at, part_list}
 use Rattle.tablet.proofs.Versions.{version_between}

@@ -1,12 +1,7 @@
-use Rattle.std.proofs.Common.{◌-◌, Some, ap, ◌∙◌, inl, inr, arith, refl, sym, subst}
-use Rattle.std.specs.List.{AllByRecursion}
+use Rattle.std.proofs.Common.{◌-◌, inl, inr, arith, refl}
 use Rattle.cell_key.specs.declared.refusals.Refusal.TheVariants.{Damaged, Device}
-use Rattle.sorted_file.specs.Opened.{IsOpen}
-use Rattle.sorted_file.specs.Sources.{IsReadRefusal}
-use Rattle.tablet.specs.Views.{Holds}
 use Rattle.tablet.proofs.Answering.{between_none, between_some, never_outside}
-use Rattle.tablet.proofs.Passed.{IsHeldRefusal, IsNoMemory, no_memory, not_err, passed_err, passed_kind, passed_none, passed_on, passed_reason, quiet_reason, reason_after, reason_of_ok, told_kind}
-use Rattle.tablet.proofs.Writing.{if_some_not}
+use Rattle.tablet.proofs.Passed.{IsHeldRefusal, not_err, passed_err, passed_none, passed_on, passed_reason, quiet_reason, reason_after, reason_of_ok, told_kind}
 use Rattle.tablet.proofs.tablet.Tablet.newest_between.Goals as goal
 use Rattle.tablet.proofs.tablet.Tablet.newest_between.Goals.{then-key-lo-via-then-key-lo, then-key-lo-via-else-key-lo+then-hi-key}
 
