@@ -5,6 +5,7 @@ pub mod Places
 mod Reading
 mod Rest
 mod Results
+mod Spanned
 mod Spelling
 mod Splits
 mod Values

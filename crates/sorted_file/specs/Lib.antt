@@ -4,5 +4,6 @@ pub mod Building
 pub mod Cursors
 pub mod Kept
 pub mod Opened
+pub mod Spans
 pub use Rattle.cell_key.specs.Entries
 pub use Rattle.file_store.specs.Store

@@ -9,6 +9,7 @@ mod images;
 mod laws;
 mod opened;
 mod sources;
+mod spans;
 mod writing;
 
 pub use cursors::FileCursor;

@@ -1,6 +1,6 @@
 //! A file of entries that is open for reading.
 
-ghost use Rattle.std.specs.Prelude.{◌≡◌, Some, None, option_map, IfOk, IfErr, IfSome, IsErrOf};
+ghost use Rattle.std.specs.Prelude.{◌≡◌, Some, None, false, option_map, IfOk, IfErr, IfSome, IsErrOf};
 ghost use Rattle.std.specs.FinMap as map;
 ghost use Rattle.cell_key.specs.Keys.{text};
 ghost use Rattle.cell_key.specs.Entries.{entry_of_key, entries_from};
@@ -12,7 +12,8 @@ use crate::cursors::FileCursor;
 use crate::entries::{FileEntry, find, first_from};
 use crate::images::entries_of;
 use crate::sources::refusal_of;
-use cell_key::{CellKey, Refusal};
+use crate::spans::{Spans, spans_of};
+use cell_key::{CellKey, Qualifier, Refusal, Stamp};
 use file_store::{Files, read_whole};
 use std::alloc::Global;
 
@@ -37,10 +38,12 @@ pub struct SortedFile {
     alloc: Global,
     name: u64,
     entries: Vec<FileEntry>,
+    spans: Spans,
 }
 
 impl SortedFile {
     ghost use Rattle.sorted_file.specs.Cursors.{cursor_lent, cursor_remaining, CursorHolds};
+    ghost use Rattle.sorted_file.specs.Spans.{HasNoValue};
     ghost use Rattle.sorted_file.specs.Opened.{HasFile, IsOpen, IsSameFile, IsShortValue, listed, name_of, value_bytes};
 
     /// Opens a file. Refused Damaged where it isn't there or is the file of no entry list, Device and
@@ -54,14 +57,16 @@ impl SortedFile {
         ensures reason { HasReason (F.faults files.old) (F.faults files.new) result }
     {
         let bytes = read_file(alloc, name, files)?;
-        match entries_of(alloc, &bytes)? {
-            Some(entries) => Ok(SortedFile {
-                alloc,
-                name,
-                entries,
-            }),
-            None => Err(Refusal::Damaged),
-        }
+        let Some(entries) = entries_of(alloc, &bytes)? else {
+            return Err(Refusal::Damaged);
+        };
+        let spans = spans_of(alloc, &entries)?;
+        Ok(SortedFile {
+            alloc,
+            name,
+            entries,
+            spans,
+        })
     }
 
     /// The name of the file.
@@ -69,6 +74,14 @@ impl SortedFile {
         ensures { result ≡ name_of self.now }
     {
         self.name
+    }
+
+    /// Whether the file may have a value of a column of this kind at a stamp in `lo..=hi`. Takes no memory and
+    /// reads nothing.
+    pub fn may_have(&self, qualifier: Qualifier, lo: Stamp, hi: Stamp) -> bool
+        ensures { result ≡ false → (m : Contents) → IsOpen m self.now → HasNoValue qualifier lo hi (listed m self.now) }
+    {
+        self.spans.meet(qualifier, lo, hi)
     }
 
     /// What the file has of a key: a value, of at most 65,536 bytes, `Some(None)` where it is an erasure, and

@@ -14,7 +14,7 @@ use Rattle.file_store.specs.Store.{Contents}
 use Rattle.sorted_file.specs.Opened.{IsOpen, listed}
 use Rattle.sorted_file.specs.declared.opened.SortedFile.{SortedFile}
 use Rattle.tablet.specs.Ranges.{has_row, upper_fence}
-use Rattle.tablet.specs.Reads.{first_value, start_of, IsPlaceOrNone}
+use Rattle.tablet.specs.Reads.{column_part, first_value, start_of, IsPlace, IsPlaceOrNone}
 use Rattle.tablet.specs.Sources.{IsOpenIn, listed_in, part}
 use Rattle.tablet.specs.Views.{range_of, memory_of, files_of, lists_of, cells_at, Holds}
 use Rattle.tablet.specs.declared.tablet.Tablet.{Tablet}
@@ -110,40 +110,6 @@ module _ (t : Tablet) (fs : List SortedFile) (files : fs ≡ files_of t) where
     moved : (m : Contents) (found : Option (List ℕ × List ℕ)) → (AllByRecursion (IsOpen m) fs → found ≡ first_value (part x y (memory_of t ∷ map (listed m) fs))) → Holds m t → first_value (part from end (lists_of m t)) ≡ found
     moved m found h held = sym (h (open_files m held) ∙ λ i. first_value (part (starts i) (ends i) (memory_of t ∷ map (listed m) (files i))))
 
-  module _ (row family : List ℕ) (q : Qualifier) (lo before hi : ℕ) (is_row : IsRow row) (is_family : IsFamily family) (one : before + 1 ≡ lo) (small : before < 2 ^ 64) (small_hi : hi < 2 ^ 64) (x : List ℕ) (y : Option (List ℕ)) (starts : x ≡ text (version row family q hi)) (ends : y ≡ Some (text (version row family q before))) where
-    abbrev first : List ℕ
-    first = text (version row family q hi)
-
-    abbrev last : Option (List ℕ)
-    last = Some (text (version row family q before))
-
-    pub between_none : (o : Option Contents) → Answers x y o None → IfSome o (λ m. Holds m t → IsTrue (has_row (range_of t) row) → IsNewest (cells_at m t) (version row family q) lo hi None)
-    between_none None h = tt
-    between_none (Some m) h =
-        λ held has.
-        newest_none row family q before hi is_row is_family small small_hi (range_of t) (lists_of m t) (held_lists m t held) has lo (λ s least low. omega arith)
-        (has_none first last (lists_of m t) (moved x first y last starts ends m None h held))
-
-    pub between_some : (o : Option Contents) (key : CellKey) (value : List ℕ) → IsStored key → lo ≤ key.stamp → Answers x y o (Some (text key, value)) → IfSome o (λ m. Holds m t → IsTrue (has_row (range_of t) row) → IsNewest (cells_at m t) (version row family q) lo hi (Some (key.stamp, value)))
-    between_some None key value stored low h = tt
-    between_some (Some m) key value stored low h =
-        λ held has.
-        newest_some row family q before hi is_row is_family small small_hi (range_of t) (lists_of m t) (held_lists m t held) has lo key value stored low
-        (has_first first last (lists_of m t) (held_lists m t held) key value stored (moved x first y last starts ends m (Some (text key, value)) h held))
-
-    -- what is found is between the stamps
-    pub never_outside : (o : Option Contents) (key : CellKey) (value : List ℕ) → IsStored key → (key.stamp < lo) ⊎ (hi < key.stamp) → Answers x y o (Some (text key, value)) → IfSome o (λ m. ¬ Holds m t)
-    never_outside None key value stored out h = tt
-    never_outside (Some m) key value stored out h =
-        λ held.
-        let found = has_first first last (lists_of m t) (held_lists m t held) key value stored (moved x first y last starts ends m (Some (text key, value)) h held) in
-        let inside = version_between row family q before hi is_row is_family small small_hi key stored found.inside in
-        go inside.low inside.high out
-      where
-        go : before < key.stamp → key.stamp ≤ hi → (key.stamp < lo) ⊎ (hi < key.stamp) → ⊥
-        go low high (inl below) = omega arith
-        go low high (inr above) = omega arith
-
   module _ (after : Option Place) (is : IsPlaceOrNone after) (x : List ℕ) (y : Option (List ℕ)) (starts : x ≡ start_of (range_of t) after) (ends : y ≡ upper_fence (range_of t)) where
     pub cell_none : (o : Option Contents) → Answers x y o None → IfSome o (λ m. Holds m t → IsNextCell (cells_at m t) after None)
     cell_none None h = tt
@@ -158,3 +124,40 @@ module _ (t : Tablet) (fs : List SortedFile) (files : fs ≡ files_of t) where
         λ held.
         next_some (range_of t) after is (lists_of m t) (held_lists m t held) key value stored
         (has_first (start_of (range_of t) after) (upper_fence (range_of t)) (lists_of m t) (held_lists m t held) key value stored (moved x (start_of (range_of t) after) y (upper_fence (range_of t)) starts ends m (Some (text key, value)) h held))
+
+module _ (t : Tablet) (row family : List ℕ) (q : Qualifier) (lo before hi : ℕ) (is : IsPlace (row, family)) (one : before + 1 ≡ lo) (small : before < 2 ^ 64) (small_hi : hi < 2 ^ 64) where
+  abbrev first : List ℕ
+  first = text (version row family q hi)
+
+  abbrev last : Option (List ℕ)
+  last = Some (text (version row family q before))
+
+  abbrev Finds : Option Contents → Option (List ℕ × List ℕ) → Type 0
+  Finds o found = IfSome o (λ m. Holds m t → found ≡ first_value (column_part row family q before hi (lists_of m t)))
+
+  pub between_none : (o : Option Contents) → Finds o None → IfSome o (λ m. Holds m t → IsTrue (has_row (range_of t) row) → IsNewest (cells_at m t) (version row family q) lo hi None)
+  between_none None h = tt
+  between_none (Some m) h =
+      λ held has.
+      newest_none row family q before hi is.row is.family small small_hi (range_of t) (lists_of m t) (held_lists m t held) has lo (λ s least low. omega arith)
+      (has_none first last (lists_of m t) (sym (h held)))
+
+  pub between_some : (o : Option Contents) (key : CellKey) (value : List ℕ) → IsStored key → lo ≤ key.stamp → Finds o (Some (text key, value)) → IfSome o (λ m. Holds m t → IsTrue (has_row (range_of t) row) → IsNewest (cells_at m t) (version row family q) lo hi (Some (key.stamp, value)))
+  between_some None key value stored low h = tt
+  between_some (Some m) key value stored low h =
+      λ held has.
+      newest_some row family q before hi is.row is.family small small_hi (range_of t) (lists_of m t) (held_lists m t held) has lo key value stored low
+      (has_first first last (lists_of m t) (held_lists m t held) key value stored (sym (h held)))
+
+  -- what is found is between the stamps
+  pub never_outside : (o : Option Contents) (key : CellKey) (value : List ℕ) → IsStored key → (key.stamp < lo) ⊎ (hi < key.stamp) → Finds o (Some (text key, value)) → IfSome o (λ m. ¬ Holds m t)
+  never_outside None key value stored out h = tt
+  never_outside (Some m) key value stored out h =
+      λ held.
+      let found = has_first first last (lists_of m t) (held_lists m t held) key value stored (sym (h held)) in
+      let inside = version_between row family q before hi is.row is.family small small_hi key stored found.inside in
+      go inside.low inside.high out
+    where
+      go : before < key.stamp → key.stamp ≤ hi → (key.stamp < lo) ⊎ (hi < key.stamp) → ⊥
+      go low high (inl below) = omega arith
+      go low high (inr above) = omega arith

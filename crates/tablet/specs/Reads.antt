@@ -1,6 +1,7 @@
 -- What a read finds.
-use Rattle.std.specs.Prelude.{ℕ, ◌≤◌, length, List, [], ◌∷◌, Option, Some, None, if◌then◌else◌}
+use Rattle.std.specs.Prelude.{◌≡◌, ℕ, ◌≤◌, length, List, [], ◌∷◌, ◌++◌, Option, Some, None, if◌then◌else◌}
 use Rattle.std.specs.declared.vec.Vec.{Vec}
+use Rattle.std.specs.List.{AllByRecursion}
 use Rattle.std.specs.Ordering.{is_le}
 use Rattle.cell_key.specs.Names.{IsRow, IsFamily}
 use Rattle.cell_key.specs.Keys.{byte_cmp, text, IsStored}
@@ -8,8 +9,14 @@ use Rattle.cell_key.specs.Cells.{version}
 use Rattle.cell_key.specs.Entries.{Entry}
 use Rattle.cell_key.specs.Places.{Place}
 use Rattle.cell_key.specs.declared.keys.CellKey.{CellKey}
+use Rattle.cell_key.specs.declared.keys.Qualifier.{Qualifier}
 use Rattle.cell_key.specs.declared.keys.Qualifier.TheVariants.{Write}
+use Rattle.file_store.specs.Store.{Contents}
+use Rattle.sorted_file.specs.Opened.{IsOpen, listed}
+use Rattle.sorted_file.specs.Spans.{HasNoValue}
+use Rattle.sorted_file.specs.declared.opened.SortedFile.{SortedFile}
 use Rattle.tablet.specs.Ranges.{lower_fence}
+use Rattle.tablet.specs.Sources.{part}
 use Rattle.tablet.specs.declared.ranges.RowRange.{RowRange}
 
 -- the first value of entries, with its text
@@ -36,6 +43,16 @@ IsShort bytes = length bytes ≤ 65536
 pub record IsFound (key : CellKey) (bytes : List ℕ) : Type 0 where
   pub stored : IsStored key
   pub value : length bytes ≤ 65536
+
+-- Of some files, the newest first, these come first, and those after them have no value of a column of this kind at these stamps.
+pub record IsAsked (qualifier : Qualifier) (lo hi : ℕ) (files asked : List SortedFile) : Type 0 where
+  pub rest : List SortedFile
+  pub parts : files ≡ asked ++ rest
+  pub none : AllByRecursion (λ file. (m : Contents) → IsOpen m file → HasNoValue qualifier lo hi (listed m file)) rest
+
+-- the texts between which the versions of a column at stamps up to one are: from the text of that one, and below that of a lesser stamp
+abbrev pub column_part : List ℕ → List ℕ → Qualifier → ℕ → ℕ → List (List Entry) → List Entry
+column_part row family qualifier before hi lists = part (text (version row family qualifier hi)) (Some (text (version row family qualifier before))) lists
 
 -- the later of two texts
 abbrev pub later : List ℕ → List ℕ → List ℕ

@@ -11,7 +11,7 @@ ghost use Rattle.sorted_file.specs.Opened.{IsOpen, IsSameFile, IsShortValue, lis
 ghost use Rattle.sorted_file.specs.Sources.{IsReadRefusal};
 ghost use Rattle.cell_key.specs.Faults.{HasReason};
 ghost use Rattle.tablet.specs.Sources.{part};
-ghost use Rattle.tablet.specs.Reads.{first_value, lent_value, texted, IsFound, IsShort};
+ghost use Rattle.tablet.specs.Reads.{first_value, lent_value, texted, IsAsked, IsFound, IsShort};
 
 use crate::sources::sources;
 use cell_key::{CellKey, EntryRef, Family, Qualifier, Refusal, Row, Stamp};
@@ -115,6 +115,26 @@ pub(crate) fn first_value<F: Files>(
     let sources = sources::<F>(alloc, Some(memtable), files, from, end)?;
     let mut merge = Merge::new::<F>(sources);
     next_value(alloc, &mut merge, store)
+}
+
+/// The newest of some files, up to the oldest one that may have a value of a column of this kind at a stamp in
+/// `lo..=hi`. What is older hides nothing, so those after it needn't be asked.
+pub(crate) fn asked(
+    files: &[SortedFile],
+    qualifier: Qualifier,
+    lo: Stamp,
+    hi: Stamp,
+) -> &[SortedFile]
+    ensures { IsAsked qualifier lo hi files.now result.now }
+{
+    let mut asked = files;
+    'newer: while let Some((oldest, newer)) = asked.split_last() {
+        if oldest.may_have(qualifier, lo, hi) {
+            return asked;
+        }
+        asked = newer;
+    }
+    asked
 }
 
 /// What the first of some files that names a key has of it. The files stay what they were.

@@ -1,6 +1,6 @@
 //! What a tablet answers.
 
-ghost use Rattle.std.specs.Prelude.{◌≡◌, ◌≤◌, ◌<◌, ◌^◌, IsTrue, option_map, IfOk, IfErr, IfSome, IsErrOf};
+ghost use Rattle.std.specs.Prelude.{◌≡◌, ◌≤◌, ◌<◌, ◌-◌, ◌^◌, IsTrue, option_map, IfOk, IfErr, IfSome, IsErrOf};
 ghost use Rattle.std.specs.Option.{option_copied};
 ghost use Rattle.cell_key.specs.Cells.{IsNewest, version};
 ghost use Rattle.cell_key.specs.Places.{IsNextCell, place_named};
@@ -8,12 +8,12 @@ ghost use Rattle.cell_key.specs.Versions.{IsVersionIn, stamped};
 ghost use Rattle.sorted_file.specs.Sources.{IsReadRefusal};
 ghost use Rattle.cell_key.specs.Faults.{HasReason};
 ghost use Rattle.tablet.specs.Ranges.{has_row};
-ghost use Rattle.tablet.specs.Reads.{past_place, later, IsPlaceOrNone};
+ghost use Rattle.tablet.specs.Reads.{column_part, first_value, past_place, later, texted, IsFound, IsPlace, IsPlaceOrNone};
 
-use crate::reads::{first_value, lookup, version_key, version_text};
+use crate::reads::{asked, first_value, lookup, version_key, version_text};
 use crate::sources::fences;
 use crate::tablet::Tablet;
-use cell_key::{Family, MOST_STAMP, Qualifier, Refusal, Row, Stamp};
+use cell_key::{CellKey, Family, MOST_STAMP, Qualifier, Refusal, Row, Stamp};
 use file_store::Files;
 use std::alloc::Global;
 
@@ -49,7 +49,7 @@ fn later<'a>(a: &'a [u8], b: &'a [u8]) -> &'a [u8]
 
 impl Tablet {
     ghost use Rattle.file_store.specs.Store.{Contents};
-    ghost use Rattle.tablet.specs.Views.{range_of, cells_at, Holds, IsSameTablet};
+    ghost use Rattle.tablet.specs.Views.{range_of, cells_at, lists_of, Holds, IsSameTablet};
 
     /// The value of a version, if the tablet has it, by lookups.
     fn version_at<F: Files>(
@@ -77,6 +77,38 @@ impl Tablet {
         }
     }
 
+    /// The first value between the texts of a column's versions at `hi` and below `lo`, with its key.
+    fn first_between<F: Files>(
+        &self,
+        row: &Row,
+        family: &Family,
+        qualifier: Qualifier,
+        lo: Stamp,
+        hi: Stamp,
+        files: &mut F,
+    ) -> Result<Option<(CellKey, Vec<u8>)>, Refusal>
+        requires { 1 ≤ lo }
+        ensures found { IfOk result (λ found. IfSome (F.contents files.old) (λ m. Holds m self.now → option_map texted found ≡ first_value (column_part row.now family.now qualifier (lo - 1) hi (lists_of m self.now)))) }
+        ensures limits { IfOk result (λ found. IfSome found (λ p. IsFound p.0 p.1.items)) }
+        ensures names { IsPlace (row.now, family.now) }
+        ensures damaged { IsErrOf result Refusal.Damaged → IfSome (F.contents files.old) (λ m. ¬ Holds m self.now) }
+        ensures refusal { IfErr result IsReadRefusal }
+        ensures same { F.contents files.new ≡ F.contents files.old }
+        ensures reason { HasReason (F.faults files.old) (F.faults files.new) result }
+    {
+        let from = version_text(self.alloc, row, family, qualifier, hi)?;
+        let end = version_text(self.alloc, row, family, qualifier, lo - 1)?;
+        let asked = asked(&self.files, qualifier, lo, hi);
+        first_value(
+            self.alloc,
+            &self.memtable,
+            asked,
+            &from,
+            Some(end.as_slice()),
+            files,
+        )
+    }
+
     /// The version of a cell's column with the greatest stamp in `lo..=hi`, by the range of their texts.
     fn newest_between<F: Files>(
         &self,
@@ -95,18 +127,7 @@ impl Tablet {
         ensures same { F.contents files.new ≡ F.contents files.old }
         ensures reason { HasReason (F.faults files.old) (F.faults files.new) result }
     {
-        let from = version_text(self.alloc, row, family, qualifier, hi)?;
-        let end = version_text(self.alloc, row, family, qualifier, lo - 1)?;
-        let end = Some(end.as_slice());
-        let Some((key, value)) = first_value(
-            self.alloc,
-            &self.memtable,
-            &self.files,
-            &from,
-            end,
-            files,
-        )?
-        else {
+        let Some((key, value)) = self.first_between(row, family, qualifier, lo, hi, files)? else {
             return Ok(None);
         };
         if key.stamp < lo || hi < key.stamp {

@@ -5,7 +5,7 @@ use Rattle.std.specs.Option.{option_copied}
 use Rattle.cell_key.specs.Keys.{text}
 use Rattle.tablet.proofs.SameFiles.{same_files}
 use Rattle.tablet.proofs.Short.{long_of_none}
-use Rattle.tablet.proofs.Passed.{IsHeldRefusal, err_kind, err_map, held_read, held_refusal, not_err, passed_err, passed_none, passed_on, passed_reason, quiet_reason, reason_after, reason_of_ok}
+use Rattle.tablet.proofs.Passed.{IsHeldRefusal, err_kind, err_map, held_read, held_refusal, not_err, passed_err, passed_none, passed_on, passed_reason, quiet_reason, reason_of_ok}
 use Rattle.tablet.proofs.reads.lookup.Goals as goal
 
 pub returns-in-Some-clause-damaged : goal.returns-in-Some-clause-damaged

@@ -1,4 +1,4 @@
-use Rattle.std.proofs.Common.{rules, ◌≡◌, List, refl, sym, ap, subst, ◌∙◌}
+use Rattle.std.proofs.Common.{List, refl, sym, ap, subst, ◌∙◌}
 use Rattle.cell_key.specs.Entries.{Entry, IsRising, entry_of_key}
 use Rattle.sorted_file.specs.Kept.{file_entry, kept}
 use Rattle.sorted_file.proofs.Results.{as_some, passed_on}

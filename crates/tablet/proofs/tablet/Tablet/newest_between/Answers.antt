@@ -1,91 +1,45 @@
-use Rattle.std.proofs.Common.{◌-◌, Some, ap, ◌∙◌, inl, inr, arith, refl, sym, subst}
-use Rattle.std.specs.List.{AllByRecursion}
+use Rattle.std.proofs.Common.{◌-◌, inl, inr, arith, refl}
 use Rattle.cell_key.specs.declared.refusals.Refusal.TheVariants.{Damaged, Device}
-use Rattle.sorted_file.specs.Opened.{IsOpen}
-use Rattle.sorted_file.specs.Sources.{IsReadRefusal}
-use Rattle.tablet.specs.Views.{Holds}
 use Rattle.tablet.proofs.Answering.{between_none, between_some, never_outside}
-use Rattle.tablet.proofs.Passed.{IsHeldRefusal, IsNoMemory, no_memory, not_err, passed_err, passed_kind, passed_none, passed_on, passed_reason, quiet_reason, reason_after, reason_of_ok, told_kind}
-use Rattle.tablet.proofs.Writing.{if_some_not}
+use Rattle.tablet.proofs.Passed.{IsHeldRefusal, not_err, passed_err, passed_none, passed_on, passed_reason, quiet_reason, reason_after, reason_of_ok, told_kind}
 use Rattle.tablet.proofs.tablet.Tablet.newest_between.Goals as goal
 use Rattle.tablet.proofs.tablet.Tablet.newest_between.Goals.{then-key-lo-via-then-key-lo, then-key-lo-via-else-key-lo+then-hi-key}
 
 pub returns-in_default-clause-found : goal.returns-in_default-clause-found
 returns-in_default-clause-found g c =
-    between_none c.args.self.now c.deref.result.now c.deref.ensures.value c.args.row.now c.args.family.now c.args.qualifier c.args.lo (c.args.lo - 1) c.args.hi c.in_ok-from.ensures.row c.in_ok-from.ensures.family (omega arith) (omega arith) (omega arith)
-    c.deref-2.result.now (Some c.as_slice.result.now) (c.deref-2.ensures.value ∙ c.in_ok-from.ensures.text) (ap Some (c.as_slice.ensures.value ∙ c.in_ok-end.ensures.text))
+    between_none c.args.self.now c.args.row.now c.args.family.now c.args.qualifier c.args.lo (c.args.lo - 1) c.args.hi c.in_ok-key.ensures.names (omega arith) (omega arith) (omega arith)
     (g.F.Files.contents c.args.files.now) (rw c.in_default.is at c.in_ok-key.ensures.found)
 
 pub returns-clause-found : goal.returns-clause-found
 returns-clause-found g c =
-    between_some c.args.self.now c.deref.result.now c.deref.ensures.value c.args.row.now c.args.family.now c.args.qualifier c.args.lo (c.args.lo - 1) c.args.hi c.in_ok-from.ensures.row c.in_ok-from.ensures.family (omega arith) (omega arith) (omega arith)
-    c.deref-2.result.now (Some c.as_slice.result.now) (c.deref-2.ensures.value ∙ c.in_ok-from.ensures.text) (ap Some (c.as_slice.ensures.value ∙ c.in_ok-end.ensures.text))
+    between_some c.args.self.now c.args.row.now c.args.family.now c.args.qualifier c.args.lo (c.args.lo - 1) c.args.hi c.in_ok-key.ensures.names (omega arith) (omega arith) (omega arith)
     (g.F.Files.contents c.args.files.now) c.in-Some.key c.in-Some.value.items (rw c.in-Some.is at c.in_ok-key.ensures.limits).stored (omega arith) (rw c.in-Some.is at c.in_ok-key.ensures.found)
 
 pub returns-then-key-lo-clause-damaged : goal.returns-then-key-lo-clause-damaged
 returns-then-key-lo-clause-damaged g c =
     λ e.
-    never_outside c.args.self.now c.deref.result.now c.deref.ensures.value c.args.row.now c.args.family.now c.args.qualifier c.args.lo (c.args.lo - 1) c.args.hi c.in_ok-from.ensures.row c.in_ok-from.ensures.family (omega arith) (omega arith) (omega arith)
-    c.deref-2.result.now (Some c.as_slice.result.now) (c.deref-2.ensures.value ∙ c.in_ok-from.ensures.text) (ap Some (c.as_slice.ensures.value ∙ c.in_ok-end.ensures.text))
+    never_outside c.args.self.now c.args.row.now c.args.family.now c.args.qualifier c.args.lo (c.args.lo - 1) c.args.hi c.in_ok-key.ensures.names (omega arith) (omega arith) (omega arith)
     (g.F.Files.contents c.args.files.now) c.in-Some.key c.in-Some.value.items (rw c.in-Some.is at c.in_ok-key.ensures.limits).stored
     (elim c.then-key-lo.branch [ then-key-lo-via-then-key-lo w ↦ inl w.if-key-lo.true | then-key-lo-via-else-key-lo+then-hi-key w ↦ inr w.if-hi-key.true ])
     (rw c.in-Some.is at c.in_ok-key.ensures.found)
 
-pub returns-in_err-from-clause-found : goal.returns-in_err-from-clause-found
-returns-in_err-from-clause-found g c = passed_none c.from_residual.result c.in_err-from.field-0.0 _ c.from_residual.ensures.1
-
-pub returns-in_err-from-clause-limits : goal.returns-in_err-from-clause-limits
-returns-in_err-from-clause-limits g c = passed_none c.from_residual.result c.in_err-from.field-0.0 _ c.from_residual.ensures.1
-
-pub returns-in_err-from-clause-damaged : goal.returns-in_err-from-clause-damaged
-returns-in_err-from-clause-damaged g c = λ is. absurd (passed_kind c.from_residual.result c.in_err-from.field-0.0 _ IsNoMemory c.from_residual.ensures.1 (no_memory c.in_err-from.field-0.0 c.in_err-from.ensures.refusal) is)
-
-pub returns-in_err-from-clause-refusal : goal.returns-in_err-from-clause-refusal
-returns-in_err-from-clause-refusal g c = passed_err c.from_residual.result c.in_err-from.field-0.0 _ c.from_residual.ensures.1 (subst IsReadRefusal (sym c.in_err-from.ensures.refusal) tt)
-
-pub returns-in_err-from-clause-same : goal.returns-in_err-from-clause-same
-returns-in_err-from-clause-same g c = refl
-
-pub returns-in_err-from-clause-reason : goal.returns-in_err-from-clause-reason
-returns-in_err-from-clause-reason g c = quiet_reason c.from_residual.result _ (λ is. absurd (passed_kind c.from_residual.result c.in_err-from.field-0.0 _ IsNoMemory c.from_residual.ensures.1 (no_memory c.in_err-from.field-0.0 c.in_err-from.ensures.refusal) is))
-
-pub returns-in_err-end-clause-found : goal.returns-in_err-end-clause-found
-returns-in_err-end-clause-found g c = passed_none c.from_residual-in_err-end.result c.in_err-end.field-0.0 _ c.from_residual-in_err-end.ensures.1
-
-pub returns-in_err-end-clause-limits : goal.returns-in_err-end-clause-limits
-returns-in_err-end-clause-limits g c = passed_none c.from_residual-in_err-end.result c.in_err-end.field-0.0 _ c.from_residual-in_err-end.ensures.1
-
-pub returns-in_err-end-clause-damaged : goal.returns-in_err-end-clause-damaged
-returns-in_err-end-clause-damaged g c = λ is. absurd (passed_kind c.from_residual-in_err-end.result c.in_err-end.field-0.0 _ IsNoMemory c.from_residual-in_err-end.ensures.1 (no_memory c.in_err-end.field-0.0 c.in_err-end.ensures.refusal) is)
-
-pub returns-in_err-end-clause-refusal : goal.returns-in_err-end-clause-refusal
-returns-in_err-end-clause-refusal g c = passed_err c.from_residual-in_err-end.result c.in_err-end.field-0.0 _ c.from_residual-in_err-end.ensures.1 (subst IsReadRefusal (sym c.in_err-end.ensures.refusal) tt)
-
-pub returns-in_err-end-clause-same : goal.returns-in_err-end-clause-same
-returns-in_err-end-clause-same g c = refl
-
-pub returns-in_err-end-clause-reason : goal.returns-in_err-end-clause-reason
-returns-in_err-end-clause-reason g c = quiet_reason c.from_residual-in_err-end.result _ (λ is. absurd (passed_kind c.from_residual-in_err-end.result c.in_err-end.field-0.0 _ IsNoMemory c.from_residual-in_err-end.ensures.1 (no_memory c.in_err-end.field-0.0 c.in_err-end.ensures.refusal) is))
-
 pub returns-in_err-key-clause-found : goal.returns-in_err-key-clause-found
-returns-in_err-key-clause-found g c = passed_none c.from_residual-in_err-key.result c.in_err-key.field-0.0 _ c.from_residual-in_err-key.ensures.1
+returns-in_err-key-clause-found g c = passed_none c.from_residual.result c.in_err-key.field-0.0 _ c.from_residual.ensures.1
 
 pub returns-in_err-key-clause-limits : goal.returns-in_err-key-clause-limits
-returns-in_err-key-clause-limits g c = passed_none c.from_residual-in_err-key.result c.in_err-key.field-0.0 _ c.from_residual-in_err-key.ensures.1
+returns-in_err-key-clause-limits g c = passed_none c.from_residual.result c.in_err-key.field-0.0 _ c.from_residual.ensures.1
 
 pub returns-in_err-key-clause-damaged : goal.returns-in_err-key-clause-damaged
-returns-in_err-key-clause-damaged g c = λ is.
-    if_some_not (g.F.Files.contents c.args.files.now) (λ m. AllByRecursion (IsOpen m) c.deref.result.now) (λ m. Holds m c.args.self.now) (λ m h. subst (AllByRecursion (IsOpen m)) (sym c.deref.ensures.value) h.files)
-    (c.in_err-key.ensures.damaged (passed_on c.from_residual-in_err-key.result _ c.in_err-key.field-0.0 _ c.from_residual-in_err-key.ensures.1 refl is))
+returns-in_err-key-clause-damaged g c = λ is. c.in_err-key.ensures.damaged (passed_on c.from_residual.result _ c.in_err-key.field-0.0 _ c.from_residual.ensures.1 refl is)
 
 pub returns-in_err-key-clause-refusal : goal.returns-in_err-key-clause-refusal
-returns-in_err-key-clause-refusal g c = passed_err c.from_residual-in_err-key.result c.in_err-key.field-0.0 _ c.from_residual-in_err-key.ensures.1 c.in_err-key.ensures.refusal
+returns-in_err-key-clause-refusal g c = passed_err c.from_residual.result c.in_err-key.field-0.0 _ c.from_residual.ensures.1 c.in_err-key.ensures.refusal
 
 pub returns-in_err-key-clause-same : goal.returns-in_err-key-clause-same
 returns-in_err-key-clause-same g c = c.in_err-key.ensures.same
 
 pub returns-in_err-key-clause-reason : goal.returns-in_err-key-clause-reason
-returns-in_err-key-clause-reason g c = passed_reason c.from_residual-in_err-key.result _ c.in_err-key.field-0.0 _ _ c.from_residual-in_err-key.ensures.1 refl c.in_err-key.ensures.reason
+returns-in_err-key-clause-reason g c = passed_reason c.from_residual.result _ c.in_err-key.field-0.0 _ _ c.from_residual.ensures.1 refl c.in_err-key.ensures.reason
 
 pub returns-in_default-clause-limits : goal.returns-in_default-clause-limits
 returns-in_default-clause-limits g c = tt

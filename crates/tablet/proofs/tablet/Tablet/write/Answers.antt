@@ -1,4 +1,4 @@
-use Rattle.std.proofs.Common.{◌≡◌, Option, Some, List, map, length, refl, sym, subst, inl, ◌∙◌}
+use Rattle.std.proofs.Common.{Some, List, map, length, refl, sym, subst, inl, ◌∙◌}
 use Rattle.std.proofs.lemmas.List.{length-map}
 use Rattle.std.specs.Option.{option_copied}
 use Rattle.cell_key.specs.Entries.{Entry}
