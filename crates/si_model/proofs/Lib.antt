@@ -32,3 +32,4 @@ pub mod Collected
 pub mod Fewer
 pub mod Left
 pub mod Coming
+pub mod Editing

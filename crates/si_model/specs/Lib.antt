@@ -7,6 +7,8 @@ pub mod Laws
 pub mod Replies
 pub mod Scripts
 pub mod ShowsCells
+pub mod Edits
+pub mod Reads
 pub mod Kinds
 pub mod Enduring
 pub mod Deciding

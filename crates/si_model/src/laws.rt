@@ -1,13 +1,17 @@
 //! The laws of the machine. Each is a call that does nothing: its contract is the law.
 
+ghost use Rattle.std.specs.Prelude.{ℕ, List};
 ghost use Rattle.cell_key.specs.Cells.{Cells};
+ghost use Rattle.cell_key.specs.declared.edits.Edit.{Edit as RowEdit};
 ghost use Rattle.si_model.specs.Collection.{ComeStays, ComesFurther, LeftFalls, MayEraseBelow, NamesNearest, StaysShown};
 ghost use Rattle.si_model.specs.Deciding.{CleanersKnow, FirstTells};
+ghost use Rattle.si_model.specs.Edits.{MakeCells};
 ghost use Rattle.si_model.specs.Enduring.{Endures, HaveTried};
 ghost use Rattle.si_model.specs.Kinds.{EachLeavesOthers};
 ghost use Rattle.si_model.specs.Laws.{AtEachStep, Bounds, ClearsItsFloor, CommitSeen, FateSeen, FirstCommitterWins, FloorStaysLow, Goes, GoneForGood, IsNeverStuck, IsSettled, Numbers, OneFate, OneMark, OneSnapshot, RefusesFirst, StartsLow, StaysCleared, TellsFate, TellsMarks, WritesWithinLimits};
 ghost use Rattle.si_model.specs.Machine.{IsReached, State};
 ghost use Rattle.si_model.specs.ShowsCells.{ShowsCells, WhereShown};
+ghost use Rattle.si_model.specs.declared.replies.Cell.{Cell};
 
 /// Each answered value is the last one committed by its session's start, in the commits as they are now.
 pub fn settled()
@@ -167,4 +171,9 @@ pub fn come_stays()
 /// Each thing that a collector does takes one off what it has left, at least.
 pub fn left_falls()
     ensures { (cells : Cells) → LeftFalls cells }
+{}
+
+/// What the edits by which a lock goes make of the cells.
+pub fn make_cells()
+    ensures { (cells : Cells) (x : Cell) (t : ℕ) (edits : List RowEdit) → MakeCells cells x t edits }
 {}

@@ -1,16 +1,18 @@
-//! The snapshot machine: its definitions, and its laws over all that it can become.
+//! The snapshot machine: its definitions, its laws over all that it can become, and edits of the cells that show it.
 #![tactic(auto)]
 
+mod cells;
 mod laws;
 mod replies;
 mod runs;
 
+pub use cells::{cell_named, erasing, key, named_start, recording};
 pub use laws::{
     bounded, cleaners_know, clears_its_floor, come_stays, comes_further, commit_seen, endures,
     fate_seen, first_committer, first_tells, floor_stays_low, goes_on, gone_for_good, have_tried,
-    leaves_others, left_falls, may_erase, names_nearest, never_stuck, numbered, one_fate, one_mark,
-    one_snapshot, refuses_first, settled, starts_low, stays_cleared, stays_shown, tells_fate,
-    tells_marks, writes_within_limits,
+    leaves_others, left_falls, make_cells, may_erase, names_nearest, never_stuck, numbered,
+    one_fate, one_mark, one_snapshot, refuses_first, settled, starts_low, stays_cleared,
+    stays_shown, tells_fate, tells_marks, writes_within_limits,
 };
 pub use replies::{Cell, CleanReply, CleanStart, CollectReply, Found, Progress};
 pub use runs::{

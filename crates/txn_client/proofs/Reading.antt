@@ -18,7 +18,8 @@ use Rattle.si_model.proofs.Goes.{goes}
 use Rattle.si_model.proofs.Acceptable.{get_ok}
 use Rattle.si_model.specs.ShowsCells.{at, IsThere, NamesCommit, ShowsCells, start_text}
 use Rattle.si_model.proofs.ShownKept.{shows_beside}
-use Rattle.txn_client.specs.Reads.{IsClear, ReadsValue, IsDamaged}
+use Rattle.si_model.specs.Reads.{IsClear}
+use Rattle.txn_client.specs.Reads.{ReadsValue, IsDamaged}
 
 not_above : (m n : ℕ) → ¬ (n < m) → m ≤ n
 not_above m n h = omega arith

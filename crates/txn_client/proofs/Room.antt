@@ -1,26 +1,23 @@
 -- What a step does to the rows, as session and state show it.
-use Rattle.std.proofs.Common.{◌≡◌, ◌∙◌, ℕ, List, [], ◌∷◌, ◌++◌, length, Some, refl, inl, inr, sym, subst, ap}
-use Rattle.std.specs.Prelude.{slice_get}
-use Rattle.std.specs.FinMap.{insert, remove}
+use Rattle.std.proofs.Common.{◌≡◌, ◌∙◌, ℕ, List, [], ◌∷◌, length, Some, refl, inl, inr, sym, subst}
 use Rattle.std.specs.Ordering.{nat_cmp}
 use Rattle.std.specs.BTreeMap as btree
 use Rattle.cell_key.specs.Cells.{Cells, after_edits}
 use Rattle.cell_key.specs.declared.edits.Edit.{Edit}
-use Rattle.cell_key.specs.declared.edits.Edit.TheVariants.{Put, Erase}
-use Rattle.cell_key.specs.declared.keys.CellKey.{CellKey}
-use Rattle.row_atomic.specs.Calls.{AppliesSuch, KeepsBelow, OnlyReads}
+use Rattle.row_atomic.specs.Calls.{AppliesSuch, KeepsBelow}
 use Rattle.row_atomic.specs.Clusters.{Storage}
 use Rattle.row_atomic.specs.Room.{HasNoRoom, TakesRoomOf}
 use Rattle.row_atomic.proofs.Calls.{applies_keep, reads_keep, reads_none, such_so}
 use Rattle.si_model.specs.Machine as machine
 use Rattle.si_model.specs.Machine.{State, Value, InPhase, IsReached}
-use Rattle.si_model.specs.ShowsCells.{ShowsCells, Touches, TouchesOneRow, held_cells, recorded_cells}
+use Rattle.si_model.specs.ShowsCells.{ShowsCells, Touches, TouchesOneRow, held_cells}
 use Rattle.si_model.specs.declared.replies.Cell.{Cell}
 use Rattle.si_model.specs.declared.replies.Progress.{Progress}
 use Rattle.si_model.specs.declared.replies.Progress.TheVariants as progress
+use Rattle.si_model.proofs.Editing.{make_cells, put_so}
 use Rattle.si_model.proofs.Kept.{held_phase}
 use Rattle.si_model.proofs.ShownTouched.{touches_held, touches_recorded}
-use Rattle.txn_client.specs.Room.{ChangesIn, ChangesNext, Does, EditsIn, EditsOf, EditsOfStep, HoldsAt, HoldsNext, IsHolding, IsPut, IsErase, IsRecording, IsStamped, Makes, RecordsAt, RecordsNext, TakesRoom}
+use Rattle.txn_client.specs.Room.{ChangesIn, ChangesNext, Does, EditsIn, EditsOf, EditsOfStep, HoldsAt, HoldsNext, IsHolding, IsStamped, Makes, RecordsAt, RecordsNext, TakesRoom}
 use Rattle.txn_client.specs.Shows.{phase_of, writes_of, HasHeldSo, ShowsClients, ShowsSession, IsAboutToDraw, TouchesBy}
 use Rattle.txn_client.specs.declared.clients.Clients.{Clients}
 use Rattle.txn_client.specs.declared.session.Phase.{Phase}
@@ -33,25 +30,11 @@ use Rattle.txn_client.proofs.Table.{shown_some}
 
 -- ---- what the edits of a row transaction make of the cells
 
-put_so : (cells : Cells) (e : Edit) (es : List Edit) (key : CellKey) (bytes : List ℕ) → IsPut e key bytes → after_edits cells (e ∷ es) ≡ after_edits (insert cells key bytes) es
-put_so cells (Put at value) es key bytes (same, text) = ap (λ (k : CellKey). after_edits (insert cells k value.items) es) same ∙ ap (λ (b : List ℕ). after_edits (insert cells key b) es) text
-put_so cells (Erase at) es key bytes is = absurd is
-
-erase_so : (cells : Cells) (e : Edit) (es : List Edit) (key : CellKey) → IsErase e key → after_edits cells (e ∷ es) ≡ after_edits (remove cells key) es
-erase_so cells (Erase at) es key same = ap (λ (k : CellKey). after_edits (remove cells k) es) same
-erase_so cells (Put at value) es key is = absurd is
-
 pub holding_makes : (cells : Cells) (x first : Cell) (t : ℕ) (v : Value) (edits : List Edit) → IsHolding x t v first edits → after_edits cells edits ≡ held_cells cells x t v first
 holding_makes cells x first t v [] is = absurd is
 holding_makes cells x first t v (a ∷ []) is = absurd is
 holding_makes cells x first t v (a ∷ b ∷ []) (value, lock) = put_so cells a (b ∷ []) _ _ value ∙ put_so _ b [] _ _ lock
 holding_makes cells x first t v (a ∷ b ∷ c ∷ es) is = absurd is
-
-pub recording_makes : (cells : Cells) (x : Cell) (t c : ℕ) (edits : List Edit) → IsRecording x t c edits → after_edits cells edits ≡ recorded_cells cells x t c
-recording_makes cells x t c [] is = absurd is
-recording_makes cells x t c (a ∷ []) is = absurd is
-recording_makes cells x t c (a ∷ b ∷ []) (written, lock) = put_so cells a (b ∷ []) _ _ written ∙ erase_so _ b [] _ lock
-recording_makes cells x t c (a ∷ b ∷ d ∷ es) is = absurd is
 
 -- ---- what a step does
 
@@ -141,7 +124,7 @@ module _ (Holds : Type 0) (cells : Cells) (session : Session) where
 
   recording_touches : (k : ℕ) (new : Cells) (row : List ℕ) (edits : List Edit) → RecordsAt Holds cells session k row edits → new ≡ after_edits cells edits → TouchesOneRow cells new session.start session.commit
   recording_touches k new row edits (w, e, at) after =
-      (w.cell.row, subst (λ (cs : Cells). Touches cells cs w.cell.row session.start session.commit) (sym (after ∙ recording_makes cells w.cell session.start session.commit edits at.2)) (touches_recorded cells w.cell session.start session.commit))
+      (w.cell.row, subst (λ (cs : Cells). Touches cells cs w.cell.row session.start session.commit) (sym (after ∙ (make_cells cells w.cell session.start edits).recorded session.commit at.2)) (touches_recorded cells w.cell session.start session.commit))
 
   pub edits_touch : (phase : Phase) (new : Cells) (row : List ℕ) (edits : List Edit) → EditsIn phase Holds cells session row edits → new ≡ after_edits cells edits → TouchesBy phase cells new session.start session.commit
   edits_touch Open new = holding_touches 0 new

@@ -1,4 +1,3 @@
-pub mod Limits
 pub mod Reads
 pub mod Refusals
 pub mod Room

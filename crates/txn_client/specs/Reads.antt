@@ -1,26 +1,13 @@
 -- What a read and a test of a cell find in the cell map.
-use Rattle.std.specs.Prelude.{◌≡◌, ◌≢◌, ⊤, ℕ, ◌<◌, ◌≤◌, ◌^◌, ◌-◌, ◌⊎◌, List, length, Some, None}
+use Rattle.std.specs.Prelude.{◌≡◌, ◌≢◌, ⊤, ℕ, ◌≤◌, ◌^◌, ◌-◌, ◌⊎◌, List, length, Some, None}
 use Rattle.byteorder.specs.Endian.{big_number}
 use Rattle.cell_key.specs.Cells.{Cells}
-use Rattle.cell_key.specs.declared.keys.Qualifier.{Qualifier}
 use Rattle.cell_key.specs.declared.keys.Qualifier.TheVariants.{Data, Lock, Write}
+use Rattle.si_model.specs.Reads.{IsClear, IsLast}
 use Rattle.si_model.specs.ShowsCells.{at, IsThere}
 use Rattle.si_model.specs.declared.replies.Cell.{Cell}
 use Rattle.si_model.specs.declared.replies.Found.{Found}
 use Rattle.si_model.specs.declared.replies.Found.TheVariants.{Value, Nothing, Pending}
-
-abbrev pub cell_of : List ℕ → List ℕ → Cell
-cell_of row family = record { row = row; family = family }
-
--- nothing stands in the column from one stamp to another
-abbrev pub IsClear : Cells → Cell → Qualifier → ℕ → ℕ → Type 0
-IsClear cells x q lo hi = (s : ℕ) → lo ≤ s → s ≤ hi → at cells x q s ≡ None
-
--- the write record of x of greatest stamp in 0..=s is this one
-pub record IsLast (cells : Cells) (x : Cell) (s c : ℕ) (text : List ℕ) : Type 0 where
-  pub low : c ≤ s
-  pub there : at cells x Write c ≡ Some text
-  pub last : (n : ℕ) → c < n → n ≤ s → at cells x Write n ≡ None
 
 -- what a session that began at s finds of x (Percolator, Get)
 pub record ReadsValue (cells : Cells) (x : Cell) (s : ℕ) (value : List ℕ) : Type 0 where
@@ -46,9 +33,6 @@ IsTaken cells x s = ((t : ℕ) × IsThere cells x Lock t) ⊎ ((c : ℕ) × (s �
 
 abbrev pub IsFree : Cells → Cell → ℕ → Type 0
 IsFree cells x s = IsClear cells x Lock 0 (2 ^ 64 - 1) × IsClear cells x Write s (2 ^ 64 - 1)
-
-abbrev pub IsGone : Cells → Cell → ℕ → Type 0
-IsGone cells x t = at cells x Lock t ≡ None
 
 -- a value that is answered has at most 65,536 bytes
 abbrev pub IsShort : Found → Type 0

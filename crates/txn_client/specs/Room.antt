@@ -4,15 +4,14 @@ use Rattle.std.specs.Ordering.{nat_cmp}
 use Rattle.std.specs.BTreeMap as btree
 use Rattle.cell_key.specs.Cells.{Cells}
 use Rattle.cell_key.specs.declared.edits.Edit.{Edit}
-use Rattle.cell_key.specs.declared.edits.Edit.TheVariants.{Put, Erase}
-use Rattle.cell_key.specs.declared.keys.CellKey.{CellKey}
-use Rattle.cell_key.specs.declared.keys.Qualifier.TheVariants.{Data, Lock, Write}
+use Rattle.cell_key.specs.declared.keys.Qualifier.TheVariants.{Data, Lock}
 use Rattle.row_atomic.specs.Calls.{AppliesSuch, OnlyReads}
 use Rattle.row_atomic.specs.Clusters.{Storage}
 use Rattle.row_atomic.specs.Room.{AreAfter, TakesNoRoom, TakesRoomOf}
 use Rattle.si_model.specs.Machine as machine
 use Rattle.si_model.specs.Machine.{State, Value, Writes, InPhase, Wrote, Puts, Marked, Clashes}
-use Rattle.si_model.specs.ShowsCells.{IsThere, key_of, lock_text, start_text}
+use Rattle.si_model.specs.Edits.{IsPut, IsRecording, RecordsCell}
+use Rattle.si_model.specs.ShowsCells.{key_of, lock_text}
 use Rattle.si_model.specs.declared.replies.Cell.{Cell}
 use Rattle.si_model.specs.declared.replies.Progress.{Progress}
 use Rattle.si_model.specs.declared.replies.Progress.TheVariants as progress
@@ -23,32 +22,14 @@ use Rattle.txn_client.specs.declared.session.Phase.TheVariants.{Open, Holding, S
 use Rattle.txn_client.specs.declared.session.Session.{Session}
 use Rattle.txn_client.specs.declared.writes.Write.{Write as Writing}
 
--- what an edit does: it puts bytes at a key, or erases the key
-abbrev pub IsPut : Edit → CellKey → List ℕ → Type 0
-IsPut (Put at value) key bytes = (at ≡ key) × (value.items ≡ bytes)
-IsPut (Erase at) key bytes = ⊥
-
-abbrev pub IsErase : Edit → CellKey → Type 0
-IsErase (Erase at) key = at ≡ key
-IsErase (Put at value) key = ⊥
-
 -- the two edits that hold x for t: its data, and its lock, which names the place of the first cell
 abbrev pub IsHolding : Cell → ℕ → Value → Cell → List Edit → Type 0
 IsHolding x t v first (value ∷ lock ∷ []) = IsPut value (key_of x Data t) v × IsPut lock (key_of x Lock t) (lock_text first)
 IsHolding x t v first edits = ⊥
 
--- the two edits that put the write record of t at c in the place of the lock of x
-abbrev pub IsRecording : Cell → ℕ → ℕ → List Edit → Type 0
-IsRecording x t c (written ∷ lock ∷ []) = IsPut written (key_of x Write c) (start_text t) × IsErase lock (key_of x Lock t)
-IsRecording x t c edits = ⊥
-
 -- the row and the edits by which t holds x
 abbrev pub HoldsCell : Cell → ℕ → Value → Cell → List ℕ → List Edit → Type 0
 HoldsCell x t v first row edits = (row ≡ x.row) × IsHolding x t v first edits
-
--- The row and the edits by which t records x at c. Where the rows hold, the lock of x stands.
-abbrev pub RecordsCell : Type 0 → Cells → Cell → ℕ → ℕ → List ℕ → List Edit → Type 0
-RecordsCell Holds cells x t c row edits = (row ≡ x.row) × (Holds → IsThere cells x Lock t) × IsRecording x t c edits
 
 -- ---- the edits of a session's next step, as its phase, its commit stamp and its writes name them
 

@@ -4,11 +4,11 @@ use Rattle.std.specs.Ordering.{nat_cmp}
 use Rattle.std.specs.BTreeMap as btree
 use Rattle.std.specs.FinMap as finmap
 use Rattle.cell_key.specs.Cells.{Cells}
-use Rattle.cell_key.specs.Names.{IsRow, IsFamily}
 use Rattle.cell_key.specs.declared.refusals.Refusal.{Refusal}
-use Rattle.cell_key.specs.declared.refusals.Refusal.TheVariants.{UnknownSession, WrongPhase, BadRow, BadColumn, NoMemory}
+use Rattle.cell_key.specs.declared.refusals.Refusal.TheVariants.{UnknownSession, WrongPhase}
 use Rattle.si_model.specs.Machine as machine
 use Rattle.si_model.specs.Machine.{State, Request, Reply, Step, IsReached, InPhase, Wrote, Writes}
+use Rattle.si_model.specs.Reads.{IsNameRefusal}
 use Rattle.si_model.specs.Replies.{progress_reply}
 use Rattle.si_model.specs.ShowsCells.{ShowsCells, TouchesOneRow}
 use Rattle.si_model.specs.declared.replies.Cell.{Cell}
@@ -114,13 +114,6 @@ IsOpen clients t = (session : Session) × (btree.get nat_cmp clients.sessions t 
 -- a session that is kept, and takes none
 abbrev pub IsLate : Clients → ℕ → Type 0
 IsLate clients t = (session : Session) × (btree.get nat_cmp clients.sessions t ≡ Some session) × (session.phase ≢ Open)
-
--- why a cell's name is refused
-abbrev pub IsNameRefusal : Cell → Refusal → Type 0
-IsNameRefusal x BadRow = ¬ IsRow x.row
-IsNameRefusal x BadColumn = IsRow x.row × ¬ IsFamily x.family
-IsNameRefusal x NoMemory = ⊤
-IsNameRefusal x _ = ⊥
 
 -- why a request on a cell is refused before it is looked at further
 abbrev pub IsCellRefusal : Clients → ℕ → Cell → Refusal → Type 0

@@ -3,48 +3,24 @@
 ghost use Rattle.std.specs.Prelude.{◌≡◌, ◌≢◌, ◌<◌, ◌≤◌, ◌^◌, [], ◌∷◌, ℕ, List, length, IfOk, OnOk, OnErr, IfErr, IsErrOf, IfSome, IfNone, OnSome};
 ghost use Rattle.std.specs.Bool.{OnTrue, OnFalse};
 ghost use Rattle.std.specs.List.{AllByRecursion};
-ghost use Rattle.byteorder.specs.Endian.{big_number};
 ghost use Rattle.cell_key.specs.Cells.{IsEditOf};
 ghost use Rattle.cell_key.specs.Faults.{HasReason};
 ghost use Rattle.row_atomic.specs.Calls.{AppliesSuch, OnlyReads};
 ghost use Rattle.row_atomic.specs.Refusals.{IsApplyRefusal, IsReadRefusal, IsRefusalOfRead};
 ghost use Rattle.row_atomic.specs.Room.{HasNoRoom};
-ghost use Rattle.si_model.specs.ShowsCells.{key_of, lock_text};
+ghost use Rattle.si_model.specs.Edits.{RecordsCell};
+ghost use Rattle.si_model.specs.Reads.{IsGone};
+ghost use Rattle.si_model.specs.ShowsCells.{lock_text};
 ghost use Rattle.si_model.specs.declared.replies.Cell.{Cell as CellOf};
-ghost use Rattle.txn_client.specs.Reads.{IsFound, IsShort, IsDamaged, IsTaken, IsFree, IsGone};
+ghost use Rattle.txn_client.specs.Reads.{IsFound, IsShort, IsDamaged, IsTaken, IsFree};
 ghost use Rattle.txn_client.specs.Refusals.{IsRowRefusal};
-ghost use Rattle.txn_client.specs.Room.{HoldsCell, IsHolding, IsRecording, RecordsCell};
+ghost use Rattle.txn_client.specs.Room.{HoldsCell, IsHolding};
 
-use crate::limits::Moment;
 use crate::writes::Write;
-use byteorder::{BigEndian, ByteOrder};
-use cell_key::{CellKey, Edit, Qualifier, Refusal, Stamp};
+use cell_key::{Edit, Moment, Qualifier, Refusal, Stamp};
 use row_atomic::Rows;
-use si_model::{Cell, Found};
-use std::alloc::{AllocError, Global};
-
-fn key(cell: &Cell, qualifier: Qualifier, stamp: Stamp) -> Result<CellKey, AllocError>
-    ensures { IfOk result (λ key. key ≡ key_of cell.now qualifier stamp) }
-{
-    Ok(CellKey {
-        row: cell.row.clone()?,
-        family: cell.family.clone()?,
-        qualifier,
-        stamp,
-    })
-}
-
-/// The start that a write record names.
-fn named_start(text: &[u8]) -> Option<Stamp>
-    ensures named { IfSome result (λ start. start ≡ big_number 8 text.now) }
-    ensures length { OnSome result (length text.now ≡ 8) }
-    ensures none { IfNone result (length text.now ≢ 8) }
-{
-    if text.len() != 8 {
-        return None;
-    }
-    Some(BigEndian::read_u64(text))
-}
+use si_model::{Cell, Found, key, named_start, recording};
+use std::alloc::Global;
 
 /// What a session that began at `start` reads of a cell (Percolator, Get).
 pub(crate) fn read_cell<R: Rows>(rows: &mut R, cell: &Cell, start: Stamp) -> Result<Found, Refusal>
@@ -137,27 +113,6 @@ pub(crate) fn hold<R: Rows>(
     Ok(())
 }
 
-/// The two edits that put a write record in the place of a lock.
-fn recording(alloc: Global, cell: &Cell, start: Stamp, commit: Stamp) -> Result<Vec<Edit>, Refusal>
-    requires from { 1 ≤ start }
-    requires to { start < 2 ^ 63 }
-    requires commit_from { 1 ≤ commit }
-    requires commit_to { commit < 2 ^ 63 }
-    ensures recording { IfOk result (λ edits. IsRecording cell.now start commit edits.items) }
-    ensures under { IfOk result (λ edits. AllByRecursion (IsEditOf cell.now.row) edits.items) }
-    ensures refusal { IfErr result (λ refusal. refusal ≡ Refusal.NoMemory) }
-{
-    let mut edits = Vec::new(alloc);
-    let record = key(cell, Qualifier::Write, commit)?;
-    let lock = key(cell, Qualifier::Lock, start)?;
-    let mut text = [0u8; 8];
-    BigEndian::write_u64(&mut text, start);
-    let text = Vec::from_slice(alloc, &text)?;
-    edits.push(Edit::Put(record, text))?;
-    edits.push(Edit::Erase(lock))?;
-    Ok(edits)
-}
-
 /// Puts the write record in the place of the lock, if that stands.
 pub(crate) fn record<R: Rows>(
     alloc: Global,
@@ -177,9 +132,8 @@ pub(crate) fn record<R: Rows>(
         (RecordsCell (R.holds rows.old) (R.cells rows.old) cell.now start commit) }
     ensures reason { HasReason (R.faults rows.old) (R.faults rows.new) result }
 {
-    let start = start.stamp();
-    let commit = commit.stamp();
-    let lock = rows.newest(&cell.row, &cell.family, Qualifier::Lock, start, start)?;
+    let stamp = start.stamp();
+    let lock = rows.newest(&cell.row, &cell.family, Qualifier::Lock, stamp, stamp)?;
     if lock.is_none() {
         return Ok(false);
     }

@@ -14,21 +14,22 @@ ghost use Rattle.si_model.specs.Machine as machine;
 ghost use Rattle.si_model.specs.Machine.{IsReached, State};
 ghost use Rattle.si_model.specs.Replies.{found_reply, progress_reply, result_reply};
 ghost use Rattle.si_model.specs.ShowsCells.{ShowsCells};
-ghost use Rattle.txn_client.specs.Reads.{IsShort, cell_of};
+ghost use Rattle.si_model.specs.Reads.{cell_of};
+ghost use Rattle.txn_client.specs.Reads.{IsShort};
 ghost use Rattle.txn_client.specs.Refusals.{HasOneReason, IsBeginRefusal, IsGetRefusal, IsSetRefusal, IsStepRefusal};
 ghost use Rattle.row_atomic.specs.Calls.{KeepsBelow, OnlyReads};
 ghost use Rattle.row_atomic.specs.Room.{HasNoRoom};
 ghost use Rattle.txn_client.specs.Room.{ChangesNext, Does, EditsOfStep, Makes, TakesRoom};
-ghost use Rattle.txn_client.specs.Shows.{DrawsNext, InEachShown, IsAboutToDraw, IsCellRefusal, IsCrowded, IsInactive, IsNameRefusal, IsOpen, IsUnwritten, SameSessions, Shows, ShowsClients, Steps, TouchesFor, open_session, top_after};
+ghost use Rattle.txn_client.specs.Shows.{DrawsNext, InEachShown, IsAboutToDraw, IsCellRefusal, IsCrowded, IsInactive, IsOpen, IsUnwritten, SameSessions, Shows, ShowsClients, Steps, TouchesFor, open_session, top_after};
 
 use crate::cells;
-use crate::limits::{Moment, Value};
+use crate::limits::Value;
 use crate::session::{Phase, Session};
 use crate::writes::{Write, Writes};
-use cell_key::{Family, MOST_STAMP, Refusal, Row, Stamp};
+use cell_key::{MOST_STAMP, Moment, Refusal, Stamp};
 use oracle::{MarkStore, Oracle};
 use row_atomic::Rows;
-use si_model::{Cell, Found, Progress};
+use si_model::{Cell, Found, Progress, cell_named};
 use std::alloc::Global;
 use std::collections::BTreeMap;
 
@@ -55,18 +56,6 @@ fn top_after_step(top: Stamp, progress: Progress) -> Stamp
         Progress::Stamped(commit) => commit,
         _ => top,
     }
-}
-
-/// The cell of a row and a family: BadRow, BadColumn, NoMemory.
-fn cell_named(alloc: Global, row: &[u8], family: &[u8]) -> Result<Cell, Refusal>
-    ensures ok { IfOk result (λ cell. cell ≡ cell_of row.now family.now) }
-    ensures row { OnOk result (IsRow row.now) }
-    ensures family { OnOk result (IsFamily family.now) }
-    ensures refusal { IfErr result (IsNameRefusal (cell_of row.now family.now)) }
-{
-    let row = Row::new(alloc, row)?;
-    let family = Family::new(alloc, family)?;
-    Ok(Cell { row, family })
 }
 
 impl Clients {

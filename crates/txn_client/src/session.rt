@@ -1,7 +1,7 @@
 //! A session and its phases.
 
-use crate::limits::Moment;
 use crate::writes::Writes;
+use cell_key::Moment;
 use si_model::Progress;
 
 /// How far a session is. A count is of the cells that are held, or that are clear.

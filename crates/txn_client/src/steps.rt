@@ -12,9 +12,8 @@ ghost use Rattle.txn_client.specs.Refusals.{HasOneReason, IsAdvanceRefusal, IsCe
 ghost use Rattle.txn_client.specs.declared.session.Phase.TheVariants as phase;
 
 use crate::cells;
-use crate::limits::Moment;
 use crate::session::{Outcome, Phase, Session};
-use cell_key::{MOST_STAMP, Refusal};
+use cell_key::{MOST_STAMP, Moment, Refusal};
 use oracle::{MarkStore, Oracle};
 use row_atomic::Rows;
 use si_model::Progress;

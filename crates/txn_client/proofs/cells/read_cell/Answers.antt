@@ -1,4 +1,4 @@
-use Rattle.std.proofs.Common.{◌≡◌, ℕ, ◌≤◌, List, Option, Some, None, inl, inr, length, arith, refl, sym, subst, ap, ◌∙◌}
+use Rattle.std.proofs.Common.{◌≡◌, ℕ, ◌≤◌, List, Option, Some, None, inl, inr, length, arith, sym, subst, ap, ◌∙◌}
 use Rattle.std.specs.Prelude.{option_map}
 use Rattle.std.specs.FinMap.{get}
 use Rattle.byteorder.specs.Endian.{big_number}
@@ -10,8 +10,8 @@ use Rattle.cell_key.specs.declared.keys.Qualifier.TheVariants.{Data, Lock, Write
 use Rattle.cell_key.specs.Versions.{stamped, IsVersionIn}
 use Rattle.si_model.specs.ShowsCells.{key_of, IsThere}
 use Rattle.si_model.specs.declared.replies.Cell.{Cell}
-use Rattle.txn_client.specs.Reads.{ReadsValue, IsDamaged, IsLast}
-use Rattle.std.specs.declared.result.Result.TheVariants.{Err}
+use Rattle.si_model.specs.Reads.{IsLast}
+use Rattle.txn_client.specs.Reads.{ReadsValue, IsDamaged}
 use Rattle.cell_key.proofs.Reasons.{not_refused, reason_kept, reason_passed, reason_then}
 use Rattle.row_atomic.proofs.Calls.{is_read_refusal, read_undamaged, reads_then}
 use Rattle.txn_client.proofs.Passed.{passed_err, passed_none, damaged_no_device}

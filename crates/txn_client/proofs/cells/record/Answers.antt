@@ -1,16 +1,14 @@
-use Rattle.std.proofs.Common.{◌≡◌, ◌<◌, ◌≤◌, ◌^◌, ◌∙◌, ℕ, true, false, Option, Some, None, List, not, refl, sym, ap, subst, arith}
+use Rattle.std.proofs.Common.{◌≡◌, ◌∙◌, ℕ, true, false, Option, Some, None, not, refl, ap, subst, arith}
 use Rattle.std.specs.Prelude.{is_some, option_map}
 use Rattle.std.specs.declared.vec.Vec.{Vec}
 use Rattle.cell_key.specs.Cells.{Cells, IsNewest}
 use Rattle.cell_key.specs.Versions.{stamped}
-use Rattle.cell_key.specs.declared.edits.Edit.{Edit}
 use Rattle.cell_key.specs.declared.keys.Qualifier.TheVariants.{Lock}
-use Rattle.cell_key.proofs.Reasons.{not_refused, reason_kept, reason_none, reason_passed, reason_then}
+use Rattle.cell_key.proofs.Reasons.{not_refused, reason_kept, reason_passed}
 use Rattle.row_atomic.proofs.Calls.{applies_after, reads_then}
 use Rattle.si_model.specs.ShowsCells.{IsThere, key_of}
 use Rattle.si_model.specs.declared.replies.Cell.{Cell}
-use Rattle.txn_client.specs.Reads.{IsGone}
-use Rattle.txn_client.specs.Room.{IsRecording, RecordsCell}
+use Rattle.si_model.specs.Reads.{IsGone}
 use Rattle.txn_client.proofs.Passed.{passed_on, passed_err, passed_none, passed_kept, read_row, apply_row, want_row, read_not_full, reason_untouched, no_memory_only, apply_no_device, full_not, device_not}
 use Rattle.txn_client.proofs.cells.record.Goals as goal
 
@@ -23,21 +21,6 @@ stands cells x s t (Some found) e (low, high, is, last) same =
 is_gone : {Z : Type 0} (cells : Cells) (x : Cell) (s t : ℕ) (found : Option (ℕ × Vec ℕ Z)) → is_some found ≡ false → IsNewest cells (key_of x Lock) s s (option_map stamped found) → s ≡ t → IsGone cells x t
 is_gone cells x s t None e none same = none t (omega (arith, same)) (omega (arith, same))
 is_gone cells x s t (Some found) e some same = absurd cc
-
-recording_at : (Holds : Type 0) (cells : Cells) (x : Cell) (edits : List Edit) (s s' c c' : ℕ) → s ≡ s' → c ≡ c' → (Holds → IsThere cells x Lock s') → IsRecording x s c edits → RecordsCell Holds cells x s' c' x.row edits
-recording_at H cells x edits s s' c c' start commit lock is = (refl, lock, subst (λ n. IsRecording x n c' edits) start (subst (λ n. IsRecording x s n edits) commit is))
-
-pub recording-requires-clause-from : goal.recording-requires-clause-from
-recording-requires-clause-from g c = subst (λ (n : ℕ). 1 ≤ n) (sym c.stamp-start.ensures.stamp) c.stamp-start.ensures.from
-
-pub recording-requires-clause-to : goal.recording-requires-clause-to
-recording-requires-clause-to g c = subst (λ (n : ℕ). n < 2 ^ 63) (sym c.stamp-start.ensures.stamp) c.stamp-start.ensures.to
-
-pub recording-requires-clause-commit_from : goal.recording-requires-clause-commit_from
-recording-requires-clause-commit_from g c = subst (λ (n : ℕ). 1 ≤ n) (sym c.stamp-commit.ensures.stamp) c.stamp-commit.ensures.from
-
-pub recording-requires-clause-commit_to : goal.recording-requires-clause-commit_to
-recording-requires-clause-commit_to g c = subst (λ (n : ℕ). n < 2 ^ 63) (sym c.stamp-commit.ensures.stamp) c.stamp-commit.ensures.to
 
 pub apply-requires : goal.apply-requires
 apply-requires g c = c.in_ok-edits.ensures.under
@@ -61,7 +44,7 @@ returns-in_err-lock g c =
 pub returns-then-is_none : goal.returns-then-is_none
 returns-then-is_none g c = record {
   made = tt;
-  gone = λ held. is_gone (g.R.Rows.cells c.args.rows.now) c.args.cell.now c.stamp-start.result c.args.start c.in_ok-lock.lock (c.is_none.ensures ∙ ap not c.if-is_none.true) (c.in_ok-lock.ensures.found held) c.stamp-start.ensures.stamp;
+  gone = λ held. is_gone (g.R.Rows.cells c.args.rows.now) c.args.cell.now c.stamp-stamp.result c.args.start c.in_ok-lock.lock (c.is_none.ensures ∙ ap not c.if-is_none.true) (c.in_ok-lock.ensures.found held) c.stamp-stamp.ensures.stamp;
   left = c.in_ok-lock.ensures.reads;
   err = tt;
   refusal = tt;
@@ -101,8 +84,11 @@ returns-in_err-apply g c =
       full = λ is. (
         c.args.cell.now.row,
         c.in_ok-edits.edits.items,
-        recording_at (g.R.Rows.holds c.args.rows.now) (g.R.Rows.cells c.args.rows.now) c.args.cell.now c.in_ok-edits.edits.items _ c.args.start _ c.args.commit c.stamp-start.ensures.stamp c.stamp-commit.ensures.stamp
-            (λ held. stands (g.R.Rows.cells c.args.rows.now) c.args.cell.now c.stamp-start.result c.args.start c.in_ok-lock.lock (c.is_none.ensures ∙ ap not c.if-is_none.false) (first.found held) c.stamp-start.ensures.stamp) c.in_ok-edits.ensures.recording,
+        (
+          refl,
+          λ held. stands (g.R.Rows.cells c.args.rows.now) c.args.cell.now c.stamp-stamp.result c.args.start c.in_ok-lock.lock (c.is_none.ensures ∙ ap not c.if-is_none.false) (first.found held) c.stamp-stamp.ensures.stamp,
+          c.in_ok-edits.ensures.recording,
+        ),
         first.reads.room _ _ (at.full (passed_on r _ e _ by refl is)),
       );
       reason = reason_untouched _ r _ _ _ at.untouched (apply_no_device r e by at.refusal) first.reason;
@@ -115,8 +101,11 @@ returns g c =
       made = record {
         row = c.args.cell.now.row;
         edits = c.in_ok-edits.edits.items;
-        such = recording_at (g.R.Rows.holds c.args.rows.now) (g.R.Rows.cells c.args.rows.now) c.args.cell.now c.in_ok-edits.edits.items _ c.args.start _ c.args.commit c.stamp-start.ensures.stamp c.stamp-commit.ensures.stamp
-            (λ held. stands (g.R.Rows.cells c.args.rows.now) c.args.cell.now c.stamp-start.result c.args.start c.in_ok-lock.lock (c.is_none.ensures ∙ ap not c.if-is_none.false) (first.found held) c.stamp-start.ensures.stamp) c.in_ok-edits.ensures.recording;
+        such = (
+          refl,
+          λ held. stands (g.R.Rows.cells c.args.rows.now) c.args.cell.now c.stamp-stamp.result c.args.start c.in_ok-lock.lock (c.is_none.ensures ∙ ap not c.if-is_none.false) (first.found held) c.stamp-stamp.ensures.stamp,
+          c.in_ok-edits.ensures.recording,
+        );
         applied = applies_after first.reads c.in_ok-apply.ensures.ok;
       };
       gone = λ held. tt;

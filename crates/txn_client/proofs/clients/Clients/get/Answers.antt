@@ -6,7 +6,7 @@ use Rattle.cell_key.specs.Names.{IsRow, IsFamily}
 use Rattle.si_model.specs.declared.replies.Cell.{Cell}
 use Rattle.si_model.specs.Machine as machine
 use Rattle.si_model.specs.Replies.{found_reply, result_reply}
-use Rattle.txn_client.specs.Reads.{cell_of}
+use Rattle.si_model.specs.Reads.{cell_of}
 use Rattle.cell_key.proofs.Reasons.{reason_none}
 use Rattle.row_atomic.proofs.Calls.{reads_none}
 use Rattle.txn_client.specs.Shows.{IsCellRefusal, Steps}

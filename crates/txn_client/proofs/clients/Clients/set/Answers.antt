@@ -9,7 +9,7 @@ use Rattle.cell_key.specs.Names.{IsRow, IsFamily}
 use Rattle.si_model.specs.declared.replies.Cell.{Cell}
 use Rattle.si_model.specs.Machine as machine
 use Rattle.si_model.specs.Replies.{result_reply}
-use Rattle.txn_client.specs.Reads.{cell_of}
+use Rattle.si_model.specs.Reads.{cell_of}
 use Rattle.txn_client.specs.Shows.{Steps}
 use Rattle.txn_client.specs.declared.session.Session.{Session}
 use Rattle.txn_client.proofs.Table.{on_err_then, same_each, sets_at, set_refused_at, set_value_at, open_same, as_err}

@@ -1,10 +1,10 @@
-use Rattle.std.proofs.Common.{◌≡◌, ◌∙◌, ℕ, List, refl, sym, ap}
+use Rattle.std.proofs.Common.{◌∙◌, refl, ap}
 use Rattle.std.specs.Prelude.{nat_eq}
-use Rattle.cell_key.specs.declared.edits.Edit.{Edit}
 use Rattle.cell_key.proofs.Reasons.{not_refused, reason_kept, reason_none, reason_passed}
 use Rattle.row_atomic.proofs.Calls.{reads_none, such_so}
 use Rattle.txn_client.proofs.Sessions.{advance_lost, advance_committed}
-use Rattle.txn_client.proofs.Room.{no_room_so, recording_makes}
+use Rattle.si_model.proofs.Editing.{make_cells}
+use Rattle.txn_client.proofs.Room.{no_room_so}
 use Rattle.txn_client.proofs.Passed.{passed_on, passed_err, passed_none, passed_kept, row_step, empty_not_full, empty_no_device}
 use Rattle.txn_client.proofs.session.Session.commit_first.Goals as goal
 
@@ -69,7 +69,7 @@ returns g c =
     record {
       step = λ held last.
           rw c.stamp.ensures.stamp (advance_committed cells session last first (nat_eq 1 c.len.result) c.requires c.in-Some.ensures.found
-          (made.such.1 held) (ap (nat_eq 1) c.len.ensures.len) (g.R.Rows.cells c.record.new.rows) (made.applied.made held ∙ recording_makes cells first.cell session.start session.commit made.edits made.such.2));
+          (made.such.1 held) (ap (nat_eq 1) c.len.ensures.len) (g.R.Rows.cells c.record.new.rows) (made.applied.made held ∙ (make_cells cells first.cell session.start made.edits).recorded session.commit made.such.2));
       draws = λ last. (tt, refl);
       start = refl;
       writes = refl;

@@ -1,11 +1,11 @@
-use Rattle.std.proofs.Common.{◌≡◌, ◌∙◌, ◌+◌, ◌⊎◌, inl, inr, ℕ, List, Bool, true, false, refl, sym, ap}
+use Rattle.std.proofs.Common.{◌∙◌, ◌+◌, ◌⊎◌, inl, inr, Bool, true, false, refl, sym, ap}
 use Rattle.std.specs.Prelude.{nat_eq}
 use Rattle.std.specs.Bool.{OnTrue, OnFalse}
-use Rattle.cell_key.specs.declared.edits.Edit.{Edit}
 use Rattle.cell_key.proofs.Reasons.{not_refused, reason_kept, reason_none, reason_passed}
 use Rattle.row_atomic.proofs.Calls.{reads_none, such_so}
 use Rattle.txn_client.proofs.Sessions.{advance_finished}
-use Rattle.txn_client.proofs.Room.{no_room_so, recording_makes}
+use Rattle.si_model.proofs.Editing.{make_cells}
+use Rattle.txn_client.proofs.Room.{no_room_so}
 use Rattle.txn_client.proofs.Passed.{passed_on, passed_err, passed_none, passed_kept, row_step, empty_not_full, empty_no_device}
 use Rattle.txn_client.proofs.session.Session.finish_next.Goals as goal
 
@@ -62,7 +62,7 @@ returns g c =
           advance_finished cells session last c.args.k c.len.result write (nat_eq (c.args.k + 1) c.len-2.result) c.requires
           c.in-Some.ensures.found c.len.ensures.len (ap (nat_eq (c.args.k + 1)) (c.len-2.ensures.len ∙ sym c.len.ensures.len)) (g.R.Rows.cells c.record.new.rows)
           (elim (with_gone stood at.made (at.gone held) at.left) [
-            | inl made ↦ inl (made.such.1 held, made.applied.made held ∙ recording_makes cells write.cell session.start session.commit made.edits made.such.2)
+            | inl made ↦ inl (made.such.1 held, made.applied.made held ∙ (make_cells cells write.cell session.start made.edits).recorded session.commit made.such.2)
             | inr left ↦ inr (left.0, left.1.kept held)
           ]);
       draws = λ last. (tt, refl);

@@ -1,0 +1,5 @@
+use Rattle.si_model.proofs.Editing.{make_cells}
+use Rattle.si_model.proofs.laws.make_cells.Goals as goal
+
+pub returns : goal.returns
+returns c = make_cells
