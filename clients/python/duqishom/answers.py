@@ -1,4 +1,4 @@
-"""What the store answers to reads and steps."""
+"""What the store answers to reads, to steps and to cleaners."""
 
 from __future__ import annotations
 
@@ -70,7 +70,7 @@ class Committed:
 
 @dataclass(frozen=True)
 class Lost:
-    """The lock of the first cell is gone. Nothing was committed, and the session has ended."""
+    """A cleaner has rolled the session back. Nothing was committed, and the session has ended."""
 
 
 @dataclass(frozen=True)
@@ -82,6 +82,39 @@ class Finished:
 
 
 Progress = Held | Conflict | Stamped | Committed | Lost | Finished
+
+
+@dataclass(frozen=True)
+class Cleaner:
+    """A cleaner: its number, and the start of the session whose lock it is to clear."""
+
+    number: int
+    start: int
+
+
+@dataclass(frozen=True)
+class Decided:
+    """The fate of the lock's session is decided at its first cell."""
+
+
+@dataclass(frozen=True)
+class RolledForward:
+    """The session has committed at this stamp: the lock gave way to its record."""
+
+    commit: int
+
+
+@dataclass(frozen=True)
+class RolledBack:
+    """The session hasn't committed, and never will: the lock is gone."""
+
+
+@dataclass(frozen=True)
+class Gone:
+    """The lock was gone already."""
+
+
+Cleaned = Decided | RolledForward | RolledBack | Gone
 
 
 @dataclass(frozen=True)
@@ -122,6 +155,32 @@ def read_progress(fields: FieldReader) -> Progress:
             return Finished(fields.number(2), fields.number(2))
         case tag:
             raise MalformedReply(f"no answer to a Step has the tag {tag}")
+
+
+def read_cleaner(fields: FieldReader) -> Cleaner | None:
+    """The answer to a CleanBegin."""
+    match fields.number(1):
+        case 0:
+            return None
+        case 1:
+            return Cleaner(fields.number(8), fields.number(8))
+        case tag:
+            raise MalformedReply(f"no answer to a CleanBegin has the tag {tag}")
+
+
+def read_cleaned(fields: FieldReader) -> Cleaned:
+    """The answer to a CleanStep."""
+    match fields.number(1):
+        case 1:
+            return Decided()
+        case 2:
+            return RolledForward(fields.number(8))
+        case 3:
+            return RolledBack()
+        case 4:
+            return Gone()
+        case tag:
+            raise MalformedReply(f"no answer to a CleanStep has the tag {tag}")
 
 
 def read_version(fields: FieldReader) -> Version | None:

@@ -1,11 +1,23 @@
-"""The thirteen operations: how each is asked, and how its answer is read."""
+"""The fifteen operations: how each is asked, and how its answer is read."""
 
 from __future__ import annotations
 
 from dataclasses import dataclass
 from typing import ClassVar, Protocol, TypeVar
 
-from duqishom.answers import Found, Progress, Qualifier, Version, read_found, read_progress, read_version
+from duqishom.answers import (
+    Cleaned,
+    Cleaner,
+    Found,
+    Progress,
+    Qualifier,
+    Version,
+    read_cleaned,
+    read_cleaner,
+    read_found,
+    read_progress,
+    read_version,
+)
 from duqishom.fields import FieldReader, MalformedReply, counted, number
 from duqishom.refusals import BY_NUMBER
 
@@ -99,6 +111,35 @@ class Stop(WithoutAnswer):
 
     def fields(self) -> bytes:
         return number(8, self.start)
+
+
+@dataclass(frozen=True)
+class CleanBegin:
+    """Opens a cleaner at the lock of a cell, and answers it: None where no lock stands."""
+
+    row: bytes
+    family: bytes
+    code: ClassVar[int] = 0x06
+
+    def fields(self) -> bytes:
+        return counted(self.row) + counted(self.family)
+
+    def read(self, fields: FieldReader) -> Cleaner | None:
+        return read_cleaner(fields)
+
+
+@dataclass(frozen=True)
+class CleanStep:
+    """Takes the cleaner's next step."""
+
+    cleaner: int
+    code: ClassVar[int] = 0x07
+
+    def fields(self) -> bytes:
+        return number(8, self.cleaner)
+
+    def read(self, fields: FieldReader) -> Cleaned:
+        return read_cleaned(fields)
 
 
 @dataclass(frozen=True)

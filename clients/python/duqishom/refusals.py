@@ -59,7 +59,7 @@ class TooManyWrites(Refused):
 
 
 class TooManySessions(Refused):
-    """1,024 sessions are active."""
+    """1,024 sessions are active; or, of a cleaner that is to open, 1,024 cleaners are open."""
 
     number = 7
 
@@ -71,7 +71,7 @@ class EmptyCommit(Refused):
 
 
 class UnknownCleaner(Refused):
-    """No cleaner has this number. There are no cleaners yet."""
+    """No cleaner with this number is open: it has done both its steps, or never opened."""
 
     number = 9
 
@@ -107,7 +107,7 @@ class BadCount(Refused):
 
 
 class MemtableFull(Refused):
-    """The memtable of the row's tablet has no room for the edits of this Step. A Minor of the tablet makes room."""
+    """The memtable of the row's tablet has no room for the edits of this step. A Minor of the tablet makes room."""
 
     number = 15
 
@@ -125,7 +125,7 @@ class FileTooLarge(Refused):
 
 
 class Exhausted(Refused):
-    """No stamp is left, or no name of a file."""
+    """No stamp is left, or no number for a cleaner, or no name of a file."""
 
     number = 18
 

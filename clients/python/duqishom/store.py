@@ -9,9 +9,11 @@ from contextlib import AbstractContextManager
 from types import TracebackType
 from typing import TypeVar
 
-from duqishom.answers import Found, Progress, Qualifier, Version
+from duqishom.answers import Cleaned, Cleaner, Decided, Found, Progress, Qualifier, Version
 from duqishom.operations import (
     Begin,
+    CleanBegin,
+    CleanStep,
     Get,
     Major,
     Merge,
@@ -29,8 +31,9 @@ from duqishom.operations import (
     request_body,
 )
 from duqishom.program import Program
-from duqishom.refusals import TooManyFiles
+from duqishom.refusals import MemtableFull, TooManyFiles
 from duqishom.tablets import Tablet, TabletMap
+from duqishom.texts import first_row
 from duqishom.transactions import MOST_STAMP, Patience, StillPending, Transaction, TransactionConflict
 
 Answer = TypeVar("Answer")
@@ -77,8 +80,41 @@ class Store:
         return self.ask(Step(start))
 
     def stop(self, start: int) -> None:
-        """Ends the session where it stands. The cells that it holds stay locked."""
+        """Ends the session where it stands. The cells that it holds stay locked until they are cleaned."""
         self.ask(Stop(start))
+
+    def clean_begin(self, row: bytes, family: bytes) -> Cleaner | None:
+        """Opens a cleaner at the lock of a cell, and None where no lock stands."""
+        return self.ask(CleanBegin(row, family))
+
+    def clean_step(self, cleaner: int) -> Cleaned:
+        """Takes the cleaner's next step: the first decides, the second clears the cell."""
+        return self.ask(CleanStep(cleaner))
+
+    def clean(self, row: bytes, family: bytes) -> Cleaned | None:
+        """Clears the lock of a cell, whether its session runs or has stopped: what became of it, and None where none stood.
+
+        A session that hasn't committed is rolled back by this: its next step that matters answers Conflict or Lost.
+        """
+        with self._turn:
+            cleaner = self.clean_begin(row, family)
+            if cleaner is None:
+                return None
+            cleaned = self._clean_step(cleaner.number, row, family)
+            while cleaned == Decided():
+                cleaned = self._clean_step(cleaner.number, row, family)
+            return cleaned
+
+    def _clean_step(self, cleaner: int, row: bytes, family: bytes) -> Cleaned:
+        """A cleaner's step. Full memtables of its cell and of the lock's first cell are written to files."""
+        try:
+            return self.clean_step(cleaner)
+        except MemtableFull:
+            lock = self.raw(row, family, Qualifier.LOCK)
+            self.make_room(row)
+            if lock is not None:
+                self.make_room(first_row(lock.value))
+            return self.clean_step(cleaner)
 
     def minor(self, tablet: int) -> None:
         """Writes the memtable of a tablet as a new file."""
@@ -138,18 +174,14 @@ class Store:
     def run(self, work: Callable[[Transaction], Result], attempts: int = 10) -> Result:
         """Does work in a transaction, and once more in a new one where it conflicts or stays pending.
 
-        After the last attempt that failure is raised; at once, where cells were left locked, since no attempt can
-        pass these.
+        After the last attempt that failure is raised.
         """
         attempt = 1
         while True:
             try:
                 with self.transaction() as transaction:
                     return work(transaction)
-            except TransactionConflict as conflict:
-                if conflict.stranded or attempt >= attempts:
-                    raise
-            except StillPending:
+            except (TransactionConflict, StillPending):
                 if attempt >= attempts:
                     raise
             attempt += 1

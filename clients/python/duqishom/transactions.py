@@ -58,33 +58,33 @@ class StillPending(TransactionFailed):
 class TransactionConflict(TransactionFailed):
     """A cell that was to be written is locked, or was committed since the transaction began.
 
-    The cells in `stranded` stay locked: there are no cleaners yet that could free them.
+    What the transaction held is free again.
     """
 
-    def __init__(self, cell: Cell, stranded: tuple[Cell, ...]) -> None:
-        left = f"; {len(stranded)} cells stay locked" if stranded else ""
-        super().__init__(f"{cell} is locked, or was written since the transaction began{left}")
+    def __init__(self, cell: Cell) -> None:
+        super().__init__(f"{cell} is locked, or was written since the transaction began")
         self.cell = cell
-        self.stranded = stranded
 
 
 class TransactionLost(TransactionFailed):
-    """The lock of the first cell was taken away before the commit. Without cleaners it doesn't happen."""
+    """A cleaner rolled the transaction back before it committed."""
 
 
 @dataclass(frozen=True)
 class Patience:
-    """How often a read is asked while it is pending, and the seconds between two of these."""
+    """How often a cell is looked at while it is locked, the seconds between two of these, and whether the lock is then
+    taken for one that was left behind, and cleaned."""
 
     tries: int = 3
     pause: float = 0.01
+    cleans: bool = True
 
 
 class Transaction:
     """One session, from its begin to its end.
 
     In a `with` it commits at the end. Where an exception leaves, it stops, unless it has taken a step: then its cells are
-    locked, and only another `commit` can free them.
+    locked, and another `commit` or a cleaner frees them.
     """
 
     def __init__(self, store: Store, start: int, patience: Patience) -> None:
@@ -100,7 +100,8 @@ class Transaction:
     def get(self, row: bytes, family: bytes) -> bytes | None:
         """The value that was committed last by the start, and None where nothing was.
 
-        The transaction's own writes are not looked at. StillPending where a lock kept the answer back each time.
+        The transaction's own writes are not looked at. A lock that still stands after some tries is cleaned, unless the
+        patience says otherwise: then StillPending is raised.
         """
         tries = 0
         while True:
@@ -111,9 +112,16 @@ class Transaction:
                     return value
                 case Pending(start):
                     tries += 1
-                    if tries >= self._patience.tries:
-                        raise StillPending(Cell(row, family), start)
-                    time.sleep(self._patience.pause)
+                    self._wait(Cell(row, family), start, tries)
+
+    def _wait(self, cell: Cell, start: int, tries: int) -> None:
+        """Waits for a lock to go, and after so many tries cleans it, or gives up."""
+        if tries < self._patience.tries:
+            time.sleep(self._patience.pause)
+        elif self._patience.cleans:
+            self._store.clean(cell.row, cell.family)
+        else:
+            raise StillPending(cell, start)
 
     def set(self, row: bytes, family: bytes, value: bytes) -> None:
         """Buffers a write. The first cell that is set is the primary."""
@@ -132,7 +140,7 @@ class Transaction:
         """Takes all steps, and gives the commit stamp: None where nothing was set.
 
         TransactionConflict where a cell is taken. The client looks before it holds the first cell, and holds them
-        all before anyone else of this store has a turn; so nothing stays locked. Where a step is refused otherwise,
+        all before anyone else of this store has a turn; so nothing is held in vain. Where a step is refused otherwise,
         the session goes on, and `commit` may be called again.
         """
         if not self.is_active:
@@ -148,14 +156,17 @@ class Transaction:
         return self.commit_stamp
 
     def _look(self) -> None:
-        """Stops the session where one of its cells is taken, as a step would find it to be."""
+        """Stops the session where one of its cells is taken, as a step would find it to be. A lock is cleaned first, unless
+        the patience says otherwise."""
         for cell in self._cells:
             row, family = cell.row, cell.family
+            if self._patience.cleans:
+                self._store.clean(row, family)
             lock = self._store.raw(row, family, Qualifier.LOCK, 0, MOST_STAMP)
             record = self._store.raw(row, family, Qualifier.WRITE, self.start, MOST_STAMP)
             if lock is not None or record is not None:
                 self.stop()
-                raise TransactionConflict(cell, ())
+                raise TransactionConflict(cell)
 
     def _step(self) -> Progress:
         """The next step. A full memtable is written to a file, and the step is asked again."""
@@ -178,10 +189,12 @@ class Transaction:
                 self._next = 1
             case Conflict(place):
                 self.is_active = False
-                raise TransactionConflict(self._cells[place - 1], tuple(self._cells[: place - 1]))
+                for held in self._cells[: place - 1]:
+                    self._store.clean(held.row, held.family)
+                raise TransactionConflict(self._cells[place - 1])
             case Lost():
                 self.is_active = False
-                raise TransactionLost("the lock of the first cell is gone")
+                raise TransactionLost("a cleaner has rolled it back")
         if self.commit_stamp is not None and self._next == len(self._cells):
             self.is_active = False
 

@@ -6,16 +6,21 @@ from collections.abc import Callable, Iterable
 from dataclasses import dataclass
 
 from duqishom.answers import (
+    Cleaned,
     Committed,
     Conflict,
+    Decided,
     Finished,
     Found,
+    Gone,
     Held,
     Lost,
     Nothing,
     Pending,
     Progress,
     Qualifier,
+    RolledBack,
+    RolledForward,
     Stamped,
     Value,
     Version,
@@ -87,6 +92,19 @@ def text_of_progress(progress: Progress) -> str:
             return f"finished {place} of {count}"
 
 
+def text_of_cleaned(cleaned: Cleaned) -> str:
+    """What a cleaner did, in words."""
+    match cleaned:
+        case Decided():
+            return "decided"
+        case RolledForward(commit):
+            return f"rolled forward, committed at {commit}"
+        case RolledBack():
+            return "rolled back"
+        case Gone():
+            return "gone"
+
+
 def text_of_version(version: Version | None, qualifier: Qualifier) -> str:
     """What a raw read found, in words. A write record names a start."""
     if version is None:
@@ -134,6 +152,7 @@ class Words:
             Line("in START get ROW FAMILY", "reads a cell as of the start", self.session_get),
             Line("in START step", "takes the session's next step", self.session_step),
             Line("in START stop", "ends the session where it stands", self.session_stop),
+            Line("clean ROW FAMILY", "clears the lock of a cell", self.clean),
             Line("raw ROW FAMILY COLUMN LO HI", "the newest version in data, lock or write; HI may be last", self.raw),
             Line("tablets", "the tablets, in the order of their rows", self.tablets),
             Line("split ROW", "cuts the tablet that holds the row behind it", self.split),
@@ -223,6 +242,11 @@ class Words:
         """Ends a session where it stands."""
         self._store.stop(number_of(start))
         return "stopped"
+
+    def clean(self, row: str, family: str) -> str:
+        """Clears the lock of a cell."""
+        cleaned = self._store.clean(bytes_of(row), bytes_of(family))
+        return "no lock" if cleaned is None else text_of_cleaned(cleaned)
 
     def raw(self, row: str, family: str, column: str, lo: str, hi: str) -> str:
         """Reads the newest version of a column in a range of stamps."""

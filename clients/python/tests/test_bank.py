@@ -13,7 +13,9 @@ from duqishom import (
     BadCount,
     BadSplit,
     Committed,
+    Decided,
     Held,
+    Lost,
     Pending,
     Qualifier,
     Stamped,
@@ -44,7 +46,6 @@ class Bank:
         self.store = store
         self.random = random.Random(seed)
         self.accounts = [b"account %02d" % number for number in range(accounts)]
-        self.free = list(self.accounts)
         self.ledger = dict.fromkeys(self.accounts, FIRST)
         self.counts: Counter[str] = Counter()
         self.wanted = transactions
@@ -96,7 +97,7 @@ class Bank:
     def client(self) -> Iterator[None]:
         """Transfers, one after the other, until enough have committed."""
         while self.counts["committed"] < self.wanted:
-            giver, taker = self.random.sample(self.free, 2)
+            giver, taker = self.random.sample(self.accounts, 2)
             start = self.store.begin()
             yield
             yield from self.transfer(start, giver, taker)
@@ -119,31 +120,37 @@ class Bank:
             return
         if self.is_taken(start, giver) or self.is_taken(start, taker):
             self.stop(start, "met a conflict")
+            if self.random.random() < 0.2:
+                yield from self.clean(self.random.choice((giver, taker)))
             return
         assert self.store.step(start) == Held(1, 2)
         assert self.store.step(start) == Held(2, 2)
         yield
-        if self.strands("held", giver, taker):
+        if self.strands("held"):
             self.stop(start, "stopped when it held its cells")
             return
         assert isinstance(self.store.step(start), Stamped)
         yield
-        if self.strands("stamped", giver, taker):
+        if self.strands("stamped"):
             self.stop(start, "stopped when it was stamped")
             return
-        assert isinstance(self.store.step(start), Committed)
+        committed = self.store.step(start)
+        if committed == Lost():
+            self.counts["lost"] += 1
+            return
+        assert isinstance(committed, Committed)
         self.ledger[giver] -= moved
         self.ledger[taker] += moved
         self.counts["committed"] += 1
         yield
-        if self.strands("committed", taker):
+        if self.strands("committed"):
             self.stop(start, "stopped when it had committed")
             return
         self.store.step(start)
         yield
 
     def read(self, start: int, account: bytes) -> Generator[None, None, int | None]:
-        """What the account has as of the start. None where a lock stood on it for 20 turns."""
+        """What the account has as of the start. None where a lock stood on it for 20 turns: it is cleaned then."""
         for _ in range(20):
             found = self.store.get(start, account, BALANCE)
             yield
@@ -152,7 +159,22 @@ class Bank:
                     return amount(value)
                 case Pending():
                     self.counts["waited a turn"] += 1
+        yield from self.clean(account)
         return None
+
+    def clean(self, account: bytes) -> Iterator[None]:
+        """Cleans the account's lock, a step a turn. One cleaner in five stops after its first."""
+        cleaner = self.store.clean_begin(account, BALANCE)
+        yield
+        if cleaner is None:
+            return
+        assert self.store.clean_step(cleaner.number) == Decided()
+        yield
+        if self.random.random() < 0.2:
+            self.counts["cleaners stopped"] += 1
+            return
+        self.counts[type(self.store.clean_step(cleaner.number)).__name__] += 1
+        yield
 
     def is_taken(self, start: int, account: bytes) -> bool:
         """Whether a step would meet a conflict at the account. It comes right before the steps, with no turn between."""
@@ -164,14 +186,13 @@ class Bank:
         self.store.stop(start)
         self.counts[why] += 1
 
-    def strands(self, phase: str, *locked: bytes) -> bool:
-        """Whether a session stops here for good. What it has locked is no longer used: nothing can free it yet."""
+    def strands(self, phase: str) -> bool:
+        """Whether a session stops here for good. What it has locked stays so until somebody cleans it."""
         phases = ("held", "stamped", "committed")
         due = self.strandings * self.counts["committed"] // self.wanted
         if self.counts["strandings"] >= due or phase != phases[self.counts["strandings"] % 3]:
             return False
         self.counts["strandings"] += 1
-        self.free = [account for account in self.free if account not in locked]
         return True
 
     def keep_house(self) -> None:
@@ -197,10 +218,10 @@ class Interleaved(unittest.TestCase):
 
     def test_sum_never_changes(self) -> None:
         with Store() as store:
-            bank = Bank(store, seed=20, accounts=20, transactions=TRANSACTIONS, strandings=6)
+            bank = Bank(store, seed=20, accounts=20, transactions=TRANSACTIONS, strandings=30)
             bank.open()
             self.interleave(bank, [bank.client() for _ in range(5)])
-            self.assertEqual(bank.counts["strandings"], 6)
+            self.assertEqual(bank.counts["strandings"], 30)
             self.assertEqual(bank.balances(), bank.ledger)
             self.assert_rest_is_read(bank)
 
@@ -220,14 +241,12 @@ class Interleaved(unittest.TestCase):
                 self.assertEqual(sum(bank.balances().values()), FIRST * len(bank.accounts))
 
     def assert_rest_is_read(self, bank: Bank) -> None:
-        """A new session reads each account but those that were left locked, which are pending."""
+        """Once all locks are cleaned, a new session reads each account."""
+        for account in bank.accounts:
+            bank.store.clean(account, BALANCE)
         start = bank.store.begin()
         for account in bank.accounts:
-            found = bank.store.get(start, account, BALANCE)
-            if account in bank.free:
-                self.assertEqual(found, Value(b"%d" % bank.ledger[account]))
-            else:
-                self.assertIsInstance(found, Pending)
+            self.assertEqual(bank.store.get(start, account, BALANCE), Value(b"%d" % bank.ledger[account]))
 
 
 class Threads(unittest.TestCase):

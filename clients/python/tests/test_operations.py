@@ -11,22 +11,29 @@ from duqishom import (
     BadSplit,
     BadValue,
     Committed,
+    Cleaner,
     Conflict,
+    Decided,
     EmptyCommit,
     Finished,
     FrameTooLarge,
+    Gone,
     Held,
+    Lost,
     MemtableFull,
     Nothing,
     Pending,
     ProgramEnded,
     Qualifier,
     Refused,
+    RolledBack,
+    RolledForward,
     Stamped,
     Store,
     TooManyFiles,
     TooManySessions,
     TooManyWrites,
+    UnknownCleaner,
     UnknownServer,
     UnknownSession,
     UnknownTablet,
@@ -93,6 +100,48 @@ class Operations(StoreTest):
         self.store.stop(start)
         with self.assertRaises(UnknownSession):
             self.store.stop(start)
+
+    def hold(self, *rows: bytes) -> int:
+        """A session that holds a cell in each of these rows: its start."""
+        start = self.store.begin()
+        for row in rows:
+            self.store.set(start, row, BAL, b"1")
+        for _ in rows:
+            self.store.step(start)
+        return start
+
+    def test_rolled_back(self) -> None:
+        store = self.store
+        start = self.hold(BOB, JOE)
+        self.assertEqual(store.clean_begin(JOE, BAL), Cleaner(1, start))
+        self.assertEqual(store.clean_step(1), Decided())
+        self.assertEqual(store.clean_step(1), RolledBack())
+        with self.assertRaises(UnknownCleaner):
+            store.clean_step(1)
+        self.assertIsNone(store.clean_begin(JOE, BAL))
+        self.assertIsInstance(store.step(start), Stamped)
+        self.assertEqual(store.step(start), Lost())
+        self.assertEqual(store.get(store.begin(), BOB, BAL), Nothing())
+
+    def test_rolled_forward(self) -> None:
+        store = self.store
+        start = self.hold(BOB, JOE)
+        stamped, committed = store.step(start), store.step(start)
+        assert isinstance(stamped, Stamped) and isinstance(committed, Committed)
+        store.stop(start)
+        self.assertEqual(store.clean_begin(JOE, BAL), Cleaner(1, start))
+        self.assertEqual(store.clean_begin(JOE, BAL), Cleaner(2, start))
+        self.assertEqual(store.clean_step(2), Decided())
+        self.assertEqual(store.clean_step(1), Decided())
+        self.assertEqual(store.clean_step(1), RolledForward(committed.commit))
+        self.assertEqual(store.clean_step(2), Gone())
+        self.assertEqual(store.get(store.begin(), JOE, BAL), Value(b"1"))
+
+    def test_clean(self) -> None:
+        self.assertIsNone(self.store.clean(BOB, BAL))
+        self.hold(BOB, JOE)
+        self.assertEqual(self.store.clean(JOE, BAL), RolledBack())
+        self.assertIsNone(self.store.clean(BOB, BAL))
 
     def test_raw(self) -> None:
         commit = self.commit(BOB, b"10")
@@ -180,6 +229,18 @@ class Refusals(StoreTest):
             self.store.begin()
         self.store.stop(1)
         self.store.begin()
+
+    def test_1024_cleaners(self) -> None:
+        start = self.store.begin()
+        self.store.set(start, BOB, BAL, b"1")
+        self.store.step(start)
+        for number in range(1, 1025):
+            self.assertEqual(self.store.clean_begin(BOB, BAL), Cleaner(number, start))
+        with self.assertRaises(TooManySessions):
+            self.store.clean_begin(BOB, BAL)
+        self.assertIsNone(self.store.clean_begin(JOE, BAL))
+        with self.assertRaises(UnknownCleaner):
+            self.store.clean_step(1025)
 
     def test_1024_tablets(self) -> None:
         for number in range(1, 1024):

@@ -6,6 +6,7 @@ import unittest
 
 from duqishom import (
     Cell,
+    Lost,
     NoMemory,
     Patience,
     Progress,
@@ -14,6 +15,7 @@ from duqishom import (
     Store,
     Transaction,
     TransactionConflict,
+    TransactionLost,
     UnknownSession,
     Value,
     Version,
@@ -82,7 +84,7 @@ class Transactions(unittest.TestCase):
             write(store, BOB, b"3")
             with self.assertRaises(TransactionConflict) as caught:
                 transaction.commit()
-            self.assertEqual((caught.exception.cell, caught.exception.stranded), (Cell(BOB, BAL), ()))
+            self.assertEqual(caught.exception.cell, Cell(BOB, BAL))
             write(store, ANN, b"4")
 
     def test_a_conflict_behind_a_held_cell(self) -> None:
@@ -96,9 +98,10 @@ class Transactions(unittest.TestCase):
                 write(store, BOB, b"3")
 
             with self.assertRaises(TransactionConflict) as caught:
-                store.run(work)
-            self.assertEqual((caught.exception.cell, caught.exception.stranded), (Cell(BOB, BAL), (Cell(ANN, BAL),)))
-            self.assertEqual(len(attempts), 1)
+                store.run(work, attempts=2)
+            self.assertEqual(caught.exception.cell, Cell(BOB, BAL))
+            self.assertEqual(len(attempts), 2)
+            self.assertIsNone(store.clean_begin(ANN, BAL))
 
     def test_conflicts_are_tried_again(self) -> None:
         with Store() as store:
@@ -119,7 +122,7 @@ class Transactions(unittest.TestCase):
             self.assertEqual(len(attempts), 2)
 
     def test_pending_reads_are_asked_again(self) -> None:
-        with Store(patience=Patience(tries=5, pause=0)) as store:
+        with Store(patience=Patience(tries=5, pause=0, cleans=False)) as store:
             holder = store.begin()
             store.set(holder, ANN, BAL, b"1")
             store.step(holder)
@@ -130,6 +133,37 @@ class Transactions(unittest.TestCase):
                 store.step(holder)
                 store.step(holder)
                 self.assertIsNone(transaction.get(ANN, BAL))
+
+    def test_locks_of_stopped_sessions_are_cleaned(self) -> None:
+        with Store(patience=Patience(tries=2, pause=0)) as store:
+            for steps, left in ((2, None), (3, None), (4, b"4"), (5, b"5")):
+                stopped = store.begin()
+                store.set(stopped, ANN, BAL, b"%d" % steps)
+                store.set(stopped, BOB, BAL, b"%d" % steps)
+                for _ in range(steps):
+                    store.step(stopped)
+                with store.transaction() as transaction:
+                    self.assertEqual((transaction.get(BOB, BAL), transaction.get(ANN, BAL)), (left, left))
+
+    def test_a_running_session_may_be_cleaned(self) -> None:
+        with Store() as store:
+            slow = store.begin()
+            store.set(slow, ANN, BAL, b"1")
+            store.step(slow)
+            write(store, ANN, b"2")
+            store.step(slow)
+            self.assertEqual(store.step(slow), Lost())
+
+    def test_a_lost_transaction_says_so(self) -> None:
+        with PoorStore() as store:
+            transaction = store.transaction()
+            transaction.set(ANN, BAL, b"1")
+            transaction.set(BOB, BAL, b"2")
+            with self.assertRaises(NoMemory):
+                transaction.commit()
+            write(store, ANN, b"3")
+            with self.assertRaises(TransactionLost):
+                transaction.commit()
 
     def test_a_refused_step_is_taken_again(self) -> None:
         with PoorStore() as store:

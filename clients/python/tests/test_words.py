@@ -98,10 +98,17 @@ class Words(unittest.TestCase):
             ("in 1 set Bob bal 10", "set"),
             ("in 1 step", "held 1 of 1"),
             ("in 1 stop", "stopped"),
-            ("get Bob bal", "not committed: Bob bal is locked by the session that began at 1"),
-            ("set Bob bal 5", "not committed: Bob bal is locked, or was written since the transaction began"),
+            ("get Bob bal", "nothing"),
+            ("begin", "session 3"),
+            ("in 3 set Bob bal 20", "set"),
+            ("in 3 step", "held 1 of 1"),
+            ("clean Bob bal", "rolled back"),
+            ("clean Bob bal", "no lock"),
+            ("in 3 step", "stamped 4"),
+            ("in 3 step", "lost"),
+            ("set Bob bal 5", "committed at 6"),
         ]
-        self.assert_answered(table, 1)
+        self.assert_answered(table, 0)
 
     def test_bytes(self) -> None:
         table = [
@@ -116,7 +123,7 @@ class Words(unittest.TestCase):
 
     def test_help(self) -> None:
         status, lines = answers("help\n")
-        self.assertEqual((status, len(lines)), (0, 18))
+        self.assertEqual((status, len(lines)), (0, 19))
 
     def test_another_program(self) -> None:
         self.assertEqual(answers("begin\n", "--program", "true")[0], 2)

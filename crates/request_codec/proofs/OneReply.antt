@@ -3,7 +3,7 @@ use Rattle.std.proofs.Common.{◌≡◌, ℕ, ◌<◌, ◌^◌, ◌-◌, List, [
 use Rattle.cell_key.specs.Refusals.{refusal_number}
 use Rattle.cell_key.specs.declared.refusals.Refusal.{Refusal}
 use Rattle.cell_key.specs.declared.refusals.Refusal.TheVariants.{UnknownSession, WrongPhase, BadRow, BadColumn, BadValue, TooManyWrites, TooManySessions, EmptyCommit, UnknownCleaner, UnknownCollector, UnknownTablet, BadSplit, UnknownServer, BadCount, MemtableFull, TooManyFiles, FileTooLarge, Exhausted, Device, NoMemory, Damaged, BadRequest, FrameTooLarge}
-use Rattle.si_model.specs.Messages.{Reply, Begun, Answered, Pending, SetDone, Held, Conflict, Drawn, Committed, Lost, Finished, StopDone, MinorDone, MergeDone, MajorDone, SplitOff, MoveDone, Swept, RestartDone, RawFound, Refused}
+use Rattle.si_model.specs.Messages.{Reply, Begun, Answered, Pending, SetDone, Held, Conflict, Drawn, Committed, Lost, Finished, StopDone, NoLock, Cleaning, Decided, RolledForward, RolledBack, Gone, MinorDone, MergeDone, MajorDone, SplitOff, MoveDone, Swept, RestartDone, RawFound, Refused}
 use Rattle.request_codec.specs.Fields.{number, field, FitsField}
 use Rattle.request_codec.specs.Replies.{reply_body, IsReply}
 use Rattle.request_codec.proofs.Fields.{same_number, past_number, first, second}
@@ -141,6 +141,39 @@ stop_only : (r : Reply) → IsReply r (reply_body StopDone) → r ≡ StopDone
 stop_only StopDone p = refl
 stop_only other p = let e = ap first p.whole in let d = ap second p.whole in absurd (omega (arith, e, d))
 
+no_lock_only : (r : Reply) → IsReply r (reply_body NoLock) → r ≡ NoLock
+no_lock_only NoLock p = refl
+no_lock_only other p = let e = ap first p.whole in let d = ap second p.whole in absurd (omega (arith, e, d))
+
+record AsCleaning (r : Reply) (f : List ℕ) : Type 0 where
+  cleaner : ℕ
+  start : ℕ
+  cleaner_fits : cleaner < 2 ^ 64
+  start_fits : start < 2 ^ 64
+  is : r ≡ Cleaning cleaner start
+  fields : f ≡ number 8 cleaner ++ number 8 start
+
+cleaning_only : (r : Reply) (f : List ℕ) → IsReply r (0x86 ∷ 0x01 ∷ f) → AsCleaning r f
+cleaning_only (Cleaning m n) f p =
+    record { cleaner = m; start = n; cleaner_fits = p.numbers.0; start_fits = p.numbers.1; is = refl; fields = ap (drop 2) p.whole }
+cleaning_only other f p = let e = ap first p.whole in let d = ap second p.whole in absurd (omega (arith, e, d))
+
+decided_only : (r : Reply) → IsReply r (reply_body Decided) → r ≡ Decided
+decided_only Decided p = refl
+decided_only other p = let e = ap first p.whole in let d = ap second p.whole in absurd (omega (arith, e, d))
+
+forward_only : (r : Reply) (f : List ℕ) → IsReply r (0x87 ∷ 0x02 ∷ f) → AsLong r (λ n. RolledForward n) f
+forward_only (RolledForward n) f p = record { n = n; fits = p.numbers; is = refl; fields = ap (drop 2) p.whole }
+forward_only other f p = let e = ap first p.whole in let d = ap second p.whole in absurd (omega (arith, e, d))
+
+back_only : (r : Reply) → IsReply r (reply_body RolledBack) → r ≡ RolledBack
+back_only RolledBack p = refl
+back_only other p = let e = ap first p.whole in let d = ap second p.whole in absurd (omega (arith, e, d))
+
+gone_only : (r : Reply) → IsReply r (reply_body Gone) → r ≡ Gone
+gone_only Gone p = refl
+gone_only other p = let e = ap first p.whole in let d = ap second p.whole in absurd (omega (arith, e, d))
+
 restart_only : (r : Reply) → IsReply r (reply_body RestartDone) → r ≡ RestartDone
 restart_only RestartDone p = refl
 restart_only other p = let e = ap first p.whole in let d = ap second p.whole in absurd (omega (arith, e, d))
@@ -209,6 +242,12 @@ same_version stamp value b stamp_fits value_fits g =
     let v = lone_field value g.value value_fits g.value_fits (past_number 8 stamp g.stamp (field value) (field g.value) g.fields) in
     ap (λ n. RawFound (Some (n, value))) s ∙ ap (λ w. RawFound (Some (g.stamp, w))) v ∙ sym g.is
 
+same_cleaning : (cleaner start : ℕ) (b : Reply) → cleaner < 2 ^ 64 → start < 2 ^ 64 → AsCleaning b (number 8 cleaner ++ number 8 start) → Cleaning cleaner start ≡ b
+same_cleaning cleaner start b cleaner_fits start_fits g =
+    let c = same_number 8 cleaner g.cleaner (number 8 start) (number 8 g.start) cleaner_fits g.cleaner_fits g.fields in
+    let s = lone_number start g.start start_fits g.start_fits (past_number 8 cleaner g.cleaner (number 8 start) (number 8 g.start) g.fields) in
+    ap (λ n. Cleaning n start) c ∙ ap (λ n. Cleaning g.cleaner n) s ∙ sym g.is
+
 pub one_reply : (a b : Reply) (body : List ℕ) → IsReply a body → IsReply b body → a ≡ b
 one_reply (Begun n) b body p q =
     let g = begun_only b (number 8 n) (subst (IsReply b) p.whole q) in
@@ -241,6 +280,15 @@ one_reply (Answered None) b body p q = sym (nothing_only b (subst (IsReply b) p.
 one_reply SetDone b body p q = sym (set_only b (subst (IsReply b) p.whole q))
 one_reply Lost b body p q = sym (lost_only b (subst (IsReply b) p.whole q))
 one_reply StopDone b body p q = sym (stop_only b (subst (IsReply b) p.whole q))
+one_reply NoLock b body p q = sym (no_lock_only b (subst (IsReply b) p.whole q))
+one_reply (Cleaning cleaner start) b body p q =
+    same_cleaning cleaner start b p.numbers.0 p.numbers.1 (cleaning_only b (number 8 cleaner ++ number 8 start) (subst (IsReply b) p.whole q))
+one_reply Decided b body p q = sym (decided_only b (subst (IsReply b) p.whole q))
+one_reply (RolledForward n) b body p q =
+    let g = forward_only b (number 8 n) (subst (IsReply b) p.whole q) in
+    ap (λ m. RolledForward m) (lone_number n g.n p.numbers g.fits g.fields) ∙ sym g.is
+one_reply RolledBack b body p q = sym (back_only b (subst (IsReply b) p.whole q))
+one_reply Gone b body p q = sym (gone_only b (subst (IsReply b) p.whole q))
 one_reply MinorDone b body p q = sym (minor_only b (subst (IsReply b) p.whole q))
 one_reply MergeDone b body p q = sym (merge_only b (subst (IsReply b) p.whole q))
 one_reply MajorDone b body p q = sym (major_only b (subst (IsReply b) p.whole q))

@@ -2,7 +2,7 @@
 use Rattle.std.proofs.Common.{◌≡◌, ℕ, ◌<◌, ◌^◌, List, [], ◌∷◌, ◌++◌, refl, sym, ap, subst, ◌∙◌, drop, arith}
 use Rattle.cell_key.specs.declared.keys.Qualifier.{Qualifier}
 use Rattle.si_model.specs.declared.replies.Cell.{Cell}
-use Rattle.si_model.specs.Messages.{Request, Begin, Get, Set, Advance, Stop, Minor, Merge, Major, Split, Move, Sweep, OracleRestart, Raw}
+use Rattle.si_model.specs.Messages.{Request, Begin, Get, Set, Advance, Stop, CleanBegin, CleanStep, Minor, Merge, Major, Split, Move, Sweep, OracleRestart, Raw}
 use Rattle.request_codec.specs.Fields.{number, field, cell_fields, qualifier_number, FitsField, FitsCell}
 use Rattle.request_codec.specs.Requests.{request_body, IsRequest}
 use Rattle.request_codec.proofs.Fields.{same_number, past_number, same_field, same_cell, same_qualifier, first}
@@ -70,6 +70,20 @@ step_only other f p = let e = ap first p.whole in absurd (omega (arith, e))
 stop_only : (r : Request) (f : List ℕ) → IsRequest r (0x05 ∷ f) → AsNumber r (λ start. Stop start) f
 stop_only (Stop start) f p = record { start = start; fits = p.numbers; is = refl; fields = ap (drop 1) p.whole }
 stop_only other f p = let e = ap first p.whole in absurd (omega (arith, e))
+
+record AsCell (r : Request) (f : List ℕ) : Type 0 where
+  cell : Cell
+  fits : FitsCell cell
+  is : r ≡ CleanBegin cell
+  fields : f ≡ cell_fields cell
+
+clean_begin_only : (r : Request) (f : List ℕ) → IsRequest r (0x06 ∷ f) → AsCell r f
+clean_begin_only (CleanBegin cell) f p = record { cell = cell; fits = p.bytes; is = refl; fields = ap (drop 1) p.whole }
+clean_begin_only other f p = let e = ap first p.whole in absurd (omega (arith, e))
+
+clean_step_only : (r : Request) (f : List ℕ) → IsRequest r (0x07 ∷ f) → AsNumber r (λ cleaner. CleanStep cleaner) f
+clean_step_only (CleanStep cleaner) f p = record { start = cleaner; fits = p.numbers; is = refl; fields = ap (drop 1) p.whole }
+clean_step_only other f p = let e = ap first p.whole in absurd (omega (arith, e))
 
 record AsTablet (r : Request) (made : ℕ → Request) (f : List ℕ) : Type 0 where
   tablet : ℕ
@@ -178,6 +192,12 @@ one_request (Advance start) b body p q =
 one_request (Stop start) b body p q =
     let g = stop_only b (number 8 start) (subst (IsRequest b) p.whole q) in
     ap (λ n. Stop n) (lone_number start g.start p.numbers g.fits g.fields) ∙ sym g.is
+one_request (CleanBegin cell) b body p q =
+    let g = clean_begin_only b (cell_fields cell) (subst (IsRequest b) p.whole q) in
+    ap (λ c. CleanBegin c) (lone_cell cell g.cell p.bytes g.fits g.fields) ∙ sym g.is
+one_request (CleanStep cleaner) b body p q =
+    let g = clean_step_only b (number 8 cleaner) (subst (IsRequest b) p.whole q) in
+    ap (λ n. CleanStep n) (lone_number cleaner g.start p.numbers g.fits g.fields) ∙ sym g.is
 one_request OracleRestart b body p q = sym (restart_only b [] (subst (IsRequest b) p.whole q))
 one_request (Minor tablet) b body p q =
     let g = minor_only b (number 4 tablet) (subst (IsRequest b) p.whole q) in

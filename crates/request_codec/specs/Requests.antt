@@ -13,6 +13,8 @@ asked (lent.Get start row family) = Get start (record { row = row.now; family = 
 asked (lent.Set start row family value) = Set start (record { row = row.now; family = family.now }) value.now
 asked (lent.Step start) = Advance start
 asked (lent.Stop start) = Stop start
+asked (lent.CleanBegin row family) = CleanBegin (record { row = row.now; family = family.now })
+asked (lent.CleanStep cleaner) = CleanStep cleaner
 asked (lent.Minor tablet) = Minor tablet
 asked (lent.Merge tablet count) = Merge tablet count
 asked (lent.Major tablet) = Major tablet
@@ -50,6 +52,8 @@ IsSpoken (Get start cell) = Unit {0}
 IsSpoken (Set start cell value) = Unit {0}
 IsSpoken (Advance start) = Unit {0}
 IsSpoken (Stop start) = Unit {0}
+IsSpoken (CleanBegin cell) = Unit {0}
+IsSpoken (CleanStep cleaner) = Unit {0}
 IsSpoken (Minor tablet) = Unit {0}
 IsSpoken (Merge tablet count) = Unit {0}
 IsSpoken (Major tablet) = Unit {0}
@@ -60,14 +64,16 @@ IsSpoken OracleRestart = Unit {0}
 IsSpoken (Raw cell qualifier low high) = Unit {0}
 IsSpoken other = ⊥
 
--- the requests of a session
-abbrev pub IsOfSession : Request → Type 0
-IsOfSession Begin = Unit {0}
-IsOfSession (Get start cell) = Unit {0}
-IsOfSession (Set start cell value) = Unit {0}
-IsOfSession (Advance start) = Unit {0}
-IsOfSession (Stop start) = Unit {0}
-IsOfSession other = ⊥
+-- the requests of sessions and cleaners
+abbrev pub IsOfClient : Request → Type 0
+IsOfClient Begin = Unit {0}
+IsOfClient (Get start cell) = Unit {0}
+IsOfClient (Set start cell value) = Unit {0}
+IsOfClient (Advance start) = Unit {0}
+IsOfClient (Stop start) = Unit {0}
+IsOfClient (CleanBegin cell) = Unit {0}
+IsOfClient (CleanStep cleaner) = Unit {0}
+IsOfClient other = ⊥
 
 -- each number fits its field
 abbrev pub NumbersFit : Request → Type 0

@@ -5,12 +5,14 @@ ghost use Rattle.cell_key.specs.Versions.{stamped};
 ghost use Rattle.cell_key.specs.declared.refusals.Refusal.{Refusal as Refusals};
 ghost use Rattle.request_codec.specs.Replies.{replied, reply_body, ReplyBytesFit, IsReply, IsNoReply, NeedsMemory};
 ghost use Rattle.si_model.specs.Messages.{RawFound};
-ghost use Rattle.si_model.specs.Replies.{found_reply, progress_reply};
+ghost use Rattle.si_model.specs.Replies.{found_reply, progress_reply, clean_start_reply, clean_reply};
 
 use crate::pushing::{push_byte, push_field, push_u16, push_u32, push_u64};
-use crate::whole::{whole_bytes, whole_u16, whole_u16_pair, whole_u32, whole_u64, whole_version};
+use crate::whole::{
+    whole_bytes, whole_u16, whole_u16_pair, whole_u32, whole_u64, whole_u64_pair, whole_version,
+};
 use cell_key::{Refusal, Stamp};
-use si_model::{Found, Progress};
+use si_model::{CleanReply, CleanStart, Found, Progress};
 use std::alloc::{AllocError, Global};
 
 /// The most bytes of a reply's frame, its length's four bytes too: a stamp and the longest value.
@@ -29,6 +31,10 @@ pub enum Reply {
     Step(Progress),
     /// The session has ended.
     Stop,
+    /// What was found where a cleaner was to be opened.
+    CleanBegin(CleanStart),
+    /// What the cleaner's step did.
+    CleanStep(CleanReply),
     /// The memtable of the tablet is a file.
     Minor,
     /// The files of the tablet are merged.
@@ -76,6 +82,22 @@ const LOST: u8 = 0x05;
 const FINISHED: u8 = 0x06;
 
 const STOP: u8 = 0x85;
+
+const CLEAN_BEGIN: u8 = 0x86;
+
+const NO_LOCK: u8 = 0x00;
+
+const CLEANER: u8 = 0x01;
+
+const CLEAN_STEP: u8 = 0x87;
+
+const DECIDED: u8 = 0x01;
+
+const ROLLED_FORWARD: u8 = 0x02;
+
+const ROLLED_BACK: u8 = 0x03;
+
+const GONE: u8 = 0x04;
 
 const MINOR: u8 = 0x8A;
 
@@ -211,6 +233,40 @@ fn decode_progress(fields: &[u8]) -> Option<Progress>
     }
 }
 
+/// What was found where a cleaner was to be opened, from the fields of the reply.
+fn decode_clean_start(fields: &[u8]) -> Option<CleanStart>
+    ensures found { IfSome result (λ found. IsReply (clean_start_reply found) (0x86 ∷ fields.now)) }
+    ensures none { IfNone result (IsNoReply (0x86 ∷ fields.now)) }
+{
+    let (tag, rest) = fields.split_first()?;
+    match *tag {
+        NO_LOCK => rest.is_empty().then_some(CleanStart::NoLock),
+        CLEANER => {
+            let (cleaner, start) = whole_u64_pair(rest)?;
+            Some(CleanStart::Cleaner(cleaner, start))
+        }
+        _ => None,
+    }
+}
+
+/// What a cleaner's step did, from the fields of its reply.
+fn decode_clean_reply(fields: &[u8]) -> Option<CleanReply>
+    ensures found { IfSome result (λ done. IsReply (clean_reply done) (0x87 ∷ fields.now)) }
+    ensures none { IfNone result (IsNoReply (0x87 ∷ fields.now)) }
+{
+    let (tag, rest) = fields.split_first()?;
+    match *tag {
+        DECIDED => rest.is_empty().then_some(CleanReply::Decided),
+        ROLLED_FORWARD => {
+            let stamp = whole_u64(rest)?;
+            Some(CleanReply::RolledForward(stamp))
+        }
+        ROLLED_BACK => rest.is_empty().then_some(CleanReply::RolledBack),
+        GONE => rest.is_empty().then_some(CleanReply::Gone),
+        _ => None,
+    }
+}
+
 /// The refusal that the fields of a refusal's body name.
 fn decode_refusal(fields: &[u8]) -> Option<Refusal>
     ensures found { IfSome result (λ refusal. fields.now ≡ refusal_number refusal ∷ []) }
@@ -242,6 +298,14 @@ fn decode_other(operation: u8, fields: &[u8]) -> Option<Reply>
             Some(Reply::Step(progress))
         }
         STOP => fields.is_empty().then_some(Reply::Stop),
+        CLEAN_BEGIN => {
+            let found = decode_clean_start(fields)?;
+            Some(Reply::CleanBegin(found))
+        }
+        CLEAN_STEP => {
+            let done = decode_clean_reply(fields)?;
+            Some(Reply::CleanStep(done))
+        }
         MINOR => fields.is_empty().then_some(Reply::Minor),
         MERGE => fields.is_empty().then_some(Reply::Merge),
         MAJOR => fields.is_empty().then_some(Reply::Major),
@@ -301,6 +365,9 @@ pub fn reply_length(reply: &Reply) -> usize
         Reply::Set | Reply::Stop | Reply::OracleRestart => 1,
         Reply::Minor | Reply::Merge | Reply::Major | Reply::Move => 1,
         Reply::Step(progress) => progress_length(*progress),
+        Reply::CleanBegin(CleanStart::Cleaner(..)) => 18,
+        Reply::CleanStep(CleanReply::RolledForward(_)) => 10,
+        Reply::CleanBegin(CleanStart::NoLock) | Reply::CleanStep(_) => 2,
         Reply::Split(_) => 5,
         Reply::Raw(Some((_, value))) => 14 + value.len(),
     }
@@ -395,6 +462,43 @@ fn push_progress(progress: Progress, out: &mut Vec<u8>)
     }
 }
 
+/// Appends the body of the reply to a clean-up's beginning.
+#[tactic(auto, using(crate::proofs::Fields::lengths))]
+fn push_clean_start(found: CleanStart, out: &mut Vec<u8>)
+    requires { vec_len out.old + length (reply_body (clean_start_reply found)) ≤ vec_capacity out.old }
+    ensures items { out.new.items ≡ out.old.items ++ reply_body (clean_start_reply found) }
+    ensures capacity { vec_capacity out.old ≤ vec_capacity out.new }
+{
+    push_byte(out, CLEAN_BEGIN);
+    match found {
+        CleanStart::NoLock => push_byte(out, NO_LOCK),
+        CleanStart::Cleaner(cleaner, start) => {
+            push_byte(out, CLEANER);
+            push_u64(out, cleaner);
+            push_u64(out, start);
+        }
+    }
+}
+
+/// Appends the body of the reply to a cleaner's step.
+#[tactic(auto, using(crate::proofs::Fields::lengths))]
+fn push_clean_reply(done: CleanReply, out: &mut Vec<u8>)
+    requires { vec_len out.old + length (reply_body (clean_reply done)) ≤ vec_capacity out.old }
+    ensures items { out.new.items ≡ out.old.items ++ reply_body (clean_reply done) }
+    ensures capacity { vec_capacity out.old ≤ vec_capacity out.new }
+{
+    push_byte(out, CLEAN_STEP);
+    match done {
+        CleanReply::Decided => push_byte(out, DECIDED),
+        CleanReply::RolledForward(stamp) => {
+            push_byte(out, ROLLED_FORWARD);
+            push_u64(out, stamp);
+        }
+        CleanReply::RolledBack => push_byte(out, ROLLED_BACK),
+        CleanReply::Gone => push_byte(out, GONE),
+    }
+}
+
 /// Appends the body of a reply.
 #[tactic(auto, using(crate::proofs::Fields::lengths))]
 fn push_reply(reply: &Reply, out: &mut Vec<u8>)
@@ -412,6 +516,8 @@ fn push_reply(reply: &Reply, out: &mut Vec<u8>)
         Reply::Set => push_byte(out, SET),
         Reply::Step(progress) => push_progress(*progress, out),
         Reply::Stop => push_byte(out, STOP),
+        Reply::CleanBegin(found) => push_clean_start(*found, out),
+        Reply::CleanStep(done) => push_clean_reply(*done, out),
         Reply::Minor => push_byte(out, MINOR),
         Reply::Merge => push_byte(out, MERGE),
         Reply::Major => push_byte(out, MAJOR),

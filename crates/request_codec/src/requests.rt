@@ -1,15 +1,15 @@
 //! The bodies of requests.
 ghost use Rattle.std.specs.Prelude.{◌≡◌, ◌+◌, ◌≤◌, ◌<◌, ◌++◌, ◌∷◌, length, vec_len, vec_capacity, IfSome, IfNone, IfErr, OnOk, OnErr, IsOk};
-ghost use Rattle.request_codec.specs.Requests.{asked, request_body, BytesFit, IsOfSession, IsRequest, IsMalformed};
+ghost use Rattle.request_codec.specs.Requests.{asked, request_body, BytesFit, IsOfClient, IsRequest, IsMalformed};
 ghost use Rattle.request_codec.specs.Fields.{number, FitsField};
-ghost use Rattle.si_model.specs.Messages.{Get, Set, Split, Raw};
+ghost use Rattle.si_model.specs.Messages.{CleanBegin, Get, Set, Split, Raw};
 
 use crate::pushing::{
     push_byte, push_cell, push_field, push_qualifier, push_u8, push_u32, push_u64,
 };
 use crate::whole::{
-    whole_bytes, whole_move, whole_raw, whole_read, whole_u32, whole_u32_pair, whole_u64,
-    whole_write,
+    whole_bytes, whole_cell, whole_move, whole_raw, whole_read, whole_u32, whole_u32_pair,
+    whole_u64, whole_write,
 };
 use cell_key::{Qualifier, Refusal, Stamp};
 
@@ -39,6 +39,15 @@ pub enum Request<'a> {
     /// Ends the session where it stands.
     Stop {
         start: Stamp,
+    },
+    /// Opens a cleaner at the lock of a cell.
+    CleanBegin {
+        row: &'a [u8],
+        family: &'a [u8],
+    },
+    /// Takes the cleaner's next step.
+    CleanStep {
+        cleaner: u64,
     },
     /// Writes the memtable of a tablet as a file.
     Minor {
@@ -86,6 +95,10 @@ const STEP: u8 = 0x04;
 
 const STOP: u8 = 0x05;
 
+const CLEAN_BEGIN: u8 = 0x06;
+
+const CLEAN_STEP: u8 = 0x07;
+
 const MINOR: u8 = 0x0A;
 
 const MERGE: u8 = 0x0B;
@@ -102,9 +115,9 @@ const ORACLE_RESTART: u8 = 0x10;
 
 const RAW: u8 = 0x11;
 
-/// The request of a body that begins with this operation's number, one of a session's, and none where it is the
-/// body of no request.
-fn decode_session(operation: u8, fields: &[u8]) -> Option<Request<'_>>
+/// The request of a body that begins with this operation's number, a session's or a cleaner's, and none where it
+/// is the body of no request.
+fn decode_client(operation: u8, fields: &[u8]) -> Option<Request<'_>>
     requires { operation < 0x0A }
     ensures found { IfSome result (λ request. IsRequest (asked request) (operation ∷ fields.now)) }
     ensures malformed { IfNone result (IsMalformed (operation ∷ fields.now)) }
@@ -132,11 +145,19 @@ fn decode_session(operation: u8, fields: &[u8]) -> Option<Request<'_>>
             let start = whole_u64(fields)?;
             Some(Request::Stop { start })
         }
+        CLEAN_BEGIN => {
+            let (row, family) = whole_cell(fields)?;
+            Some(Request::CleanBegin { row, family })
+        }
+        CLEAN_STEP => {
+            let cleaner = whole_u64(fields)?;
+            Some(Request::CleanStep { cleaner })
+        }
         _ => None,
     }
 }
 
-/// The request of a body that begins with this operation's number, no session's, and none where it is the body of
+/// The request of a body that begins with this operation's number, no client's, and none where it is the body of
 /// no request.
 fn decode_upkeep(operation: u8, fields: &[u8]) -> Option<Request<'_>>
     requires { 0x0A ≤ operation }
@@ -193,7 +214,7 @@ pub fn decode_request(body: &[u8]) -> Option<Request<'_>>
 {
     let (operation, fields) = body.split_first()?;
     if *operation < MINOR {
-        decode_session(*operation, fields)
+        decode_client(*operation, fields)
     } else {
         decode_upkeep(*operation, fields)
     }
@@ -214,7 +235,11 @@ fn request_length(request: &Request<'_>) -> usize
             value,
             ..
         } => 21 + row.len() + family.len() + value.len(),
-        Request::Step { .. } | Request::Stop { .. } | Request::Merge { .. } => 9,
+        Request::CleanBegin { row, family } => 9 + row.len() + family.len(),
+        Request::Step { .. }
+        | Request::Stop { .. }
+        | Request::CleanStep { .. }
+        | Request::Merge { .. } => 9,
         Request::Minor { .. } | Request::Major { .. } => 5,
         Request::Split { row } => 5 + row.len(),
         Request::Move { .. } => 6,
@@ -222,16 +247,16 @@ fn request_length(request: &Request<'_>) -> usize
     }
 }
 
-/// Appends the number of an operation and a stamp.
+/// Appends the number of an operation and one of eight bytes: a start or a cleaner.
 #[tactic(auto, using(crate::proofs::Fields::lengths))]
-fn push_stamp(out: &mut Vec<u8>, operation: u8, stamp: Stamp)
+fn push_numbered(out: &mut Vec<u8>, operation: u8, n: u64)
     requires { vec_len out.old + 9 ≤ vec_capacity out.old }
-    ensures items { out.new.items ≡ out.old.items ++ operation ∷ number 8 stamp }
+    ensures items { out.new.items ≡ out.old.items ++ operation ∷ number 8 n }
     ensures len { vec_len out.new ≡ vec_len out.old + 9 }
     ensures capacity { vec_capacity out.old ≤ vec_capacity out.new }
 {
     push_byte(out, operation);
-    push_u64(out, stamp);
+    push_u64(out, n);
 }
 
 /// Appends the number of an operation and that of a tablet.
@@ -255,7 +280,7 @@ fn push_get(out: &mut Vec<u8>, start: Stamp, row: &[u8], family: &[u8])
     ensures items { out.new.items ≡ out.old.items ++ request_body (Get start (record { row = row.now; family = family.now })) }
     ensures capacity { vec_capacity out.old ≤ vec_capacity out.new }
 {
-    push_stamp(out, GET, start);
+    push_numbered(out, GET, start);
     push_cell(out, row, family);
 }
 
@@ -269,9 +294,22 @@ fn push_set(out: &mut Vec<u8>, start: Stamp, row: &[u8], family: &[u8], value: &
     ensures items { out.new.items ≡ out.old.items ++ request_body (Set start (record { row = row.now; family = family.now }) value.now) }
     ensures capacity { vec_capacity out.old ≤ vec_capacity out.new }
 {
-    push_stamp(out, SET, start);
+    push_numbered(out, SET, start);
     push_cell(out, row, family);
     push_field(out, value);
+}
+
+/// Appends the body of a clean-up's beginning.
+#[tactic(auto, using(crate::proofs::Fields::lengths))]
+fn push_clean_begin(out: &mut Vec<u8>, row: &[u8], family: &[u8])
+    requires row { FitsField row.now }
+    requires family { FitsField family.now }
+    requires room { vec_len out.old + length row.now + length family.now + 9 ≤ vec_capacity out.old }
+    ensures items { out.new.items ≡ out.old.items ++ request_body (CleanBegin (record { row = row.now; family = family.now })) }
+    ensures capacity { vec_capacity out.old ≤ vec_capacity out.new }
+{
+    push_byte(out, CLEAN_BEGIN);
+    push_cell(out, row, family);
 }
 
 /// Appends the body of a split.
@@ -309,10 +347,10 @@ fn push_raw(
     push_u64(out, hi);
 }
 
-/// Appends the body of a session's request.
+/// Appends the body of a session's or a cleaner's request.
 #[tactic(auto, using(crate::proofs::Fields::lengths))]
-fn push_session(request: &Request<'_>, out: &mut Vec<u8>)
-    requires session { IsOfSession (asked request.now) }
+fn push_client(request: &Request<'_>, out: &mut Vec<u8>)
+    requires client { IsOfClient (asked request.now) }
     requires fits { BytesFit (asked request.now) }
     requires room { vec_len out.old + length (request_body (asked request.now)) ≤ vec_capacity out.old }
     ensures items { out.new.items ≡ out.old.items ++ request_body (asked request.now) }
@@ -327,16 +365,18 @@ fn push_session(request: &Request<'_>, out: &mut Vec<u8>)
             family,
             value,
         } => push_set(out, start, row, family, value),
-        Request::Step { start } => push_stamp(out, STEP, start),
-        Request::Stop { start } => push_stamp(out, STOP, start),
+        Request::Step { start } => push_numbered(out, STEP, start),
+        Request::Stop { start } => push_numbered(out, STOP, start),
+        Request::CleanBegin { row, family } => push_clean_begin(out, row, family),
+        Request::CleanStep { cleaner } => push_numbered(out, CLEAN_STEP, cleaner),
         _ => unreachable!(),
     }
 }
 
-/// Appends the body of a request that is no session's.
+/// Appends the body of a request that is no client's.
 #[tactic(auto, using(crate::proofs::Fields::lengths))]
 fn push_upkeep(request: &Request<'_>, out: &mut Vec<u8>)
-    requires upkeep { ¬ (IsOfSession (asked request.now)) }
+    requires upkeep { ¬ (IsOfClient (asked request.now)) }
     requires fits { BytesFit (asked request.now) }
     requires room { vec_len out.old + length (request_body (asked request.now)) ≤ vec_capacity out.old }
     ensures items { out.new.items ≡ out.old.items ++ request_body (asked request.now) }
@@ -379,7 +419,9 @@ fn push_request(request: &Request<'_>, out: &mut Vec<u8>)
         | Request::Get { .. }
         | Request::Set { .. }
         | Request::Step { .. }
-        | Request::Stop { .. } => push_session(request, out),
+        | Request::Stop { .. }
+        | Request::CleanBegin { .. }
+        | Request::CleanStep { .. } => push_client(request, out),
         _ => push_upkeep(request, out),
     }
 }

@@ -98,6 +98,21 @@ pub(crate) fn whole_bytes(bytes: &[u8]) -> Option<&[u8]>
     if rest.is_empty() { Some(value) } else { None }
 }
 
+/// The row and the family of a cell.
+pub(crate) fn whole_cell(bytes: &[u8]) -> Option<(&[u8], &[u8])>
+    ensures found { IfSome result (λ p. bytes.now ≡ cell_fields (record { row = p.0.now; family = p.1.now })) }
+    ensures fits { IfSome result (λ p. FitsCell (record { row = p.0.now; family = p.1.now })) }
+    ensures none { IfNone result ((cell : CellOf) → FitsCell cell → bytes.now ≢ cell_fields cell) }
+{
+    let mut rest = bytes;
+    let (row, family) = take_cell(&mut rest)?;
+    if rest.is_empty() {
+        Some((row, family))
+    } else {
+        None
+    }
+}
+
 /// A start, and the row and the family of a cell.
 pub(crate) fn whole_read(bytes: &[u8]) -> Option<(u64, &[u8], &[u8])>
     ensures found { IfSome result (λ p. bytes.now ≡ number 8 p.0 ++ cell_fields (record { row = p.1.now; family = p.2.now })) }
@@ -132,7 +147,7 @@ pub(crate) fn whole_write(bytes: &[u8]) -> Option<(u64, &[u8], &[u8], &[u8])>
 }
 
 /// Two numbers of eight bytes each.
-fn whole_u64_pair(bytes: &[u8]) -> Option<(u64, u64)>
+pub(crate) fn whole_u64_pair(bytes: &[u8]) -> Option<(u64, u64)>
     ensures found { IfSome result (λ p. bytes.now ≡ number 8 p.0 ++ number 8 p.1) }
     ensures fits { IfSome result (λ p. (p.0 < 2 ^ 64) × (p.1 < 2 ^ 64)) }
     ensures none { IfNone result ((m n : ℕ) → bytes.now ≢ number 8 m ++ number 8 n) }

@@ -1,4 +1,5 @@
 mod Causes
+mod CleanSteps
 mod Filled
 mod Framing
 mod Lengths

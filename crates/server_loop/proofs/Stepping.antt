@@ -1,5 +1,5 @@
 -- A server's steps, by those of its sessions.
-use Rattle.std.proofs.Common.{◌≡◌, ℕ, List, map, Option, Some, None, Result, Ok, Err, IsErrOf, refl, ap, ◌∙◌, ◌⊎◌, subst, sym, inl, inr}
+use Rattle.std.proofs.Common.{◌≡◌, ◌≢◌, ℕ, List, Option, Some, None, Result, Ok, Err, IsErrOf, refl, ap, ◌∙◌, ◌⊎◌, subst, sym, inl, inr}
 use Rattle.std.specs.Prelude.{⊤}
 use Rattle.std.specs.FinMap.{empty, get-empty}
 use Rattle.cell_key.specs.Faults.{HasRisen}
@@ -7,6 +7,7 @@ use Rattle.cell_key.specs.Keys.{key_cmp}
 use Rattle.cell_key.specs.declared.refusals.Refusal.{Refusal}
 use Rattle.cell_key.specs.declared.refusals.Refusal.TheVariants.{BadRow, BadColumn, Damaged, Device, NoMemory}
 use Rattle.si_model.specs.Machine.{State, Request, Reply, Begun, SetDone, StopDone, Refused, IsReached, OracleRestart, RestartDone, accepts, refuses, tells, restarts, new_machine}
+use Rattle.si_model.specs.Kinds.{OfCleaners, kind_of}
 use Rattle.si_model.specs.ShowsCells.{ShowsCells}
 use Rattle.si_model.specs.Refusing.{Refuses, gives_up}
 use Rattle.si_model.specs.Replies.{found_reply, progress_reply}
@@ -16,7 +17,7 @@ use Rattle.si_model.specs.declared.replies.Progress.{Progress}
 use Rattle.si_model.specs.declared.replies.Progress.TheVariants as steps
 use Rattle.file_store.specs.Store.{Contents}
 use Rattle.row_atomic.specs.Changes.{Holds}
-use Rattle.row_atomic.specs.Clusters.{Spot, Storage, cells_in, spot_of, storage_of}
+use Rattle.row_atomic.specs.Clusters.{cells_in, storage_of}
 use Rattle.txn_client.specs.Reads.{IsShort}
 use Rattle.txn_client.specs.Refusals.{HasOneReason}
 use Rattle.txn_client.specs.Shows as clients
@@ -27,25 +28,23 @@ use Rattle.request_codec.specs.declared.replies.Reply.TheVariants as kept
 use Rattle.server_loop.specs.declared.server.Server.{Server}
 use Rattle.server_loop.specs.Server.{Shows}
 use Rattle.server_loop.specs.Runs.{HasShortValue, StampsGoOn, StepsAs, IfRefused}
+use Rattle.server_loop.proofs.CleanSteps.{cleaners_stay, spots_in}
 use Rattle.server_loop.proofs.Replacing.{KeepsPlaces}
 use Rattle.server_loop.proofs.Relocating.{still_placed, still_next}
 
--- where the tablets are, by what lies below the memtables
-abbrev pub spots_in : Storage → List Spot
-spots_in storage = map spot_of storage.places
-
 module _ {F M : Type 0} (contents : F → Option Contents) (old new : Server F M) where
   -- a step of a session, which leaves the tablets where they are
-  pub steps_as : (request : Request) (reply : Reply) → KeepsPlaces request
+  pub steps_as : (request : Request) (reply : Reply) → KeepsPlaces request → kind_of request ≢ OfCleaners → new.cleaners ≡ old.cleaners
       → (Holds contents old.cluster → clients.Steps (cells_in (contents old.cluster.files) old.cluster.tablets) old.clients old.oracle.last request reply (cells_in (contents new.cluster.files) new.cluster.tablets) new.clients new.oracle.last)
       → (Holds contents old.cluster → Holds contents new.cluster) → storage_of contents new.cluster ≡ storage_of contents old.cluster
       → ((st : State) → IsReached st → Holds contents old.cluster → clients.Shows (cells_in (contents old.cluster.files) old.cluster.tablets) old.clients old.oracle.last st → reply ≡ Refused Damaged → ⊥)
       → StepsAs (Shows contents) old new request reply
-  steps_as request reply keeps step still storage whole = λ before reached shown.
+  steps_as request reply keeps other same step still storage whole = λ before reached shown.
       let (next, taken, shows) = step shown.in_order before reached shown.shows in
       let after : Shows contents new next = record {
         in_order = still shown.in_order;
         shows = shows;
+        cleaners = cleaners_stay before next request reply old.cleaners new.cleaners reached taken other same shown.cleaners;
         places = still_placed before next request reply taken keeps old.cluster.places new.cluster.places (ap spots_in storage) shown.places;
         next = still_next before next request reply taken keeps shown.next;
       } in

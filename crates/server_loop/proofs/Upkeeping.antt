@@ -18,6 +18,8 @@ use Rattle.si_model.specs.Machine.{State, Request, Reply, Refused, Step, Refuses
 use Rattle.si_model.specs.Refusing.{gives_up}
 use Rattle.si_model.specs.declared.replies.Cell.{Cell}
 use Rattle.txn_client.specs.Shows as clients
+use Rattle.clean_up.specs.Shows.{ShowsCleaners}
+use Rattle.clean_up.specs.declared.cleaners.Cleaners.{Cleaners}
 use Rattle.server_loop.specs.Refusals.{IsCutRefusal, IsRawRefusal, IsSweepRefusal}
 use Rattle.server_loop.specs.Runs.{StepsAs}
 use Rattle.server_loop.specs.Server.{Shows, machine_place, machine_places}
@@ -25,6 +27,7 @@ use Rattle.server_loop.specs.declared.server.Server.{Server}
 use Rattle.server_loop.proofs.Placing.{has_tablet_so, has_tablet_back, length_so}
 use Rattle.server_loop.proofs.Refusing.{minor_unknown_first, minor_accepted, merge_unknown_first, merge_bad, merge_accepted, major_unknown_first, major_accepted, split_row_first, sweep_accepted, raw_row_first, raw_family_first, raw_accepted}
 use Rattle.server_loop.proofs.Relocating.{splits_so, split_next, split_barred, moves_step, stays_step, move_unknown, move_far, move_next}
+use Rattle.server_loop.proofs.CleanSteps.{cleaners_stay, places_not_cleaners}
 use Rattle.server_loop.proofs.Replacing.{placed, shows_placed}
 
 -- ---- refusals, and what is done
@@ -120,7 +123,7 @@ same_spots old new files e = ap (λ (cluster : ClusterState _). spots_of cluster
 
 -- ---- whole steps
 
-module _ {F M : Type 0} (contents : F → Option Contents) (old new : Server F M) (kept : KeepsMap contents old.cluster new.cluster) (same_clients : new.clients ≡ old.clients) (same_last : new.oracle.last ≡ old.oracle.last) where
+module _ {F M : Type 0} (contents : F → Option Contents) (old new : Server F M) (kept : KeepsMap contents old.cluster new.cluster) (same_clients : new.clients ≡ old.clients) (same_last : new.oracle.last ≡ old.oracle.last) (same_cleaners : new.cleaners ≡ old.cleaners) where
   -- where cells, sessions and stamps are as before, they show the same
   shows_kept : (st : State) → Holds contents old.cluster → clients.Shows (cells_in (contents old.cluster.files) old.cluster.tablets) old.clients old.oracle.last st
       → clients.Shows (cells_in (contents new.cluster.files) new.cluster.tablets) new.clients new.oracle.last st
@@ -134,6 +137,7 @@ module _ {F M : Type 0} (contents : F → Option Contents) (old new : Server F M
   still_shown st spots shown = record {
     in_order = (kept shown.in_order).0;
     shows = shows_kept st shown.in_order shown.shows;
+    cleaners = subst (λ (k : Cleaners). ShowsCleaners k st) (sym same_cleaners) shown.cleaners;
     places = ap (λ spots. map machine_place spots) spots ∙ shown.places;
     next = shown.next;
   }
@@ -149,13 +153,16 @@ module _ {F M : Type 0} (contents : F → Option Contents) (old new : Server F M
   splits_as row left is free count cut = λ before reached shown.
       let same = sym shown.places in
       let number : left ≡ before.next_tablet = count ∙ sym (shown.next ∙ ap (λ (n : ℕ). n + 1) (length_so before old.cluster.places same)) in
-      let after : Shows contents new (placed before (machine_places new.cluster.places) (left + 1)) = record {
+      let next = placed before (machine_places new.cluster.places) (left + 1) in
+      let step = splits_so before old.cluster.places same row left cut.place.tablet cut.names new.cluster.places is free number cut.cut in
+      let after : Shows contents new next = record {
         in_order = (kept shown.in_order).0;
+        cleaners = cleaners_stay before next (Split row) (SplitOff left) old.cleaners new.cleaners reached step places_not_cleaners same_cleaners shown.cleaners;
         shows = shows_placed before (machine_places new.cluster.places) (left + 1) _ new.clients new.oracle.last (shows_kept before shown.in_order shown.shows);
         places = refl;
         next = split_next before old.cluster.places same row left cut.place.tablet cut.names new.cluster.places count cut.cut;
       } in
-      (placed before (machine_places new.cluster.places) (left + 1), splits_so before old.cluster.places same row left cut.place.tablet cut.names new.cluster.places is free number cut.cut, after, λ e. cc)
+      (next, step, after, λ e. cc)
 
   -- a tablet is put on a server
   pub moves_as : (n server : ℕ) → IsTable old.cluster.places → HasTablet n old.cluster.places → server < most_servers → ComesTo n server old.cluster new.cluster
@@ -169,11 +176,16 @@ module _ {F M : Type 0} (contents : F → Option Contents) (old new : Server F M
           still_shown before (ap (λ (cluster : ClusterState F). spots_of cluster) stays.1) shown,
           λ e. cc,
         )
-        | inr put ↦ let goes = put.moved in (
-          placed before (machine_places new.cluster.places) before.next_tablet,
-          moves_step before old.cluster.places same n server goes.names new.cluster.places table has near goes.moved,
+        | inr put ↦
+        let goes = put.moved in
+        let next = placed before (machine_places new.cluster.places) before.next_tablet in
+        let step = moves_step before old.cluster.places same n server goes.names new.cluster.places table has near goes.moved in
+        (
+          next,
+          step,
           record {
             in_order = (kept shown.in_order).0;
+            cleaners = cleaners_stay before next (Move n server) MoveDone old.cleaners new.cleaners reached step places_not_cleaners same_cleaners shown.cleaners;
             shows = shows_placed before (machine_places new.cluster.places) before.next_tablet _ new.clients new.oracle.last (shows_kept before shown.in_order shown.shows);
             places = refl;
             next = move_next before old.cluster.places same n server goes.names new.cluster.places shown.next goes.moved;

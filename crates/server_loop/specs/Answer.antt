@@ -7,7 +7,7 @@ use Rattle.request_codec.specs.Requests.{asked}
 use Rattle.request_codec.specs.declared.replies.Reply.{Reply}
 use Rattle.request_codec.specs.declared.replies.Reply.TheVariants as kept
 use Rattle.request_codec.specs.declared.requests.Request.{Request}
-use Rattle.request_codec.specs.declared.requests.Request.TheVariants.{Begin, Step}
+use Rattle.request_codec.specs.declared.requests.Request.TheVariants.{Begin, Step, CleanBegin, CleanStep}
 use Rattle.row_atomic.specs.Changes.{Holds}
 use Rattle.row_atomic.specs.Commands.{OverfillsCluster}
 use Rattle.row_atomic.specs.Room.{HasNoRoom}
@@ -15,11 +15,13 @@ use Rattle.si_model.specs.Machine.{IsReached, State}
 use Rattle.server_loop.specs.Commands.{HasOutcome, command_of}
 use Rattle.server_loop.specs.Refusals.{IsRefusalOf}
 use Rattle.server_loop.specs.Runs.{HasShortValue, IfRefused, StampsGoOn, StepsAs}
-use Rattle.server_loop.specs.Sessions.{ChangesCells, IsAlwaysTold, KeepsOracle, KeepsSessions, LeavesRoom}
+use Rattle.server_loop.specs.Sessions.{ChangesCells, IsAlwaysTold, KeepsCleaners, KeepsOracle, KeepsSessions, LeavesRoom}
 use Rattle.server_loop.specs.Server.{IsFaultSeen, SeesNoFault, Shows, cells_of, cluster_of, last_of, marks_of}
 use Rattle.server_loop.specs.declared.server.Server.{Server}
 use Rattle.txn_client.specs.Room.{ChangesNext, EditsOfStep}
 use Rattle.txn_client.specs.Shows.{IsAboutToDraw}
+use Rattle.clean_up.specs.Room as clean_up
+use Rattle.clean_up.specs.Shows.{IsUsedUp}
 
 -- ---- the machine
 
@@ -36,10 +38,12 @@ abbrev pub FollowsMark : {F M : Type 0} → (M → Option ℕ) → Reply → Ser
 FollowsMark mark kept.OracleRestart old new = IfSome (mark (marks_of old)) (λ n. last_of new ≡ n)
 FollowsMark mark reply old new = ⊤
 
--- What Exhausted means: no stamp is left, for a Begin and for a Step that comes to draw one. Of a command its outcome says what.
+-- What Exhausted means: no stamp is left, for a Begin and for a Step that comes to draw one; no number, for a cleaner. Of a command
+-- its outcome says what.
 abbrev pub LacksStamp : {F M : Type 0} → (F → Option Contents) → Request → Server F M → Type 0
 LacksStamp contents Begin old = last_of old ≡ 9_223_372_036_854_775_807
 LacksStamp contents (Step start) old = (last_of old ≡ 9_223_372_036_854_775_807) × ((st : State) → Shows contents old st → IsAboutToDraw st start)
+LacksStamp contents (CleanBegin row family) old = (st : State) → Shows contents old st → IsUsedUp st
 LacksStamp contents request old = ⊤
 
 -- A stamp that is answered is the oracle's next one, and nothing else but a restart moves the last one.
@@ -50,7 +54,7 @@ pub record DrawsStamps {F M : Type 0} (contents : F → Option Contents) (mark :
 
 -- ---- cells and room
 
--- A step makes its session's next edits and takes their room in memory. Nothing else changes a cell, and what room a command takes
+-- A step makes its session's next edits, or its cleaner's, and takes their room in memory. Nothing else changes a cell, and what room a command takes
 -- its outcome says.
 pub record MakesEdits {F M : Type 0} (contents : F → Option Contents) (request : Request) (reply : Reply) (old new : Server F M) : Type 0 where
   pub changes : ChangesCells contents request reply old new
@@ -58,10 +62,11 @@ pub record MakesEdits {F M : Type 0} (contents : F → Option Contents) (request
 
 -- ---- sessions
 
--- What is always told where a state is shown, and what a request leaves of the sessions and of the oracle.
+-- What is always told where a state is shown, and what a request leaves of the sessions, of the cleaners and of the oracle.
 pub record ServesSessions {F M : Type 0} (contents : F → Option Contents) (request : Request) (reply : Reply) (old new : Server F M) : Type 0 where
   pub told : (st : State) → Shows contents old st → IsAlwaysTold request reply st
   pub sessions : KeepsSessions request reply old.clients new.clients
+  pub cleaners : KeepsCleaners request reply old.cleaners new.cleaners
   pub oracle : KeepsOracle contents request old new
 
 -- ---- tablets and files
@@ -72,12 +77,15 @@ TendsTablets contents faults request reply old new = HasOutcome contents faults 
 
 -- ---- faults and causes
 
--- A step comes to make the edits that its session names, and the memtable of their row's tablet has no room for them. Where a state is
--- shown they are those of the session's next step there.
+-- A step comes to make the edits that its session or its cleaner names, and the memtable of their row's tablet has no room for them.
+-- Where a state is shown they are those of the next step there.
 abbrev pub LacksRoom : {F M : Type 0} → (F → Option Contents) → Request → Server F M → Type 0
 LacksRoom contents (Step start) old =
     HasNoRoom OverfillsCluster (cluster_of old) (EditsOfStep (Holds contents (cluster_of old)) (cells_of contents old) old.clients start)
     × ((st : State) → IsReached st → Shows contents old st → HasNoRoom OverfillsCluster (cluster_of old) (ChangesNext st start))
+LacksRoom contents (CleanStep cleaner) old =
+    HasNoRoom OverfillsCluster (cluster_of old) (clean_up.EditsOfStep (Holds contents (cluster_of old)) (cells_of contents old) old.cleaners cleaner)
+    × ((st : State) → IsReached st → Shows contents old st → HasNoRoom OverfillsCluster (cluster_of old) (clean_up.ChangesNext st cleaner))
 LacksRoom contents request old = ⊤
 
 -- A device's fault is told where a count of them rose, and nowhere else. Of a command the outcome says why it is refused.

@@ -6,8 +6,9 @@ use Rattle.row_atomic.specs.Changes.{IsNumberedRefusal, IsSplitRefusal, IsMoveRe
 use Rattle.row_atomic.specs.Refusals.{IsReadRefusal}
 use Rattle.row_atomic.specs.Compactions as compaction
 use Rattle.txn_client.specs.Refusals.{IsBeginRefusal, IsGetRefusal, IsSetRefusal, IsStepRefusal}
+use Rattle.clean_up.specs.Refusals as clean_up
 use Rattle.request_codec.specs.declared.requests.Request.{Request}
-use Rattle.request_codec.specs.declared.requests.Request.TheVariants.{Begin, Get, Set, Step, Stop, Minor, Merge, Major, Split, Move, Sweep, OracleRestart, Raw}
+use Rattle.request_codec.specs.declared.requests.Request.TheVariants.{Begin, Get, Set, Step, Stop, CleanBegin, CleanStep, Minor, Merge, Major, Split, Move, Sweep, OracleRestart, Raw}
 
 -- a cut at a row that may be none
 abbrev pub IsCutRefusal : Refusal → Type 0
@@ -30,6 +31,8 @@ IsRefusalOf (Get start row family) refusal = IsGetRefusal refusal
 IsRefusalOf (Set start row family value) refusal = IsSetRefusal refusal
 IsRefusalOf (Step start) refusal = IsStepRefusal refusal
 IsRefusalOf (Stop start) refusal = refusal ≡ UnknownSession
+IsRefusalOf (CleanBegin row family) refusal = clean_up.IsBeginRefusal refusal
+IsRefusalOf (CleanStep cleaner) refusal = clean_up.IsStepRefusal refusal
 IsRefusalOf (Minor tablet) refusal = IsNumberedRefusal compaction.minor refusal
 IsRefusalOf (Merge tablet count) refusal = IsNumberedRefusal (compaction.merging count) refusal
 IsRefusalOf (Major tablet) refusal = IsNumberedRefusal compaction.major refusal

@@ -1,6 +1,6 @@
--- What a request does to the cells, to the room in memory, to the sessions and to the oracle, and what it is always told.
+-- What a request does to the cells, to the room in memory, to sessions and cleaners and to the oracle, and what it is always told.
 use Rattle.std.specs.Prelude.{◌≡◌, Option, ⊤}
-use Rattle.cell_key.specs.declared.refusals.Refusal.TheVariants.{UnknownSession, EmptyCommit, TooManySessions}
+use Rattle.cell_key.specs.declared.refusals.Refusal.TheVariants.{UnknownSession, UnknownCleaner, EmptyCommit, TooManySessions}
 use Rattle.file_store.specs.Store.{Contents}
 use Rattle.row_atomic.specs.Changes.{Holds}
 use Rattle.row_atomic.specs.Commands.{IsNoFuller, OverfillsCluster}
@@ -10,23 +10,31 @@ use Rattle.request_codec.specs.Replies.{replied}
 use Rattle.request_codec.specs.declared.replies.Reply.{Reply}
 use Rattle.request_codec.specs.declared.replies.Reply.TheVariants as kept
 use Rattle.request_codec.specs.declared.requests.Request.{Request}
-use Rattle.request_codec.specs.declared.requests.Request.TheVariants.{Begin, Get, Set, Step, Stop, OracleRestart}
+use Rattle.request_codec.specs.declared.requests.Request.TheVariants.{Begin, Get, Set, Step, Stop, CleanBegin, CleanStep, OracleRestart}
 use Rattle.server_loop.specs.Runs.{IfRefused}
 use Rattle.server_loop.specs.Server.{Shows, cells_of, cluster_of}
 use Rattle.server_loop.specs.declared.server.Server.{Server}
 use Rattle.txn_client.specs.Room.{ChangesNext, Makes, TakesRoom}
 use Rattle.txn_client.specs.declared.clients.Clients.{Clients}
 use Rattle.txn_client.specs.Shows.{IsAboutToDraw, IsCrowded, IsInactive, IsUnwritten, SameClients, TouchesFor}
+use Rattle.clean_up.specs.Room as clean_up
+use Rattle.clean_up.specs.Shows as open_cleaners
+use Rattle.clean_up.specs.Shows.{IsUnopened, SameCleaners}
+use Rattle.clean_up.specs.declared.cleaners.Cleaners.{Cleaners}
 
--- A step that is done makes the edits of its session's next step, or none where it makes none: cells of one row at most, at the
--- session's stamps. All else changes none.
+-- A step that is done makes the edits of its session's next step, or of its cleaner's, or none where it makes none: cells of one row
+-- at most, at the session's stamps. All else changes none.
 abbrev pub ChangesCells : {F M : Type 0} → (F → Option Contents) → Request → Reply → Server F M → Server F M → Type 0
 ChangesCells contents (Step start) (kept.Step progress) old new =
     (st : State) → Shows contents old st → TouchesFor st start (cells_of contents old) (cells_of contents new)
     × (IsReached st → Makes (ChangesNext st start) progress (cells_of contents old) (cells_of contents new))
+ChangesCells contents (CleanStep cleaner) (kept.CleanStep done) old new =
+    (st : State) → IsReached st → Shows contents old st → open_cleaners.TouchesFor st cleaner (cells_of contents old) (cells_of contents new)
+    × clean_up.Makes (clean_up.ChangesNext st cleaner) done (cells_of contents old) (cells_of contents new)
 ChangesCells contents request reply old new = Holds contents (cluster_of old) → cells_of contents new ≡ cells_of contents old
 
--- What is for sessions and the oracle takes no room in memory, but a step that of its edits. What a command takes its outcome says.
+-- What is for sessions, cleaners and the oracle takes no room in memory, but a step that of its edits. What a command takes its
+-- outcome says.
 abbrev pub LeavesRoom : {F M : Type 0} → (F → Option Contents) → Request → Reply → Server F M → Server F M → Type 0
 LeavesRoom contents Begin reply old new = IsNoFuller (cluster_of old) (cluster_of new)
 LeavesRoom contents (Get start row family) reply old new = IsNoFuller (cluster_of old) (cluster_of new)
@@ -35,11 +43,16 @@ LeavesRoom contents (Step start) (kept.Step progress) old new =
     (st : State) → IsReached st → Shows contents old st → TakesRoom OverfillsCluster (ChangesNext st start) progress (cluster_of old) (cluster_of new)
 LeavesRoom contents (Step start) (kept.Refused refusal) old new = IsNoFuller (cluster_of old) (cluster_of new)
 LeavesRoom contents (Stop start) reply old new = IsNoFuller (cluster_of old) (cluster_of new)
+LeavesRoom contents (CleanBegin row family) reply old new = IsNoFuller (cluster_of old) (cluster_of new)
+LeavesRoom contents (CleanStep cleaner) (kept.CleanStep done) old new =
+    (st : State) → IsReached st → Shows contents old st
+    → clean_up.TakesRoom OverfillsCluster (clean_up.ChangesNext st cleaner) done (cluster_of old) (cluster_of new)
+LeavesRoom contents (CleanStep cleaner) (kept.Refused refusal) old new = IsNoFuller (cluster_of old) (cluster_of new)
 LeavesRoom contents OracleRestart reply old new = IsNoFuller (cluster_of old) (cluster_of new)
 LeavesRoom contents request reply old new = ⊤
 
 -- What takes no memory is told exactly: that as many sessions are active as there may be, that one isn't active, that a commit has
--- no writes, and why a step that draws is refused.
+-- no writes, why a step that draws is refused, and that a cleaner isn't open.
 abbrev pub IsAlwaysTold : Request → Reply → State → Type 0
 IsAlwaysTold Begin reply st = IsCrowded st → reply ≡ kept.Refused TooManySessions
 IsAlwaysTold (Get start row family) reply st = IsInactive st start → reply ≡ kept.Refused UnknownSession
@@ -49,6 +62,7 @@ IsAlwaysTold (Step start) reply st =
     × (IsUnwritten st start → reply ≡ kept.Refused EmptyCommit)
     × (IsAboutToDraw st start → IfRefused IsDrawRefusal (replied reply))
 IsAlwaysTold (Stop start) reply st = IsInactive st start → reply ≡ kept.Refused UnknownSession
+IsAlwaysTold (CleanStep cleaner) reply st = IsUnopened st cleaner → reply ≡ kept.Refused UnknownCleaner
 IsAlwaysTold request reply st = ⊤
 
 -- A begin, and a write, a step or an end that is done, change the sessions as the machine's step says. All else leaves them.
@@ -58,6 +72,12 @@ KeepsSessions (Set start row family value) kept.Set old new = ⊤
 KeepsSessions (Step start) (kept.Step progress) old new = ⊤
 KeepsSessions (Stop start) kept.Stop old new = ⊤
 KeepsSessions request reply old new = SameClients old new
+
+-- A beginning, and a step that is done, change the cleaners as the machine's step says. All else leaves them.
+abbrev pub KeepsCleaners : Request → Reply → Cleaners → Cleaners → Type 0
+KeepsCleaners (CleanBegin row family) (kept.CleanBegin found) old new = ⊤
+KeepsCleaners (CleanStep cleaner) (kept.CleanStep reply) old new = ⊤
+KeepsCleaners request reply old new = SameCleaners old new
 
 -- Only a begin, a step that comes to draw a stamp, and a restart use the oracle.
 abbrev pub KeepsOracle : {F M : Type 0} → (F → Option Contents) → Request → Server F M → Server F M → Type 0

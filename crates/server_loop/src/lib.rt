@@ -1,6 +1,7 @@
 //! The server: a stream of framed requests is answered, reply by reply, as a run of the snapshot machine.
 #![tactic(auto)]
 
+mod cleaning;
 mod command_line;
 mod ends;
 mod frames;

@@ -9,6 +9,7 @@ ghost use Rattle.si_model.specs.Machine.{new_machine};
 use crate::ends::{End, ServeFault};
 use crate::serving::{Answering, serve_all};
 use cell_key::{MOST_STAMP, Refusal};
+use clean_up::Cleaners;
 use file_store::Files;
 use oracle::{MarkStore, Oracle};
 use request_codec::{Reply, Request};
@@ -26,9 +27,9 @@ pub struct Config {
     pub file_limit: u64,
 }
 
-/// A server: a cluster of tablets, an oracle of stamps, and the sessions that are active.
+/// A server: a cluster of tablets, an oracle of stamps, the sessions that are active and the cleaners that are open.
 ///
-/// It keeps nothing of the snapshot machine but the sessions and the places of the tablets: what has committed, what
+/// It keeps nothing of the snapshot machine but the sessions, the cleaners and the places of the tablets: what has committed, what
 /// is locked and what was rolled back stands in the cells alone.
 #[derive(Drop)]
 pub struct Server<F, M: MarkStore> {
@@ -36,6 +37,7 @@ pub struct Server<F, M: MarkStore> {
     pub(crate) cluster: Cluster<F>,
     pub(crate) oracle: Oracle<M>,
     pub(crate) clients: Clients,
+    pub(crate) cleaners: Cleaners,
 }
 
 impl<F: Files + Drop, M: MarkStore + Drop> Server<F, M> {
@@ -84,6 +86,7 @@ impl<F: Files + Drop, M: MarkStore + Drop> Server<F, M> {
                 cluster,
                 oracle,
                 clients: Clients::new(alloc, 0),
+                cleaners: Cleaners::new(alloc),
             }),
             Err((refusal, marks)) => Err((refusal, cluster.into_files(), marks)),
         }
@@ -145,6 +148,8 @@ impl<F: Files + Drop, M: MarkStore + Drop> Answering for Server<F, M> {
             } => self.set(start, row, family, value),
             Request::Step { start } => self.step(start),
             Request::Stop { start } => self.stop(start),
+            Request::CleanBegin { row, family } => self.clean_begin(row, family),
+            Request::CleanStep { cleaner } => self.clean_step(cleaner),
             Request::Minor { tablet } => self.minor(tablet),
             Request::Merge { tablet, count } => self.merge(tablet, count),
             Request::Major { tablet } => self.major(tablet),

@@ -12,12 +12,14 @@ const RAW: &[u8] = b"\x11\0\0\0\x01m\0\0\0\x01c\x02\0\0\0\0\0\0\0\0\0\0\0\0\0\0\
 const RAW_FOUND: &[u8] = b"\x91\x01\0\0\0\0\0\0\0\x01\0\0\0\x06m\0\0c\0\0";
 
 /// A request of each kind.
-const REQUESTS: [&[u8]; 13] = [
+const REQUESTS: [&[u8]; 15] = [
     b"\x01",
     GET,
     SET,
     b"\x04\0\0\0\0\0\0\0\x01",
     b"\x05\0\0\0\0\0\0\0\x01",
+    b"\x06\0\0\0\x01a\0\0\0\x03bal",
+    b"\x07\0\0\0\0\0\0\0\x01",
     b"\x0A\0\0\0\x01",
     b"\x0B\0\0\0\x02\0\0\0\x03",
     b"\x0C\0\0\0\x02",
@@ -29,7 +31,7 @@ const REQUESTS: [&[u8]; 13] = [
 ];
 
 /// Bodies outside the grammar of requests.
-const NO_REQUESTS: [&[u8]; 19] = [
+const NO_REQUESTS: [&[u8]; 20] = [
     b"",
     b"\0",
     b"\x13",
@@ -38,7 +40,8 @@ const NO_REQUESTS: [&[u8]; 19] = [
     b"\x02\0\0\0\0\0\0\0\x01\0\0\0\x01a\0\0\0\x03ba",
     b"\x02\0\0\0\0\0\0\0\x01\xFF\xFF\xFF\xFFa\0\0\0\x03bal",
     b"\x04\0\0\0\0\0\0\x01",
-    b"\x06\0\0\0\x01a\0\0\0\x03bal",
+    b"\x06\0\0\0\x01a\0\0\0\x03bal\0",
+    b"\x08",
     b"\x0A\0\0\0\x01\0",
     b"\x0A\0\0\x01",
     b"\x0B\0\0\0\x02",
@@ -66,7 +69,7 @@ fn bodies_of_requests(rt: HostRuntime) -> Result<(), Fail> {
 }
 
 /// A reply of each kind.
-const REPLIES: [&[u8]; 22] = [
+const REPLIES: [&[u8]; 28] = [
     b"\x81\0\0\0\0\0\0\0\x01",
     b"\x82\0",
     b"\x82\x01\0\0\0\x0210",
@@ -79,6 +82,12 @@ const REPLIES: [&[u8]; 22] = [
     b"\x84\x05",
     b"\x84\x06\0\x01\0\x02",
     b"\x85",
+    b"\x86\0",
+    b"\x86\x01\0\0\0\0\0\0\0\x01\0\0\0\0\0\0\0\x03",
+    b"\x87\x01",
+    b"\x87\x02\0\0\0\0\0\0\0\x04",
+    b"\x87\x03",
+    b"\x87\x04",
     b"\x8A",
     b"\x8B",
     b"\x8C",
@@ -92,7 +101,7 @@ const REPLIES: [&[u8]; 22] = [
 ];
 
 /// Bodies outside the grammar of replies.
-const NO_REPLIES: [&[u8]; 17] = [
+const NO_REPLIES: [&[u8]; 20] = [
     b"",
     b"\x01",
     b"\x82",
@@ -100,6 +109,9 @@ const NO_REPLIES: [&[u8]; 17] = [
     b"\x82\x01\xFF\xFF\xFF\xFF10",
     b"\x84\0",
     b"\x84\x07",
+    b"\x86\0\0",
+    b"\x87\x01\0",
+    b"\x87\x05",
     b"\x8A\0",
     b"\x8D\0\0\x02",
     b"\x8F\0\0\0\x02",

@@ -76,6 +76,36 @@ fn at_most_1024_sessions_and_tablets(rt: HostRuntime) -> Result<(), Fail> {
     Ok(())
 }
 
+fn clean<'a>(row: &'a [u8]) -> Request<'a> {
+    Request::CleanBegin { row, family: b"c" }
+}
+
+#[test]
+fn at_most_1024_cleaners(rt: HostRuntime) -> Result<(), Fail> {
+    let mut server = new_server(rt.alloc(), FILE_LIMIT)?;
+    let first = [
+        (Request::Begin, 0),
+        (set(b"r", b"v"), 0),
+        (Request::Step { start: 1 }, 0),
+    ];
+    assert!(rt; are_answered(&mut server, &first));
+    for _ in 0..1024 {
+        assert!(rt; refused(&mut server, clean(b"r")) == 0);
+    }
+    let last = [
+        (clean(b"r"), 7),
+        (clean(b"s"), 0),
+        (clean(b""), 3),
+        (Request::CleanStep { cleaner: 1025 }, 9),
+        (Request::CleanStep { cleaner: 1024 }, 0),
+        (Request::CleanStep { cleaner: 1024 }, 0),
+        (Request::CleanStep { cleaner: 1024 }, 9),
+        (clean(b"r"), 0),
+    ];
+    assert!(rt; are_answered(&mut server, &last));
+    Ok(())
+}
+
 const MINOR: Request<'static> = Request::Minor { tablet: 1 };
 
 const AWAY: Request<'static> = Request::Move {

@@ -20,6 +20,7 @@ returns-in-Ok-open-clause-new g c = λ told. record {
     sessions = c.new-in-Ok-open.ensures.shown new_machine refl refl;
     top = omega arith;
   };
+  cleaners = c.new-in-Ok-open-2.ensures.shown new_machine refl refl;
   places = ap (λ (places : List PlaceView). machine_places places) c.in-Ok.ensures.places;
   next = refl;
 }

@@ -45,6 +45,24 @@ returns-in-Stop-clause-step g c = rw c.in-Stop.is c.stop.ensures.step.step
 pub returns-in-Stop-clause-short : goal.returns-in-Stop-clause-short
 returns-in-Stop-clause-short g c = c.stop.ensures.step.short
 
+pub returns-in-CleanBegin-clause-says : goal.returns-in-CleanBegin-clause-says
+returns-in-CleanBegin-clause-says g c = rw c.in-CleanBegin.is c.clean_begin.ensures
+
+pub returns-in-CleanBegin-clause-step : goal.returns-in-CleanBegin-clause-step
+returns-in-CleanBegin-clause-step g c = rw c.in-CleanBegin.is c.clean_begin.ensures.step.step
+
+pub returns-in-CleanBegin-clause-short : goal.returns-in-CleanBegin-clause-short
+returns-in-CleanBegin-clause-short g c = c.clean_begin.ensures.step.short
+
+pub returns-in-CleanStep-clause-says : goal.returns-in-CleanStep-clause-says
+returns-in-CleanStep-clause-says g c = rw c.in-CleanStep.is c.clean_step.ensures
+
+pub returns-in-CleanStep-clause-step : goal.returns-in-CleanStep-clause-step
+returns-in-CleanStep-clause-step g c = rw c.in-CleanStep.is c.clean_step.ensures.step.step
+
+pub returns-in-CleanStep-clause-short : goal.returns-in-CleanStep-clause-short
+returns-in-CleanStep-clause-short g c = c.clean_step.ensures.step.short
+
 pub returns-in-Minor-clause-says : goal.returns-in-Minor-clause-says
 returns-in-Minor-clause-says g c = rw c.in-Minor.is c.minor.ensures
 

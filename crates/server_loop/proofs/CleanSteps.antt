@@ -1,0 +1,115 @@
+-- What cleaners show while others take steps, and what sessions show while cleaners do.
+use Rattle.std.proofs.Common.{◌≡◌, ◌≢◌, ◌≤◌, ℕ, List, map, sym, subst, ap, arith, refl}
+use Rattle.file_store.specs.Store.{Contents}
+use Rattle.row_atomic.specs.Changes.{Holds}
+use Rattle.row_atomic.specs.Clusters.{Spot, Storage, cells_in, spot_of, storage_of}
+use Rattle.si_model.specs.Kinds.{OfCleaners, OfPlaces, OfSessions, kind_of}
+use Rattle.si_model.specs.Machine.{State, Request, Reply, Refused, IsReached, Step}
+use Rattle.si_model.proofs.Leaving.{leaves_others}
+use Rattle.cell_key.specs.declared.refusals.Refusal.{Refusal}
+use Rattle.cell_key.specs.declared.refusals.Refusal.TheVariants.{Damaged}
+use Rattle.si_model.specs.Replies.{clean_reply, clean_start_reply}
+use Rattle.si_model.specs.declared.replies.CleanReply.{CleanReply}
+use Rattle.si_model.specs.declared.replies.CleanReply.TheVariants as cleans
+use Rattle.si_model.specs.declared.replies.CleanStart.{CleanStart}
+use Rattle.si_model.specs.declared.replies.CleanStart.TheVariants as starts
+use Rattle.clean_up.specs.Shows as open_cleaners
+use Rattle.clean_up.specs.Shows.{ShowsCleaners}
+use Rattle.clean_up.proofs.Table.{shows_on}
+use Rattle.clean_up.specs.declared.cleaners.Cleaners.{Cleaners}
+use Rattle.txn_client.specs.Shows.{ShowsClients}
+use Rattle.txn_client.specs.declared.clients.Clients.{Clients}
+use Rattle.txn_client.proofs.Table.{shows_along}
+use Rattle.std.specs.Prelude.{Option}
+use Rattle.server_loop.specs.declared.server.Server.{Server}
+use Rattle.server_loop.specs.Server.{Shows}
+use Rattle.server_loop.specs.Runs.{IfRefused, StampsGoOn, StepsAs}
+use Rattle.server_loop.proofs.Replacing.{KeepsPlaces}
+use Rattle.server_loop.proofs.Relocating.{still_placed, still_next}
+
+-- where the tablets are, by what lies below the memtables
+abbrev pub spots_in : Storage → List Spot
+spots_in storage = map spot_of storage.places
+
+-- no step but a cleaner's changes what cleaners show
+pub cleaners_stay : (st next : State) (q : Request) (r : Reply) (old new : Cleaners) → IsReached st → Step st q r next → kind_of q ≢ OfCleaners
+    → new ≡ old → ShowsCleaners old st → ShowsCleaners new next
+cleaners_stay st next q r old new reached step other same shown =
+    subst (λ (k : Cleaners). ShowsCleaners k next) (sym same) (shows_on old st next q r reached step other shown)
+
+-- no step but a session's changes what sessions show
+pub sessions_stay : (st next : State) (q : Request) (r : Reply) (old new : Clients) → Step st q r next → kind_of q ≢ OfSessions
+    → new ≡ old → ShowsClients old st → ShowsClients new next
+sessions_stay st next q r old new step other same shown =
+    let left = (leaves_others st next q r step).sessions other in
+    subst (λ (k : Clients). ShowsClients k next) (sym same) (shows_along old st next shown left.top left.begun left.active)
+
+-- ---- the kinds of requests
+
+pub sessions_not_cleaners : OfSessions ≢ OfCleaners
+sessions_not_cleaners is = cc
+
+pub places_not_cleaners : OfPlaces ≢ OfCleaners
+places_not_cleaners is = cc
+
+pub cleaners_not_sessions : OfCleaners ≢ OfSessions
+cleaners_not_sessions is = cc
+
+-- ---- whole steps
+
+module _ {F M : Type 0} (contents : F → Option Contents) (old new : Server F M) where
+  -- a step of a cleaner, which leaves the tablets where they are, and the sessions
+  pub cleans_as : (request : Request) (reply : Reply) → KeepsPlaces request → kind_of request ≢ OfSessions → new.clients ≡ old.clients → new.oracle.last ≡ old.oracle.last
+      → (Holds contents old.cluster → open_cleaners.Steps (cells_in (contents old.cluster.files) old.cluster.tablets) old.cleaners request reply (cells_in (contents new.cluster.files) new.cluster.tablets) new.cleaners)
+      → (Holds contents old.cluster → Holds contents new.cluster) → storage_of contents new.cluster ≡ storage_of contents old.cluster
+      → (Holds contents old.cluster → open_cleaners.InEachShown (cells_in (contents old.cluster.files) old.cluster.tablets) old.cleaners (λ st. reply ≡ Refused Damaged → ⊥))
+      → StepsAs (Shows contents) old new request reply
+  cleans_as request reply keeps other same_clients same_last step still storage whole = λ before reached shown.
+      let (next, taken, cells, cleaners) = step shown.in_order before reached shown.shows.store shown.cleaners in
+      let after : Shows contents new next = record {
+        in_order = still shown.in_order;
+        shows = record {
+          store = cells;
+          sessions = sessions_stay before next request reply old.clients new.clients taken other same_clients shown.shows.sessions;
+          top = no_higher ((leaves_others before next request reply taken).sessions other).top same_last shown.shows.top;
+        };
+        cleaners = cleaners;
+        places = still_placed before next request reply taken keeps old.cluster.places new.cluster.places (ap spots_in storage) shown.places;
+        next = still_next before next request reply taken keeps shown.next;
+      } in
+      (next, taken, after, whole shown.in_order before reached shown.shows.store shown.cleaners)
+    where
+      no_higher : {top top' last last' : ℕ} → top' ≡ top → last' ≡ last → top ≤ last → top' ≤ last'
+      no_higher {top = top} {top' = top'} {last = last} {last' = last'} same same' low = omega (arith, same, same', low)
+
+-- ---- what is done is no refusal and no stamp
+
+pub started_told : (P : Refusal → Type 0) (found : CleanStart) → IfRefused P (clean_start_reply found)
+started_told P starts.NoLock = tt
+started_told P (starts.Cleaner number start) = tt
+
+pub started_undamaged : (found : CleanStart) → clean_start_reply found ≡ Refused Damaged → ⊥
+started_undamaged starts.NoLock = λ e. cc
+started_undamaged (starts.Cleaner number start) = λ e. cc
+
+pub started_stays : (found : CleanStart) (last : ℕ) → StampsGoOn (clean_start_reply found) last last
+started_stays starts.NoLock last = refl
+started_stays (starts.Cleaner number start) last = refl
+
+pub cleaned_told : (P : Refusal → Type 0) (done : CleanReply) → IfRefused P (clean_reply done)
+cleaned_told P cleans.Decided = tt
+cleaned_told P (cleans.RolledForward commit) = tt
+cleaned_told P cleans.RolledBack = tt
+cleaned_told P cleans.Gone = tt
+
+pub cleaned_undamaged : (done : CleanReply) → clean_reply done ≡ Refused Damaged → ⊥
+cleaned_undamaged cleans.Decided = λ e. cc
+cleaned_undamaged (cleans.RolledForward commit) = λ e. cc
+cleaned_undamaged cleans.RolledBack = λ e. cc
+cleaned_undamaged cleans.Gone = λ e. cc
+
+pub cleaned_stays : (done : CleanReply) (last : ℕ) → StampsGoOn (clean_reply done) last last
+cleaned_stays cleans.Decided last = refl
+cleaned_stays (cleans.RolledForward commit) last = refl
+cleaned_stays cleans.RolledBack last = refl
+cleaned_stays cleans.Gone last = refl
