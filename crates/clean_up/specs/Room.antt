@@ -5,13 +5,14 @@ use Rattle.std.specs.Ordering.{nat_cmp}
 use Rattle.std.specs.BTreeMap as btree
 use Rattle.cell_key.specs.Cells.{Cells}
 use Rattle.cell_key.specs.declared.edits.Edit.{Edit}
+use Rattle.cell_key.specs.declared.keys.Qualifier.TheVariants.{Lock}
 use Rattle.row_atomic.specs.Calls.{AppliesSuch, OnlyReads}
 use Rattle.row_atomic.specs.Clusters.{Storage}
 use Rattle.row_atomic.specs.Room.{AreAfter, TakesNoRoom, TakesRoomOf}
 use Rattle.si_model.specs.Edits.{ErasesCell, IsErasing, IsRecording, RecordsCell}
 use Rattle.si_model.specs.Machine as machine
 use Rattle.si_model.specs.Machine.{State, Marked, IsDead, CommittedAt}
-use Rattle.si_model.specs.ShowsCells.{IsFirst}
+use Rattle.si_model.specs.ShowsCells.{IsFirst, IsThere}
 use Rattle.si_model.specs.declared.replies.Cell.{Cell}
 use Rattle.si_model.specs.declared.replies.CleanReply.{CleanReply}
 use Rattle.si_model.specs.declared.replies.CleanReply.TheVariants as clean
@@ -20,10 +21,14 @@ use Rattle.clean_up.specs.declared.cleaners.Cleaners.{Cleaners}
 use Rattle.clean_up.specs.declared.fates.Fate.{Fate}
 use Rattle.clean_up.specs.declared.fates.Fate.TheVariants.{Open, Forward, Back}
 
--- The row and the edits by which the lock of t on x goes: the record of a commit takes its place, or nothing does.
+-- The edits by which the lock of t on x goes: the record of a commit takes its place, or nothing does.
+abbrev pub IsClearing : Cell → ℕ → Option ℕ → List Edit → Type 0
+IsClearing x t None edits = IsErasing x t edits
+IsClearing x t (Some c) edits = IsRecording x t c edits
+
+-- The row and such edits. Where the rows hold, the lock of x stands.
 abbrev pub ClearsCell : Type 0 → Cells → Cell → ℕ → Option ℕ → List ℕ → List Edit → Type 0
-ClearsCell Holds cells x t None row edits = ErasesCell Holds cells x t row edits
-ClearsCell Holds cells x t (Some c) row edits = RecordsCell Holds cells x t c row edits
+ClearsCell Holds cells x t commit row edits = (row ≡ x.row) × (Holds → IsThere cells x Lock t) × IsClearing x t commit edits
 
 -- ---- the edits of a cleaner's next step, as its lock and its fate name them
 
