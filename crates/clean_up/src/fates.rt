@@ -38,7 +38,14 @@ fn recorded<R: Rows>(rows: &mut R, first: &Cell, start: Moment) -> Result<Fate, 
     ensures reason { HasReason (R.faults rows.old) (R.faults rows.new) result }
 {
     let start = start.stamp();
-    let next = oldest(rows, &first.row, &first.family, Qualifier::Write, start + 1, u64::MAX)?;
+    let next = oldest(
+        rows,
+        &first.row,
+        &first.family,
+        Qualifier::Write,
+        start + 1,
+        u64::MAX,
+    )?;
     let Some((commit, record)) = next else {
         return Ok(Fate::Back);
     };

@@ -16,9 +16,11 @@ forward {Z} cells x s t c found text same is names next =
     (text.items, at.2, (names.0, names.1 ∙ same))
 
 back : {Z : Type 0} (cells : Cells) (x : Cell) (s t c n : ℕ) (found : Option (ℕ × Vec ℕ Z)) (text : Vec ℕ Z) → s ≡ t → found ≡ Some (c, text) → n ≡ big_number 8 text.items → n ≢ s → IsNextRecord cells x s (option_map stamped found) → IsToldBy cells x t Back
-back cells x s t c n found text same is named other next =
-    (option_map stamped found, subst (λ (k : ℕ). IsNextRecord cells x k (option_map stamped found)) same next,
-    λ d b e names. other (named ∙ (ap (big_number 8) (ap (λ (p : ℕ × List ℕ). p.1) (same_Some (c, text.items) (d, b) (sym (ap (λ f. option_map stamped f) is) ∙ e))) ∙ (names.1 ∙ sym same))))
+back cells x s t c n found text same is named other next = (
+  option_map stamped found,
+  subst (λ (k : ℕ). IsNextRecord cells x k (option_map stamped found)) same next,
+  λ d b e names. other (named ∙ (ap (big_number 8) (ap (λ (p : ℕ × List ℕ). p.1) (same_Some (c, text.items) (d, b) (sym (ap (λ f. option_map stamped f) is) ∙ e))) ∙ (names.1 ∙ sym same))),
+)
 
 pub returns-then-named-start-clause-found : goal.returns-then-named-start-clause-found
 returns-then-named-start-clause-found g c = λ held.
