@@ -1,0 +1,49 @@
+-- The fate of a start, as the records of its first cell tell it.
+use Rattle.std.specs.Prelude.{◌≡◌, ◌≢◌, ◌⊎◌, ℕ, ◌+◌, ◌-◌, ◌^◌, List, length, Option, Some}
+use Rattle.byteorder.specs.Endian.{big_number}
+use Rattle.cell_key.specs.Cells.{Cells}
+use Rattle.cell_key.specs.declared.edits.Edit.{Edit}
+use Rattle.cell_key.specs.declared.keys.Qualifier.TheVariants.{Write}
+use Rattle.row_atomic.specs.Calls.{AppliesSuch, OnlyReads}
+use Rattle.row_atomic.specs.Clusters.{Storage}
+use Rattle.row_atomic.specs.Oldest.{IsOldest}
+use Rattle.si_model.specs.Deciding as deciding
+use Rattle.si_model.specs.Deciding.{Verdict}
+use Rattle.si_model.specs.Edits.{ErasesCell}
+use Rattle.si_model.specs.Reads.{IsGone}
+use Rattle.si_model.specs.ShowsCells.{at, key_of}
+use Rattle.si_model.specs.declared.replies.Cell.{Cell}
+use Rattle.clean_up.specs.declared.fates.Fate.{Fate}
+use Rattle.clean_up.specs.declared.fates.Fate.TheVariants.{Open, Forward, Back}
+use Rattle.clean_up.specs.declared.locks.Lock.{Lock}
+
+-- a fate, as the machine's cleaners find it
+abbrev pub verdict_of : Fate → Verdict
+verdict_of Open = deciding.NotYet
+verdict_of (Forward c) = deciding.Forward c
+verdict_of Back = deciding.Back
+
+-- the first record of x above t
+abbrev pub IsNextRecord : Cells → Cell → ℕ → Option (ℕ × List ℕ) → Type 0
+IsNextRecord cells x t found = IsOldest cells (key_of x Write) (t + 1) (2 ^ 64 - 1) found
+
+-- a record's text names t
+abbrev pub NamesStart : List ℕ → ℕ → Type 0
+NamesStart b t = (length b ≡ 8) × (big_number 8 b ≡ t)
+
+-- What the records of its first cell tell of t: one names it, or the first one above it, if there is one, doesn't.
+abbrev pub IsToldBy : Cells → Cell → ℕ → Fate → Type 0
+IsToldBy cells x t Open = ⊥
+IsToldBy cells x t (Forward c) = (b : List ℕ) × (at cells x Write c ≡ Some b) × NamesStart b t
+IsToldBy cells x t Back = (next : Option (ℕ × List ℕ)) × IsNextRecord cells x t next × ((c : ℕ) (b : List ℕ) → next ≡ Some (c, b) → ¬ NamesStart b t)
+
+-- a record of x names no start
+abbrev pub HasBadRecord : Cells → Cell → Type 0
+HasBadRecord cells x = (c : ℕ) × (b : List ℕ) × (at cells x Write c ≡ Some b) × (length b ≢ 8)
+
+-- The lock stood at its start's first cell and was erased: the start is rolled back. Or it is gone there, and the records tell.
+abbrev pub Decides : {R : Type 0} → (R → Type 0) → (R → Cells) → (R → List ℕ → List Edit → Type 0) → (R → Storage) → Lock → Fate → R → R → Type 0
+Decides holds cells overfills storage lock fate old new =
+    (AppliesSuch holds cells overfills storage (ErasesCell (holds old) (cells old) lock.first lock.start) old new × (fate ≡ Back))
+    ⊎ (OnlyReads holds cells overfills storage old new
+    × (holds old → IsGone (cells old) lock.first lock.start × IsToldBy (cells old) lock.first lock.start fate))

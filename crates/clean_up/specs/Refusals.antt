@@ -1,0 +1,34 @@
+-- Which refusals a call answers.
+use Rattle.std.specs.Prelude.{⊤}
+use Rattle.cell_key.specs.declared.refusals.Refusal.{Refusal}
+use Rattle.cell_key.specs.declared.refusals.Refusal.TheVariants.{BadRow, BadColumn, TooManySessions, UnknownCleaner, MemtableFull, Exhausted, Device, NoMemory, Damaged}
+
+abbrev pub IsBeginRefusal : Refusal → Type 0
+IsBeginRefusal BadRow = ⊤
+IsBeginRefusal BadColumn = ⊤
+IsBeginRefusal TooManySessions = ⊤
+IsBeginRefusal Exhausted = ⊤
+IsBeginRefusal Device = ⊤
+IsBeginRefusal NoMemory = ⊤
+IsBeginRefusal Damaged = ⊤
+IsBeginRefusal _ = ⊥
+
+-- a step of one cleaner
+abbrev pub IsAdvanceRefusal : Refusal → Type 0
+IsAdvanceRefusal MemtableFull = ⊤
+IsAdvanceRefusal Device = ⊤
+IsAdvanceRefusal NoMemory = ⊤
+IsAdvanceRefusal Damaged = ⊤
+IsAdvanceRefusal _ = ⊥
+
+abbrev pub IsStepRefusal : Refusal → Type 0
+IsStepRefusal UnknownCleaner = ⊤
+IsStepRefusal refusal = IsAdvanceRefusal refusal
+
+-- A row transaction is refused by the rows: damage is told only where they don't hold.
+abbrev pub IsRowRefusal : Type 0 → Refusal → Type 0
+IsRowRefusal Holds MemtableFull = ⊤
+IsRowRefusal Holds Device = ⊤
+IsRowRefusal Holds NoMemory = ⊤
+IsRowRefusal Holds Damaged = ¬ Holds
+IsRowRefusal Holds _ = ⊥

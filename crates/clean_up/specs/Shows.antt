@@ -1,0 +1,110 @@
+-- What it means that the cleaners show those of a state of the snapshot machine.
+use Rattle.std.specs.Prelude.{◌≡◌, ◌≢◌, ℕ, ◌≤◌, ◌⊎◌, Bool, true, false, cond, Option, Some, None}
+use Rattle.std.specs.Ordering.{nat_cmp}
+use Rattle.std.specs.BTreeMap as btree
+use Rattle.std.specs.FinMap as finmap
+use Rattle.cell_key.specs.Cells.{Cells}
+use Rattle.si_model.specs.Deciding.{Knows}
+use Rattle.si_model.specs.Kinds.{OfCleaners, kind_of}
+use Rattle.si_model.specs.Machine as machine
+use Rattle.si_model.specs.Machine.{State, Request, Reply, Step, IsReached, CommittedAt, end_of_stamps}
+use Rattle.si_model.specs.Replies.{clean_reply}
+use Rattle.si_model.specs.ShowsCells.{ShowsCells, TouchesOneRow}
+use Rattle.si_model.specs.declared.replies.CleanReply.{CleanReply}
+use Rattle.si_model.specs.declared.replies.CleanReply.TheVariants as clean
+use Rattle.clean_up.specs.Fates.{verdict_of}
+use Rattle.clean_up.specs.declared.cleaner.Cleaner.{Cleaner}
+use Rattle.clean_up.specs.declared.cleaners.Cleaners.{Cleaners}
+use Rattle.clean_up.specs.declared.fates.Fate.{Fate}
+use Rattle.clean_up.specs.declared.fates.Fate.TheVariants.{Open, Forward, Back}
+
+-- whether a cleaner has taken its first step
+abbrev pub is_decided : Fate → Bool
+is_decided Open = false
+is_decided (Forward c) = true
+is_decided Back = true
+
+-- a cleaner, as the machine keeps it
+abbrev pub cleaner_of : Cleaner → machine.Cleaner
+cleaner_of cleaner = record { cell = cleaner.cell; start = cleaner.lock.start; decided = is_decided cleaner.fate }
+
+-- it knows the first cell of its lock's start, and what it has decided is right as long as the mark stands
+abbrev pub KnowsItsLock : State → Cleaner → Type 0
+KnowsItsLock st cleaner = Knows st cleaner.cell cleaner.lock.start cleaner.lock.first (verdict_of cleaner.fate)
+
+-- the cleaner with this number is this one
+pub record ShowsCleaner (cleaner : Cleaner) (i : ℕ) (st : State) : Type 0 where
+  pub kept : finmap.get st.cleaners i ≡ Some (cleaner_of cleaner)
+  pub knows : KnowsItsLock st cleaner
+
+-- what is kept at a number is the cleaner that has it, if one is open
+abbrev pub ShowsAt : Option Cleaner → ℕ → State → Type 0
+ShowsAt None i st = finmap.get st.cleaners i ≡ None
+ShowsAt (Some cleaner) i st = ShowsCleaner cleaner i st
+
+-- the cleaners that are kept are those that are open, and the next number is the machine's
+pub record ShowsCleaners (cleaners : Cleaners) (st : State) : Type 0 where
+  pub next : cleaners.next ≡ st.next_cleaner
+  pub each : (i : ℕ) → ShowsAt (btree.get nat_cmp cleaners.cleaners i) i st
+  pub count : finmap.len st.cleaners ≡ btree.btree_map_len cleaners.cleaners
+
+-- From each reached state that is shown before, the machine may answer so, and goes to a state that is shown after.
+abbrev pub Steps : Cells → Cleaners → Request → Reply → Cells → Cleaners → Type 0
+Steps cells cleaners request reply cells' cleaners' =
+    (st : State) → IsReached st → ShowsCells cells st → ShowsCleaners cleaners st
+    → (next : State) × Step st request reply next × ShowsCells cells' next × ShowsCleaners cleaners' next
+
+-- so it is in each reached state that cells and cleaners show
+abbrev pub InEachShown : Cells → Cleaners → (State → Type 0) → Type 0
+InEachShown cells cleaners IsSo = (st : State) → IsReached st → ShowsCells cells st → ShowsCleaners cleaners st → IsSo st
+
+-- the same cleaners, and the same next number
+pub record SameCleaners (old new : Cleaners) : Type 0 where
+  pub next : new.next ≡ old.next
+  pub each : (i : ℕ) → btree.get nat_cmp new.cleaners i ≡ btree.get nat_cmp old.cleaners i
+  pub count : btree.btree_map_len new.cleaners ≡ btree.btree_map_len old.cleaners
+
+-- no cleaner with this number is open
+abbrev pub IsUnopened : State → ℕ → Type 0
+IsUnopened st i = finmap.get st.cleaners i ≡ None
+
+-- no number is left
+abbrev pub IsUsedUp : State → Type 0
+IsUsedUp st = end_of_stamps ≤ st.next_cleaner
+
+-- the stamp is the start of the cleaner's lock, or that of its commit
+abbrev pub IsStampOf : State → machine.Cleaner → ℕ → Type 0
+IsStampOf st k c = (c ≡ k.start) ⊎ CommittedAt st k.start c
+
+-- No key changes, or those of one row: a key that joins has the stamp of the commit whose mark goes.
+abbrev pub TouchesFor : State → ℕ → Cells → Cells → Type 0
+TouchesFor st i cells cells' =
+    (cells' ≡ cells)
+    ⊎ ((k : machine.Cleaner) × (c : ℕ) × (finmap.get st.cleaners i ≡ Some k) × IsStampOf st k c × TouchesOneRow cells cells' k.start c)
+
+-- with the second step a cleaner closes
+abbrev pub is_last : CleanReply → Bool
+is_last clean.Decided = false
+is_last (clean.RolledForward c) = true
+is_last clean.RolledBack = true
+is_last clean.Gone = true
+
+-- what a step of one cleaner does: the machine takes the step, and goes to a state with this cleaner
+pub record Follows (st next : State) (i : ℕ) (cleaner : Cleaner) (reply : CleanReply) : Type 0 where
+  pub cleaners : next.cleaners ≡ cond (is_last reply) (finmap.remove st.cleaners i) (finmap.insert st.cleaners i (cleaner_of cleaner))
+  pub next_cleaner : next.next_cleaner ≡ st.next_cleaner
+  pub knows : is_last reply ≡ false → KnowsItsLock next cleaner
+
+abbrev pub Advances : Cells → Cleaner → CleanReply → Cells → Cleaner → Type 0
+Advances cells cleaner reply cells' cleaner' =
+    (st : State) (i : ℕ) → IsReached st → ShowsCells cells st → ShowsCleaner cleaner i st
+    → (next : State) × Step st (machine.CleanStep i) (clean_reply reply) next × ShowsCells cells' next × Follows st next i cleaner' reply
+
+-- what others do leaves what cleaners show
+abbrev pub AreShownOn : Type 0
+AreShownOn = (cleaners : Cleaners) (st next : State) (q : Request) (r : Reply) → IsReached st → Step st q r next → kind_of q ≢ OfCleaners
+    → ShowsCleaners cleaners st → ShowsCleaners cleaners next
+
+-- cleaners that are the same show the same
+abbrev pub AreShownSame : Type 0
+AreShownSame = (old new : Cleaners) (st : State) → SameCleaners old new → ShowsCleaners old st → ShowsCleaners new st

@@ -1,0 +1,69 @@
+//! One cleaner, and its two steps.
+
+ghost use Rattle.std.specs.Prelude.{◌≡◌, IfErr, IfOk, IsErrOf, OnErr};
+ghost use Rattle.cell_key.specs.Faults.{HasReason};
+ghost use Rattle.row_atomic.specs.Calls.{OnlyReads};
+ghost use Rattle.row_atomic.specs.Room.{HasNoRoom};
+ghost use Rattle.clean_up.specs.Fates.{HasBadRecord};
+ghost use Rattle.clean_up.specs.Refusals.{IsAdvanceRefusal};
+ghost use Rattle.clean_up.specs.Room.{Does, EditsOf};
+ghost use Rattle.clean_up.specs.Shows.{Advances};
+
+use crate::clearing;
+use crate::fates::{self, Fate};
+use crate::locks::Lock;
+use cell_key::{Moment, Refusal};
+use row_atomic::Rows;
+use si_model::{Cell, CleanReply};
+use std::alloc::Global;
+
+/// A cleaner: the cell that it clears, the lock that it found there, and the fate of that lock's start.
+#[derive(Drop)]
+pub(crate) struct Cleaner {
+    pub(crate) cell: Cell,
+    pub(crate) lock: Lock,
+    pub(crate) fate: Fate,
+}
+
+impl Cleaner {
+    /// Takes the next step.
+    pub(crate) fn advance<R: Rows>(
+        &mut self,
+        alloc: Global,
+        rows: &mut R,
+    ) -> Result<CleanReply, Refusal>
+        ensures step { R.holds rows.old
+            → IfOk result (λ reply. Advances (R.cells rows.old) self.old reply (R.cells rows.new) self.new) }
+        ensures does { IfOk result (λ reply. Does R.holds R.cells R.overfills R.storage
+            (EditsOf (R.holds rows.old) (R.cells rows.old) self.old) reply rows.old rows.new) }
+        ensures err { OnErr result (self.new ≡ self.old) }
+        ensures same { OnErr result (OnlyReads R.holds R.cells R.overfills R.storage rows.old rows.new) }
+        ensures refusal { IfErr result IsAdvanceRefusal }
+        ensures damaged { R.holds rows.old
+            → IfErr result (λ refusal. refusal ≡ Refusal.Damaged → HasBadRecord (R.cells rows.old) self.old.lock.first) }
+        ensures full { IsErrOf result Refusal.MemtableFull
+            → HasNoRoom R.overfills rows.old (EditsOf (R.holds rows.old) (R.cells rows.old) self.old) }
+        ensures reason { HasReason (R.faults rows.old) (R.faults rows.new) result }
+    {
+        match self.fate {
+            Fate::Open => {
+                self.fate = fates::decide(alloc, rows, &self.lock)?;
+                Ok(CleanReply::Decided)
+            }
+            Fate::Forward(commit) => {
+                if clearing::clear(alloc, rows, &self.cell, self.lock.start, Some(commit))? {
+                    Ok(CleanReply::RolledForward(commit.stamp()))
+                } else {
+                    Ok(CleanReply::Gone)
+                }
+            }
+            Fate::Back => {
+                if clearing::clear(alloc, rows, &self.cell, self.lock.start, None)? {
+                    Ok(CleanReply::RolledBack)
+                } else {
+                    Ok(CleanReply::Gone)
+                }
+            }
+        }
+    }
+}

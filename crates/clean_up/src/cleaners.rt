@@ -1,0 +1,164 @@
+//! The cleaners that are open.
+
+ghost use Rattle.std.specs.Prelude.{◌≡◌, ◌+◌, ◌<◌, ◌≤◌, ◌^◌, ◌⊎◌, IfErr, IfOk, IsErrOf, OnErr};
+ghost use Rattle.std.specs.FinMap.{empty};
+ghost use Rattle.cell_key.specs.Faults.{HasReason};
+ghost use Rattle.row_atomic.specs.Calls.{KeepsBelow, OnlyReads};
+ghost use Rattle.row_atomic.specs.Room.{HasNoRoom};
+ghost use Rattle.si_model.specs.Machine as machine;
+ghost use Rattle.si_model.specs.Machine.{State};
+ghost use Rattle.si_model.specs.Reads.{cell_of};
+ghost use Rattle.si_model.specs.Replies.{clean_reply, clean_start_reply, result_reply};
+ghost use Rattle.clean_up.specs.Refusals.{IsBeginRefusal, IsStepRefusal};
+ghost use Rattle.clean_up.specs.Room.{ChangesNext, Does, EditsOfStep, Makes, TakesRoom};
+ghost use Rattle.clean_up.specs.Shows.{InEachShown, IsUnopened, IsUsedUp, SameCleaners, ShowsCleaners, Steps, TouchesFor, is_last};
+
+use crate::cleaner::Cleaner;
+use crate::fates::Fate;
+use crate::locks;
+use cell_key::Refusal;
+use row_atomic::Rows;
+use si_model::{CleanReply, CleanStart, cell_named};
+use std::alloc::Global;
+use std::collections::BTreeMap;
+
+/// The most cleaners that are open at once.
+const MOST_CLEANERS: usize = 1024;
+
+/// The greatest number of a cleaner.
+const MOST_NUMBER: u64 = 9_223_372_036_854_775_807;
+
+/// The open cleaners by their numbers, and the number of the next one (Percolator, clean-up of
+/// locks).
+///
+/// Each call is a step of the snapshot machine: where cells and cleaners show one of its states, the
+/// answer is one that the machine may give there, and they show its next state after. A refusal
+/// leaves all as it was, and the same call may be made again.
+#[derive(Drop)]
+pub struct Cleaners {
+    alloc: Global,
+    next: u64,
+    cleaners: BTreeMap<u64, Cleaner>,
+}
+
+/// Whether a step that is answered so was the cleaner's last.
+fn closes(reply: CleanReply) -> bool
+    ensures { result ≡ is_last reply }
+{
+    !matches!(reply, CleanReply::Decided)
+}
+
+impl Cleaners {
+    /// No cleaners. The first one gets the number 1.
+    pub fn new(alloc: Global) -> Cleaners
+        ensures shown { (st : State) → st.next_cleaner ≡ 1 → st.cleaners ≡ empty → ShowsCleaners result st }
+    {
+        Cleaners {
+            alloc,
+            next: 1,
+            cleaners: BTreeMap::new(alloc),
+        }
+    }
+
+    /// Opens a cleaner for the lock of a cell, whoever holds it: the cleaner's number, from 1 on, and
+    /// the start of the lock's session. `NoLock` where no lock stands.
+    ///
+    /// # Errors
+    ///
+    /// In this order: `BadRow`, `BadColumn`, and where a lock stands `TooManySessions` when 1,024
+    /// cleaners are open; then `Exhausted` after the greatest number, `Device`, `NoMemory`, or
+    /// `Damaged` where bytes that were read are outside their form. There is room for the cleaner
+    /// before its number is drawn.
+    pub fn begin<R: Rows>(
+        &mut self,
+        rows: &mut R,
+        row: &[u8],
+        family: &[u8],
+    ) -> Result<CleanStart, Refusal>
+        ensures step { R.holds rows.old
+            → Steps (R.cells rows.old) self.old (machine.CleanBegin (cell_of row.now family.now))
+            (result_reply clean_start_reply result) (R.cells rows.new) self.new }
+        ensures reads { OnlyReads R.holds R.cells R.overfills R.storage rows.old rows.new }
+        // What is shown is never answered as damaged.
+        ensures undamaged { R.holds rows.old
+            → InEachShown (R.cells rows.old) self.old (λ st. ¬ IsErrOf result Refusal.Damaged) }
+        ensures refusal { IfErr result IsBeginRefusal }
+        ensures err { OnErr result (SameCleaners self.old self.new) }
+        ensures exhausted { IsErrOf result Refusal.Exhausted → (st : State) → ShowsCleaners self.old st → IsUsedUp st }
+        ensures reason { HasReason (R.faults rows.old) (R.faults rows.new) result }
+    {
+        let cell = cell_named(self.alloc, row, family)?;
+        let Some(lock) = locks::standing(self.alloc, rows, &cell)? else {
+            return Ok(CleanStart::NoLock);
+        };
+        if self.cleaners.len() >= MOST_CLEANERS {
+            return Err(Refusal::TooManySessions);
+        }
+        let number = self.next;
+        if number > MOST_NUMBER {
+            return Err(Refusal::Exhausted);
+        }
+        let start = lock.start.stamp();
+        let fate = Fate::Open;
+        self.cleaners.insert(number, Cleaner { cell, lock, fate })?;
+        self.next = number + 1;
+        Ok(CleanStart::Cleaner(number, start))
+    }
+
+    /// Takes the next step of a cleaner. The first one goes to the first cell of the lock's session
+    /// and decides there: where its lock stands, that is erased, and the session is rolled back;
+    /// otherwise it was committed if a write record there names it, and else rolled back. The second
+    /// one goes to the cleaner's cell: the lock gives way to the record of the commit, or is erased,
+    /// or is gone already. The cleaner closes with it. Each step changes one row at most.
+    ///
+    /// # Errors
+    ///
+    /// `UnknownCleaner` where none is open with this number; then `MemtableFull` where the step has
+    /// edits to make and the rows have no room for them, `Device`, `NoMemory`, or `Damaged` where
+    /// bytes that were read are outside their form.
+    pub fn step<R: Rows>(&mut self, rows: &mut R, number: u64) -> Result<CleanReply, Refusal>
+        ensures step { R.holds rows.old
+            → Steps (R.cells rows.old) self.old (machine.CleanStep number)
+            (result_reply clean_reply result) (R.cells rows.new) self.new }
+        // The edits that the cleaner names are made, or nothing is changed.
+        ensures does { IfOk result (λ reply. Does R.holds R.cells R.overfills R.storage
+            (EditsOfStep (R.holds rows.old) (R.cells rows.old) self.old number) reply rows.old rows.new) }
+        ensures same { OnErr result (OnlyReads R.holds R.cells R.overfills R.storage rows.old rows.new) }
+        ensures below { KeepsBelow R.holds R.storage rows.old rows.new }
+        // One row changes, and what joins stands at the stamp of the commit whose mark goes.
+        ensures touched { R.holds rows.old
+            → InEachShown (R.cells rows.old) self.old (λ st.
+            TouchesFor st number (R.cells rows.old) (R.cells rows.new)) }
+        // What changes are the edits of the cleaner's next step, and nothing else.
+        ensures made { R.holds rows.old
+            → IfOk result (λ reply. InEachShown (R.cells rows.old) self.old (λ st.
+            Makes (ChangesNext st number) reply (R.cells rows.old) (R.cells rows.new))) }
+        // What is shown is never answered as damaged.
+        ensures undamaged { R.holds rows.old
+            → InEachShown (R.cells rows.old) self.old (λ st. ¬ IsErrOf result Refusal.Damaged) }
+        ensures refusal { IfErr result IsStepRefusal }
+        ensures err { OnErr result (SameCleaners self.old self.new) }
+        ensures unknown { (st : State)
+            → ShowsCleaners self.old st → IsUnopened st number → IsErrOf result Refusal.UnknownCleaner }
+        // A step is refused MemtableFull where the rows have no room for the edits that its cleaner names.
+        ensures full { IsErrOf result Refusal.MemtableFull
+            → HasNoRoom R.overfills rows.old (EditsOfStep (R.holds rows.old) (R.cells rows.old) self.old number) }
+        ensures full_shown { R.holds rows.old
+            → IsErrOf result Refusal.MemtableFull
+            → InEachShown (R.cells rows.old) self.old (λ st. HasNoRoom R.overfills rows.old (ChangesNext st number)) }
+        // A step that makes edits takes their room, and no other takes any.
+        ensures room { R.holds rows.old
+            → IfOk result (λ reply. InEachShown (R.cells rows.old) self.old (λ st.
+            TakesRoom R.overfills (ChangesNext st number) reply rows.old rows.new)) }
+        ensures reason { HasReason (R.faults rows.old) (R.faults rows.new) result }
+    {
+        let Some(cleaner) = self.cleaners.get_mut(&number) else {
+            return Err(Refusal::UnknownCleaner);
+        };
+        let reply = cleaner.advance(self.alloc, rows)?;
+        if closes(reply) {
+            self.cleaners.remove(&number);
+        }
+        Ok(reply)
+    }
+}

@@ -1,0 +1,65 @@
+//! A lock taken off a cell, alone or with a write record in its place.
+
+ghost use Rattle.std.specs.Prelude.{◌≡◌, IfErr, IfOk, IsErrOf, OnErr};
+ghost use Rattle.std.specs.Bool.{OnFalse, OnTrue};
+ghost use Rattle.std.specs.List.{AllByRecursion};
+ghost use Rattle.cell_key.specs.Cells.{IsEditOf};
+ghost use Rattle.cell_key.specs.Faults.{HasReason};
+ghost use Rattle.row_atomic.specs.Calls.{AppliesSuch, OnlyReads};
+ghost use Rattle.row_atomic.specs.Room.{HasNoRoom};
+ghost use Rattle.si_model.specs.Reads.{IsGone};
+ghost use Rattle.clean_up.specs.Refusals.{IsRowRefusal};
+ghost use Rattle.clean_up.specs.Room.{ClearsCell, IsClearing};
+
+use cell_key::{Edit, Moment, Qualifier, Refusal};
+use row_atomic::Rows;
+use si_model::{Cell, erasing, recording};
+use std::alloc::Global;
+
+/// The edits that put the record of a commit in the place of a lock or, where there is none, erase
+/// the lock.
+fn clearing(
+    alloc: Global,
+    cell: &Cell,
+    start: Moment,
+    commit: Option<Moment>,
+) -> Result<Vec<Edit>, Refusal>
+    ensures clearing { IfOk result (λ edits. IsClearing cell.now start commit edits.items) }
+    ensures under { IfOk result (λ edits. AllByRecursion (IsEditOf cell.now.row) edits.items) }
+    ensures refusal { IfErr result (λ refusal. refusal ≡ Refusal.NoMemory) }
+{
+    match commit {
+        Some(commit) => recording(alloc, cell, start, commit),
+        None => erasing(alloc, cell, start),
+    }
+}
+
+/// Takes the lock of a start off a cell, if it stands, and says whether it did. The record of a
+/// commit takes its place; where there is none, nothing does.
+pub(crate) fn clear<R: Rows>(
+    alloc: Global,
+    rows: &mut R,
+    cell: &Cell,
+    start: Moment,
+    commit: Option<Moment>,
+) -> Result<bool, Refusal>
+    ensures made { IfOk result (λ stood. OnTrue stood (AppliesSuch R.holds R.cells R.overfills R.storage
+        (ClearsCell (R.holds rows.old) (R.cells rows.old) cell.now start commit) rows.old rows.new)) }
+    ensures gone { R.holds rows.old → IfOk result (λ stood. OnFalse stood (IsGone (R.cells rows.old) cell.now start)) }
+    ensures left { IfOk result (λ stood. OnFalse stood (OnlyReads R.holds R.cells R.overfills R.storage rows.old rows.new)) }
+    ensures err { OnErr result (OnlyReads R.holds R.cells R.overfills R.storage rows.old rows.new) }
+    ensures refusal { IfErr result (IsRowRefusal (R.holds rows.old)) }
+    ensures full { IsErrOf result Refusal.MemtableFull
+        → HasNoRoom R.overfills rows.old
+        (ClearsCell (R.holds rows.old) (R.cells rows.old) cell.now start commit) }
+    ensures reason { HasReason (R.faults rows.old) (R.faults rows.new) result }
+{
+    let stamp = start.stamp();
+    let lock = rows.newest(&cell.row, &cell.family, Qualifier::Lock, stamp, stamp)?;
+    if lock.is_none() {
+        return Ok(false);
+    }
+    let edits = clearing(alloc, cell, start, commit)?;
+    rows.apply(&cell.row, edits)?;
+    Ok(true)
+}

@@ -1,0 +1,80 @@
+//! The fate of a start, as its first cell tells it.
+
+ghost use Rattle.std.specs.Prelude.{◌≡◌, IfErr, IfOk, IsErrOf, OnErr};
+ghost use Rattle.cell_key.specs.Faults.{HasReason};
+ghost use Rattle.row_atomic.specs.Calls.{OnlyReads};
+ghost use Rattle.row_atomic.specs.Refusals.{IsReadRefusal};
+ghost use Rattle.row_atomic.specs.Room.{HasNoRoom};
+ghost use Rattle.si_model.specs.Edits.{ErasesCell};
+ghost use Rattle.clean_up.specs.Fates.{Decides, HasBadRecord, IsToldBy};
+ghost use Rattle.clean_up.specs.Refusals.{IsAdvanceRefusal};
+
+use crate::clearing;
+use crate::locks::Lock;
+use cell_key::{Moment, Qualifier, Refusal};
+use row_atomic::{Rows, oldest};
+use si_model::{Cell, named_start};
+use std::alloc::Global;
+
+/// What a cleaner has found of the fate of its lock's start.
+#[derive(Clone, Copy, Drop)]
+pub(crate) enum Fate {
+    /// Nothing yet: its first step is to come.
+    Open,
+    /// The start was committed at this stamp.
+    Forward(Moment),
+    /// The start was rolled back.
+    Back,
+}
+
+/// What the write records of its first cell tell of a start whose lock is gone there: the first one
+/// above a start names it, or none does. `Damaged` where that record names no start.
+fn recorded<R: Rows>(rows: &mut R, first: &Cell, start: Moment) -> Result<Fate, Refusal>
+    ensures found { R.holds rows.old → IfOk result (IsToldBy (R.cells rows.old) first.now start) }
+    ensures reads { OnlyReads R.holds R.cells R.overfills R.storage rows.old rows.new }
+    ensures refusal { IfErr result IsReadRefusal }
+    ensures damaged { R.holds rows.old
+        → IfErr result (λ refusal. refusal ≡ Refusal.Damaged → HasBadRecord (R.cells rows.old) first.now) }
+    ensures reason { HasReason (R.faults rows.old) (R.faults rows.new) result }
+{
+    let start = start.stamp();
+    let next = oldest(
+        rows,
+        &first.row,
+        &first.family,
+        Qualifier::Write,
+        start + 1,
+        u64::MAX,
+    )?;
+    let Some((commit, record)) = next else {
+        return Ok(Fate::Back);
+    };
+    let Some(named) = named_start(&record) else {
+        return Err(Refusal::Damaged);
+    };
+    if named == start {
+        Ok(Fate::Forward(Moment::new(commit)))
+    } else {
+        Ok(Fate::Back)
+    }
+}
+
+/// Decides the fate of a lock's start at its first cell. Where its lock stands there, that is
+/// erased, and the start is rolled back. Otherwise the cell's records tell its fate.
+pub(crate) fn decide<R: Rows>(alloc: Global, rows: &mut R, lock: &Lock) -> Result<Fate, Refusal>
+    ensures decided { IfOk result (λ fate.
+        Decides R.holds R.cells R.overfills R.storage lock.now fate rows.old rows.new) }
+    ensures err { OnErr result (OnlyReads R.holds R.cells R.overfills R.storage rows.old rows.new) }
+    ensures refusal { IfErr result IsAdvanceRefusal }
+    ensures damaged { R.holds rows.old
+        → IfErr result (λ refusal. refusal ≡ Refusal.Damaged → HasBadRecord (R.cells rows.old) lock.now.first) }
+    ensures full { IsErrOf result Refusal.MemtableFull
+        → HasNoRoom R.overfills rows.old
+        (ErasesCell (R.holds rows.old) (R.cells rows.old) lock.now.first lock.now.start) }
+    ensures reason { HasReason (R.faults rows.old) (R.faults rows.new) result }
+{
+    if clearing::clear(alloc, rows, &lock.first, lock.start, None)? {
+        return Ok(Fate::Back);
+    }
+    recorded(rows, &lock.first, lock.start)
+}

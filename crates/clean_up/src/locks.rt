@@ -1,0 +1,45 @@
+//! The lock that stands on a cell.
+
+ghost use Rattle.std.specs.Prelude.{◌≡◌, IfErr, IfOk};
+ghost use Rattle.cell_key.specs.Faults.{HasReason};
+ghost use Rattle.row_atomic.specs.Calls.{OnlyReads};
+ghost use Rattle.row_atomic.specs.Refusals.{IsReadRefusal};
+ghost use Rattle.clean_up.specs.Locks.{IsStanding, LacksPlace};
+
+use cell_key::{Moment, Qualifier, Refusal};
+use row_atomic::Rows;
+use si_model::Cell;
+use std::alloc::Global;
+
+/// A lock: its start, and the first cell that its session writes.
+#[derive(Drop)]
+pub(crate) struct Lock {
+    pub(crate) start: Moment,
+    pub(crate) first: Cell,
+}
+
+/// The lock that stands on a cell, if one does. `Damaged` where it names no cell.
+pub(crate) fn standing<R: Rows>(
+    alloc: Global,
+    rows: &mut R,
+    cell: &Cell,
+) -> Result<Option<Lock>, Refusal>
+    ensures found { R.holds rows.old → IfOk result (IsStanding (R.cells rows.old) cell.now) }
+    ensures reads { OnlyReads R.holds R.cells R.overfills R.storage rows.old rows.new }
+    ensures refusal { IfErr result IsReadRefusal }
+    ensures damaged { R.holds rows.old
+        → IfErr result (λ refusal. refusal ≡ Refusal.Damaged → LacksPlace (R.cells rows.old) cell.now) }
+    ensures reason { HasReason (R.faults rows.old) (R.faults rows.new) result }
+{
+    let lock = rows.newest(&cell.row, &cell.family, Qualifier::Lock, 0, u64::MAX)?;
+    let Some((start, text)) = lock else {
+        return Ok(None);
+    };
+    let Some((row, family)) = cell_key::decode_place(alloc, &text)? else {
+        return Err(Refusal::Damaged);
+    };
+    Ok(Some(Lock {
+        start: Moment::new(start),
+        first: Cell { row, family },
+    }))
+}
