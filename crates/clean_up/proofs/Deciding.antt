@@ -187,8 +187,12 @@ module _ (cells : Cells) (cleaner : Cleaner) (st : State) (i : ℕ) (reached : I
 
   -- the record of the commit takes its place
   forward_at : (c : ℕ) → cleaner.fate ≡ Forward c → IsThere cells x column.Lock t → Takes st i (recorded_cells cells x t c) cleaner (clean.RolledForward c)
-  forward_at c is there = (cleared, s, shows_recorded cells st cleared (goes reached s) store x t made_of (marked there) less is_in refl names (λ b i. i) (λ b i. inl i) one_stamp one_start (λ y names left. is_in),
-      record { cleaners = refl; next_cleaner = refl; knows = λ e. absurd (not_open e) })
+  forward_at c is there = (
+    cleared,
+    s,
+    shows_recorded cells st cleared (goes reached s) store x t made_of (marked there) less is_in refl names (λ b i. i) (λ b i. inl i) one_stamp one_start (λ y names left. is_in),
+    record { cleaners = refl; next_cleaner = refl; knows = λ e. absurd (not_open e) },
+  )
     where
       committed : CommittedAt st t c
       committed = right (Forward c) is there
