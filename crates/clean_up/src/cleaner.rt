@@ -45,7 +45,8 @@ impl Cleaner {
             → HasNoRoom R.overfills rows.old (EditsOf (R.holds rows.old) (R.cells rows.old) self.old) }
         ensures reason { HasReason (R.faults rows.old) (R.faults rows.new) result }
     {
-        match self.fate {
+        let fate = self.fate;
+        match fate {
             Fate::Open => {
                 self.fate = fates::decide(alloc, rows, &self.lock)?;
                 Ok(CleanReply::Decided)
