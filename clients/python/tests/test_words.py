@@ -102,7 +102,7 @@ class Words(unittest.TestCase):
             ("begin", "session 3"),
             ("in 3 set Bob bal 20", "set"),
             ("in 3 step", "held 1 of 1"),
-            ("clean Bob bal", "rolled back"),
+            ("clean Bob bal", "gone"),
             ("clean Bob bal", "no lock"),
             ("in 3 step", "stamped 4"),
             ("in 3 step", "lost"),

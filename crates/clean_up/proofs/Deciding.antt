@@ -1,12 +1,12 @@
 -- The steps of one cleaner, where cells and cleaner show the machine's state.
-use Rattle.std.proofs.Common.{◌≡◌, ◌≢◌, ℕ, ◌+◌, ◌-◌, ◌<◌, ◌≤◌, ◌^◌, ◌⊎◌, inl, inr, Bool, true, false, List, [], ◌∷◌, length, Option, Some, None, refl, sym, ap, subst, ◌∙◌, arith}
+use Rattle.std.proofs.Common.{◌≡◌, ◌≢◌, ℕ, ◌<◌, ◌≤◌, ◌^◌, ◌⊎◌, inl, inr, Bool, true, false, List, [], ◌∷◌, length, Option, Some, None, refl, sym, ap, subst, ◌∙◌, arith}
 use Rattle.std.specs.FinMap as finmap
 use Rattle.std.proofs.lemmas.Bool.{cases_lt}
 use Rattle.std.proofs.lemmas.List.{append-nil}
 use Rattle.std.proofs.lemmas.Option.{none-some, same_Some}
 use Rattle.byteorder.specs.Endian.{big_number, big_from}
 use Rattle.byteorder.specs.Numbers.{big_number-reads_back, length-bytes_high_first}
-use Rattle.cell_key.specs.Cells.{Cells, after_edits}
+use Rattle.cell_key.specs.Cells.{Cells}
 use Rattle.cell_key.specs.declared.edits.Edit.{Edit}
 use Rattle.cell_key.specs.declared.keys.Qualifier.TheVariants as column
 use Rattle.row_atomic.specs.Calls.{AppliesSuch, OnlyReads}
@@ -34,7 +34,7 @@ use Rattle.si_model.proofs.Tools.{same_entry}
 use Rattle.si_model.proofs.Without.{without}
 use Rattle.clean_up.specs.Fates.{Decides, IsNextRecord, IsToldBy, NamesStart, verdict_of}
 use Rattle.clean_up.specs.Room.{ClearsCell}
-use Rattle.clean_up.specs.Shows.{Advances, Follows, ShowsCleaner, cleaner_of, is_decided, is_last}
+use Rattle.clean_up.specs.Shows.{Advances, Follows, ShowsCleaner, cleaner_of, is_decided}
 use Rattle.clean_up.specs.declared.cleaner.Cleaner.{Cleaner}
 use Rattle.clean_up.specs.declared.fates.Fate.{Fate}
 use Rattle.clean_up.specs.declared.fates.Fate.TheVariants.{Open, Forward, Back}

@@ -12,7 +12,7 @@ use Rattle.row_atomic.specs.Room.{HasNoRoom, TakesRoomOf}
 use Rattle.row_atomic.proofs.Calls.{such_so}
 use Rattle.si_model.specs.Deciding.{IsRight}
 use Rattle.si_model.specs.Edits.{ErasesCell}
-use Rattle.si_model.specs.Machine.{State, IsReached, Marked}
+use Rattle.si_model.specs.Machine.{State, Marked}
 use Rattle.si_model.specs.ShowsCells.{ShowsCells, IsThere, Touches}
 use Rattle.si_model.specs.declared.replies.CleanReply.{CleanReply}
 use Rattle.si_model.specs.declared.replies.CleanReply.TheVariants as clean
@@ -20,7 +20,7 @@ use Rattle.si_model.specs.declared.replies.Cell.{Cell}
 use Rattle.si_model.proofs.Editing.{make_cells}
 use Rattle.si_model.proofs.ShownTouched.{touches_erased, touches_recorded}
 use Rattle.clean_up.specs.Fates.{HasBadRecord, verdict_of}
-use Rattle.clean_up.specs.Room.{ChangesNext, ChangesOf, Does, EditsIn, EditsOf, EditsOfStep, Makes, TakesRoom}
+use Rattle.clean_up.specs.Room.{ChangesNext, ChangesOf, Does, EditsIn, EditsOf, Makes, TakesRoom}
 use Rattle.clean_up.specs.Shows.{ShowsCleaner, ShowsCleaners, TouchesFor, cleaner_of, is_decided}
 use Rattle.clean_up.specs.declared.cleaner.Cleaner.{Cleaner}
 use Rattle.clean_up.specs.declared.cleaners.Cleaners.{Cleaners}

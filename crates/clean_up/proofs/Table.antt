@@ -1,5 +1,5 @@
 -- The cleaners in their map, before and after a step of the machine.
-use Rattle.std.proofs.Common.{◌≡◌, ◌≢◌, ℕ, ◌+◌, ◌-◌, ◌<◌, ◌≤◌, ◌^◌, ◌⊎◌, inl, inr, Bool, true, false, cond, List, [], length, Option, Some, None, refl, sym, ap, subst, ◌∙◌, arith}
+use Rattle.std.proofs.Common.{◌≡◌, ◌≢◌, ℕ, ◌+◌, ◌-◌, ◌<◌, ◌≤◌, ◌^◌, inl, inr, Bool, true, false, cond, [], length, Option, Some, None, refl, sym, ap, subst, ◌∙◌, arith}
 use Rattle.std.specs.Prelude.{is_some, if◌then◌else◌}
 use Rattle.std.specs.Ordering.{nat_cmp, is_eq}
 use Rattle.std.specs.Cmp.{nat_cmp_total}
@@ -19,7 +19,6 @@ use Rattle.cell_key.specs.declared.refusals.Refusal.TheVariants.{BadRow, BadColu
 use Rattle.cell_key.proofs.Order.{one_place_a_text}
 use Rattle.row_atomic.specs.Refusals.{IsReadRefusal}
 use Rattle.si_model.specs.Deciding.{CleanersKnow}
-use Rattle.si_model.specs.Kinds.{OfCleaners, kind_of}
 use Rattle.si_model.specs.Laws.{IsWritable}
 use Rattle.si_model.specs.Machine as machine
 use Rattle.si_model.specs.Machine.{State, Request, Reply, Step, accepts, refuses, tells, IsReached, IsStorageRefusal, Marked, Refused, end_of_stamps}
@@ -42,7 +41,7 @@ use Rattle.si_model.proofs.Tools.{eq_test, ne_test, get_same, get_other, get_rem
 use Rattle.clean_up.specs.Fates.{verdict_of}
 use Rattle.clean_up.specs.Locks.{IsStanding, LacksPlace, Stands}
 use Rattle.clean_up.specs.Refusals.{IsAdvanceRefusal}
-use Rattle.clean_up.specs.Shows.{Advances, AreShownOn, AreShownSame, Follows, IsUnopened, IsUsedUp, KnowsItsLock, SameCleaners, ShowsAt, ShowsCleaner, ShowsCleaners, Steps, cleaner_of, is_last}
+use Rattle.clean_up.specs.Shows.{Advances, AreShownOn, AreShownSame, Follows, KnowsItsLock, SameCleaners, ShowsAt, ShowsCleaner, ShowsCleaners, Steps, cleaner_of, is_last}
 use Rattle.clean_up.specs.declared.cleaner.Cleaner.{Cleaner}
 use Rattle.clean_up.specs.declared.cleaners.Cleaners.{Cleaners}
 use Rattle.clean_up.specs.declared.fates.Fate.TheVariants.{Open}

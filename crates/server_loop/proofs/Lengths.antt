@@ -1,6 +1,8 @@
 -- The body of a reply fits its frame.
 use Rattle.std.proofs.Common.{◌≡◌, ◌+◌, ◌≤◌, ℕ, List, length, Some, None, arith, length-append}
 use Rattle.byteorder.specs.Numbers.{length-bytes_high_first}
+use Rattle.si_model.specs.declared.replies.CleanReply.TheVariants as cleans
+use Rattle.si_model.specs.declared.replies.CleanStart.TheVariants as starts
 use Rattle.si_model.specs.declared.replies.Found.TheVariants as founds
 use Rattle.si_model.specs.declared.replies.Progress.TheVariants as steps
 use Rattle.request_codec.specs.Fields.{number, field}
@@ -34,6 +36,12 @@ fits_frame (kept.Step (steps.Committed s)) h = record { short = omega (arith, le
 fits_frame (kept.Step steps.Lost) h = record { short = omega arith; bytes = tt }
 fits_frame (kept.Step (steps.Finished k n)) h = record { short = omega (arith, length-append (number 2 k) (number 2 n), length-number 2 k, length-number 2 n); bytes = tt }
 fits_frame kept.Stop h = record { short = omega arith; bytes = tt }
+fits_frame (kept.CleanBegin starts.NoLock) h = record { short = omega arith; bytes = tt }
+fits_frame (kept.CleanBegin (starts.Cleaner i t)) h = record { short = omega (arith, length-append (number 8 i) (number 8 t), length-number 8 i, length-number 8 t); bytes = tt }
+fits_frame (kept.CleanStep cleans.Decided) h = record { short = omega arith; bytes = tt }
+fits_frame (kept.CleanStep (cleans.RolledForward c)) h = record { short = omega (arith, length-number 8 c); bytes = tt }
+fits_frame (kept.CleanStep cleans.RolledBack) h = record { short = omega arith; bytes = tt }
+fits_frame (kept.CleanStep cleans.Gone) h = record { short = omega arith; bytes = tt }
 fits_frame kept.Minor h = record { short = omega arith; bytes = tt }
 fits_frame kept.Merge h = record { short = omega arith; bytes = tt }
 fits_frame kept.Major h = record { short = omega arith; bytes = tt }

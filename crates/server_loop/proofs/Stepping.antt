@@ -1,5 +1,5 @@
 -- A server's steps, by those of its sessions.
-use Rattle.std.proofs.Common.{◌≡◌, ◌≢◌, ℕ, List, Option, Some, None, Result, Ok, Err, IsErrOf, refl, ap, ◌∙◌, ◌⊎◌, subst, sym, inl, inr}
+use Rattle.std.proofs.Common.{◌≡◌, ◌≢◌, ℕ, Option, Some, None, Result, Ok, Err, IsErrOf, refl, ap, ◌∙◌, ◌⊎◌, subst, sym, inl, inr}
 use Rattle.std.specs.Prelude.{⊤}
 use Rattle.std.specs.FinMap.{empty, get-empty}
 use Rattle.cell_key.specs.Faults.{HasRisen}

@@ -177,21 +177,20 @@ module _ {F M : Type 0} (contents : F → Option Contents) (old new : Server F M
           λ e. cc,
         )
         | inr put ↦
-        let goes = put.moved in
-        let next = placed before (machine_places new.cluster.places) before.next_tablet in
-        let step = moves_step before old.cluster.places same n server goes.names new.cluster.places table has near goes.moved in
-        (
-          next,
-          step,
-          record {
-            in_order = (kept shown.in_order).0;
-            cleaners = cleaners_stay before next (Move n server) MoveDone old.cleaners new.cleaners reached step places_not_cleaners same_cleaners shown.cleaners;
-            shows = shows_placed before (machine_places new.cluster.places) before.next_tablet _ new.clients new.oracle.last (shows_kept before shown.in_order shown.shows);
-            places = refl;
-            next = move_next before old.cluster.places same n server goes.names new.cluster.places shown.next goes.moved;
-          },
-          λ e. cc,
-        )
+            let goes = put.moved in
+            let next = placed before (machine_places new.cluster.places) before.next_tablet in
+            let step = moves_step before old.cluster.places same n server goes.names new.cluster.places table has near goes.moved in (
+              next,
+              step,
+              record {
+                in_order = (kept shown.in_order).0;
+                cleaners = cleaners_stay before next (Move n server) MoveDone old.cleaners new.cleaners reached step places_not_cleaners same_cleaners shown.cleaners;
+                shows = shows_placed before (machine_places new.cluster.places) before.next_tablet _ new.clients new.oracle.last (shows_kept before shown.in_order shown.shows);
+                places = refl;
+                next = move_next before old.cluster.places same n server goes.names new.cluster.places shown.next goes.moved;
+              },
+              λ e. cc,
+            )
       ]
 
 -- what a name is refused for

@@ -1,4 +1,4 @@
-use Rattle.std.proofs.Common.{refl, sym, ◌∙◌}
+use Rattle.std.proofs.Common.{refl}
 use Rattle.std.proofs.lemmas.Bool.{OnFalse_at, OnTrue_at}
 use Rattle.clean_up.specs.declared.fates.Fate.TheVariants.{Back, Forward}
 use Rattle.clean_up.proofs.Deciding.{back_so, decides_so, forward_so, gone_so}

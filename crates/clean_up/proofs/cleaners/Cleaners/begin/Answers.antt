@@ -1,4 +1,4 @@
-use Rattle.std.proofs.Common.{◌≡◌, ◌∙◌, ◌+◌, sym, ap, subst, refl, Option, ℕ}
+use Rattle.std.proofs.Common.{◌∙◌, ◌+◌, sym, ap, subst, refl, Option}
 use Rattle.std.specs.Prelude.{is_some, if◌then◌else◌}
 use Rattle.std.specs.BTreeMap as btree
 use Rattle.cell_key.specs.Names.{IsRow, IsFamily}

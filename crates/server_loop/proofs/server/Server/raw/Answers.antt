@@ -11,7 +11,8 @@ use Rattle.row_atomic.proofs.Calls.{is_read_refusal, read_undamaged}
 use Rattle.server_loop.specs.Runs.{HasShortValue}
 use Rattle.server_loop.proofs.Causes.{unmet_causes}
 use Rattle.server_loop.proofs.RawReads.{found_outcome, refused_outcome}
-use Rattle.server_loop.proofs.Stepping.{as_err, as_refused, column_not_device, memory_not_device, name_undamaged, named_not, not_done, ok_not, refused_either, row_not_device, spots_in}
+use Rattle.server_loop.proofs.CleanSteps.{spots_in}
+use Rattle.server_loop.proofs.Stepping.{as_err, as_refused, column_not_device, memory_not_device, name_undamaged, named_not, not_done, ok_not, refused_either, row_not_device}
 use Rattle.server_loop.proofs.Upkeeping.{family_whole, raw_unnamed, raw_refused, raw_done, raw_family_named, raw_refuses, raw_row_named, row_whole, tells_as, raw_whole}
 use Rattle.server_loop.proofs.server.Server.raw.Goals as goal
 
