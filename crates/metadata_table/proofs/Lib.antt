@@ -1,5 +1,6 @@
 mod Ends
 mod Members
 mod RangeLemmas
+mod RootLoops
 mod Splits
 mod Tables

@@ -52,12 +52,16 @@ end_at (zero ∷ rest) = do
 end_at (suc zero ∷ rest) = Some (None, rest)
 end_at (suc (suc kind) ∷ rest) = None
 
-unfoldable pub names_at : ℕ → List ℕ → Option (List ℕ × List ℕ)
-names_at zero bytes = Some ([], bytes)
-names_at (suc n) bytes = do
-  first ← number_at w64 bytes
-  others ← names_at n first.1
+-- So many items, one after the other.
+unfoldable pub each_at : {X : Type 0} → (List ℕ → Option (X × List ℕ)) → ℕ → List ℕ → Option (List X × List ℕ)
+each_at read zero bytes = Some ([], bytes)
+each_at read (suc n) bytes = do
+  first ← read bytes
+  others ← each_at read n first.1
   Some (first.0 ∷ others.0, others.1)
+
+abbrev pub names_at : ℕ → List ℕ → Option (List ℕ × List ℕ)
+names_at count bytes = each_at (number_at w64) count bytes
 
 unfoldable pub place_at : List ℕ → Option (PlaceView × List ℕ)
 place_at bytes = do
@@ -68,12 +72,8 @@ place_at bytes = do
   files ← names_at count.0 count.1
   Some (record { tablet = tablet.0; end = end.0; server = server.0; files = files.0 }, files.1)
 
-unfoldable pub places_at : ℕ → List ℕ → Option (List PlaceView × List ℕ)
-places_at zero bytes = Some ([], bytes)
-places_at (suc n) bytes = do
-  first ← place_at bytes
-  others ← places_at n first.1
-  Some (first.0 ∷ others.0, others.1)
+abbrev pub places_at : ℕ → List ℕ → Option (List PlaceView × List ℕ)
+places_at count bytes = each_at place_at count bytes
 
 unfoldable pub root_at : List ℕ → Option RootView
 root_at bytes = do
