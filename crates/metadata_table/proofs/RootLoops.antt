@@ -37,7 +37,3 @@ module _ {X : Type 0} (item : List ℕ → Option (X × List ℕ)) where
       let k : count - i ≡ 0 = omega arith in
       let one : with_front front (each_at item (count - i) bytes) ≡ Some (front, bytes) = rw k (ap (λ (ns : List X). Some (ns, bytes)) (append-nil front)) in
       sym so_far ∙ one
-
-  pub begins : (total : Option (List X × List ℕ)) → with_front [] total ≡ total
-  begins (Some x) = refl
-  begins None = refl

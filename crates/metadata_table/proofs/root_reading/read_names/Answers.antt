@@ -1,12 +1,8 @@
-use Rattle.std.proofs.Common.{◌≡◌, ◌++◌, ◌∷◌, []}
 use Rattle.std.specs.Int.{w64}
 use Rattle.std.proofs.lemmas.Result.{err_from_is_err_and}
 use Rattle.metadata_table.specs.RootReading.{number_at, names_at}
-use Rattle.metadata_table.proofs.RootLoops.{begins, goes_on, ends, is_done}
+use Rattle.metadata_table.proofs.RootLoops.{goes_on, ends, is_done}
 use Rattle.metadata_table.proofs.root_reading.read_names.Goals as goal
-
-pub loop-initial : goal.loop-initial
-loop-initial c = rw c.new.ensures.items (begins (number_at w64) (names_at c.args.count c.args.bytes.now))
 
 pub returns-in_err-name : goal.returns-in_err-name
 returns-in_err-name c =

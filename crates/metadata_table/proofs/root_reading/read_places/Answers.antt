@@ -3,11 +3,8 @@ use Rattle.std.proofs.lemmas.Result.{err_from_is_err_and}
 use Rattle.std.proofs.lemmas.List.{map_push}
 use Rattle.metadata_table.specs.Places.{view_of, views}
 use Rattle.metadata_table.specs.RootReading.{place_at, places_at}
-use Rattle.metadata_table.proofs.RootLoops.{begins, goes_on, ends, is_done}
+use Rattle.metadata_table.proofs.RootLoops.{goes_on, ends, is_done}
 use Rattle.metadata_table.proofs.root_reading.read_places.Goals as goal
-
-pub loop-initial : goal.loop-initial
-loop-initial c = rw c.new.ensures.items (begins place_at (places_at c.args.count c.args.bytes.now))
 
 pub returns-in_err-place : goal.returns-in_err-place
 returns-in_err-place c =

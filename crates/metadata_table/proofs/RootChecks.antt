@@ -1,0 +1,30 @@
+-- What is looked at in lists of places, beside what holds of them.
+use Rattle.std.proofs.Common.{◌≡◌, ◌≢◌, ◌<◌, ◌≤◌, ◌^◌, ℕ, Bool, true, false, List, [], ◌∷◌, length, map, refl, sym, ap, subst, ◌∙◌, arith}
+use Rattle.std.specs.Prelude.{◌↔◌, IsTrue}
+use Rattle.std.specs.List.{AllByRecursion, AllPairs}
+use Rattle.metadata_table.specs.declared.places.Place.{Place}
+use Rattle.metadata_table.specs.Places.{PlaceView, view_of, views}
+use Rattle.metadata_table.specs.Roots.{AreFiles}
+use Rattle.metadata_table.proofs.Members.{pairs_first, pairs_rest, pairs_more}
+
+pub all_mapped : {X Y : Type 0} (f : X → Y) (P : Y → Type 0) (xs : List X) → AllByRecursion (λ x. P (f x)) xs → AllByRecursion P (map f xs)
+all_mapped f P [] h = tt
+all_mapped f P (x ∷ xs) h = (h.0, all_mapped f P xs h.1)
+
+pub all_of_mapped : {X Y : Type 0} (f : X → Y) (P : Y → Type 0) (xs : List X) → AllByRecursion P (map f xs) → AllByRecursion (λ x. P (f x)) xs
+all_of_mapped f P [] h = tt
+all_of_mapped f P (x ∷ xs) h = (h.0, all_of_mapped f P xs h.1)
+
+pub small_files : (next : ℕ) (places : List Place) → AllByRecursion (λ p. AreFiles next p.files) (views places) → AllByRecursion (λ place. length place.files.items < 2 ^ 32) places
+small_files next [] h = tt
+small_files next (p ∷ ps) h = (omega (arith, h.0.few), small_files next ps h.1)
+
+-- two lists of pairs that differ, where the first item differs from the others
+pub differ_step : {X : Type 0} (R : X → X → Type 0) (P : Type 0) (all : List X) (x : X) (xs : List X) → all ≡ x ∷ xs → AllByRecursion (R x) xs → P ↔ AllPairs R all → P ↔ AllPairs R xs
+differ_step R P all x xs e first h = (
+  λ p. pairs_rest R x xs (subst (AllPairs R) e (h.0 p)),
+  λ rest. h.1 (subst (AllPairs R) (sym e) (pairs_more R x xs first rest)),
+)
+
+pub differ_stop : {X : Type 0} (R : X → X → Type 0) (P : Type 0) (all : List X) (x : X) (xs : List X) → all ≡ x ∷ xs → (AllByRecursion (R x) xs → ⊥) → P ↔ AllPairs R all → P → ⊥
+differ_stop R P all x xs e none h p = none (pairs_first R x xs (subst (AllPairs R) e (h.0 p)))
