@@ -114,11 +114,18 @@ fn are_files(names: &[u64], next_name: u64) -> bool
     names.len() <= MOST_FILES && names_differ(names) && are_named(names, next_name)
 }
 
+/// Whether a place has a tablet's files.
+fn has_files(place: &Place, next_name: u64) -> bool
+    ensures { IsTrue result ↔ AreFiles next_name place.now.files.items }
+{
+    are_files(&place.files, next_name)
+}
+
 /// The same of each place.
 fn all_files(places: &[Place], next_name: u64) -> bool
     ensures { IsTrue result ↔ AllByRecursion (λ place. AreFiles next_name place.files.items) places.now }
 {
-    places.iter().all(|place| are_files(&place.files, next_name))
+    places.iter().all(|place| has_files(place, next_name))
 }
 
 /// Whether the files of all places come before the next one.
