@@ -57,9 +57,7 @@ fn tablets_differ(places: &[Place]) -> bool
 fn is_numbered(place: &Place, count: usize) -> bool
     ensures { IsTrue result ↔ IsNumbered count (view_of place.now) }
 {
-    place.tablet >= 1
-        && place.tablet as usize <= count
-        && place.server < MetadataTable::SERVERS
+    place.tablet >= 1 && place.tablet as usize <= count && place.server < MetadataTable::SERVERS
 }
 
 /// The same of each place.
