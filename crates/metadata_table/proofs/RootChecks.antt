@@ -2,9 +2,11 @@
 use Rattle.std.proofs.Common.{◌≡◌, ◌≢◌, ◌<◌, ◌≤◌, ◌^◌, ℕ, Bool, true, false, List, [], ◌∷◌, length, map, refl, sym, ap, subst, ◌∙◌, arith}
 use Rattle.std.specs.Prelude.{◌↔◌, IsTrue}
 use Rattle.std.specs.List.{AllByRecursion, AllPairs}
+use Rattle.std.proofs.lemmas.List.{length-map}
 use Rattle.metadata_table.specs.declared.places.Place.{Place}
 use Rattle.metadata_table.specs.Places.{PlaceView, view_of, views}
-use Rattle.metadata_table.specs.Roots.{AreFiles}
+use Rattle.metadata_table.specs.Roots.{AreFiles, IsNaming}
+use Rattle.metadata_table.specs.Table.{EndsRise, IsNumbered, IsTable, most_tablets}
 use Rattle.metadata_table.proofs.Members.{pairs_first, pairs_rest, pairs_more}
 
 pub all_mapped : {X Y : Type 0} (f : X → Y) (P : Y → Type 0) (xs : List X) → AllByRecursion (λ x. P (f x)) xs → AllByRecursion P (map f xs)
@@ -28,3 +30,23 @@ differ_step R P all x xs e first h = (
 
 pub differ_stop : {X : Type 0} (R : X → X → Type 0) (P : Type 0) (all : List X) (x : X) (xs : List X) → all ≡ x ∷ xs → (AllByRecursion (R x) xs → ⊥) → P ↔ AllPairs R all → P → ⊥
 differ_stop R P all x xs e none h p = none (pairs_first R x xs (subst (AllPairs R) e (h.0 p)))
+
+pub table_when : (places : List Place) → length places ≤ most_tablets → EndsRise (views places) → AllPairs (λ (p q : PlaceView). p.tablet ≢ q.tablet) (views places)
+    → AllByRecursion (λ place. IsNumbered (length places) (view_of place)) places ↔ IsTable (views places)
+table_when places few rising distinct =
+    let count : length (views places) ≡ length places = length-map places view_of in (
+      λ each. record {
+        rising = rising;
+        few = subst (λ (n : ℕ). n ≤ most_tablets) (sym count) few;
+        distinct = distinct;
+        numbered = subst (λ (n : ℕ). AllByRecursion (IsNumbered n) (views places)) (sym count) (all_mapped view_of (IsNumbered (length places)) places each);
+      },
+      λ t. all_of_mapped view_of (IsNumbered (length places)) places (subst (λ (n : ℕ). AllByRecursion (IsNumbered n) (views places)) count t.numbered),
+    )
+
+pub naming_when : (next : ℕ) (places : List Place) → 1 ≤ next → next ≤ 2 ^ 63
+    → AllByRecursion (λ place. AreFiles next place.files.items) places ↔ IsNaming next (views places)
+naming_when next places from to = (
+  λ each. record { from = from; to = to; files = all_mapped view_of (λ (p : PlaceView). AreFiles next p.files) places each },
+  λ n. all_of_mapped view_of (λ (p : PlaceView). AreFiles next p.files) places n.files,
+)

@@ -10,8 +10,9 @@ use Rattle.std.proofs.lemmas.Nat.{from_be_bytes-to_be_bytes_4, from_be_bytes-to_
 use Rattle.cell_key.specs.Entries.{field}
 use Rattle.cell_key.specs.Names.{IsRow}
 use Rattle.metadata_table.specs.Places.{PlaceView}
-use Rattle.metadata_table.specs.Table.{IsNumbered}
-use Rattle.metadata_table.specs.Roots.{RootView, AreFiles, IsSound, IsRoot, OneRoot, end_bytes, files_bytes, place_bytes, places_bytes, root_bytes}
+use Rattle.metadata_table.specs.Table.{IsNumbered, IsTable}
+use Rattle.metadata_table.proofs.Members.{all_implied}
+use Rattle.metadata_table.specs.Roots.{RootView, AreFiles, IsSound, IsRoot, IsNoRoot, OneRoot, end_bytes, files_bytes, place_bytes, places_bytes, root_bytes}
 use Rattle.metadata_table.specs.RootReading.{◌>>=◌, number_at, byte_at, field_at, row_at, end_at, each_at, place_at, root_at}
 
 record IsWide (w : Width) (limit : ℕ) : Type 0 where
@@ -74,3 +75,58 @@ place_again p rest s =
     ∙ ap (λ (t : List ℕ). end_bytes p.end ++ (p.server ∷ t)) (append_assoc (to_be_bytes w32 (length p.files)) names rest)) in
     ap place_at regrouped
     ∙ rw (u32_again p.tablet (end_bytes p.end ++ (p.server ∷ (to_be_bytes w32 (length p.files) ++ (names ++ rest)))) s.tablet, end_again p.end (p.server ∷ (to_be_bytes w32 (length p.files) ++ (names ++ rest))) s.end, u32_again (length p.files) (names ++ rest) s.few, each_again (number_at w64) (to_be_bytes w64) (λ n. n < 2 ^ 64) u64_again p.files rest s.names) refl
+
+each_spells : (next : ℕ) (count : ℕ) (ps : List PlaceView) → next ≤ 2 ^ 63 → count ≤ 1024 → AllByRecursion (IsNumbered count) ps → AllByRecursion (λ p. IfSome p.end IsRow) ps → AllByRecursion (λ p. AreFiles next p.files) ps → AllByRecursion Spells ps
+each_spells next count [] to few numbered ends files = tt
+each_spells next count (p ∷ ps) to few numbered ends files =
+    let tablet = numbered.0.to in
+    let names = files.0.few in (
+      record {
+        tablet = omega (arith, tablet, few);
+        end = ends.0;
+        few = omega (arith, names);
+        names = all_implied (λ n. (1 ≤ n) × (n < next)) (λ n. n < 2 ^ 64) (λ n named. omega (arith, named.1, to)) p.files files.0.named;
+      },
+      each_spells next count ps to few numbered.1 ends.1 files.1,
+    )
+
+pub root_again : (r : RootView) → IsSound r → root_at (root_bytes r) ≡ Some r
+unfolding root_at
+root_again r sound =
+    let foot = codes "TABROOTZ" in
+    let places = flat_map place_bytes r.places in
+    let to = sound.naming.to in
+    let few = sound.table.few in
+    let counted = to_be_bytes w32 (length r.places) ++ (places ++ foot) in
+    let numbered = to_be_bytes w32 (length r.places + 1) ++ counted in
+    let named = to_be_bytes w64 r.next_name ++ numbered in
+    let floored = to_be_bytes w64 r.floor ++ named in
+    let topped = to_be_bytes w64 r.top ++ floored in
+    let spells : AllByRecursion Spells r.places = each_spells r.next_name (length r.places) r.places to few sound.table.numbered sound.ends sound.naming.files in
+    let regrouped : places_bytes r.places ++ foot ≡ numbered =
+    append_assoc (to_be_bytes w32 (length r.places + 1)) (to_be_bytes w32 (length r.places) ++ places) foot
+    ∙ ap (λ (t : List ℕ). to_be_bytes w32 (length r.places + 1) ++ t) (append_assoc (to_be_bytes w32 (length r.places)) places foot) in
+    let whole : root_bytes r ≡ codes "TABROOT1" ++ topped = ap (λ (t : List ℕ). codes "TABROOT1" ++ (to_be_bytes w64 r.top ++ (to_be_bytes w64 r.floor ++ (to_be_bytes w64 r.next_name ++ t)))) regrouped in
+    ap root_at whole
+    ∙ rw (u64_again r.top floored sound.top, u64_again r.floor named sound.floor, u64_again r.next_name numbered (omega (arith, to)), u32_again (length r.places + 1) counted (omega (arith, few)), u32_again (length r.places) (places ++ foot) (omega (arith, few)), each_again place_at place_bytes Spells place_again r.places foot spells) refl
+
+pub read_as : (r : RootView) (bytes : List ℕ) → IsRoot r bytes → root_at bytes ≡ Some r
+read_as r bytes is = ap root_at is.whole ∙ root_again r is.sound
+
+some_inj : {X : Type 0} {x y : X} → Some x ≡ Some y → x ≡ y
+some_inj {X} {x} {y} e = ap (λ (o : Option X). elim o [ Some z ↦ z | None ↦ x ]) e
+
+pub one_root : OneRoot
+one_root a b bytes is_a is_b = some_inj (sym (read_as a bytes is_a) ∙ read_as b bytes is_b)
+
+-- bytes that can't be read are no root
+pub is_not_read : (bytes : List ℕ) → root_at bytes ≡ None → IsNoRoot bytes
+is_not_read bytes none root is =
+    let not : Some root ≡ None = sym (read_as root bytes is) ∙ none in
+    cc
+
+-- bytes that aren't the root of what is read from them are no root
+pub none_or_read : (read : RootView) (bytes : List ℕ) → root_at bytes ≡ Some read → (IsRoot read bytes → ⊥) → IsNoRoot bytes
+none_or_read read bytes e isnt root is =
+    let same : root ≡ read = some_inj (sym (read_as root bytes is) ∙ e) in
+    isnt (subst (λ (r : RootView). IsRoot r bytes) same is)
