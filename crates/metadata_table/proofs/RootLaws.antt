@@ -90,6 +90,12 @@ each_spells next count (p ∷ ps) to few numbered ends files =
       each_spells next count ps to few numbered.1 ends.1 files.1,
     )
 
+head_again : (rest : List ℕ) → number_at w64 (codes "TABROOT1" ++ rest) ≡ Some (from_be_bytes w64 (codes "TABROOT1"), rest)
+head_again rest =
+    let head = codes "TABROOT1" in
+    let long : ltb (length (head ++ rest)) 8 ≡ false = le-ltb _ _ (omega (arith, length-append head rest)) in
+    rw (long) refl
+
 pub root_again : (r : RootView) → IsSound r → root_at (root_bytes r) ≡ Some r
 unfolding root_at
 root_again r sound =
@@ -108,7 +114,7 @@ root_again r sound =
     ∙ ap (λ (t : List ℕ). to_be_bytes w32 (length r.places + 1) ++ t) (append_assoc (to_be_bytes w32 (length r.places)) places foot) in
     let whole : root_bytes r ≡ codes "TABROOT1" ++ topped = ap (λ (t : List ℕ). codes "TABROOT1" ++ (to_be_bytes w64 r.top ++ (to_be_bytes w64 r.floor ++ (to_be_bytes w64 r.next_name ++ t)))) regrouped in
     ap root_at whole
-    ∙ rw (u64_again r.top floored sound.top, u64_again r.floor named sound.floor, u64_again r.next_name numbered (omega (arith, to)), u32_again (length r.places + 1) counted (omega (arith, few)), u32_again (length r.places) (places ++ foot) (omega (arith, few)), each_again place_at place_bytes Spells place_again r.places foot spells) refl
+    ∙ rw (head_again topped, u64_again r.top floored sound.top, u64_again r.floor named sound.floor, u64_again r.next_name numbered (omega (arith, to)), u32_again (length r.places + 1) counted (omega (arith, few)), u32_again (length r.places) (places ++ foot) (omega (arith, few)), each_again place_at place_bytes Spells place_again r.places foot spells) refl
 
 pub read_as : (r : RootView) (bytes : List ℕ) → IsRoot r bytes → root_at bytes ≡ Some r
 read_as r bytes is = ap root_at is.whole ∙ root_again r is.sound
