@@ -1,5 +1,5 @@
 -- What was spelled is read again, so bytes are the root of one table.
-use Rattle.std.proofs.Common.{◌≡◌, ℕ, zero, suc, ◌+◌, ◌^◌, ◌<◌, ◌≤◌, Bool, true, false, ltb, List, [], ◌∷◌, ◌++◌, length, take, drop, Option, Some, None, refl, sym, ap, subst, ◌∙◌, append_assoc, arith}
+use Rattle.std.proofs.Common.{◌≡◌, ℕ, suc, ◌+◌, ◌^◌, ◌<◌, ◌≤◌, false, ltb, List, [], ◌∷◌, ◌++◌, length, Option, Some, None, refl, sym, ap, subst, ◌∙◌, append_assoc, arith}
 use Rattle.std.specs.Prelude.{IfSome, flat_map, codes}
 use Rattle.std.specs.List.{AllByRecursion}
 use Rattle.std.specs.Int.{Width, w32, w64, byte_len, from_be_bytes, to_be_bytes}
@@ -10,10 +10,10 @@ use Rattle.std.proofs.lemmas.Nat.{from_be_bytes-to_be_bytes_4, from_be_bytes-to_
 use Rattle.cell_key.specs.Entries.{field}
 use Rattle.cell_key.specs.Names.{IsRow}
 use Rattle.metadata_table.specs.Places.{PlaceView}
-use Rattle.metadata_table.specs.Table.{IsNumbered, IsTable}
+use Rattle.metadata_table.specs.Table.{IsNumbered}
 use Rattle.metadata_table.proofs.Members.{all_implied}
 use Rattle.metadata_table.specs.Roots.{RootView, AreFiles, IsSound, IsRoot, IsNoRoot, OneRoot, end_bytes, files_bytes, place_bytes, places_bytes, root_bytes}
-use Rattle.metadata_table.specs.RootReading.{◌>>=◌, number_at, byte_at, field_at, row_at, end_at, each_at, place_at, root_at}
+use Rattle.metadata_table.specs.RootReading.{number_at, field_at, row_at, end_at, each_at, place_at, root_at}
 
 record IsWide (w : Width) (limit : ℕ) : Type 0 where
   len : (n : ℕ) → length (to_be_bytes w n) ≡ byte_len w

@@ -1,6 +1,6 @@
 -- Reading a root's bytes from left to right. What is read is held against the spelling afterwards, so that head,
 -- the next tablet's number, foot and what follows it are only passed over here.
-use Rattle.std.specs.Prelude.{◌≡◌, ℕ, zero, suc, List, [], ◌∷◌, length, take, drop, Option, Some, None, Result, Ok, Err, nat_lt, nat_le, ◌&&◌, if◌then◌else◌}
+use Rattle.std.specs.Prelude.{◌≡◌, ℕ, zero, suc, List, [], ◌∷◌, length, take, drop, Option, Some, None, Result, Ok, Err, nat_lt, if◌then◌else◌}
 use Rattle.std.specs.Int.{Width, w32, w64, byte_len, from_be_bytes}
 use Rattle.metadata_table.specs.declared.root_reading.ReadFault.{ReadFault}
 use Rattle.metadata_table.specs.declared.root_reading.ReadFault.TheVariants as fault

@@ -1,5 +1,5 @@
-use Rattle.std.proofs.Common.{rules, ◌≤◌, ◌^◌, length}
-use Rattle.std.specs.Prelude.{IsTrue, ◌↔◌}
+use Rattle.std.proofs.Common.{rules, ◌≤◌, ◌^◌}
+use Rattle.std.specs.Prelude.{◌↔◌}
 use Rattle.std.specs.List.{AllByRecursion}
 use Rattle.metadata_table.specs.Places.{views}
 use Rattle.metadata_table.specs.Roots.{AreFiles, IsNaming}

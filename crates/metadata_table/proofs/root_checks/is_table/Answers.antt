@@ -1,5 +1,5 @@
 use Rattle.std.proofs.Common.{rules, ◌≢◌, ◌≤◌, length}
-use Rattle.std.specs.Prelude.{IsTrue, AllPairs, ◌↔◌}
+use Rattle.std.specs.Prelude.{AllPairs, ◌↔◌}
 use Rattle.std.specs.List.{AllByRecursion}
 use Rattle.metadata_table.specs.Places.{PlaceView, view_of, views}
 use Rattle.metadata_table.specs.Table.{EndsRise, IsNumbered, IsTable, most_tablets}

@@ -1,7 +1,7 @@
-use Rattle.std.proofs.Common.{rules, ◌≡◌, Option, Some, None, sym, subst, ap, ◌∙◌}
-use Rattle.metadata_table.specs.Roots.{RootView, IsRoot}
+use Rattle.std.proofs.Common.{rules, ◌≡◌, Some, None}
+use Rattle.metadata_table.specs.Roots.{IsRoot}
 use Rattle.metadata_table.specs.RootReading.{draft_of, root_at}
-use Rattle.metadata_table.proofs.RootLaws.{read_as, is_not_read, none_or_read}
+use Rattle.metadata_table.proofs.RootLaws.{is_not_read, none_or_read}
 use Rattle.metadata_table.proofs.roots.draft_of_root.Goals as goal
 
 pub returns-else-branch-clause-none : goal.returns-else-branch-clause-none
