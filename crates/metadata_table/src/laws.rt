@@ -1,6 +1,7 @@
 //! Laws of the table and of its tablets' rows. Each is the contract of a function that does nothing.
 
 ghost use Rattle.metadata_table.specs.Ranges.{OneHolder, HolderRange, OneRange, CutRanges, CutRows, SameRanges};
+ghost use Rattle.metadata_table.specs.Roots.{OneRoot};
 
 /// Each row is in the range of one tablet.
 pub fn one_holder()
@@ -31,4 +32,9 @@ pub fn cut_rows()
 /// A move changes no range, and neither does another list of files.
 pub fn same_ranges()
     ensures { SameRanges }
+{}
+
+/// Bytes are the root of one table, with one set of numbers.
+pub fn one_root()
+    ensures { OneRoot }
 {}

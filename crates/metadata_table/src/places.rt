@@ -1,7 +1,7 @@
 //! The place of a tablet.
 
 ghost use Rattle.std.specs.Prelude.{◌≡◌, ◌↔◌, IsTrue, IfOk, Some};
-ghost use Rattle.metadata_table.specs.Places.{view_of};
+ghost use Rattle.metadata_table.specs.Places.{view_of, IsLower};
 ghost use Rattle.metadata_table.specs.Table.{left_part};
 ghost use Rattle.metadata_table.specs.Positions.{ends_before};
 
@@ -26,6 +26,17 @@ impl Place {
         match &self.end {
             Some(end) => end.cmp(row).is_lt(),
             None => false,
+        }
+    }
+
+    /// Whether the end is below that of another place. The infinite end is below none, and all others are below it.
+    pub(crate) fn ends_below(&self, other: &Place) -> bool
+        ensures { IsTrue result ↔ IsLower self.now.end other.now.end }
+    {
+        match (&self.end, &other.end) {
+            (None, _) => false,
+            (Some(_), None) => true,
+            (Some(end), Some(other)) => end.cmp(other).is_lt(),
         }
     }
 

@@ -56,6 +56,14 @@ impl MetadataTable {
         Ok(MetadataTable { places })
     }
 
+    /// The table of these places.
+    pub(crate) fn from_places(places: Vec<Place>) -> MetadataTable
+        requires { IsTable (views places.items) }
+        ensures { result ≡ views places.items }
+    {
+        MetadataTable { places }
+    }
+
     /// How many tablets there are: 1 to 1,024. Takes no memory.
     pub fn len(&self) -> usize
         ensures len { result ≡ length self.now }

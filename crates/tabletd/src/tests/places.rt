@@ -37,3 +37,24 @@ fn places_of_rows(rt: HostRuntime) -> Result<(), Fail> {
     assert!(rt; table.place(5).is_err() && !table.listed(9));
     Ok(())
 }
+
+/// The root of a new store.
+const NEW_ROOT: &[u8] =
+    b"TABROOT1\0\0\0\0\0\0\0\0\0\0\0\0\0\0\0\0\0\0\0\0\0\0\0\x01\0\0\0\x02\0\0\0\x01\0\0\0\x01\x01\0\0\0\0\0TABROOTZ";
+
+/// What is written of a new store is read again. With one more byte behind it, or one less, it is no root.
+#[test]
+fn root_of_a_new_store(rt: HostRuntime) -> Result<(), Fail> {
+    let mut out = Vec::new(rt.alloc());
+    MetadataTable::new(rt.alloc())?.write_root(0, 0, 1, &mut out)?;
+    assert!(rt; out.len() == 58 && out.as_slice() == NEW_ROOT);
+    let root = MetadataTable::read_root(rt.alloc(), &out)?.ok_or("no root")?;
+    assert!(rt; (root.top, root.floor, root.next_name) == (0, 0, 1));
+    let place = root.table.place(1)?;
+    assert!(rt; root.table.len() == 1 && place.end.is_none());
+    assert!(rt; place.server == 0 && place.files.is_empty());
+    out.push(0)?;
+    assert!(rt; MetadataTable::read_root(rt.alloc(), &out)?.is_none());
+    assert!(rt; MetadataTable::read_root(rt.alloc(), &out[..57])?.is_none());
+    Ok(())
+}

@@ -1,0 +1,39 @@
+-- Reading items one after the other, as a loop does.
+use Rattle.std.proofs.Common.{◌≡◌, ℕ, suc, ◌-◌, ◌+◌, ◌≤◌, ◌<◌, List, [], ◌∷◌, ◌++◌, Option, Some, None, refl, sym, ap, ◌∙◌, append_assoc, arith}
+use Rattle.std.proofs.lemmas.List.{append-nil}
+use Rattle.metadata_table.specs.declared.root_reading.ReadFault.{ReadFault}
+use Rattle.metadata_table.specs.declared.root_reading.ReadFault.TheVariants as fault
+use Rattle.metadata_table.specs.RootReading.{◌>>=◌, Fails, each_at}
+
+module _ {X : Type 0} (item : List ℕ → Option (X × List ℕ)) where
+  -- what was read before, and what is still read
+  abbrev pub with_front : List X → Option (List X × List ℕ) → Option (List X × List ℕ)
+  with_front front read = read >>= λ x. Some (front ++ x.0, x.1)
+
+  regroup : (front : List X) (n : X) (read : Option (List X × List ℕ)) → with_front front (read >>= λ x. Some (n ∷ x.0, x.1)) ≡ with_front (front ++ n ∷ []) read
+  regroup front n (Some x) = ap (λ (ns : List X). Some (ns, x.1)) (simp append_assoc)
+  regroup front n None = refl
+
+  pub goes_on : (front : List X) (count i : ℕ) (bytes : List ℕ) (n : X) (after : List ℕ) (total : Option (List X × List ℕ)) → i < count → item bytes ≡ Some (n, after)
+      → with_front front (each_at item (count - i) bytes) ≡ total → with_front (front ++ n ∷ []) (each_at item (count - (i + 1)) after) ≡ total
+  unfolding each_at
+  goes_on front count i bytes n after total lt h so_far =
+      let k : count - i ≡ suc (count - (i + 1)) = omega arith in
+      let one : with_front front (each_at item (count - i) bytes) ≡ with_front (front ++ n ∷ []) (each_at item (count - (i + 1)) after) = rw (k, h) (regroup front n (each_at item (count - (i + 1)) after)) in
+      sym one ∙ so_far
+
+  pub ends : (e : ReadFault) (front : List X) (count i : ℕ) (bytes : List ℕ) (total : Option (List X × List ℕ)) → i < count → Fails e (item bytes)
+      → with_front front (each_at item (count - i) bytes) ≡ total → Fails e total
+  unfolding each_at
+  ends fault.Memory front count i bytes total lt h so_far = tt
+  ends fault.Malformed front count i bytes total lt h so_far =
+      let k : count - i ≡ suc (count - (i + 1)) = omega arith in
+      let one : with_front front (each_at item (count - i) bytes) ≡ None = rw (k, h) refl in
+      sym so_far ∙ one
+
+  pub is_done : (front : List X) (count i : ℕ) (bytes : List ℕ) (total : Option (List X × List ℕ)) → count ≤ i → with_front front (each_at item (count - i) bytes) ≡ total → total ≡ Some (front, bytes)
+  unfolding each_at
+  is_done front count i bytes total le so_far =
+      let k : count - i ≡ 0 = omega arith in
+      let one : with_front front (each_at item (count - i) bytes) ≡ Some (front, bytes) = rw k (ap (λ (ns : List X). Some (ns, bytes)) (append-nil front)) in
+      sym so_far ∙ one

@@ -1,0 +1,195 @@
+//! Reading what the bytes of a root tell.
+
+ghost use Rattle.std.specs.Prelude.{◌≡◌};
+ghost use Rattle.std.specs.Int.{w32, w64};
+ghost use Rattle.metadata_table.specs.Places.{view_of, views};
+ghost use Rattle.metadata_table.specs.RootReading.{Gives, draft_of, number_at, byte_at, field_at, row_at, end_at, names_at, place_at, places_at, root_at};
+ghost use Rattle.metadata_table.specs.declared.root_reading.ReadFault.TheVariants.{Memory};
+
+use crate::places::Place;
+use cell_key::{Refusal, Row};
+use std::alloc::{AllocError, AllocFailed, Global};
+
+/// Why bytes could not be read.
+#[derive(Clone, Copy, Debug)]
+pub(crate) enum ReadFault {
+    /// A growth was refused.
+    Memory,
+    /// They are no root's.
+    Malformed,
+}
+
+impl From<AllocError> for ReadFault {
+    ghost from_gives = { λ _ e. e ≡ Memory };
+
+    fn from(_e: AllocError) -> ReadFault {
+        ReadFault::Memory
+    }
+}
+
+impl<T: Drop> From<AllocFailed<T>> for ReadFault {
+    ghost from_gives = { λ _ e. e ≡ Memory };
+
+    fn from(_e: AllocFailed<T>) -> ReadFault {
+        ReadFault::Memory
+    }
+}
+
+/// What the bytes of a root tell, before it is looked whether they are one.
+#[derive(Drop)]
+pub(crate) struct Draft {
+    pub(crate) top: u64,
+    pub(crate) floor: u64,
+    pub(crate) next_name: u64,
+    pub(crate) places: Vec<Place>,
+}
+
+/// The number of four bytes at the front, and what follows.
+fn read_u32(bytes: &[u8]) -> Result<(u32, &[u8]), ReadFault>
+    ensures { Gives (λ x. (x.0, x.1.now)) result (number_at w32 bytes.now) }
+{
+    if bytes.len() < 4 {
+        return Err(ReadFault::Malformed);
+    }
+    let (front, rest) = bytes.split_at(4);
+    let number = u32::from_be_bytes([front[0], front[1], front[2], front[3]]);
+    Ok((number, rest))
+}
+
+/// The number of eight bytes at the front, and what follows.
+fn read_u64(bytes: &[u8]) -> Result<(u64, &[u8]), ReadFault>
+    ensures { Gives (λ x. (x.0, x.1.now)) result (number_at w64 bytes.now) }
+{
+    if bytes.len() < 8 {
+        return Err(ReadFault::Malformed);
+    }
+    let (front, rest) = bytes.split_at(8);
+    let number = u64::from_be_bytes([
+        front[0], front[1], front[2], front[3], front[4], front[5], front[6], front[7],
+    ]);
+    Ok((number, rest))
+}
+
+/// The byte at the front, and what follows.
+fn read_byte(bytes: &[u8]) -> Result<(u8, &[u8]), ReadFault>
+    ensures { Gives (λ x. (x.0, x.1.now)) result (byte_at bytes.now) }
+{
+    match bytes {
+        [] => Err(ReadFault::Malformed),
+        [byte, rest @ ..] => Ok((*byte, rest)),
+    }
+}
+
+/// The length and as many bytes at the front, and what follows.
+#[tactic(auto, unfolding(crate::specs::RootReading::field_at))]
+fn read_field(bytes: &[u8]) -> Result<(&[u8], &[u8]), ReadFault>
+    ensures { Gives (λ x. (x.0.now, x.1.now)) result (field_at bytes.now) }
+{
+    let (len, rest) = read_u32(bytes)?;
+    let len = len as usize;
+    if rest.len() < len {
+        return Err(ReadFault::Malformed);
+    }
+    Ok(rest.split_at(len))
+}
+
+/// The row at the front, and what follows.
+#[tactic(auto, unfolding(crate::specs::RootReading::row_at))]
+fn read_row(alloc: Global, bytes: &[u8]) -> Result<(Row, &[u8]), ReadFault>
+    ensures { Gives (λ x. (x.0, x.1.now)) result (row_at bytes.now) }
+{
+    let (text, rest) = read_field(bytes)?;
+    if text.len() < 1 {
+        return Err(ReadFault::Malformed);
+    }
+    if text.len() > Row::MOST_BYTES {
+        return Err(ReadFault::Malformed);
+    }
+    match Row::new(alloc, text) {
+        Ok(row) => Ok((row, rest)),
+        Err(_) => Err(ReadFault::Memory),
+    }
+}
+
+/// The end at the front, and what follows.
+#[tactic(auto, unfolding(crate::specs::RootReading::end_at))]
+fn read_end(alloc: Global, bytes: &[u8]) -> Result<(Option<Row>, &[u8]), ReadFault>
+    ensures { Gives (λ x. (x.0, x.1.now)) result (end_at bytes.now) }
+{
+    match bytes {
+        [] => Err(ReadFault::Malformed),
+        [0, rest @ ..] => {
+            let (row, rest) = read_row(alloc, rest)?;
+            Ok((Some(row), rest))
+        }
+        [1, rest @ ..] => Ok((None, rest)),
+        [_, ..] => Err(ReadFault::Malformed),
+    }
+}
+
+/// So many names at the front, and what follows.
+fn read_names(alloc: Global, count: u32, bytes: &[u8]) -> Result<(Vec<u64>, &[u8]), ReadFault>
+    ensures { Gives (λ x. (x.0.items, x.1.now)) result (names_at count bytes.now) }
+{
+    let mut names = Vec::new(alloc);
+    let mut rest = bytes;
+    for _ in 0..count {
+        let (name, after) = read_u64(rest)?;
+        names.push(name)?;
+        rest = after;
+    }
+    Ok((names, rest))
+}
+
+/// The place at the front, and what follows.
+#[tactic(auto, unfolding(crate::specs::RootReading::place_at))]
+fn read_place(alloc: Global, bytes: &[u8]) -> Result<(Place, &[u8]), ReadFault>
+    ensures { Gives (λ x. (view_of x.0, x.1.now)) result (place_at bytes.now) }
+{
+    let (tablet, rest) = read_u32(bytes)?;
+    let (end, rest) = read_end(alloc, rest)?;
+    let (server, rest) = read_byte(rest)?;
+    let (count, rest) = read_u32(rest)?;
+    let (files, rest) = read_names(alloc, count, rest)?;
+    let place = Place {
+        tablet,
+        end,
+        server,
+        files,
+    };
+    Ok((place, rest))
+}
+
+/// So many places at the front, and what follows.
+fn read_places(alloc: Global, count: u32, bytes: &[u8]) -> Result<(Vec<Place>, &[u8]), ReadFault>
+    ensures { Gives (λ x. (views x.0.items, x.1.now)) result (places_at count bytes.now) }
+{
+    let mut places = Vec::new(alloc);
+    let mut rest = bytes;
+    for _ in 0..count {
+        let (place, after) = read_place(alloc, rest)?;
+        places.push(place)?;
+        rest = after;
+    }
+    Ok((places, rest))
+}
+
+/// What the bytes tell where they are a root. Head and foot are passed over.
+#[tactic(auto, unfolding(crate::specs::RootReading::root_at))]
+pub(crate) fn read_draft(alloc: Global, bytes: &[u8]) -> Result<Draft, ReadFault>
+    ensures { Gives draft_of result (root_at bytes.now) }
+{
+    let (_, rest) = read_u64(bytes)?;
+    let (top, rest) = read_u64(rest)?;
+    let (floor, rest) = read_u64(rest)?;
+    let (next_name, rest) = read_u64(rest)?;
+    let (_, rest) = read_u32(rest)?;
+    let (count, rest) = read_u32(rest)?;
+    let (places, _) = read_places(alloc, count, rest)?;
+    Ok(Draft {
+        top,
+        floor,
+        next_name,
+        places,
+    })
+}

@@ -1,0 +1,148 @@
+//! Spelling a root.
+
+ghost use Rattle.std.specs.Prelude.{◌≡◌, ◌≤◌, ◌<◌, ◌+◌, ◌^◌, ◌++◌, length, flat_map, codes, IfOk, IfErr, OnOk, IfSome, IsOkUnless};
+ghost use Rattle.std.specs.List.{AllByRecursion};
+ghost use Rattle.std.specs.Int.{w32, w64, to_be_bytes};
+ghost use Rattle.cell_key.specs.Entries.{field};
+ghost use Rattle.cell_key.specs.Names.{IsRow};
+ghost use Rattle.metadata_table.specs.Places.{view_of, views};
+ghost use Rattle.metadata_table.specs.Roots.{AreEnds, AreFiles, IsNaming, end_bytes, files_bytes, place_bytes, places_bytes, root_bytes};
+ghost use Rattle.metadata_table.specs.Table.{most_tablets};
+
+use crate::places::Place;
+use cell_key::{Refusal, Row};
+use std::alloc::Global;
+
+/// Appends a number of four bytes.
+fn push_u32(out: &mut Vec<u8>, number: u32) -> Result<(), Refusal>
+    ensures ok { OnOk result (out.new.items ≡ out.old.items ++ to_be_bytes w32 number) }
+    ensures memory { IsOkUnless result Refusal.NoMemory }
+{
+    out.extend_from_slice(&number.to_be_bytes())?;
+    Ok(())
+}
+
+/// Appends a number of eight bytes.
+fn push_u64(out: &mut Vec<u8>, number: u64) -> Result<(), Refusal>
+    ensures ok { OnOk result (out.new.items ≡ out.old.items ++ to_be_bytes w64 number) }
+    ensures memory { IsOkUnless result Refusal.NoMemory }
+{
+    out.extend_from_slice(&number.to_be_bytes())?;
+    Ok(())
+}
+
+/// Appends a row behind its length.
+fn push_row(out: &mut Vec<u8>, row: &Row) -> Result<(), Refusal>
+    ensures ok { OnOk result (out.new.items ≡ out.old.items ++ field row.now) }
+    ensures valid { IsRow row.now }
+    ensures memory { IsOkUnless result Refusal.NoMemory }
+{
+    let bytes = row.as_bytes();
+    push_u32(out, bytes.len() as u32)?;
+    out.extend_from_slice(bytes)?;
+    Ok(())
+}
+
+/// Appends the end of a tablet.
+fn push_end(out: &mut Vec<u8>, end: &Option<Row>) -> Result<(), Refusal>
+    ensures ok { OnOk result (out.new.items ≡ out.old.items ++ end_bytes end.now) }
+    ensures valid { OnOk result (IfSome end.now IsRow) }
+    ensures memory { IsOkUnless result Refusal.NoMemory }
+{
+    match end {
+        Some(row) => {
+            out.push(0)?;
+            push_row(out, row)
+        }
+        None => {
+            out.push(1)?;
+            Ok(())
+        }
+    }
+}
+
+/// Appends names.
+fn push_names(out: &mut Vec<u8>, names: &[u64]) -> Result<(), Refusal>
+    ensures ok { OnOk result (out.new.items ≡ out.old.items ++ flat_map (to_be_bytes w64) names.now) }
+    ensures memory { IsOkUnless result Refusal.NoMemory }
+{
+    for name in names {
+        push_u64(out, *name)?;
+    }
+    Ok(())
+}
+
+/// Appends the files of a tablet.
+fn push_files(out: &mut Vec<u8>, names: &[u64]) -> Result<(), Refusal>
+    requires { length names.now < 2 ^ 32 }
+    ensures ok { OnOk result (out.new.items ≡ out.old.items ++ files_bytes names.now) }
+    ensures memory { IsOkUnless result Refusal.NoMemory }
+{
+    push_u32(out, names.len() as u32)?;
+    push_names(out, names)
+}
+
+/// Appends a place.
+fn push_place(out: &mut Vec<u8>, place: &Place) -> Result<(), Refusal>
+    requires { length place.now.files.items < 2 ^ 32 }
+    ensures ok { OnOk result (out.new.items ≡ out.old.items ++ place_bytes (view_of place.now)) }
+    ensures valid { OnOk result (IfSome place.now.end IsRow) }
+    ensures memory { IsOkUnless result Refusal.NoMemory }
+{
+    push_u32(out, place.tablet)?;
+    push_end(out, &place.end)?;
+    out.push(place.server)?;
+    push_files(out, &place.files)
+}
+
+/// Appends places one after the other.
+fn push_each(out: &mut Vec<u8>, places: &[Place]) -> Result<(), Refusal>
+    requires { AllByRecursion (λ place. length place.files.items < 2 ^ 32) places.now }
+    ensures ok { OnOk result (out.new.items ≡ out.old.items ++ flat_map place_bytes (views places.now)) }
+    ensures valid { OnOk result (AreEnds (views places.now)) }
+    ensures memory { IsOkUnless result Refusal.NoMemory }
+{
+    let mut rest = places;
+    'places: while let Some((place, after)) = rest.split_first() {
+        push_place(out, place)?;
+        rest = after;
+    }
+    Ok(())
+}
+
+/// Appends the places of all tablets.
+fn push_places(out: &mut Vec<u8>, places: &[Place]) -> Result<(), Refusal>
+    requires few { length places.now ≤ most_tablets }
+    requires files { AllByRecursion (λ place. length place.files.items < 2 ^ 32) places.now }
+    ensures ok { OnOk result (out.new.items ≡ out.old.items ++ places_bytes (views places.now)) }
+    ensures valid { OnOk result (AreEnds (views places.now)) }
+    ensures memory { IsOkUnless result Refusal.NoMemory }
+{
+    let count = places.len() as u32;
+    push_u32(out, count + 1)?;
+    push_u32(out, count)?;
+    push_each(out, places)
+}
+
+/// The bytes of a root.
+pub(crate) fn root_image(
+    alloc: Global,
+    top: u64,
+    floor: u64,
+    next_name: u64,
+    places: &[Place],
+) -> Result<Vec<u8>, Refusal>
+    requires few { length places.now ≤ most_tablets }
+    requires naming { IsNaming next_name (views places.now) }
+    ensures ok { IfOk result (λ bytes. bytes.items ≡ root_bytes (record { top = top; floor = floor; next_name = next_name; places = views places.now })) }
+    ensures valid { OnOk result (AreEnds (views places.now)) }
+    ensures memory { IfErr result (λ refusal. refusal ≡ Refusal.NoMemory) }
+{
+    let mut out = Vec::from_slice(alloc, b"TABROOT1")?;
+    push_u64(&mut out, top)?;
+    push_u64(&mut out, floor)?;
+    push_u64(&mut out, next_name)?;
+    push_places(&mut out, places)?;
+    out.extend_from_slice(b"TABROOTZ")?;
+    Ok(out)
+}

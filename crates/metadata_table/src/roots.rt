@@ -1,0 +1,114 @@
+//! The root of a store: what it tells, and its bytes.
+
+ghost use Rattle.std.specs.Prelude.{◌≡◌, ◌≤◌, ◌<◌, ◌++◌, ◌↔◌, ◌⊎◌, IsTrue, IfOk, IfErr, IfSome, IfNone, OnOk, OnErr, IsOkUnless, length};
+ghost use Rattle.metadata_table.specs.Roots.{IsNaming, IsNoRoot, IsRoot, IsSound, root_bytes, root_of};
+ghost use Rattle.metadata_table.specs.RootReading.{draft_of};
+
+use crate::root_checks::is_named_table;
+use crate::root_reading::{Draft, ReadFault, read_draft};
+use crate::root_writing::root_image;
+use crate::table::MetadataTable;
+use cell_key::{Refusal, Stamp};
+use std::alloc::Global;
+
+/// What a root tells of a store: the greatest stamp that it answered, the greatest floor of a collector, the
+/// name of its next file, and where its tablets are. Each stamp is 0 where there is none.
+#[derive(Drop)]
+pub struct Root {
+    pub top: Stamp,
+    pub floor: Stamp,
+    pub next_name: u64,
+    pub table: MetadataTable,
+}
+
+/// Whether the bytes are the root of what was read from them.
+fn is_root(alloc: Global, draft: &Draft, bytes: &[u8]) -> Result<bool, Refusal>
+    ensures exact { IfOk result (λ is. IsTrue is ↔ IsRoot (draft_of draft.now) bytes.now) }
+    ensures refusal { IfErr result (λ refusal. refusal ≡ Refusal.NoMemory) }
+{
+    if !is_named_table(&draft.places, draft.next_name) {
+        return Ok(false);
+    }
+    let image = root_image(
+        alloc,
+        draft.top,
+        draft.floor,
+        draft.next_name,
+        &draft.places,
+    )?;
+    Ok(image.as_slice() == bytes)
+}
+
+/// What the bytes tell, if they are a root.
+fn draft_of_root(alloc: Global, bytes: &[u8]) -> Result<Option<Draft>, Refusal>
+    ensures form { IfOk result (λ found. IfSome found (λ draft. IsRoot (draft_of draft) bytes.now)) }
+    ensures none { IfOk result (λ found. IfNone found (IsNoRoot bytes.now)) }
+    ensures refusal { IfErr result (λ refusal. refusal ≡ Refusal.NoMemory) }
+{
+    match read_draft(alloc, bytes) {
+        Ok(draft) => {
+            if is_root(alloc, &draft, bytes)? {
+                Ok(Some(draft))
+            } else {
+                Ok(None)
+            }
+        }
+        Err(ReadFault::Malformed) => Ok(None),
+        Err(ReadFault::Memory) => Err(Refusal::NoMemory),
+    }
+}
+
+impl MetadataTable {
+    /// Appends the bytes of the root that tells of this table and of these numbers. Each tablet has at most 64
+    /// files, each once, whose names are from 1 on and below the next one, which is at most 2^63.
+    ///
+    /// # Errors
+    ///
+    /// `NoMemory` where a growth was refused. `out` has then what it had.
+    pub fn write_root(
+        &self,
+        top: Stamp,
+        floor: Stamp,
+        next_name: u64,
+        out: &mut Vec<u8>,
+    ) -> Result<(), Refusal>
+        requires { IsNaming next_name self.now }
+        ensures ok { OnOk result (out.new.items ≡ out.old.items ++ root_bytes (record { top = top; floor = floor; next_name = next_name; places = self.now })) }
+        ensures sound { OnOk result (IsSound (record { top = top; floor = floor; next_name = next_name; places = self.now })) }
+        ensures err { OnErr result (out.new.items ≡ out.old.items) }
+        ensures refusal { IsOkUnless result Refusal.NoMemory }
+    {
+        let alloc = *out.allocator();
+        let image = root_image(alloc, top, floor, next_name, self.places())?;
+        out.extend_from_slice(&image)?;
+        Ok(())
+    }
+
+    /// What the root tells whose bytes these are, or nothing where they are no root's: one with bytes before its
+    /// head or after its foot is none. It takes as much memory as the bytes a few times over.
+    ///
+    /// # Errors
+    ///
+    /// `NoMemory` where a growth was refused.
+    pub fn read_root(alloc: Global, bytes: &[u8]) -> Result<Option<Root>, Refusal>
+        ensures form { IfOk result (λ found. IfSome found (λ root. IsRoot (root_of root) bytes.now)) }
+        ensures none { IfOk result (λ found. IfNone found (IsNoRoot bytes.now)) }
+        ensures refusal { IfErr result (λ refusal. refusal ≡ Refusal.NoMemory) }
+    {
+        let Some(draft) = draft_of_root(alloc, bytes)? else {
+            return Ok(None);
+        };
+        let Draft {
+            top,
+            floor,
+            next_name,
+            places,
+        } = draft;
+        Ok(Some(Root {
+            top,
+            floor,
+            next_name,
+            table: MetadataTable::from_places(places),
+        }))
+    }
+}
