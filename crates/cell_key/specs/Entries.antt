@@ -49,7 +49,8 @@ IsPlace name [] (suc i) = ⊥
 IsPlace name (e ∷ es) zero = byte_cmp name e.0 ≢ Greater
 IsPlace name (e ∷ es) (suc i) = (byte_cmp name e.0 ≡ Greater) × IsPlace name es i
 
--- the entry that is lent was the first of the old list, and the new list has the others; or nothing was left
+-- the entry that is lent was the first of the old list, and the new list has the others;
+-- or nothing was left
 abbrev pub Takes : Option Entry → List Entry → List Entry → Type 0
 Takes None old new = (old ≡ []) × (new ≡ [])
 Takes (Some entry) old new = old ≡ entry ∷ new
@@ -80,7 +81,9 @@ first_naming (es ∷ lists) name = or_else (entry_of_key es name) (first_naming 
 
 -- a merged list has at each text the entry of the first list that names it, and its texts rise
 abbrev pub MergesLists : Type 0
-MergesLists = (lists : List (List Entry)) → IsRising (merged lists) × ((name : List ℕ) → entry_of_key (merged lists) name ≡ first_naming lists name)
+MergesLists =
+    (lists : List (List Entry)) → IsRising (merged lists)
+    × ((name : List ℕ) → entry_of_key (merged lists) name ≡ first_naming lists name)
 
 -- ---- the cells of a list
 
@@ -96,7 +99,9 @@ first_part (zero ∷ suc mark ∷ rest) = with_byte 0 (first_part rest)
 first_part (suc byte ∷ rest) = with_byte (suc byte) (first_part rest)
 
 abbrev pub qualifier_named : List ℕ → Qualifier
-qualifier_named name = if pointwise nat_eq name (codes "data") then Data else if pointwise nat_eq name (codes "lock") then Lock else Write
+qualifier_named name =
+    if pointwise nat_eq name (codes "data") then Data
+    else if pointwise nat_eq name (codes "lock") then Lock else Write
 
 -- the key whose text the bytes are
 abbrev pub key_of_text : List ℕ → CellKey
@@ -104,7 +109,12 @@ key_of_text bytes =
     let row = first_part bytes in
     let family = first_part row.1 in
     let name = first_part family.1 in
-    record { row = row.0; family = family.0; qualifier = qualifier_named name.0; stamp = 2 ^ 64 - 1 - from_be_bytes w64 name.1 }
+    record {
+      row = row.0;
+      family = family.0;
+      qualifier = qualifier_named name.0;
+      stamp = 2 ^ 64 - 1 - from_be_bytes w64 name.1;
+    }
 
 -- The cells that a list stands for: the first entry of a key decides, and an erasure is no cell.
 abbrev pub cells_of : List Entry → Cells
@@ -119,7 +129,10 @@ value_of (Some value) = value
 
 -- an entry list stands for the values that it has at the texts of keys within the limits
 abbrev pub HasCells : Type 0
-HasCells = (es : List Entry) → AllByRecursion IsEntry es → (key : CellKey) → (IsStored key → get (cells_of es) key ≡ value_of (entry_of_key es (text key))) × (¬ (IsStored key) → get (cells_of es) key ≡ None)
+HasCells =
+    (es : List Entry) → AllByRecursion IsEntry es → (key : CellKey)
+    → (IsStored key → get (cells_of es) key ≡ value_of (entry_of_key es (text key)))
+    × (¬ (IsStored key) → get (cells_of es) key ≡ None)
 
 -- ---- the bytes of an entry in a file
 

@@ -33,12 +33,15 @@ pub record IsPlaceText (bytes : List ℕ) : Type 0 where
 
 -- the texts of two places are equal only where the places are
 abbrev pub OnePlaceAText : Type 0
-OnePlaceAText = (row family row' family' : List ℕ) → IsFamily family → IsFamily family' → place_text row family ≡ place_text row' family'
+OnePlaceAText =
+    (row family row' family' : List ℕ) → IsFamily family → IsFamily family'
+    → place_text row family ≡ place_text row' family'
     → (row ≡ row') × (family ≡ family')
 
 -- the order of rows, and then of families
 abbrev pub place_cmp : Place → Place → Ordering
-place_cmp = then_cmp (on (λ (place : Place). place.0) byte_cmp) (on (λ (place : Place). place.1) byte_cmp)
+place_cmp =
+    then_cmp (on (λ (place : Place). place.0) byte_cmp) (on (λ (place : Place). place.1) byte_cmp)
 
 -- a place comes after another one, or after the start
 abbrev pub IsAfter : Option Place → Place → Type 0
@@ -55,4 +58,5 @@ pub record HasCell (cells : Cells) (place : Place) : Type 0 where
 abbrev pub IsNextCell : Cells → Option Place → Option Place → Type 0
 IsNextCell cells after None = (place : Place) → IsAfter after place → ¬ (HasCell cells place)
 IsNextCell cells after (Some found) =
-    IsAfter after found × HasCell cells found × ((place : Place) → IsAfter after place → place_cmp place found ≡ Less → ¬ (HasCell cells place))
+    IsAfter after found × HasCell cells found × ((place : Place) → IsAfter after place
+    → place_cmp place found ≡ Less → ¬ (HasCell cells place))

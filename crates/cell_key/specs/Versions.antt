@@ -23,4 +23,5 @@ pub record IsVersionIn (lo hi : ℕ) (version : ℕ × List ℕ) : Type 0 where
 
 -- what a cell map has is within the limits
 abbrev pub HasLimits : Cells → Type 0
-HasLimits cells = (key : CellKey) (value : List ℕ) → get cells key ≡ Some value → IsVersion key.stamp value
+HasLimits cells =
+    (key : CellKey) (value : List ℕ) → get cells key ≡ Some value → IsVersion key.stamp value

@@ -40,7 +40,8 @@ impl Moment {
         requires { stamp < 2 ^ 63 }
         ensures next { IfOk result (λ moment. moment ≡ stamp + 1) }
         ensures limit { OnOk result (stamp + 1 < 2 ^ 63) }
-        ensures refusal { IfErr result (λ refusal. (refusal ≡ Refusal.Exhausted) × (stamp ≡ MOST_STAMP)) }
+        ensures refusal { IfErr result (λ refusal. (refusal ≡ Refusal.Exhausted)
+            × (stamp ≡ MOST_STAMP)) }
     {
         if stamp == MOST_STAMP {
             return Err(Refusal::Exhausted);

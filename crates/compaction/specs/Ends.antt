@@ -27,7 +27,10 @@ entries_until end es = filter (λ entry. is_below end entry.0) es
 
 -- A range of what lists mean together is what their ranges mean together.
 abbrev pub MergesRanges : Type 0
-MergesRanges = (from : List ℕ) (end : Option (List ℕ)) (lists : List (List Entry)) → merged (map (λ es. entries_until end (entries_from from es)) lists) ≡ entries_until end (entries_from from (merged lists))
+MergesRanges =
+    (from : List ℕ) (end : Option (List ℕ)) (lists : List (List Entry))
+    → merged (map (λ es. entries_until end (entries_from from es)) lists)
+    ≡ entries_until end (entries_from from (merged lists))
 
 abbrev pub lent_until : Option (List ℕ) → Option Entry → Option Entry
 lent_until end None = None
@@ -38,7 +41,9 @@ abbrev pub is_at_end : Option (List ℕ) → Option Entry → Bool
 is_at_end end None = false
 is_at_end end (Some entry) = not (is_below end entry.0)
 
-pub until_list : (end : Option (List ℕ)) (lent : Option Entry) (es : List Entry) → IsEntryList (pending lent es) → IsEntryList (pending (lent_until end lent) (entries_until end es))
+pub until_list : (end : Option (List ℕ)) (lent : Option Entry) (es : List Entry)
+    → IsEntryList (pending lent es)
+    → IsEntryList (pending (lent_until end lent) (entries_until end es))
 until_list end None es h = filter-list (λ entry. is_below end entry.0) es h
 until_list end (Some entry) es h =
     elim (is_below end entry.0) as (λ b. is_below end entry.0 ≡ b → IsEntryList (pending (cond b (Some entry) None) (entries_until end es))) [

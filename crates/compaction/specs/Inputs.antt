@@ -26,6 +26,7 @@ abbrev pub input_left : (FileCursor → ℕ) → Input → ℕ
 input_left left (Memtable s) = length s.1
 input_left left (File s) = left s
 
-pub input_list : (told : Option Contents) (s : Input) → InputHolds told s → IsEntryList (pending (input_lent s) (input_remaining told s))
+pub input_list : (told : Option Contents) (s : Input) → InputHolds told s
+    → IsEntryList (pending (input_lent s) (input_remaining told s))
 input_list told (Memtable s) h = h
 input_list told (File s) h = cursor_list told s h

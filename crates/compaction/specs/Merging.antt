@@ -38,7 +38,8 @@ module _ {S : Type 0} (lent : S → Option Entry) (remaining : S → List Entry)
 
   -- the entries of the sources, without those of the key that the merge is at
   abbrev pub merge_remaining : List S → ℕ → List Entry
-  merge_remaining sources at = merged (map (λ s. past_lent (lent_at lent sources at) (waiting s)) sources)
+  merge_remaining sources at =
+      merged (map (λ s. past_lent (lent_at lent sources at) (waiting s)) sources)
 
   -- each source stands for its list, and the merge is at the least entry, if it is at one
   pub record MergeHolds (holds : S → Type 0) (sources : List S) (at : ℕ) : Type 0 where

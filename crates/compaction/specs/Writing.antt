@@ -24,16 +24,24 @@ written keep_erasures lists = kept keep_erasures (merged lists)
 
 -- what is written of entry lists is an entry list
 abbrev pub WritesEntryLists : Type 0
-WritesEntryLists = (keep_erasures : Bool) (lists : List (List Entry)) → AllByRecursion IsEntryList lists → IsEntryList (written keep_erasures lists)
+WritesEntryLists =
+    (keep_erasures : Bool) (lists : List (List Entry)) → AllByRecursion IsEntryList lists
+    → IsEntryList (written keep_erasures lists)
 
 -- one entry list is written as it is, where erasures are kept
 abbrev pub KeepsOneList : Type 0
 KeepsOneList = (es : List Entry) → IsEntryList es → written true (es ∷ []) ≡ es
 
--- At each text there is the value of the first list that names it, and its erasure too where they are kept.
+-- At each text there is the value of the first list that names it,
+-- and its erasure too where they are kept.
 abbrev pub NamesFirst : Type 0
-NamesFirst = (lists : List (List Entry)) (name : List ℕ) → (entry_of_key (written true lists) name ≡ first_naming lists name) × ((keep_erasures : Bool) → value_of (entry_of_key (written keep_erasures lists) name) ≡ value_of (first_naming lists name))
+NamesFirst =
+    (lists : List (List Entry)) (name : List ℕ)
+    → (entry_of_key (written true lists) name ≡ first_naming lists name)
+    × ((keep_erasures : Bool) → value_of (entry_of_key (written keep_erasures lists) name)
+    ≡ value_of (first_naming lists name))
 
-pub kept_list : (keep_erasures : Bool) (lent : Option Entry) (es : List Entry) → IsEntryList (pending lent es) → IsEntryList (pending lent (kept keep_erasures es))
+pub kept_list : (keep_erasures : Bool) (lent : Option Entry) (es : List Entry)
+    → IsEntryList (pending lent es) → IsEntryList (pending lent (kept keep_erasures es))
 kept_list keep_erasures None es h = filter-list (is_kept keep_erasures) es h
 kept_list keep_erasures (Some entry) es h = front-list (is_kept keep_erasures) entry es h

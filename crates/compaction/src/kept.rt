@@ -62,5 +62,6 @@ impl<F: Files, S: Source<F>> Source<F> for Kept<S> {
         self.source.current()
     }
 
-    ghost list = { λ told s h. kept_list s.keep_erasures (S.lent s.source) (S.remaining told s.source) (S.list told s.source h) };
+    ghost list = { λ told s h. kept_list
+        s.keep_erasures (S.lent s.source) (S.remaining told s.source) (S.list told s.source h) };
 }

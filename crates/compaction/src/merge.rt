@@ -67,11 +67,14 @@ fn step_all<F: Files, S: Source<F>>(sources: &mut [S], files: &mut F) -> Result<
     ensures files { F.contents files.new ≡ F.contents files.old }
     ensures reason { HasReason (F.faults files.old) (F.faults files.new) result }
     ensures refusal { IfErr result IsReadRefusal }
-    ensures cost { OnOk result (sum_by (λ s. cost (S.left s) (S.lent s)) sources.new + sum_by (λ s. one (S.lent s)) sources.new
+    ensures cost { OnOk result (sum_by (λ s. cost (S.left s) (S.lent s)) sources.new
+        + sum_by (λ s. one (S.lent s)) sources.new
         ≤ sum_by (λ s. cost (S.left s) (S.lent s)) sources.old) }
     ensures steps { OnOk result (AreAtStart S.lent (S.holds (F.contents files.old)) sources.old
-        → AllZip (StepsTo S.lent (S.remaining (F.contents files.old)) (S.holds (F.contents files.old)) None) sources.old sources.new) }
-    ensures damaged { IsErrOf result Refusal.Damaged → ¬ AllByRecursion (S.holds (F.contents files.old)) sources.old }
+        → AllZip (StepsTo S.lent (S.remaining (F.contents files.old))
+        (S.holds (F.contents files.old)) None) sources.old sources.new) }
+    ensures damaged { IsErrOf result Refusal.Damaged
+        → ¬ AllByRecursion (S.holds (F.contents files.old)) sources.old }
 {
     for source in sources.iter_mut() {
         let _ = source.advance(files)?;
@@ -90,9 +93,12 @@ fn step_after<F: Files, S: Source<F>>(
     ensures refusal { IfErr result IsReadRefusal }
     ensures cost { OnOk result (sum_by (λ s. cost (S.left s) (S.lent s)) sources.new
         ≤ sum_by (λ s. cost (S.left s) (S.lent s)) sources.old) }
-    ensures steps { OnOk result (AllByRecursion (λ s. S.holds (F.contents files.old) s × HasStarted S.lent (S.remaining (F.contents files.old)) s) sources.old
-        → AllZip (StepsTo S.lent (S.remaining (F.contents files.old)) (S.holds (F.contents files.old)) (S.lent least.now)) sources.old sources.new) }
-    ensures damaged { IsErrOf result Refusal.Damaged → ¬ AllByRecursion (S.holds (F.contents files.old)) sources.old }
+    ensures steps { OnOk result (AllByRecursion (λ s. S.holds (F.contents files.old) s
+        × HasStarted S.lent (S.remaining (F.contents files.old)) s) sources.old
+        → AllZip (StepsTo S.lent (S.remaining (F.contents files.old))
+        (S.holds (F.contents files.old)) (S.lent least.now)) sources.old sources.new) }
+    ensures damaged { IsErrOf result Refusal.Damaged
+        → ¬ AllByRecursion (S.holds (F.contents files.old)) sources.old }
 {
     for source in sources.iter_mut() {
         if is_tied(least, source) {
@@ -114,9 +120,12 @@ fn step_tied<F: Files, S: Source<F>>(
     ensures refusal { IfErr result IsReadRefusal }
     ensures cost { OnOk result (sum_by (λ s. cost (S.left s) (S.lent s)) sources.new + 1
         ≤ sum_by (λ s. cost (S.left s) (S.lent s)) sources.old) }
-    ensures steps { OnOk result (MergeHolds S.lent (S.remaining (F.contents files.old)) (S.holds (F.contents files.old)) sources.old at
-        → AllZip (StepsTo S.lent (S.remaining (F.contents files.old)) (S.holds (F.contents files.old)) (lent_at S.lent sources.old at)) sources.old sources.new) }
-    ensures damaged { IsErrOf result Refusal.Damaged → ¬ AllByRecursion (S.holds (F.contents files.old)) sources.old }
+    ensures steps { OnOk result (MergeHolds S.lent (S.remaining (F.contents files.old))
+        (S.holds (F.contents files.old)) sources.old at
+        → AllZip (StepsTo S.lent (S.remaining (F.contents files.old))
+        (S.holds (F.contents files.old)) (lent_at S.lent sources.old at)) sources.old sources.new) }
+    ensures damaged { IsErrOf result Refusal.Damaged
+        → ¬ AllByRecursion (S.holds (F.contents files.old)) sources.old }
 {
     let (_before, rest) = sources.split_at_mut(at);
     let (least, after) = rest.split_first_mut().unwrap();
@@ -140,12 +149,17 @@ fn step<F: Files, S: Source<F>>(sources: &mut [S], at: usize, files: &mut F) -> 
     ensures files { F.contents files.new ≡ F.contents files.old }
     ensures reason { HasReason (F.faults files.old) (F.faults files.new) result }
     ensures refusal { IfErr result IsReadRefusal }
-    ensures paid { OnOk result (sum_by (λ s. cost (S.left s) (S.lent s)) sources.new ≤ sum_by (λ s. cost (S.left s) (S.lent s)) sources.old) }
+    ensures paid { OnOk result (sum_by (λ s. cost (S.left s) (S.lent s)) sources.new
+        ≤ sum_by (λ s. cost (S.left s) (S.lent s)) sources.old) }
     ensures lower { OnOk result ((k : ℕ) → IsSome (lent_at S.lent sources.new k)
-        → sum_by (λ s. cost (S.left s) (S.lent s)) sources.new + 1 ≤ sum_by (λ s. cost (S.left s) (S.lent s)) sources.old) }
-    ensures steps { OnOk result (MergeHolds S.lent (S.remaining (F.contents files.old)) (S.holds (F.contents files.old)) sources.old at
-        → AllZip (StepsTo S.lent (S.remaining (F.contents files.old)) (S.holds (F.contents files.old)) (lent_at S.lent sources.old at)) sources.old sources.new) }
-    ensures damaged { IsErrOf result Refusal.Damaged → ¬ AllByRecursion (S.holds (F.contents files.old)) sources.old }
+        → sum_by (λ s. cost (S.left s) (S.lent s)) sources.new + 1
+        ≤ sum_by (λ s. cost (S.left s) (S.lent s)) sources.old) }
+    ensures steps { OnOk result (MergeHolds S.lent (S.remaining (F.contents files.old))
+        (S.holds (F.contents files.old)) sources.old at
+        → AllZip (StepsTo S.lent (S.remaining (F.contents files.old))
+        (S.holds (F.contents files.old)) (lent_at S.lent sources.old at)) sources.old sources.new) }
+    ensures damaged { IsErrOf result Refusal.Damaged
+        → ¬ AllByRecursion (S.holds (F.contents files.old)) sources.old }
 {
     if is_at_entry(sources, at) {
         step_tied(sources, at, files)
@@ -160,8 +174,12 @@ impl<S> Merge<S> {
     where
         S: Source<F>,
         ensures lent { ⟦<Merge<S> as Source<F>>⟧.lent result ≡ None }
-        ensures remaining { (told : Option Contents) → AreAtStart S.lent (S.holds told) sources.items → ⟦<Merge<S> as Source<F>>⟧.remaining told result ≡ merged (map (S.remaining told) sources.items) }
-        ensures holds { (told : Option Contents) → AreAtStart S.lent (S.holds told) sources.items → ⟦<Merge<S> as Source<F>>⟧.holds told result }
+        ensures remaining { (told : Option Contents)
+            → AreAtStart S.lent (S.holds told) sources.items
+            → ⟦<Merge<S> as Source<F>>⟧.remaining told result
+            ≡ merged (map (S.remaining told) sources.items) }
+        ensures holds { (told : Option Contents) → AreAtStart S.lent (S.holds told) sources.items
+            → ⟦<Merge<S> as Source<F>>⟧.holds told result }
     {
         let at = sources.len();
         Merge { sources, at }
@@ -173,7 +191,8 @@ impl<F: Files, S: Source<F>> Source<F> for Merge<S> {
     ghost use Rattle.compaction.specs.Merging.{lent_at, merge_remaining, MergeHolds, cost};
     ghost use Rattle.compaction.specs.MergeLaws.{merge_list};
 
-    ghost holds = { λ told s. MergeHolds S.lent (S.remaining told) (S.holds told) s.sources.items s.at };
+    ghost holds = { λ told s.
+        MergeHolds S.lent (S.remaining told) (S.holds told) s.sources.items s.at };
 
     ghost remaining = { λ told s. merge_remaining S.lent (S.remaining told) s.sources.items s.at };
 
@@ -191,5 +210,6 @@ impl<F: Files, S: Source<F>> Source<F> for Merge<S> {
         self.sources.get(self.at)?.current()
     }
 
-    ghost list = { λ told s h. merge_list S.lent (S.remaining told) (S.holds told) (S.list told) s.sources.items s.at h };
+    ghost list = { λ told s h.
+        merge_list S.lent (S.remaining told) (S.holds told) (S.list told) s.sources.items s.at h };
 }

@@ -76,5 +76,6 @@ impl<F: Files, S: Source<F>> Source<F> for Until<'_, S> {
         }
     }
 
-    ghost list = { λ told s h. until_list (end_of s) (S.lent (source_of s)) (S.remaining told (source_of s)) (S.list told (source_of s) h) };
+    ghost list = { λ told s h. until_list (end_of s)
+        (S.lent (source_of s)) (S.remaining told (source_of s)) (S.list told (source_of s) h) };
 }

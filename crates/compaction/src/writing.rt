@@ -35,11 +35,20 @@ pub fn merge_into<F: Files, S: Source<F> + Drop>(
 ) -> Result<(), Refusal>
     requires least { 32 ≤ file_limit }
     requires most { file_limit ≤ 1_073_741_824 }
-    ensures written { OnOk result ((image : List ℕ) × ((F.contents files.new ≡ with_file name image (F.contents files.old)) × (length image ≤ file_limit) × (AreAtStart S.lent (S.holds (F.contents files.old)) sources.items → IsFile (written keep_erasures (map (S.remaining (F.contents files.old)) sources.items)) image))) }
-    ensures large { IsErrOf result Refusal.FileTooLarge → AreAtStart S.lent (S.holds (F.contents files.old)) sources.items → ¬ FitsIn file_limit (written keep_erasures (map (S.remaining (F.contents files.old)) sources.items)) }
-    ensures damaged { IsErrOf result Refusal.Damaged → ¬ AreAtStart S.lent (S.holds (F.contents files.old)) sources.items }
-    ensures large_same { IsErrOf result Refusal.FileTooLarge → F.contents files.new ≡ F.contents files.old }
-    ensures damaged_same { IsErrOf result Refusal.Damaged → F.contents files.new ≡ F.contents files.old }
+    ensures written { OnOk result ((image : List ℕ)
+        × ((F.contents files.new ≡ with_file name image (F.contents files.old))
+        × (length image ≤ file_limit)
+        × (AreAtStart S.lent (S.holds (F.contents files.old)) sources.items → IsFile
+        (written keep_erasures (map (S.remaining (F.contents files.old)) sources.items)) image))) }
+    ensures large { IsErrOf result Refusal.FileTooLarge
+        → AreAtStart S.lent (S.holds (F.contents files.old)) sources.items → ¬ FitsIn file_limit
+        (written keep_erasures (map (S.remaining (F.contents files.old)) sources.items)) }
+    ensures damaged { IsErrOf result Refusal.Damaged
+        → ¬ AreAtStart S.lent (S.holds (F.contents files.old)) sources.items }
+    ensures large_same { IsErrOf result Refusal.FileTooLarge
+        → F.contents files.new ≡ F.contents files.old }
+    ensures damaged_same { IsErrOf result Refusal.Damaged
+        → F.contents files.new ≡ F.contents files.old }
     ensures others { OnErr result (KeepsOthers name (F.contents files.old) (F.contents files.new)) }
     ensures refusal { IfErr result IsWriteRefusal }
     ensures reason { HasReason (F.faults files.old) (F.faults files.new) result }

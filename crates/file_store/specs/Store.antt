@@ -23,7 +23,8 @@ pub record HasCause {T : Type 0} (before now : ℕ) (result : Result T FileFault
 -- all files but this one are as before, where they are told, and are told still
 abbrev pub KeepsOthers : ℕ → Option Contents → Option Contents → Type 0
 KeepsOthers name None new = IsNone new
-KeepsOthers name (Some old) new = IsSomeAnd new (λ now. (other : ℕ) → other ≢ name → map.get now other ≡ map.get old other)
+KeepsOthers name (Some old) new =
+    IsSomeAnd new (λ now. (other : ℕ) → other ≢ name → map.get now other ≡ map.get old other)
 
 -- the contents after a file was made or replaced, and after one was removed, where they are told
 abbrev pub with_file : ℕ → List ℕ → Option Contents → Option Contents
@@ -50,4 +51,6 @@ with_front bytes buffer = bytes ++ drop (length bytes) buffer
 
 -- n bytes of a file, from this offset on, were read to the front of a buffer
 abbrev pub Reads : List ℕ → ℕ → List ℕ → List ℕ → ℕ → Type 0
-Reads file offset old new n = let got = part file offset (length old) in (n ≡ length got) × (new ≡ with_front got old)
+Reads file offset old new n =
+    let got = part file offset (length old) in
+    (n ≡ length got) × (new ≡ with_front got old)

@@ -59,13 +59,15 @@ pub trait Files {
     /// Makes or replaces a file. After an `Err` the bytes under this name are open, and all other
     /// files are as before.
     fn put(&mut self, name: u64, bytes: &[u8]) -> Result<(), FileFault>
-        ensures ok { OnOk result (contents self.new ≡ with_file name bytes.now (contents self.old)) }
+        ensures ok { OnOk result (contents self.new
+            ≡ with_file name bytes.now (contents self.old)) }
         ensures err { OnErr result (KeepsOthers name (contents self.old) (contents self.new)) }
         ensures cause { HasCause (faults self.old) (faults self.new) result };
 
     /// How many bytes a file has, if it is there.
     fn size(&mut self, name: u64) -> Result<Option<u64>, FileFault>
-        ensures ok { IfOk result (λ size. IfSome (contents self.old) (λ m. size ≡ option_map length (map.get m name))) }
+        ensures ok { IfOk result (λ size.
+            IfSome (contents self.old) (λ m. size ≡ option_map length (map.get m name))) }
         ensures same { contents self.new ≡ contents self.old }
         ensures cause { HasCause (faults self.old) (faults self.new) result };
 
@@ -74,13 +76,15 @@ pub trait Files {
     /// bytes of the buffer are open.
     fn read_at(&mut self, name: u64, offset: u64, out: &mut [u8]) -> Result<usize, FileFault>
         ensures within { IfOk result (λ n. n ≤ length out.old) }
-        ensures ok { IfOk result (λ n. IfSome (contents self.old) (λ m. Reads (bytes_of m name) offset out.old out.new n)) }
+        ensures ok { IfOk result (λ n.
+            IfSome (contents self.old) (λ m. Reads (bytes_of m name) offset out.old out.new n)) }
         ensures same { contents self.new ≡ contents self.old }
         ensures cause { HasCause (faults self.old) (faults self.new) result };
 
     /// Appends the names of all files, rising. An `Err` leaves the list as it was.
     fn list(&mut self, names: &mut Vec<u64>) -> Result<(), FileFault>
-        ensures ok { OnOk result (IfSome (contents self.old) (λ m. names.new.items ≡ names.old.items ++ map.keys m)) }
+        ensures ok { OnOk result (IfSome (contents self.old) (λ m.
+            names.new.items ≡ names.old.items ++ map.keys m)) }
         ensures err { OnErr result (names.new.items ≡ names.old.items) }
         ensures same { contents self.new ≡ contents self.old }
         ensures cause { HasCause (faults self.old) (faults self.new) result };

@@ -74,7 +74,8 @@ fn write_file<R: Folders>(
 
 /// What a call on a file answers that may be missing.
 fn if_there<T: Drop>(called: io::Result<T>) -> io::Result<Option<T>>
-    ensures { IfOk result (λ found. IfOk called (λ value. found ≡ Rattle.std.specs.Prelude.Some value)) }
+    ensures { IfOk result (λ found.
+        IfOk called (λ value. found ≡ Rattle.std.specs.Prelude.Some value)) }
 {
     match called {
         Ok(value) => Ok(Some(value)),

@@ -13,7 +13,8 @@ pub fn read_whole<F: Files>(
     files: &mut F,
     name: u64,
 ) -> Result<Option<Vec<u8>>, FileFault>
-    ensures ok { IfOk result (λ found. IfSome (F.contents files.old) (λ m. option_map (λ v. v.items) found ≡ map.get m name)) }
+    ensures ok { IfOk result (λ found.
+        IfSome (F.contents files.old) (λ m. option_map (λ v. v.items) found ≡ map.get m name)) }
     ensures same { F.contents files.new ≡ F.contents files.old }
     ensures cause { HasCause (F.faults files.old) (F.faults files.new) result }
 {

@@ -4,7 +4,8 @@ use Rattle.std.specs.declared.cmp.Ordering.TheVariants.{Less}
 use Rattle.cell_key.specs.Keys.{byte_cmp}
 use Rattle.metadata_table.specs.declared.places.Place.{Place}
 
--- a tablet's place: its number, its end (no row is the infinite one), its server, and its files' names
+-- a tablet's place: its number, its end (no row is the infinite one), its server,
+-- and its files' names
 pub record PlaceView : Type 0 where
   pub tablet : ℕ
   pub end : Option (List ℕ)
@@ -12,7 +13,13 @@ pub record PlaceView : Type 0 where
   pub files : List ℕ
 
 abbrev pub view_of : Place → PlaceView
-view_of place = record { tablet = place.tablet; end = place.end; server = place.server; files = place.files.items }
+view_of place =
+    record {
+      tablet = place.tablet;
+      end = place.end;
+      server = place.server;
+      files = place.files.items;
+    }
 
 abbrev pub views : List Place → List PlaceView
 views places = map view_of places

@@ -20,7 +20,8 @@ pub record HasRow (range : TabletRange) (row : List ℕ) : Type 0 where
 -- the ranges of places, each after the end of the one before, and the first after this one
 abbrev pub ranges_after : Option (List ℕ) → List PlaceView → List TabletRange
 ranges_after before [] = []
-ranges_after before (p ∷ ps) = record { tablet = p.tablet; after = before; end = p.end } ∷ ranges_after p.end ps
+ranges_after before (p ∷ ps) =
+    record { tablet = p.tablet; after = before; end = p.end } ∷ ranges_after p.end ps
 
 abbrev pub ranges : List PlaceView → List TabletRange
 ranges ps = ranges_after None ps
@@ -32,7 +33,9 @@ pub record IsOnlyRange (ps : List PlaceView) (row : List ℕ) (range : TabletRan
   pub only : (other : TabletRange) → Contains (ranges ps) other → HasRow other row → other ≡ range
 
 abbrev pub OneHolder : Type 0
-OneHolder = (ps : List PlaceView) → IsTable ps → (row : List ℕ) → (range : TabletRange) × IsOnlyRange ps row range
+OneHolder =
+    (ps : List PlaceView) → IsTable ps → (row : List ℕ)
+    → (range : TabletRange) × IsOnlyRange ps row range
 
 -- the place that holds a row is the one in whose range the row is
 pub record IsRangeOf (ps : List PlaceView) (p : PlaceView) (range : TabletRange) : Type 0 where
@@ -41,11 +44,15 @@ pub record IsRangeOf (ps : List PlaceView) (p : PlaceView) (range : TabletRange)
   pub end : range.end ≡ p.end
 
 abbrev pub HolderRange : Type 0
-HolderRange = (ps : List PlaceView) (row : List ℕ) (p : PlaceView) → IsHolder row ps p → (range : TabletRange) × IsRangeOf ps p range × HasRow range row
+HolderRange =
+    (ps : List PlaceView) (row : List ℕ) (p : PlaceView) → IsHolder row ps p
+    → (range : TabletRange) × IsRangeOf ps p range × HasRow range row
 
 -- a tablet has one range
 abbrev pub OneRange : Type 0
-OneRange = (ps : List PlaceView) → IsTable ps → (a b : TabletRange) → Contains (ranges ps) a → Contains (ranges ps) b → a.tablet ≡ b.tablet → a ≡ b
+OneRange =
+    (ps : List PlaceView) → IsTable ps → (a b : TabletRange) → Contains (ranges ps) a
+    → Contains (ranges ps) b → a.tablet ≡ b.tablet → a ≡ b
 
 -- the two parts of a range that is cut at a row
 abbrev pub left_range : List ℕ → ℕ → TabletRange → TabletRange
@@ -64,12 +71,16 @@ pub record CutsRange (row : List ℕ) (n : ℕ) (old new : List TabletRange) : T
   pub has : HasRow range row
 
 abbrev pub CutRanges : Type 0
-CutRanges = (ps ps' : List PlaceView) (row : List ℕ) (n : ℕ) → Cuts row n ps ps' → CutsRange row n (ranges ps) (ranges ps')
+CutRanges =
+    (ps ps' : List PlaceView) (row : List ℕ) (n : ℕ) → Cuts row n ps ps'
+    → CutsRange row n (ranges ps) (ranges ps')
 
 -- the rows of the parts are those of the range: up to and with the row, and after it
 pub record PartsRange (row : List ℕ) (n : ℕ) (range : TabletRange) : Type 0 where
-  pub left : (other : List ℕ) → HasRow (left_range row n range) other ↔ (HasRow range other × (byte_cmp row other ≢ Less))
-  pub right : (other : List ℕ) → HasRow (right_range row range) other ↔ (HasRow range other × (byte_cmp row other ≡ Less))
+  pub left : (other : List ℕ) → HasRow (left_range row n range) other
+      ↔ (HasRow range other × (byte_cmp row other ≢ Less))
+  pub right : (other : List ℕ) → HasRow (right_range row range) other
+      ↔ (HasRow range other × (byte_cmp row other ≡ Less))
 
 abbrev pub CutRows : Type 0
 CutRows = (row : List ℕ) (n : ℕ) (range : TabletRange) → HasRow range row → PartsRange row n range

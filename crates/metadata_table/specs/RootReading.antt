@@ -1,5 +1,5 @@
--- Reading a root's bytes from left to right. What is read is held against the spelling afterwards, so that head,
--- the next tablet's number, foot and what follows it are only passed over here.
+-- Reading a root's bytes from left to right. What is read is held against the spelling afterwards,
+-- so that head, the next tablet's number, foot and what follows it are only passed over here.
 use Rattle.std.specs.Prelude.{◌≡◌, ℕ, zero, suc, List, [], ◌∷◌, length, take, drop, Option, Some, None, Result, Ok, Err, nat_lt, if◌then◌else◌}
 use Rattle.std.specs.Int.{Width, w32, w64, byte_len, from_be_bytes}
 use Rattle.metadata_table.specs.declared.root_reading.ReadFault.{ReadFault}
@@ -24,11 +24,19 @@ Gives view (Err e) read = Fails e read
 
 -- what was read so
 abbrev pub draft_of : Draft → RootView
-draft_of draft = record { top = draft.top; floor = draft.floor; next_name = draft.next_name; places = views draft.places.items }
+draft_of draft =
+    record {
+      top = draft.top;
+      floor = draft.floor;
+      next_name = draft.next_name;
+      places = views draft.places.items;
+    }
 
 -- A field is a value and the bytes after it.
 abbrev pub number_at : Width → List ℕ → Option (ℕ × List ℕ)
-number_at w bytes = if nat_lt (length bytes) (byte_len w) then None else Some (from_be_bytes w (take (byte_len w) bytes), drop (byte_len w) bytes)
+number_at w bytes =
+    if nat_lt (length bytes) (byte_len w)
+    then None else Some (from_be_bytes w (take (byte_len w) bytes), drop (byte_len w) bytes)
 
 abbrev pub byte_at : List ℕ → Option (ℕ × List ℕ)
 byte_at [] = None
@@ -53,7 +61,8 @@ end_at (suc zero ∷ rest) = Some (None, rest)
 end_at (suc (suc kind) ∷ rest) = None
 
 -- So many items, one after the other.
-unfoldable pub each_at : {X : Type 0} → (List ℕ → Option (X × List ℕ)) → ℕ → List ℕ → Option (List X × List ℕ)
+unfoldable pub each_at : {X : Type 0} → (List ℕ → Option (X × List ℕ)) → ℕ → List ℕ
+    → Option (List X × List ℕ)
 each_at read zero bytes = Some ([], bytes)
 each_at read (suc n) bytes = do
   first ← read bytes

@@ -16,7 +16,8 @@ pub record RootView : Type 0 where
   pub places : List PlaceView
 
 abbrev pub root_of : Root → RootView
-root_of root = record { top = root.top; floor = root.floor; next_name = root.next_name; places = root.table }
+root_of root =
+    record { top = root.top; floor = root.floor; next_name = root.next_name; places = root.table }
 
 -- ---- what a root may tell
 
@@ -60,12 +61,14 @@ place_bytes p = to_be_bytes w32 p.tablet ++ (end_bytes p.end ++ (p.server ∷ fi
 
 -- the next tablet's number, how many tablets there are, and the place of each
 abbrev pub places_bytes : List PlaceView → List ℕ
-places_bytes ps = to_be_bytes w32 (length ps + 1) ++ (to_be_bytes w32 (length ps) ++ flat_map place_bytes ps)
+places_bytes ps =
+    to_be_bytes w32 (length ps + 1) ++ (to_be_bytes w32 (length ps) ++ flat_map place_bytes ps)
 
 -- head, stamps, the next file's name, places and foot
 abbrev pub root_bytes : RootView → List ℕ
 root_bytes root =
-    codes "TABROOT1" ++ (to_be_bytes w64 root.top ++ (to_be_bytes w64 root.floor ++ (to_be_bytes w64 root.next_name ++ (places_bytes root.places ++ codes "TABROOTZ"))))
+    codes "TABROOT1" ++ (to_be_bytes w64 root.top ++ (to_be_bytes w64 root.floor
+    ++ (to_be_bytes w64 root.next_name ++ (places_bytes root.places ++ codes "TABROOTZ"))))
 
 -- the bytes are the root that tells this
 pub record IsRoot (root : RootView) (bytes : List ℕ) : Type 0 where

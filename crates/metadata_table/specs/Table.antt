@@ -52,7 +52,8 @@ IsEnd row ps = (p : PlaceView) × Contains ps p × (p.end ≡ Some row)
 abbrev pub IsListed : ℕ → List PlaceView → Type 0
 IsListed name ps = (p : PlaceView) × Contains ps p × Contains p.files name
 
--- no tablet can be cut at the row: it is an end already, or there are as many tablets as there may be
+-- no tablet can be cut at the row: it is an end already,
+-- or there are as many tablets as there may be
 abbrev pub BarsSplit : List ℕ → List PlaceView → Type 0
 BarsSplit row ps = IsEnd row ps ⊎ (most_tablets ≤ length ps)
 
@@ -63,9 +64,11 @@ left_part row n p = record p { end = Some row; tablet = n }
 -- The tablet that holds the row is cut there: its left part comes to stand before it.
 pub data Cuts (row : List ℕ) (n : ℕ) : List PlaceView → List PlaceView → Type 0 where
   cuts_last : {p : PlaceView} → p.end ≡ None → Cuts row n (p ∷ []) (left_part row n p ∷ p ∷ [])
-  cuts : {p : PlaceView} {end : List ℕ} {ps : List PlaceView} → p.end ≡ Some end → byte_cmp row end ≡ Less
+  cuts : {p : PlaceView} {end : List ℕ} {ps : List PlaceView} → p.end ≡ Some end
+      → byte_cmp row end ≡ Less
       → Cuts row n (p ∷ ps) (left_part row n p ∷ p ∷ ps)
-  cuts_later : {p : PlaceView} {ps ps' : List PlaceView} → EndsBefore p.end row → Cuts row n ps ps' → Cuts row n (p ∷ ps) (p ∷ ps')
+  cuts_later : {p : PlaceView} {ps ps' : List PlaceView} → EndsBefore p.end row → Cuts row n ps ps'
+      → Cuts row n (p ∷ ps) (p ∷ ps')
 
 -- a place, with this server if it is the tablet's
 abbrev pub on_server : ℕ → ℕ → PlaceView → PlaceView

@@ -28,14 +28,16 @@ fn first_of(places: &[Place], tablet: u32) -> Option<usize>
 /// The position of a tablet's place.
 pub(crate) fn of_tablet(places: &[Place], tablet: u32) -> Result<usize, Refusal>
     ensures bound { IfOk result (λ position. position < length places.now) }
-    ensures cases { MatchResult result (λ position. IsTabletAt tablet (views places.now) position) (λ refusal. (refusal ≡ Refusal.UnknownTablet) × ¬ (HasTablet tablet (views places.now))) }
+    ensures cases { MatchResult result (λ position. IsTabletAt tablet (views places.now) position)
+        (λ refusal. (refusal ≡ Refusal.UnknownTablet) × ¬ (HasTablet tablet (views places.now))) }
 {
     first_of(places, tablet).ok_or(Refusal::UnknownTablet)
 }
 
 /// Whether some place has a file of this name.
 pub(crate) fn is_listed(places: &[Place], name: u64) -> bool
-    ensures { result ≡ list_any (λ place. list_any (λ file. file == name) place.files.items) places.now }
+    ensures { result
+        ≡ list_any (λ place. list_any (λ file. file == name) place.files.items) places.now }
 {
     places.iter().any(|place| place.files.contains(&name))
 }

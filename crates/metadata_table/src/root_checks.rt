@@ -62,7 +62,8 @@ fn is_numbered(place: &Place, count: usize) -> bool
 
 /// The same of each place.
 fn are_numbered(places: &[Place], count: usize) -> bool
-    ensures { IsTrue result ↔ AllByRecursion (λ place. IsNumbered count (view_of place)) places.now }
+    ensures { IsTrue result
+        ↔ AllByRecursion (λ place. IsNumbered count (view_of place)) places.now }
 {
     places.iter().all(|place| is_numbered(place, count))
 }
@@ -121,7 +122,8 @@ fn has_files(place: &Place, next_name: u64) -> bool
 
 /// The same of each place.
 fn all_files(places: &[Place], next_name: u64) -> bool
-    ensures { IsTrue result ↔ AllByRecursion (λ place. AreFiles next_name place.files.items) places.now }
+    ensures { IsTrue result
+        ↔ AllByRecursion (λ place. AreFiles next_name place.files.items) places.now }
 {
     places.iter().all(|place| has_files(place, next_name))
 }

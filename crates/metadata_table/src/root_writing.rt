@@ -63,7 +63,8 @@ fn push_end(out: &mut Vec<u8>, end: &Option<Row>) -> Result<(), Refusal>
 
 /// Appends names.
 fn push_names(out: &mut Vec<u8>, names: &[u64]) -> Result<(), Refusal>
-    ensures ok { OnOk result (out.new.items ≡ out.old.items ++ flat_map (to_be_bytes w64) names.now) }
+    ensures ok { OnOk result (out.new.items
+        ≡ out.old.items ++ flat_map (to_be_bytes w64) names.now) }
     ensures memory { IsOkUnless result Refusal.NoMemory }
 {
     for name in names {
@@ -98,7 +99,8 @@ fn push_place(out: &mut Vec<u8>, place: &Place) -> Result<(), Refusal>
 /// Appends places one after the other.
 fn push_each(out: &mut Vec<u8>, places: &[Place]) -> Result<(), Refusal>
     requires { AllByRecursion (λ place. length place.files.items < 2 ^ 32) places.now }
-    ensures ok { OnOk result (out.new.items ≡ out.old.items ++ flat_map place_bytes (views places.now)) }
+    ensures ok { OnOk result (out.new.items
+        ≡ out.old.items ++ flat_map place_bytes (views places.now)) }
     ensures valid { OnOk result (AreEnds (views places.now)) }
     ensures memory { IsOkUnless result Refusal.NoMemory }
 {
@@ -134,7 +136,12 @@ pub(crate) fn root_image(
 ) -> Result<Vec<u8>, Refusal>
     requires few { length places.now ≤ most_tablets }
     requires naming { IsNaming next_name (views places.now) }
-    ensures ok { IfOk result (λ bytes. bytes.items ≡ root_bytes (record { top = top; floor = floor; next_name = next_name; places = views places.now })) }
+    ensures ok { IfOk result (λ bytes. bytes.items ≡ root_bytes (record {
+      top = top;
+      floor = floor;
+      next_name = next_name;
+      places = views places.now;
+    })) }
     ensures valid { OnOk result (AreEnds (views places.now)) }
     ensures memory { IfErr result (λ refusal. refusal ≡ Refusal.NoMemory) }
 {

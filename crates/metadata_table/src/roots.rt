@@ -41,7 +41,8 @@ fn is_root(alloc: Global, draft: &Draft, bytes: &[u8]) -> Result<bool, Refusal>
 
 /// What the bytes tell, if they are a root.
 fn draft_of_root(alloc: Global, bytes: &[u8]) -> Result<Option<Draft>, Refusal>
-    ensures form { IfOk result (λ found. IfSome found (λ draft. IsRoot (draft_of draft) bytes.now)) }
+    ensures form { IfOk result (λ found.
+        IfSome found (λ draft. IsRoot (draft_of draft) bytes.now)) }
     ensures none { IfOk result (λ found. IfNone found (IsNoRoot bytes.now)) }
     ensures refusal { IfErr result (λ refusal. refusal ≡ Refusal.NoMemory) }
 {
@@ -73,8 +74,18 @@ impl MetadataTable {
         out: &mut Vec<u8>,
     ) -> Result<(), Refusal>
         requires { IsNaming next_name self.now }
-        ensures ok { OnOk result (out.new.items ≡ out.old.items ++ root_bytes (record { top = top; floor = floor; next_name = next_name; places = self.now })) }
-        ensures sound { OnOk result (IsSound (record { top = top; floor = floor; next_name = next_name; places = self.now })) }
+        ensures ok { OnOk result (out.new.items ≡ out.old.items ++ root_bytes (record {
+          top = top;
+          floor = floor;
+          next_name = next_name;
+          places = self.now;
+        })) }
+        ensures sound { OnOk result (IsSound (record {
+          top = top;
+          floor = floor;
+          next_name = next_name;
+          places = self.now;
+        })) }
         ensures err { OnErr result (out.new.items ≡ out.old.items) }
         ensures refusal { IsOkUnless result Refusal.NoMemory }
     {
@@ -91,7 +102,8 @@ impl MetadataTable {
     ///
     /// `NoMemory` where a growth was refused.
     pub fn read_root(alloc: Global, bytes: &[u8]) -> Result<Option<Root>, Refusal>
-        ensures form { IfOk result (λ found. IfSome found (λ root. IsRoot (root_of root) bytes.now)) }
+        ensures form { IfOk result (λ found.
+            IfSome found (λ root. IsRoot (root_of root) bytes.now)) }
         ensures none { IfOk result (λ found. IfNone found (IsNoRoot bytes.now)) }
         ensures refusal { IfErr result (λ refusal. refusal ≡ Refusal.NoMemory) }
     {

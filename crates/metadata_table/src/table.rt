@@ -97,7 +97,8 @@ impl MetadataTable {
     pub fn place(&self, tablet: u32) -> Result<&Place, Refusal>
         ensures found { IfOk result (λ place. Contains self.now (view_of place.now)) }
         ensures named { IfOk result (λ place. place.now.tablet ≡ tablet) }
-        ensures unknown { IfErr result (λ refusal. (refusal ≡ Refusal.UnknownTablet) × ¬ (HasTablet tablet self.now)) }
+        ensures unknown { IfErr result (λ refusal. (refusal ≡ Refusal.UnknownTablet)
+            × ¬ (HasTablet tablet self.now)) }
         ensures table { IsTable self.now }
     {
         let position = positions::of_tablet(&self.places, tablet)?;
@@ -110,7 +111,8 @@ impl MetadataTable {
     ///
     /// `BadSplit` where the row is already the end of its tablet, or there are 1,024 tablets.
     pub fn check_split(&self, row: &Row) -> Result<(), Refusal>
-        ensures split { MatchResult result (λ _. ¬ (BarsSplit row.now self.now)) (λ refusal. (refusal ≡ Refusal.BadSplit) × BarsSplit row.now self.now) }
+        ensures split { MatchResult result (λ _. ¬ (BarsSplit row.now self.now)) (λ refusal.
+            (refusal ≡ Refusal.BadSplit) × BarsSplit row.now self.now) }
     {
         if self.len() >= MetadataTable::MOST_TABLETS || self.locate(row).ends_with(row) {
             return Err(Refusal::BadSplit);
@@ -131,7 +133,8 @@ impl MetadataTable {
         ensures cut { IfOk result (λ left. Cuts row.now left self.old self.new) }
         ensures room { OnOk result (¬ (BarsSplit row.now self.old)) }
         ensures bad { IsErrOf result Refusal.BadSplit ↔ BarsSplit row.now self.old }
-        ensures refusal { IfErr result (λ refusal. (refusal ≡ Refusal.BadSplit) ⊎ (refusal ≡ Refusal.NoMemory)) }
+        ensures refusal { IfErr result (λ refusal. (refusal ≡ Refusal.BadSplit)
+            ⊎ (refusal ≡ Refusal.NoMemory)) }
         ensures err { OnErr result (self.new ≡ self.old) }
     {
         self.check_split(row)?;
@@ -152,8 +155,10 @@ impl MetadataTable {
         ensures ok { OnOk result (self.new ≡ moved tablet server self.old) }
         ensures known { OnOk result (HasTablet tablet self.old × (server < most_servers)) }
         ensures unknown { IsErrOf result Refusal.UnknownTablet ↔ ¬ (HasTablet tablet self.old) }
-        ensures server { IsErrOf result Refusal.UnknownServer ↔ (HasTablet tablet self.old × (most_servers ≤ server)) }
-        ensures refusal { IfErr result (λ refusal. (refusal ≡ Refusal.UnknownTablet) ⊎ (refusal ≡ Refusal.UnknownServer)) }
+        ensures server { IsErrOf result Refusal.UnknownServer
+            ↔ (HasTablet tablet self.old × (most_servers ≤ server)) }
+        ensures refusal { IfErr result (λ refusal. (refusal ≡ Refusal.UnknownTablet)
+            ⊎ (refusal ≡ Refusal.UnknownServer)) }
         ensures err { OnErr result (self.new ≡ self.old) }
     {
         let position = positions::of_tablet(&self.places, tablet)?;
@@ -172,7 +177,8 @@ impl MetadataTable {
     pub fn set_files(&mut self, tablet: u32, names: Vec<u64>) -> Result<(), Refusal>
         ensures ok { OnOk result (self.new ≡ with_files tablet names.items self.old) }
         ensures known { OnOk result (HasTablet tablet self.old) }
-        ensures unknown { IfErr result (λ refusal. (refusal ≡ Refusal.UnknownTablet) × ¬ (HasTablet tablet self.old)) }
+        ensures unknown { IfErr result (λ refusal. (refusal ≡ Refusal.UnknownTablet)
+            × ¬ (HasTablet tablet self.old)) }
         ensures err { OnErr result (self.new ≡ self.old) }
     {
         let position = positions::of_tablet(&self.places, tablet)?;

@@ -44,7 +44,8 @@ pub trait MarkStore {
     /// The number that is stored, and 0 where none was. It is never past the greatest stamp.
     fn load(&mut self) -> Result<Stamp, MarkFault>
         ensures limit { IfOk result (λ number. number < 2 ^ 63) }
-        ensures stored { IfOk result (λ number. IfSome (mark self.old) (λ stored. number ≡ stored)) }
+        ensures stored { IfOk result (λ number.
+            IfSome (mark self.old) (λ stored. number ≡ stored)) }
         ensures kept { mark self.new ≡ mark self.old }
         ensures later { faults self.old ≤ faults self.new }
         ensures device { OnErr result (HasRisen (faults self.old) (faults self.new)) }

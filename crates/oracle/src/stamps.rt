@@ -88,18 +88,19 @@ impl<M: MarkStore> Oracle<M> {
         // At its end the next range is taken, and its end is the mark before its first stamp is served.
         ensures next_range { self.old.range_end ≤ self.old.last
             → OnOk result (self.new.range_end ≡ next_range_end self.old.range_end) }
-        ensures stored { self.old.range_end ≤ self.old.last
-            → OnOk result (M.mark self.new.marks ≡ mark_after self.new.range_end (M.mark self.old.marks)) }
+        ensures stored { self.old.range_end ≤ self.old.last → OnOk result (M.mark self.new.marks
+            ≡ mark_after self.new.range_end (M.mark self.old.marks)) }
 
         ensures refusals { IfErr result IsDrawRefusal }
         ensures exhausted { IsErrOf result Refusal.Exhausted ↔ (self.old.last ≡ MOST_STAMP) }
         ensures unchanged { IsErrOf result Refusal.Exhausted → self.new ≡ self.old }
         ensures device { IsErrOf result Refusal.Device
             → HasRisen (M.faults self.old.marks) (M.faults self.new.marks) }
-        ensures told { ¬ IsErrOf result Refusal.Device → M.faults self.new.marks ≡ M.faults self.old.marks }
+        ensures told { ¬ IsErrOf result Refusal.Device
+            → M.faults self.new.marks ≡ M.faults self.old.marks }
         ensures err { OnErr result (SameNumbers self.old self.new) }
-        ensures err_mark { OnErr result
-            (MayHold (next_range_end self.old.range_end) (M.mark self.old.marks) (M.mark self.new.marks)) }
+        ensures err_mark { OnErr result (MayHold
+            (next_range_end self.old.range_end) (M.mark self.old.marks) (M.mark self.new.marks)) }
 
         ensures later { M.faults self.old.marks ≤ M.faults self.new.marks }
         ensures below_mark { IsWithin self.new.last (M.mark self.new.marks) }
@@ -125,7 +126,8 @@ impl<M: MarkStore> Oracle<M> {
         ensures kept { M.mark self.new.marks ≡ M.mark self.old.marks }
         ensures err { OnErr result (SameNumbers self.old self.new) }
         ensures refusal { IfErr result (λ refusal. refusal ≡ Refusal.Device) }
-        ensures device { OnErr result (HasRisen (M.faults self.old.marks) (M.faults self.new.marks)) }
+        ensures device { OnErr result (HasRisen
+            (M.faults self.old.marks) (M.faults self.new.marks)) }
         ensures told { OnOk result (M.faults self.new.marks ≡ M.faults self.old.marks) }
         ensures later { M.faults self.old.marks ≤ M.faults self.new.marks }
         ensures below_mark { IsWithin self.new.last (M.mark self.new.marks) }

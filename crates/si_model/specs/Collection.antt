@@ -18,19 +18,25 @@ IsNamed cells x t = (c : ℕ) × (at cells x Write c ≡ Some (start_text t))
 
 -- of a cell's records only the first above a start can name it
 abbrev pub NamesNearest : Cells → State → Type 0
-NamesNearest cells st = (x : Cell) (t c d : ℕ) → t < 2 ^ 64 → at cells x Write c ≡ Some (start_text t) → t < d → IsThere cells x Write d → c ≤ d
+NamesNearest cells st =
+    (x : Cell) (t c d : ℕ) → t < 2 ^ 64
+    → at cells x Write c ≡ Some (start_text t) → t < d → IsThere cells x Write d → c ≤ d
 
 -- ---- what a collection leaves
 
--- Locks stay. A record stays, or goes where its commit is replaced. Data stays, or goes where no mark and no record that
--- stays names it; the data that a record names goes with the record.
+-- Locks stay. A record stays, or goes where its commit is replaced. Data stays, or goes where no
+-- mark and no record that stays names it; the data that a record names goes with the record.
 pub record Collects (cells cells' : Cells) (st : State) : Type 0 where
   pub locks : (x : Cell) (t : ℕ) → at cells' x Lock t ≡ at cells x Lock t
   pub records : (x : Cell) (c : ℕ) → (at cells' x Write c ≡ at cells x Write c)
-      ⊎ ((at cells' x Write c ≡ None) × ((a : Commit) → a ∈ st.commits → Names a.writes x → a.stamp ≡ c → IsReplaced st x a))
+      ⊎ ((at cells' x Write c ≡ None)
+      × ((a : Commit) → a ∈ st.commits → Names a.writes x → a.stamp ≡ c → IsReplaced st x a))
   pub values : (x : Cell) (t : ℕ) → (at cells' x Data t ≡ at cells x Data t)
-      ⊎ ((at cells' x Data t ≡ None) × (¬ Marked st x t) × ((c : ℕ) → at cells' x Write c ≢ Some (start_text t)))
-  pub together : (x : Cell) (c t : ℕ) → IsThere cells x Data t → at cells x Write c ≡ Some (start_text t) → at cells' x Write c ≡ None → at cells' x Data t ≡ None
+      ⊎ ((at cells' x Data t ≡ None)
+      × (¬ Marked st x t) × ((c : ℕ) → at cells' x Write c ≢ Some (start_text t)))
+  pub together : (x : Cell) (c t : ℕ) → IsThere cells x Data t
+      → at cells x Write c ≡ Some (start_text t) → at cells' x Write c ≡ None
+      → at cells' x Data t ≡ None
 
 -- what a collection leaves shows the same state
 abbrev pub StaysShown : Cells → State → Type 0
@@ -40,10 +46,12 @@ StaysShown cells st = (cells' : Cells) → Collects cells cells' st → ShowsCel
 abbrev pub IsUnmarkedBelow : State → ℕ → Type 0
 IsUnmarkedBelow st floor = (x : Cell) (t : ℕ) → Marked st x t → floor ≤ t
 
--- the cells after records of x and the data that they name were erased: each has its stamp and the start that it names
+-- the cells after records of x and the data that they name were erased:
+-- each has its stamp and the start that it names
 abbrev pub collected_cells : Cells → Cell → List (ℕ × ℕ) → Cells
 collected_cells cells x [] = cells
-collected_cells cells x (v ∷ vs) = collected_cells (remove (remove cells (key_of x Write v.0)) (key_of x Data v.1)) x vs
+collected_cells cells x (v ∷ vs) =
+    collected_cells (remove (remove cells (key_of x Write v.0)) (key_of x Data v.1)) x vs
 
 -- the cells after data of x was erased
 abbrev pub dropped_cells : Cells → Cell → List ℕ → Cells
@@ -59,20 +67,24 @@ pub record IsOld (cells : Cells) (x : Cell) (w : ℕ) (v : ℕ × ℕ) : Type 0 
 -- what a collector may erase of a cell
 pub record MayErase (cells : Cells) (st : State) (floor : ℕ) : Type 0 where
   -- records older than one at or below the floor, each with the data that it names
-  pub old : (x : Cell) (w : ℕ) (vs : List (ℕ × ℕ)) → IsThere cells x Write w → w ≤ floor → ((v : ℕ × ℕ) → v ∈ vs → IsOld cells x w v)
+  pub old : (x : Cell) (w : ℕ) (vs : List (ℕ × ℕ)) → IsThere cells x Write w → w ≤ floor
+      → ((v : ℕ × ℕ) → v ∈ vs → IsOld cells x w v)
       → Collects cells (collected_cells cells x vs) st
   -- data below the floor that no record names
-  pub unnamed : (x : Cell) (ts : List ℕ) → ((t : ℕ) → t ∈ ts → (t < floor) × (¬ IsNamed cells x t)) → Collects cells (dropped_cells cells x ts) st
+  pub unnamed : (x : Cell) (ts : List ℕ) → ((t : ℕ) → t ∈ ts → (t < floor) × (¬ IsNamed cells x t))
+      → Collects cells (dropped_cells cells x ts) st
 
 -- below a floor that a collector began with, where no mark stands below it
 abbrev pub MayEraseBelow : Cells → State → Type 0
-MayEraseBelow cells st = (floor : ℕ) → floor ≤ st.floor → IsUnmarkedBelow st floor → MayErase cells st floor
+MayEraseBelow cells st =
+    (floor : ℕ) → floor ≤ st.floor → IsUnmarkedBelow st floor → MayErase cells st floor
 
 -- ---- how far a collector has come
 
 -- no version of the cell is to be collected below the floor
 pub record IsTidy (cells : Cells) (x : Cell) (floor : ℕ) : Type 0 where
-  pub one : (c d : ℕ) → c ≤ floor → d ≤ floor → IsThere cells x Write c → IsThere cells x Write d → c ≡ d
+  pub one : (c d : ℕ) → c ≤ floor → d ≤ floor → IsThere cells x Write c → IsThere cells x Write d
+      → c ≡ d
   pub named : (t : ℕ) → t < floor → IsThere cells x Data t → IsNamed cells x t
 
 abbrev pub place_at : Cell → Place
@@ -87,23 +99,32 @@ pub data Pass : Type 0 where
   FirstPass : Pass
   SecondPass : Pass
 
--- In its first pass no cell behind it has a mark below its floor. In its second none has one at all, and those behind it are tidy.
+-- In its first pass no cell behind it has a mark below its floor.
+-- In its second none has one at all, and those behind it are tidy.
 abbrev pub HasCome : Cells → State → ℕ → Pass → Option Place → Type 0
-HasCome cells st floor FirstPass after = (x : Cell) (t : ℕ) → IsBehind after x → Marked st x t → floor ≤ t
-HasCome cells st floor SecondPass after = IsUnmarkedBelow st floor × ((x : Cell) → IsBehind after x → IsTidy cells x floor)
+HasCome cells st floor FirstPass after =
+    (x : Cell) (t : ℕ) → IsBehind after x → Marked st x t → floor ≤ t
+HasCome cells st floor SecondPass after =
+    IsUnmarkedBelow st floor × ((x : Cell) → IsBehind after x → IsTidy cells x floor)
 
 -- how a collector goes on from a place
-pub record GoesFurther (cells : Cells) (st : State) (floor : ℕ) (after : Option Place) : Type 0 where
+pub record GoesFurther (cells : Cells) (st : State) (floor : ℕ)
+    (after : Option Place) : Type 0 where
   -- past a cell with no lock below the floor
-  pub past : (x : Cell) → IsNextCell cells after (Some (place_at x)) → ((t : ℕ) → t < floor → at cells x Lock t ≡ None)
-      → HasCome cells st floor FirstPass after → HasCome cells st floor FirstPass (Some (place_at x))
+  pub past : (x : Cell) → IsNextCell cells after (Some (place_at x))
+      → ((t : ℕ) → t < floor → at cells x Lock t ≡ None)
+      → HasCome cells st floor FirstPass after
+      → HasCome cells st floor FirstPass (Some (place_at x))
   -- after the last cell to the second pass
-  pub turned : IsNextCell cells after None → HasCome cells st floor FirstPass after → HasCome cells st floor SecondPass None
+  pub turned : IsNextCell cells after None → HasCome cells st floor FirstPass after
+      → HasCome cells st floor SecondPass None
   -- past a tidy cell
   pub tidied : (x : Cell) → IsNextCell cells after (Some (place_at x)) → IsTidy cells x floor
-      → HasCome cells st floor SecondPass after → HasCome cells st floor SecondPass (Some (place_at x))
+      → HasCome cells st floor SecondPass after
+      → HasCome cells st floor SecondPass (Some (place_at x))
   -- after the last cell to its end
-  pub ended : IsNextCell cells after None → HasCome cells st floor SecondPass after → (x : Cell) → IsTidy cells x floor
+  pub ended : IsNextCell cells after None → HasCome cells st floor SecondPass after → (x : Cell)
+      → IsTidy cells x floor
 
 abbrev pub ComesFurther : Cells → State → Type 0
 ComesFurther cells st = (floor : ℕ) (after : Option Place) → GoesFurther cells st floor after
@@ -112,16 +133,21 @@ ComesFurther cells st = (floor : ℕ) (after : Option Place) → GoesFurther cel
 pub data ChangesCells (cells : Cells) (st : State) : Cells → Type 0 where
   unchanged : ChangesCells cells st cells
   -- an active session puts data and lock
-  locks_cell : (x : Cell) (t : ℕ) (p : Phase) (v : List ℕ) (first : Cell) → InPhase st t p → ChangesCells cells st (held_cells cells x t v first)
+  locks_cell : (x : Cell) (t : ℕ) (p : Phase) (v : List ℕ) (first : Cell) → InPhase st t p
+      → ChangesCells cells st (held_cells cells x t v first)
   -- a lock gives way to the record of its start's commit, which was made or is made now
-  records_commit : (x : Cell) (t c : ℕ) → Marked st x t → CommittedAt st t c ⊎ InPhase st t (Stamped c) → ChangesCells cells st (recorded_cells cells x t c)
+  records_commit : (x : Cell) (t c : ℕ) → Marked st x t → CommittedAt st t c
+      ⊎ InPhase st t (Stamped c) → ChangesCells cells st (recorded_cells cells x t c)
   erases_lock : (x : Cell) (t : ℕ) → ChangesCells cells st (erased_cells cells x t)
   erases_versions : (cells' : Cells) → Collects cells cells' st → ChangesCells cells st cells'
 
 -- whoever takes a step, a collector has come as far
 abbrev pub ComeStays : Cells → State → Type 0
-ComeStays cells st = (next : State) (q : Request) (r : Reply) → Step st q r next → (cells' : Cells) → ChangesCells cells st cells'
-    → (floor : ℕ) → floor ≤ st.floor → (pass : Pass) (after : Option Place) → HasCome cells st floor pass after → HasCome cells' next floor pass after
+ComeStays cells st =
+    (next : State) (q : Request) (r : Reply) → Step st q r next → (cells' : Cells)
+    → ChangesCells cells st cells'
+    → (floor : ℕ) → floor ≤ st.floor → (pass : Pass) (after : Option Place)
+    → HasCome cells st floor pass after → HasCome cells' next floor pass after
 
 -- ---- how much a collector has left
 
@@ -137,7 +163,8 @@ comes_after (Some before) place = is_lt (place_cmp before place)
 abbrev pub cells_after : Cells → Option Place → ℕ
 cells_after cells after = len (retain_keys (places_of cells) (comes_after after))
 
--- the keys, and the cells that come after the place, and one more; in the first pass also all cells, and one more
+-- the keys, and the cells that come after the place, and one more;
+-- in the first pass also all cells, and one more
 abbrev pub left_of : Cells → Pass → Option Place → ℕ
 left_of cells FirstPass after = len cells + cells_after cells after + 1 + cells_after cells None + 1
 left_of cells SecondPass after = len cells + cells_after cells after + 1
@@ -149,10 +176,13 @@ HasNoNewKey cells cells' = (k : CellKey) → IsSome (get cells' k) → IsSome (g
 -- each thing that a collector does takes one off at least
 pub record LeftFalls (cells : Cells) : Type 0 where
   -- it erases a key, and puts none
-  pub erased : (cells' : Cells) (k : CellKey) (after : Option Place) → HasNoNewKey cells cells' → IsSome (get cells k) → get cells' k ≡ None
+  pub erased : (cells' : Cells) (k : CellKey) (after : Option Place) → HasNoNewKey cells cells'
+      → IsSome (get cells k) → get cells' k ≡ None
       → left_of cells' SecondPass after + 1 ≤ left_of cells SecondPass after
   -- it goes to a later cell
-  pub moved : (pass : Pass) (after : Option Place) (found : Place) → IsAfter after found → HasCell cells found
+  pub moved : (pass : Pass) (after : Option Place) (found : Place) → IsAfter after found
+      → HasCell cells found
       → left_of cells pass (Some found) + 1 ≤ left_of cells pass after
   -- it turns to its second pass
-  pub turned : (after : Option Place) → left_of cells SecondPass None + 1 ≤ left_of cells FirstPass after
+  pub turned : (after : Option Place)
+      → left_of cells SecondPass None + 1 ≤ left_of cells FirstPass after

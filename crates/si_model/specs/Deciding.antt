@@ -12,17 +12,22 @@ pub record TellsFirst (cells : Cells) (st : State) (t : ℕ) (first : Cell) : Ty
   -- its lock stands: it has no fate yet
   pub locked : IsThere cells first Lock t → (¬ IsCommitted st t) × (¬ IsDead st t)
   -- its lock is gone: a start that a cleaner clears was committed or rolled back
-  pub unlocked : at cells first Lock t ≡ None → (i : ℕ) (k : Cleaner) → get st.cleaners i ≡ Some k → k.start ≡ t → IsCommitted st t ⊎ IsDead st t
+  pub unlocked : at cells first Lock t ≡ None → (i : ℕ) (k : Cleaner) → get st.cleaners i ≡ Some k
+      → k.start ≡ t → IsCommitted st t ⊎ IsDead st t
   -- a record names it: it was committed there
   pub forward : (c : ℕ) → at cells first Write c ≡ Some (start_text t) → CommittedAt st t c
-  -- Its lock is gone and no record names it: it was rolled back, as long as any mark of it stands. Its record may have been
-  -- collected instead, but then none does: a record goes only where a later one lies at or below each mark.
-  pub back : at cells first Lock t ≡ None → ((c : ℕ) → t < c → at cells first Write c ≢ Some (start_text t)) → (x : Cell) → Marked st x t → IsDead st t
+  -- Its lock is gone and no record names it: it was rolled back, as long as any mark of it stands.
+  -- Its record may have been collected instead, but then none does:
+  -- a record goes only where a later one lies at or below each mark.
+  pub back : at cells first Lock t ≡ None
+      → ((c : ℕ) → t < c → at cells first Write c ≢ Some (start_text t))
+      → (x : Cell) → Marked st x t → IsDead st t
 
 abbrev pub FirstTells : Cells → State → Type 0
 FirstTells cells st = (t : ℕ) (first : Cell) → IsFirst st t first → TellsFirst cells st t first
 
--- what a cleaner has found of a start's fate: nothing yet, its commit stamp, or that it was rolled back
+-- what a cleaner has found of a start's fate: nothing yet, its commit stamp,
+-- or that it was rolled back
 pub data Verdict : Type 0 where
   NotYet : Verdict
   Forward : (stamp : ℕ) → Verdict
@@ -34,12 +39,14 @@ IsRight st t NotYet = Unit {0}
 IsRight st t (Forward c) = CommittedAt st t c
 IsRight st t Back = IsDead st t
 
--- what a cleaner of t's mark on x knows: t's first cell, and a verdict that is right as long as the mark stands
+-- what a cleaner of t's mark on x knows: t's first cell,
+-- and a verdict that is right as long as the mark stands
 pub record Knows (st : State) (x : Cell) (t : ℕ) (first : Cell) (verdict : Verdict) : Type 0 where
   pub is_first : IsFirst st t first
   pub right : Marked st x t → IsRight st t verdict
 
 -- what each open cleaner knows stays so
 abbrev pub CleanersKnow : State → State → Type 0
-CleanersKnow st next = (i : ℕ) (k : Cleaner) (first : Cell) (verdict : Verdict) → get st.cleaners i ≡ Some k
+CleanersKnow st next =
+    (i : ℕ) (k : Cleaner) (first : Cell) (verdict : Verdict) → get st.cleaners i ≡ Some k
     → Knows st k.cell k.start first verdict → Knows next k.cell k.start first verdict

@@ -19,7 +19,8 @@ IsErase (Put at value) key = ⊥
 
 -- the two edits that put the write record of t at c in the place of the lock of x
 abbrev pub IsRecording : Cell → ℕ → ℕ → List Edit → Type 0
-IsRecording x t c (written ∷ lock ∷ []) = IsPut written (key_of x Write c) (start_text t) × IsErase lock (key_of x Lock t)
+IsRecording x t c (written ∷ lock ∷ []) =
+    IsPut written (key_of x Write c) (start_text t) × IsErase lock (key_of x Lock t)
 IsRecording x t c edits = ⊥
 
 -- the edit that erases the lock of x, and puts nothing in its place
@@ -29,13 +30,16 @@ IsErasing x t edits = ⊥
 
 -- The row and the edits by which t records x at c. Where the rows hold, the lock of x stands.
 abbrev pub RecordsCell : Type 0 → Cells → Cell → ℕ → ℕ → List ℕ → List Edit → Type 0
-RecordsCell Holds cells x t c row edits = (row ≡ x.row) × (Holds → IsThere cells x Lock t) × IsRecording x t c edits
+RecordsCell Holds cells x t c row edits =
+    (row ≡ x.row) × (Holds → IsThere cells x Lock t) × IsRecording x t c edits
 
 -- and those by which the lock of t on x is erased
 abbrev pub ErasesCell : Type 0 → Cells → Cell → ℕ → List ℕ → List Edit → Type 0
-ErasesCell Holds cells x t row edits = (row ≡ x.row) × (Holds → IsThere cells x Lock t) × IsErasing x t edits
+ErasesCell Holds cells x t row edits =
+    (row ≡ x.row) × (Holds → IsThere cells x Lock t) × IsErasing x t edits
 
 -- what such edits make of the cells
 pub record MakeCells (cells : Cells) (x : Cell) (t : ℕ) (edits : List Edit) : Type 0 where
-  pub recorded : (c : ℕ) → IsRecording x t c edits → after_edits cells edits ≡ recorded_cells cells x t c
+  pub recorded : (c : ℕ) → IsRecording x t c edits
+      → after_edits cells edits ≡ recorded_cells cells x t c
   pub erased : IsErasing x t edits → after_edits cells edits ≡ erased_cells cells x t

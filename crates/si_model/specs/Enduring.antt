@@ -26,7 +26,8 @@ pub record HaveTried (st : State) : Type 0 where
   pub marked : (x : Cell) (t : ℕ) → Marked st x t → HasTried st x t
   pub cleaned : (i : ℕ) (k : Cleaner) → get st.cleaners i ≡ Some k → HasTried st k.cell k.start
 
--- a mark that left never comes back, for its start has had its chance; and what was decided stays so
+-- a mark that left never comes back, for its start has had its chance;
+-- and what was decided stays so
 pub record Endures (st next : State) : Type 0 where
   pub tried : (x : Cell) (t : ℕ) → HasTried st x t → HasTried next x t
   pub gone : (x : Cell) (t : ℕ) → HasTried st x t → Marked next x t → Marked st x t

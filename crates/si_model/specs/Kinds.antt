@@ -67,4 +67,6 @@ pub record LeavesOthers (kind : Kind) (st next : State) : Type 0 where
 
 -- each request leaves the parts that are of other kinds
 abbrev pub EachLeavesOthers : Type 0
-EachLeavesOthers = (st next : State) (q : Request) (r : Reply) → Step st q r next → LeavesOthers (kind_of q) st next
+EachLeavesOthers =
+    (st next : State) (q : Request) (r : Reply) → Step st q r next
+    → LeavesOthers (kind_of q) st next

@@ -10,9 +10,11 @@ use Rattle.si_model.specs.declared.replies.Cell.{Cell}
 
 -- a law of each step from a reached state
 abbrev pub AtEachStep : (State → State → Type 0) → Type 0
-AtEachStep Law = (st next : State) (q : Request) (r : Reply) → IsReached st → Step st q r next → Law st next
+AtEachStep Law =
+    (st next : State) (q : Request) (r : Reply) → IsReached st → Step st q r next → Law st next
 
--- each answer is the snapshot at its session's start, of the commits as they are now (snapshot isolation)
+-- each answer is the snapshot at its session's start,
+-- of the commits as they are now (snapshot isolation)
 abbrev pub IsSettled : State → Type 0
 IsSettled st = (r : Read) → r ∈ st.reads → IsSnapshot st.commits r.start r.cell r.answer
 
@@ -24,7 +26,8 @@ FirstCommitterWins st = (a b : Commit) → a ∈ st.commits → b ∈ st.commits
 -- no start is both dead and committed, or committed twice
 pub record OneFate (st : State) : Type 0 where
   pub not_both : (a : Commit) → a ∈ st.commits → ¬ IsDead st a.start
-  pub not_twice : (i j : ℕ) (a b : Commit) → slice_get st.commits i ≡ Some a → slice_get st.commits j ≡ Some b → a.start ≡ b.start → i ≡ j
+  pub not_twice : (i j : ℕ) (a b : Commit) → slice_get st.commits i ≡ Some a
+      → slice_get st.commits j ≡ Some b → a.start ≡ b.start → i ≡ j
 
 -- a cell has at most one mark
 abbrev pub OneMark : State → Type 0
@@ -32,12 +35,16 @@ OneMark st = (x : Cell) (t u : ℕ) → Marked st x t → Marked st x u → t �
 
 -- a mark that left doesn't come back in the same run
 abbrev pub GoneForGood : State → Type 0
-GoneForGood st = (mid end : State) (qs qs' : List Request) (rs rs' : List Reply) → Run st qs rs mid → Run mid qs' rs' end
+GoneForGood st =
+    (mid end : State) (qs qs' : List Request) (rs rs' : List Reply) → Run st qs rs mid
+    → Run mid qs' rs' end
     → (x : Cell) (t : ℕ) → Marked st x t → ¬ Marked mid x t → ¬ Marked end x t
 
 -- of each cell there is one snapshot at a stamp
 abbrev pub OneSnapshot : State → Type 0
-OneSnapshot st = (s : ℕ) (x : Cell) (v w : Option Value) → IsSnapshot st.commits s x v → IsSnapshot st.commits s x w → v ≡ w
+OneSnapshot st =
+    (s : ℕ) (x : Cell) (v w : Option Value) → IsSnapshot st.commits s x v
+    → IsSnapshot st.commits s x w → v ≡ w
 
 -- c is at most the floor and each mark's start
 abbrev pub IsCleared : State → ℕ → Type 0
@@ -45,7 +52,9 @@ IsCleared st c = (c ≤ st.floor) × ((x : Cell) (t : ℕ) → Marked st x t →
 
 -- what is cleared stays so
 abbrev pub StaysCleared : State → Type 0
-StaysCleared st = (end : State) (qs : List Request) (rs : List Reply) → Run st qs rs end → (c : ℕ) → IsCleared st c → IsCleared end c
+StaysCleared st =
+    (end : State) (qs : List Request) (rs : List Reply) → Run st qs rs end
+    → (c : ℕ) → IsCleared st c → IsCleared end c
 
 -- where the floor lies
 pub record FloorStaysLow (st : State) : Type 0 where
@@ -57,37 +66,53 @@ pub record FloorStaysLow (st : State) : Type 0 where
 
 -- a collector that ends has cleared all below its floor
 abbrev pub ClearsItsFloor : State → Type 0
-ClearsItsFloor st = (i n f : ℕ) (next : State) → get st.collectors i ≡ Some f → Step st (CollectStep i n) Collected next → IsCleared next f
+ClearsItsFloor st =
+    (i n f : ℕ) (next : State) → get st.collectors i ≡ Some f
+    → Step st (CollectStep i n) Collected next → IsCleared next f
 
 -- what is told of a start's fate is so, and after a cleaner's second step the mark is gone
 pub record TellsFate (st : State) : Type 0 where
-  pub committed : (t c : ℕ) (next : State) → Step st (Advance t) (Committed c) next → CommittedAt next t c
+  pub committed : (t c : ℕ) (next : State) → Step st (Advance t) (Committed c) next
+      → CommittedAt next t c
   pub lost : (t : ℕ) (next : State) → Step st (Advance t) Lost next → IsDead st t
-  pub decided : (i : ℕ) (k : Cleaner) (next : State) → get st.cleaners i ≡ Some k → Step st (CleanStep i) Decided next
+  pub decided : (i : ℕ) (k : Cleaner) (next : State) → get st.cleaners i ≡ Some k
+      → Step st (CleanStep i) Decided next
       → IsCommitted next k.start ⊎ IsDead next k.start
-  pub rolled_forward : (i c : ℕ) (k : Cleaner) (next : State) → get st.cleaners i ≡ Some k → Step st (CleanStep i) (RolledForward c) next
+  pub rolled_forward : (i c : ℕ) (k : Cleaner) (next : State) → get st.cleaners i ≡ Some k
+      → Step st (CleanStep i) (RolledForward c) next
       → CommittedAt st k.start c × (¬ Marked next k.cell k.start)
-  pub rolled_back : (i : ℕ) (k : Cleaner) (next : State) → get st.cleaners i ≡ Some k → Step st (CleanStep i) RolledBack next
+  pub rolled_back : (i : ℕ) (k : Cleaner) (next : State) → get st.cleaners i ≡ Some k
+      → Step st (CleanStep i) RolledBack next
       → IsDead st k.start × (¬ Marked next k.cell k.start)
-  pub gone : (i : ℕ) (k : Cleaner) (next : State) → get st.cleaners i ≡ Some k → Step st (CleanStep i) Gone next
+  pub gone : (i : ℕ) (k : Cleaner) (next : State) → get st.cleaners i ≡ Some k
+      → Step st (CleanStep i) Gone next
       → (IsCommitted st k.start ⊎ IsDead st k.start) × (¬ Marked next k.cell k.start)
 
 -- the cell at this place of t's writes clashes; places count from 1
 abbrev pub ClashesAt : State → ℕ → ℕ → Type 0
-ClashesAt st t place = (ws : Writes) × (k : ℕ) × (x : Cell) × (v : Value) × Wrote st t ws × Puts ws k x v × (place ≡ k + 1) × Clashes st x t
+ClashesAt st t place =
+    (ws : Writes) × (k : ℕ) × (x : Cell)
+    × (v : Value) × Wrote st t ws × Puts ws k x v × (place ≡ k + 1) × Clashes st x t
 
 -- what is told of marks is so, and a Conflict has its mark or its commit
 pub record TellsMarks (st : State) : Type 0 where
-  pub pending : (s t : ℕ) (x : Cell) (next : State) → Step st (Get s x) (Pending t) next → Marked st x t × (t ≤ s)
-  pub conflict : (t place : ℕ) (next : State) → Step st (Advance t) (Conflict place) next → ClashesAt st t place
-  pub no_lock : (x : Cell) (next : State) → Step st (CleanBegin x) NoLock next → (t : ℕ) → ¬ Marked st x t
-  pub cleaning : (x : Cell) (i t : ℕ) (next : State) → Step st (CleanBegin x) (Cleaning i t) next → (i ≡ st.next_cleaner) × Marked st x t
+  pub pending : (s t : ℕ) (x : Cell) (next : State) → Step st (Get s x) (Pending t) next
+      → Marked st x t × (t ≤ s)
+  pub conflict : (t place : ℕ) (next : State) → Step st (Advance t) (Conflict place) next
+      → ClashesAt st t place
+  pub no_lock : (x : Cell) (next : State) → Step st (CleanBegin x) NoLock next → (t : ℕ)
+      → ¬ Marked st x t
+  pub cleaning : (x : Cell) (i t : ℕ) (next : State) → Step st (CleanBegin x) (Cleaning i t) next
+      → (i ≡ st.next_cleaner) × Marked st x t
   pub blocked : (i n t : ℕ) (x : Cell) (next : State) → Step st (CollectStep i n) (Blocked x t) next
       → (f : ℕ) × (get st.collectors i ≡ Some f) × Marked st x t × (t < f)
 
--- where a refusal is the first that applies, the reply is that one or one of the store, and the state stays
+-- where a refusal is the first that applies, the reply is that one or one of the store,
+-- and the state stays
 abbrev pub RefusesFirst : State → Type 0
-RefusesFirst st = (q : Request) (r : Reply) (next : State) (n : Refusal) → IsFirstRefusal st q n → Step st q r next
+RefusesFirst st =
+    (q : Request) (r : Reply) (next : State) (n : Refusal) → IsFirstRefusal st q n
+    → Step st q r next
     → (m : Refusal) × (r ≡ Refused m) × ((m ≡ n) ⊎ IsStorageRefusal m) × (next ≡ st)
 
 -- the fate of a start is seen at the mark of its first cell
@@ -95,10 +120,12 @@ pub record FateOf (st : State) (t : ℕ) (x : Cell) : Type 0 where
   pub dead : IsDead st t → ¬ Marked st x t
   pub committed : IsCommitted st t → ¬ Marked st x t
   pub marked : (y : Cell) → Marked st y t → Marked st x t ⊎ (IsCommitted st t ⊎ IsDead st t)
-  pub cleaned : (i : ℕ) (k : Cleaner) → get st.cleaners i ≡ Some k → k.start ≡ t → Marked st x t ⊎ (IsCommitted st t ⊎ IsDead st t)
+  pub cleaned : (i : ℕ) (k : Cleaner) → get st.cleaners i ≡ Some k → k.start ≡ t
+      → Marked st x t ⊎ (IsCommitted st t ⊎ IsDead st t)
 
 abbrev pub FateSeen : State → Type 0
-FateSeen st = (t : ℕ) (ws : Writes) (x : Cell) (v : Value) → Wrote st t ws → Puts ws 0 x v → FateOf st t x
+FateSeen st =
+    (t : ℕ) (ws : Writes) (x : Cell) (v : Value) → Wrote st t ws → Puts ws 0 x v → FateOf st t x
 
 -- no session began above the top
 abbrev pub StartsLow : State → Type 0
@@ -106,11 +133,13 @@ StartsLow st = (t : ℕ) (p : Phase) → InPhase st t p → t ≤ st.top
 
 -- a session with its stamp may commit exactly if the mark of its first cell stands
 abbrev pub CommitSeen : State → Type 0
-CommitSeen st = (t c : ℕ) (ws : Writes) (x : Cell) (v : Value) → InPhase st t (Stamped c) → Wrote st t ws → Puts ws 0 x v
+CommitSeen st =
+    (t c : ℕ) (ws : Writes) (x : Cell) (v : Value) → InPhase st t (Stamped c) → Wrote st t ws
+    → Puts ws 0 x v
     → (Marked st x t → ¬ IsDead st t) × (¬ Marked st x t → IsDead st t)
 
--- What each step keeps, whatever it does: the writes of a start that isn't open stay, it doesn't get open again, and
--- what is cleared stays so.
+-- What each step keeps, whatever it does: the writes of a start that isn't open stay, it doesn't
+-- get open again, and what is cleared stays so.
 pub record Goes (st st' : State) : Type 0 where
   pub wrote : (u : ℕ) (ws : Writes) → Wrote st u ws → ¬ InPhase st u Open → Wrote st' u ws
   pub late : (u : ℕ) (ws : Writes) → Wrote st u ws → ¬ InPhase st u Open → ¬ InPhase st' u Open
@@ -133,7 +162,8 @@ pub record Bounds (st : State) : Type 0 where
   -- sessions
   pub has_begun : (t : ℕ) (p : Phase) → InPhase st t p → (ws : Writes) × Wrote st t ws
   pub few_sessions : len st.active ≤ most_sessions
-  pub fits : (t : ℕ) (p : Phase) → InPhase st t p → (ws : Writes) → Wrote st t ws → Fits p (length ws)
+  pub fits : (t : ℕ) (p : Phase) → InPhase st t p → (ws : Writes) → Wrote st t ws
+      → Fits p (length ws)
   -- commit stamps
   pub stamped_to : (t c : ℕ) → InPhase st t (Stamped c) → c < end_of_stamps
   pub finishing_to : (t c k : ℕ) → InPhase st t (Finishing c k) → c < end_of_stamps
@@ -147,7 +177,8 @@ pub record IsWritable (x : Cell) (v : Value) : Type 0 where
 
 -- sessions write nothing else
 abbrev pub WritesWithinLimits : State → Type 0
-WritesWithinLimits st = (t : ℕ) (ws : Writes) → Wrote st t ws → (x : Cell) (v : Value) → Gives ws x v → IsWritable x v
+WritesWithinLimits st =
+    (t : ℕ) (ws : Writes) → Wrote st t ws → (x : Cell) (v : Value) → Gives ws x v → IsWritable x v
 
 -- the open ones have numbers from 1 on, each below the next number
 pub record IsNumbered {X : Type 0} (open_ones : FinMap nat_cmp X) (next most : ℕ) : Type 0 where
@@ -174,7 +205,10 @@ IsOfTransactions (CleanBegin x) = ⊤
 IsOfTransactions (CleanStep i) = ⊤
 IsOfTransactions _ = ⊥
 
--- a request of a session or cleaner that no refusal meets has an answer that is no refusal, as long as there are stamps and numbers
+-- a request of a session or cleaner that no refusal meets has an answer that is no refusal,
+-- as long as there are stamps and numbers
 abbrev pub IsNeverStuck : State → Type 0
-IsNeverStuck st = (q : Request) → IsOfTransactions q → IsAcceptable st q → st.top + 1 < end_of_stamps → st.next_cleaner < end_of_stamps
+IsNeverStuck st =
+    (q : Request) → IsOfTransactions q → IsAcceptable st q → st.top + 1 < end_of_stamps
+    → st.next_cleaner < end_of_stamps
     → (r : Reply) × (next : State) × Acts st q r next

@@ -12,72 +12,90 @@ pub use Rattle.si_model.specs.State.{State, Value, Writes, Phase, Open, Holding,
 pub use Rattle.si_model.specs.Messages.{Request, Begin, Get, Set, Advance, Stop, CleanBegin, CleanStep, CollectBegin, CollectStep, Minor, Merge, Major, Split, Move, Sweep, OracleRestart, Raw, Checkpoint, Reply, Begun, Answered, Pending, SetDone, Held, Conflict, Drawn, Committed, Lost, Finished, StopDone, NoLock, Cleaning, Decided, RolledForward, RolledBack, Gone, Collecting, More, Blocked, Collected, MinorDone, MergeDone, MajorDone, SplitOff, MoveDone, Swept, RestartDone, RawFound, CheckpointDone, Refused}
 pub use Rattle.si_model.specs.Refusing.{Applies, IsFirstRefusal, IsAcceptable, IsStorageRefusal, Refuses}
 
--- A stamp that may be drawn: any above the greatest that was answered, up to the limit. (Percolator, timestamp oracle.)
+-- A stamp that may be drawn: any above the greatest that was answered, up to the limit.
+-- (Percolator, timestamp oracle.)
 abbrev pub Draws : State → ℕ → Type 0
 Draws st s = (st.top < s) × (s < end_of_stamps)
 
--- The answer for x as of s: the value in the commit of greatest stamp at most s among those that write x;
--- nothing if there is none. (Snapshot isolation.)
+-- The answer for x as of s: the value in the commit of greatest stamp at most s among those that
+-- write x; nothing if there is none. (Snapshot isolation.)
 abbrev pub IsSnapshot : List Commit → ℕ → Cell → Option Value → Type 0
 IsSnapshot commits s x answer =
     ((a : Commit) × (v : Value) × (a ∈ commits) × Gives a.writes x v × (a.stamp ≤ s)
-    × ((b : Commit) → b ∈ commits → Names b.writes x → b.stamp ≤ s → b.stamp ≤ a.stamp) × (answer ≡ Some v))
+    × ((b : Commit) → b ∈ commits → Names b.writes x → b.stamp ≤ s → b.stamp ≤ a.stamp)
+    × (answer ≡ Some v))
     ⊎ ((answer ≡ None) × ((b : Commit) → b ∈ commits → Names b.writes x → s < b.stamp))
 
 -- t may not hold x: a mark stands on it, or it was written after t began. (Percolator, Prewrite.)
 abbrev pub Clashes : State → Cell → ℕ → Type 0
-Clashes st x t = ((u : ℕ) × Marked st x u) ⊎ ((a : Commit) × (a ∈ st.commits) × Names a.writes x × (t < a.stamp))
+Clashes st x t =
+    ((u : ℕ) × Marked st x u) ⊎ ((a : Commit) × (a ∈ st.commits) × Names a.writes x × (t < a.stamp))
 
 -- the session has held this many of its cells and has drawn no commit stamp
 abbrev pub HasHeld : State → ℕ → ℕ → Type 0
 HasHeld st t k = InPhase st t (Holding k) ⊎ (InPhase st t Open × (k ≡ 0))
 
--- the writes after a Set: a cell that is there keeps its place and takes the new value; otherwise it comes last
+-- the writes after a Set: a cell that is there keeps its place and takes the new value;
+-- otherwise it comes last
 pub data Sets (x : Cell) (v : Value) : Writes → Writes → Type 0 where
   appends : Sets x v [] ((x, v) ∷ [])
   replaces : {old : Value} {ws : Writes} → Sets x v ((x, old) ∷ ws) ((x, v) ∷ ws)
-  passes : {y : Cell} {w : Value} {ws ws' : Writes} → y ≢ x → Sets x v ws ws' → Sets x v ((y, w) ∷ ws) ((y, w) ∷ ws')
+  passes : {y : Cell} {w : Value} {ws ws' : Writes} → y ≢ x → Sets x v ws ws'
+      → Sets x v ((y, w) ∷ ws) ((y, w) ∷ ws')
 
 -- the sessions after one has finished k of its n cells: it ends with the last
 abbrev pub finishing : FinMap nat_cmp Phase → ℕ → ℕ → ℕ → ℕ → FinMap nat_cmp Phase
 finishing active t c k n = cond (nat_eq k n) (remove active t) (insert active t (Finishing c k))
 
--- no session that is active, or will be, has a start below it: the least active start, or one more than the top
+-- no session that is active, or will be, has a start below it: the least active start,
+-- or one more than the top
 pub data IsFloor (st : State) : ℕ → Type 0 where
-  least : {t : ℕ} {p : Phase} → InPhase st t p → ((u : ℕ) (q : Phase) → InPhase st u q → t ≤ u) → IsFloor st t
+  least : {t : ℕ} {p : Phase} → InPhase st t p → ((u : ℕ) (q : Phase) → InPhase st u q → t ≤ u)
+      → IsFloor st t
   none_active : ((u : ℕ) (q : Phase) → ¬ InPhase st u q) → IsFloor st (st.top + 1)
 
--- the tablet that holds the row is cut there; the left part, which ends with the row, is tablet n (Bigtable, tablets)
+-- the tablet that holds the row is cut there; the left part, which ends with the row,
+-- is tablet n (Bigtable, tablets)
 pub data Cuts (row : List ℕ) (n : ℕ) : List Place → List Place → Type 0 where
   cuts_last : {k server : ℕ} → Cuts row n (record { end = None; tablet = k; server = server } ∷ [])
-      (record { end = Some row; tablet = n; server = server } ∷ record { end = None; tablet = k; server = server } ∷ [])
+      (record { end = Some row; tablet = n; server = server }
+      ∷ record { end = None; tablet = k; server = server } ∷ [])
   cuts : {end : List ℕ} {k server : ℕ} {ps : List Place} → slice_cmp nat_cmp row end ≡ Less
       → Cuts row n (record { end = Some end; tablet = k; server = server } ∷ ps)
-      (record { end = Some row; tablet = n; server = server } ∷ record { end = Some end; tablet = k; server = server } ∷ ps)
-  cuts_later : {end : List ℕ} {k server : ℕ} {ps ps' : List Place} → slice_cmp nat_cmp end row ≡ Less → Cuts row n ps ps'
-      → Cuts row n (record { end = Some end; tablet = k; server = server } ∷ ps) (record { end = Some end; tablet = k; server = server } ∷ ps')
+      (record { end = Some row; tablet = n; server = server }
+      ∷ record { end = Some end; tablet = k; server = server } ∷ ps)
+  cuts_later : {end : List ℕ} {k server : ℕ} {ps ps' : List Place}
+      → slice_cmp nat_cmp end row ≡ Less → Cuts row n ps ps'
+      → Cuts row n (record { end = Some end; tablet = k; server = server } ∷ ps)
+      (record { end = Some end; tablet = k; server = server } ∷ ps')
 
 -- the tablet gets this server
 pub data Moves (tablet server : ℕ) : List Place → List Place → Type 0 where
   moves : {end : Option (List ℕ)} {old : ℕ} {ps : List Place}
-      → Moves tablet server (record { end = end; tablet = tablet; server = old } ∷ ps) (record { end = end; tablet = tablet; server = server } ∷ ps)
-  moves_later : {p : Place} {ps ps' : List Place} → p.tablet ≢ tablet → Moves tablet server ps ps' → Moves tablet server (p ∷ ps) (p ∷ ps')
+      → Moves tablet server (record { end = end; tablet = tablet; server = old } ∷ ps)
+      (record { end = end; tablet = tablet; server = server } ∷ ps)
+  moves_later : {p : Place} {ps ps' : List Place} → p.tablet ≢ tablet → Moves tablet server ps ps'
+      → Moves tablet server (p ∷ ps) (p ∷ ps')
 
 -- Accepted requests that change nothing at all.
 pub data Tells (st : State) : Request → Reply → Type 0 where
   -- a mark at or below the session's start keeps its answer back (Percolator, Get)
-  waits : {s t : ℕ} {x : Cell} → InPhase st s Open → Marked st x t → t ≤ s → Tells st (Get s x) (Pending t)
+  waits : {s t : ℕ} {x : Cell} → InPhase st s Open
+      → Marked st x t → t ≤ s → Tells st (Get s x) (Pending t)
   finds_none : {x : Cell} → ((t : ℕ) → ¬ Marked st x t) → Tells st (CleanBegin x) NoLock
   -- a collector may stop at any mark below its floor, and go on at any time
-  is_blocked : {i n f t : ℕ} {x : Cell} → get st.collectors i ≡ Some f → Marked st x t → t < f → Tells st (CollectStep i n) (Blocked x t)
+  is_blocked : {i n f t : ℕ} {x : Cell} → get st.collectors i ≡ Some f → Marked st x t → t < f
+      → Tells st (CollectStep i n) (Blocked x t)
   goes_further : {i n f : ℕ} → get st.collectors i ≡ Some f → Tells st (CollectStep i n) More
-  -- compactions, sweeps, raw reads, checkpoints and restarts of the oracle are no transaction's matter
+  -- compactions, sweeps, raw reads, checkpoints and restarts of the oracle
+  -- are no transaction's matter
   minors : {k : ℕ} → Tells st (Minor k) MinorDone
   merges : {k n : ℕ} → Tells st (Merge k n) MergeDone
   majors : {k : ℕ} → Tells st (Major k) MajorDone
   sweeps : {n : ℕ} → Tells st Sweep (Swept n)
   restarts : Tells st OracleRestart RestartDone
-  finds_raw : {x : Cell} {q : Qualifier} {low high : ℕ} {found : Option (ℕ × Value)} → Tells st (Raw x q low high) (RawFound found)
+  finds_raw : {x : Cell} {q : Qualifier} {low high : ℕ} {found : Option (ℕ × Value)}
+      → Tells st (Raw x q low high) (RawFound found)
   checkpoints : Tells st Checkpoint CheckpointDone
 
 -- What an accepted request may do in st: its reply, and the state that it leads to.
@@ -85,63 +103,79 @@ pub data Acts (st : State) : Request → Reply → State → Type 0 where
   tells : {q : Request} {r : Reply} → Tells st q r → Acts st q r st
   -- sessions (Percolator, Get, Set, Prewrite and Commit)
   begins : {s : ℕ} → Draws st s
-      → Acts st Begin (Begun s) (record st { top = s; begun = insert st.begun s []; active = insert st.active s Open })
+      → Acts st Begin (Begun s)
+      (record st { top = s; begun = insert st.begun s []; active = insert st.active s Open })
   reads : {s : ℕ} {x : Cell} {answer : Option Value} → InPhase st s Open
       → ((t : ℕ) → Marked st x t → s < t) → IsSnapshot st.commits s x answer
-      → Acts st (Get s x) (Answered answer) (record st { reads = record { start = s; cell = x; answer = answer } ∷ st.reads })
+      → Acts st (Get s x) (Answered answer)
+      (record st { reads = record { start = s; cell = x; answer = answer } ∷ st.reads })
   sets : {s : ℕ} {x : Cell} {v : Value} {ws ws' : Writes} → InPhase st s Open
       → Wrote st s ws → Sets x v ws ws'
       → Acts st (Set s x v) SetDone (record st { begun = insert st.begun s ws' })
   holds : {t k : ℕ} {ws : Writes} {x : Cell} {v : Value} → HasHeld st t k
       → Wrote st t ws → Puts ws k x v → ¬ Clashes st x t
-      → Acts st (Advance t) (Held (k + 1) (length ws)) (record st { marks = (x, t) ∷ st.marks; active = insert st.active t (Holding (k + 1)) })
+      → Acts st (Advance t) (Held (k + 1) (length ws))
+      (record st { marks = (x, t) ∷ st.marks; active = insert st.active t (Holding (k + 1)) })
   conflicts : {t k : ℕ} {ws : Writes} {x : Cell} {v : Value} → HasHeld st t k
       → Wrote st t ws → Puts ws k x v → Clashes st x t
       → Acts st (Advance t) (Conflict (k + 1)) (record st { active = remove st.active t })
   draws : {t c : ℕ} {ws : Writes} → InPhase st t (Holding (length ws)) → Wrote st t ws → Draws st c
-      → Acts st (Advance t) (Drawn c) (record st { top = c; active = insert st.active t (Stamped c) })
+      → Acts st (Advance t) (Drawn c)
+      (record st { top = c; active = insert st.active t (Stamped c) })
   loses : {t c : ℕ} → InPhase st t (Stamped c) → IsDead st t
       → Acts st (Advance t) Lost (record st { active = remove st.active t })
   -- the commit: all writes at once, and the mark of the first cell goes
-  commits : {t c : ℕ} {ws : Writes} {x : Cell} {v : Value} {marks' : List (Cell × ℕ)} → InPhase st t (Stamped c)
+  commits : {t c : ℕ} {ws : Writes} {x : Cell} {v : Value} {marks' : List (Cell × ℕ)}
+      → InPhase st t (Stamped c)
       → ¬ IsDead st t → Wrote st t ws → Puts ws 0 x v → Leaves st.marks (x, t) marks'
       → Acts st (Advance t) (Committed c) (record st {
         commits = record { start = t; stamp = c; writes = ws } ∷ st.commits;
         marks = marks';
         active = finishing st.active t c 1 (length ws);
       })
-  finishes : {t c k : ℕ} {ws : Writes} {x : Cell} {v : Value} {marks' : List (Cell × ℕ)} → InPhase st t (Finishing c k)
+  finishes : {t c k : ℕ} {ws : Writes} {x : Cell} {v : Value} {marks' : List (Cell × ℕ)}
+      → InPhase st t (Finishing c k)
       → Wrote st t ws → Puts ws k x v → Leaves st.marks (x, t) marks'
-      → Acts st (Advance t) (Finished (k + 1) (length ws)) (record st { marks = marks'; active = finishing st.active t c (k + 1) (length ws) })
-  stops : {t : ℕ} {p : Phase} → InPhase st t p → Acts st (Stop t) StopDone (record st { active = remove st.active t })
+      → Acts st (Advance t) (Finished (k + 1) (length ws))
+      (record st { marks = marks'; active = finishing st.active t c (k + 1) (length ws) })
+  stops : {t : ℕ} {p : Phase} → InPhase st t p
+      → Acts st (Stop t) StopDone (record st { active = remove st.active t })
   -- clean-up (after Percolator's clean-up of locks)
   opens : {x : Cell} {t : ℕ} → Marked st x t → st.next_cleaner < end_of_stamps
       → Acts st (CleanBegin x) (Cleaning st.next_cleaner t) (record st {
-        cleaners = insert st.cleaners st.next_cleaner (record { cell = x; start = t; decided = false });
+        cleaners =
+            insert st.cleaners st.next_cleaner (record { cell = x; start = t; decided = false });
         next_cleaner = st.next_cleaner + 1;
       })
   -- the first step decides the fate of the start at its first cell, if that is open
   kills : {i t : ℕ} {x y : Cell} {v : Value} {ws : Writes} {marks' : List (Cell × ℕ)}
       → get st.cleaners i ≡ Some (record { cell = x; start = t; decided = false })
-      → ¬ IsCommitted st t → ¬ IsDead st t → Wrote st t ws → Puts ws 0 y v → Leaves st.marks (y, t) marks'
+      → ¬ IsCommitted st t → ¬ IsDead st t → Wrote st t ws → Puts ws 0 y v
+      → Leaves st.marks (y, t) marks'
       → Acts st (CleanStep i) Decided (record st {
         dead = t ∷ st.dead;
         marks = marks';
         cleaners = insert st.cleaners i (record { cell = x; start = t; decided = true });
       })
-  learns : {i t : ℕ} {x : Cell} → get st.cleaners i ≡ Some (record { cell = x; start = t; decided = false })
+  learns : {i t : ℕ} {x : Cell}
+      → get st.cleaners i ≡ Some (record { cell = x; start = t; decided = false })
       → IsCommitted st t ⊎ IsDead st t
-      → Acts st (CleanStep i) Decided (record st { cleaners = insert st.cleaners i (record { cell = x; start = t; decided = true }) })
+      → Acts st (CleanStep i) Decided (record st {
+        cleaners = insert st.cleaners i (record { cell = x; start = t; decided = true });
+      })
   -- the second step clears the cell, by that fate
   rolls_forward : {i t c : ℕ} {x : Cell} {marks' : List (Cell × ℕ)}
       → get st.cleaners i ≡ Some (record { cell = x; start = t; decided = true })
       → Marked st x t → CommittedAt st t c → Leaves st.marks (x, t) marks'
-      → Acts st (CleanStep i) (RolledForward c) (record st { marks = marks'; cleaners = remove st.cleaners i })
+      → Acts st (CleanStep i) (RolledForward c)
+      (record st { marks = marks'; cleaners = remove st.cleaners i })
   rolls_back : {i t : ℕ} {x : Cell} {marks' : List (Cell × ℕ)}
       → get st.cleaners i ≡ Some (record { cell = x; start = t; decided = true })
       → Marked st x t → ¬ IsCommitted st t → Leaves st.marks (x, t) marks'
-      → Acts st (CleanStep i) RolledBack (record st { marks = marks'; cleaners = remove st.cleaners i })
-  finds_gone : {i t : ℕ} {x : Cell} → get st.cleaners i ≡ Some (record { cell = x; start = t; decided = true })
+      → Acts st (CleanStep i) RolledBack
+      (record st { marks = marks'; cleaners = remove st.cleaners i })
+  finds_gone : {i t : ℕ} {x : Cell}
+      → get st.cleaners i ≡ Some (record { cell = x; start = t; decided = true })
       → ¬ Marked st x t → Acts st (CleanStep i) Gone (record st { cleaners = remove st.cleaners i })
   -- collection
   collects : {f : ℕ} → IsFloor st f → st.next_collector < end_of_stamps
@@ -150,11 +184,13 @@ pub data Acts (st : State) : Request → Reply → State → Type 0 where
         next_collector = st.next_collector + 1;
         floor = max st.floor f;
       })
-  has_collected : {i n f : ℕ} → get st.collectors i ≡ Some f → ((x : Cell) (t : ℕ) → Marked st x t → f ≤ t)
+  has_collected : {i n f : ℕ} → get st.collectors i ≡ Some f
+      → ((x : Cell) (t : ℕ) → Marked st x t → f ≤ t)
       → Acts st (CollectStep i n) Collected (record st { collectors = remove st.collectors i })
   -- tablets (Bigtable, tablets)
   splits : {row : List ℕ} {places' : List Place} → Cuts row st.next_tablet st.places places'
-      → Acts st (Split row) (SplitOff st.next_tablet) (record st { places = places'; next_tablet = st.next_tablet + 1 })
+      → Acts st (Split row) (SplitOff st.next_tablet)
+      (record st { places = places'; next_tablet = st.next_tablet + 1 })
   moves_tablet : {k server : ℕ} {places' : List Place} → Moves k server st.places places'
       → Acts st (Move k server) MoveDone (record st { places = places' })
 
@@ -163,7 +199,8 @@ pub data Step (st : State) : Request → Reply → State → Type 0 where
   -- a refusal changes nothing
   refuses : {q : Request} {n : Refusal} → Refuses st q n → Step st q (Refused n) st
   -- a request is accepted only where no refusal applies
-  accepts : {q : Request} {r : Reply} {st' : State} → IsAcceptable st q → Acts st q r st' → Step st q r st'
+  accepts : {q : Request} {r : Reply} {st' : State} → IsAcceptable st q → Acts st q r st'
+      → Step st q r st'
 
 -- one request after the other
 pub data Run : State → List Request → List Reply → State → Type 0 where
@@ -174,5 +211,6 @@ pub data Run : State → List Request → List Reply → State → Type 0 where
 -- runs and clean restarts lead from the new machine to the state
 pub data IsReached : State → Type 0 where
   begins_new : IsReached new_machine
-  runs : {st st' : State} {qs : List Request} {rs : List Reply} → IsReached st → Run st qs rs st' → IsReached st'
+  runs : {st st' : State} {qs : List Request} {rs : List Reply} → IsReached st → Run st qs rs st'
+      → IsReached st'
   reopens : {st : State} → IsReached st → IsReached (reopened st)

@@ -10,30 +10,39 @@ use Rattle.si_model.specs.State.{State, Value, Writes, Phase, Open, InPhase, Wro
 use Rattle.si_model.specs.Messages.{Request, Begin, Get, Set, Advance, Stop, CleanBegin, CleanStep, CollectBegin, CollectStep, Minor, Merge, Major, Split, Move, Raw}
 use Rattle.si_model.specs.declared.replies.Cell.{Cell}
 
--- The refusal applies to the request: for each operation its refusals, in the order in which they are looked for,
--- which is the order of their numbers. Sweep, Checkpoint and OracleRestart have none.
+-- The refusal applies to the request: for each operation its refusals, in the order in which they
+-- are looked for, which is the order of their numbers.
+-- Sweep, Checkpoint and OracleRestart have none.
 pub data Applies (st : State) : Request → Refusal → Type 0 where
   begin_full : most_sessions ≤ len st.active → Applies st Begin TooManySessions
   get_unknown : {s : ℕ} {x : Cell} → get st.active s ≡ None → Applies st (Get s x) UnknownSession
-  get_late : {s : ℕ} {x : Cell} {p : Phase} → InPhase st s p → p ≢ Open → Applies st (Get s x) WrongPhase
+  get_late : {s : ℕ} {x : Cell} {p : Phase} → InPhase st s p → p ≢ Open
+      → Applies st (Get s x) WrongPhase
   get_row : {s : ℕ} {x : Cell} → ¬ IsRow x.row → Applies st (Get s x) BadRow
   get_family : {s : ℕ} {x : Cell} → ¬ IsFamily x.family → Applies st (Get s x) BadColumn
-  set_unknown : {s : ℕ} {x : Cell} {v : Value} → get st.active s ≡ None → Applies st (Set s x v) UnknownSession
-  set_late : {s : ℕ} {x : Cell} {v : Value} {p : Phase} → InPhase st s p → p ≢ Open → Applies st (Set s x v) WrongPhase
+  set_unknown : {s : ℕ} {x : Cell} {v : Value} → get st.active s ≡ None
+      → Applies st (Set s x v) UnknownSession
+  set_late : {s : ℕ} {x : Cell} {v : Value} {p : Phase} → InPhase st s p → p ≢ Open
+      → Applies st (Set s x v) WrongPhase
   set_row : {s : ℕ} {x : Cell} {v : Value} → ¬ IsRow x.row → Applies st (Set s x v) BadRow
-  set_family : {s : ℕ} {x : Cell} {v : Value} → ¬ IsFamily x.family → Applies st (Set s x v) BadColumn
-  set_long : {s : ℕ} {x : Cell} {v : Value} → most_value < length v → Applies st (Set s x v) BadValue
-  set_full : {s : ℕ} {x : Cell} {v : Value} {ws : Writes} → Wrote st s ws → ¬ Names ws x → most_writes ≤ length ws → Applies st (Set s x v) TooManyWrites
+  set_family : {s : ℕ} {x : Cell} {v : Value} → ¬ IsFamily x.family
+      → Applies st (Set s x v) BadColumn
+  set_long : {s : ℕ} {x : Cell} {v : Value} → most_value < length v
+      → Applies st (Set s x v) BadValue
+  set_full : {s : ℕ} {x : Cell} {v : Value} {ws : Writes} → Wrote st s ws
+      → ¬ Names ws x → most_writes ≤ length ws → Applies st (Set s x v) TooManyWrites
   advance_unknown : {s : ℕ} → get st.active s ≡ None → Applies st (Advance s) UnknownSession
   advance_empty : {s : ℕ} → Wrote st s [] → Applies st (Advance s) EmptyCommit
   stop_unknown : {s : ℕ} → get st.active s ≡ None → Applies st (Stop s) UnknownSession
   clean_row : {x : Cell} → ¬ IsRow x.row → Applies st (CleanBegin x) BadRow
   clean_family : {x : Cell} → ¬ IsFamily x.family → Applies st (CleanBegin x) BadColumn
   -- only where there is a mark to clear
-  clean_full : {x : Cell} {t : ℕ} → Marked st x t → most_cleaners ≤ len st.cleaners → Applies st (CleanBegin x) TooManySessions
+  clean_full : {x : Cell} {t : ℕ} → Marked st x t → most_cleaners ≤ len st.cleaners
+      → Applies st (CleanBegin x) TooManySessions
   clean_unknown : {i : ℕ} → get st.cleaners i ≡ None → Applies st (CleanStep i) UnknownCleaner
   collect_full : most_collectors ≤ len st.collectors → Applies st CollectBegin TooManySessions
-  collect_unknown : {i n : ℕ} → get st.collectors i ≡ None → Applies st (CollectStep i n) UnknownCollector
+  collect_unknown : {i n : ℕ} → get st.collectors i ≡ None
+      → Applies st (CollectStep i n) UnknownCollector
   collect_none : {i n : ℕ} → n < 1 → Applies st (CollectStep i n) BadCount
   collect_many : {i n : ℕ} → most_visits < n → Applies st (CollectStep i n) BadCount
   minor_unknown : {k : ℕ} → ¬ HasTablet st k → Applies st (Minor k) UnknownTablet
@@ -45,8 +54,10 @@ pub data Applies (st : State) : Request → Refusal → Type 0 where
   split_full : {row : List ℕ} → most_tablets ≤ length st.places → Applies st (Split row) BadSplit
   move_unknown : {k server : ℕ} → ¬ HasTablet st k → Applies st (Move k server) UnknownTablet
   move_server : {k server : ℕ} → most_servers ≤ server → Applies st (Move k server) UnknownServer
-  raw_row : {x : Cell} {q : Qualifier} {low high : ℕ} → ¬ IsRow x.row → Applies st (Raw x q low high) BadRow
-  raw_family : {x : Cell} {q : Qualifier} {low high : ℕ} → ¬ IsFamily x.family → Applies st (Raw x q low high) BadColumn
+  raw_row : {x : Cell} {q : Qualifier} {low high : ℕ} → ¬ IsRow x.row
+      → Applies st (Raw x q low high) BadRow
+  raw_family : {x : Cell} {q : Qualifier} {low high : ℕ} → ¬ IsFamily x.family
+      → Applies st (Raw x q low high) BadColumn
 
 -- the refusal applies, and none before it does
 pub record IsFirstRefusal (st : State) (q : Request) (n : Refusal) : Type 0 where
@@ -57,7 +68,8 @@ pub record IsFirstRefusal (st : State) (q : Request) (n : Refusal) : Type 0 wher
 abbrev pub IsAcceptable : State → Request → Type 0
 IsAcceptable st q = (n : Refusal) → ¬ Applies st q n
 
--- refusals of the store, which may come at any time: a limit of the storage or of stamps, a device's fault, want of memory, damage
+-- refusals of the store, which may come at any time: a limit of the storage or of stamps,
+-- a device's fault, want of memory, damage
 abbrev pub IsStorageRefusal : Refusal → Type 0
 IsStorageRefusal MemtableFull = ⊤
 IsStorageRefusal TooManyFiles = ⊤

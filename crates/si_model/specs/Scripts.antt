@@ -10,7 +10,8 @@ CanAnswer qs rs = (st : State) × Run new_machine qs rs st
 
 -- and, after a clean restart, further ones
 abbrev pub CanAnswerAcross : List Request → List Reply → List Request → List Reply → Type 0
-CanAnswerAcross qs rs qs' rs' = (mid : State) × (st : State) × Run new_machine qs rs mid × Run (reopened mid) qs' rs' st
+CanAnswerAcross qs rs qs' rs' =
+    (mid : State) × (st : State) × Run new_machine qs rs mid × Run (reopened mid) qs' rs' st
 
 -- the balances of Bob and of Joe
 abbrev pub bob : Cell
@@ -23,24 +24,31 @@ joe = record { row = codes "Joe"; family = codes "bal" }
 abbrev pub FirstCell : Type 0
 FirstCell = CanAnswer
     (Begin ∷ Set 1 bob (codes "v") ∷ Advance 1 ∷ Advance 1 ∷ Advance 1 ∷ Begin ∷ Get 3 bob ∷ [])
-    (Begun 1 ∷ SetDone ∷ Held 1 1 ∷ Drawn 2 ∷ Committed 2 ∷ Begun 3 ∷ Answered (Some (codes "v")) ∷ [])
+    (Begun 1
+    ∷ SetDone ∷ Held 1 1 ∷ Drawn 2 ∷ Committed 2 ∷ Begun 3 ∷ Answered (Some (codes "v")) ∷ [])
 
--- Bob has 10 and Joe 2. A second session reads both, moves 7 from Bob to Joe, and a third reads what it wrote.
+-- Bob has 10 and Joe 2. A second session reads both, moves 7 from Bob to Joe,
+-- and a third reads what it wrote.
 abbrev pub Transfer : Type 0
 Transfer = CanAnswer
-    (Begin ∷ Set 1 bob (codes "10") ∷ Set 1 joe (codes "2") ∷ Advance 1 ∷ Advance 1 ∷ Advance 1 ∷ Advance 1 ∷ Advance 1
+    (Begin ∷ Set 1 bob (codes "10")
+    ∷ Set 1 joe (codes "2") ∷ Advance 1 ∷ Advance 1 ∷ Advance 1 ∷ Advance 1 ∷ Advance 1
     ∷ Begin ∷ Get 3 bob ∷ Get 3 joe
-    ∷ Set 3 bob (codes "3") ∷ Set 3 joe (codes "9") ∷ Advance 3 ∷ Advance 3 ∷ Advance 3 ∷ Advance 3 ∷ Advance 3
+    ∷ Set 3 bob (codes "3")
+    ∷ Set 3 joe (codes "9") ∷ Advance 3 ∷ Advance 3 ∷ Advance 3 ∷ Advance 3 ∷ Advance 3
     ∷ Begin ∷ Get 5 bob ∷ Get 5 joe ∷ Advance 3 ∷ [])
     (Begun 1 ∷ SetDone ∷ SetDone ∷ Held 1 2 ∷ Held 2 2 ∷ Drawn 2 ∷ Committed 2 ∷ Finished 2 2
     ∷ Begun 3 ∷ Answered (Some (codes "10")) ∷ Answered (Some (codes "2"))
     ∷ SetDone ∷ SetDone ∷ Held 1 2 ∷ Held 2 2 ∷ Drawn 4 ∷ Committed 4 ∷ Finished 2 2
-    ∷ Begun 5 ∷ Answered (Some (codes "3")) ∷ Answered (Some (codes "9")) ∷ Refused UnknownSession ∷ [])
+    ∷ Begun 5
+    ∷ Answered (Some (codes "3")) ∷ Answered (Some (codes "9")) ∷ Refused UnknownSession ∷ [])
 
--- Of two sessions that run side by side one writes Bob's cell and the other Joe's: both commit (snapshot isolation, write skew).
+-- Of two sessions that run side by side one writes Bob's cell and the other Joe's:
+-- both commit (snapshot isolation, write skew).
 abbrev pub WriteSkew : Type 0
 WriteSkew = CanAnswer
-    (Begin ∷ Set 1 bob (codes "1") ∷ Set 1 joe (codes "1") ∷ Advance 1 ∷ Advance 1 ∷ Advance 1 ∷ Advance 1 ∷ Advance 1
+    (Begin ∷ Set 1 bob (codes "1")
+    ∷ Set 1 joe (codes "1") ∷ Advance 1 ∷ Advance 1 ∷ Advance 1 ∷ Advance 1 ∷ Advance 1
     ∷ Begin ∷ Begin ∷ Set 3 bob (codes "0") ∷ Set 4 joe (codes "0")
     ∷ Advance 3 ∷ Advance 4 ∷ Advance 3 ∷ Advance 4 ∷ Advance 3 ∷ Advance 4
     ∷ Begin ∷ Get 7 bob ∷ Get 7 joe ∷ [])
@@ -52,54 +60,76 @@ WriteSkew = CanAnswer
 -- Two sessions write one cell. The one that holds it first goes on, and the other meets its mark.
 abbrev pub FirstHolder : Type 0
 FirstHolder = CanAnswer
-    (Begin ∷ Begin ∷ Set 1 bob (codes "v") ∷ Set 2 bob (codes "v") ∷ Advance 1 ∷ Advance 2 ∷ Advance 2 ∷ [])
+    (Begin ∷ Begin
+    ∷ Set 1 bob (codes "v") ∷ Set 2 bob (codes "v") ∷ Advance 1 ∷ Advance 2 ∷ Advance 2 ∷ [])
     (Begun 1 ∷ Begun 2 ∷ SetDone ∷ SetDone ∷ Held 1 1 ∷ Conflict 1 ∷ Refused UnknownSession ∷ [])
 
--- Two sessions write one cell. The one that began later commits first, and the other meets its commit.
+-- Two sessions write one cell. The one that began later commits first,
+-- and the other meets its commit.
 abbrev pub YoungerFirst : Type 0
 YoungerFirst = CanAnswer
-    (Begin ∷ Begin ∷ Set 1 bob (codes "v") ∷ Set 2 bob (codes "v") ∷ Advance 2 ∷ Advance 2 ∷ Advance 2 ∷ Advance 1 ∷ [])
+    (Begin ∷ Begin ∷ Set 1 bob (codes "v")
+    ∷ Set 2 bob (codes "v") ∷ Advance 2 ∷ Advance 2 ∷ Advance 2 ∷ Advance 1 ∷ [])
     (Begun 1 ∷ Begun 2 ∷ SetDone ∷ SetDone ∷ Held 1 1 ∷ Drawn 3 ∷ Committed 3 ∷ Conflict 1 ∷ [])
 
--- The transfer stops before its commit. A cleaner at Joe's cell rolls it back, and both old balances are read.
+-- The transfer stops before its commit. A cleaner at Joe's cell rolls it back,
+-- and both old balances are read.
 abbrev pub RolledBackTransfer : Type 0
 RolledBackTransfer = CanAnswer
-    (Begin ∷ Set 1 bob (codes "10") ∷ Set 1 joe (codes "2") ∷ Advance 1 ∷ Advance 1 ∷ Advance 1 ∷ Advance 1 ∷ Advance 1
-    ∷ Begin ∷ Get 3 bob ∷ Get 3 joe ∷ Set 3 bob (codes "3") ∷ Set 3 joe (codes "9") ∷ Advance 3 ∷ Advance 3 ∷ Advance 3 ∷ Stop 3
+    (Begin ∷ Set 1 bob (codes "10")
+    ∷ Set 1 joe (codes "2") ∷ Advance 1 ∷ Advance 1 ∷ Advance 1 ∷ Advance 1 ∷ Advance 1
+    ∷ Begin ∷ Get 3 bob ∷ Get 3 joe
+    ∷ Set 3 bob (codes "3") ∷ Set 3 joe (codes "9") ∷ Advance 3 ∷ Advance 3 ∷ Advance 3 ∷ Stop 3
     ∷ Begin ∷ CleanBegin joe ∷ CleanStep 1 ∷ CleanStep 1 ∷ Get 5 bob ∷ Get 5 joe ∷ [])
     (Begun 1 ∷ SetDone ∷ SetDone ∷ Held 1 2 ∷ Held 2 2 ∷ Drawn 2 ∷ Committed 2 ∷ Finished 2 2
-    ∷ Begun 3 ∷ Answered (Some (codes "10")) ∷ Answered (Some (codes "2")) ∷ SetDone ∷ SetDone ∷ Held 1 2 ∷ Held 2 2 ∷ Drawn 4 ∷ StopDone
-    ∷ Begun 5 ∷ Cleaning 1 3 ∷ Decided ∷ RolledBack ∷ Answered (Some (codes "10")) ∷ Answered (Some (codes "2")) ∷ [])
+    ∷ Begun 3 ∷ Answered (Some (codes "10"))
+    ∷ Answered (Some (codes "2")) ∷ SetDone ∷ SetDone ∷ Held 1 2 ∷ Held 2 2 ∷ Drawn 4 ∷ StopDone
+    ∷ Begun 5 ∷ Cleaning 1 3
+    ∷ Decided ∷ RolledBack ∷ Answered (Some (codes "10")) ∷ Answered (Some (codes "2")) ∷ [])
 
--- While the transfer is under way the next reader waits, and at its commit Bob's new balance is there at once.
+-- While the transfer is under way the next reader waits,
+-- and at its commit Bob's new balance is there at once.
 abbrev pub CommitPoint : Type 0
 CommitPoint = CanAnswer
-    (Begin ∷ Set 1 bob (codes "10") ∷ Set 1 joe (codes "2") ∷ Advance 1 ∷ Advance 1 ∷ Advance 1 ∷ Advance 1 ∷ Advance 1
-    ∷ Begin ∷ Get 3 bob ∷ Get 3 joe ∷ Set 3 bob (codes "3") ∷ Set 3 joe (codes "9") ∷ Advance 3 ∷ Advance 3 ∷ Advance 3
+    (Begin ∷ Set 1 bob (codes "10")
+    ∷ Set 1 joe (codes "2") ∷ Advance 1 ∷ Advance 1 ∷ Advance 1 ∷ Advance 1 ∷ Advance 1
+    ∷ Begin ∷ Get 3 bob ∷ Get 3 joe
+    ∷ Set 3 bob (codes "3") ∷ Set 3 joe (codes "9") ∷ Advance 3 ∷ Advance 3 ∷ Advance 3
     ∷ Begin ∷ Get 5 bob ∷ Advance 3 ∷ Get 5 bob ∷ Get 5 joe ∷ Advance 3 ∷ Get 5 joe ∷ [])
     (Begun 1 ∷ SetDone ∷ SetDone ∷ Held 1 2 ∷ Held 2 2 ∷ Drawn 2 ∷ Committed 2 ∷ Finished 2 2
-    ∷ Begun 3 ∷ Answered (Some (codes "10")) ∷ Answered (Some (codes "2")) ∷ SetDone ∷ SetDone ∷ Held 1 2 ∷ Held 2 2 ∷ Drawn 4
-    ∷ Begun 5 ∷ Pending 3 ∷ Committed 4 ∷ Answered (Some (codes "3")) ∷ Pending 3 ∷ Finished 2 2 ∷ Answered (Some (codes "9")) ∷ [])
+    ∷ Begun 3 ∷ Answered (Some (codes "10"))
+    ∷ Answered (Some (codes "2")) ∷ SetDone ∷ SetDone ∷ Held 1 2 ∷ Held 2 2 ∷ Drawn 4
+    ∷ Begun 5 ∷ Pending 3 ∷ Committed 4
+    ∷ Answered (Some (codes "3")) ∷ Pending 3 ∷ Finished 2 2 ∷ Answered (Some (codes "9")) ∷ [])
 
 -- A cleaner rolls the transfer back while it runs, and its next step tells it.
 abbrev pub LostTransfer : Type 0
 LostTransfer = CanAnswer
-    (Begin ∷ Set 1 bob (codes "10") ∷ Set 1 joe (codes "2") ∷ Advance 1 ∷ Advance 1 ∷ Advance 1 ∷ Advance 1 ∷ Advance 1
-    ∷ Begin ∷ Get 3 bob ∷ Get 3 joe ∷ Set 3 bob (codes "3") ∷ Set 3 joe (codes "9") ∷ Advance 3 ∷ Advance 3 ∷ Advance 3
+    (Begin ∷ Set 1 bob (codes "10")
+    ∷ Set 1 joe (codes "2") ∷ Advance 1 ∷ Advance 1 ∷ Advance 1 ∷ Advance 1 ∷ Advance 1
+    ∷ Begin ∷ Get 3 bob ∷ Get 3 joe
+    ∷ Set 3 bob (codes "3") ∷ Set 3 joe (codes "9") ∷ Advance 3 ∷ Advance 3 ∷ Advance 3
     ∷ Begin ∷ CleanBegin joe ∷ CleanStep 1 ∷ CleanStep 1 ∷ Advance 3 ∷ Advance 3 ∷ [])
     (Begun 1 ∷ SetDone ∷ SetDone ∷ Held 1 2 ∷ Held 2 2 ∷ Drawn 2 ∷ Committed 2 ∷ Finished 2 2
-    ∷ Begun 3 ∷ Answered (Some (codes "10")) ∷ Answered (Some (codes "2")) ∷ SetDone ∷ SetDone ∷ Held 1 2 ∷ Held 2 2 ∷ Drawn 4
+    ∷ Begun 3 ∷ Answered (Some (codes "10"))
+    ∷ Answered (Some (codes "2")) ∷ SetDone ∷ SetDone ∷ Held 1 2 ∷ Held 2 2 ∷ Drawn 4
     ∷ Begun 5 ∷ Cleaning 1 3 ∷ Decided ∷ RolledBack ∷ Lost ∷ Refused UnknownSession ∷ [])
 
--- The transfer stops between its commit and Joe's cell. A collector meets the mark there, a cleaner rolls it forward, and the collector ends.
+-- The transfer stops between its commit and Joe's cell.
+-- A collector meets the mark there, a cleaner rolls it forward, and the collector ends.
 abbrev pub StrandedMark : Type 0
 StrandedMark = CanAnswer
-    (Begin ∷ Set 1 bob (codes "10") ∷ Set 1 joe (codes "2") ∷ Advance 1 ∷ Advance 1 ∷ Advance 1 ∷ Advance 1 ∷ Advance 1
-    ∷ Begin ∷ Get 3 bob ∷ Get 3 joe ∷ Set 3 bob (codes "3") ∷ Set 3 joe (codes "9") ∷ Advance 3 ∷ Advance 3 ∷ Advance 3 ∷ Advance 3 ∷ Stop 3
-    ∷ CollectBegin ∷ CollectStep 1 10 ∷ CleanBegin joe ∷ CleanStep 1 ∷ CleanStep 1 ∷ CollectStep 1 6 ∷ CollectStep 1 1 ∷ CollectStep 1 1 ∷ [])
+    (Begin ∷ Set 1 bob (codes "10")
+    ∷ Set 1 joe (codes "2") ∷ Advance 1 ∷ Advance 1 ∷ Advance 1 ∷ Advance 1 ∷ Advance 1
+    ∷ Begin ∷ Get 3 bob ∷ Get 3 joe ∷ Set 3 bob (codes "3")
+    ∷ Set 3 joe (codes "9") ∷ Advance 3 ∷ Advance 3 ∷ Advance 3 ∷ Advance 3 ∷ Stop 3
+    ∷ CollectBegin ∷ CollectStep 1 10 ∷ CleanBegin joe
+    ∷ CleanStep 1 ∷ CleanStep 1 ∷ CollectStep 1 6 ∷ CollectStep 1 1 ∷ CollectStep 1 1 ∷ [])
     (Begun 1 ∷ SetDone ∷ SetDone ∷ Held 1 2 ∷ Held 2 2 ∷ Drawn 2 ∷ Committed 2 ∷ Finished 2 2
-    ∷ Begun 3 ∷ Answered (Some (codes "10")) ∷ Answered (Some (codes "2")) ∷ SetDone ∷ SetDone ∷ Held 1 2 ∷ Held 2 2 ∷ Drawn 4 ∷ Committed 4 ∷ StopDone
-    ∷ Collecting 1 5 ∷ Blocked joe 3 ∷ Cleaning 1 3 ∷ Decided ∷ RolledForward 4 ∷ More ∷ Collected ∷ Refused UnknownCollector ∷ [])
+    ∷ Begun 3 ∷ Answered (Some (codes "10")) ∷ Answered (Some (codes "2"))
+    ∷ SetDone ∷ SetDone ∷ Held 1 2 ∷ Held 2 2 ∷ Drawn 4 ∷ Committed 4 ∷ StopDone
+    ∷ Collecting 1 5 ∷ Blocked joe 3 ∷ Cleaning 1 3
+    ∷ Decided ∷ RolledForward 4 ∷ More ∷ Collected ∷ Refused UnknownCollector ∷ [])
 
 -- All rows up to Bob's go to a tablet of their own. Both tablets move.
 abbrev pub SplitTablet : Type 0
@@ -111,5 +141,6 @@ SplitTablet = CanAnswer
 abbrev pub MarkStays : Type 0
 MarkStays = CanAnswerAcross
     (Begin ∷ Set 1 bob (codes "v") ∷ Advance 1 ∷ []) (Begun 1 ∷ SetDone ∷ Held 1 1 ∷ [])
-    (Begin ∷ Get 2 bob ∷ CleanBegin bob ∷ CleanStep 1 ∷ CleanStep 1 ∷ Get 2 bob ∷ CleanBegin bob ∷ [])
+    (Begin
+    ∷ Get 2 bob ∷ CleanBegin bob ∷ CleanStep 1 ∷ CleanStep 1 ∷ Get 2 bob ∷ CleanBegin bob ∷ [])
     (Begun 2 ∷ Pending 1 ∷ Cleaning 1 1 ∷ Decided ∷ Gone ∷ Answered None ∷ NoLock ∷ [])

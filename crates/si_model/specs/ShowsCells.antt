@@ -41,8 +41,10 @@ pub record ShowsMark (cells : Cells) (st : State) (x : Cell) (t : ℕ) : Type 0 
   pub lock : at cells x Lock t ≡ Some (lock_text first)
   pub value : IsThere cells x Data t
 
--- the write record of x at c names a commit that writes x and has no mark on it, and its data is there
-pub record NamesCommit (cells : Cells) (st : State) (x : Cell) (c : ℕ) (record_text : List ℕ) : Type 0 where
+-- the write record of x at c names a commit that writes x and has no mark on it,
+-- and its data is there
+pub record NamesCommit (cells : Cells) (st : State) (x : Cell) (c : ℕ)
+    (record_text : List ℕ) : Type 0 where
   pub commit : Commit
   pub is_in : commit ∈ st.commits
   pub stamp : commit.stamp ≡ c
@@ -53,7 +55,8 @@ pub record NamesCommit (cells : Cells) (st : State) (x : Cell) (c : ℕ) (record
 
 -- a later commit of x lies at or below the floor and each mark
 abbrev pub IsReplaced : State → Cell → Commit → Type 0
-IsReplaced st x a = (b : Commit) × (b ∈ st.commits) × Names b.writes x × (a.stamp < b.stamp) × IsCleared st b.stamp
+IsReplaced st x a =
+    (b : Commit) × (b ∈ st.commits) × Names b.writes x × (a.stamp < b.stamp) × IsCleared st b.stamp
 
 -- the data of x at t is what t gave, and t has held a cell
 pub record IsGiven (st : State) (x : Cell) (t : ℕ) (given : List ℕ) : Type 0 where
@@ -67,9 +70,12 @@ pub record ShowsCells (cells : Cells) (st : State) : Type 0 where
   pub marks : (x : Cell) (t : ℕ) → Marked st x t → ShowsMark cells st x t
   pub locks : (x : Cell) (t : ℕ) (b : List ℕ) → at cells x Lock t ≡ Some b → Marked st x t
   -- each write record names a commit
-  pub records : (x : Cell) (c : ℕ) (b : List ℕ) → at cells x Write c ≡ Some b → NamesCommit cells st x c b
-  -- each commit has its record on each of its cells that it no longer marks, unless it is replaced there
-  pub commits : (a : Commit) → a ∈ st.commits → (x : Cell) → Names a.writes x → ¬ Marked st x a.start
+  pub records : (x : Cell) (c : ℕ) (b : List ℕ) → at cells x Write c ≡ Some b
+      → NamesCommit cells st x c b
+  -- each commit has its record on each of its cells that it no longer marks,
+  -- unless it is replaced there
+  pub commits : (a : Commit) → a ∈ st.commits → (x : Cell) → Names a.writes x
+      → ¬ Marked st x a.start
       → (at cells x Write a.stamp ≡ Some (start_text a.start)) ⊎ IsReplaced st x a
   -- data is what its start gave
   pub given : (x : Cell) (t : ℕ) (b : List ℕ) → at cells x Data t ≡ Some b → IsGiven st x t b
@@ -80,21 +86,26 @@ WhereShown Law = (cells : Cells) (st : State) → IsReached st → ShowsCells ce
 
 -- the cells after t put data and lock of x
 abbrev pub held_cells : Cells → Cell → ℕ → List ℕ → Cell → Cells
-held_cells cells x t value first = insert (insert cells (key_of x Data t) value) (key_of x Lock t) (lock_text first)
+held_cells cells x t value first =
+    insert (insert cells (key_of x Data t) value) (key_of x Lock t) (lock_text first)
 
 -- the cells after t's lock of x gave way to its record at c
 abbrev pub recorded_cells : Cells → Cell → ℕ → ℕ → Cells
-recorded_cells cells x t c = remove (insert cells (key_of x Write c) (start_text t)) (key_of x Lock t)
+recorded_cells cells x t c =
+    remove (insert cells (key_of x Write c) (start_text t)) (key_of x Lock t)
 
 -- the cells after t's lock of x was erased, and nothing put in its place
 abbrev pub erased_cells : Cells → Cell → ℕ → Cells
 erased_cells cells x t = remove cells (key_of x Lock t)
 
--- What a step of a client may change: keys of one row; a key that joins has one of two stamps, and a key that goes is a lock's.
+-- What a step of a client may change: keys of one row; a key that joins has one of two stamps,
+-- and a key that goes is a lock's.
 pub record Touches (cells cells' : Cells) (row : List ℕ) (s c : ℕ) : Type 0 where
   pub others : (q : CellKey) → q.row ≢ row → get cells' q ≡ get cells q
-  pub joins : (q : CellKey) (b : List ℕ) → get cells q ≡ None → get cells' q ≡ Some b → (q.stamp ≡ s) ⊎ (q.stamp ≡ c)
-  pub goes : (q : CellKey) (b : List ℕ) → get cells q ≡ Some b → get cells' q ≡ None → q.qualifier ≡ Lock
+  pub joins : (q : CellKey) (b : List ℕ) → get cells q ≡ None → get cells' q ≡ Some b
+      → (q.stamp ≡ s) ⊎ (q.stamp ≡ c)
+  pub goes : (q : CellKey) (b : List ℕ) → get cells q ≡ Some b → get cells' q ≡ None
+      → q.qualifier ≡ Lock
 
 abbrev pub TouchesOneRow : Cells → Cells → ℕ → ℕ → Type 0
 TouchesOneRow cells cells' s c = (row : List ℕ) × Touches cells cells' row s c

@@ -1,4 +1,5 @@
--- The state of the snapshot machine: what it remembers of transactions, cleaners, collectors and tablets.
+-- The state of the snapshot machine: what it remembers of transactions, cleaners,
+-- collectors and tablets.
 -- It forgets nothing. (Percolator, transactions: data, lock and write columns; Bigtable, tablets.)
 use Rattle.std.specs.Prelude.{◌≡◌, ℕ, ◌^◌, Bool, List, [], ◌∷◌, Option, None, Some, slice_get}
 use Rattle.std.specs.Ordering.{nat_cmp}
@@ -13,8 +14,8 @@ Value = List ℕ
 abbrev pub Writes : Type 0
 Writes = List (Cell × Value)
 
--- how far a session is: it takes Sets; it has marked so many of its cells; it has drawn its commit stamp;
--- it has committed, and so many of its cells are clear
+-- how far a session is: it takes Sets; it has marked so many of its cells; it has drawn its commit
+-- stamp; it has committed, and so many of its cells are clear
 pub data Phase : Type 0 where
   Open : Phase
   Holding : (held : ℕ) → Phase
@@ -33,7 +34,8 @@ pub record Read : Type 0 where
   pub cell : Cell
   pub answer : Option Value
 
--- an open cleaner: the cell and the start of the mark that it clears, and whether its first step was taken
+-- an open cleaner: the cell and the start of the mark that it clears,
+-- and whether its first step was taken
 pub record Cleaner : Type 0 where
   pub cell : Cell
   pub start : ℕ
@@ -88,9 +90,17 @@ new_machine = record {
   next_tablet = 2;
 }
 
--- the machine after a clean restart: sessions, cleaners and collectors are forgotten, and nothing else
+-- the machine after a clean restart: sessions, cleaners and collectors are forgotten,
+-- and nothing else
 abbrev pub reopened : State → State
-reopened st = record st { active = empty; cleaners = empty; next_cleaner = 1; collectors = empty; next_collector = 1 }
+reopened st =
+    record st {
+      active = empty;
+      cleaners = empty;
+      next_cleaner = 1;
+      collectors = empty;
+      next_collector = 1;
+    }
 
 -- limits
 

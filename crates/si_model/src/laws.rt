@@ -175,5 +175,6 @@ pub fn left_falls()
 
 /// What the edits by which a lock goes make of the cells.
 pub fn make_cells()
-    ensures { (cells : Cells) (x : Cell) (t : ℕ) (edits : List RowEdit) → MakeCells cells x t edits }
+    ensures { (cells : Cells) (x : Cell) (t : ℕ) (edits : List RowEdit)
+        → MakeCells cells x t edits }
 {}
