@@ -1,6 +1,9 @@
 mod BlockFacts
 mod BlockLists
 mod EntryLists
+mod Newest
 mod OrderLemmas
 mod Places
 mod Sizes
+mod Values
+mod Versions

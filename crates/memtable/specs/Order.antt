@@ -1,7 +1,11 @@
--- What the front of some bytes tells of their order.
+-- What the front of some bytes tells of their order, and the texts of the versions of a column.
 use Rattle.std.specs.Prelude.{◌≡◌, ℕ, List, ◌++◌}
 use Rattle.std.specs.declared.cmp.Ordering.{Ordering}
-use Rattle.cell_key.specs.Keys.{byte_cmp}
+use Rattle.cell_key.specs.Keys.{byte_cmp, qualifier_name}
+use Rattle.cell_key.specs.Cells.{version}
+use Rattle.cell_key.specs.Texts.{escaped, ended}
+use Rattle.cell_key.specs.declared.keys.CellKey.{CellKey}
+use Rattle.memtable.specs.declared.order.Version.{Version}
 
 -- what follows the part compares with the rest as the whole with the bytes
 abbrev pub ComparesAs : List ℕ → List ℕ → List ℕ → Type 0
@@ -10,3 +14,14 @@ ComparesAs part bytes rest = (tail : List ℕ) → byte_cmp (part ++ tail) bytes
 -- the part decides, whatever follows it
 abbrev pub ComparesTo : List ℕ → List ℕ → Ordering → Type 0
 ComparesTo part bytes order = (tail : List ℕ) → byte_cmp (part ++ tail) bytes ≡ order
+
+-- what the text of a key has before its stamp
+abbrev pub column_text : CellKey → List ℕ
+column_text key = ended (escaped key.row) ++ (ended key.family ++ ended (qualifier_name key.qualifier))
+
+-- the key of a version, and that of the same column at another stamp
+abbrev pub at_stamp : Version → ℕ → CellKey
+at_stamp v stamp = version v.row.now v.family.now v.qualifier stamp
+
+abbrev pub key_of : Version → CellKey
+key_of v = at_stamp v v.stamp

@@ -16,6 +16,12 @@ slot_entry slot = (slot.text.items, option_map (λ value. value.items) slot.valu
 abbrev pub slot_entries : {A : Type 0} → List (Box Slot A) → List Entry
 slot_entries slots = map (λ slot. slot_entry slot.value) slots
 
+-- the first entry that has a value
+abbrev pub first_value : List Entry → Option Entry
+first_value [] = None
+first_value ((name, None) ∷ es) = first_value es
+first_value ((name, Some value) ∷ es) = Some (name, Some value)
+
 -- whether the entry at the place has this text
 abbrev pub is_named : List ℕ → List Entry → ℕ → Bool
 is_named name [] i = false
@@ -36,3 +42,7 @@ slot_len (Some slot) = entry_len (slot_entry slot.now)
 pub record IsSizeOf (size : Size) (es : List Entry) : Type 0 where
   pub entries : size.entries ≡ length es
   pub bytes : size.bytes ≡ bytes_of es
+
+-- a stamp and the bytes of a value that is lent
+abbrev pub lent_version : ℕ × Bor (List ℕ) → ℕ × List ℕ
+lent_version version = (version.0, version.1.now)

@@ -5,8 +5,8 @@ ghost use Rattle.std.specs.Prelude.{◌≡◌, ℕ, ◌+◌, ◌≤◌, ◌<◌,
 ghost use Rattle.std.specs.List.{AllByRecursion};
 ghost use Rattle.std.specs.FinMap.Entries.{put as put_entry};
 ghost use Rattle.cell_key.specs.Keys.{byte_cmp};
-ghost use Rattle.cell_key.specs.Entries.{IsRising, entry_of_key};
-ghost use Rattle.memtable.specs.Slots.{slot_entry, slot_entries, over};
+ghost use Rattle.cell_key.specs.Entries.{IsRising, entries_from, entry_of_key};
+ghost use Rattle.memtable.specs.Slots.{slot_entry, slot_entries, first_value, over};
 ghost use Rattle.memtable.specs.Blocks.{block_entries, lists_of, ends_below, IsBlockPlace, IsBlock, IsSpare, IsFullAt, AreBlocks, HasRoom};
 
 use crate::order::Sought;
@@ -54,6 +54,51 @@ pub(crate) fn find<S: Sought>(blocks: &[Block], sought: S) -> Option<&Slot>
 {
     let block = blocks.get(place(blocks, sought))?;
     slots::find(block, sought)
+}
+
+/// What isn't below what is sought: the rest of one block, and the blocks after that.
+pub(crate) fn rest_from<S: Sought>(blocks: &[Block], sought: S) -> (&[Box<Slot>], &[Block])
+    requires rising { IsRising (block_entries blocks.now) }
+    requires blocks { AllByRecursion IsBlock blocks.now }
+    ensures entries { slot_entries result.0.now ++ block_entries result.1.now ≡ entries_from (S.name sought) (block_entries blocks.now) }
+    ensures blocks { AllByRecursion IsBlock result.1.now }
+{
+    let at = place(blocks, sought);
+    match blocks.split_at(at).1.split_first() {
+        Some((block, later)) => {
+            let at = slots::first_from(block, sought);
+            (block.split_at(at).1, later)
+        }
+        None => (&[], &[]),
+    }
+}
+
+/// The first entry of some blocks that has a value.
+fn first_value(blocks: &[Block]) -> Option<&Slot>
+    requires { AllByRecursion IsBlock blocks.now }
+    ensures { option_map (λ slot. slot_entry slot.now) result ≡ first_value (block_entries blocks.now) }
+{
+    let mut rest = blocks;
+    'each: while let Some((block, later)) = rest.split_first() {
+        if let Some(slot) = slots::first_value(block) {
+            return Some(slot);
+        }
+        rest = later;
+    }
+    None
+}
+
+/// The first entry that isn't below what is sought and has a value.
+pub(crate) fn first_value_from<S: Sought>(blocks: &[Block], sought: S) -> Option<&Slot>
+    requires rising { IsRising (block_entries blocks.now) }
+    requires blocks { AllByRecursion IsBlock blocks.now }
+    ensures { option_map (λ slot. slot_entry slot.now) result ≡ first_value (entries_from (S.name sought) (block_entries blocks.now)) }
+{
+    let (rest, later) = rest_from(blocks, sought);
+    match slots::first_value(rest) {
+        Some(slot) => Some(slot),
+        None => first_value(later),
+    }
 }
 
 /// Makes room for this many entries more.

@@ -1,12 +1,12 @@
 //! Comparing what is sought with texts. The text of a key isn't made, so this takes no memory.
 
-ghost use Rattle.std.specs.Prelude.{◌≡◌, ℕ, List, ◌++◌, MatchResult};
+ghost use Rattle.std.specs.Prelude.{◌≡◌, ◌≢◌, ◌<◌, ◌^◌, ℕ, List, ◌++◌, length, IfSome, IfNone, MatchResult};
 ghost use Rattle.cell_key.specs.Keys.{byte_cmp, text};
-ghost use Rattle.cell_key.specs.Texts.{escaped, ended};
-ghost use Rattle.memtable.specs.Order.{ComparesAs, ComparesTo};
+ghost use Rattle.cell_key.specs.Texts.{escaped, ended, stamp_text};
+ghost use Rattle.memtable.specs.Order.{ComparesAs, ComparesTo, at_stamp, column_text, key_of};
 
 use byteorder::{BigEndian, ByteOrder};
-use cell_key::CellKey;
+use cell_key::{CellKey, Family, Qualifier, Row, Stamp};
 use std::cmp::Ordering;
 
 /// What follows the part at the front of the bytes. Where they don't begin with it, how whatever begins
@@ -44,17 +44,62 @@ fn after_row<'a>(row: &[u8], bytes: &'a [u8]) -> Result<&'a [u8], Ordering>
     after_part(b"\0\0", left)
 }
 
-/// The order as `Ok` where the stamps decide, and else as `Err`.
-fn cut_and_compare(key: &CellKey, bytes: &[u8]) -> Result<Ordering, Ordering>
-    ensures { MatchResult result (λ order. order ≡ byte_cmp (text key.now) bytes.now) (λ order. order ≡ byte_cmp (text key.now) bytes.now) }
+/// The stamp of a text.
+fn stamp_of(bytes: &[u8]) -> Option<Stamp>
+    ensures some { IfSome result (λ stamp. bytes.now ≡ stamp_text stamp) }
+    ensures none { IfNone result (length bytes.now ≢ 8) }
+    ensures small { IfSome result (λ stamp. stamp < 2 ^ 64) }
 {
-    let after_row = after_row(key.row.as_bytes(), bytes)?;
-    let after_family = after_end(key.family.as_bytes(), after_row)?;
-    let after_name = after_end(key.qualifier.name().as_bytes(), after_family)?;
-    let stamp = key.stamp;
-    let mut falling = [0u8; 8];
-    BigEndian::write_u64(&mut falling, u64::MAX - stamp);
-    Ok(falling.as_slice().cmp(&after_name))
+    if bytes.len() != 8 {
+        return None;
+    }
+    let falling = u64::from_be_bytes([
+        bytes[0], bytes[1], bytes[2], bytes[3], bytes[4], bytes[5], bytes[6], bytes[7],
+    ]);
+    Some(u64::MAX - falling)
+}
+
+/// A version of a cell's column, whose names are lent.
+#[derive(Clone, Copy)]
+pub(crate) struct Version<'a> {
+    pub(crate) row: &'a Row,
+    pub(crate) family: &'a Family,
+    pub(crate) qualifier: Qualifier,
+    pub(crate) stamp: Stamp,
+}
+
+impl Version<'_> {
+    /// What follows the column's front of its texts. Where the bytes don't begin with it, how its texts compare with them.
+    fn after_column(self, bytes: &[u8]) -> Result<&[u8], Ordering>
+        ensures { MatchResult result (λ rest. ComparesAs (column_text (key_of self.entry)) bytes.now rest.now) (λ order. ComparesTo (column_text (key_of self.entry)) bytes.now order) }
+    {
+        let after_row = after_row(self.row.as_bytes(), bytes)?;
+        let after_family = after_end(self.family.as_bytes(), after_row)?;
+        after_end(self.qualifier.name().as_bytes(), after_family)
+    }
+
+    /// The order as `Ok` where the stamps decide, and else as `Err`.
+    fn cut_and_compare(self, bytes: &[u8]) -> Result<Ordering, Ordering>
+        ensures { MatchResult result (λ order. order ≡ byte_cmp (text (key_of self.entry)) bytes.now) (λ order. order ≡ byte_cmp (text (key_of self.entry)) bytes.now) }
+    {
+        let after_column = self.after_column(bytes)?;
+        let stamp = self.stamp;
+        let mut falling = [0u8; 8];
+        BigEndian::write_u64(&mut falling, u64::MAX - stamp);
+        Ok(falling.as_slice().cmp(&after_column))
+    }
+
+    /// The stamp of the version of the same column whose text the bytes are, if they are one's.
+    pub(crate) fn stamp_in(self, bytes: &[u8]) -> Option<Stamp>
+        ensures some { IfSome result (λ stamp. bytes.now ≡ text (at_stamp self.entry stamp)) }
+        ensures small { IfSome result (λ stamp. stamp < 2 ^ 64) }
+        ensures none { IfNone result ((stamp : ℕ) → stamp < 2 ^ 64 → bytes.now ≢ text (at_stamp self.entry stamp)) }
+    {
+        match self.after_column(bytes) {
+            Ok(falling) => stamp_of(falling),
+            Err(_order) => None,
+        }
+    }
 }
 
 /// What is sought among texts: a text, or a key for its text.
@@ -75,13 +120,29 @@ impl Sought for &[u8] {
     }
 }
 
+impl Sought for Version<'_> {
+    ghost use Rattle.memtable.specs.Order.{key_of};
+
+    ghost name = { λ version. text (key_of version) };
+
+    fn compare(&self, text: &[u8]) -> Ordering {
+        match self.cut_and_compare(text) {
+            Ok(order) => order,
+            Err(order) => order,
+        }
+    }
+}
+
 impl Sought for &CellKey {
     ghost name = { λ key. text key.now };
 
     fn compare(&self, text: &[u8]) -> Ordering {
-        match cut_and_compare(self, text) {
-            Ok(order) => order,
-            Err(order) => order,
-        }
+        let version = Version {
+            row: &self.row,
+            family: &self.family,
+            qualifier: self.qualifier,
+            stamp: self.stamp,
+        };
+        version.compare(text)
     }
 }

@@ -4,7 +4,7 @@ ghost use Rattle.std.specs.Prelude.{◌≡◌, ◌+◌, ◌≤◌, ◌<◌, IfSo
 ghost use Rattle.std.specs.FinMap.Entries.{put as put_entry};
 ghost use Rattle.cell_key.specs.Keys.{byte_cmp};
 ghost use Rattle.cell_key.specs.Entries.{IsPlace, IsRising, entry_of_key, lent_entry, entry_len};
-ghost use Rattle.memtable.specs.Slots.{slot_entry, slot_entries, is_named};
+ghost use Rattle.memtable.specs.Slots.{slot_entry, slot_entries, is_named, first_value};
 
 use crate::order::Sought;
 use cell_key::EntryRef;
@@ -74,6 +74,20 @@ pub(crate) fn find<S: Sought>(slots: &[Box<Slot>], sought: S) -> Option<&Slot>
     } else {
         None
     }
+}
+
+/// The first entry that has a value.
+pub(crate) fn first_value(slots: &[Box<Slot>]) -> Option<&Slot>
+    ensures { option_map (λ slot. slot_entry slot.now) result ≡ first_value (slot_entries slots.now) }
+{
+    let mut rest = slots;
+    'slots: while let Some((slot, after)) = rest.split_first() {
+        if slot.value.is_some() {
+            return Some(slot);
+        }
+        rest = after;
+    }
+    None
 }
 
 /// Puts an entry at its place, where there is room for one more. An entry of the same text goes.

@@ -3,15 +3,17 @@
 ghost use Rattle.std.specs.Prelude.{◌≡◌, ◌↔◌, [], length, IsTrue, OnOk, OnErr, IfErr, IfSome, IsErrOf, option_map, None, ◌⊎◌};
 ghost use Rattle.std.specs.List.{AllByRecursion};
 ghost use Rattle.cell_key.specs.Keys.{text};
-ghost use Rattle.cell_key.specs.Cells.{IsEditOf};
-ghost use Rattle.cell_key.specs.Entries.{IsEntryList, lent_entry, entry_of_key, entries_from};
+ghost use Rattle.cell_key.specs.Cells.{IsEditOf, IsNewest, version};
+ghost use Rattle.cell_key.specs.Versions.{IsVersion};
+ghost use Rattle.cell_key.specs.Entries.{IsEntryList, cells_of, lent_entry, entry_of_key, entries_from};
+ghost use Rattle.memtable.specs.Slots.{lent_version};
 ghost use Rattle.memtable.specs.Edits.{with_edits, bytes_of, IsWithinLimits, HasStoredKey};
 
 use crate::blocks::{self, Blocks};
 use crate::cursor::Cursor;
-use crate::slots;
+use crate::order::Version;
 use crate::staging::{self, Size};
-use cell_key::{CellKey, Edit, EntryRef, Refusal, Row};
+use cell_key::{CellKey, Edit, EntryRef, Family, Qualifier, Refusal, Row, Stamp};
 use std::alloc::Global;
 use std::marker::Model;
 
@@ -98,13 +100,40 @@ impl Memtable {
         ensures cursor { result ≡ (None, entries_from from.now self.now) }
         ensures list { IsEntryList self.now }
     {
-        let at = blocks::place(&self.blocks.filled, from);
-        match self.blocks.filled.split_at(at).1.split_first() {
-            Some((block, later)) => {
-                let at = slots::first_from(block, from);
-                Cursor::new(block.split_at(at).1, later)
-            }
-            None => Cursor::new(&[], &[]),
+        let (rest, later) = blocks::rest_from(&self.blocks.filled, from);
+        Cursor::new(rest, later)
+    }
+
+    /// The version of a cell's column with the greatest stamp in `lo..=hi`, if it has one there: its stamp, from
+    /// 1 to 2^63 - 1, and its value of at most 65,536 bytes. An erasure is no version. Takes no memory.
+    pub fn newest(
+        &self,
+        row: &Row,
+        family: &Family,
+        qualifier: Qualifier,
+        lo: Stamp,
+        hi: Stamp,
+    ) -> Option<(Stamp, &[u8])>
+        ensures found { IsNewest (cells_of self.now) (version row.now family.now qualifier) lo hi (option_map lent_version result) }
+        ensures limits { IfSome result (λ found. IsVersion found.0 found.1.now) }
+        ensures list { IsEntryList self.now }
+    {
+        let _row = row.as_bytes();
+        let _family = family.as_bytes();
+        let sought = Version {
+            row,
+            family,
+            qualifier,
+            stamp: hi,
+        };
+        let slot = blocks::first_value_from(&self.blocks.filled, sought)?;
+        let stamp = sought.stamp_in(&slot.text)?;
+        if stamp < lo {
+            return None;
+        }
+        match &slot.value {
+            Some(value) => Some((stamp, value.as_slice())),
+            None => None,
         }
     }
 

@@ -5,8 +5,8 @@ use Rattle.cell_key.specs.Entries.{Entry, spelled, field}
 use Rattle.sorted_file.specs.Grammar.{AreBlocks, body, index, foot}
 use Rattle.sorted_file.specs.declared.building.FileBuilder.{FileBuilder}
 
--- what is kept of a file so far: its head and entries, the rows of the blocks that are closed, and of the
--- block that is open its first text and where it begins
+-- what is kept of a file so far: its head and entries, the rows of the blocks that are closed, and
+-- of the block that is open its first text and where it begins
 pub record State : Type 0 where
   pub limit : ℕ
   pub out : List ℕ
@@ -17,7 +17,16 @@ pub record State : Type 0 where
   pub entries : ℕ
 
 abbrev pub state_of : FileBuilder → State
-state_of b = record { limit = b.limit; out = b.out.items; rows = b.rows.items; first = b.first.items; start = b.start; blocks = b.blocks; entries = b.entries }
+state_of b =
+    record {
+      limit = b.limit;
+      out = b.out.items;
+      rows = b.rows.items;
+      first = b.first.items;
+      start = b.start;
+      blocks = b.blocks;
+      entries = b.entries;
+    }
 
 -- the numbers fit their four bytes
 pub record IsSound (s : State) : Type 0 where
@@ -29,13 +38,41 @@ pub record IsSound (s : State) : Type 0 where
   pub named : length s.first < 2 ^ 32
 
 abbrev pub opened : State → List ℕ → State
-opened s key = record { limit = s.limit; out = s.out; rows = s.rows; first = key; start = length s.out; blocks = s.blocks; entries = s.entries }
+opened s key =
+    record {
+      limit = s.limit;
+      out = s.out;
+      rows = s.rows;
+      first = key;
+      start = length s.out;
+      blocks = s.blocks;
+      entries = s.entries;
+    }
 
 abbrev pub closed : State → State
-closed s = record { limit = s.limit; out = s.out; rows = s.rows ++ (to_be_bytes w32 s.start ++ (to_be_bytes w32 (length s.out - s.start) ++ field s.first)); first = s.first; start = s.start; blocks = s.blocks + 1; entries = s.entries }
+closed s =
+    record {
+      limit = s.limit;
+      out = s.out;
+      rows = s.rows ++ (to_be_bytes w32 s.start
+          ++ (to_be_bytes w32 (length s.out - s.start) ++ field s.first));
+      first = s.first;
+      start = s.start;
+      blocks = s.blocks + 1;
+      entries = s.entries;
+    }
 
 abbrev pub added : State → Entry → State
-added s entry = record { limit = s.limit; out = s.out ++ spelled entry; rows = s.rows; first = s.first; start = s.start; blocks = s.blocks; entries = s.entries + 1 }
+added s entry =
+    record {
+      limit = s.limit;
+      out = s.out ++ spelled entry;
+      rows = s.rows;
+      first = s.first;
+      start = s.start;
+      blocks = s.blocks;
+      entries = s.entries + 1;
+    }
 
 -- closed blocks, and an open one if it has entries
 abbrev pub with_open : List (List Entry) → List Entry → List (List Entry)
@@ -63,7 +100,11 @@ pub record IsBuilt (s : State) (es : List Entry) : Type 0 where
 
 -- The first block was opened, or the open block has room, or it was closed and the next one opened.
 abbrev pub HasMadeRoom : State → Entry → State → Type 0
-HasMadeRoom old e new = ((old.entries ≡ 0) × (new ≡ opened old e.0)) ⊎ ((old.entries ≢ 0) × (length old.out - old.start + length (spelled e) ≤ 4096) × (new ≡ old)) ⊎ ((old.entries ≢ 0) × (4096 < length old.out - old.start + length (spelled e)) × (new ≡ opened (closed old) e.0))
+HasMadeRoom old e new =
+    ((old.entries ≡ 0) × (new ≡ opened old e.0)) ⊎ ((old.entries ≢ 0)
+    × (length old.out - old.start + length (spelled e) ≤ 4096) × (new ≡ old))
+    ⊎ ((old.entries ≢ 0) × (4096 < length old.out - old.start + length (spelled e))
+    × (new ≡ opened (closed old) e.0))
 
 -- how long the file of what is closed is, and its bytes
 abbrev pub image_len : State → ℕ

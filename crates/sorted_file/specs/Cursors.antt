@@ -17,5 +17,6 @@ cursor_remaining told s = kept s.rest.now
 abbrev pub CursorHolds : Option Contents → FileCursor → Type 0
 CursorHolds told s = IsSome told × IsEntryList (pending (cursor_lent s) (cursor_remaining told s))
 
-pub cursor_list : (told : Option Contents) (s : FileCursor) → CursorHolds told s → IsEntryList (pending (cursor_lent s) (cursor_remaining told s))
+pub cursor_list : (told : Option Contents) (s : FileCursor) → CursorHolds told s
+    → IsEntryList (pending (cursor_lent s) (cursor_remaining told s))
 cursor_list told s h = h.1

@@ -27,7 +27,8 @@ AreBlocks (es ∷ blocks) = Fits es × IsFull es blocks × AreBlocks blocks
 -- the row of a block that begins at this place: the place, the block's length and its first key
 abbrev pub row : ℕ → List Entry → List ℕ
 row at [] = []
-row at (e ∷ es) = to_be_bytes w32 at ++ (to_be_bytes w32 (length (block_bytes (e ∷ es))) ++ field e.0)
+row at (e ∷ es) =
+    to_be_bytes w32 at ++ (to_be_bytes w32 (length (block_bytes (e ∷ es))) ++ field e.0)
 
 -- a row for each block, the first of which begins at this place
 abbrev pub index : ℕ → List (List Entry) → List ℕ
@@ -39,13 +40,16 @@ body blocks = flat_map block_bytes blocks
 
 -- where the index begins, how many blocks and entries there are, and how long the file is
 abbrev pub foot : ℕ → ℕ → ℕ → ℕ → List ℕ
-foot index_at blocks entries size = to_be_bytes w32 index_at ++ (to_be_bytes w32 blocks ++ (to_be_bytes w32 entries ++ (to_be_bytes w32 size ++ codes "TABLETZZ")))
+foot index_at blocks entries size =
+    to_be_bytes w32 index_at ++ (to_be_bytes w32 blocks
+    ++ (to_be_bytes w32 entries ++ (to_be_bytes w32 size ++ codes "TABLETZZ")))
 
 -- head, blocks, index and foot
 abbrev pub image_of : List (List Entry) → ℕ → List ℕ
 image_of blocks entries =
     let rows = index 8 blocks in
-    codes "TABLET01" ++ (body blocks ++ (rows ++ foot (8 + length (body blocks)) (length blocks) entries (32 + length (body blocks) + length rows)))
+    codes "TABLET01" ++ (body blocks ++ (rows ++ foot (8 + length (body blocks))
+    (length blocks) entries (32 + length (body blocks) + length rows)))
 
 -- the bytes are the file of these entries
 pub record IsFile (entries : List Entry) (image : List ℕ) : Type 0 where

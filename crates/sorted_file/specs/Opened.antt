@@ -25,7 +25,8 @@ pub record HasFile (m : Contents) (name : ℕ) : Type 0 where
 abbrev pub listed : Contents → SortedFile → List Entry
 listed m file = kept file.entries.items
 
--- the file of its name is there and is that of an entry list, the one that it stands for, and what it keeps of its values is so
+-- the file of its name is there and is that of an entry list, the one that it stands for,
+-- and what it keeps of its values is so
 pub record IsOpen (m : Contents) (file : SortedFile) : Type 0 where
   pub list : IsEntryList (listed m file)
   pub spans : AllByRecursion (IsSpanned file.spans) (listed m file)
@@ -33,7 +34,8 @@ pub record IsOpen (m : Contents) (file : SortedFile) : Type 0 where
   pub there : map.get m (name_of file) ≡ Some image
   pub form : IsFile (listed m file) image
 
--- Over these files an open file is what it was: it has its name, and where it was open it is, and stands for the same entries.
+-- Over these files an open file is what it was: it has its name, and where it was open it is,
+-- and stands for the same entries.
 pub record IsSameFile (told : Option Contents) (old new : SortedFile) : Type 0 where
   pub name : name_of new ≡ name_of old
   pub still : IfSome told (λ m. IsOpen m old → IsOpen m new × (listed m new ≡ listed m old))
@@ -48,11 +50,16 @@ IsShortValue value = IfSome value (λ bytes. length bytes.items ≤ 65536)
 
 -- An open file stays open, and stands for the same entries, while the bytes under its name stay.
 abbrev pub StaysOpen : Type 0
-StaysOpen = (m n : Contents) (file : SortedFile) → IsOpen m file → map.get n (name_of file) ≡ map.get m (name_of file) → IsOpen n file × (listed n file ≡ listed m file)
+StaysOpen =
+    (m n : Contents) (file : SortedFile) → IsOpen m file
+    → map.get n (name_of file) ≡ map.get m (name_of file)
+    → IsOpen n file × (listed n file ≡ listed m file)
 
 -- what is open under one name stands for one list of entries
 abbrev pub OneListing : Type 0
-OneListing = (m : Contents) (f g : SortedFile) → IsOpen m f → IsOpen m g → name_of f ≡ name_of g → listed m f ≡ listed m g
+OneListing =
+    (m : Contents) (f g : SortedFile) → IsOpen m f → IsOpen m g → name_of f ≡ name_of g
+    → listed m f ≡ listed m g
 
 -- what is open is there
 abbrev pub OpenIsThere : Type 0
@@ -60,8 +67,12 @@ OpenIsThere = (m : Contents) (file : SortedFile) → IsOpen m file → HasFile m
 
 -- a file of an entry list that is there can be opened
 abbrev pub WrittenIsThere : Type 0
-WrittenIsThere = (m : Contents) (name : ℕ) (entries : List Entry) (image : List ℕ) → IsEntryList entries → IsFile entries image → map.get m name ≡ Some image → HasFile m name
+WrittenIsThere =
+    (m : Contents) (name : ℕ) (entries : List Entry) (image : List ℕ) → IsEntryList entries
+    → IsFile entries image → map.get m name ≡ Some image → HasFile m name
 
 -- what is opened of it stands for those entries
 abbrev pub WrittenIsListed : Type 0
-WrittenIsListed = (m : Contents) (file : SortedFile) (entries : List Entry) (image : List ℕ) → IsOpen m file → IsFile entries image → map.get m (name_of file) ≡ Some image → listed m file ≡ entries
+WrittenIsListed =
+    (m : Contents) (file : SortedFile) (entries : List Entry) (image : List ℕ) → IsOpen m file
+    → IsFile entries image → map.get m (name_of file) ≡ Some image → listed m file ≡ entries

@@ -13,7 +13,9 @@ pending lent remaining = option_to_list lent ++ remaining
 
 -- the entries that remain of an entry list are one
 abbrev pub RestIsList : Type 0
-RestIsList = (lent : Option Entry) (remaining : List Entry) → IsEntryList (pending lent remaining) → IsEntryList remaining
+RestIsList =
+    (lent : Option Entry) (remaining : List Entry) → IsEntryList (pending lent remaining)
+    → IsEntryList remaining
 
 -- what reading files may be refused: a device's fault, want of memory, damage
 abbrev pub IsReadRefusal : Refusal → Type 0

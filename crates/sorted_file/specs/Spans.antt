@@ -20,12 +20,17 @@ span_of spans Write = spans.write
 
 -- the stamps of the first are among those of the second
 abbrev pub Covers : Spans → Spans → Type 0
-Covers old new = (q : Qualifier) (stamp : ℕ) → HasStamp (span_of old q) stamp → HasStamp (span_of new q) stamp
+Covers old new =
+    (q : Qualifier) (stamp : ℕ) → HasStamp (span_of old q) stamp → HasStamp (span_of new q) stamp
 
 -- the stamp of an entry's key is among them, if the entry is a value
 abbrev pub IsSpanned : Spans → Entry → Type 0
-IsSpanned spans entry = (key : CellKey) → IsStored key → entry.0 ≡ text key → IsSome entry.1 → HasStamp (span_of spans key.qualifier) key.stamp
+IsSpanned spans entry =
+    (key : CellKey) → IsStored key → entry.0 ≡ text key → IsSome entry.1
+    → HasStamp (span_of spans key.qualifier) key.stamp
 
 -- entries have no value of a column of this kind at these stamps: erasures they may have
 abbrev pub HasNoValue : Qualifier → ℕ → ℕ → List Entry → Type 0
-HasNoValue qualifier lo hi es = (key : CellKey) → IsStored key → key.qualifier ≡ qualifier → lo ≤ key.stamp → key.stamp ≤ hi → value_of (entry_of_key es (text key)) ≡ None
+HasNoValue qualifier lo hi es =
+    (key : CellKey) → IsStored key → key.qualifier ≡ qualifier → lo ≤ key.stamp → key.stamp ≤ hi
+    → value_of (entry_of_key es (text key)) ≡ None

@@ -146,7 +146,8 @@ impl FileBuilder {
     /// Whether the open block has room for an entry.
     fn has_room(&self, entry: EntryRef<'_>) -> bool
         requires { IsSound (state_of self.now) }
-        ensures { IsTrue result ↔ (length self.now.out.items - self.now.start + entry_len (lent_entry entry.entry) ≤ 4096) }
+        ensures { IsTrue result ↔ (length self.now.out.items - self.now.start
+            + entry_len (lent_entry entry.entry) ≤ 4096) }
     {
         let len = self.out.len() as u128 - self.start as u128;
         len + spelled_len(entry) <= BLOCK_LIMIT
@@ -156,7 +157,8 @@ impl FileBuilder {
     fn make_room(&mut self, entry: EntryRef<'_>) -> Result<(), Refusal>
         requires sound { IsSound (state_of self.old) }
         requires small { length self.old.out.items + entry_len (lent_entry entry) ≤ self.old.limit }
-        ensures room { OnOk result (HasMadeRoom (state_of self.old) (lent_entry entry.entry) (state_of self.new)) }
+        ensures room { OnOk result (HasMadeRoom
+            (state_of self.old) (lent_entry entry.entry) (state_of self.new)) }
         ensures memory { IsOkUnless result Refusal.NoMemory }
     {
         if self.entries == 0 {
@@ -174,9 +176,12 @@ impl FileBuilder {
         requires { IsSound (state_of self.old) }
         ensures sound { OnOk result (IsSound (state_of self.new)) }
         ensures limit { OnOk result (self.new.limit ≡ self.old.limit) }
-        ensures built { OnOk result ((es : List Entry) → IsBuilt (state_of self.old) es → IsBuilt (state_of self.new) (es ++ lent_entry entry.entry ∷ [])) }
-        ensures large { IsErrOf result Refusal.FileTooLarge → self.old.limit < length self.old.out.items + entry_len (lent_entry entry.entry) }
-        ensures refusal { IfErr result (λ refusal. (refusal ≡ Refusal.FileTooLarge) ⊎ (refusal ≡ Refusal.NoMemory)) }
+        ensures built { OnOk result ((es : List Entry) → IsBuilt (state_of self.old) es
+            → IsBuilt (state_of self.new) (es ++ lent_entry entry.entry ∷ [])) }
+        ensures large { IsErrOf result Refusal.FileTooLarge
+            → self.old.limit < length self.old.out.items + entry_len (lent_entry entry.entry) }
+        ensures refusal { IfErr result (λ refusal. (refusal ≡ Refusal.FileTooLarge)
+            ⊎ (refusal ≡ Refusal.NoMemory)) }
     {
         if self.out.len() as u128 + spelled_len(entry) > self.limit as u128 {
             return Err(Refusal::FileTooLarge);
@@ -190,7 +195,8 @@ impl FileBuilder {
     /// Ends the last block, if there is one.
     fn close_last(&mut self) -> Result<(), Refusal>
         requires { IsSound (state_of self.old) }
-        ensures closed { OnOk result ((es : List Entry) → IsBuilt (state_of self.old) es → IsClosed (state_of self.new) es) }
+        ensures closed { OnOk result ((es : List Entry) → IsBuilt (state_of self.old) es
+            → IsClosed (state_of self.new) es) }
         ensures limit { OnOk result (self.new.limit ≡ self.old.limit) }
         ensures out { OnOk result (self.new.out.items ≡ self.old.out.items) }
         ensures memory { IsOkUnless result Refusal.NoMemory }
@@ -204,10 +210,13 @@ impl FileBuilder {
     /// The file. Refused FileTooLarge where it has more bytes than it may have, and NoMemory.
     pub(crate) fn finish(mut self) -> Result<Vec<u8>, Refusal>
         requires { IsSound (state_of self) }
-        ensures file { IfOk result (λ image. (es : List Entry) → IsBuilt (state_of self) es → IsFile es image.items) }
+        ensures file { IfOk result (λ image. (es : List Entry) → IsBuilt (state_of self) es
+            → IsFile es image.items) }
         ensures within { IfOk result (λ image. length image.items ≤ self.limit) }
-        ensures large { IsErrOf result Refusal.FileTooLarge → (es : List Entry) → IsBuilt (state_of self) es → ¬ FitsIn self.limit es }
-        ensures refusal { IfErr result (λ refusal. (refusal ≡ Refusal.FileTooLarge) ⊎ (refusal ≡ Refusal.NoMemory)) }
+        ensures large { IsErrOf result Refusal.FileTooLarge
+            → (es : List Entry) → IsBuilt (state_of self) es → ¬ FitsIn self.limit es }
+        ensures refusal { IfErr result (λ refusal. (refusal ≡ Refusal.FileTooLarge)
+            ⊎ (refusal ≡ Refusal.NoMemory)) }
     {
         self.close_last()?;
         self.into_image()
@@ -218,8 +227,10 @@ impl FileBuilder {
         requires { length self.out.items ≤ self.limit }
         ensures file { IfOk result (λ image. image.items ≡ image_from (state_of self)) }
         ensures within { IfOk result (λ image. image_len (state_of self) ≤ self.limit) }
-        ensures large { IsErrOf result Refusal.FileTooLarge → self.limit < image_len (state_of self) }
-        ensures refusal { IfErr result (λ refusal. (refusal ≡ Refusal.FileTooLarge) ⊎ (refusal ≡ Refusal.NoMemory)) }
+        ensures large { IsErrOf result Refusal.FileTooLarge
+            → self.limit < image_len (state_of self) }
+        ensures refusal { IfErr result (λ refusal. (refusal ≡ Refusal.FileTooLarge)
+            ⊎ (refusal ≡ Refusal.NoMemory)) }
     {
         let FileBuilder {
             limit,

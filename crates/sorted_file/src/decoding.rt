@@ -30,7 +30,8 @@ fn read_number(bytes: &[u8]) -> Option<(u32, &[u8])>
 /// The length and as many bytes at the front, and what follows.
 fn read_field(bytes: &[u8]) -> Option<(&[u8], &[u8])>
     ensures found { IfSome result (λ p. bytes.now ≡ field p.0.now ++ p.1.now) }
-    ensures none { IfNone result ((part rest : List ℕ) → length part < 2 ^ 32 → bytes.now ≢ field part ++ rest) }
+    ensures none { IfNone result ((part rest : List ℕ) → length part < 2 ^ 32
+        → bytes.now ≢ field part ++ rest) }
 {
     let (len, rest) = read_number(bytes)?;
     if rest.len() < len as usize {
@@ -42,7 +43,8 @@ fn read_field(bytes: &[u8]) -> Option<(&[u8], &[u8])>
 /// The entry at the front, and what follows.
 fn read_entry(bytes: &[u8]) -> Option<(EntryRef<'_>, &[u8])>
     ensures found { IfSome result (λ p. bytes.now ≡ spelled (lent_entry p.0) ++ p.1.now) }
-    ensures none { IfNone result (length bytes.now < 2 ^ 32 → (entry : Entry) (rest : List ℕ) → bytes.now ≢ spelled entry ++ rest) }
+    ensures none { IfNone result (length bytes.now < 2 ^ 32 → (entry : Entry) (rest : List ℕ)
+        → bytes.now ≢ spelled entry ++ rest) }
 {
     let (key, rest) = read_field(bytes)?;
     let (kind, after) = rest.split_first()?;
@@ -60,9 +62,12 @@ fn read_entry(bytes: &[u8]) -> Option<(EntryRef<'_>, &[u8])>
 /// The entries whose bytes these are.
 pub(crate) fn read_entries(alloc: Global, bytes: &[u8]) -> Result<Option<Vec<FileEntry>>, Refusal>
     requires { length bytes.now < 2 ^ 32 }
-    ensures found { IfOk result (λ found. IfSome found (λ entries. bytes.now ≡ flat_map spelled (kept entries.items))) }
-    ensures each { IfOk result (λ found. IfSome found (λ entries. AllByRecursion IsEntry (kept entries.items))) }
-    ensures none { IfOk result (λ found. IfNone found ((es : List Entry) → AllByRecursion IsEntry es → bytes.now ≢ flat_map spelled es)) }
+    ensures found { IfOk result (λ found.
+        IfSome found (λ entries. bytes.now ≡ flat_map spelled (kept entries.items))) }
+    ensures each { IfOk result (λ found.
+        IfSome found (λ entries. AllByRecursion IsEntry (kept entries.items))) }
+    ensures none { IfOk result (λ found. IfNone found ((es : List Entry) → AllByRecursion IsEntry es
+        → bytes.now ≢ flat_map spelled es)) }
     ensures refusal { IfErr result (λ refusal. refusal ≡ Refusal.NoMemory) }
 {
     let mut entries = Vec::new(alloc);
@@ -83,7 +88,8 @@ pub(crate) fn read_entries(alloc: Global, bytes: &[u8]) -> Result<Option<Vec<Fil
 /// The bytes between the head and the index.
 pub(crate) fn entry_bytes(bytes: &[u8]) -> Option<&[u8]>
     requires { length bytes.now < 2 ^ 32 }
-    ensures found { IfSome result (λ part. (es : List Entry) → IsFile es bytes.now → part.now ≡ flat_map spelled es) }
+    ensures found { IfSome result (λ part. (es : List Entry) → IsFile es bytes.now
+        → part.now ≡ flat_map spelled es) }
     ensures bound { IfSome result (λ part. length part.now < 2 ^ 32) }
     ensures least { IfSome result (λ part. 32 ≤ length bytes.now) }
     ensures none { IfNone result ((es : List Entry) → ¬ IsFile es bytes.now) }

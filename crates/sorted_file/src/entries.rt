@@ -37,10 +37,13 @@ impl FileEntry {
     /// A copy of the value, or nothing for an erasure. Refused Damaged where it is longer than a value may be,
     /// and NoMemory.
     pub(crate) fn copy_value(&self, alloc: Global) -> Result<Option<Vec<u8>>, Refusal>
-        ensures copy { IfOk result (λ copy. option_map (λ bytes. bytes.items) copy ≡ (file_entry self.now).1) }
+        ensures copy { IfOk result (λ copy.
+            option_map (λ bytes. bytes.items) copy ≡ (file_entry self.now).1) }
         ensures short { IfOk result (λ copy. IfSome copy (λ bytes. length bytes.items ≤ 65536)) }
-        ensures damaged { IsErrOf result Refusal.Damaged → ¬ IfSome (file_entry self.now).1 (λ bytes. length bytes ≤ 65536) }
-        ensures refusal { IfErr result (λ refusal. (refusal ≡ Refusal.NoMemory) ⊎ (refusal ≡ Refusal.Damaged)) }
+        ensures damaged { IsErrOf result Refusal.Damaged
+            → ¬ IfSome (file_entry self.now).1 (λ bytes. length bytes ≤ 65536) }
+        ensures refusal { IfErr result (λ refusal. (refusal ≡ Refusal.NoMemory)
+            ⊎ (refusal ≡ Refusal.Damaged)) }
     {
         let Some(value) = &self.value else {
             return Ok(None);
@@ -84,8 +87,10 @@ fn copied(alloc: Global, entry: EntryRef<'_>) -> Result<FileEntry, Refusal>
 
 /// A copy of an entry within the limits.
 pub(crate) fn checked(alloc: Global, entry: EntryRef<'_>) -> Result<Option<FileEntry>, Refusal>
-    ensures copy { IfOk result (λ found. IfSome found (λ copy. file_entry copy ≡ lent_entry entry.entry)) }
-    ensures within { IfOk result (λ found. IfSome found (λ copy. IsEntry (lent_entry entry.entry))) }
+    ensures copy { IfOk result (λ found.
+        IfSome found (λ copy. file_entry copy ≡ lent_entry entry.entry)) }
+    ensures within { IfOk result (λ found.
+        IfSome found (λ copy. IsEntry (lent_entry entry.entry))) }
     ensures none { IfOk result (λ found. IfNone found (¬ IsEntry (lent_entry entry.entry))) }
     ensures refusal { IfErr result (λ refusal. refusal ≡ Refusal.NoMemory) }
 {
@@ -131,7 +136,8 @@ pub(crate) fn first_from(entries: &[FileEntry], text: &[u8]) -> usize
 
 /// The entry at a text.
 pub(crate) fn find<'a>(entries: &'a [FileEntry], text: &[u8]) -> Option<&'a FileEntry>
-    ensures { IsRising (kept entries.now) → option_map (λ entry. (file_entry entry.now).1) result ≡ entry_of_key (kept entries.now) text.now }
+    ensures { IsRising (kept entries.now) → option_map (λ entry. (file_entry entry.now).1) result
+        ≡ entry_of_key (kept entries.now) text.now }
 {
     let entry = entries.get(first_from(entries, text))?;
     if text.cmp(&entry.text.as_slice()).is_eq() {

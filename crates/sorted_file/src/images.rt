@@ -16,7 +16,8 @@ fn image_of(alloc: Global, entries: &[FileEntry], limit: u32) -> Result<Vec<u8>,
     requires { 8 ≤ limit }
     ensures file { IfOk result (λ image. IsFile (kept entries.now) image.items) }
     ensures large { IsErrOf result Refusal.FileTooLarge → ¬ FitsIn limit (kept entries.now) }
-    ensures refusal { IfErr result (λ refusal. (refusal ≡ Refusal.FileTooLarge) ⊎ (refusal ≡ Refusal.NoMemory)) }
+    ensures refusal { IfErr result (λ refusal. (refusal ≡ Refusal.FileTooLarge)
+        ⊎ (refusal ≡ Refusal.NoMemory)) }
 {
     let mut builder = FileBuilder::new(alloc, limit)?;
     let mut rest = entries;
@@ -50,9 +51,12 @@ fn is_file(alloc: Global, entries: &[FileEntry], bytes: &[u8]) -> Result<bool, R
 
 /// The entries whose file the bytes are. It takes as much memory as the bytes a few times over.
 pub(crate) fn entries_of(alloc: Global, bytes: &[u8]) -> Result<Option<Vec<FileEntry>>, Refusal>
-    ensures list { IfOk result (λ found. IfSome found (λ entries. IsEntryList (kept entries.items))) }
-    ensures form { IfOk result (λ found. IfSome found (λ entries. IsFile (kept entries.items) bytes.now)) }
-    ensures none { IfOk result (λ found. IfNone found ((es : List Entry) → IsEntryList es → ¬ IsFile es bytes.now)) }
+    ensures list { IfOk result (λ found.
+        IfSome found (λ entries. IsEntryList (kept entries.items))) }
+    ensures form { IfOk result (λ found.
+        IfSome found (λ entries. IsFile (kept entries.items) bytes.now)) }
+    ensures none { IfOk result (λ found. IfNone found ((es : List Entry) → IsEntryList es
+        → ¬ IsFile es bytes.now)) }
     ensures refusal { IfErr result (λ refusal. refusal ≡ Refusal.NoMemory) }
 {
     if bytes.len() > u32::MAX as usize {

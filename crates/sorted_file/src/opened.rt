@@ -1,6 +1,6 @@
 //! A file of entries that is open for reading.
 
-ghost use Rattle.std.specs.Prelude.{◌≡◌, Some, None, false, option_map, IfOk, IfErr, IfSome, IsErrOf};
+ghost use Rattle.std.specs.Prelude.{◌≡◌, Some, None, false, length, option_map, IfOk, IfErr, IfSome, IsErrOf};
 ghost use Rattle.std.specs.FinMap as map;
 ghost use Rattle.cell_key.specs.Keys.{text};
 ghost use Rattle.cell_key.specs.Entries.{entry_of_key, entries_from};
@@ -19,8 +19,10 @@ use std::alloc::Global;
 
 /// The bytes of a file.
 fn read_file<F: Files>(alloc: Global, name: u64, files: &mut F) -> Result<Vec<u8>, Refusal>
-    ensures found { IfOk result (λ bytes. IfSome (F.contents files.old) (λ m. map.get m name ≡ Some bytes.items)) }
-    ensures missing { IsErrOf result Refusal.Damaged → IfSome (F.contents files.old) (λ m. map.get m name ≡ None) }
+    ensures found { IfOk result (λ bytes.
+        IfSome (F.contents files.old) (λ m. map.get m name ≡ Some bytes.items)) }
+    ensures missing { IsErrOf result Refusal.Damaged
+        → IfSome (F.contents files.old) (λ m. map.get m name ≡ None) }
     ensures refusal { IfErr result IsReadRefusal }
     ensures same { F.contents files.new ≡ F.contents files.old }
     ensures reason { HasReason (F.faults files.old) (F.faults files.new) result }
@@ -51,7 +53,8 @@ impl SortedFile {
     pub fn open<F: Files>(alloc: Global, name: u64, files: &mut F) -> Result<SortedFile, Refusal>
         ensures opened { IfOk result (λ file. IfSome (F.contents files.old) (λ m. IsOpen m file)) }
         ensures named { IfOk result (λ file. name_of file ≡ name) }
-        ensures damaged { IsErrOf result Refusal.Damaged → IfSome (F.contents files.old) (λ m. ¬ HasFile m name) }
+        ensures damaged { IsErrOf result Refusal.Damaged
+            → IfSome (F.contents files.old) (λ m. ¬ HasFile m name) }
         ensures refusal { IfErr result IsReadRefusal }
         ensures same { F.contents files.new ≡ F.contents files.old }
         ensures reason { HasReason (F.faults files.old) (F.faults files.new) result }
@@ -76,10 +79,18 @@ impl SortedFile {
         self.name
     }
 
+    /// How many entries the file has, erasures among them. Takes no memory and reads nothing.
+    pub fn len(&self) -> usize
+        ensures { (m : Contents) → IsOpen m self.now → result ≡ length (listed m self.now) }
+    {
+        self.entries.len()
+    }
+
     /// Whether the file may have a value of a column of this kind at a stamp in `lo..=hi`. Takes no memory and
     /// reads nothing.
     pub fn may_have(&self, qualifier: Qualifier, lo: Stamp, hi: Stamp) -> bool
-        ensures { result ≡ false → (m : Contents) → IsOpen m self.now → HasNoValue qualifier lo hi (listed m self.now) }
+        ensures { result ≡ false → (m : Contents) → IsOpen m self.now
+            → HasNoValue qualifier lo hi (listed m self.now) }
     {
         self.spans.meet(qualifier, lo, hi)
     }
@@ -95,10 +106,12 @@ impl SortedFile {
         key: &CellKey,
         files: &mut F,
     ) -> Result<Option<Option<Vec<u8>>>, Refusal>
-        ensures found { IfOk result (λ found. IfSome (F.contents files.old) (λ m. IsOpen m self.old → option_map value_bytes found ≡ entry_of_key (listed m self.old) (text key.now))) }
+        ensures found { IfOk result (λ found. IfSome (F.contents files.old) (λ m. IsOpen m self.old
+            → option_map value_bytes found ≡ entry_of_key (listed m self.old) (text key.now))) }
         ensures short { IfOk result (λ found. IfSome found IsShortValue) }
         ensures stays { IsSameFile (F.contents files.old) self.old self.new }
-        ensures damaged { IsErrOf result Refusal.Damaged → IfSome (F.contents files.old) (λ m. ¬ IsOpen m self.old) }
+        ensures damaged { IsErrOf result Refusal.Damaged
+            → IfSome (F.contents files.old) (λ m. ¬ IsOpen m self.old) }
         ensures refusal { IfErr result IsReadRefusal }
         ensures same { F.contents files.new ≡ F.contents files.old }
         ensures reason { HasReason (F.faults files.old) (F.faults files.new) result }
@@ -116,7 +129,8 @@ impl SortedFile {
     /// nothing.
     pub fn cursor<'a>(&'a self, from: &'a [u8]) -> FileCursor<'a>
         ensures lent { cursor_lent result ≡ None }
-        ensures entries { (m : Contents) → IsOpen m self.now → cursor_remaining (Some m) result ≡ entries_from from.now (listed m self.now) }
+        ensures entries { (m : Contents) → IsOpen m self.now
+            → cursor_remaining (Some m) result ≡ entries_from from.now (listed m self.now) }
         ensures holds { (m : Contents) → IsOpen m self.now → CursorHolds (Some m) result }
     {
         let at = first_from(&self.entries, from);

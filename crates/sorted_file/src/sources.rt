@@ -33,15 +33,20 @@ pub trait Source<F: Files> {
         ensures refusal { IfErr result IsReadRefusal }
         ensures damaged { IsErrOf result Refusal.Damaged → ¬ holds (F.contents files.old) self.old }
         ensures more { IfOk result (λ more. more ≡ is_some (lent self.new)) }
-        ensures lower { IfOk result (λ more. left self.new + (if more then 1 else 0) ≤ left self.old) }
-        ensures holds { OnOk result (holds (F.contents files.old) self.old → holds (F.contents files.old) self.new) }
-        ensures takes { OnOk result (holds (F.contents files.old) self.old → Takes (lent self.new) (remaining (F.contents files.old) self.old) (remaining (F.contents files.old) self.new)) };
+        ensures lower { IfOk result (λ more.
+            left self.new + (if more then 1 else 0) ≤ left self.old) }
+        ensures holds { OnOk result (holds (F.contents files.old) self.old
+            → holds (F.contents files.old) self.new) }
+        ensures takes { OnOk result (holds (F.contents files.old) self.old
+            → Takes (lent self.new) (remaining (F.contents files.old) self.old)
+            (remaining (F.contents files.old) self.new)) };
 
     /// The entry that it is at.
     fn current(&self) -> Option<EntryRef<'_>>
         ensures { option_map lent_entry result ≡ lent self.now };
 
-    ghost list: { (told : Option Contents) (s : Self) → holds told s → IsEntryList (pending (lent s) (remaining told s)) };
+    ghost list: { (told : Option Contents) (s : Self) → holds told s
+        → IsEntryList (pending (lent s) (remaining told s)) };
 }
 
 /// The refusal of a fault of files.

@@ -74,7 +74,8 @@ impl Spans {
 
     /// Whether the file may have a value of such a column at a stamp in `lo..=hi`.
     pub(crate) fn meet(&self, qualifier: Qualifier, lo: Stamp, hi: Stamp) -> bool
-        ensures { result ≡ false → (s : ℕ) → lo ≤ s → s ≤ hi → ¬ (HasStamp (span_of self.now qualifier) s) }
+        ensures { result ≡ false → (s : ℕ) → lo ≤ s → s ≤ hi
+            → ¬ (HasStamp (span_of self.now qualifier) s) }
     {
         match qualifier {
             Qualifier::Data => self.data.meets(lo, hi),

@@ -20,9 +20,11 @@ fn image_of_rest<F: Files, S: Source<F>>(
     files: &mut F,
 ) -> Result<Vec<u8>, Refusal>
     requires { 8 ≤ limit }
-    ensures file { IfOk result (λ image. S.holds (F.contents files.old) source.old → IsFile (S.remaining (F.contents files.old) source.old) image.items) }
+    ensures file { IfOk result (λ image. S.holds (F.contents files.old) source.old
+        → IsFile (S.remaining (F.contents files.old) source.old) image.items) }
     ensures within { IfOk result (λ image. length image.items ≤ limit) }
-    ensures large { IsErrOf result Refusal.FileTooLarge → S.holds (F.contents files.old) source.old → ¬ FitsIn limit (S.remaining (F.contents files.old) source.old) }
+    ensures large { IsErrOf result Refusal.FileTooLarge → S.holds (F.contents files.old) source.old
+        → ¬ FitsIn limit (S.remaining (F.contents files.old) source.old) }
     ensures damaged { IsErrOf result Refusal.Damaged → ¬ S.holds (F.contents files.old) source.old }
     ensures refusal { IfErr result IsWriteRefusal }
     ensures same { F.contents files.new ≡ F.contents files.old }
@@ -39,9 +41,11 @@ fn image_of_rest<F: Files, S: Source<F>>(
 
 /// Makes or replaces a file.
 fn put<F: Files>(files: &mut F, name: u64, bytes: &[u8]) -> Result<(), Refusal>
-    ensures ok { OnOk result (F.contents files.new ≡ with_file name bytes.now (F.contents files.old)) }
+    ensures ok { OnOk result (F.contents files.new
+        ≡ with_file name bytes.now (F.contents files.old)) }
     ensures err { OnErr result (KeepsOthers name (F.contents files.old) (F.contents files.new)) }
-    ensures refusal { IfErr result (λ refusal. (refusal ≡ Refusal.Device) ⊎ (refusal ≡ Refusal.NoMemory)) }
+    ensures refusal { IfErr result (λ refusal. (refusal ≡ Refusal.Device)
+        ⊎ (refusal ≡ Refusal.NoMemory)) }
     ensures reason { HasReason (F.faults files.old) (F.faults files.new) result }
 {
     match files.put(name, bytes) {
@@ -63,11 +67,17 @@ pub fn write_file<F: Files, S: Source<F>>(
 ) -> Result<(), Refusal>
     requires least { 32 ≤ file_limit }
     requires most { file_limit ≤ 1_073_741_824 }
-    ensures written { OnOk result ((image : List ℕ) × ((F.contents files.new ≡ with_file name image (F.contents files.old)) × (length image ≤ file_limit) × (S.holds (F.contents files.old) source.old → IsFile (S.remaining (F.contents files.old) source.old) image))) }
-    ensures large { IsErrOf result Refusal.FileTooLarge → S.holds (F.contents files.old) source.old → ¬ FitsIn file_limit (S.remaining (F.contents files.old) source.old) }
+    ensures written { OnOk result ((image : List ℕ)
+        × ((F.contents files.new ≡ with_file name image (F.contents files.old))
+        × (length image ≤ file_limit) × (S.holds (F.contents files.old) source.old
+        → IsFile (S.remaining (F.contents files.old) source.old) image))) }
+    ensures large { IsErrOf result Refusal.FileTooLarge → S.holds (F.contents files.old) source.old
+        → ¬ FitsIn file_limit (S.remaining (F.contents files.old) source.old) }
     ensures damaged { IsErrOf result Refusal.Damaged → ¬ S.holds (F.contents files.old) source.old }
-    ensures large_same { IsErrOf result Refusal.FileTooLarge → F.contents files.new ≡ F.contents files.old }
-    ensures damaged_same { IsErrOf result Refusal.Damaged → F.contents files.new ≡ F.contents files.old }
+    ensures large_same { IsErrOf result Refusal.FileTooLarge
+        → F.contents files.new ≡ F.contents files.old }
+    ensures damaged_same { IsErrOf result Refusal.Damaged
+        → F.contents files.new ≡ F.contents files.old }
     ensures others { OnErr result (KeepsOthers name (F.contents files.old) (F.contents files.new)) }
     ensures refusal { IfErr result IsWriteRefusal }
     ensures reason { HasReason (F.faults files.old) (F.faults files.new) result }

@@ -69,7 +69,7 @@ naming-++ (es ∷ a) b name = ap (or_else (entry_of_key es name)) (naming-++ a b
     or_assoc None y z = refl
     or_assoc (Some v) y z = refl
 
-none_named : (b : List (List Entry)) (name : List ℕ) → AllByRecursion (λ es. value_of (entry_of_key es name) ≡ None) b → value_of (first_naming b name) ≡ None
+pub none_named : (b : List (List Entry)) (name : List ℕ) → AllByRecursion (λ es. value_of (entry_of_key es name) ≡ None) b → value_of (first_naming b name) ≡ None
 none_named [] name all = refl
 none_named (es ∷ b) name all = go (entry_of_key es name) (first_naming b name) all.0 (none_named b name all.1)
   where
@@ -77,7 +77,7 @@ none_named (es ∷ b) name all = go (entry_of_key es name) (first_naming b name)
     go None y p q = q
     go (Some v) y p q = p
 
-value_or : (x y : Option (Option (List ℕ))) → value_of y ≡ None → value_of (or_else x y) ≡ value_of x
+pub value_or : (x y : Option (Option (List ℕ))) → value_of y ≡ None → value_of (or_else x y) ≡ value_of x
 value_or None y e = e
 value_or (Some v) y e = refl
 

@@ -6,6 +6,7 @@ pub mod FirstValues
 pub mod Found
 pub mod Gathering
 pub mod Held
+pub mod InMemory
 pub mod LeftOut
 pub mod Making
 pub mod NextCells

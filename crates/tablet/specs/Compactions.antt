@@ -43,17 +43,22 @@ ReadsOpen Major told t = AllByRecursion (IsOpenIn told) (files_of t)
 
 -- what it writes
 abbrev pub compacted : Compaction → RowRange → List Entry → List (List Entry) → List Entry
-compacted compaction range memory lists = written (keeps_erasures compaction (length lists)) (map (seen range) (inputs_of compaction memory lists))
+compacted compaction range memory lists =
+    written (keeps_erasures compaction (length lists))
+    (map (seen range) (inputs_of compaction memory lists))
 
--- the lists of a tablet after a compaction, its memtable's first, then those of its files, the newest first
+-- the lists of a tablet after a compaction, its memtable's first, then those of its files,
+-- the newest first
 abbrev pub lists_after : Compaction → RowRange → List Entry → List (List Entry) → List (List Entry)
 lists_after Minor range memory lists = [] ∷ flushed range memory lists
-lists_after (Merge count) range memory lists = memory ∷ compacted (Merge count) range memory lists ∷ drop count lists
+lists_after (Merge count) range memory lists =
+    memory ∷ compacted (Merge count) range memory lists ∷ drop count lists
 lists_after Major range memory lists = [] ∷ compacted Major range memory lists ∷ []
 
 -- Over the files before and after it a compaction made these lists of a tablet's.
 abbrev pub Compacts : Compaction → Option Contents → ℕ → Option Contents → Tablet → Tablet → Type 0
-Compacts compaction old before new t u = MakesLists old before t new u (lists_after compaction (range_of t))
+Compacts compaction old before new t u =
+    MakesLists old before t new u (lists_after compaction (range_of t))
 
 -- an open file stands for these entries
 pub record IsNewFile (n : Contents) (file : SortedFile) (es : List Entry) : Type 0 where

@@ -13,23 +13,38 @@ use Rattle.tablet.specs.declared.tablet.Tablet.{Tablet}
 
 -- A tablet shows an entry list, and no cell outside its range.
 abbrev pub StaysInRange : Type 0
-StaysInRange = (m : Contents) (t : Tablet) → Holds m t → IsEntryList (view_of m t) × ((key : CellKey) → has_row (range_of t) key.row ≡ false → get (cells_at m t) key ≡ None)
+StaysInRange =
+    (m : Contents) (t : Tablet) → Holds m t → IsEntryList (view_of m t)
+    × ((key : CellKey) → has_row (range_of t) key.row ≡ false → get (cells_at m t) key ≡ None)
 
--- In its range a tablet shows a key's value in the first of its lists that names the key: the memtable, and then the files, the newest first.
+-- In its range a tablet shows a key's value in the first of its lists that names the key:
+-- the memtable, and then the files, the newest first.
 abbrev pub ShowsItsLists : Type 0
-ShowsItsLists = (m : Contents) (t : Tablet) → Holds m t → (key : CellKey) → IsStored key → get (cells_at m t) key ≡ (if has_row (range_of t) key.row then value_of (first_naming (lists_of m t) (text key)) else None)
+ShowsItsLists =
+    (m : Contents) (t : Tablet) → Holds m t → (key : CellKey) → IsStored key
+    → get (cells_at m t) key
+    ≡ (if has_row (range_of t) key.row
+    then value_of (first_naming (lists_of m t) (text key)) else None)
 
 -- A file under a name that no tablet's file has had changes nothing for a tablet.
 abbrev pub OthersStay : Type 0
-OthersStay = (m n : Contents) (before after : ℕ) (t : Tablet) → UsesName (Some m) before (Some n) after → Holds m t → IsBelow before t → Holds n t × IsBelow after t × (cells_at n t ≡ cells_at m t)
+OthersStay =
+    (m n : Contents) (before after : ℕ) (t : Tablet) → UsesName (Some m) before (Some n) after
+    → Holds m t → IsBelow before t → Holds n t × IsBelow after t × (cells_at n t ≡ cells_at m t)
 
--- While the bytes under the names of its files stay, nothing changes for a tablet, whatever else is removed or written.
+-- While the bytes under the names of its files stay, nothing changes for a tablet,
+-- whatever else is removed or written.
 abbrev pub UnnamedMayGo : Type 0
-UnnamedMayGo = (m n : Contents) (t : Tablet) → Holds m t → AllByRecursion (λ name. get n name ≡ get m name) (names_of t) → Holds n t × (cells_at n t ≡ cells_at m t)
+UnnamedMayGo =
+    (m n : Contents) (t : Tablet) → Holds m t
+    → AllByRecursion (λ name. get n name ≡ get m name) (names_of t)
+    → Holds n t × (cells_at n t ≡ cells_at m t)
 
 -- Tablets of one range and one memtable, whose files have the same names, have the same cells.
 abbrev pub SameCells : Type 0
-SameCells = (m : Contents) (t u : Tablet) → Holds m t → Holds m u → range_of t ≡ range_of u → memory_of t ≡ memory_of u → names_of t ≡ names_of u → cells_at m t ≡ cells_at m u
+SameCells =
+    (m : Contents) (t u : Tablet) → Holds m t → Holds m u → range_of t ≡ range_of u
+    → memory_of t ≡ memory_of u → names_of t ≡ names_of u → cells_at m t ≡ cells_at m u
 
 -- The files of a tablet are there.
 abbrev pub FilesAreThere : Type 0

@@ -1,5 +1,5 @@
 -- What a read finds.
-use Rattle.std.specs.Prelude.{◌≡◌, ℕ, ◌≤◌, length, List, [], ◌∷◌, ◌++◌, Option, Some, None, if◌then◌else◌}
+use Rattle.std.specs.Prelude.{◌≡◌, ℕ, ◌≤◌, ◌<◌, length, List, [], ◌∷◌, ◌++◌, Option, Some, None, if◌then◌else◌}
 use Rattle.std.specs.declared.vec.Vec.{Vec}
 use Rattle.std.specs.List.{AllByRecursion}
 use Rattle.std.specs.Ordering.{is_le}
@@ -49,6 +49,11 @@ pub record IsAsked (qualifier : Qualifier) (lo hi : ℕ) (files asked : List Sor
   pub rest : List SortedFile
   pub parts : files ≡ asked ++ rest
   pub none : AllByRecursion (λ file. (m : Contents) → IsOpen m file → HasNoValue qualifier lo hi (listed m file)) rest
+
+-- a stamp that comes after that of a version, or from the least one on where there is none
+abbrev pub IsLater : ℕ → ℕ → Option (ℕ × List ℕ) → Type 0
+IsLater s lo None = lo ≤ s
+IsLater s lo (Some found) = found.0 < s
 
 -- the texts between which the versions of a column at stamps up to one are: from the text of that one, and below that of a lesser stamp
 abbrev pub column_part : List ℕ → List ℕ → Qualifier → ℕ → ℕ → List (List Entry) → List Entry

@@ -33,7 +33,8 @@ part from end lists = merged (map (entries_between from end) lists)
 
 -- a source is before its first entry
 abbrev pub IsAtStart : Option Contents → Until Input → Type 0
-IsAtStart told s = InputHolds told (source_of s) × (lent_until (end_of s) (input_lent (source_of s)) ≡ None)
+IsAtStart told s =
+    InputHolds told (source_of s) × (lent_until (end_of s) (input_lent (source_of s)) ≡ None)
 
 -- the entries that it has
 abbrev pub remaining_of : Option Contents → Until Input → List Entry

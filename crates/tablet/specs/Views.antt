@@ -1,4 +1,5 @@
--- What a tablet shows: the merged view of its memtable and its files, cut to its range (Bigtable, tablet serving).
+-- What a tablet shows: the merged view of its memtable and its files, cut to its range (Bigtable,
+-- tablet serving).
 use Rattle.std.specs.Prelude.{◌≡◌, ◌<◌, ◌+◌, ◌⊎◌, ℕ, List, [], ◌∷◌, map, Option, None, IfSome, IsSomeAnd, if◌then◌else◌}
 use Rattle.std.specs.List.{AllByRecursion}
 use Rattle.std.specs.FinMap.{get}
@@ -52,32 +53,41 @@ pub record IsUnchanged (old new : Tablet) : Type 0 where
   pub memory : memory_of new ≡ memory_of old
   pub files : files_of new ≡ files_of old
 
--- Over these files a tablet is what it was: it has its range, its memtable's entries and the names of its files, and where its
--- files were open they are, and stand for the same lists.
+-- Over these files a tablet is what it was: it has its range, its memtable's entries and the names
+-- of its files, and where its files were open they are, and stand for the same lists.
 pub record IsSameTablet (told : Option Contents) (old new : Tablet) : Type 0 where
   pub range : range_of new ≡ range_of old
   pub memory : memory_of new ≡ memory_of old
   pub names : names_of new ≡ names_of old
   pub still : IfSome told (λ m. Holds m old → Holds m new × (lists_of m new ≡ lists_of m old))
 
--- Nothing was written and the next name stays, or it is used up, and the files under other names are as they were.
+-- Nothing was written and the next name stays, or it is used up,
+-- and the files under other names are as they were.
 abbrev pub UsesName : Option Contents → ℕ → Option Contents → ℕ → Type 0
-UsesName old before new after = ((after ≡ before) × (new ≡ old)) ⊎ ((after ≡ before + 1) × KeepsOthers before old new)
+UsesName old before new after =
+    ((after ≡ before) × (new ≡ old)) ⊎ ((after ≡ before + 1) × KeepsOthers before old new)
 
 -- Where its files were open they are open, and it has the cells that it had.
 abbrev pub Keeps : Option Contents → ℕ → Tablet → Option Contents → ℕ → Tablet → Type 0
-Keeps old before t new after u = IfSome old (λ m. Holds m t → IsBelow before t → IsSomeAnd new (λ n. Holds n u × IsBelow after u × (cells_at n u ≡ cells_at m t)))
+Keeps old before t new after u =
+    IfSome old (λ m. Holds m t → IsBelow before t
+    → IsSomeAnd new (λ n. Holds n u × IsBelow after u × (cells_at n u ≡ cells_at m t)))
 
 -- its lists after a call are these, made of those that it had
-abbrev pub MakesLists : Option Contents → ℕ → Tablet → Option Contents → Tablet → (List Entry → List (List Entry) → List (List Entry)) → Type 0
-MakesLists old before t new u made = IfSome old (λ m. Holds m t → IsBelow before t → IsSomeAnd new (λ n. lists_of n u ≡ made (memory_of t) (map (listed m) (files_of t))))
+abbrev pub MakesLists : Option Contents → ℕ → Tablet
+    → Option Contents → Tablet → (List Entry → List (List Entry) → List (List Entry)) → Type 0
+MakesLists old before t new u made =
+    IfSome old (λ m. Holds m t → IsBelow before t
+    → IsSomeAnd new (λ n. lists_of n u ≡ made (memory_of t) (map (listed m) (files_of t))))
 
 -- the cells of a range, out of a cell map
 abbrev pub IsPart : RowRange → Cells → Cells → Type 0
-IsPart range whole part = (key : CellKey) → get part key ≡ (if has_row range key.row then get whole key else None)
+IsPart range whole part =
+    (key : CellKey) → get part key ≡ (if has_row range key.row then get whole key else None)
 
 -- After a split the tablets hold, and each has the cells of its own range.
-pub record AreParts (m : Contents) (t : Tablet) (n : Contents) (after : ℕ) (left right : Tablet) : Type 0 where
+pub record AreParts (m : Contents) (t : Tablet) (n : Contents) (after : ℕ)
+    (left right : Tablet) : Type 0 where
   pub left_holds : Holds n left
   pub right_holds : Holds n right
   pub left_below : IsBelow after left
@@ -97,4 +107,6 @@ with_name name (e ∷ es) names = name ∷ names
 
 -- a tablet is as before, or its memtable was written under the next name
 abbrev pub MayBeFlushed : ℕ → Tablet → Tablet → Type 0
-MayBeFlushed next old new = IsUnchanged old new ⊎ ((memory_of new ≡ []) × (names_of new ≡ with_name next (memory_of old) (names_of old)))
+MayBeFlushed next old new =
+    IsUnchanged old new
+    ⊎ ((memory_of new ≡ []) × (names_of new ≡ with_name next (memory_of old) (names_of old)))

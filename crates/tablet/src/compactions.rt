@@ -79,16 +79,25 @@ fn write_new<F: Files, S: Source<F> + Drop>(
     requires least { 32 ≤ file_limit }
     requires most { file_limit ≤ 1_073_741_824 }
     ensures named { IfOk result (λ file. name_of file ≡ next_name.old) }
-    ensures made { IfOk result (λ file. IfSome (F.contents files.old) (λ m. AreAtStart S.lent (S.holds (Some m)) sources.items → IsSomeAnd (F.contents files.new) (λ n. IsNewFile n file (written keep_erasures (map (S.remaining (Some m)) sources.items))))) }
+    ensures made { IfOk result (λ file. IfSome (F.contents files.old) (λ m.
+        AreAtStart S.lent (S.holds (Some m)) sources.items → IsSomeAnd (F.contents files.new) (λ n.
+        IsNewFile n file (written keep_erasures (map (S.remaining (Some m)) sources.items))))) }
     ensures used { OnOk result (next_name.new ≡ next_name.old + 1) }
-    ensures others { OnOk result (KeepsOthers next_name.old (F.contents files.old) (F.contents files.new)) }
-    ensures name { UsesName (F.contents files.old) next_name.old (F.contents files.new) next_name.new }
+    ensures others { OnOk result (KeepsOthers
+        next_name.old (F.contents files.old) (F.contents files.new)) }
+    ensures name { UsesName
+        (F.contents files.old) next_name.old (F.contents files.new) next_name.new }
     ensures limit { next_name.old ≤ 2 ^ 63 → next_name.new ≤ 2 ^ 63 }
     ensures left { OnOk result (next_name.old < 2 ^ 63) }
     ensures exhausted { IsErrOf result Refusal.Exhausted → 2 ^ 63 ≤ next_name.old }
-    ensures large { IsErrOf result Refusal.FileTooLarge → AreAtStart S.lent (S.holds (F.contents files.old)) sources.items → ¬ FitsIn file_limit (written keep_erasures (map (S.remaining (F.contents files.old)) sources.items)) }
-    ensures fits { OnOk result (AreAtStart S.lent (S.holds (F.contents files.old)) sources.items → FitsIn file_limit (written keep_erasures (map (S.remaining (F.contents files.old)) sources.items))) }
-    ensures damaged { IsErrOf result Refusal.Damaged → IfSome (F.contents files.old) (λ m. ¬ AreAtStart S.lent (S.holds (Some m)) sources.items) }
+    ensures large { IsErrOf result Refusal.FileTooLarge
+        → AreAtStart S.lent (S.holds (F.contents files.old)) sources.items → ¬ FitsIn file_limit
+        (written keep_erasures (map (S.remaining (F.contents files.old)) sources.items)) }
+    ensures fits { OnOk result (AreAtStart S.lent (S.holds (F.contents files.old)) sources.items
+        → FitsIn file_limit
+        (written keep_erasures (map (S.remaining (F.contents files.old)) sources.items))) }
+    ensures damaged { IsErrOf result Refusal.Damaged → IfSome (F.contents files.old) (λ m.
+        ¬ AreAtStart S.lent (S.holds (Some m)) sources.items) }
     ensures refusal { IfErr result IsCompactionRefusal }
     ensures reason { HasReason (F.faults files.old) (F.faults files.new) result }
 {
@@ -116,8 +125,11 @@ impl Tablet {
     /// The memtable, if a compaction writes it, and the files that it writes.
     fn inputs(&self, compaction: Compaction) -> (Option<&Memtable>, &[SortedFile])
         requires { IsWithin compaction (length (files_of self.now)) }
-        ensures lists { (told : Option Contents) → lists_over told (option_copied result.0) result.1.now ≡ inputs_of compaction (memory_of self.now) (map (listed_in told) (files_of self.now)) }
-        ensures open { (told : Option Contents) → ReadsOpen compaction told self.now → AllByRecursion (IsOpenIn told) result.1.now }
+        ensures lists { (told : Option Contents)
+            → lists_over told (option_copied result.0) result.1.now
+            ≡ inputs_of compaction (memory_of self.now) (map (listed_in told) (files_of self.now)) }
+        ensures open { (told : Option Contents) → ReadsOpen compaction told self.now
+            → AllByRecursion (IsOpenIn told) result.1.now }
     {
         match compaction {
             Compaction::Minor => (Some(&self.memtable), &[]),
@@ -150,16 +162,26 @@ impl Tablet {
         requires most { file_limit ≤ 1_073_741_824 }
         requires within { IsWithin compaction (length (files_of self.now)) }
         ensures named { IfOk result (λ file. name_of file ≡ next_name.old) }
-        ensures made { IfOk result (λ file. IfSome (F.contents files.old) (λ m. Holds m self.now → IsSomeAnd (F.contents files.new) (λ n. IsNewFile n file (compacted compaction (range_of self.now) (memory_of self.now) (map (listed m) (files_of self.now)))))) }
+        ensures made { IfOk result (λ file. IfSome (F.contents files.old) (λ m. Holds m self.now
+            → IsSomeAnd (F.contents files.new) (λ n. IsNewFile n file (compacted compaction
+            (range_of self.now) (memory_of self.now) (map (listed m) (files_of self.now)))))) }
         ensures used { OnOk result (next_name.new ≡ next_name.old + 1) }
-        ensures others { OnOk result (KeepsOthers next_name.old (F.contents files.old) (F.contents files.new)) }
-        ensures name { UsesName (F.contents files.old) next_name.old (F.contents files.new) next_name.new }
+        ensures others { OnOk result (KeepsOthers
+            next_name.old (F.contents files.old) (F.contents files.new)) }
+        ensures name { UsesName
+            (F.contents files.old) next_name.old (F.contents files.new) next_name.new }
         ensures limit { next_name.old ≤ 2 ^ 63 → next_name.new ≤ 2 ^ 63 }
         ensures left { OnOk result (next_name.old < 2 ^ 63) }
         ensures exhausted { IsErrOf result Refusal.Exhausted → 2 ^ 63 ≤ next_name.old }
-        ensures large { IsErrOf result Refusal.FileTooLarge → ReadsOpen compaction (F.contents files.old) self.now → ¬ FitsIn file_limit (compacted compaction (range_of self.now) (memory_of self.now) (map (listed_in (F.contents files.old)) (files_of self.now))) }
-        ensures fits { OnOk result (ReadsOpen compaction (F.contents files.old) self.now → FitsIn file_limit (compacted compaction (range_of self.now) (memory_of self.now) (map (listed_in (F.contents files.old)) (files_of self.now)))) }
-        ensures damaged { IsErrOf result Refusal.Damaged → IfSome (F.contents files.old) (λ m. ¬ Holds m self.now) }
+        ensures large { IsErrOf result Refusal.FileTooLarge
+            → ReadsOpen compaction (F.contents files.old) self.now
+            → ¬ FitsIn file_limit (compacted compaction (range_of self.now)
+            (memory_of self.now) (map (listed_in (F.contents files.old)) (files_of self.now))) }
+        ensures fits { OnOk result (ReadsOpen compaction (F.contents files.old) self.now
+            → FitsIn file_limit (compacted compaction (range_of self.now)
+            (memory_of self.now) (map (listed_in (F.contents files.old)) (files_of self.now)))) }
+        ensures damaged { IsErrOf result Refusal.Damaged
+            → IfSome (F.contents files.old) (λ m. ¬ Holds m self.now) }
         ensures refusal { IfErr result IsCompactionRefusal }
         ensures reason { HasReason (F.faults files.old) (F.faults files.new) result }
     {
@@ -194,27 +216,39 @@ impl Tablet {
     ) -> Result<(), Refusal>
         requires least { 32 ≤ file_limit }
         requires most { file_limit ≤ 1_073_741_824 }
-        ensures names { OnOk result (names_of self.new ≡ with_name next_name.old (memory_of self.old) (names_of self.old)) }
+        ensures names { OnOk result (names_of self.new
+            ≡ with_name next_name.old (memory_of self.old) (names_of self.old)) }
         ensures memory { OnOk result (memory_of self.new ≡ []) }
-        ensures lists { OnOk result (Compacts Minor (F.contents files.old) next_name.old (F.contents files.new) self.old self.new) }
-        ensures keeps { Keeps (F.contents files.old) next_name.old self.old (F.contents files.new) next_name.new self.new }
-        ensures empty { memory_of self.old ≡ [] → IsOk result × (IsUnchanged self.old self.new × ((next_name.new ≡ next_name.old) × (F.contents files.new ≡ F.contents files.old))) }
+        ensures lists { OnOk result (Compacts
+            Minor (F.contents files.old) next_name.old (F.contents files.new) self.old self.new) }
+        ensures keeps { Keeps (F.contents files.old)
+            next_name.old self.old (F.contents files.new) next_name.new self.new }
+        ensures empty { memory_of self.old ≡ [] → IsOk result × (IsUnchanged self.old self.new
+            × ((next_name.new ≡ next_name.old) × (F.contents files.new ≡ F.contents files.old))) }
         ensures range { range_of self.new ≡ range_of self.old }
         ensures err { OnErr result (IsUnchanged self.old self.new) }
-        ensures name { UsesName (F.contents files.old) next_name.old (F.contents files.new) next_name.new }
+        ensures name { UsesName
+            (F.contents files.old) next_name.old (F.contents files.new) next_name.new }
         ensures limit { next_name.old ≤ 2 ^ 63 → next_name.new ≤ 2 ^ 63 }
-        ensures full { IsErrOf result Refusal.TooManyFiles → (memory_of self.old ≢ []) × (64 ≤ length (names_of self.old)) }
+        ensures full { IsErrOf result Refusal.TooManyFiles
+            → (memory_of self.old ≢ []) × (64 ≤ length (names_of self.old)) }
         ensures room { OnOk result (memory_of self.old ≢ [] → length (names_of self.old) < 64) }
-        ensures exhausted { IsErrOf result Refusal.Exhausted → (memory_of self.old ≢ []) × (2 ^ 63 ≤ next_name.old) }
+        ensures exhausted { IsErrOf result Refusal.Exhausted
+            → (memory_of self.old ≢ []) × (2 ^ 63 ≤ next_name.old) }
         ensures left { OnOk result (memory_of self.old ≢ [] → next_name.old < 2 ^ 63) }
-        ensures large { IsErrOf result Refusal.FileTooLarge → (memory_of self.old ≢ []) × ¬ FitsIn file_limit (seen (range_of self.old) (memory_of self.old)) }
-        ensures fits { OnOk result (memory_of self.old ≢ [] → FitsIn file_limit (seen (range_of self.old) (memory_of self.old))) }
-        ensures damaged { IsErrOf result Refusal.Damaged → IfSome (F.contents files.old) (λ m. ¬ Holds m self.old) }
+        ensures large { IsErrOf result Refusal.FileTooLarge → (memory_of self.old ≢ [])
+            × ¬ FitsIn file_limit (seen (range_of self.old) (memory_of self.old)) }
+        ensures fits { OnOk result (memory_of self.old ≢ []
+            → FitsIn file_limit (seen (range_of self.old) (memory_of self.old))) }
+        ensures damaged { IsErrOf result Refusal.Damaged
+            → IfSome (F.contents files.old) (λ m. ¬ Holds m self.old) }
         ensures refusal { IfErr result IsMinorRefusal }
         ensures reason { HasReason (F.faults files.old) (F.faults files.new) result }
         // Where there are 64 files it is refused before a file is written, whatever else may fail.
-        ensures always_full { memory_of self.old ≢ [] → 64 ≤ length (names_of self.old) → IsErrOf result Refusal.TooManyFiles }
-        ensures unwritten { IsErrOf result Refusal.TooManyFiles → (next_name.new ≡ next_name.old) × (F.contents files.new ≡ F.contents files.old) }
+        ensures always_full { memory_of self.old ≢ [] → 64 ≤ length (names_of self.old)
+            → IsErrOf result Refusal.TooManyFiles }
+        ensures unwritten { IsErrOf result Refusal.TooManyFiles
+            → (next_name.new ≡ next_name.old) × (F.contents files.new ≡ F.contents files.old) }
         ensures used { OnOk result (memory_of self.old ≢ [] → next_name.new ≡ next_name.old + 1) }
     {
         stays_open();
@@ -250,23 +284,35 @@ impl Tablet {
     ) -> Result<(), Refusal>
         requires least { 32 ≤ file_limit }
         requires most { file_limit ≤ 1_073_741_824 }
-        ensures names { OnOk result (names_of self.new ≡ next_name.old ∷ drop count (names_of self.old)) }
+        ensures names { OnOk result (names_of self.new
+            ≡ next_name.old ∷ drop count (names_of self.old)) }
         ensures memory { memory_of self.new ≡ memory_of self.old }
-        ensures lists { OnOk result (Compacts (Merge count) (F.contents files.old) next_name.old (F.contents files.new) self.old self.new) }
-        ensures keeps { Keeps (F.contents files.old) next_name.old self.old (F.contents files.new) next_name.new self.new }
+        ensures lists { OnOk result (Compacts (Merge count)
+            (F.contents files.old) next_name.old (F.contents files.new) self.old self.new) }
+        ensures keeps { Keeps (F.contents files.old)
+            next_name.old self.old (F.contents files.new) next_name.new self.new }
         ensures range { range_of self.new ≡ range_of self.old }
         ensures err { OnErr result (IsUnchanged self.old self.new) }
-        ensures name { UsesName (F.contents files.old) next_name.old (F.contents files.new) next_name.new }
+        ensures name { UsesName
+            (F.contents files.old) next_name.old (F.contents files.new) next_name.new }
         ensures limit { next_name.old ≤ 2 ^ 63 → next_name.new ≤ 2 ^ 63 }
-        ensures count { IsErrOf result Refusal.BadCount ↔ ¬ ((2 ≤ count) × (count ≤ length (names_of self.old))) }
+        ensures count { IsErrOf result Refusal.BadCount
+            ↔ ¬ ((2 ≤ count) × (count ≤ length (names_of self.old))) }
         ensures exhausted { IsErrOf result Refusal.Exhausted → 2 ^ 63 ≤ next_name.old }
         ensures left { OnOk result (next_name.old < 2 ^ 63) }
-        ensures large { IsErrOf result Refusal.FileTooLarge → IfSome (F.contents files.old) (λ m. Holds m self.old → ¬ FitsIn file_limit (written (nat_lt count (length (names_of self.old))) (map (seen (range_of self.old)) (take count (map (listed m) (files_of self.old)))))) }
-        ensures fits { OnOk result (IfSome (F.contents files.old) (λ m. Holds m self.old → FitsIn file_limit (written (nat_lt count (length (names_of self.old))) (map (seen (range_of self.old)) (take count (map (listed m) (files_of self.old))))))) }
-        ensures damaged { IsErrOf result Refusal.Damaged → IfSome (F.contents files.old) (λ m. ¬ Holds m self.old) }
+        ensures large { IsErrOf result Refusal.FileTooLarge
+            → IfSome (F.contents files.old) (λ m. Holds m self.old
+            → ¬ FitsIn file_limit (written (nat_lt count (length (names_of self.old)))
+            (map (seen (range_of self.old)) (take count (map (listed m) (files_of self.old)))))) }
+        ensures fits { OnOk result (IfSome (F.contents files.old) (λ m. Holds m self.old
+            → FitsIn file_limit (written (nat_lt count (length (names_of self.old)))
+            (map (seen (range_of self.old)) (take count (map (listed m) (files_of self.old))))))) }
+        ensures damaged { IsErrOf result Refusal.Damaged
+            → IfSome (F.contents files.old) (λ m. ¬ Holds m self.old) }
         ensures refusal { IfErr result IsMergeRefusal }
         ensures reason { HasReason (F.faults files.old) (F.faults files.new) result }
-        ensures unwritten { IsErrOf result Refusal.BadCount → (next_name.new ≡ next_name.old) × (F.contents files.new ≡ F.contents files.old) }
+        ensures unwritten { IsErrOf result Refusal.BadCount
+            → (next_name.new ≡ next_name.old) × (F.contents files.new ≡ F.contents files.old) }
         ensures used { OnOk result (next_name.new ≡ next_name.old + 1) }
     {
         stays_open();
@@ -297,17 +343,25 @@ impl Tablet {
         requires most { file_limit ≤ 1_073_741_824 }
         ensures names { OnOk result (names_of self.new ≡ next_name.old ∷ []) }
         ensures memory { OnOk result (memory_of self.new ≡ []) }
-        ensures lists { OnOk result (Compacts Major (F.contents files.old) next_name.old (F.contents files.new) self.old self.new) }
-        ensures keeps { Keeps (F.contents files.old) next_name.old self.old (F.contents files.new) next_name.new self.new }
+        ensures lists { OnOk result (Compacts
+            Major (F.contents files.old) next_name.old (F.contents files.new) self.old self.new) }
+        ensures keeps { Keeps (F.contents files.old)
+            next_name.old self.old (F.contents files.new) next_name.new self.new }
         ensures range { range_of self.new ≡ range_of self.old }
         ensures err { OnErr result (IsUnchanged self.old self.new) }
-        ensures name { UsesName (F.contents files.old) next_name.old (F.contents files.new) next_name.new }
+        ensures name { UsesName
+            (F.contents files.old) next_name.old (F.contents files.new) next_name.new }
         ensures limit { next_name.old ≤ 2 ^ 63 → next_name.new ≤ 2 ^ 63 }
         ensures exhausted { IsErrOf result Refusal.Exhausted → 2 ^ 63 ≤ next_name.old }
         ensures left { OnOk result (next_name.old < 2 ^ 63) }
-        ensures large { IsErrOf result Refusal.FileTooLarge → IfSome (F.contents files.old) (λ m. Holds m self.old → ¬ FitsIn file_limit (written false (map (seen (range_of self.old)) (memory_of self.old ∷ map (listed m) (files_of self.old))))) }
-        ensures fits { OnOk result (IfSome (F.contents files.old) (λ m. Holds m self.old → FitsIn file_limit (written false (map (seen (range_of self.old)) (memory_of self.old ∷ map (listed m) (files_of self.old)))))) }
-        ensures damaged { IsErrOf result Refusal.Damaged → IfSome (F.contents files.old) (λ m. ¬ Holds m self.old) }
+        ensures large { IsErrOf result Refusal.FileTooLarge → IfSome (F.contents files.old) (λ m.
+            Holds m self.old → ¬ FitsIn file_limit (written false (map (seen (range_of self.old))
+            (memory_of self.old ∷ map (listed m) (files_of self.old))))) }
+        ensures fits { OnOk result (IfSome (F.contents files.old) (λ m. Holds m self.old
+            → FitsIn file_limit (written false (map (seen (range_of self.old))
+            (memory_of self.old ∷ map (listed m) (files_of self.old)))))) }
+        ensures damaged { IsErrOf result Refusal.Damaged
+            → IfSome (F.contents files.old) (λ m. ¬ Holds m self.old) }
         ensures refusal { IfErr result IsCompactionRefusal }
         ensures reason { HasReason (F.faults files.old) (F.faults files.new) result }
         ensures used { OnOk result (next_name.new ≡ next_name.old + 1) }

@@ -10,6 +10,7 @@ mod reads;
 mod serving;
 mod sources;
 mod tablet;
+mod tiers;
 
 pub use compactions::Compaction;
 pub use laws::{

@@ -36,7 +36,8 @@ impl Tablet {
         ensures memory { IfOk result (λ t. memory_of t ≡ []) }
         ensures names { IfOk result (λ t. names_of t ≡ names.now) }
         ensures holds { IfOk result (λ t. IfSome (F.contents files.old) (λ m. Holds m t)) }
-        ensures damaged { IsErrOf result Refusal.Damaged → IfSome (F.contents files.old) (λ m. ¬ AllByRecursion (HasFile m) names.now) }
+        ensures damaged { IsErrOf result Refusal.Damaged
+            → IfSome (F.contents files.old) (λ m. ¬ AllByRecursion (HasFile m) names.now) }
         ensures refusal { IfErr result IsReadRefusal }
         ensures same { F.contents files.new ≡ F.contents files.old }
         ensures reason { HasReason (F.faults files.old) (F.faults files.new) result }
@@ -70,7 +71,8 @@ impl Tablet {
         ensures memory { IfOk result (λ t. memory_of t ≡ []) }
         ensures names { IfOk result (λ t. names_of t ≡ names_of self.now) }
         ensures holds { IfOk result (λ t. IfSome (F.contents files.old) (λ m. Holds m t)) }
-        ensures damaged { IsErrOf result Refusal.Damaged → IfSome (F.contents files.old) (λ m. ¬ AllByRecursion (HasFile m) (names_of self.now)) }
+        ensures damaged { IsErrOf result Refusal.Damaged → IfSome (F.contents files.old) (λ m.
+            ¬ AllByRecursion (HasFile m) (names_of self.now)) }
         ensures refusal { IfErr result IsReadRefusal }
         ensures same { F.contents files.new ≡ F.contents files.old }
         ensures reason { HasReason (F.faults files.old) (F.faults files.new) result }
@@ -93,26 +95,37 @@ impl Tablet {
         requires least { 32 ≤ file_limit }
         requires most { file_limit ≤ 1_073_741_824 }
         ensures listed { IfOk result (λ names. names.items ≡ names_of self.new) }
-        ensures names { OnOk result (names_of self.new ≡ with_name next_name.old (memory_of self.old) (names_of self.old)) }
+        ensures names { OnOk result (names_of self.new
+            ≡ with_name next_name.old (memory_of self.old) (names_of self.old)) }
         ensures memory { OnOk result (memory_of self.new ≡ []) }
-        ensures lists { OnOk result (Compacts Minor (F.contents files.old) next_name.old (F.contents files.new) self.old self.new) }
-        ensures keeps { Keeps (F.contents files.old) next_name.old self.old (F.contents files.new) next_name.new self.new }
+        ensures lists { OnOk result (Compacts
+            Minor (F.contents files.old) next_name.old (F.contents files.new) self.old self.new) }
+        ensures keeps { Keeps (F.contents files.old)
+            next_name.old self.old (F.contents files.new) next_name.new self.new }
         ensures range { range_of self.new ≡ range_of self.old }
         ensures err { OnErr result (memory_of self.old ≡ [] → IsUnchanged self.old self.new) }
         ensures may { OnErr result (MayBeFlushed next_name.old self.old self.new) }
-        ensures name { UsesName (F.contents files.old) next_name.old (F.contents files.new) next_name.new }
+        ensures name { UsesName
+            (F.contents files.old) next_name.old (F.contents files.new) next_name.new }
         ensures limit { next_name.old ≤ 2 ^ 63 → next_name.new ≤ 2 ^ 63 }
-        ensures full { IsErrOf result Refusal.TooManyFiles → (memory_of self.old ≢ []) × (64 ≤ length (names_of self.old)) }
-        ensures exhausted { IsErrOf result Refusal.Exhausted → (memory_of self.old ≢ []) × (2 ^ 63 ≤ next_name.old) }
-        ensures large { IsErrOf result Refusal.FileTooLarge → (memory_of self.old ≢ []) × ¬ FitsIn file_limit (seen (range_of self.old) (memory_of self.old)) }
-        ensures damaged { IsErrOf result Refusal.Damaged → IfSome (F.contents files.old) (λ m. ¬ Holds m self.old) }
+        ensures full { IsErrOf result Refusal.TooManyFiles
+            → (memory_of self.old ≢ []) × (64 ≤ length (names_of self.old)) }
+        ensures exhausted { IsErrOf result Refusal.Exhausted
+            → (memory_of self.old ≢ []) × (2 ^ 63 ≤ next_name.old) }
+        ensures large { IsErrOf result Refusal.FileTooLarge → (memory_of self.old ≢ [])
+            × ¬ FitsIn file_limit (seen (range_of self.old) (memory_of self.old)) }
+        ensures damaged { IsErrOf result Refusal.Damaged
+            → IfSome (F.contents files.old) (λ m. ¬ Holds m self.old) }
         ensures refusal { IfErr result IsMinorRefusal }
         ensures reason { HasReason (F.faults files.old) (F.faults files.new) result }
         ensures room { OnOk result (memory_of self.old ≢ [] → length (names_of self.old) < 64) }
         ensures left { OnOk result (memory_of self.old ≢ [] → next_name.old < 2 ^ 63) }
-        ensures fits { OnOk result (memory_of self.old ≢ [] → FitsIn file_limit (seen (range_of self.old) (memory_of self.old))) }
-        ensures unwritten { IsErrOf result Refusal.TooManyFiles → IsUnchanged self.old self.new × ((next_name.new ≡ next_name.old) × (F.contents files.new ≡ F.contents files.old)) }
-        ensures empty { memory_of self.old ≡ [] → (next_name.new ≡ next_name.old) × (F.contents files.new ≡ F.contents files.old) }
+        ensures fits { OnOk result (memory_of self.old ≢ []
+            → FitsIn file_limit (seen (range_of self.old) (memory_of self.old))) }
+        ensures unwritten { IsErrOf result Refusal.TooManyFiles → IsUnchanged self.old self.new
+            × ((next_name.new ≡ next_name.old) × (F.contents files.new ≡ F.contents files.old)) }
+        ensures empty { memory_of self.old ≡ []
+            → (next_name.new ≡ next_name.old) × (F.contents files.new ≡ F.contents files.old) }
         ensures used { OnOk result (memory_of self.old ≢ [] → next_name.new ≡ next_name.old + 1) }
     {
         self.minor(file_limit, next_name, files)?;
@@ -121,7 +134,8 @@ impl Tablet {
 
     /// The range up to a row, and that row again, which the rest begins after.
     fn left_of(&self, row: &Row) -> Result<(RowRange, Row), Refusal>
-        ensures range { IfOk result (λ left. left.0 ≡ record { after = (range_of self.now).after; end = Some row.now }) }
+        ensures range { IfOk result (λ left.
+            left.0 ≡ record { after = (range_of self.now).after; end = Some row.now }) }
         ensures row { IfOk result (λ left. left.1 ≡ row.now) }
         ensures refusal { IfErr result (λ refusal. refusal ≡ Refusal.NoMemory) }
     {
@@ -148,30 +162,46 @@ impl Tablet {
     ) -> Result<Tablet, Refusal>
         requires least { 32 ≤ file_limit }
         requires most { file_limit ≤ 1_073_741_824 }
-        ensures left_range { IfOk result (λ left. range_of left ≡ record { after = (range_of self.old).after; end = Some row.now }) }
-        ensures right_range { OnOk result (range_of self.new ≡ record { after = Some row.now; end = (range_of self.old).end }) }
-        ensures left_names { IfOk result (λ left. names_of left ≡ with_name next_name.old (memory_of self.old) (names_of self.old)) }
-        ensures right_names { OnOk result (names_of self.new ≡ with_name next_name.old (memory_of self.old) (names_of self.old)) }
+        ensures left_range { IfOk result (λ left.
+            range_of left ≡ record { after = (range_of self.old).after; end = Some row.now }) }
+        ensures right_range { OnOk result (range_of self.new
+            ≡ record { after = Some row.now; end = (range_of self.old).end }) }
+        ensures left_names { IfOk result (λ left.
+            names_of left ≡ with_name next_name.old (memory_of self.old) (names_of self.old)) }
+        ensures right_names { OnOk result (names_of self.new
+            ≡ with_name next_name.old (memory_of self.old) (names_of self.old)) }
         ensures left_memory { IfOk result (λ left. memory_of left ≡ []) }
         ensures right_memory { OnOk result (memory_of self.new ≡ []) }
-        ensures parts { IfOk result (λ left. IfSome (F.contents files.old) (λ m. Holds m self.old → IsBelow next_name.old self.old → IsTrue (has_row (range_of self.old) row.now) → IsSomeAnd (F.contents files.new) (λ n. AreParts m self.old n next_name.new left self.new))) }
-        ensures keeps { OnErr result (Keeps (F.contents files.old) next_name.old self.old (F.contents files.new) next_name.new self.new) }
+        ensures parts { IfOk result (λ left. IfSome (F.contents files.old) (λ m. Holds m self.old
+            → IsBelow next_name.old self.old → IsTrue (has_row (range_of self.old) row.now)
+            → IsSomeAnd (F.contents files.new) (λ n.
+            AreParts m self.old n next_name.new left self.new))) }
+        ensures keeps { OnErr result (Keeps (F.contents files.old)
+            next_name.old self.old (F.contents files.new) next_name.new self.new) }
         ensures err_range { OnErr result (range_of self.new ≡ range_of self.old) }
         ensures err { OnErr result (memory_of self.old ≡ [] → IsUnchanged self.old self.new) }
         ensures may { OnErr result (MayBeFlushed next_name.old self.old self.new) }
-        ensures name { UsesName (F.contents files.old) next_name.old (F.contents files.new) next_name.new }
+        ensures name { UsesName
+            (F.contents files.old) next_name.old (F.contents files.new) next_name.new }
         ensures limit { next_name.old ≤ 2 ^ 63 → next_name.new ≤ 2 ^ 63 }
-        ensures full { IsErrOf result Refusal.TooManyFiles → (memory_of self.old ≢ []) × (64 ≤ length (names_of self.old)) }
-        ensures exhausted { IsErrOf result Refusal.Exhausted → (memory_of self.old ≢ []) × (2 ^ 63 ≤ next_name.old) }
-        ensures large { IsErrOf result Refusal.FileTooLarge → (memory_of self.old ≢ []) × ¬ FitsIn file_limit (seen (range_of self.old) (memory_of self.old)) }
-        ensures damaged { IsErrOf result Refusal.Damaged → IfSome (F.contents files.old) (λ m. Holds m self.old → ¬ IsBelow next_name.old self.old) }
+        ensures full { IsErrOf result Refusal.TooManyFiles
+            → (memory_of self.old ≢ []) × (64 ≤ length (names_of self.old)) }
+        ensures exhausted { IsErrOf result Refusal.Exhausted
+            → (memory_of self.old ≢ []) × (2 ^ 63 ≤ next_name.old) }
+        ensures large { IsErrOf result Refusal.FileTooLarge → (memory_of self.old ≢ [])
+            × ¬ FitsIn file_limit (seen (range_of self.old) (memory_of self.old)) }
+        ensures damaged { IsErrOf result Refusal.Damaged → IfSome (F.contents files.old) (λ m.
+            Holds m self.old → ¬ IsBelow next_name.old self.old) }
         ensures refusal { IfErr result IsMinorRefusal }
         ensures reason { HasReason (F.faults files.old) (F.faults files.new) result }
         ensures room { OnOk result (memory_of self.old ≢ [] → length (names_of self.old) < 64) }
         ensures left { OnOk result (memory_of self.old ≢ [] → next_name.old < 2 ^ 63) }
-        ensures fits { OnOk result (memory_of self.old ≢ [] → FitsIn file_limit (seen (range_of self.old) (memory_of self.old))) }
-        ensures unwritten { IsErrOf result Refusal.TooManyFiles → IsUnchanged self.old self.new × ((next_name.new ≡ next_name.old) × (F.contents files.new ≡ F.contents files.old)) }
-        ensures empty { memory_of self.old ≡ [] → (next_name.new ≡ next_name.old) × (F.contents files.new ≡ F.contents files.old) }
+        ensures fits { OnOk result (memory_of self.old ≢ []
+            → FitsIn file_limit (seen (range_of self.old) (memory_of self.old))) }
+        ensures unwritten { IsErrOf result Refusal.TooManyFiles → IsUnchanged self.old self.new
+            × ((next_name.new ≡ next_name.old) × (F.contents files.new ≡ F.contents files.old)) }
+        ensures empty { memory_of self.old ≡ []
+            → (next_name.new ≡ next_name.old) × (F.contents files.new ≡ F.contents files.old) }
         ensures used { OnOk result (memory_of self.old ≢ [] → next_name.new ≡ next_name.old + 1) }
     {
         let (range, after) = self.left_of(row)?;

@@ -1,14 +1,15 @@
 //! What a tablet answers.
 
-ghost use Rattle.std.specs.Prelude.{◌≡◌, ◌≤◌, ◌<◌, ◌-◌, ◌^◌, IsTrue, option_map, IfOk, IfErr, IfSome, IsErrOf};
+ghost use Rattle.std.specs.Prelude.{◌≡◌, ◌≤◌, ◌<◌, ◌-◌, ◌^◌, ℕ, IsTrue, option_map, IfOk, IfErr, IfSome, IsErrOf};
 ghost use Rattle.std.specs.Option.{option_copied};
 ghost use Rattle.cell_key.specs.Cells.{IsNewest, version};
 ghost use Rattle.cell_key.specs.Places.{IsNextCell, place_named};
-ghost use Rattle.cell_key.specs.Versions.{IsVersionIn, stamped};
+ghost use Rattle.cell_key.specs.Versions.{IsVersion, IsVersionIn, stamped};
+ghost use Rattle.memtable.specs.Slots.{lent_version};
 ghost use Rattle.sorted_file.specs.Sources.{IsReadRefusal};
 ghost use Rattle.cell_key.specs.Faults.{HasReason};
 ghost use Rattle.tablet.specs.Ranges.{has_row};
-ghost use Rattle.tablet.specs.Reads.{column_part, first_value, past_place, later, texted, IsFound, IsPlace, IsPlaceOrNone};
+ghost use Rattle.tablet.specs.Reads.{column_part, first_value, past_place, later, texted, IsFound, IsLater, IsPlace, IsPlaceOrNone};
 
 use crate::reads::{asked, first_value, lookup, version_key, version_text};
 use crate::sources::fences;
@@ -47,9 +48,58 @@ fn later<'a>(a: &'a [u8], b: &'a [u8]) -> &'a [u8]
     if a.cmp(&b).is_le() { b } else { a }
 }
 
+/// A copy of a version that is lent, if there is one. Refused NoMemory.
+fn copied(alloc: Global, found: Option<(Stamp, &[u8])>) -> Result<Option<(Stamp, Vec<u8>)>, Refusal>
+    ensures copy { IfOk result (λ copy. option_map stamped copy ≡ option_map lent_version found.entry) }
+    ensures refusal { IfErr result (λ refusal. refusal ≡ Refusal.NoMemory) }
+{
+    match found {
+        Some((stamp, value)) => {
+            let copy = Vec::from_slice(alloc, value)?;
+            Ok(Some((stamp, copy)))
+        }
+        None => Ok(None),
+    }
+}
+
+/// The first stamp after that of a version that is lent, or `lo` where there is none.
+fn stamp_after(found: Option<(Stamp, &[u8])>, lo: Stamp) -> Stamp
+    requires { IfSome found (λ found. IsVersion found.0 found.1.now) }
+    ensures { (s : ℕ) → IsLater s lo (option_map lent_version found.entry) → result ≤ s }
+{
+    match found {
+        Some((stamp, _)) => stamp + 1,
+        None => lo,
+    }
+}
+
 impl Tablet {
     ghost use Rattle.file_store.specs.Store.{Contents};
     ghost use Rattle.tablet.specs.Views.{range_of, cells_at, lists_of, Holds, IsSameTablet};
+
+    /// The version of a cell's column with the greatest stamp in `lo..=hi`, where the memtable alone decides: no
+    /// file may have a value at a later stamp of the range. Else `None`. Takes no memory and reads no file.
+    fn newest_in_memory(
+        &self,
+        row: &Row,
+        family: &Family,
+        qualifier: Qualifier,
+        lo: Stamp,
+        hi: Stamp,
+    ) -> Option<Option<(Stamp, &[u8])>>
+        ensures found { IfSome result (λ found. (m : Contents) → Holds m self.now → IsTrue (has_row (range_of self.now) row.now) → IsNewest (cells_at m self.now) (version row.now family.now qualifier) lo hi (option_map lent_version found)) }
+        ensures limits { IfSome result (λ found. IfSome (option_map lent_version found) (IsVersionIn lo hi)) }
+    {
+        let found = self.memtable.newest(row, family, qualifier, lo, hi);
+        let from = stamp_after(found, lo);
+        if hi < from {
+            return Some(found);
+        }
+        match asked(&self.files, qualifier, from, hi).split_first() {
+            Some(_) => None,
+            None => Some(found),
+        }
+    }
 
     /// The value of a version, if the tablet has it, by lookups.
     fn version_at<F: Files>(
@@ -137,8 +187,9 @@ impl Tablet {
     }
 
     /// The version of a cell's column with the greatest stamp in `lo..=hi` (Bigtable, timestamps), or
-    /// nothing. Where both stamps are one it is looked up, and else no more of a file is read than the range
-    /// asks for. The tablet stays what it was, also after an `Err`.
+    /// nothing. Where the memtable alone decides, no file is asked and only the value takes memory. Else a version
+    /// at one stamp is looked up, and of a range no more of a file is read than that asks for. The tablet stays
+    /// what it was, also after an `Err`.
     ///
     /// # Errors
     ///
@@ -160,6 +211,9 @@ impl Tablet {
         ensures same { F.contents files.new ≡ F.contents files.old }
         ensures reason { HasReason (F.faults files.old) (F.faults files.new) result }
     {
+        if let Some(found) = self.newest_in_memory(row, family, qualifier, lo, hi) {
+            return copied(self.alloc, found);
+        }
         let first = lo.max(1);
         if hi < first || first > MOST_STAMP {
             return Ok(None);

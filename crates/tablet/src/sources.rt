@@ -21,7 +21,8 @@ use std::alloc::Global;
 /// those of its rows, if its end isn't infinite. Refused NoMemory.
 pub(crate) fn fences(alloc: Global, range: &RowRange) -> Result<(Vec<u8>, Option<Vec<u8>>), Refusal>
     ensures from { IfOk result (λ fences. fences.0.items ≡ lower_fence range.now) }
-    ensures end { IfOk result (λ fences. option_map (λ fence. fence.items) fences.1 ≡ upper_fence range.now) }
+    ensures end { IfOk result (λ fences.
+        option_map (λ fence. fence.items) fences.1 ≡ upper_fence range.now) }
     ensures refusal { IfErr result (λ refusal. refusal ≡ Refusal.NoMemory) }
 {
     let from = match &range.after {
@@ -42,7 +43,8 @@ fn memtable_source<'a>(
     end: Option<&'a [u8]>,
 ) -> Until<'a, Input<'a>>
     ensures start { (told : Option Contents) → IsAtStart told result }
-    ensures list { (told : Option Contents) → remaining_of told result ≡ entries_between from.now (option_copied end.entry) memtable.now }
+    ensures list { (told : Option Contents) → remaining_of told result
+        ≡ entries_between from.now (option_copied end.entry) memtable.now }
     ensures entries { IsEntryList memtable.now }
 {
     Until::new(Input::Memtable(memtable.cursor(from)), end)
@@ -55,9 +57,14 @@ fn memtable_sources<'a>(
     from: &[u8],
     end: Option<&'a [u8]>,
 ) -> Result<Vec<Until<'a, Input<'a>>>, Refusal>
-    ensures start { IfOk result (λ sources. (told : Option Contents) → AllByRecursion (IsAtStart told) sources.items) }
-    ensures lists { IfOk result (λ sources. (told : Option Contents) → map (remaining_of told) sources.items ≡ map (entries_between from.now (option_copied end.entry)) (option_to_list (option_copied memtable.entry))) }
-    ensures entries { IfOk result (λ sources. AllByRecursion IsEntryList (option_to_list (option_copied memtable.entry))) }
+    ensures start { IfOk result (λ sources. (told : Option Contents)
+        → AllByRecursion (IsAtStart told) sources.items) }
+    ensures lists { IfOk result (λ sources. (told : Option Contents)
+        → map (remaining_of told) sources.items
+        ≡ map (entries_between from.now (option_copied end.entry))
+        (option_to_list (option_copied memtable.entry))) }
+    ensures entries { IfOk result (λ sources.
+        AllByRecursion IsEntryList (option_to_list (option_copied memtable.entry))) }
     ensures refusal { IfErr result (λ refusal. refusal ≡ Refusal.NoMemory) }
 {
     let mut sources = Vec::new(alloc);
@@ -74,7 +81,8 @@ fn file_source<'a>(
     end: Option<&'a [u8]>,
 ) -> Until<'a, Input<'a>>
     ensures start { (told : Option Contents) → IsOpenIn told file.now → IsAtStart told result }
-    ensures list { (told : Option Contents) → IsOpenIn told file.now → remaining_of told result ≡ entries_between from.now (option_copied end.entry) (listed_in told file.now) }
+    ensures list { (told : Option Contents) → IsOpenIn told file.now → remaining_of told result
+        ≡ entries_between from.now (option_copied end.entry) (listed_in told file.now) }
 {
     Until::new(Input::File(file.cursor(from)), end)
 }
@@ -88,9 +96,18 @@ pub(crate) fn sources<'a, F: Files>(
     from: &'a [u8],
     end: Option<&'a [u8]>,
 ) -> Result<Vec<Until<'a, Input<'a>>>, Refusal>
-    ensures start { IfOk result (λ sources. (told : Option Contents) → AllByRecursion (IsOpenIn told) files.now → AreAtStart ⟦<Until<'static, Input<'static>> as Source<F>>⟧.lent (⟦<Until<'static, Input<'static>> as Source<F>>⟧.holds told) sources.items) }
-    ensures lists { IfOk result (λ sources. (told : Option Contents) → AllByRecursion (IsOpenIn told) files.now → map (⟦<Until<'static, Input<'static>> as Source<F>>⟧.remaining told) sources.items ≡ map (entries_between from.now (option_copied end.entry)) (lists_over told (option_copied memtable.entry) files.now)) }
-    ensures entries { IfOk result (λ sources. (told : Option Contents) → AllByRecursion (IsOpenIn told) files.now → AllByRecursion IsEntryList (lists_over told (option_copied memtable.entry) files.now)) }
+    ensures start { IfOk result (λ sources. (told : Option Contents)
+        → AllByRecursion (IsOpenIn told) files.now
+        → AreAtStart ⟦<Until<'static, Input<'static>> as Source<F>>⟧.lent
+        (⟦<Until<'static, Input<'static>> as Source<F>>⟧.holds told) sources.items) }
+    ensures lists { IfOk result (λ sources. (told : Option Contents)
+        → AllByRecursion (IsOpenIn told) files.now
+        → map (⟦<Until<'static, Input<'static>> as Source<F>>⟧.remaining told) sources.items
+        ≡ map (entries_between from.now (option_copied end.entry))
+        (lists_over told (option_copied memtable.entry) files.now)) }
+    ensures entries { IfOk result (λ sources. (told : Option Contents)
+        → AllByRecursion (IsOpenIn told) files.now
+        → AllByRecursion IsEntryList (lists_over told (option_copied memtable.entry) files.now)) }
     ensures refusal { IfErr result (λ refusal. refusal ≡ Refusal.NoMemory) }
 {
     let mut sources = memtable_sources(alloc, memtable, from, end)?;

@@ -83,7 +83,8 @@ impl Tablet {
         ensures ok { OnOk result (out.new.items ≡ out.old.items ++ names_of self.now) }
         ensures err { OnErr result (out.new.items ≡ out.old.items) }
         ensures refusal { IfErr result (λ refusal. refusal ≡ Refusal.NoMemory) }
-        ensures room { vec_len out.old + length (names_of self.now) ≤ vec_capacity out.old → IsOk result }
+        ensures room { vec_len out.old + length (names_of self.now) ≤ vec_capacity out.old
+            → IsOk result }
     {
         out.reserve(self.file_count())?;
         for file in &self.files {
@@ -100,15 +101,21 @@ impl Tablet {
     /// before.
     pub fn apply(&mut self, row: &Row, edits: Vec<Edit>) -> Result<(), Refusal>
         requires { AllByRecursion (IsEditOf row.now) edits.items }
-        ensures ok { OnOk result ((m : Contents) → Holds m self.old → IsTrue (has_row (range_of self.old) row.now) → cells_at m self.new ≡ after_edits (cells_at m self.old) edits.items) }
-        ensures memory { OnOk result (memory_of self.new ≡ with_edits (memory_of self.old) edits.items) }
+        ensures ok { OnOk result ((m : Contents) → Holds m self.old
+            → IsTrue (has_row (range_of self.old) row.now)
+            → cells_at m self.new ≡ after_edits (cells_at m self.old) edits.items) }
+        ensures memory { OnOk result (memory_of self.new
+            ≡ with_edits (memory_of self.old) edits.items) }
         ensures still { OnOk result ((m : Contents) → Holds m self.old → Holds m self.new) }
         ensures range { range_of self.new ≡ range_of self.old }
         ensures files { files_of self.new ≡ files_of self.old }
         ensures err { OnErr result (self.new ≡ self.old) }
-        ensures full { IsErrOf result Refusal.MemtableFull → ¬ (IsWithinLimits (with_edits (memory_of self.old) edits.items)) }
-        ensures within { OnOk result (IsWithinLimits (with_edits (memory_of self.old) edits.items)) }
-        ensures refusal { IfErr result (λ refusal. (refusal ≡ Refusal.MemtableFull) ⊎ (refusal ≡ Refusal.NoMemory)) }
+        ensures full { IsErrOf result Refusal.MemtableFull
+            → ¬ (IsWithinLimits (with_edits (memory_of self.old) edits.items)) }
+        ensures within { OnOk result (IsWithinLimits
+            (with_edits (memory_of self.old) edits.items)) }
+        ensures refusal { IfErr result (λ refusal. (refusal ≡ Refusal.MemtableFull)
+            ⊎ (refusal ≡ Refusal.NoMemory)) }
     {
         self.memtable.apply(row, edits)
     }
