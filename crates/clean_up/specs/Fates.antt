@@ -31,19 +31,26 @@ IsNextRecord cells x t found = IsOldest cells (key_of x Write) (t + 1) (2 ^ 64 -
 abbrev pub NamesStart : List ℕ → ℕ → Type 0
 NamesStart b t = (length b ≡ 8) × (big_number 8 b ≡ t)
 
--- What the records of its first cell tell of t: one names it, or the first one above it, if there is one, doesn't.
+-- What the records of its first cell tell of t: one names it, or the first one above it,
+-- if there is one, doesn't.
 abbrev pub IsToldBy : Cells → Cell → ℕ → Fate → Type 0
 IsToldBy cells x t Open = ⊥
 IsToldBy cells x t (Forward c) = (b : List ℕ) × (at cells x Write c ≡ Some b) × NamesStart b t
-IsToldBy cells x t Back = (next : Option (ℕ × List ℕ)) × IsNextRecord cells x t next × ((c : ℕ) (b : List ℕ) → next ≡ Some (c, b) → ¬ NamesStart b t)
+IsToldBy cells x t Back =
+    (next : Option (ℕ × List ℕ)) × IsNextRecord cells x t next
+    × ((c : ℕ) (b : List ℕ) → next ≡ Some (c, b) → ¬ NamesStart b t)
 
 -- a record of x names no start
 abbrev pub HasBadRecord : Cells → Cell → Type 0
 HasBadRecord cells x = (c : ℕ) × (b : List ℕ) × (at cells x Write c ≡ Some b) × (length b ≢ 8)
 
--- The lock stood at its start's first cell and was erased: the start is rolled back. Or it is gone there, and the records tell.
-abbrev pub Decides : {R : Type 0} → (R → Type 0) → (R → Cells) → (R → List ℕ → List Edit → Type 0) → (R → Storage) → Lock → Fate → R → R → Type 0
+-- The lock stood at its start's first cell and was erased: the start is rolled back.
+-- Or it is gone there, and the records tell.
+abbrev pub Decides : {R : Type 0} → (R → Type 0)
+    → (R → Cells) → (R → List ℕ → List Edit → Type 0) → (R → Storage) → Lock → Fate → R → R → Type 0
 Decides holds cells overfills storage lock fate old new =
-    (AppliesSuch holds cells overfills storage (ErasesCell (holds old) (cells old) lock.first lock.start) old new × (fate ≡ Back))
+    (AppliesSuch holds cells overfills storage
+    (ErasesCell (holds old) (cells old) lock.first lock.start) old new × (fate ≡ Back))
     ⊎ (OnlyReads holds cells overfills storage old new
-    × (holds old → IsGone (cells old) lock.first lock.start × IsToldBy (cells old) lock.first lock.start fate))
+    × (holds old → IsGone (cells old) lock.first lock.start
+    × IsToldBy (cells old) lock.first lock.start fate))

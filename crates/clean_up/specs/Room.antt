@@ -21,21 +21,26 @@ use Rattle.clean_up.specs.declared.cleaners.Cleaners.{Cleaners}
 use Rattle.clean_up.specs.declared.fates.Fate.{Fate}
 use Rattle.clean_up.specs.declared.fates.Fate.TheVariants.{Open, Forward, Back}
 
--- The edits by which the lock of t on x goes: the record of a commit takes its place, or nothing does.
+-- The edits by which the lock of t on x goes: the record of a commit takes its place,
+-- or nothing does.
 abbrev pub IsClearing : Cell → ℕ → Option ℕ → List Edit → Type 0
 IsClearing x t None edits = IsErasing x t edits
 IsClearing x t (Some c) edits = IsRecording x t c edits
 
 -- The row and such edits. Where the rows hold, the lock of x stands.
 abbrev pub ClearsCell : Type 0 → Cells → Cell → ℕ → Option ℕ → List ℕ → List Edit → Type 0
-ClearsCell Holds cells x t commit row edits = (row ≡ x.row) × (Holds → IsThere cells x Lock t) × IsClearing x t commit edits
+ClearsCell Holds cells x t commit row edits =
+    (row ≡ x.row) × (Holds → IsThere cells x Lock t) × IsClearing x t commit edits
 
 -- ---- the edits of a cleaner's next step, as its lock and its fate name them
 
 abbrev pub EditsIn : Fate → Type 0 → Cells → Cleaner → List ℕ → List Edit → Type 0
-EditsIn Open Holds cells cleaner row edits = ErasesCell Holds cells cleaner.lock.first cleaner.lock.start row edits
-EditsIn (Forward c) Holds cells cleaner row edits = RecordsCell Holds cells cleaner.cell cleaner.lock.start c row edits
-EditsIn Back Holds cells cleaner row edits = ErasesCell Holds cells cleaner.cell cleaner.lock.start row edits
+EditsIn Open Holds cells cleaner row edits =
+    ErasesCell Holds cells cleaner.lock.first cleaner.lock.start row edits
+EditsIn (Forward c) Holds cells cleaner row edits =
+    RecordsCell Holds cells cleaner.cell cleaner.lock.start c row edits
+EditsIn Back Holds cells cleaner row edits =
+    ErasesCell Holds cells cleaner.cell cleaner.lock.start row edits
 
 abbrev pub EditsOf : Type 0 → Cells → Cleaner → List ℕ → List Edit → Type 0
 EditsOf Holds cells cleaner row edits = EditsIn cleaner.fate Holds cells cleaner row edits
@@ -43,15 +48,22 @@ EditsOf Holds cells cleaner row edits = EditsIn cleaner.fate Holds cells cleaner
 -- those of the cleaner that is kept at this number
 abbrev pub EditsOfStep : Type 0 → Cells → Cleaners → ℕ → List ℕ → List Edit → Type 0
 EditsOfStep Holds cells cleaners i row edits =
-    (cleaner : Cleaner) × (btree.get nat_cmp cleaners.cleaners i ≡ Some cleaner) × EditsOf Holds cells cleaner row edits
+    (cleaner : Cleaner) × (btree.get nat_cmp cleaners.cleaners i ≡ Some cleaner)
+    × EditsOf Holds cells cleaner row edits
 
--- A step that decides makes such edits or none, and one that takes a lock away makes them. No other changes a cell or takes room.
-abbrev pub Does : {R : Type 0} → (R → Type 0) → (R → Cells) → (R → List ℕ → List Edit → Type 0) → (R → Storage) → (List ℕ → List Edit → Type 0) → CleanReply → R → R → Type 0
+-- A step that decides makes such edits or none, and one that takes a lock away makes them.
+-- No other changes a cell or takes room.
+abbrev pub Does : {R : Type 0} → (R → Type 0) → (R → Cells) → (R → List ℕ → List Edit → Type 0)
+    → (R → Storage) → (List ℕ → List Edit → Type 0) → CleanReply → R → R → Type 0
 Does holds cells overfills storage Such clean.Decided old new =
-    AppliesSuch holds cells overfills storage Such old new ⊎ OnlyReads holds cells overfills storage old new
-Does holds cells overfills storage Such (clean.RolledForward c) old new = AppliesSuch holds cells overfills storage Such old new
-Does holds cells overfills storage Such clean.RolledBack old new = AppliesSuch holds cells overfills storage Such old new
-Does holds cells overfills storage Such clean.Gone old new = OnlyReads holds cells overfills storage old new
+    AppliesSuch holds cells overfills storage Such old new
+    ⊎ OnlyReads holds cells overfills storage old new
+Does holds cells overfills storage Such (clean.RolledForward c) old new =
+    AppliesSuch holds cells overfills storage Such old new
+Does holds cells overfills storage Such clean.RolledBack old new =
+    AppliesSuch holds cells overfills storage Such old new
+Does holds cells overfills storage Such clean.Gone old new =
+    OnlyReads holds cells overfills storage old new
 
 -- ---- as a state of the machine shows them
 
@@ -59,16 +71,20 @@ Does holds cells overfills storage Such clean.Gone old new = OnlyReads holds cel
 abbrev pub ChangesOf : State → machine.Cleaner → Bool → List ℕ → List Edit → Type 0
 -- the mark of its start goes from that start's first cell
 ChangesOf st k false row edits =
-    (first : Cell) × IsFirst st k.start first × Marked st first k.start × (row ≡ first.row) × IsErasing first k.start edits
+    (first : Cell) × IsFirst st k.start first
+    × Marked st first k.start × (row ≡ first.row) × IsErasing first k.start edits
 -- it goes from the cleaner's cell, and the record of the commit takes its place, or nothing does
 ChangesOf st k true row edits =
     Marked st k.cell k.start × (row ≡ k.cell.row)
-    × (((c : ℕ) × CommittedAt st k.start c × IsRecording k.cell k.start c edits) ⊎ (IsDead st k.start × IsErasing k.cell k.start edits))
+    × (((c : ℕ) × CommittedAt st k.start c × IsRecording k.cell k.start c edits)
+    ⊎ (IsDead st k.start × IsErasing k.cell k.start edits))
 
 abbrev pub ChangesNext : State → ℕ → List ℕ → List Edit → Type 0
-ChangesNext st i row edits = (k : machine.Cleaner) × (get st.cleaners i ≡ Some k) × ChangesOf st k k.decided row edits
+ChangesNext st i row edits =
+    (k : machine.Cleaner) × (get st.cleaners i ≡ Some k) × ChangesOf st k k.decided row edits
 
--- A step that decides made such edits of a row or none, and one that takes a lock away made them. No other changes a cell.
+-- A step that decides made such edits of a row or none, and one that takes a lock away made them.
+-- No other changes a cell.
 abbrev pub Makes : (List ℕ → List Edit → Type 0) → CleanReply → Cells → Cells → Type 0
 Makes Changes clean.Decided old new = AreAfter Changes old new ⊎ (new ≡ old)
 Makes Changes (clean.RolledForward c) old new = AreAfter Changes old new
@@ -76,6 +92,7 @@ Makes Changes clean.RolledBack old new = AreAfter Changes old new
 Makes Changes clean.Gone old new = new ≡ old
 
 -- A step that makes such edits takes their room, and no other takes any.
-abbrev pub TakesRoom : {R : Type 0} → (R → List ℕ → List Edit → Type 0) → (List ℕ → List Edit → Type 0) → CleanReply → R → R → Type 0
+abbrev pub TakesRoom : {R : Type 0} → (R → List ℕ → List Edit → Type 0)
+    → (List ℕ → List Edit → Type 0) → CleanReply → R → R → Type 0
 TakesRoom overfills Changes clean.Gone old new = TakesNoRoom overfills old new
 TakesRoom overfills Changes reply old new = TakesRoomOf overfills Changes old new

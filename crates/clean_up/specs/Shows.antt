@@ -26,11 +26,14 @@ is_decided Back = true
 
 -- a cleaner, as the machine keeps it
 abbrev pub cleaner_of : Cleaner → machine.Cleaner
-cleaner_of cleaner = record { cell = cleaner.cell; start = cleaner.lock.start; decided = is_decided cleaner.fate }
+cleaner_of cleaner =
+    record { cell = cleaner.cell; start = cleaner.lock.start; decided = is_decided cleaner.fate }
 
--- it knows the first cell of its lock's start, and what it has decided is right as long as the mark stands
+-- it knows the first cell of its lock's start,
+-- and what it has decided is right as long as the mark stands
 abbrev pub KnowsItsLock : State → Cleaner → Type 0
-KnowsItsLock st cleaner = Knows st cleaner.cell cleaner.lock.start cleaner.lock.first (verdict_of cleaner.fate)
+KnowsItsLock st cleaner =
+    Knows st cleaner.cell cleaner.lock.start cleaner.lock.first (verdict_of cleaner.fate)
 
 -- the cleaner with this number is this one
 pub record ShowsCleaner (cleaner : Cleaner) (i : ℕ) (st : State) : Type 0 where
@@ -48,15 +51,18 @@ pub record ShowsCleaners (cleaners : Cleaners) (st : State) : Type 0 where
   pub each : (i : ℕ) → ShowsAt (btree.get nat_cmp cleaners.cleaners i) i st
   pub count : finmap.len st.cleaners ≡ btree.btree_map_len cleaners.cleaners
 
--- From each reached state that is shown before, the machine may answer so, and goes to a state that is shown after.
+-- From each reached state that is shown before, the machine may answer so,
+-- and goes to a state that is shown after.
 abbrev pub Steps : Cells → Cleaners → Request → Reply → Cells → Cleaners → Type 0
 Steps cells cleaners request reply cells' cleaners' =
     (st : State) → IsReached st → ShowsCells cells st → ShowsCleaners cleaners st
-    → (next : State) × Step st request reply next × ShowsCells cells' next × ShowsCleaners cleaners' next
+    → (next : State)
+    × Step st request reply next × ShowsCells cells' next × ShowsCleaners cleaners' next
 
 -- so it is in each reached state that cells and cleaners show
 abbrev pub InEachShown : Cells → Cleaners → (State → Type 0) → Type 0
-InEachShown cells cleaners IsSo = (st : State) → IsReached st → ShowsCells cells st → ShowsCleaners cleaners st → IsSo st
+InEachShown cells cleaners IsSo =
+    (st : State) → IsReached st → ShowsCells cells st → ShowsCleaners cleaners st → IsSo st
 
 -- the same cleaners, and the same next number
 pub record SameCleaners (old new : Cleaners) : Type 0 where
@@ -76,11 +82,13 @@ IsUsedUp st = end_of_stamps ≤ st.next_cleaner
 abbrev pub IsStampOf : State → machine.Cleaner → ℕ → Type 0
 IsStampOf st k c = (c ≡ k.start) ⊎ CommittedAt st k.start c
 
--- No key changes, or those of one row: a key that joins has the stamp of the commit whose mark goes.
+-- No key changes, or those of one row: a key that joins has the stamp of
+-- the commit whose mark goes.
 abbrev pub TouchesFor : State → ℕ → Cells → Cells → Type 0
 TouchesFor st i cells cells' =
     (cells' ≡ cells)
-    ⊎ ((k : machine.Cleaner) × (c : ℕ) × (finmap.get st.cleaners i ≡ Some k) × IsStampOf st k c × TouchesOneRow cells cells' k.start c)
+    ⊎ ((k : machine.Cleaner) × (c : ℕ) × (finmap.get st.cleaners i ≡ Some k)
+    × IsStampOf st k c × TouchesOneRow cells cells' k.start c)
 
 -- with the second step a cleaner closes
 abbrev pub is_last : CleanReply → Bool
@@ -89,22 +97,29 @@ is_last (clean.RolledForward c) = true
 is_last clean.RolledBack = true
 is_last clean.Gone = true
 
--- what a step of one cleaner does: the machine takes the step, and goes to a state with this cleaner
+-- what a step of one cleaner does: the machine takes the step,
+-- and goes to a state with this cleaner
 pub record Follows (st next : State) (i : ℕ) (cleaner : Cleaner) (reply : CleanReply) : Type 0 where
-  pub cleaners : next.cleaners ≡ cond (is_last reply) (finmap.remove st.cleaners i) (finmap.insert st.cleaners i (cleaner_of cleaner))
+  pub cleaners : next.cleaners ≡ cond (is_last reply)
+      (finmap.remove st.cleaners i) (finmap.insert st.cleaners i (cleaner_of cleaner))
   pub next_cleaner : next.next_cleaner ≡ st.next_cleaner
   pub knows : is_last reply ≡ false → KnowsItsLock next cleaner
 
 abbrev pub Advances : Cells → Cleaner → CleanReply → Cells → Cleaner → Type 0
 Advances cells cleaner reply cells' cleaner' =
     (st : State) (i : ℕ) → IsReached st → ShowsCells cells st → ShowsCleaner cleaner i st
-    → (next : State) × Step st (machine.CleanStep i) (clean_reply reply) next × ShowsCells cells' next × Follows st next i cleaner' reply
+    → (next : State) × Step st (machine.CleanStep i) (clean_reply reply) next
+    × ShowsCells cells' next × Follows st next i cleaner' reply
 
 -- what others do leaves what cleaners show
 abbrev pub AreShownOn : Type 0
-AreShownOn = (cleaners : Cleaners) (st next : State) (q : Request) (r : Reply) → IsReached st → Step st q r next → kind_of q ≢ OfCleaners
+AreShownOn =
+    (cleaners : Cleaners) (st next : State) (q : Request) (r : Reply) → IsReached st
+    → Step st q r next → kind_of q ≢ OfCleaners
     → ShowsCleaners cleaners st → ShowsCleaners cleaners next
 
 -- cleaners that are the same show the same
 abbrev pub AreShownSame : Type 0
-AreShownSame = (old new : Cleaners) (st : State) → SameCleaners old new → ShowsCleaners old st → ShowsCleaners new st
+AreShownSame =
+    (old new : Cleaners) (st : State) → SameCleaners old new → ShowsCleaners old st
+    → ShowsCleaners new st

@@ -51,7 +51,8 @@ fn closes(reply: CleanReply) -> bool
 impl Cleaners {
     /// No cleaners. The first one gets the number 1.
     pub fn new(alloc: Global) -> Cleaners
-        ensures shown { (st : State) → st.next_cleaner ≡ 1 → st.cleaners ≡ empty → ShowsCleaners result st }
+        ensures shown { (st : State) → st.next_cleaner ≡ 1 → st.cleaners ≡ empty
+            → ShowsCleaners result st }
     {
         Cleaners {
             alloc,
@@ -84,7 +85,8 @@ impl Cleaners {
             → InEachShown (R.cells rows.old) self.old (λ st. ¬ IsErrOf result Refusal.Damaged) }
         ensures refusal { IfErr result IsBeginRefusal }
         ensures err { OnErr result (SameCleaners self.old self.new) }
-        ensures exhausted { IsErrOf result Refusal.Exhausted → (st : State) → ShowsCleaners self.old st → IsUsedUp st }
+        ensures exhausted { IsErrOf result Refusal.Exhausted
+            → (st : State) → ShowsCleaners self.old st → IsUsedUp st }
         ensures reason { HasReason (R.faults rows.old) (R.faults rows.new) result }
     {
         let cell = cell_named(self.alloc, row, family)?;
@@ -121,9 +123,10 @@ impl Cleaners {
             → Steps (R.cells rows.old) self.old (machine.CleanStep number)
             (result_reply clean_reply result) (R.cells rows.new) self.new }
         // The edits that the cleaner names are made, or nothing is changed.
-        ensures does { IfOk result (λ reply. Does R.holds R.cells R.overfills R.storage
-            (EditsOfStep (R.holds rows.old) (R.cells rows.old) self.old number) reply rows.old rows.new) }
-        ensures same { OnErr result (OnlyReads R.holds R.cells R.overfills R.storage rows.old rows.new) }
+        ensures does { IfOk result (λ reply. Does R.holds R.cells R.overfills R.storage (EditsOfStep
+            (R.holds rows.old) (R.cells rows.old) self.old number) reply rows.old rows.new) }
+        ensures same { OnErr result (OnlyReads
+            R.holds R.cells R.overfills R.storage rows.old rows.new) }
         ensures below { KeepsBelow R.holds R.storage rows.old rows.new }
         // One row changes, and what joins stands at the stamp of the commit whose mark goes.
         ensures touched { R.holds rows.old
@@ -138,14 +141,14 @@ impl Cleaners {
             → InEachShown (R.cells rows.old) self.old (λ st. ¬ IsErrOf result Refusal.Damaged) }
         ensures refusal { IfErr result IsStepRefusal }
         ensures err { OnErr result (SameCleaners self.old self.new) }
-        ensures unknown { (st : State)
-            → ShowsCleaners self.old st → IsUnopened st number → IsErrOf result Refusal.UnknownCleaner }
+        ensures unknown { (st : State) → ShowsCleaners self.old st → IsUnopened st number
+            → IsErrOf result Refusal.UnknownCleaner }
         // A step is refused MemtableFull where the rows have no room for the edits that its cleaner names.
-        ensures full { IsErrOf result Refusal.MemtableFull
-            → HasNoRoom R.overfills rows.old (EditsOfStep (R.holds rows.old) (R.cells rows.old) self.old number) }
-        ensures full_shown { R.holds rows.old
-            → IsErrOf result Refusal.MemtableFull
-            → InEachShown (R.cells rows.old) self.old (λ st. HasNoRoom R.overfills rows.old (ChangesNext st number)) }
+        ensures full { IsErrOf result Refusal.MemtableFull → HasNoRoom R.overfills
+            rows.old (EditsOfStep (R.holds rows.old) (R.cells rows.old) self.old number) }
+        ensures full_shown { R.holds rows.old → IsErrOf result Refusal.MemtableFull
+            → InEachShown (R.cells rows.old) self.old (λ st.
+            HasNoRoom R.overfills rows.old (ChangesNext st number)) }
         // A step that makes edits takes their room, and no other takes any.
         ensures room { R.holds rows.old
             → IfOk result (λ reply. InEachShown (R.cells rows.old) self.old (λ st.

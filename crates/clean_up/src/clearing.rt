@@ -43,10 +43,13 @@ pub(crate) fn clear<R: Rows>(
     start: Moment,
     commit: Option<Moment>,
 ) -> Result<bool, Refusal>
-    ensures made { IfOk result (λ stood. OnTrue stood (AppliesSuch R.holds R.cells R.overfills R.storage
-        (ClearsCell (R.holds rows.old) (R.cells rows.old) cell.now start commit) rows.old rows.new)) }
-    ensures gone { R.holds rows.old → IfOk result (λ stood. OnFalse stood (IsGone (R.cells rows.old) cell.now start)) }
-    ensures left { IfOk result (λ stood. OnFalse stood (OnlyReads R.holds R.cells R.overfills R.storage rows.old rows.new)) }
+    ensures made { IfOk result (λ stood.
+        OnTrue stood (AppliesSuch R.holds R.cells R.overfills R.storage (ClearsCell
+        (R.holds rows.old) (R.cells rows.old) cell.now start commit) rows.old rows.new)) }
+    ensures gone { R.holds rows.old
+        → IfOk result (λ stood. OnFalse stood (IsGone (R.cells rows.old) cell.now start)) }
+    ensures left { IfOk result (λ stood.
+        OnFalse stood (OnlyReads R.holds R.cells R.overfills R.storage rows.old rows.new)) }
     ensures err { OnErr result (OnlyReads R.holds R.cells R.overfills R.storage rows.old rows.new) }
     ensures refusal { IfErr result (IsRowRefusal (R.holds rows.old)) }
     ensures full { IsErrOf result Refusal.MemtableFull

@@ -33,8 +33,8 @@ fn recorded<R: Rows>(rows: &mut R, first: &Cell, start: Moment) -> Result<Fate, 
     ensures found { R.holds rows.old → IfOk result (IsToldBy (R.cells rows.old) first.now start) }
     ensures reads { OnlyReads R.holds R.cells R.overfills R.storage rows.old rows.new }
     ensures refusal { IfErr result IsReadRefusal }
-    ensures damaged { R.holds rows.old
-        → IfErr result (λ refusal. refusal ≡ Refusal.Damaged → HasBadRecord (R.cells rows.old) first.now) }
+    ensures damaged { R.holds rows.old → IfErr result (λ refusal. refusal ≡ Refusal.Damaged
+        → HasBadRecord (R.cells rows.old) first.now) }
     ensures reason { HasReason (R.faults rows.old) (R.faults rows.new) result }
 {
     let start = start.stamp();
@@ -66,8 +66,8 @@ pub(crate) fn decide<R: Rows>(alloc: Global, rows: &mut R, lock: &Lock) -> Resul
         Decides R.holds R.cells R.overfills R.storage lock.now fate rows.old rows.new) }
     ensures err { OnErr result (OnlyReads R.holds R.cells R.overfills R.storage rows.old rows.new) }
     ensures refusal { IfErr result IsAdvanceRefusal }
-    ensures damaged { R.holds rows.old
-        → IfErr result (λ refusal. refusal ≡ Refusal.Damaged → HasBadRecord (R.cells rows.old) lock.now.first) }
+    ensures damaged { R.holds rows.old → IfErr result (λ refusal. refusal ≡ Refusal.Damaged
+        → HasBadRecord (R.cells rows.old) lock.now.first) }
     ensures full { IsErrOf result Refusal.MemtableFull
         → HasNoRoom R.overfills rows.old
         (ErasesCell (R.holds rows.old) (R.cells rows.old) lock.now.first lock.now.start) }

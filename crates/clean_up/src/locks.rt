@@ -27,8 +27,8 @@ pub(crate) fn standing<R: Rows>(
     ensures found { R.holds rows.old → IfOk result (IsStanding (R.cells rows.old) cell.now) }
     ensures reads { OnlyReads R.holds R.cells R.overfills R.storage rows.old rows.new }
     ensures refusal { IfErr result IsReadRefusal }
-    ensures damaged { R.holds rows.old
-        → IfErr result (λ refusal. refusal ≡ Refusal.Damaged → LacksPlace (R.cells rows.old) cell.now) }
+    ensures damaged { R.holds rows.old → IfErr result (λ refusal. refusal ≡ Refusal.Damaged
+        → LacksPlace (R.cells rows.old) cell.now) }
     ensures reason { HasReason (R.faults rows.old) (R.faults rows.new) result }
 {
     let lock = rows.newest(&cell.row, &cell.family, Qualifier::Lock, 0, u64::MAX)?;

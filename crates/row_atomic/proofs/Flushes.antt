@@ -2,6 +2,8 @@
 use Rattle.std.proofs.Common.{◌≡◌, ◌≢◌, ◌<◌, ◌≤◌, ◌+◌, ℕ, zero, suc, Bool, true, false, List, [], ◌∷◌, length, map, filter, drop, Option, Some, None, Result, Ok, Err, cond, refl, sym, ap, ◌∙◌, subst, arith, nat_le, slice_get, slice_index_or, add-one}
 use Rattle.std.proofs.lemmas.List.{drop_all, length-map}
 use Rattle.std.specs.Bool.{⊤}
+use Rattle.std.specs.Option.{IfSome}
+use Rattle.std.specs.Result.{OkIff, result_ok}
 use Rattle.std.specs.List.{AllByRecursion}
 use Rattle.cell_key.specs.declared.refusals.Refusal.{Refusal}
 use Rattle.file_store.specs.Store.{Contents}
@@ -12,12 +14,13 @@ use Rattle.sorted_file.specs.declared.opened.SortedFile.{SortedFile}
 use Rattle.cell_key.specs.Entries.{Entry}
 use Rattle.tablet.specs.declared.ranges.RowRange.{RowRange}
 use Rattle.tablet.specs.declared.tablet.Tablet.{Tablet}
-use Rattle.row_atomic.specs.Changes.{Holds, parts_of}
+use Rattle.row_atomic.specs.Changes.{Holds, Numbered, parts_of}
 use Rattle.row_atomic.specs.Clusters.{ClusterState, Spot, spot_of, tablet_numbered}
 use Rattle.row_atomic.specs.Commands.{AnswersAll, IsOutcome, cells_shown, done_of}
-use Rattle.row_atomic.specs.Flushes.{CompactsFull, KeepsShown, has_entries, numbers_of}
+use Rattle.row_atomic.specs.Flushes.{CompactsFull, IsOver, KeepsShown, has_entries, numbers_of}
 use Rattle.row_atomic.specs.declared.commands.Command.TheVariants as command
 use Rattle.row_atomic.specs.declared.commands.Outcome.{Outcome}
+use Rattle.row_atomic.proofs.Changing.{numbered_at}
 use Rattle.row_atomic.proofs.Numbers.{AreOthers, Differ, differ_of}
 
 -- ---- numbers that differ
@@ -114,6 +117,43 @@ pub all_still : {F : Type 0} (flush : ℕ) (start : ClusterState F) (ns : List �
 all_still flush start [] = tt
 all_still flush start (n ∷ ns) = (refl, all_still flush start ns)
 
+-- ---- files that are merged
+
+-- a count that was tried is such as the tablet of the number says
+pub tried_over : {E : Type 0} (ts : List Tablet) (n i most count : ℕ) (t : Tablet) (tried : Result ℕ E) (found : Option ℕ) → n ≡ i + 1 → slice_get ts i ≡ Some t → IsOver most count t
+    → OkIff tried (count < 4294967296) count → found ≡ result_ok tried → IfSome found (λ k. Numbered (IsOver most k) n ts)
+tried_over ts n i most count t (Ok k) found e there over tried is =
+    rw is (record { tablet = t; numbered = numbered_at ts n i t e there; such = subst (λ (j : ℕ). IsOver most j t) (sym tried.1) over })
+tried_over ts n i most count t (Err fault) found e there over tried is = rw is tt
+
+-- ---- what is kept
+
+module _ {F : Type 0} (contents : F → Option Contents) (faults : F → ℕ) where
+  pub keeps_start : (start : ClusterState F) → KeepsShown contents faults start start
+  keeps_start start = record { kept = λ holds. (holds, refl); spots = refl; limit = refl; later = omega arith }
+
+  -- what is kept by one and then by another is kept by both
+  pub keeps_on : (start now after : ClusterState F) → KeepsShown contents faults start now → KeepsShown contents faults now after → KeepsShown contents faults start after
+  keeps_on start now after keeps more = record {
+    kept = λ holds. let before = keeps.kept holds in let then = more.kept before.0 in (then.0, then.1 ∙ before.1);
+    spots = more.spots ∙ keeps.spots;
+    limit = more.limit ∙ keeps.limit;
+    later = let a = keeps.later in let b = more.later in omega arith;
+  }
+
+  -- a merge keeps them
+  pub keeps_merged : (now after : ClusterState F) (n count : ℕ) (r : Result (Unit {0}) Refusal) → IsOutcome contents faults (command.Merge n count) (done_of r) now after → KeepsShown contents faults now after
+  keeps_merged now after n count r is = record {
+    kept = λ holds. (is.still holds, shown r is holds);
+    spots = is.files.1;
+    limit = is.files.0.limit;
+    later = is.faults.later;
+  }
+    where
+      shown : (r : Result (Unit {0}) Refusal) → IsOutcome contents faults (command.Merge n count) (done_of r) now after → Holds contents now → cells_shown contents after ≡ cells_shown contents now
+      shown (Ok _) is holds = is.answers holds
+      shown (Err refusal) is holds = (is.answers holds).1
+
 module _ {F : Type 0} (contents : F → Option Contents) (faults : F → ℕ) (flush : ℕ) where
   abbrev has : ClusterState F → ℕ → Bool
   has state n = has_at flush state n
@@ -149,19 +189,24 @@ module _ {F : Type 0} (contents : F → Option Contents) (faults : F → ℕ) (f
     still_after (m ∷ ns) others still = (one_still m others.0 ∙ still.0, still_after ns others.1 still.1)
 
     pub keeps_after : KeepsShown contents faults start now → KeepsShown contents faults start after
-    keeps_after keeps = record {
-      kept = λ holds. let before = keeps.kept holds in (is.still before.0, shown r is before.0 ∙ before.1);
-      spots = is.files.1 ∙ keeps.spots;
-      limit = is.files.0.limit ∙ keeps.limit;
-      later = let more = is.faults.later in let before = keeps.later in omega arith;
-    }
+    keeps_after keeps = keeps_on contents faults start now after keeps (record {
+      kept = λ holds. (is.still holds, shown r is holds);
+      spots = is.files.1;
+      limit = is.files.0.limit;
+      later = is.faults.later;
+    })
       where
         shown : (r : Result (Unit {0}) Refusal) → IsOutcome contents faults (command.Minor n) (done_of r) now after → Holds contents now → cells_shown contents after ≡ cells_shown contents now
         shown (Ok _) is holds = is.answers holds
         shown (Err refusal) is holds = (is.answers holds).1
 
-  pub keeps_start : (start : ClusterState F) → KeepsShown contents faults start start
-  keeps_start start = record { kept = λ holds. (holds, refl); spots = refl; limit = refl; later = omega arith }
+-- an index within the places is within those that are kept
+pub within_kept : {F : Type 0} (contents : F → Option Contents) (faults : F → ℕ) (start now : ClusterState F) (i : ℕ) → KeepsShown contents faults start now → i < length start.places → i < length now.places
+within_kept contents faults start now i keeps within =
+    let olds = length-map start.places spot_of in
+    let news = length-map now.places spot_of in
+    let same = ap (λ (spots : List Spot). length spots) keeps.spots in
+    omega arith
 
 -- ---- one place after the other
 
@@ -176,18 +221,14 @@ module _ {F : Type 0} (contents : F → Option Contents) (faults : F → ℕ) (f
   pub at_start : IsTable start.places → IsReached contents faults flush start start 0
   at_start table = record {
     table = table;
-    keeps = keeps_start contents faults flush start;
+    keeps = keeps_start contents faults start;
     still = all_still flush start (numbers_of start.places);
     completes = none_yet contents faults flush start;
   }
 
   module _ (now : ClusterState F) (i : ℕ) (reached : IsReached contents faults flush start now i) where
     pub within_now : i < length start.places → i < length now.places
-    within_now within =
-        let olds = length-map start.places spot_of in
-        let news = length-map now.places spot_of in
-        let same = ap (λ (spots : List Spot). length spots) reached.keeps.spots in
-        omega arith
+    within_now within = within_kept contents faults start now i reached.keeps within
 
     pub at_end : length start.places ≤ i → CompactsFull contents faults flush start now
     at_end past = all_done contents faults flush start now (drop i (numbers_of start.places)) (none_from start.places i past) reached.completes

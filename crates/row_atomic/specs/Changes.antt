@@ -29,8 +29,11 @@ abbrev pub Holds : {F : Type 0} → (F → Option Contents) → ClusterState F �
 Holds contents state = InOrder (contents state.files) state.next_name state.tablets
 
 -- Where the tablets were in order they are, and the cells are as before.
-abbrev pub KeepsMap : {F : Type 0} → (F → Option Contents) → ClusterState F → ClusterState F → Type 0
-KeepsMap contents old new = Holds contents old → Holds contents new × (cells_in (contents new.files) new.tablets ≡ cells_in (contents old.files) old.tablets)
+abbrev pub KeepsMap : {F : Type 0} → (F → Option Contents) → ClusterState F → ClusterState F
+    → Type 0
+KeepsMap contents old new =
+    Holds contents old → Holds contents new
+    × (cells_in (contents new.files) new.tablets ≡ cells_in (contents old.files) old.tablets)
 
 -- a tablet's range, its memtable's entries and its open files
 abbrev pub parts_of : Tablet → RowRange × (List Entry × List SortedFile)
@@ -42,7 +45,8 @@ pub record IsAsBefore {F : Type 0} (old new : ClusterState F) : Type 0 where
   pub tablets : map parts_of new.tablets ≡ map parts_of old.tablets
 
 -- nothing was done: the tablets, their places, the files and the next name are as before
-pub record IsUndone {F : Type 0} (contents : F → Option Contents) (old new : ClusterState F) : Type 0 where
+pub record IsUndone {F : Type 0} (contents : F → Option Contents)
+    (old new : ClusterState F) : Type 0 where
   pub as_before : IsAsBefore old new
   pub name : new.next_name ≡ old.next_name
   pub files : contents new.files ≡ contents old.files
@@ -109,27 +113,37 @@ kind_of Minor = kinds.Minor
 kind_of (Merge count) = kinds.Merge count
 kind_of Major = kinds.Major
 
--- The tablet of a number was compacted: its file has keys of the tablet's range alone, and erasures unless all files were merged.
-pub record IsCompacted {F : Type 0} (contents : F → Option Contents) (compaction : Compaction) (tablet : ℕ) (old new : ClusterState F) : Type 0 where
+-- The tablet of a number was compacted: its file has keys of the tablet's range alone,
+-- and erasures unless all files were merged.
+pub record IsCompacted {F : Type 0} (contents : F → Option Contents) (compaction : Compaction)
+    (tablet : ℕ) (old new : ClusterState F) : Type 0 where
   pub made : Remakes (IsMade compaction old.next_name) tablet old.tablets new.tablets
-  pub lists : Remakes (Compacts (kind_of compaction) (contents old.files) old.next_name (contents new.files)) tablet old.tablets new.tablets
-  pub cleaned : Holds contents old → Numbered (IsCleaned compaction (contents new.files)) tablet new.tablets
+  pub lists : Remakes (Compacts (kind_of compaction)
+      (contents old.files) old.next_name (contents new.files)) tablet old.tablets new.tablets
+  pub cleaned : Holds contents old
+      → Numbered (IsCleaned compaction (contents new.files)) tablet new.tablets
 
 -- the entries that a compaction writes
 abbrev pub written_by : Compaction → Contents → Tablet → List Entry
 written_by Minor m t = seen (range_of t) (memory_of t)
-written_by (Merge count) m t = written (nat_lt count (length (names_of t))) (map (seen (range_of t)) (take count (map (listed m) (files_of t))))
-written_by Major m t = written false (map (seen (range_of t)) (memory_of t ∷ map (listed m) (files_of t)))
+written_by (Merge count) m t =
+    written (nat_lt count (length (names_of t)))
+    (map (seen (range_of t)) (take count (map (listed m) (files_of t))))
+written_by Major m t =
+    written false (map (seen (range_of t)) (memory_of t ∷ map (listed m) (files_of t)))
 
--- Their file would have more bytes than a file may have. Those of a merging or a major one are told where the tablet's files are open.
+-- Their file would have more bytes than a file may have.
+-- Those of a merging or a major one are told where the tablet's files are open.
 abbrev pub IsTooLarge : ℕ → Option Contents → Compaction → Tablet → Type 0
 IsTooLarge limit told Minor t = ¬ FitsIn limit (seen (range_of t) (memory_of t))
-IsTooLarge limit told compaction t = IfSome told (λ m. HoldsAt m t → ¬ FitsIn limit (written_by compaction m t))
+IsTooLarge limit told compaction t =
+    IfSome told (λ m. HoldsAt m t → ¬ FitsIn limit (written_by compaction m t))
 
 -- or it has as many at most
 abbrev pub Fits : ℕ → Option Contents → Compaction → Tablet → Type 0
 Fits limit told Minor t = FitsIn limit (seen (range_of t) (memory_of t))
-Fits limit told compaction t = IfSome told (λ m. HoldsAt m t → FitsIn limit (written_by compaction m t))
+Fits limit told compaction t =
+    IfSome told (λ m. HoldsAt m t → FitsIn limit (written_by compaction m t))
 
 -- this many files can't be merged
 abbrev pub IsBadCount : ℕ → Tablet → Type 0
@@ -181,7 +195,8 @@ IsNumberedRefusal compaction refusal = IsRefusalOf compaction refusal
 -- ---- splits and moves
 
 -- the tablet of the place that holds the row is such
-pub record OfHolder (P : Tablet → Type 0) (row : List ℕ) (places : List PlaceView) (tablets : List Tablet) : Type 0 where
+pub record OfHolder (P : Tablet → Type 0) (row : List ℕ) (places : List PlaceView)
+    (tablets : List Tablet) : Type 0 where
   pub place : PlaceView
   pub holder : IsHolder row places place
   pub tablet : Numbered P place.tablet tablets
@@ -193,24 +208,28 @@ pub record IsCut (row : List ℕ) (left : ℕ) (old new : List PlaceView) : Type
   pub names : List ℕ
   pub cut : Cuts row left (with_files place.tablet names old) new
 
--- The tablet that holds the row was flushed and cut in two: the left part has the number. Both parts have its files and empty
--- memtables. All others stay.
-pub record IsHalved (next : ℕ) (row : List ℕ) (left : ℕ) (places : List PlaceView) (old new : List Tablet) : Type 0 where
+-- The tablet that holds the row was flushed and cut in two: the left part has the number. Both
+-- parts have its files and empty memtables. All others stay.
+pub record IsHalved (next : ℕ) (row : List ℕ) (left : ℕ) (places : List PlaceView)
+    (old new : List Tablet) : Type 0 where
   pub place : PlaceView
   pub holder : IsHolder row places place
   pub was : Tablet
   pub was_numbered : tablet_numbered place.tablet old ≡ Some was
   pub left_part : Numbered (IsFlushed next was) left new
   pub right_part : Numbered (IsFlushed next was) place.tablet new
-  pub others : (other : ℕ) → other ≢ left → other ≢ place.tablet → tablet_numbered other new ≡ tablet_numbered other old
+  pub others : (other : ℕ) → other ≢ left → other ≢ place.tablet
+      → tablet_numbered other new ≡ tablet_numbered other old
 
 -- all tablets are as before, or that of the number was flushed
 abbrev pub MayBeFlushed : ℕ → ℕ → List Tablet → List Tablet → Type 0
-MayBeFlushed next n old new = (map parts_of new ≡ map parts_of old) ⊎ Remakes (IsFlushed next) n old new
+MayBeFlushed next n old new =
+    (map parts_of new ≡ map parts_of old) ⊎ Remakes (IsFlushed next) n old new
 
 -- so it is for the tablet that holds the row
 abbrev pub MayHolderBeFlushed : ℕ → List ℕ → List PlaceView → List Tablet → List Tablet → Type 0
-MayHolderBeFlushed next row places old new = (place : PlaceView) → IsHolder row places place → MayBeFlushed next place.tablet old new
+MayHolderBeFlushed next row places old new =
+    (place : PlaceView) → IsHolder row places place → MayBeFlushed next place.tablet old new
 
 -- the same files were opened anew, with an empty memtable
 pub record IsReopened (t u : Tablet) : Type 0 where

@@ -15,8 +15,8 @@ use Rattle.tablet.specs.Views.{Holds, IsBelow, cells_at, files_of, memory_of, na
 use Rattle.tablet.specs.declared.ranges.RowRange.{RowRange}
 use Rattle.tablet.specs.declared.tablet.Tablet.{Tablet}
 
--- its files, the most bytes of a sorted file, the next file's name, the places of its tablets in the order of their ends, and
--- the tablets, each at its number less 1
+-- its files, the most bytes of a sorted file, the next file's name, the places of its tablets in
+-- the order of their ends, and the tablets, each at its number less 1
 pub record ClusterState (F : Type 0) : Type 0 where
   pub files : F
   pub file_limit : ℕ
@@ -40,7 +40,8 @@ abbrev pub cells_in : Option Contents → List Tablet → Cells
 cells_in None tablets = empty
 cells_in (Some m) tablets = joined (map (cells_at m) tablets)
 
--- Over files that are told the files of each tablet are open, and their names come before the next one.
+-- Over files that are told the files of each tablet are open,
+-- and their names come before the next one.
 pub record InOrder (told : Option Contents) (next : ℕ) (tablets : List Tablet) : Type 0 where
   pub contents : Contents
   pub are_told : told ≡ Some contents
@@ -54,8 +55,8 @@ Spot = Option (List ℕ) × (ℕ × ℕ)
 abbrev pub spot_of : PlaceView → Spot
 spot_of p = (p.end, (p.tablet, p.server))
 
--- What lies below the memtables: the bytes of the files, as far as they are told, the most bytes of a sorted file, the next file's
--- name, and the places of the tablets with their files.
+-- What lies below the memtables: the bytes of the files, as far as they are told, the most bytes of
+-- a sorted file, the next file's name, and the places of the tablets with their files.
 pub record Storage : Type 0 where
   pub told : Option Contents
   pub file_limit : ℕ
@@ -63,7 +64,13 @@ pub record Storage : Type 0 where
   pub places : List PlaceView
 
 abbrev pub storage_of : {F : Type 0} → (F → Option Contents) → ClusterState F → Storage
-storage_of contents state = record { told = contents state.files; file_limit = state.file_limit; next_name = state.next_name; places = state.places }
+storage_of contents state =
+    record {
+      told = contents state.files;
+      file_limit = state.file_limit;
+      next_name = state.next_name;
+      places = state.places;
+    }
 
 -- rows that are kept in memory alone
 abbrev pub no_storage : Storage
@@ -77,8 +84,10 @@ spots_of state = map spot_of state.places
 abbrev pub edits_in : RowRange → List Edit → List Edit
 edits_in range edits = filter (λ edit. has_row range (edited_key edit).row) edits
 
--- With those of these edits that are its own the memtable of the tablet that holds the row would pass a limit.
-pub record Overfills (places : List PlaceView) (tablets : List Tablet) (row : List ℕ) (edits : List Edit) : Type 0 where
+-- With those of these edits that are its own the memtable of the tablet that holds
+-- the row would pass a limit.
+pub record Overfills (places : List PlaceView) (tablets : List Tablet) (row : List ℕ)
+    (edits : List Edit) : Type 0 where
   pub place : PlaceView
   pub holder : IsHolder row places place
   pub tablet : Tablet
@@ -87,9 +96,10 @@ pub record Overfills (places : List PlaceView) (tablets : List Tablet) (row : Li
 
 -- ---- what is true of every cluster
 
--- The tablet of a place is that of its number. It has the rows after this one, up to the place's end, and the files that the
--- place lists.
-pub record IsPlaced (tablets : List Tablet) (before : Option (List ℕ)) (p : PlaceView) : Type 0 where
+-- The tablet of a place is that of its number. It has the rows after this one, up to the place's
+-- end, and the files that the place lists.
+pub record IsPlaced (tablets : List Tablet) (before : Option (List ℕ))
+    (p : PlaceView) : Type 0 where
   pub tablet : Tablet
   pub numbered : tablet_numbered p.tablet tablets ≡ Some tablet
   pub range : range_of tablet ≡ record { after = before; end = p.end }
@@ -101,7 +111,8 @@ ArePlaced tablets before [] = ⊤
 ArePlaced tablets before (p ∷ ps) = IsPlaced tablets before p × ArePlaced tablets p.end ps
 
 -- Each tablet has a place, and the numbers are within their limits.
-pub record IsMatched (file_limit next_name : ℕ) (places : List PlaceView) (tablets : List Tablet) : Type 0 where
+pub record IsMatched (file_limit next_name : ℕ) (places : List PlaceView)
+    (tablets : List Tablet) : Type 0 where
   pub least : 32 ≤ file_limit
   pub most : file_limit ≤ 1_073_741_824
   pub named_from : 1 ≤ next_name
@@ -110,7 +121,8 @@ pub record IsMatched (file_limit next_name : ℕ) (places : List PlaceView) (tab
   pub as_many : length tablets ≡ length places
 
 -- the tablet of the place that holds a row stands at the index
-pub record HasTabletAt (places : List PlaceView) (tablets : List Tablet) (row : List ℕ) (index : ℕ) : Type 0 where
+pub record HasTabletAt (places : List PlaceView) (tablets : List Tablet) (row : List ℕ)
+    (index : ℕ) : Type 0 where
   pub place : PlaceView
   pub holder : IsHolder row places place
   pub number : place.tablet ≡ index + 1
@@ -135,6 +147,8 @@ pub record IsFirstTablet (tablets : List Tablet) : Type 0 where
 -- At the keys of a row the cells are those of the one tablet that holds the row.
 abbrev pub CellsByTablet : Type 0
 CellsByTablet =
-    (m : Contents) (limit next : ℕ) (places : List PlaceView) (tablets : List Tablet) (row : List ℕ) (p : PlaceView) (t : Tablet)
-    → IsTable places → IsMatched limit next places tablets → AllByRecursion (Holds m) tablets → IsHolder row places p → tablet_numbered p.tablet tablets ≡ Some t
+    (m : Contents) (limit next : ℕ) (places : List PlaceView)
+    (tablets : List Tablet) (row : List ℕ) (p : PlaceView) (t : Tablet)
+    → IsTable places → IsMatched limit next places tablets → AllByRecursion (Holds m) tablets
+    → IsHolder row places p → tablet_numbered p.tablet tablets ≡ Some t
     → (key : CellKey) → key.row ≡ row → get (cells_in (Some m) tablets) key ≡ get (cells_at m t) key

@@ -1,4 +1,5 @@
--- What a command answers, and what it leaves of the one cell map, of tablets and files, and of the room in memory.
+-- What a command answers, and what it leaves of the one cell map, of tablets and files,
+-- and of the room in memory.
 use Rattle.std.specs.Prelude.{◌≡◌, ◌≢◌, ◌<◌, ◌≤◌, ◌+◌, ◌^◌, ◌↔◌, ◌⊎◌, ℕ, List, [], ◌∷◌, Option, Result, Ok, Err, length, option_map, ⊤}
 use Rattle.std.specs.List.{AllByRecursion}
 use Rattle.cell_key.specs.Cells.{Cells, IsEditOf, IsNewest, after_edits, version}
@@ -54,10 +55,13 @@ compacting compactions.Major tablet = command.Major tablet
 abbrev pub cells_shown : {F : Type 0} → (F → Option Contents) → ClusterState F → Cells
 cells_shown contents state = cells_in (contents state.files) state.tablets
 
--- A command answers what is true of the cells, and leaves these: only an apply that is done changes them.
+-- A command answers what is true of the cells, and leaves these:
+-- only an apply that is done changes them.
 abbrev pub Answers : Cells → Command → Outcome → Cells → Type 0
-Answers old (command.Newest row family qualifier lo hi) (outcome.Newest found) new = IsNewest old (version row family qualifier) lo hi (option_map stamped found) × (new ≡ old)
-Answers old (command.NextCell after) (outcome.NextCell found) new = IsNextCell old after found × (new ≡ old)
+Answers old (command.Newest row family qualifier lo hi) (outcome.Newest found) new =
+    IsNewest old (version row family qualifier) lo hi (option_map stamped found) × (new ≡ old)
+Answers old (command.NextCell after) (outcome.NextCell found) new =
+    IsNextCell old after found × (new ≡ old)
 Answers old (command.Apply row edits) outcome.Done new = new ≡ after_edits old edits.items
 Answers old (command.Minor tablet) outcome.Done new = new ≡ old
 Answers old (command.Merge tablet count) outcome.Done new = new ≡ old
@@ -76,37 +80,49 @@ MayRefuse (command.Newest row family qualifier lo hi) refusal = IsReadRefusal re
 MayRefuse (command.NextCell after) refusal = IsReadRefusal refusal
 MayRefuse (command.Apply row edits) refusal = IsApplyRefusal refusal
 MayRefuse (command.Minor tablet) refusal = IsNumberedRefusal compaction.minor refusal
-MayRefuse (command.Merge tablet count) refusal = IsNumberedRefusal (compaction.merging count) refusal
+MayRefuse (command.Merge tablet count) refusal =
+    IsNumberedRefusal (compaction.merging count) refusal
 MayRefuse (command.Major tablet) refusal = IsNumberedRefusal compaction.major refusal
 MayRefuse (command.Split row) refusal = IsSplitRefusal refusal
 MayRefuse (command.Move tablet server) refusal = IsMoveRefusal refusal
 MayRefuse command.Sweep refusal = (refusal ≡ refused.Device) ⊎ (refusal ≡ refused.NoMemory)
 
 -- what a command that is done does to tablets and files
-abbrev pub Does : {F : Type 0} → (F → Option Contents) → Command → Outcome → ClusterState F → ClusterState F → Type 0
-Does contents (command.Minor tablet) outcome.Done old new = IsCompacted contents compaction.minor tablet old new
-Does contents (command.Merge tablet count) outcome.Done old new = IsCompacted contents (compaction.merging count) tablet old new
-Does contents (command.Major tablet) outcome.Done old new = IsCompacted contents compaction.major tablet old new
+abbrev pub Does : {F : Type 0}
+    → (F → Option Contents) → Command → Outcome → ClusterState F → ClusterState F → Type 0
+Does contents (command.Minor tablet) outcome.Done old new =
+    IsCompacted contents compaction.minor tablet old new
+Does contents (command.Merge tablet count) outcome.Done old new =
+    IsCompacted contents (compaction.merging count) tablet old new
+Does contents (command.Major tablet) outcome.Done old new =
+    IsCompacted contents compaction.major tablet old new
 Does contents (command.Split row) (outcome.Split left) old new =
-    (left ≡ length old.places + 1) × IsCut row left old.places new.places × IsHalved old.next_name row left old.places old.tablets new.tablets
+    (left ≡ length old.places + 1) × IsCut row left old.places new.places
+    × IsHalved old.next_name row left old.places old.tablets new.tablets
 Does contents (command.Move tablet server) outcome.Done old new = ComesTo tablet server old new
 Does contents command.Sweep (outcome.Swept count) old new = IsSwept contents count old new
 Does contents _ _ old new = storage_of contents new ≡ storage_of contents old
 
 -- what one that is refused leaves of them
-abbrev pub Leaves : {F : Type 0} → (F → Option Contents) → Command → ClusterState F → ClusterState F → Type 0
+abbrev pub Leaves : {F : Type 0} → (F → Option Contents) → Command → ClusterState F → ClusterState F
+    → Type 0
 Leaves contents (command.Minor tablet) old new = IsAsBefore old new
 Leaves contents (command.Merge tablet count) old new = IsAsBefore old new
 Leaves contents (command.Major tablet) old new = IsAsBefore old new
-Leaves contents (command.Split row) old new = (spots_of new ≡ spots_of old) × MayHolderBeFlushed old.next_name row old.places old.tablets new.tablets
+Leaves contents (command.Split row) old new =
+    (spots_of new ≡ spots_of old)
+    × MayHolderBeFlushed old.next_name row old.places old.tablets new.tablets
 Leaves contents (command.Move tablet server) old new =
-    (¬ IsOn tablet server old.places) × (spots_of new ≡ spots_of old) × MayBeFlushed old.next_name tablet old.tablets new.tablets
+    (¬ IsOn tablet server old.places)
+    × (spots_of new ≡ spots_of old) × MayBeFlushed old.next_name tablet old.tablets new.tablets
 Leaves contents command.Sweep old new = IsSweptInPart contents old new
 Leaves contents _ old new = storage_of contents new ≡ storage_of contents old
 
 -- a command was done, or it was refused what it may be refused
-abbrev pub Upholds : {F : Type 0} → (F → Option Contents) → Command → Outcome → ClusterState F → ClusterState F → Type 0
-Upholds contents command (outcome.Refused refusal) old new = MayRefuse command refusal × Leaves contents command old new
+abbrev pub Upholds : {F : Type 0}
+    → (F → Option Contents) → Command → Outcome → ClusterState F → ClusterState F → Type 0
+Upholds contents command (outcome.Refused refusal) old new =
+    MayRefuse command refusal × Leaves contents command old new
 Upholds contents command result old new = Does contents command result old new
 
 -- ---- what a command writes
@@ -118,20 +134,29 @@ HasNothingToWrite (command.Split row) old = OfHolder IsEmptied row old.places ol
 HasNothingToWrite (command.Move tablet server) old = Numbered IsEmptied tablet old.tablets
 HasNothingToWrite _ old = ⊥
 
--- One file was written, under the next name, or none. No other file has changed, nor the most bytes of a file.
-pub record WritesOne {F : Type 0} (contents : F → Option Contents) (command : Command) (old new : ClusterState F) : Type 0 where
+-- One file was written, under the next name, or none.
+-- No other file has changed, nor the most bytes of a file.
+pub record WritesOne {F : Type 0} (contents : F → Option Contents) (command : Command)
+    (old new : ClusterState F) : Type 0 where
   pub name : UsesName (contents old.files) old.next_name (contents new.files) new.next_name
   pub limit : new.file_limit ≡ old.file_limit
-  pub none : HasNothingToWrite command old → (new.next_name ≡ old.next_name) × (contents new.files ≡ contents old.files)
+  pub none : HasNothingToWrite command old
+      → (new.next_name ≡ old.next_name) × (contents new.files ≡ contents old.files)
 
--- What a command that may write a file does to files and names, and where it leaves the tablets, also where it is refused.
+-- What a command that may write a file does to files and names, and where it leaves the tablets,
+-- also where it is refused.
 -- Splits and moves that are done say where these are.
-abbrev pub UsesFiles : {F : Type 0} → (F → Option Contents) → Command → ClusterState F → ClusterState F → Type 0
-UsesFiles contents (command.Minor tablet) old new = WritesOne contents (command.Minor tablet) old new × (spots_of new ≡ spots_of old)
-UsesFiles contents (command.Merge tablet count) old new = WritesOne contents (command.Merge tablet count) old new × (spots_of new ≡ spots_of old)
-UsesFiles contents (command.Major tablet) old new = WritesOne contents (command.Major tablet) old new × (spots_of new ≡ spots_of old)
+abbrev pub UsesFiles : {F : Type 0}
+    → (F → Option Contents) → Command → ClusterState F → ClusterState F → Type 0
+UsesFiles contents (command.Minor tablet) old new =
+    WritesOne contents (command.Minor tablet) old new × (spots_of new ≡ spots_of old)
+UsesFiles contents (command.Merge tablet count) old new =
+    WritesOne contents (command.Merge tablet count) old new × (spots_of new ≡ spots_of old)
+UsesFiles contents (command.Major tablet) old new =
+    WritesOne contents (command.Major tablet) old new × (spots_of new ≡ spots_of old)
 UsesFiles contents (command.Split row) old new = WritesOne contents (command.Split row) old new
-UsesFiles contents (command.Move tablet server) old new = WritesOne contents (command.Move tablet server) old new
+UsesFiles contents (command.Move tablet server) old new =
+    WritesOne contents (command.Move tablet server) old new
 UsesFiles contents _ old new = ⊤
 
 -- ---- the room in memory
@@ -148,11 +173,13 @@ IsNoFuller old new = TakesNoRoom OverfillsCluster old new
 abbrev pub AreThese : List ℕ → List Edit → List ℕ → List Edit → Type 0
 AreThese row edits other others = (other ≡ row) × (others ≡ edits)
 
--- An apply that is done takes the room of its edits. A read, a sweep and an apply that is refused take none.
+-- An apply that is done takes the room of its edits.
+-- A read, a sweep and an apply that is refused take none.
 abbrev pub LeavesRoom : {F : Type 0} → Command → Outcome → ClusterState F → ClusterState F → Type 0
 LeavesRoom (command.Newest row family qualifier lo hi) result old new = IsNoFuller old new
 LeavesRoom (command.NextCell after) result old new = IsNoFuller old new
-LeavesRoom (command.Apply row edits) outcome.Done old new = TakesRoomOf OverfillsCluster (AreThese row edits.items) old new
+LeavesRoom (command.Apply row edits) outcome.Done old new =
+    TakesRoomOf OverfillsCluster (AreThese row edits.items) old new
 LeavesRoom (command.Apply row edits) (outcome.Refused refusal) old new = IsNoFuller old new
 LeavesRoom command.Sweep result old new = IsNoFuller old new
 LeavesRoom _ result old new = ⊤
@@ -160,38 +187,54 @@ LeavesRoom _ result old new = ⊤
 -- ---- why a command is refused
 
 -- why a compaction of the tablet of a number is refused so
-pub record BarsCompaction {F : Type 0} (contents : F → Option Contents) (compaction : Compaction) (tablet : ℕ) (refusal : Refusal) (old : ClusterState F) : Type 0 where
+pub record BarsCompaction {F : Type 0} (contents : F → Option Contents) (compaction : Compaction)
+    (tablet : ℕ) (refusal : Refusal) (old : ClusterState F) : Type 0 where
   pub unknown : refusal ≡ refused.UnknownTablet ↔ ¬ HasTablet tablet old.places
-  pub count : refusal ≡ refused.BadCount ↔ (HasTablet tablet old.places × Numbered (MeetsBadCount compaction) tablet old.tablets)
+  pub count : refusal ≡ refused.BadCount
+      ↔ (HasTablet tablet old.places × Numbered (MeetsBadCount compaction) tablet old.tablets)
   pub full : refusal ≡ refused.TooManyFiles → Numbered (MeetsFull compaction) tablet old.tablets
   pub unfilled : ComesOfWriting refusal → ¬ Numbered (MeetsFull compaction) tablet old.tablets
-  pub exhausted : refusal ≡ refused.Exhausted → (2 ^ 63 ≤ old.next_name) × (¬ Numbered (WritesNone compaction) tablet old.tablets)
-  pub large : refusal ≡ refused.FileTooLarge → Numbered (IsTooLarge old.file_limit (contents old.files) compaction) tablet old.tablets
+  pub exhausted : refusal ≡ refused.Exhausted
+      → (2 ^ 63 ≤ old.next_name) × (¬ Numbered (WritesNone compaction) tablet old.tablets)
+  pub large : refusal ≡ refused.FileTooLarge
+      → Numbered (IsTooLarge old.file_limit (contents old.files) compaction) tablet old.tablets
 
 -- and why a split at a row is, which flushes the tablet that holds it
-pub record BarsCut {F : Type 0} (contents : F → Option Contents) (row : List ℕ) (refusal : Refusal) (old : ClusterState F) : Type 0 where
+pub record BarsCut {F : Type 0} (contents : F → Option Contents) (row : List ℕ) (refusal : Refusal)
+    (old : ClusterState F) : Type 0 where
   pub bad : refusal ≡ refused.BadSplit ↔ BarsSplit row old.places
   pub full : refusal ≡ refused.TooManyFiles → OfHolder IsFull row old.places old.tablets
   pub unfilled : ComesOfWriting refusal → ¬ OfHolder IsFull row old.places old.tablets
-  pub exhausted : refusal ≡ refused.Exhausted → (2 ^ 63 ≤ old.next_name) × (¬ OfHolder IsEmptied row old.places old.tablets)
-  pub large : refusal ≡ refused.FileTooLarge → OfHolder (IsTooLarge old.file_limit (contents old.files) compaction.minor) row old.places old.tablets
+  pub exhausted : refusal ≡ refused.Exhausted
+      → (2 ^ 63 ≤ old.next_name) × (¬ OfHolder IsEmptied row old.places old.tablets)
+  pub large : refusal ≡ refused.FileTooLarge → OfHolder
+      (IsTooLarge old.file_limit (contents old.files) compaction.minor) row old.places old.tablets
 
--- Why a command is refused so. Of a device's fault more is said below, and of want of memory nothing.
-abbrev pub IsDue : {F : Type 0} → (F → Option Contents) → Command → Refusal → ClusterState F → Type 0
-IsDue contents (command.Apply row edits) refusal old = refusal ≡ refused.MemtableFull → Overfills old.places old.tablets row edits.items
-IsDue contents (command.Minor tablet) refusal old = BarsCompaction contents compaction.minor tablet refusal old
-IsDue contents (command.Merge tablet count) refusal old = BarsCompaction contents (compaction.merging count) tablet refusal old
-IsDue contents (command.Major tablet) refusal old = BarsCompaction contents compaction.major tablet refusal old
+-- Why a command is refused so. Of a device's fault more is said below,
+-- and of want of memory nothing.
+abbrev pub IsDue : {F : Type 0} → (F → Option Contents) → Command → Refusal → ClusterState F
+    → Type 0
+IsDue contents (command.Apply row edits) refusal old =
+    refusal ≡ refused.MemtableFull → Overfills old.places old.tablets row edits.items
+IsDue contents (command.Minor tablet) refusal old =
+    BarsCompaction contents compaction.minor tablet refusal old
+IsDue contents (command.Merge tablet count) refusal old =
+    BarsCompaction contents (compaction.merging count) tablet refusal old
+IsDue contents (command.Major tablet) refusal old =
+    BarsCompaction contents compaction.major tablet refusal old
 IsDue contents (command.Split row) refusal old = BarsCut contents row refusal old
 IsDue contents (command.Move tablet server) refusal old =
-    (refusal ≡ refused.UnknownServer ↔ (HasTablet tablet old.places × (most_servers ≤ server))) × BarsCompaction contents compaction.minor tablet refusal old
+    (refusal ≡ refused.UnknownServer ↔ (HasTablet tablet old.places × (most_servers ≤ server)))
+    × BarsCompaction contents compaction.minor tablet refusal old
 IsDue contents _ refusal old = ⊤
 
 -- ---- what may be done
 
--- A compaction of the tablet of a number may be done: there is such a tablet, it has as many files as are to be merged, it may have
--- one more file where one comes, a name is left where one is used, and the file may have its bytes.
-pub record MayCompact {F : Type 0} (contents : F → Option Contents) (compaction : Compaction) (tablet : ℕ) (old : ClusterState F) : Type 0 where
+-- A compaction of the tablet of a number may be done: there is such a tablet, it has as many files
+-- as are to be merged, it may have one more file where one comes, a name is left where one is used,
+-- and the file may have its bytes.
+pub record MayCompact {F : Type 0} (contents : F → Option Contents) (compaction : Compaction)
+    (tablet : ℕ) (old : ClusterState F) : Type 0 where
   pub known : HasTablet tablet old.places
   pub counted : ¬ Numbered (MeetsBadCount compaction) tablet old.tablets
   pub room : ¬ Numbered (MeetsFull compaction) tablet old.tablets
@@ -199,22 +242,27 @@ pub record MayCompact {F : Type 0} (contents : F → Option Contents) (compactio
   pub fits : Numbered (Fits old.file_limit (contents old.files) compaction) tablet old.tablets
 
 -- and so may a split at a row, which flushes the tablet that holds it
-pub record MayCut {F : Type 0} (contents : F → Option Contents) (row : List ℕ) (old : ClusterState F) : Type 0 where
+pub record MayCut {F : Type 0} (contents : F → Option Contents) (row : List ℕ)
+    (old : ClusterState F) : Type 0 where
   pub free : ¬ BarsSplit row old.places
   pub room : ¬ OfHolder IsFull row old.places old.tablets
   pub named : 2 ^ 63 ≤ old.next_name → OfHolder IsEmptied row old.places old.tablets
-  pub fits : OfHolder (Fits old.file_limit (contents old.files) compaction.minor) row old.places old.tablets
+  pub fits : OfHolder
+      (Fits old.file_limit (contents old.files) compaction.minor) row old.places old.tablets
 
 -- and a move, which flushes a tablet that is on another server
-pub record MayMove {F : Type 0} (contents : F → Option Contents) (tablet server : ℕ) (old : ClusterState F) : Type 0 where
+pub record MayMove {F : Type 0} (contents : F → Option Contents) (tablet server : ℕ)
+    (old : ClusterState F) : Type 0 where
   pub known : HasTablet tablet old.places
   pub near : server < most_servers
   pub flushes : ¬ IsOn tablet server old.places → MayCompact contents compaction.minor tablet old
 
 abbrev pub MayBeDone : {F : Type 0} → (F → Option Contents) → Command → ClusterState F → Type 0
-MayBeDone contents (command.Apply row edits) old = ¬ Overfills old.places old.tablets row edits.items
+MayBeDone contents (command.Apply row edits) old =
+    ¬ Overfills old.places old.tablets row edits.items
 MayBeDone contents (command.Minor tablet) old = MayCompact contents compaction.minor tablet old
-MayBeDone contents (command.Merge tablet count) old = MayCompact contents (compaction.merging count) tablet old
+MayBeDone contents (command.Merge tablet count) old =
+    MayCompact contents (compaction.merging count) tablet old
 MayBeDone contents (command.Major tablet) old = MayCompact contents compaction.major tablet old
 MayBeDone contents (command.Split row) old = MayCut contents row old
 MayBeDone contents (command.Move tablet server) old = MayMove contents tablet server old
@@ -225,38 +273,48 @@ MayBeDone contents _ old = ⊤
 -- a refusal that comes before anything is done
 abbrev pub IsBarred : Command → Refusal → Type 0
 IsBarred (command.Minor tablet) refusal = refusal ≡ refused.UnknownTablet
-IsBarred (command.Merge tablet count) refusal = (refusal ≡ refused.UnknownTablet) ⊎ (refusal ≡ refused.BadCount)
+IsBarred (command.Merge tablet count) refusal =
+    (refusal ≡ refused.UnknownTablet) ⊎ (refusal ≡ refused.BadCount)
 IsBarred (command.Major tablet) refusal = refusal ≡ refused.UnknownTablet
 IsBarred (command.Split row) refusal = refusal ≡ refused.BadSplit
-IsBarred (command.Move tablet server) refusal = (refusal ≡ refused.UnknownTablet) ⊎ (refusal ≡ refused.UnknownServer)
+IsBarred (command.Move tablet server) refusal =
+    (refusal ≡ refused.UnknownTablet) ⊎ (refusal ≡ refused.UnknownServer)
 IsBarred _ refusal = ⊥
 
--- A refusal is due. Nothing is done where the command is barred, or would give the tablet too many files.
-pub record IsRefused {F : Type 0} (contents : F → Option Contents) (command : Command) (refusal : Refusal) (old new : ClusterState F) : Type 0 where
+-- A refusal is due. Nothing is done where the command is barred,
+-- or would give the tablet too many files.
+pub record IsRefused {F : Type 0} (contents : F → Option Contents) (command : Command)
+    (refusal : Refusal) (old new : ClusterState F) : Type 0 where
   pub due : IsDue contents command refusal old
   pub barred : IsBarred command refusal → new ≡ old
   pub undone : refusal ≡ refused.TooManyFiles → IsUndone contents old new
 
 -- A command that is done may be done, and one that is refused has a cause.
-abbrev pub HasCause : {F : Type 0} → (F → Option Contents) → Command → Outcome → ClusterState F → ClusterState F → Type 0
-HasCause contents command (outcome.Refused refusal) old new = IsRefused contents command refusal old new
+abbrev pub HasCause : {F : Type 0}
+    → (F → Option Contents) → Command → Outcome → ClusterState F → ClusterState F → Type 0
+HasCause contents command (outcome.Refused refusal) old new =
+    IsRefused contents command refusal old new
 HasCause contents command _ old new = MayBeDone contents command old
 
 -- A device has failed where an outcome says so, and else none has.
-pub record TellsFaults {F : Type 0} (faults : F → ℕ) (result : Outcome) (old new : ClusterState F) : Type 0 where
+pub record TellsFaults {F : Type 0} (faults : F → ℕ) (result : Outcome)
+    (old new : ClusterState F) : Type 0 where
   pub later : faults old.files ≤ faults new.files
-  pub device : result ≡ outcome.Refused refused.Device → HasRisen (faults old.files) (faults new.files)
+  pub device : result ≡ outcome.Refused refused.Device
+      → HasRisen (faults old.files) (faults new.files)
   pub told : result ≢ outcome.Refused refused.Device → faults new.files ≡ faults old.files
 
 -- ---- one command
 
--- A command had this outcome: over the files' bytes and the count of their faults. What needs the tablets to be in order over their
--- files says so.
-pub record IsOutcome {F : Type 0} (contents : F → Option Contents) (count : F → ℕ) (command : Command) (result : Outcome) (old new : ClusterState F) : Type 0 where
+-- A command had this outcome: over the files' bytes and the count of their faults. What needs the
+-- tablets to be in order over their files says so.
+pub record IsOutcome {F : Type 0} (contents : F → Option Contents) (count : F → ℕ)
+    (command : Command) (result : Outcome) (old new : ClusterState F) : Type 0 where
   -- tablets that were in order are
   pub still : Holds contents old → Holds contents new
   -- it answers what is true of the one cell map
-  pub answers : Holds contents old → Answers (cells_shown contents old) command result (cells_shown contents new)
+  pub answers : Holds contents old
+      → Answers (cells_shown contents old) command result (cells_shown contents new)
   -- what it is for was done to tablets, places and files, or it was refused what it may be refused
   pub upholds : Upholds contents command result old new
   -- it wrote one file at most
@@ -271,8 +329,10 @@ pub record IsOutcome {F : Type 0} (contents : F → Option Contents) (count : F 
 -- ---- a list of commands
 
 -- commands were done one after the other
-abbrev pub AnswersAll : {F : Type 0} → (F → Option Contents) → (F → ℕ) → ClusterState F → List Command → List Outcome → ClusterState F → Type 0
+abbrev pub AnswersAll : {F : Type 0} → (F → Option Contents)
+    → (F → ℕ) → ClusterState F → List Command → List Outcome → ClusterState F → Type 0
 AnswersAll contents faults old [] [] new = new ≡ old
 AnswersAll {F} contents faults old (command ∷ commands) (outcome ∷ outcomes) new =
-    (next : ClusterState F) × IsOutcome contents faults command outcome old next × AnswersAll contents faults next commands outcomes new
+    (next : ClusterState F) × IsOutcome contents faults command outcome old next
+    × AnswersAll contents faults next commands outcomes new
 AnswersAll contents faults old _ _ new = ⊥

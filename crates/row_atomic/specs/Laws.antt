@@ -6,8 +6,12 @@ use Rattle.cell_key.specs.Places.{Place, IsNextCell}
 
 -- a range of stamps has one newest version
 abbrev pub OneNewest : Type 0
-OneNewest = (cells : Cells) (at : ℕ → CellKey) (lo hi : ℕ) (a b : Option (ℕ × List ℕ)) → IsNewest cells at lo hi a → IsNewest cells at lo hi b → a ≡ b
+OneNewest =
+    (cells : Cells) (at : ℕ → CellKey) (lo hi : ℕ) (a b : Option (ℕ × List ℕ))
+    → IsNewest cells at lo hi a → IsNewest cells at lo hi b → a ≡ b
 
 -- a place has one next cell
 abbrev pub OneNextCell : Type 0
-OneNextCell = (cells : Cells) (after a b : Option Place) → IsNextCell cells after a → IsNextCell cells after b → a ≡ b
+OneNextCell =
+    (cells : Cells) (after a b : Option Place) → IsNextCell cells after a → IsNextCell cells after b
+    → a ≡ b

@@ -8,4 +8,5 @@ use Rattle.cell_key.specs.declared.keys.CellKey.{CellKey}
 abbrev pub IsOldest : Cells → (ℕ → CellKey) → ℕ → ℕ → Option (ℕ × List ℕ) → Type 0
 IsOldest cells at lo hi None = (s : ℕ) → lo ≤ s → s ≤ hi → get cells (at s) ≡ None
 IsOldest cells at lo hi (Some found) =
-    (lo ≤ found.0) × (found.0 ≤ hi) × (get cells (at found.0) ≡ Some found.1) × ((s : ℕ) → lo ≤ s → s < found.0 → get cells (at s) ≡ None)
+    (lo ≤ found.0) × (found.0 ≤ hi) × (get cells (at found.0) ≡ Some found.1)
+    × ((s : ℕ) → lo ≤ s → s < found.0 → get cells (at s) ≡ None)

@@ -46,8 +46,10 @@ abbrev pub KeepsSlots : {X : Type 0} → List (CellKey × X) → List (CellKey �
 KeepsSlots old new = (key : CellKey) → HasSlot old key → HasSlot new key
 
 -- at these keys no slot has become empty
-abbrev pub EmptiesNone : {X : Type 0} → (CellKey → Type 0) → List (CellKey × Option X) → List (CellKey × Option X) → Type 0
-EmptiesNone IsOne old new = (key : CellKey) → IsOne key → slot_at new key ≡ Some None → slot_at old key ≡ Some None
+abbrev pub EmptiesNone : {X : Type 0}
+    → (CellKey → Type 0) → List (CellKey × Option X) → List (CellKey × Option X) → Type 0
+EmptiesNone IsOne old new =
+    (key : CellKey) → IsOne key → slot_at new key ≡ Some None → slot_at old key ≡ Some None
 
 -- no slot is empty
 abbrev pub IsFull : {X : Type 0} → List (CellKey × Option X) → Type 0
@@ -55,7 +57,8 @@ IsFull slots = (key : CellKey) → slot_at slots key ≢ Some None
 
 -- no slot is empty but those of these keys
 abbrev pub IsFullBut : {X : Type 0} → List CellKey → List (CellKey × Option X) → Type 0
-IsFullBut keys slots = (key : CellKey) → AllByRecursion (λ other. other ≢ key) keys → slot_at slots key ≢ Some None
+IsFullBut keys slots =
+    (key : CellKey) → AllByRecursion (λ other. other ≢ key) keys → slot_at slots key ≢ Some None
 
 -- between calls no slot is empty, and all cells are within the limits
 pub record IsKept {Z : Type 0} (slots : List (CellKey × Option (Vec ℕ Z))) : Type 0 where
@@ -70,7 +73,8 @@ keyed entry = (entry.0.now, entry.1.now.items)
 abbrev pub IsFirst : Cells → Bound CellKey → Bound CellKey → Option (CellKey × List ℕ) → Type 0
 IsFirst cells lo hi None = (key : CellKey) → IsInRange key_cmp lo hi key → get cells key ≡ None
 IsFirst cells lo hi (Some found) =
-    IsInRange key_cmp lo hi found.0 × (get cells found.0 ≡ Some found.1) × ((key : CellKey) → IsInRange key_cmp lo hi key → key_cmp key found.0 ≡ Less → get cells key ≡ None)
+    IsInRange key_cmp lo hi found.0 × (get cells found.0 ≡ Some found.1) × ((key : CellKey)
+    → IsInRange key_cmp lo hi key → key_cmp key found.0 ≡ Less → get cells key ≡ None)
 
 -- where the keys after a place begin: its last key has the last qualifier and the least stamp
 abbrev pub past : Option Place → Bound CellKey

@@ -1,4 +1,5 @@
--- What a sweep of files removes (Bigtable: the master removes files that no tablet has by mark and sweep).
+-- What a sweep of files removes (Bigtable: the master removes files that no
+-- tablet has by mark and sweep).
 use Rattle.std.specs.Prelude.{◌≡◌, ◌==◌, ◌||◌, ◌⊎◌, ℕ, Bool, not, false, List, [], ◌∷◌, length, filter, Option, Some, None, IsNone, IsSomeAnd, IfSome, option_map}
 use Rattle.std.specs.List.{list_any}
 use Rattle.std.specs.FinMap.{get, keys, retain_keys}
@@ -31,15 +32,18 @@ count_swept places m = length (unkept places (keys m))
 abbrev pub MayLackUnkept : List PlaceView → Option Contents → Option Contents → Type 0
 MayLackUnkept places None new = IsNone new
 MayLackUnkept places (Some m) new =
-    IsSomeAnd new (λ n. (name : ℕ) → (get n name ≡ get m name) ⊎ ((is_kept places name ≡ false) × (get n name ≡ None)))
+    IsSomeAnd new (λ n. (name : ℕ)
+    → (get n name ≡ get m name) ⊎ ((is_kept places name ≡ false) × (get n name ≡ None)))
 
 -- All files went that don't stay, and the count is of these. Nothing else changed.
-pub record IsSwept {F : Type 0} (contents : F → Option Contents) (count : ℕ) (old new : ClusterState F) : Type 0 where
+pub record IsSwept {F : Type 0} (contents : F → Option Contents) (count : ℕ)
+    (old new : ClusterState F) : Type 0 where
   pub files : contents new.files ≡ option_map (swept old.places) (contents old.files)
   pub counted : IfSome (contents old.files) (λ m. count ≡ count_swept old.places m)
   pub rest : new ≡ record old { files = new.files }
 
 -- Some files may have gone that don't stay. Nothing else changed.
-pub record IsSweptInPart {F : Type 0} (contents : F → Option Contents) (old new : ClusterState F) : Type 0 where
+pub record IsSweptInPart {F : Type 0} (contents : F → Option Contents)
+    (old new : ClusterState F) : Type 0 where
   pub files : MayLackUnkept old.places (contents old.files) (contents new.files)
   pub rest : new ≡ record old { files = new.files }

@@ -30,7 +30,13 @@ impl<F> Model for Cluster<F> {
     ghost Value = { ClusterState F };
 
     ghost view = { λ cluster.
-        record { files = cluster.files; file_limit = cluster.file_limit; next_name = cluster.next_name; places = cluster.table; tablets = cluster.tablets.items } };
+        record {
+          files = cluster.files;
+          file_limit = cluster.file_limit;
+          next_name = cluster.next_name;
+          places = cluster.table;
+          tablets = cluster.tablets.items;
+        } };
 
     ghost invariant = { λ cluster.
         IsMatched cluster.file_limit cluster.next_name cluster.table cluster.tablets.items };
@@ -64,8 +70,10 @@ impl<F: Files> Cluster<F> {
         ensures name { IfOk result (λ cluster. cluster.next_name ≡ 1) }
         ensures places { IfOk result (λ cluster. cluster.places ≡ first_place ∷ []) }
         ensures tablet { IfOk result (λ cluster. IsFirstTablet cluster.tablets) }
-        ensures cells { IfOk result (λ cluster. cells_in (F.contents files) cluster.tablets ≡ empty) }
-        ensures holds { IfOk result (λ cluster. IsSome (F.contents files) → InOrder (F.contents files) cluster.next_name cluster.tablets) }
+        ensures cells { IfOk result (λ cluster.
+            cells_in (F.contents files) cluster.tablets ≡ empty) }
+        ensures holds { IfOk result (λ cluster. IsSome (F.contents files)
+            → InOrder (F.contents files) cluster.next_name cluster.tablets) }
         ensures refusal { IfErr result (λ refused. refused.0 ≡ Refusal.NoMemory) }
         ensures returned { IfErr result (λ refused. refused.1 ≡ files) }
     {

@@ -39,25 +39,35 @@ fn compact<F: Files>(
     requires most { file_limit ≤ 1073741824 }
     ensures made { OnOk result (IsMade compaction next_name.old tablet.old tablet.new) }
     ensures few { OnOk result (length (names_of tablet.new) ≤ length (names_of tablet.old) + 1) }
-    ensures cleaned { OnOk result (IfSome (F.contents files.old) (λ m. HoldsAt m tablet.old → IsBelow next_name.old tablet.old → IsCleaned compaction (F.contents files.new) tablet.new)) }
-    ensures keeps { Keeps (F.contents files.old) next_name.old tablet.old (F.contents files.new) next_name.new tablet.new }
+    ensures cleaned { OnOk result (IfSome (F.contents files.old) (λ m. HoldsAt m tablet.old
+        → IsBelow next_name.old tablet.old
+        → IsCleaned compaction (F.contents files.new) tablet.new)) }
+    ensures keeps { Keeps (F.contents files.old)
+        next_name.old tablet.old (F.contents files.new) next_name.new tablet.new }
     ensures range { range_of tablet.new ≡ range_of tablet.old }
     ensures err { OnErr result (IsUnchanged tablet.old tablet.new) }
-    ensures name { UsesName (F.contents files.old) next_name.old (F.contents files.new) next_name.new }
+    ensures name { UsesName
+        (F.contents files.old) next_name.old (F.contents files.new) next_name.new }
     ensures limit { next_name.old ≤ 2 ^ 63 → next_name.new ≤ 2 ^ 63 }
     ensures count { IsErrOf result Refusal.BadCount → MeetsBadCount compaction tablet.old }
     ensures full { IsErrOf result Refusal.TooManyFiles → IsFull tablet.old }
-    ensures undone { IsErrOf result Refusal.TooManyFiles → (next_name.new ≡ next_name.old) × (F.contents files.new ≡ F.contents files.old) }
+    ensures undone { IsErrOf result Refusal.TooManyFiles
+        → (next_name.new ≡ next_name.old) × (F.contents files.new ≡ F.contents files.old) }
     ensures room { OnOk result (¬ MeetsFull compaction tablet.old) }
-    ensures unfilled { IfErr result (λ refusal. ComesOfWriting refusal → ¬ MeetsFull compaction tablet.old) }
+    ensures unfilled { IfErr result (λ refusal. ComesOfWriting refusal
+        → ¬ MeetsFull compaction tablet.old) }
     ensures exhausted { IsErrOf result Refusal.Exhausted → 2 ^ 63 ≤ next_name.old }
     ensures needed { IsErrOf result Refusal.Exhausted → ¬ WritesNone compaction tablet.old }
     ensures left { OnOk result (2 ^ 63 ≤ next_name.old → WritesNone compaction tablet.old) }
-    ensures empty { WritesNone compaction tablet.old → IsOk result × ((next_name.new ≡ next_name.old) × (F.contents files.new ≡ F.contents files.old)) }
-    ensures large { IsErrOf result Refusal.FileTooLarge → IsTooLarge file_limit (F.contents files.old) compaction tablet.old }
+    ensures empty { WritesNone compaction tablet.old → IsOk result
+        × ((next_name.new ≡ next_name.old) × (F.contents files.new ≡ F.contents files.old)) }
+    ensures large { IsErrOf result Refusal.FileTooLarge
+        → IsTooLarge file_limit (F.contents files.old) compaction tablet.old }
     ensures fits { OnOk result (Fits file_limit (F.contents files.old) compaction tablet.old) }
-    ensures lists { OnOk result (Compacts (kind_of compaction) (F.contents files.old) next_name.old (F.contents files.new) tablet.old tablet.new) }
-    ensures damaged { IsErrOf result Refusal.Damaged → IfSome (F.contents files.old) (λ m. ¬ HoldsAt m tablet.old) }
+    ensures lists { OnOk result (Compacts (kind_of compaction)
+        (F.contents files.old) next_name.old (F.contents files.new) tablet.old tablet.new) }
+    ensures damaged { IsErrOf result Refusal.Damaged
+        → IfSome (F.contents files.old) (λ m. ¬ HoldsAt m tablet.old) }
     ensures refusal { IfErr result (IsRefusalOf compaction) }
     ensures reason { HasReason (F.faults files.old) (F.faults files.new) result }
 {
@@ -135,8 +145,10 @@ impl<F: Files> Cluster<F> {
     ) -> Result<(), Refusal>
         requires known { HasTablet tablet self.old.places }
         requires counted { ¬ Numbered (MeetsBadCount compaction) tablet self.old.tablets }
-        ensures outcome { IsOutcome F.contents F.faults (compacting compaction tablet) (done_of result) self.old self.new }
-        ensures listed { OnOk result (Numbered (λ t. self.new.places ≡ with_files tablet (names_of t) self.old.places) tablet self.new.tablets) }
+        ensures outcome { IsOutcome
+            F.contents F.faults (compacting compaction tablet) (done_of result) self.old self.new }
+        ensures listed { OnOk result (Numbered (λ t. self.new.places
+            ≡ with_files tablet (names_of t) self.old.places) tablet self.new.tablets) }
     {
         others_stay();
         let index = self.position(tablet);
@@ -161,7 +173,8 @@ impl<F: Files> Cluster<F> {
     /// already, `FileTooLarge`, `Exhausted` where no name is left, `Device` and `NoMemory`. The tablets are then
     /// as before.
     pub fn minor(&mut self, tablet: u32) -> Result<(), Refusal>
-        ensures { IsOutcome F.contents F.faults (Command.Minor tablet) (done_of result) self.old self.new }
+        ensures { IsOutcome
+            F.contents F.faults (Command.Minor tablet) (done_of result) self.old self.new }
     {
         self.check_tablet(tablet)?;
         self.compact_tablet(tablet, Compaction::Minor)
@@ -176,7 +189,8 @@ impl<F: Files> Cluster<F> {
     /// tablet's number of files, and then `FileTooLarge`, `Exhausted` where no name is left, `Device` and
     /// `NoMemory`. The tablets are then as before.
     pub fn merge(&mut self, tablet: u32, count: u32) -> Result<(), Refusal>
-        ensures { IsOutcome F.contents F.faults (Command.Merge tablet count) (done_of result) self.old self.new }
+        ensures { IsOutcome
+            F.contents F.faults (Command.Merge tablet count) (done_of result) self.old self.new }
     {
         self.check_tablet(tablet)?;
         self.check_count(tablet, count)?;
@@ -191,7 +205,8 @@ impl<F: Files> Cluster<F> {
     /// `UnknownTablet` where no tablet has the number, and then `FileTooLarge`, `Exhausted` where no name is
     /// left, `Device` and `NoMemory`. The tablets are then as before.
     pub fn major(&mut self, tablet: u32) -> Result<(), Refusal>
-        ensures { IsOutcome F.contents F.faults (Command.Major tablet) (done_of result) self.old self.new }
+        ensures { IsOutcome
+            F.contents F.faults (Command.Major tablet) (done_of result) self.old self.new }
     {
         self.check_tablet(tablet)?;
         self.compact_tablet(tablet, Compaction::Major)

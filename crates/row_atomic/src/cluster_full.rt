@@ -20,7 +20,7 @@ impl<F: Files> Cluster<F> {
     }
 
     /// The number of the tablet at this place in the order of the tablets' ends.
-    fn number_at(&self, index: usize) -> u32
+    pub(crate) fn number_at(&self, index: usize) -> u32
         requires within { index < length self.now.places }
         ensures at { slice_get (numbers_of self.now.places) index ≡ Some result }
         ensures known { HasTablet result self.now.places }

@@ -24,7 +24,8 @@ fn open_again<F: Files>(alloc: Global, tablet: &Tablet, files: &mut F) -> Result
     ensures memory { IfOk result (λ opened. memory_of opened ≡ []) }
     ensures names { IfOk result (λ opened. names_of opened ≡ names_of tablet.now) }
     ensures holds { IfOk result (λ opened. IfSome (F.contents files.old) (λ m. HoldsAt m opened)) }
-    ensures damaged { IsErrOf result Refusal.Damaged → IfSome (F.contents files.old) (λ m. ¬ HoldsAt m tablet.now) }
+    ensures damaged { IsErrOf result Refusal.Damaged
+        → IfSome (F.contents files.old) (λ m. ¬ HoldsAt m tablet.now) }
     ensures refusal { IfErr result IsReadRefusal }
     ensures same { F.contents files.new ≡ F.contents files.old }
     ensures reason { HasReason (F.faults files.old) (F.faults files.new) result }
@@ -47,9 +48,12 @@ impl<F: Files> Cluster<F> {
         ensures files { F.contents self.new.files ≡ F.contents self.old.files }
         ensures number { IfOk result (λ left. left ≡ length self.old.places + 1) }
         ensures cut { IfOk result (λ left. Cuts row.now left self.old.places self.new.places) }
-        ensures halved { IfOk result (λ left. IsHalved self.old.next_name row.now left self.old.places self.old.tablets self.new.tablets) }
+        ensures halved { IfOk result (λ left. IsHalved
+            self.old.next_name row.now left self.old.places self.old.tablets self.new.tablets) }
         ensures err { OnErr result (self.new.places ≡ self.old.places) }
-        ensures unchanged { OnErr result ((place : PlaceView) → IsHolder row.now self.old.places place → Remakes IsUnchanged place.tablet self.old.tablets self.new.tablets) }
+        ensures unchanged { OnErr result ((place : PlaceView)
+            → IsHolder row.now self.old.places place
+            → Remakes IsUnchanged place.tablet self.old.tablets self.new.tablets) }
         ensures undamaged { Holds F.contents self.old → ¬ IsErrOf result Refusal.Damaged }
         ensures refusal { IfErr result IsReadRefusal }
         ensures reason { HasReason (F.faults self.old.files) (F.faults self.new.files) result }
@@ -81,7 +85,8 @@ impl<F: Files> Cluster<F> {
     /// `BadSplit` where the row is already the end of its tablet, or there are 1,024 tablets, and then those of
     /// `minor`. The places of the tablets are then as before, but the minor compaction may have been done.
     pub fn split(&mut self, row: &Row) -> Result<u32, Refusal>
-        ensures { IsOutcome F.contents F.faults (Command.Split row.now) (split_of result) self.old self.new }
+        ensures { IsOutcome
+            F.contents F.faults (Command.Split row.now) (split_of result) self.old self.new }
     {
         let holder = self.table.locate(row).tablet;
         self.table.check_split(row)?;
@@ -95,9 +100,12 @@ impl<F: Files> Cluster<F> {
         ensures below { OnOk result (server < most_servers) }
         ensures on { IfOk result (λ on. IsTrue on ↔ IsOn tablet server self.now.places) }
         ensures table { IsTable self.now.places }
-        ensures unknown { IsErrOf result Refusal.UnknownTablet ↔ ¬ HasTablet tablet self.now.places }
-        ensures server { IsErrOf result Refusal.UnknownServer ↔ (HasTablet tablet self.now.places × (most_servers ≤ server)) }
-        ensures refusal { IfErr result (λ refusal. (refusal ≡ Refusal.UnknownTablet) ⊎ (refusal ≡ Refusal.UnknownServer)) }
+        ensures unknown { IsErrOf result Refusal.UnknownTablet
+            ↔ ¬ HasTablet tablet self.now.places }
+        ensures server { IsErrOf result Refusal.UnknownServer
+            ↔ (HasTablet tablet self.now.places × (most_servers ≤ server)) }
+        ensures refusal { IfErr result (λ refusal. (refusal ≡ Refusal.UnknownTablet)
+            ⊎ (refusal ≡ Refusal.UnknownServer)) }
     {
         let from = self.table.place(tablet)?.server;
         if server >= MetadataTable::SERVERS {
@@ -140,7 +148,8 @@ impl<F: Files> Cluster<F> {
     /// 15, and then those of `minor`. The places of the tablets are then as before, but the minor compaction may
     /// have been done.
     pub fn move_to(&mut self, tablet: u32, server: u8) -> Result<(), Refusal>
-        ensures outcome { IsOutcome F.contents F.faults (Command.Move tablet server) (done_of result) self.old self.new }
+        ensures outcome { IsOutcome
+            F.contents F.faults (Command.Move tablet server) (done_of result) self.old self.new }
         ensures table { IsTable self.old.places }
     {
         if self.is_on(tablet, server)? {

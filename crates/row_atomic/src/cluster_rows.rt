@@ -20,7 +20,8 @@ use tablet::{Tablet, stays_in_range};
 
 /// Whether all rows of a place come before the row of a cell.
 fn precedes(place: &Place, after: Option<(&Row, &Family)>) -> bool
-    ensures { IsTrue result ↔ PrecedesCell (view_of place.now) (option_map place_named after.entry) }
+    ensures { IsTrue result
+        ↔ PrecedesCell (view_of place.now) (option_map place_named after.entry) }
 {
     match (after, &place.end) {
         (Some((row, _)), Some(end)) => end.cmp(row).is_lt(),
@@ -38,8 +39,11 @@ fn next_cell_in<F: Files>(
     requires table { IsTable (views places.now) }
     requires placed { ArePlaced tablets.now None (views places.now) }
     requires as_many { length tablets.now ≡ length (views places.now) }
-    ensures found { IfOk result (λ found. (m : Contents) → F.contents files.old ≡ Some m → AllByRecursion (Holds m) tablets.now → IsNextCell (cells_in (Some m) tablets.now) (option_map place_named after.entry) found) }
-    ensures damaged { IsErrOf result Refusal.Damaged → (m : Contents) → F.contents files.old ≡ Some m → ¬ AllByRecursion (Holds m) tablets.now }
+    ensures found { IfOk result (λ found. (m : Contents) → F.contents files.old ≡ Some m
+        → AllByRecursion (Holds m) tablets.now
+        → IsNextCell (cells_in (Some m) tablets.now) (option_map place_named after.entry) found) }
+    ensures damaged { IsErrOf result Refusal.Damaged
+        → (m : Contents) → F.contents files.old ≡ Some m → ¬ AllByRecursion (Holds m) tablets.now }
     ensures refusal { IfErr result IsReadRefusal }
     ensures same { F.contents files.new ≡ F.contents files.old }
     ensures reason { HasReason (F.faults files.old) (F.faults files.new) result }
@@ -70,7 +74,8 @@ impl<F: Files> Cluster<F> {
 impl<F: Files> Rows for Cluster<F> {
     ghost cells = { λ cluster. cells_in (F.contents cluster.files) cluster.tablets };
 
-    ghost holds = { λ cluster. InOrder (F.contents cluster.files) cluster.next_name cluster.tablets };
+    ghost holds = { λ cluster.
+        InOrder (F.contents cluster.files) cluster.next_name cluster.tablets };
 
     ghost faults = { λ cluster. F.faults cluster.files };
 

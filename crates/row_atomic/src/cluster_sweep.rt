@@ -27,7 +27,8 @@ fn is_kept(table: &MetadataTable, name: u64) -> bool
 fn remove<F: Files>(files: &mut F, name: u64) -> Result<(), Refusal>
     ensures ok { OnOk result (F.contents files.new ≡ without_file name (F.contents files.old)) }
     ensures err { OnErr result (MayLack name (F.contents files.old) (F.contents files.new)) }
-    ensures refusal { IfErr result (λ refusal. (refusal ≡ Refusal.Device) ⊎ (refusal ≡ Refusal.NoMemory)) }
+    ensures refusal { IfErr result (λ refusal. (refusal ≡ Refusal.Device)
+        ⊎ (refusal ≡ Refusal.NoMemory)) }
     ensures reason { HasReason (F.faults files.old) (F.faults files.new) result }
 {
     match files.remove(name) {
@@ -42,10 +43,12 @@ fn remove_unkept<F: Files>(
     names: Vec<u64>,
     files: &mut F,
 ) -> Result<u64, Refusal>
-    ensures removed { OnOk result (F.contents files.new ≡ without_files (unkept table.now names.items) (F.contents files.old)) }
+    ensures removed { OnOk result (F.contents files.new
+        ≡ without_files (unkept table.now names.items) (F.contents files.old)) }
     ensures count { IfOk result (λ count. count ≡ length (unkept table.now names.items)) }
     ensures lacks { MayLackUnkept table.now (F.contents files.old) (F.contents files.new) }
-    ensures refusal { IfErr result (λ refusal. (refusal ≡ Refusal.Device) ⊎ (refusal ≡ Refusal.NoMemory)) }
+    ensures refusal { IfErr result (λ refusal. (refusal ≡ Refusal.Device)
+        ⊎ (refusal ≡ Refusal.NoMemory)) }
     ensures reason { HasReason (F.faults files.old) (F.faults files.new) result }
 {
     let mut count = 0;
@@ -60,9 +63,11 @@ fn remove_unkept<F: Files>(
 
 /// The names of all files.
 fn names_of<F: Files>(alloc: Global, files: &mut F) -> Result<Vec<u64>, Refusal>
-    ensures names { IfOk result (λ names. IfSome (F.contents files.old) (λ m. names.items ≡ keys m)) }
+    ensures names { IfOk result (λ names.
+        IfSome (F.contents files.old) (λ m. names.items ≡ keys m)) }
     ensures same { F.contents files.new ≡ F.contents files.old }
-    ensures refusal { IfErr result (λ refusal. (refusal ≡ Refusal.Device) ⊎ (refusal ≡ Refusal.NoMemory)) }
+    ensures refusal { IfErr result (λ refusal. (refusal ≡ Refusal.Device)
+        ⊎ (refusal ≡ Refusal.NoMemory)) }
     ensures reason { HasReason (F.faults files.old) (F.faults files.new) result }
 {
     let mut names = Vec::new(alloc);

@@ -152,7 +152,8 @@ impl<F: Files> Cluster<F> {
     pub fn run(&mut self, commands: Vec<Command>) -> Result<Vec<Outcome>, Refusal>
         requires { AllByRecursion IsUnderRow commands.items }
         ensures still { Holds F.contents self.old → Holds F.contents self.new }
-        ensures answers { IfOk result (λ outcomes. AnswersAll F.contents F.faults self.old commands.items outcomes.items self.new) }
+        ensures answers { IfOk result (λ outcomes.
+            AnswersAll F.contents F.faults self.old commands.items outcomes.items self.new) }
         ensures err { OnErr result (self.new ≡ self.old) }
         ensures refusal { IfErr result (λ refusal. refusal ≡ Refusal.NoMemory) }
     {

@@ -8,6 +8,7 @@ mod cluster_laws;
 mod cluster_moving;
 mod cluster_rows;
 mod cluster_sweep;
+mod cluster_tiers;
 mod commands;
 mod laws;
 mod oldest_version;

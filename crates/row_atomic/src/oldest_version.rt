@@ -26,9 +26,8 @@ pub fn oldest<R: Rows>(
     lo: Stamp,
     hi: Stamp,
 ) -> Result<Option<(Stamp, Vec<u8>)>, Refusal>
-    ensures found { R.holds rows.old
-        → IfOk result (λ found.
-        IsOldest (R.cells rows.old) (version row.now family.now qualifier) lo hi (option_map stamped found)) }
+    ensures found { R.holds rows.old → IfOk result (λ found. IsOldest (R.cells rows.old)
+        (version row.now family.now qualifier) lo hi (option_map stamped found)) }
     ensures reads { OnlyReads R.holds R.cells R.overfills R.storage rows.old rows.new }
     ensures limits { IfOk result (λ found. IfSome (option_map stamped found) (IsVersionIn lo hi)) }
     ensures refusal { IfErr result (IsRefusalOfRead (R.holds rows.old)) }

@@ -51,11 +51,11 @@ pub trait Rows {
         lo: Stamp,
         hi: Stamp,
     ) -> Result<Option<(Stamp, Vec<u8>)>, Refusal>
-        ensures found { holds self.old
-            → IfOk result (λ found.
-            IsNewest (cells self.old) (version row.now family.now qualifier) lo hi (option_map stamped found)) }
+        ensures found { holds self.old → IfOk result (λ found. IsNewest (cells self.old)
+            (version row.now family.now qualifier) lo hi (option_map stamped found)) }
         ensures reads { OnlyReads holds cells overfills storage self.old self.new }
-        ensures limits { IfOk result (λ found. IfSome (option_map stamped found) (IsVersionIn lo hi)) }
+        ensures limits { IfOk result (λ found.
+            IfSome (option_map stamped found) (IsVersionIn lo hi)) }
         ensures refusal { IfErr result (IsRefusalOfRead (holds self.old)) }
         ensures reason { HasReason (faults self.old) (faults self.new) result };
 
@@ -69,7 +69,8 @@ pub trait Rows {
         &mut self,
         after: Option<(&Row, &Family)>,
     ) -> Result<Option<(Row, Family)>, Refusal>
-        ensures found { holds self.old → IfOk result (IsNextCell (cells self.old) (option_map place_named after.entry)) }
+        ensures found { holds self.old
+            → IfOk result (IsNextCell (cells self.old) (option_map place_named after.entry)) }
         ensures reads { OnlyReads holds cells overfills storage self.old self.new }
         ensures refusal { IfErr result (IsRefusalOfRead (holds self.old)) }
         ensures reason { HasReason (faults self.old) (faults self.new) result };
@@ -83,10 +84,12 @@ pub trait Rows {
     /// growth was refused. The cells are then as before, and edits would pass a limit only where they did before.
     fn apply(&mut self, row: &Row, edits: Vec<Edit>) -> Result<(), Refusal>
         requires { AllByRecursion (IsEditOf row.now) edits.items }
-        ensures ok { OnOk result (Applies holds cells overfills storage edits.items self.old self.new) }
+        ensures ok { OnOk result (Applies
+            holds cells overfills storage edits.items self.old self.new) }
         ensures err { OnErr result (OnlyReads holds cells overfills storage self.old self.new) }
         ensures refusal { IfErr result IsApplyRefusal }
-        ensures full { IsErrOf result Refusal.MemtableFull → overfills self.old row.now edits.items }
+        ensures full { IsErrOf result Refusal.MemtableFull
+            → overfills self.old row.now edits.items }
         ensures within { OnOk result (¬ overfills self.old row.now edits.items) }
         ensures untouched { faults self.new ≡ faults self.old };
 

@@ -58,7 +58,8 @@ pub(crate) fn newest(
     hi: Stamp,
 ) -> Result<Option<(Stamp, Vec<u8>)>, AllocError>
     requires { IsFull slots.now.entries }
-    ensures { IfOk result (λ found. IsNewest (cells_of slots.now.entries) (version row.now family.now qualifier) lo hi (option_map stamped found)) }
+    ensures { IfOk result (λ found. IsNewest (cells_of slots.now.entries)
+        (version row.now family.now qualifier) lo hi (option_map stamped found)) }
 {
     if hi < lo {
         return Ok(None);
@@ -90,7 +91,8 @@ pub(crate) fn next_cell(
     after: Option<(&Row, &Family)>,
 ) -> Result<Option<(Row, Family)>, AllocError>
     requires { IsFull slots.now.entries }
-    ensures { IfOk result (λ found. IsNextCell (cells_of slots.now.entries) (option_map place_named after.entry) found) }
+    ensures { IfOk result (λ found.
+        IsNextCell (cells_of slots.now.entries) (option_map place_named after.entry) found) }
 {
     let from = start_after(after)?;
     match first(slots, from, Bound::Unbounded) {
@@ -138,7 +140,8 @@ fn make_slot(slots: &mut Slots, key: &CellKey) -> Result<(), AllocError>
 fn make_slots(slots: &mut Slots, keys: &[CellKey]) -> Result<(), AllocError>
     ensures same { cells_of slots.new.entries ≡ cells_of slots.old.entries }
     ensures slots { OnOk result (All (HasSlot slots.new.entries) keys.now) }
-    ensures empties { EmptiesNone (λ q. All (λ key. key ≢ q) keys.now) slots.old.entries slots.new.entries }
+    ensures empties { EmptiesNone
+        (λ q. All (λ key. key ≢ q) keys.now) slots.old.entries slots.new.entries }
 {
     for key in keys {
         make_slot(slots, key)?;
@@ -171,8 +174,10 @@ fn write(slots: &mut Slots, edit: Edit)
 /// Makes edits in order. Each of their keys has a slot.
 fn write_all(slots: &mut Slots, edits: Vec<Edit>)
     requires { AllByRecursion (HasEdited slots.old.entries) edits.items }
-    ensures cells { cells_of slots.new.entries ≡ after_edits (cells_of slots.old.entries) edits.items }
-    ensures empties { EmptiesNone (λ q. AllByRecursion (λ edit. edited_key edit ≢ q) edits.items) slots.old.entries slots.new.entries }
+    ensures cells { cells_of slots.new.entries
+        ≡ after_edits (cells_of slots.old.entries) edits.items }
+    ensures empties { EmptiesNone (λ q. AllByRecursion (λ edit. edited_key edit ≢ q) edits.items)
+        slots.old.entries slots.new.entries }
 {
     for edit in edits {
         write(slots, edit);
@@ -182,7 +187,8 @@ fn write_all(slots: &mut Slots, edits: Vec<Edit>)
 /// Frees the slot of a key, if it is empty.
 fn drop_empty(slots: &mut Slots, key: &CellKey)
     ensures same { cells_of slots.new.entries ≡ cells_of slots.old.entries }
-    ensures empties { (keys : List Key) → IsFullBut (key.now ∷ keys) slots.old.entries → IsFullBut keys slots.new.entries }
+    ensures empties { (keys : List Key) → IsFullBut (key.now ∷ keys) slots.old.entries
+        → IsFullBut keys slots.new.entries }
 {
     let is_empty = slots.get(key).is_some_and(|slot| slot.is_none());
     if is_empty {
@@ -204,7 +210,8 @@ fn drop_empties(slots: &mut Slots, keys: Vec<CellKey>)
 /// Makes edits in order, all of them or none.
 pub(crate) fn apply(alloc: Global, slots: &mut Slots, edits: Vec<Edit>) -> Result<(), AllocError>
     requires { IsFull slots.old.entries }
-    ensures ok { OnOk result (cells_of slots.new.entries ≡ after_edits (cells_of slots.old.entries) edits.items) }
+    ensures ok { OnOk result (cells_of slots.new.entries
+        ≡ after_edits (cells_of slots.old.entries) edits.items) }
     ensures err { OnErr result (cells_of slots.new.entries ≡ cells_of slots.old.entries) }
     ensures full { IsFull slots.new.entries }
 {

@@ -25,11 +25,14 @@ IsFound cells x s (Value value) = ReadsValue cells x s value.items
 
 -- a write record that isn't one, or whose data is missing
 abbrev pub IsDamaged : Cells → Cell → ℕ → Type 0
-IsDamaged cells x s = (c : ℕ) × (text : List ℕ) × IsLast cells x s c text × ((length text ≢ 8) ⊎ (at cells x Data (big_number 8 text) ≡ None))
+IsDamaged cells x s =
+    (c : ℕ) × (text : List ℕ) × IsLast cells x s c text
+    × ((length text ≢ 8) ⊎ (at cells x Data (big_number 8 text) ≡ None))
 
 -- a lock of x stands, or a write record at s or later (Percolator, Prewrite)
 abbrev pub IsTaken : Cells → Cell → ℕ → Type 0
-IsTaken cells x s = ((t : ℕ) × IsThere cells x Lock t) ⊎ ((c : ℕ) × (s ≤ c) × IsThere cells x Write c)
+IsTaken cells x s =
+    ((t : ℕ) × IsThere cells x Lock t) ⊎ ((c : ℕ) × (s ≤ c) × IsThere cells x Write c)
 
 abbrev pub IsFree : Cells → Cell → ℕ → Type 0
 IsFree cells x s = IsClear cells x Lock 0 (2 ^ 64 - 1) × IsClear cells x Write s (2 ^ 64 - 1)

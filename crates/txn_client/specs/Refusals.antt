@@ -61,4 +61,6 @@ IsAdvanceRefusal Holds HasNone refusal = IsCellStepRefusal Holds HasNone refusal
 
 -- A device's fault is told where one of two counts has risen. The other count stays.
 abbrev pub HasOneReason : {T : Type 0} → ℕ → ℕ → ℕ → ℕ → Result T Refusal → Type 0
-HasOneReason before now before' now' result = (HasReason before now result × (now' ≡ before')) ⊎ (HasReason before' now' result × (now ≡ before))
+HasOneReason before now before' now' result =
+    (HasReason before now result × (now' ≡ before'))
+    ⊎ (HasReason before' now' result × (now ≡ before))

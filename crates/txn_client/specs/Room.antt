@@ -24,7 +24,8 @@ use Rattle.txn_client.specs.declared.writes.Write.{Write as Writing}
 
 -- the two edits that hold x for t: its data, and its lock, which names the place of the first cell
 abbrev pub IsHolding : Cell → ℕ → Value → Cell → List Edit → Type 0
-IsHolding x t v first (value ∷ lock ∷ []) = IsPut value (key_of x Data t) v × IsPut lock (key_of x Lock t) (lock_text first)
+IsHolding x t v first (value ∷ lock ∷ []) =
+    IsPut value (key_of x Data t) v × IsPut lock (key_of x Lock t) (lock_text first)
 IsHolding x t v first edits = ⊥
 
 -- the row and the edits by which t holds x
@@ -36,13 +37,16 @@ HoldsCell x t v first row edits = (row ≡ x.row) × IsHolding x t v first edits
 -- the row and the edits by which a session holds its cell k; where the rows hold, the cell is free
 abbrev pub HoldsAt : Type 0 → Cells → Session → ℕ → List ℕ → List Edit → Type 0
 HoldsAt Holds cells session k row edits =
-    (write first : Writing) × (slice_get session.writes k ≡ Some write) × (slice_get session.writes 0 ≡ Some first)
-    × (Holds → IsFree cells write.cell session.start) × HoldsCell write.cell session.start write.value first.cell row edits
+    (write first : Writing)
+    × (slice_get session.writes k ≡ Some write) × (slice_get session.writes 0 ≡ Some first)
+    × (Holds → IsFree cells write.cell session.start)
+    × HoldsCell write.cell session.start write.value first.cell row edits
 
 -- the row and the edits by which a session records its cell k
 abbrev pub RecordsAt : Type 0 → Cells → Session → ℕ → List ℕ → List Edit → Type 0
 RecordsAt Holds cells session k row edits =
-    (write : Writing) × (slice_get session.writes k ≡ Some write) × RecordsCell Holds cells write.cell session.start session.commit row edits
+    (write : Writing) × (slice_get session.writes k ≡ Some write)
+    × RecordsCell Holds cells write.cell session.start session.commit row edits
 
 abbrev pub EditsIn : Phase → Type 0 → Cells → Session → List ℕ → List Edit → Type 0
 EditsIn Open Holds cells session row edits = HoldsAt Holds cells session 0 row edits
@@ -56,28 +60,39 @@ EditsOf Holds cells session row edits = EditsIn session.phase Holds cells sessio
 -- those of the session that is kept at t
 abbrev pub EditsOfStep : Type 0 → Cells → Clients → ℕ → List ℕ → List Edit → Type 0
 EditsOfStep Holds cells clients t row edits =
-    (session : Session) × (btree.get nat_cmp clients.sessions t ≡ Some session) × EditsOf Holds cells session row edits
+    (session : Session) × (btree.get nat_cmp clients.sessions t ≡ Some session)
+    × EditsOf Holds cells session row edits
 
--- A step that holds a cell or commits makes such edits, and one that finishes a cell makes them or none. No other changes a cell or
--- takes room.
-abbrev pub Does : {R : Type 0} → (R → Type 0) → (R → Cells) → (R → List ℕ → List Edit → Type 0) → (R → Storage) → (List ℕ → List Edit → Type 0) → Progress → R → R → Type 0
-Does holds cells overfills storage Such (progress.Held k n) old new = AppliesSuch holds cells overfills storage Such old new
-Does holds cells overfills storage Such (progress.Committed c) old new = AppliesSuch holds cells overfills storage Such old new
+-- A step that holds a cell or commits makes such edits, and one that finishes a cell makes them or
+-- none. No other changes a cell or takes room.
+abbrev pub Does : {R : Type 0} → (R → Type 0) → (R → Cells) → (R → List ℕ → List Edit → Type 0)
+    → (R → Storage) → (List ℕ → List Edit → Type 0) → Progress → R → R → Type 0
+Does holds cells overfills storage Such (progress.Held k n) old new =
+    AppliesSuch holds cells overfills storage Such old new
+Does holds cells overfills storage Such (progress.Committed c) old new =
+    AppliesSuch holds cells overfills storage Such old new
 Does holds cells overfills storage Such (progress.Finished k n) old new =
-    AppliesSuch holds cells overfills storage Such old new ⊎ OnlyReads holds cells overfills storage old new
+    AppliesSuch holds cells overfills storage Such old new
+    ⊎ OnlyReads holds cells overfills storage old new
 Does holds cells overfills storage Such p old new = OnlyReads holds cells overfills storage old new
 
 -- ---- as a state of the machine shows them
 
 -- the row and the edits by which t holds its cell k, as it does where it may
 abbrev pub HoldsNext : State → Writes → ℕ → ℕ → List ℕ → List Edit → Type 0
-HoldsNext st ws k t row edits = (x first : Cell) × (v u : Value) × Puts ws k x v × Puts ws 0 first u × (¬ Clashes st x t) × (row ≡ x.row) × IsHolding x t v first edits
+HoldsNext st ws k t row edits =
+    (x first : Cell) × (v u : Value) × Puts ws k x v
+    × Puts ws 0 first u × (¬ Clashes st x t) × (row ≡ x.row) × IsHolding x t v first edits
 
--- the row and the edits by which t puts the write record of its cell k, as it does where its mark stands
+-- the row and the edits by which t puts the write record of its cell k,
+-- as it does where its mark stands
 abbrev pub RecordsNext : State → Writes → ℕ → ℕ → ℕ → List ℕ → List Edit → Type 0
-RecordsNext st ws k t c row edits = (x : Cell) × (v : Value) × Puts ws k x v × Marked st x t × (row ≡ x.row) × IsRecording x t c edits
+RecordsNext st ws k t c row edits =
+    (x : Cell)
+    × (v : Value) × Puts ws k x v × Marked st x t × (row ≡ x.row) × IsRecording x t c edits
 
--- the row and the edits of the next step of t, in this phase and with these writes; a step that makes none has none
+-- the row and the edits of the next step of t, in this phase and with these writes;
+-- a step that makes none has none
 abbrev pub ChangesIn : State → machine.Phase → Writes → ℕ → List ℕ → List Edit → Type 0
 ChangesIn st machine.Open ws t row edits = HoldsNext st ws 0 t row edits
 ChangesIn st (machine.Holding k) ws t row edits = HoldsNext st ws k t row edits
@@ -85,10 +100,12 @@ ChangesIn st (machine.Stamped c) ws t row edits = RecordsNext st ws 0 t c row ed
 ChangesIn st (machine.Finishing c k) ws t row edits = RecordsNext st ws k t c row edits
 
 abbrev pub ChangesNext : State → ℕ → List ℕ → List Edit → Type 0
-ChangesNext st t row edits = (phase : machine.Phase) × (ws : Writes) × InPhase st t phase × Wrote st t ws × ChangesIn st phase ws t row edits
+ChangesNext st t row edits =
+    (phase : machine.Phase)
+    × (ws : Writes) × InPhase st t phase × Wrote st t ws × ChangesIn st phase ws t row edits
 
--- A step that holds a cell or commits made such edits of a row, and one that finishes a cell made them or none. No other changes a
--- cell.
+-- A step that holds a cell or commits made such edits of a row, and one that finishes a cell made
+-- them or none. No other changes a cell.
 abbrev pub Makes : (List ℕ → List Edit → Type 0) → Progress → Cells → Cells → Type 0
 Makes Changes (progress.Held k n) old new = AreAfter Changes old new
 Makes Changes (progress.Committed c) old new = AreAfter Changes old new
@@ -101,7 +118,8 @@ IsStamped (progress.Stamped c) = ⊤
 IsStamped p = ⊥
 
 -- A step that makes such edits takes their room, and no other takes any.
-abbrev pub TakesRoom : {R : Type 0} → (R → List ℕ → List Edit → Type 0) → (List ℕ → List Edit → Type 0) → Progress → R → R → Type 0
+abbrev pub TakesRoom : {R : Type 0}
+    → (R → List ℕ → List Edit → Type 0) → (List ℕ → List Edit → Type 0) → Progress → R → R → Type 0
 TakesRoom overfills Changes (progress.Held k n) old new = TakesRoomOf overfills Changes old new
 TakesRoom overfills Changes (progress.Committed c) old new = TakesRoomOf overfills Changes old new
 TakesRoom overfills Changes (progress.Finished k n) old new = TakesRoomOf overfills Changes old new

@@ -46,7 +46,8 @@ ShowsAt (Some session) t st = ShowsSession session t st
 abbrev pub open_session : ℕ → Session
 open_session start = record { start = start; commit = start; phase = Open; writes = [] }
 
--- the sessions that are kept are those that are active, and the top is the greatest stamp that was answered
+-- the sessions that are kept are those that are active,
+-- and the top is the greatest stamp that was answered
 pub record ShowsClients (clients : Clients) (st : State) : Type 0 where
   pub top : clients.top ≡ st.top
   pub sessions : (t : ℕ) → ShowsAt (btree.get nat_cmp clients.sessions t) t st
@@ -58,23 +59,29 @@ pub record Shows (cells : Cells) (clients : Clients) (last : ℕ) (st : State) :
   pub sessions : ShowsClients clients st
   pub top : st.top ≤ last
 
--- From each reached state that is shown before, the machine may answer so, and goes to a state that is shown after.
+-- From each reached state that is shown before, the machine may answer so,
+-- and goes to a state that is shown after.
 abbrev pub Steps : Cells → Clients → ℕ → Request → Reply → Cells → Clients → ℕ → Type 0
 Steps cells clients last request reply cells' clients' last' =
-    (st : State) → IsReached st → Shows cells clients last st → (next : State) × Step st request reply next × Shows cells' clients' last' next
+    (st : State) → IsReached st → Shows cells clients last st
+    → (next : State) × Step st request reply next × Shows cells' clients' last' next
 
 -- so it is in each reached state that cells and sessions show
 abbrev pub InEachShown : Cells → Clients → (State → Type 0) → Type 0
-InEachShown cells clients IsSo = (st : State) → IsReached st → ShowsCells cells st → ShowsClients clients st → IsSo st
+InEachShown cells clients IsSo =
+    (st : State) → IsReached st → ShowsCells cells st → ShowsClients clients st → IsSo st
 
 -- c is the commit stamp that t has drawn
 abbrev pub HasDrawn : State → ℕ → ℕ → Type 0
-HasDrawn st t c = InPhase st t (machine.Stamped c) ⊎ ((k : ℕ) × InPhase st t (machine.Finishing c k))
+HasDrawn st t c =
+    InPhase st t (machine.Stamped c) ⊎ ((k : ℕ) × InPhase st t (machine.Finishing c k))
 
--- No key changes, or those of one row: the keys that join have the stamp of t, or the commit stamp that it has drawn.
+-- No key changes, or those of one row: the keys that join have the stamp of t,
+-- or the commit stamp that it has drawn.
 abbrev pub TouchesFor : State → ℕ → Cells → Cells → Type 0
 TouchesFor st t cells cells' =
-    (cells' ≡ cells) ⊎ (TouchesOneRow cells cells' t t ⊎ ((c : ℕ) × HasDrawn st t c × TouchesOneRow cells cells' t c))
+    (cells' ≡ cells) ⊎ (TouchesOneRow cells cells' t t
+    ⊎ ((c : ℕ) × HasDrawn st t c × TouchesOneRow cells cells' t c))
 
 -- the last stamp after a step
 abbrev pub top_after : ℕ → Progress → ℕ
@@ -109,11 +116,15 @@ IsAboutToDraw st t = (ws : Writes) × Wrote st t ws × InPhase st t (machine.Hol
 
 -- a session that is kept, and takes reads and writes
 abbrev pub IsOpen : Clients → ℕ → Type 0
-IsOpen clients t = (session : Session) × (btree.get nat_cmp clients.sessions t ≡ Some session) × (session.phase ≡ Open)
+IsOpen clients t =
+    (session : Session)
+    × (btree.get nat_cmp clients.sessions t ≡ Some session) × (session.phase ≡ Open)
 
 -- a session that is kept, and takes none
 abbrev pub IsLate : Clients → ℕ → Type 0
-IsLate clients t = (session : Session) × (btree.get nat_cmp clients.sessions t ≡ Some session) × (session.phase ≢ Open)
+IsLate clients t =
+    (session : Session)
+    × (btree.get nat_cmp clients.sessions t ≡ Some session) × (session.phase ≢ Open)
 
 -- why a request on a cell is refused before it is looked at further
 abbrev pub IsCellRefusal : Clients → ℕ → Cell → Refusal → Type 0
@@ -121,16 +132,21 @@ IsCellRefusal clients t x UnknownSession = btree.get nat_cmp clients.sessions t 
 IsCellRefusal clients t x WrongPhase = IsLate clients t
 IsCellRefusal clients t x refusal = IsOpen clients t × IsNameRefusal x refusal
 
--- what a step of one session does: the machine takes the step, and goes to a state with this session
+-- what a step of one session does: the machine takes the step,
+-- and goes to a state with this session
 pub record Follows (st next : State) (session : Session) (outcome : Outcome) : Type 0 where
   pub begun : next.begun ≡ st.begun
-  pub active : next.active ≡ cond outcome.ended (finmap.remove st.active session.start) (finmap.insert st.active session.start (phase_of session.phase session.commit))
+  pub active : next.active ≡ cond outcome.ended (finmap.remove st.active session.start)
+      (finmap.insert st.active session.start (phase_of session.phase session.commit))
   pub top : next.top ≡ top_after st.top outcome.progress
 
 abbrev pub Advances : Cells → Session → ℕ → Outcome → Cells → Session → ℕ → Type 0
 Advances cells session last outcome cells' session' last' =
-    (st : State) → IsReached st → ShowsCells cells st → ShowsSession session session.start st → st.top ≤ last
-    → (next : State) × Step st (machine.Advance session.start) (progress_reply outcome.progress) next × ShowsCells cells' next × Follows st next session' outcome × (next.top ≤ last')
+    (st : State) → IsReached st → ShowsCells cells st → ShowsSession session session.start st
+    → st.top ≤ last
+    → (next : State)
+    × Step st (machine.Advance session.start) (progress_reply outcome.progress) next
+    × ShowsCells cells' next × Follows st next session' outcome × (next.top ≤ last')
 
 -- the session has held k cells and has no commit stamp
 abbrev pub HasHeldSo : Phase → ℕ → Type 0

@@ -11,4 +11,5 @@ write_of w = (w.cell, w.value)
 abbrev pub IsPlaceOf : List Write → Cell → Option ℕ → Type 0
 IsPlaceOf ws x None = (k : ℕ) (w : Write) → slice_get ws k ≡ Some w → w.cell ≢ x
 IsPlaceOf ws x (Some place) =
-    ((w : Write) × (slice_get ws place ≡ Some w) × (w.cell ≡ x)) × ((k : ℕ) (w : Write) → k < place → slice_get ws k ≡ Some w → w.cell ≢ x)
+    ((w : Write) × (slice_get ws place ≡ Some w) × (w.cell ≡ x))
+    × ((k : ℕ) (w : Write) → k < place → slice_get ws k ≡ Some w → w.cell ≢ x)

@@ -28,8 +28,8 @@ pub(crate) fn read_cell<R: Rows>(rows: &mut R, cell: &Cell, start: Stamp) -> Res
     ensures short { IfOk result IsShort }
     ensures reads { OnlyReads R.holds R.cells R.overfills R.storage rows.old rows.new }
     ensures refusal { IfErr result IsReadRefusal }
-    ensures damaged { R.holds rows.old
-        → IfErr result (λ refusal. refusal ≡ Refusal.Damaged → IsDamaged (R.cells rows.old) cell.now start) }
+    ensures damaged { R.holds rows.old → IfErr result (λ refusal. refusal ≡ Refusal.Damaged
+        → IsDamaged (R.cells rows.old) cell.now start) }
     ensures reason { HasReason (R.faults rows.old) (R.faults rows.new) result }
 {
     let lock = rows.newest(&cell.row, &cell.family, Qualifier::Lock, 0, start)?;
@@ -51,8 +51,10 @@ pub(crate) fn read_cell<R: Rows>(rows: &mut R, cell: &Cell, start: Stamp) -> Res
 
 /// Whether a session that began at `start` may not hold the cell (Percolator, Prewrite).
 pub(crate) fn is_taken<R: Rows>(rows: &mut R, cell: &Cell, start: Stamp) -> Result<bool, Refusal>
-    ensures taken { R.holds rows.old → IfOk result (λ taken. OnTrue taken (IsTaken (R.cells rows.old) cell.now start)) }
-    ensures free { R.holds rows.old → IfOk result (λ taken. OnFalse taken (IsFree (R.cells rows.old) cell.now start)) }
+    ensures taken { R.holds rows.old
+        → IfOk result (λ taken. OnTrue taken (IsTaken (R.cells rows.old) cell.now start)) }
+    ensures free { R.holds rows.old
+        → IfOk result (λ taken. OnFalse taken (IsFree (R.cells rows.old) cell.now start)) }
     ensures reads { OnlyReads R.holds R.cells R.overfills R.storage rows.old rows.new }
     ensures refusal { IfErr result (IsRefusalOfRead (R.holds rows.old)) }
     ensures reason { HasReason (R.faults rows.old) (R.faults rows.new) result }
@@ -77,7 +79,8 @@ fn holding(
     requires to { start < 2 ^ 63 }
     requires value { length value.items ≤ 65536 }
     requires place { length place.items ≤ 65536 }
-    ensures holding { IfOk result (λ edits. (first : CellOf) → place.items ≡ lock_text first → IsHolding cell.now start value.items first edits.items) }
+    ensures holding { IfOk result (λ edits. (first : CellOf) → place.items ≡ lock_text first
+        → IsHolding cell.now start value.items first edits.items) }
     ensures under { IfOk result (λ edits. AllByRecursion (IsEditOf cell.now.row) edits.items) }
     ensures refusal { IfErr result (λ refusal. refusal ≡ Refusal.NoMemory) }
 {
@@ -101,8 +104,8 @@ pub(crate) fn hold<R: Rows>(
         (HoldsCell write.now.cell start write.now.value first.now.cell) rows.old rows.new) }
     ensures err { OnErr result (OnlyReads R.holds R.cells R.overfills R.storage rows.old rows.new) }
     ensures refusal { IfErr result IsApplyRefusal }
-    ensures full { IsErrOf result Refusal.MemtableFull
-        → HasNoRoom R.overfills rows.old (HoldsCell write.now.cell start write.now.value first.now.cell) }
+    ensures full { IsErrOf result Refusal.MemtableFull → HasNoRoom
+        R.overfills rows.old (HoldsCell write.now.cell start write.now.value first.now.cell) }
     ensures untouched { R.faults rows.new ≡ R.faults rows.old }
 {
     let start = start.stamp();
@@ -121,10 +124,13 @@ pub(crate) fn record<R: Rows>(
     start: Moment,
     commit: Moment,
 ) -> Result<bool, Refusal>
-    ensures made { IfOk result (λ stood. OnTrue stood (AppliesSuch R.holds R.cells R.overfills R.storage
-        (RecordsCell (R.holds rows.old) (R.cells rows.old) cell.now start commit) rows.old rows.new)) }
-    ensures gone { R.holds rows.old → IfOk result (λ stood. OnFalse stood (IsGone (R.cells rows.old) cell.now start)) }
-    ensures left { IfOk result (λ stood. OnFalse stood (OnlyReads R.holds R.cells R.overfills R.storage rows.old rows.new)) }
+    ensures made { IfOk result (λ stood.
+        OnTrue stood (AppliesSuch R.holds R.cells R.overfills R.storage (RecordsCell
+        (R.holds rows.old) (R.cells rows.old) cell.now start commit) rows.old rows.new)) }
+    ensures gone { R.holds rows.old
+        → IfOk result (λ stood. OnFalse stood (IsGone (R.cells rows.old) cell.now start)) }
+    ensures left { IfOk result (λ stood.
+        OnFalse stood (OnlyReads R.holds R.cells R.overfills R.storage rows.old rows.new)) }
     ensures err { OnErr result (OnlyReads R.holds R.cells R.overfills R.storage rows.old rows.new) }
     ensures refusal { IfErr result (IsRowRefusal (R.holds rows.old)) }
     ensures full { IsErrOf result Refusal.MemtableFull

@@ -81,7 +81,8 @@ impl Clients {
     /// The least start of an active session, or one more than the top: no session has a start below
     /// it, and none will have one.
     pub fn floor(&self) -> Stamp
-        ensures { (st : State) → IsReached st → ShowsClients self.now st → machine.IsFloor st result }
+        ensures { (st : State) → IsReached st → ShowsClients self.now st
+            → machine.IsFloor st result }
     {
         match self.sessions.first_key_value() {
             Some((start, _)) => *start,
@@ -98,12 +99,17 @@ impl Clients {
     /// where the oracle's mark could not be stored, `NoMemory`. There is room for the session
     /// before its start is drawn.
     pub fn begin<M: MarkStore>(&mut self, oracle: &mut Oracle<M>) -> Result<Stamp, Refusal>
-        ensures step { (cells : Cells) → Steps cells self.old oracle.old.last machine.Begin (result_reply machine.Begun result) cells self.new oracle.new.last }
-        ensures next { IfOk result (λ start. (start ≡ oracle.old.last + 1) × (oracle.new.last ≡ start)) }
+        ensures step { (cells : Cells) → Steps cells self.old oracle.old.last
+            machine.Begin (result_reply machine.Begun result) cells self.new oracle.new.last }
+        ensures next { IfOk result (λ start. (start ≡ oracle.old.last + 1)
+            × (oracle.new.last ≡ start)) }
         ensures stays { OnErr result (oracle.new.last ≡ oracle.old.last) }
         ensures refusal { IfErr result IsBeginRefusal }
-        ensures crowded { (st : State) → ShowsClients self.old st → IsCrowded st → IsErrOf result Refusal.TooManySessions }
-        ensures undrawn { IsErrOf result Refusal.TooManySessions ⊎ (IsErrOf result Refusal.Exhausted ⊎ IsErrOf result Refusal.NoMemory) → oracle.new ≡ oracle.old }
+        ensures crowded { (st : State) → ShowsClients self.old st → IsCrowded st
+            → IsErrOf result Refusal.TooManySessions }
+        ensures undrawn { IsErrOf result Refusal.TooManySessions
+            ⊎ (IsErrOf result Refusal.Exhausted ⊎ IsErrOf result Refusal.NoMemory)
+            → oracle.new ≡ oracle.old }
         ensures exhausted { IsErrOf result Refusal.Exhausted → oracle.old.last ≡ MOST_STAMP }
         ensures reason { HasReason (M.faults oracle.old.marks) (M.faults oracle.new.marks) result }
     {
@@ -126,8 +132,10 @@ impl Clients {
 
     /// Puts an open session without writes at its start.
     fn make_session(&mut self, start: Moment) -> Result<(), Refusal>
-        ensures made { OnOk result (Updates nat_cmp self.old.sessions self.new.sessions start (Some (open_session start))) }
-        ensures len { OnOk result (btree_map_len self.new.sessions ≡ btree_map_len self.old.sessions + (if is_some (btree.get nat_cmp self.old.sessions start) then 0 else 1)) }
+        ensures made { OnOk result (Updates
+            nat_cmp self.old.sessions self.new.sessions start (Some (open_session start))) }
+        ensures len { OnOk result (btree_map_len self.new.sessions ≡ btree_map_len self.old.sessions
+            + (if is_some (btree.get nat_cmp self.old.sessions start) then 0 else 1)) }
         ensures err { OnErr result (self.new.sessions.entries ≡ self.old.sessions.entries) }
         ensures top { self.new.top ≡ self.old.top }
         ensures refusal { IfErr result (λ refusal. refusal ≡ Refusal.NoMemory) }
@@ -148,10 +156,12 @@ impl Clients {
     ///
     /// `UnknownSession` where none is active with this start.
     pub fn stop(&mut self, start: Stamp) -> Result<(), Refusal>
-        ensures step { (cells : Cells) (last : ℕ) → Steps cells self.old last (machine.Stop start) (result_reply (λ _. machine.StopDone) result) cells self.new last }
+        ensures step { (cells : Cells) (last : ℕ) → Steps cells self.old last
+            (machine.Stop start) (result_reply (λ _. machine.StopDone) result) cells self.new last }
         ensures refusal { IfErr result (λ refusal. refusal ≡ Refusal.UnknownSession) }
         ensures err { OnErr result (SameClients self.old self.new) }
-        ensures unknown { (st : State) → ShowsClients self.old st → IsInactive st start → IsErrOf result Refusal.UnknownSession }
+        ensures unknown { (st : State) → ShowsClients self.old st → IsInactive st start
+            → IsErrOf result Refusal.UnknownSession }
     {
         let Some(_session) = self.sessions.remove(&start) else {
             return Err(Refusal::UnknownSession);
@@ -191,14 +201,17 @@ impl Clients {
         row: &[u8],
         family: &[u8],
     ) -> Result<Found, Refusal>
-        ensures step { R.holds rows.old → (last : ℕ) → Steps (R.cells rows.old) self.now last (machine.Get start (cell_of row.now family.now)) (result_reply found_reply result) (R.cells rows.new) self.now last }
+        ensures step { R.holds rows.old → (last : ℕ) → Steps
+            (R.cells rows.old) self.now last (machine.Get start (cell_of row.now family.now))
+            (result_reply found_reply result) (R.cells rows.new) self.now last }
         ensures reads { OnlyReads R.holds R.cells R.overfills R.storage rows.old rows.new }
         // What is shown is never answered as damaged.
-        ensures undamaged { R.holds rows.old
-            → (st : State) → IsReached st → ShowsCells (R.cells rows.old) st → ¬ (IsErrOf result Refusal.Damaged) }
+        ensures undamaged { R.holds rows.old → (st : State) → IsReached st
+            → ShowsCells (R.cells rows.old) st → ¬ (IsErrOf result Refusal.Damaged) }
         ensures short { IfOk result IsShort }
         ensures refusal { IfErr result IsGetRefusal }
-        ensures unknown { (st : State) → ShowsClients self.now st → IsInactive st start → IsErrOf result Refusal.UnknownSession }
+        ensures unknown { (st : State) → ShowsClients self.now st → IsInactive st start
+            → IsErrOf result Refusal.UnknownSession }
         ensures reason { HasReason (R.faults rows.old) (R.faults rows.new) result }
     {
         let cell = self.open_cell(start, row, family)?;
@@ -219,10 +232,13 @@ impl Clients {
         family: &[u8],
         value: &[u8],
     ) -> Result<(), Refusal>
-        ensures step { (cells : Cells) (last : ℕ) → Steps cells self.old last (machine.Set start (cell_of row.now family.now) value.now) (result_reply (λ _. machine.SetDone) result) cells self.new last }
+        ensures step { (cells : Cells) (last : ℕ)
+            → Steps cells self.old last (machine.Set start (cell_of row.now family.now) value.now)
+            (result_reply (λ _. machine.SetDone) result) cells self.new last }
         ensures refusal { IfErr result IsSetRefusal }
         ensures err { OnErr result (SameClients self.old self.new) }
-        ensures unknown { (st : State) → ShowsClients self.old st → IsInactive st start → IsErrOf result Refusal.UnknownSession }
+        ensures unknown { (st : State) → ShowsClients self.old st → IsInactive st start
+            → IsErrOf result Refusal.UnknownSession }
     {
         let cell = self.open_cell(start, row, family)?;
         let value = Value::new(self.alloc, value)?;
@@ -252,39 +268,47 @@ impl Clients {
             → Steps (R.cells rows.old) self.old oracle.old.last (machine.Advance start)
             (result_reply progress_reply result) (R.cells rows.new) self.new oracle.new.last }
         // The edits that the session names are made, or nothing is changed.
-        ensures does { IfOk result (λ progress. Does R.holds R.cells R.overfills R.storage
-            (EditsOfStep (R.holds rows.old) (R.cells rows.old) self.old start) progress rows.old rows.new) }
-        ensures same { OnErr result (OnlyReads R.holds R.cells R.overfills R.storage rows.old rows.new) }
+        ensures does { IfOk result (λ progress. Does R.holds R.cells
+            R.overfills R.storage (EditsOfStep (R.holds rows.old) (R.cells rows.old) self.old start)
+            progress rows.old rows.new) }
+        ensures same { OnErr result (OnlyReads
+            R.holds R.cells R.overfills R.storage rows.old rows.new) }
         ensures below { KeepsBelow R.holds R.storage rows.old rows.new }
         // One row changes, and what joins stands at the session's start or its commit stamp.
-        ensures touched { R.holds rows.old
-            → (st : State) → ShowsClients self.old st → TouchesFor st start (R.cells rows.old) (R.cells rows.new) }
+        ensures touched { R.holds rows.old → (st : State) → ShowsClients self.old st
+            → TouchesFor st start (R.cells rows.old) (R.cells rows.new) }
         // What changes are the edits of the session's next step, and nothing else.
         ensures made { R.holds rows.old
             → IfOk result (λ progress. InEachShown (R.cells rows.old) self.old (λ st.
             Makes (ChangesNext st start) progress (R.cells rows.old) (R.cells rows.new))) }
         ensures draws { IfOk result (DrawsNext oracle.old.last) }
-        ensures last { IfOk result (λ progress. oracle.new.last ≡ top_after oracle.old.last progress) }
+        ensures last { IfOk result (λ progress.
+            oracle.new.last ≡ top_after oracle.old.last progress) }
         ensures stays { OnErr result (oracle.new.last ≡ oracle.old.last) }
         ensures undamaged { R.holds rows.old → ¬ (IsErrOf result Refusal.Damaged) }
         ensures refusal { IfErr result IsStepRefusal }
         ensures err { OnErr result (SameClients self.old self.new) }
-        ensures unknown { (st : State) → ShowsClients self.old st → IsInactive st start → IsErrOf result Refusal.UnknownSession }
-        ensures empty { (st : State) → ShowsClients self.old st → IsUnwritten st start → IsErrOf result Refusal.EmptyCommit }
+        ensures unknown { (st : State) → ShowsClients self.old st → IsInactive st start
+            → IsErrOf result Refusal.UnknownSession }
+        ensures empty { (st : State) → ShowsClients self.old st → IsUnwritten st start
+            → IsErrOf result Refusal.EmptyCommit }
         // Where the next step draws the commit stamp, no memory is taken.
-        ensures drawing { (st : State) → ShowsClients self.old st → IsAboutToDraw st start → IfErr result IsDrawRefusal }
+        ensures drawing { (st : State) → ShowsClients self.old st → IsAboutToDraw st start
+            → IfErr result IsDrawRefusal }
         // A step that draws is refused Exhausted after the greatest stamp, and no other one is.
         ensures exhausted { IsErrOf result Refusal.Exhausted → oracle.old.last ≡ MOST_STAMP }
-        ensures exhausted_draw { IsErrOf result Refusal.Exhausted → (st : State) → ShowsClients self.old st → IsAboutToDraw st start }
+        ensures exhausted_draw { IsErrOf result Refusal.Exhausted
+            → (st : State) → ShowsClients self.old st → IsAboutToDraw st start }
         ensures undrawn { IsErrOf result Refusal.Exhausted → oracle.new ≡ oracle.old }
         // A step that doesn't draw leaves the oracle as it is.
-        ensures aside { (st : State) → ShowsClients self.old st → ¬ IsAboutToDraw st start → oracle.new ≡ oracle.old }
+        ensures aside { (st : State) → ShowsClients self.old st → ¬ IsAboutToDraw st start
+            → oracle.new ≡ oracle.old }
         // A step is refused MemtableFull where the rows have no room for the edits that its session names.
-        ensures full { IsErrOf result Refusal.MemtableFull
-            → HasNoRoom R.overfills rows.old (EditsOfStep (R.holds rows.old) (R.cells rows.old) self.old start) }
-        ensures full_shown { R.holds rows.old
-            → IsErrOf result Refusal.MemtableFull
-            → InEachShown (R.cells rows.old) self.old (λ st. HasNoRoom R.overfills rows.old (ChangesNext st start)) }
+        ensures full { IsErrOf result Refusal.MemtableFull → HasNoRoom R.overfills
+            rows.old (EditsOfStep (R.holds rows.old) (R.cells rows.old) self.old start) }
+        ensures full_shown { R.holds rows.old → IsErrOf result Refusal.MemtableFull
+            → InEachShown (R.cells rows.old) self.old (λ st.
+            HasNoRoom R.overfills rows.old (ChangesNext st start)) }
         // A step that makes edits takes their room, and no other takes any.
         ensures room { R.holds rows.old
             → IfOk result (λ progress. InEachShown (R.cells rows.old) self.old (λ st.

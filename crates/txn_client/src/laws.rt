@@ -7,5 +7,6 @@ ghost use Rattle.txn_client.specs.declared.clients.Clients.{Clients};
 
 /// Sessions that show a state show each one with the same top, the same starts and the same active sessions.
 pub fn shows_on()
-    ensures { (clients : Clients) (st next : State) → ShowsClients clients st → next.top ≡ st.top → next.begun ≡ st.begun → next.active ≡ st.active → ShowsClients clients next }
+    ensures { (clients : Clients) (st next : State) → ShowsClients clients st → next.top ≡ st.top
+        → next.begun ≡ st.begun → next.active ≡ st.active → ShowsClients clients next }
 {}

@@ -31,7 +31,8 @@ impl Value {
         ensures ok { IfOk result (λ value. value ≡ bytes.now) }
         ensures valid { OnOk result (length bytes.now ≤ 65536) }
         ensures bad { IsErrOf result Refusal.BadValue ↔ (65536 < length bytes.now) }
-        ensures refusal { IfErr result (λ refusal. (refusal ≡ Refusal.BadValue) ⊎ (refusal ≡ Refusal.NoMemory)) }
+        ensures refusal { IfErr result (λ refusal. (refusal ≡ Refusal.BadValue)
+            ⊎ (refusal ≡ Refusal.NoMemory)) }
     {
         if bytes.len() > Value::MOST_BYTES {
             return Err(Refusal::BadValue);

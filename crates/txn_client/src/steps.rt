@@ -36,13 +36,15 @@ impl Session {
         ensures start { self.new.start ≡ self.old.start }
         ensures writes { self.new.writes ≡ self.old.writes }
         ensures err { OnErr result (self.new ≡ self.old) }
-        ensures does { IfOk result (λ outcome. Does R.holds R.cells R.overfills R.storage
-            (HoldsAt (R.holds rows.old) (R.cells rows.old) self.old k) outcome.progress rows.old rows.new) }
-        ensures same { OnErr result (OnlyReads R.holds R.cells R.overfills R.storage rows.old rows.new) }
-        ensures refusal { IfErr result (IsCellStepRefusal (R.holds rows.old) (length self.old.writes ≤ k)) }
+        ensures does { IfOk result (λ outcome. Does R.holds R.cells R.overfills R.storage (HoldsAt
+            (R.holds rows.old) (R.cells rows.old) self.old k) outcome.progress rows.old rows.new) }
+        ensures same { OnErr result (OnlyReads
+            R.holds R.cells R.overfills R.storage rows.old rows.new) }
+        ensures refusal { IfErr result (IsCellStepRefusal
+            (R.holds rows.old) (length self.old.writes ≤ k)) }
         ensures empty { length self.old.writes ≤ k → IsErrOf result Refusal.EmptyCommit }
-        ensures full { IsErrOf result Refusal.MemtableFull
-            → HasNoRoom R.overfills rows.old (HoldsAt (R.holds rows.old) (R.cells rows.old) self.old k) }
+        ensures full { IsErrOf result Refusal.MemtableFull → HasNoRoom
+            R.overfills rows.old (HoldsAt (R.holds rows.old) (R.cells rows.old) self.old k) }
         ensures reason { HasReason (R.faults rows.old) (R.faults rows.new) result }
     {
         let Some(write) = self.writes.get(k) else {
@@ -69,8 +71,10 @@ impl Session {
     /// Draws the commit stamp.
     fn draw_commit<M: MarkStore>(&mut self, oracle: &mut Oracle<M>) -> Result<Outcome, Refusal>
         requires { self.old.phase ≡ phase.Holding (length self.old.writes) }
-        ensures step { IfOk result (λ outcome. (cells : Cells) → Advances cells self.old oracle.old.last outcome cells self.new oracle.new.last) }
-        ensures draws { IfOk result (λ outcome. (DrawsNext oracle.old.last outcome.progress) × (oracle.new.last ≡ top_after oracle.old.last outcome.progress)) }
+        ensures step { IfOk result (λ outcome. (cells : Cells)
+            → Advances cells self.old oracle.old.last outcome cells self.new oracle.new.last) }
+        ensures draws { IfOk result (λ outcome. (DrawsNext oracle.old.last outcome.progress)
+            × (oracle.new.last ≡ top_after oracle.old.last outcome.progress)) }
         ensures stamped { IfOk result (λ outcome. IsStamped outcome.progress) }
         ensures start { self.new.start ≡ self.old.start }
         ensures writes { self.new.writes ≡ self.old.writes }
@@ -101,12 +105,14 @@ impl Session {
         ensures start { self.new.start ≡ self.old.start }
         ensures writes { self.new.writes ≡ self.old.writes }
         ensures err { OnErr result (self.new ≡ self.old) }
-        ensures does { IfOk result (λ outcome. Does R.holds R.cells R.overfills R.storage
-            (RecordsAt (R.holds rows.old) (R.cells rows.old) self.old 0) outcome.progress rows.old rows.new) }
-        ensures same { OnErr result (OnlyReads R.holds R.cells R.overfills R.storage rows.old rows.new) }
-        ensures refusal { IfErr result (IsCellStepRefusal (R.holds rows.old) (length self.old.writes ≤ 0)) }
-        ensures full { IsErrOf result Refusal.MemtableFull
-            → HasNoRoom R.overfills rows.old (RecordsAt (R.holds rows.old) (R.cells rows.old) self.old 0) }
+        ensures does { IfOk result (λ outcome. Does R.holds R.cells R.overfills R.storage (RecordsAt
+            (R.holds rows.old) (R.cells rows.old) self.old 0) outcome.progress rows.old rows.new) }
+        ensures same { OnErr result (OnlyReads
+            R.holds R.cells R.overfills R.storage rows.old rows.new) }
+        ensures refusal { IfErr result (IsCellStepRefusal
+            (R.holds rows.old) (length self.old.writes ≤ 0)) }
+        ensures full { IsErrOf result Refusal.MemtableFull → HasNoRoom
+            R.overfills rows.old (RecordsAt (R.holds rows.old) (R.cells rows.old) self.old 0) }
         ensures reason { HasReason (R.faults rows.old) (R.faults rows.new) result }
     {
         let Some(first) = self.writes.get(0) else {
@@ -141,12 +147,14 @@ impl Session {
         ensures start { self.new.start ≡ self.old.start }
         ensures writes { self.new.writes ≡ self.old.writes }
         ensures err { OnErr result (self.new ≡ self.old) }
-        ensures does { IfOk result (λ outcome. Does R.holds R.cells R.overfills R.storage
-            (RecordsAt (R.holds rows.old) (R.cells rows.old) self.old k) outcome.progress rows.old rows.new) }
-        ensures same { OnErr result (OnlyReads R.holds R.cells R.overfills R.storage rows.old rows.new) }
-        ensures refusal { IfErr result (IsCellStepRefusal (R.holds rows.old) (length self.old.writes ≤ k)) }
-        ensures full { IsErrOf result Refusal.MemtableFull
-            → HasNoRoom R.overfills rows.old (RecordsAt (R.holds rows.old) (R.cells rows.old) self.old k) }
+        ensures does { IfOk result (λ outcome. Does R.holds R.cells R.overfills R.storage (RecordsAt
+            (R.holds rows.old) (R.cells rows.old) self.old k) outcome.progress rows.old rows.new) }
+        ensures same { OnErr result (OnlyReads
+            R.holds R.cells R.overfills R.storage rows.old rows.new) }
+        ensures refusal { IfErr result (IsCellStepRefusal
+            (R.holds rows.old) (length self.old.writes ≤ k)) }
+        ensures full { IsErrOf result Refusal.MemtableFull → HasNoRoom
+            R.overfills rows.old (RecordsAt (R.holds rows.old) (R.cells rows.old) self.old k) }
         ensures reason { HasReason (R.faults rows.old) (R.faults rows.new) result }
     {
         let Some(write) = self.writes.get(k) else {
@@ -167,26 +175,31 @@ impl Session {
         rows: &mut R,
         oracle: &mut Oracle<M>,
     ) -> Result<Outcome, Refusal>
-        ensures step { R.holds rows.old
-            → IfOk result (λ outcome.
-            Advances (R.cells rows.old) self.old oracle.old.last outcome (R.cells rows.new) self.new oracle.new.last) }
+        ensures step { R.holds rows.old → IfOk result (λ outcome. Advances (R.cells rows.old)
+            self.old oracle.old.last outcome (R.cells rows.new) self.new oracle.new.last) }
         ensures draws { IfOk result (λ outcome. (DrawsNext oracle.old.last outcome.progress)
             × (oracle.new.last ≡ top_after oracle.old.last outcome.progress)) }
         ensures start { self.new.start ≡ self.old.start }
         ensures writes { self.new.writes ≡ self.old.writes }
         ensures err { OnErr result (self.new ≡ self.old) }
         ensures stays { OnErr result (oracle.new.last ≡ oracle.old.last) }
-        ensures does { IfOk result (λ outcome. Does R.holds R.cells R.overfills R.storage
-            (EditsOf (R.holds rows.old) (R.cells rows.old) self.old) outcome.progress rows.old rows.new) }
-        ensures same { OnErr result (OnlyReads R.holds R.cells R.overfills R.storage rows.old rows.new) }
-        ensures refusal { IfErr result (IsAdvanceRefusal (R.holds rows.old) (HasNoNext self.old.phase (length self.old.writes))) }
-        ensures empty { self.old.phase ≡ phase.Open → length self.old.writes ≤ 0 → IsErrOf result Refusal.EmptyCommit }
-        ensures drawing { self.old.phase ≡ phase.Holding (length self.old.writes) → IfErr result IsDrawRefusal }
-        ensures full { IsErrOf result Refusal.MemtableFull
-            → HasNoRoom R.overfills rows.old (EditsOf (R.holds rows.old) (R.cells rows.old) self.old) }
+        ensures does { IfOk result (λ outcome. Does R.holds R.cells R.overfills R.storage (EditsOf
+            (R.holds rows.old) (R.cells rows.old) self.old) outcome.progress rows.old rows.new) }
+        ensures same { OnErr result (OnlyReads
+            R.holds R.cells R.overfills R.storage rows.old rows.new) }
+        ensures refusal { IfErr result (IsAdvanceRefusal
+            (R.holds rows.old) (HasNoNext self.old.phase (length self.old.writes))) }
+        ensures empty { self.old.phase ≡ phase.Open → length self.old.writes ≤ 0
+            → IsErrOf result Refusal.EmptyCommit }
+        ensures drawing { self.old.phase ≡ phase.Holding (length self.old.writes)
+            → IfErr result IsDrawRefusal }
+        ensures full { IsErrOf result Refusal.MemtableFull → HasNoRoom
+            R.overfills rows.old (EditsOf (R.holds rows.old) (R.cells rows.old) self.old) }
         ensures exhausted { IsErrOf result Refusal.Exhausted → oracle.old.last ≡ MOST_STAMP }
-        ensures draw_only { IsErrOf result Refusal.Exhausted → self.old.phase ≡ phase.Holding (length self.old.writes) }
-        ensures aside { self.old.phase ≢ phase.Holding (length self.old.writes) → oracle.new ≡ oracle.old }
+        ensures draw_only { IsErrOf result Refusal.Exhausted
+            → self.old.phase ≡ phase.Holding (length self.old.writes) }
+        ensures aside { self.old.phase ≢ phase.Holding (length self.old.writes)
+            → oracle.new ≡ oracle.old }
         ensures undrawn { IsErrOf result Refusal.Exhausted → oracle.new ≡ oracle.old }
         ensures reason { HasOneReason (R.faults rows.old) (R.faults rows.new)
             (M.faults oracle.old.marks) (M.faults oracle.new.marks) result }

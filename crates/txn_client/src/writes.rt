@@ -85,11 +85,15 @@ impl Writes {
 
     /// A cell that is there keeps its place and takes the new value; another one comes last.
     pub(crate) fn set(&mut self, write: Write) -> Result<(), Refusal>
-        ensures ok { OnOk result (Sets write.cell write.value (map write_of self.old) (map write_of self.new)) }
-        ensures full { IsErrOf result Refusal.TooManyWrites → (256 ≤ length self.old) × ¬ (Names (map write_of self.old) write.cell) }
-        ensures room { OnOk result (Names (map write_of self.old) write.cell ⊎ (length self.old < 256)) }
+        ensures ok { OnOk result (Sets
+            write.cell write.value (map write_of self.old) (map write_of self.new)) }
+        ensures full { IsErrOf result Refusal.TooManyWrites
+            → (256 ≤ length self.old) × ¬ (Names (map write_of self.old) write.cell) }
+        ensures room { OnOk result (Names (map write_of self.old) write.cell
+            ⊎ (length self.old < 256)) }
         ensures err { OnErr result (self.new ≡ self.old) }
-        ensures refusal { IfErr result (λ refusal. (refusal ≡ Refusal.TooManyWrites) ⊎ (refusal ≡ Refusal.NoMemory)) }
+        ensures refusal { IfErr result (λ refusal. (refusal ≡ Refusal.TooManyWrites)
+            ⊎ (refusal ≡ Refusal.NoMemory)) }
     {
         match self.place_of(&write.cell) {
             Some(place) => {
