@@ -1,0 +1,217 @@
+-- The edits that erase what was found in a cell, and when nothing is left to erase.
+use Rattle.std.proofs.Common.{Bool, true, false, ◌==◌, IfOk, ◌≡◌, ◌≢◌, ◌∙◌, ◌⊎◌, inl, inr, ℕ, zero, suc, ◌+◌, ◌<◌, ◌≤◌, ◌^◌, List, [], ◌∷◌, ◌++◌, length, take, get_or, Option, Some, None, Result, Ok, Err, IfErr, IsErrOf, append_assoc, add-one, refl, sym, ap, subst, arith}
+use Rattle.std.proofs.Math.Seq.{take-suc}
+use Rattle.std.proofs.lemmas.Bool.{cases_lt, eqb-true}
+use Rattle.std.proofs.lemmas.Bool.Decides.{eqb_tells}
+use Rattle.std.proofs.lemmas.Option.{none-some, same_Some}
+use Rattle.std.specs.List.{AllByRecursion}
+use Rattle.std.specs.Result.{IsErrAnd}
+use Rattle.std.specs.declared.vec.Vec.{Vec}
+use Rattle.std.proofs.ByRecursion.{All-push}
+use Rattle.cell_key.specs.Cells.{Cells, IsEditOf}
+use Rattle.cell_key.specs.declared.edits.Edit.{Edit}
+use Rattle.cell_key.specs.declared.edits.Edit.TheVariants.{Erase}
+use Rattle.cell_key.specs.declared.keys.CellKey.{CellKey}
+use Rattle.cell_key.specs.declared.keys.Qualifier.{Qualifier}
+use Rattle.cell_key.specs.declared.keys.Qualifier.TheVariants.{Data, Write}
+use Rattle.cell_key.specs.declared.refusals.Refusal.{Refusal}
+use Rattle.cell_key.specs.declared.refusals.Refusal.TheVariants.{Damaged, Device, MemtableFull, NoMemory}
+use Rattle.row_atomic.specs.Refusals.{IsApplyRefusal, IsRefusalOfRead}
+use Rattle.si_model.specs.Collection.{IsNamed, IsTidy}
+use Rattle.si_model.specs.ShowsCells.{NamesCommit, at, key_of, start_text}
+use Rattle.si_model.specs.declared.replies.Cell.{Cell}
+use Rattle.si_model.proofs.Bounds.{reached_bounds}
+use Rattle.version_collector.specs.Erasing.{ErasesData, ErasesOrIsTidy, ErasesRecords, data_erasures, record_erasures}
+use Rattle.version_collector.specs.Refusals.{IsVisitRefusal}
+use Rattle.version_collector.specs.Versions.{AreFound, AreShown, AreUnnamed, HasOneRecord}
+
+-- ---- edits one after another
+
+record_erasures_push : (x : Cell) (vs : List (ℕ × ℕ)) (v : ℕ × ℕ) → record_erasures x (vs ++ v ∷ []) ≡ record_erasures x vs ++ Erase (key_of x Write v.0) ∷ Erase (key_of x Data v.1) ∷ []
+record_erasures_push x [] v = refl
+record_erasures_push x (u ∷ us) v = ap (λ (es : List Edit). Erase (key_of x Write u.0) ∷ Erase (key_of x Data u.1) ∷ es) (record_erasures_push x us v)
+
+data_erasures_push : (x : Cell) (ts : List ℕ) (t : ℕ) → data_erasures x (ts ++ t ∷ []) ≡ data_erasures x ts ++ Erase (key_of x Data t) ∷ []
+data_erasures_push x [] t = refl
+data_erasures_push x (u ∷ us) t = ap (λ (es : List Edit). Erase (key_of x Data u) ∷ es) (data_erasures_push x us t)
+
+take_more : {A : Type 0} (xs : List A) (i : ℕ) (x : A) → i < length xs → take (i + 1) xs ≡ take i xs ++ (get_or xs i x ∷ [])
+take_more xs i x less = ap (λ (n : ℕ). take n xs) (add-one i) ∙ take-suc xs i x less
+
+pub records_next : (x : Cell) (vs : List (ℕ × ℕ)) (i : ℕ) (v : ℕ × ℕ) (before mid after : List Edit) (k l : CellKey) → i < length vs → v ≡ get_or vs i v
+    → before ≡ record_erasures x (take i vs) → k ≡ key_of x Write v.0 → l ≡ key_of x Data v.1 → mid ≡ before ++ Erase k ∷ [] → after ≡ mid ++ Erase l ∷ []
+    → after ≡ record_erasures x (take (i + 1) vs)
+records_next x vs i v before mid after k l less is e k_is l_is first second =
+    second ∙ ap (λ (es : List Edit). es ++ Erase l ∷ []) first ∙ append_assoc before (Erase k ∷ []) (Erase l ∷ [])
+    ∙ ap (λ (es : List Edit). es ++ Erase k ∷ Erase l ∷ []) e
+    ∙ ap (λ (c : CellKey). record_erasures x (take i vs) ++ Erase c ∷ Erase l ∷ []) k_is
+    ∙ ap (λ (c : CellKey). record_erasures x (take i vs) ++ Erase (key_of x Write v.0) ∷ Erase c ∷ []) l_is
+    ∙ sym (record_erasures_push x (take i vs) v)
+    ∙ ap (λ (u : ℕ × ℕ). record_erasures x (take i vs ++ u ∷ [])) is
+    ∙ ap (record_erasures x) (sym (take_more vs i v less))
+
+pub data_next : (x : Cell) (ts : List ℕ) (i t : ℕ) (before after : List Edit) (k : CellKey) → i < length ts → t ≡ get_or ts i t
+    → before ≡ data_erasures x (take i ts) → k ≡ key_of x Data t → after ≡ before ++ Erase k ∷ [] → after ≡ data_erasures x (take (i + 1) ts)
+data_next x ts i t before after k less is e key pushed =
+    pushed ∙ ap (λ (es : List Edit). es ++ Erase k ∷ []) e
+    ∙ ap (λ (c : CellKey). data_erasures x (take i ts) ++ Erase c ∷ []) key
+    ∙ sym (data_erasures_push x (take i ts) t)
+    ∙ ap (λ (u : ℕ). data_erasures x (take i ts ++ u ∷ [])) is
+    ∙ ap (data_erasures x) (sym (take_more ts i t less))
+
+-- an erasure is an edit of its cell's row
+pub erases_in : (x : Cell) (q : Qualifier) (s : ℕ) (k : CellKey) → k ≡ key_of x q s → 1 ≤ s → s < 2 ^ 63 → IsEditOf x.row (Erase k)
+erases_in x q s k is from to = subst (λ (c : CellKey). IsEditOf x.row (Erase c)) (sym is) (record { under = refl; from = from; to = to; value = omega arith })
+
+pub under_next : (row : List ℕ) (before after : List Edit) (e : Edit) → AllByRecursion (IsEditOf row) before → IsEditOf row e → after ≡ before ++ e ∷ [] → AllByRecursion (IsEditOf row) after
+under_next row before after e all last is = subst (λ (es : List Edit). AllByRecursion (IsEditOf row) es) (sym is) (All-push (IsEditOf row) before e all last)
+
+-- ---- when a cell is tidy
+
+same_or_not : (a b : List ℕ) → (a ≡ b) ⊎ (a ≢ b)
+same_or_not [] [] = inl refl
+same_or_not [] (y ∷ ys) = inr (λ e. cc)
+same_or_not (x ∷ xs) [] = inr (λ e. cc)
+same_or_not (x ∷ xs) (y ∷ ys) = elim (eqb_tells x y) [
+  | inl head ↦ elim (same_or_not xs ys) [
+    | inl tail ↦ inl (ap (λ (n : ℕ). n ∷ xs) head.1 ∙ ap (λ (ns : List ℕ). y ∷ ns) tail)
+    | inr other ↦ inr (λ e. other cc)
+  ]
+  | inr other ↦ inr (λ e. other.1 cc)
+]
+
+is_or_not : (o : Option (List ℕ)) (b : List ℕ) → (o ≡ Some b) ⊎ (o ≢ Some b)
+is_or_not None b = inr (λ e. none-some b e)
+is_or_not (Some a) b = elim (same_or_not a b) [
+  | inl same ↦ inl (ap (λ (bs : List ℕ). Some bs) same)
+  | inr other ↦ inr (λ e. other (same_Some a b e))
+]
+
+-- a record below a stamp names t, or none does
+named_below : (cells : Cells) (x : Cell) (t n : ℕ) → IsNamed cells x t ⊎ ((c : ℕ) → c < n → at cells x Write c ≢ Some (start_text t))
+named_below cells x t zero = inr (λ c less. absurd (omega (arith, less)))
+named_below cells x t (suc n) = elim (named_below cells x t n) [
+  | inl found ↦ inl found
+  | inr none ↦ elim (is_or_not (at cells x Write n) (start_text t)) [
+    | inl is ↦ inl (n, is)
+    | inr other ↦ inr (λ c less. elim (cases_lt c n) [
+      | inl below ↦ none c below
+      | inr most ↦ let same : n ≡ c = omega (arith, less, most) in subst (λ (k : ℕ). at cells x Write k ≢ Some (start_text t)) same other
+    ])
+  ]
+]
+
+tidy_below : (cells : Cells) (x : Cell) (floor top : ℕ) → ((c : ℕ) (b : List ℕ) → at cells x Write c ≡ Some b → c < top) → AreUnnamed cells x floor [] → IsTidy cells x floor
+tidy_below cells x floor top low none = record {
+  one = none.one;
+  named = λ t less stands. elim (named_below cells x t top) [
+    | inl found ↦ found
+    | inr other ↦ absurd (elim (none.starts.rest t (less, stands, λ n. other n.0 (low n.0 (start_text t) n.1) n.1)) [
+      | inl i ↦ elim i [ ]
+      | inr full ↦ let e = full.0 in omega arith
+    ])
+  ];
+}
+
+shown_low : (cells : Cells) → AreShown cells → (x : Cell) (c : ℕ) (b : List ℕ) → at cells x Write c ≡ Some b → c < 2 ^ 63
+shown_low cells (st, reached, shown) x c b stands =
+    let k : NamesCommit cells st x c b = shown.records x c b stands in
+    let last = (reached_bounds reached).commit_to k.commit k.is_in in
+    let same = k.stamp in
+    omega arith
+
+tidy_where_none : (cells : Cells) → AreShown cells → (x : Cell) (floor : ℕ) → AreUnnamed cells x floor [] → IsTidy cells x floor
+tidy_where_none cells shown x floor none = tidy_below cells x floor (2 ^ 63) (shown_low cells shown x) none
+
+-- ---- what the edits erase
+
+pub erases_records : (Holds : Type 0) (cells : Cells) (x : Cell) (floor : ℕ) (vs : List (ℕ × ℕ)) (edits : List Edit) → vs ≢ [] → edits ≡ record_erasures x vs → length vs ≤ 128
+    → (Holds → AreShown cells → AreFound cells x floor vs) → ErasesOrIsTidy Holds cells x floor edits
+erases_records Holds cells x floor [] edits some are few found = absurd (some refl)
+erases_records Holds cells x floor (v ∷ vs) edits some are few found = subst (ErasesOrIsTidy Holds cells x floor) (sym are) (inl (record { vs = v ∷ vs; are = refl; some = some; few = few; old = found }))
+
+erases_data_of : (Holds : Type 0) (cells : Cells) (x : Cell) (floor : ℕ) (ts : List ℕ) → length ts ≤ 256
+    → (Holds → AreShown cells → AreUnnamed cells x floor ts) → ErasesOrIsTidy Holds cells x floor (data_erasures x ts)
+erases_data_of Holds cells x floor [] few found = λ held shown. tidy_where_none cells shown x floor (found held shown)
+erases_data_of Holds cells x floor (t ∷ ts) few found = inr (record { ts = t ∷ ts; are = refl; some = λ e. cc; few = few; unnamed = found })
+
+pub erases_data : (Holds : Type 0) (cells : Cells) (x : Cell) (floor : ℕ) (vs : List (ℕ × ℕ)) (ts : List ℕ) (edits : List Edit) → vs ≡ [] → edits ≡ data_erasures x ts → length ts ≤ 256
+    → (Holds → AreShown cells → AreFound cells x floor vs) → (Holds → AreShown cells → HasOneRecord cells x floor → AreUnnamed cells x floor ts) → ErasesOrIsTidy Holds cells x floor edits
+erases_data Holds cells x floor vs ts edits none are few first then =
+    subst (ErasesOrIsTidy Holds cells x floor) (sym are)
+    (erases_data_of Holds cells x floor ts few (λ held shown. then held shown (subst (AreFound cells x floor) none (first held shown))))
+
+pub erases_some : (Holds : Type 0) (cells : Cells) (x : Cell) (floor : ℕ) (edits : List Edit) → edits ≢ [] → ErasesOrIsTidy Holds cells x floor edits
+    → ErasesRecords Holds cells x floor edits ⊎ ErasesData Holds cells x floor edits
+erases_some Holds cells x floor [] some erases = absurd (some refl)
+erases_some Holds cells x floor (e ∷ es) some erases = erases
+
+pub tidy_where_empty : (Holds : Type 0) (cells : Cells) (x : Cell) (floor : ℕ) (edits : List Edit) → edits ≡ [] → ErasesOrIsTidy Holds cells x floor edits → Holds → AreShown cells → IsTidy cells x floor
+tidy_where_empty Holds cells x floor edits none erases = subst (ErasesOrIsTidy Holds cells x floor) none erases
+
+-- ---- what is answered
+
+not_true : false ≡ true → ⊥
+not_true e = cc
+
+pub empty_list : {A : Type 0} (xs : List A) (n : ℕ) (b : Bool) → n ≡ length xs → b ≡ (n == 0) → b ≡ true → xs ≡ []
+empty_list [] n b len is e = refl
+empty_list (x ∷ xs) n b len is e = absurd (let zero_is : n ≡ 0 = eqb-true n 0 (sym is ∙ e) in let more : n ≡ suc (length xs) = len in omega arith)
+
+pub some_list : {A : Type 0} (xs : List A) (n : ℕ) (b : Bool) → n ≡ length xs → b ≡ (n == 0) → b ≡ false → xs ≢ []
+some_list xs n b len is e none = not_true (sym e ∙ (is ∙ ap (λ (m : ℕ). m == 0) (len ∙ ap (λ ys. length ys) none)))
+
+pub records_answered : {Z : Type 0} (Holds : Type 0) (cells : Cells) (x : Cell) (floor : ℕ) (vs lent : List (ℕ × ℕ)) (r : Result (Vec Edit Z) Refusal) → vs ≢ [] → lent ≡ vs
+    → IfOk r (λ edits. edits.items ≡ record_erasures x lent) → length vs ≤ 128 → (Holds → AreShown cells → AreFound cells x floor vs)
+    → IfOk r (λ edits. ErasesOrIsTidy Holds cells x floor edits.items)
+records_answered Holds cells x floor vs lent (Err e) some same are few found = tt
+records_answered Holds cells x floor vs lent (Ok edits) some same are few found = erases_records Holds cells x floor vs edits.items some (are ∙ ap (record_erasures x) same) few found
+
+pub data_answered : {Z : Type 0} (Holds : Type 0) (cells : Cells) (x : Cell) (floor : ℕ) (vs : List (ℕ × ℕ)) (ts lent : List ℕ) (r : Result (Vec Edit Z) Refusal) → vs ≡ [] → lent ≡ ts
+    → IfOk r (λ edits. edits.items ≡ data_erasures x lent) → length ts ≤ 256 → (Holds → AreShown cells → AreFound cells x floor vs)
+    → (Holds → AreShown cells → HasOneRecord cells x floor → AreUnnamed cells x floor ts) → IfOk r (λ edits. ErasesOrIsTidy Holds cells x floor edits.items)
+data_answered Holds cells x floor vs ts lent (Err e) none same are few first then = tt
+data_answered Holds cells x floor vs ts lent (Ok edits) none same are few first then = erases_data Holds cells x floor vs ts edits.items none (are ∙ ap (data_erasures x) same) few first then
+
+-- what was found after a read that left the cells as they were
+pub found_after : (Before Now : Type 0) (old new : Cells) (x : Cell) (floor : ℕ) (ts : List ℕ) → (Before → Now) → (Before → new ≡ old)
+    → (Now → AreShown new → HasOneRecord new x floor → AreUnnamed new x floor ts) → Before → AreShown old → HasOneRecord old x floor → AreUnnamed old x floor ts
+found_after Before Now old new x floor ts still kept found held shown one =
+    subst (λ (cs : Cells). AreUnnamed cs x floor ts) (kept held)
+    (found (still held) (subst AreShown (sym (kept held)) shown) (subst (λ (cs : Cells). HasOneRecord cs x floor) (sym (kept held)) one))
+
+-- ---- refusals
+
+pub same_refusal : {B : Type 0} (r : Result B Refusal) (e n : Refusal) → IsErrAnd r (λ f. f ≡ e) → IsErrOf r n → e ≡ n
+same_refusal (Ok x) e n by is = absurd by
+same_refusal (Err f) e n by is = let same : f ≡ n = cc in sym by ∙ same
+
+pub passed_on : {A B : Type 0} (r : Result B Refusal) (e n : Refusal) → IsErrAnd r (λ f. f ≡ e) → IsErrOf r n → IsErrOf {T = A} (Err e) n
+passed_on r e n by is = ap (λ (f : Refusal). Err f) (same_refusal r e n by is)
+
+is_visit_refusal : (Holds : Type 0) (e : Refusal) → IsRefusalOfRead Holds e → IsVisitRefusal e
+is_visit_refusal H Device u = tt
+is_visit_refusal H NoMemory u = tt
+is_visit_refusal H Damaged u = tt
+is_visit_refusal H _ u = absurd u
+
+is_visit_refusal_of_apply : (e : Refusal) → IsApplyRefusal e → IsVisitRefusal e
+is_visit_refusal_of_apply MemtableFull u = tt
+is_visit_refusal_of_apply NoMemory u = tt
+is_visit_refusal_of_apply _ u = absurd u
+
+pub read_refused : {B : Type 0} (Holds : Type 0) (r : Result B Refusal) (e : Refusal) → IsErrAnd r (λ f. f ≡ e) → IsRefusalOfRead Holds e → IfErr r IsVisitRefusal
+read_refused H (Ok x) e by u = tt
+read_refused H (Err f) e by u = subst IsVisitRefusal (sym by) (is_visit_refusal H e u)
+
+pub apply_refused : {B : Type 0} (r : Result B Refusal) (e : Refusal) → IsErrAnd r (λ f. f ≡ e) → IsApplyRefusal e → IfErr r IsVisitRefusal
+apply_refused (Ok x) e by u = tt
+apply_refused (Err f) e by u = subst IsVisitRefusal (sym by) (is_visit_refusal_of_apply e u)
+
+pub not_full : (Holds : Type 0) (e : Refusal) → IsRefusalOfRead Holds e → e ≢ MemtableFull
+not_full H MemtableFull u same = u
+not_full H _ u same = cc
+
+pub apply_undamaged : (e : Refusal) → IsApplyRefusal e → e ≢ Damaged
+apply_undamaged Damaged u same = u
+apply_undamaged _ u same = cc

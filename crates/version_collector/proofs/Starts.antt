@@ -1,0 +1,282 @@
+-- The records and the data of a cell, where a reached state is shown: what its records name, and what a search from above finds.
+use Rattle.std.proofs.Common.{◌≡◌, ℕ, suc, ◌+◌, ◌-◌, ◌<◌, ◌≤◌, ◌^◌, inl, inr, List, [], ◌∷◌, ◌++◌, length, map, Option, Some, None, refl, sym, ap, subst, ◌∙◌, arith}
+use Rattle.std.proofs.lemmas.Bool.{cases_lt}
+use Rattle.std.proofs.lemmas.List.{append-nil, map-append}
+use Rattle.std.proofs.lemmas.Option.{none-some, same_Some}
+use Rattle.std.specs.Prelude.{IfSome, option_map}
+use Rattle.std.specs.declared.vec.Vec.{Vec}
+use Rattle.byteorder.specs.Endian.{big_number, big_from}
+use Rattle.byteorder.specs.Numbers.{big_number-reads_back, length-bytes_high_first}
+use Rattle.cell_key.specs.Cells.{Cells, IsNewest}
+use Rattle.cell_key.specs.declared.keys.Qualifier.TheVariants.{Data, Write}
+use Rattle.cell_key.specs.Moments.{IsMoment}
+use Rattle.cell_key.specs.Versions.{stamped}
+use Rattle.cell_key.specs.declared.edits.Edit.{Edit}
+use Rattle.cell_key.specs.declared.keys.Qualifier.{Qualifier}
+use Rattle.row_atomic.specs.Calls.{OnlyReads}
+use Rattle.row_atomic.specs.Clusters.{Storage}
+use Rattle.row_atomic.specs.Oldest.{IsOldest}
+use Rattle.row_atomic.proofs.Halving.{at_none, at_some}
+use Rattle.si_model.specs.Collection.{IsNamed, IsOld}
+use Rattle.si_model.specs.Sets.{◌∈◌}
+use Rattle.si_model.specs.ShowsCells.{IsThere, NamesCommit, at, key_of, start_text}
+use Rattle.si_model.specs.declared.replies.Cell.{Cell}
+use Rattle.si_model.proofs.Bounds.{reached_bounds}
+use Rattle.si_model.proofs.Deciding.{names_nearest}
+use Rattle.si_model.proofs.Steps.{reached_sound}
+use Rattle.version_collector.specs.Versions.{AreFound, AreGreatest, AreShown, AreUnnamed, HasOneRecord, IsAmong, IsLastRecord, IsLatestBelow, IsNamedBy, IsUnnamed, NamesLast, NamesNext, NamesNone, NamesStart}
+use Rattle.version_collector.proofs.Greatest.{AreAll, all_more, all_none, all_past, greatest_all, greatest_full, in_last}
+
+start_back : (t : ℕ) → t < 2 ^ 64 → big_number 8 (start_text t) ≡ t
+start_back t h = ap (λ xs. big_from 0 8 xs) (sym (append-nil (start_text t))) ∙ big_number-reads_back 8 t [] h
+
+-- ---- what records name
+
+-- the start that a record's text has, and the record's stamp, are within the limits of stamps
+record IsRecord (c : ℕ) (b : List ℕ) : Type 0 where
+  start : ℕ
+  from : 1 ≤ start
+  to : start < 2 ^ 63
+  text : b ≡ start_text start
+  stamp : c < 2 ^ 63
+
+shown_record : (cells : Cells) → AreShown cells → (x : Cell) (c : ℕ) (b : List ℕ) → at cells x Write c ≡ Some b → IsRecord c b
+shown_record cells (st, reached, shown) x c b there =
+    let k : NamesCommit cells st x c b = shown.records x c b there in
+    let wrote = ((reached_sound reached).fair k.commit k.is_in).wrote in
+    let from = (reached_bounds reached).start_from k.commit.start k.commit.writes wrote in
+    let to = (reached_bounds reached).start_to k.commit.start k.commit.writes wrote in
+    let last = (reached_bounds reached).commit_to k.commit k.is_in in
+    let same = k.stamp in
+    record { start = k.commit.start; from = from; to = to; text = k.text; stamp = omega arith }
+
+names_text : (b : List ℕ) (t u : ℕ) → b ≡ start_text t → t < 2 ^ 63 → NamesStart b u → t ≡ u
+names_text b t u e low names = sym (start_back t (omega arith)) ∙ (ap (big_number 8) (sym e) ∙ names.1)
+
+text_names : (b : List ℕ) (t : ℕ) → b ≡ start_text t → t < 2 ^ 63 → NamesStart b t
+text_names b t e low = (ap (λ (bs : List ℕ). length bs) e ∙ length-bytes_high_first 8 t, ap (big_number 8) e ∙ start_back t (omega arith))
+
+-- a record that names t has its text
+pub named_text : (cells : Cells) → AreShown cells → (x : Cell) (c t : ℕ) (b : List ℕ) → at cells x Write c ≡ Some b → NamesStart b t
+    → (at cells x Write c ≡ Some (start_text t)) × (t < 2 ^ 63)
+named_text cells shown x c t b there names =
+    let r : IsRecord c b = shown_record cells shown x c b there in
+    let low = r.to in
+    let same : r.start ≡ t = names_text b r.start t r.text r.to names in
+    (there ∙ ap (λ (bs : List ℕ). Some bs) (r.text ∙ ap start_text same), omega arith)
+
+-- so none that is shown names no start
+pub not_damaged : (cells : Cells) (x : Cell) (c : ℕ) (b : List ℕ) → at cells x Write c ≡ Some b → ((t : ℕ) → 1 ≤ t → t < 2 ^ 63 → ¬ NamesStart b t) → ¬ AreShown cells
+not_damaged cells x c b there none shown =
+    let r : IsRecord c b = shown_record cells shown x c b there in
+    none r.start r.from r.to (text_names b r.start r.text r.to)
+
+-- ---- old records
+
+-- all records from below on that are older than the newest one at or below the floor
+pub record AreOldFrom (cells : Cells) (x : Cell) (floor below : ℕ) (vs : List (ℕ × ℕ)) : Type 0 where
+  pub w : ℕ
+  pub kept : IsLastRecord cells x floor w
+  pub low : below ≤ w
+  pub stamps : AreAll (λ c. IsThere cells x Write c × (c < w)) below (map (λ v. v.0) vs)
+  pub named : (v : ℕ × ℕ) → v ∈ vs → IsOld cells x w v
+
+last_record : (cells : Cells) (x : Cell) (floor w : ℕ) (b : List ℕ) → IsNewest cells (key_of x Write) 0 floor (Some (w, b)) → IsLastRecord cells x floor w
+last_record cells x floor w b (low, high, is, last) = record {
+  there = (b, is);
+  low = high;
+  last = λ c most there. elim (cases_lt w c) [
+    | inl less ↦ absurd (none-some there.0 (sym (last c less most) ∙ there.1))
+    | inr more ↦ more
+  ];
+}
+
+pub old_begin : (cells : Cells) (x : Cell) (floor w : ℕ) (b : List ℕ) → IsNewest cells (key_of x Write) 0 floor (Some (w, b)) → AreOldFrom cells x floor w []
+old_begin cells x floor w b newest = record {
+  w = w;
+  kept = last_record cells x floor w b newest;
+  low = omega arith;
+  stamps = all_none (λ c. IsThere cells x Write c × (c < w)) w (λ s so. so.1);
+  named = λ v i. elim i [ ];
+}
+
+pub old_more : (cells : Cells) → AreShown cells → (x : Cell) (floor below c t : ℕ) (b : List ℕ) (vs : List (ℕ × ℕ)) → AreOldFrom cells x floor below vs
+    → IsLatestBelow cells x Write below (Some (c, b)) → NamesStart b t → AreOldFrom cells x floor c (vs ++ (c, t) ∷ [])
+old_more cells shown x floor below c t b vs old (less, there, last) names = record {
+  w = old.w;
+  kept = old.kept;
+  low = let low = old.low in omega arith;
+  stamps = subst (AreAll (λ s. IsThere cells x Write s × (s < old.w)) c) (sym (map-append (λ (v : ℕ × ℕ). v.0) vs ((c, t) ∷ [])))
+      (all_more (λ s. IsThere cells x Write s × (s < old.w)) below c (map (λ v. v.0) vs) old.stamps less ((b, there), older) (λ u more under is. none-some is.0.0 (sym (last u more under) ∙ is.0.1)));
+  named = λ v i. elim (in_last vs (c, t) v i) [
+    | inl before ↦ old.named v before
+    | inr same ↦ subst (IsOld cells x old.w) (sym same) (record { there = text.0; older = older; low = let to = text.1 in omega arith })
+  ];
+}
+  where
+    older : c < old.w
+    older = let low = old.low in omega arith
+
+    text : (at cells x Write c ≡ Some (start_text t)) × (t < 2 ^ 63)
+    text = named_text cells shown x c t b there names
+
+one_record : (cells : Cells) (x : Cell) (floor w : ℕ) → IsLastRecord cells x floor w → ((c : ℕ) → IsThere cells x Write c → c < w → ⊥) → HasOneRecord cells x floor
+one_record cells x floor w kept none c d low_c low_d there_c there_d = at_w c low_c there_c ∙ sym (at_w d low_d there_d)
+  where
+    at_w : (e : ℕ) → e ≤ floor → IsThere cells x Write e → e ≡ w
+    at_w e low there = elim (cases_lt e w) [
+      | inl less ↦ absurd (none e there less)
+      | inr most ↦ let last = kept.last e low there in omega arith
+    ]
+
+pub found_none : (cells : Cells) (x : Cell) (floor : ℕ) → IsNewest cells (key_of x Write) 0 floor None → AreFound cells x floor []
+found_none cells x floor none = λ c d low_c low_d there_c there_d. absurd (none-some there_c.0 (sym (none c (omega arith) low_c) ∙ there_c.1))
+
+old_are : (cells : Cells) (x : Cell) (floor below : ℕ) (vs : List (ℕ × ℕ)) (old : AreOldFrom cells x floor below vs)
+    → AreGreatest 128 (λ c. IsThere cells x Write c × (c < old.w)) (map (λ v. v.0) vs) → AreFound cells x floor vs
+old_are cells x floor below [] old greatest = one_record cells x floor old.w old.kept (λ c there less. elim (greatest.rest c (there, less)) [
+  | inl i ↦ elim i [ ]
+  | inr full ↦ absurd (let e = full.0 in omega arith)
+])
+old_are cells x floor below (v ∷ vs) old greatest = record { w = old.w; kept = old.kept; stamps = greatest; named = old.named }
+
+length-map : (vs : List (ℕ × ℕ)) → length (map (λ v. v.0) vs) ≡ length vs
+length-map [] = refl
+length-map (v ∷ vs) = ap suc (length-map vs)
+
+pub old_all : (cells : Cells) (x : Cell) (floor below : ℕ) (vs : List (ℕ × ℕ)) → AreOldFrom cells x floor below vs → length vs ≤ 128
+    → IsLatestBelow cells x Write below None → AreFound cells x floor vs
+old_all cells x floor below vs old few none = old_are cells x floor below vs old
+    (greatest_all 128 (λ c. IsThere cells x Write c × (c < old.w)) below (map (λ v. v.0) vs) old.stamps (let e = length-map vs in omega arith)
+    (λ u less is. none-some is.0.0 (sym (none u less) ∙ is.0.1)))
+
+pub old_full : (cells : Cells) (x : Cell) (floor below : ℕ) (vs : List (ℕ × ℕ)) → AreOldFrom cells x floor below vs → length vs ≡ 128 → AreFound cells x floor vs
+old_full cells x floor below vs old full = old_are cells x floor below vs old
+    (greatest_full 128 (λ c. IsThere cells x Write c × (c < old.w)) below (map (λ v. v.0) vs) old.stamps (length-map vs ∙ full))
+
+-- ---- data that no record names
+
+module _ (cells : Cells) (shown : AreShown cells) (x : Cell) (floor : ℕ) (one : HasOneRecord cells x floor) where
+  named_one : (found : Option (ℕ × List ℕ)) (start : Option ℕ) (t : ℕ) → IsNamedBy found start → start ≡ Some t → (c : ℕ) × (b : List ℕ) × (found ≡ Some (c, b)) × NamesStart b t
+  named_one None None t by e = absurd (none-some t e)
+  named_one (Some (c, b)) None t by e = absurd by
+  named_one None (Some s) t by e = absurd by
+  named_one (Some (c, b)) (Some s) t by e = (c, b, refl, (by.0, by.1 ∙ same_Some s t e))
+
+  names_it : (c t : ℕ) (b : List ℕ) (start : Option ℕ) → IsNamedBy (Some (c, b)) start → at cells x Write c ≡ Some b → at cells x Write c ≡ Some (start_text t) → t < 2 ^ 63 → start ≡ Some t
+  names_it c t b None by there named low = absurd by
+  names_it c t b (Some s) by there named low =
+      let e : b ≡ start_text t = same_Some b (start_text t) (sym there ∙ named) in
+      ap (λ (n : ℕ). Some n) (sym (names_text b t s e low by))
+
+  -- what either names is named
+  last_named : (start : Option ℕ) (t : ℕ) → NamesLast cells x floor start → start ≡ Some t → IsNamed cells x t
+  last_named start t (last, newest, by) e =
+      let n = named_one last start t by e in
+      let is = subst (IsNewest cells (key_of x Write) 0 floor) n.2 newest in
+      (n.0, (named_text cells shown x n.0 t n.1 is.2 n.3).0)
+
+  next_named : (start : Option ℕ) (t : ℕ) → NamesNext cells x floor start → start ≡ Some t → IsNamed cells x t
+  next_named start t (next, oldest, by) e =
+      let n = named_one next start t by e in
+      let is = subst (IsOldest cells (key_of x Write) (floor + 1) (2 ^ 64 - 1)) n.2 oldest in
+      (n.0, (named_text cells shown x n.0 t n.1 is.2 n.3).0)
+
+  -- and no other start below the floor is
+  last_names : (last : Option (ℕ × List ℕ)) (start : Option ℕ) (t c : ℕ) → IsNewest cells (key_of x Write) 0 floor last → IsNamedBy last start
+      → c ≤ floor → at cells x Write c ≡ Some (start_text t) → t < 2 ^ 63 → start ≡ Some t
+  last_names None start t c none by most named low = absurd (none-some (start_text t) (sym (none c (omega arith) most) ∙ named))
+  last_names (Some (w, b)) start t c (from, to, is, last) by most named low =
+      let same : c ≡ w = one c w most to (start_text t, named) (b, is) in
+      names_it w t b start by is (subst (λ (n : ℕ). at cells x Write n ≡ Some (start_text t)) same named) low
+
+  next_names : (next : Option (ℕ × List ℕ)) (start : Option ℕ) (t c : ℕ) → IsOldest cells (key_of x Write) (floor + 1) (2 ^ 64 - 1) next → IsNamedBy next start
+      → t < floor → floor < c → at cells x Write c ≡ Some (start_text t) → c < 2 ^ 63 → t < 2 ^ 63 → start ≡ Some t
+  next_names None start t c none by below above named top low = absurd (none-some (start_text t) (sym (none c (omega arith) (omega arith)) ∙ named))
+  next_names (Some (d, b)) start t c (from, to, is, before) by below above named top low = names_it d t b start by is (subst (λ (n : ℕ). at cells x Write n ≡ Some (start_text t)) same named) low
+    where
+      least : c ≤ d
+      least = names_nearest cells shown.0 shown.1 shown.2 x t c d (omega arith) named (omega arith) (b, is)
+
+      same : c ≡ d
+      same = elim (cases_lt c d) [
+        | inl less ↦ absurd (none-some (start_text t) (sym (before c (omega arith) less) ∙ named))
+        | inr most ↦ omega (arith, least)
+      ]
+
+  pub among_named : (near : Option ℕ × Option ℕ) (t : ℕ) → NamesLast cells x floor near.0 → NamesNext cells x floor near.1 → IsAmong t near → IsNamed cells x t
+  among_named near t last next is = elim is [
+    | inl e ↦ last_named near.0 t last e
+    | inr e ↦ next_named near.1 t next e
+  ]
+
+  pub named_among : (near : Option ℕ × Option ℕ) (t : ℕ) → NamesLast cells x floor near.0 → NamesNext cells x floor near.1 → t < floor → t < 2 ^ 63 → IsNamed cells x t → IsAmong t near
+  named_among near t last next below low (c, named) = elim (cases_lt floor c) [
+    | inl above ↦ inr (next_names next.0 near.1 t c next.1 next.2 below above named (shown_record cells shown x c (start_text t) named).stamp low)
+    | inr most ↦ inl (last_names last.0 near.0 t c last.1 last.2 most named low)
+  ]
+
+-- data from below on that no record names
+pub data_begin : (cells : Cells) (x : Cell) (floor : ℕ) → AreAll (IsUnnamed cells x floor) floor []
+data_begin cells x floor = all_none (IsUnnamed cells x floor) floor (λ s so. so.0)
+
+data_only : (cells : Cells) (x : Cell) (floor below t u : ℕ) (b : List ℕ) → IsLatestBelow cells x Data below (Some (t, b)) → t < u → u < below → ¬ IsUnnamed cells x floor u
+data_only cells x floor below t u b (less, there, last) more under is = none-some is.1.0 (sym (last u more under) ∙ is.1.1)
+
+pub data_more : (cells : Cells) (x : Cell) (floor below t : ℕ) (b : List ℕ) (ts : List ℕ) → AreAll (IsUnnamed cells x floor) below ts → below ≤ floor
+    → IsLatestBelow cells x Data below (Some (t, b)) → ¬ IsNamed cells x t → AreAll (IsUnnamed cells x floor) t (ts ++ t ∷ [])
+data_more cells x floor below t b ts all low latest not_named =
+    let less = latest.0 in
+    all_more (IsUnnamed cells x floor) below t ts all less (omega arith, (b, latest.1), not_named) (λ u more under. data_only cells x floor below t u b latest more under)
+
+pub data_past : (cells : Cells) (x : Cell) (floor below t : ℕ) (b : List ℕ) (ts : List ℕ) → AreAll (IsUnnamed cells x floor) below ts
+    → IsLatestBelow cells x Data below (Some (t, b)) → IsNamed cells x t → AreAll (IsUnnamed cells x floor) t ts
+data_past cells x floor below t b ts all latest is_named = all_past (IsUnnamed cells x floor) below t ts all latest.0 (λ u from under is. elim (cases_lt t u) [
+  | inl more ↦ data_only cells x floor below t u b latest more under is
+  | inr most ↦ let same : t ≡ u = omega arith in is.2 (subst (IsNamed cells x) same is_named)
+])
+
+pub data_all : (cells : Cells) (x : Cell) (floor below : ℕ) (ts : List ℕ) → HasOneRecord cells x floor → AreAll (IsUnnamed cells x floor) below ts → length ts ≤ 256
+    → IsLatestBelow cells x Data below None → AreUnnamed cells x floor ts
+data_all cells x floor below ts one all few none = record {
+  one = one;
+  starts = greatest_all 256 (IsUnnamed cells x floor) below ts all few (λ u less is. none-some is.1.0 (sym (none u less) ∙ is.1.1));
+}
+
+pub data_full : (cells : Cells) (x : Cell) (floor below : ℕ) (ts : List ℕ) → HasOneRecord cells x floor → AreAll (IsUnnamed cells x floor) below ts → length ts ≡ 256
+    → AreUnnamed cells x floor ts
+data_full cells x floor below ts one all full = record { one = one; starts = greatest_full 256 (IsUnnamed cells x floor) below ts all full }
+
+-- ---- what a read found is there
+
+pub newest_there : (cells : Cells) (x : Cell) (lo hi : ℕ) (found : Option (ℕ × List ℕ)) → IsNewest cells (key_of x Write) lo hi found
+    → (v : ℕ × List ℕ) → found ≡ Some v → at cells x Write v.0 ≡ Some v.1
+newest_there cells x lo hi found newest v e = (subst (IsNewest cells (key_of x Write) lo hi) e newest).2
+
+pub oldest_there : (cells : Cells) (x : Cell) (lo hi : ℕ) (found : Option (ℕ × List ℕ)) → IsOldest cells (key_of x Write) lo hi found
+    → (v : ℕ × List ℕ) → found ≡ Some v → at cells x Write v.0 ≡ Some v.1
+oldest_there cells x lo hi found oldest v e = (subst (IsOldest cells (key_of x Write) lo hi) e oldest).2
+
+pub none_named : (cells : Cells) (x : Cell) (found : Option (ℕ × List ℕ)) → ((v : ℕ × List ℕ) → found ≡ Some v → at cells x Write v.0 ≡ Some v.1) → NamesNone found → ¬ AreShown cells
+none_named cells x None is none = absurd none
+none_named cells x (Some (c, b)) is none = not_damaged cells x c b (is (c, b) refl) none
+
+-- ---- a read after others that changed nothing
+
+pub latest_some : {R : Type 0} {holds : R → Type 0} {cells : R → Cells} {overfills : R → List ℕ → List Edit → Type 0} {storage : R → Storage} {Z : Type 0} {a b : R}
+    → OnlyReads holds cells overfills storage a b → holds a → (x : Cell) (q : Qualifier) (below : ℕ) (found : Option (ℕ × Vec ℕ Z)) (v : ℕ × Vec ℕ Z) → found ≡ Some v
+    → (holds b → IsLatestBelow (cells b) x q below (option_map stamped found)) → IsLatestBelow (cells a) x q below (Some (v.0, v.1.items))
+latest_some {cells = cells} {b = b} reads held x q below found v is so =
+    subst (λ (cs : Cells). IsLatestBelow cs x q below (Some (v.0, v.1.items))) (reads.kept held) (at_some (IsLatestBelow (cells b) x q below) found v is (so (reads.still held)))
+
+pub latest_none : {R : Type 0} {holds : R → Type 0} {cells : R → Cells} {overfills : R → List ℕ → List Edit → Type 0} {storage : R → Storage} {Z : Type 0} {a b : R}
+    → OnlyReads holds cells overfills storage a b → holds a → (x : Cell) (q : Qualifier) (below : ℕ) (found : Option (ℕ × Vec ℕ Z)) → found ≡ None
+    → (holds b → IsLatestBelow (cells b) x q below (option_map stamped found)) → IsLatestBelow (cells a) x q below None
+latest_none {cells = cells} {b = b} reads held x q below found is so =
+    subst (λ (cs : Cells). IsLatestBelow cs x q below None) (reads.kept held) (at_none (IsLatestBelow (cells b) x q below) found is (so (reads.still held)))
+
+pub lower_some : {Z : Type 0} (found : Option (ℕ × Vec ℕ Z)) (v : ℕ × Vec ℕ Z) (below : ℕ) → found ≡ Some v → IfSome found (λ w. w.0 < below) → v.0 < below
+lower_some {Z} found v below is less = subst (λ (f : Option (ℕ × Vec ℕ Z)). IfSome f (λ w. w.0 < below)) is less
+
+pub moment_some : {Z : Type 0} (found : Option (ℕ × Vec ℕ Z)) (v : ℕ × Vec ℕ Z) → found ≡ Some v → IfSome found (λ w. IsMoment w.0) → IsMoment v.0
+moment_some {Z} found v is limits = subst (λ (f : Option (ℕ × Vec ℕ Z)). IfSome f (λ w. IsMoment w.0)) is limits

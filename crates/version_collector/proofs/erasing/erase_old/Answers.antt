@@ -1,0 +1,60 @@
+use Rattle.std.proofs.Common.{refl}
+use Rattle.cell_key.specs.declared.refusals.Refusal.TheVariants.{Damaged, MemtableFull}
+use Rattle.row_atomic.proofs.Calls.{applies_after, read_undamaged}
+use Rattle.version_collector.specs.Versions.{AreShown}
+use Rattle.version_collector.proofs.Erasures.{apply_refused, apply_undamaged, empty_list, erases_some, not_full, passed_on, read_refused, same_refusal, some_list, tidy_where_empty}
+use Rattle.version_collector.proofs.erasing.erase_old.Goals as goal
+
+pub returns-then-is_empty-clause-tidy : goal.returns-then-is_empty-clause-tidy
+returns-then-is_empty-clause-tidy g c = λ held shown.
+    let es = c.in_ok-edits.edits in
+    tidy_where_empty (g.R.Rows.holds c.args.rows.now) (g.R.Rows.cells c.args.rows.now) c.args.cell.now c.args.floor es.items
+    (empty_list es.items es.len c.is_empty.result es.ok.0 c.is_empty.ensures c.if-is_empty.true) c.in_ok-edits.ensures.old held shown
+
+pub returns-clause-erased : goal.returns-clause-erased
+returns-clause-erased g c =
+    let es = c.in_ok-edits.edits in
+    record {
+      row = c.args.cell.now.row;
+      edits = es.items;
+      such = (
+        refl,
+        erases_some (g.R.Rows.holds c.args.rows.now) (g.R.Rows.cells c.args.rows.now) c.args.cell.now c.args.floor es.items
+            (some_list es.items es.len c.is_empty.result es.ok.0 c.is_empty.ensures c.if-is_empty.false) c.in_ok-edits.ensures.old,
+      );
+      applied = applies_after c.in_ok-edits.ensures.reads c.in_ok-apply.ensures.ok;
+    }
+
+pub returns-in_err-edits-clause-refusal : goal.returns-in_err-edits-clause-refusal
+returns-in_err-edits-clause-refusal g c =
+    read_refused (g.R.Rows.holds c.args.rows.now × AreShown (g.R.Rows.cells c.args.rows.now)) c.from_residual.result c.in_err-edits.field-0.0 c.from_residual.ensures.1 c.in_err-edits.ensures.refusal
+
+pub returns-in_err-edits-clause-undamaged : goal.returns-in_err-edits-clause-undamaged
+returns-in_err-edits-clause-undamaged g c = λ held shown is.
+    read_undamaged (g.R.Rows.holds c.args.rows.now × AreShown (g.R.Rows.cells c.args.rows.now)) c.in_err-edits.field-0.0 c.in_err-edits.ensures.refusal (held, shown)
+    (same_refusal c.from_residual.result c.in_err-edits.field-0.0 Damaged c.from_residual.ensures.1 is)
+
+pub returns-in_err-edits-clause-full : goal.returns-in_err-edits-clause-full
+returns-in_err-edits-clause-full g c = λ is. absurd (
+    not_full (g.R.Rows.holds c.args.rows.now × AreShown (g.R.Rows.cells c.args.rows.now)) c.in_err-edits.field-0.0 c.in_err-edits.ensures.refusal
+    (same_refusal c.from_residual.result c.in_err-edits.field-0.0 MemtableFull c.from_residual.ensures.1 is))
+
+pub returns-in_err-apply-clause-refusal : goal.returns-in_err-apply-clause-refusal
+returns-in_err-apply-clause-refusal g c = apply_refused c.from_residual-in_err-apply.result c.in_err-apply.field-0.0 c.from_residual-in_err-apply.ensures.1 c.in_err-apply.ensures.refusal
+
+pub returns-in_err-apply-clause-undamaged : goal.returns-in_err-apply-clause-undamaged
+returns-in_err-apply-clause-undamaged g c = λ held shown is.
+    apply_undamaged c.in_err-apply.field-0.0 c.in_err-apply.ensures.refusal (same_refusal c.from_residual-in_err-apply.result c.in_err-apply.field-0.0 Damaged c.from_residual-in_err-apply.ensures.1 is)
+
+pub returns-in_err-apply-clause-full : goal.returns-in_err-apply-clause-full
+returns-in_err-apply-clause-full g c = λ is.
+    let es = c.in_ok-edits.edits in (
+      c.args.cell.now.row,
+      es.items,
+      (
+        refl,
+        erases_some (g.R.Rows.holds c.args.rows.now) (g.R.Rows.cells c.args.rows.now) c.args.cell.now c.args.floor es.items
+            (some_list es.items es.len c.is_empty.result es.ok.0 c.is_empty.ensures c.if-is_empty.false) c.in_ok-edits.ensures.old,
+      ),
+      c.in_ok-edits.ensures.reads.room c.args.cell.now.row es.items (c.in_err-apply.ensures.full (passed_on c.from_residual-in_err-apply.result c.in_err-apply.field-0.0 MemtableFull c.from_residual-in_err-apply.ensures.1 is)),
+    )

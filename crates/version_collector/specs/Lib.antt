@@ -1,0 +1,10 @@
+pub mod Erasing
+pub mod Locks
+pub mod Refusals
+pub mod Room
+pub mod Shows
+pub mod Versions
+pub mod Visits
+pub use Rattle.si_model.specs.Machine
+pub use Rattle.si_model.specs.Replies
+pub use Rattle.si_model.specs.ShowsCells

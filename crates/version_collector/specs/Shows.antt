@@ -1,0 +1,112 @@
+-- What it means that the collectors show those of a state of the snapshot machine.
+use Rattle.std.specs.Prelude.{◌≡◌, ◌≢◌, ⊤, ℕ, ◌≤◌, Bool, true, false, Option, Some, None, Result, Ok}
+use Rattle.std.specs.Ordering.{nat_cmp}
+use Rattle.std.specs.BTreeMap as btree
+use Rattle.std.specs.FinMap as finmap
+use Rattle.cell_key.specs.Cells.{Cells}
+use Rattle.cell_key.specs.declared.refusals.Refusal.{Refusal}
+use Rattle.cell_key.specs.declared.refusals.Refusal.TheVariants.{UnknownCollector, BadCount}
+use Rattle.si_model.specs.Collection.{ChangesCells}
+use Rattle.si_model.specs.Kinds.{OfCollectors, kind_of}
+use Rattle.si_model.specs.Machine.{State, Request, Reply, CollectBegin, Step, IsReached, end_of_stamps, most_visits}
+use Rattle.si_model.specs.ShowsCells.{ShowsCells}
+use Rattle.si_model.specs.declared.replies.CollectReply.{CollectReply}
+use Rattle.si_model.specs.declared.replies.CollectReply.TheVariants.{Collected}
+use Rattle.version_collector.specs.Visits.{Comes, HasVisited, IsTold}
+use Rattle.version_collector.specs.declared.collector.Collector.{Collector}
+use Rattle.version_collector.specs.declared.collectors.Collectors.{Collectors}
+
+-- the collector with this number is this one, and has come as far as it says
+pub record ShowsCollector (cells : Cells) (c : Collector) (i : ℕ) (st : State) : Type 0 where
+  pub kept : finmap.get st.collectors i ≡ Some c.floor
+  pub come : Comes cells st c
+
+-- what is kept at a number is the collector that has it, if one is open
+abbrev pub ShowsAt : Cells → Option Collector → ℕ → State → Type 0
+ShowsAt cells None i st = finmap.get st.collectors i ≡ None
+ShowsAt cells (Some c) i st = ShowsCollector cells c i st
+
+-- the collectors that are kept are those that are open, and the next number and the greatest floor are the machine's
+pub record ShowsCollectors (cells : Cells) (collectors : Collectors) (st : State) : Type 0 where
+  pub next : collectors.next ≡ st.next_collector
+  pub floor : collectors.greatest_floor ≡ st.floor
+  pub each : (i : ℕ) → ShowsAt cells (btree.get nat_cmp collectors.collectors i) i st
+  pub count : finmap.len st.collectors ≡ btree.btree_map_len collectors.collectors
+
+-- From each reached state that is shown before, the machine may answer so, and goes to a state that is shown after.
+abbrev pub Steps : Cells → Collectors → Request → Reply → Cells → Collectors → Type 0
+Steps cells collectors request reply cells' collectors' =
+    (st : State) → IsReached st → ShowsCells cells st → ShowsCollectors cells collectors st
+    → (next : State) × Step st request reply next × ShowsCells cells' next × ShowsCollectors cells' collectors' next
+
+-- so it is in each reached state that cells and collectors show
+abbrev pub InEachShown : Cells → Collectors → (State → Type 0) → Type 0
+InEachShown cells collectors IsSo = (st : State) → IsReached st → ShowsCells cells st → ShowsCollectors cells collectors st → IsSo st
+
+-- From this state, shown before, the machine may answer a CollectBegin so, and goes to a state that is shown after.
+abbrev pub Begins : Cells → Collectors → Reply → State → Type 0
+Begins cells collectors' reply st = (next : State) × Step st CollectBegin reply next × ShowsCells cells next × ShowsCollectors cells collectors' next
+
+-- the collector that is kept at this number
+abbrev pub kept_at : Collectors → ℕ → Option Collector
+kept_at collectors i = btree.get nat_cmp collectors.collectors i
+
+-- what is kept of a collector after a step: it is closed where all is collected
+abbrev pub kept_after : Result CollectReply Refusal → Collector → Option Collector
+kept_after (Ok Collected) c = None
+kept_after result c = Some c
+
+-- The collector with this number has made visits for a request of n, and is kept as they left it.
+abbrev pub VisitsAt : ℕ → ℕ → Result CollectReply Refusal → Cells → Collectors → Cells → Collectors → Type 0
+VisitsAt i n result cells old cells' new = (c : Collector) → kept_at old i ≡ Some c
+    → (c' : Collector) × HasVisited n result cells c cells' c' × (kept_at new i ≡ kept_after result c')
+
+-- and what it told is so
+abbrev pub TellsAt : ℕ → ℕ → CollectReply → Cells → Collectors → Cells → Collectors → State → Type 0
+TellsAt i n reply cells old cells' new st = (c c' : Collector) → kept_at old i ≡ Some c → kept_at new i ≡ kept_after (Ok reply) c'
+    → IsTold n reply cells c cells' c' st
+
+-- no collector but the one with this number changes, and none begins
+pub record ChangesOne (i : ℕ) (old new : Collectors) : Type 0 where
+  pub next : new.next ≡ old.next
+  pub floor : new.greatest_floor ≡ old.greatest_floor
+  pub others : (j : ℕ) → j ≢ i → kept_at new j ≡ kept_at old j
+
+-- whether a reply closes the collector
+abbrev pub is_last : CollectReply → Bool
+is_last Collected = true
+is_last _ = false
+
+-- a number of visits that a request may ask for
+abbrev pub IsCount : ℕ → Type 0
+IsCount n = (1 ≤ n) × (n ≤ most_visits)
+
+-- refusals that come before any visit
+abbrev pub IsEarlyRefusal : Refusal → Type 0
+IsEarlyRefusal UnknownCollector = ⊤
+IsEarlyRefusal BadCount = ⊤
+IsEarlyRefusal _ = ⊥
+
+-- the same collectors, the same next number and the same greatest floor
+pub record SameCollectors (old new : Collectors) : Type 0 where
+  pub next : new.next ≡ old.next
+  pub floor : new.greatest_floor ≡ old.greatest_floor
+  pub each : (i : ℕ) → btree.get nat_cmp new.collectors i ≡ btree.get nat_cmp old.collectors i
+  pub count : btree.btree_map_len new.collectors ≡ btree.btree_map_len old.collectors
+
+-- no collector with this number is open
+abbrev pub IsUnopened : State → ℕ → Type 0
+IsUnopened st i = finmap.get st.collectors i ≡ None
+
+-- no number is left
+abbrev pub IsUsedUp : State → Type 0
+IsUsedUp st = end_of_stamps ≤ st.next_collector
+
+-- what others do leaves what collectors show
+abbrev pub AreShownOn : Type 0
+AreShownOn = (cells cells' : Cells) (collectors : Collectors) (st next : State) (q : Request) (r : Reply) → IsReached st → ShowsCells cells st
+    → Step st q r next → kind_of q ≢ OfCollectors → ChangesCells cells st cells' → ShowsCollectors cells collectors st → ShowsCollectors cells' collectors next
+
+-- collectors that are the same show the same
+abbrev pub AreShownSame : Type 0
+AreShownSame = (cells : Cells) (old new : Collectors) (st : State) → SameCollectors old new → ShowsCollectors cells old st → ShowsCollectors cells new st

@@ -1,0 +1,87 @@
+-- What a second pass finds in a cell: records that are old, or data that no record names.
+use Rattle.std.specs.Prelude.{◌≡◌, ◌⊎◌, ⊤, ℕ, ◌+◌, ◌-◌, ◌<◌, ◌≤◌, ◌^◌, List, [], ◌∷◌, length, map, Option, Some, None, slice_get}
+use Rattle.byteorder.specs.Endian.{big_number}
+use Rattle.cell_key.specs.Cells.{Cells, IsNewest}
+use Rattle.cell_key.specs.declared.keys.Qualifier.{Qualifier}
+use Rattle.cell_key.specs.declared.keys.Qualifier.TheVariants.{Data, Write}
+use Rattle.row_atomic.specs.Oldest.{IsOldest}
+use Rattle.si_model.specs.Collection.{IsNamed, IsOld}
+use Rattle.si_model.specs.Machine.{State, IsReached}
+use Rattle.si_model.specs.Sets.{◌∈◌}
+use Rattle.si_model.specs.ShowsCells.{IsThere, ShowsCells, at, key_of}
+use Rattle.si_model.specs.declared.replies.Cell.{Cell}
+
+-- a reached state is shown
+abbrev pub AreShown : Cells → Type 0
+AreShown cells = (st : State) × IsReached st × ShowsCells cells st
+
+-- the n greatest numbers of which something is so, in falling order; all of them, if they are fewer
+pub record AreGreatest (n : ℕ) (IsSo : ℕ → Type 0) (found : List ℕ) : Type 0 where
+  pub falling : (i j a b : ℕ) → i < j → slice_get found i ≡ Some a → slice_get found j ≡ Some b → b < a
+  pub each : (s : ℕ) → s ∈ found → IsSo s
+  pub few : length found ≤ n
+  pub rest : (s : ℕ) → IsSo s → (s ∈ found) ⊎ ((length found ≡ n) × ((t : ℕ) → t ∈ found → s < t))
+
+-- the newest record of x at or below the floor is the one at w
+pub record IsLastRecord (cells : Cells) (x : Cell) (floor w : ℕ) : Type 0 where
+  pub there : IsThere cells x Write w
+  pub low : w ≤ floor
+  pub last : (c : ℕ) → c ≤ floor → IsThere cells x Write c → c ≤ w
+
+-- the newest 128 records older than that one, each with the start that it names
+pub record AreOld (cells : Cells) (x : Cell) (floor : ℕ) (vs : List (ℕ × ℕ)) : Type 0 where
+  pub w : ℕ
+  pub kept : IsLastRecord cells x floor w
+  pub stamps : AreGreatest 128 (λ c. IsThere cells x Write c × (c < w)) (map (λ v. v.0) vs)
+  pub named : (v : ℕ × ℕ) → v ∈ vs → IsOld cells x w v
+
+-- found is the version of x's column with the greatest stamp below this one
+abbrev pub IsLatestBelow : Cells → Cell → Qualifier → ℕ → Option (ℕ × List ℕ) → Type 0
+IsLatestBelow cells x q below None = (s : ℕ) → s < below → at cells x q s ≡ None
+IsLatestBelow cells x q below (Some found) =
+    (found.0 < below) × (at cells x q found.0 ≡ Some found.1) × ((s : ℕ) → found.0 < s → s < below → at cells x q s ≡ None)
+
+-- a record's text names t
+abbrev pub NamesStart : List ℕ → ℕ → Type 0
+NamesStart b t = (length b ≡ 8) × (big_number 8 b ≡ t)
+
+-- at most one record of x stands at or below the floor
+abbrev pub HasOneRecord : Cells → Cell → ℕ → Type 0
+HasOneRecord cells x floor = (c d : ℕ) → c ≤ floor → d ≤ floor → IsThere cells x Write c → IsThere cells x Write d → c ≡ d
+
+-- what a search for old records finds: old ones, or none where at most one stands at or below the floor
+abbrev pub AreFound : Cells → Cell → ℕ → List (ℕ × ℕ) → Type 0
+AreFound cells x floor [] = HasOneRecord cells x floor
+AreFound cells x floor (v ∷ vs) = AreOld cells x floor (v ∷ vs)
+
+-- the start is one of the two
+abbrev pub IsAmong : ℕ → Option ℕ × Option ℕ → Type 0
+IsAmong t near = (near.0 ≡ Some t) ⊎ (near.1 ≡ Some t)
+
+-- the start that a record names, if there is one
+abbrev pub IsNamedBy : Option (ℕ × List ℕ) → Option ℕ → Type 0
+IsNamedBy None None = ⊤
+IsNamedBy (Some found) (Some t) = NamesStart found.1 t
+IsNamedBy found start = ⊥
+
+-- it is a record that names no start within the limits of stamps
+abbrev pub NamesNone : Option (ℕ × List ℕ) → Type 0
+NamesNone None = ⊥
+NamesNone (Some found) = (t : ℕ) → 1 ≤ t → t < 2 ^ 63 → ¬ NamesStart found.1 t
+
+-- the start that the newest record at or below the floor names
+abbrev pub NamesLast : Cells → Cell → ℕ → Option ℕ → Type 0
+NamesLast cells x floor start = (last : Option (ℕ × List ℕ)) × IsNewest cells (key_of x Write) 0 floor last × IsNamedBy last start
+
+-- the start that the oldest record above the floor names
+abbrev pub NamesNext : Cells → Cell → ℕ → Option ℕ → Type 0
+NamesNext cells x floor start = (next : Option (ℕ × List ℕ)) × IsOldest cells (key_of x Write) (floor + 1) (2 ^ 64 - 1) next × IsNamedBy next start
+
+-- data below the floor that no record names
+abbrev pub IsUnnamed : Cells → Cell → ℕ → ℕ → Type 0
+IsUnnamed cells x floor t = (t < floor) × IsThere cells x Data t × (¬ IsNamed cells x t)
+
+-- a cell has at most one record at or below the floor, and these are the newest 256 such data
+pub record AreUnnamed (cells : Cells) (x : Cell) (floor : ℕ) (ts : List ℕ) : Type 0 where
+  pub one : HasOneRecord cells x floor
+  pub starts : AreGreatest 256 (IsUnnamed cells x floor) ts

@@ -1,0 +1,180 @@
+//! The collectors that are open.
+
+ghost use Rattle.std.specs.Prelude.{◌≡◌, ◌⊎◌, IfErr, IfOk, IsErrOf, OnErr};
+ghost use Rattle.std.specs.FinMap.{empty, get};
+ghost use Rattle.cell_key.specs.Cells.{Cells};
+ghost use Rattle.cell_key.specs.Faults.{HasReason};
+ghost use Rattle.row_atomic.specs.Calls.{KeepsBelow};
+ghost use Rattle.row_atomic.specs.Room.{HasNoRoom};
+ghost use Rattle.si_model.specs.Machine as machine;
+ghost use Rattle.si_model.specs.Machine.{IsFloor, IsReached, State};
+ghost use Rattle.si_model.specs.Replies.{collect_reply, result_reply};
+ghost use Rattle.si_model.specs.ShowsCells.{ShowsCells};
+ghost use Rattle.version_collector.specs.Refusals.{IsBeginRefusal, IsStepRefusal};
+ghost use Rattle.version_collector.specs.Room.{AreOfVisitsIn, TakesRoomOfVisits};
+ghost use Rattle.version_collector.specs.Shows.{Begins, ChangesOne, InEachShown, IsCount, IsEarlyRefusal, IsUnopened, IsUsedUp, SameCollectors, ShowsCollectors, Steps, TellsAt, VisitsAt, is_last};
+ghost use Rattle.version_collector.specs.Visits.{Thins};
+ghost use Rattle.si_model.specs.Collection.{Collects};
+
+use crate::collector::{Collector, Pass};
+use cell_key::{Refusal, Stamp};
+use row_atomic::Rows;
+use si_model::CollectReply;
+use std::alloc::Global;
+use std::collections::BTreeMap;
+
+/// The most collectors that are open at once.
+const MOST_COLLECTORS: usize = 64;
+
+/// The greatest number of a collector.
+const MOST_NUMBER: u64 = 9_223_372_036_854_775_807;
+
+/// The most visits of a request.
+const MOST_VISITS: u32 = 1000;
+
+/// The open collectors by their numbers, the number of the next one, and the greatest floor that one
+/// began with.
+///
+/// Each call is a step of the snapshot machine: where cells and collectors show one of its states, the
+/// answer is one that the machine may give there, and they show its next state after. A refused step
+/// leaves that state as it was, and keeps the visits that it made before.
+#[derive(Drop)]
+pub struct Collectors {
+    alloc: Global,
+    next: u64,
+    greatest_floor: Stamp,
+    collectors: BTreeMap<u64, Collector>,
+}
+
+/// Whether a step that is answered so was the collector's last.
+fn closes(reply: &CollectReply) -> bool
+    ensures { result ≡ is_last reply.now }
+{
+    matches!(reply, CollectReply::Collected)
+}
+
+impl Collectors {
+    /// No collectors. The first one gets the number 1. `floor` is the greatest one that a collector
+    /// began with, 0 if none did.
+    pub fn new(alloc: Global, floor: Stamp) -> Collectors
+        ensures shown { (cells : Cells) (st : State)
+            → st.next_collector ≡ 1 → st.collectors ≡ empty → st.floor ≡ floor → ShowsCollectors cells result st }
+        ensures floor { result.greatest_floor ≡ floor }
+    {
+        Collectors {
+            alloc,
+            next: 1,
+            greatest_floor: floor,
+            collectors: BTreeMap::new(alloc),
+        }
+    }
+
+    /// The greatest floor that a collector began with, 0 if none did.
+    pub fn greatest_floor(&self) -> Stamp
+        ensures floor { result ≡ self.now.greatest_floor }
+        ensures shown { (cells : Cells) (st : State) → ShowsCollectors cells self.now st → result ≡ st.floor }
+    {
+        self.greatest_floor
+    }
+
+    /// Opens a collector with this floor, which is the least start of an active session, or one more
+    /// than the greatest stamp that was answered if none is active. Its number, from 1 on.
+    ///
+    /// # Errors
+    ///
+    /// `TooManySessions` when 64 collectors are open; then `Exhausted` after the greatest number, or
+    /// `NoMemory`. There is room for the collector before its number is drawn.
+    pub fn begin(&mut self, floor: Stamp) -> Result<u64, Refusal>
+        ensures step { (cells : Cells) (st : State)
+            → IsReached st → ShowsCells cells st → ShowsCollectors cells self.old st → IsFloor st floor
+            → Begins cells self.new (result_reply (λ number. machine.Collecting number floor) result) st }
+        ensures refusal { IfErr result IsBeginRefusal }
+        ensures err { OnErr result (SameCollectors self.old self.new) }
+        ensures exhausted { IsErrOf result Refusal.Exhausted
+            → (cells : Cells) (st : State) → ShowsCollectors cells self.old st → IsUsedUp st }
+    {
+        if self.collectors.len() >= MOST_COLLECTORS {
+            return Err(Refusal::TooManySessions);
+        }
+        let number = self.next;
+        if number > MOST_NUMBER {
+            return Err(Refusal::Exhausted);
+        }
+        let collector = Collector {
+            floor,
+            pass: Pass::First,
+            after: None,
+        };
+        self.collectors.insert(number, collector)?;
+        self.next = number + 1;
+        self.greatest_floor = self.greatest_floor.max(floor);
+        Ok(number)
+    }
+
+    /// Makes visits until a lock below the floor is met (`Blocked`), all is collected (`Collected`; the
+    /// collector is then closed), a visit is refused, or so many visits are made (`More`).
+    ///
+    /// # Errors
+    ///
+    /// `UnknownCollector` where none is open with this number, then `BadCount` for a number of visits
+    /// outside 1 to 1,000; then `MemtableFull` where the rows have no room for the edits of a visit,
+    /// `Device`, `NoMemory`, or `Damaged` where bytes that were read are outside their form. The
+    /// visits that were made before stay: the cells and the position are those after them.
+    pub fn step<R: Rows>(
+        &mut self,
+        rows: &mut R,
+        number: u64,
+        visits: u32,
+    ) -> Result<CollectReply, Refusal>
+        ensures step { R.holds rows.old
+            → Steps (R.cells rows.old) self.old (machine.CollectStep number visits)
+            (result_reply collect_reply result) (R.cells rows.new) self.new }
+        // What is done are visits, by the rules of collection.
+        ensures visited { R.holds rows.old
+            → IsCount visits
+            → InEachShown (R.cells rows.old) self.old (λ st.
+            VisitsAt number visits result (R.cells rows.old) self.old (R.cells rows.new) self.new) }
+        // All that sessions read, each lock and each fate stays. Keys of so many rows go at the most, and none is added.
+        ensures leaves { R.holds rows.old
+            → InEachShown (R.cells rows.old) self.old (λ st.
+            Collects (R.cells rows.old) (R.cells rows.new) st × Thins visits (R.cells rows.old) (R.cells rows.new)) }
+        // Collected: each cell is tidy. More: so much less is left. Blocked: a lock below the floor stands there.
+        ensures told { R.holds rows.old
+            → IfOk result (λ reply. InEachShown (R.cells rows.old) self.old (λ st.
+            TellsAt number visits reply (R.cells rows.old) self.old (R.cells rows.new) self.new st)) }
+        ensures one { ChangesOne number self.old self.new }
+        // Nothing is read or changed where no collector has this number, or the number of visits is bad.
+        ensures early { IfErr result (λ refusal. IsEarlyRefusal refusal
+            → SameCollectors self.old self.new × (rows.new ≡ rows.old)) }
+        ensures below { KeepsBelow R.holds R.storage rows.old rows.new }
+        ensures room { TakesRoomOfVisits R.overfills visits rows.old rows.new }
+        // What is shown is never answered as damaged.
+        ensures undamaged { R.holds rows.old
+            → InEachShown (R.cells rows.old) self.old (λ st. ¬ IsErrOf result Refusal.Damaged) }
+        ensures refusal { IfErr result IsStepRefusal }
+        ensures unknown { (cells : Cells) (st : State)
+            → ShowsCollectors cells self.old st → IsUnopened st number → IsErrOf result Refusal.UnknownCollector }
+        ensures count { ¬ IsCount visits
+            → IsErrOf result Refusal.UnknownCollector ⊎ IsErrOf result Refusal.BadCount }
+        // A step is refused MemtableFull where the rows have no room for edits of such visits.
+        ensures full { IsErrOf result Refusal.MemtableFull
+            → HasNoRoom R.overfills rows.old (AreOfVisitsIn visits) }
+        ensures reason { HasReason (R.faults rows.old) (R.faults rows.new) result }
+    {
+        let Some(collector) = self.collectors.get_mut(&number) else {
+            return Err(Refusal::UnknownCollector);
+        };
+        if visits == 0 {
+            return Err(Refusal::BadCount);
+        }
+        if visits > MOST_VISITS {
+            return Err(Refusal::BadCount);
+        }
+        let reply = collector.advance(self.alloc, rows, visits)?;
+        if closes(&reply) {
+            self.collectors.remove(&number);
+            return Ok(reply);
+        }
+        Ok(reply)
+    }
+}

@@ -1,0 +1,118 @@
+//! What a second pass erases of a cell, in one row transaction.
+
+ghost use Rattle.std.specs.Prelude.{◌≡◌, ◌≢◌, [], IfErr, IfOk, IsErrOf, OnErr};
+ghost use Rattle.std.specs.Bool.{OnFalse, OnTrue};
+ghost use Rattle.std.specs.List.{AllByRecursion};
+ghost use Rattle.cell_key.specs.Cells.{IsEditOf};
+ghost use Rattle.cell_key.specs.Faults.{HasReason};
+ghost use Rattle.row_atomic.specs.Calls.{AppliesSuch, OnlyReads};
+ghost use Rattle.row_atomic.specs.Refusals.{IsRefusalOfRead};
+ghost use Rattle.row_atomic.specs.Room.{HasNoRoom};
+ghost use Rattle.si_model.specs.Collection.{IsTidy};
+ghost use Rattle.version_collector.specs.Erasing.{CollectsCell, ErasesOrIsTidy, data_erasures, record_erasures};
+ghost use Rattle.version_collector.specs.Refusals.{IsVisitRefusal};
+ghost use Rattle.version_collector.specs.Versions.{AreShown};
+
+use crate::versions::{old_records, unnamed_data};
+use cell_key::{Edit, Moment, Qualifier, Refusal, Stamp};
+use row_atomic::Rows;
+use si_model::{Cell, key};
+use std::alloc::Global;
+
+/// The edits that erase records, each with the data that it names. Refused NoMemory where there is no
+/// room for them.
+fn record_edits(
+    alloc: Global,
+    cell: &Cell,
+    records: &[(Moment, Moment)],
+) -> Result<Vec<Edit>, Refusal>
+    ensures edits { IfOk result (λ edits. edits.items ≡ record_erasures cell.now records.now) }
+    ensures under { IfOk result (λ edits. AllByRecursion (IsEditOf cell.now.row) edits.items) }
+    ensures refusal { IfErr result (λ refusal. refusal ≡ Refusal.NoMemory) }
+{
+    let mut edits = Vec::new(alloc);
+    for (commit, start) in records {
+        let record = key(cell, Qualifier::Write, commit.stamp())?;
+        let data = key(cell, Qualifier::Data, start.stamp())?;
+        edits.push(Edit::Erase(record))?;
+        edits.push(Edit::Erase(data))?;
+    }
+    Ok(edits)
+}
+
+/// The edits that erase data. Refused NoMemory where there is no room for them.
+fn data_edits(alloc: Global, cell: &Cell, starts: &[Moment]) -> Result<Vec<Edit>, Refusal>
+    ensures edits { IfOk result (λ edits. edits.items ≡ data_erasures cell.now starts.now) }
+    ensures under { IfOk result (λ edits. AllByRecursion (IsEditOf cell.now.row) edits.items) }
+    ensures refusal { IfErr result (λ refusal. refusal ≡ Refusal.NoMemory) }
+{
+    let mut edits = Vec::new(alloc);
+    for start in starts {
+        let data = key(cell, Qualifier::Data, start.stamp())?;
+        edits.push(Edit::Erase(data))?;
+    }
+    Ok(edits)
+}
+
+/// The edits that erase old versions of a cell; none where the cell is tidy.
+///
+/// # Errors
+///
+/// `Device`, `NoMemory` or `Damaged`, as for every read, and `Damaged` where a record names no start.
+fn old_edits<R: Rows>(
+    alloc: Global,
+    rows: &mut R,
+    cell: &Cell,
+    floor: Stamp,
+) -> Result<Vec<Edit>, Refusal>
+    ensures old { IfOk result (λ edits. ErasesOrIsTidy (R.holds rows.old) (R.cells rows.old) cell.now floor edits.items) }
+    ensures under { IfOk result (λ edits. AllByRecursion (IsEditOf cell.now.row) edits.items) }
+    ensures reads { OnlyReads R.holds R.cells R.overfills R.storage rows.old rows.new }
+    ensures refusal { IfErr result (IsRefusalOfRead (R.holds rows.old × AreShown (R.cells rows.old))) }
+    ensures reason { HasReason (R.faults rows.old) (R.faults rows.new) result }
+{
+    let records = old_records(alloc, rows, cell, floor)?;
+    if !records.is_empty() {
+        return record_edits(alloc, cell, &records);
+    }
+    let starts = unnamed_data(alloc, rows, cell, floor)?;
+    data_edits(alloc, cell, &starts)
+}
+
+/// Erases old versions of a cell in one row transaction, and says whether there were any: the
+/// newest 128 records older than the newest one at or below the floor, with the data that they name;
+/// or, where there are none, the newest 256 data below the floor that no record names. Where there
+/// are neither, the cell is tidy.
+///
+/// # Errors
+///
+/// `MemtableFull` where the rows have no room for the edits, `Device`, `NoMemory`, or `Damaged` where
+/// bytes that were read are outside their form.
+pub(crate) fn erase_old<R: Rows>(
+    alloc: Global,
+    rows: &mut R,
+    cell: &Cell,
+    floor: Stamp,
+) -> Result<bool, Refusal>
+    ensures erased { IfOk result (λ erased. OnTrue erased (AppliesSuch R.holds R.cells R.overfills R.storage
+        (CollectsCell (R.holds rows.old) (R.cells rows.old) cell.now floor) rows.old rows.new)) }
+    ensures left { IfOk result (λ erased. OnFalse erased (OnlyReads R.holds R.cells R.overfills R.storage rows.old rows.new)) }
+    ensures tidy { R.holds rows.old
+        → AreShown (R.cells rows.old)
+        → IfOk result (λ erased. OnFalse erased (IsTidy (R.cells rows.old) cell.now floor)) }
+    ensures err { OnErr result (OnlyReads R.holds R.cells R.overfills R.storage rows.old rows.new) }
+    ensures refusal { IfErr result IsVisitRefusal }
+    // What is shown is never answered as damaged.
+    ensures undamaged { R.holds rows.old → AreShown (R.cells rows.old) → ¬ IsErrOf result Refusal.Damaged }
+    ensures full { IsErrOf result Refusal.MemtableFull
+        → HasNoRoom R.overfills rows.old
+        (CollectsCell (R.holds rows.old) (R.cells rows.old) cell.now floor) }
+    ensures reason { HasReason (R.faults rows.old) (R.faults rows.new) result }
+{
+    let edits = old_edits(alloc, rows, cell, floor)?;
+    if edits.is_empty() {
+        return Ok(false);
+    }
+    rows.apply(&cell.row, edits)?;
+    Ok(true)
+}
