@@ -12,9 +12,11 @@ longest_frame = 1048580
 
 -- the bytes begin with a whole frame, or with a length past the limit
 abbrev pub IsReady : List ℕ → Type 0
-IsReady bytes = (4 ≤ length bytes) × ((longest < announced bytes) ⊎ (4 + announced bytes ≤ length bytes))
+IsReady bytes =
+    (4 ≤ length bytes) × ((longest < announced bytes) ⊎ (4 + announced bytes ≤ length bytes))
 
--- What a framer hands out of the bytes that it had, and those that are left: the body of their first frame, or nothing.
+-- What a framer hands out of the bytes that it had, and those that are left:
+-- the body of their first frame, or nothing.
 abbrev pub HandsOut : Next → List ℕ → List ℕ → Type 0
 HandsOut More bytes left = IsPartial bytes × (left ≡ bytes)
 HandsOut (Frame body) bytes left = IsBody body.now × (bytes ≡ frame body.now ++ left)
@@ -23,5 +25,6 @@ HandsOut TooLarge bytes left = IsTooLarge bytes × (left ≡ bytes)
 -- the same, where the body is the front of a buffer
 abbrev pub IsAtFirst : First → List ℕ → List ℕ → List ℕ → Type 0
 IsAtFirst first.Part buffer bytes left = IsPartial bytes × (left ≡ bytes)
-IsAtFirst (first.Whole len) buffer bytes left = (len ≤ longest) × (len ≤ length buffer) × (bytes ≡ frame (take len buffer) ++ left)
+IsAtFirst (first.Whole len) buffer bytes left =
+    (len ≤ longest) × (len ≤ length buffer) × (bytes ≡ frame (take len buffer) ++ left)
 IsAtFirst first.TooLarge buffer bytes left = IsTooLarge bytes × (left ≡ bytes)

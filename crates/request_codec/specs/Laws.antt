@@ -16,8 +16,8 @@ abbrev pub HasCut : Type 0
 HasCut = (stream : List ℕ) → ((i : ℕ) → slice_index stream i < 256)
     → (bodies : List (List ℕ)) × (rest : List ℕ) × IsCut stream bodies rest
 
--- Whatever frames were handed out of a stream, they are a beginning of its cut, and the cut of what is left has its other bodies and
--- its rest.
+-- Whatever frames were handed out of a stream, they are a beginning of its cut, and the cut of what
+-- is left has its other bodies and its rest.
 abbrev pub CutGoesOn : Type 0
 CutGoesOn = (stream pending rest : List ℕ) (handed bodies : List (List ℕ))
     → stream ≡ frames handed ++ pending → AllByRecursion IsBody handed → IsCut stream bodies rest
@@ -37,8 +37,11 @@ OneReplyABody = (a b : Reply) (body : List ℕ) → IsReply a body → IsReply b
 
 -- no reply within the limits has a longer frame
 abbrev pub RepliesFit : Type 0
-RepliesFit = (reply : Reply) → IsWithinLimits reply → length (frame (reply_body reply)) ≤ longest_reply
+RepliesFit =
+    (reply : Reply) → IsWithinLimits reply → length (frame (reply_body reply)) ≤ longest_reply
 
 -- the reply of a raw read that finds a value of the greatest length has the longest frame
 abbrev pub RawIsLongest : Type 0
-RawIsLongest = (stamp : ℕ) (value : List ℕ) → length value ≡ 65536 → length (frame (reply_body (RawFound (Some (stamp, value))))) ≡ longest_reply
+RawIsLongest =
+    (stamp : ℕ) (value : List ℕ) → length value ≡ 65536
+    → length (frame (reply_body (RawFound (Some (stamp, value))))) ≡ longest_reply

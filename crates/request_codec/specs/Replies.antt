@@ -1,4 +1,5 @@
--- The bodies of replies: an operation's number with its highest bit, and its fields. A refusal has a body of its own.
+-- The bodies of replies: an operation's number with its highest bit, and its fields.
+-- A refusal has a body of its own.
 use Rattle.std.specs.Prelude.{◌≡◌, ℕ, List, [], ◌∷◌, ◌++◌, ◌<◌, ◌≤◌, ◌^◌, length, Option, Some, None, option_map}
 use Rattle.cell_key.specs.Names.{IsRow, IsFamily}
 use Rattle.cell_key.specs.Refusals.{refusal_number}
@@ -120,7 +121,8 @@ ReplyNumbersFit (Swept count) = count < 2 ^ 64
 ReplyNumbersFit (RawFound (Some found)) = found.0 < 2 ^ 64
 ReplyNumbersFit other = Unit {0}
 
--- each field of bytes has a length that fits; where a lock blocks a collector, the row and the family are within their limits
+-- each field of bytes has a length that fits; where a lock blocks a collector,
+-- the row and the family are within their limits
 abbrev pub ReplyBytesFit : Reply → Type 0
 ReplyBytesFit (Answered (Some value)) = FitsField value
 ReplyBytesFit (Blocked cell start) = IsRow cell.row × IsFamily cell.family

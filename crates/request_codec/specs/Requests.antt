@@ -10,7 +10,8 @@ use Rattle.request_codec.specs.declared.requests.Request.TheVariants as lent
 abbrev pub asked : Lent → Request
 asked lent.Begin = Begin
 asked (lent.Get start row family) = Get start (record { row = row.now; family = family.now })
-asked (lent.Set start row family value) = Set start (record { row = row.now; family = family.now }) value.now
+asked (lent.Set start row family value) =
+    Set start (record { row = row.now; family = family.now }) value.now
 asked (lent.Step start) = Advance start
 asked (lent.Stop start) = Stop start
 asked (lent.CleanBegin row family) = CleanBegin (record { row = row.now; family = family.now })
@@ -22,7 +23,8 @@ asked (lent.Split row) = Split row.now
 asked (lent.Move tablet server) = Move tablet server
 asked lent.Sweep = Sweep
 asked lent.OracleRestart = OracleRestart
-asked (lent.Raw row family qualifier lo hi) = Raw (record { row = row.now; family = family.now }) qualifier lo hi
+asked (lent.Raw row family qualifier lo hi) =
+    Raw (record { row = row.now; family = family.now }) qualifier lo hi
 
 -- the one body of a request
 abbrev pub request_body : Request → List ℕ
@@ -42,7 +44,9 @@ request_body (Split row) = 0x0D ∷ field row
 request_body (Move tablet server) = 0x0E ∷ (number 4 tablet ++ number 1 server)
 request_body Sweep = 0x0F ∷ []
 request_body OracleRestart = 0x10 ∷ []
-request_body (Raw cell qualifier low high) = 0x11 ∷ (cell_fields cell ++ (number 1 (qualifier_number qualifier) ++ (number 8 low ++ number 8 high)))
+request_body (Raw cell qualifier low high) =
+    0x11 ∷ (cell_fields cell
+    ++ (number 1 (qualifier_number qualifier) ++ (number 8 low ++ number 8 high)))
 request_body Checkpoint = 0x12 ∷ []
 
 -- the requests that are in the grammar so far

@@ -1,6 +1,6 @@
 //! Frames out of a stream that comes in pieces.
 
-ghost use Rattle.std.specs.Prelude.{◌≡◌, ◌≤◌, ◌<◌, ◌+◌, ◌-◌, ◌++◌, ◌⊎◌, [], length, take, drop, min, slice_get, IfErr, IfNone, IfOk, IfSome, Some, ⊤};
+ghost use Rattle.std.specs.Prelude.{◌≡◌, ◌==◌, ◌≤◌, ◌<◌, ◌+◌, ◌-◌, ◌++◌, ◌⊎◌, [], length, take, drop, min, slice_get, IfErr, IfNone, IfOk, IfSome, Some, ⊤};
 ghost use Rattle.std.specs.Borrow.{sem, follows_so};
 ghost use Rattle.std.specs.Int.{from_be_bytes, to_be_bytes, w32};
 ghost use Rattle.request_codec.specs.Framing.{IsAtFirst, IsReady, HandsOut, longest_frame};
@@ -162,6 +162,13 @@ impl Framer {
         ensures taken { result ≡ 0 → (piece.now ≡ []) ⊎ IsReady self.old }
     {
         self.ring.fill_from_slice(piece)
+    }
+
+    /// Whether all that was taken was handed out.
+    pub fn is_empty(&self) -> bool
+        ensures { result ≡ (length self.now == 0) }
+    {
+        self.ring.is_empty()
     }
 
     /// The body of the next frame, if a whole one was taken, or that the next frame is too large, or that more bytes are

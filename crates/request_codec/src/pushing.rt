@@ -94,8 +94,10 @@ pub(crate) fn push_field(out: &mut Vec<u8>, bytes: &[u8])
 pub(crate) fn push_cell(out: &mut Vec<u8>, row: &[u8], family: &[u8])
     requires row { FitsField row.now }
     requires family { FitsField family.now }
-    requires room { vec_len out.old + length row.now + length family.now + 8 ≤ vec_capacity out.old }
-    ensures items { out.new.items ≡ out.old.items ++ cell_fields (record { row = row.now; family = family.now }) }
+    requires room { vec_len out.old
+        + length row.now + length family.now + 8 ≤ vec_capacity out.old }
+    ensures items { out.new.items
+        ≡ out.old.items ++ cell_fields (record { row = row.now; family = family.now }) }
     ensures len { vec_len out.new ≡ vec_len out.old + length row.now + length family.now + 8 }
     ensures capacity { vec_capacity out.old ≤ vec_capacity out.new }
 {

@@ -154,7 +154,8 @@ fn refusal_of(number: u8) -> Option<Refusal>
 
 /// What a read found, from the fields of its reply.
 fn decode_found(alloc: Global, fields: &[u8]) -> Result<Option<Found>, AllocError>
-    ensures found { IfOk result (λ found. IfSome found (λ found. IsReply (found_reply found) (0x82 ∷ fields.now))) }
+    ensures found { IfOk result (λ found.
+        IfSome found (λ found. IsReply (found_reply found) (0x82 ∷ fields.now))) }
     ensures none { IfOk result (λ found. IfNone found (IsNoReply (0x82 ∷ fields.now))) }
     ensures needed { OnErr result (NeedsMemory (0x82 ∷ fields.now)) }
 {
@@ -181,7 +182,8 @@ fn decode_found(alloc: Global, fields: &[u8]) -> Result<Option<Found>, AllocErro
 
 /// The reply of a raw read, from its fields, and none where they are not those of one.
 fn decode_raw(alloc: Global, fields: &[u8]) -> Result<Option<Reply>, AllocError>
-    ensures found { IfOk result (λ found. IfSome found (λ reply. IsReply (replied reply) (0x91 ∷ fields.now))) }
+    ensures found { IfOk result (λ found.
+        IfSome found (λ reply. IsReply (replied reply) (0x91 ∷ fields.now))) }
     ensures none { IfOk result (λ found. IfNone found (IsNoReply (0x91 ∷ fields.now))) }
     ensures needed { OnErr result (NeedsMemory (0x91 ∷ fields.now)) }
 {
@@ -203,7 +205,8 @@ fn decode_raw(alloc: Global, fields: &[u8]) -> Result<Option<Reply>, AllocError>
 
 /// What a step did, from the fields of its reply.
 fn decode_progress(fields: &[u8]) -> Option<Progress>
-    ensures found { IfSome result (λ progress. IsReply (progress_reply progress) (0x84 ∷ fields.now)) }
+    ensures found { IfSome result (λ progress.
+        IsReply (progress_reply progress) (0x84 ∷ fields.now)) }
     ensures none { IfNone result (IsNoReply (0x84 ∷ fields.now)) }
 {
     let (tag, rest) = fields.split_first()?;
@@ -330,7 +333,8 @@ fn decode_other(operation: u8, fields: &[u8]) -> Option<Reply>
 /// The reply whose body this is, and none where it is the body of no reply.
 /// Refused NoMemory where there is no room for a value.
 pub fn decode_reply(alloc: Global, body: &[u8]) -> Result<Option<Reply>, Refusal>
-    ensures found { IfOk result (λ found. IfSome found (λ reply. IsReply (replied reply) body.now)) }
+    ensures found { IfOk result (λ found.
+        IfSome found (λ reply. IsReply (replied reply) body.now)) }
     ensures none { IfOk result (λ found. IfNone found (IsNoReply body.now)) }
     ensures refusal { IfErr result (λ refusal. refusal ≡ Refusal.NoMemory) }
     // A reply without bytes is never refused.
@@ -390,7 +394,8 @@ fn progress_length(progress: Progress) -> usize
 #[tactic(auto, using(crate::proofs::Fields::lengths))]
 fn push_found(found: &Found, out: &mut Vec<u8>)
     requires fits { ReplyBytesFit (found_reply found.now) }
-    requires room { vec_len out.old + length (reply_body (found_reply found.now)) ≤ vec_capacity out.old }
+    requires room { vec_len out.old
+        + length (reply_body (found_reply found.now)) ≤ vec_capacity out.old }
     ensures items { out.new.items ≡ out.old.items ++ reply_body (found_reply found.now) }
     ensures capacity { vec_capacity out.old ≤ vec_capacity out.new }
 {
@@ -412,8 +417,10 @@ fn push_found(found: &Found, out: &mut Vec<u8>)
 #[tactic(auto, using(crate::proofs::Fields::lengths))]
 fn push_raw(found: &Option<(Stamp, Vec<u8>)>, out: &mut Vec<u8>)
     requires fits { ReplyBytesFit (RawFound (option_map stamped found.now)) }
-    requires room { vec_len out.old + length (reply_body (RawFound (option_map stamped found.now))) ≤ vec_capacity out.old }
-    ensures items { out.new.items ≡ out.old.items ++ reply_body (RawFound (option_map stamped found.now)) }
+    requires room { vec_len out.old
+        + length (reply_body (RawFound (option_map stamped found.now))) ≤ vec_capacity out.old }
+    ensures items { out.new.items
+        ≡ out.old.items ++ reply_body (RawFound (option_map stamped found.now)) }
     ensures capacity { vec_capacity out.old ≤ vec_capacity out.new }
 {
     push_byte(out, RAW);
@@ -430,7 +437,8 @@ fn push_raw(found: &Option<(Stamp, Vec<u8>)>, out: &mut Vec<u8>)
 /// Appends the body of a step's reply.
 #[tactic(auto, using(crate::proofs::Fields::lengths))]
 fn push_progress(progress: Progress, out: &mut Vec<u8>)
-    requires { vec_len out.old + length (reply_body (progress_reply progress)) ≤ vec_capacity out.old }
+    requires { vec_len out.old
+        + length (reply_body (progress_reply progress)) ≤ vec_capacity out.old }
     ensures items { out.new.items ≡ out.old.items ++ reply_body (progress_reply progress) }
     ensures capacity { vec_capacity out.old ≤ vec_capacity out.new }
 {
@@ -465,7 +473,8 @@ fn push_progress(progress: Progress, out: &mut Vec<u8>)
 /// Appends the body of the reply to a clean-up's beginning.
 #[tactic(auto, using(crate::proofs::Fields::lengths))]
 fn push_clean_start(found: CleanStart, out: &mut Vec<u8>)
-    requires { vec_len out.old + length (reply_body (clean_start_reply found)) ≤ vec_capacity out.old }
+    requires { vec_len out.old
+        + length (reply_body (clean_start_reply found)) ≤ vec_capacity out.old }
     ensures items { out.new.items ≡ out.old.items ++ reply_body (clean_start_reply found) }
     ensures capacity { vec_capacity out.old ≤ vec_capacity out.new }
 {
@@ -503,7 +512,8 @@ fn push_clean_reply(done: CleanReply, out: &mut Vec<u8>)
 #[tactic(auto, using(crate::proofs::Fields::lengths))]
 fn push_reply(reply: &Reply, out: &mut Vec<u8>)
     requires fits { ReplyBytesFit (replied reply.now) }
-    requires room { vec_len out.old + length (reply_body (replied reply.now)) ≤ vec_capacity out.old }
+    requires room { vec_len out.old
+        + length (reply_body (replied reply.now)) ≤ vec_capacity out.old }
     ensures items { out.new.items ≡ out.old.items ++ reply_body (replied reply.now) }
     ensures capacity { vec_capacity out.old ≤ vec_capacity out.new }
 {
@@ -547,7 +557,8 @@ pub fn encode_reply(reply: &Reply, out: &mut Vec<u8>) -> Result<(), Refusal>
     ensures err { OnErr result (out.new.items ≡ out.old.items) }
     ensures refusal { IfErr result (λ refusal. refusal ≡ Refusal.NoMemory) }
     // Where there is room it succeeds.
-    ensures room { vec_len out.old + length (reply_body (replied reply.now)) ≤ vec_capacity out.old → IsOk result }
+    ensures room { vec_len out.old + length (reply_body (replied reply.now)) ≤ vec_capacity out.old
+        → IsOk result }
     ensures capacity { vec_capacity out.old ≤ vec_capacity out.new }
 {
     out.reserve(reply_length(reply))?;

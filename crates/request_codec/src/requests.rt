@@ -276,8 +276,10 @@ fn push_tablet(out: &mut Vec<u8>, operation: u8, tablet: u32)
 fn push_get(out: &mut Vec<u8>, start: Stamp, row: &[u8], family: &[u8])
     requires row { FitsField row.now }
     requires family { FitsField family.now }
-    requires room { vec_len out.old + length row.now + length family.now + 17 ≤ vec_capacity out.old }
-    ensures items { out.new.items ≡ out.old.items ++ request_body (Get start (record { row = row.now; family = family.now })) }
+    requires room { vec_len out.old
+        + length row.now + length family.now + 17 ≤ vec_capacity out.old }
+    ensures items { out.new.items ≡ out.old.items
+        ++ request_body (Get start (record { row = row.now; family = family.now })) }
     ensures capacity { vec_capacity out.old ≤ vec_capacity out.new }
 {
     push_numbered(out, GET, start);
@@ -290,8 +292,10 @@ fn push_set(out: &mut Vec<u8>, start: Stamp, row: &[u8], family: &[u8], value: &
     requires row { FitsField row.now }
     requires family { FitsField family.now }
     requires value { FitsField value.now }
-    requires room { vec_len out.old + length row.now + length family.now + length value.now + 21 ≤ vec_capacity out.old }
-    ensures items { out.new.items ≡ out.old.items ++ request_body (Set start (record { row = row.now; family = family.now }) value.now) }
+    requires room { vec_len out.old
+        + length row.now + length family.now + length value.now + 21 ≤ vec_capacity out.old }
+    ensures items { out.new.items ≡ out.old.items
+        ++ request_body (Set start (record { row = row.now; family = family.now }) value.now) }
     ensures capacity { vec_capacity out.old ≤ vec_capacity out.new }
 {
     push_numbered(out, SET, start);
@@ -304,8 +308,10 @@ fn push_set(out: &mut Vec<u8>, start: Stamp, row: &[u8], family: &[u8], value: &
 fn push_clean_begin(out: &mut Vec<u8>, row: &[u8], family: &[u8])
     requires row { FitsField row.now }
     requires family { FitsField family.now }
-    requires room { vec_len out.old + length row.now + length family.now + 9 ≤ vec_capacity out.old }
-    ensures items { out.new.items ≡ out.old.items ++ request_body (CleanBegin (record { row = row.now; family = family.now })) }
+    requires room { vec_len out.old
+        + length row.now + length family.now + 9 ≤ vec_capacity out.old }
+    ensures items { out.new.items ≡ out.old.items
+        ++ request_body (CleanBegin (record { row = row.now; family = family.now })) }
     ensures capacity { vec_capacity out.old ≤ vec_capacity out.new }
 {
     push_byte(out, CLEAN_BEGIN);
@@ -336,8 +342,10 @@ fn push_raw(
 )
     requires row { FitsField row.now }
     requires family { FitsField family.now }
-    requires room { vec_len out.old + length row.now + length family.now + 26 ≤ vec_capacity out.old }
-    ensures items { out.new.items ≡ out.old.items ++ request_body (Raw (record { row = row.now; family = family.now }) qualifier lo hi) }
+    requires room { vec_len out.old
+        + length row.now + length family.now + 26 ≤ vec_capacity out.old }
+    ensures items { out.new.items ≡ out.old.items
+        ++ request_body (Raw (record { row = row.now; family = family.now }) qualifier lo hi) }
     ensures capacity { vec_capacity out.old ≤ vec_capacity out.new }
 {
     push_byte(out, RAW);
@@ -352,7 +360,8 @@ fn push_raw(
 fn push_client(request: &Request<'_>, out: &mut Vec<u8>)
     requires client { IsOfClient (asked request.now) }
     requires fits { BytesFit (asked request.now) }
-    requires room { vec_len out.old + length (request_body (asked request.now)) ≤ vec_capacity out.old }
+    requires room { vec_len out.old
+        + length (request_body (asked request.now)) ≤ vec_capacity out.old }
     ensures items { out.new.items ≡ out.old.items ++ request_body (asked request.now) }
     ensures capacity { vec_capacity out.old ≤ vec_capacity out.new }
 {
@@ -378,7 +387,8 @@ fn push_client(request: &Request<'_>, out: &mut Vec<u8>)
 fn push_upkeep(request: &Request<'_>, out: &mut Vec<u8>)
     requires upkeep { ¬ (IsOfClient (asked request.now)) }
     requires fits { BytesFit (asked request.now) }
-    requires room { vec_len out.old + length (request_body (asked request.now)) ≤ vec_capacity out.old }
+    requires room { vec_len out.old
+        + length (request_body (asked request.now)) ≤ vec_capacity out.old }
     ensures items { out.new.items ≡ out.old.items ++ request_body (asked request.now) }
     ensures capacity { vec_capacity out.old ≤ vec_capacity out.new }
 {
@@ -410,7 +420,8 @@ fn push_upkeep(request: &Request<'_>, out: &mut Vec<u8>)
 /// Appends the body of a request.
 fn push_request(request: &Request<'_>, out: &mut Vec<u8>)
     requires fits { BytesFit (asked request.now) }
-    requires room { vec_len out.old + length (request_body (asked request.now)) ≤ vec_capacity out.old }
+    requires room { vec_len out.old
+        + length (request_body (asked request.now)) ≤ vec_capacity out.old }
     ensures items { out.new.items ≡ out.old.items ++ request_body (asked request.now) }
     ensures capacity { vec_capacity out.old ≤ vec_capacity out.new }
 {
@@ -434,7 +445,8 @@ pub fn encode_request(request: &Request<'_>, out: &mut Vec<u8>) -> Result<(), Re
     ensures err { OnErr result (out.new.items ≡ out.old.items) }
     ensures refusal { IfErr result (λ refusal. refusal ≡ Refusal.NoMemory) }
     // Where there is room it succeeds.
-    ensures room { vec_len out.old + length (request_body (asked request.now)) ≤ vec_capacity out.old → IsOk result }
+    ensures room { vec_len out.old
+        + length (request_body (asked request.now)) ≤ vec_capacity out.old → IsOk result }
     ensures capacity { vec_capacity out.old ≤ vec_capacity out.new }
 {
     out.reserve(request_length(request))?;

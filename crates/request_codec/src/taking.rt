@@ -94,7 +94,8 @@ pub(crate) fn take_u64(rest: &mut &[u8]) -> Option<u64>
 pub(crate) fn take_bytes<'a>(rest: &mut &'a [u8]) -> Option<&'a [u8]>
     ensures found { IfSome result (λ bytes. rest.old.now ≡ field bytes.now ++ rest.new.now) }
     ensures fits { IfSome result (λ bytes. FitsField bytes.now) }
-    ensures none { IfNone result ((bytes after : List ℕ) → FitsField bytes → rest.old.now ≢ field bytes ++ after) }
+    ensures none { IfNone result ((bytes after : List ℕ) → FitsField bytes
+        → rest.old.now ≢ field bytes ++ after) }
 {
     let len = take_u32(rest)?;
     take_front(rest, len as usize)
@@ -102,9 +103,11 @@ pub(crate) fn take_bytes<'a>(rest: &mut &'a [u8]) -> Option<&'a [u8]>
 
 /// The row and the family of a cell.
 pub(crate) fn take_cell<'a>(rest: &mut &'a [u8]) -> Option<(&'a [u8], &'a [u8])>
-    ensures found { IfSome result (λ p. rest.old.now ≡ cell_fields (record { row = p.0.now; family = p.1.now }) ++ rest.new.now) }
+    ensures found { IfSome result (λ p.
+        rest.old.now ≡ cell_fields (record { row = p.0.now; family = p.1.now }) ++ rest.new.now) }
     ensures fits { IfSome result (λ p. FitsCell (record { row = p.0.now; family = p.1.now })) }
-    ensures none { IfNone result ((cell : CellOf) (after : List ℕ) → FitsCell cell → rest.old.now ≢ cell_fields cell ++ after) }
+    ensures none { IfNone result ((cell : CellOf) (after : List ℕ) → FitsCell cell
+        → rest.old.now ≢ cell_fields cell ++ after) }
 {
     let row = take_bytes(rest)?;
     let family = take_bytes(rest)?;
@@ -113,8 +116,10 @@ pub(crate) fn take_cell<'a>(rest: &mut &'a [u8]) -> Option<(&'a [u8], &'a [u8])>
 
 /// The number of a qualifier.
 pub(crate) fn take_qualifier(rest: &mut &[u8]) -> Option<Qualifier>
-    ensures found { IfSome result (λ qualifier. rest.old.now ≡ number 1 (qualifier_number qualifier) ++ rest.new.now) }
-    ensures none { IfNone result ((qualifier : Qualifiers) (after : List ℕ) → rest.old.now ≢ number 1 (qualifier_number qualifier) ++ after) }
+    ensures found { IfSome result (λ qualifier.
+        rest.old.now ≡ number 1 (qualifier_number qualifier) ++ rest.new.now) }
+    ensures none { IfNone result ((qualifier : Qualifiers) (after : List ℕ)
+        → rest.old.now ≢ number 1 (qualifier_number qualifier) ++ after) }
 {
     let byte = take_u8(rest)?;
     qualifier_of(byte)

@@ -100,7 +100,8 @@ pub(crate) fn whole_bytes(bytes: &[u8]) -> Option<&[u8]>
 
 /// The row and the family of a cell.
 pub(crate) fn whole_cell(bytes: &[u8]) -> Option<(&[u8], &[u8])>
-    ensures found { IfSome result (λ p. bytes.now ≡ cell_fields (record { row = p.0.now; family = p.1.now })) }
+    ensures found { IfSome result (λ p.
+        bytes.now ≡ cell_fields (record { row = p.0.now; family = p.1.now })) }
     ensures fits { IfSome result (λ p. FitsCell (record { row = p.0.now; family = p.1.now })) }
     ensures none { IfNone result ((cell : CellOf) → FitsCell cell → bytes.now ≢ cell_fields cell) }
 {
@@ -115,10 +116,12 @@ pub(crate) fn whole_cell(bytes: &[u8]) -> Option<(&[u8], &[u8])>
 
 /// A start, and the row and the family of a cell.
 pub(crate) fn whole_read(bytes: &[u8]) -> Option<(u64, &[u8], &[u8])>
-    ensures found { IfSome result (λ p. bytes.now ≡ number 8 p.0 ++ cell_fields (record { row = p.1.now; family = p.2.now })) }
+    ensures found { IfSome result (λ p.
+        bytes.now ≡ number 8 p.0 ++ cell_fields (record { row = p.1.now; family = p.2.now })) }
     ensures number { IfSome result (λ p. p.0 < 2 ^ 64) }
     ensures cell { IfSome result (λ p. FitsCell (record { row = p.1.now; family = p.2.now })) }
-    ensures none { IfNone result ((start : ℕ) (cell : CellOf) → FitsCell cell → bytes.now ≢ number 8 start ++ cell_fields cell) }
+    ensures none { IfNone result ((start : ℕ) (cell : CellOf) → FitsCell cell
+        → bytes.now ≢ number 8 start ++ cell_fields cell) }
 {
     let mut rest = bytes;
     let start = take_u64(&mut rest)?;
@@ -132,12 +135,13 @@ pub(crate) fn whole_read(bytes: &[u8]) -> Option<(u64, &[u8], &[u8])>
 
 /// A start, the row and the family of a cell, and a value.
 pub(crate) fn whole_write(bytes: &[u8]) -> Option<(u64, &[u8], &[u8], &[u8])>
-    ensures found { IfSome result (λ p. bytes.now ≡ number 8 p.0 ++ (cell_fields (record { row = p.1.now; family = p.2.now }) ++ field p.3.now)) }
+    ensures found { IfSome result (λ p. bytes.now ≡ number 8 p.0
+        ++ (cell_fields (record { row = p.1.now; family = p.2.now }) ++ field p.3.now)) }
     ensures number { IfSome result (λ p. p.0 < 2 ^ 64) }
     ensures cell { IfSome result (λ p. FitsCell (record { row = p.1.now; family = p.2.now })) }
     ensures value { IfSome result (λ p. FitsField p.3.now) }
-    ensures none { IfNone result ((start : ℕ) (cell : CellOf) (value : List ℕ) → FitsCell cell → FitsField value
-        → bytes.now ≢ number 8 start ++ (cell_fields cell ++ field value)) }
+    ensures none { IfNone result ((start : ℕ) (cell : CellOf) (value : List ℕ) → FitsCell cell
+        → FitsField value → bytes.now ≢ number 8 start ++ (cell_fields cell ++ field value)) }
 {
     let mut rest = bytes;
     let start = take_u64(&mut rest)?;
@@ -160,12 +164,14 @@ pub(crate) fn whole_u64_pair(bytes: &[u8]) -> Option<(u64, u64)>
 
 /// The row and the family of a cell, a qualifier, and two bounds.
 pub(crate) fn whole_raw(bytes: &[u8]) -> Option<(&[u8], &[u8], Qualifier, u64, u64)>
-    ensures found { IfSome result (λ p. bytes.now ≡ cell_fields (record { row = p.0.now; family = p.1.now })
+    ensures found { IfSome result (λ p.
+        bytes.now ≡ cell_fields (record { row = p.0.now; family = p.1.now })
         ++ (number 1 (qualifier_number p.2) ++ (number 8 p.3 ++ number 8 p.4))) }
     ensures cell { IfSome result (λ p. FitsCell (record { row = p.0.now; family = p.1.now })) }
     ensures bounds { IfSome result (λ p. (p.3 < 2 ^ 64) × (p.4 < 2 ^ 64)) }
-    ensures none { IfNone result ((cell : CellOf) (qualifier : Qualifiers) (low high : ℕ) → FitsCell cell
-        → bytes.now ≢ cell_fields cell ++ (number 1 (qualifier_number qualifier) ++ (number 8 low ++ number 8 high))) }
+    ensures none { IfNone result ((cell : CellOf) (qualifier : Qualifiers) (low high : ℕ)
+        → FitsCell cell → bytes.now ≢ cell_fields cell
+        ++ (number 1 (qualifier_number qualifier) ++ (number 8 low ++ number 8 high))) }
 {
     let mut rest = bytes;
     let (row, family) = take_cell(&mut rest)?;
@@ -179,7 +185,8 @@ pub(crate) fn whole_version(bytes: &[u8]) -> Option<(u64, &[u8])>
     ensures found { IfSome result (λ p. bytes.now ≡ number 8 p.0 ++ field p.1.now) }
     ensures number { IfSome result (λ p. p.0 < 2 ^ 64) }
     ensures value { IfSome result (λ p. FitsField p.1.now) }
-    ensures none { IfNone result ((stamp : ℕ) (value : List ℕ) → FitsField value → bytes.now ≢ number 8 stamp ++ field value) }
+    ensures none { IfNone result ((stamp : ℕ) (value : List ℕ) → FitsField value
+        → bytes.now ≢ number 8 stamp ++ field value) }
 {
     let mut rest = bytes;
     let stamp = take_u64(&mut rest)?;

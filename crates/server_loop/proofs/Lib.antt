@@ -6,10 +6,12 @@ mod Lengths
 mod Placing
 mod Reaching
 mod RawReads
+mod Reading
 mod Refusing
 mod Relocating
 mod Replacing
 mod ServingLemmas
 mod Stepping
+mod Tended
 mod Upkeeping
 mod Whole

@@ -1,4 +1,4 @@
--- All that is said of an answer to a request, in six parts.
+-- All that is said of an answer to a request, in seven parts.
 use Rattle.std.specs.Prelude.{◌≡◌, ℕ, Option, IfSome, ⊤}
 use Rattle.cell_key.specs.declared.refusals.Refusal.TheVariants.{Device, Exhausted, MemtableFull}
 use Rattle.file_store.specs.Store.{Contents}
@@ -16,7 +16,7 @@ use Rattle.server_loop.specs.Commands.{HasOutcome, command_of}
 use Rattle.server_loop.specs.Refusals.{IsRefusalOf}
 use Rattle.server_loop.specs.Runs.{HasShortValue, IfRefused, StampsGoOn, StepsAs}
 use Rattle.server_loop.specs.Sessions.{ChangesCells, IsAlwaysTold, KeepsCleaners, KeepsOracle, KeepsSessions, LeavesRoom}
-use Rattle.server_loop.specs.Server.{IsFaultSeen, SeesNoFault, Shows, cells_of, cluster_of, last_of, marks_of}
+use Rattle.server_loop.specs.Server.{IsFaultSeen, SeesNoFault, Shows, cells_of, cluster_of, tending_of, last_of, marks_of}
 use Rattle.server_loop.specs.declared.server.Server.{Server}
 use Rattle.txn_client.specs.Room.{ChangesNext, EditsOfStep}
 use Rattle.txn_client.specs.Shows.{IsAboutToDraw}
@@ -105,3 +105,5 @@ pub record IsAnswer {F M : Type 0} (contents : F → Option Contents) (file_faul
   pub sessions : ServesSessions contents request reply old new
   pub tablets : TendsTablets contents file_faults request reply old new
   pub causes : TellsCauses contents file_faults mark_faults request reply old new
+  -- no request changes how many entries a memtable has before it is compacted
+  pub tending : tending_of new ≡ tending_of old

@@ -6,4 +6,4 @@ pub mod Server
 pub mod Commands
 pub mod Sessions
 pub mod Answer
-pub mod Filling
+pub mod Tending

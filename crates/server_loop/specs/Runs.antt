@@ -53,24 +53,25 @@ pub record RunsTo (before : State) (shown : State → Type 0) (taken : List Take
 abbrev pub RunsAs : {S : Type 0} → (S → State → Type 0) → S → S → List Taken → List Reply → Type 0
 RunsAs shows old new taken replies = (before : State) → IsReached before → shows old before → RunsTo before (shows new) taken replies
 
-module _ {S : Type 0} (says : S → Lent → Kept → S → Type 0) where
-  -- A body in the grammar is answered as is said of its request. Any other, and a length past the limit, is refused and changes nothing.
-  abbrev pub SaysOf : S → Taken → Reply → S → Type 0
-  SaysOf old (Body body) reply new = ((request : Lent) × (kept : Kept) × IsRequest (asked request) body × (reply ≡ replied kept) × says old request kept new)
-      ⊎ (IsMalformed body × (reply ≡ Refused BadRequest) × (new ≡ old))
-  SaysOf old Oversize reply new = (reply ≡ Refused FrameTooLarge) × (new ≡ old)
+-- A body in the grammar is answered as is said of its request. Any other, and a length past the limit, is refused and changes nothing.
+abbrev pub SaysOf : {S : Type 0} → (S → Lent → Kept → S → Type 0) → S → Taken → Reply → S → Type 0
+SaysOf says old (Body body) reply new = ((request : Lent) × (kept : Kept) × IsRequest (asked request) body × (reply ≡ replied kept) × says old request kept new)
+    ⊎ (IsMalformed body × (reply ≡ Refused BadRequest) × (new ≡ old))
+SaysOf says old Oversize reply new = (reply ≡ Refused FrameTooLarge) × (new ≡ old)
 
-  -- one answer after the other
+module _ {S : Type 0} (says : S → Lent → Kept → S → Type 0) (between : S → S → Type 0) where
+  -- One answer after the other. After each one comes what is between it and the next.
   abbrev pub SaysAll : S → List Taken → List Reply → S → Type 0
   SaysAll old [] [] new = new ≡ old
-  SaysAll old (taken ∷ more) (reply ∷ replies) new = (mid : S) × SaysOf old taken reply mid × SaysAll mid more replies new
+  SaysAll old (taken ∷ more) (reply ∷ replies) new = (mid next : S) × SaysOf says old taken reply mid × between mid next × SaysAll next more replies new
   SaysAll old [] (reply ∷ replies) new = ⊥
   SaysAll old (taken ∷ more) [] new = ⊥
 
--- These replies are those of a run of the machine, and each is what is said of one answer, from one server to the next.
-pub record AnswersAs {S : Type 0} (shows : S → State → Type 0) (says : S → Lent → Kept → S → Type 0) (old new : S) (taken : List Taken) (replies : List Reply) : Type 0 where
+-- These replies are those of a run of the machine. Each is what is said of one answer, from one server to the next, and after it comes
+-- what is between the two.
+pub record AnswersAs {S : Type 0} (shows : S → State → Type 0) (says : S → Lent → Kept → S → Type 0) (between : S → S → Type 0) (old new : S) (taken : List Taken) (replies : List Reply) : Type 0 where
   pub run : RunsAs shows old new taken replies
-  pub said : SaysAll says old taken replies new
+  pub said : SaysAll says between old taken replies new
 
 -- This reply is a step of the machine, from each reached state that is shown before to one that is shown after. It is never that bytes are damaged.
 abbrev pub StepsAs : {S : Type 0} → (S → State → Type 0) → S → S → machine.Request → Reply → Type 0

@@ -1,19 +1,21 @@
 -- What a call of `serve` does.
-use Rattle.std.specs.Prelude.{◌≡◌, ◌≢◌, ℕ, ◌+◌, ◌<◌, ◌≤◌, List, [], ◌∷◌, ◌++◌, length, take, map, Bool, ◌&&◌, nat_lt, nat_le, if◌then◌else◌, Option, Result, Ok, Err}
+use Rattle.std.specs.Prelude.{◌≡◌, ◌≢◌, ◌⊎◌, ℕ, ◌+◌, ◌<◌, ◌≤◌, List, [], ◌∷◌, ◌++◌, length, take, map, Bool, ◌&&◌, nat_lt, nat_le, if◌then◌else◌, Option, None, Some, Result, Ok, Err, ⊤}
 use Rattle.std.specs.List.{AllByRecursion}
-use Rattle.std.specs.Io.KnownBytes.{Consumes, Appends, IsAtEnd}
+use Rattle.std.specs.Io.KnownBytes.{Consumes, Appends, IsAtEnd, Keeps}
 use Rattle.si_model.specs.Machine.{State, Reply}
 use Rattle.request_codec.specs.Replies.{reply_body}
 use Rattle.request_codec.specs.declared.replies.Reply.{Reply as Kept}
 use Rattle.request_codec.specs.declared.requests.Request.{Request as Lent}
 use Rattle.request_codec.specs.Stream.{longest, frame, frames, announced, IsTooLarge, IsPartial, IsOpen, IsCut, IsBody}
-use Rattle.server_loop.specs.Runs.{Taken, Body, Oversize, AnswersAs}
+use Rattle.server_loop.specs.Runs.{Taken, Body, Oversize, AnswersAs, RunsAs, SaysAll, SaysOf}
 use Rattle.server_loop.specs.declared.ends.End.{End}
 use Rattle.server_loop.specs.declared.ends.End.TheVariants as ends
 use Rattle.server_loop.specs.declared.ends.ServeFault.{ServeFault}
 use Rattle.server_loop.specs.declared.ends.ServeFault.TheVariants as faults
-use Rattle.server_loop.specs.declared.frames.FrameRead.{FrameRead}
-use Rattle.server_loop.specs.declared.frames.FrameRead.TheVariants as reads
+use Rattle.server_loop.specs.declared.serving.Rest.{Rest}
+use Rattle.server_loop.specs.declared.serving.Rest.TheVariants as rests
+
+-- ---- what is taken and written
 
 abbrev pub is_too_large : List ℕ → Bool
 is_too_large rest = nat_le 4 (length rest) && nat_lt longest (announced rest)
@@ -26,32 +28,115 @@ taken_of bodies rest = map Body bodies ++ (if is_too_large rest then Oversize �
 abbrev pub written_of : List Reply → List ℕ
 written_of replies = frames (map reply_body replies)
 
--- How each end comes about, by the bytes that were read, their rest, what the reader has left and what was written.
--- Only after a failed write may the rest begin with a whole frame.
-abbrev pub EndsBy : Result End ServeFault → ℕ → List ℕ → List ℕ → Option (List ℕ) → List ℕ → List ℕ → Type 0
-EndsBy (Ok ends.Clean) most_reads read rest left written answers = (rest ≡ []) × IsAtEnd left × (written ≡ answers)
-EndsBy (Ok ends.Truncated) most_reads read rest left written answers = (0 < length rest) × IsPartial rest × IsAtEnd left × (written ≡ answers)
-EndsBy (Ok ends.TooLarge) most_reads read rest left written answers = IsTooLarge rest × (written ≡ answers)
-EndsBy (Ok ends.ReadsUsedUp) most_reads read rest left written answers = (most_reads ≤ length read) × IsPartial rest × (written ≡ answers)
-EndsBy (Err faults.Read) most_reads read rest left written answers = IsPartial rest × (written ≡ answers)
-EndsBy (Err faults.Write) most_reads read rest left written answers = (more : List ℕ) × (answers ≡ written ++ more)
-EndsBy (Err faults.NoMemory) most_reads read rest left written answers = (read ≡ []) × (written ≡ [])
+-- All of the bodies and of their rest was taken. Where a write failed, a length past the limit may not have been come to.
+abbrev pub Takes : Result End ServeFault → List (List ℕ) → List ℕ → List Taken → Type 0
+Takes (Err faults.Write) bodies rest taken = (taken ≡ map Body bodies) ⊎ (IsTooLarge rest × (taken ≡ map Body bodies ++ Oversize ∷ []))
+Takes result bodies rest taken = taken ≡ taken_of bodies rest
 
--- What a call of `serve` did: the bytes that it read are the frames of bodies and a rest, the replies are those of a
--- run over these, each as is said of one answer, and what it wrote are the replies' frames, or after a failed write a beginning of them.
-pub record Serves {S : Type 0} (shows : S → State → Type 0) (says : S → Lent → Kept → S → Type 0) (old new : S) (left left' held held' : Option (List ℕ)) (most_reads : ℕ) (result : Result End ServeFault) : Type 0 where
+-- The last reply was not written to its end, and nothing came after it: the server is as after the last request.
+pub record IsCutShort {S : Type 0} (says : S → Lent → Kept → S → Type 0) (between : S → S → Type 0) (old new : S) (taken : List Taken) (replies : List Reply) (written : List ℕ) : Type 0 where
+  pub front : List Taken
+  pub last : Taken
+  pub is_taken : taken ≡ front ++ last ∷ []
+  pub earlier : List Reply
+  pub reply : Reply
+  pub is_replied : replies ≡ earlier ++ reply ∷ []
+  pub before : S
+  pub said : SaysAll says between old front earlier before
+  pub answered : SaysOf says before last reply new
+  pub count : ℕ
+  pub short : count < length (frame (reply_body reply))
+  pub wrote : written ≡ written_of earlier ++ take count (frame (reply_body reply))
+
+-- every reply was written to its end
+abbrev pub WritesAll : {S : Type 0} → (S → Lent → Kept → S → Type 0) → (S → S → Type 0) → S → S → List Taken → List Reply → List ℕ → Type 0
+WritesAll says between old new taken replies written = SaysAll says between old taken replies new × (written ≡ written_of replies)
+
+-- What was written. Only a failed write cuts a reply short; after a failed flush all replies were written.
+abbrev pub Writes : {S : Type 0} → (S → Lent → Kept → S → Type 0) → (S → S → Type 0) → Result End ServeFault → S → S → List Taken → List Reply → List ℕ → Type 0
+Writes says between (Err faults.Write) old new taken replies written =
+    WritesAll says between old new taken replies written ⊎ IsCutShort says between old new taken replies written
+Writes says between result old new taken replies written = WritesAll says between old new taken replies written
+
+-- ---- how it ends
+
+-- How each end comes about, by the bytes that were read, their rest, what the reader has left and what the writer holds.
+abbrev pub EndsBy : Result End ServeFault → ℕ → List ℕ → List ℕ → Option (List ℕ) → Option (List ℕ) → Option (List ℕ) → Type 0
+EndsBy (Ok ends.Clean) most_reads read rest left held held' = (rest ≡ []) × IsAtEnd left
+EndsBy (Ok ends.Truncated) most_reads read rest left held held' = (0 < length rest) × IsPartial rest × IsAtEnd left
+EndsBy (Ok ends.TooLarge) most_reads read rest left held held' = IsTooLarge rest
+EndsBy (Ok ends.ReadsUsedUp) most_reads read rest left held held' = (most_reads ≤ length read) × IsPartial rest
+EndsBy (Err faults.Read) most_reads read rest left held held' = IsPartial rest
+EndsBy (Err faults.Write) most_reads read rest left held held' = ⊤
+EndsBy (Err faults.NoMemory) most_reads read rest left held held' = (read ≡ []) × Keeps held held'
+
+-- ---- what was done with bytes
+
+-- Bytes are the frames of bodies and a rest. The replies are those of a run of the machine over what was taken of these, each is what
+-- is said of one answer, and what was written are the replies' frames, the last one's in part where a write failed.
+pub record Handles {S : Type 0} (shows : S → State → Type 0) (says : S → Lent → Kept → S → Type 0) (between : S → S → Type 0) (result : Result End ServeFault) (old new : S) (bytes rest : List ℕ) (held held' : Option (List ℕ)) : Type 0 where
+  pub bodies : List (List ℕ)
+  pub whole : bytes ≡ frames bodies ++ rest
+  pub each : AllByRecursion IsBody bodies
+  pub taken : List Taken
+  pub takes : Takes result bodies rest taken
+  pub replies : List Reply
+  pub run : RunsAs shows old new taken replies
+  pub written : List ℕ
+  pub writes : Writes says between result old new taken replies written
+  pub appended : Appends held held' written
+
+-- Whole frames of bytes were answered, and all the replies written.
+pub record Answered {S : Type 0} (shows : S → State → Type 0) (says : S → Lent → Kept → S → Type 0) (between : S → S → Type 0) (old new : S) (bytes rest : List ℕ) (held held' : Option (List ℕ)) : Type 0 where
+  pub bodies : List (List ℕ)
+  pub whole : bytes ≡ frames bodies ++ rest
+  pub each : AllByRecursion IsBody bodies
+  pub replies : List Reply
+  pub run : AnswersAs shows says between old new (map Body bodies) replies
+  pub appended : Appends held held' (written_of replies)
+
+-- What bytes were handled to: less than a frame is left of them, or a length past the limit, or a write failed.
+abbrev pub HandlesTo : {S : Type 0} → (S → State → Type 0) → (S → Lent → Kept → S → Type 0) → (S → S → Type 0) → Result Rest ServeFault → S → S → List ℕ → List ℕ → Option (List ℕ) → Option (List ℕ) → Type 0
+HandlesTo shows says between (Ok rests.Partial) old new bytes rest held held' = IsPartial rest × Answered shows says between old new bytes rest held held'
+HandlesTo shows says between (Ok rests.TooLarge) old new bytes rest held held' = IsTooLarge rest × Handles shows says between (Ok ends.TooLarge) old new bytes rest held held'
+HandlesTo shows says between (Err faults.Write) old new bytes rest held held' = Handles shows says between (Err faults.Write) old new bytes rest held held'
+HandlesTo shows says between (Err faults.Read) old new bytes rest held held' = ⊥
+HandlesTo shows says between (Err faults.NoMemory) old new bytes rest held held' = ⊥
+
+-- the same of the first frame alone: where it was whole, fewer bytes are left
+abbrev pub HandlesFirst : {S : Type 0} → (S → State → Type 0) → (S → Lent → Kept → S → Type 0) → (S → S → Type 0) → Result (Option Rest) ServeFault → S → S → List ℕ → List ℕ → Option (List ℕ) → Option (List ℕ) → Type 0
+HandlesFirst shows says between (Ok None) old new bytes rest held held' = (length rest < length bytes) × Answered shows says between old new bytes rest held held'
+HandlesFirst shows says between (Ok (Some rest_is)) old new bytes rest held held' = HandlesTo shows says between (Ok rest_is) old new bytes rest held held'
+HandlesFirst shows says between (Err fault) old new bytes rest held held' = HandlesTo shows says between (Err fault) old new bytes rest held held'
+
+-- After a failed write, or a length past the limit, more may be left than is at hand.
+abbrev pub IsRest : Result Rest ServeFault → List ℕ → List ℕ → Type 0
+IsRest (Ok rests.Partial) rest hand = hand ≡ rest
+IsRest result rest hand = ⊤
+
+-- One reply was written to its end, and then came what is between it and the next. Or it was not, and nothing came.
+abbrev pub Delivers : {S : Type 0} → (S → State → Type 0) → (S → S → Type 0) → Result (Unit {0}) ServeFault → List ℕ → S → S → Option (List ℕ) → Option (List ℕ) → Type 0
+Delivers shows between (Ok done) body old new held held' =
+    between old new × ((st : State) → shows old st → shows new st) × Appends held held' (frame body)
+Delivers shows between (Err faults.Write) body old new held held' =
+    (new ≡ old) × ((count : ℕ) × (count < length (frame body)) × Appends held held' (take count (frame body)))
+Delivers shows between (Err faults.Read) body old new held held' = ⊥
+Delivers shows between (Err faults.NoMemory) body old new held held' = ⊥
+
+-- ---- a call
+
+-- Bytes were read after those at hand. What was read and at hand was handled, and so it ended.
+pub record ServesOn {S : Type 0} (shows : S → State → Type 0) (says : S → Lent → Kept → S → Type 0) (between : S → S → Type 0) (hand : List ℕ) (old new : S) (left left' held held' : Option (List ℕ)) (most_reads : ℕ) (result : Result End ServeFault) : Type 0 where
   pub read : List ℕ
   pub consumed : Consumes left left' read
-  pub bodies : List (List ℕ)
   pub rest : List ℕ
-  pub whole : read ≡ frames bodies ++ rest
-  pub each : AllByRecursion IsBody bodies
   pub open_rest : result ≢ Err faults.Write → IsOpen rest
-  pub replies : List Reply
-  pub run : AnswersAs shows says old new (taken_of bodies rest) replies
-  pub written : List ℕ
-  pub appended : Appends held held' written
-  pub ending : EndsBy result most_reads read rest left' written (written_of replies)
+  pub handled : Handles shows says between result old new (hand ++ read) rest held held'
+  pub ending : EndsBy result most_reads read rest left' held held'
+
+-- What a call of `serve` did, which has nothing at hand when it begins.
+abbrev pub Serves : {S : Type 0} → (S → State → Type 0) → (S → Lent → Kept → S → Type 0) → (S → S → Type 0) → S → S → Option (List ℕ) → Option (List ℕ) → Option (List ℕ) → Option (List ℕ) → ℕ → Result End ServeFault → Type 0
+Serves shows says between old new left left' held held' most_reads result = ServesOn shows says between [] old new left left' held held' most_reads result
 
 -- what an end says of the stream's rest
 abbrev pub RestIs : End → List ℕ → Type 0
@@ -61,31 +146,27 @@ RestIs ends.TooLarge rest = IsTooLarge rest
 RestIs ends.ReadsUsedUp rest = Unit {0}
 
 -- The whole of a stream was served: its bodies, and its rest as the end says.
-pub record ServesStream {S : Type 0} (shows : S → State → Type 0) (says : S → Lent → Kept → S → Type 0) (old new : S) (stream : List ℕ) (held held' : Option (List ℕ)) (end : End) : Type 0 where
+pub record ServesStream {S : Type 0} (shows : S → State → Type 0) (says : S → Lent → Kept → S → Type 0) (between : S → S → Type 0) (old new : S) (stream : List ℕ) (held held' : Option (List ℕ)) (end : End) : Type 0 where
   pub bodies : List (List ℕ)
   pub rest : List ℕ
   pub cut : IsCut stream bodies rest
   pub rest_is : RestIs end rest
   pub replies : List Reply
-  pub run : AnswersAs shows says old new (taken_of bodies rest) replies
+  pub run : AnswersAs shows says between old new (taken_of bodies rest) replies
   pub appended : Appends held held' (written_of replies)
 
--- Whole frames were read and answered, and all the replies written.
-pub record Served {S : Type 0} (shows : S → State → Type 0) (says : S → Lent → Kept → S → Type 0) (old new : S) (left left' held held' : Option (List ℕ)) (reads reads' : ℕ) : Type 0 where
-  pub bodies : List (List ℕ)
-  pub each : AllByRecursion IsBody bodies
-  pub consumed : Consumes left left' (frames bodies)
-  pub counted : reads ≤ reads' + length (frames bodies)
-  pub replies : List Reply
-  pub run : AnswersAs shows says old new (map Body bodies) replies
-  pub appended : Appends held held' (written_of replies)
+-- Bytes were read after those at hand. All that is whole was answered, all the replies were written, and the rest is at hand.
+pub record Served {S : Type 0} (shows : S → State → Type 0) (says : S → Lent → Kept → S → Type 0) (between : S → S → Type 0) (hand hand' : List ℕ) (old new : S) (left left' held held' : Option (List ℕ)) (reads reads' : ℕ) : Type 0 where
+  pub read : List ℕ
+  pub consumed : Consumes left left' read
+  pub counted : reads ≤ reads' + length read
+  pub partial : IsPartial hand'
+  pub answered : Answered shows says between old new (hand ++ read) hand' held held'
 
--- what was read of a frame
-abbrev pub ReadsFrame : FrameRead → List ℕ → Option (List ℕ) → List ℕ → ℕ → ℕ → Type 0
-ReadsFrame (reads.Whole n) read left buffer reads_old reads_new =
-    (n ≤ longest) × (n ≤ length buffer) × (read ≡ frame (take n buffer)) × (reads_new < reads_old) × (reads_old ≤ reads_new + length read)
-ReadsFrame reads.TooLarge read left buffer reads_old reads_new = IsTooLarge read × (length read ≡ 4)
-ReadsFrame reads.Clean read left buffer reads_old reads_new = (read ≡ []) × IsAtEnd left
-ReadsFrame reads.Truncated read left buffer reads_old reads_new = (0 < length read) × IsPartial read × IsAtEnd left
-ReadsFrame reads.UsedUp read left buffer reads_old reads_new = IsPartial read × (reads_old ≤ length read)
-ReadsFrame reads.Failed read left buffer reads_old reads_new = IsPartial read
+-- what one read came to: the input goes on, or it ended
+abbrev pub ReadsOn : {S : Type 0} → (S → State → Type 0) → (S → Lent → Kept → S → Type 0) → (S → S → Type 0) → Result (Option End) ServeFault → List ℕ → List ℕ → S → S → Option (List ℕ) → Option (List ℕ) → Option (List ℕ) → Option (List ℕ) → ℕ → ℕ → Type 0
+ReadsOn shows says between (Ok None) hand hand' old new left left' held held' reads reads' = (reads' < reads) × Served shows says between hand hand' old new left left' held held' reads reads'
+ReadsOn shows says between (Ok (Some end)) hand hand' old new left left' held held' reads reads' = ServesOn shows says between hand old new left left' held held' reads (Ok end)
+ReadsOn shows says between (Err faults.Read) hand hand' old new left left' held held' reads reads' = ServesOn shows says between hand old new left left' held held' reads (Err faults.Read)
+ReadsOn shows says between (Err faults.Write) hand hand' old new left left' held held' reads reads' = ServesOn shows says between hand old new left left' held held' reads (Err faults.Write)
+ReadsOn shows says between (Err faults.NoMemory) hand hand' old new left left' held held' reads reads' = ⊥

@@ -11,6 +11,7 @@ use Rattle.si_model.specs.Machine.{State}
 use Rattle.txn_client.specs.Shows as clients
 use Rattle.clean_up.specs.Shows.{ShowsCleaners}
 use Rattle.server_loop.specs.declared.server.Server.{Server}
+use Rattle.server_loop.specs.declared.server.Tending.{Tending}
 
 -- its cluster, the mark store of its oracle, and the oracle's last stamp
 abbrev pub cluster_of : {F M : Type 0} → Server F M → ClusterState F
@@ -21,6 +22,10 @@ marks_of server = server.oracle.marks
 
 abbrev pub last_of : {F M : Type 0} → Server F M → ℕ
 last_of server = server.oracle.last
+
+-- when it compacts by itself
+abbrev pub tending_of : {F M : Type 0} → Server F M → Tending
+tending_of server = server.tending
 
 -- where a tablet is, as the machine has it
 abbrev pub machine_place : Spot → machine.Place

@@ -1,25 +1,50 @@
 //! Reading the command line.
 
-ghost use Rattle.std.specs.Prelude.{◌≤◌, IfOk};
+ghost use Rattle.std.specs.Prelude.{◌≤◌, IfOk, IfSome};
 
-use crate::words::{DEFAULT_FLUSH, MOST_FLUSH, Options};
+use crate::words::{DEFAULT_FLUSH, MOST_FLUSH, MOST_MERGE, Options};
 use clap::builder::ValueParser;
 use clap::{Arg, ArgAction, Command, Error};
 use std::alloc::Global;
 
-/// Reads the words of the command line, the program's name first: `tabletd [--flush N]`, where N is 1 to
-/// 100,000. An error has the parser's text, that of a request for help too.
+/// What the program is, where it reads and writes, and how long its data last.
+const ABOUT: &str =
+    "A wide-column tablet store with snapshot-isolated transactions over many rows. It reads framed \
+    requests from the standard input and writes a framed reply to each to the standard output, until the input ends. \
+    The store is in memory, and ends with the program.";
+
+const MERGE_HELP: &str =
+    "Files of a tablet at which the newest ones are merged after such a compaction: 2 to 64 [default: never]";
+
+const FLUSH_HELP: &str =
+    "Entries of a memtable at which it is compacted: 1 to 100000 [default: 10000]";
+
+/// Reads the words of the command line, the program's name first: `tabletd [--flush N] [--merge M]`, where N is
+/// 1 to 100,000 and M is 2 to 64. An error has the parser's text, that of a request for help too.
 pub fn options(alloc: Global, words: &[&str]) -> Result<Options, Error>
-    ensures { IfOk result (λ options. (1 ≤ options.flush) × (options.flush ≤ MOST_FLUSH)) }
+    ensures flush { IfOk result (λ options. (1 ≤ options.flush) × (options.flush ≤ MOST_FLUSH)) }
+    ensures merge { IfOk result (λ options. IfSome options.merge (λ most. (2 ≤ most) × (most ≤ MOST_MERGE))) }
 {
     let flush = Arg::new(alloc, "flush")
         .long("flush")
+        .value_name("N")
+        .help(FLUSH_HELP)
         .action(ArgAction::Set)
         .value_parser(ValueParser::unsigned(1, 100_000));
-    let command = Command::new(alloc, "tabletd").arg(flush)?;
+    let merge = Arg::new(alloc, "merge")
+        .long("merge")
+        .value_name("M")
+        .help(MERGE_HELP)
+        .action(ArgAction::Set)
+        .value_parser(ValueParser::unsigned(2, 64));
+    let command = Command::new(alloc, "tabletd")
+        .about(ABOUT)
+        .arg(flush)?
+        .arg(merge)?;
     let matches = command.try_get_matches_from(words)?;
     let flush = flush_of(matches.get_one::<u32>("flush"));
-    Ok(Options { flush })
+    let merge = merge_of(matches.get_one::<u32>("merge"));
+    Ok(Options { flush, merge })
 }
 
 /// The number that was given, or the default. The parser has refused a number outside the limits.
@@ -30,5 +55,15 @@ fn flush_of(given: Option<u32>) -> u32
     match given {
         Some(number) if 1 <= number && number <= MOST_FLUSH => number,
         _ => DEFAULT_FLUSH,
+    }
+}
+
+/// The number that was given, if one was. The parser has refused a number outside the limits.
+fn merge_of(given: Option<u32>) -> Option<u32>
+    ensures { IfSome result (λ most. (2 ≤ most) × (most ≤ MOST_MERGE)) }
+{
+    match given {
+        Some(number) if 2 <= number && number <= MOST_MERGE => Some(number),
+        _ => None,
     }
 }

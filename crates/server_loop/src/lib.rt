@@ -14,4 +14,4 @@ mod words;
 pub use command_line::options;
 pub use ends::{End, ServeFault, end_status, open_status};
 pub use server::{Config, Server};
-pub use words::{DEFAULT_FLUSH, MOST_FLUSH, Options};
+pub use words::{DEFAULT_FLUSH, MOST_FLUSH, MOST_MERGE, Options};

@@ -21,10 +21,19 @@ use txn_client::Clients;
 /// The limits of a server's store.
 #[derive(Clone, Copy, Debug, PartialEq, Eq)]
 pub struct Config {
-    /// How many entries a memtable may have before it is compacted: 1 to 100,000. So far no compaction comes by itself.
+    /// How many entries a memtable has before it is compacted, which `serve` does after a reply: 1 to 100,000.
     pub flush: u32,
     /// The most bytes of a sorted file: 32 to 1,073,741,824.
     pub file_limit: u64,
+}
+
+/// When a server compacts by itself.
+#[derive(Clone, Copy)]
+pub(crate) struct Tending {
+    /// How many entries a memtable has before it is compacted.
+    pub(crate) flush: u32,
+    /// How many files a tablet has before newest ones are merged, if they are to be.
+    pub(crate) merge: Option<u32>,
 }
 
 /// A server: a cluster of tablets, an oracle of stamps, the sessions that are active and the cleaners that are open.
@@ -38,11 +47,14 @@ pub struct Server<F, M: MarkStore> {
     pub(crate) oracle: Oracle<M>,
     pub(crate) clients: Clients,
     pub(crate) cleaners: Cleaners,
+    pub(crate) tending: Tending,
 }
 
 impl<F: Files + Drop, M: MarkStore + Drop> Server<F, M> {
     ghost use Rattle.server_loop.specs.Answer.{DrawsStamps, IsAnswer, IsMachineStep, MakesEdits, ServesSessions, TellsCauses, TendsTablets};
-    ghost use Rattle.server_loop.specs.Server.{Shows, cluster_of, last_of, marks_of};
+    ghost use Rattle.server_loop.specs.Server.{Shows, cluster_of, tending_of, last_of, marks_of};
+    ghost use Rattle.row_atomic.specs.Flushes.{KeepsShown};
+    ghost use Rattle.server_loop.specs.Tending.{IsTended, Merges};
 
     /// A server over these files and this mark store, with one tablet of no cells. It shows the new machine.
     ///
@@ -69,6 +81,7 @@ impl<F: Files + Drop, M: MarkStore + Drop> Server<F, M> {
         ensures last { IfOk result (λ server. IfSome (M.mark marks) (λ mark. last_of server ≡ mark)) }
         ensures mark { IfOk result (λ server. M.mark (marks_of server) ≡ M.mark marks) }
         ensures limit { IfOk result (λ server. (cluster_of server).file_limit ≡ config.file_limit) }
+        ensures tending { IfOk result (λ server. tending_of server ≡ record { flush = config.flush; merge = None }) }
         ensures refusal { IfErr result (λ refused. (refused.0 ≡ Refusal.NoMemory) ⊎ (refused.0 ≡ Refusal.Device)) }
         ensures device { IfErr result (λ refused. refused.0 ≡ Refusal.Device → HasRisen (M.faults marks) (M.faults refused.2)) }
         ensures told { IfOk result (λ server. M.faults (marks_of server) ≡ M.faults marks) }
@@ -87,12 +100,36 @@ impl<F: Files + Drop, M: MarkStore + Drop> Server<F, M> {
                 oracle,
                 clients: Clients::new(alloc, 0),
                 cleaners: Cleaners::new(alloc),
+                tending: Tending {
+                    flush: config.flush,
+                    merge: None,
+                },
             }),
             Err((refusal, marks)) => Err((refusal, cluster.into_files(), marks)),
         }
     }
 
-    /// Answers a request: one step of the snapshot machine, from each reached state that is shown.
+    /// From now on, after `serve` has compacted a tablet, newest files are merged of each tablet that has `most` files or
+    /// more, so that it has fewer. A refusal is not told. Without this call files are merged where that is asked for alone.
+    pub fn merge_at(&mut self, most: u32)
+        ensures { self.new ≡ record self.old { tending = record (tending_of self.old) { merge = Some most } } }
+    {
+        self.tending.merge = Some(most);
+    }
+
+    /// Merges newest files of the tablets that have many, where that is to be done.
+    fn merge_files(&mut self)
+        ensures merges { Merges F.contents F.faults (tending_of self.old).merge (cluster_of self.old) (cluster_of self.new) }
+        ensures keeps { KeepsShown F.contents F.faults (cluster_of self.old) (cluster_of self.new) }
+        ensures others { self.new ≡ record self.old { cluster = cluster_of self.new } }
+    {
+        if let Some(most) = self.tending.merge {
+            self.cluster.merge_many(most);
+        }
+    }
+
+    /// Answers a request: one step of the snapshot machine, from each reached state that is shown. It compacts nothing
+    /// that it isn't asked to.
     pub fn answer(&mut self, request: Request<'_>) -> Reply
         ensures step { IsMachineStep F.contents request.entry result self.old self.new }
         ensures stamps { DrawsStamps F.contents M.mark request.entry result self.old self.new }
@@ -100,29 +137,36 @@ impl<F: Files + Drop, M: MarkStore + Drop> Server<F, M> {
         ensures sessions { ServesSessions F.contents request.entry result self.old self.new }
         ensures tablets { TendsTablets F.contents F.faults request.entry result self.old self.new }
         ensures causes { TellsCauses F.contents F.faults M.faults request.entry result self.old self.new }
+        ensures tending { tending_of self.new ≡ tending_of self.old }
     {
         self.reply_to(request)
     }
 
-    /// Serves requests in frames until the input ends, and at most `most_reads` reads of it. It takes its two buffers
-    /// first. Each reply is written to its end, and flushed, before the next frame is read.
+    /// Serves requests in frames until the input ends, and at most `most_reads` reads of it. It takes its buffers
+    /// first. It reads pieces of at most 65,536 bytes, and answers every whole frame before it reads again. Each reply is
+    /// written to its end before the next frame is taken, and then each memtable with as many entries as the
+    /// configuration says, or more, is compacted.
     ///
     /// What is read is cut into bodies and a rest, the replies are those of a run of the snapshot machine over these,
-    /// each is what `answer` says of its request, from one server to the next, and what is written are the frames of
-    /// these replies and nothing else. After a failed read all replies to whole frames were written; after a failed
-    /// write a beginning of the replies was; without memory nothing was read or written. The server is then as after
-    /// the last request that was taken.
+    /// each is what `answer` says of its request, from one server to the next, with those compactions and nothing else
+    /// between the two, and what is written are the frames of these replies and nothing else. After a failed read all
+    /// replies to whole frames were written. After a failed write all replies but the last were, and a beginning of that
+    /// one; no frame was taken after it. Without memory nothing was read or written. The server is then as after the last
+    /// request that was taken.
+    ///
+    /// The writer is flushed before each read and at every end, which tests show: no clause of a writer speaks of it.
     pub fn serve<I: Read, O: Write>(
         &mut self,
         reader: &mut I,
         writer: &mut O,
         most_reads: u64,
     ) -> Result<End, ServeFault>
-        ensures served { Serves (Shows F.contents) (IsAnswer F.contents F.faults M.mark M.faults) self.old self.new (I.remaining reader.old) (I.remaining reader.new)
+        ensures served { Serves (Shows F.contents) (IsAnswer F.contents F.faults M.mark M.faults) (IsTended F.contents F.faults) self.old self.new (I.remaining reader.old) (I.remaining reader.new)
             (O.contents writer.old) (O.contents writer.new) most_reads result }
         // Where the reader's bytes are known, the end is that of the whole stream.
         ensures whole { IfSome (I.remaining reader.old) (λ stream. IfOk result (λ end. end ≢ End.ReadsUsedUp
-            → ServesStream (Shows F.contents) (IsAnswer F.contents F.faults M.mark M.faults) self.old self.new stream (O.contents writer.old) (O.contents writer.new) end)) }
+            → ServesStream (Shows F.contents) (IsAnswer F.contents F.faults M.mark M.faults) (IsTended F.contents F.faults) self.old self.new
+            stream (O.contents writer.old) (O.contents writer.new) end)) }
     {
         serve_all(self.alloc, self, reader, writer, most_reads)
     }
@@ -131,10 +175,14 @@ impl<F: Files + Drop, M: MarkStore + Drop> Server<F, M> {
 impl<F: Files + Drop, M: MarkStore + Drop> Answering for Server<F, M> {
     ghost use Rattle.server_loop.specs.Answer.{IsAnswer};
     ghost use Rattle.server_loop.specs.Server.{Shows};
+    ghost use Rattle.row_atomic.specs.Flushes.{KeepsShown};
+    ghost use Rattle.server_loop.specs.Tending.{IsTended, Merges};
 
     ghost shows = { Shows F.contents };
 
     ghost says = { IsAnswer F.contents F.faults M.mark M.faults };
+
+    ghost between = { IsTended F.contents F.faults };
 
     fn reply_to(&mut self, request: Request<'_>) -> Reply {
         match request {
@@ -164,6 +212,14 @@ impl<F: Files + Drop, M: MarkStore + Drop> Answering for Server<F, M> {
                 lo,
                 hi,
             } => self.raw(row, family, qualifier, lo, hi),
+        }
+    }
+
+    fn tend(&mut self) {
+        let full = self.cluster.has_full(self.tending.flush);
+        self.cluster.compact_full(self.tending.flush);
+        if full {
+            self.merge_files();
         }
     }
 }

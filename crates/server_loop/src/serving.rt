@@ -1,21 +1,33 @@
 //! The loop of a server, over whatever answers as the snapshot machine does.
 
-ghost use Rattle.std.specs.Prelude.{◌≡◌, ◌≤◌, ◌<◌, ◌∷◌, [], length, Ok, Err, None, IfOk, MatchResult, MatchOption, vec_capacity};
+ghost use Rattle.std.specs.Prelude.{◌≡◌, ◌≤◌, ◌<◌, ◌++◌, ◌∷◌, List, ℕ, [], length, IfOk, vec_capacity};
 ghost use Rattle.si_model.specs.Machine.{State};
-ghost use Rattle.request_codec.specs.Replies.{replied};
+ghost use Rattle.request_codec.specs.Replies.{replied, reply_body};
+ghost use Rattle.request_codec.specs.Stream.{IsPartial};
 ghost use Rattle.request_codec.specs.declared.replies.Reply.{Reply as Kept};
 ghost use Rattle.request_codec.specs.declared.requests.Request.{Request as Lent};
 ghost use Rattle.request_codec.specs.Requests.{asked};
-ghost use Rattle.request_codec.specs.Stream.{longest};
-ghost use Rattle.server_loop.specs.Runs.{StepsAs, AnswersAs, Body, HasShortValue};
-ghost use Rattle.server_loop.specs.Serve.{Serves, Served};
+ghost use Rattle.server_loop.specs.Runs.{StepsAs, RunsAs, SaysOf, Body, HasShortValue};
+ghost use Rattle.server_loop.specs.Serve.{Serves, Delivers, HandlesFirst, HandlesTo, IsRest, ReadsOn};
 
 use crate::ends::{End, ServeFault};
-use crate::frames::{FrameRead, read_frame, send};
+use crate::frames::{finish, flush, send};
 use cell_key::Refusal;
-use request_codec::{LONGEST_BODY, LONGEST_REPLY, Reply, Request, decode_request};
+use request_codec::{Framer, LONGEST_REPLY, Next, Reply, Request, decode_request};
 use std::alloc::{AllocError, Global};
 use std::io::{Read, Write};
+
+/// The most bytes that one read asks for.
+const LONGEST_PIECE: usize = 65_536;
+
+/// What is left of bytes whose whole frames were answered.
+#[derive(Clone, Copy)]
+pub(crate) enum Rest {
+    /// Less than a frame.
+    Partial,
+    /// A length past the limit. It was refused.
+    TooLarge,
+}
 
 /// What answers requests as the snapshot machine does.
 pub(crate) trait Answering {
@@ -25,11 +37,19 @@ pub(crate) trait Answering {
     /// What is said of an answer, over what answers as it was and as it is.
     ghost says: { Self → Lent → Kept → Self → Type 0 };
 
+    /// What comes between one answer and the next, over what answers as it was and as it is.
+    ghost between: { Self → Self → Type 0 };
+
     /// One step of the machine, from each reached state that is shown.
     fn reply_to(&mut self, request: Request<'_>) -> Reply
         ensures step { StepsAs shows self.old self.new (asked request.entry) (replied result) }
         ensures says { says self.old request.entry result self.new }
         ensures short { HasShortValue result };
+
+    /// Does what is to be done between one answer and the next. The states that are shown stay so.
+    fn tend(&mut self)
+        ensures between { between self.old self.new }
+        ensures shown { (st : State) → shows self.old st → shows self.new st };
 }
 
 /// So many zeros. The size is a parameter, so that no proof computes a list of a million.
@@ -41,7 +61,8 @@ fn zeros(alloc: Global, size: usize) -> Result<Vec<u8>, AllocError>
 
 /// The reply to a body, whatever is in it.
 fn reply_to_body<A: Answering>(server: &mut A, body: &[u8]) -> Reply
-    ensures answers { AnswersAs A.shows A.says server.old server.new (Body body.now ∷ []) (replied result ∷ []) }
+    ensures run { RunsAs A.shows server.old server.new (Body body.now ∷ []) (replied result ∷ []) }
+    ensures says { SaysOf A.says server.old (Body body.now) (replied result) server.new }
     ensures short { HasShortValue result }
 {
     match decode_request(body) {
@@ -50,44 +71,125 @@ fn reply_to_body<A: Answering>(server: &mut A, body: &[u8]) -> Reply
     }
 }
 
-/// Serves the next frame: reads it, answers it, and writes the reply to its end. `None` where the input goes on.
-fn serve_frame<A: Answering, R: Read, W: Write>(
+/// Writes a reply to its end, and lets the server do what comes after it.
+fn deliver<A: Answering, W: Write>(
     server: &mut A,
+    writer: &mut W,
+    reply: &Reply,
+    out: &mut Vec<u8>,
+) -> Result<(), ServeFault>
+    requires out { LONGEST_REPLY ≤ vec_capacity out.old }
+    requires short { HasShortValue reply.now }
+    ensures delivers { Delivers A.shows A.between result (reply_body (replied reply.now)) server.old server.new (W.contents writer.old) (W.contents writer.new) }
+    ensures room { vec_capacity out.old ≤ vec_capacity out.new }
+{
+    match send(writer, reply, out) {
+        Ok(()) => {
+            server.tend();
+            Ok(())
+        }
+        Err(_) => Err(ServeFault::Write),
+    }
+}
+
+/// Answers what stands first among the bytes taken, and writes the reply to its end. `None` where that was a whole frame.
+fn answer_first<A: Answering, W: Write>(
+    server: &mut A,
+    framer: &mut Framer,
+    writer: &mut W,
+    out: &mut Vec<u8>,
+) -> Result<Option<Rest>, ServeFault>
+    requires out { LONGEST_REPLY ≤ vec_capacity out.old }
+    ensures handles { HandlesFirst A.shows A.says A.between result server.old server.new framer.old framer.new (W.contents writer.old) (W.contents writer.new) }
+    ensures room { vec_capacity out.old ≤ vec_capacity out.new }
+{
+    match framer.next() {
+        Next::More => Ok(Some(Rest::Partial)),
+        Next::Frame(body) => {
+            let reply = reply_to_body(server, body);
+            deliver(server, writer, &reply, out)?;
+            Ok(None)
+        }
+        Next::TooLarge => {
+            deliver(server, writer, &Reply::Refused(Refusal::FrameTooLarge), out)?;
+            Ok(Some(Rest::TooLarge))
+        }
+    }
+}
+
+/// Answers each whole frame among the bytes taken, one after the other, and says what is left of them.
+fn answer_frames<A: Answering, W: Write>(
+    server: &mut A,
+    framer: &mut Framer,
+    writer: &mut W,
+    out: &mut Vec<u8>,
+) -> Result<Rest, ServeFault>
+    requires out { LONGEST_REPLY ≤ vec_capacity out.old }
+    ensures handles { HandlesTo A.shows A.says A.between result server.old server.new framer.old framer.new (W.contents writer.old) (W.contents writer.new) }
+    ensures room { vec_capacity out.old ≤ vec_capacity out.new }
+{
+    loop {
+        match answer_first(server, framer, writer, out)? {
+            None => {}
+            Some(rest) => return Ok(rest),
+        }
+    }
+}
+
+/// Takes a piece of the input, and answers each whole frame. Less than a frame may be at hand before it.
+fn serve_piece<A: Answering, W: Write>(
+    server: &mut A,
+    framer: &mut Framer,
+    piece: &[u8],
+    writer: &mut W,
+    out: &mut Vec<u8>,
+) -> Result<Rest, ServeFault>
+    requires out { LONGEST_REPLY ≤ vec_capacity out.old }
+    requires partial { IsPartial framer.old }
+    ensures handles { (rest : List ℕ) × IsRest result rest framer.new
+        × HandlesTo A.shows A.says A.between result server.old server.new (framer.old ++ piece.now) rest (W.contents writer.old) (W.contents writer.new) }
+    ensures room { vec_capacity out.old ≤ vec_capacity out.new }
+{
+    let mut at = 0;
+    while at < piece.len() {
+        at += framer.feed(&piece[at..]);
+        match answer_frames(server, framer, writer, out)? {
+            Rest::Partial => {}
+            Rest::TooLarge => return Ok(Rest::TooLarge),
+        }
+    }
+    Ok(Rest::Partial)
+}
+
+/// Reads once, after what was written has left the writer, and answers each whole frame. `None` where the input goes on.
+fn serve_read<A: Answering, R: Read, W: Write>(
+    server: &mut A,
+    framer: &mut Framer,
     reader: &mut R,
     writer: &mut W,
-    body: &mut [u8],
+    piece: &mut [u8],
     out: &mut Vec<u8>,
     reads_left: &mut u64,
 ) -> Result<Option<End>, ServeFault>
-    requires body { length body.old ≡ longest }
-    requires out { LONGEST_REPLY ≤ vec_capacity out.old }
-    ensures one { MatchResult result
-        (λ end. MatchOption end
-        (Served A.shows A.says server.old server.new (R.remaining reader.old) (R.remaining reader.new) (W.contents writer.old) (W.contents writer.new) reads_left.old reads_left.new)
-        (λ end. Serves A.shows A.says server.old server.new (R.remaining reader.old) (R.remaining reader.new) (W.contents writer.old) (W.contents writer.new) reads_left.old (Ok end)))
-        (λ fault. Serves A.shows A.says server.old server.new (R.remaining reader.old) (R.remaining reader.new) (W.contents writer.old) (W.contents writer.new) reads_left.old (Err fault)) }
-    ensures kinds { result ≡ Err ServeFault.NoMemory → ⊥ }
-    ensures fewer { result ≡ Ok None → reads_left.new < reads_left.old }
+    requires room { LONGEST_REPLY ≤ vec_capacity out.old }
+    requires piece { 0 < length piece.old }
+    requires reads { 0 < reads_left.old }
+    requires partial { IsPartial framer.old }
+    ensures reads { ReadsOn A.shows A.says A.between result framer.old framer.new server.old server.new
+        (R.remaining reader.old) (R.remaining reader.new) (W.contents writer.old) (W.contents writer.new) reads_left.old reads_left.new }
+    ensures piece { length piece.new ≡ length piece.old }
     ensures room { vec_capacity out.old ≤ vec_capacity out.new }
 {
-    match read_frame(reader, body, reads_left) {
-        FrameRead::Whole(length) => {
-            let reply = reply_to_body(server, &body[..length]);
-            match send(writer, &reply, out) {
-                Ok(()) => Ok(None),
-                Err(_) => Err(ServeFault::Write),
-            }
-        }
-        FrameRead::TooLarge => {
-            match send(writer, &Reply::Refused(Refusal::FrameTooLarge), out) {
-                Ok(()) => Ok(Some(End::TooLarge)),
-                Err(_) => Err(ServeFault::Write),
-            }
-        }
-        FrameRead::Clean => Ok(Some(End::Clean)),
-        FrameRead::Truncated => Ok(Some(End::Truncated)),
-        FrameRead::UsedUp => Ok(Some(End::ReadsUsedUp)),
-        FrameRead::Failed => Err(ServeFault::Read),
+    flush(writer)?;
+    *reads_left -= 1;
+    match reader.read(piece) {
+        Ok(0) if framer.is_empty() => Ok(Some(End::Clean)),
+        Ok(0) => Ok(Some(End::Truncated)),
+        Ok(count) => match serve_piece(server, framer, &piece[..count], writer, out)? {
+            Rest::Partial => Ok(None),
+            Rest::TooLarge => Ok(Some(End::TooLarge)),
+        },
+        Err(_) => Err(ServeFault::Read),
     }
 }
 
@@ -99,23 +201,33 @@ pub(crate) fn serve_all<A: Answering, R: Read, W: Write>(
     writer: &mut W,
     most_reads: u64,
 ) -> Result<End, ServeFault>
-    ensures { Serves A.shows A.says server.old server.new (R.remaining reader.old) (R.remaining reader.new)
+    ensures { Serves A.shows A.says A.between server.old server.new (R.remaining reader.old) (R.remaining reader.new)
         (W.contents writer.old) (W.contents writer.new) most_reads result }
 {
-    let mut body = match zeros(alloc, LONGEST_BODY) {
-        Ok(body) => body,
-        Err(_) => return Err(ServeFault::NoMemory),
+    let Ok(mut framer) = Framer::new(alloc) else {
+        return Err(ServeFault::NoMemory);
     };
-    let mut out = match Vec::with_capacity(alloc, LONGEST_REPLY) {
-        Ok(out) => out,
-        Err(_) => return Err(ServeFault::NoMemory),
+    let Ok(mut piece) = zeros(alloc, LONGEST_PIECE) else {
+        return Err(ServeFault::NoMemory);
+    };
+    let Ok(mut out) = Vec::with_capacity(alloc, LONGEST_REPLY) else {
+        return Err(ServeFault::NoMemory);
     };
     let mut reads_left = most_reads;
     while reads_left > 0 {
-        match serve_frame(server, reader, writer, &mut body, &mut out, &mut reads_left)? {
+        let ended = serve_read(
+            server,
+            &mut framer,
+            reader,
+            writer,
+            &mut piece,
+            &mut out,
+            &mut reads_left,
+        )?;
+        match ended {
             None => {}
-            Some(end) => return Ok(end),
+            Some(end) => return finish(writer, end),
         }
     }
-    Ok(End::ReadsUsedUp)
+    finish(writer, End::ReadsUsedUp)
 }

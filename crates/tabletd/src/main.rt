@@ -1,4 +1,4 @@
-//! `tabletd [--flush N]` serves framed requests from the standard input, and writes a framed reply to each to the
+//! `tabletd [--flush N] [--merge M]` serves framed requests from the standard input, and writes a framed reply to each to the
 //! standard output. The store is in memory.
 #![tactic(auto)]
 
@@ -9,6 +9,7 @@ use file_store::MemFiles;
 use oracle::MemMark;
 use server_loop::{Config, Options, Server, end_status, open_status, options};
 use std::alloc::{AllocError, Global};
+use std::io::BufWriter;
 use std::process::ExitCode;
 use std::rt::Env;
 use std::{env, io};
@@ -23,6 +24,9 @@ const REFUSED: u8 = 1;
 const NO_MEMORY: u8 = 7;
 
 const NO_MEMORY_LINE: &str = "tabletd: no memory";
+
+/// How many bytes of replies wait, at most, for the standard output. They leave before each read.
+const WAITING: usize = 65_536;
 
 /// The most bytes of a sorted file.
 const FILE_LIMIT: u64 = 1_073_741_824;
@@ -59,26 +63,25 @@ impl From<clap::Error> for LineError {
     }
 }
 
-/// Reads the command line: the limits of the store.
-fn read_line<R: Env + AllocGlobal>(rt: &R) -> Result<Config, LineError>
-    ensures flush { IfOk result (λ config. (1 ≤ config.flush) × (config.flush ≤ 100000)) }
-    ensures file_limit { IfOk result (λ config. config.file_limit ≡ 1073741824) }
+/// Reads the command line.
+fn read_line<R: Env + AllocGlobal>(rt: &R) -> Result<Options, LineError>
+    ensures { IfOk result (λ options. (1 ≤ options.flush) × (options.flush ≤ 100000)) }
 {
     let args: Vec<String> = env::args(rt)?.collect(rt.alloc())?;
     let words: Vec<&str> = args.iter().map(|arg| arg.as_str()).collect(rt.alloc())?;
-    let Options { flush } = options(rt.alloc(), words.as_slice())?;
-    Ok(Config {
-        flush,
-        file_limit: FILE_LIMIT,
-    })
+    let options = options(rt.alloc(), words.as_slice())?;
+    Ok(options)
 }
 
 /// Serves the standard input, and gives the exit status with its line on the standard error.
-fn serve<R: AllocGlobal + Input + Print>(rt: &R, config: Config) -> (u8, &'static str)
-    requires flush_least { 1 ≤ config.flush }
-    requires flush_most { config.flush ≤ 100000 }
-    requires file_limit { config.file_limit ≡ 1073741824 }
+fn serve<R: AllocGlobal + Input + Print>(rt: &R, options: Options) -> (u8, &'static str)
+    requires flush_least { 1 ≤ options.flush }
+    requires flush_most { options.flush ≤ 100000 }
 {
+    let config = Config {
+        flush: options.flush,
+        file_limit: FILE_LIMIT,
+    };
     match Server::new(
         rt.alloc(),
         MemFiles::new(rt.alloc()),
@@ -86,9 +89,14 @@ fn serve<R: AllocGlobal + Input + Print>(rt: &R, config: Config) -> (u8, &'stati
         config,
     ) {
         Ok(mut server) => {
+            if let Some(most) = options.merge {
+                server.merge_at(most);
+            }
             let mut reader = rt.reader();
-            let mut writer = io::writer(rt);
-            end_status(&server.serve(&mut reader, &mut writer, u64::MAX))
+            match BufWriter::with_capacity(rt.alloc(), WAITING, io::writer(rt)) {
+                Ok(mut writer) => end_status(&server.serve(&mut reader, &mut writer, u64::MAX)),
+                Err(_) => (NO_MEMORY, NO_MEMORY_LINE),
+            }
         }
         Err((refusal, _, _)) => open_status(&refusal),
     }
@@ -97,7 +105,7 @@ fn serve<R: AllocGlobal + Input + Print>(rt: &R, config: Config) -> (u8, &'stati
 /// Runs the program, and gives the exit status.
 fn run<R: Env + AllocGlobal + Input + Print + Eprint>(rt: &R) -> u8 {
     let (status, line) = match read_line(rt) {
-        Ok(config) => serve(rt, config),
+        Ok(options) => serve(rt, options),
         Err(LineError::NoMemory) => (NO_MEMORY, NO_MEMORY_LINE),
         Err(LineError::NotText(error)) => {
             let _ = rt.eprintln(error);

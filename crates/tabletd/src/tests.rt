@@ -25,13 +25,14 @@ use crate::FILE_LIMIT;
 use cell_key::Refusal;
 use file_store::MemFiles;
 use oracle::MemMark;
+use request_codec::{Reply, Request};
 use rows::Exchange;
 use server_loop::{Config, End, ServeFault, Server, end_status};
 use std::alloc::{AllocError, Global};
 use std::cell::Cell;
 use std::io::{Read, Write};
 use std::test::Fail;
-use streams::{Asking, Narrow, Pieces, Telling};
+use streams::{Asking, Holding, Narrow, Pieces, Telling};
 
 type MemServer = Server<MemFiles, MemMark>;
 
@@ -60,13 +61,15 @@ type Ended = Result<End, ServeFault>;
 
 /// A server over files in memory, of so many bytes at most.
 fn new_server(alloc: Global, file_limit: u64) -> Result<MemServer, Refusal> {
-    if file_limit < 32 || file_limit > FILE_LIMIT {
+    flushing_server(alloc, 10_000, file_limit)
+}
+
+/// The same, whose memtables are compacted at so many entries.
+fn flushing_server(alloc: Global, flush: u32, file_limit: u64) -> Result<MemServer, Refusal> {
+    if flush == 0 || flush > 100_000 || file_limit < 32 || file_limit > FILE_LIMIT {
         return Err(Refusal::FileTooLarge);
     }
-    let config = Config {
-        flush: 10_000,
-        file_limit,
-    };
+    let config = Config { flush, file_limit };
     match Server::new(alloc, MemFiles::new(alloc), MemMark::new(), config) {
         Ok(server) => Ok(server),
         Err((refusal, _, _)) => Err(refusal),
@@ -84,12 +87,12 @@ fn served<I: Read, O: Write>(
     Ok(server.serve(reader, writer, most_reads))
 }
 
-/// How a new server ends, with so many reads at most, and what it writes.
+/// How a new server ends, with so many reads at most, and what it has written and flushed.
 fn outcome(alloc: Global, reader: Pieces, most_reads: u64) -> Result<(Ended, Vec<u8>), Refusal> {
     let mut reader = reader;
-    let mut written = Vec::new(alloc);
-    let ended = served(alloc, &mut reader, &mut written, most_reads)?;
-    Ok((ended, written))
+    let mut writer = Holding::new(alloc);
+    let ended = served(alloc, &mut reader, &mut writer, most_reads)?;
+    Ok((ended, writer.out))
 }
 
 /// The frames of some bodies.
@@ -179,8 +182,8 @@ const TWO_BEGINS: &[u8] = b"\0\0\0\x01\x01\0\0\0\x01\x01";
 /// Their replies.
 const TWO_REPLIES: &[u8] = b"\0\0\0\x09\x81\0\0\0\0\0\0\0\x01\0\0\0\x09\x81\0\0\0\0\0\0\0\x02";
 
-/// A reader that fails at each place of two requests: the requests before it are answered. So it is where the reads are
-/// used up there.
+/// A reader that fails at each place of two requests, which it gives byte by byte or all at once: the requests before it are
+/// answered. So it is where the reads are used up there.
 #[test]
 fn a_read_fails_at_each_place(rt: HostRuntime) -> Result<(), Fail> {
     for place in 0..10 {
@@ -189,6 +192,12 @@ fn a_read_fails_at_each_place(rt: HostRuntime) -> Result<(), Fail> {
             .ok_or("too far")?;
         let mut reader = Pieces::new(rt.alloc(), TWO_BEGINS)?;
         reader.most = 1;
+        reader.fails_at = place;
+        let (ended, written) = outcome(rt.alloc(), reader, u64::MAX)?;
+        assert!(rt; matches!(ended, Err(ServeFault::Read)));
+        assert!(rt; written.as_slice() == replies);
+        let (given, _) = TWO_BEGINS.split_at_checked(place).ok_or("too far")?;
+        let mut reader = Pieces::new(rt.alloc(), given)?;
         reader.fails_at = place;
         let (ended, written) = outcome(rt.alloc(), reader, u64::MAX)?;
         assert!(rt; matches!(ended, Err(ServeFault::Read)));
@@ -227,6 +236,89 @@ fn a_write_fails_at_each_call(rt: HostRuntime) -> Result<(), Fail> {
         assert!(rt; is_cut_short(rt.alloc(), calls_left, false)?);
         assert!(rt; is_cut_short(rt.alloc(), calls_left, true)?);
     }
+    Ok(())
+}
+
+/// Whether a server that was asked for two sessions in one piece has begun only those whose replies it came to write, where the
+/// writer gives up after so many calls.
+fn stops_at_the_write(alloc: Global, calls_left: usize) -> Result<bool, Refusal> {
+    let mut server = new_server(alloc, FILE_LIMIT)?;
+    let mut reader = TWO_BEGINS;
+    let mut writer = Narrow {
+        written: Vec::new(alloc),
+        calls_left,
+        stalls: false,
+    };
+    let ended = server.serve(&mut reader, &mut writer, u64::MAX);
+    let begun = if calls_left < 13 { 1 } else { 2 };
+    let is_next =
+        matches!(server.answer(Request::Begin), Reply::Begin(start) if start == begun + 1);
+    Ok(matches!(ended, Err(ServeFault::Write)) && is_next)
+}
+
+#[test]
+fn no_frame_is_taken_after_a_failed_write(rt: HostRuntime) -> Result<(), Fail> {
+    for calls_left in 0..26 {
+        assert!(rt; stops_at_the_write(rt.alloc(), calls_left)?);
+    }
+    Ok(())
+}
+
+/// How many flushes there are before one that fails, how many bytes have left then, and the next session's start.
+const FLUSHES: [(usize, usize, u64); 4] = [
+    // before the first read
+    (0, 0, 1),
+    // before the second one
+    (1, 0, 2),
+    // before that at the end
+    (2, 13, 3),
+    // the last
+    (3, 26, 3),
+];
+
+#[test]
+fn a_flush_fails(rt: HostRuntime) -> Result<(), Fail> {
+    for (flushes_left, count, start) in FLUSHES {
+        let mut server = new_server(rt.alloc(), FILE_LIMIT)?;
+        let mut reader = Pieces::new(rt.alloc(), TWO_BEGINS)?;
+        reader.most = BEGIN.len();
+        let mut writer = Holding::new(rt.alloc());
+        writer.flushes_left = flushes_left;
+        let ended = server.serve(&mut reader, &mut writer, u64::MAX);
+        assert!(rt; matches!(ended, Err(ServeFault::Write)));
+        let (replies, _) = TWO_REPLIES.split_at_checked(count).ok_or("too far")?;
+        assert!(rt; writer.out.as_slice() == replies);
+        let next = server.answer(Request::Begin);
+        assert!(rt; matches!(next, Reply::Begin(next) if next == start));
+    }
+    Ok(())
+}
+
+/// Whether a server that compacts memtables at so many entries, and merges at so many files, writes a row's replies.
+fn flushing(
+    alloc: Global,
+    flush: u32,
+    merge: Option<u32>,
+    row: &[Exchange],
+) -> Result<bool, Refusal> {
+    let (requests, replies) = streams_of(alloc, row)?;
+    let mut server = flushing_server(alloc, flush, FILE_LIMIT)?;
+    if let Some(most) = merge {
+        server.merge_at(most);
+    }
+    let mut reader = requests.as_slice();
+    let mut writer = Holding::new(alloc);
+    let ended = server.serve(&mut reader, &mut writer, u64::MAX);
+    Ok(matches!(ended, Ok(End::Clean)) && writer.out == replies)
+}
+
+#[test]
+fn full_memtables_are_compacted(rt: HostRuntime) -> Result<(), Fail> {
+    assert!(rt; flushing(rt.alloc(), 2, None, &upkeep::COMPACTED)?);
+    assert!(rt; flushing(rt.alloc(), 2, Some(3), &upkeep::COMPACTED)?);
+    assert!(rt; flushing(rt.alloc(), 2, Some(2), &upkeep::MERGED)?);
+    assert!(rt; flushing(rt.alloc(), 3, Some(2), &upkeep::NOT_COMPACTED)?);
+    assert!(rt; flushing(rt.alloc(), 10_000, None, &upkeep::NOT_COMPACTED)?);
     Ok(())
 }
 

@@ -57,6 +57,20 @@ fn command_lines(rt: HostRuntime) -> Result<(), Fail> {
         };
         assert!(rt; read == flush);
     }
+    let table: [(&[&str], Option<Option<u32>>); 5] = [
+        (&["tabletd", "--flush", "7"], Some(None)),
+        (&["tabletd", "--merge", "2"], Some(Some(2))),
+        (&["tabletd", "--merge", "64"], Some(Some(64))),
+        (&["tabletd", "--merge", "1"], None),
+        (&["tabletd", "--merge", "65"], None),
+    ];
+    for (words, merge) in table {
+        let read = match options(rt.alloc(), words) {
+            Ok(options) => Some(options.merge),
+            Err(_) => None,
+        };
+        assert!(rt; read == merge);
+    }
     Ok(())
 }
 

@@ -99,7 +99,7 @@ impl Read for Asking<'_> {
     }
 }
 
-/// A writer that says when it was flushed.
+/// A writer that says when bytes were flushed.
 #[derive(Drop)]
 pub struct Telling<'a> {
     pub written: Vec<u8>,
@@ -113,7 +113,43 @@ impl Write for Telling<'_> {
     }
 
     fn flush(&mut self) -> io::Result<()> {
-        self.left.set(true);
+        self.left.set(!self.written.is_empty());
+        Ok(())
+    }
+}
+
+/// A writer that keeps bytes back until it is flushed, and fails after so many flushes.
+#[derive(Drop)]
+pub struct Holding {
+    pub held: Vec<u8>,
+    pub out: Vec<u8>,
+    pub flushes_left: usize,
+}
+
+impl Holding {
+    /// A writer that never fails.
+    pub fn new(alloc: Global) -> Holding {
+        Holding {
+            held: Vec::new(alloc),
+            out: Vec::new(alloc),
+            flushes_left: usize::MAX,
+        }
+    }
+}
+
+impl Write for Holding {
+    fn write(&mut self, buf: &[u8]) -> io::Result<usize> {
+        self.held.extend_from_slice(buf)?;
+        Ok(buf.len())
+    }
+
+    fn flush(&mut self) -> io::Result<()> {
+        if self.flushes_left == 0 {
+            return Err(io::Error::other("broken"));
+        }
+        self.flushes_left -= 1;
+        self.out.extend_from_slice(&self.held)?;
+        self.held.clear();
         Ok(())
     }
 }

@@ -634,3 +634,72 @@ pub const SPLIT_AND_COMPACT: [Exchange; 16] = [
         b"\x82\x01\0\0\0\x012",
     ),
 ];
+
+/// A commit of one cell, where a memtable of two entries is compacted after the reply.
+pub const COMPACTED: [Exchange; 8] = [
+    // Begin: 1
+    (b"\x01", b"\x81\0\0\0\0\0\0\0\x01"),
+    // Set 1 r c v: done
+    (
+        b"\x03\0\0\0\0\0\0\0\x01\0\0\0\x01r\0\0\0\x01c\0\0\0\x01v",
+        b"\x83",
+    ),
+    // Step 1: Held 1 1
+    (b"\x04\0\0\0\0\0\0\0\x01", b"\x84\x01\0\x01\0\x01"),
+    // Merge 1 2: refused 14
+    (b"\x0B\0\0\0\x01\0\0\0\x02", b"\xFF\x0E"),
+    // Step 1: Stamped 2
+    (b"\x04\0\0\0\0\0\0\0\x01", b"\x84\x03\0\0\0\0\0\0\0\x02"),
+    // Step 1: Committed 2
+    (b"\x04\0\0\0\0\0\0\0\x01", b"\x84\x04\0\0\0\0\0\0\0\x02"),
+    // Merge 1 2: done
+    (b"\x0B\0\0\0\x01\0\0\0\x02", b"\x8B"),
+    // Sweep: 2
+    (b"\x0F", b"\x8F\0\0\0\0\0\0\0\x02"),
+];
+
+/// The same where two files are merged after it.
+pub const MERGED: [Exchange; 8] = [
+    // Begin: 1
+    (b"\x01", b"\x81\0\0\0\0\0\0\0\x01"),
+    // Set 1 r c v: done
+    (
+        b"\x03\0\0\0\0\0\0\0\x01\0\0\0\x01r\0\0\0\x01c\0\0\0\x01v",
+        b"\x83",
+    ),
+    // Step 1: Held 1 1
+    (b"\x04\0\0\0\0\0\0\0\x01", b"\x84\x01\0\x01\0\x01"),
+    // Step 1: Stamped 2
+    (b"\x04\0\0\0\0\0\0\0\x01", b"\x84\x03\0\0\0\0\0\0\0\x02"),
+    // Sweep: 0
+    (b"\x0F", b"\x8F\0\0\0\0\0\0\0\0"),
+    // Step 1: Committed 2
+    (b"\x04\0\0\0\0\0\0\0\x01", b"\x84\x04\0\0\0\0\0\0\0\x02"),
+    // Merge 1 2: refused 14
+    (b"\x0B\0\0\0\x01\0\0\0\x02", b"\xFF\x0E"),
+    // Sweep: 2
+    (b"\x0F", b"\x8F\0\0\0\0\0\0\0\x02"),
+];
+
+/// The same where it takes more entries.
+pub const NOT_COMPACTED: [Exchange; 8] = [
+    // Begin: 1
+    (b"\x01", b"\x81\0\0\0\0\0\0\0\x01"),
+    // Set 1 r c v: done
+    (
+        b"\x03\0\0\0\0\0\0\0\x01\0\0\0\x01r\0\0\0\x01c\0\0\0\x01v",
+        b"\x83",
+    ),
+    // Step 1: Held 1 1
+    (b"\x04\0\0\0\0\0\0\0\x01", b"\x84\x01\0\x01\0\x01"),
+    // Merge 1 2: refused 14
+    (b"\x0B\0\0\0\x01\0\0\0\x02", b"\xFF\x0E"),
+    // Step 1: Stamped 2
+    (b"\x04\0\0\0\0\0\0\0\x01", b"\x84\x03\0\0\0\0\0\0\0\x02"),
+    // Step 1: Committed 2
+    (b"\x04\0\0\0\0\0\0\0\x01", b"\x84\x04\0\0\0\0\0\0\0\x02"),
+    // Merge 1 2: refused 14
+    (b"\x0B\0\0\0\x01\0\0\0\x02", b"\xFF\x0E"),
+    // Sweep: 0
+    (b"\x0F", b"\x8F\0\0\0\0\0\0\0\0"),
+];

@@ -1,4 +1,4 @@
-use Rattle.std.proofs.Common.{ℕ, List, OnErr, OnOk, take, subst, ◌∙◌}
+use Rattle.std.proofs.Common.{ℕ, ◌<◌, List, OnErr, OnOk, length, take, subst, ◌∙◌}
 use Rattle.std.specs.Io.KnownBytes.{Appends}
 use Rattle.server_loop.proofs.frames.send.Goals as goal
 
@@ -9,7 +9,7 @@ returns-clause-ok g c =
 
 pub returns-clause-err : goal.returns-clause-err
 returns-clause-err g c =
-    subst (λ (bytes : List ℕ). OnErr c.write_whole.result ((n : ℕ) × Appends (g.W.Write.contents c.args.writer.now) (g.W.Write.contents c.write_whole.new.writer) (take n bytes)))
+    subst (λ (bytes : List ℕ). OnErr c.write_whole.result ((n : ℕ) × (n < length bytes) × Appends (g.W.Write.contents c.args.writer.now) (g.W.Write.contents c.write_whole.new.writer) (take n bytes)))
     (c.deref.ensures.value ∙ c.frame_reply.ensures.items) c.write_whole.ensures.err
 
 pub returns-clause-capacity : goal.returns-clause-capacity

@@ -8,8 +8,9 @@ use request_codec::{Reply, decode_request};
 use server_loop::{End, ServeFault};
 use std::alloc::Global;
 
-/// What a server is asked for first. Then sessions stand at each phase, and there are two files and a memtable.
-const SET_UP: [&[u8]; 38] = [
+/// What a server is asked for first. Then sessions stand at each phase, a cleaner is to take its first step and another its
+/// second, and there are two files and a memtable.
+const SET_UP: [&[u8]; 41] = [
     // Begin: 1
     b"\x01",
     // Set 1 a c 1
@@ -86,6 +87,12 @@ const SET_UP: [&[u8]; 38] = [
     b"\x03\0\0\0\0\0\0\0\x0B\0\0\0\x01b\0\0\0\x01c\0\0\0\x011",
     // Begin: 12
     b"\x01",
+    // CleanBegin p c: Cleaner 1 5
+    b"\x06\0\0\0\x01p\0\0\0\x01c",
+    // CleanBegin s c: Cleaner 2 7
+    b"\x06\0\0\0\x01s\0\0\0\x01c",
+    // CleanStep 2: Decided
+    b"\x07\0\0\0\0\0\0\0\x02",
 ];
 
 /// What is read: cells at each phase, and whether there is a second tablet.
@@ -109,7 +116,7 @@ const READS: [&[u8]; 8] = [
 ];
 
 /// The requests that are made with allocations refused.
-const REQUESTS: [&[u8]; 21] = [
+const REQUESTS: [&[u8]; 24] = [
     // Begin: 13
     b"\x01",
     // Get 12 a c: 3
@@ -134,6 +141,12 @@ const REQUESTS: [&[u8]; 21] = [
     b"\x04\0\0\0\0\0\0\0\x07",
     // Stop 10
     b"\x05\0\0\0\0\0\0\0\x0A",
+    // CleanBegin b c: Cleaner 3 9
+    b"\x06\0\0\0\x01b\0\0\0\x01c",
+    // CleanStep 1: Decided
+    b"\x07\0\0\0\0\0\0\0\x01",
+    // CleanStep 2: RolledForward 8
+    b"\x07\0\0\0\0\0\0\0\x02",
     // Minor 1
     b"\x0A\0\0\0\x01",
     // Merge 1 2
@@ -187,7 +200,7 @@ const COMMITTED: &[u8] = b"\
     \0\0\0\x02\xFF\x0E\
     \0\0\0\x02\xFF\x0B";
 
-/// What is read after Step 7.
+/// What is read after Step 7, and after CleanStep 2.
 const FINISHED: &[u8] = b"\
     \0\0\0\x07\x82\x01\0\0\0\x013\
     \0\0\0\x0A\x82\x02\0\0\0\0\0\0\0\x09\
@@ -195,6 +208,17 @@ const FINISHED: &[u8] = b"\
     \0\0\0\x0F\x91\x01\0\0\0\0\0\0\0\x01\0\0\0\x012\
     \0\0\0\x14\x91\x01\0\0\0\0\0\0\0\x05\0\0\0\x06p\0\0c\0\0\
     \0\0\0\x16\x91\x01\0\0\0\0\0\0\0\x08\0\0\0\x08\0\0\0\0\0\0\0\x07\
+    \0\0\0\x02\xFF\x0E\
+    \0\0\0\x02\xFF\x0B";
+
+/// What is read after CleanStep 1.
+const ROLLED_BACK: &[u8] = b"\
+    \0\0\0\x07\x82\x01\0\0\0\x013\
+    \0\0\0\x0A\x82\x02\0\0\0\0\0\0\0\x09\
+    \0\0\0\x02\x82\0\
+    \0\0\0\x0F\x91\x01\0\0\0\0\0\0\0\x01\0\0\0\x012\
+    \0\0\0\x02\x91\0\
+    \0\0\0\x02\x91\0\
     \0\0\0\x02\xFF\x0E\
     \0\0\0\x02\xFF\x0B";
 
@@ -214,7 +238,7 @@ const NO_MEMORY: &[u8] = b"\0\0\0\x02\xFF\x14";
 
 /// The calls: each request by itself, with the number of its refusal or 0, a new server, and then each request as a
 /// frame, with the frame of its reply.
-const CALLS: [Call; 43] = [
+const CALLS: [Call; 49] = [
     // Begin: 13
     (b"\0", STILL),
     // Get 12 a c: 3
@@ -239,6 +263,12 @@ const CALLS: [Call; 43] = [
     (b"\0", FINISHED),
     // Stop 10: stopped
     (b"\0", STILL),
+    // CleanBegin b c: Cleaner 3 9
+    (b"\0", STILL),
+    // CleanStep 1: Decided
+    (b"\0", ROLLED_BACK),
+    // CleanStep 2: RolledForward 8
+    (b"\0", FINISHED),
     // Minor 1: done
     (b"\0", STILL),
     // Merge 1 2: done
@@ -283,6 +313,15 @@ const CALLS: [Call; 43] = [
     (b"\0\0\0\x06\x84\x06\0\x02\0\x02", FINISHED),
     // Stop 10: stopped
     (b"\0\0\0\x01\x85", STILL),
+    // CleanBegin b c: Cleaner 3 9
+    (
+        b"\0\0\0\x12\x86\x01\0\0\0\0\0\0\0\x03\0\0\0\0\0\0\0\x09",
+        STILL,
+    ),
+    // CleanStep 1: Decided
+    (b"\0\0\0\x02\x87\x01", ROLLED_BACK),
+    // CleanStep 2: RolledForward 8
+    (b"\0\0\0\x0A\x87\x02\0\0\0\0\0\0\0\x08", FINISHED),
     // Minor 1: done
     (b"\0\0\0\x01\x8A", STILL),
     // Merge 1 2: done

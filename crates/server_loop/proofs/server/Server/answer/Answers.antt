@@ -17,3 +17,6 @@ returns-clause-tablets g c = c.reply_to.ensures.says.tablets
 
 pub returns-clause-causes : goal.returns-clause-causes
 returns-clause-causes g c = c.reply_to.ensures.says.causes
+
+pub returns-clause-tending : goal.returns-clause-tending
+returns-clause-tending g c = c.reply_to.ensures.says.tending

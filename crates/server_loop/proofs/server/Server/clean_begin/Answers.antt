@@ -12,6 +12,7 @@ returns-in-Ok g c = let told = c.in-Ok.ensures in record {
   sessions = record { told = λ st shown. tt; sessions = record { top = refl; each = λ t. refl }; cleaners = tt; oracle = refl };
   tablets = told.reads.stays;
   causes = record { device = λ is. absurd (not_done _ _ tt is); told = λ _. record { files = told.reason.told (ok_not _ _); marks = refl }; full = λ _. tt };
+  tending = refl;
 }
 
 pub returns-in-Err : goal.returns-in-Err
@@ -22,4 +23,5 @@ returns-in-Err g c = let told = c.in-Err.ensures in record {
   sessions = record { told = λ st shown. tt; sessions = record { top = refl; each = λ t. refl }; cleaners = told.err; oracle = refl };
   tablets = told.reads.stays;
   causes = record { device = λ is. inl (told.reason.device (as_err _ _ _ refl is)); told = λ none. record { files = told.reason.told (λ is. none (as_refused _ _ _ refl is)); marks = refl }; full = λ _. tt };
+  tending = refl;
 }

@@ -12,6 +12,7 @@ returns-in-Ok g c = let told = c.in-Ok.ensures in record {
   sessions = record { told = λ st shown gone. absurd (ok_not _ _ (told.unknown st shown.shows.sessions gone)); sessions = record { top = refl; each = λ t. refl }; cleaners = record { next = refl; each = λ i. refl; count = refl }; oracle = refl };
   tablets = told.reads.stays;
   causes = record { device = λ is. absurd (not_done _ _ tt is); told = λ _. record { files = told.reason.told (ok_not _ _); marks = refl }; full = λ _. tt };
+  tending = refl;
 }
 
 pub returns-in-Err : goal.returns-in-Err
@@ -22,4 +23,5 @@ returns-in-Err g c = let told = c.in-Err.ensures in record {
   sessions = record { told = λ st shown gone. as_refused _ _ _ refl (told.unknown st shown.shows.sessions gone); sessions = record { top = refl; each = λ t. refl }; cleaners = record { next = refl; each = λ i. refl; count = refl }; oracle = refl };
   tablets = told.reads.stays;
   causes = record { device = λ is. inl (told.reason.device (as_err _ _ _ refl is)); told = λ none. record { files = told.reason.told (λ is. none (as_refused _ _ _ refl is)); marks = refl }; full = λ _. tt };
+  tending = refl;
 }

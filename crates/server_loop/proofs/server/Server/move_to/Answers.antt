@@ -13,6 +13,7 @@ returns-in-Ok g c = let o = c.in-Ok.ensures.outcome in record {
   sessions = record { told = λ st shown. tt; sessions = record { top = refl; each = λ t. refl }; cleaners = record { next = refl; each = λ i. refl; count = refl }; oracle = refl };
   tablets = inl o;
   causes = (done_causes g.F.Files.contents g.F.Files.faults g.M.MarkStore.faults _ _ _ _ _ refl (λ is. absurd (not_done _ _ tt is)) (λ is. cc) o.faults (λ _. tt));
+  tending = refl;
 }
 
 pub returns-in-Err : goal.returns-in-Err
@@ -23,4 +24,5 @@ returns-in-Err g c = let o = c.in-Err.ensures.outcome in record {
   sessions = record { told = λ st shown. tt; sessions = record { top = refl; each = λ t. refl }; cleaners = record { next = refl; each = λ i. refl; count = refl }; oracle = refl };
   tablets = inl o;
   causes = (refused_causes g.F.Files.contents g.F.Files.faults g.M.MarkStore.faults _ _ _ _ refl o.faults (λ _. tt));
+  tending = refl;
 }

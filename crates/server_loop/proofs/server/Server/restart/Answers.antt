@@ -25,6 +25,7 @@ returns-in-Ok g c = let told = c.in-Ok.ensures in record {
   sessions = record { told = λ st shown. tt; sessions = record { top = refl; each = λ t. refl }; cleaners = record { next = refl; each = λ i. refl; count = refl }; oracle = tt };
   tablets = refl;
   causes = record { device = λ is. absurd (not_done _ _ tt is); told = λ _. record { files = refl; marks = told.told }; full = λ _. tt };
+  tending = refl;
 }
 
 pub returns-in-Err : goal.returns-in-Err
@@ -45,4 +46,5 @@ returns-in-Err g c = let told = c.in-Err.ensures in record {
   sessions = record { told = λ st shown. tt; sessions = record { top = refl; each = λ t. refl }; cleaners = record { next = refl; each = λ i. refl; count = refl }; oracle = tt };
   tablets = refl;
   causes = record { device = λ _. inr told.device; told = λ none. record { files = refl; marks = absurd (none (ap (λ (r : Refusal). Refused r) told.refusal)) }; full = λ _. tt };
+  tending = refl;
 }

@@ -2,4 +2,4 @@ use Rattle.server_loop.proofs.Whole.{whole-from_serves}
 use Rattle.server_loop.proofs.server.Server.serve.Goals as goal
 
 pub returns-clause-whole : goal.returns-clause-whole
-returns-clause-whole g c = whole-from_serves _ _ _ _ _ _ _ _ _ _ c.serve_all.ensures
+returns-clause-whole g c = whole-from_serves _ _ _ _ _ _ _ _ _ _ _ c.serve_all.ensures

@@ -12,6 +12,7 @@ returns-in-Ok g c = let told = c.in-Ok.ensures in record {
   sessions = record { told = λ st shown gone. absurd (ok_not _ _ (told.unknown st shown.shows.sessions gone)); sessions = tt; cleaners = record { next = refl; each = λ i. refl; count = refl }; oracle = refl };
   tablets = refl;
   causes = record { device = λ is. absurd (not_done _ _ tt is); told = λ _. record { files = refl; marks = refl }; full = λ _. tt };
+  tending = refl;
 }
 
 pub returns-in-Err : goal.returns-in-Err
@@ -22,4 +23,5 @@ returns-in-Err g c = let told = c.in-Err.ensures in record {
   sessions = record { told = λ st shown gone. as_refused _ _ _ refl (told.unknown st shown.shows.sessions gone); sessions = told.err; cleaners = record { next = refl; each = λ i. refl; count = refl }; oracle = refl };
   tablets = refl;
   causes = record { device = λ is. absurd (never IsSetRefusal _ _ told.refusal (λ h. h) is); told = λ _. record { files = refl; marks = refl }; full = λ _. tt };
+  tending = refl;
 }

@@ -15,6 +15,7 @@ returns-in-Err g c = record {
   sessions = record { told = λ st shown. tt; sessions = record { top = refl; each = λ t. refl }; cleaners = record { next = refl; each = λ i. refl; count = refl }; oracle = refl };
   tablets = inr (refused_either _ _ _ c.in-Err.ensures.others, refl);
   causes = (unmet_causes g.F.Files.contents g.F.Files.faults g.M.MarkStore.faults _ _ _ _ refl refl (λ is. absurd (named_not _ _ row_not_device memory_not_device c.in-Err.ensures.others is)) (λ _. tt));
+  tending = refl;
 }
 
 pub returns-in-Ok-split : goal.returns-in-Ok-split
@@ -28,6 +29,7 @@ returns-in-Ok-split g c =
       sessions = record { told = λ st shown. tt; sessions = record { top = refl; each = λ t. refl }; cleaners = record { next = refl; each = λ i. refl; count = refl }; oracle = refl };
       tablets = inl o;
       causes = (done_causes g.F.Files.contents g.F.Files.faults g.M.MarkStore.faults _ _ _ _ _ refl (λ is. absurd (not_done _ _ tt is)) (λ is. cc) o.faults (λ _. tt));
+      tending = refl;
     })
 
 pub returns : goal.returns
@@ -41,4 +43,5 @@ returns g c =
       sessions = record { told = λ st shown. tt; sessions = record { top = refl; each = λ t. refl }; cleaners = record { next = refl; each = λ i. refl; count = refl }; oracle = refl };
       tablets = inl o;
       causes = (refused_causes g.F.Files.contents g.F.Files.faults g.M.MarkStore.faults _ _ _ _ refl o.faults (λ _. tt));
+      tending = refl;
     })

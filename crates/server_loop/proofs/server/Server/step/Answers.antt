@@ -13,6 +13,7 @@ returns-in-Ok g c = let told = c.in-Ok.ensures in record {
   sessions = record { told = λ st shown. (λ gone. absurd (ok_not _ _ (told.unknown st shown.shows.sessions gone)), λ empty. absurd (ok_not _ _ (told.empty st shown.shows.sessions empty)), λ about. progress_told IsDrawRefusal c.in-Ok.progress); sessions = tt; cleaners = record { next = refl; each = λ i. refl; count = refl }; oracle = λ st shown. told.aside st shown.shows.sessions };
   tablets = told.below.stays;
   causes = record { device = λ is. absurd (not_done _ _ tt is); told = λ _. record { files = first_stays told.reason (ok_not _ _); marks = second_stays told.reason (ok_not _ _) }; full = λ is. absurd (not_done _ _ tt is) };
+  tending = refl;
 }
 
 pub returns-in-Err : goal.returns-in-Err
@@ -23,4 +24,5 @@ returns-in-Err g c = let told = c.in-Err.ensures in record {
   sessions = record { told = λ st shown. (λ gone. as_refused _ _ _ refl (told.unknown st shown.shows.sessions gone), λ empty. as_refused _ _ _ refl (told.empty st shown.shows.sessions empty), λ about. told.drawing st shown.shows.sessions about); sessions = told.err; cleaners = record { next = refl; each = λ i. refl; count = refl }; oracle = λ st shown. told.aside st shown.shows.sessions };
   tablets = told.below.stays;
   causes = record { device = λ same. one_rose told.reason (as_err _ _ _ refl same); told = λ none. record { files = first_stays told.reason (λ is. none (as_refused _ _ _ refl is)); marks = second_stays told.reason (λ is. none (as_refused _ _ _ refl is)) }; full = λ same. (told.full (as_err _ _ _ refl same), λ st reached shown. told.full_shown shown.in_order (as_err _ _ _ refl same) st reached shown.shows.store shown.shows.sessions) };
+  tending = refl;
 }

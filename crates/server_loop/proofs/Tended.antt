@@ -1,0 +1,46 @@
+-- A server that was tended shows what it showed, whether files were merged or not.
+use Rattle.std.proofs.Common.{◌≡◌, ℕ, List, map, Option, None, Some, refl, arith, ap, sym, subst, ◌∙◌}
+use Rattle.cell_key.specs.Cells.{Cells}
+use Rattle.file_store.specs.Store.{Contents}
+use Rattle.row_atomic.specs.Clusters.{ClusterState, Spot}
+use Rattle.row_atomic.specs.Flushes.{KeepsShown, merges_none}
+use Rattle.si_model.specs.Machine.{State}
+use Rattle.txn_client.specs.Shows as clients
+use Rattle.txn_client.specs.declared.clients.Clients.{Clients}
+use Rattle.clean_up.specs.Shows.{ShowsCleaners}
+use Rattle.clean_up.specs.declared.cleaners.Cleaners.{Cleaners}
+use Rattle.server_loop.specs.Server.{Shows, cells_of, cluster_of, last_of, machine_place}
+use Rattle.server_loop.specs.Tending.{Merges}
+use Rattle.server_loop.specs.declared.server.Server.{Server}
+
+pub still_shown : {F M : Type 0} (contents : F → Option Contents) (faults : F → ℕ) (old new : Server F M) (st : State) → KeepsShown contents faults (cluster_of old) (cluster_of new)
+    → new.clients ≡ old.clients → new.cleaners ≡ old.cleaners → last_of new ≡ last_of old → Shows contents old st → Shows contents new st
+still_shown contents faults old new st keeps sessions cleaners last shown =
+    let (held, cells) = keeps.kept shown.in_order in
+    record {
+      in_order = held;
+      shows = subst (λ (c : Cells). clients.Shows c new.clients (last_of new) st) (sym cells)
+          (subst (λ (s : Clients). clients.Shows (cells_of contents old) s (last_of new) st) (sym sessions)
+          (subst (λ (l : ℕ). clients.Shows (cells_of contents old) old.clients l st) (sym last) shown.shows));
+      cleaners = subst (λ (s : Cleaners). ShowsCleaners s st) (sym cleaners) shown.cleaners;
+      places = ap (λ (spots : List Spot). map machine_place spots) keeps.spots ∙ shown.places;
+      next = shown.next;
+    }
+
+-- ---- merges
+
+module _ {F : Type 0} (contents : F → Option Contents) (faults : F → ℕ) where
+  pub keeps_same : (old : ClusterState F) → KeepsShown contents faults old old
+  keeps_same old = record { kept = λ holds. (holds, refl); spots = refl; limit = refl; later = omega arith }
+
+  pub keeps_both : (old mid new : ClusterState F) → KeepsShown contents faults old mid → KeepsShown contents faults mid new → KeepsShown contents faults old new
+  keeps_both old mid new first then = record {
+    kept = λ holds. let before = first.kept holds in let after = then.kept before.0 in (after.0, after.1 ∙ before.1);
+    spots = then.spots ∙ first.spots;
+    limit = then.limit ∙ first.limit;
+    later = let a = first.later in let b = then.later in omega arith;
+  }
+
+  pub unmerged : (merge : Option ℕ) (old : ClusterState F) → Merges contents faults merge old old
+  unmerged None old = refl
+  unmerged (Some most) old = merges_none
