@@ -4,7 +4,7 @@ from __future__ import annotations
 
 import threading
 import time
-from collections.abc import Callable
+from collections.abc import Callable, Sequence
 from contextlib import AbstractContextManager
 from types import TracebackType
 from typing import TypeVar
@@ -47,9 +47,9 @@ class Store:
     `Refused` where it refuses, and `ProgramEnded` where the program has ended.
     """
 
-    def __init__(self, program: str | None = None, patience: Patience = Patience()) -> None:
-        """Starts the program: scripts/tabletd of the repository, where no other is named."""
-        self._program = Program(program)
+    def __init__(self, program: str | None = None, patience: Patience = Patience(), words: Sequence[str] = ()) -> None:
+        """Starts the program, scripts/tabletd of the repository where no other is named, with these words of its command line."""
+        self._program = Program(program, words)
         self._patience = patience
         self._turn = threading.RLock()
         self._tablets = TabletMap()

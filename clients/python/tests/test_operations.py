@@ -297,6 +297,26 @@ class Refusals(StoreTest):
             self.store.minor(2**32)
 
 
+class Unasked(unittest.TestCase):
+    """Compactions that the words of the command line ask for."""
+
+    def test_full_memtables(self) -> None:
+        with Store(words=("--flush", "2")) as store:
+            with store.transaction() as transaction:
+                transaction.set(b"r", b"c", b"v")
+            store.merge(1, 2)
+            self.assertEqual(store.sweep(), 2)
+
+    def test_many_files(self) -> None:
+        with Store(words=("--flush", "2", "--merge", "3")) as store:
+            for number in range(100):
+                with store.transaction() as transaction:
+                    transaction.set(b"r%d" % number, b"c", b"v")
+            with self.assertRaises(BadCount):
+                store.merge(1, 3)
+            self.assertEqual(store.run(lambda transaction: transaction.get(b"r7", b"c")), b"v")
+
+
 class Ends(unittest.TestCase):
     """How a store ends."""
 
