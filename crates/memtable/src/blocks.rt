@@ -49,7 +49,8 @@ pub(crate) fn place<S: Sought>(blocks: &[Block], sought: S) -> usize
 pub(crate) fn find<S: Sought>(blocks: &[Block], sought: S) -> Option<&Slot>
     requires rising { IsRising (block_entries blocks.now) }
     requires blocks { AllByRecursion IsBlock blocks.now }
-    ensures found { option_map (λ slot. (slot_entry slot.now).1) result ≡ entry_of_key (block_entries blocks.now) (S.name sought) }
+    ensures found { option_map (λ slot. (slot_entry slot.now).1) result
+        ≡ entry_of_key (block_entries blocks.now) (S.name sought) }
     ensures named { IfSome result (λ slot. slot.now.text.items ≡ S.name sought) }
 {
     let block = blocks.get(place(blocks, sought))?;
@@ -60,7 +61,8 @@ pub(crate) fn find<S: Sought>(blocks: &[Block], sought: S) -> Option<&Slot>
 pub(crate) fn rest_from<S: Sought>(blocks: &[Block], sought: S) -> (&[Box<Slot>], &[Block])
     requires rising { IsRising (block_entries blocks.now) }
     requires blocks { AllByRecursion IsBlock blocks.now }
-    ensures entries { slot_entries result.0.now ++ block_entries result.1.now ≡ entries_from (S.name sought) (block_entries blocks.now) }
+    ensures entries { slot_entries result.0.now ++ block_entries result.1.now
+        ≡ entries_from (S.name sought) (block_entries blocks.now) }
     ensures blocks { AllByRecursion IsBlock result.1.now }
 {
     let at = place(blocks, sought);
@@ -76,7 +78,8 @@ pub(crate) fn rest_from<S: Sought>(blocks: &[Block], sought: S) -> (&[Box<Slot>]
 /// The first entry of some blocks that has a value.
 fn first_value(blocks: &[Block]) -> Option<&Slot>
     requires { AllByRecursion IsBlock blocks.now }
-    ensures { option_map (λ slot. slot_entry slot.now) result ≡ first_value (block_entries blocks.now) }
+    ensures { option_map (λ slot. slot_entry slot.now) result
+        ≡ first_value (block_entries blocks.now) }
 {
     let mut rest = blocks;
     'each: while let Some((block, later)) = rest.split_first() {
@@ -92,7 +95,8 @@ fn first_value(blocks: &[Block]) -> Option<&Slot>
 pub(crate) fn first_value_from<S: Sought>(blocks: &[Block], sought: S) -> Option<&Slot>
     requires rising { IsRising (block_entries blocks.now) }
     requires blocks { AllByRecursion IsBlock blocks.now }
-    ensures { option_map (λ slot. slot_entry slot.now) result ≡ first_value (entries_from (S.name sought) (block_entries blocks.now)) }
+    ensures { option_map (λ slot. slot_entry slot.now) result
+        ≡ first_value (entries_from (S.name sought) (block_entries blocks.now)) }
 {
     let (rest, later) = rest_from(blocks, sought);
     match slots::first_value(rest) {
@@ -168,7 +172,9 @@ pub(crate) fn put(blocks: &mut Blocks, slot: Box<Slot>)
     requires rising { IsRising (block_entries blocks.old.filled.items) }
     requires blocks { AreBlocks blocks.old }
     requires room { HasRoom 1 blocks.old }
-    ensures entries { block_entries blocks.new.filled.items ≡ put_entry byte_cmp (slot_entry slot.value).0 (slot_entry slot.value).1 (block_entries blocks.old.filled.items) }
+    ensures entries { block_entries blocks.new.filled.items
+        ≡ put_entry byte_cmp (slot_entry slot.value).0 (slot_entry slot.value).1
+        (block_entries blocks.old.filled.items) }
     ensures blocks { AreBlocks blocks.new }
     ensures room { (n : ℕ) → HasRoom (n + 1) blocks.old → HasRoom n blocks.new }
 {
@@ -189,7 +195,8 @@ pub(crate) fn put_all(blocks: &mut Blocks, mut staged: Vec<Box<Slot>>)
     requires rising { IsRising (block_entries blocks.old.filled.items) }
     requires blocks { AreBlocks blocks.old }
     requires room { HasRoom (vec_len staged) blocks.old }
-    ensures entries { block_entries blocks.new.filled.items ≡ over (slot_entries staged.items) (block_entries blocks.old.filled.items) }
+    ensures entries { block_entries blocks.new.filled.items
+        ≡ over (slot_entries staged.items) (block_entries blocks.old.filled.items) }
     ensures blocks { AreBlocks blocks.new }
 {
     while let Some(slot) = staged.pop() {

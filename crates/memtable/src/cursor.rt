@@ -29,7 +29,10 @@ impl<'a> Model for Cursor<'a> {
 
     ghost Value = { Option Entry × List Entry };
 
-    ghost view = { λ cursor. (option_map (λ slot. slot_entry slot.now) cursor.current, slot_entries cursor.rest.now ++ block_entries cursor.later.now) };
+    ghost view = { λ cursor. (
+      option_map (λ slot. slot_entry slot.now) cursor.current,
+      slot_entries cursor.rest.now ++ block_entries cursor.later.now,
+    ) };
 
     ghost invariant = { λ cursor. AllByRecursion IsBlock cursor.later.now };
 }
@@ -40,7 +43,9 @@ fn first<'a>(
     later: &'a [Block],
 ) -> Option<(&'a Slot, &'a [Box<Slot>], &'a [Block])>
     requires { AllByRecursion IsBlock later.now }
-    ensures first { MatchOption result (slot_entries rest.now ++ block_entries later.now ≡ []) (λ t. slot_entries rest.now ++ block_entries later.now ≡ slot_entry t.0.now ∷ (slot_entries t.1.now ++ block_entries t.2.now)) }
+    ensures first { MatchOption result (slot_entries rest.now ++ block_entries later.now ≡ []) (λ t.
+        slot_entries rest.now ++ block_entries later.now
+        ≡ slot_entry t.0.now ∷ (slot_entries t.1.now ++ block_entries t.2.now)) }
     ensures blocks { IfSome result (λ t. AllByRecursion IsBlock t.2.now) }
 {
     if let Some((slot, rest)) = rest.split_first() {

@@ -12,7 +12,9 @@ use std::cmp::Ordering;
 /// What follows the part at the front of the bytes. Where they don't begin with it, how whatever begins
 /// with it compares with them.
 fn after_part<'a>(part: &[u8], bytes: &'a [u8]) -> Result<&'a [u8], Ordering>
-    ensures { MatchResult result (λ rest. ComparesAs part.now bytes.now rest.now) (λ order. ComparesTo part.now bytes.now order) }
+    ensures { MatchResult result
+        (λ rest. ComparesAs part.now bytes.now rest.now)
+        (λ order. ComparesTo part.now bytes.now order) }
 {
     match bytes.strip_prefix(part) {
         Some(rest) => Ok(rest),
@@ -22,7 +24,9 @@ fn after_part<'a>(part: &[u8], bytes: &'a [u8]) -> Result<&'a [u8], Ordering>
 
 /// The same for a part and its end.
 fn after_end<'a>(part: &[u8], bytes: &'a [u8]) -> Result<&'a [u8], Ordering>
-    ensures { MatchResult result (λ rest. ComparesAs (ended part.now) bytes.now rest.now) (λ order. ComparesTo (ended part.now) bytes.now order) }
+    ensures { MatchResult result
+        (λ rest. ComparesAs (ended part.now) bytes.now rest.now)
+        (λ order. ComparesTo (ended part.now) bytes.now order) }
 {
     let rest = after_part(part, bytes)?;
     after_part(b"\0\0", rest)
@@ -30,7 +34,9 @@ fn after_end<'a>(part: &[u8], bytes: &'a [u8]) -> Result<&'a [u8], Ordering>
 
 /// The same for a row, in which a byte 0 is written as 0 and 255, and its end.
 fn after_row<'a>(row: &[u8], bytes: &'a [u8]) -> Result<&'a [u8], Ordering>
-    ensures { MatchResult result (λ rest. ComparesAs (ended (escaped row.now)) bytes.now rest.now) (λ order. ComparesTo (ended (escaped row.now)) bytes.now order) }
+    ensures { MatchResult result
+        (λ rest. ComparesAs (ended (escaped row.now)) bytes.now rest.now)
+        (λ order. ComparesTo (ended (escaped row.now)) bytes.now order) }
 {
     let mut left = bytes;
     for byte in row {
@@ -71,7 +77,9 @@ pub(crate) struct Version<'a> {
 impl Version<'_> {
     /// What follows the column's front of its texts. Where the bytes don't begin with it, how its texts compare with them.
     fn after_column(self, bytes: &[u8]) -> Result<&[u8], Ordering>
-        ensures { MatchResult result (λ rest. ComparesAs (column_text (key_of self.entry)) bytes.now rest.now) (λ order. ComparesTo (column_text (key_of self.entry)) bytes.now order) }
+        ensures { MatchResult result
+            (λ rest. ComparesAs (column_text (key_of self.entry)) bytes.now rest.now)
+            (λ order. ComparesTo (column_text (key_of self.entry)) bytes.now order) }
     {
         let after_row = after_row(self.row.as_bytes(), bytes)?;
         let after_family = after_end(self.family.as_bytes(), after_row)?;
@@ -80,7 +88,9 @@ impl Version<'_> {
 
     /// The order as `Ok` where the stamps decide, and else as `Err`.
     fn cut_and_compare(self, bytes: &[u8]) -> Result<Ordering, Ordering>
-        ensures { MatchResult result (λ order. order ≡ byte_cmp (text (key_of self.entry)) bytes.now) (λ order. order ≡ byte_cmp (text (key_of self.entry)) bytes.now) }
+        ensures { MatchResult result
+            (λ order. order ≡ byte_cmp (text (key_of self.entry)) bytes.now)
+            (λ order. order ≡ byte_cmp (text (key_of self.entry)) bytes.now) }
     {
         let after_column = self.after_column(bytes)?;
         let stamp = self.stamp;
@@ -93,7 +103,8 @@ impl Version<'_> {
     pub(crate) fn stamp_in(self, bytes: &[u8]) -> Option<Stamp>
         ensures some { IfSome result (λ stamp. bytes.now ≡ text (at_stamp self.entry stamp)) }
         ensures small { IfSome result (λ stamp. stamp < 2 ^ 64) }
-        ensures none { IfNone result ((stamp : ℕ) → stamp < 2 ^ 64 → bytes.now ≢ text (at_stamp self.entry stamp)) }
+        ensures none { IfNone result ((stamp : ℕ) → stamp < 2 ^ 64
+            → bytes.now ≢ text (at_stamp self.entry stamp)) }
     {
         match self.after_column(bytes) {
             Ok(falling) => stamp_of(falling),

@@ -65,7 +65,8 @@ fn is_named(slots: &[Box<Slot>], at: usize, text: &[u8]) -> bool
 /// The entry that is sought.
 pub(crate) fn find<S: Sought>(slots: &[Box<Slot>], sought: S) -> Option<&Slot>
     requires { IsRising (slot_entries slots.now) }
-    ensures found { option_map (λ slot. (slot_entry slot.now).1) result ≡ entry_of_key (slot_entries slots.now) (S.name sought) }
+    ensures found { option_map (λ slot. (slot_entry slot.now).1) result
+        ≡ entry_of_key (slot_entries slots.now) (S.name sought) }
     ensures named { IfSome result (λ slot. slot.now.text.items ≡ S.name sought) }
 {
     let slot = slots.get(first_from(slots, sought))?;
@@ -78,7 +79,8 @@ pub(crate) fn find<S: Sought>(slots: &[Box<Slot>], sought: S) -> Option<&Slot>
 
 /// The first entry that has a value.
 pub(crate) fn first_value(slots: &[Box<Slot>]) -> Option<&Slot>
-    ensures { option_map (λ slot. slot_entry slot.now) result ≡ first_value (slot_entries slots.now) }
+    ensures { option_map (λ slot. slot_entry slot.now) result
+        ≡ first_value (slot_entries slots.now) }
 {
     let mut rest = slots;
     'slots: while let Some((slot, after)) = rest.split_first() {
@@ -94,7 +96,9 @@ pub(crate) fn first_value(slots: &[Box<Slot>]) -> Option<&Slot>
 pub(crate) fn put(slots: &mut Vec<Box<Slot>>, slot: Box<Slot>)
     requires rising { IsRising (slot_entries slots.old.items) }
     requires room { vec_len slots.old < vec_capacity slots.old }
-    ensures entries { slot_entries slots.new.items ≡ put_entry byte_cmp (slot_entry slot.value).0 (slot_entry slot.value).1 (slot_entries slots.old.items) }
+    ensures entries { slot_entries slots.new.items
+        ≡ put_entry byte_cmp (slot_entry slot.value).0 (slot_entry slot.value).1
+        (slot_entries slots.old.items) }
     ensures some { 1 ≤ vec_len slots.new }
     ensures len { vec_len slots.new ≤ vec_len slots.old + 1 }
     ensures capacity { vec_capacity slots.old ≤ vec_capacity slots.new }

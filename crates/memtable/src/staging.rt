@@ -28,8 +28,10 @@ impl Size {
         requires replaced { slot_len replaced ≤ self.bytes }
         requires few { self.entries + 1 < 2 ^ 128 }
         requires small { self.bytes + entry_len (slot_entry slot.now) < 2 ^ 128 }
-        ensures entries { result.entries ≡ (if is_some replaced.entry then self.entries else self.entries + 1) }
-        ensures bytes { result.bytes + slot_len replaced.entry ≡ self.bytes + entry_len (slot_entry slot.now) }
+        ensures entries { result.entries
+            ≡ (if is_some replaced.entry then self.entries else self.entries + 1) }
+        ensures bytes { result.bytes + slot_len replaced.entry
+            ≡ self.bytes + entry_len (slot_entry slot.now) }
     {
         match replaced {
             Some(old) => Size {
@@ -51,6 +53,7 @@ fn text_of(alloc: Global, key: &CellKey) -> Result<Vec<u8>, Refusal>
     ensures family { IsFamily key.now.family }
     ensures refusal { IfErr result (λ refusal. refusal ≡ Refusal.NoMemory) }
 {
+    // These calls tell that row and family are within their limits.
     let _row = key.row.as_bytes();
     let _family = key.family.as_bytes();
     let mut bytes = Vec::new(alloc);
@@ -84,7 +87,9 @@ fn standing<'a>(staged: &'a [Box<Slot>], table: &'a [Block], text: &[u8]) -> Opt
     requires staged { IsRising (slot_entries staged.now) }
     requires table { IsRising (block_entries table.now) }
     requires blocks { AllByRecursion IsBlock table.now }
-    ensures found { option_map (λ slot. (slot_entry slot.now).1) result ≡ or_else (entry_of_key (slot_entries staged.now) text.now) (entry_of_key (block_entries table.now) text.now) }
+    ensures found { option_map (λ slot. (slot_entry slot.now).1) result
+        ≡ or_else (entry_of_key (slot_entries staged.now) text.now)
+        (entry_of_key (block_entries table.now) text.now) }
     ensures named { IfSome result (λ slot. slot.now.text.items ≡ text.now) }
 {
     match slots::find(staged, text) {
@@ -106,9 +111,12 @@ pub(crate) fn stage(
     requires before { IsSizeOf before (block_entries table.now) }
     requires small { (before.entries ≤ 2 ^ 64) × (before.bytes ≤ 2 ^ 64) }
     requires edits { AllByRecursion (IsEditOf row.now) edits.items }
-    ensures staged { IfOk result (λ staged. over (slot_entries staged.0.items) (block_entries table.now) ≡ with_edits (block_entries table.now) edits.items) }
+    ensures staged { IfOk result (λ staged.
+        over (slot_entries staged.0.items) (block_entries table.now)
+        ≡ with_edits (block_entries table.now) edits.items) }
     ensures limits { IfOk result (λ staged. AllByRecursion IsEntry (slot_entries staged.0.items)) }
-    ensures size { IfOk result (λ staged. IsSizeOf staged.1 (with_edits (block_entries table.now) edits.items)) }
+    ensures size { IfOk result (λ staged.
+        IsSizeOf staged.1 (with_edits (block_entries table.now) edits.items)) }
     ensures keys { OnOk result (AllByRecursion HasStoredKey edits.items) }
     ensures refusal { IfErr result (λ refusal. refusal ≡ Refusal.NoMemory) }
 {

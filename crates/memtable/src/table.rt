@@ -87,7 +87,8 @@ impl Memtable {
 
     /// The entry of a key, if it has one: its value, or an erasure. Takes no memory.
     pub fn lookup(&self, key: &CellKey) -> Option<EntryRef<'_>>
-        ensures found { option_map (λ lent. (lent_entry lent).1) result ≡ entry_of_key self.now (text key.now) }
+        ensures found { option_map (λ lent. (lent_entry lent).1) result
+            ≡ entry_of_key self.now (text key.now) }
         ensures named { IfSome result (λ lent. lent.key.now ≡ text key.now) }
         ensures list { IsEntryList self.now }
     {
@@ -114,10 +115,12 @@ impl Memtable {
         lo: Stamp,
         hi: Stamp,
     ) -> Option<(Stamp, &[u8])>
-        ensures found { IsNewest (cells_of self.now) (version row.now family.now qualifier) lo hi (option_map lent_version result) }
+        ensures found { IsNewest (cells_of self.now) (version row.now family.now qualifier) lo hi
+            (option_map lent_version result) }
         ensures limits { IfSome result (λ found. IsVersion found.0 found.1.now) }
         ensures list { IsEntryList self.now }
     {
+        // These calls tell that row and family are within their limits.
         let _row = row.as_bytes();
         let _family = family.as_bytes();
         let sought = Version {
@@ -151,8 +154,10 @@ impl Memtable {
         ensures keys { OnOk result (AllByRecursion HasStoredKey edits.items) }
         ensures list { IsEntryList self.new }
         ensures err { OnErr result (self.new ≡ self.old) }
-        ensures full { IsErrOf result Refusal.MemtableFull → ¬ (IsWithinLimits (with_edits self.old edits.items)) }
-        ensures refusal { IfErr result (λ refusal. (refusal ≡ Refusal.MemtableFull) ⊎ (refusal ≡ Refusal.NoMemory)) }
+        ensures full { IsErrOf result Refusal.MemtableFull
+            → ¬ (IsWithinLimits (with_edits self.old edits.items)) }
+        ensures refusal { IfErr result (λ refusal.
+            (refusal ≡ Refusal.MemtableFull) ⊎ (refusal ≡ Refusal.NoMemory)) }
     {
         let before = Size {
             entries: self.len as u128,

@@ -1,4 +1,6 @@
+mod Counting
 mod EntryParts
+mod Fronts
 mod Growth
 mod OpenFiles
 pub mod Places
@@ -8,4 +10,5 @@ mod Results
 mod Spanned
 mod Spelling
 mod Splits
+mod Stamps
 mod Values

@@ -3,6 +3,7 @@ pub mod Sources
 pub mod Building
 pub mod Cursors
 pub mod Kept
+pub mod Newest
 pub mod Opened
 pub mod Spans
 pub use Rattle.cell_key.specs.Entries

@@ -7,6 +7,7 @@ use Rattle.cell_key.specs.Entries.{Entry, IsEntryList}
 use Rattle.file_store.specs.Store.{Contents}
 use Rattle.sorted_file.specs.Grammar.{IsFile}
 use Rattle.sorted_file.specs.Kept.{kept}
+use Rattle.sorted_file.specs.Newest.{skips}
 use Rattle.sorted_file.specs.Spans.{IsSpanned}
 use Rattle.sorted_file.specs.declared.opened.SortedFile.{SortedFile}
 
@@ -26,10 +27,11 @@ abbrev pub listed : Contents → SortedFile → List Entry
 listed m file = kept file.entries.items
 
 -- the file of its name is there and is that of an entry list, the one that it stands for,
--- and what it keeps of its values is so
+-- and what it keeps of its values and its erasures is so
 pub record IsOpen (m : Contents) (file : SortedFile) : Type 0 where
   pub list : IsEntryList (listed m file)
   pub spans : AllByRecursion (IsSpanned file.spans) (listed m file)
+  pub skips : file.skips.items ≡ skips (listed m file)
   pub image : List ℕ
   pub there : map.get m (name_of file) ≡ Some image
   pub form : IsFile (listed m file) image

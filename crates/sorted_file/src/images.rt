@@ -29,7 +29,7 @@ fn image_of(alloc: Global, entries: &[FileEntry], limit: u32) -> Result<Vec<u8>,
 }
 
 /// Whether the bytes are the same.
-fn is_same(first: &[u8], second: &[u8]) -> bool
+pub(crate) fn is_same(first: &[u8], second: &[u8]) -> bool
     ensures { IsTrue result ↔ (first.now ≡ second.now) }
 {
     first == second

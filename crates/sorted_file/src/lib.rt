@@ -7,6 +7,7 @@ mod decoding;
 mod entries;
 mod images;
 mod laws;
+mod newest;
 mod opened;
 mod sources;
 mod spans;

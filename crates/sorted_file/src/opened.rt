@@ -1,6 +1,6 @@
 //! A file of entries that is open for reading.
 
-ghost use Rattle.std.specs.Prelude.{◌≡◌, Some, None, false, length, option_map, IfOk, IfErr, IfSome, IsErrOf};
+ghost use Rattle.std.specs.Prelude.{◌≡◌, ◌≤◌, Some, None, false, length, option_map, IfOk, IfErr, IfSome, IsErrOf};
 ghost use Rattle.std.specs.FinMap as map;
 ghost use Rattle.cell_key.specs.Keys.{text};
 ghost use Rattle.cell_key.specs.Entries.{entry_of_key, entries_from};
@@ -11,6 +11,7 @@ ghost use Rattle.cell_key.specs.Faults.{HasReason};
 use crate::cursors::FileCursor;
 use crate::entries::{FileEntry, find, first_from};
 use crate::images::entries_of;
+use crate::newest::{newest_in, skips_of};
 use crate::sources::refusal_of;
 use crate::spans::{Spans, spans_of};
 use cell_key::{CellKey, Qualifier, Refusal, Stamp};
@@ -40,11 +41,14 @@ pub struct SortedFile {
     alloc: Global,
     name: u64,
     entries: Vec<FileEntry>,
+    /// How many erasures come before the next value, from each entry on.
+    skips: Vec<usize>,
     spans: Spans,
 }
 
 impl SortedFile {
     ghost use Rattle.sorted_file.specs.Cursors.{cursor_lent, cursor_remaining, CursorHolds};
+    ghost use Rattle.sorted_file.specs.Newest.{IsNewestStamp};
     ghost use Rattle.sorted_file.specs.Spans.{HasNoValue};
     ghost use Rattle.sorted_file.specs.Opened.{HasFile, IsOpen, IsSameFile, IsShortValue, listed, name_of, value_bytes};
 
@@ -63,11 +67,13 @@ impl SortedFile {
         let Some(entries) = entries_of(alloc, &bytes)? else {
             return Err(Refusal::Damaged);
         };
+        let skips = skips_of(alloc, &entries)?;
         let spans = spans_of(alloc, &entries)?;
         Ok(SortedFile {
             alloc,
             name,
             entries,
+            skips,
             spans,
         })
     }
@@ -123,6 +129,37 @@ impl SortedFile {
         };
         let value = entry.copy_value(self.alloc)?;
         Ok(Some(value))
+    }
+
+    /// The greatest stamp, from `lo` up to that of the key, at which the file has a value of the key's
+    /// column. Where `may_have` tells that there is none it takes no memory and reads nothing. The file
+    /// stays what it was, also after an `Err`.
+    ///
+    /// # Errors
+    ///
+    /// `Device`, `NoMemory`, and `Damaged` only where the file is no longer what was opened.
+    pub fn newest_stamp<F: Files>(
+        &mut self,
+        key: &CellKey,
+        lo: Stamp,
+        files: &mut F,
+    ) -> Result<Option<Stamp>, Refusal>
+        ensures found { IfOk result (λ found. IfSome (F.contents files.old) (λ m. IsOpen m self.old
+            → IsNewestStamp (listed m self.old) key.now lo found)) }
+        ensures within { IfOk result (λ found.
+            IfSome found (λ stamp. (lo ≤ stamp) × (stamp ≤ key.now.stamp))) }
+        ensures stays { IsSameFile (F.contents files.old) self.old self.new }
+        ensures damaged { IsErrOf result Refusal.Damaged
+            → IfSome (F.contents files.old) (λ m. ¬ IsOpen m self.old) }
+        ensures refusal { IfErr result IsReadRefusal }
+        ensures same { F.contents files.new ≡ F.contents files.old }
+        ensures reason { HasReason (F.faults files.old) (F.faults files.new) result }
+    {
+        if !self.spans.meet(key.qualifier, lo, key.stamp) {
+            return Ok(None);
+        }
+        let found = newest_in(self.alloc, &self.entries, &self.skips, key, lo)?;
+        Ok(found)
     }
 
     /// The entries from the first text on that isn't below `from`, which is any bytes. Takes no memory and reads

@@ -1,5 +1,5 @@
 -- What a tablet answers, by what was found in its lists.
-use Rattle.std.proofs.Common.{◌≡◌, ◌+◌, ◌<◌, ◌≤◌, ◌^◌, ℕ, List, ◌∷◌, ◌⊎◌, inl, inr, map, Option, Some, None, sym, subst, ◌∙◌, arith}
+use Rattle.std.proofs.Common.{◌≡◌, ◌<◌, ◌≤◌, ◌^◌, ℕ, List, ◌∷◌, ◌⊎◌, inl, inr, map, Option, Some, None, sym, subst, ◌∙◌, arith}
 use Rattle.std.specs.Prelude.{IfSome, IfOk, IsTrue, Result, Ok, Err}
 use Rattle.std.specs.FinMap.{get}
 use Rattle.std.specs.List.{AllByRecursion}
@@ -14,7 +14,7 @@ use Rattle.file_store.specs.Store.{Contents}
 use Rattle.sorted_file.specs.Opened.{IsOpen, listed}
 use Rattle.sorted_file.specs.declared.opened.SortedFile.{SortedFile}
 use Rattle.tablet.specs.Ranges.{has_row, upper_fence}
-use Rattle.tablet.specs.Reads.{column_part, first_value, start_of, IsPlace, IsPlaceOrNone}
+use Rattle.tablet.specs.Reads.{first_value, start_of, IsPlaceOrNone}
 use Rattle.tablet.specs.Sources.{IsOpenIn, listed_in, part}
 use Rattle.tablet.specs.Views.{range_of, memory_of, files_of, lists_of, cells_at, Holds}
 use Rattle.tablet.specs.declared.tablet.Tablet.{Tablet}
@@ -22,7 +22,7 @@ use Rattle.tablet.proofs.Found.{has_none, has_first}
 use Rattle.tablet.proofs.Held.{held_lists}
 use Rattle.tablet.proofs.NextCells.{next_none, next_some}
 use Rattle.tablet.proofs.Shown.{stored_or_hidden}
-use Rattle.tablet.proofs.Versions.{newest_none, newest_some, newest_at_none, newest_at_some, version_between}
+use Rattle.tablet.proofs.Versions.{newest_at_none, newest_at_some}
 
 pub if_one : {A : Type 0} {P Q : A → Type 0} (o : Option A) → IfSome o P → ((m : A) → P m → Q m) → IfSome o Q
 if_one None h f = tt
@@ -72,6 +72,18 @@ module _ (m : Contents) (t : Tablet) (held : Holds m t) (row family : List ℕ) 
   widened lo first hi low up None h = none_from lo first hi up h
   widened lo first hi low up (Some found) h = (let l = h.0 in omega arith, h.1, h.2, h.3)
 
+  up_to : (last hi : ℕ) → ((s : ℕ) → s < 2 ^ 63 → s ≤ hi → s ≤ last) → (s : ℕ) → s ≤ hi → (s ≤ last → get (cells_at m t) (version row family q s) ≡ None) → get (cells_at m t) (version row family q s) ≡ None
+  up_to last hi down s b h = go (stored_or_not s)
+    where
+      go : IsStored (version row family q s) ⊎ (get (cells_at m t) (version row family q s) ≡ None) → get (cells_at m t) (version row family q s) ≡ None
+      go (inl stored) = h (down s stored.to b)
+      go (inr e) = e
+
+  -- nor one above the greatest
+  pub raised : (first last hi : ℕ) → last ≤ hi → ((s : ℕ) → s < 2 ^ 63 → s ≤ hi → s ≤ last) → (found : Option (ℕ × List ℕ)) → IsNewest (cells_at m t) (version row family q) first last found → IsNewest (cells_at m t) (version row family q) first hi found
+  raised first last hi high down None h = λ s a b. up_to last hi down s b (h s a)
+  raised first last hi high down (Some found) h = (h.0, (let b = h.1 in omega (arith, b, high)), h.2, λ s a b. up_to last hi down s b (h.3 s a))
+
 pub nothing_held : (o : Option Contents) (t : Tablet) (row family : List ℕ) (q : Qualifier) (lo hi : ℕ) → ((s : ℕ) → 1 ≤ s → s < 2 ^ 63 → lo ≤ s → s ≤ hi → ⊥) → IfSome o (λ m. Holds m t → IsTrue (has_row (range_of t) row) → IsNewest (cells_at m t) (version row family q) lo hi None)
 nothing_held None t row family q lo hi out = tt
 nothing_held (Some m) t row family q lo hi out = λ held has. nothing_stored m t held row family q lo hi out
@@ -94,13 +106,13 @@ module _ (t : Tablet) (fs : List SortedFile) (files : fs ≡ files_of t) where
 
     pub one_none : (o : Option Contents) → AnswersOne o None → IfSome o (λ m. Holds m t → IsTrue (has_row (range_of t) row) → IsNewest (cells_at m t) (version row family q) stamp stamp None)
     one_none None h = tt
-    one_none (Some m) h = λ held has. newest_at_none row family q 0 stamp is_row is_family (omega arith) (omega arith) (range_of t) (lists_of m t) (held_lists m t held) has stamp (moved_one m None h held)
+    one_none (Some m) h = λ held has. newest_at_none row family q (range_of t) (lists_of m t) (held_lists m t held) has stamp (moved_one m None h held)
 
     pub one_some : (o : Option Contents) (value : List ℕ) → AnswersOne o (Some value) → IfSome o (λ m. Holds m t → IsTrue (has_row (range_of t) row) → IsNewest (cells_at m t) (version row family q) stamp stamp (Some (stamp, value)))
     one_some None value h = tt
     one_some (Some m) value h =
         λ held has.
-        newest_at_some row family q 0 stamp is_row is_family (omega arith) (omega arith) (range_of t) (lists_of m t) (held_lists m t held) has stamp value
+        newest_at_some row family q (range_of t) (lists_of m t) (held_lists m t held) has stamp value
         (record { row = is_row; family = is_family; from = from; to = to }) (moved_one m (Some value) h held)
 
   abbrev pub Answers : List ℕ → Option (List ℕ) → Option Contents → Option (List ℕ × List ℕ) → Type 0
@@ -124,40 +136,3 @@ module _ (t : Tablet) (fs : List SortedFile) (files : fs ≡ files_of t) where
         λ held.
         next_some (range_of t) after is (lists_of m t) (held_lists m t held) key value stored
         (has_first (start_of (range_of t) after) (upper_fence (range_of t)) (lists_of m t) (held_lists m t held) key value stored (moved x (start_of (range_of t) after) y (upper_fence (range_of t)) starts ends m (Some (text key, value)) h held))
-
-module _ (t : Tablet) (row family : List ℕ) (q : Qualifier) (lo before hi : ℕ) (is : IsPlace (row, family)) (one : before + 1 ≡ lo) (small : before < 2 ^ 64) (small_hi : hi < 2 ^ 64) where
-  abbrev first : List ℕ
-  first = text (version row family q hi)
-
-  abbrev last : Option (List ℕ)
-  last = Some (text (version row family q before))
-
-  abbrev Finds : Option Contents → Option (List ℕ × List ℕ) → Type 0
-  Finds o found = IfSome o (λ m. Holds m t → found ≡ first_value (column_part row family q before hi (lists_of m t)))
-
-  pub between_none : (o : Option Contents) → Finds o None → IfSome o (λ m. Holds m t → IsTrue (has_row (range_of t) row) → IsNewest (cells_at m t) (version row family q) lo hi None)
-  between_none None h = tt
-  between_none (Some m) h =
-      λ held has.
-      newest_none row family q before hi is.row is.family small small_hi (range_of t) (lists_of m t) (held_lists m t held) has lo (λ s least low. omega arith)
-      (has_none first last (lists_of m t) (sym (h held)))
-
-  pub between_some : (o : Option Contents) (key : CellKey) (value : List ℕ) → IsStored key → lo ≤ key.stamp → Finds o (Some (text key, value)) → IfSome o (λ m. Holds m t → IsTrue (has_row (range_of t) row) → IsNewest (cells_at m t) (version row family q) lo hi (Some (key.stamp, value)))
-  between_some None key value stored low h = tt
-  between_some (Some m) key value stored low h =
-      λ held has.
-      newest_some row family q before hi is.row is.family small small_hi (range_of t) (lists_of m t) (held_lists m t held) has lo key value stored low
-      (has_first first last (lists_of m t) (held_lists m t held) key value stored (sym (h held)))
-
-  -- what is found is between the stamps
-  pub never_outside : (o : Option Contents) (key : CellKey) (value : List ℕ) → IsStored key → (key.stamp < lo) ⊎ (hi < key.stamp) → Finds o (Some (text key, value)) → IfSome o (λ m. ¬ Holds m t)
-  never_outside None key value stored out h = tt
-  never_outside (Some m) key value stored out h =
-      λ held.
-      let found = has_first first last (lists_of m t) (held_lists m t held) key value stored (sym (h held)) in
-      let inside = version_between row family q before hi is.row is.family small small_hi key stored found.inside in
-      go inside.low inside.high out
-    where
-      go : before < key.stamp → key.stamp ≤ hi → (key.stamp < lo) ⊎ (hi < key.stamp) → ⊥
-      go low high (inl below) = omega arith
-      go low high (inr above) = omega arith

@@ -1,15 +1,13 @@
 -- The first value of entries whose texts rise.
-use Rattle.std.proofs.Common.{◌≡◌, ℕ, Bool, true, false, cond, T, List, [], ◌∷◌, Option, Some, None, refl, sym, ap, subst, ◌∙◌}
+use Rattle.std.proofs.Common.{◌≡◌, ℕ, Bool, true, false, cond, List, [], ◌∷◌, Option, Some, None, refl, ap, subst, ◌∙◌}
 use Rattle.std.specs.Option.{unwrap_or}
-use Rattle.std.specs.declared.cmp.Ordering.{Ordering}
-use Rattle.std.specs.declared.cmp.Ordering.TheVariants.{Less, Equal, Greater}
-use Rattle.std.specs.Ordering.{is_eq, eq_by_cmp, ordering_reverse}
-use Rattle.std.specs.Cmp.Lexicographic.{nat_list_cmp_total}
-use Rattle.std.specs.FinMap.Entries.{find, below_all}
+use Rattle.std.specs.declared.cmp.Ordering.TheVariants.{Less}
+use Rattle.std.specs.Ordering.{is_eq, eq_by_cmp}
+use Rattle.std.specs.FinMap.Entries.{find}
 use Rattle.cell_key.specs.Keys.{byte_cmp}
 use Rattle.cell_key.specs.Entries.{Entry, IsRising, entry_of_key, value_of}
 use Rattle.compaction.specs.FilterLaws.{first, second}
-use Rattle.compaction.specs.OrderLaws.{below_less, same_key, ties_itself}
+use Rattle.compaction.specs.OrderLaws.{below_less, ties_itself}
 use Rattle.compaction.specs.HeadLaws.{find_below}
 use Rattle.tablet.specs.Reads.{first_value}
 use Rattle.tablet.proofs.Filters.{one_text}
@@ -52,48 +50,3 @@ pub first_some : (es : List Entry) (found : List ℕ × List ℕ) → IsRising e
 first_some [] found r e = cc
 first_some ((n, None) ∷ es) found r e = later n es found r (first_some es found (second _ _ r) e)
 first_some ((n, Some v) ∷ es) found r e = subst (λ (p : List ℕ × List ℕ). IsFirstAt ((n, Some v) ∷ es) p) (ap (λ (o : Option (List ℕ × List ℕ)). unwrap_or o (n, v)) e) (here n v es r)
-
--- an erasure before them leaves the texts of entries without a value
-without : (n : List ℕ) (es : List Entry) → T (below_all byte_cmp n es) → (name : List ℕ) → value_of (cond (eq_by_cmp byte_cmp name n) (Some None) (find byte_cmp name es)) ≡ None → value_of (find byte_cmp name es) ≡ None
-without n es low name e = go (eq_by_cmp byte_cmp name n) refl e
-  where
-    go : (b : Bool) → eq_by_cmp byte_cmp name n ≡ b → value_of (cond b (Some None) (find byte_cmp name es)) ≡ None → value_of (find byte_cmp name es) ≡ None
-    go true t e = ap (λ (k : List ℕ). value_of (find byte_cmp k es)) (one_text name n t) ∙ ap value_of (find_below n es low)
-    go false t e = e
-
-at_head : (n v : List ℕ) (es : List Entry) → value_of (entry_of_key ((n, Some v) ∷ es) n) ≡ Some v
-at_head n v es = ap (λ (b : Bool). value_of (cond b (Some (Some v)) (find byte_cmp n es))) (ties_itself n)
-
-some_none : {A : Type 0} (x : A) → Some x ≡ None → ⊥
-some_none x e = cc
-
--- where no text has a value, there is none
-pub none_is : (es : List Entry) → IsRising es → ((name : List ℕ) → value_of (entry_of_key es name) ≡ None) → first_value es ≡ None
-none_is [] r none = refl
-none_is ((n, None) ∷ es) r none = none_is es (second _ _ r) (λ name. without n es (first _ _ r) name (none name))
-none_is ((n, Some v) ∷ es) r none = absurd (some_none v (sym (at_head n v es) ∙ none n))
-
-behind : (b : Bool) (rest : Option (Option (List ℕ))) (value : List ℕ) → cond b (Some None) rest ≡ Some (Some value) → rest ≡ Some (Some value)
-behind true rest value e = let no : Some None ≡ Some (Some value) = e in cc
-behind false rest value e = e
-
--- a value before which there is none is the first
-pub first_is : (es : List Entry) (found : List ℕ × List ℕ) → IsRising es → IsFirstAt es found → first_value es ≡ Some found
-first_is [] found r is = let e = is.there in cc
-first_is ((n, None) ∷ es) found r is =
-    first_is es found (second _ _ r)
-    (record { there = behind (eq_by_cmp byte_cmp found.0 n) (find byte_cmp found.0 es) found.1 is.there; least = λ k less. without n es (first _ _ r) k (is.least k less) })
-first_is ((n, Some v) ∷ es) found r is = go (byte_cmp n found.0) refl
-  where
-    go : (o : Ordering) → byte_cmp n found.0 ≡ o → Some (n, v) ≡ Some found
-    go Less e = absurd (some_none v (sym (at_head n v es) ∙ is.least n e))
-    go Equal e =
-        let name = same_key n found.0 e in
-        let here = sym (at_head n v es) ∙ ap (λ (k : List ℕ). value_of (entry_of_key ((n, Some v) ∷ es) k)) name ∙ ap value_of is.there in
-        let value : v ≡ found.1 = ap (λ (o : Option (List ℕ)). unwrap_or o v) here in
-        λ i. Some (name i, value i)
-    go Greater e =
-        let less = nat_list_cmp_total.antisymm found.0 n ∙ ap ordering_reverse e in
-        let other : eq_by_cmp byte_cmp found.0 n ≡ false = ap is_eq less in
-        let nothing = ap (λ (b : Bool). cond b (Some (Some v)) (find byte_cmp found.0 es)) other ∙ find_below found.0 es (below_less found.0 n es less (first _ _ r)) in
-        absurd (some_none (Some found.1) (sym is.there ∙ nothing))

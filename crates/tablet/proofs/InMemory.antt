@@ -1,14 +1,14 @@
 -- What the memtable alone tells of a column.
-use Rattle.std.proofs.Common.{◌≡◌, ◌≤◌, ◌<◌, ◌+◌, ℕ, Bool, true, cond, List, [], ◌∷◌, ◌++◌, ◌⊎◌, inl, inr, map, Option, Some, None, refl, sym, ap, subst, ◌∙◌, arith}
+use Rattle.std.proofs.Common.{◌≡◌, ◌≤◌, ℕ, Bool, true, cond, List, [], ◌∷◌, ◌++◌, ◌⊎◌, inl, inr, map, Option, Some, None, refl, sym, ap, subst, ◌∙◌, arith}
 use Rattle.std.specs.List.{AllByRecursion}
 use Rattle.std.specs.Borrow.{Bor}
-use Rattle.std.specs.Prelude.{IfSome, option_map}
+use Rattle.std.specs.Prelude.{IfSome, IsSome, option_map}
 use Rattle.std.specs.FinMap.{get}
 use Rattle.cell_key.specs.Keys.{text, IsStored}
 use Rattle.cell_key.specs.Cells.{Cells, IsNewest, version}
 use Rattle.cell_key.specs.Versions.{IsVersion, IsVersionIn}
 use Rattle.memtable.specs.Slots.{lent_version}
-use Rattle.cell_key.specs.Entries.{Entry, cells_of, entry_of_key, first_naming, or_else, value_of}
+use Rattle.cell_key.specs.Entries.{cells_of, entry_of_key, first_naming, or_else, value_of}
 use Rattle.cell_key.specs.declared.keys.CellKey.{CellKey}
 use Rattle.cell_key.specs.declared.keys.Qualifier.{Qualifier}
 use Rattle.cell_key.proofs.EntryLaws.{get-cells_of}
@@ -75,6 +75,17 @@ module _ (m : Contents) (t : Tablet) (held : Holds m t) (row family : List ℕ) 
   pub newest_of_all : (lo : ℕ) (found : Option (ℕ × List ℕ)) → IsNewest (cells_of (memory_of t)) at lo hi found → ((s : ℕ) → IsLater s lo found → from ≤ s) → IsNewest (cells_at m t) at lo hi found
   newest_of_all lo None is later = λ s a b. still_none s (later s a) b (is s a b)
   newest_of_all lo (Some v) is later = (is.0, is.1, still_there v.0 v.1 is.2, λ s a b. still_none s (later s a) b (is.3 s a b))
+
+-- what the memtable has is shown
+pub shown_there : (m : Contents) (t : Tablet) → Holds m t → (row family : List ℕ) (q : Qualifier) → has_row (range_of t) row ≡ true → (s : ℕ) → IsSome (get (cells_of (memory_of t)) (version row family q s)) → get (cells_at m t) (version row family q s) ≡ None → ⊥
+shown_there m t held row family q has s some none = go (get (cells_of (memory_of t)) (version row family q s)) refl some
+  where
+    go : (o : Option (List ℕ)) → get (cells_of (memory_of t)) (version row family q s) ≡ o → IsSome o → ⊥
+    go None e some = cc
+    go (Some v) e some =
+        let there = still_there m t held row family q has 1 0 (λ no. absurd (omega (arith, no))) s v e in
+        let no : None ≡ Some v = sym none ∙ there in
+        cc
 
 -- it is within the limits, and its stamp within the range
 pub limits_of : (cells : Cells) (at : ℕ → CellKey) (lo hi : ℕ) (o : Option (ℕ × Bor (List ℕ))) → IsNewest cells at lo hi (option_map lent_version o) → IfSome o (λ v. IsVersion v.0 v.1.now) → IfSome (option_map lent_version o) (IsVersionIn lo hi)

@@ -9,6 +9,7 @@ pub mod Held
 pub mod InMemory
 pub mod LeftOut
 pub mod Making
+pub mod Newer
 pub mod NextCells
 pub mod Parting
 pub mod Passed

@@ -1,20 +1,24 @@
 -- Files that are what they were.
-use Rattle.std.proofs.Common.{◌≡◌, ◌+◌, ◌<◌, ℕ, zero, suc, List, [], ◌∷◌, map, drop, set, get_or, length, Option, Some, None, refl, sym, ap, subst, ◌∙◌, arith}
+use Rattle.std.proofs.Common.{◌≡◌, ◌+◌, ◌<◌, ◌≤◌, ℕ, zero, suc, List, [], ◌∷◌, map, drop, set, get_or, length, Option, Some, None, refl, sym, ap, subst, ◌∙◌, arith}
 use Rattle.std.specs.Prelude.{IfSome, ⊤}
 use Rattle.std.specs.List.{AllByRecursion, AllZip}
-use Rattle.cell_key.specs.Entries.{Entry, IsEntryList, first_naming, entry_of_key, or_else}
+use Rattle.cell_key.specs.Keys.{text, IsStored}
+use Rattle.cell_key.specs.Entries.{Entry, IsEntryList, first_naming, entry_of_key, or_else, value_of}
+use Rattle.cell_key.specs.declared.keys.CellKey.{CellKey}
 use Rattle.file_store.specs.Store.{Contents}
+use Rattle.sorted_file.specs.Newest.{at_stamp, IsNewestStamp}
 use Rattle.sorted_file.specs.Opened.{IsOpen, IsSameFile, listed, name_of}
 use Rattle.sorted_file.specs.declared.opened.SortedFile.{SortedFile}
+use Rattle.tablet.specs.Reads.{HasNoLater, IsAfterStamp}
 use Rattle.tablet.specs.Views.{range_of, memory_of, files_of, lists_of, Holds, IsSameTablet}
 use Rattle.tablet.specs.declared.tablet.Tablet.{Tablet}
 
 -- facts over the files, which tell the same
-told_both : (o now : Option Contents) → now ≡ o → (P Q R : Contents → Type 0) → ((m : Contents) → o ≡ Some m → P m → Q m → R m) → IfSome o P → IfSome now Q → IfSome o R
+pub told_both : (o now : Option Contents) → now ≡ o → (P Q R : Contents → Type 0) → ((m : Contents) → o ≡ Some m → P m → Q m → R m) → IfSome o P → IfSome now Q → IfSome o R
 told_both None now same P Q R f p q = tt
 told_both (Some m) now same P Q R f p q = f m refl p (subst (λ (told : Option Contents). IfSome told Q) same q)
 
-told_any : (o : Option Contents) → IfSome o (λ _. ⊤)
+pub told_any : (o : Option Contents) → IfSome o (λ _. ⊤)
 told_any None = tt
 told_any (Some m) = tt
 
@@ -100,6 +104,63 @@ module _ (o now : Option Contents) (same : now ≡ o) (xs ys : List SortedFile) 
     where
       next : suc i ≡ i + 1
       next = omega arith
+
+  -- the newest stamp is that of this file, or the one that was found before
+  module _ (key : CellKey) (lo from : ℕ) (found new : Option ℕ) (after : IsAfterStamp from lo found) (starts : (s : ℕ) → IsAfterStamp s lo found → from ≤ s) where
+    abbrev pub Shows : ℕ → Option ℕ → Type 0
+    Shows at stamp = IfSome o (λ m. AllByRecursion (IsOpen m) xs
+        → (s : ℕ) → IsAfterStamp s lo stamp → s ≤ key.stamp → IsStored (at_stamp key s)
+        → value_of (first_naming (map (listed m) (drop at xs)) (text (at_stamp key s))) ≡ None
+        → value_of (first_naming (map (listed m) xs) (text (at_stamp key s))) ≡ None)
+
+    later_still : (f n : Option ℕ) → f ≡ found → IfSome n (λ s. (from ≤ s) × (s ≤ key.stamp)) → IsAfterStamp from lo f → (s : ℕ) → IsAfterStamp s lo (or_else n f) → IsAfterStamp s lo f
+    later_still f None is within low s h = h
+    later_still None (Some n) is within low s h = let a = within.0 in omega (arith, a, low, h)
+    later_still (Some f) (Some n) is within low s h = let a = within.0 in omega (arith, a, low, h)
+
+    none_in_it : (es : List Entry) (n : Option ℕ) → IsNewestStamp es key from n → (s : ℕ) → IsAfterStamp s lo (or_else n found) → s ≤ key.stamp → IsStored (at_stamp key s) → value_of (entry_of_key es (text (at_stamp key s))) ≡ None
+    none_in_it es None is s h high stored = is s (starts s h) high stored
+    none_in_it es (Some n) is s h high stored = is.3 s h high stored
+
+    none_in_both : (x y : Option (Option (List ℕ))) → value_of x ≡ None → value_of y ≡ None → value_of (or_else x y) ≡ None
+    none_in_both None y p q = q
+    none_in_both (Some v) y p q = p
+
+    pub newest_here : IfSome new (λ s. (from ≤ s) × (s ≤ key.stamp)) → Shows i found → IfSome now (λ m. IsOpen m (get_or ys i d) → IsNewestStamp (listed m (get_or ys i d)) key from new) → Shows (i + 1) (or_else new found)
+    newest_here within shows finds = subst (λ (k : ℕ). Shows k (or_else new found)) next (told_both o now same _ (λ m. IsOpen m (get_or ys i d) → IsNewestStamp (listed m (get_or ys i d)) key from new) _
+        (λ m is before here each s h high stored rest.
+        let still = still_at m (text (at_stamp key s)) is each in
+        before each s (later_still found new refl within after s h) high stored
+        (ap value_of still.1 ∙ none_in_both (entry_of_key (listed m (get_or ys i d)) (text (at_stamp key s))) (first_naming (map (listed m) (drop (suc i) xs)) (text (at_stamp key s)))
+        (none_in_it (listed m (get_or ys i d)) new (here still.0) s h high stored) rest)) shows finds)
+      where
+        next : suc i ≡ i + 1
+        next = omega arith
+
+    pub within_still : (f n : Option ℕ) → IfSome f (λ s. (lo ≤ s) × (s ≤ key.stamp)) → IfSome n (λ s. (from ≤ s) × (s ≤ key.stamp)) → IsAfterStamp from lo f → IfSome (or_else n f) (λ s. (lo ≤ s) × (s ≤ key.stamp))
+    within_still f None old new low = old
+    within_still None (Some n) old new low = (let a = new.0 in omega (arith, a, low), new.1)
+    within_still (Some f) (Some n) old new low = (let a = new.0 in let b = old.0 in omega (arith, a, b, low), new.1)
+
+-- where all files were asked, none shows a later value
+pub no_later : (o : Option Contents) (xs : List SortedFile) (i : ℕ) (key : CellKey) (lo : ℕ) (stamp : Option ℕ) → length xs ≤ i
+    → IfSome o (λ m. AllByRecursion (IsOpen m) xs → (s : ℕ) → IsAfterStamp s lo stamp → s ≤ key.stamp → IsStored (at_stamp key s)
+    → value_of (first_naming (map (listed m) (drop i xs)) (text (at_stamp key s))) ≡ None → value_of (first_naming (map (listed m) xs) (text (at_stamp key s))) ≡ None)
+    → IfSome o (λ m. AllByRecursion (IsOpen m) xs → HasNoLater key lo stamp (map (listed m) xs))
+no_later None xs i key lo stamp le h = tt
+no_later (Some m) xs i key lo stamp le h = λ each s after high stored. h each s after high stored (ap (λ (fs : List SortedFile). value_of (first_naming (map (listed m) fs) (text (at_stamp key s)))) (all_dropped xs i le))
+  where
+    all_dropped : (xs : List SortedFile) (i : ℕ) → length xs ≤ i → drop i xs ≡ []
+    all_dropped [] zero le = refl
+    all_dropped [] (suc i) le = refl
+    all_dropped (x ∷ xs) zero le = absurd (omega (arith, le))
+    all_dropped (x ∷ xs) (suc i) le = all_dropped xs i (omega (arith, le))
+
+pub zip_length : (P : SortedFile → SortedFile → Type 0) (xs ys : List SortedFile) → AllZip P xs ys → length xs ≡ length ys
+zip_length P [] [] all = refl
+zip_length P [] (y ∷ ys) all = absurd all
+zip_length P (x ∷ xs) [] all = absurd all
+zip_length P (x ∷ xs) (y ∷ ys) all = ap suc (zip_length P xs ys all.1)
 
 -- a tablet is what it was where its files are
 pub same_tablet : (o : Option Contents) (t u : Tablet) → range_of u ≡ range_of t → memory_of u ≡ memory_of t → AllZip (IsSameFile o) (files_of t) (files_of u) → IsSameTablet o t u

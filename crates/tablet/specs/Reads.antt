@@ -1,22 +1,22 @@
 -- What a read finds.
-use Rattle.std.specs.Prelude.{◌≡◌, ℕ, ◌≤◌, ◌<◌, length, List, [], ◌∷◌, ◌++◌, Option, Some, None, if◌then◌else◌}
+use Rattle.std.specs.Prelude.{◌≡◌, ℕ, ◌≤◌, ◌<◌, length, List, [], ◌∷◌, ◌++◌, Option, Some, None, option_map, if◌then◌else◌}
 use Rattle.std.specs.declared.vec.Vec.{Vec}
 use Rattle.std.specs.List.{AllByRecursion}
 use Rattle.std.specs.Ordering.{is_le}
 use Rattle.cell_key.specs.Names.{IsRow, IsFamily}
 use Rattle.cell_key.specs.Keys.{byte_cmp, text, IsStored}
-use Rattle.cell_key.specs.Cells.{version}
-use Rattle.cell_key.specs.Entries.{Entry}
+use Rattle.cell_key.specs.Cells.{Cells, IsNewest, version}
+use Rattle.cell_key.specs.Entries.{Entry, first_naming, value_of}
 use Rattle.cell_key.specs.Places.{Place}
 use Rattle.cell_key.specs.declared.keys.CellKey.{CellKey}
 use Rattle.cell_key.specs.declared.keys.Qualifier.{Qualifier}
 use Rattle.cell_key.specs.declared.keys.Qualifier.TheVariants.{Write}
 use Rattle.file_store.specs.Store.{Contents}
+use Rattle.sorted_file.specs.Newest.{at_stamp}
 use Rattle.sorted_file.specs.Opened.{IsOpen, listed}
 use Rattle.sorted_file.specs.Spans.{HasNoValue}
 use Rattle.sorted_file.specs.declared.opened.SortedFile.{SortedFile}
 use Rattle.tablet.specs.Ranges.{lower_fence}
-use Rattle.tablet.specs.Sources.{part}
 use Rattle.tablet.specs.declared.ranges.RowRange.{RowRange}
 
 -- the first value of entries, with its text
@@ -55,9 +55,22 @@ abbrev pub IsLater : ℕ → ℕ → Option (ℕ × List ℕ) → Type 0
 IsLater s lo None = lo ≤ s
 IsLater s lo (Some found) = found.0 < s
 
--- the texts between which the versions of a column at stamps up to one are: from the text of that one, and below that of a lesser stamp
-abbrev pub column_part : List ℕ → List ℕ → Qualifier → ℕ → ℕ → List (List Entry) → List Entry
-column_part row family qualifier before hi lists = part (text (version row family qualifier hi)) (Some (text (version row family qualifier before))) lists
+-- a stamp that comes after one that was found, or from the least one on where none was
+abbrev pub IsAfterStamp : ℕ → ℕ → Option ℕ → Type 0
+IsAfterStamp s lo None = lo ≤ s
+IsAfterStamp s lo (Some found) = found < s
+
+-- the stamp of the newest version in a range of stamps, if it has one there
+pub record IsStampOf (cells : Cells) (at : ℕ → CellKey) (lo hi : ℕ) (stamp : Option ℕ) : Type 0 where
+  pub found : Option (ℕ × List ℕ)
+  pub is : option_map (λ version. version.0) found ≡ stamp
+  pub newest : IsNewest cells at lo hi found
+
+-- Up to that of the key, at no stamp after the one found do lists show a value of the key's column.
+abbrev pub HasNoLater : CellKey → ℕ → Option ℕ → List (List Entry) → Type 0
+HasNoLater key lo found lists =
+    (s : ℕ) → IsAfterStamp s lo found → s ≤ key.stamp → IsStored (at_stamp key s)
+    → value_of (first_naming lists (text (at_stamp key s))) ≡ None
 
 -- the later of two texts
 abbrev pub later : List ℕ → List ℕ → List ℕ

@@ -1,17 +1,17 @@
 //! Reading the merged view of a memtable and files (Bigtable, tablet serving: read operations).
 
-ghost use Rattle.std.specs.Prelude.{◌≡◌, ◌⊎◌, ◌≤◌, ◌<◌, ◌∷◌, Some, option_map, map, length, IfOk, IfErr, IfSome, IsErrOf};
+ghost use Rattle.std.specs.Prelude.{◌≡◌, ℕ, ◌⊎◌, ◌≤◌, ◌<◌, ◌^◌, ◌∷◌, Some, option_map, map, length, IfOk, IfErr, IfSome, IsErrOf};
 ghost use Rattle.std.specs.Option.{option_copied};
 ghost use Rattle.std.specs.List.{AllByRecursion, AllZip};
 ghost use Rattle.cell_key.specs.Names.{IsRow, IsFamily};
 ghost use Rattle.cell_key.specs.Keys.{text, IsStored};
 ghost use Rattle.cell_key.specs.Cells.{version};
-ghost use Rattle.cell_key.specs.Entries.{IsEntry, lent_entry, first_naming, value_of};
+ghost use Rattle.cell_key.specs.Entries.{IsEntry, lent_entry, first_naming, or_else, value_of};
 ghost use Rattle.sorted_file.specs.Opened.{IsOpen, IsSameFile, IsShortValue, listed, value_bytes};
 ghost use Rattle.sorted_file.specs.Sources.{IsReadRefusal};
 ghost use Rattle.cell_key.specs.Faults.{HasReason};
 ghost use Rattle.tablet.specs.Sources.{part};
-ghost use Rattle.tablet.specs.Reads.{first_value, lent_value, texted, IsAsked, IsFound, IsShort};
+ghost use Rattle.tablet.specs.Reads.{first_value, lent_value, texted, HasNoLater, IsAfterStamp, IsAsked, IsFound, IsShort};
 
 use crate::sources::sources;
 use cell_key::{CellKey, EntryRef, Family, Qualifier, Refusal, Row, Stamp};
@@ -26,10 +26,13 @@ const MOST_VALUE: usize = 65_536;
 
 /// A copy of a value, if there is one. Refused Damaged where it is longer than a value is, and NoMemory.
 fn copied(alloc: Global, value: Option<&[u8]>) -> Result<Option<Vec<u8>>, Refusal>
-    ensures copy { IfOk result (λ copy. option_map (λ bytes. bytes.items) copy ≡ option_copied value.entry) }
+    ensures copy { IfOk result (λ copy.
+        option_map (λ bytes. bytes.items) copy ≡ option_copied value.entry) }
     ensures short { IfOk result (λ copy. IfSome copy (λ bytes. length bytes.items ≤ 65536)) }
-    ensures damaged { IsErrOf result Refusal.Damaged → ¬ IfSome (option_copied value.entry) IsShort }
-    ensures refusal { IfErr result (λ refusal. (refusal ≡ Refusal.NoMemory) ⊎ (refusal ≡ Refusal.Damaged)) }
+    ensures damaged { IsErrOf result Refusal.Damaged
+        → ¬ IfSome (option_copied value.entry) IsShort }
+    ensures refusal { IfErr result (λ refusal.
+        (refusal ≡ Refusal.NoMemory) ⊎ (refusal ≡ Refusal.Damaged)) }
 {
     let Some(value) = value else {
         return Ok(None);
@@ -44,10 +47,12 @@ fn copied(alloc: Global, value: Option<&[u8]>) -> Result<Option<Vec<u8>>, Refusa
 /// The key and the value of an entry, if it is no erasure. Refused Damaged where it isn't within the limits
 /// of entries, and NoMemory.
 fn keyed_value(alloc: Global, entry: EntryRef<'_>) -> Result<Option<(CellKey, Vec<u8>)>, Refusal>
-    ensures found { IfOk result (λ found. option_map texted found ≡ lent_value (Some (lent_entry entry.entry))) }
+    ensures found { IfOk result (λ found.
+        option_map texted found ≡ lent_value (Some (lent_entry entry.entry))) }
     ensures limits { IfOk result (λ found. IfSome found (λ p. IsFound p.0 p.1.items)) }
     ensures damaged { IsErrOf result Refusal.Damaged → ¬ IsEntry (lent_entry entry.entry) }
-    ensures refusal { IfErr result (λ refusal. (refusal ≡ Refusal.NoMemory) ⊎ (refusal ≡ Refusal.Damaged)) }
+    ensures refusal { IfErr result (λ refusal.
+        (refusal ≡ Refusal.NoMemory) ⊎ (refusal ≡ Refusal.Damaged)) }
 {
     let Some(value) = copied(alloc, entry.value)? else {
         return Ok(None);
@@ -63,10 +68,12 @@ fn value_at<F: Files, S: Source<F>>(
     alloc: Global,
     source: &S,
 ) -> Result<Option<(CellKey, Vec<u8>)>, Refusal>
-    ensures found { IfOk result (λ found. option_map texted found ≡ lent_value (S.lent source.now)) }
+    ensures found { IfOk result (λ found.
+        option_map texted found ≡ lent_value (S.lent source.now)) }
     ensures limits { IfOk result (λ found. IfSome found (λ p. IsFound p.0 p.1.items)) }
     ensures damaged { IsErrOf result Refusal.Damaged → ¬ IfSome (S.lent source.now) IsEntry }
-    ensures refusal { IfErr result (λ refusal. (refusal ≡ Refusal.NoMemory) ⊎ (refusal ≡ Refusal.Damaged)) }
+    ensures refusal { IfErr result (λ refusal.
+        (refusal ≡ Refusal.NoMemory) ⊎ (refusal ≡ Refusal.Damaged)) }
 {
     match source.current() {
         Some(entry) => keyed_value(alloc, entry),
@@ -80,7 +87,8 @@ fn next_value<F: Files, S: Source<F>>(
     source: &mut S,
     store: &mut F,
 ) -> Result<Option<(CellKey, Vec<u8>)>, Refusal>
-    ensures found { IfOk result (λ found. S.holds (F.contents store.old) source.old → option_map texted found ≡ first_value (S.remaining (F.contents store.old) source.old)) }
+    ensures found { IfOk result (λ found. S.holds (F.contents store.old) source.old
+        → option_map texted found ≡ first_value (S.remaining (F.contents store.old) source.old)) }
     ensures limits { IfOk result (λ found. IfSome found (λ p. IsFound p.0 p.1.items)) }
     ensures damaged { IsErrOf result Refusal.Damaged → ¬ S.holds (F.contents store.old) source.old }
     ensures refusal { IfErr result IsReadRefusal }
@@ -105,9 +113,14 @@ pub(crate) fn first_value<F: Files>(
     end: Option<&[u8]>,
     store: &mut F,
 ) -> Result<Option<(CellKey, Vec<u8>)>, Refusal>
-    ensures found { IfOk result (λ found. IfSome (F.contents store.old) (λ m. AllByRecursion (IsOpen m) files.now → option_map texted found ≡ first_value (part from.now (option_copied end.entry) (memtable.now ∷ map (listed m) files.now)))) }
+    ensures found { IfOk result (λ found.
+        IfSome (F.contents store.old) (λ m. AllByRecursion (IsOpen m) files.now
+        → option_map texted found
+        ≡ first_value (part from.now (option_copied end.entry)
+        (memtable.now ∷ map (listed m) files.now)))) }
     ensures limits { IfOk result (λ found. IfSome found (λ p. IsFound p.0 p.1.items)) }
-    ensures damaged { IsErrOf result Refusal.Damaged → IfSome (F.contents store.old) (λ m. ¬ AllByRecursion (IsOpen m) files.now) }
+    ensures damaged { IsErrOf result Refusal.Damaged
+        → IfSome (F.contents store.old) (λ m. ¬ AllByRecursion (IsOpen m) files.now) }
     ensures refusal { IfErr result IsReadRefusal }
     ensures same { F.contents store.new ≡ F.contents store.old }
     ensures reason { HasReason (F.faults store.old) (F.faults store.new) result }
@@ -137,16 +150,71 @@ pub(crate) fn asked(
     asked
 }
 
+/// The first stamp after one that was found, or `lo` where none was.
+pub(crate) fn first_after(found: Option<Stamp>, lo: Stamp) -> Stamp
+    requires { IfSome found (λ stamp. stamp < 2 ^ 63) }
+    ensures after { IsAfterStamp result lo found }
+    ensures first { (s : ℕ) → IsAfterStamp s lo found → result ≤ s }
+{
+    match found {
+        Some(stamp) => stamp + 1,
+        None => lo,
+    }
+}
+
+/// The first of two stamps, if there is one, and else the second.
+fn or_else(first: Option<Stamp>, second: Option<Stamp>) -> Option<Stamp>
+    ensures { result ≡ or_else first second }
+{
+    match first {
+        Some(stamp) => Some(stamp),
+        None => second,
+    }
+}
+
+/// The greatest stamp, from `lo` up to that of the key, at which any of some files has a value of the key's
+/// column. The files stay what they were.
+pub(crate) fn newest_stamp<F: Files>(
+    files: &mut [SortedFile],
+    key: &CellKey,
+    lo: Stamp,
+    store: &mut F,
+) -> Result<Option<Stamp>, Refusal>
+    requires { key.now.stamp < 2 ^ 63 }
+    ensures found { IfOk result (λ found. IfSome (F.contents store.old) (λ m.
+        AllByRecursion (IsOpen m) files.old
+        → HasNoLater key.now lo found (map (listed m) files.old))) }
+    ensures within { IfOk result (λ found.
+        IfSome found (λ stamp. (lo ≤ stamp) × (stamp ≤ key.now.stamp))) }
+    ensures stay { AllZip (IsSameFile (F.contents store.old)) files.old files.new }
+    ensures damaged { IsErrOf result Refusal.Damaged → IfSome (F.contents store.old)
+        (λ m. ¬ AllByRecursion (IsOpen m) files.old) }
+    ensures refusal { IfErr result IsReadRefusal }
+    ensures same { F.contents store.new ≡ F.contents store.old }
+    ensures reason { HasReason (F.faults store.old) (F.faults store.new) result }
+{
+    let mut found = None;
+    for file in files.iter_mut() {
+        let from = first_after(found, lo);
+        let later = file.newest_stamp(key, from, store)?;
+        found = or_else(later, found);
+    }
+    Ok(found)
+}
+
 /// What the first of some files that names a key has of it. The files stay what they were.
 fn find_in_files<F: Files>(
     files: &mut [SortedFile],
     key: &CellKey,
     store: &mut F,
 ) -> Result<Option<Option<Vec<u8>>>, Refusal>
-    ensures found { IfOk result (λ found. IfSome (F.contents store.old) (λ m. AllByRecursion (IsOpen m) files.old → option_map value_bytes found ≡ first_naming (map (listed m) files.old) (text key.now))) }
+    ensures found { IfOk result (λ found.
+        IfSome (F.contents store.old) (λ m. AllByRecursion (IsOpen m) files.old
+        → option_map value_bytes found ≡ first_naming (map (listed m) files.old) (text key.now))) }
     ensures short { IfOk result (λ found. IfSome found IsShortValue) }
     ensures stay { AllZip (IsSameFile (F.contents store.old)) files.old files.new }
-    ensures damaged { IsErrOf result Refusal.Damaged → IfSome (F.contents store.old) (λ m. ¬ AllByRecursion (IsOpen m) files.old) }
+    ensures damaged { IsErrOf result Refusal.Damaged
+        → IfSome (F.contents store.old) (λ m. ¬ AllByRecursion (IsOpen m) files.old) }
     ensures refusal { IfErr result IsReadRefusal }
     ensures same { F.contents store.new ≡ F.contents store.old }
     ensures reason { HasReason (F.faults store.old) (F.faults store.new) result }
@@ -168,10 +236,14 @@ pub(crate) fn lookup<F: Files>(
     key: &CellKey,
     store: &mut F,
 ) -> Result<Option<Vec<u8>>, Refusal>
-    ensures found { IfOk result (λ found. IfSome (F.contents store.old) (λ m. AllByRecursion (IsOpen m) files.old → option_map (λ bytes. bytes.items) found ≡ value_of (first_naming (memtable.now ∷ map (listed m) files.old) (text key.now)))) }
+    ensures found { IfOk result (λ found.
+        IfSome (F.contents store.old) (λ m. AllByRecursion (IsOpen m) files.old
+        → option_map (λ bytes. bytes.items) found
+        ≡ value_of (first_naming (memtable.now ∷ map (listed m) files.old) (text key.now)))) }
     ensures short { IfOk result (λ found. IfSome found (λ bytes. length bytes.items ≤ 65536)) }
     ensures stay { AllZip (IsSameFile (F.contents store.old)) files.old files.new }
-    ensures damaged { IsErrOf result Refusal.Damaged → IfSome (F.contents store.old) (λ m. ¬ AllByRecursion (IsOpen m) files.old) }
+    ensures damaged { IsErrOf result Refusal.Damaged
+        → IfSome (F.contents store.old) (λ m. ¬ AllByRecursion (IsOpen m) files.old) }
     ensures refusal { IfErr result IsReadRefusal }
     ensures same { F.contents store.new ≡ F.contents store.old }
     ensures reason { HasReason (F.faults store.old) (F.faults store.new) result }
@@ -197,6 +269,7 @@ pub(crate) fn version_key(
     ensures family { IsFamily family.now }
     ensures refusal { IfErr result (λ refusal. refusal ≡ Refusal.NoMemory) }
 {
+    // These calls tell that row and family are within their limits.
     let _row = row.as_bytes();
     let _family = family.as_bytes();
     Ok(CellKey {
@@ -215,7 +288,8 @@ pub(crate) fn version_text(
     qualifier: Qualifier,
     stamp: Stamp,
 ) -> Result<Vec<u8>, Refusal>
-    ensures text { IfOk result (λ bytes. bytes.items ≡ text (version row.now family.now qualifier stamp)) }
+    ensures text { IfOk result (λ bytes.
+        bytes.items ≡ text (version row.now family.now qualifier stamp)) }
     ensures row { IsRow row.now }
     ensures family { IsFamily family.now }
     ensures refusal { IfErr result (λ refusal. refusal ≡ Refusal.NoMemory) }

@@ -1,27 +1,32 @@
 //! What a tablet answers.
 
-ghost use Rattle.std.specs.Prelude.{◌≡◌, ◌≤◌, ◌<◌, ◌-◌, ◌^◌, ℕ, IsTrue, option_map, IfOk, IfErr, IfSome, IsErrOf};
+ghost use Rattle.std.specs.Prelude.{◌≡◌, ◌≤◌, ◌<◌, map, ◌-◌, ◌^◌, ℕ, IsTrue, option_map, IfOk, IfErr, IfSome, IsErrOf};
 ghost use Rattle.std.specs.Option.{option_copied};
 ghost use Rattle.cell_key.specs.Cells.{IsNewest, version};
 ghost use Rattle.cell_key.specs.Places.{IsNextCell, place_named};
 ghost use Rattle.cell_key.specs.Versions.{IsVersion, IsVersionIn, stamped};
+ghost use Rattle.cell_key.specs.Entries.{cells_of};
+ghost use Rattle.sorted_file.specs.Opened.{listed};
 ghost use Rattle.memtable.specs.Slots.{lent_version};
 ghost use Rattle.sorted_file.specs.Sources.{IsReadRefusal};
 ghost use Rattle.cell_key.specs.Faults.{HasReason};
 ghost use Rattle.tablet.specs.Ranges.{has_row};
-ghost use Rattle.tablet.specs.Reads.{column_part, first_value, past_place, later, texted, IsFound, IsLater, IsPlace, IsPlaceOrNone};
+ghost use Rattle.tablet.specs.Reads.{past_place, later, HasNoLater, IsStampOf, IsLater, IsPlace, IsPlaceOrNone};
 
-use crate::reads::{asked, first_value, lookup, version_key, version_text};
+use crate::reads::{
+    asked, first_after, first_value, lookup, newest_stamp, version_key, version_text,
+};
 use crate::sources::fences;
 use crate::tablet::Tablet;
-use cell_key::{CellKey, Family, MOST_STAMP, Qualifier, Refusal, Row, Stamp};
+use cell_key::{Family, MOST_STAMP, Qualifier, Refusal, Row, Stamp};
 use file_store::Files;
 use std::alloc::Global;
 
 /// What comes after the texts of a place and before those of later places, or before all texts where there
 /// is no place. Refused NoMemory.
 fn past_place(alloc: Global, after: Option<(&Row, &Family)>) -> Result<Vec<u8>, Refusal>
-    ensures past { IfOk result (λ text. text.items ≡ past_place (option_map place_named after.entry)) }
+    ensures past { IfOk result (λ text.
+        text.items ≡ past_place (option_map place_named after.entry)) }
     ensures names { IsPlaceOrNone (option_map place_named after.entry) }
     ensures refusal { IfErr result (λ refusal. refusal ≡ Refusal.NoMemory) }
 {
@@ -50,7 +55,8 @@ fn later<'a>(a: &'a [u8], b: &'a [u8]) -> &'a [u8]
 
 /// A copy of a version that is lent, if there is one. Refused NoMemory.
 fn copied(alloc: Global, found: Option<(Stamp, &[u8])>) -> Result<Option<(Stamp, Vec<u8>)>, Refusal>
-    ensures copy { IfOk result (λ copy. option_map stamped copy ≡ option_map lent_version found.entry) }
+    ensures copy { IfOk result (λ copy.
+        option_map stamped copy ≡ option_map lent_version found.entry) }
     ensures refusal { IfErr result (λ refusal. refusal ≡ Refusal.NoMemory) }
 {
     match found {
@@ -75,7 +81,7 @@ fn stamp_after(found: Option<(Stamp, &[u8])>, lo: Stamp) -> Stamp
 
 impl Tablet {
     ghost use Rattle.file_store.specs.Store.{Contents};
-    ghost use Rattle.tablet.specs.Views.{range_of, cells_at, lists_of, Holds, IsSameTablet};
+    ghost use Rattle.tablet.specs.Views.{range_of, memory_of, files_of, cells_at, Holds, IsSameTablet};
 
     /// The version of a cell's column with the greatest stamp in `lo..=hi`, where the memtable alone decides: no
     /// file may have a value at a later stamp of the range. Else `None`. Takes no memory and reads no file.
@@ -87,8 +93,12 @@ impl Tablet {
         lo: Stamp,
         hi: Stamp,
     ) -> Option<Option<(Stamp, &[u8])>>
-        ensures found { IfSome result (λ found. (m : Contents) → Holds m self.now → IsTrue (has_row (range_of self.now) row.now) → IsNewest (cells_at m self.now) (version row.now family.now qualifier) lo hi (option_map lent_version found)) }
-        ensures limits { IfSome result (λ found. IfSome (option_map lent_version found) (IsVersionIn lo hi)) }
+        ensures found { IfSome result (λ found. (m : Contents) → Holds m self.now
+            → IsTrue (has_row (range_of self.now) row.now)
+            → IsNewest (cells_at m self.now) (version row.now family.now qualifier) lo hi
+            (option_map lent_version found)) }
+        ensures limits { IfSome result (λ found.
+            IfSome (option_map lent_version found) (IsVersionIn lo hi)) }
     {
         let found = self.memtable.newest(row, family, qualifier, lo, hi);
         let from = stamp_after(found, lo);
@@ -112,10 +122,16 @@ impl Tablet {
     ) -> Result<Option<(Stamp, Vec<u8>)>, Refusal>
         requires from { 1 ≤ stamp }
         requires to { stamp < 2 ^ 63 }
-        ensures found { IfOk result (λ found. IfSome (F.contents files.old) (λ m. Holds m self.old → IsTrue (has_row (range_of self.old) row.now) → IsNewest (cells_at m self.old) (version row.now family.now qualifier) stamp stamp (option_map stamped found))) }
-        ensures limits { IfOk result (λ found. IfSome (option_map stamped found) (IsVersionIn stamp stamp)) }
+        ensures found { IfOk result (λ found.
+            IfSome (F.contents files.old) (λ m. Holds m self.old
+            → IsTrue (has_row (range_of self.old) row.now)
+            → IsNewest (cells_at m self.old) (version row.now family.now qualifier) stamp stamp
+            (option_map stamped found))) }
+        ensures limits { IfOk result (λ found.
+            IfSome (option_map stamped found) (IsVersionIn stamp stamp)) }
         ensures stays { IsSameTablet (F.contents files.old) self.old self.new }
-        ensures damaged { IsErrOf result Refusal.Damaged → IfSome (F.contents files.old) (λ m. ¬ Holds m self.old) }
+        ensures damaged { IsErrOf result Refusal.Damaged
+            → IfSome (F.contents files.old) (λ m. ¬ Holds m self.old) }
         ensures refusal { IfErr result IsReadRefusal }
         ensures same { F.contents files.new ≡ F.contents files.old }
         ensures reason { HasReason (F.faults files.old) (F.faults files.new) result }
@@ -127,41 +143,10 @@ impl Tablet {
         }
     }
 
-    /// The first value between the texts of a column's versions at `hi` and below `lo`, with its key.
-    fn first_between<F: Files>(
-        &self,
-        row: &Row,
-        family: &Family,
-        qualifier: Qualifier,
-        lo: Stamp,
-        hi: Stamp,
-        files: &mut F,
-    ) -> Result<Option<(CellKey, Vec<u8>)>, Refusal>
-        requires { 1 ≤ lo }
-        ensures found { IfOk result (λ found. IfSome (F.contents files.old) (λ m. Holds m self.now → option_map texted found ≡ first_value (column_part row.now family.now qualifier (lo - 1) hi (lists_of m self.now)))) }
-        ensures limits { IfOk result (λ found. IfSome found (λ p. IsFound p.0 p.1.items)) }
-        ensures names { IsPlace (row.now, family.now) }
-        ensures damaged { IsErrOf result Refusal.Damaged → IfSome (F.contents files.old) (λ m. ¬ Holds m self.now) }
-        ensures refusal { IfErr result IsReadRefusal }
-        ensures same { F.contents files.new ≡ F.contents files.old }
-        ensures reason { HasReason (F.faults files.old) (F.faults files.new) result }
-    {
-        let from = version_text(self.alloc, row, family, qualifier, hi)?;
-        let end = version_text(self.alloc, row, family, qualifier, lo - 1)?;
-        let asked = asked(&self.files, qualifier, lo, hi);
-        first_value(
-            self.alloc,
-            &self.memtable,
-            asked,
-            &from,
-            Some(end.as_slice()),
-            files,
-        )
-    }
-
-    /// The version of a cell's column with the greatest stamp in `lo..=hi`, by the range of their texts.
-    fn newest_between<F: Files>(
-        &self,
+    /// The version with the greatest stamp in `lo..=hi`, where the memtable has none there: by the newest stamps
+    /// of the files' values. One that a newer erasure hides is passed by.
+    fn newest_in_files<F: Files>(
+        &mut self,
         row: &Row,
         family: &Family,
         qualifier: Qualifier,
@@ -169,27 +154,122 @@ impl Tablet {
         hi: Stamp,
         files: &mut F,
     ) -> Result<Option<(Stamp, Vec<u8>)>, Refusal>
-        requires { 1 ≤ lo }
-        ensures found { IfOk result (λ found. IfSome (F.contents files.old) (λ m. Holds m self.now → IsTrue (has_row (range_of self.now) row.now) → IsNewest (cells_at m self.now) (version row.now family.now qualifier) lo hi (option_map stamped found))) }
-        ensures limits { IfOk result (λ found. IfSome (option_map stamped found) (IsVersionIn lo hi)) }
-        ensures damaged { IsErrOf result Refusal.Damaged → IfSome (F.contents files.old) (λ m. ¬ Holds m self.now) }
+        requires from { 1 ≤ lo }
+        requires to { hi < 2 ^ 63 }
+        ensures found { IfOk result (λ found. IfSome (F.contents files.old) (λ m. Holds m self.old
+            → IsTrue (has_row (range_of self.old) row.now)
+            → IsNewest (cells_of (memory_of self.old)) (version row.now family.now qualifier) lo hi
+            None
+            → IsNewest (cells_at m self.old) (version row.now family.now qualifier) lo hi
+            (option_map stamped found))) }
+        ensures limits { IfOk result (λ found.
+            IfSome (option_map stamped found) (IsVersionIn lo hi)) }
+        ensures stays { IsSameTablet (F.contents files.old) self.old self.new }
+        ensures damaged { IsErrOf result Refusal.Damaged → IfSome (F.contents files.old)
+            (λ m. ¬ Holds m self.old) }
         ensures refusal { IfErr result IsReadRefusal }
         ensures same { F.contents files.new ≡ F.contents files.old }
         ensures reason { HasReason (F.faults files.old) (F.faults files.new) result }
     {
-        let Some((key, value)) = self.first_between(row, family, qualifier, lo, hi, files)? else {
-            return Ok(None);
-        };
-        if key.stamp < lo || hi < key.stamp {
-            return Err(Refusal::Damaged);
+        let mut to = hi;
+        'hidden: while let Some(stamp) = self.newest_file_stamp(
+            row, family, qualifier, lo, to, files,
+        )? {
+            if let Some(found) = self.version_at(row, family, qualifier, stamp, files)? {
+                return Ok(Some(found));
+            }
+            to = stamp - 1;
         }
-        Ok(Some((key.stamp, value)))
+        Ok(None)
+    }
+
+    /// The greatest stamp in `lo..=hi` at which a file has a value of a cell's column.
+    fn newest_file_stamp<F: Files>(
+        &mut self,
+        row: &Row,
+        family: &Family,
+        qualifier: Qualifier,
+        lo: Stamp,
+        hi: Stamp,
+        files: &mut F,
+    ) -> Result<Option<Stamp>, Refusal>
+        requires { hi < 2 ^ 63 }
+        ensures found { IfOk result (λ found. IfSome (F.contents files.old) (λ m. Holds m self.old
+            → HasNoLater (version row.now family.now qualifier hi) lo found
+            (map (listed m) (files_of self.old)))) }
+        ensures within { IfOk result (λ found.
+            IfSome found (λ stamp. (lo ≤ stamp) × (stamp ≤ hi))) }
+        ensures stays { IsSameTablet (F.contents files.old) self.old self.new }
+        ensures damaged { IsErrOf result Refusal.Damaged → IfSome (F.contents files.old)
+            (λ m. ¬ Holds m self.old) }
+        ensures refusal { IfErr result IsReadRefusal }
+        ensures same { F.contents files.new ≡ F.contents files.old }
+        ensures reason { HasReason (F.faults files.old) (F.faults files.new) result }
+    {
+        let key = version_key(row, family, qualifier, hi)?;
+        newest_stamp(&mut self.files, &key, lo, files)
+    }
+
+    /// The stamp of the memtable's newest version in `lo..=hi`, if it has one there.
+    fn stamp_in_memory(
+        &self,
+        row: &Row,
+        family: &Family,
+        qualifier: Qualifier,
+        lo: Stamp,
+        hi: Stamp,
+    ) -> Option<Stamp>
+        ensures found { IsStampOf (cells_of (memory_of self.now))
+            (version row.now family.now qualifier) lo hi result }
+        ensures limits { IfSome result (λ stamp. (1 ≤ stamp) × (stamp < 2 ^ 63)) }
+    {
+        match self.memtable.newest(row, family, qualifier, lo, hi) {
+            Some((stamp, _)) => Some(stamp),
+            None => None,
+        }
+    }
+
+    /// The version of a cell's column with the greatest stamp in `lo..=hi`: that of the files, where they have a later
+    /// one than the memtable, and else the memtable's.
+    fn newest_between<F: Files>(
+        &mut self,
+        row: &Row,
+        family: &Family,
+        qualifier: Qualifier,
+        lo: Stamp,
+        hi: Stamp,
+        files: &mut F,
+    ) -> Result<Option<(Stamp, Vec<u8>)>, Refusal>
+        requires from { 1 ≤ lo }
+        requires to { hi < 2 ^ 63 }
+        ensures found { IfOk result (λ found. IfSome (F.contents files.old) (λ m. Holds m self.old
+            → IsTrue (has_row (range_of self.old) row.now)
+            → IsNewest (cells_at m self.old) (version row.now family.now qualifier) lo hi
+            (option_map stamped found))) }
+        ensures limits { IfOk result (λ found.
+            IfSome (option_map stamped found) (IsVersionIn lo hi)) }
+        ensures stays { IsSameTablet (F.contents files.old) self.old self.new }
+        ensures damaged { IsErrOf result Refusal.Damaged → IfSome (F.contents files.old)
+            (λ m. ¬ Holds m self.old) }
+        ensures refusal { IfErr result IsReadRefusal }
+        ensures same { F.contents files.new ≡ F.contents files.old }
+        ensures reason { HasReason (F.faults files.old) (F.faults files.new) result }
+    {
+        let in_memory = self.stamp_in_memory(row, family, qualifier, lo, hi);
+        let from = first_after(in_memory, lo);
+        if let Some(found) = self.newest_in_files(row, family, qualifier, from, hi, files)? {
+            return Ok(Some(found));
+        }
+        match in_memory {
+            Some(stamp) => self.version_at(row, family, qualifier, stamp, files),
+            None => Ok(None),
+        }
     }
 
     /// The version of a cell's column with the greatest stamp in `lo..=hi` (Bigtable, timestamps), or
-    /// nothing. Where the memtable alone decides, no file is asked and only the value takes memory. Else a version
-    /// at one stamp is looked up, and of a range no more of a file is read than that asks for. The tablet stays
-    /// what it was, also after an `Err`.
+    /// nothing. Where the memtable alone decides, no file is asked and only the value takes memory. Else each file
+    /// is asked for the stamp of its newest value alone, and one version is looked up, or as many more as newer
+    /// erasures hide. The tablet stays what it was, also after an `Err`.
     ///
     /// # Errors
     ///
@@ -203,10 +283,16 @@ impl Tablet {
         hi: Stamp,
         files: &mut F,
     ) -> Result<Option<(Stamp, Vec<u8>)>, Refusal>
-        ensures found { IfOk result (λ found. IfSome (F.contents files.old) (λ m. Holds m self.old → IsTrue (has_row (range_of self.old) row.now) → IsNewest (cells_at m self.old) (version row.now family.now qualifier) lo hi (option_map stamped found))) }
-        ensures limits { IfOk result (λ found. IfSome (option_map stamped found) (IsVersionIn lo hi)) }
+        ensures found { IfOk result (λ found.
+            IfSome (F.contents files.old) (λ m. Holds m self.old
+            → IsTrue (has_row (range_of self.old) row.now)
+            → IsNewest (cells_at m self.old) (version row.now family.now qualifier) lo hi
+            (option_map stamped found))) }
+        ensures limits { IfOk result (λ found.
+            IfSome (option_map stamped found) (IsVersionIn lo hi)) }
         ensures stays { IsSameTablet (F.contents files.old) self.old self.new }
-        ensures damaged { IsErrOf result Refusal.Damaged → IfSome (F.contents files.old) (λ m. ¬ Holds m self.old) }
+        ensures damaged { IsErrOf result Refusal.Damaged
+            → IfSome (F.contents files.old) (λ m. ¬ Holds m self.old) }
         ensures refusal { IfErr result IsReadRefusal }
         ensures same { F.contents files.new ≡ F.contents files.old }
         ensures reason { HasReason (F.faults files.old) (F.faults files.new) result }
@@ -221,7 +307,7 @@ impl Tablet {
         if first == hi {
             self.version_at(row, family, qualifier, hi, files)
         } else {
-            self.newest_between(row, family, qualifier, first, hi, files)
+            self.newest_between(row, family, qualifier, first, hi.min(MOST_STAMP), files)
         }
     }
 
@@ -236,8 +322,11 @@ impl Tablet {
         after: Option<(&Row, &Family)>,
         files: &mut F,
     ) -> Result<Option<(Row, Family)>, Refusal>
-        ensures found { IfOk result (λ found. IfSome (F.contents files.old) (λ m. Holds m self.now → IsNextCell (cells_at m self.now) (option_map place_named after.entry) found)) }
-        ensures damaged { IsErrOf result Refusal.Damaged → IfSome (F.contents files.old) (λ m. ¬ Holds m self.now) }
+        ensures found { IfOk result (λ found.
+            IfSome (F.contents files.old) (λ m. Holds m self.now
+            → IsNextCell (cells_at m self.now) (option_map place_named after.entry) found)) }
+        ensures damaged { IsErrOf result Refusal.Damaged
+            → IfSome (F.contents files.old) (λ m. ¬ Holds m self.now) }
         ensures refusal { IfErr result IsReadRefusal }
         ensures same { F.contents files.new ≡ F.contents files.old }
         ensures reason { HasReason (F.faults files.old) (F.faults files.new) result }

@@ -1,4 +1,4 @@
-use Rattle.std.proofs.Common.{◌≤◌, ℕ, option_map, arith, refl, sym, subst}
+use Rattle.std.proofs.Common.{◌≤◌, ◌<◌, ◌^◌, ℕ, option_map, arith, refl, sym, subst}
 use Rattle.std.specs.Prelude.{IfSome}
 use Rattle.cell_key.specs.Cells.{IsNewest, version}
 use Rattle.cell_key.specs.Versions.{IsVersionIn}
@@ -7,7 +7,7 @@ use Rattle.sorted_file.specs.Sources.{IsReadRefusal}
 use Rattle.tablet.specs.Views.{cells_at}
 use Rattle.tablet.proofs.Passed.{IsNoMemory, err_kind, err_map, no_memory, over_any, quiet_reason}
 use Rattle.cell_key.specs.Versions.{stamped}
-use Rattle.tablet.proofs.Answering.{nothing_held, ok_map, widened, if_ok_one}
+use Rattle.tablet.proofs.Answering.{nothing_held, ok_map, raised, widened, if_ok_one}
 use Rattle.tablet.proofs.SameFiles.{same_itself}
 use Rattle.tablet.proofs.tablet.Tablet.newest.Goals as goal
 use Rattle.tablet.proofs.tablet.Tablet.newest.Goals.{then-hi-first-via-then-hi-first, then-hi-first-via-else-hi-first+then-first-gt-MOST_STAMP}
@@ -32,16 +32,17 @@ returns-then-first-hi-clause-found g c =
 pub returns-else-first-hi-clause-found : goal.returns-else-first-hi-clause-found
 returns-else-first-hi-clause-found g c =
     let first = c.max-first.ensures in
+    let least = c.min.ensures in
     let low : c.args.lo ≤ c.max-first.result = omega arith in
     let up : (s : ℕ) → 1 ≤ s → c.args.lo ≤ s → c.max-first.result ≤ s = λ s one low. omega arith in
+    let high : c.min.result ≤ c.args.hi = omega arith in
+    let down : (s : ℕ) → s < 2 ^ 63 → s ≤ c.args.hi → s ≤ c.min.result = λ s small h. omega arith in
     if_ok_one c.newest_between.result (g.F.Files.contents c.args.files.now) c.newest_between.ensures.found
-    (λ found m h held has. widened m c.args.self.now held c.args.row.now c.args.family.now c.args.qualifier c.args.lo c.max-first.result c.args.hi low up (option_map stamped found) (h held has))
+    (λ found m h held has. widened m c.args.self.now held c.args.row.now c.args.family.now c.args.qualifier c.args.lo c.max-first.result c.args.hi low up (option_map stamped found)
+    (raised m c.args.self.now held c.args.row.now c.args.family.now c.args.qualifier c.max-first.result c.min.result c.args.hi high down (option_map stamped found) (h held has)))
 
 pub returns-then-hi-first-clause-stays : goal.returns-then-hi-first-clause-stays
 returns-then-hi-first-clause-stays g c = same_itself (g.F.Files.contents c.args.files.now) c.args.self.now
-
-pub returns-else-first-hi-clause-stays : goal.returns-else-first-hi-clause-stays
-returns-else-first-hi-clause-stays g c = same_itself (g.F.Files.contents c.args.files.now) c.args.self.now
 
 pub returns-in-Some-clause-found : goal.returns-in-Some-clause-found
 returns-in-Some-clause-found g c =

@@ -1,0 +1,43 @@
+-- The newest value of a column among entries.
+use Rattle.std.specs.Prelude.{◌≡◌, ◌≤◌, ◌<◌, ◌+◌, ℕ, List, [], ◌∷◌, Option, Some, None, IsSome, true}
+use Rattle.std.specs.Ordering.{is_le}
+use Rattle.std.specs.declared.cmp.Ordering.TheVariants.{Less}
+use Rattle.cell_key.specs.Keys.{byte_cmp, text, IsStored}
+use Rattle.cell_key.specs.Cells.{version}
+use Rattle.cell_key.specs.Entries.{Entry, entry_of_key, value_of}
+use Rattle.cell_key.specs.declared.keys.CellKey.{CellKey}
+
+-- the key of the same column at another stamp
+abbrev pub at_stamp : CellKey → ℕ → CellKey
+at_stamp key stamp = version key.row key.family key.qualifier stamp
+
+-- entries have no value at the text of a key
+abbrev pub HasNoneAt : List Entry → CellKey → Type 0
+HasNoneAt es key = IsStored key → value_of (entry_of_key es (text key)) ≡ None
+
+-- found is the greatest stamp, from lo up to that of the key, at which entries have a value of the key's column
+abbrev pub IsNewestStamp : List Entry → CellKey → ℕ → Option ℕ → Type 0
+IsNewestStamp es key lo None = (s : ℕ) → lo ≤ s → s ≤ key.stamp → HasNoneAt es (at_stamp key s)
+IsNewestStamp es key lo (Some found) =
+    (lo ≤ found) × (found ≤ key.stamp)
+    × IsSome (value_of (entry_of_key es (text (at_stamp key found))))
+    × ((s : ℕ) → found < s → s ≤ key.stamp → HasNoneAt es (at_stamp key s))
+
+-- the first value of entries at a text that isn't below this one
+abbrev pub IsFirstValue : List ℕ → List Entry → Option Entry → Type 0
+IsFirstValue from es None =
+    (name : List ℕ) → is_le (byte_cmp from name) ≡ true → value_of (entry_of_key es name) ≡ None
+IsFirstValue from es (Some found) =
+    (is_le (byte_cmp from found.0) ≡ true) × (entry_of_key es found.0 ≡ Some found.1) × IsSome found.1
+    × ((name : List ℕ) → is_le (byte_cmp from name) ≡ true → byte_cmp name found.0 ≡ Less
+    → value_of (entry_of_key es name) ≡ None)
+
+-- how many erasures come before the first value, and for each entry how many from it on
+abbrev pub erased_first : List Entry → ℕ
+erased_first [] = 0
+erased_first ((name, None) ∷ es) = erased_first es + 1
+erased_first ((name, Some value) ∷ es) = 0
+
+abbrev pub skips : List Entry → List ℕ
+skips [] = []
+skips (e ∷ es) = erased_first (e ∷ es) ∷ skips es

@@ -1,0 +1,187 @@
+-- What files show below a stamp that is hidden.
+use Rattle.std.proofs.Common.{◌≡◌, ◌≤◌, ◌<◌, ◌+◌, ℕ, Bool, true, cond, List, [], ◌∷◌, ◌⊎◌, inl, inr, map, Option, Some, None, refl, sym, ap, subst, ◌∙◌, arith}
+use Rattle.std.specs.Prelude.{IfSome, IsSome, IsTrue, nat_lt, false, option_map, ⊤}
+use Rattle.std.proofs.lemmas.Bool.Decides.{nat_tests}
+use Rattle.std.specs.FinMap.{get}
+use Rattle.cell_key.specs.Keys.{text, IsStored}
+use Rattle.cell_key.specs.Cells.{Cells, IsNewest, version}
+use Rattle.cell_key.specs.Entries.{Entry, cells_of, entry_of_key, first_naming, value_of}
+use Rattle.cell_key.specs.declared.keys.CellKey.{CellKey}
+use Rattle.cell_key.specs.declared.keys.Qualifier.{Qualifier}
+use Rattle.cell_key.proofs.EntryLaws.{get-cells_of}
+use Rattle.file_store.specs.Store.{Contents}
+use Rattle.sorted_file.specs.Opened.{listed}
+use Rattle.tablet.specs.Ranges.{has_row, seen}
+use Rattle.tablet.specs.Reads.{HasNoLater, IsAfterStamp, IsStampOf}
+use Rattle.tablet.specs.Views.{range_of, memory_of, files_of, lists_of, cells_at, Holds, IsSameTablet}
+use Rattle.tablet.specs.declared.tablet.Tablet.{Tablet}
+use Rattle.tablet.specs.declared.ranges.RowRange.{RowRange}
+use Rattle.cell_key.specs.Entries.{merged}
+use Rattle.tablet.proofs.Held.{held_lists}
+use Rattle.tablet.proofs.InMemory.{shown_there}
+use Rattle.tablet.proofs.LeftOut.{value_or}
+use Rattle.tablet.proofs.SameFiles.{told_any, told_both}
+use Rattle.tablet.proofs.Shown.{first_at, shown, stored_or_hidden}
+
+pub same_after_tablet : (o : Option Contents) (t u w : Tablet) → IsSameTablet o t u → IsSameTablet o u w → IsSameTablet o t w
+same_after_tablet None t u w p q = record { range = q.range ∙ p.range; memory = q.memory ∙ p.memory; names = q.names ∙ p.names; still = tt }
+same_after_tablet (Some m) t u w p q = record { range = q.range ∙ p.range; memory = q.memory ∙ p.memory; names = q.names ∙ p.names; still = λ held. let a = p.still held in let b = q.still a.0 in (b.0, b.1 ∙ a.1) }
+
+pub over_now : (o now : Option Contents) (t u : Tablet) → now ≡ o → IsSameTablet now t u → IsSameTablet o t u
+over_now o now t u same is = subst (λ (told : Option Contents). IsSameTablet told t u) same is
+
+abbrev rest : List (List Entry) → List (List Entry)
+rest [] = []
+rest (es ∷ lists) = lists
+
+still_at : (o : Option Contents) (m : Contents) (t u : Tablet) → o ≡ Some m → IsSameTablet o t u → Holds m t → Holds m u × (lists_of m u ≡ lists_of m t)
+still_at o m t u is same held = (subst (λ (told : Option Contents). IsSameTablet told t u) is same).still held
+
+same_cells : (o : Option Contents) (m : Contents) (t u : Tablet) → o ≡ Some m → IsSameTablet o t u → Holds m t → cells_at m u ≡ cells_at m t
+same_cells o m t u is same held =
+    let lists = (still_at o m t u is same held).1 in
+    let range = same.range in
+    λ i. cells_of (merged (map (seen (range i)) (lists i)))
+
+pub not_held_before : (o now : Option Contents) (t u : Tablet) → now ≡ o → IsSameTablet o t u → IfSome now (λ m. ¬ Holds m u) → IfSome o (λ m. ¬ Holds m t)
+not_held_before o now t u same is closed = told_both o now same _ (λ m. ¬ Holds m u) _ (λ m at _ not held. not (still_at o m t u at is held).0) (told_any o) closed
+
+module _ (o : Option Contents) (t : Tablet) (row family : List ℕ) (q : Qualifier) (lo hi : ℕ) where
+  abbrev at : ℕ → CellKey
+  at s = version row family q s
+
+  -- where the memtable has no version in the range
+  abbrev pub Tells : (Contents → Type 0) → Type 0
+  Tells P = IfSome o (λ m. Holds m t → IsTrue (has_row (range_of t) row) → IsNewest (cells_of (memory_of t)) at lo hi None → P m)
+
+  -- no version has a stamp above this one
+  abbrev pub NoneAbove : ℕ → Type 0
+  NoneAbove to = Tells (λ m. (s : ℕ) → to < s → s ≤ hi → get (cells_at m t) (at s) ≡ None)
+
+  -- nor one after that of the files
+  abbrev pub NoneAfter : Option ℕ → Type 0
+  NoneAfter found = Tells (λ m. (s : ℕ) → IsAfterStamp s lo found → lo ≤ s → s ≤ hi → get (cells_at m t) (at s) ≡ None)
+
+  pub all_told : NoneAbove hi
+  all_told = go o
+    where
+      go : (o : Option Contents) → IfSome o (λ m. Holds m t → IsTrue (has_row (range_of t) row) → IsNewest (cells_of (memory_of t)) at lo hi None → (s : ℕ) → hi < s → s ≤ hi → get (cells_at m t) (at s) ≡ None)
+      go None = tt
+      go (Some m) = λ held has memory s a b. absurd (omega (arith, a, b))
+
+  none_shown : (m : Contents) → Holds m t → IsTrue (has_row (range_of t) row) → IsNewest (cells_of (memory_of t)) at lo hi None → (s : ℕ) → lo ≤ s → s ≤ hi → (IsStored (at s) → value_of (first_naming (map (listed m) (files_of t)) (text (at s))) ≡ None) → get (cells_at m t) (at s) ≡ None
+  none_shown m held has memory s low high none = go (stored_or_hidden (range_of t) (lists_of m t) (held_lists m t held) (at s))
+    where
+      go : IsStored (at s) ⊎ (get (cells_at m t) (at s) ≡ None) → get (cells_at m t) (at s) ≡ None
+      go (inr h) = h
+      go (inl stored) =
+          shown (range_of t) (lists_of m t) (held_lists m t held) (at s) stored ∙ ap (λ (b : Bool). cond b (first_at (lists_of m t) (at s)) None) has
+          ∙ value_or (entry_of_key (memory_of t) (text (at s))) (first_naming (map (listed m) (files_of t)) (text (at s))) (none stored)
+          ∙ sym (get-cells_of (memory_of t) held.memory.each (at s) stored) ∙ memory s low high
+
+  pub none_after : (now : Option Contents) (u : Tablet) → now ≡ o → IsSameTablet o t u → (to : ℕ) (found : Option ℕ) → NoneAbove to → IfSome now (λ m. Holds m u → HasNoLater (at to) lo found (map (listed m) (files_of u))) → NoneAfter found
+  none_after now u same is to found above later =
+      told_both o now same _ (λ m. Holds m u → HasNoLater (at to) lo found (map (listed m) (files_of u))) _
+      (λ m told before h held has memory s after low high.
+      go m told before h held has memory s after low high (nat_lt to s) refl) above later
+    where
+      go : (m : Contents) → o ≡ Some m → (Holds m t → IsTrue (has_row (range_of t) row) → IsNewest (cells_of (memory_of t)) at lo hi None → (s : ℕ) → to < s → s ≤ hi → get (cells_at m t) (at s) ≡ None)
+          → (Holds m u → HasNoLater (at to) lo found (map (listed m) (files_of u))) → Holds m t → IsTrue (has_row (range_of t) row) → IsNewest (cells_of (memory_of t)) at lo hi None
+          → (s : ℕ) → IsAfterStamp s lo found → lo ≤ s → s ≤ hi → (b : Bool) → nat_lt to s ≡ b → get (cells_at m t) (at s) ≡ None
+      go m told before h held has memory s after low high true e = before held has memory s (grind (arith, nat_tests, e)) high
+      go m told before h held has memory s after low high false e =
+          let still = still_at o m t u told is held in
+          let tails : map (listed m) (files_of u) ≡ map (listed m) (files_of t) = ap rest still.1 in
+          none_shown m held has memory s low high (λ stored. ap (λ (lists : List (List Entry)). value_of (first_naming lists (text (at s)))) (sym tails) ∙ h still.0 s after (grind (arith, nat_tests, e)) stored)
+
+  pub none_left : NoneAfter None → Tells (λ m. IsNewest (cells_at m t) at lo hi None)
+  none_left h = map_some o (λ m is held has memory s a b. is held has memory s a a b) h
+    where
+      map_some : {P Q : Contents → Type 0} (o : Option Contents) → ((m : Contents) → P m → Q m) → IfSome o P → IfSome o Q
+      map_some None f h = tt
+      map_some (Some m) f h = f m h
+
+  module _ (now : Option Contents) (w : Tablet) (same : now ≡ o) (is : IsSameTablet o t w) (stamp : ℕ) (low : lo ≤ stamp) (high : stamp ≤ hi) (after : NoneAfter (Some stamp)) where
+    moved : (m : Contents) → o ≡ Some m → Holds m t → IsTrue (has_row (range_of t) row) → (found : Option (ℕ × List ℕ)) → (Holds m w → IsTrue (has_row (range_of w) row) → IsNewest (cells_at m w) at stamp stamp found) → IsNewest (cells_at m t) at stamp stamp found
+    moved m told held has found h =
+        subst (λ (cells : Cells). IsNewest cells at stamp stamp found) (same_cells o m t w told is held)
+        (h (still_at o m t w told is held).0 (subst (λ (r : RowRange). IsTrue (has_row r row)) (sym is.range) has))
+
+    pub hidden : (before : ℕ) → before + 1 ≡ stamp → IfSome now (λ m. Holds m w → IsTrue (has_row (range_of w) row) → IsNewest (cells_at m w) at stamp stamp None) → NoneAbove before
+    hidden before one finds =
+        told_both o now same _ (λ m. Holds m w → IsTrue (has_row (range_of w) row) → IsNewest (cells_at m w) at stamp stamp None) _
+        (λ m told later h held has memory s a b.
+        go m (nat_lt stamp s) s refl a b (later held has memory s) (moved m told held has None h)) after finds
+      where
+        go : (m : Contents) (c : Bool) (s : ℕ) → nat_lt stamp s ≡ c → before < s → s ≤ hi → (stamp < s → lo ≤ s → s ≤ hi → get (cells_at m t) (at s) ≡ None) → IsNewest (cells_at m t) at stamp stamp None → get (cells_at m t) (at s) ≡ None
+        go m true s e a b later none = let lt : stamp < s = grind (arith, nat_tests, e) in later lt (omega (arith, lt, low)) b
+        go m false s e a b later none = let ge : s ≤ stamp = grind (arith, nat_tests, e) in none s (omega (arith, a, one)) ge
+
+    pub shows : (v : ℕ × List ℕ) → IfSome now (λ m. Holds m w → IsTrue (has_row (range_of w) row) → IsNewest (cells_at m w) at stamp stamp (Some v)) → Tells (λ m. IsNewest (cells_at m t) at lo hi (Some v))
+    shows v finds =
+        told_both o now same _ (λ m. Holds m w → IsTrue (has_row (range_of w) row) → IsNewest (cells_at m w) at stamp stamp (Some v)) _
+        (λ m told later h held has memory.
+        let here = moved m told held has (Some v) h in
+        let a = here.0 in let b = here.1 in
+        (omega (arith, a, low), omega (arith, b, high), here.2, λ s c d. later held has memory s (omega (arith, a, b, c)) (omega (arith, a, low, c)) d)) after finds
+
+-- ---- the memtable and the files
+
+module _ (o : Option Contents) (t : Tablet) (row family : List ℕ) (q : Qualifier) (lo hi : ℕ) (stamp : Option ℕ) (is : IsStampOf (cells_of (memory_of t)) (version row family q) lo hi stamp) (from : ℕ) (after : IsAfterStamp from lo stamp) (starts : (s : ℕ) → IsAfterStamp s lo stamp → from ≤ s) where
+  abbrev key : ℕ → CellKey
+  key s = version row family q s
+
+  memory_none : IsNewest (cells_of (memory_of t)) key from hi None
+  memory_none s a b = go is.found stamp is.is after is.newest
+    where
+      go : (found : Option (ℕ × List ℕ)) (stamp : Option ℕ) → option_map (λ v. v.0) found ≡ stamp → IsAfterStamp from lo stamp → IsNewest (cells_of (memory_of t)) key lo hi found → get (cells_of (memory_of t)) (key s) ≡ None
+      go None None e after none = none s (omega (arith, after, a)) b
+      go None (Some x) e after none = let no : None ≡ Some x = e in cc
+      go (Some f) None e after newest = let no : Some f.0 ≡ None = e in cc
+      go (Some f) (Some x) e after newest = let same : f.0 ≡ x = cc in newest.3 s (omega (arith, same, after, a)) b
+
+  low_from : lo ≤ from
+  low_from = go is.found stamp is.is after is.newest
+    where
+      go : (found : Option (ℕ × List ℕ)) (stamp : Option ℕ) → option_map (λ v. v.0) found ≡ stamp → IsAfterStamp from lo stamp → IsNewest (cells_of (memory_of t)) key lo hi found → lo ≤ from
+      go None None e after none = after
+      go None (Some x) e after none = let no : None ≡ Some x = e in cc
+      go (Some f) None e after newest = let no : Some f.0 ≡ None = e in cc
+      go (Some f) (Some x) e after newest = let same : f.0 ≡ x = cc in let low = newest.0 in omega (arith, same, after, low)
+
+  abbrev pub Found : Option (ℕ × List ℕ) → Type 0
+  Found found = IfSome o (λ m. Holds m t → IsTrue (has_row (range_of t) row) → IsNewest (cells_of (memory_of t)) key from hi None → IsNewest (cells_at m t) key from hi found)
+
+  abbrev pub Answered : Option (ℕ × List ℕ) → Type 0
+  Answered found = IfSome o (λ m. Holds m t → IsTrue (has_row (range_of t) row) → IsNewest (cells_at m t) key lo hi found)
+
+  pub file_some : (v : ℕ × List ℕ) → Found (Some v) → Answered (Some v)
+  file_some v h = told_both o o refl _ (λ m. ⊤) _
+      (λ m told found _ held has. let newest = found held has memory_none in let low = newest.0 in (omega (arith, low, low_from), newest.1, newest.2, newest.3)) h (told_any o)
+
+  pub file_none : stamp ≡ None → Found None → Answered None
+  file_none none h = told_both o o refl _ (λ m. ⊤) _
+      (λ m told found _ held has s a b. found held has memory_none s (starts s (subst (λ (x : Option ℕ). IsAfterStamp s lo x) (sym none) a)) b) h (told_any o)
+
+  module _ (at_one : ℕ) (one : stamp ≡ Some at_one) (now : Option Contents) (same : now ≡ o) (w : Tablet) (still : IsSameTablet o t w) (nothing : Found None) where
+    here : lo ≤ at_one × at_one ≤ hi × IsSome (get (cells_of (memory_of t)) (key at_one))
+    here = go is.found (is.is ∙ one) is.newest
+      where
+        go : (found : Option (ℕ × List ℕ)) → option_map (λ v. v.0) found ≡ Some at_one → IsNewest (cells_of (memory_of t)) key lo hi found → lo ≤ at_one × at_one ≤ hi × IsSome (get (cells_of (memory_of t)) (key at_one))
+        go None e none = let no : None ≡ Some at_one = e in cc
+        go (Some f) e newest = let same : f.0 ≡ at_one = cc in
+            let low = newest.0 in let high = newest.1 in
+            (omega (arith, low, same), omega (arith, high, same), subst (λ (s : ℕ). IsSome (get (cells_of (memory_of t)) (key s))) same (subst (λ (x : Option (List ℕ)). IsSome x) (sym newest.2) refl))
+
+    pub memory_found : (found : Option (ℕ × List ℕ)) → IfSome now (λ m. Holds m w → IsTrue (has_row (range_of w) row) → IsNewest (cells_at m w) key at_one at_one found) → Answered found
+    memory_found found h = told_both o now same _ (λ m. Holds m w → IsTrue (has_row (range_of w) row) → IsNewest (cells_at m w) key at_one at_one found) _
+        (λ m told none finds held has. go m held has found
+        (subst (λ (cells : Cells). IsNewest cells key at_one at_one found) (same_cells o m t w told still held)
+        (finds (still_at o m t w told still held).0 (subst (λ (r : RowRange). IsTrue (has_row r row)) (sym still.range) has)))
+        (none held has memory_none)) nothing h
+      where
+        go : (m : Contents) → Holds m t → IsTrue (has_row (range_of t) row) → (found : Option (ℕ × List ℕ)) → IsNewest (cells_at m t) key at_one at_one found → IsNewest (cells_at m t) key from hi None → IsNewest (cells_at m t) key lo hi found
+        go m held has None n none = absurd (shown_there m t held row family q has at_one here.2 (n at_one (omega arith) (omega arith)))
+        go m held has (Some v) n none =
+            let a = n.0 in let b = n.1 in let low = here.0 in let high = here.1 in
+            (omega (arith, a, low), omega (arith, b, high), n.2, λ s c d. none s (starts s (subst (λ (x : Option ℕ). IsAfterStamp s lo x) (sym one) (omega (arith, a, c)))) d)
