@@ -111,7 +111,7 @@ abbrev pub most_cleaners : ℕ
 most_cleaners = 1024
 
 abbrev pub most_collectors : ℕ
-most_collectors = 64
+most_collectors = 1024
 
 abbrev pub most_tablets : ℕ
 most_tablets = 1024

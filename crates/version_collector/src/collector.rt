@@ -65,7 +65,8 @@ impl Collector {
     /// The next cell after the position that has any key.
     fn next_cell<R: Rows>(&self, rows: &mut R) -> Result<Option<Cell>, Refusal>
         ensures found { R.holds rows.old
-            → IfOk result (λ found. IsNextCell (R.cells rows.old) (position_of self.now.after) (position_of found)) }
+            → IfOk result (λ found.
+            IsNextCell (R.cells rows.old) (position_of self.now.after) (position_of found)) }
         ensures reads { OnlyReads R.holds R.cells R.overfills R.storage rows.old rows.new }
         ensures refusal { IfErr result (IsRefusalOfRead (R.holds rows.old)) }
         ensures reason { HasReason (R.faults rows.old) (R.faults rows.new) result }
@@ -97,7 +98,8 @@ impl Collector {
         ensures visit { R.holds rows.old
             → self.old.pass ≡ Pass.First
             → IsNextCell (R.cells rows.old) (position_of self.old.after) (Some (place_at cell))
-            → IfOk result (λ reply. Visits (R.cells rows.old) self.old reply (R.cells rows.old) self.new) }
+            → IfOk result (λ reply.
+            Visits (R.cells rows.old) self.old reply (R.cells rows.old) self.new) }
         ensures reads { OnlyReads R.holds R.cells R.overfills R.storage rows.old rows.new }
         ensures err { OnErr result (self.new ≡ self.old) }
         ensures refusal { IfErr result (IsRefusalOfRead (R.holds rows.old)) }
@@ -120,14 +122,18 @@ impl Collector {
         ensures visit { R.holds rows.old
             → AreShown (R.cells rows.old) → self.old.pass ≡ Pass.Second
             → IsNextCell (R.cells rows.old) (position_of self.old.after) (Some (place_at cell))
-            → IfOk result (λ reply. Visits (R.cells rows.old) self.old reply (R.cells rows.new) self.new) }
+            → IfOk result (λ reply.
+            Visits (R.cells rows.old) self.old reply (R.cells rows.new) self.new) }
         ensures below { KeepsBelow R.holds R.storage rows.old rows.new }
         ensures room { TakesRoomOfVisits R.overfills 1 rows.old rows.new }
         ensures err { OnErr result (self.new ≡ self.old) }
-        ensures same { OnErr result (OnlyReads R.holds R.cells R.overfills R.storage rows.old rows.new) }
+        ensures same { OnErr result
+            (OnlyReads R.holds R.cells R.overfills R.storage rows.old rows.new) }
         ensures refusal { IfErr result IsVisitRefusal }
-        ensures undamaged { R.holds rows.old → AreShown (R.cells rows.old) → ¬ IsErrOf result Refusal.Damaged }
-        ensures full { IsErrOf result Refusal.MemtableFull → HasNoRoom R.overfills rows.old (AreOfVisitsIn 1) }
+        ensures undamaged { R.holds rows.old → AreShown (R.cells rows.old)
+            → ¬ IsErrOf result Refusal.Damaged }
+        ensures full { IsErrOf result Refusal.MemtableFull
+            → HasNoRoom R.overfills rows.old (AreOfVisitsIn 1) }
         ensures reason { HasReason (R.faults rows.old) (R.faults rows.new) result }
     {
         let erased = erase_old(alloc, rows, &cell, self.floor)?;
@@ -151,15 +157,19 @@ impl Collector {
     ) -> Result<CollectReply, Refusal>
         ensures visit { R.holds rows.old
             → AreShown (R.cells rows.old)
-            → IfOk result (λ reply. Visits (R.cells rows.old) self.old reply (R.cells rows.new) self.new) }
+            → IfOk result (λ reply.
+            Visits (R.cells rows.old) self.old reply (R.cells rows.new) self.new) }
         ensures below { KeepsBelow R.holds R.storage rows.old rows.new }
         ensures room { TakesRoomOfVisits R.overfills 1 rows.old rows.new }
         ensures err { OnErr result (self.new ≡ self.old) }
-        ensures same { OnErr result (OnlyReads R.holds R.cells R.overfills R.storage rows.old rows.new) }
+        ensures same { OnErr result
+            (OnlyReads R.holds R.cells R.overfills R.storage rows.old rows.new) }
         ensures refusal { IfErr result IsVisitRefusal }
         // What is shown is never answered as damaged.
-        ensures undamaged { R.holds rows.old → AreShown (R.cells rows.old) → ¬ IsErrOf result Refusal.Damaged }
-        ensures full { IsErrOf result Refusal.MemtableFull → HasNoRoom R.overfills rows.old (AreOfVisitsIn 1) }
+        ensures undamaged { R.holds rows.old → AreShown (R.cells rows.old)
+            → ¬ IsErrOf result Refusal.Damaged }
+        ensures full { IsErrOf result Refusal.MemtableFull
+            → HasNoRoom R.overfills rows.old (AreOfVisitsIn 1) }
         ensures reason { HasReason (R.faults rows.old) (R.faults rows.new) result }
     {
         let Some(cell) = self.next_cell(rows)? else {
@@ -189,7 +199,8 @@ impl Collector {
         ensures room { TakesRoomOfVisits R.overfills visits rows.old rows.new }
         ensures refusal { IfErr result IsVisitRefusal }
         ensures undamaged { R.holds rows.old
-            → (st : State) → WhereCome st (R.cells rows.old) self.old (¬ IsErrOf result Refusal.Damaged) }
+            → (st : State) → WhereCome st (R.cells rows.old) self.old
+            (¬ IsErrOf result Refusal.Damaged) }
         ensures full { IsErrOf result Refusal.MemtableFull
             → HasNoRoom R.overfills rows.old (AreOfVisitsIn visits) }
         ensures reason { HasReason (R.faults rows.old) (R.faults rows.new) result }

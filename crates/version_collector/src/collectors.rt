@@ -24,7 +24,7 @@ use std::alloc::Global;
 use std::collections::BTreeMap;
 
 /// The most collectors that are open at once.
-const MOST_COLLECTORS: usize = 64;
+const MOST_COLLECTORS: usize = 1_024;
 
 /// The greatest number of a collector.
 const MOST_NUMBER: u64 = 9_223_372_036_854_775_807;
@@ -58,7 +58,8 @@ impl Collectors {
     /// began with, 0 if none did.
     pub fn new(alloc: Global, floor: Stamp) -> Collectors
         ensures shown { (cells : Cells) (st : State)
-            → st.next_collector ≡ 1 → st.collectors ≡ empty → st.floor ≡ floor → ShowsCollectors cells result st }
+            → st.next_collector ≡ 1 → st.collectors ≡ empty → st.floor ≡ floor
+            → ShowsCollectors cells result st }
         ensures floor { result.greatest_floor ≡ floor }
     {
         Collectors {
@@ -72,7 +73,8 @@ impl Collectors {
     /// The greatest floor that a collector began with, 0 if none did.
     pub fn greatest_floor(&self) -> Stamp
         ensures floor { result ≡ self.now.greatest_floor }
-        ensures shown { (cells : Cells) (st : State) → ShowsCollectors cells self.now st → result ≡ st.floor }
+        ensures shown { (cells : Cells) (st : State) → ShowsCollectors cells self.now st
+            → result ≡ st.floor }
     {
         self.greatest_floor
     }
@@ -82,12 +84,14 @@ impl Collectors {
     ///
     /// # Errors
     ///
-    /// `TooManySessions` when 64 collectors are open; then `Exhausted` after the greatest number, or
+    /// `TooManySessions` when 1,024 collectors are open; then `Exhausted` after the greatest number, or
     /// `NoMemory`. There is room for the collector before its number is drawn.
     pub fn begin(&mut self, floor: Stamp) -> Result<u64, Refusal>
         ensures step { (cells : Cells) (st : State)
-            → IsReached st → ShowsCells cells st → ShowsCollectors cells self.old st → IsFloor st floor
-            → Begins cells self.new (result_reply (λ number. machine.Collecting number floor) result) st }
+            → IsReached st → ShowsCells cells st → ShowsCollectors cells self.old st
+            → IsFloor st floor
+            → Begins cells self.new
+            (result_reply (λ number. machine.Collecting number floor) result) st }
         ensures refusal { IfErr result IsBeginRefusal }
         ensures err { OnErr result (SameCollectors self.old self.new) }
         ensures exhausted { IsErrOf result Refusal.Exhausted
@@ -137,7 +141,8 @@ impl Collectors {
         // All that sessions read, each lock and each fate stays. Keys of so many rows go at the most, and none is added.
         ensures leaves { R.holds rows.old
             → InEachShown (R.cells rows.old) self.old (λ st.
-            Collects (R.cells rows.old) (R.cells rows.new) st × Thins visits (R.cells rows.old) (R.cells rows.new)) }
+            Collects (R.cells rows.old) (R.cells rows.new) st
+            × Thins visits (R.cells rows.old) (R.cells rows.new)) }
         // Collected: each cell is tidy. More: so much less is left. Blocked: a lock below the floor stands there.
         ensures told { R.holds rows.old
             → IfOk result (λ reply. InEachShown (R.cells rows.old) self.old (λ st.
@@ -153,7 +158,8 @@ impl Collectors {
             → InEachShown (R.cells rows.old) self.old (λ st. ¬ IsErrOf result Refusal.Damaged) }
         ensures refusal { IfErr result IsStepRefusal }
         ensures unknown { (cells : Cells) (st : State)
-            → ShowsCollectors cells self.old st → IsUnopened st number → IsErrOf result Refusal.UnknownCollector }
+            → ShowsCollectors cells self.old st → IsUnopened st number
+            → IsErrOf result Refusal.UnknownCollector }
         ensures count { ¬ IsCount visits
             → IsErrOf result Refusal.UnknownCollector ⊎ IsErrOf result Refusal.BadCount }
         // A step is refused MemtableFull where the rows have no room for edits of such visits.

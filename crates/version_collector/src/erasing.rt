@@ -65,10 +65,12 @@ fn old_edits<R: Rows>(
     cell: &Cell,
     floor: Stamp,
 ) -> Result<Vec<Edit>, Refusal>
-    ensures old { IfOk result (λ edits. ErasesOrIsTidy (R.holds rows.old) (R.cells rows.old) cell.now floor edits.items) }
+    ensures old { IfOk result (λ edits.
+        ErasesOrIsTidy (R.holds rows.old) (R.cells rows.old) cell.now floor edits.items) }
     ensures under { IfOk result (λ edits. AllByRecursion (IsEditOf cell.now.row) edits.items) }
     ensures reads { OnlyReads R.holds R.cells R.overfills R.storage rows.old rows.new }
-    ensures refusal { IfErr result (IsRefusalOfRead (R.holds rows.old × AreShown (R.cells rows.old))) }
+    ensures refusal { IfErr result (IsRefusalOfRead
+        (R.holds rows.old × AreShown (R.cells rows.old))) }
     ensures reason { HasReason (R.faults rows.old) (R.faults rows.new) result }
 {
     let records = old_records(alloc, rows, cell, floor)?;
@@ -94,16 +96,19 @@ pub(crate) fn erase_old<R: Rows>(
     cell: &Cell,
     floor: Stamp,
 ) -> Result<bool, Refusal>
-    ensures erased { IfOk result (λ erased. OnTrue erased (AppliesSuch R.holds R.cells R.overfills R.storage
+    ensures erased { IfOk result (λ erased.
+        OnTrue erased (AppliesSuch R.holds R.cells R.overfills R.storage
         (CollectsCell (R.holds rows.old) (R.cells rows.old) cell.now floor) rows.old rows.new)) }
-    ensures left { IfOk result (λ erased. OnFalse erased (OnlyReads R.holds R.cells R.overfills R.storage rows.old rows.new)) }
+    ensures left { IfOk result (λ erased.
+        OnFalse erased (OnlyReads R.holds R.cells R.overfills R.storage rows.old rows.new)) }
     ensures tidy { R.holds rows.old
         → AreShown (R.cells rows.old)
         → IfOk result (λ erased. OnFalse erased (IsTidy (R.cells rows.old) cell.now floor)) }
     ensures err { OnErr result (OnlyReads R.holds R.cells R.overfills R.storage rows.old rows.new) }
     ensures refusal { IfErr result IsVisitRefusal }
     // What is shown is never answered as damaged.
-    ensures undamaged { R.holds rows.old → AreShown (R.cells rows.old) → ¬ IsErrOf result Refusal.Damaged }
+    ensures undamaged { R.holds rows.old → AreShown (R.cells rows.old)
+        → ¬ IsErrOf result Refusal.Damaged }
     ensures full { IsErrOf result Refusal.MemtableFull
         → HasNoRoom R.overfills rows.old
         (CollectsCell (R.holds rows.old) (R.cells rows.old) cell.now floor) }

@@ -27,7 +27,8 @@ fn latest_below<R: Rows>(
     below: Stamp,
 ) -> Result<Option<(Stamp, Vec<u8>)>, Refusal>
     ensures found { R.holds rows.old
-        → IfOk result (λ found. IsLatestBelow (R.cells rows.old) cell.now column below (option_map stamped found)) }
+        → IfOk result (λ found.
+        IsLatestBelow (R.cells rows.old) cell.now column below (option_map stamped found)) }
     ensures lower { IfOk result (λ found. IfSome found (λ version. version.0 < below)) }
     ensures limits { IfOk result (λ found. IfSome found (λ version. IsMoment version.0)) }
     ensures reads { OnlyReads R.holds R.cells R.overfills R.storage rows.old rows.new }
@@ -48,7 +49,8 @@ fn latest_below<R: Rows>(
 fn start_of(text: &[u8]) -> Result<Moment, Refusal>
     ensures named { IfOk result (NamesStart text.now) }
     ensures refusal { IfErr result (λ refusal. refusal ≡ Refusal.Damaged) }
-    ensures damaged { IfErr result (λ refusal. (t : ℕ) → 1 ≤ t → t < 2 ^ 63 → ¬ NamesStart text.now t) }
+    ensures damaged { IfErr result (λ refusal.
+        (t : ℕ) → 1 ≤ t → t < 2 ^ 63 → ¬ NamesStart text.now t) }
 {
     match named_start(text) {
         Some(start) if 1 <= start && start <= MOST_STAMP => Ok(Moment::new(start)),
@@ -73,7 +75,8 @@ pub(crate) fn old_records<R: Rows>(
         → IfOk result (λ found. AreFound (R.cells rows.old) cell.now floor found.items) }
     ensures few { IfOk result (λ found. length found.items ≤ 128) }
     ensures reads { OnlyReads R.holds R.cells R.overfills R.storage rows.old rows.new }
-    ensures refusal { IfErr result (IsRefusalOfRead (R.holds rows.old × AreShown (R.cells rows.old))) }
+    ensures refusal { IfErr result (IsRefusalOfRead
+        (R.holds rows.old × AreShown (R.cells rows.old))) }
     ensures reason { HasReason (R.faults rows.old) (R.faults rows.new) result }
 {
     let mut found = Vec::with_capacity(alloc, MOST_RECORDS)?;
@@ -117,7 +120,8 @@ fn named_by(found: Option<(Stamp, Vec<u8>)>) -> Result<Option<Stamp>, Refusal>
 fn next_start<R: Rows>(rows: &mut R, cell: &Cell, floor: Stamp) -> Result<Option<Stamp>, Refusal>
     ensures named { R.holds rows.old → IfOk result (NamesNext (R.cells rows.old) cell.now floor) }
     ensures reads { OnlyReads R.holds R.cells R.overfills R.storage rows.old rows.new }
-    ensures refusal { IfErr result (IsRefusalOfRead (R.holds rows.old × AreShown (R.cells rows.old))) }
+    ensures refusal { IfErr result (IsRefusalOfRead
+        (R.holds rows.old × AreShown (R.cells rows.old))) }
     ensures reason { HasReason (R.faults rows.old) (R.faults rows.new) result }
 {
     if floor == Stamp::MAX {
@@ -144,10 +148,13 @@ fn near_starts<R: Rows>(
     cell: &Cell,
     floor: Stamp,
 ) -> Result<(Option<Stamp>, Option<Stamp>), Refusal>
-    ensures named { R.holds rows.old → IfOk result (λ near. NamesLast (R.cells rows.old) cell.now floor near.0) }
-    ensures above { R.holds rows.old → IfOk result (λ near. NamesNext (R.cells rows.old) cell.now floor near.1) }
+    ensures named { R.holds rows.old → IfOk result (λ near.
+        NamesLast (R.cells rows.old) cell.now floor near.0) }
+    ensures above { R.holds rows.old → IfOk result (λ near.
+        NamesNext (R.cells rows.old) cell.now floor near.1) }
     ensures reads { OnlyReads R.holds R.cells R.overfills R.storage rows.old rows.new }
-    ensures refusal { IfErr result (IsRefusalOfRead (R.holds rows.old × AreShown (R.cells rows.old))) }
+    ensures refusal { IfErr result (IsRefusalOfRead
+        (R.holds rows.old × AreShown (R.cells rows.old))) }
     ensures reason { HasReason (R.faults rows.old) (R.faults rows.new) result }
 {
     let last = rows.newest(&cell.row, &cell.family, Qualifier::Write, 0, floor)?;
@@ -174,7 +181,8 @@ pub(crate) fn unnamed_data<R: Rows>(
         → IfOk result (λ found. AreUnnamed (R.cells rows.old) cell.now floor found.items) }
     ensures few { IfOk result (λ found. length found.items ≤ 256) }
     ensures reads { OnlyReads R.holds R.cells R.overfills R.storage rows.old rows.new }
-    ensures refusal { IfErr result (IsRefusalOfRead (R.holds rows.old × AreShown (R.cells rows.old))) }
+    ensures refusal { IfErr result (IsRefusalOfRead
+        (R.holds rows.old × AreShown (R.cells rows.old))) }
     ensures reason { HasReason (R.faults rows.old) (R.faults rows.new) result }
 {
     let mut found = Vec::with_capacity(alloc, MOST_DATA)?;
