@@ -1,4 +1,5 @@
 mod Fields
+mod Names
 mod Cutting
 mod OneRequest
 mod OneReply

@@ -1,12 +1,15 @@
 -- What a body tells of its reply.
 use Rattle.std.proofs.Common.{◌≡◌, ℕ, ◌<◌, ◌^◌, ◌-◌, List, [], ◌∷◌, ◌++◌, get_or, Some, None, refl, sym, ap, subst, drop, arith, ◌∙◌}
+use Rattle.cell_key.specs.Names.{IsRow, IsFamily}
 use Rattle.cell_key.specs.Refusals.{refusal_number}
 use Rattle.cell_key.specs.declared.refusals.Refusal.{Refusal}
 use Rattle.cell_key.specs.declared.refusals.Refusal.TheVariants.{UnknownSession, WrongPhase, BadRow, BadColumn, BadValue, TooManyWrites, TooManySessions, EmptyCommit, UnknownCleaner, UnknownCollector, UnknownTablet, BadSplit, UnknownServer, BadCount, MemtableFull, TooManyFiles, FileTooLarge, Exhausted, Device, NoMemory, Damaged, BadRequest, FrameTooLarge}
-use Rattle.si_model.specs.Messages.{Reply, Begun, Answered, Pending, SetDone, Held, Conflict, Drawn, Committed, Lost, Finished, StopDone, NoLock, Cleaning, Decided, RolledForward, RolledBack, Gone, MinorDone, MergeDone, MajorDone, SplitOff, MoveDone, Swept, RestartDone, RawFound, Refused}
-use Rattle.request_codec.specs.Fields.{number, field, FitsField}
+use Rattle.si_model.specs.Messages.{Reply, Begun, Answered, Pending, SetDone, Held, Conflict, Drawn, Committed, Lost, Finished, StopDone, NoLock, Cleaning, Decided, RolledForward, RolledBack, Gone, Collecting, More, Blocked, Collected, MinorDone, MergeDone, MajorDone, SplitOff, MoveDone, Swept, RestartDone, RawFound, Refused}
+use Rattle.si_model.specs.declared.replies.Cell.{Cell}
+use Rattle.request_codec.specs.Fields.{number, field, cell_fields, FitsField}
 use Rattle.request_codec.specs.Replies.{reply_body, IsReply}
-use Rattle.request_codec.proofs.Fields.{same_number, past_number, first, second}
+use Rattle.request_codec.proofs.Fields.{same_number, past_number, same_cell, first, second}
+use Rattle.request_codec.proofs.Names.{cell_fits}
 use Rattle.request_codec.proofs.OneRequest.{lone_number, lone_tablet, lone_field}
 
 lone_small : (m n : ℕ) → m < 2 ^ 16 → n < 2 ^ 16 → number 2 m ≡ number 2 n → m ≡ n
@@ -174,6 +177,41 @@ gone_only : (r : Reply) → IsReply r (reply_body Gone) → r ≡ Gone
 gone_only Gone p = refl
 gone_only other p = let e = ap first p.whole in let d = ap second p.whole in absurd (omega (arith, e, d))
 
+record AsCollecting (r : Reply) (f : List ℕ) : Type 0 where
+  collector : ℕ
+  floor : ℕ
+  collector_fits : collector < 2 ^ 64
+  floor_fits : floor < 2 ^ 64
+  is : r ≡ Collecting collector floor
+  fields : f ≡ number 8 collector ++ number 8 floor
+
+collecting_only : (r : Reply) (f : List ℕ) → IsReply r (0x88 ∷ f) → AsCollecting r f
+collecting_only (Collecting m n) f p =
+    record { collector = m; floor = n; collector_fits = p.numbers.0; floor_fits = p.numbers.1; is = refl; fields = ap (drop 1) p.whole }
+collecting_only other f p = let e = ap first p.whole in let d = ap second p.whole in absurd (omega (arith, e, d))
+
+more_only : (r : Reply) → IsReply r (reply_body More) → r ≡ More
+more_only More p = refl
+more_only other p = let e = ap first p.whole in let d = ap second p.whole in absurd (omega (arith, e, d))
+
+pub record AsBlocked (r : Reply) (f : List ℕ) : Type 0 where
+  pub cell : Cell
+  start : ℕ
+  pub row : IsRow cell.row
+  pub family : IsFamily cell.family
+  start_fits : start < 2 ^ 64
+  is : r ≡ Blocked cell start
+  pub fields : f ≡ cell_fields cell ++ number 8 start
+
+pub blocked_only : (r : Reply) (f : List ℕ) → IsReply r (0x89 ∷ 0x02 ∷ f) → AsBlocked r f
+blocked_only (Blocked cell start) f p =
+    record { cell = cell; start = start; row = p.bytes.0; family = p.bytes.1; start_fits = p.numbers; is = refl; fields = ap (drop 2) p.whole }
+blocked_only other f p = let e = ap first p.whole in let d = ap second p.whole in absurd (omega (arith, e, d))
+
+collected_only : (r : Reply) → IsReply r (reply_body Collected) → r ≡ Collected
+collected_only Collected p = refl
+collected_only other p = let e = ap first p.whole in let d = ap second p.whole in absurd (omega (arith, e, d))
+
 restart_only : (r : Reply) → IsReply r (reply_body RestartDone) → r ≡ RestartDone
 restart_only RestartDone p = refl
 restart_only other p = let e = ap first p.whole in let d = ap second p.whole in absurd (omega (arith, e, d))
@@ -248,6 +286,18 @@ same_cleaning cleaner start b cleaner_fits start_fits g =
     let s = lone_number start g.start start_fits g.start_fits (past_number 8 cleaner g.cleaner (number 8 start) (number 8 g.start) g.fields) in
     ap (λ n. Cleaning n start) c ∙ ap (λ n. Cleaning g.cleaner n) s ∙ sym g.is
 
+same_collecting : (collector floor : ℕ) (b : Reply) → collector < 2 ^ 64 → floor < 2 ^ 64 → AsCollecting b (number 8 collector ++ number 8 floor) → Collecting collector floor ≡ b
+same_collecting collector floor b collector_fits floor_fits g =
+    let c = same_number 8 collector g.collector (number 8 floor) (number 8 g.floor) collector_fits g.collector_fits g.fields in
+    let f = lone_number floor g.floor floor_fits g.floor_fits (past_number 8 collector g.collector (number 8 floor) (number 8 g.floor) g.fields) in
+    ap (λ n. Collecting n floor) c ∙ ap (λ n. Collecting g.collector n) f ∙ sym g.is
+
+same_blocked : (cell : Cell) (start : ℕ) (b : Reply) → IsRow cell.row → IsFamily cell.family → start < 2 ^ 64 → AsBlocked b (cell_fields cell ++ number 8 start) → Blocked cell start ≡ b
+same_blocked cell start b row family start_fits g =
+    let c = same_cell cell g.cell (number 8 start) (number 8 g.start) (cell_fits cell row family) (cell_fits g.cell g.row g.family) g.fields in
+    let s = lone_number start g.start start_fits g.start_fits c.1 in
+    ap (λ d. Blocked d start) c.0 ∙ ap (λ n. Blocked g.cell n) s ∙ sym g.is
+
 pub one_reply : (a b : Reply) (body : List ℕ) → IsReply a body → IsReply b body → a ≡ b
 one_reply (Begun n) b body p q =
     let g = begun_only b (number 8 n) (subst (IsReply b) p.whole q) in
@@ -289,6 +339,12 @@ one_reply (RolledForward n) b body p q =
     ap (λ m. RolledForward m) (lone_number n g.n p.numbers g.fits g.fields) ∙ sym g.is
 one_reply RolledBack b body p q = sym (back_only b (subst (IsReply b) p.whole q))
 one_reply Gone b body p q = sym (gone_only b (subst (IsReply b) p.whole q))
+one_reply (Collecting collector floor) b body p q =
+    same_collecting collector floor b p.numbers.0 p.numbers.1 (collecting_only b (number 8 collector ++ number 8 floor) (subst (IsReply b) p.whole q))
+one_reply More b body p q = sym (more_only b (subst (IsReply b) p.whole q))
+one_reply (Blocked cell start) b body p q =
+    same_blocked cell start b p.bytes.0 p.bytes.1 p.numbers (blocked_only b (cell_fields cell ++ number 8 start) (subst (IsReply b) p.whole q))
+one_reply Collected b body p q = sym (collected_only b (subst (IsReply b) p.whole q))
 one_reply MinorDone b body p q = sym (minor_only b (subst (IsReply b) p.whole q))
 one_reply MergeDone b body p q = sym (merge_only b (subst (IsReply b) p.whole q))
 one_reply MajorDone b body p q = sym (major_only b (subst (IsReply b) p.whole q))

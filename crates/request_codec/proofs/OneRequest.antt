@@ -2,7 +2,7 @@
 use Rattle.std.proofs.Common.{◌≡◌, ℕ, ◌<◌, ◌^◌, List, [], ◌∷◌, ◌++◌, refl, sym, ap, subst, ◌∙◌, drop, arith}
 use Rattle.cell_key.specs.declared.keys.Qualifier.{Qualifier}
 use Rattle.si_model.specs.declared.replies.Cell.{Cell}
-use Rattle.si_model.specs.Messages.{Request, Begin, Get, Set, Advance, Stop, CleanBegin, CleanStep, Minor, Merge, Major, Split, Move, Sweep, OracleRestart, Raw}
+use Rattle.si_model.specs.Messages.{Request, Begin, Get, Set, Advance, Stop, CleanBegin, CleanStep, CollectBegin, CollectStep, Minor, Merge, Major, Split, Move, Sweep, OracleRestart, Raw}
 use Rattle.request_codec.specs.Fields.{number, field, cell_fields, qualifier_number, FitsField, FitsCell}
 use Rattle.request_codec.specs.Requests.{request_body, IsRequest}
 use Rattle.request_codec.proofs.Fields.{same_number, past_number, same_field, same_cell, same_qualifier, first}
@@ -84,6 +84,23 @@ clean_begin_only other f p = let e = ap first p.whole in absurd (omega (arith, e
 clean_step_only : (r : Request) (f : List ℕ) → IsRequest r (0x07 ∷ f) → AsNumber r (λ cleaner. CleanStep cleaner) f
 clean_step_only (CleanStep cleaner) f p = record { start = cleaner; fits = p.numbers; is = refl; fields = ap (drop 1) p.whole }
 clean_step_only other f p = let e = ap first p.whole in absurd (omega (arith, e))
+
+collect_begin_only : (r : Request) (f : List ℕ) → IsRequest r (0x08 ∷ f) → r ≡ CollectBegin
+collect_begin_only CollectBegin f p = refl
+collect_begin_only other f p = let e = ap first p.whole in absurd (omega (arith, e))
+
+record AsVisits (r : Request) (f : List ℕ) : Type 0 where
+  collector : ℕ
+  visits : ℕ
+  fits : collector < 2 ^ 64
+  visits_fit : visits < 2 ^ 32
+  is : r ≡ CollectStep collector visits
+  fields : f ≡ number 8 collector ++ number 4 visits
+
+collect_step_only : (r : Request) (f : List ℕ) → IsRequest r (0x09 ∷ f) → AsVisits r f
+collect_step_only (CollectStep collector visits) f p =
+    record { collector = collector; visits = visits; fits = p.numbers.0; visits_fit = p.numbers.1; is = refl; fields = ap (drop 1) p.whole }
+collect_step_only other f p = let e = ap first p.whole in absurd (omega (arith, e))
 
 record AsTablet (r : Request) (made : ℕ → Request) (f : List ℕ) : Type 0 where
   tablet : ℕ
@@ -173,6 +190,12 @@ same_two made k m n b m_fits n_fits g =
     let other = same_number k n g.other [] [] n_fits g.other_fits (ap (λ (t : List ℕ). t ++ []) rest) in
     ap (λ x. made x n) tablet ∙ ap (λ x. made g.tablet x) other ∙ sym g.is
 
+same_visits : (collector visits : ℕ) (b : Request) → collector < 2 ^ 64 → visits < 2 ^ 32 → AsVisits b (number 8 collector ++ number 4 visits) → CollectStep collector visits ≡ b
+same_visits collector visits b fits visits_fit g =
+    let c = same_number 8 collector g.collector (number 4 visits) (number 4 g.visits) fits g.fits g.fields in
+    let v = lone_tablet visits g.visits visits_fit g.visits_fit (past_number 8 collector g.collector (number 4 visits) (number 4 g.visits) g.fields) in
+    ap (λ n. CollectStep n visits) c ∙ ap (λ n. CollectStep g.collector n) v ∙ sym g.is
+
 same_raw : (cell : Cell) (qualifier : Qualifier) (low high : ℕ) (b : Request) → FitsCell cell → low < 2 ^ 64 → high < 2 ^ 64 → IsRequest b (request_body (Raw cell qualifier low high)) → Raw cell qualifier low high ≡ b
 same_raw cell qualifier low high b cell_fits low_fits high_fits q =
     let g = raw_only b (cell_fields cell ++ (number 1 (qualifier_number qualifier) ++ (number 8 low ++ number 8 high))) q in
@@ -198,6 +221,9 @@ one_request (CleanBegin cell) b body p q =
 one_request (CleanStep cleaner) b body p q =
     let g = clean_step_only b (number 8 cleaner) (subst (IsRequest b) p.whole q) in
     ap (λ n. CleanStep n) (lone_number cleaner g.start p.numbers g.fits g.fields) ∙ sym g.is
+one_request CollectBegin b body p q = sym (collect_begin_only b [] (subst (IsRequest b) p.whole q))
+one_request (CollectStep collector visits) b body p q =
+    same_visits collector visits b p.numbers.0 p.numbers.1 (collect_step_only b (number 8 collector ++ number 4 visits) (subst (IsRequest b) p.whole q))
 one_request OracleRestart b body p q = sym (restart_only b [] (subst (IsRequest b) p.whole q))
 one_request (Minor tablet) b body p q =
     let g = minor_only b (number 4 tablet) (subst (IsRequest b) p.whole q) in

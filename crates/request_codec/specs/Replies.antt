@@ -5,7 +5,7 @@ use Rattle.cell_key.specs.Names.{IsRow, IsFamily}
 use Rattle.cell_key.specs.Refusals.{refusal_number}
 use Rattle.cell_key.specs.Versions.{stamped}
 use Rattle.si_model.specs.Messages.{Reply, Begun, Answered, Pending, SetDone, Held, Conflict, Drawn, Committed, Lost, Finished, StopDone, NoLock, Cleaning, Decided, RolledForward, RolledBack, Gone, Collecting, More, Blocked, Collected, MinorDone, MergeDone, MajorDone, SplitOff, MoveDone, Swept, RestartDone, RawFound, CheckpointDone, Refused}
-use Rattle.si_model.specs.Replies.{found_reply, progress_reply, clean_start_reply, clean_reply}
+use Rattle.si_model.specs.Replies.{found_reply, progress_reply, clean_start_reply, clean_reply, collect_reply}
 use Rattle.request_codec.specs.Fields.{number, field, cell_fields, FitsField}
 use Rattle.request_codec.specs.declared.replies.Reply.{Reply as Kept}
 use Rattle.request_codec.specs.declared.replies.Reply.TheVariants as kept
@@ -19,6 +19,8 @@ replied (kept.Step progress) = progress_reply progress
 replied kept.Stop = StopDone
 replied (kept.CleanBegin found) = clean_start_reply found
 replied (kept.CleanStep done) = clean_reply done
+replied (kept.CollectBegin collector floor) = Collecting collector floor
+replied (kept.CollectStep done) = collect_reply done
 replied kept.Minor = MinorDone
 replied kept.Merge = MergeDone
 replied kept.Major = MajorDone
@@ -92,6 +94,10 @@ IsSpokenReply Decided = Unit {0}
 IsSpokenReply (RolledForward stamp) = Unit {0}
 IsSpokenReply RolledBack = Unit {0}
 IsSpokenReply Gone = Unit {0}
+IsSpokenReply (Collecting collector floor) = Unit {0}
+IsSpokenReply More = Unit {0}
+IsSpokenReply (Blocked cell start) = Unit {0}
+IsSpokenReply Collected = Unit {0}
 IsSpokenReply MinorDone = Unit {0}
 IsSpokenReply MergeDone = Unit {0}
 IsSpokenReply MajorDone = Unit {0}

@@ -16,6 +16,8 @@ asked (lent.Step start) = Advance start
 asked (lent.Stop start) = Stop start
 asked (lent.CleanBegin row family) = CleanBegin (record { row = row.now; family = family.now })
 asked (lent.CleanStep cleaner) = CleanStep cleaner
+asked lent.CollectBegin = CollectBegin
+asked (lent.CollectStep collector visits) = CollectStep collector visits
 asked (lent.Minor tablet) = Minor tablet
 asked (lent.Merge tablet count) = Merge tablet count
 asked (lent.Major tablet) = Major tablet
@@ -58,6 +60,8 @@ IsSpoken (Advance start) = Unit {0}
 IsSpoken (Stop start) = Unit {0}
 IsSpoken (CleanBegin cell) = Unit {0}
 IsSpoken (CleanStep cleaner) = Unit {0}
+IsSpoken CollectBegin = Unit {0}
+IsSpoken (CollectStep collector visits) = Unit {0}
 IsSpoken (Minor tablet) = Unit {0}
 IsSpoken (Merge tablet count) = Unit {0}
 IsSpoken (Major tablet) = Unit {0}
@@ -68,7 +72,7 @@ IsSpoken OracleRestart = Unit {0}
 IsSpoken (Raw cell qualifier low high) = Unit {0}
 IsSpoken other = ⊥
 
--- the requests of sessions and cleaners
+-- the requests of sessions, cleaners and collectors
 abbrev pub IsOfClient : Request → Type 0
 IsOfClient Begin = Unit {0}
 IsOfClient (Get start cell) = Unit {0}
@@ -77,6 +81,8 @@ IsOfClient (Advance start) = Unit {0}
 IsOfClient (Stop start) = Unit {0}
 IsOfClient (CleanBegin cell) = Unit {0}
 IsOfClient (CleanStep cleaner) = Unit {0}
+IsOfClient CollectBegin = Unit {0}
+IsOfClient (CollectStep collector visits) = Unit {0}
 IsOfClient other = ⊥
 
 -- each number fits its field

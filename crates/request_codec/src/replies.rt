@@ -1,18 +1,20 @@
 //! The bodies of replies.
-ghost use Rattle.std.specs.Prelude.{◌≡◌, ◌≢◌, ◌+◌, ◌≤◌, ◌++◌, ◌∷◌, [], length, vec_len, vec_capacity, IfOk, IfSome, IfNone, IfErr, OnOk, OnErr, IsOk, option_map};
+ghost use Rattle.std.specs.Prelude.{◌≡◌, ◌≢◌, ℕ, ◌+◌, ◌≤◌, ◌++◌, ◌∷◌, [], length, vec_len, vec_capacity, IfOk, IfSome, IfNone, IfErr, OnOk, OnErr, IsOk, option_map};
 ghost use Rattle.cell_key.specs.Refusals.{refusal_number};
 ghost use Rattle.cell_key.specs.Versions.{stamped};
 ghost use Rattle.cell_key.specs.declared.refusals.Refusal.{Refusal as Refusals};
 ghost use Rattle.request_codec.specs.Replies.{replied, reply_body, ReplyBytesFit, IsReply, IsNoReply, NeedsMemory};
-ghost use Rattle.si_model.specs.Messages.{RawFound};
-ghost use Rattle.si_model.specs.Replies.{found_reply, progress_reply, clean_start_reply, clean_reply};
+ghost use Rattle.cell_key.specs.Names.{IsRow, IsFamily};
+ghost use Rattle.si_model.specs.Messages.{Blocked, RawFound};
+ghost use Rattle.si_model.specs.Replies.{found_reply, progress_reply, clean_start_reply, clean_reply, collect_reply};
 
-use crate::pushing::{push_byte, push_field, push_u16, push_u32, push_u64};
+use crate::pushing::{push_byte, push_cell, push_field, push_u16, push_u32, push_u64};
 use crate::whole::{
-    whole_bytes, whole_u16, whole_u16_pair, whole_u32, whole_u64, whole_u64_pair, whole_version,
+    whole_bytes, whole_lock, whole_u16, whole_u16_pair, whole_u32, whole_u64, whole_u64_pair,
+    whole_version,
 };
-use cell_key::{Refusal, Stamp};
-use si_model::{CleanReply, CleanStart, Found, Progress};
+use cell_key::{Family, Refusal, Row, Stamp};
+use si_model::{Cell, CleanReply, CleanStart, CollectReply, Found, Progress};
 use std::alloc::{AllocError, Global};
 
 /// The most bytes of a reply's frame, its length's four bytes too: a stamp and the longest value.
@@ -35,6 +37,10 @@ pub enum Reply {
     CleanBegin(CleanStart),
     /// What the cleaner's step did.
     CleanStep(CleanReply),
+    /// A collector was opened: its number, and its floor.
+    CollectBegin(u64, Stamp),
+    /// What the collector's step came to.
+    CollectStep(CollectReply),
     /// The memtable of the tablet is a file.
     Minor,
     /// The files of the tablet are merged.
@@ -98,6 +104,16 @@ const ROLLED_FORWARD: u8 = 0x02;
 const ROLLED_BACK: u8 = 0x03;
 
 const GONE: u8 = 0x04;
+
+const COLLECT_BEGIN: u8 = 0x88;
+
+const COLLECT_STEP: u8 = 0x89;
+
+const MORE: u8 = 0x01;
+
+const BLOCKED: u8 = 0x02;
+
+const COLLECTED: u8 = 0x03;
 
 const MINOR: u8 = 0x8A;
 
@@ -270,6 +286,68 @@ fn decode_clean_reply(fields: &[u8]) -> Option<CleanReply>
     }
 }
 
+/// The cell of a row and a family, and none where one of them is outside its limits.
+#[tactic(auto, using(crate::proofs::Names::row_stable, crate::proofs::Names::family_stable))]
+fn cell_of(alloc: Global, row: &[u8], family: &[u8]) -> Result<Option<Cell>, Refusal>
+    ensures found { IfOk result (λ found.
+        IfSome found (λ cell. (cell.row ≡ row.now) × (cell.family ≡ family.now))) }
+    ensures valid { IfOk result (λ found.
+        IfSome found (λ cell. IsRow cell.row × IsFamily cell.family)) }
+    ensures none { IfOk result (λ found.
+        IfNone found (¬ (IsRow row.now × IsFamily family.now))) }
+    ensures refusal { IfErr result (λ refusal. refusal ≡ Refusal.NoMemory) }
+    ensures needed { OnErr result (IsRow row.now × IsFamily family.now) }
+{
+    let row = match Row::new(alloc, row) {
+        Err(Refusal::BadRow) => return Ok(None),
+        row => row,
+    };
+    let family = match Family::new(alloc, family) {
+        Err(Refusal::BadColumn) => return Ok(None),
+        family => family,
+    };
+    Ok(Some(Cell {
+        row: row?,
+        family: family?,
+    }))
+}
+
+/// What a collector's step came to, from the fields of its reply.
+fn decode_collect_reply(alloc: Global, fields: &[u8]) -> Result<Option<CollectReply>, Refusal>
+    ensures found { IfOk result (λ found.
+        IfSome found (λ done. IsReply (collect_reply done) (0x89 ∷ fields.now))) }
+    ensures none { IfOk result (λ found. IfNone found (IsNoReply (0x89 ∷ fields.now))) }
+    ensures refusal { IfErr result (λ refusal. refusal ≡ Refusal.NoMemory) }
+    ensures needed { OnErr result (NeedsMemory (0x89 ∷ fields.now)) }
+{
+    let Some((tag, rest)) = fields.split_first() else {
+        return Ok(None);
+    };
+    match *tag {
+        MORE => Ok(rest.is_empty().then_some(CollectReply::More)),
+        BLOCKED => decode_blocked(alloc, rest),
+        COLLECTED => Ok(rest.is_empty().then_some(CollectReply::Collected)),
+        _ => Ok(None),
+    }
+}
+
+/// What a blocked collector answers, from the fields after the tag.
+fn decode_blocked(alloc: Global, rest: &[u8]) -> Result<Option<CollectReply>, Refusal>
+    ensures found { IfOk result (λ found.
+        IfSome found (λ done. IsReply (collect_reply done) (0x89 ∷ 0x02 ∷ rest.now))) }
+    ensures none { IfOk result (λ found. IfNone found (IsNoReply (0x89 ∷ 0x02 ∷ rest.now))) }
+    ensures refusal { IfErr result (λ refusal. refusal ≡ Refusal.NoMemory) }
+    ensures needed { OnErr result (NeedsMemory (0x89 ∷ 0x02 ∷ rest.now)) }
+{
+    let Some((row, family, start)) = whole_lock(rest) else {
+        return Ok(None);
+    };
+    let Some(cell) = cell_of(alloc, row, family)? else {
+        return Ok(None);
+    };
+    Ok(Some(CollectReply::Blocked(cell, start)))
+}
+
 /// The refusal that the fields of a refusal's body name.
 fn decode_refusal(fields: &[u8]) -> Option<Refusal>
     ensures found { IfSome result (λ refusal. fields.now ≡ refusal_number refusal ∷ []) }
@@ -282,10 +360,11 @@ fn decode_refusal(fields: &[u8]) -> Option<Refusal>
     refusal_of(*number)
 }
 
-/// The reply of a body that begins with this operation's number, neither read's, and none where it is the body of no
-/// reply.
+/// The reply of a body that begins with this operation's number, neither read's nor a collector's
+/// step's, and none where it is the body of no reply.
 fn decode_other(operation: u8, fields: &[u8]) -> Option<Reply>
     requires get { operation ≢ 0x82 }
+    requires collect { operation ≢ 0x89 }
     requires raw { operation ≢ 0x91 }
     ensures found { IfSome result (λ reply. IsReply (replied reply) (operation ∷ fields.now)) }
     ensures none { IfNone result (IsNoReply (operation ∷ fields.now)) }
@@ -309,6 +388,10 @@ fn decode_other(operation: u8, fields: &[u8]) -> Option<Reply>
             let done = decode_clean_reply(fields)?;
             Some(Reply::CleanStep(done))
         }
+        COLLECT_BEGIN => {
+            let (collector, floor) = whole_u64_pair(fields)?;
+            Some(Reply::CollectBegin(collector, floor))
+        }
         MINOR => fields.is_empty().then_some(Reply::Minor),
         MERGE => fields.is_empty().then_some(Reply::Merge),
         MAJOR => fields.is_empty().then_some(Reply::Major),
@@ -331,7 +414,7 @@ fn decode_other(operation: u8, fields: &[u8]) -> Option<Reply>
 }
 
 /// The reply whose body this is, and none where it is the body of no reply.
-/// Refused NoMemory where there is no room for a value.
+/// Refused NoMemory where there is no room for a value, or for the cell that blocks a collector.
 pub fn decode_reply(alloc: Global, body: &[u8]) -> Result<Option<Reply>, Refusal>
     ensures found { IfOk result (λ found.
         IfSome found (λ reply. IsReply (replied reply) body.now)) }
@@ -351,6 +434,12 @@ pub fn decode_reply(alloc: Global, body: &[u8]) -> Result<Option<Reply>, Refusal
             Ok(Some(Reply::Get(found)))
         }
         RAW => Ok(decode_raw(alloc, fields)?),
+        COLLECT_STEP => {
+            let Some(done) = decode_collect_reply(alloc, fields)? else {
+                return Ok(None);
+            };
+            Ok(Some(Reply::CollectStep(done)))
+        }
         _ => Ok(decode_other(*operation, fields)),
     }
 }
@@ -372,9 +461,20 @@ pub fn reply_length(reply: &Reply) -> usize
         Reply::CleanBegin(CleanStart::Cleaner(..)) => 18,
         Reply::CleanStep(CleanReply::RolledForward(_)) => 10,
         Reply::CleanBegin(CleanStart::NoLock) | Reply::CleanStep(_) => 2,
+        Reply::CollectBegin(..) => 17,
+        Reply::CollectStep(CollectReply::Blocked(cell, _)) => blocked_length(cell),
+        Reply::CollectStep(_) => 2,
         Reply::Split(_) => 5,
         Reply::Raw(Some((_, value))) => 14 + value.len(),
     }
+}
+
+/// How many bytes the body of a blocked collector's reply has.
+#[tactic(auto, using(crate::proofs::Fields::lengths))]
+fn blocked_length(cell: &Cell) -> usize
+    ensures { (start : ℕ) → result ≡ length (reply_body (Blocked cell.now start)) }
+{
+    18 + cell.row.as_bytes().len() + cell.family.as_bytes().len()
 }
 
 /// How many bytes the body of a step's reply has.
@@ -508,6 +608,26 @@ fn push_clean_reply(done: CleanReply, out: &mut Vec<u8>)
     }
 }
 
+/// Appends the body of the reply to a collector's step.
+#[tactic(auto, using(crate::proofs::Fields::lengths))]
+fn push_collect_reply(done: &CollectReply, out: &mut Vec<u8>)
+    requires { vec_len out.old
+        + length (reply_body (collect_reply done.now)) ≤ vec_capacity out.old }
+    ensures items { out.new.items ≡ out.old.items ++ reply_body (collect_reply done.now) }
+    ensures capacity { vec_capacity out.old ≤ vec_capacity out.new }
+{
+    push_byte(out, COLLECT_STEP);
+    match done {
+        CollectReply::More => push_byte(out, MORE),
+        CollectReply::Blocked(cell, start) => {
+            push_byte(out, BLOCKED);
+            push_cell(out, cell.row.as_bytes(), cell.family.as_bytes());
+            push_u64(out, *start);
+        }
+        CollectReply::Collected => push_byte(out, COLLECTED),
+    }
+}
+
 /// Appends the body of a reply.
 #[tactic(auto, using(crate::proofs::Fields::lengths))]
 fn push_reply(reply: &Reply, out: &mut Vec<u8>)
@@ -528,6 +648,12 @@ fn push_reply(reply: &Reply, out: &mut Vec<u8>)
         Reply::Stop => push_byte(out, STOP),
         Reply::CleanBegin(found) => push_clean_start(*found, out),
         Reply::CleanStep(done) => push_clean_reply(*done, out),
+        Reply::CollectBegin(collector, floor) => {
+            push_byte(out, COLLECT_BEGIN);
+            push_u64(out, *collector);
+            push_u64(out, *floor);
+        }
+        Reply::CollectStep(done) => push_collect_reply(done, out),
         Reply::Minor => push_byte(out, MINOR),
         Reply::Merge => push_byte(out, MERGE),
         Reply::Major => push_byte(out, MAJOR),

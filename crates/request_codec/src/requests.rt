@@ -9,7 +9,7 @@ use crate::pushing::{
 };
 use crate::whole::{
     whole_bytes, whole_cell, whole_move, whole_raw, whole_read, whole_u32, whole_u32_pair,
-    whole_u64, whole_write,
+    whole_u64, whole_visits, whole_write,
 };
 use cell_key::{Qualifier, Refusal, Stamp};
 
@@ -48,6 +48,13 @@ pub enum Request<'a> {
     /// Takes the cleaner's next step.
     CleanStep {
         cleaner: u64,
+    },
+    /// Opens a collector of old versions.
+    CollectBegin,
+    /// Lets the collector visit so many cells at the most.
+    CollectStep {
+        collector: u64,
+        visits: u32,
     },
     /// Writes the memtable of a tablet as a file.
     Minor {
@@ -99,6 +106,10 @@ const CLEAN_BEGIN: u8 = 0x06;
 
 const CLEAN_STEP: u8 = 0x07;
 
+const COLLECT_BEGIN: u8 = 0x08;
+
+const COLLECT_STEP: u8 = 0x09;
+
 const MINOR: u8 = 0x0A;
 
 const MERGE: u8 = 0x0B;
@@ -115,8 +126,8 @@ const ORACLE_RESTART: u8 = 0x10;
 
 const RAW: u8 = 0x11;
 
-/// The request of a body that begins with this operation's number, a session's or a cleaner's, and none where it
-/// is the body of no request.
+/// The request of a body that begins with this operation's number, a session's, a cleaner's or a
+/// collector's, and none where it is the body of no request.
 fn decode_client(operation: u8, fields: &[u8]) -> Option<Request<'_>>
     requires { operation < 0x0A }
     ensures found { IfSome result (λ request. IsRequest (asked request) (operation ∷ fields.now)) }
@@ -152,6 +163,11 @@ fn decode_client(operation: u8, fields: &[u8]) -> Option<Request<'_>>
         CLEAN_STEP => {
             let cleaner = whole_u64(fields)?;
             Some(Request::CleanStep { cleaner })
+        }
+        COLLECT_BEGIN => fields.is_empty().then_some(Request::CollectBegin),
+        COLLECT_STEP => {
+            let (collector, visits) = whole_visits(fields)?;
+            Some(Request::CollectStep { collector, visits })
         }
         _ => None,
     }
@@ -227,7 +243,7 @@ fn request_length(request: &Request<'_>) -> usize
     ensures { result ≡ length (request_body (asked request.now)) }
 {
     match *request {
-        Request::Begin | Request::Sweep | Request::OracleRestart => 1,
+        Request::Begin | Request::CollectBegin | Request::Sweep | Request::OracleRestart => 1,
         Request::Get { row, family, .. } => 17 + row.len() + family.len(),
         Request::Set {
             row,
@@ -240,6 +256,7 @@ fn request_length(request: &Request<'_>) -> usize
         | Request::Stop { .. }
         | Request::CleanStep { .. }
         | Request::Merge { .. } => 9,
+        Request::CollectStep { .. } => 13,
         Request::Minor { .. } | Request::Major { .. } => 5,
         Request::Split { row } => 5 + row.len(),
         Request::Move { .. } => 6,
@@ -247,7 +264,7 @@ fn request_length(request: &Request<'_>) -> usize
     }
 }
 
-/// Appends the number of an operation and one of eight bytes: a start or a cleaner.
+/// Appends the number of an operation and one of eight bytes: a start, a cleaner or a collector.
 #[tactic(auto, using(crate::proofs::Fields::lengths))]
 fn push_numbered(out: &mut Vec<u8>, operation: u8, n: u64)
     requires { vec_len out.old + 9 ≤ vec_capacity out.old }
@@ -355,7 +372,7 @@ fn push_raw(
     push_u64(out, hi);
 }
 
-/// Appends the body of a session's or a cleaner's request.
+/// Appends the body of a session's, a cleaner's or a collector's request.
 #[tactic(auto, using(crate::proofs::Fields::lengths))]
 fn push_client(request: &Request<'_>, out: &mut Vec<u8>)
     requires client { IsOfClient (asked request.now) }
@@ -378,6 +395,11 @@ fn push_client(request: &Request<'_>, out: &mut Vec<u8>)
         Request::Stop { start } => push_numbered(out, STOP, start),
         Request::CleanBegin { row, family } => push_clean_begin(out, row, family),
         Request::CleanStep { cleaner } => push_numbered(out, CLEAN_STEP, cleaner),
+        Request::CollectBegin => push_byte(out, COLLECT_BEGIN),
+        Request::CollectStep { collector, visits } => {
+            push_numbered(out, COLLECT_STEP, collector);
+            push_u32(out, visits);
+        }
         _ => unreachable!(),
     }
 }
@@ -432,7 +454,9 @@ fn push_request(request: &Request<'_>, out: &mut Vec<u8>)
         | Request::Step { .. }
         | Request::Stop { .. }
         | Request::CleanBegin { .. }
-        | Request::CleanStep { .. } => push_client(request, out),
+        | Request::CleanStep { .. }
+        | Request::CollectBegin
+        | Request::CollectStep { .. } => push_client(request, out),
         _ => push_upkeep(request, out),
     }
 }

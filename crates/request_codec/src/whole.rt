@@ -162,6 +162,33 @@ pub(crate) fn whole_u64_pair(bytes: &[u8]) -> Option<(u64, u64)>
     Some((first, second))
 }
 
+/// A number of eight bytes and one of four bytes.
+pub(crate) fn whole_visits(bytes: &[u8]) -> Option<(u64, u32)>
+    ensures found { IfSome result (λ p. bytes.now ≡ number 8 p.0 ++ number 4 p.1) }
+    ensures fits { IfSome result (λ p. (p.0 < 2 ^ 64) × (p.1 < 2 ^ 32)) }
+    ensures none { IfNone result ((m n : ℕ) → bytes.now ≢ number 8 m ++ number 4 n) }
+{
+    let mut rest = bytes;
+    let collector = take_u64(&mut rest)?;
+    let visits = whole_u32(rest)?;
+    Some((collector, visits))
+}
+
+/// The row and the family of a cell, and a start.
+pub(crate) fn whole_lock(bytes: &[u8]) -> Option<(&[u8], &[u8], u64)>
+    ensures found { IfSome result (λ p.
+        bytes.now ≡ cell_fields (record { row = p.0.now; family = p.1.now }) ++ number 8 p.2) }
+    ensures cell { IfSome result (λ p. FitsCell (record { row = p.0.now; family = p.1.now })) }
+    ensures number { IfSome result (λ p. p.2 < 2 ^ 64) }
+    ensures none { IfNone result ((cell : CellOf) (start : ℕ) → FitsCell cell
+        → bytes.now ≢ cell_fields cell ++ number 8 start) }
+{
+    let mut rest = bytes;
+    let (row, family) = take_cell(&mut rest)?;
+    let start = whole_u64(rest)?;
+    Some((row, family, start))
+}
+
 /// The row and the family of a cell, a qualifier, and two bounds.
 pub(crate) fn whole_raw(bytes: &[u8]) -> Option<(&[u8], &[u8], Qualifier, u64, u64)>
     ensures found { IfSome result (λ p.

@@ -169,6 +169,7 @@ matched_set limit next places ts i t u there same_range same_names matched = rec
   named_to = matched.named_to;
   placed = placed_set ts i t u there same_range same_names None places matched.placed;
   as_many = length-set ts i u ∙ matched.as_many;
+  files = matched.files;
 }
 
 -- the tablet of a row would be too full

@@ -18,6 +18,8 @@ use Rattle.tablet.specs.declared.tablet.Tablet.{Tablet}
 use Rattle.row_atomic.specs.Clusters.{ArePlaced, InOrder, IsMatched, cells_in, spot_of, tablet_numbered}
 use Rattle.row_atomic.specs.Changes.{HasValue, IsAt, IsBadCount, LacksErasures, Numbered, Remakes, parts_of}
 use Rattle.row_atomic.proofs.Answering.{found_there, matched_set}
+use Rattle.metadata_table.specs.Roots.{AreFiles}
+use Rattle.row_atomic.proofs.Naming.{later_files, listed_files, no_less}
 use Rattle.row_atomic.proofs.Placing.{is_placed, placed_files}
 use Rattle.row_atomic.proofs.Shares.{each_at, keeps_cells, set_there, set_elsewhere}
 
@@ -110,6 +112,7 @@ matched_next limit old new before after places ts uses to matched = record {
   named_to = to matched.named_to;
   placed = matched.placed;
   as_many = matched.as_many;
+  files = later_files before after (no_less old new before after uses) places matched.files;
 }
 
 -- where the call was refused
@@ -118,8 +121,8 @@ matched_unchanged limit old new before after places ts i t u there uses to same 
     matched_set limit after places ts i t u there same.range (ap (λ (files : List SortedFile). map name_of files) same.files) (matched_next limit old new before after places ts uses to matched)
 
 -- where the place lists the new names
-pub matched_listed : (limit : ℕ) (old new : Option Contents) (before after : ℕ) (places places' : List PlaceView) (ts : List Tablet) (n i : ℕ) (t u : Tablet) → n ≡ i + 1 → slice_get ts i ≡ Some t → UsesName old before new after → (before ≤ 2 ^ 63 → after ≤ 2 ^ 63) → range_of u ≡ range_of t → places' ≡ with_files n (names_of u) places → IsMatched limit before places ts → IsMatched limit after places' (set ts i u)
-matched_listed limit old new before after places places' ts n i t u e there uses to range listed matched =
+pub matched_listed : (limit : ℕ) (old new : Option Contents) (before after : ℕ) (places places' : List PlaceView) (ts : List Tablet) (n i : ℕ) (t u : Tablet) → n ≡ i + 1 → slice_get ts i ≡ Some t → UsesName old before new after → (before ≤ 2 ^ 63 → after ≤ 2 ^ 63) → range_of u ≡ range_of t → places' ≡ with_files n (names_of u) places → AreFiles after (names_of u) → IsMatched limit before places ts → IsMatched limit after places' (set ts i u)
+matched_listed limit old new before after places places' ts n i t u e there uses to range listed names matched =
     let number : n ≡ suc i = omega arith in
     let is : places' ≡ with_files (suc i) (names_of u) places = listed ∙ ap (λ (k : ℕ). with_files k (names_of u) places) number in
     record {
@@ -129,6 +132,7 @@ matched_listed limit old new before after places places' ts n i t u e there uses
       named_to = to matched.named_to;
       placed = subst (λ (ps : List PlaceView). ArePlaced (set ts i u) None ps) (sym is) (placed_files ts i t u there range None places matched.placed);
       as_many = length-set ts i u ∙ matched.as_many ∙ sym (length-map places (naming (suc i) (names_of u))) ∙ ap (λ (ps : List PlaceView). length ps) (sym is);
+      files = subst (λ (ps : List PlaceView). AllByRecursion (λ p. AreFiles after p.files) ps) (sym listed) (listed_files after n (names_of u) names places (later_files before after (no_less old new before after uses) places matched.files));
     }
 
 -- other files leave the spots

@@ -2,8 +2,6 @@
 use Rattle.std.proofs.Common.{◌≡◌, ◌≢◌, ◌<◌, ◌≤◌, ◌+◌, ℕ, zero, suc, Bool, true, false, List, [], ◌∷◌, length, map, filter, drop, Option, Some, None, Result, Ok, Err, cond, refl, sym, ap, ◌∙◌, subst, arith, nat_le, slice_get, slice_index_or, add-one}
 use Rattle.std.proofs.lemmas.List.{drop_all, length-map}
 use Rattle.std.specs.Bool.{⊤}
-use Rattle.std.specs.Option.{IfSome}
-use Rattle.std.specs.Result.{OkIff, result_ok}
 use Rattle.std.specs.List.{AllByRecursion}
 use Rattle.cell_key.specs.declared.refusals.Refusal.{Refusal}
 use Rattle.file_store.specs.Store.{Contents}
@@ -14,13 +12,12 @@ use Rattle.sorted_file.specs.declared.opened.SortedFile.{SortedFile}
 use Rattle.cell_key.specs.Entries.{Entry}
 use Rattle.tablet.specs.declared.ranges.RowRange.{RowRange}
 use Rattle.tablet.specs.declared.tablet.Tablet.{Tablet}
-use Rattle.row_atomic.specs.Changes.{Holds, Numbered, parts_of}
+use Rattle.row_atomic.specs.Changes.{Holds, parts_of}
 use Rattle.row_atomic.specs.Clusters.{ClusterState, Spot, spot_of, tablet_numbered}
 use Rattle.row_atomic.specs.Commands.{AnswersAll, IsOutcome, cells_shown, done_of}
-use Rattle.row_atomic.specs.Flushes.{CompactsFull, IsOver, KeepsShown, has_entries, numbers_of}
+use Rattle.row_atomic.specs.Flushes.{CompactsFull, KeepsShown, has_entries, numbers_of}
 use Rattle.row_atomic.specs.declared.commands.Command.TheVariants as command
 use Rattle.row_atomic.specs.declared.commands.Outcome.{Outcome}
-use Rattle.row_atomic.proofs.Changing.{numbered_at}
 use Rattle.row_atomic.proofs.Numbers.{AreOthers, Differ, differ_of}
 
 -- ---- numbers that differ
@@ -92,7 +89,7 @@ abbrev entries_by : ℕ → Option (RowRange × (List Entry × List SortedFile))
 entries_by flush None = false
 entries_by flush (Some parts) = nat_le flush (length parts.1.0)
 
-abbrev part_at : List (RowRange × (List Entry × List SortedFile)) → ℕ → Option (RowRange × (List Entry × List SortedFile))
+abbrev pub part_at : List (RowRange × (List Entry × List SortedFile)) → ℕ → Option (RowRange × (List Entry × List SortedFile))
 part_at parts zero = None
 part_at parts (suc i) = slice_get parts i
 
@@ -117,15 +114,6 @@ pub all_still : {F : Type 0} (flush : ℕ) (start : ClusterState F) (ns : List �
 all_still flush start [] = tt
 all_still flush start (n ∷ ns) = (refl, all_still flush start ns)
 
--- ---- files that are merged
-
--- a count that was tried is such as the tablet of the number says
-pub tried_over : {E : Type 0} (ts : List Tablet) (n i most count : ℕ) (t : Tablet) (tried : Result ℕ E) (found : Option ℕ) → n ≡ i + 1 → slice_get ts i ≡ Some t → IsOver most count t
-    → OkIff tried (count < 4294967296) count → found ≡ result_ok tried → IfSome found (λ k. Numbered (IsOver most k) n ts)
-tried_over ts n i most count t (Ok k) found e there over tried is =
-    rw is (record { tablet = t; numbered = numbered_at ts n i t e there; such = subst (λ (j : ℕ). IsOver most j t) (sym tried.1) over })
-tried_over ts n i most count t (Err fault) found e there over tried is = rw is tt
-
 -- ---- what is kept
 
 module _ {F : Type 0} (contents : F → Option Contents) (faults : F → ℕ) where
@@ -140,19 +128,6 @@ module _ {F : Type 0} (contents : F → Option Contents) (faults : F → ℕ) wh
     limit = more.limit ∙ keeps.limit;
     later = let a = keeps.later in let b = more.later in omega arith;
   }
-
-  -- a merge keeps them
-  pub keeps_merged : (now after : ClusterState F) (n count : ℕ) (r : Result (Unit {0}) Refusal) → IsOutcome contents faults (command.Merge n count) (done_of r) now after → KeepsShown contents faults now after
-  keeps_merged now after n count r is = record {
-    kept = λ holds. (is.still holds, shown r is holds);
-    spots = is.files.1;
-    limit = is.files.0.limit;
-    later = is.faults.later;
-  }
-    where
-      shown : (r : Result (Unit {0}) Refusal) → IsOutcome contents faults (command.Merge n count) (done_of r) now after → Holds contents now → cells_shown contents after ≡ cells_shown contents now
-      shown (Ok _) is holds = is.answers holds
-      shown (Err refusal) is holds = (is.answers holds).1
 
 module _ {F : Type 0} (contents : F → Option Contents) (faults : F → ℕ) (flush : ℕ) where
   abbrev has : ClusterState F → ℕ → Bool

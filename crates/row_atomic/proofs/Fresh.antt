@@ -12,6 +12,7 @@ use Rattle.tablet.specs.Ranges.{seen}
 use Rattle.tablet.specs.Views.{Holds, IsBelow, range_of, memory_of, files_of, lists_of, view_of, cells_at}
 use Rattle.tablet.specs.declared.tablet.Tablet.{Tablet}
 use Rattle.row_atomic.specs.Clusters.{InOrder, IsMatched, cells_in, joined}
+use Rattle.row_atomic.proofs.Naming.{no_files}
 
 nil_of_length : {A : Type 0} (xs : List A) → length xs ≡ 0 → xs ≡ []
 nil_of_length [] e = refl
@@ -55,4 +56,5 @@ module _ (t : Tablet) (memory : memory_of t ≡ []) (files : files_of t ≡ []) 
     named_to = lit≤ tt;
     placed = (record { tablet = t; numbered = refl; range = range; names = ap (map name_of) files }, tt);
     as_many = refl;
+    files = (no_files 1, tt);
   }

@@ -11,6 +11,7 @@ pub mod Halving
 pub mod Joined
 pub mod Limits
 pub mod Moving
+pub mod Naming
 pub mod Nexts
 pub mod Numbers
 pub mod Outcomes
@@ -19,10 +20,13 @@ pub mod Parts
 pub mod Passing
 pub mod Places
 pub mod Placing
+pub mod Resting
 pub mod Roomy
+pub mod Rooting
 pub mod Scans
 pub mod Shares
 pub mod SlotLemmas
 pub mod Splitting
 pub mod Stamps
 pub mod Sweeping
+pub mod Tiers

@@ -10,6 +10,7 @@ use Rattle.tablet.specs.declared.tablet.Tablet.{Tablet}
 use Rattle.metadata_table.specs.Places.{PlaceView}
 use Rattle.metadata_table.specs.Table.{HasTablet, IsTable, moved, naming, with_files}
 use Rattle.row_atomic.specs.Changes.{IsOn, Numbered}
+use Rattle.row_atomic.proofs.Naming.{moved_files}
 use Rattle.row_atomic.proofs.Changing.{contained}
 use Rattle.row_atomic.proofs.Numbers.{Differ, differ_of}
 use Rattle.row_atomic.proofs.Splitting.{same_tablet}
@@ -64,6 +65,7 @@ matched_moved limit next n to places places' ts e matched =
       named_to = matched.named_to;
       placed = placed_moved ts n to None places matched.placed;
       as_many = matched.as_many ∙ sym (length_moved n to places);
+      files = moved_files next n to places matched.files;
     })
 
 -- a tablet has one place

@@ -16,6 +16,7 @@ use Rattle.tablet.specs.Laws.{OthersStay, StaysInRange}
 use Rattle.tablet.specs.declared.tablet.Tablet.{Tablet}
 use Rattle.row_atomic.specs.Clusters.{ArePlaced, InOrder, IsMatched, cells_in}
 use Rattle.row_atomic.specs.Changes.{IsEmptied, IsFlushed, Numbered, OfHolder, Remakes}
+use Rattle.row_atomic.proofs.Naming.{cut_files}
 use Rattle.row_atomic.proofs.Changing.{matched_next, numbered_at, stays}
 use Rattle.row_atomic.proofs.Cutting.{cut_placed}
 use Rattle.row_atomic.proofs.Numbers.{differ_of}
@@ -85,6 +86,7 @@ module _ (places : List PlaceView) (ts : List Tablet) (i : ℕ) (t left right : 
         named_to = next.named_to;
         placed = cut_placed ts i t left right row there left_range right_range left_names right_names None p places places' index (differ_of places table.distinct) holder matched.placed (subst (λ (k : ℕ). Cuts row k places places') count cut);
         as_many = length_push (set ts i right) left ∙ ap suc (length-set ts i right ∙ matched.as_many) ∙ sym (length_cut row n places places' cut);
+        files = cut_files after row n places places' cut next.files;
       }
 
   pub parts_keep : StaysInRange → OthersStay → (old new : Option Contents) (before after : ℕ) → ArePlaced ts None places → length ts ≡ length places → UsesName old before new after

@@ -9,6 +9,7 @@ use Rattle.file_store.specs.Store.{Contents}
 use Rattle.memtable.specs.Edits.{IsWithinLimits, with_edits}
 use Rattle.cell_key.specs.Places.{Place}
 use Rattle.metadata_table.specs.Places.{PlaceView, EndsBefore}
+use Rattle.metadata_table.specs.Roots.{AreFiles}
 use Rattle.metadata_table.specs.Table.{IsHolder, IsTable}
 use Rattle.tablet.specs.Ranges.{has_row}
 use Rattle.tablet.specs.Views.{Holds, IsBelow, cells_at, files_of, memory_of, names_of, range_of}
@@ -110,7 +111,8 @@ abbrev pub ArePlaced : List Tablet → Option (List ℕ) → List PlaceView → 
 ArePlaced tablets before [] = ⊤
 ArePlaced tablets before (p ∷ ps) = IsPlaced tablets before p × ArePlaced tablets p.end ps
 
--- Each tablet has a place, and the numbers are within their limits.
+-- Each tablet has a place, the numbers are within their limits, and a tablet has at most 64 files,
+-- each once, with names from 1 on and below the next one.
 pub record IsMatched (file_limit next_name : ℕ) (places : List PlaceView)
     (tablets : List Tablet) : Type 0 where
   pub least : 32 ≤ file_limit
@@ -119,6 +121,7 @@ pub record IsMatched (file_limit next_name : ℕ) (places : List PlaceView)
   pub named_to : next_name ≤ 2 ^ 63
   pub placed : ArePlaced tablets None places
   pub as_many : length tablets ≡ length places
+  pub files : AllByRecursion (λ p. AreFiles next_name p.files) places
 
 -- the tablet of the place that holds a row stands at the index
 pub record HasTabletAt (places : List PlaceView) (tablets : List Tablet) (row : List ℕ)

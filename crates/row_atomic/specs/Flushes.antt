@@ -1,5 +1,5 @@
 -- Compactions that no command asks for: of each tablet whose memtable has many entries, or that has many files.
-use Rattle.std.specs.Prelude.{◌≡◌, ◌≤◌, ℕ, ◌+◌, Bool, false, nat_le, List, length, map, filter, Option, None, Some}
+use Rattle.std.specs.Prelude.{◌≡◌, ◌≤◌, ◌^◌, ◌+◌, ◌&&◌, ℕ, Bool, false, nat_le, nat_lt, List, [], ◌∷◌, length, map, filter, Option, None, Some}
 use Rattle.file_store.specs.Store.{Contents}
 use Rattle.metadata_table.specs.Places.{PlaceView}
 use Rattle.tablet.specs.Views.{memory_of, names_of}
@@ -32,21 +32,40 @@ CompactsFull contents faults flush old new =
     (outcomes : List Outcome)
     × AnswersAll contents faults old (map command.Minor (numbers_with flush old)) outcomes new
 
--- A tablet has so many files or more, and fewer are left where this many of them are merged.
-pub record IsOver (most count : ℕ) (t : Tablet) : Type 0 where
-  pub many : most ≤ length (names_of t)
+-- whether there is a tablet, and it has this many files or more, two at least,
+-- and no more than a merge can count
+abbrev pub has_files : ℕ → Option Tablet → Bool
+has_files most None = false
+has_files most (Some t) =
+    nat_le 2 most && nat_le most (length (names_of t)) && nat_lt (length (names_of t)) (2 ^ 32)
+
+-- those of the tablets that have this many files or more
+abbrev pub numbers_over : {F : Type 0} → ℕ → ClusterState F → List ℕ
+numbers_over most state =
+    filter (λ n. has_files most (tablet_numbered n state.tablets)) (numbers_of state.places)
+
+-- Where this many of a tablet's files are merged, fewer than so many are left.
+pub record LeavesFew (most count : ℕ) (t : Tablet) : Type 0 where
   pub within : count ≤ length (names_of t)
   pub enough : length (names_of t) + 2 ≤ most + count
 
--- Newest files of such tablets were merged, and nothing else was done, or a merge was refused. The
--- outcomes are not told.
-pub data MergesMany {F : Type 0} (contents : F → Option Contents) (faults : F → ℕ) (most : ℕ)
-    (old : ClusterState F) : ClusterState F → Type 0 where
-  merges_none : MergesMany contents faults most old old
-  merges_next : {now new : ClusterState F} (tablet count : ℕ) (outcome : Outcome)
-      → MergesMany contents faults most old now → Numbered (IsOver most count) tablet now.tablets
-      → IsOutcome contents faults (command.Merge tablet count) outcome now new
-      → MergesMany contents faults most old new
+-- Newest files of each of these tablets were merged, one tablet after the other, or the merge was
+-- refused. The outcomes are not told.
+abbrev pub MergesEach : {F : Type 0}
+    → (F → Option Contents) → (F → ℕ) → ℕ → ClusterState F → List ℕ → ClusterState F → Type 0
+MergesEach contents faults most old [] new = new ≡ old
+MergesEach {F} contents faults most old (n ∷ ns) new =
+    (next : ClusterState F) × (count : ℕ) × (outcome : Outcome)
+    × Numbered (LeavesFew most count) n old.tablets
+    × IsOutcome contents faults (command.Merge n count) outcome old next
+    × MergesEach contents faults most next ns new
+
+-- So it was for the tablets that have so many files or more, in the order of their ends, and for
+-- no other.
+abbrev pub MergesMany : {F : Type 0}
+    → (F → Option Contents) → (F → ℕ) → ℕ → ClusterState F → ClusterState F → Type 0
+MergesMany contents faults most old new =
+    MergesEach contents faults most old (numbers_over most old) new
 
 -- Tablets that were in order are, with the same cells. They are where they were, with the same
 -- limit of a file, and no fault was forgotten.

@@ -7,6 +7,7 @@ pub mod Flushes
 pub mod Laws
 pub mod Oldest
 pub mod Refusals
+pub mod Roots
 pub mod Room
 pub mod Slots
 pub mod Sweeps

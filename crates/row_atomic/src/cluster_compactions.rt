@@ -64,6 +64,8 @@ fn compact<F: Files>(
     ensures large { IsErrOf result Refusal.FileTooLarge
         → IsTooLarge file_limit (F.contents files.old) compaction tablet.old }
     ensures fits { OnOk result (Fits file_limit (F.contents files.old) compaction tablet.old) }
+    ensures used { OnOk result (¬ WritesNone compaction tablet.old
+        → next_name.new ≡ next_name.old + 1) }
     ensures lists { OnOk result (Compacts (kind_of compaction)
         (F.contents files.old) next_name.old (F.contents files.new) tablet.old tablet.new) }
     ensures damaged { IsErrOf result Refusal.Damaged

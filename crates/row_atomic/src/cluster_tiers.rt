@@ -1,11 +1,12 @@
 //! Merging compactions of all tablets that have many files.
 
-ghost use Rattle.std.specs.Prelude.{◌≡◌, ◌≤◌, ◌<◌, length, nat_le, IfSome};
+ghost use Rattle.std.specs.Prelude.{◌≡◌, ◌≤◌, ◌<◌, true, length, nat_le};
 ghost use Rattle.std.specs.List.{list_any};
 ghost use Rattle.tablet.specs.Views.{memory_of};
 ghost use Rattle.metadata_table.specs.Table.{HasTablet};
 ghost use Rattle.row_atomic.specs.Changes.{Numbered};
-ghost use Rattle.row_atomic.specs.Flushes.{IsOver, KeepsShown, MergesMany};
+ghost use Rattle.row_atomic.specs.Clusters.{tablet_numbered};
+ghost use Rattle.row_atomic.specs.Flushes.{KeepsShown, LeavesFew, MergesMany, has_files};
 
 use crate::cluster::Cluster;
 use file_store::Files;
@@ -21,16 +22,24 @@ impl<F: Files> Cluster<F> {
             .any(|tablet| tablet.len() >= flush as usize)
     }
 
-    /// How many of the newest files of a tablet are merged, if it has this many files or more.
-    fn merge_count(&self, tablet: u32, most: usize) -> Option<u32>
-        requires { HasTablet tablet self.now.places }
-        ensures { IfSome result (λ count. Numbered (IsOver most count) tablet self.now.tablets) }
+    /// Whether a tablet has this many files or more, two at least, and no more than a merge can count.
+    fn has_files(&self, tablet: u32, most: u32) -> bool
+        requires known { HasTablet tablet self.now.places }
+        ensures { result ≡ has_files most (tablet_numbered tablet self.now.tablets) }
     {
-        let tablet = &self.tablets[self.position(tablet)];
-        if most < 2 || tablet.file_count() < most {
-            return None;
-        }
-        u32::try_from(tablet.merge_count(most)).ok()
+        let index = self.position(tablet);
+        let count = self.tablets[index].file_count();
+        most >= 2 && most as usize <= count && count <= u32::MAX as usize
+    }
+
+    /// How many of the newest files of a tablet are merged, which has this many files or more.
+    fn merge_count(&self, tablet: u32, most: u32) -> u32
+        requires known { HasTablet tablet self.now.places }
+        requires many { has_files most (tablet_numbered tablet self.now.tablets) ≡ true }
+        ensures { Numbered (LeavesFew most result) tablet self.now.tablets }
+    {
+        let index = self.position(tablet);
+        self.tablets[index].merge_count(most as usize) as u32
     }
 
     /// Merges newest files of each tablet that has `most` files or more, as `merge` does, so that it has fewer, in the
@@ -43,7 +52,8 @@ impl<F: Files> Cluster<F> {
     {
         for index in 0..self.table.len() {
             let tablet = self.number_at(index);
-            if let Some(count) = self.merge_count(tablet, most as usize) {
+            if self.has_files(tablet, most) {
+                let count = self.merge_count(tablet, most);
                 let _ = self.merge(tablet, count);
             }
         }

@@ -6,6 +6,7 @@ mod cluster_compactions;
 mod cluster_full;
 mod cluster_laws;
 mod cluster_moving;
+mod cluster_roots;
 mod cluster_rows;
 mod cluster_sweep;
 mod cluster_tiers;

@@ -1,11 +1,12 @@
--- What cleaners show while others take steps, and what sessions show while cleaners do.
-use Rattle.std.proofs.Common.{◌≡◌, ◌≢◌, ◌≤◌, ℕ, List, map, sym, subst, ap, arith, refl}
+-- A server's steps, by those of its cleaners.
+use Rattle.std.proofs.Common.{◌≡◌, ◌≤◌, ℕ, List, map, ap, arith, refl}
 use Rattle.file_store.specs.Store.{Contents}
 use Rattle.row_atomic.specs.Changes.{Holds}
 use Rattle.row_atomic.specs.Clusters.{Spot, Storage, cells_in, spot_of, storage_of}
-use Rattle.si_model.specs.Kinds.{OfCleaners, OfPlaces, OfSessions, kind_of}
-use Rattle.si_model.specs.Machine.{State, Request, Reply, Refused, IsReached, Step}
+use Rattle.si_model.specs.Collection.{ChangesCells}
+use Rattle.si_model.specs.Kinds.{OfCleaners, kind_of}
 use Rattle.si_model.proofs.Leaving.{leaves_others}
+use Rattle.si_model.specs.Machine.{State, Request, Reply, Refused, IsReached}
 use Rattle.cell_key.specs.declared.refusals.Refusal.{Refusal}
 use Rattle.cell_key.specs.declared.refusals.Refusal.TheVariants.{Damaged}
 use Rattle.si_model.specs.Replies.{clean_reply, clean_start_reply}
@@ -14,66 +15,40 @@ use Rattle.si_model.specs.declared.replies.CleanReply.TheVariants as cleans
 use Rattle.si_model.specs.declared.replies.CleanStart.{CleanStart}
 use Rattle.si_model.specs.declared.replies.CleanStart.TheVariants as starts
 use Rattle.clean_up.specs.Shows as open_cleaners
-use Rattle.clean_up.specs.Shows.{ShowsCleaners}
-use Rattle.clean_up.proofs.Table.{shows_on}
-use Rattle.clean_up.specs.declared.cleaners.Cleaners.{Cleaners}
-use Rattle.txn_client.specs.Shows.{ShowsClients}
-use Rattle.txn_client.specs.declared.clients.Clients.{Clients}
-use Rattle.txn_client.proofs.Table.{shows_along}
 use Rattle.std.specs.Prelude.{Option}
 use Rattle.server_loop.specs.declared.server.Server.{Server}
-use Rattle.server_loop.specs.Server.{Shows}
+use Rattle.server_loop.specs.Server.{Shows, cells_of}
 use Rattle.server_loop.specs.Runs.{IfRefused, StampsGoOn, StepsAs}
 use Rattle.server_loop.proofs.Replacing.{KeepsPlaces}
+use Rattle.server_loop.proofs.Staying.{cleaners_not_collectors, cleaners_not_sessions, collectors_stay, not_kind, sessions_stay}
 use Rattle.server_loop.proofs.Relocating.{still_placed, still_next}
 
 -- where the tablets are, by what lies below the memtables
 abbrev pub spots_in : Storage → List Spot
 spots_in storage = map spot_of storage.places
 
--- no step but a cleaner's changes what cleaners show
-pub cleaners_stay : (st next : State) (q : Request) (r : Reply) (old new : Cleaners) → IsReached st → Step st q r next → kind_of q ≢ OfCleaners
-    → new ≡ old → ShowsCleaners old st → ShowsCleaners new next
-cleaners_stay st next q r old new reached step other same shown =
-    subst (λ (k : Cleaners). ShowsCleaners k next) (sym same) (shows_on old st next q r reached step other shown)
-
--- no step but a session's changes what sessions show
-pub sessions_stay : (st next : State) (q : Request) (r : Reply) (old new : Clients) → Step st q r next → kind_of q ≢ OfSessions
-    → new ≡ old → ShowsClients old st → ShowsClients new next
-sessions_stay st next q r old new step other same shown =
-    let left = (leaves_others st next q r step).sessions other in
-    subst (λ (k : Clients). ShowsClients k next) (sym same) (shows_along old st next shown left.top left.begun left.active)
-
--- ---- the kinds of requests
-
-pub sessions_not_cleaners : OfSessions ≢ OfCleaners
-sessions_not_cleaners is = cc
-
-pub places_not_cleaners : OfPlaces ≢ OfCleaners
-places_not_cleaners is = cc
-
-pub cleaners_not_sessions : OfCleaners ≢ OfSessions
-cleaners_not_sessions is = cc
-
 -- ---- whole steps
 
 module _ {F M : Type 0} (contents : F → Option Contents) (old new : Server F M) where
-  -- a step of a cleaner, which leaves the tablets where they are, and the sessions
-  pub cleans_as : (request : Request) (reply : Reply) → KeepsPlaces request → kind_of request ≢ OfSessions → new.clients ≡ old.clients → new.oracle.last ≡ old.oracle.last
+  -- a step of a cleaner, which leaves the tablets where they are, the sessions and the collectors
+  pub cleans_as : (request : Request) (reply : Reply) → KeepsPlaces request → kind_of request ≡ OfCleaners → new.clients ≡ old.clients → new.oracle.last ≡ old.oracle.last
+      → new.collectors ≡ old.collectors → ((st : State) → IsReached st → Shows contents old st → ChangesCells (cells_of contents old) st (cells_of contents new))
       → (Holds contents old.cluster → open_cleaners.Steps (cells_in (contents old.cluster.files) old.cluster.tablets) old.cleaners request reply (cells_in (contents new.cluster.files) new.cluster.tablets) new.cleaners)
       → (Holds contents old.cluster → Holds contents new.cluster) → storage_of contents new.cluster ≡ storage_of contents old.cluster
       → (Holds contents old.cluster → open_cleaners.InEachShown (cells_in (contents old.cluster.files) old.cluster.tablets) old.cleaners (λ st. reply ≡ Refused Damaged → ⊥))
       → StepsAs (Shows contents) old new request reply
-  cleans_as request reply keeps other same_clients same_last step still storage whole = λ before reached shown.
+  cleans_as request reply keeps kind same_clients same_last same_collectors changes step still storage whole = λ before reached shown.
       let (next, taken, cells, cleaners) = step shown.in_order before reached shown.shows.store shown.cleaners in
+      let other = not_kind kind cleaners_not_sessions in
       let after : Shows contents new next = record {
         in_order = still shown.in_order;
         shows = record {
           store = cells;
-          sessions = sessions_stay before next request reply old.clients new.clients taken other same_clients shown.shows.sessions;
+          sessions = sessions_stay before next request reply taken old.clients new.clients other same_clients shown.shows.sessions;
           top = no_higher ((leaves_others before next request reply taken).sessions other).top same_last shown.shows.top;
         };
         cleaners = cleaners;
+        collectors = collectors_stay before next request reply taken _ _ old.collectors new.collectors reached shown.shows.store (not_kind kind cleaners_not_collectors) (changes before reached shown) same_collectors shown.collectors;
         places = still_placed before next request reply taken keeps old.cluster.places new.cluster.places (ap spots_in storage) shown.places;
         next = still_next before next request reply taken keeps shown.next;
       } in

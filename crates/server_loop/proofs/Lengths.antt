@@ -1,11 +1,13 @@
 -- The body of a reply fits its frame.
 use Rattle.std.proofs.Common.{◌≡◌, ◌+◌, ◌≤◌, ℕ, List, length, Some, None, arith, length-append}
 use Rattle.byteorder.specs.Numbers.{length-bytes_high_first}
+use Rattle.si_model.specs.declared.replies.Cell.{Cell}
 use Rattle.si_model.specs.declared.replies.CleanReply.TheVariants as cleans
 use Rattle.si_model.specs.declared.replies.CleanStart.TheVariants as starts
+use Rattle.si_model.specs.declared.replies.CollectReply.TheVariants as collects
 use Rattle.si_model.specs.declared.replies.Found.TheVariants as founds
 use Rattle.si_model.specs.declared.replies.Progress.TheVariants as steps
-use Rattle.request_codec.specs.Fields.{number, field}
+use Rattle.request_codec.specs.Fields.{number, field, cell_fields}
 use Rattle.request_codec.specs.Replies.{replied, reply_body, ReplyBytesFit}
 use Rattle.request_codec.specs.declared.replies.Reply.{Reply}
 use Rattle.request_codec.specs.declared.replies.Reply.TheVariants as kept
@@ -18,6 +20,10 @@ length-number k n = length-bytes_high_first k n
 length-field : (bytes : List ℕ) → length (field bytes) ≡ 4 + length bytes
 unfolding field
 length-field bytes = omega (arith, length-append (number 4 (length bytes)) bytes, length-number 4 (length bytes))
+
+length-cell : (cell : Cell) → length (cell_fields cell) ≡ 8 + length cell.row + length cell.family
+unfolding cell_fields
+length-cell cell = omega (arith, length-append (field cell.row) (field cell.family), length-field cell.row, length-field cell.family)
 
 pub record FitsFrame (reply : Reply) : Type 0 where
   pub short : length (reply_body (replied reply)) + 4 ≤ 65554
@@ -42,6 +48,13 @@ fits_frame (kept.CleanStep cleans.Decided) h = record { short = omega arith; byt
 fits_frame (kept.CleanStep (cleans.RolledForward c)) h = record { short = omega (arith, length-number 8 c); bytes = tt }
 fits_frame (kept.CleanStep cleans.RolledBack) h = record { short = omega arith; bytes = tt }
 fits_frame (kept.CleanStep cleans.Gone) h = record { short = omega arith; bytes = tt }
+fits_frame (kept.CollectBegin i f) h = record { short = omega (arith, length-append (number 8 i) (number 8 f), length-number 8 i, length-number 8 f); bytes = tt }
+fits_frame (kept.CollectStep collects.More) h = record { short = omega arith; bytes = tt }
+fits_frame (kept.CollectStep (collects.Blocked cell s)) h = record {
+  short = omega (arith, length-append (cell_fields cell) (number 8 s), length-cell cell, length-number 8 s, h.0.few, h.1.few);
+  bytes = h;
+}
+fits_frame (kept.CollectStep collects.Collected) h = record { short = omega arith; bytes = tt }
 fits_frame kept.Minor h = record { short = omega arith; bytes = tt }
 fits_frame kept.Merge h = record { short = omega arith; bytes = tt }
 fits_frame kept.Major h = record { short = omega arith; bytes = tt }

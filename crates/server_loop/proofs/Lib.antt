@@ -1,5 +1,7 @@
 mod Causes
+mod Changing
 mod CleanSteps
+mod CollectSteps
 mod Filled
 mod Framing
 mod Lengths
@@ -11,6 +13,7 @@ mod Refusing
 mod Relocating
 mod Replacing
 mod ServingLemmas
+mod Staying
 mod Stepping
 mod Tended
 mod Upkeeping

@@ -1,5 +1,5 @@
 -- A server's steps, by those of its sessions.
-use Rattle.std.proofs.Common.{◌≡◌, ◌≢◌, ℕ, Option, Some, None, Result, Ok, Err, IsErrOf, refl, ap, ◌∙◌, ◌⊎◌, subst, sym, inl, inr}
+use Rattle.std.proofs.Common.{◌≡◌, ℕ, Option, Some, None, Result, Ok, Err, IsErrOf, refl, ap, ◌∙◌, ◌⊎◌, subst, sym, inl, inr}
 use Rattle.std.specs.Prelude.{⊤}
 use Rattle.std.specs.FinMap.{empty, get-empty}
 use Rattle.cell_key.specs.Faults.{HasRisen}
@@ -7,7 +7,8 @@ use Rattle.cell_key.specs.Keys.{key_cmp}
 use Rattle.cell_key.specs.declared.refusals.Refusal.{Refusal}
 use Rattle.cell_key.specs.declared.refusals.Refusal.TheVariants.{BadRow, BadColumn, Damaged, Device, NoMemory}
 use Rattle.si_model.specs.Machine.{State, Request, Reply, Begun, SetDone, StopDone, Refused, IsReached, OracleRestart, RestartDone, accepts, refuses, tells, restarts, new_machine}
-use Rattle.si_model.specs.Kinds.{OfCleaners, kind_of}
+use Rattle.si_model.specs.Collection.{ChangesCells}
+use Rattle.si_model.specs.Kinds.{OfSessions, kind_of}
 use Rattle.si_model.specs.ShowsCells.{ShowsCells}
 use Rattle.si_model.specs.Refusing.{Refuses, gives_up}
 use Rattle.si_model.specs.Replies.{found_reply, progress_reply}
@@ -26,25 +27,28 @@ use Rattle.request_codec.specs.Replies.{replied}
 use Rattle.request_codec.specs.declared.replies.Reply.{Reply as Kept}
 use Rattle.request_codec.specs.declared.replies.Reply.TheVariants as kept
 use Rattle.server_loop.specs.declared.server.Server.{Server}
-use Rattle.server_loop.specs.Server.{Shows}
+use Rattle.server_loop.specs.Server.{Shows, cells_of}
 use Rattle.server_loop.specs.Runs.{HasShortValue, StampsGoOn, StepsAs, IfRefused}
-use Rattle.server_loop.proofs.CleanSteps.{cleaners_stay, spots_in}
+use Rattle.server_loop.proofs.CleanSteps.{spots_in}
+use Rattle.server_loop.proofs.Staying.{cleaners_stay, collectors_stay, not_kind, sessions_not_cleaners, sessions_not_collectors}
 use Rattle.server_loop.proofs.Replacing.{KeepsPlaces}
 use Rattle.server_loop.proofs.Relocating.{still_placed, still_next}
 
 module _ {F M : Type 0} (contents : F → Option Contents) (old new : Server F M) where
-  -- a step of a session, which leaves the tablets where they are
-  pub steps_as : (request : Request) (reply : Reply) → KeepsPlaces request → kind_of request ≢ OfCleaners → new.cleaners ≡ old.cleaners
+  -- a step of a session, which leaves the tablets where they are, the cleaners and the collectors
+  pub steps_as : (request : Request) (reply : Reply) → KeepsPlaces request → kind_of request ≡ OfSessions → new.cleaners ≡ old.cleaners
+      → new.collectors ≡ old.collectors → ((st : State) → IsReached st → Shows contents old st → ChangesCells (cells_of contents old) st (cells_of contents new))
       → (Holds contents old.cluster → clients.Steps (cells_in (contents old.cluster.files) old.cluster.tablets) old.clients old.oracle.last request reply (cells_in (contents new.cluster.files) new.cluster.tablets) new.clients new.oracle.last)
       → (Holds contents old.cluster → Holds contents new.cluster) → storage_of contents new.cluster ≡ storage_of contents old.cluster
       → ((st : State) → IsReached st → Holds contents old.cluster → clients.Shows (cells_in (contents old.cluster.files) old.cluster.tablets) old.clients old.oracle.last st → reply ≡ Refused Damaged → ⊥)
       → StepsAs (Shows contents) old new request reply
-  steps_as request reply keeps other same step still storage whole = λ before reached shown.
+  steps_as request reply keeps kind same_cleaners same_collectors changes step still storage whole = λ before reached shown.
       let (next, taken, shows) = step shown.in_order before reached shown.shows in
       let after : Shows contents new next = record {
         in_order = still shown.in_order;
         shows = shows;
-        cleaners = cleaners_stay before next request reply old.cleaners new.cleaners reached taken other same shown.cleaners;
+        cleaners = cleaners_stay before next request reply taken old.cleaners new.cleaners reached (not_kind kind sessions_not_cleaners) same_cleaners shown.cleaners;
+        collectors = collectors_stay before next request reply taken _ _ old.collectors new.collectors reached shown.shows.store (not_kind kind sessions_not_collectors) (changes before reached shown) same_collectors shown.collectors;
         places = still_placed before next request reply taken keeps old.cluster.places new.cluster.places (ap spots_in storage) shown.places;
         next = still_next before next request reply taken keeps shown.next;
       } in

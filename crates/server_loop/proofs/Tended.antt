@@ -3,19 +3,20 @@ use Rattle.std.proofs.Common.{◌≡◌, ℕ, List, map, Option, None, Some, ref
 use Rattle.cell_key.specs.Cells.{Cells}
 use Rattle.file_store.specs.Store.{Contents}
 use Rattle.row_atomic.specs.Clusters.{ClusterState, Spot}
-use Rattle.row_atomic.specs.Flushes.{KeepsShown, merges_none}
+use Rattle.row_atomic.specs.Flushes.{KeepsShown}
 use Rattle.si_model.specs.Machine.{State}
 use Rattle.txn_client.specs.Shows as clients
 use Rattle.txn_client.specs.declared.clients.Clients.{Clients}
 use Rattle.clean_up.specs.Shows.{ShowsCleaners}
 use Rattle.clean_up.specs.declared.cleaners.Cleaners.{Cleaners}
+use Rattle.version_collector.specs.Shows.{ShowsCollectors}
+use Rattle.version_collector.specs.declared.collectors.Collectors.{Collectors}
 use Rattle.server_loop.specs.Server.{Shows, cells_of, cluster_of, last_of, machine_place}
-use Rattle.server_loop.specs.Tending.{Merges}
 use Rattle.server_loop.specs.declared.server.Server.{Server}
 
 pub still_shown : {F M : Type 0} (contents : F → Option Contents) (faults : F → ℕ) (old new : Server F M) (st : State) → KeepsShown contents faults (cluster_of old) (cluster_of new)
-    → new.clients ≡ old.clients → new.cleaners ≡ old.cleaners → last_of new ≡ last_of old → Shows contents old st → Shows contents new st
-still_shown contents faults old new st keeps sessions cleaners last shown =
+    → new.clients ≡ old.clients → new.cleaners ≡ old.cleaners → new.collectors ≡ old.collectors → last_of new ≡ last_of old → Shows contents old st → Shows contents new st
+still_shown contents faults old new st keeps sessions cleaners collectors last shown =
     let (held, cells) = keeps.kept shown.in_order in
     record {
       in_order = held;
@@ -23,6 +24,8 @@ still_shown contents faults old new st keeps sessions cleaners last shown =
           (subst (λ (s : Clients). clients.Shows (cells_of contents old) s (last_of new) st) (sym sessions)
           (subst (λ (l : ℕ). clients.Shows (cells_of contents old) old.clients l st) (sym last) shown.shows));
       cleaners = subst (λ (s : Cleaners). ShowsCleaners s st) (sym cleaners) shown.cleaners;
+      collectors = subst (λ (c : Cells). ShowsCollectors c new.collectors st) (sym cells)
+          (subst (λ (s : Collectors). ShowsCollectors (cells_of contents old) s st) (sym collectors) shown.collectors);
       places = ap (λ (spots : List Spot). map machine_place spots) keeps.spots ∙ shown.places;
       next = shown.next;
     }
@@ -40,7 +43,3 @@ module _ {F : Type 0} (contents : F → Option Contents) (faults : F → ℕ) wh
     limit = then.limit ∙ first.limit;
     later = let a = first.later in let b = then.later in omega arith;
   }
-
-  pub unmerged : (merge : Option ℕ) (old : ClusterState F) → Merges contents faults merge old old
-  unmerged None old = refl
-  unmerged (Some most) old = merges_none

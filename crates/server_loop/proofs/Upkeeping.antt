@@ -20,6 +20,8 @@ use Rattle.si_model.specs.declared.replies.Cell.{Cell}
 use Rattle.txn_client.specs.Shows as clients
 use Rattle.clean_up.specs.Shows.{ShowsCleaners}
 use Rattle.clean_up.specs.declared.cleaners.Cleaners.{Cleaners}
+use Rattle.version_collector.specs.Shows.{ShowsCollectors}
+use Rattle.version_collector.specs.declared.collectors.Collectors.{Collectors}
 use Rattle.server_loop.specs.Refusals.{IsCutRefusal, IsRawRefusal, IsSweepRefusal}
 use Rattle.server_loop.specs.Runs.{StepsAs}
 use Rattle.server_loop.specs.Server.{Shows, machine_place, machine_places}
@@ -27,7 +29,8 @@ use Rattle.server_loop.specs.declared.server.Server.{Server}
 use Rattle.server_loop.proofs.Placing.{has_tablet_so, has_tablet_back, length_so}
 use Rattle.server_loop.proofs.Refusing.{minor_unknown_first, minor_accepted, merge_unknown_first, merge_bad, merge_accepted, major_unknown_first, major_accepted, split_row_first, sweep_accepted, raw_row_first, raw_family_first, raw_accepted}
 use Rattle.server_loop.proofs.Relocating.{splits_so, split_next, split_barred, moves_step, stays_step, move_unknown, move_far, move_next}
-use Rattle.server_loop.proofs.CleanSteps.{cleaners_stay, places_not_cleaners}
+use Rattle.server_loop.proofs.Changing.{unchanged_if}
+use Rattle.server_loop.proofs.Staying.{cleaners_stay, collectors_stay, places_not_cleaners, places_not_collectors}
 use Rattle.server_loop.proofs.Replacing.{placed, shows_placed}
 
 -- ---- refusals, and what is done
@@ -123,7 +126,7 @@ same_spots old new files e = ap (λ (cluster : ClusterState _). spots_of cluster
 
 -- ---- whole steps
 
-module _ {F M : Type 0} (contents : F → Option Contents) (old new : Server F M) (kept : KeepsMap contents old.cluster new.cluster) (same_clients : new.clients ≡ old.clients) (same_last : new.oracle.last ≡ old.oracle.last) (same_cleaners : new.cleaners ≡ old.cleaners) where
+module _ {F M : Type 0} (contents : F → Option Contents) (old new : Server F M) (kept : KeepsMap contents old.cluster new.cluster) (same_clients : new.clients ≡ old.clients) (same_last : new.oracle.last ≡ old.oracle.last) (same_cleaners : new.cleaners ≡ old.cleaners) (same_collectors : new.collectors ≡ old.collectors) where
   -- where cells, sessions and stamps are as before, they show the same
   shows_kept : (st : State) → Holds contents old.cluster → clients.Shows (cells_in (contents old.cluster.files) old.cluster.tablets) old.clients old.oracle.last st
       → clients.Shows (cells_in (contents new.cluster.files) new.cluster.tablets) new.clients new.oracle.last st
@@ -138,6 +141,8 @@ module _ {F M : Type 0} (contents : F → Option Contents) (old new : Server F M
     in_order = (kept shown.in_order).0;
     shows = shows_kept st shown.in_order shown.shows;
     cleaners = subst (λ (k : Cleaners). ShowsCleaners k st) (sym same_cleaners) shown.cleaners;
+    collectors = subst (λ (cells : Cells). ShowsCollectors cells new.collectors st) (sym (kept shown.in_order).1)
+        (subst (λ (k : Collectors). ShowsCollectors (cells_in (contents old.cluster.files) old.cluster.tablets) k st) (sym same_collectors) shown.collectors);
     places = ap (λ spots. map machine_place spots) spots ∙ shown.places;
     next = shown.next;
   }
@@ -157,7 +162,8 @@ module _ {F M : Type 0} (contents : F → Option Contents) (old new : Server F M
       let step = splits_so before old.cluster.places same row left cut.place.tablet cut.names new.cluster.places is free number cut.cut in
       let after : Shows contents new next = record {
         in_order = (kept shown.in_order).0;
-        cleaners = cleaners_stay before next (Split row) (SplitOff left) old.cleaners new.cleaners reached step places_not_cleaners same_cleaners shown.cleaners;
+        cleaners = cleaners_stay before next (Split row) (SplitOff left) step old.cleaners new.cleaners reached places_not_cleaners same_cleaners shown.cleaners;
+        collectors = collectors_stay before next (Split row) (SplitOff left) step _ _ old.collectors new.collectors reached shown.shows.store places_not_collectors (unchanged_if _ _ before (kept shown.in_order).1) same_collectors shown.collectors;
         shows = shows_placed before (machine_places new.cluster.places) (left + 1) _ new.clients new.oracle.last (shows_kept before shown.in_order shown.shows);
         places = refl;
         next = split_next before old.cluster.places same row left cut.place.tablet cut.names new.cluster.places count cut.cut;
@@ -184,7 +190,8 @@ module _ {F M : Type 0} (contents : F → Option Contents) (old new : Server F M
               step,
               record {
                 in_order = (kept shown.in_order).0;
-                cleaners = cleaners_stay before next (Move n server) MoveDone old.cleaners new.cleaners reached step places_not_cleaners same_cleaners shown.cleaners;
+                cleaners = cleaners_stay before next (Move n server) MoveDone step old.cleaners new.cleaners reached places_not_cleaners same_cleaners shown.cleaners;
+                collectors = collectors_stay before next (Move n server) MoveDone step _ _ old.collectors new.collectors reached shown.shows.store places_not_collectors (unchanged_if _ _ before (kept shown.in_order).1) same_collectors shown.collectors;
                 shows = shows_placed before (machine_places new.cluster.places) before.next_tablet _ new.clients new.oracle.last (shows_kept before shown.in_order shown.shows);
                 places = refl;
                 next = move_next before old.cluster.places same n server goes.names new.cluster.places shown.next goes.moved;

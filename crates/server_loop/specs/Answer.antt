@@ -7,7 +7,7 @@ use Rattle.request_codec.specs.Requests.{asked}
 use Rattle.request_codec.specs.declared.replies.Reply.{Reply}
 use Rattle.request_codec.specs.declared.replies.Reply.TheVariants as kept
 use Rattle.request_codec.specs.declared.requests.Request.{Request}
-use Rattle.request_codec.specs.declared.requests.Request.TheVariants.{Begin, Step, CleanBegin, CleanStep}
+use Rattle.request_codec.specs.declared.requests.Request.TheVariants.{Begin, Step, CleanBegin, CleanStep, CollectBegin, CollectStep}
 use Rattle.row_atomic.specs.Changes.{Holds}
 use Rattle.row_atomic.specs.Commands.{OverfillsCluster}
 use Rattle.row_atomic.specs.Room.{HasNoRoom}
@@ -15,13 +15,15 @@ use Rattle.si_model.specs.Machine.{IsReached, State}
 use Rattle.server_loop.specs.Commands.{HasOutcome, command_of}
 use Rattle.server_loop.specs.Refusals.{IsRefusalOf}
 use Rattle.server_loop.specs.Runs.{HasShortValue, IfRefused, StampsGoOn, StepsAs}
-use Rattle.server_loop.specs.Sessions.{ChangesCells, IsAlwaysTold, KeepsCleaners, KeepsOracle, KeepsSessions, LeavesRoom}
+use Rattle.server_loop.specs.Sessions.{ChangesCells, IsAlwaysTold, KeepsCleaners, KeepsCollectors, KeepsOracle, KeepsSessions, LeavesRoom}
 use Rattle.server_loop.specs.Server.{IsFaultSeen, SeesNoFault, Shows, cells_of, cluster_of, tending_of, last_of, marks_of}
 use Rattle.server_loop.specs.declared.server.Server.{Server}
 use Rattle.txn_client.specs.Room.{ChangesNext, EditsOfStep}
 use Rattle.txn_client.specs.Shows.{IsAboutToDraw}
 use Rattle.clean_up.specs.Room as clean_up
 use Rattle.clean_up.specs.Shows.{IsUsedUp}
+use Rattle.version_collector.specs.Room.{AreOfVisitsIn}
+use Rattle.version_collector.specs.Shows as collectors
 
 -- ---- the machine
 
@@ -38,12 +40,13 @@ abbrev pub FollowsMark : {F M : Type 0} → (M → Option ℕ) → Reply → Ser
 FollowsMark mark kept.OracleRestart old new = IfSome (mark (marks_of old)) (λ n. last_of new ≡ n)
 FollowsMark mark reply old new = ⊤
 
--- What Exhausted means: no stamp is left, for a Begin and for a Step that comes to draw one; no number, for a cleaner. Of a command
--- its outcome says what.
+-- What Exhausted means: no stamp is left, for a Begin and for a Step that comes to draw one; no number, for a cleaner and for a
+-- collector. Of a command its outcome says what.
 abbrev pub LacksStamp : {F M : Type 0} → (F → Option Contents) → Request → Server F M → Type 0
 LacksStamp contents Begin old = last_of old ≡ 9_223_372_036_854_775_807
 LacksStamp contents (Step start) old = (last_of old ≡ 9_223_372_036_854_775_807) × ((st : State) → Shows contents old st → IsAboutToDraw st start)
 LacksStamp contents (CleanBegin row family) old = (st : State) → Shows contents old st → IsUsedUp st
+LacksStamp contents CollectBegin old = (st : State) → Shows contents old st → collectors.IsUsedUp st
 LacksStamp contents request old = ⊤
 
 -- A stamp that is answered is the oracle's next one, and nothing else but a restart moves the last one.
@@ -54,19 +57,21 @@ pub record DrawsStamps {F M : Type 0} (contents : F → Option Contents) (mark :
 
 -- ---- cells and room
 
--- A step makes its session's next edits, or its cleaner's, and takes their room in memory. Nothing else changes a cell, and what room a command takes
--- its outcome says.
+-- A step makes its session's next edits, or its cleaner's, or its collector's visits, and takes their room in memory. Nothing else
+-- changes a cell, and what room a command takes its outcome says.
 pub record MakesEdits {F M : Type 0} (contents : F → Option Contents) (request : Request) (reply : Reply) (old new : Server F M) : Type 0 where
   pub changes : ChangesCells contents request reply old new
   pub room : LeavesRoom contents request reply old new
 
 -- ---- sessions
 
--- What is always told where a state is shown, and what a request leaves of the sessions, of the cleaners and of the oracle.
+-- What is always told where a state is shown, and what a request leaves of the sessions, of the cleaners, of the collectors and of
+-- the oracle.
 pub record ServesSessions {F M : Type 0} (contents : F → Option Contents) (request : Request) (reply : Reply) (old new : Server F M) : Type 0 where
   pub told : (st : State) → Shows contents old st → IsAlwaysTold request reply st
   pub sessions : KeepsSessions request reply old.clients new.clients
   pub cleaners : KeepsCleaners request reply old.cleaners new.cleaners
+  pub collectors : KeepsCollectors request reply old.collectors new.collectors
   pub oracle : KeepsOracle contents request old new
 
 -- ---- tablets and files
@@ -78,7 +83,7 @@ TendsTablets contents faults request reply old new = HasOutcome contents faults 
 -- ---- faults and causes
 
 -- A step comes to make the edits that its session or its cleaner names, and the memtable of their row's tablet has no room for them.
--- Where a state is shown they are those of the next step there.
+-- Where a state is shown they are those of the next step there. A collector's step comes to make edits of its visits.
 abbrev pub LacksRoom : {F M : Type 0} → (F → Option Contents) → Request → Server F M → Type 0
 LacksRoom contents (Step start) old =
     HasNoRoom OverfillsCluster (cluster_of old) (EditsOfStep (Holds contents (cluster_of old)) (cells_of contents old) old.clients start)
@@ -86,6 +91,7 @@ LacksRoom contents (Step start) old =
 LacksRoom contents (CleanStep cleaner) old =
     HasNoRoom OverfillsCluster (cluster_of old) (clean_up.EditsOfStep (Holds contents (cluster_of old)) (cells_of contents old) old.cleaners cleaner)
     × ((st : State) → IsReached st → Shows contents old st → HasNoRoom OverfillsCluster (cluster_of old) (clean_up.ChangesNext st cleaner))
+LacksRoom contents (CollectStep collector n) old = HasNoRoom OverfillsCluster (cluster_of old) (AreOfVisitsIn n)
 LacksRoom contents request old = ⊤
 
 -- A device's fault is told where a count of them rose, and nowhere else. Of a command the outcome says why it is refused.
@@ -105,5 +111,5 @@ pub record IsAnswer {F M : Type 0} (contents : F → Option Contents) (file_faul
   pub sessions : ServesSessions contents request reply old new
   pub tablets : TendsTablets contents file_faults request reply old new
   pub causes : TellsCauses contents file_faults mark_faults request reply old new
-  -- no request changes how many entries a memtable has before it is compacted
+  -- no request changes when a server compacts and merges by itself
   pub tending : tending_of new ≡ tending_of old

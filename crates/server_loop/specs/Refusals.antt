@@ -7,8 +7,9 @@ use Rattle.row_atomic.specs.Refusals.{IsReadRefusal}
 use Rattle.row_atomic.specs.Compactions as compaction
 use Rattle.txn_client.specs.Refusals.{IsBeginRefusal, IsGetRefusal, IsSetRefusal, IsStepRefusal}
 use Rattle.clean_up.specs.Refusals as clean_up
+use Rattle.version_collector.specs.Refusals as version_collector
 use Rattle.request_codec.specs.declared.requests.Request.{Request}
-use Rattle.request_codec.specs.declared.requests.Request.TheVariants.{Begin, Get, Set, Step, Stop, CleanBegin, CleanStep, Minor, Merge, Major, Split, Move, Sweep, OracleRestart, Raw}
+use Rattle.request_codec.specs.declared.requests.Request.TheVariants.{Begin, Get, Set, Step, Stop, CleanBegin, CleanStep, CollectBegin, CollectStep, Minor, Merge, Major, Split, Move, Sweep, OracleRestart, Raw}
 
 -- a cut at a row that may be none
 abbrev pub IsCutRefusal : Refusal → Type 0
@@ -33,6 +34,8 @@ IsRefusalOf (Step start) refusal = IsStepRefusal refusal
 IsRefusalOf (Stop start) refusal = refusal ≡ UnknownSession
 IsRefusalOf (CleanBegin row family) refusal = clean_up.IsBeginRefusal refusal
 IsRefusalOf (CleanStep cleaner) refusal = clean_up.IsStepRefusal refusal
+IsRefusalOf CollectBegin refusal = version_collector.IsBeginRefusal refusal
+IsRefusalOf (CollectStep collector visits) refusal = version_collector.IsStepRefusal refusal
 IsRefusalOf (Minor tablet) refusal = IsNumberedRefusal compaction.minor refusal
 IsRefusalOf (Merge tablet count) refusal = IsNumberedRefusal (compaction.merging count) refusal
 IsRefusalOf (Major tablet) refusal = IsNumberedRefusal compaction.major refusal

@@ -1,5 +1,6 @@
 -- The machine's run over what a server takes from a stream.
 use Rattle.std.specs.Prelude.{◌≡◌, ℕ, ◌+◌, ◌≤◌, List, [], ◌∷◌, length, Some, ◌⊎◌, ⊤}
+use Rattle.cell_key.specs.Names.{IsRow, IsFamily}
 use Rattle.cell_key.specs.declared.refusals.Refusal.{Refusal}
 use Rattle.cell_key.specs.declared.refusals.Refusal.TheVariants.{BadRequest, FrameTooLarge, Damaged}
 use Rattle.si_model.specs.Machine.{State, Reply, Refused, Step, IsReached}
@@ -8,6 +9,7 @@ use Rattle.request_codec.specs.Replies.{replied}
 use Rattle.request_codec.specs.Requests.{asked, IsRequest, IsMalformed}
 use Rattle.request_codec.specs.declared.requests.Request.{Request as Lent}
 use Rattle.si_model.specs.Machine as machine
+use Rattle.si_model.specs.declared.replies.CollectReply.TheVariants.{Blocked}
 use Rattle.si_model.specs.declared.replies.Found.TheVariants.{Value}
 use Rattle.request_codec.specs.declared.replies.Reply.{Reply as Kept}
 use Rattle.request_codec.specs.declared.replies.Reply.TheVariants as kept
@@ -78,10 +80,11 @@ abbrev pub StepsAs : {S : Type 0} → (S → State → Type 0) → S → S → m
 StepsAs shows old new request reply = (before : State) → IsReached before → shows old before
     → (after : State) × Step before request reply after × shows new after × (reply ≡ Refused Damaged → ⊥)
 
--- a value that is answered has at most 65,536 bytes
+-- A value that is answered has at most 65,536 bytes, and a cell that is named is within the limits of rows and families.
 abbrev pub HasShortValue : Kept → Type 0
 HasShortValue (kept.Get (Value value)) = length value.items ≤ 65536
 HasShortValue (kept.Raw (Some found)) = length found.1.items ≤ 65536
+HasShortValue (kept.CollectStep (Blocked cell start)) = IsRow cell.row × IsFamily cell.family
 HasShortValue other = ⊤
 
 -- what holds of a reply's refusal, if it is one

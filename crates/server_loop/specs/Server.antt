@@ -10,6 +10,7 @@ use Rattle.si_model.specs.Machine as machine
 use Rattle.si_model.specs.Machine.{State}
 use Rattle.txn_client.specs.Shows as clients
 use Rattle.clean_up.specs.Shows.{ShowsCleaners}
+use Rattle.version_collector.specs.Shows.{ShowsCollectors}
 use Rattle.server_loop.specs.declared.server.Server.{Server}
 use Rattle.server_loop.specs.declared.server.Tending.{Tending}
 
@@ -34,12 +35,13 @@ machine_place spot = record { end = spot.0; tablet = spot.1.0; server = spot.1.1
 abbrev pub machine_places : List PlaceView → List machine.Place
 machine_places places = map machine_place (map spot_of places)
 
--- The tablets are in order over their files. Their cells, the sessions and the oracle show the state, and so do the cleaners; the
--- tablets are where the state has them: the next one gets the number after theirs.
+-- The tablets are in order over their files. Their cells, the sessions and the oracle show the state, and so do the cleaners and
+-- the collectors; the tablets are where the state has them: the next one gets the number after theirs.
 pub record Shows {F M : Type 0} (contents : F → Option Contents) (server : Server F M) (st : State) : Type 0 where
   pub in_order : Holds contents server.cluster
   pub shows : clients.Shows (cells_in (contents server.cluster.files) server.cluster.tablets) server.clients server.oracle.last st
   pub cleaners : ShowsCleaners server.cleaners st
+  pub collectors : ShowsCollectors (cells_in (contents server.cluster.files) server.cluster.tablets) server.collectors st
   pub places : machine_places server.cluster.places ≡ st.places
   pub next : st.next_tablet ≡ length st.places + 1
 

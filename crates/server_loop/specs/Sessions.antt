@@ -1,16 +1,20 @@
--- What a request does to the cells, to the room in memory, to sessions and cleaners and to the oracle, and what it is always told.
-use Rattle.std.specs.Prelude.{◌≡◌, Option, ⊤}
-use Rattle.cell_key.specs.declared.refusals.Refusal.TheVariants.{UnknownSession, UnknownCleaner, EmptyCommit, TooManySessions}
+-- What a request does to the cells, to the room in memory, to sessions, cleaners and collectors and to the oracle, and what it is
+-- always told.
+use Rattle.std.specs.Prelude.{◌≡◌, ◌⊎◌, ℕ, Option, Result, Ok, Err, ⊤}
+use Rattle.cell_key.specs.declared.refusals.Refusal.{Refusal}
+use Rattle.cell_key.specs.declared.refusals.Refusal.TheVariants.{UnknownSession, UnknownCleaner, UnknownCollector, BadCount, EmptyCommit, TooManySessions}
 use Rattle.file_store.specs.Store.{Contents}
 use Rattle.row_atomic.specs.Changes.{Holds}
 use Rattle.row_atomic.specs.Commands.{IsNoFuller, OverfillsCluster}
+use Rattle.si_model.specs.Collection.{Collects}
 use Rattle.si_model.specs.Machine.{IsReached, State}
+use Rattle.si_model.specs.declared.replies.CollectReply.{CollectReply}
 use Rattle.oracle.specs.Ranges.{IsDrawRefusal}
 use Rattle.request_codec.specs.Replies.{replied}
 use Rattle.request_codec.specs.declared.replies.Reply.{Reply}
 use Rattle.request_codec.specs.declared.replies.Reply.TheVariants as kept
 use Rattle.request_codec.specs.declared.requests.Request.{Request}
-use Rattle.request_codec.specs.declared.requests.Request.TheVariants.{Begin, Get, Set, Step, Stop, CleanBegin, CleanStep, OracleRestart}
+use Rattle.request_codec.specs.declared.requests.Request.TheVariants.{Begin, Get, Set, Step, Stop, CleanBegin, CleanStep, CollectBegin, CollectStep, OracleRestart}
 use Rattle.server_loop.specs.Runs.{IfRefused}
 use Rattle.server_loop.specs.Server.{Shows, cells_of, cluster_of}
 use Rattle.server_loop.specs.declared.server.Server.{Server}
@@ -21,9 +25,24 @@ use Rattle.clean_up.specs.Room as clean_up
 use Rattle.clean_up.specs.Shows as open_cleaners
 use Rattle.clean_up.specs.Shows.{IsUnopened, SameCleaners}
 use Rattle.clean_up.specs.declared.cleaners.Cleaners.{Cleaners}
+use Rattle.version_collector.specs.Room.{TakesRoomOfVisits}
+use Rattle.version_collector.specs.Shows as open_collectors
+use Rattle.version_collector.specs.Shows.{ChangesOne, IsCount, IsEarlyRefusal, SameCollectors, TellsAt, VisitsAt}
+use Rattle.version_collector.specs.Visits.{Thins}
+use Rattle.version_collector.specs.declared.collectors.Collectors.{Collectors}
+
+-- What a collector's step for n visits made of the cells, and of its collector: visits, by the rules of collection. All that
+-- sessions read, each lock and each fate stays. Keys of n rows go at the most, and none joins.
+pub record MakesVisits {F M : Type 0} (contents : F → Option Contents) (collector n : ℕ) (result : Result CollectReply Refusal)
+    (old new : Server F M) (st : State) : Type 0 where
+  pub visits : IsCount n → VisitsAt collector n result (cells_of contents old) old.collectors (cells_of contents new) new.collectors
+  pub collects : Collects (cells_of contents old) (cells_of contents new) st
+  pub thins : Thins n (cells_of contents old) (cells_of contents new)
 
 -- A step that is done makes the edits of its session's next step, or of its cleaner's, or none where it makes none: cells of one row
--- at most, at the session's stamps. All else changes none.
+-- at most, at the session's stamps. A collector's step makes visits, and what it tells is so: where all is Collected each cell is
+-- tidy, where it is Blocked the lock stands, and after More so much less is left. It alone may change cells and then be refused,
+-- by its later visits. All else changes none.
 abbrev pub ChangesCells : {F M : Type 0} → (F → Option Contents) → Request → Reply → Server F M → Server F M → Type 0
 ChangesCells contents (Step start) (kept.Step progress) old new =
     (st : State) → Shows contents old st → TouchesFor st start (cells_of contents old) (cells_of contents new)
@@ -31,10 +50,16 @@ ChangesCells contents (Step start) (kept.Step progress) old new =
 ChangesCells contents (CleanStep cleaner) (kept.CleanStep done) old new =
     (st : State) → IsReached st → Shows contents old st → open_cleaners.TouchesFor st cleaner (cells_of contents old) (cells_of contents new)
     × clean_up.Makes (clean_up.ChangesNext st cleaner) done (cells_of contents old) (cells_of contents new)
+ChangesCells contents (CollectStep collector n) (kept.CollectStep done) old new =
+    (st : State) → IsReached st → Shows contents old st → MakesVisits contents collector n (Ok done) old new st
+    × TellsAt collector n done (cells_of contents old) old.collectors (cells_of contents new) new.collectors st
+ChangesCells contents (CollectStep collector n) (kept.Refused refusal) old new =
+    ((st : State) → IsReached st → Shows contents old st → MakesVisits contents collector n (Err refusal) old new st)
+    × (IsEarlyRefusal refusal → Holds contents (cluster_of old) → cells_of contents new ≡ cells_of contents old)
 ChangesCells contents request reply old new = Holds contents (cluster_of old) → cells_of contents new ≡ cells_of contents old
 
--- What is for sessions, cleaners and the oracle takes no room in memory, but a step that of its edits. What a command takes its
--- outcome says.
+-- What is for sessions, cleaners, collectors and the oracle takes no room in memory, but a step that of its edits. What a command
+-- takes its outcome says.
 abbrev pub LeavesRoom : {F M : Type 0} → (F → Option Contents) → Request → Reply → Server F M → Server F M → Type 0
 LeavesRoom contents Begin reply old new = IsNoFuller (cluster_of old) (cluster_of new)
 LeavesRoom contents (Get start row family) reply old new = IsNoFuller (cluster_of old) (cluster_of new)
@@ -48,11 +73,13 @@ LeavesRoom contents (CleanStep cleaner) (kept.CleanStep done) old new =
     (st : State) → IsReached st → Shows contents old st
     → clean_up.TakesRoom OverfillsCluster (clean_up.ChangesNext st cleaner) done (cluster_of old) (cluster_of new)
 LeavesRoom contents (CleanStep cleaner) (kept.Refused refusal) old new = IsNoFuller (cluster_of old) (cluster_of new)
+LeavesRoom contents CollectBegin reply old new = IsNoFuller (cluster_of old) (cluster_of new)
+LeavesRoom contents (CollectStep collector n) reply old new = TakesRoomOfVisits OverfillsCluster n (cluster_of old) (cluster_of new)
 LeavesRoom contents OracleRestart reply old new = IsNoFuller (cluster_of old) (cluster_of new)
 LeavesRoom contents request reply old new = ⊤
 
 -- What takes no memory is told exactly: that as many sessions are active as there may be, that one isn't active, that a commit has
--- no writes, why a step that draws is refused, and that a cleaner isn't open.
+-- no writes, why a step that draws is refused, that a cleaner or a collector isn't open, and that a number of visits is bad.
 abbrev pub IsAlwaysTold : Request → Reply → State → Type 0
 IsAlwaysTold Begin reply st = IsCrowded st → reply ≡ kept.Refused TooManySessions
 IsAlwaysTold (Get start row family) reply st = IsInactive st start → reply ≡ kept.Refused UnknownSession
@@ -63,6 +90,9 @@ IsAlwaysTold (Step start) reply st =
     × (IsAboutToDraw st start → IfRefused IsDrawRefusal (replied reply))
 IsAlwaysTold (Stop start) reply st = IsInactive st start → reply ≡ kept.Refused UnknownSession
 IsAlwaysTold (CleanStep cleaner) reply st = IsUnopened st cleaner → reply ≡ kept.Refused UnknownCleaner
+IsAlwaysTold (CollectStep collector n) reply st =
+    (open_collectors.IsUnopened st collector → reply ≡ kept.Refused UnknownCollector)
+    × (¬ IsCount n → (reply ≡ kept.Refused UnknownCollector) ⊎ (reply ≡ kept.Refused BadCount))
 IsAlwaysTold request reply st = ⊤
 
 -- A begin, and a write, a step or an end that is done, change the sessions as the machine's step says. All else leaves them.
@@ -78,6 +108,14 @@ abbrev pub KeepsCleaners : Request → Reply → Cleaners → Cleaners → Type 
 KeepsCleaners (CleanBegin row family) (kept.CleanBegin found) old new = ⊤
 KeepsCleaners (CleanStep cleaner) (kept.CleanStep reply) old new = ⊤
 KeepsCleaners request reply old new = SameCleaners old new
+
+-- A beginning, and a step, change the collectors as the machine's step says, and a step its own collector alone. A refused step
+-- keeps the visits that it made. All else leaves the collectors, and so does a step for which no collector or no visit is found.
+abbrev pub KeepsCollectors : Request → Reply → Collectors → Collectors → Type 0
+KeepsCollectors CollectBegin (kept.CollectBegin collector floor) old new = ⊤
+KeepsCollectors (CollectStep collector n) reply old new =
+    ChangesOne collector old new × IfRefused (λ refusal. IsEarlyRefusal refusal → SameCollectors old new) (replied reply)
+KeepsCollectors request reply old new = SameCollectors old new
 
 -- Only a begin, a step that comes to draw a stamp, and a restart use the oracle.
 abbrev pub KeepsOracle : {F M : Type 0} → (F → Option Contents) → Request → Server F M → Server F M → Type 0

@@ -23,7 +23,8 @@ const FLUSH_HELP: &str =
 /// 1 to 100,000 and M is 2 to 64. An error has the parser's text, that of a request for help too.
 pub fn options(alloc: Global, words: &[&str]) -> Result<Options, Error>
     ensures flush { IfOk result (λ options. (1 ≤ options.flush) × (options.flush ≤ MOST_FLUSH)) }
-    ensures merge { IfOk result (λ options. IfSome options.merge (λ most. (2 ≤ most) × (most ≤ MOST_MERGE))) }
+    ensures merge { IfOk result (λ options.
+        IfSome options.merge (λ most. (2 ≤ most) × (most ≤ MOST_MERGE))) }
 {
     let flush = Arg::new(alloc, "flush")
         .long("flush")

@@ -17,7 +17,8 @@ pub(crate) struct WriteFailed;
 /// Writes all of the bytes, however few a write takes. After an `Err` not all of them were written.
 fn write_whole<W: Write>(writer: &mut W, bytes: &[u8]) -> Result<(), WriteFailed>
     ensures ok { OnOk result (Appends (W.contents writer.old) (W.contents writer.new) bytes.now) }
-    ensures err { OnErr result ((n : ℕ) × (n < length bytes.now) × Appends (W.contents writer.old) (W.contents writer.new) (take n bytes.now)) }
+    ensures err { OnErr result ((n : ℕ) × (n < length bytes.now)
+        × Appends (W.contents writer.old) (W.contents writer.new) (take n bytes.now)) }
 {
     let mut at = 0;
     while at < bytes.len() {
@@ -52,9 +53,12 @@ pub(crate) fn send<W: Write>(
 ) -> Result<(), WriteFailed>
     requires room { LONGEST_REPLY ≤ vec_capacity out.old }
     requires short { HasShortValue reply.now }
-    ensures ok { OnOk result (Appends (W.contents writer.old) (W.contents writer.new) (frame (reply_body (replied reply.now)))) }
+    ensures ok { OnOk result
+        (Appends (W.contents writer.old) (W.contents writer.new)
+        (frame (reply_body (replied reply.now)))) }
     ensures err { OnErr result ((n : ℕ) × (n < length (frame (reply_body (replied reply.now))))
-        × Appends (W.contents writer.old) (W.contents writer.new) (take n (frame (reply_body (replied reply.now))))) }
+        × Appends (W.contents writer.old) (W.contents writer.new)
+        (take n (frame (reply_body (replied reply.now))))) }
     ensures capacity { vec_capacity out.old ≤ vec_capacity out.new }
 {
     frame_reply(reply, out);

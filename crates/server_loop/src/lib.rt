@@ -2,6 +2,7 @@
 #![tactic(auto)]
 
 mod cleaning;
+mod collecting;
 mod command_line;
 mod ends;
 mod frames;

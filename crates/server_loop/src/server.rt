@@ -17,6 +17,7 @@ use row_atomic::Cluster;
 use std::alloc::Global;
 use std::io::{Read, Write};
 use txn_client::Clients;
+use version_collector::Collectors;
 
 /// The limits of a server's store.
 #[derive(Clone, Copy, Debug, PartialEq, Eq)]
@@ -36,10 +37,12 @@ pub(crate) struct Tending {
     pub(crate) merge: Option<u32>,
 }
 
-/// A server: a cluster of tablets, an oracle of stamps, the sessions that are active and the cleaners that are open.
+/// A server: a cluster of tablets, an oracle of stamps, the sessions that are active, and the
+/// cleaners and collectors that are open.
 ///
-/// It keeps nothing of the snapshot machine but the sessions, the cleaners and the places of the tablets: what has committed, what
-/// is locked and what was rolled back stands in the cells alone.
+/// It keeps nothing of the snapshot machine but the sessions, the cleaners, the collectors and the
+/// places of the tablets: what has committed, what is locked and what was rolled back stands in the
+/// cells alone.
 #[derive(Drop)]
 pub struct Server<F, M: MarkStore> {
     pub(crate) alloc: Global,
@@ -47,6 +50,7 @@ pub struct Server<F, M: MarkStore> {
     pub(crate) oracle: Oracle<M>,
     pub(crate) clients: Clients,
     pub(crate) cleaners: Cleaners,
+    pub(crate) collectors: Collectors,
     pub(crate) tending: Tending,
 }
 
@@ -72,22 +76,28 @@ impl<F: Files + Drop, M: MarkStore + Drop> Server<F, M> {
         requires flush_most { config.flush ≤ 100000 }
         requires limit_least { 32 ≤ config.file_limit }
         requires limit_most { config.file_limit ≤ 1073741824 }
-        ensures new { IsSome (F.contents files) → IfOk result (λ server. Shows F.contents server new_machine) }
+        ensures new { IsSome (F.contents files) → IfOk result (λ server.
+            Shows F.contents server new_machine) }
         ensures kept { IfOk result (λ server. (cluster_of server).files ≡ files) }
         ensures name { IfOk result (λ server. (cluster_of server).next_name ≡ 1) }
         // One tablet, whose memtable is empty.
         ensures tablet { IfOk result (λ server. IsFirstTablet (cluster_of server).tablets) }
         // Where the mark is told, the oracle goes on from it.
-        ensures last { IfOk result (λ server. IfSome (M.mark marks) (λ mark. last_of server ≡ mark)) }
+        ensures last { IfOk result (λ server.
+            IfSome (M.mark marks) (λ mark. last_of server ≡ mark)) }
         ensures mark { IfOk result (λ server. M.mark (marks_of server) ≡ M.mark marks) }
         ensures limit { IfOk result (λ server. (cluster_of server).file_limit ≡ config.file_limit) }
-        ensures tending { IfOk result (λ server. tending_of server ≡ record { flush = config.flush; merge = None }) }
-        ensures refusal { IfErr result (λ refused. (refused.0 ≡ Refusal.NoMemory) ⊎ (refused.0 ≡ Refusal.Device)) }
-        ensures device { IfErr result (λ refused. refused.0 ≡ Refusal.Device → HasRisen (M.faults marks) (M.faults refused.2)) }
+        ensures tending { IfOk result (λ server.
+            tending_of server ≡ record { flush = config.flush; merge = None }) }
+        ensures refusal { IfErr result (λ refused.
+            (refused.0 ≡ Refusal.NoMemory) ⊎ (refused.0 ≡ Refusal.Device)) }
+        ensures device { IfErr result (λ refused.
+            refused.0 ≡ Refusal.Device → HasRisen (M.faults marks) (M.faults refused.2)) }
         ensures told { IfOk result (λ server. M.faults (marks_of server) ≡ M.faults marks) }
         ensures files { IfErr result (λ refused. refused.1 ≡ files) }
         ensures marks { IfErr result (λ refused. M.mark refused.2 ≡ M.mark marks) }
-        ensures unread { IfErr result (λ refused. refused.0 ≡ Refusal.NoMemory → refused.2 ≡ marks) }
+        ensures unread { IfErr result (λ refused.
+            refused.0 ≡ Refusal.NoMemory → refused.2 ≡ marks) }
     {
         let cluster = match Cluster::new(alloc, files, config.file_limit) {
             Ok(cluster) => cluster,
@@ -100,6 +110,7 @@ impl<F: Files + Drop, M: MarkStore + Drop> Server<F, M> {
                 oracle,
                 clients: Clients::new(alloc, 0),
                 cleaners: Cleaners::new(alloc),
+                collectors: Collectors::new(alloc, 0),
                 tending: Tending {
                     flush: config.flush,
                     merge: None,
@@ -112,14 +123,16 @@ impl<F: Files + Drop, M: MarkStore + Drop> Server<F, M> {
     /// From now on, after `serve` has compacted a tablet, newest files are merged of each tablet that has `most` files or
     /// more, so that it has fewer. A refusal is not told. Without this call files are merged where that is asked for alone.
     pub fn merge_at(&mut self, most: u32)
-        ensures { self.new ≡ record self.old { tending = record (tending_of self.old) { merge = Some most } } }
+        ensures { self.new
+            ≡ record self.old { tending = record (tending_of self.old) { merge = Some most } } }
     {
         self.tending.merge = Some(most);
     }
 
     /// Merges newest files of the tablets that have many, where that is to be done.
     fn merge_files(&mut self)
-        ensures merges { Merges F.contents F.faults (tending_of self.old).merge (cluster_of self.old) (cluster_of self.new) }
+        ensures merges { Merges F.contents F.faults (tending_of self.old).merge
+            (cluster_of self.old) (cluster_of self.new) }
         ensures keeps { KeepsShown F.contents F.faults (cluster_of self.old) (cluster_of self.new) }
         ensures others { self.new ≡ record self.old { cluster = cluster_of self.new } }
     {
@@ -136,7 +149,8 @@ impl<F: Files + Drop, M: MarkStore + Drop> Server<F, M> {
         ensures edits { MakesEdits F.contents request.entry result self.old self.new }
         ensures sessions { ServesSessions F.contents request.entry result self.old self.new }
         ensures tablets { TendsTablets F.contents F.faults request.entry result self.old self.new }
-        ensures causes { TellsCauses F.contents F.faults M.faults request.entry result self.old self.new }
+        ensures causes { TellsCauses
+            F.contents F.faults M.faults request.entry result self.old self.new }
         ensures tending { tending_of self.new ≡ tending_of self.old }
     {
         self.reply_to(request)
@@ -161,11 +175,15 @@ impl<F: Files + Drop, M: MarkStore + Drop> Server<F, M> {
         writer: &mut O,
         most_reads: u64,
     ) -> Result<End, ServeFault>
-        ensures served { Serves (Shows F.contents) (IsAnswer F.contents F.faults M.mark M.faults) (IsTended F.contents F.faults) self.old self.new (I.remaining reader.old) (I.remaining reader.new)
+        ensures served { Serves (Shows F.contents) (IsAnswer F.contents F.faults M.mark M.faults)
+            (IsTended F.contents F.faults) self.old self.new (I.remaining reader.old)
+            (I.remaining reader.new)
             (O.contents writer.old) (O.contents writer.new) most_reads result }
         // Where the reader's bytes are known, the end is that of the whole stream.
-        ensures whole { IfSome (I.remaining reader.old) (λ stream. IfOk result (λ end. end ≢ End.ReadsUsedUp
-            → ServesStream (Shows F.contents) (IsAnswer F.contents F.faults M.mark M.faults) (IsTended F.contents F.faults) self.old self.new
+        ensures whole { IfSome (I.remaining reader.old) (λ stream.
+            IfOk result (λ end. end ≢ End.ReadsUsedUp
+            → ServesStream (Shows F.contents) (IsAnswer F.contents F.faults M.mark M.faults)
+            (IsTended F.contents F.faults) self.old self.new
             stream (O.contents writer.old) (O.contents writer.new) end)) }
     {
         serve_all(self.alloc, self, reader, writer, most_reads)
@@ -198,6 +216,8 @@ impl<F: Files + Drop, M: MarkStore + Drop> Answering for Server<F, M> {
             Request::Stop { start } => self.stop(start),
             Request::CleanBegin { row, family } => self.clean_begin(row, family),
             Request::CleanStep { cleaner } => self.clean_step(cleaner),
+            Request::CollectBegin => self.collect_begin(),
+            Request::CollectStep { collector, visits } => self.collect_step(collector, visits),
             Request::Minor { tablet } => self.minor(tablet),
             Request::Merge { tablet, count } => self.merge(tablet, count),
             Request::Major { tablet } => self.major(tablet),

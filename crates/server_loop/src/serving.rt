@@ -80,7 +80,8 @@ fn deliver<A: Answering, W: Write>(
 ) -> Result<(), ServeFault>
     requires out { LONGEST_REPLY ≤ vec_capacity out.old }
     requires short { HasShortValue reply.now }
-    ensures delivers { Delivers A.shows A.between result (reply_body (replied reply.now)) server.old server.new (W.contents writer.old) (W.contents writer.new) }
+    ensures delivers { Delivers A.shows A.between result (reply_body (replied reply.now)) server.old
+        server.new (W.contents writer.old) (W.contents writer.new) }
     ensures room { vec_capacity out.old ≤ vec_capacity out.new }
 {
     match send(writer, reply, out) {
@@ -100,7 +101,8 @@ fn answer_first<A: Answering, W: Write>(
     out: &mut Vec<u8>,
 ) -> Result<Option<Rest>, ServeFault>
     requires out { LONGEST_REPLY ≤ vec_capacity out.old }
-    ensures handles { HandlesFirst A.shows A.says A.between result server.old server.new framer.old framer.new (W.contents writer.old) (W.contents writer.new) }
+    ensures handles { HandlesFirst A.shows A.says A.between result server.old server.new framer.old
+        framer.new (W.contents writer.old) (W.contents writer.new) }
     ensures room { vec_capacity out.old ≤ vec_capacity out.new }
 {
     match framer.next() {
@@ -125,7 +127,8 @@ fn answer_frames<A: Answering, W: Write>(
     out: &mut Vec<u8>,
 ) -> Result<Rest, ServeFault>
     requires out { LONGEST_REPLY ≤ vec_capacity out.old }
-    ensures handles { HandlesTo A.shows A.says A.between result server.old server.new framer.old framer.new (W.contents writer.old) (W.contents writer.new) }
+    ensures handles { HandlesTo A.shows A.says A.between result server.old server.new framer.old
+        framer.new (W.contents writer.old) (W.contents writer.new) }
     ensures room { vec_capacity out.old ≤ vec_capacity out.new }
 {
     loop {
@@ -147,7 +150,8 @@ fn serve_piece<A: Answering, W: Write>(
     requires out { LONGEST_REPLY ≤ vec_capacity out.old }
     requires partial { IsPartial framer.old }
     ensures handles { (rest : List ℕ) × IsRest result rest framer.new
-        × HandlesTo A.shows A.says A.between result server.old server.new (framer.old ++ piece.now) rest (W.contents writer.old) (W.contents writer.new) }
+        × HandlesTo A.shows A.says A.between result server.old server.new (framer.old ++ piece.now)
+        rest (W.contents writer.old) (W.contents writer.new) }
     ensures room { vec_capacity out.old ≤ vec_capacity out.new }
 {
     let mut at = 0;
@@ -175,7 +179,8 @@ fn serve_read<A: Answering, R: Read, W: Write>(
     requires piece { 0 < length piece.old }
     requires reads { 0 < reads_left.old }
     requires partial { IsPartial framer.old }
-    ensures reads { ReadsOn A.shows A.says A.between result framer.old framer.new server.old server.new
+    ensures reads { ReadsOn A.shows A.says A.between result framer.old framer.new server.old
+        server.new
         (R.remaining reader.old) (R.remaining reader.new) (W.contents writer.old) (W.contents writer.new) reads_left.old reads_left.new }
     ensures piece { length piece.new ≡ length piece.old }
     ensures room { vec_capacity out.old ≤ vec_capacity out.new }
@@ -201,7 +206,8 @@ pub(crate) fn serve_all<A: Answering, R: Read, W: Write>(
     writer: &mut W,
     most_reads: u64,
 ) -> Result<End, ServeFault>
-    ensures { Serves A.shows A.says A.between server.old server.new (R.remaining reader.old) (R.remaining reader.new)
+    ensures { Serves A.shows A.says A.between server.old server.new (R.remaining reader.old)
+        (R.remaining reader.new)
         (W.contents writer.old) (W.contents writer.new) most_reads result }
 {
     let Ok(mut framer) = Framer::new(alloc) else {

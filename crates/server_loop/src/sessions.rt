@@ -10,7 +10,8 @@ impl<F: Files + Drop, M: MarkStore + Drop> Server<F, M> {
     ghost use Rattle.server_loop.specs.Answer.{IsAnswer};
 
     pub(crate) fn begin(&mut self) -> Reply
-        ensures { IsAnswer F.contents F.faults M.mark M.faults self.old Request.Begin result self.new }
+        ensures { IsAnswer F.contents F.faults M.mark M.faults self.old
+            Request.Begin result self.new }
     {
         match self.clients.begin(&mut self.oracle) {
             Ok(start) => Reply::Begin(start),
@@ -19,7 +20,8 @@ impl<F: Files + Drop, M: MarkStore + Drop> Server<F, M> {
     }
 
     pub(crate) fn get(&mut self, start: Stamp, row: &[u8], family: &[u8]) -> Reply
-        ensures { IsAnswer F.contents F.faults M.mark M.faults self.old (Request.Get start row.entry family.entry) result self.new }
+        ensures { IsAnswer F.contents F.faults M.mark M.faults self.old
+            (Request.Get start row.entry family.entry) result self.new }
     {
         match self.clients.get(&mut self.cluster, start, row, family) {
             Ok(found) => Reply::Get(found),
@@ -28,7 +30,8 @@ impl<F: Files + Drop, M: MarkStore + Drop> Server<F, M> {
     }
 
     pub(crate) fn set(&mut self, start: Stamp, row: &[u8], family: &[u8], value: &[u8]) -> Reply
-        ensures { IsAnswer F.contents F.faults M.mark M.faults self.old (Request.Set start row.entry family.entry value.entry) result self.new }
+        ensures { IsAnswer F.contents F.faults M.mark M.faults self.old
+            (Request.Set start row.entry family.entry value.entry) result self.new }
     {
         match self.clients.set(start, row, family, value) {
             Ok(()) => Reply::Set,
@@ -37,7 +40,8 @@ impl<F: Files + Drop, M: MarkStore + Drop> Server<F, M> {
     }
 
     pub(crate) fn step(&mut self, start: Stamp) -> Reply
-        ensures { IsAnswer F.contents F.faults M.mark M.faults self.old (Request.Step start) result self.new }
+        ensures { IsAnswer F.contents F.faults M.mark M.faults self.old
+            (Request.Step start) result self.new }
     {
         match self
             .clients
@@ -49,7 +53,8 @@ impl<F: Files + Drop, M: MarkStore + Drop> Server<F, M> {
     }
 
     pub(crate) fn stop(&mut self, start: Stamp) -> Reply
-        ensures { IsAnswer F.contents F.faults M.mark M.faults self.old (Request.Stop start) result self.new }
+        ensures { IsAnswer F.contents F.faults M.mark M.faults self.old
+            (Request.Stop start) result self.new }
     {
         match self.clients.stop(start) {
             Ok(()) => Reply::Stop,
@@ -58,7 +63,8 @@ impl<F: Files + Drop, M: MarkStore + Drop> Server<F, M> {
     }
 
     pub(crate) fn restart(&mut self) -> Reply
-        ensures { IsAnswer F.contents F.faults M.mark M.faults self.old Request.OracleRestart result self.new }
+        ensures { IsAnswer F.contents F.faults M.mark M.faults self.old
+            Request.OracleRestart result self.new }
     {
         match self.oracle.restart() {
             Ok(()) => Reply::OracleRestart,

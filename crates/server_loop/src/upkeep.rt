@@ -11,7 +11,8 @@ impl<F: Files + Drop, M: MarkStore + Drop> Server<F, M> {
     ghost use Rattle.server_loop.specs.Answer.{IsAnswer};
 
     pub(crate) fn minor(&mut self, tablet: u32) -> Reply
-        ensures { IsAnswer F.contents F.faults M.mark M.faults self.old (Request.Minor tablet) result self.new }
+        ensures { IsAnswer F.contents F.faults M.mark M.faults self.old
+            (Request.Minor tablet) result self.new }
     {
         match self.cluster.minor(tablet) {
             Ok(()) => Reply::Minor,
@@ -20,7 +21,8 @@ impl<F: Files + Drop, M: MarkStore + Drop> Server<F, M> {
     }
 
     pub(crate) fn merge(&mut self, tablet: u32, count: u32) -> Reply
-        ensures { IsAnswer F.contents F.faults M.mark M.faults self.old (Request.Merge tablet count) result self.new }
+        ensures { IsAnswer F.contents F.faults M.mark M.faults self.old
+            (Request.Merge tablet count) result self.new }
     {
         match self.cluster.merge(tablet, count) {
             Ok(()) => Reply::Merge,
@@ -29,7 +31,8 @@ impl<F: Files + Drop, M: MarkStore + Drop> Server<F, M> {
     }
 
     pub(crate) fn major(&mut self, tablet: u32) -> Reply
-        ensures { IsAnswer F.contents F.faults M.mark M.faults self.old (Request.Major tablet) result self.new }
+        ensures { IsAnswer F.contents F.faults M.mark M.faults self.old
+            (Request.Major tablet) result self.new }
     {
         match self.cluster.major(tablet) {
             Ok(()) => Reply::Major,
@@ -38,7 +41,8 @@ impl<F: Files + Drop, M: MarkStore + Drop> Server<F, M> {
     }
 
     pub(crate) fn split(&mut self, row: &[u8]) -> Reply
-        ensures { IsAnswer F.contents F.faults M.mark M.faults self.old (Request.Split row.entry) result self.new }
+        ensures { IsAnswer F.contents F.faults M.mark M.faults self.old
+            (Request.Split row.entry) result self.new }
     {
         let row = match Row::new(self.alloc, row) {
             Ok(row) => row,
@@ -51,7 +55,8 @@ impl<F: Files + Drop, M: MarkStore + Drop> Server<F, M> {
     }
 
     pub(crate) fn move_to(&mut self, tablet: u32, server: u8) -> Reply
-        ensures { IsAnswer F.contents F.faults M.mark M.faults self.old (Request.Move tablet server) result self.new }
+        ensures { IsAnswer F.contents F.faults M.mark M.faults self.old
+            (Request.Move tablet server) result self.new }
     {
         match self.cluster.move_to(tablet, server) {
             Ok(()) => Reply::Move,
@@ -60,7 +65,8 @@ impl<F: Files + Drop, M: MarkStore + Drop> Server<F, M> {
     }
 
     pub(crate) fn sweep(&mut self) -> Reply
-        ensures { IsAnswer F.contents F.faults M.mark M.faults self.old Request.Sweep result self.new }
+        ensures { IsAnswer F.contents F.faults M.mark M.faults self.old
+            Request.Sweep result self.new }
     {
         match self.cluster.sweep() {
             Ok(count) => Reply::Sweep(count),
@@ -76,7 +82,8 @@ impl<F: Files + Drop, M: MarkStore + Drop> Server<F, M> {
         lo: Stamp,
         hi: Stamp,
     ) -> Reply
-        ensures { IsAnswer F.contents F.faults M.mark M.faults self.old (Request.Raw row.entry family.entry qualifier lo hi) result self.new }
+        ensures { IsAnswer F.contents F.faults M.mark M.faults self.old
+            (Request.Raw row.entry family.entry qualifier lo hi) result self.new }
     {
         let row = match Row::new(self.alloc, row) {
             Ok(row) => row,

@@ -3,6 +3,7 @@
 mod bodies;
 mod cleaning;
 mod clusters;
+mod collecting;
 mod compactions;
 mod edits;
 mod files;

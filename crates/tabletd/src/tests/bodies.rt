@@ -12,7 +12,7 @@ const RAW: &[u8] = b"\x11\0\0\0\x01m\0\0\0\x01c\x02\0\0\0\0\0\0\0\0\0\0\0\0\0\0\
 const RAW_FOUND: &[u8] = b"\x91\x01\0\0\0\0\0\0\0\x01\0\0\0\x06m\0\0c\0\0";
 
 /// A request of each kind.
-const REQUESTS: [&[u8]; 15] = [
+const REQUESTS: [&[u8]; 17] = [
     b"\x01",
     GET,
     SET,
@@ -20,6 +20,8 @@ const REQUESTS: [&[u8]; 15] = [
     b"\x05\0\0\0\0\0\0\0\x01",
     b"\x06\0\0\0\x01a\0\0\0\x03bal",
     b"\x07\0\0\0\0\0\0\0\x01",
+    b"\x08",
+    b"\x09\0\0\0\0\0\0\0\x01\0\0\0\x0A",
     b"\x0A\0\0\0\x01",
     b"\x0B\0\0\0\x02\0\0\0\x03",
     b"\x0C\0\0\0\x02",
@@ -31,7 +33,7 @@ const REQUESTS: [&[u8]; 15] = [
 ];
 
 /// Bodies outside the grammar of requests.
-const NO_REQUESTS: [&[u8]; 20] = [
+const NO_REQUESTS: [&[u8]; 21] = [
     b"",
     b"\0",
     b"\x13",
@@ -41,7 +43,8 @@ const NO_REQUESTS: [&[u8]; 20] = [
     b"\x02\0\0\0\0\0\0\0\x01\xFF\xFF\xFF\xFFa\0\0\0\x03bal",
     b"\x04\0\0\0\0\0\0\x01",
     b"\x06\0\0\0\x01a\0\0\0\x03bal\0",
-    b"\x08",
+    b"\x08\0",
+    b"\x09\0\0\0\0\0\0\0\x01\0\0\x0A",
     b"\x0A\0\0\0\x01\0",
     b"\x0A\0\0\x01",
     b"\x0B\0\0\0\x02",
@@ -69,7 +72,7 @@ fn bodies_of_requests(rt: HostRuntime) -> Result<(), Fail> {
 }
 
 /// A reply of each kind.
-const REPLIES: [&[u8]; 28] = [
+const REPLIES: [&[u8]; 32] = [
     b"\x81\0\0\0\0\0\0\0\x01",
     b"\x82\0",
     b"\x82\x01\0\0\0\x0210",
@@ -88,6 +91,10 @@ const REPLIES: [&[u8]; 28] = [
     b"\x87\x02\0\0\0\0\0\0\0\x04",
     b"\x87\x03",
     b"\x87\x04",
+    b"\x88\0\0\0\0\0\0\0\x01\0\0\0\0\0\0\0\x05",
+    b"\x89\x01",
+    b"\x89\x02\0\0\0\x03Joe\0\0\0\x03bal\0\0\0\0\0\0\0\x03",
+    b"\x89\x03",
     b"\x8A",
     b"\x8B",
     b"\x8C",
@@ -101,7 +108,7 @@ const REPLIES: [&[u8]; 28] = [
 ];
 
 /// Bodies outside the grammar of replies.
-const NO_REPLIES: [&[u8]; 20] = [
+const NO_REPLIES: [&[u8]; 22] = [
     b"",
     b"\x01",
     b"\x82",
@@ -112,6 +119,8 @@ const NO_REPLIES: [&[u8]; 20] = [
     b"\x86\0\0",
     b"\x87\x01\0",
     b"\x87\x05",
+    b"\x88\0\0\0\0\0\0\0\x01",
+    b"\x89\x04",
     b"\x8A\0",
     b"\x8D\0\0\x02",
     b"\x8F\0\0\0\x02",

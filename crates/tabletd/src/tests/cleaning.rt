@@ -1,8 +1,7 @@
 //! Requests of cleaners with their replies, as bodies of frames.
 
 use crate::tests::is_met;
-use crate::tests::rows::{Exchange, TRANSFER};
-use std::alloc::{AllocError, Global};
+use crate::tests::rows::{Exchange, after_transfer};
 use std::test::Fail;
 
 /// A committed transfer is rolled forward.
@@ -235,20 +234,6 @@ const ROWS: [(usize, &[Exchange]); 6] = [
     (17, &STALE),
     (16, &STOPPED),
 ];
-
-/// So many exchanges of the transfer, and then these.
-fn after_transfer(
-    alloc: Global,
-    count: usize,
-    row: &[Exchange],
-) -> Result<Vec<Exchange>, AllocError> {
-    let mut all = Vec::new(alloc);
-    for exchange in TRANSFER.iter().take(count) {
-        all.push(*exchange)?;
-    }
-    all.extend_from_slice(row)?;
-    Ok(all)
-}
 
 #[test]
 fn cleaners(rt: HostRuntime) -> Result<(), Fail> {

@@ -1,5 +1,7 @@
 //! Requests with their replies, as bodies of frames.
 
+use std::alloc::{AllocError, Global};
+
 /// A request's body and its reply's.
 pub type Exchange = (&'static [u8], &'static [u8]);
 
@@ -98,6 +100,20 @@ pub const TRANSFER: [Exchange; 22] = [
     // Step 3: refused 1
     (b"\x04\0\0\0\0\0\0\0\x03", b"\xFF\x01"),
 ];
+
+/// So many exchanges of the transfer, and then these.
+pub fn after_transfer(
+    alloc: Global,
+    count: usize,
+    row: &[Exchange],
+) -> Result<Vec<Exchange>, AllocError> {
+    let mut all = Vec::new(alloc);
+    for exchange in TRANSFER.iter().take(count) {
+        all.push(*exchange)?;
+    }
+    all.extend_from_slice(row)?;
+    Ok(all)
+}
 
 /// The commit point is the first cell: the others follow.
 pub const COMMIT_POINT: [Exchange; 23] = [

@@ -184,3 +184,12 @@ returns-in-Merge-clause-lists g c = rw (c.in-Merge.is) (c.merge.ensures.lists)
 
 pub returns-in-Major-clause-lists : goal.returns-in-Major-clause-lists
 returns-in-Major-clause-lists g c = rw (c.in-Major.is) (c.major.ensures.lists)
+
+pub returns-in-Minor-clause-used : goal.returns-in-Minor-clause-used
+returns-in-Minor-clause-used g c = rw (c.in-Minor.is) (c.minor.ensures.used)
+
+pub returns-in-Merge-clause-used : goal.returns-in-Merge-clause-used
+returns-in-Merge-clause-used g c = rw (c.in-Merge.is) (on_ok _ _ c.merge.result (λ is some. is) c.merge.ensures.used)
+
+pub returns-in-Major-clause-used : goal.returns-in-Major-clause-used
+returns-in-Major-clause-used g c = rw (c.in-Major.is) (on_ok _ _ c.major.result (λ is some. is) c.major.ensures.used)

@@ -9,8 +9,8 @@ use server_loop::{End, ServeFault};
 use std::alloc::Global;
 
 /// What a server is asked for first. Then sessions stand at each phase, a cleaner is to take its first step and another its
-/// second, and there are two files and a memtable.
-const SET_UP: [&[u8]; 41] = [
+/// second, a collector is open, and there are two files and a memtable.
+const SET_UP: [&[u8]; 42] = [
     // Begin: 1
     b"\x01",
     // Set 1 a c 1
@@ -93,6 +93,8 @@ const SET_UP: [&[u8]; 41] = [
     b"\x06\0\0\0\x01s\0\0\0\x01c",
     // CleanStep 2: Decided
     b"\x07\0\0\0\0\0\0\0\x02",
+    // CollectBegin: 1, floor 5
+    b"\x08",
 ];
 
 /// What is read: cells at each phase, and whether there is a second tablet.
@@ -116,7 +118,7 @@ const READS: [&[u8]; 8] = [
 ];
 
 /// The requests that are made with allocations refused.
-const REQUESTS: [&[u8]; 24] = [
+const REQUESTS: [&[u8]; 26] = [
     // Begin: 13
     b"\x01",
     // Get 12 a c: 3
@@ -147,6 +149,10 @@ const REQUESTS: [&[u8]; 24] = [
     b"\x07\0\0\0\0\0\0\0\x01",
     // CleanStep 2: RolledForward 8
     b"\x07\0\0\0\0\0\0\0\x02",
+    // CollectBegin: 2, floor 5
+    b"\x08",
+    // CollectStep 1 1000: Collected
+    b"\x09\0\0\0\0\0\0\0\x01\0\0\x03\xE8",
     // Minor 1
     b"\x0A\0\0\0\x01",
     // Merge 1 2
@@ -238,7 +244,7 @@ const NO_MEMORY: &[u8] = b"\0\0\0\x02\xFF\x14";
 
 /// The calls: each request by itself, with the number of its refusal or 0, a new server, and then each request as a
 /// frame, with the frame of its reply.
-const CALLS: [Call; 49] = [
+const CALLS: [Call; 53] = [
     // Begin: 13
     (b"\0", STILL),
     // Get 12 a c: 3
@@ -269,6 +275,10 @@ const CALLS: [Call; 49] = [
     (b"\0", ROLLED_BACK),
     // CleanStep 2: RolledForward 8
     (b"\0", FINISHED),
+    // CollectBegin: 2, floor 5
+    (b"\0", STILL),
+    // CollectStep 1 1000: Collected
+    (b"\0", STILL),
     // Minor 1: done
     (b"\0", STILL),
     // Merge 1 2: done
@@ -322,6 +332,10 @@ const CALLS: [Call; 49] = [
     (b"\0\0\0\x02\x87\x01", ROLLED_BACK),
     // CleanStep 2: RolledForward 8
     (b"\0\0\0\x0A\x87\x02\0\0\0\0\0\0\0\x08", FINISHED),
+    // CollectBegin: 2, floor 5
+    (b"\0\0\0\x11\x88\0\0\0\0\0\0\0\x02\0\0\0\0\0\0\0\x05", STILL),
+    // CollectStep 1 1000: Collected
+    (b"\0\0\0\x02\x89\x03", STILL),
     // Minor 1: done
     (b"\0\0\0\x01\x8A", STILL),
     // Merge 1 2: done

@@ -1,5 +1,5 @@
 -- One tablet is compacted, and its place lists its files.
-use Rattle.std.proofs.Common.{◌≡◌, rules, refl, ap, ◌∙◌, map}
+use Rattle.std.proofs.Common.{None, ◌≡◌, rules, refl, ap, ◌∙◌, map}
 use Rattle.std.proofs.lemmas.Option.{slice_get_within}
 use Rattle.std.specs.Vec.{vec_capacity}
 use Rattle.cell_key.specs.declared.refusals.Refusal.TheVariants.{BadCount, Damaged, Exhausted, FileTooLarge, NoMemory, TooManyFiles}
@@ -9,7 +9,8 @@ use Rattle.row_atomic.specs.Clusters.{spot_of}
 use Rattle.row_atomic.specs.Changes.{Fits, IsCleaned, IsFull, IsMade, IsTooLarge, MeetsBadCount, MeetsFull, WritesNone, kind_of}
 use Rattle.tablet.specs.Compactions.{Compacts}
 use Rattle.row_atomic.proofs.Answering.{found_there, undamaged}
-use Rattle.row_atomic.proofs.Changing.{has_room, in_order, is_set, matched_unchanged, matched_listed, numbered_new, numbered_old, parts_stay, remade, same_spots, stays}
+use Rattle.row_atomic.proofs.Naming.{compacted_files, no_less, placed_names}
+use Rattle.row_atomic.proofs.Changing.{numbered_at, has_room, in_order, is_set, matched_unchanged, matched_listed, numbered_new, numbered_old, parts_stay, remade, same_spots, stays}
 use Rattle.row_atomic.specs.declared.commands.Outcome.TheVariants.{Done}
 use Rattle.row_atomic.proofs.Outcomes.{compacted, err_of, full_meets, known_refusal, refused_done, tells_done, tells_refused, uncompacted, unstarted}
 use Rattle.row_atomic.proofs.Passing.{none_answered}
@@ -39,7 +40,12 @@ pub invariant_of-self-2 : goal.invariant_of-self-2
 invariant_of-self-2 g c =
     let at = rw (← c.self.view_is) at c.position-index.ensures in
     let there = found_there c.self.inside.tablets.items c.position-index.result at.tablet c.index_mut.result.now at.there c.index_mut.ensures.value in
-    matched_listed c.self.inside.file_limit (g.F.Files.contents c.self.inside.files) (g.F.Files.contents c.compact.new.files) c.self.inside.next_name c.compact.new.next_name c.self.inside.table c.list_files.new.table c.self.inside.tablets.items c.args.tablet c.position-index.result c.index_mut.result.now c.compact.new.tablet at.number there c.compact.ensures.name c.compact.ensures.limit c.compact.ensures.range (c.list_files.ensures ∙ ap (λ t. with_files c.args.tablet (names_of t) c.self.inside.table) (is_set c.self.inside.tablets.items c.position-index.result c.index_mut.result.now c.compact.new.tablet c.index-2.result.now there c.index-2.ensures)) c.self.invariant
+    matched_listed c.self.inside.file_limit (g.F.Files.contents c.self.inside.files) (g.F.Files.contents c.compact.new.files) c.self.inside.next_name c.compact.new.next_name c.self.inside.table c.list_files.new.table c.self.inside.tablets.items c.args.tablet c.position-index.result c.index_mut.result.now c.compact.new.tablet at.number there c.compact.ensures.name c.compact.ensures.limit c.compact.ensures.range (c.list_files.ensures ∙ ap (λ t. with_files c.args.tablet (names_of t) c.self.inside.table) (is_set c.self.inside.tablets.items c.position-index.result c.index_mut.result.now c.compact.new.tablet c.index-2.result.now there c.index-2.ensures))
+    (compacted_files c.args.compaction c.index_mut.result.now c.compact.new.tablet c.self.inside.next_name c.compact.new.next_name c.in_ok-compact.ensures.made c.in_ok-compact.ensures.room
+    (λ bad. (rw (← c.self.view_is) at c.requires.counted) (numbered_old c.self.inside.tablets.items c.position-index.result c.index_mut.result.now c.compact.new.tablet there (MeetsBadCount c.args.compaction) c.args.tablet at.number bad))
+    c.in_ok-compact.ensures.used c.self.invariant.named_from (no_less (g.F.Files.contents c.self.inside.files) (g.F.Files.contents c.compact.new.files) c.self.inside.next_name c.compact.new.next_name c.compact.ensures.name)
+    (placed_names c.self.inside.next_name c.self.inside.tablets.items c.args.tablet c.index_mut.result.now (numbered_at c.self.inside.tablets.items c.args.tablet c.position-index.result c.index_mut.result.now at.number there) None c.self.inside.table c.self.invariant.placed c.self.invariant.files (rw (← c.self.view_is) at c.requires.known)))
+    c.self.invariant
 
 pub returns-clause-listed : goal.returns-clause-listed
 returns-clause-listed g c =

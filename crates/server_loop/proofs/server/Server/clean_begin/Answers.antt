@@ -1,15 +1,16 @@
 use Rattle.std.proofs.Common.{refl, inl}
 use Rattle.clean_up.specs.Refusals.{IsBeginRefusal}
-use Rattle.server_loop.proofs.CleanSteps.{cleaners_not_sessions, cleans_as, started_told, started_undamaged, started_stays}
+use Rattle.server_loop.proofs.Changing.{unchanged_if}
+use Rattle.server_loop.proofs.CleanSteps.{cleans_as, started_told, started_undamaged, started_stays}
 use Rattle.server_loop.proofs.Stepping.{as_err, as_refused, err_undamaged, not_done, ok_not}
 use Rattle.server_loop.proofs.server.Server.clean_begin.Goals as goal
 
 pub returns-in-Ok : goal.returns-in-Ok
 returns-in-Ok g c = let told = c.in-Ok.ensures in record {
-  step = record { step = cleans_as _ _ _ _ _ tt cleaners_not_sessions refl refl told.step told.reads.still told.reads.stays (λ held st reached cells cleaners. started_undamaged c.in-Ok.found); refusal = started_told IsBeginRefusal c.in-Ok.found; short = tt };
+  step = record { step = cleans_as _ _ _ _ _ tt refl refl refl refl (λ st reached shown. unchanged_if _ _ st (told.reads.kept shown.in_order)) told.step told.reads.still told.reads.stays (λ held st reached cells cleaners. started_undamaged c.in-Ok.found); refusal = started_told IsBeginRefusal c.in-Ok.found; short = tt };
   stamps = record { last = started_stays c.in-Ok.found _; restarted = tt; exhausted = λ is. absurd (not_done _ _ tt is) };
   edits = record { changes = told.reads.kept; room = told.reads.room };
-  sessions = record { told = λ st shown. tt; sessions = record { top = refl; each = λ t. refl }; cleaners = tt; oracle = refl };
+  sessions = record { told = λ st shown. tt; sessions = record { top = refl; each = λ t. refl }; cleaners = tt; collectors = record { next = refl; floor = refl; each = λ i. refl; count = refl }; oracle = refl };
   tablets = told.reads.stays;
   causes = record { device = λ is. absurd (not_done _ _ tt is); told = λ _. record { files = told.reason.told (ok_not _ _); marks = refl }; full = λ _. tt };
   tending = refl;
@@ -17,10 +18,10 @@ returns-in-Ok g c = let told = c.in-Ok.ensures in record {
 
 pub returns-in-Err : goal.returns-in-Err
 returns-in-Err g c = let told = c.in-Err.ensures in record {
-  step = record { step = cleans_as _ _ _ _ _ tt cleaners_not_sessions refl refl told.step told.reads.still told.reads.stays (λ held st reached cells cleaners. err_undamaged _ _ refl (told.undamaged held st reached cells cleaners)); refusal = told.refusal; short = tt };
+  step = record { step = cleans_as _ _ _ _ _ tt refl refl refl refl (λ st reached shown. unchanged_if _ _ st (told.reads.kept shown.in_order)) told.step told.reads.still told.reads.stays (λ held st reached cells cleaners. err_undamaged _ _ refl (told.undamaged held st reached cells cleaners)); refusal = told.refusal; short = tt };
   stamps = record { last = refl; restarted = tt; exhausted = λ is. λ st shown. told.exhausted (as_err _ _ _ refl is) st shown.cleaners };
   edits = record { changes = told.reads.kept; room = told.reads.room };
-  sessions = record { told = λ st shown. tt; sessions = record { top = refl; each = λ t. refl }; cleaners = told.err; oracle = refl };
+  sessions = record { told = λ st shown. tt; sessions = record { top = refl; each = λ t. refl }; cleaners = told.err; collectors = record { next = refl; floor = refl; each = λ i. refl; count = refl }; oracle = refl };
   tablets = told.reads.stays;
   causes = record { device = λ is. inl (told.reason.device (as_err _ _ _ refl is)); told = λ none. record { files = told.reason.told (λ is. none (as_refused _ _ _ refl is)); marks = refl }; full = λ _. tt };
   tending = refl;

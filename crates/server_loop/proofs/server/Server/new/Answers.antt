@@ -21,6 +21,7 @@ returns-in-Ok-open-clause-new g c = λ told. record {
     top = omega arith;
   };
   cleaners = c.new-in-Ok-open-2.ensures.shown new_machine refl refl;
+  collectors = c.new-in-Ok-open-3.ensures.shown _ new_machine refl refl refl;
   places = ap (λ (places : List PlaceView). machine_places places) c.in-Ok.ensures.places;
   next = refl;
 }

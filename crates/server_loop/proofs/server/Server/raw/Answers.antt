@@ -22,10 +22,10 @@ short_found lo hi (Some version) limits = limits.limits.value
 
 pub returns-in-Err : goal.returns-in-Err
 returns-in-Err g c = record {
-  step = record { step = tells_as _ _ _ (λ held. (held, refl)) refl refl refl _ _ refl (λ st shown. refuses (raw_row_named st _ _ _ _ _ c.in-Err.ensures.others (λ is. c.in-Err.ensures.bad.0 (ap (λ (r : Refusal). Err r) is)))) (λ held. name_undamaged _ (row_whole _ c.in-Err.ensures.others)); refusal = raw_unnamed _ tt tt c.in-Err.ensures.others; short = tt };
+  step = record { step = tells_as _ _ _ (λ held. (held, refl)) refl refl refl refl _ _ refl (λ st shown. refuses (raw_row_named st _ _ _ _ _ c.in-Err.ensures.others (λ is. c.in-Err.ensures.bad.0 (ap (λ (r : Refusal). Err r) is)))) (λ held. name_undamaged _ (row_whole _ c.in-Err.ensures.others)); refusal = raw_unnamed _ tt tt c.in-Err.ensures.others; short = tt };
   stamps = record { last = refl; restarted = tt; exhausted = λ _. tt };
   edits = record { changes = λ held. refl; room = tt };
-  sessions = record { told = λ st shown. tt; sessions = record { top = refl; each = λ t. refl }; cleaners = record { next = refl; each = λ i. refl; count = refl }; oracle = refl };
+  sessions = record { told = λ st shown. tt; sessions = record { top = refl; each = λ t. refl }; cleaners = record { next = refl; each = λ i. refl; count = refl }; collectors = record { next = refl; floor = refl; each = λ i. refl; count = refl }; oracle = refl };
   tablets = inr (elim (refused_either _ _ _ c.in-Err.ensures.others) [ inl is ↦ inl is | inr is ↦ inr (inr is) ], refl);
   causes = (unmet_causes g.F.Files.contents g.F.Files.faults g.M.MarkStore.faults _ _ _ _ refl refl (λ is. absurd (named_not _ _ row_not_device memory_not_device c.in-Err.ensures.others is)) (λ _. tt));
   tending = refl;
@@ -33,10 +33,10 @@ returns-in-Err g c = record {
 
 pub returns-in-Err-new : goal.returns-in-Err-new
 returns-in-Err-new g c = record {
-  step = record { step = tells_as _ _ _ (λ held. (held, refl)) refl refl refl _ _ refl (λ st shown. refuses (raw_family_named st _ _ _ _ _ c.in-Ok.ensures.valid c.in-Err-new.ensures.others (λ is. c.in-Err-new.ensures.bad.0 (ap (λ (r : Refusal). Err r) is)))) (λ held. name_undamaged _ (family_whole _ c.in-Err-new.ensures.others)); refusal = raw_unnamed _ tt tt c.in-Err-new.ensures.others; short = tt };
+  step = record { step = tells_as _ _ _ (λ held. (held, refl)) refl refl refl refl _ _ refl (λ st shown. refuses (raw_family_named st _ _ _ _ _ c.in-Ok.ensures.valid c.in-Err-new.ensures.others (λ is. c.in-Err-new.ensures.bad.0 (ap (λ (r : Refusal). Err r) is)))) (λ held. name_undamaged _ (family_whole _ c.in-Err-new.ensures.others)); refusal = raw_unnamed _ tt tt c.in-Err-new.ensures.others; short = tt };
   stamps = record { last = refl; restarted = tt; exhausted = λ _. tt };
   edits = record { changes = λ held. refl; room = tt };
-  sessions = record { told = λ st shown. tt; sessions = record { top = refl; each = λ t. refl }; cleaners = record { next = refl; each = λ i. refl; count = refl }; oracle = refl };
+  sessions = record { told = λ st shown. tt; sessions = record { top = refl; each = λ t. refl }; cleaners = record { next = refl; each = λ i. refl; count = refl }; collectors = record { next = refl; floor = refl; each = λ i. refl; count = refl }; oracle = refl };
   tablets = inr (inr (refused_either _ _ _ c.in-Err-new.ensures.others), refl);
   causes = (unmet_causes g.F.Files.contents g.F.Files.faults g.M.MarkStore.faults _ _ _ _ refl refl (λ is. absurd (named_not _ _ column_not_device memory_not_device c.in-Err-new.ensures.others is)) (λ _. tt));
   tending = refl;
@@ -46,10 +46,10 @@ pub returns-in-Ok-newest : goal.returns-in-Ok-newest
 returns-in-Ok-newest g c =
     let told = c.in-Ok-newest.ensures in
     record {
-      step = record { step = tells_as _ _ _ (λ held. (told.reads.still held, told.reads.kept held)) refl refl refl _ _ (ap spots_in told.reads.stays) (λ st shown. raw_done st _ _ _ _ _ c.in-Ok.ensures.valid c.in-Ok-new.ensures.valid) (λ held. raw_whole _); refusal = tt; short = short_found c.args.lo c.args.hi c.in-Ok-newest.found told.limits };
+      step = record { step = tells_as _ _ _ (λ held. (told.reads.still held, told.reads.kept held)) refl refl refl refl _ _ (ap spots_in told.reads.stays) (λ st shown. raw_done st _ _ _ _ _ c.in-Ok.ensures.valid c.in-Ok-new.ensures.valid) (λ held. raw_whole _); refusal = tt; short = short_found c.args.lo c.args.hi c.in-Ok-newest.found told.limits };
       stamps = record { last = refl; restarted = tt; exhausted = λ _. tt };
       edits = record { changes = told.reads.kept; room = tt };
-      sessions = record { told = λ st shown. tt; sessions = record { top = refl; each = λ t. refl }; cleaners = record { next = refl; each = λ i. refl; count = refl }; oracle = refl };
+      sessions = record { told = λ st shown. tt; sessions = record { top = refl; each = λ t. refl }; cleaners = record { next = refl; each = λ i. refl; count = refl }; collectors = record { next = refl; floor = refl; each = λ i. refl; count = refl }; oracle = refl };
       tablets = inl (rw (← c.in-Ok.ensures.ok) (rw (← c.in-Ok-new.ensures.ok) (found_outcome g.F.Files.contents g.F.Files.faults c.in-Ok.row c.in-Ok-new.family c.args.qualifier c.args.lo c.args.hi c.in-Ok-newest.found _ _ told.reads.still told.found told.reads.kept told.reads.stays told.reads.room (told.reason.told (ok_not _ _)))));
       causes = record { device = λ is. absurd (not_done _ _ tt is); told = λ _. record { files = told.reason.told (ok_not _ _); marks = refl }; full = λ _. tt };
       tending = refl;
@@ -60,10 +60,10 @@ returns g c =
     let told = c.in-Err-newest.ensures in
     let refusal = is_read_refusal _ c.in-Err-newest.refusal told.refusal in
     record {
-      step = record { step = tells_as _ _ _ (λ held. (told.reads.still held, told.reads.kept held)) refl refl refl _ _ (ap spots_in told.reads.stays) (λ st shown. refuses (raw_refuses st _ _ _ _ _ refusal)) (λ held. name_undamaged _ (read_undamaged _ _ told.refusal held)); refusal = raw_refused _ refusal; short = tt };
+      step = record { step = tells_as _ _ _ (λ held. (told.reads.still held, told.reads.kept held)) refl refl refl refl _ _ (ap spots_in told.reads.stays) (λ st shown. refuses (raw_refuses st _ _ _ _ _ refusal)) (λ held. name_undamaged _ (read_undamaged _ _ told.refusal held)); refusal = raw_refused _ refusal; short = tt };
       stamps = record { last = refl; restarted = tt; exhausted = λ _. tt };
       edits = record { changes = told.reads.kept; room = tt };
-      sessions = record { told = λ st shown. tt; sessions = record { top = refl; each = λ t. refl }; cleaners = record { next = refl; each = λ i. refl; count = refl }; oracle = refl };
+      sessions = record { told = λ st shown. tt; sessions = record { top = refl; each = λ t. refl }; cleaners = record { next = refl; each = λ i. refl; count = refl }; collectors = record { next = refl; floor = refl; each = λ i. refl; count = refl }; oracle = refl };
       tablets = inl (rw (← c.in-Ok.ensures.ok) (rw (← c.in-Ok-new.ensures.ok) (refused_outcome g.F.Files.contents g.F.Files.faults c.in-Ok.row c.in-Ok-new.family c.args.qualifier c.args.lo c.args.hi c.in-Err-newest.refusal _ _ told.reads.still told.reads.kept (λ held. read_undamaged _ _ told.refusal held) told.reads.stays told.reads.room refusal told.reason.later told.reason.device told.reason.told)));
       causes = record { device = λ is. inl (told.reason.device (as_err _ _ _ refl is)); told = λ none. record { files = told.reason.told (λ is. none (as_refused _ _ _ refl is)); marks = refl }; full = λ _. tt };
       tending = refl;

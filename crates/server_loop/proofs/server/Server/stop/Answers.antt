@@ -1,7 +1,7 @@
 use Rattle.std.proofs.Common.{◌≡◌, refl}
 use Rattle.cell_key.specs.declared.refusals.Refusal.{Refusal}
 use Rattle.cell_key.specs.declared.refusals.Refusal.TheVariants.{Damaged, Device, UnknownSession}
-use Rattle.server_loop.proofs.CleanSteps.{sessions_not_cleaners}
+use Rattle.si_model.specs.Collection.{unchanged}
 use Rattle.server_loop.proofs.Stepping.{as_refused, never, not_done, ok_not, steps_as, stop_undamaged, undamaged}
 use Rattle.server_loop.proofs.server.Server.stop.Goals as goal
 
@@ -13,10 +13,10 @@ device_not_unknown is = cc
 
 pub returns-in-Ok : goal.returns-in-Ok
 returns-in-Ok g c = let told = c.in-Ok.ensures in record {
-  step = record { step = steps_as _ _ _ _ _ tt sessions_not_cleaners refl (λ _. told.step _ _) (λ h. h) refl (λ st reached held shown. stop_undamaged); refusal = tt; short = tt };
+  step = record { step = steps_as _ _ _ _ _ tt refl refl refl (λ st reached shown. unchanged) (λ _. told.step _ _) (λ h. h) refl (λ st reached held shown. stop_undamaged); refusal = tt; short = tt };
   stamps = record { last = refl; restarted = tt; exhausted = λ _. tt };
   edits = record { changes = λ held. refl; room = λ row edits over. over };
-  sessions = record { told = λ st shown gone. absurd (ok_not _ _ (told.unknown st shown.shows.sessions gone)); sessions = tt; cleaners = record { next = refl; each = λ i. refl; count = refl }; oracle = refl };
+  sessions = record { told = λ st shown gone. absurd (ok_not _ _ (told.unknown st shown.shows.sessions gone)); sessions = tt; cleaners = record { next = refl; each = λ i. refl; count = refl }; collectors = record { next = refl; floor = refl; each = λ i. refl; count = refl }; oracle = refl };
   tablets = refl;
   causes = record { device = λ is. absurd (not_done _ _ tt is); told = λ _. record { files = refl; marks = refl }; full = λ _. tt };
   tending = refl;
@@ -24,10 +24,10 @@ returns-in-Ok g c = let told = c.in-Ok.ensures in record {
 
 pub returns-in-Err : goal.returns-in-Err
 returns-in-Err g c = let told = c.in-Err.ensures in record {
-  step = record { step = steps_as _ _ _ _ _ tt sessions_not_cleaners refl (λ _. told.step _ _) (λ h. h) refl (λ st reached held shown. undamaged (λ (refusal : Refusal). refusal ≡ UnknownSession) _ told.refusal damaged_not_unknown); refusal = told.refusal; short = tt };
+  step = record { step = steps_as _ _ _ _ _ tt refl refl refl (λ st reached shown. unchanged) (λ _. told.step _ _) (λ h. h) refl (λ st reached held shown. undamaged (λ (refusal : Refusal). refusal ≡ UnknownSession) _ told.refusal damaged_not_unknown); refusal = told.refusal; short = tt };
   stamps = record { last = refl; restarted = tt; exhausted = λ _. tt };
   edits = record { changes = λ held. refl; room = λ row edits over. over };
-  sessions = record { told = λ st shown gone. as_refused _ _ _ refl (told.unknown st shown.shows.sessions gone); sessions = told.err; cleaners = record { next = refl; each = λ i. refl; count = refl }; oracle = refl };
+  sessions = record { told = λ st shown gone. as_refused _ _ _ refl (told.unknown st shown.shows.sessions gone); sessions = told.err; cleaners = record { next = refl; each = λ i. refl; count = refl }; collectors = record { next = refl; floor = refl; each = λ i. refl; count = refl }; oracle = refl };
   tablets = refl;
   causes = record { device = λ is. absurd (never (λ (refusal : Refusal). refusal ≡ UnknownSession) _ _ told.refusal device_not_unknown is); told = λ _. record { files = refl; marks = refl }; full = λ _. tt };
   tending = refl;

@@ -63,6 +63,24 @@ returns-in-CleanStep-clause-step g c = rw c.in-CleanStep.is c.clean_step.ensures
 pub returns-in-CleanStep-clause-short : goal.returns-in-CleanStep-clause-short
 returns-in-CleanStep-clause-short g c = c.clean_step.ensures.step.short
 
+pub returns-in-CollectBegin-clause-says : goal.returns-in-CollectBegin-clause-says
+returns-in-CollectBegin-clause-says g c = rw c.in-CollectBegin.is c.collect_begin.ensures
+
+pub returns-in-CollectBegin-clause-step : goal.returns-in-CollectBegin-clause-step
+returns-in-CollectBegin-clause-step g c = rw c.in-CollectBegin.is c.collect_begin.ensures.step.step
+
+pub returns-in-CollectBegin-clause-short : goal.returns-in-CollectBegin-clause-short
+returns-in-CollectBegin-clause-short g c = c.collect_begin.ensures.step.short
+
+pub returns-in-CollectStep-clause-says : goal.returns-in-CollectStep-clause-says
+returns-in-CollectStep-clause-says g c = rw c.in-CollectStep.is c.collect_step.ensures
+
+pub returns-in-CollectStep-clause-step : goal.returns-in-CollectStep-clause-step
+returns-in-CollectStep-clause-step g c = rw c.in-CollectStep.is c.collect_step.ensures.step.step
+
+pub returns-in-CollectStep-clause-short : goal.returns-in-CollectStep-clause-short
+returns-in-CollectStep-clause-short g c = c.collect_step.ensures.step.short
+
 pub returns-in-Minor-clause-says : goal.returns-in-Minor-clause-says
 returns-in-Minor-clause-says g c = rw c.in-Minor.is c.minor.ensures
 

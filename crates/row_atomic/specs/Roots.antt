@@ -1,0 +1,97 @@
+-- What the files keep of a cluster, and the checkpoint that leaves it there.
+use Rattle.std.specs.Prelude.{◌≡◌, ◌⊎◌, ℕ, List, [], ◌∷◌, length, Option, None, Some, IsSomeAnd}
+use Rattle.std.specs.List.{AllByRecursion}
+use Rattle.std.specs.FinMap.{get}
+use Rattle.cell_key.specs.Cells.{Cells}
+use Rattle.cell_key.specs.declared.refusals.Refusal.{Refusal}
+use Rattle.cell_key.specs.declared.refusals.Refusal.TheVariants as refused
+use Rattle.file_store.specs.Store.{Contents, KeepsOthers, with_file}
+use Rattle.metadata_table.specs.Places.{PlaceView}
+use Rattle.metadata_table.specs.Roots.{IsRoot, RootView}
+use Rattle.tablet.specs.Views.{Holds as HoldsAt}
+use Rattle.tablet.specs.declared.tablet.Tablet.{Tablet}
+use Rattle.row_atomic.specs.Changes.{Holds, IsEmptied, Numbered}
+use Rattle.row_atomic.specs.Clusters.{ArePlaced, ClusterState, cells_in}
+use Rattle.row_atomic.specs.Commands.{IsOutcome, TellsFaults, cells_shown}
+use Rattle.row_atomic.specs.Flushes.{numbers_of}
+use Rattle.row_atomic.specs.declared.commands.Command.TheVariants as command
+use Rattle.row_atomic.specs.declared.commands.Outcome.{Outcome}
+use Rattle.row_atomic.specs.declared.commands.Outcome.TheVariants as outcome
+
+-- the name of the root file
+abbrev pub root_name : ℕ
+root_name = 0
+
+-- what a cluster's root tells: two stamps, the next file's name and the places
+abbrev pub root_at : {F : Type 0} → ℕ → ℕ → ClusterState F → RootView
+root_at top floor state =
+    record { top = top; floor = floor; next_name = state.next_name; places = state.places }
+
+-- ---- files that keep cells
+
+-- These tablets have the rows and the files of the places, each at its number less 1. Their
+-- memtables are empty, and their files are open.
+pub record AreOpened (m : Contents) (places : List PlaceView) (tablets : List Tablet) : Type 0 where
+  pub placed : ArePlaced tablets None places
+  pub as_many : length tablets ≡ length places
+  pub emptied : AllByRecursion IsEmptied tablets
+  pub each_open : AllByRecursion (HoldsAt m) tablets
+
+-- The root file is there and tells this, and the tablets that are opened of it show these cells.
+pub record KeepsCells (m : Contents) (root : RootView) (cells : Cells) : Type 0 where
+  pub image : List ℕ
+  pub there : get m root_name ≡ Some image
+  pub form : IsRoot root image
+  pub tablets : List Tablet
+  pub opened : AreOpened m root.places tablets
+  pub shows : cells_in (Some m) tablets ≡ cells
+
+-- ---- a checkpoint
+
+-- Minor compactions of these tablets were done one after the other, up to one that was refused.
+pub data FlushesEach {F : Type 0} (contents : F → Option Contents) (faults : F → ℕ)
+    : ClusterState F → List ℕ → Outcome → ClusterState F → Type 0 where
+  flushes_none : {now : ClusterState F} → FlushesEach contents faults now [] outcome.Done now
+  flushes_one : {old now new : ClusterState F} {n : ℕ} {ns : List ℕ} {result : Outcome}
+      → IsOutcome contents faults (command.Minor n) outcome.Done old now
+      → FlushesEach contents faults now ns result new
+      → FlushesEach contents faults old (n ∷ ns) result new
+  refuses_one : {old new : ClusterState F} {n : ℕ} {ns : List ℕ} (refusal : Refusal)
+      → IsOutcome contents faults (command.Minor n) (outcome.Refused refusal) old new
+      → FlushesEach contents faults old (n ∷ ns) (outcome.Refused refusal) new
+
+-- The root file that tells of these stamps was put. Or a device failed or memory was refused: its
+-- bytes are then open, and all other files are as before. Nothing else changed.
+abbrev pub PutsRoot : {F : Type 0} → (F → Option Contents) → ℕ → ℕ → ClusterState F → Outcome
+    → F → Type 0
+PutsRoot contents top floor old outcome.Done files =
+    (image : List ℕ) × IsRoot (root_at top floor old) image
+    × (contents files ≡ with_file root_name image (contents old.files))
+PutsRoot contents top floor old (outcome.Refused refusal) files =
+    ((refusal ≡ refused.Device) ⊎ (refusal ≡ refused.NoMemory))
+    × ((contents files ≡ contents old.files)
+    ⊎ KeepsOthers root_name (contents old.files) (contents files))
+PutsRoot contents top floor old _ files = ⊥
+
+-- A checkpoint flushed every tablet, and put the root last, or it was refused on the way.
+pub data Checkpoints {F : Type 0} (contents : F → Option Contents) (faults : F → ℕ) (top floor : ℕ)
+    (old : ClusterState F) : Outcome → ClusterState F → Type 0 where
+  unflushed : (refusal : Refusal) {new : ClusterState F}
+      → FlushesEach contents faults old (numbers_of old.places) (outcome.Refused refusal) new
+      → Checkpoints contents faults top floor old (outcome.Refused refusal) new
+  flushed : (mid : ClusterState F) (result : Outcome) (files : F)
+      → FlushesEach contents faults old (numbers_of old.places) outcome.Done mid
+      → PutsRoot contents top floor mid result files
+      → TellsFaults faults result mid (record mid { files = files })
+      → Checkpoints contents faults top floor old result (record mid { files = files })
+
+-- each tablet that has a place has an empty memtable
+abbrev pub AreFlushed : {F : Type 0} → ClusterState F → Type 0
+AreFlushed state = AllByRecursion (λ n. Numbered IsEmptied n state.tablets) (numbers_of state.places)
+
+-- Its files keep the cells that the cluster showed, and tell of these stamps.
+abbrev pub Rests : {F : Type 0} → (F → Option Contents) → ℕ → ℕ → ClusterState F → ClusterState F
+    → Type 0
+Rests contents top floor old new =
+    Holds contents old → IsSomeAnd (contents new.files)
+    (λ m. KeepsCells m (root_at top floor new) (cells_shown contents old))

@@ -1,0 +1,80 @@
+-- What the steps of sessions and cleaners make of the cells, as collectors see it.
+use Rattle.std.proofs.Common.{◌≡◌, ◌∙◌, ℕ, List, inl, inr, Bool, true, false, refl, sym, subst}
+use Rattle.cell_key.specs.Cells.{Cells, after_edits}
+use Rattle.cell_key.specs.declared.edits.Edit.{Edit}
+use Rattle.row_atomic.specs.Room.{AreAfter}
+use Rattle.si_model.specs.Collection.{ChangesCells, unchanged, locks_cell, records_commit, erases_lock}
+use Rattle.si_model.specs.Edits.{IsErasing, IsRecording}
+use Rattle.si_model.specs.Machine.{State, Phase, Open, Holding, Stamped, Finishing, Writes, Cleaner, InPhase, CommittedAt, IsReached}
+use Rattle.si_model.specs.ShowsCells.{recorded_cells}
+use Rattle.si_model.specs.declared.replies.Cell.{Cell}
+use Rattle.si_model.specs.declared.replies.CleanReply.{CleanReply}
+use Rattle.si_model.specs.declared.replies.CleanReply.TheVariants as cleans
+use Rattle.si_model.specs.declared.replies.Progress.{Progress}
+use Rattle.si_model.specs.declared.replies.Progress.TheVariants as steps
+use Rattle.si_model.proofs.Editing.{make_cells}
+use Rattle.si_model.proofs.Steps.{reached_sound}
+use Rattle.txn_client.specs.Room as sessions
+use Rattle.txn_client.proofs.Room.{holding_makes}
+use Rattle.clean_up.specs.Room as cleaners
+
+module _ (cells cells' : Cells) (st : State) where
+  pub unchanged_if : cells' ≡ cells → ChangesCells cells st cells'
+  unchanged_if same = subst (ChangesCells cells st) (sym same) unchanged
+
+  -- ---- a session's step
+
+  held : (t k : ℕ) (p : Phase) (ws : Writes) (row : List ℕ) (edits : List Edit) → InPhase st t p → sessions.HoldsNext st ws k t row edits → cells' ≡ after_edits cells edits
+      → ChangesCells cells st cells'
+  held t k p ws row edits phase next is =
+      subst (ChangesCells cells st) (sym (is ∙ holding_makes cells next.0 next.1 t next.2 edits next.8)) (locks_cell next.0 t p next.2 next.1 phase)
+
+  recorded : (x : Cell) (t c : ℕ) (edits : List Edit) → ChangesCells cells st (recorded_cells cells x t c) → IsRecording x t c edits → cells' ≡ after_edits cells edits → ChangesCells cells st cells'
+  recorded x t c edits changes recording is = subst (ChangesCells cells st) (sym (is ∙ (make_cells cells x t edits).recorded c recording)) changes
+
+  erased : (x : Cell) (t : ℕ) (edits : List Edit) → IsErasing x t edits → cells' ≡ after_edits cells edits → ChangesCells cells st cells'
+  erased x t edits erasing is = subst (ChangesCells cells st) (sym (is ∙ (make_cells cells x t edits).erased erasing)) (erases_lock x t)
+
+  next_changes : (t : ℕ) (p : Phase) (ws : Writes) (row : List ℕ) (edits : List Edit) → IsReached st → InPhase st t p → sessions.ChangesIn st p ws t row edits
+      → cells' ≡ after_edits cells edits → ChangesCells cells st cells'
+  next_changes t Open ws row edits reached phase next is = held t 0 Open ws row edits phase next is
+  next_changes t (Holding k) ws row edits reached phase next is = held t k (Holding k) ws row edits phase next is
+  next_changes t (Stamped c) ws row edits reached phase next is = recorded next.0 t c edits (records_commit next.0 t c next.3 (inr phase)) next.5 is
+  next_changes t (Finishing c k) ws row edits reached phase next is =
+      let committed : CommittedAt st t c = (reached_sound reached).finishes t (Finishing c k) phase c k refl in
+      recorded next.0 t c edits (records_commit next.0 t c next.3 (inl committed)) next.5 is
+
+  after_step : (t : ℕ) → IsReached st → AreAfter (sessions.ChangesNext st t) cells cells' → ChangesCells cells st cells'
+  after_step t reached (row, edits, next, is) = next_changes t next.0 next.1 row edits reached next.2 next.4 is
+
+  pub step_changes : (t : ℕ) (progress : Progress) → IsReached st → sessions.Makes (sessions.ChangesNext st t) progress cells cells' → ChangesCells cells st cells'
+  step_changes t (steps.Held k n) reached made = after_step t reached made
+  step_changes t (steps.Committed c) reached made = after_step t reached made
+  step_changes t (steps.Finished k n) reached made = elim made [
+    | inl after ↦ after_step t reached after
+    | inr same ↦ unchanged_if same
+  ]
+  step_changes t (steps.Conflict place) reached made = unchanged_if made
+  step_changes t (steps.Stamped c) reached made = unchanged_if made
+  step_changes t steps.Lost reached made = unchanged_if made
+
+  -- ---- a cleaner's step
+
+  cleaner_changes : (k : Cleaner) (decided : Bool) (row : List ℕ) (edits : List Edit) → cleaners.ChangesOf st k decided row edits → cells' ≡ after_edits cells edits → ChangesCells cells st cells'
+  cleaner_changes k false row edits next is = erased next.0 k.start edits next.4 is
+  cleaner_changes k true row edits next is = elim next.2 [
+    | inl forward ↦ recorded k.cell k.start forward.0 edits (records_commit k.cell k.start forward.0 next.0 (inl forward.1)) forward.2 is
+    | inr back ↦ erased k.cell k.start edits back.1 is
+  ]
+
+  after_clean : (i : ℕ) → AreAfter (cleaners.ChangesNext st i) cells cells' → ChangesCells cells st cells'
+  after_clean i (row, edits, next, is) = cleaner_changes next.0 next.0.decided row edits next.2 is
+
+  pub clean_changes : (i : ℕ) (done : CleanReply) → cleaners.Makes (cleaners.ChangesNext st i) done cells cells' → ChangesCells cells st cells'
+  clean_changes i cleans.Decided made = elim made [
+    | inl after ↦ after_clean i after
+    | inr same ↦ unchanged_if same
+  ]
+  clean_changes i (cleans.RolledForward c) made = after_clean i made
+  clean_changes i cleans.RolledBack made = after_clean i made
+  clean_changes i cleans.Gone made = unchanged_if made

@@ -1,0 +1,48 @@
+use Rattle.std.proofs.Common.{inl, refl, subst}
+use Rattle.version_collector.specs.Refusals.{IsStepRefusal}
+use Rattle.server_loop.specs.Runs.{HasShortValue}
+use Rattle.server_loop.proofs.CollectSteps.{bad_told, collected_stays, collected_told, collected_undamaged, collects_as, never_bad, same_cells}
+use Rattle.server_loop.proofs.Stepping.{as_err, as_refused, err_undamaged, not_done, ok_not}
+use Rattle.server_loop.proofs.server.Server.collect_step.Goals as goal
+
+pub returns-in-Ok : goal.returns-in-Ok
+returns-in-Ok g c = let told = c.in-Ok.ensures in rw c.collected.ensures.reply (record {
+  step = record { step = collects_as _ _ _ _ _ tt refl refl refl refl (λ st reached shown. told.step shown.in_order st reached shown.shows.store shown.collectors) told.below.still told.below.stays (λ st reached shown. collected_undamaged c.in-Ok.done); refusal = collected_told IsStepRefusal c.in-Ok.done; short = subst HasShortValue c.collected.ensures.reply c.collected.ensures.short };
+  stamps = record { last = collected_stays c.in-Ok.done _; restarted = tt; exhausted = λ _. tt };
+  edits = record {
+    changes = λ st reached shown. (
+      record {
+        visits = λ count. told.visited shown.in_order count st reached shown.shows.store shown.collectors;
+        collects = (told.leaves shown.in_order st reached shown.shows.store shown.collectors).0;
+        thins = (told.leaves shown.in_order st reached shown.shows.store shown.collectors).1;
+      },
+      told.told shown.in_order st reached shown.shows.store shown.collectors,
+    );
+    room = told.room;
+  };
+  sessions = record { told = λ st shown. (λ gone. absurd (ok_not _ _ (told.unknown _ st shown.collectors gone)), λ bad. absurd (never_bad _ _ _ (told.count bad))); sessions = record { top = refl; each = λ t. refl }; cleaners = record { next = refl; each = λ i. refl; count = refl }; collectors = (told.one, collected_told _ c.in-Ok.done); oracle = refl };
+  tablets = told.below.stays;
+  causes = record { device = λ is. absurd (not_done _ _ tt is); told = λ _. record { files = told.reason.told (ok_not _ _); marks = refl }; full = λ is. absurd (not_done _ _ tt is) };
+  tending = refl;
+})
+
+pub returns-in-Err : goal.returns-in-Err
+returns-in-Err g c = let told = c.in-Err.ensures in record {
+  step = record { step = collects_as _ _ _ _ _ tt refl refl refl refl (λ st reached shown. told.step shown.in_order st reached shown.shows.store shown.collectors) told.below.still told.below.stays (λ st reached shown. err_undamaged _ _ refl (told.undamaged shown.in_order st reached shown.shows.store shown.collectors)); refusal = told.refusal; short = tt };
+  stamps = record { last = refl; restarted = tt; exhausted = λ _. tt };
+  edits = record {
+    changes = (
+      λ st reached shown. record {
+        visits = λ count. told.visited shown.in_order count st reached shown.shows.store shown.collectors;
+        collects = (told.leaves shown.in_order st reached shown.shows.store shown.collectors).0;
+        thins = (told.leaves shown.in_order st reached shown.shows.store shown.collectors).1;
+      },
+      λ early held. same_cells g.F.Files.contents _ _ (told.early early).1,
+    );
+    room = told.room;
+  };
+  sessions = record { told = λ st shown. (λ gone. as_refused _ _ _ refl (told.unknown _ st shown.collectors gone), λ bad. bad_told _ _ refl (told.count bad)); sessions = record { top = refl; each = λ t. refl }; cleaners = record { next = refl; each = λ i. refl; count = refl }; collectors = (told.one, λ early. (told.early early).0); oracle = refl };
+  tablets = told.below.stays;
+  causes = record { device = λ is. inl (told.reason.device (as_err _ _ _ refl is)); told = λ none. record { files = told.reason.told (λ is. none (as_refused _ _ _ refl is)); marks = refl }; full = λ same. told.full (as_err _ _ _ refl same) };
+  tending = refl;
+}

@@ -1,0 +1,204 @@
+//! Requests of collectors with their replies, as bodies of frames.
+
+use crate::tests::is_met;
+use crate::tests::rows::{Exchange, after_transfer};
+use std::test::Fail;
+
+/// A collector is blocked by a lock that a stopped session left, and goes on when it is cleaned.
+const BLOCKED: [Exchange; 11] = [
+    // Stop 3: done
+    (b"\x05\0\0\0\0\0\0\0\x03", b"\x85"),
+    // CollectBegin: 1, floor 5
+    (b"\x08", b"\x88\0\0\0\0\0\0\0\x01\0\0\0\0\0\0\0\x05"),
+    // CollectStep 1 10: Blocked Joe bal 3
+    (
+        b"\x09\0\0\0\0\0\0\0\x01\0\0\0\x0A",
+        b"\x89\x02\0\0\0\x03Joe\0\0\0\x03bal\0\0\0\0\0\0\0\x03",
+    ),
+    // CleanBegin Joe bal: Cleaner 1 3
+    (
+        b"\x06\0\0\0\x03Joe\0\0\0\x03bal",
+        b"\x86\x01\0\0\0\0\0\0\0\x01\0\0\0\0\0\0\0\x03",
+    ),
+    // CleanStep 1: Decided
+    (b"\x07\0\0\0\0\0\0\0\x01", b"\x87\x01"),
+    // CleanStep 1: RolledForward 4
+    (b"\x07\0\0\0\0\0\0\0\x01", b"\x87\x02\0\0\0\0\0\0\0\x04"),
+    // CollectStep 1 6: More
+    (b"\x09\0\0\0\0\0\0\0\x01\0\0\0\x06", b"\x89\x01"),
+    // CollectStep 1 1: Collected
+    (b"\x09\0\0\0\0\0\0\0\x01\0\0\0\x01", b"\x89\x03"),
+    // Raw Joe bal write 0..9: stamp 4, start 3
+    (
+        b"\x11\0\0\0\x03Joe\0\0\0\x03bal\x03\0\0\0\0\0\0\0\0\0\0\0\0\0\0\0\x09",
+        b"\x91\x01\0\0\0\0\0\0\0\x04\0\0\0\x08\0\0\0\0\0\0\0\x03",
+    ),
+    // Raw Joe bal write 0..3: nothing
+    (
+        b"\x11\0\0\0\x03Joe\0\0\0\x03bal\x03\0\0\0\0\0\0\0\0\0\0\0\0\0\0\0\x03",
+        b"\x91\0",
+    ),
+    // Raw Joe bal data 0..2: nothing
+    (
+        b"\x11\0\0\0\x03Joe\0\0\0\x03bal\x01\0\0\0\0\0\0\0\0\0\0\0\0\0\0\0\x02",
+        b"\x91\0",
+    ),
+];
+
+/// A record of the first cell stays as long as a lock of its transaction stands, and goes then.
+const PRIMARY: [Exchange; 18] = [
+    // Stop 3: done
+    (b"\x05\0\0\0\0\0\0\0\x03", b"\x85"),
+    // Begin: 5
+    (b"\x01", b"\x81\0\0\0\0\0\0\0\x05"),
+    // Set 5 Bob bal 1: done
+    (
+        b"\x03\0\0\0\0\0\0\0\x05\0\0\0\x03Bob\0\0\0\x03bal\0\0\0\x011",
+        b"\x83",
+    ),
+    // Step 5: Held 1 1
+    (b"\x04\0\0\0\0\0\0\0\x05", b"\x84\x01\0\x01\0\x01"),
+    // Step 5: Stamped 6
+    (b"\x04\0\0\0\0\0\0\0\x05", b"\x84\x03\0\0\0\0\0\0\0\x06"),
+    // Step 5: Committed 6
+    (b"\x04\0\0\0\0\0\0\0\x05", b"\x84\x04\0\0\0\0\0\0\0\x06"),
+    // CollectBegin: 1, floor 7
+    (b"\x08", b"\x88\0\0\0\0\0\0\0\x01\0\0\0\0\0\0\0\x07"),
+    // CollectStep 1 10: Blocked Joe bal 3
+    (
+        b"\x09\0\0\0\0\0\0\0\x01\0\0\0\x0A",
+        b"\x89\x02\0\0\0\x03Joe\0\0\0\x03bal\0\0\0\0\0\0\0\x03",
+    ),
+    // Begin: 7
+    (b"\x01", b"\x81\0\0\0\0\0\0\0\x07"),
+    // Get 7 Joe bal: Pending 3
+    (
+        b"\x02\0\0\0\0\0\0\0\x07\0\0\0\x03Joe\0\0\0\x03bal",
+        b"\x82\x02\0\0\0\0\0\0\0\x03",
+    ),
+    // CleanBegin Joe bal: Cleaner 1 3
+    (
+        b"\x06\0\0\0\x03Joe\0\0\0\x03bal",
+        b"\x86\x01\0\0\0\0\0\0\0\x01\0\0\0\0\0\0\0\x03",
+    ),
+    // CleanStep 1: Decided
+    (b"\x07\0\0\0\0\0\0\0\x01", b"\x87\x01"),
+    // CleanStep 1: RolledForward 4
+    (b"\x07\0\0\0\0\0\0\0\x01", b"\x87\x02\0\0\0\0\0\0\0\x04"),
+    // Get 7 Joe bal: 9
+    (
+        b"\x02\0\0\0\0\0\0\0\x07\0\0\0\x03Joe\0\0\0\x03bal",
+        b"\x82\x01\0\0\0\x019",
+    ),
+    // CollectStep 1 6: More
+    (b"\x09\0\0\0\0\0\0\0\x01\0\0\0\x06", b"\x89\x01"),
+    // CollectStep 1 1: Collected
+    (b"\x09\0\0\0\0\0\0\0\x01\0\0\0\x01", b"\x89\x03"),
+    // Get 7 Bob bal: 1
+    (
+        b"\x02\0\0\0\0\0\0\0\x07\0\0\0\x03Bob\0\0\0\x03bal",
+        b"\x82\x01\0\0\0\x011",
+    ),
+    // Raw Bob bal write 0..5: nothing
+    (
+        b"\x11\0\0\0\x03Bob\0\0\0\x03bal\x03\0\0\0\0\0\0\0\0\0\0\0\0\0\0\0\x05",
+        b"\x91\0",
+    ),
+];
+
+/// What an old session reads stays until it stops.
+const OLD_READER: [Exchange; 22] = [
+    // Begin: 1
+    (b"\x01", b"\x81\0\0\0\0\0\0\0\x01"),
+    // Begin: 2
+    (b"\x01", b"\x81\0\0\0\0\0\0\0\x02"),
+    // Set 2 x c 1: done
+    (
+        b"\x03\0\0\0\0\0\0\0\x02\0\0\0\x01x\0\0\0\x01c\0\0\0\x011",
+        b"\x83",
+    ),
+    // Step 2: Held 1 1
+    (b"\x04\0\0\0\0\0\0\0\x02", b"\x84\x01\0\x01\0\x01"),
+    // Step 2: Stamped 3
+    (b"\x04\0\0\0\0\0\0\0\x02", b"\x84\x03\0\0\0\0\0\0\0\x03"),
+    // Step 2: Committed 3
+    (b"\x04\0\0\0\0\0\0\0\x02", b"\x84\x04\0\0\0\0\0\0\0\x03"),
+    // Begin: 4
+    (b"\x01", b"\x81\0\0\0\0\0\0\0\x04"),
+    // Set 4 x c 2: done
+    (
+        b"\x03\0\0\0\0\0\0\0\x04\0\0\0\x01x\0\0\0\x01c\0\0\0\x012",
+        b"\x83",
+    ),
+    // Step 4: Held 1 1
+    (b"\x04\0\0\0\0\0\0\0\x04", b"\x84\x01\0\x01\0\x01"),
+    // Step 4: Stamped 5
+    (b"\x04\0\0\0\0\0\0\0\x04", b"\x84\x03\0\0\0\0\0\0\0\x05"),
+    // Step 4: Committed 5
+    (b"\x04\0\0\0\0\0\0\0\x04", b"\x84\x04\0\0\0\0\0\0\0\x05"),
+    // CollectBegin: 1, floor 1
+    (b"\x08", b"\x88\0\0\0\0\0\0\0\x01\0\0\0\0\0\0\0\x01"),
+    // CollectStep 1 100: Collected
+    (b"\x09\0\0\0\0\0\0\0\x01\0\0\0d", b"\x89\x03"),
+    // Get 1 x c: Nothing
+    (b"\x02\0\0\0\0\0\0\0\x01\0\0\0\x01x\0\0\0\x01c", b"\x82\0"),
+    // Begin: 6
+    (b"\x01", b"\x81\0\0\0\0\0\0\0\x06"),
+    // Get 6 x c: 2
+    (
+        b"\x02\0\0\0\0\0\0\0\x06\0\0\0\x01x\0\0\0\x01c",
+        b"\x82\x01\0\0\0\x012",
+    ),
+    // Raw x c write 0..4: stamp 3, start 2
+    (
+        b"\x11\0\0\0\x01x\0\0\0\x01c\x03\0\0\0\0\0\0\0\0\0\0\0\0\0\0\0\x04",
+        b"\x91\x01\0\0\0\0\0\0\0\x03\0\0\0\x08\0\0\0\0\0\0\0\x02",
+    ),
+    // Stop 1: done
+    (b"\x05\0\0\0\0\0\0\0\x01", b"\x85"),
+    // CollectBegin: 2, floor 6
+    (b"\x08", b"\x88\0\0\0\0\0\0\0\x02\0\0\0\0\0\0\0\x06"),
+    // CollectStep 2 100: Collected
+    (b"\x09\0\0\0\0\0\0\0\x02\0\0\0d", b"\x89\x03"),
+    // Raw x c write 0..4: nothing
+    (
+        b"\x11\0\0\0\x01x\0\0\0\x01c\x03\0\0\0\0\0\0\0\0\0\0\0\0\0\0\0\x04",
+        b"\x91\0",
+    ),
+    // Get 6 x c: 2
+    (
+        b"\x02\0\0\0\0\0\0\0\x06\0\0\0\x01x\0\0\0\x01c",
+        b"\x82\x01\0\0\0\x012",
+    ),
+];
+
+/// Nothing is there to be collected.
+const EMPTY: [Exchange; 5] = [
+    // CollectBegin: 1, floor 1
+    (b"\x08", b"\x88\0\0\0\0\0\0\0\x01\0\0\0\0\0\0\0\x01"),
+    // CollectStep 1 0: refused 14
+    (b"\x09\0\0\0\0\0\0\0\x01\0\0\0\0", b"\xFF\x0E"),
+    // CollectStep 1 1: More
+    (b"\x09\0\0\0\0\0\0\0\x01\0\0\0\x01", b"\x89\x01"),
+    // CollectStep 1 1: Collected
+    (b"\x09\0\0\0\0\0\0\0\x01\0\0\0\x01", b"\x89\x03"),
+    // CollectStep 1 1: refused 10
+    (b"\x09\0\0\0\0\0\0\0\x01\0\0\0\x01", b"\xFF\x0A"),
+];
+
+/// How many exchanges of the transfer come first, and the row.
+const ROWS: [(usize, &[Exchange]); 4] = [
+    (17, &BLOCKED),
+    (17, &PRIMARY),
+    (0, &OLD_READER),
+    (0, &EMPTY),
+];
+
+#[test]
+fn collectors(rt: HostRuntime) -> Result<(), Fail> {
+    for (count, row) in ROWS {
+        let all = after_transfer(rt.alloc(), count, row)?;
+        assert!(rt; is_met(rt.alloc(), &all)?);
+    }
+    Ok(())
+}
