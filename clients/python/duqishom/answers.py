@@ -1,4 +1,4 @@
-"""What the store answers to reads, to steps and to cleaners."""
+"""What the store answers to reads, to steps, to cleaners and to collectors."""
 
 from __future__ import annotations
 
@@ -118,6 +118,37 @@ Cleaned = Decided | RolledForward | RolledBack | Gone
 
 
 @dataclass(frozen=True)
+class Collector:
+    """A collector: its number, and its floor: the start of the oldest session that was active when it began, or one more
+    than the greatest stamp that was answered where none was."""
+
+    number: int
+    floor: int
+
+
+@dataclass(frozen=True)
+class More:
+    """All visits were made, and there is more to do."""
+
+
+@dataclass(frozen=True)
+class Blocked:
+    """A lock below the floor stands on this cell, that of the session that began here: clean it, and go on."""
+
+    row: bytes
+    family: bytes
+    start: int
+
+
+@dataclass(frozen=True)
+class Collected:
+    """What no session from the floor on can read is erased, and the collector has closed."""
+
+
+Collection = More | Blocked | Collected
+
+
+@dataclass(frozen=True)
 class Version:
     """A version of a column: its stamp, and its value."""
 
@@ -181,6 +212,19 @@ def read_cleaned(fields: FieldReader) -> Cleaned:
             return Gone()
         case tag:
             raise MalformedReply(f"no answer to a CleanStep has the tag {tag}")
+
+
+def read_collection(fields: FieldReader) -> Collection:
+    """The answer to a CollectStep."""
+    match fields.number(1):
+        case 1:
+            return More()
+        case 2:
+            return Blocked(fields.counted(), fields.counted(), fields.number(8))
+        case 3:
+            return Collected()
+        case tag:
+            raise MalformedReply(f"no answer to a CollectStep has the tag {tag}")
 
 
 def read_version(fields: FieldReader) -> Version | None:

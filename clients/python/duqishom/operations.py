@@ -1,4 +1,4 @@
-"""The fifteen operations: how each is asked, and how its answer is read."""
+"""The seventeen operations: how each is asked, and how its answer is read."""
 
 from __future__ import annotations
 
@@ -8,12 +8,15 @@ from typing import ClassVar, Protocol, TypeVar
 from duqishom.answers import (
     Cleaned,
     Cleaner,
+    Collection,
+    Collector,
     Found,
     Progress,
     Qualifier,
     Version,
     read_cleaned,
     read_cleaner,
+    read_collection,
     read_found,
     read_progress,
     read_version,
@@ -140,6 +143,34 @@ class CleanStep:
 
     def read(self, fields: FieldReader) -> Cleaned:
         return read_cleaned(fields)
+
+
+@dataclass(frozen=True)
+class CollectBegin:
+    """Opens a collector of old versions, and answers it."""
+
+    code: ClassVar[int] = 0x08
+
+    def fields(self) -> bytes:
+        return b""
+
+    def read(self, fields: FieldReader) -> Collector:
+        return Collector(fields.number(8), fields.number(8))
+
+
+@dataclass(frozen=True)
+class CollectStep:
+    """Has a collector make so many visits."""
+
+    collector: int
+    visits: int
+    code: ClassVar[int] = 0x09
+
+    def fields(self) -> bytes:
+        return number(8, self.collector) + number(4, self.visits)
+
+    def read(self, fields: FieldReader) -> Collection:
+        return read_collection(fields)
 
 
 @dataclass(frozen=True)

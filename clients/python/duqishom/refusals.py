@@ -59,7 +59,7 @@ class TooManyWrites(Refused):
 
 
 class TooManySessions(Refused):
-    """1,024 sessions are active; or, of a cleaner that is to open, 1,024 cleaners are open."""
+    """1,024 sessions are active; or, of a cleaner or a collector that is to open, 1,024 of these are open."""
 
     number = 7
 
@@ -77,7 +77,7 @@ class UnknownCleaner(Refused):
 
 
 class UnknownCollector(Refused):
-    """No collector has this number. There are no collectors yet."""
+    """No collector with this number is open: it has collected all, or never opened."""
 
     number = 10
 
@@ -101,13 +101,16 @@ class UnknownServer(Refused):
 
 
 class BadCount(Refused):
-    """A Merge takes at least two files, and no more than the tablet has."""
+    """A Merge takes at least two files, and no more than the tablet has. A CollectStep makes 1 to 1,000 visits."""
 
     number = 14
 
 
 class MemtableFull(Refused):
-    """The memtable of the row's tablet has no room for the edits of this step. A Minor of the tablet makes room."""
+    """The memtable of the row's tablet has no room for the edits of this step. A Minor of the tablet makes room.
+
+    A collector's step doesn't tell the row: a Minor of each tablet makes room for it.
+    """
 
     number = 15
 
@@ -125,7 +128,7 @@ class FileTooLarge(Refused):
 
 
 class Exhausted(Refused):
-    """No stamp is left, or no number for a cleaner, or no name of a file."""
+    """No stamp is left, or no number for a cleaner or a collector, or no name of a file."""
 
     number = 18
 

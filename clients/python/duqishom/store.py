@@ -9,11 +9,25 @@ from contextlib import AbstractContextManager
 from types import TracebackType
 from typing import TypeVar
 
-from duqishom.answers import Cleaned, Cleaner, Decided, Found, Progress, Qualifier, Version
+from duqishom.answers import (
+    Blocked,
+    Cleaned,
+    Cleaner,
+    Collected,
+    Collection,
+    Collector,
+    Decided,
+    Found,
+    Progress,
+    Qualifier,
+    Version,
+)
 from duqishom.operations import (
     Begin,
     CleanBegin,
     CleanStep,
+    CollectBegin,
+    CollectStep,
     Get,
     Major,
     Merge,
@@ -35,6 +49,8 @@ from duqishom.refusals import MemtableFull, TooManyFiles
 from duqishom.tablets import Tablet, TabletMap
 from duqishom.texts import first_row
 from duqishom.transactions import MOST_STAMP, Patience, StillPending, Transaction, TransactionConflict
+
+MOST_VISITS = 1000
 
 Answer = TypeVar("Answer")
 Result = TypeVar("Result")
@@ -116,6 +132,37 @@ class Store:
                 self.make_room(first_row(lock.value))
             return self.clean_step(cleaner)
 
+    def collect_begin(self) -> Collector:
+        """Opens a collector of old versions. Its floor is the least start of an active session."""
+        return self.ask(CollectBegin())
+
+    def collect_step(self, collector: int, visits: int = MOST_VISITS) -> Collection:
+        """Has a collector make so many visits, 1 to 1,000. Each is of one cell: it looks for a lock, or erases old versions."""
+        return self.ask(CollectStep(collector, visits))
+
+    def collect(self, visits: int = MOST_VISITS) -> int:
+        """Erases the versions that no active session reads, and none that begins later: the floor up to which that was done.
+
+        The floor is the least start of an active session, so a session that is left open keeps versions: stop those that have no
+        more to do. A lock below it is of no active session, and is cleaned. Between two requests of so many visits other
+        threads may ask the store. Where a refusal is raised, the collector stays open.
+        """
+        collector = self.collect_begin()
+        while (done := self._collect_step(collector.number, visits)) != Collected():
+            if isinstance(done, Blocked):
+                self.clean(done.row, done.family)
+        return collector.floor
+
+    def _collect_step(self, collector: int, visits: int) -> Collection:
+        """A collector's step. Where a memtable is full, all are written to files, for the refusal doesn't tell which it is; the
+        visits that were made before it stay, so each try comes further."""
+        while True:
+            try:
+                return self.collect_step(collector, visits)
+            except MemtableFull:
+                for tablet in self.tablets():
+                    self._write(tablet.number)
+
     def minor(self, tablet: int) -> None:
         """Writes the memtable of a tablet as a new file."""
         self.ask(Minor(tablet))
@@ -161,7 +208,11 @@ class Store:
     def make_room(self, row: bytes) -> None:
         """Makes room in the memtable of the tablet that holds a row. Where that has too many files, all become one."""
         with self._turn:
-            tablet = self._tablets.holder(row).number
+            self._write(self._tablets.holder(row).number)
+
+    def _write(self, tablet: int) -> None:
+        """Writes the memtable of a tablet to a file. Where the tablet has too many files, all become one."""
+        with self._turn:
             try:
                 self.minor(tablet)
             except TooManyFiles:

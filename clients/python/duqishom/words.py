@@ -153,6 +153,7 @@ class Words:
             Line("in START step", "takes the session's next step", self.session_step),
             Line("in START stop", "ends the session where it stands", self.session_stop),
             Line("clean ROW FAMILY", "clears the lock of a cell", self.clean),
+            Line("collect", "erases the versions that no session reads", self.collect),
             Line("raw ROW FAMILY COLUMN LO HI", "the newest version in data, lock or write; HI may be last", self.raw),
             Line("tablets", "the tablets, in the order of their rows", self.tablets),
             Line("split ROW", "cuts the tablet that holds the row behind it", self.split),
@@ -247,6 +248,10 @@ class Words:
         """Clears the lock of a cell."""
         cleaned = self._store.clean(bytes_of(row), bytes_of(family))
         return "no lock" if cleaned is None else text_of_cleaned(cleaned)
+
+    def collect(self) -> str:
+        """Erases the versions that no session reads."""
+        return f"collected up to {self._store.collect()}"
 
     def raw(self, row: str, family: str, column: str, lo: str, hi: str) -> str:
         """Reads the newest version of a column in a range of stamps."""

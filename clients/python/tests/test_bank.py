@@ -205,6 +205,7 @@ class Bank:
             lambda: self.store.split(self.random.choice(self.accounts)),
             lambda: self.store.move(tablet, self.random.randrange(16)),
             self.store.sweep,
+            self.store.collect,
             self.store.restart_oracle,
         )
         try:

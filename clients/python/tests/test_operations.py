@@ -3,6 +3,7 @@
 from __future__ import annotations
 
 import unittest
+from unittest.mock import patch
 
 from duqishom import (
     BadColumn,
@@ -10,6 +11,9 @@ from duqishom import (
     BadRow,
     BadSplit,
     BadValue,
+    Blocked,
+    Collected,
+    Collector,
     Committed,
     Cleaner,
     Conflict,
@@ -21,6 +25,7 @@ from duqishom import (
     Held,
     Lost,
     MemtableFull,
+    More,
     Nothing,
     Pending,
     ProgramEnded,
@@ -34,6 +39,7 @@ from duqishom import (
     TooManySessions,
     TooManyWrites,
     UnknownCleaner,
+    UnknownCollector,
     UnknownServer,
     UnknownSession,
     UnknownTablet,
@@ -143,6 +149,63 @@ class Operations(StoreTest):
         self.assertEqual(self.store.clean(JOE, BAL), RolledBack())
         self.assertIsNone(self.store.clean(BOB, BAL))
 
+    def transfer(self) -> None:
+        """Commits Bob and Joe, and then both again; the second transaction stops with Joe's cell locked."""
+        for finishes, values in ((True, (b"10", b"2")), (False, (b"3", b"9"))):
+            start = self.store.begin()
+            for row, value in zip((BOB, JOE), values):
+                self.store.set(start, row, BAL, value)
+            for _ in range(5 if finishes else 4):
+                self.store.step(start)
+            if not finishes:
+                self.store.stop(start)
+
+    def test_collector(self) -> None:
+        store = self.store
+        self.transfer()
+        self.assertEqual(store.collect_begin(), Collector(1, 5))
+        self.assertEqual(store.collect_step(1, 10), Blocked(JOE, BAL, 3))
+        self.assertEqual(store.collect_step(1), Blocked(JOE, BAL, 3))
+        self.assertEqual(store.clean(JOE, BAL), RolledForward(4))
+        self.assertEqual(store.collect_step(1, 6), More())
+        self.assertEqual(store.collect_step(1, 1), Collected())
+        with self.assertRaises(UnknownCollector):
+            store.collect_step(1, 1)
+        record = Version(4, (3).to_bytes(8, "big"))
+        self.assertEqual(store.raw(JOE, BAL, Qualifier.WRITE), record)
+        self.assertIsNone(store.raw(JOE, BAL, Qualifier.WRITE, 0, 3))
+        self.assertIsNone(store.raw(JOE, BAL, Qualifier.DATA, 0, 2))
+        self.assertEqual(store.get(store.begin(), JOE, BAL), Value(b"9"))
+
+    def test_collect(self) -> None:
+        self.transfer()
+        self.assertEqual(self.store.collect(visits=1), 5)
+        self.assertIsNone(self.store.raw(JOE, BAL, Qualifier.LOCK))
+        self.assertIsNone(self.store.raw(BOB, BAL, Qualifier.DATA, 0, 2))
+        start = self.store.begin()
+        self.assertEqual(self.store.get(start, BOB, BAL), Value(b"3"))
+        self.assertEqual(self.store.get(start, JOE, BAL), Value(b"9"))
+        self.assertEqual(self.store.collect(), 5)
+
+    def test_old_reader_keeps_versions(self) -> None:
+        self.commit(BOB, b"1")
+        reader = self.store.begin()
+        last = self.commit(BOB, b"2")
+        self.assertEqual(self.store.collect(), reader)
+        self.assertEqual(self.store.get(reader, BOB, BAL), Value(b"1"))
+        self.store.stop(reader)
+        self.assertEqual(self.store.collect(), last + 1)
+        self.assertIsNone(self.store.raw(BOB, BAL, Qualifier.WRITE, 0, last - 1))
+        self.assertEqual(self.store.get(self.store.begin(), BOB, BAL), Value(b"2"))
+
+    def test_data_that_was_rolled_back(self) -> None:
+        start = self.hold(BOB, JOE)
+        self.store.stop(start)
+        self.store.collect()
+        for row in (BOB, JOE):
+            self.assertIsNone(self.store.raw(row, BAL, Qualifier.DATA))
+            self.assertIsNone(self.store.raw(row, BAL, Qualifier.LOCK))
+
     def test_raw(self) -> None:
         commit = self.commit(BOB, b"10")
         start = commit - 1
@@ -242,6 +305,26 @@ class Refusals(StoreTest):
         with self.assertRaises(UnknownCleaner):
             self.store.clean_step(1025)
 
+    def test_1024_collectors(self) -> None:
+        for number in range(1, 1025):
+            self.assertEqual(self.store.collect_begin(), Collector(number, 1))
+        with self.assertRaises(TooManySessions):
+            self.store.collect_begin()
+        with self.assertRaises(UnknownCollector):
+            self.store.collect_step(1025)
+        self.assertEqual(self.store.collect_step(1024, 1), More())
+        self.assertEqual(self.store.collect_step(1024, 1), Collected())
+        self.assertEqual(self.store.collect_begin(), Collector(1025, 1))
+
+    def test_1000_visits(self) -> None:
+        self.store.collect_begin()
+        for visits in (0, 1001):
+            with self.assertRaises(BadCount):
+                self.store.collect_step(1, visits)
+        with self.assertRaises(UnknownCollector):
+            self.store.collect_step(2, 0)
+        self.assertEqual(self.store.collect_step(1, 1000), Collected())
+
     def test_1024_tablets(self) -> None:
         for number in range(1, 1024):
             self.store.split(number.to_bytes(2, "big"))
@@ -285,6 +368,14 @@ class Refusals(StoreTest):
             transaction.set(JOE, BAL, b"v" * 65_536)
         self.assertIsNotNone(transaction.commit_stamp)
         self.assertEqual(self.store.step(start), Held(1, 1))
+
+    def test_full_memtable_of_a_collector(self) -> None:
+        self.commit(BOB, b"1")
+        with patch.object(self.store, "collect_step", side_effect=[MemtableFull(), Collected()]):
+            self.store.collect()
+        self.commit(BOB, b"2")
+        self.store.minor(1)
+        self.store.merge(1, 2)
 
     def test_too_large_a_frame_is_not_sent(self) -> None:
         start = self.store.begin()

@@ -71,6 +71,10 @@ class Words(unittest.TestCase):
             ("split Jim", "tablet 2 ends with Jim"),
             ("tablets", "2 up to Jim\n1 up to the last row"),
             ("move 2 3", "moved"),
+            ("set Joe bal 3", "committed at 6"),
+            ("collect", "collected up to 7"),
+            ("raw Joe bal write 0 5", "nothing"),
+            ("get Joe bal", "3"),
             ("restart", "restarted"),
             ("begin", "session 1001"),
         ]
@@ -123,7 +127,7 @@ class Words(unittest.TestCase):
 
     def test_help(self) -> None:
         status, lines = answers("help\n")
-        self.assertEqual((status, len(lines)), (0, 19))
+        self.assertEqual((status, len(lines)), (0, 20))
 
     def test_another_program(self) -> None:
         self.assertEqual(answers("begin\n", "--program", "true")[0], 2)
