@@ -14,7 +14,8 @@ use std::{fs, io};
 const DIGITS: usize = 16;
 
 /// Files in one folder: `t`, 16 lower-case hexadecimal digits of the name, and `.tab`. Other names in the folder are not
-/// listed. Nothing is known of the bytes.
+/// listed. Nothing is known of the bytes. The folder's file `lock` is locked as long as the folder is open, so that one
+/// program has it at a time; the system unlocks it where the program ends, however it does.
 ///
 /// A file is written beside its place, under the same digits and `.new`, forced to the disk, and then put in its place,
 /// and the folder is forced to the disk too: where the machine stops between, the old bytes stand or the new ones.
@@ -23,6 +24,7 @@ pub struct DirFiles<R> {
     rt: R,
     alloc: Global,
     folder: String,
+    _lock: File,
     faults: u64,
 }
 
@@ -47,6 +49,14 @@ fn name_of(file: &str, ending: &str) -> Option<u64> {
         return None;
     }
     u64::from_str_radix(digits, 16).ok()
+}
+
+/// Locks a folder's file `lock`, which is made where there is none. It fails where another has locked it.
+fn lock_folder<R: Folders<File = File>>(rt: &R, alloc: Global, folder: &str) -> io::Result<File> {
+    let path = format!(in alloc; "{folder}/lock")?;
+    let file = File::create(rt, path.as_str())?;
+    file.try_lock()?;
+    Ok(file)
 }
 
 /// Forces a folder to the disk: which names it has.
@@ -173,27 +183,25 @@ fn remove_unplaced<R: Folders + AllocGlobal + Clone + Drop>(
     Ok(())
 }
 
-impl<R: Folders + AllocGlobal + Clone + Drop> DirFiles<R> {
-    /// The files of a folder. What a stopped program left beside its place there is removed.
+impl<R: Folders<File = File> + AllocGlobal + Clone + Drop> DirFiles<R> {
+    /// The files of a folder, which no other program may open until these are dropped. What a stopped program left
+    /// beside its place there is removed.
     ///
     /// # Errors
     ///
-    /// `Device` where there is no such folder, or it can't be read; `Memory`.
+    /// `Device` where there is no such folder, another program has it, or it can't be read; `Memory`.
     pub fn open(rt: R, folder: &str) -> Result<DirFiles<R>, FileFault>
         ensures { IfOk result (λ files. files.faults ≡ 0) }
     {
-        let alloc = rt.alloc();
-        let mut files = DirFiles {
-            rt,
-            alloc,
-            folder: String::from_str(alloc, folder)?,
-            faults: 0,
-        };
-        let removed = remove_unplaced(&files.rt, files.folder.as_str());
-        files.told(removed)?;
-        Ok(files)
+        match open_folder(rt, folder) {
+            Ok(files) => Ok(files),
+            Err(error) if error.kind() == ErrorKind::OutOfMemory => Err(FileFault::Memory),
+            Err(_) => Err(FileFault::Device),
+        }
     }
+}
 
+impl<R: Folders + AllocGlobal + Clone + Drop> DirFiles<R> {
     /// What a call answered, or its fault, which is counted if it is a device's.
     fn told<T: Drop>(&mut self, called: io::Result<T>) -> Result<T, FileFault>
         ensures cause { HasCause self.old.faults self.new.faults result }
@@ -208,6 +216,26 @@ impl<R: Folders + AllocGlobal + Clone + Drop> DirFiles<R> {
             }
         }
     }
+}
+
+/// The files of a folder, once it is locked and what was left unplaced is removed.
+fn open_folder<R: Folders<File = File> + AllocGlobal + Clone + Drop>(
+    rt: R,
+    folder: &str,
+) -> io::Result<DirFiles<R>>
+    ensures { IfOk result (λ files. files.faults ≡ 0) }
+{
+    let alloc = rt.alloc();
+    let lock = lock_folder(&rt, alloc, folder)?;
+    remove_unplaced(&rt, folder)?;
+    let folder = String::from_str(alloc, folder)?;
+    Ok(DirFiles {
+        rt,
+        alloc,
+        folder,
+        _lock: lock,
+        faults: 0,
+    })
 }
 
 impl<R: Folders + AllocGlobal + Clone + Drop> Files for DirFiles<R> {
