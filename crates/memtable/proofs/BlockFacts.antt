@@ -3,22 +3,20 @@ use Rattle.std.proofs.Common.{◌≡◌, ◌<◌, ◌≤◌, ◌+◌, ℕ, zero,
 use Rattle.std.proofs.lemmas.Bool.Decides.{nat_tests}
 use Rattle.std.proofs.lemmas.List.{length-map}
 use Rattle.std.specs.List.{AllByRecursion}
-use Rattle.std.specs.declared.boxed.Box.{Box}
-use Rattle.std.specs.declared.vec.Vec.{Vec}
 use Rattle.std.specs.Ordering.{is_gt}
 use Rattle.std.specs.FinMap.Entries.{put}
 use Rattle.cell_key.specs.Keys.{byte_cmp}
 use Rattle.cell_key.specs.Entries.{Entry, IsRising}
-use Rattle.memtable.specs.declared.slots.Slot.{Slot}
-use Rattle.memtable.specs.Slots.{slot_entry, slot_entries}
-use Rattle.memtable.specs.Blocks.{ends_below, lists_of, block_entries, IsBlockPlace, IsBlock, IsFullAt}
+use Rattle.memtable.specs.declared.blocks.Block.{Block}
+use Rattle.memtable.specs.Slots.{slot_entry}
+use Rattle.memtable.specs.Blocks.{ends_below, list_of, lists_of, block_entries, IsBlockPlace, IsCounted, IsBlock, IsFullAt}
 use Rattle.memtable.proofs.BlockLists.{all_set, put_in, put_last}
 
 -- a block has entries
-block_some : {A Z : Type 0} (block : Vec (Box Slot A) Z) → IsBlock block → 1 ≤ length (slot_entries block.items)
-block_some block is = let some = is.some in let len = block.ok.0 in let same = length-map block.items (λ slot. slot_entry slot.value) in omega (arith, len, same)
+block_some : (block : Block) → IsBlock block → 1 ≤ length (list_of block)
+block_some block is = let some = is.some in let len = block.slots.ok.0 in let same = length-map block.slots.items (λ slot. slot_entry slot.value) in omega (arith, len, same)
 
-pub blocks_some : {A Z : Type 0} (blocks : List (Vec (Box Slot A) Z)) → AllByRecursion IsBlock blocks → AllByRecursion (λ block. 1 ≤ length (slot_entries block.items)) blocks
+pub blocks_some : (blocks : List Block) → AllByRecursion IsBlock blocks → AllByRecursion (λ block. 1 ≤ length (list_of block)) blocks
 blocks_some [] all = tt
 blocks_some (block ∷ blocks) all = (block_some block all.0, blocks_some blocks all.1)
 
@@ -47,22 +45,23 @@ within_set (z ∷ xs) zero x lt = omega arith
 within_set (z ∷ xs) (suc i) x lt = let h = within_set xs i x (omega arith) in omega (arith, h)
 
 -- a block that became full
-pub full_at : {A Z : Type 0} (blocks : List (Vec (Box Slot A) Z)) (i : ℕ) (block : Vec (Box Slot A) Z) → i < length blocks → vec_len block ≡ 128 → AllByRecursion IsBlock blocks → IsFullAt (set blocks i block) i
-full_at blocks i block lt full all =
+pub full_at : (blocks : List Block) (i : ℕ) (block : Block) → i < length blocks → vec_len block.slots ≡ 128 → IsCounted block → AllByRecursion IsBlock blocks → IsFullAt (set blocks i block) i
+full_at blocks i block lt full counted all =
     record {
       within = within_set blocks i block lt;
-      full = λ d. ap (λ (b : _). vec_len b) (at_set blocks i block d lt) ∙ full;
+      full = λ d. ap (λ (b : Block). vec_len b.slots) (at_set blocks i block d lt) ∙ full;
+      counted = λ d. subst IsCounted (sym (at_set blocks i block d lt)) counted;
       others = λ other is. subst (AllByRecursion IsBlock) (sym (set_again blocks i block other)) (all_set IsBlock blocks i other all is);
     }
 
 -- an entry put into the block at its place, or into the last one where that is behind all
-pub put_chosen : {A Z : Type 0} (name : List ℕ) (v : Option (List ℕ)) (old new : Vec (Box Slot A) Z) → slot_entries new.items ≡ put byte_cmp name v (slot_entries old.items) → (blocks : List (Vec (Box Slot A) Z)) (place at : ℕ) → IsRising (block_entries blocks) → AllByRecursion IsBlock blocks → IsBlockPlace name (lists_of blocks) place → at < length blocks → (at ≢ place → (at + 1 ≡ length blocks) × (length blocks ≤ place)) → old ≡ get_or blocks at old → block_entries (set blocks at new) ≡ put byte_cmp name v (block_entries blocks)
+pub put_chosen : (name : List ℕ) (v : Option (List ℕ)) (old new : Block) → list_of new ≡ put byte_cmp name v (list_of old) → (blocks : List Block) (place at : ℕ) → IsRising (block_entries blocks) → AllByRecursion IsBlock blocks → IsBlockPlace name (lists_of blocks) place → at < length blocks → (at ≢ place → (at + 1 ≡ length blocks) × (length blocks ≤ place)) → old ≡ get_or blocks at old → block_entries (set blocks at new) ≡ put byte_cmp name v (block_entries blocks)
 put_chosen name v old new made blocks place at r all p lt last g = go (nat_eq at place) refl
   where
     go : (b : Bool) → nat_eq at place ≡ b → block_entries (set blocks at new) ≡ put byte_cmp name v (block_entries blocks)
     go true e =
         let same : at ≡ place = grind (arith, nat_tests) in
-        put_in (λ (block : _). slot_entries block.items) name v old new made blocks at r (blocks_some blocks all) (subst (IsBlockPlace name (lists_of blocks)) (sym same) p) lt g
+        put_in list_of name v old new made blocks at r (blocks_some blocks all) (subst (IsBlockPlace name (lists_of blocks)) (sym same) p) lt g
     go false e =
         let other = last (λ same. grind (arith, nat_tests)) in
-        put_last (λ (block : _). slot_entries block.items) name v old new made blocks at place r p other.1 other.0 g
+        put_last list_of name v old new made blocks at place r p other.1 other.0 g

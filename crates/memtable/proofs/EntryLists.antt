@@ -9,7 +9,7 @@ use Rattle.std.specs.FinMap.Entries.{put, is_sorted-put, find-put, same_entries}
 use Rattle.cell_key.specs.Keys.{byte_cmp}
 use Rattle.cell_key.specs.Entries.{Entry, IsRising, IsEntry, or_else, entry_of_key, entry_len}
 use Rattle.memtable.specs.Edits.{bytes_of}
-use Rattle.memtable.specs.Slots.{over}
+use Rattle.memtable.specs.Slots.{one_value, over, value_count}
 use Rattle.cell_key.proofs.Finding.{one_text, find_lower, second}
 
 pub over_rising : (es base : List Entry) → IsRising base → IsRising (over es base)
@@ -92,6 +92,25 @@ bytes-put name v es r =
 
 pub stood_within : (name : List ℕ) (es : List Entry) → stood_len name (entry_of_key es name) ≤ bytes_of es
 stood_within name es = rw (bytes-total es, stood-len name (entry_of_key es name)) (stood_below entry_len name es)
+
+-- how many values stood at a text
+abbrev pub stood_value : Option (Option (List ℕ)) → ℕ
+stood_value None = 0
+stood_value (Some v) = one_value v
+
+count-total : (es : List Entry) → value_count es ≡ total (λ e. one_value e.1) es
+count-total [] = refl
+count-total (e ∷ es) = ap (λ (n : ℕ). one_value e.1 + n) (count-total es)
+
+stood-value : (name : List ℕ) (o : Option (Option (List ℕ))) → stood_value o ≡ stood (λ e. one_value e.1) name o
+stood-value name None = refl
+stood-value name (Some v) = refl
+
+pub count-put : (name : List ℕ) (v : Option (List ℕ)) (es new : List Entry) (stood : Option (Option (List ℕ))) → IsRising es → new ≡ put byte_cmp name v es → stood ≡ entry_of_key es name → value_count new + stood_value stood ≡ value_count es + one_value v
+count-put name v es new stood r made is =
+    ap (λ (xs : List Entry). value_count xs + stood_value stood) made
+    ∙ ap (λ (o : Option (Option (List ℕ))). value_count (put byte_cmp name v es) + stood_value o) is
+    ∙ rw (count-total (put byte_cmp name v es), count-total es, stood-value name (entry_of_key es name)) (total-put (λ e. one_value e.1) name v es r)
 
 pub each-put : (name : List ℕ) (v : Option (List ℕ)) (es : List Entry) → IsEntry (name, v) → AllByRecursion IsEntry es → AllByRecursion IsEntry (put byte_cmp name v es)
 each-put name v [] one all = (one, tt)

@@ -12,7 +12,7 @@ use Rattle.std.specs.FinMap.{get}
 use Rattle.std.specs.FinMap.Entries.{find}
 use Rattle.cell_key.specs.Names.{IsRow, IsFamily}
 use Rattle.cell_key.specs.Keys.{byte_cmp, key_cmp, text, exact_qualifiers, same_key, qualifier_name, IsKey, IsStored}
-use Rattle.cell_key.specs.Cells.{Cells, IsNewest, version}
+use Rattle.cell_key.specs.Cells.{IsNewest, version}
 use Rattle.cell_key.specs.Versions.{IsVersion}
 use Rattle.cell_key.specs.Entries.{Entry, IsEntry, IsEntryList, IsRising, cells_of, entries_from, entry_of_key, value_of}
 use Rattle.cell_key.specs.declared.keys.CellKey.{CellKey}

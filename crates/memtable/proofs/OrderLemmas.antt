@@ -1,5 +1,5 @@
 -- The byte order of lists by their fronts.
-use Rattle.std.proofs.Common.{◌≡◌, ℕ, Bool, true, false, ◌&&◌, List, [], ◌∷◌, ◌++◌, length, take, drop, nat_eq, refl, ap, ◌∙◌, arith, append_assoc}
+use Rattle.std.proofs.Common.{◌≡◌, ℕ, Bool, true, false, ◌&&◌, ◌||◌, ◌==◌, cond, List, [], ◌∷◌, ◌++◌, length, take, drop, nat_eq, refl, ap, ◌∙◌, arith, append_assoc}
 use Rattle.std.specs.declared.cmp.Ordering.{Ordering}
 use Rattle.std.specs.declared.cmp.Ordering.TheVariants.{Less, Equal, Greater}
 use Rattle.std.specs.Ordering.{nat_cmp, ordering_then}
@@ -7,6 +7,8 @@ use Rattle.std.specs.Cmp.Lexicographic.{pointwise}
 use Rattle.std.specs.FinMap.{nat_cmp-IsAntisymmetric}
 use Rattle.std.proofs.lemmas.Bool.Decides.{nat_tests}
 use Rattle.cell_key.specs.Keys.{byte_cmp}
+use Rattle.cell_key.specs.Texts.{escaped, escaped_byte}
+use Rattle.std.specs.List.{list_any}
 use Rattle.memtable.specs.Order.{ComparesAs, ComparesTo}
 use Rattle.std.specs.Cmp.{nat_cmp_total, tied_itself}
 
@@ -49,3 +51,18 @@ first_decides a b bytes o h tail = ap (λ (t : List ℕ). byte_cmp t bytes) (app
 
 pub second_decides : (a b bytes mid : List ℕ) (o : Ordering) → ComparesAs a bytes mid → ComparesTo b mid o → ComparesTo (a ++ b) bytes o
 second_decides a b bytes mid o h k tail = ap (λ (t : List ℕ). byte_cmp t bytes) (append_assoc a b tail) ∙ h (b ++ tail) ∙ k tail
+
+-- ---- a row without a byte 0 is written as it is
+
+plain_byte : (b : ℕ) → (b == 0) ≡ false → escaped_byte b ≡ b ∷ []
+plain_byte b e = ap (λ (t : Bool). cond t (0 ∷ 255 ∷ []) (b ∷ [])) e
+
+or_none : (a b : Bool) → (a || b) ≡ false → (a ≡ false) × (b ≡ false)
+or_none true b e = cc
+or_none false b e = (refl, e)
+
+pub plain_row : (row : List ℕ) → list_any (λ b. b == 0) row ≡ false → escaped row ≡ row
+plain_row [] e = refl
+plain_row (b ∷ row) e =
+    let none = or_none (b == 0) (list_any (λ b. b == 0) row) e in
+    ap (λ (xs : List ℕ). xs ++ escaped row) (plain_byte b none.0) ∙ ap (λ (xs : List ℕ). b ∷ xs) (plain_row row none.1)

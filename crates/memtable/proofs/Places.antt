@@ -1,13 +1,13 @@
 -- Entries put at their place.
-use Rattle.std.proofs.Common.{◌≡◌, ◌<◌, ◌≤◌, ℕ, zero, suc, true, false, List, [], ◌∷◌, length, map, get_or, set, refl, sym, ap, ◌∙◌, arith}
+use Rattle.std.proofs.Common.{◌≡◌, ◌<◌, ◌≤◌, ℕ, zero, suc, true, false, cond, Some, None, List, [], ◌∷◌, length, map, get_or, set, refl, sym, ap, ◌∙◌, arith}
 use Rattle.std.specs.List.{insert}
 use Rattle.std.specs.declared.cmp.Ordering.{Ordering}
 use Rattle.std.specs.declared.cmp.Ordering.TheVariants.{Less, Equal, Greater}
 use Rattle.std.specs.Ordering.{is_eq}
-use Rattle.std.specs.FinMap.Entries.{put, by_order}
+use Rattle.std.specs.FinMap.Entries.{put, by_order, find}
 use Rattle.cell_key.specs.Keys.{byte_cmp}
-use Rattle.cell_key.specs.Entries.{Entry, IsPlace}
-use Rattle.cell_key.proofs.Finding.{clash, equal, one_text}
+use Rattle.cell_key.specs.Entries.{Entry, IsPlace, IsRising, entry_of_key}
+use Rattle.cell_key.proofs.Finding.{clash, equal, find_lower, one_text, second}
 use Rattle.memtable.specs.Slots.{is_named}
 
 module _ {X : Type 0} (f : X → Entry) (name : List ℕ) where
@@ -44,3 +44,14 @@ module _ {X : Type 0} (f : X → Entry) (name : List ℕ) where
       let tie : byte_cmp name (f y).0 ≡ Equal = equal _ t in
       rw tie (λ j. ((s ∙ one_text name (f y).0 tie) j, (f x).1) ∷ map f xs)
   put_over x (y ∷ xs) (suc i) s p t = rw p.0 (ap (λ (es : List Entry). f y ∷ es) (put_over x xs i s p.1 t))
+
+  -- where another text stands, nothing has the text
+  pub not_found : (xs : List X) (i : ℕ) → IsRising (map f xs) → IsPlace name (map f xs) i → is_named name (map f xs) i ≡ false → entry_of_key (map f xs) name ≡ None
+  not_found [] i r p n = refl
+  not_found (y ∷ xs) zero r p n = go (byte_cmp name (f y).0) refl
+    where
+      go : (o : Ordering) → byte_cmp name (f y).0 ≡ o → entry_of_key (map f (y ∷ xs)) name ≡ None
+      go Less e = find_lower name (f y) (map f xs) r e
+      go Equal e = absurd (clash _ (ap is_eq e) n)
+      go Greater e = absurd (p e)
+  not_found (y ∷ xs) (suc i) r p n = ap (λ (o : Ordering). cond (is_eq o) (Some (f y).1) (find byte_cmp name (map f xs))) p.0 ∙ not_found xs i (second _ _ r) p.1 n

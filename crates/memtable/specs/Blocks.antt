@@ -7,8 +7,9 @@ use Rattle.std.specs.List.{AllByRecursion, flat_map}
 use Rattle.cell_key.specs.Keys.{byte_cmp}
 use Rattle.cell_key.specs.Entries.{Entry, IsEntryList}
 use Rattle.memtable.specs.declared.slots.Slot.{Slot}
+use Rattle.memtable.specs.declared.blocks.Block.{Block}
 use Rattle.memtable.specs.declared.blocks.Blocks.{Blocks}
-use Rattle.memtable.specs.Slots.{slot_entries}
+use Rattle.memtable.specs.Slots.{slot_entries, value_count}
 use Rattle.memtable.specs.Edits.{bytes_of, IsWithinLimits}
 
 -- whether a list has entries, the last of which is below this text
@@ -24,33 +25,42 @@ IsBlockPlace name [] (suc i) = ⊥
 IsBlockPlace name (es ∷ lists) zero = ends_below name es ≡ false
 IsBlockPlace name (es ∷ lists) (suc i) = (ends_below name es ≡ true) × IsBlockPlace name lists i
 
-module _ {A Z : Type 0} where
-  -- the entries of each block
-  abbrev pub lists_of : List (Vec (Box Slot A) Z) → List (List Entry)
-  lists_of blocks = map (λ block. slot_entries block.items) blocks
+-- the entries of a block
+abbrev pub list_of : Block → List Entry
+list_of block = slot_entries block.slots.items
 
-  -- the entries of all blocks
-  abbrev pub block_entries : List (Vec (Box Slot A) Z) → List Entry
-  block_entries blocks = flat_map (λ block. slot_entries block.items) blocks
+-- the entries of each block
+abbrev pub lists_of : List Block → List (List Entry)
+lists_of blocks = map list_of blocks
 
-  -- a block has entries, and room for one more
-  pub record IsBlock (block : Vec (Box Slot A) Z) : Type 0 where
-    pub some : 1 ≤ vec_len block
-    pub few : vec_len block < 128
-    pub room : 128 ≤ vec_capacity block
+-- the entries of all blocks
+abbrev pub block_entries : List Block → List Entry
+block_entries blocks = flat_map list_of blocks
 
-  -- a block for entries to come
-  pub record IsSpare (block : Vec (Box Slot A) Z) : Type 0 where
-    pub empty : block.items ≡ []
-    pub room : 128 ≤ vec_capacity block
+-- a block knows how many of its entries have a value
+abbrev pub IsCounted : Block → Type 0
+IsCounted block = block.values ≡ value_count (list_of block)
 
-  -- the block at the place is full, and all others have room
-  pub record IsFullAt (blocks : List (Vec (Box Slot A) Z)) (at : ℕ) : Type 0 where
-    pub within : at < length blocks
-    pub full : (d : Vec (Box Slot A) Z) → vec_len (get_or blocks at d) ≡ 128
-    pub others : (block : Vec (Box Slot A) Z) → IsBlock block → AllByRecursion IsBlock (set blocks at block)
+-- a block has entries, and room for one more
+pub record IsBlock (block : Block) : Type 0 where
+  pub some : 1 ≤ vec_len block.slots
+  pub few : vec_len block.slots < 128
+  pub room : 128 ≤ vec_capacity block.slots
+  pub counted : IsCounted block
 
--- blocks with room each, and empty ones
+-- room for the entries of a block to come
+pub record IsSpare {A Z : Type 0} (spare : Vec (Box Slot A) Z) : Type 0 where
+  pub empty : spare.items ≡ []
+  pub room : 128 ≤ vec_capacity spare
+
+-- the block at the place is full, and all others have room
+pub record IsFullAt (blocks : List Block) (at : ℕ) : Type 0 where
+  pub within : at < length blocks
+  pub full : (d : Block) → vec_len (get_or blocks at d).slots ≡ 128
+  pub counted : (d : Block) → IsCounted (get_or blocks at d)
+  pub others : (block : Block) → IsBlock block → AllByRecursion IsBlock (set blocks at block)
+
+-- blocks with room each, and room for more
 pub record AreBlocks (blocks : Blocks) : Type 0 where
   pub filled : AllByRecursion IsBlock blocks.filled.items
   pub spare : AllByRecursion IsSpare blocks.spare.items

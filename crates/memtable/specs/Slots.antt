@@ -1,5 +1,5 @@
 -- The entries that slots stand for.
-use Rattle.std.specs.Prelude.{◌≡◌, ℕ, zero, suc, Bool, false, List, [], ◌∷◌, map, length, Option, Some, None, option_map}
+use Rattle.std.specs.Prelude.{◌≡◌, ◌+◌, ℕ, zero, suc, Bool, false, List, [], ◌∷◌, map, length, Option, Some, None, option_map}
 use Rattle.std.specs.declared.boxed.Box.{Box}
 use Rattle.std.specs.Ordering.{is_eq}
 use Rattle.std.specs.FinMap.Entries.{put}
@@ -21,6 +21,16 @@ abbrev pub first_value : List Entry → Option Entry
 first_value [] = None
 first_value ((name, None) ∷ es) = first_value es
 first_value ((name, Some value) ∷ es) = Some (name, Some value)
+
+-- 1 for a value, and 0 for an erasure
+abbrev pub one_value : Option (List ℕ) → ℕ
+one_value None = 0
+one_value (Some value) = 1
+
+-- how many entries have a value
+abbrev pub value_count : List Entry → ℕ
+value_count [] = 0
+value_count (e ∷ es) = one_value e.1 + value_count es
 
 -- whether the entry at the place has this text
 abbrev pub is_named : List ℕ → List Entry → ℕ → Bool

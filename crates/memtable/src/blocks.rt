@@ -7,7 +7,7 @@ ghost use Rattle.std.specs.FinMap.Entries.{put as put_entry};
 ghost use Rattle.cell_key.specs.Keys.{byte_cmp};
 ghost use Rattle.cell_key.specs.Entries.{IsRising, entries_from, entry_of_key};
 ghost use Rattle.memtable.specs.Slots.{slot_entry, slot_entries, first_value, over};
-ghost use Rattle.memtable.specs.Blocks.{block_entries, lists_of, ends_below, IsBlockPlace, IsBlock, IsSpare, IsFullAt, AreBlocks, HasRoom};
+ghost use Rattle.memtable.specs.Blocks.{block_entries, lists_of, list_of, ends_below, IsBlockPlace, IsCounted, IsBlock, IsSpare, IsFullAt, AreBlocks, HasRoom};
 
 use crate::order::Sought;
 use crate::slots::{self, Slot};
@@ -16,20 +16,26 @@ use std::alloc::{AllocError, Global};
 /// How many entries a block has room for. It has at least one, and fewer than these.
 const BLOCK_ROOM: usize = 128;
 
-pub(crate) type Block = Vec<Box<Slot>>;
+/// A block of entries.
+#[derive(Drop)]
+pub(crate) struct Block {
+    pub(crate) slots: Vec<Box<Slot>>,
+    /// How many of the entries have a value. Where none has, a search for values passes them all at once.
+    pub(crate) values: usize,
+}
 
-/// Blocks of entries, and empty ones for entries to come.
+/// Blocks of entries, and room for those to come.
 #[derive(Drop)]
 pub(crate) struct Blocks {
     pub(crate) filled: Vec<Block>,
-    pub(crate) spare: Vec<Block>,
+    pub(crate) spare: Vec<Vec<Box<Slot>>>,
 }
 
 /// Whether all texts of a block are below what is sought.
 fn ends_below<S: Sought>(block: &Block, sought: S) -> bool
-    ensures { result ≡ ends_below (S.name sought) (slot_entries block.now.items) }
+    ensures { result ≡ ends_below (S.name sought) (list_of block.now) }
 {
-    match block.last() {
+    match block.slots.last() {
         Some(slot) => sought.compare(&slot.text).is_gt(),
         None => false,
     }
@@ -54,7 +60,7 @@ pub(crate) fn find<S: Sought>(blocks: &[Block], sought: S) -> Option<&Slot>
     ensures named { IfSome result (λ slot. slot.now.text.items ≡ S.name sought) }
 {
     let block = blocks.get(place(blocks, sought))?;
-    slots::find(block, sought)
+    slots::find(&block.slots, sought)
 }
 
 /// What isn't below what is sought: the rest of one block, and the blocks after that.
@@ -68,11 +74,22 @@ pub(crate) fn rest_from<S: Sought>(blocks: &[Block], sought: S) -> (&[Box<Slot>]
     let at = place(blocks, sought);
     match blocks.split_at(at).1.split_first() {
         Some((block, later)) => {
-            let at = slots::first_from(block, sought);
-            (block.split_at(at).1, later)
+            let at = slots::first_from(&block.slots, sought);
+            (block.slots.split_at(at).1, later)
         }
         None => (&[], &[]),
     }
+}
+
+/// The first entry of a block that has a value.
+fn first_value_in(block: &Block) -> Option<&Slot>
+    requires { IsCounted block.now }
+    ensures { option_map (λ slot. slot_entry slot.now) result ≡ first_value (list_of block.now) }
+{
+    if block.values == 0 {
+        return None;
+    }
+    slots::first_value(&block.slots)
 }
 
 /// The first entry of some blocks that has a value.
@@ -83,7 +100,7 @@ fn first_value(blocks: &[Block]) -> Option<&Slot>
 {
     let mut rest = blocks;
     'each: while let Some((block, later)) = rest.split_first() {
-        if let Some(slot) = slots::first_value(block) {
+        if let Some(slot) = first_value_in(block) {
             return Some(slot);
         }
         rest = later;
@@ -120,26 +137,45 @@ pub(crate) fn make_room(alloc: Global, blocks: &mut Blocks, count: usize) -> Res
     Ok(())
 }
 
-/// Moves the upper half of a block to an empty one.
-fn halve(block: &mut Block, upper: &mut Block)
-    requires full { vec_len block.old ≡ 128 }
+/// Moves the upper half of some entries to an empty list.
+fn halve(slots: &mut Vec<Box<Slot>>, upper: &mut Vec<Box<Slot>>)
+    requires full { vec_len slots.old ≡ 128 }
     requires empty { upper.old.items ≡ [] }
     requires room { 128 ≤ vec_capacity upper.old }
-    ensures halves { block.old.items ≡ block.new.items ++ upper.new.items }
-    ensures lower { vec_len block.new ≡ 64 }
+    ensures halves { slots.old.items ≡ slots.new.items ++ upper.new.items }
+    ensures lower { vec_len slots.new ≡ 64 }
     ensures upper { vec_len upper.new ≡ 64 }
-    ensures capacity { vec_capacity block.new ≡ vec_capacity block.old }
+    ensures capacity { vec_capacity slots.new ≡ vec_capacity slots.old }
     ensures room { 128 ≤ vec_capacity upper.new }
 {
-    while block.len() > BLOCK_ROOM / 2 {
-        if let Some(slot) = block.pop() {
+    while slots.len() > BLOCK_ROOM / 2 {
+        if let Some(slot) = slots.pop() {
             upper.push(slot).unwrap();
         }
     }
     upper.reverse();
 }
 
-/// Cuts a block that is full in two.
+/// Cuts a block that is full in two. The upper one is made of the room that is given.
+fn cut(block: &mut Block, spare: Vec<Box<Slot>>) -> Block
+    requires full { vec_len block.old.slots ≡ 128 }
+    requires counted { IsCounted block.old }
+    requires spare { IsSpare spare }
+    ensures entries { list_of block.old ≡ list_of block.new ++ list_of result }
+    ensures lower { IsBlock block.new }
+    ensures upper { IsBlock result }
+{
+    let mut upper = spare;
+    halve(&mut block.slots, &mut upper);
+    let values = slots::value_count(&upper);
+    block.values -= values;
+    Block {
+        slots: upper,
+        values,
+    }
+}
+
+/// Cuts the block at a place, which is full, in two.
 fn split(blocks: &mut Blocks, at: usize)
     requires room { HasRoom 1 blocks.old }
     requires spare { AllByRecursion IsSpare blocks.old.spare.items }
@@ -148,8 +184,8 @@ fn split(blocks: &mut Blocks, at: usize)
     ensures blocks { AreBlocks blocks.new }
     ensures room { (n : ℕ) → HasRoom (n + 1) blocks.old → HasRoom n blocks.new }
 {
-    let mut upper = blocks.spare.pop().unwrap();
-    halve(&mut blocks.filled[at], &mut upper);
+    let spare = blocks.spare.pop().unwrap();
+    let upper = cut(&mut blocks.filled[at], spare);
     blocks.filled.insert(at + 1, upper).unwrap();
 }
 
@@ -162,9 +198,29 @@ fn open(blocks: &mut Blocks, slot: Box<Slot>)
     ensures blocks { AreBlocks blocks.new }
     ensures room { (n : ℕ) → HasRoom (n + 1) blocks.old → HasRoom n blocks.new }
 {
-    let mut block = blocks.spare.pop().unwrap();
-    block.push(slot).unwrap();
-    blocks.filled.push(block).unwrap();
+    let values = slot.value_count();
+    let mut slots = blocks.spare.pop().unwrap();
+    slots.push(slot).unwrap();
+    blocks.filled.push(Block { slots, values }).unwrap();
+}
+
+/// Puts an entry at its place in a block, where there is room for one more. An entry of the same text goes.
+fn put_in(block: &mut Block, slot: Box<Slot>)
+    requires rising { IsRising (list_of block.old) }
+    requires room { vec_len block.old.slots < vec_capacity block.old.slots }
+    requires few { vec_len block.old.slots < 128 }
+    requires counted { IsCounted block.old }
+    ensures entries { list_of block.new
+        ≡ put_entry byte_cmp (slot_entry slot.value).0 (slot_entry slot.value).1 (list_of block.old) }
+    ensures some { 1 ≤ vec_len block.new.slots }
+    ensures len { vec_len block.new.slots ≤ vec_len block.old.slots + 1 }
+    ensures capacity { vec_capacity block.old.slots ≤ vec_capacity block.new.slots }
+    ensures counted { IsCounted block.new }
+{
+    block.values += slot.value_count();
+    if let Some(old) = slots::put(&mut block.slots, slot) {
+        block.values -= old.value_count();
+    }
 }
 
 /// Puts an entry at its place, where there is room for one more. An entry of the same text goes.
@@ -184,8 +240,8 @@ pub(crate) fn put(blocks: &mut Blocks, slot: Box<Slot>)
         return;
     }
     let at = place(&blocks.filled, slot.text.as_slice()).min(count - 1);
-    slots::put(&mut blocks.filled[at], slot);
-    if blocks.filled[at].len() == BLOCK_ROOM {
+    put_in(&mut blocks.filled[at], slot);
+    if blocks.filled[at].slots.len() == BLOCK_ROOM {
         split(blocks, at);
     }
 }

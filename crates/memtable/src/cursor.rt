@@ -52,7 +52,7 @@ fn first<'a>(
         return Some((slot, rest, later));
     }
     let (block, later) = later.split_first()?;
-    let (slot, rest) = block.split_first()?;
+    let (slot, rest) = block.slots.split_first()?;
     Some((slot, rest, later))
 }
 

@@ -32,12 +32,16 @@ fn after_end<'a>(part: &[u8], bytes: &'a [u8]) -> Result<&'a [u8], Ordering>
     after_part(b"\0\0", rest)
 }
 
-/// The same for a row, in which a byte 0 is written as 0 and 255, and its end.
+/// The same for a row, in which a byte 0 is written as 0 and 255, and its end. A row without such a byte is
+/// compared at once.
 fn after_row<'a>(row: &[u8], bytes: &'a [u8]) -> Result<&'a [u8], Ordering>
     ensures { MatchResult result
         (λ rest. ComparesAs (ended (escaped row.now)) bytes.now rest.now)
         (λ order. ComparesTo (ended (escaped row.now)) bytes.now order) }
 {
+    if !row.contains(&0) {
+        return after_end(row, bytes);
+    }
     let mut left = bytes;
     for byte in row {
         let byte = *byte;

@@ -4,10 +4,11 @@ ghost use Rattle.std.specs.Prelude.{◌≡◌, ◌+◌, ◌≤◌, ◌<◌, IfSo
 ghost use Rattle.std.specs.FinMap.Entries.{put as put_entry};
 ghost use Rattle.cell_key.specs.Keys.{byte_cmp};
 ghost use Rattle.cell_key.specs.Entries.{IsPlace, IsRising, entry_of_key, lent_entry, entry_len};
-ghost use Rattle.memtable.specs.Slots.{slot_entry, slot_entries, is_named, first_value};
+ghost use Rattle.memtable.specs.Slots.{slot_entry, slot_entries, is_named, first_value, one_value, value_count};
 
 use crate::order::Sought;
 use cell_key::EntryRef;
+use std::mem;
 
 /// An entry that is kept: the text of a key, and its value or an erasure.
 #[derive(Drop)]
@@ -39,6 +40,16 @@ impl Slot {
         match &self.value {
             Some(value) => text + 5 + value.len() as u128,
             None => text + 1,
+        }
+    }
+
+    /// 1 for a value, and 0 for an erasure.
+    pub(crate) fn value_count(&self) -> usize
+        ensures { result ≡ one_value (slot_entry self.now).1 }
+    {
+        match &self.value {
+            Some(_) => 1,
+            None => 0,
         }
     }
 }
@@ -92,21 +103,38 @@ pub(crate) fn first_value(slots: &[Box<Slot>]) -> Option<&Slot>
     None
 }
 
-/// Puts an entry at its place, where there is room for one more. An entry of the same text goes.
-pub(crate) fn put(slots: &mut Vec<Box<Slot>>, slot: Box<Slot>)
+/// How many entries have a value.
+pub(crate) fn value_count(slots: &[Box<Slot>]) -> usize
+    requires { length slots.now ≤ 128 }
+    ensures { result ≡ value_count (slot_entries slots.now) }
+{
+    let mut count = 0;
+    let mut rest = slots;
+    'slots: while let Some((slot, after)) = rest.split_first() {
+        count += slot.value_count();
+        rest = after;
+    }
+    count
+}
+
+/// Puts an entry at its place, where there is room for one more. Returns the entry of the same text that it
+/// replaces, if there is one.
+pub(crate) fn put(slots: &mut Vec<Box<Slot>>, slot: Box<Slot>) -> Option<Box<Slot>>
     requires rising { IsRising (slot_entries slots.old.items) }
     requires room { vec_len slots.old < vec_capacity slots.old }
     ensures entries { slot_entries slots.new.items
         ≡ put_entry byte_cmp (slot_entry slot.value).0 (slot_entry slot.value).1
         (slot_entries slots.old.items) }
+    ensures replaced { option_map (λ old. (slot_entry old.value).1) result
+        ≡ entry_of_key (slot_entries slots.old.items) slot.value.text.items }
     ensures some { 1 ≤ vec_len slots.new }
     ensures len { vec_len slots.new ≤ vec_len slots.old + 1 }
     ensures capacity { vec_capacity slots.old ≤ vec_capacity slots.new }
 {
     let at = first_from(slots, slot.text.as_slice());
     if is_named(slots, at, &slot.text) {
-        slots[at] = slot;
-    } else {
-        slots.insert(at, slot).unwrap();
+        return Some(mem::replace(&mut slots[at], slot));
     }
+    slots.insert(at, slot).unwrap();
+    None
 }

@@ -125,7 +125,7 @@ pub(crate) fn stage(
     for edit in edits {
         let slot = slot_of(alloc, row, edit)?;
         size = size.with(&slot, standing(&staged, table, &slot.text));
-        slots::put(&mut staged, slot);
+        drop(slots::put(&mut staged, slot));
     }
     Ok((staged, size))
 }

@@ -1,13 +1,13 @@
 -- What the memtable alone tells of a column.
-use Rattle.std.proofs.Common.{◌≡◌, ◌≤◌, ℕ, Bool, true, cond, List, [], ◌∷◌, ◌++◌, ◌⊎◌, inl, inr, map, Option, Some, None, refl, sym, ap, subst, ◌∙◌, arith}
+use Rattle.std.proofs.Common.{◌≡◌, ◌≤◌, ◌<◌, ◌^◌, ℕ, Bool, true, cond, List, [], ◌∷◌, ◌++◌, ◌⊎◌, inl, inr, map, Option, Some, None, refl, sym, ap, subst, ◌∙◌, arith}
 use Rattle.std.specs.List.{AllByRecursion}
-use Rattle.std.specs.Borrow.{Bor}
-use Rattle.std.specs.Prelude.{IfSome, IsSome, option_map}
+use Rattle.std.specs.Prelude.{IfSome, IsTrue, option_map}
+use Rattle.std.specs.Option.{option_or}
+use Rattle.std.specs.declared.vec.Vec.{Vec}
 use Rattle.std.specs.FinMap.{get}
 use Rattle.cell_key.specs.Keys.{text, IsStored}
 use Rattle.cell_key.specs.Cells.{Cells, IsNewest, version}
-use Rattle.cell_key.specs.Versions.{IsVersion, IsVersionIn}
-use Rattle.memtable.specs.Slots.{lent_version}
+use Rattle.cell_key.specs.Versions.{stamped}
 use Rattle.cell_key.specs.Entries.{cells_of, entry_of_key, first_naming, or_else, value_of}
 use Rattle.cell_key.specs.declared.keys.CellKey.{CellKey}
 use Rattle.cell_key.specs.declared.keys.Qualifier.{Qualifier}
@@ -20,8 +20,10 @@ use Rattle.tablet.specs.Ranges.{has_row}
 use Rattle.tablet.specs.Reads.{IsAsked, IsLater}
 use Rattle.tablet.specs.Views.{range_of, memory_of, files_of, lists_of, cells_at, Holds}
 use Rattle.tablet.specs.declared.tablet.Tablet.{Tablet}
+use Rattle.tablet.proofs.Answering.{if_one}
 use Rattle.tablet.proofs.Held.{held_lists}
 use Rattle.tablet.proofs.LeftOut.{none_named, value_or}
+use Rattle.tablet.proofs.Passed.{over_any}
 use Rattle.tablet.proofs.Shown.{first_at, shown, stored_or_hidden, stored_or_none}
 
 -- files that have no value of a column of this kind at these stamps
@@ -40,7 +42,12 @@ no_values : (q : Qualifier) (lo hi : ℕ) (m : Contents) (files : List SortedFil
 no_values q lo hi m [] opened none key stored kind low high = tt
 no_values q lo hi m (file ∷ files) opened none key stored kind low high = (none.0 m opened.0 key stored kind low high, no_values q lo hi m files opened.1 none.1 key stored kind low high)
 
-module _ (m : Contents) (t : Tablet) (held : Holds m t) (row family : List ℕ) (q : Qualifier) (has : has_row (range_of t) row ≡ true) (from hi : ℕ) (none : from ≤ hi → HaveNone q from hi (files_of t)) where
+module _ (cells : Cells) (at : ℕ → CellKey) where
+  low_from : (lo hi from : ℕ) (found : Option (ℕ × List ℕ)) → IsNewest cells at lo hi found → IsLater from lo found → lo ≤ from
+  low_from lo hi from None none low = low
+  low_from lo hi from (Some v) newest later = let low = newest.0 in omega (arith, low, later)
+
+module _ (m : Contents) (t : Tablet) (held : Holds m t) (row family : List ℕ) (q : Qualifier) (has : has_row (range_of t) row ≡ true) where
   abbrev at : ℕ → CellKey
   at s = version row family q s
 
@@ -50,18 +57,7 @@ module _ (m : Contents) (t : Tablet) (held : Holds m t) (row family : List ℕ) 
   in_memory : (s : ℕ) → IsStored (at s) → get (cells_of (memory_of t)) (at s) ≡ value_of (entry_of_key (memory_of t) (text (at s)))
   in_memory s stored = get-cells_of (memory_of t) held.memory.each (at s) stored
 
-  still_none : (s : ℕ) → from ≤ s → s ≤ hi → get (cells_of (memory_of t)) (at s) ≡ None → get (cells_at m t) (at s) ≡ None
-  still_none s low high e = go (stored_or_hidden (range_of t) (lists_of m t) (held_lists m t held) (at s))
-    where
-      go : IsStored (at s) ⊎ (get (cells_at m t) (at s) ≡ None) → get (cells_at m t) (at s) ≡ None
-      go (inr h) = h
-      go (inl stored) =
-          let lists = map (listed m) (files_of t) in
-          let each = no_values q from hi m (files_of t) held.files (none (omega arith)) (at s) stored refl low high in
-          shown_at s stored
-          ∙ value_or (entry_of_key (memory_of t) (text (at s))) (first_naming lists (text (at s))) (none_named lists (text (at s)) each)
-          ∙ sym (in_memory s stored) ∙ e
-
+  -- what the memtable has is shown
   still_there : (s : ℕ) (value : List ℕ) → get (cells_of (memory_of t)) (at s) ≡ Some value → get (cells_at m t) (at s) ≡ Some value
   still_there s value e = go (stored_or_none (memory_of t) held.memory.each (at s))
     where
@@ -71,23 +67,76 @@ module _ (m : Contents) (t : Tablet) (held : Holds m t) (row family : List ℕ) 
           shown_at s stored
           ∙ value_front (entry_of_key (memory_of t) (text (at s))) (first_naming (map (listed m) (files_of t)) (text (at s))) value (sym (in_memory s stored) ∙ e)
 
-  -- what is newest in the memtable is newest of all, where the files have no value at a later stamp
-  pub newest_of_all : (lo : ℕ) (found : Option (ℕ × List ℕ)) → IsNewest (cells_of (memory_of t)) at lo hi found → ((s : ℕ) → IsLater s lo found → from ≤ s) → IsNewest (cells_at m t) at lo hi found
-  newest_of_all lo None is later = λ s a b. still_none s (later s a) b (is s a b)
-  newest_of_all lo (Some v) is later = (is.0, is.1, still_there v.0 v.1 is.2, λ s a b. still_none s (later s a) b (is.3 s a b))
+  module _ (lo hi : ℕ) (found : Option (ℕ × List ℕ)) (is : IsNewest (cells_of (memory_of t)) at lo hi found) (from to : ℕ) (after : IsLater from lo found) (first : (s : ℕ) → 1 ≤ s → IsLater s lo found → from ≤ s) (high : to ≤ hi) (last : (s : ℕ) → s < 2 ^ 63 → s ≤ hi → s ≤ to) where
+    -- the memtable has none at the stamps that are left
+    pub none_later : IsNewest (cells_of (memory_of t)) at from to None
+    none_later s a b = go found is after
+      where
+        go : (found : Option (ℕ × List ℕ)) → IsNewest (cells_of (memory_of t)) at lo hi found → IsLater from lo found → get (cells_of (memory_of t)) (at s) ≡ None
+        go None none low = none s (omega (arith, low, a)) (omega (arith, b, high))
+        go (Some v) newest low = newest.3 s (omega (arith, low, a)) (omega (arith, b, high))
 
--- what the memtable has is shown
-pub shown_there : (m : Contents) (t : Tablet) → Holds m t → (row family : List ℕ) (q : Qualifier) → has_row (range_of t) row ≡ true → (s : ℕ) → IsSome (get (cells_of (memory_of t)) (version row family q s)) → get (cells_at m t) (version row family q s) ≡ None → ⊥
-shown_there m t held row family q has s some none = go (get (cells_of (memory_of t)) (version row family q s)) refl some
-  where
-    go : (o : Option (List ℕ)) → get (cells_of (memory_of t)) (version row family q s) ≡ o → IsSome o → ⊥
-    go None e some = cc
-    go (Some v) e some =
-        let there = still_there m t held row family q has 1 0 (λ no. absurd (omega (arith, no))) s v e in
-        let no : None ≡ Some v = sym none ∙ there in
-        cc
+    -- nor has the tablet, where the files have no value there
+    pub none_in_all : (from ≤ to → HaveNone q from to (files_of t)) → IsNewest (cells_at m t) at from to None
+    none_in_all none s a b = go (stored_or_hidden (range_of t) (lists_of m t) (held_lists m t held) (at s))
+      where
+        go : IsStored (at s) ⊎ (get (cells_at m t) (at s) ≡ None) → get (cells_at m t) (at s) ≡ None
+        go (inr h) = h
+        go (inl stored) =
+            let lists = map (listed m) (files_of t) in
+            let each = no_values q from to m (files_of t) held.files (none (omega (arith, a, b))) (at s) stored refl a b in
+            shown_at s stored
+            ∙ value_or (entry_of_key (memory_of t) (text (at s))) (first_naming lists (text (at s))) (none_named lists (text (at s)) each)
+            ∙ sym (in_memory s stored) ∙ none_later s a b
 
--- it is within the limits, and its stamp within the range
-pub limits_of : (cells : Cells) (at : ℕ → CellKey) (lo hi : ℕ) (o : Option (ℕ × Bor (List ℕ))) → IsNewest cells at lo hi (option_map lent_version o) → IfSome o (λ v. IsVersion v.0 v.1.now) → IfSome (option_map lent_version o) (IsVersionIn lo hi)
-limits_of cells at lo hi None is limits = tt
-limits_of cells at lo hi (Some v) is limits = record { low = is.0; high = is.1; limits = limits }
+    none_above : (s : ℕ) → s ≤ hi → (1 ≤ s → s ≤ to → get (cells_at m t) (at s) ≡ None) → get (cells_at m t) (at s) ≡ None
+    none_above s b none = go (stored_or_hidden (range_of t) (lists_of m t) (held_lists m t held) (at s))
+      where
+        go : IsStored (at s) ⊎ (get (cells_at m t) (at s) ≡ None) → get (cells_at m t) (at s) ≡ None
+        go (inr h) = h
+        go (inl stored) = none stored.from (last s stored.to b)
+
+    -- then the memtable's version is the newest
+    pub newest_of_all : IsNewest (cells_at m t) at from to None → IsNewest (cells_at m t) at lo hi found
+    newest_of_all none = go found is (λ s later b. none_above s b (λ one c. none s (first s one later) c))
+      where
+        go : (found : Option (ℕ × List ℕ)) → IsNewest (cells_of (memory_of t)) at lo hi found → ((s : ℕ) → IsLater s lo found → s ≤ hi → get (cells_at m t) (at s) ≡ None) → IsNewest (cells_at m t) at lo hi found
+        go None is above = above
+        go (Some v) is above = (is.0, is.1, still_there v.0 v.1 is.2, above)
+
+    -- and else the later one is
+    pub newest_later : (v : ℕ × List ℕ) → IsNewest (cells_at m t) at from to (Some v) → IsNewest (cells_at m t) at lo hi (Some v)
+    newest_later v h =
+        let a = h.0 in let b = h.1 in
+        let low = low_from (cells_of (memory_of t)) at lo hi from found is after in
+        (omega (arith, a, low), omega (arith, b, high), h.2, λ s c d. none_above s d (λ one e. h.3 s c e))
+
+-- ---- the memtable and the files
+
+pub later_still : (s from lo : ℕ) (found : Option (ℕ × List ℕ)) → s ≤ from → IsLater s lo found → IsLater from lo found
+later_still s from lo None up low = omega (arith, up, low)
+later_still s from lo (Some v) up later = omega (arith, up, later)
+
+module _ (o : Option Contents) (t : Tablet) (row family : List ℕ) (q : Qualifier) (lo hi : ℕ) (found : Option (ℕ × List ℕ)) (is : IsNewest (cells_of (memory_of t)) (version row family q) lo hi found) (from to : ℕ) (after : IsLater from lo found) (first : (s : ℕ) → 1 ≤ s → IsLater s lo found → from ≤ s) (high : to ≤ hi) (last : (s : ℕ) → s < 2 ^ 63 → s ≤ hi → s ≤ to) where
+  abbrev Answered : Option (ℕ × List ℕ) → Type 0
+  Answered answer = IfSome o (λ m. Holds m t → IsTrue (has_row (range_of t) row) → IsNewest (cells_at m t) (version row family q) lo hi answer)
+
+  pub by_memory : {Z : Type 0} (in_memory : Option (ℕ × Vec ℕ Z)) → option_map stamped in_memory ≡ found → (from ≤ to → HaveNone q from to (files_of t)) → Answered (option_map stamped in_memory)
+  by_memory in_memory copy none =
+      over_any o _ (λ m held has.
+      subst (λ (f : Option (ℕ × List ℕ)). IsNewest (cells_at m t) (version row family q) lo hi f) (sym copy)
+      (newest_of_all m t held row family q has lo hi found is from to after first high last
+      (none_in_all m t held row family q has lo hi found is from to after first high last none)))
+
+  pub by_files : {Z : Type 0} (later in_memory : Option (ℕ × Vec ℕ Z)) → option_map stamped in_memory ≡ found
+      → IfSome o (λ m. Holds m t → IsTrue (has_row (range_of t) row) → IsNewest (cells_of (memory_of t)) (version row family q) from to None → IsNewest (cells_at m t) (version row family q) from to (option_map stamped later))
+      → Answered (option_map stamped (option_or later in_memory))
+  by_files None in_memory copy h =
+      if_one o h (λ m told held has.
+      subst (λ (f : Option (ℕ × List ℕ)). IsNewest (cells_at m t) (version row family q) lo hi f) (sym copy)
+      (newest_of_all m t held row family q has lo hi found is from to after first high last
+      (told held has (none_later m t held row family q has lo hi found is from to after first high last))))
+  by_files (Some v) in_memory copy h =
+      if_one o h (λ m told held has.
+      newest_later m t held row family q has lo hi found is from to after first high last (stamped v)
+      (told held has (none_later m t held row family q has lo hi found is from to after first high last)))

@@ -1,6 +1,6 @@
 -- What files show below a stamp that is hidden.
 use Rattle.std.proofs.Common.{◌≡◌, ◌≤◌, ◌<◌, ◌+◌, ℕ, Bool, true, cond, List, [], ◌∷◌, ◌⊎◌, inl, inr, map, Option, Some, None, refl, sym, ap, subst, ◌∙◌, arith}
-use Rattle.std.specs.Prelude.{IfSome, IsSome, IsTrue, nat_lt, false, option_map, ⊤}
+use Rattle.std.specs.Prelude.{IfSome, IsTrue, nat_lt, false}
 use Rattle.std.proofs.lemmas.Bool.Decides.{nat_tests}
 use Rattle.std.specs.FinMap.{get}
 use Rattle.cell_key.specs.Keys.{text, IsStored}
@@ -12,13 +12,12 @@ use Rattle.cell_key.proofs.EntryLaws.{get-cells_of}
 use Rattle.file_store.specs.Store.{Contents}
 use Rattle.sorted_file.specs.Opened.{listed}
 use Rattle.tablet.specs.Ranges.{has_row, seen}
-use Rattle.tablet.specs.Reads.{HasNoLater, IsAfterStamp, IsStampOf}
+use Rattle.tablet.specs.Reads.{HasNoLater, IsAfterStamp}
 use Rattle.tablet.specs.Views.{range_of, memory_of, files_of, lists_of, cells_at, Holds, IsSameTablet}
 use Rattle.tablet.specs.declared.tablet.Tablet.{Tablet}
 use Rattle.tablet.specs.declared.ranges.RowRange.{RowRange}
 use Rattle.cell_key.specs.Entries.{merged}
 use Rattle.tablet.proofs.Held.{held_lists}
-use Rattle.tablet.proofs.InMemory.{shown_there}
 use Rattle.tablet.proofs.LeftOut.{value_or}
 use Rattle.tablet.proofs.SameFiles.{told_any, told_both}
 use Rattle.tablet.proofs.Shown.{first_at, shown, stored_or_hidden}
@@ -124,64 +123,3 @@ module _ (o : Option Contents) (t : Tablet) (row family : List ℕ) (q : Qualifi
         let here = moved m told held has (Some v) h in
         let a = here.0 in let b = here.1 in
         (omega (arith, a, low), omega (arith, b, high), here.2, λ s c d. later held has memory s (omega (arith, a, b, c)) (omega (arith, a, low, c)) d)) after finds
-
--- ---- the memtable and the files
-
-module _ (o : Option Contents) (t : Tablet) (row family : List ℕ) (q : Qualifier) (lo hi : ℕ) (stamp : Option ℕ) (is : IsStampOf (cells_of (memory_of t)) (version row family q) lo hi stamp) (from : ℕ) (after : IsAfterStamp from lo stamp) (starts : (s : ℕ) → IsAfterStamp s lo stamp → from ≤ s) where
-  abbrev key : ℕ → CellKey
-  key s = version row family q s
-
-  memory_none : IsNewest (cells_of (memory_of t)) key from hi None
-  memory_none s a b = go is.found stamp is.is after is.newest
-    where
-      go : (found : Option (ℕ × List ℕ)) (stamp : Option ℕ) → option_map (λ v. v.0) found ≡ stamp → IsAfterStamp from lo stamp → IsNewest (cells_of (memory_of t)) key lo hi found → get (cells_of (memory_of t)) (key s) ≡ None
-      go None None e after none = none s (omega (arith, after, a)) b
-      go None (Some x) e after none = let no : None ≡ Some x = e in cc
-      go (Some f) None e after newest = let no : Some f.0 ≡ None = e in cc
-      go (Some f) (Some x) e after newest = let same : f.0 ≡ x = cc in newest.3 s (omega (arith, same, after, a)) b
-
-  low_from : lo ≤ from
-  low_from = go is.found stamp is.is after is.newest
-    where
-      go : (found : Option (ℕ × List ℕ)) (stamp : Option ℕ) → option_map (λ v. v.0) found ≡ stamp → IsAfterStamp from lo stamp → IsNewest (cells_of (memory_of t)) key lo hi found → lo ≤ from
-      go None None e after none = after
-      go None (Some x) e after none = let no : None ≡ Some x = e in cc
-      go (Some f) None e after newest = let no : Some f.0 ≡ None = e in cc
-      go (Some f) (Some x) e after newest = let same : f.0 ≡ x = cc in let low = newest.0 in omega (arith, same, after, low)
-
-  abbrev pub Found : Option (ℕ × List ℕ) → Type 0
-  Found found = IfSome o (λ m. Holds m t → IsTrue (has_row (range_of t) row) → IsNewest (cells_of (memory_of t)) key from hi None → IsNewest (cells_at m t) key from hi found)
-
-  abbrev pub Answered : Option (ℕ × List ℕ) → Type 0
-  Answered found = IfSome o (λ m. Holds m t → IsTrue (has_row (range_of t) row) → IsNewest (cells_at m t) key lo hi found)
-
-  pub file_some : (v : ℕ × List ℕ) → Found (Some v) → Answered (Some v)
-  file_some v h = told_both o o refl _ (λ m. ⊤) _
-      (λ m told found _ held has. let newest = found held has memory_none in let low = newest.0 in (omega (arith, low, low_from), newest.1, newest.2, newest.3)) h (told_any o)
-
-  pub file_none : stamp ≡ None → Found None → Answered None
-  file_none none h = told_both o o refl _ (λ m. ⊤) _
-      (λ m told found _ held has s a b. found held has memory_none s (starts s (subst (λ (x : Option ℕ). IsAfterStamp s lo x) (sym none) a)) b) h (told_any o)
-
-  module _ (at_one : ℕ) (one : stamp ≡ Some at_one) (now : Option Contents) (same : now ≡ o) (w : Tablet) (still : IsSameTablet o t w) (nothing : Found None) where
-    here : lo ≤ at_one × at_one ≤ hi × IsSome (get (cells_of (memory_of t)) (key at_one))
-    here = go is.found (is.is ∙ one) is.newest
-      where
-        go : (found : Option (ℕ × List ℕ)) → option_map (λ v. v.0) found ≡ Some at_one → IsNewest (cells_of (memory_of t)) key lo hi found → lo ≤ at_one × at_one ≤ hi × IsSome (get (cells_of (memory_of t)) (key at_one))
-        go None e none = let no : None ≡ Some at_one = e in cc
-        go (Some f) e newest = let same : f.0 ≡ at_one = cc in
-            let low = newest.0 in let high = newest.1 in
-            (omega (arith, low, same), omega (arith, high, same), subst (λ (s : ℕ). IsSome (get (cells_of (memory_of t)) (key s))) same (subst (λ (x : Option (List ℕ)). IsSome x) (sym newest.2) refl))
-
-    pub memory_found : (found : Option (ℕ × List ℕ)) → IfSome now (λ m. Holds m w → IsTrue (has_row (range_of w) row) → IsNewest (cells_at m w) key at_one at_one found) → Answered found
-    memory_found found h = told_both o now same _ (λ m. Holds m w → IsTrue (has_row (range_of w) row) → IsNewest (cells_at m w) key at_one at_one found) _
-        (λ m told none finds held has. go m held has found
-        (subst (λ (cells : Cells). IsNewest cells key at_one at_one found) (same_cells o m t w told still held)
-        (finds (still_at o m t w told still held).0 (subst (λ (r : RowRange). IsTrue (has_row r row)) (sym still.range) has)))
-        (none held has memory_none)) nothing h
-      where
-        go : (m : Contents) → Holds m t → IsTrue (has_row (range_of t) row) → (found : Option (ℕ × List ℕ)) → IsNewest (cells_at m t) key at_one at_one found → IsNewest (cells_at m t) key from hi None → IsNewest (cells_at m t) key lo hi found
-        go m held has None n none = absurd (shown_there m t held row family q has at_one here.2 (n at_one (omega arith) (omega arith)))
-        go m held has (Some v) n none =
-            let a = n.0 in let b = n.1 in let low = here.0 in let high = here.1 in
-            (omega (arith, a, low), omega (arith, b, high), n.2, λ s c d. none s (starts s (subst (λ (x : Option ℕ). IsAfterStamp s lo x) (sym one) (omega (arith, a, c)))) d)

@@ -1,11 +1,11 @@
 -- What a read finds.
-use Rattle.std.specs.Prelude.{◌≡◌, ℕ, ◌≤◌, ◌<◌, length, List, [], ◌∷◌, ◌++◌, Option, Some, None, option_map, if◌then◌else◌}
+use Rattle.std.specs.Prelude.{◌≡◌, ℕ, ◌≤◌, ◌<◌, length, List, [], ◌∷◌, ◌++◌, Option, Some, None, if◌then◌else◌}
 use Rattle.std.specs.declared.vec.Vec.{Vec}
 use Rattle.std.specs.List.{AllByRecursion}
 use Rattle.std.specs.Ordering.{is_le}
 use Rattle.cell_key.specs.Names.{IsRow, IsFamily}
 use Rattle.cell_key.specs.Keys.{byte_cmp, text, IsStored}
-use Rattle.cell_key.specs.Cells.{Cells, IsNewest, version}
+use Rattle.cell_key.specs.Cells.{version}
 use Rattle.cell_key.specs.Entries.{Entry, first_naming, value_of}
 use Rattle.cell_key.specs.Places.{Place}
 use Rattle.cell_key.specs.declared.keys.CellKey.{CellKey}
@@ -59,12 +59,6 @@ IsLater s lo (Some found) = found.0 < s
 abbrev pub IsAfterStamp : ℕ → ℕ → Option ℕ → Type 0
 IsAfterStamp s lo None = lo ≤ s
 IsAfterStamp s lo (Some found) = found < s
-
--- the stamp of the newest version in a range of stamps, if it has one there
-pub record IsStampOf (cells : Cells) (at : ℕ → CellKey) (lo hi : ℕ) (stamp : Option ℕ) : Type 0 where
-  pub found : Option (ℕ × List ℕ)
-  pub is : option_map (λ version. version.0) found ≡ stamp
-  pub newest : IsNewest cells at lo hi found
 
 -- Up to that of the key, at no stamp after the one found do lists show a value of the key's column.
 abbrev pub HasNoLater : CellKey → ℕ → Option ℕ → List (List Entry) → Type 0

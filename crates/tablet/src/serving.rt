@@ -1,6 +1,6 @@
 //! What a tablet answers.
 
-ghost use Rattle.std.specs.Prelude.{◌≡◌, ◌≤◌, ◌<◌, map, ◌-◌, ◌^◌, ℕ, IsTrue, option_map, IfOk, IfErr, IfSome, IsErrOf};
+ghost use Rattle.std.specs.Prelude.{◌≡◌, ◌≤◌, ◌<◌, [], false, map, ◌-◌, ◌^◌, ℕ, IsTrue, option_map, IfOk, IfErr, IfSome, IsErrOf};
 ghost use Rattle.std.specs.Option.{option_copied};
 ghost use Rattle.cell_key.specs.Cells.{IsNewest, version};
 ghost use Rattle.cell_key.specs.Places.{IsNextCell, place_named};
@@ -11,11 +11,9 @@ ghost use Rattle.memtable.specs.Slots.{lent_version};
 ghost use Rattle.sorted_file.specs.Sources.{IsReadRefusal};
 ghost use Rattle.cell_key.specs.Faults.{HasReason};
 ghost use Rattle.tablet.specs.Ranges.{has_row};
-ghost use Rattle.tablet.specs.Reads.{past_place, later, HasNoLater, IsStampOf, IsLater, IsPlace, IsPlaceOrNone};
+ghost use Rattle.tablet.specs.Reads.{past_place, later, HasNoLater, IsAsked, IsLater, IsPlace, IsPlaceOrNone};
 
-use crate::reads::{
-    asked, first_after, first_value, lookup, newest_stamp, version_key, version_text,
-};
+use crate::reads::{asked, first_value, lookup, newest_stamp, version_key, version_text};
 use crate::sources::fences;
 use crate::tablet::Tablet;
 use cell_key::{Family, MOST_STAMP, Qualifier, Refusal, Row, Stamp};
@@ -71,7 +69,8 @@ fn copied(alloc: Global, found: Option<(Stamp, &[u8])>) -> Result<Option<(Stamp,
 /// The first stamp after that of a version that is lent, or `lo` where there is none.
 fn stamp_after(found: Option<(Stamp, &[u8])>, lo: Stamp) -> Stamp
     requires { IfSome found (λ found. IsVersion found.0 found.1.now) }
-    ensures { (s : ℕ) → IsLater s lo (option_map lent_version found.entry) → result ≤ s }
+    ensures after { IsLater result lo (option_map lent_version found.entry) }
+    ensures first { (s : ℕ) → IsLater s lo (option_map lent_version found.entry) → result ≤ s }
 {
     match found {
         Some((stamp, _)) => stamp + 1,
@@ -83,32 +82,12 @@ impl Tablet {
     ghost use Rattle.file_store.specs.Store.{Contents};
     ghost use Rattle.tablet.specs.Views.{range_of, memory_of, files_of, cells_at, Holds, IsSameTablet};
 
-    /// The version of a cell's column with the greatest stamp in `lo..=hi`, where the memtable alone decides: no
-    /// file may have a value at a later stamp of the range. Else `None`. Takes no memory and reads no file.
-    fn newest_in_memory(
-        &self,
-        row: &Row,
-        family: &Family,
-        qualifier: Qualifier,
-        lo: Stamp,
-        hi: Stamp,
-    ) -> Option<Option<(Stamp, &[u8])>>
-        ensures found { IfSome result (λ found. (m : Contents) → Holds m self.now
-            → IsTrue (has_row (range_of self.now) row.now)
-            → IsNewest (cells_at m self.now) (version row.now family.now qualifier) lo hi
-            (option_map lent_version found)) }
-        ensures limits { IfSome result (λ found.
-            IfSome (option_map lent_version found) (IsVersionIn lo hi)) }
+    /// Whether a file may have a value of a column of this kind at a stamp in `lo..=hi`. Takes no memory and reads no
+    /// file.
+    fn may_be_in_files(&self, qualifier: Qualifier, lo: Stamp, hi: Stamp) -> bool
+        ensures { result ≡ false → lo ≤ hi → IsAsked qualifier lo hi (files_of self.now) [] }
     {
-        let found = self.memtable.newest(row, family, qualifier, lo, hi);
-        let from = stamp_after(found, lo);
-        if hi < from {
-            return Some(found);
-        }
-        match asked(&self.files, qualifier, from, hi).split_first() {
-            Some(_) => None,
-            None => Some(found),
-        }
+        lo <= hi && !asked(&self.files, qualifier, lo, hi).is_empty()
     }
 
     /// The value of a version, if the tablet has it, by lookups.
@@ -144,7 +123,7 @@ impl Tablet {
     }
 
     /// The version with the greatest stamp in `lo..=hi`, where the memtable has none there: by the newest stamps
-    /// of the files' values. One that a newer erasure hides is passed by.
+    /// of the files' values, unless one stamp is all of them. One that a newer erasure hides is passed by.
     fn newest_in_files<F: Files>(
         &mut self,
         row: &Row,
@@ -171,6 +150,9 @@ impl Tablet {
         ensures same { F.contents files.new ≡ F.contents files.old }
         ensures reason { HasReason (F.faults files.old) (F.faults files.new) result }
     {
+        if lo == hi {
+            return self.version_at(row, family, qualifier, hi, files);
+        }
         let mut to = hi;
         'hidden: while let Some(stamp) = self.newest_file_stamp(
             row, family, qualifier, lo, to, files,
@@ -210,66 +192,11 @@ impl Tablet {
         newest_stamp(&mut self.files, &key, lo, files)
     }
 
-    /// The stamp of the memtable's newest version in `lo..=hi`, if it has one there.
-    fn stamp_in_memory(
-        &self,
-        row: &Row,
-        family: &Family,
-        qualifier: Qualifier,
-        lo: Stamp,
-        hi: Stamp,
-    ) -> Option<Stamp>
-        ensures found { IsStampOf (cells_of (memory_of self.now))
-            (version row.now family.now qualifier) lo hi result }
-        ensures limits { IfSome result (λ stamp. (1 ≤ stamp) × (stamp < 2 ^ 63)) }
-    {
-        match self.memtable.newest(row, family, qualifier, lo, hi) {
-            Some((stamp, _)) => Some(stamp),
-            None => None,
-        }
-    }
-
-    /// The version of a cell's column with the greatest stamp in `lo..=hi`: that of the files, where they have a later
-    /// one than the memtable, and else the memtable's.
-    fn newest_between<F: Files>(
-        &mut self,
-        row: &Row,
-        family: &Family,
-        qualifier: Qualifier,
-        lo: Stamp,
-        hi: Stamp,
-        files: &mut F,
-    ) -> Result<Option<(Stamp, Vec<u8>)>, Refusal>
-        requires from { 1 ≤ lo }
-        requires to { hi < 2 ^ 63 }
-        ensures found { IfOk result (λ found. IfSome (F.contents files.old) (λ m. Holds m self.old
-            → IsTrue (has_row (range_of self.old) row.now)
-            → IsNewest (cells_at m self.old) (version row.now family.now qualifier) lo hi
-            (option_map stamped found))) }
-        ensures limits { IfOk result (λ found.
-            IfSome (option_map stamped found) (IsVersionIn lo hi)) }
-        ensures stays { IsSameTablet (F.contents files.old) self.old self.new }
-        ensures damaged { IsErrOf result Refusal.Damaged → IfSome (F.contents files.old)
-            (λ m. ¬ Holds m self.old) }
-        ensures refusal { IfErr result IsReadRefusal }
-        ensures same { F.contents files.new ≡ F.contents files.old }
-        ensures reason { HasReason (F.faults files.old) (F.faults files.new) result }
-    {
-        let in_memory = self.stamp_in_memory(row, family, qualifier, lo, hi);
-        let from = first_after(in_memory, lo);
-        if let Some(found) = self.newest_in_files(row, family, qualifier, from, hi, files)? {
-            return Ok(Some(found));
-        }
-        match in_memory {
-            Some(stamp) => self.version_at(row, family, qualifier, stamp, files),
-            None => Ok(None),
-        }
-    }
-
     /// The version of a cell's column with the greatest stamp in `lo..=hi` (Bigtable, timestamps), or
-    /// nothing. Where the memtable alone decides, no file is asked and only the value takes memory. Else each file
-    /// is asked for the stamp of its newest value alone, and one version is looked up, or as many more as newer
-    /// erasures hide. The tablet stays what it was, also after an `Err`.
+    /// nothing. The memtable is searched first, and no file is asked where it decides: then only the value takes
+    /// memory. Else each file is asked for the stamp of its newest value that is later than the memtable's, and the
+    /// version there is looked up, or as many more as newer erasures hide. The tablet stays what it was, also after an
+    /// `Err`.
     ///
     /// # Errors
     ///
@@ -297,18 +224,15 @@ impl Tablet {
         ensures same { F.contents files.new ≡ F.contents files.old }
         ensures reason { HasReason (F.faults files.old) (F.faults files.new) result }
     {
-        if let Some(found) = self.newest_in_memory(row, family, qualifier, lo, hi) {
-            return copied(self.alloc, found);
+        let found = self.memtable.newest(row, family, qualifier, lo, hi);
+        let from = stamp_after(found, lo).max(1);
+        let to = hi.min(MOST_STAMP);
+        let in_memory = copied(self.alloc, found)?;
+        if !self.may_be_in_files(qualifier, from, to) {
+            return Ok(in_memory);
         }
-        let first = lo.max(1);
-        if hi < first || first > MOST_STAMP {
-            return Ok(None);
-        }
-        if first == hi {
-            self.version_at(row, family, qualifier, hi, files)
-        } else {
-            self.newest_between(row, family, qualifier, first, hi.min(MOST_STAMP), files)
-        }
+        let later = self.newest_in_files(row, family, qualifier, from, to, files)?;
+        Ok(later.or(in_memory))
     }
 
     /// The first cell of the tablet that has any version, after the cell of `after`, which may lie outside

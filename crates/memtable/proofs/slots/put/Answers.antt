@@ -1,7 +1,8 @@
-use Rattle.std.proofs.Common.{refl, sym, ◌∙◌, ap, arith}
+use Rattle.std.proofs.Common.{Some, refl, set, sym, ◌∙◌, ap, arith}
 use Rattle.memtable.specs.declared.slots.Slot.{Slot}
 use Rattle.memtable.specs.Slots.{slot_entry, slot_entries}
-use Rattle.memtable.proofs.Places.{named_within, put_over, put_beside}
+use Rattle.cell_key.proofs.Finding.{found_at}
+use Rattle.memtable.proofs.Places.{named_some, named_within, not_found, put_over, put_beside}
 use Rattle.memtable.proofs.slots.put.Goals as goal
 
 pub index_mut-requires : goal.index_mut-requires
@@ -16,10 +17,11 @@ returns-then-is_named-clause-entries c =
     let name2 = c.deref-5.ensures.value ∙ ap (λ (s : Slot). s.text.items) c.deref-4.ensures in
     let place = rw (name, c.deref.ensures.value) at c.first_from-at.ensures.place in
     let named = rw (name2, c.deref-3.ensures.value) at c.if-is_named.ensures in
-    put_over (λ (s : _). slot_entry s.value) c.args.slot.value.text.items c.args.slot c.args.slots.now.items c.first_from-at.result refl place (sym named)
+    ap (λ (x : _). slot_entries (set c.args.slots.now.items c.first_from-at.result x)) c.replace.ensures.after
+    ∙ put_over (λ (s : _). slot_entry s.value) c.args.slot.value.text.items c.args.slot c.args.slots.now.items c.first_from-at.result refl place (sym named)
 
-pub returns-else-is_named-clause-entries : goal.returns-else-is_named-clause-entries
-returns-else-is_named-clause-entries c =
+pub returns-clause-entries : goal.returns-clause-entries
+returns-clause-entries c =
     let name = c.as_slice.ensures.value ∙ ap (λ (s : Slot). s.text.items) c.deref-2.ensures in
     let name2 = c.deref-5.ensures.value ∙ ap (λ (s : Slot). s.text.items) c.deref-4.ensures in
     let place = rw (name, c.deref.ensures.value) at c.first_from-at.ensures.place in
@@ -27,3 +29,26 @@ returns-else-is_named-clause-entries c =
     let items = rw c.unwrap.ensures at c.insert.ensures.items in
     ap slot_entries items
     ∙ put_beside (λ (s : _). slot_entry s.value) c.args.slot.value.text.items c.args.slot c.args.slots.now.items c.first_from-at.result refl place (sym named)
+
+pub returns-then-is_named-clause-replaced : goal.returns-then-is_named-clause-replaced
+returns-then-is_named-clause-replaced c =
+    let entry = λ (s : _). slot_entry s.value in
+    let xs = c.args.slots.now.items in
+    let sought = c.args.slot.value.text.items in
+    let at = c.first_from-at.result in
+    let name = c.as_slice.ensures.value ∙ ap (λ (s : Slot). s.text.items) c.deref-2.ensures in
+    let name2 = c.deref-5.ensures.value ∙ ap (λ (s : Slot). s.text.items) c.deref-4.ensures in
+    let place = rw (name, c.deref.ensures.value) at c.first_from-at.ensures.place in
+    let named = rw (name2, c.deref-3.ensures.value) at c.if-is_named.ensures in
+    let within = named_within entry sought xs at (sym named) in
+    let same = sym (named_some entry sought xs at c.index_mut.result.now within c.index_mut.ensures.value) ∙ sym named in
+    ap (λ (s : _). Some (slot_entry s.value).1) c.replace.ensures.value
+    ∙ sym (found_at entry sought xs at c.index_mut.result.now place within c.index_mut.ensures.value same)
+
+pub returns-clause-replaced : goal.returns-clause-replaced
+returns-clause-replaced c =
+    let name = c.as_slice.ensures.value ∙ ap (λ (s : Slot). s.text.items) c.deref-2.ensures in
+    let name2 = c.deref-5.ensures.value ∙ ap (λ (s : Slot). s.text.items) c.deref-4.ensures in
+    let place = rw (name, c.deref.ensures.value) at c.first_from-at.ensures.place in
+    let named = rw (name2, c.deref-3.ensures.value) at c.if-is_named.ensures in
+    sym (not_found (λ (s : _). slot_entry s.value) c.args.slot.value.text.items c.args.slots.now.items c.first_from-at.result c.requires.rising place (sym named))

@@ -33,10 +33,10 @@ hidden-preserved g c =
     let mid = same_after_tablet o t c.hidden.self c.newest_file_stamp.new.self i.stays (over_now o (g.F.Files.contents c.hidden.files) c.hidden.self c.newest_file_stamp.new.self i.same c.newest_file_stamp.ensures.stays) in
     let same = c.newest_file_stamp.ensures.same ∙ i.same in
     record {
-      same = c.version_at.ensures.same ∙ same;
+      same = c.version_at-in-Some.ensures.same ∙ same;
       quiet = c.in_ok-found.ensures.reason.told (not_err _ Device) ∙ c.in_ok-stamp.ensures.reason.told (not_err _ Device) ∙ i.quiet;
       high = omega (arith, high);
-      stays = same_after_tablet o t c.newest_file_stamp.new.self c.version_at.new.self mid (over_now o (g.F.Files.contents c.newest_file_stamp.new.files) c.newest_file_stamp.new.self c.version_at.new.self same c.version_at.ensures.stays);
+      stays = same_after_tablet o t c.newest_file_stamp.new.self c.version_at-in-Some.new.self mid (over_now o (g.F.Files.contents c.newest_file_stamp.new.files) c.newest_file_stamp.new.self c.version_at-in-Some.new.self same c.version_at-in-Some.ensures.stays);
       told = hidden o t c.args.row.now c.args.family.now c.args.qualifier c.args.lo c.args.hi (g.F.Files.contents c.newest_file_stamp.new.files) c.newest_file_stamp.new.self same mid
           c.in-Some.stamp low high after (c.in-Some.stamp - 1) one (rw c.in_default-2.is at c.in_ok-found.ensures.found);
     }
