@@ -2,7 +2,7 @@
 use Rattle.std.proofs.Common.{◌≡◌, ℕ, ◌<◌, ◌^◌, List, [], ◌∷◌, ◌++◌, refl, sym, ap, subst, ◌∙◌, drop, arith}
 use Rattle.cell_key.specs.declared.keys.Qualifier.{Qualifier}
 use Rattle.si_model.specs.declared.replies.Cell.{Cell}
-use Rattle.si_model.specs.Messages.{Request, Begin, Get, Set, Advance, Stop, CleanBegin, CleanStep, CollectBegin, CollectStep, Minor, Merge, Major, Split, Move, Sweep, OracleRestart, Raw}
+use Rattle.si_model.specs.Messages.{Request, Begin, Get, Set, Advance, Stop, CleanBegin, CleanStep, CollectBegin, CollectStep, Minor, Merge, Major, Split, Move, Sweep, OracleRestart, Raw, Checkpoint}
 use Rattle.request_codec.specs.Fields.{number, field, cell_fields, qualifier_number, FitsField, FitsCell}
 use Rattle.request_codec.specs.Requests.{request_body, IsRequest}
 use Rattle.request_codec.proofs.Fields.{same_number, past_number, same_field, same_cell, same_qualifier, first}
@@ -29,6 +29,10 @@ begin_only other f p = let e = ap first p.whole in absurd (omega (arith, e))
 restart_only : (r : Request) (f : List ℕ) → IsRequest r (0x10 ∷ f) → r ≡ OracleRestart
 restart_only OracleRestart f p = refl
 restart_only other f p = let e = ap first p.whole in absurd (omega (arith, e))
+
+checkpoint_only : (r : Request) (f : List ℕ) → IsRequest r (0x12 ∷ f) → r ≡ Checkpoint
+checkpoint_only Checkpoint f p = refl
+checkpoint_only other f p = let e = ap first p.whole in absurd (omega (arith, e))
 
 record AsGet (r : Request) (f : List ℕ) : Type 0 where
   start : ℕ
@@ -240,4 +244,4 @@ one_request (Move tablet server) b body p q =
     same_two (λ x y. Move x y) 1 tablet server b p.numbers.0 p.numbers.1 (move_only b (number 4 tablet ++ number 1 server) (subst (IsRequest b) p.whole q))
 one_request Sweep b body p q = sym (sweep_only b [] (subst (IsRequest b) p.whole q))
 one_request (Raw cell qualifier low high) b body p q = same_raw cell qualifier low high b p.bytes p.numbers.0 p.numbers.1 (subst (IsRequest b) p.whole q)
-one_request other b body p q = absurd p.spoken
+one_request Checkpoint b body p q = sym (checkpoint_only b [] (subst (IsRequest b) p.whole q))

@@ -29,6 +29,7 @@ replied kept.Move = MoveDone
 replied (kept.Sweep count) = Swept count
 replied kept.OracleRestart = RestartDone
 replied (kept.Raw found) = RawFound (option_map stamped found)
+replied kept.Checkpoint = CheckpointDone
 replied (kept.Refused refusal) = Refused refusal
 
 -- the fields of a read's answer
@@ -75,40 +76,6 @@ reply_body (RawFound found) = 0x91 ∷ raw_fields found
 reply_body CheckpointDone = 0x92 ∷ []
 reply_body (Refused refusal) = 0xFF ∷ refusal_number refusal ∷ []
 
--- the replies that are in the grammar so far
-abbrev pub IsSpokenReply : Reply → Type 0
-IsSpokenReply (Begun start) = Unit {0}
-IsSpokenReply (Answered answer) = Unit {0}
-IsSpokenReply (Pending start) = Unit {0}
-IsSpokenReply SetDone = Unit {0}
-IsSpokenReply (Held place count) = Unit {0}
-IsSpokenReply (Conflict place) = Unit {0}
-IsSpokenReply (Drawn stamp) = Unit {0}
-IsSpokenReply (Committed stamp) = Unit {0}
-IsSpokenReply Lost = Unit {0}
-IsSpokenReply (Finished place count) = Unit {0}
-IsSpokenReply StopDone = Unit {0}
-IsSpokenReply NoLock = Unit {0}
-IsSpokenReply (Cleaning cleaner start) = Unit {0}
-IsSpokenReply Decided = Unit {0}
-IsSpokenReply (RolledForward stamp) = Unit {0}
-IsSpokenReply RolledBack = Unit {0}
-IsSpokenReply Gone = Unit {0}
-IsSpokenReply (Collecting collector floor) = Unit {0}
-IsSpokenReply More = Unit {0}
-IsSpokenReply (Blocked cell start) = Unit {0}
-IsSpokenReply Collected = Unit {0}
-IsSpokenReply MinorDone = Unit {0}
-IsSpokenReply MergeDone = Unit {0}
-IsSpokenReply MajorDone = Unit {0}
-IsSpokenReply (SplitOff tablet) = Unit {0}
-IsSpokenReply MoveDone = Unit {0}
-IsSpokenReply (Swept count) = Unit {0}
-IsSpokenReply RestartDone = Unit {0}
-IsSpokenReply (RawFound found) = Unit {0}
-IsSpokenReply (Refused refusal) = Unit {0}
-IsSpokenReply other = ⊥
-
 -- each number fits its field
 abbrev pub ReplyNumbersFit : Reply → Type 0
 ReplyNumbersFit (Begun start) = start < 2 ^ 64
@@ -137,7 +104,6 @@ ReplyBytesFit other = Unit {0}
 
 -- the body is that of a reply in the grammar
 pub record IsReply (reply : Reply) (body : List ℕ) : Type 0 where
-  pub spoken : IsSpokenReply reply
   pub numbers : ReplyNumbersFit reply
   pub bytes : ReplyBytesFit reply
   pub whole : body ≡ reply_body reply

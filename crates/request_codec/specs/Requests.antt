@@ -27,6 +27,7 @@ asked lent.Sweep = Sweep
 asked lent.OracleRestart = OracleRestart
 asked (lent.Raw row family qualifier lo hi) =
     Raw (record { row = row.now; family = family.now }) qualifier lo hi
+asked lent.Checkpoint = Checkpoint
 
 -- the one body of a request
 abbrev pub request_body : Request → List ℕ
@@ -50,27 +51,6 @@ request_body (Raw cell qualifier low high) =
     0x11 ∷ (cell_fields cell
     ++ (number 1 (qualifier_number qualifier) ++ (number 8 low ++ number 8 high)))
 request_body Checkpoint = 0x12 ∷ []
-
--- the requests that are in the grammar so far
-abbrev pub IsSpoken : Request → Type 0
-IsSpoken Begin = Unit {0}
-IsSpoken (Get start cell) = Unit {0}
-IsSpoken (Set start cell value) = Unit {0}
-IsSpoken (Advance start) = Unit {0}
-IsSpoken (Stop start) = Unit {0}
-IsSpoken (CleanBegin cell) = Unit {0}
-IsSpoken (CleanStep cleaner) = Unit {0}
-IsSpoken CollectBegin = Unit {0}
-IsSpoken (CollectStep collector visits) = Unit {0}
-IsSpoken (Minor tablet) = Unit {0}
-IsSpoken (Merge tablet count) = Unit {0}
-IsSpoken (Major tablet) = Unit {0}
-IsSpoken (Split row) = Unit {0}
-IsSpoken (Move tablet server) = Unit {0}
-IsSpoken Sweep = Unit {0}
-IsSpoken OracleRestart = Unit {0}
-IsSpoken (Raw cell qualifier low high) = Unit {0}
-IsSpoken other = ⊥
 
 -- the requests of sessions, cleaners and collectors
 abbrev pub IsOfClient : Request → Type 0
@@ -111,7 +91,6 @@ BytesFit other = Unit {0}
 
 -- the body is that of a request in the grammar
 pub record IsRequest (request : Request) (body : List ℕ) : Type 0 where
-  pub spoken : IsSpoken request
   pub numbers : NumbersFit request
   pub bytes : BytesFit request
   pub whole : body ≡ request_body request

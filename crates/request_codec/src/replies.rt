@@ -57,6 +57,8 @@ pub enum Reply {
     OracleRestart,
     /// The stamp and the value of the newest version in the range, if there is one.
     Raw(Option<(Stamp, Vec<u8>)>),
+    /// The files keep all, and the store can be opened of them.
+    Checkpoint,
     /// The request was refused, and why.
     Refused(Refusal),
 }
@@ -132,6 +134,8 @@ const ORACLE_RESTART: u8 = 0x90;
 const RAW: u8 = 0x91;
 
 const VERSION: u8 = 0x01;
+
+const CHECKPOINT: u8 = 0x92;
 
 const REFUSED: u8 = 0xFF;
 
@@ -405,6 +409,7 @@ fn decode_other(operation: u8, fields: &[u8]) -> Option<Reply>
             Some(Reply::Sweep(count))
         }
         ORACLE_RESTART => fields.is_empty().then_some(Reply::OracleRestart),
+        CHECKPOINT => fields.is_empty().then_some(Reply::Checkpoint),
         REFUSED => {
             let refusal = decode_refusal(fields)?;
             Some(Reply::Refused(refusal))
@@ -455,7 +460,7 @@ pub fn reply_length(reply: &Reply) -> usize
         Reply::Get(Found::Nothing) | Reply::Raw(None) | Reply::Refused(_) => 2,
         Reply::Get(Found::Value(value)) => 6 + value.len(),
         Reply::Get(Found::Pending(_)) => 10,
-        Reply::Set | Reply::Stop | Reply::OracleRestart => 1,
+        Reply::Set | Reply::Stop | Reply::OracleRestart | Reply::Checkpoint => 1,
         Reply::Minor | Reply::Merge | Reply::Major | Reply::Move => 1,
         Reply::Step(progress) => progress_length(*progress),
         Reply::CleanBegin(CleanStart::Cleaner(..)) => 18,
@@ -668,6 +673,7 @@ fn push_reply(reply: &Reply, out: &mut Vec<u8>)
         }
         Reply::OracleRestart => push_byte(out, ORACLE_RESTART),
         Reply::Raw(found) => push_raw(found, out),
+        Reply::Checkpoint => push_byte(out, CHECKPOINT),
         Reply::Refused(refusal) => {
             push_byte(out, REFUSED);
             push_byte(out, refusal.number());

@@ -90,6 +90,8 @@ pub enum Request<'a> {
         lo: Stamp,
         hi: Stamp,
     },
+    /// Puts all that is in memory into files, from which the store can be opened again.
+    Checkpoint,
 }
 
 const BEGIN: u8 = 0x01;
@@ -125,6 +127,8 @@ const SWEEP: u8 = 0x0F;
 const ORACLE_RESTART: u8 = 0x10;
 
 const RAW: u8 = 0x11;
+
+const CHECKPOINT: u8 = 0x12;
 
 /// The request of a body that begins with this operation's number, a session's, a cleaner's or a
 /// collector's, and none where it is the body of no request.
@@ -204,6 +208,7 @@ fn decode_upkeep(operation: u8, fields: &[u8]) -> Option<Request<'_>>
         SWEEP => fields.is_empty().then_some(Request::Sweep),
         ORACLE_RESTART => fields.is_empty().then_some(Request::OracleRestart),
         RAW => decode_raw(fields),
+        CHECKPOINT => fields.is_empty().then_some(Request::Checkpoint),
         _ => None,
     }
 }
@@ -243,7 +248,8 @@ fn request_length(request: &Request<'_>) -> usize
     ensures { result ≡ length (request_body (asked request.now)) }
 {
     match *request {
-        Request::Begin | Request::CollectBegin | Request::Sweep | Request::OracleRestart => 1,
+        Request::Begin | Request::CollectBegin => 1,
+        Request::Sweep | Request::OracleRestart | Request::Checkpoint => 1,
         Request::Get { row, family, .. } => 17 + row.len() + family.len(),
         Request::Set {
             row,
@@ -435,6 +441,7 @@ fn push_upkeep(request: &Request<'_>, out: &mut Vec<u8>)
             lo,
             hi,
         } => push_raw(out, row, family, qualifier, lo, hi),
+        Request::Checkpoint => push_byte(out, CHECKPOINT),
         _ => unreachable!(),
     }
 }

@@ -9,7 +9,7 @@ ghost use Rattle.si_model.specs.Edits.{MakeCells};
 ghost use Rattle.si_model.specs.Enduring.{Endures, HaveTried};
 ghost use Rattle.si_model.specs.Kinds.{EachLeavesOthers};
 ghost use Rattle.si_model.specs.Laws.{AtEachStep, Bounds, ClearsItsFloor, CommitSeen, FateSeen, FirstCommitterWins, FloorStaysLow, Goes, GoneForGood, IsNeverStuck, IsSettled, Numbers, OneFate, OneMark, OneSnapshot, RefusesFirst, StartsLow, StaysCleared, TellsFate, TellsMarks, WritesWithinLimits};
-ghost use Rattle.si_model.specs.Machine.{IsReached, State};
+ghost use Rattle.si_model.specs.Machine.{IsReached, State, reopened};
 ghost use Rattle.si_model.specs.ShowsCells.{ShowsCells, WhereShown};
 ghost use Rattle.si_model.specs.declared.replies.Cell.{Cell};
 
@@ -150,6 +150,12 @@ pub fn names_nearest()
 /// What a collection leaves shows the same state.
 pub fn stays_shown()
     ensures { (cells : Cells) (st : State) → ShowsCells cells st → StaysShown cells st }
+{}
+
+/// Cells that show a state show it after a clean restart.
+pub fn shows_reopened()
+    ensures { (cells : Cells) (st : State) → ShowsCells cells st
+        → ShowsCells cells (reopened st) }
 {}
 
 /// Where no mark stands below a floor, a collector may erase the records older than one at or below it, with their data,

@@ -11,8 +11,8 @@ pub use laws::{
     bounded, cleaners_know, clears_its_floor, come_stays, comes_further, commit_seen, endures,
     fate_seen, first_committer, first_tells, floor_stays_low, goes_on, gone_for_good, have_tried,
     leaves_others, left_falls, make_cells, may_erase, names_nearest, never_stuck, numbered,
-    one_fate, one_mark, one_snapshot, refuses_first, settled, starts_low, stays_cleared,
-    stays_shown, tells_fate, tells_marks, writes_within_limits,
+    one_fate, one_mark, one_snapshot, refuses_first, settled, shows_reopened, starts_low,
+    stays_cleared, stays_shown, tells_fate, tells_marks, writes_within_limits,
 };
 pub use replies::{Cell, CleanReply, CleanStart, CollectReply, Found, Progress};
 pub use runs::{

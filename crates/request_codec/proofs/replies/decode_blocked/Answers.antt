@@ -13,7 +13,7 @@ returns-in_err-cell-clause-needed c =
     let named : IsRow c.in-Some.row.now × IsFamily c.in-Some.family.now = search rules in
     on_err c.from_residual.result (
       Blocked (record { row = c.in-Some.row.now; family = c.in-Some.family.now }) c.in-Some.start,
-      record { spoken = tt; numbers = found.number; bytes = named; whole = ap (λ (t : List ℕ). 0x89 ∷ 0x02 ∷ t) found.found },
+      record { numbers = found.number; bytes = named; whole = ap (λ (t : List ℕ). 0x89 ∷ 0x02 ∷ t) found.found },
       tt,
     )
 

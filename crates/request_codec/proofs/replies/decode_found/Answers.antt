@@ -8,7 +8,7 @@ use Rattle.request_codec.proofs.replies.decode_found.Goals as goal
 value_needs : (fields rest value : List ℕ) (tag : ℕ) → fields ≡ tag ∷ rest → tag ≡ 1 → rest ≡ field value → FitsField value → NeedsMemory (0x82 ∷ fields)
 value_needs fields rest value tag front is after fits = (
   Answered (Some value),
-  record { spoken = tt; numbers = tt; bytes = fits; whole = ap (λ (t : List ℕ). 0x82 ∷ t) (front ∙ ap (λ (n : ℕ). n ∷ rest) is ∙ ap (λ (t : List ℕ). 1 ∷ t) after) },
+  record { numbers = tt; bytes = fits; whole = ap (λ (t : List ℕ). 0x82 ∷ t) (front ∙ ap (λ (n : ℕ). n ∷ rest) is ∙ ap (λ (t : List ℕ). 1 ∷ t) after) },
   tt,
 )
 

@@ -7,7 +7,7 @@ use Rattle.request_codec.proofs.replies.decode_raw.Goals as goal
 
 version_is : (fields rest value items : List ℕ) (tag stamp : ℕ) → fields ≡ tag ∷ rest → tag ≡ 1 → rest ≡ number 8 stamp ++ field value → items ≡ value → stamp < 2 ^ 64 → FitsField value → IsReply (RawFound (Some (stamp, items))) (0x91 ∷ fields)
 version_is fields rest value items tag stamp front is after same number_fits fits =
-    rw same (record { spoken = tt; numbers = number_fits; bytes = fits; whole = ap (λ (t : List ℕ). 0x91 ∷ t) (front ∙ ap (λ (n : ℕ). n ∷ rest) is ∙ ap (λ (t : List ℕ). 1 ∷ t) after) })
+    rw same (record { numbers = number_fits; bytes = fits; whole = ap (λ (t : List ℕ). 0x91 ∷ t) (front ∙ ap (λ (n : ℕ). n ∷ rest) is ∙ ap (λ (t : List ℕ). 1 ∷ t) after) })
 
 version_needs : (fields rest value : List ℕ) (tag stamp : ℕ) → fields ≡ tag ∷ rest → tag ≡ 1 → rest ≡ number 8 stamp ++ field value → stamp < 2 ^ 64 → FitsField value → NeedsMemory (0x91 ∷ fields)
 version_needs fields rest value tag stamp front is after number_fits fits = (RawFound (Some (stamp, value)), version_is fields rest value value tag stamp front is after refl number_fits fits, tt)
