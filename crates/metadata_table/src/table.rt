@@ -4,6 +4,7 @@ ghost use Rattle.std.specs.Prelude.{◌≡◌, ◌+◌, ◌<◌, ◌≤◌, ◌�
 ghost use Rattle.std.specs.List.{Contains};
 ghost use Rattle.metadata_table.specs.Places.{view_of, views};
 ghost use Rattle.metadata_table.specs.Table.{IsTable, IsHolder, HasTablet, IsListed, BarsSplit, Cuts, moved, with_files, first_place, most_servers};
+ghost use Rattle.metadata_table.specs.Positions.{IsTabletAt};
 
 use crate::places::Place;
 use crate::positions;
@@ -103,6 +104,15 @@ impl MetadataTable {
     {
         let position = positions::of_tablet(&self.places, tablet)?;
         Ok(&self.places[position])
+    }
+
+    /// Where the place of a tablet stands in the order of the ends, from 0 on. Takes no memory.
+    pub fn position(&self, tablet: u32) -> usize
+        requires { HasTablet tablet self.now }
+        ensures bound { result < length self.now }
+        ensures there { IsTabletAt tablet self.now result }
+    {
+        positions::of_tablet(&self.places, tablet).unwrap()
     }
 
     /// Whether the tablet that holds a row can be cut there. Takes no memory.

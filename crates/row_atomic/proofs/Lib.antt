@@ -1,6 +1,7 @@
 pub mod Answering
 pub mod Calls
 pub mod Changing
+pub mod Checkpointing
 pub mod Commanding
 pub mod Cutting
 pub mod Emptying
@@ -9,11 +10,15 @@ pub mod Flushes
 pub mod Fresh
 pub mod Halving
 pub mod Joined
+pub mod Keeping
 pub mod Limits
+pub mod Listing
+pub mod Loading
 pub mod Moving
 pub mod Naming
 pub mod Nexts
 pub mod Numbers
+pub mod Opening
 pub mod Outcomes
 pub mod Owners
 pub mod Parts

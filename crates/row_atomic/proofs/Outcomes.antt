@@ -13,7 +13,7 @@ use Rattle.metadata_table.specs.Table.{BarsSplit, HasTablet, IsHolder, IsNumbere
 use Rattle.sorted_file.specs.Sources.{IsReadRefusal as IsFileRefusal}
 use Rattle.tablet.specs.Views.{UsesName}
 use Rattle.tablet.specs.declared.tablet.Tablet.{Tablet}
-use Rattle.row_atomic.specs.Changes.{Holds, IsAsBefore, IsCompacted, IsCut, IsEmptied, IsFlushed, IsFull, IsHalved, IsMoveRefusal, IsMoved, IsNumberedRefusal, IsOn, IsRefusalOf, IsSplitRefusal, IsUndone, KeepsMap, MayBeFlushed, MayHolderBeFlushed, MeetsBadCount, MeetsFull, Numbered, OfHolder, Remakes, WritesNone}
+use Rattle.row_atomic.specs.Changes.{Holds, IsAsBefore, IsCompacted, IsCut, IsEmptied, IsFlushed, IsFull, IsHalved, IsMoveRefusal, IsMoved, IsNumberedRefusal, IsOn, IsRefusalOf, IsSplitRefusal, IsUndone, KeepsMap, ListsAll, MayBeFlushed, MayHolderBeFlushed, MeetsBadCount, MeetsFull, Numbered, OfHolder, Remakes, WritesNone}
 use Rattle.row_atomic.specs.Clusters.{ClusterState, spots_of, storage_of}
 use Rattle.row_atomic.specs.Commands.{Answers, BarsCompaction, HasCause, IsNoFuller, IsOutcome, LeavesRoom, MayCompact, OverfillsCluster, TellsFaults, Upholds, UsesFiles, cells_shown, compacting, done_of, split_of, swept_of}
 use Rattle.row_atomic.specs.Refusals.{IsApplyRefusal, IsReadRefusal}
@@ -26,6 +26,7 @@ use Rattle.row_atomic.specs.declared.commands.Outcome.{Outcome}
 use Rattle.row_atomic.specs.declared.commands.Outcome.TheVariants.{Done, Refused, Split, Swept}
 use Rattle.row_atomic.proofs.Passing.{IsUnknown, below_only, read_move, read_split, unknown_move, unknown_only, unknown_unwritten, want_compacts}
 use Rattle.row_atomic.proofs.Changing.{contained}
+use Rattle.row_atomic.proofs.Listing.{same_lists, stored_lists}
 use Rattle.row_atomic.proofs.Roomy.{holder_not, holder_that}
 use Rattle.row_atomic.proofs.Splitting.{holder_known}
 
@@ -154,30 +155,33 @@ not_device e not is = not (let is = is in cc)
 module _ {F : Type 0} (contents : F → Option Contents) (count : F → ℕ) (n : ℕ) (old new : ClusterState F) where
   -- a compaction that is done
   pub compacted : (compaction : Compaction) → KeepsMap contents old new → IsCompacted contents compaction n old new → Uses contents (Numbered (WritesNone compaction) n old.tablets) old new
-      → MayCompact contents compaction n old → TellsFaults count Done old new → IsOutcome contents count (compacting compaction n) Done old new
-  compacted compactions.Minor kept made uses room told = record {
+      → MayCompact contents compaction n old → (compaction ≡ compactions.Minor → ListsAll old.places new.places) → TellsFaults count Done old new → IsOutcome contents count (compacting compaction n) Done old new
+  compacted compactions.Minor kept made uses room lists told = record {
     still = λ order. (kept order).0;
     answers = λ order. (kept order).1;
     upholds = made;
     files = (record { name = uses.name; limit = uses.limit; none = uses.none }, uses.spots);
+    lists = λ _. lists refl;
     room = tt;
     cause = room;
     faults = told;
   }
-  compacted (compactions.Merge many) kept made uses room told = record {
+  compacted (compactions.Merge many) kept made uses room lists told = record {
     still = λ order. (kept order).0;
     answers = λ order. (kept order).1;
     upholds = made;
     files = (record { name = uses.name; limit = uses.limit; none = λ none. absurd none }, uses.spots);
+    lists = λ none. absurd (none (tt, refl));
     room = tt;
     cause = room;
     faults = told;
   }
-  compacted compactions.Major kept made uses room told = record {
+  compacted compactions.Major kept made uses room lists told = record {
     still = λ order. (kept order).0;
     answers = λ order. (kept order).1;
     upholds = made;
     files = (record { name = uses.name; limit = uses.limit; none = λ none. absurd none }, uses.spots);
+    lists = λ none. absurd (none (tt, refl));
     room = tt;
     cause = room;
     faults = told;
@@ -192,6 +196,7 @@ module _ {F : Type 0} (contents : F → Option Contents) (count : F → ℕ) (n 
     answers = λ order. (whole order, (kept order).1);
     upholds = (numbered_refusal compactions.Minor e refusal, as_before);
     files = (record { name = uses.name; limit = uses.limit; none = uses.none }, uses.spots);
+    lists = λ _. same_lists old.places new.places as_before.places;
     room = tt;
     cause = record { due = bars; barred = λ same. absurd (known same); undone = undone };
     faults = told;
@@ -201,6 +206,7 @@ module _ {F : Type 0} (contents : F → Option Contents) (count : F → ℕ) (n 
     answers = λ order. (whole order, (kept order).1);
     upholds = (numbered_refusal (compactions.Merge many) e refusal, as_before);
     files = (record { name = uses.name; limit = uses.limit; none = λ none. absurd none }, uses.spots);
+    lists = λ _. same_lists old.places new.places as_before.places;
     room = tt;
     cause = record {
       due = bars;
@@ -217,6 +223,7 @@ module _ {F : Type 0} (contents : F → Option Contents) (count : F → ℕ) (n 
     answers = λ order. (whole order, (kept order).1);
     upholds = (numbered_refusal compactions.Major e refusal, as_before);
     files = (record { name = uses.name; limit = uses.limit; none = λ none. absurd none }, uses.spots);
+    lists = λ _. same_lists old.places new.places as_before.places;
     room = tt;
     cause = record { due = bars; barred = λ same. absurd (known same); undone = undone };
     faults = told;
@@ -230,6 +237,7 @@ module _ {F : Type 0} (contents : F → Option Contents) (count : F → ℕ) (n 
     answers = λ order. (whole, refl);
     upholds = (refusal, as_was state);
     files = (record { name = inl (refl, refl); limit = refl; none = λ _. (refl, refl) }, refl);
+    lists = λ _ name l. l;
     room = tt;
     cause = record { due = bars; barred = λ _. refl; undone = λ _. none_done contents state };
     faults = no_fault count (Refused e) state (not_device e not);
@@ -239,6 +247,7 @@ module _ {F : Type 0} (contents : F → Option Contents) (count : F → ℕ) (n 
     answers = λ order. (whole, refl);
     upholds = (refusal, as_was state);
     files = (record { name = inl (refl, refl); limit = refl; none = λ _. (refl, refl) }, refl);
+    lists = λ _ name l. l;
     room = tt;
     cause = record { due = bars; barred = λ _. refl; undone = λ _. none_done contents state };
     faults = no_fault count (Refused e) state (not_device e not);
@@ -248,6 +257,7 @@ module _ {F : Type 0} (contents : F → Option Contents) (count : F → ℕ) (n 
     answers = λ order. (whole, refl);
     upholds = (refusal, as_was state);
     files = (record { name = inl (refl, refl); limit = refl; none = λ _. (refl, refl) }, refl);
+    lists = λ _ name l. l;
     room = tt;
     cause = record { due = bars; barred = λ _. refl; undone = λ _. none_done contents state };
     faults = no_fault count (Refused e) state (not_device e not);
@@ -292,6 +302,7 @@ module _ {F : Type 0} (contents : F → Option Contents) (count : F → ℕ) (ro
     answers = λ order. ((λ is. cc), refl);
     upholds = (tt, (refl, λ place holder. inl refl));
     files = record { name = inl (refl, refl); limit = refl; none = λ _. (refl, refl) };
+    lists = λ _ name l. l;
     room = tt;
     cause = record {
       due = record { bad = ((λ _. bars), λ _. refl); full = λ is. cc; unfilled = λ of. absurd of; exhausted = λ is. cc; large = λ is. cc };
@@ -311,6 +322,7 @@ module _ {F : Type 0} (contents : F → Option Contents) (count : F → ℕ) (ro
           answers = flush.answers;
           upholds = (flush_split e flush.upholds.0 (λ is. due.unknown.0 is (holder_known row old.places p holder)), (flush.files.1, λ place at. inl flush.upholds.1.tablets));
           files = record { name = flush.files.0.name; limit = flush.files.0.limit; none = λ none. flush.files.0.none (holder_that IsEmptied row old.places old.tablets p holder none) };
+          lists = λ _. flush.lists (λ takes. absurd takes.0);
           room = tt;
           cause = record {
             due = record {
@@ -332,12 +344,13 @@ module _ {F : Type 0} (contents : F → Option Contents) (count : F → ℕ) (ro
         → (OfHolder IsEmptied row old.places old.tablets → (new.next_name ≡ old.next_name) × (contents new.files ≡ contents old.files))
         → IfOk r (λ left. left ≡ length old.places + 1) → IfOk r (λ left. IsCut row left old.places new.places) → IfOk r (λ left. IsHalved old.next_name row left old.places old.tablets new.tablets)
         → OnErr r (spots_of new ≡ spots_of old) → OnErr r (MayHolderBeFlushed old.next_name row old.places old.tablets new.tablets)
-        → (Holds contents mid → ¬ IsErrOf r Damaged) → IfErr r IsFileRefusal → HasReason (count mid.files) (count new.files) r → IsOutcome contents count (command.Split row) (split_of r) old new
-    cut_after new (Ok left) flush kept limit name none number cut halved spots may whole refusal reason = record {
+        → ListsAll mid.places new.places → (Holds contents mid → ¬ IsErrOf r Damaged) → IfErr r IsFileRefusal → HasReason (count mid.files) (count new.files) r → IsOutcome contents count (command.Split row) (split_of r) old new
+    cut_after new (Ok left) flush kept limit name none number cut halved spots may lists whole refusal reason = record {
       still = λ order. (kept (flush.still order)).0;
       answers = λ order. (kept (flush.still order)).1 ∙ flush.answers order;
       upholds = (number, cut, halved);
       files = record { name = name; limit = limit ∙ flush.files.0.limit; none = none };
+      lists = λ _ name l. lists name (flush.lists (λ takes. absurd takes.0) name l);
       room = tt;
       cause = record {
         free = free;
@@ -347,11 +360,12 @@ module _ {F : Type 0} (contents : F → Option Contents) (count : F → ℕ) (ro
       };
       faults = told_after count (Split left) old mid new (flush.faults.told (λ is. cc)) (tells_done count left (Split left) mid new (λ is. cc) reason);
     }
-    cut_after new (Err e) flush kept limit name none number cut halved spots may whole refusal reason = record {
+    cut_after new (Err e) flush kept limit name none number cut halved spots may lists whole refusal reason = record {
       still = λ order. (kept (flush.still order)).0;
       answers = λ order. ((λ is. whole (flush.still order) (err_of e Damaged is)), (kept (flush.still order)).1 ∙ flush.answers order);
       upholds = (read_split e refusal, (spots, may));
       files = record { name = name; limit = limit ∙ flush.files.0.limit; none = none };
+      lists = λ _ name l. lists name (flush.lists (λ takes. absurd takes.0) name l);
       room = tt;
       cause = record {
         due = record {
@@ -394,6 +408,7 @@ module _ {F : Type 0} (contents : F → Option Contents) (count : F → ℕ) (n 
         answers = λ order. ((λ is. subst IsUnknown is unknown), refl);
         upholds = (unknown_move e unknown, (off_of n server state.places e table known near which, refl, inl refl));
         files = record { name = inl (refl, refl); limit = refl; none = λ _. (refl, refl) };
+        lists = λ _ name l. l;
         room = tt;
         cause = record {
           due = (
@@ -420,6 +435,7 @@ module _ {F : Type 0} (contents : F → Option Contents) (count : F → ℕ) (n 
     answers = λ order. refl;
     upholds = inl (on, refl);
     files = record { name = inl (refl, refl); limit = refl; none = λ _. (refl, refl) };
+    lists = λ _ name l. l;
     room = tt;
     cause = record { known = (on.0, on.1, on.2); near = on_near n server state.places table on; flushes = λ away. absurd (away on) };
     faults = no_fault count Done state (λ is. cc);
@@ -435,6 +451,7 @@ module _ {F : Type 0} (contents : F → Option Contents) (count : F → ℕ) (n 
           answers = flush.answers;
           upholds = (flush_move e flush.upholds.0, (away, flush.files.1, inl flush.upholds.1.tablets));
           files = record { name = flush.files.0.name; limit = flush.files.0.limit; none = flush.files.0.none };
+          lists = λ _. flush.lists (λ takes. absurd takes.0);
           room = tt;
           cause = record {
             due = (((λ is. absurd (near is)), λ far. absurd (below_only _ _ below far.1)), flush.cause.due);
@@ -453,21 +470,23 @@ module _ {F : Type 0} (contents : F → Option Contents) (count : F → ℕ) (n 
         → (Numbered IsEmptied n old.tablets → (new.next_name ≡ old.next_name) × (contents new.files ≡ contents old.files))
         → OnOk r (IsMoved n server old.places new.places) → OnOk r (Remakes (IsFlushed old.next_name) n old.tablets new.tablets)
         → OnErr r (spots_of new ≡ spots_of old) → OnErr r (MayBeFlushed old.next_name n old.tablets new.tablets)
-        → (Holds contents mid → ¬ IsErrOf r Damaged) → IfErr r IsFileRefusal → HasReason (count mid.files) (count new.files) r → IsOutcome contents count (command.Move n server) (done_of r) old new
-    put_after new (Ok x) flush kept limit name none moved flushed spots may whole refusal reason = record {
+        → ListsAll mid.places new.places → (Holds contents mid → ¬ IsErrOf r Damaged) → IfErr r IsFileRefusal → HasReason (count mid.files) (count new.files) r → IsOutcome contents count (command.Move n server) (done_of r) old new
+    put_after new (Ok x) flush kept limit name none moved flushed spots may lists whole refusal reason = record {
       still = λ order. (kept (flush.still order)).0;
       answers = λ order. (kept (flush.still order)).1 ∙ flush.answers order;
       upholds = inr (record { elsewhere = away; moved = moved; flushed = flushed });
       files = record { name = name; limit = limit ∙ flush.files.0.limit; none = none };
+      lists = λ _ name l. lists name (flush.lists (λ takes. absurd takes.0) name l);
       room = tt;
       cause = record { known = known; near = below; flushes = λ _. flush.cause };
       faults = told_after count Done old mid new (flush.faults.told (λ is. cc)) (tells_done count x Done mid new (λ is. cc) reason);
     }
-    put_after new (Err e) flush kept limit name none moved flushed spots may whole refusal reason = record {
+    put_after new (Err e) flush kept limit name none moved flushed spots may lists whole refusal reason = record {
       still = λ order. (kept (flush.still order)).0;
       answers = λ order. ((λ is. whole (flush.still order) (err_of e Damaged is)), (kept (flush.still order)).1 ∙ flush.answers order);
       upholds = (read_move e refusal, (away, spots, may));
       files = record { name = name; limit = limit ∙ flush.files.0.limit; none = none };
+      lists = λ _ name l. lists name (flush.lists (λ takes. absurd takes.0) name l);
       room = tt;
       cause = record {
         due = (
@@ -504,6 +523,7 @@ module _ {F : Type 0} (contents : F → Option Contents) (count : F → ℕ) (ol
     answers = λ order. (kept order).1;
     upholds = record { files = files; counted = counted; rest = rest };
     files = tt;
+    lists = λ _. same_lists old.places new.places (ap (λ state. state.places) rest);
     room = same_room;
     cause = tt;
     faults = tells_done count many (Swept many) old new (λ is. cc) reason;
@@ -519,6 +539,7 @@ module _ {F : Type 0} (contents : F → Option Contents) (count : F → ℕ) (ol
     );
     upholds = (refusal, record { files = lacks; rest = rest });
     files = tt;
+    lists = λ _. same_lists old.places new.places (ap (λ state. state.places) rest);
     room = same_room;
     cause = record {
       due = tt;
@@ -554,15 +575,16 @@ tells_read count r x result old new is not later told = record { later = later; 
 
 module _ {F : Type 0} (contents : F → Option Contents) (count : F → ℕ) where
   pub read_refused : {A : Type 0} (command : Command) (r : Result A Refusal) (e : Refusal) (old new : ClusterState F) → r ≡ Err e → (Holds contents old → Holds contents new)
-      → (Holds contents old → Answers (cells_shown contents old) command (Refused e) (cells_shown contents new)) → Upholds contents command (Refused e) old new → UsesFiles contents command old new
+      → (Holds contents old → Answers (cells_shown contents old) command (Refused e) (cells_shown contents new)) → Upholds contents command (Refused e) old new → UsesFiles contents command old new → storage_of contents new ≡ storage_of contents old
       → LeavesRoom command (Refused e) old new → (¬ (e ≡ TooManyFiles) → HasCause contents command (Refused e) old new) → IsReadRefusal e
       → count old.files ≤ count new.files → (IsErrOf r Device → HasRisen (count old.files) (count new.files)) → (¬ IsErrOf r Device → count new.files ≡ count old.files)
       → IsOutcome contents count command (Refused e) old new
-  read_refused command r e old new is still answers upholds files room cause refusal later device told = record {
+  read_refused command r e old new is still answers upholds files stays room cause refusal later device told = record {
     still = still;
     answers = answers;
     upholds = upholds;
     files = files;
+    lists = λ _. stored_lists contents old new stays;
     room = room;
     cause = cause (λ same. many_not_read (subst IsReadRefusal same refusal));
     faults = record { later = later; device = λ same. device (is ∙ err_of e Device (let same = same in cc)); told = λ other. told (λ err. other (let err = sym is ∙ err in cc)) };
@@ -578,6 +600,7 @@ module _ {F : Type 0} (contents : F → Option Contents) (count : F → ℕ) whe
     answers = ok;
     upholds = storage;
     files = tt;
+    lists = λ _. stored_lists contents old new storage;
     room = λ at later over. elim (room at later over) [
       | inl before ↦ inl before
       | inr after ↦ inr (row, edits.items, (refl, refl), after)
@@ -590,6 +613,7 @@ module _ {F : Type 0} (contents : F → Option Contents) (count : F → ℕ) whe
     answers = λ order. ((λ is. damaged_not_apply (subst IsApplyRefusal is refusal)), err order);
     upholds = (refusal, storage);
     files = tt;
+    lists = λ _. stored_lists contents old new storage;
     room = err_room;
     cause = record { due = λ is. full (err_of e MemtableFull is); barred = λ bars. absurd bars; undone = λ is. absurd (many_not_apply (subst IsApplyRefusal is refusal)) };
     faults = record { later = omega (arith, same); device = λ is. let that : e ≡ Device = cc in absurd (device_not_apply (subst IsApplyRefusal that refusal)); told = λ _. same };

@@ -139,6 +139,14 @@ reason_passed r e before now by reason = record {
   told = λ other. reason.told (λ is. other (refused_as r e Device by (named e Device is)));
 }
 
+pub reason_since : {B : Type 0} (r : Result B Refusal) (before mid now : ℕ) → mid ≡ before → HasReason mid now r → HasReason before now r
+reason_since r before mid now same reason = subst (λ (count : ℕ). HasReason count now r) same reason
+
+-- what was refused so was not refused otherwise
+pub not_wanted : {B : Type 0} (r : Result B Refusal) (e n : Refusal) → IsErrAnd r (λ f. f ≡ e) → ¬ (e ≡ n) → ¬ IsErrOf r n
+not_wanted (Ok x) e n by other is = absurd by
+not_wanted (Err f) e n by other is = other (let same : f ≡ n = cc in sym by ∙ same)
+
 -- a call that was not refused met no fault
 pub reason_after : {A B : Type 0} (r : Result B Refusal) (x : A) (before mid now : ℕ) → HasReason before mid (Ok x) → HasReason mid now r → HasReason before now r
 reason_after r x before mid now first second = subst (λ (k : ℕ). HasReason k now r) (first.told (not_refused x Device)) second

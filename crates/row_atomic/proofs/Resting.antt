@@ -1,5 +1,5 @@
 -- After a checkpoint the files keep what the cluster shows.
-use Rattle.std.proofs.Common.{◌≡◌, ◌≤◌, ◌<◌, ◌==◌, ℕ, Bool, true, false, cond, nat_eq, List, [], ◌∷◌, Option, Some, None, Result, Ok, Err, refl, sym, ap, ◌∙◌, subst, arith}
+use Rattle.std.proofs.Common.{◌≡◌, ◌≤◌, ◌<◌, ◌==◌, ◌⊎◌, inl, inr, ℕ, Bool, true, false, cond, nat_eq, List, [], ◌∷◌, Option, Some, None, Result, Ok, Err, refl, sym, ap, ◌∙◌, subst, arith}
 use Rattle.std.proofs.lemmas.Option.{same_Some}
 use Rattle.std.specs.Prelude.{IsSomeAnd, OnOk}
 use Rattle.std.specs.FinMap as finite
@@ -9,7 +9,7 @@ use Rattle.std.specs.List.{AllByRecursion}
 use borrow.Author.Tests.{eqb-true, eqb-false}
 use Rattle.cell_key.specs.Cells.{Cells}
 use Rattle.cell_key.specs.declared.refusals.Refusal.{Refusal}
-use Rattle.file_store.specs.Store.{Contents, with_file}
+use Rattle.file_store.specs.Store.{Contents, KeepsOthers, with_file}
 use Rattle.metadata_table.specs.Places.{PlaceView}
 use Rattle.metadata_table.specs.Roots.{AreFiles, IsRoot, RootView}
 use Rattle.metadata_table.specs.Table.{IsTable}
@@ -20,7 +20,7 @@ use Rattle.row_atomic.specs.Changes.{Holds, IsEmptied, Numbered}
 use Rattle.row_atomic.specs.Clusters.{ArePlaced, ClusterState, InOrder, IsMatched, cells_in, joined, spots_of, tablet_numbered}
 use Rattle.row_atomic.specs.Commands.{IsOutcome, cells_shown}
 use Rattle.row_atomic.specs.Flushes.{numbers_of}
-use Rattle.row_atomic.specs.Roots.{AreFlushed, AreOpened, FlushesEach, KeepsCells, Rests, root_at, root_name}
+use Rattle.row_atomic.specs.Roots.{AreFlushed, AreOpened, FlushesEach, KeepsCells, KeepsRoot, Rests, root_at, root_name}
 use Rattle.row_atomic.specs.declared.commands.Command.TheVariants as command
 use Rattle.row_atomic.specs.declared.commands.Outcome.TheVariants as outcome
 use Rattle.row_atomic.proofs.Flushes.{same_numbers}
@@ -76,6 +76,22 @@ module _ {F : Type 0} (contents : F → Option Contents) (faults : F → ℕ) wh
 
 -- ---- the root beside them
 
+module _ (m : Contents) (image : List ℕ) where
+  abbrev with_root : Contents
+  with_root = finite.insert m root_name image
+
+  elsewhere : (name : ℕ) → 1 ≤ name → get with_root name ≡ get m name
+  elsewhere name from = get-insert nat_cmp_total m root_name image name ∙ ap (λ (b : Bool). cond b (Some image) (get m name)) (unsigned_tied name root_name) ∙ by (name == root_name) refl
+    where
+      by : (b : Bool) → (name == root_name) ≡ b → cond b (Some image) (get m name) ≡ get m name
+      by true e = let none = eqb-true name root_name e in absurd (omega arith)
+      by false e = refl
+
+-- a put of the root leaves all other files
+pub put_keeps : (old : Option Contents) (image : List ℕ) → KeepsOthers root_name old (with_file root_name image old)
+put_keeps None image = refl
+put_keeps (Some m) image = λ name other. elsewhere m image name (omega (arith, other))
+
 module _ (places : List PlaceView) (ts : List Tablet) (limit next : ℕ) (table : IsTable places) (matched : IsMatched limit next places ts) where
   -- what is told of each place's tablet
   abbrev Says : (Tablet → Type 0) → PlaceView → Type 0
@@ -97,26 +113,42 @@ module _ (places : List PlaceView) (ts : List Tablet) (limit next : ℕ) (table 
     named_says p.end ps placed.1 files.1,
   )
 
-  module _ (law : UnnamedMayGo) (m : Contents) (image : List ℕ) where
-    abbrev n : Contents
-    n = finite.insert m root_name image
-
-    elsewhere : (name : ℕ) → 1 ≤ name → get n name ≡ get m name
-    elsewhere name from = get-insert nat_cmp_total m root_name image name ∙ ap (λ (b : Bool). cond b (Some image) (get m name)) (unsigned_tied name root_name) ∙ by (name == root_name) refl
-      where
-        by : (b : Bool) → (name == root_name) ≡ b → cond b (Some image) (get m name) ≡ get m name
-        by true e = let none = eqb-true name root_name e in absurd (omega arith)
-        by false e = refl
-
+  -- the files of tablets are as before
+  module _ (law : UnnamedMayGo) (m n : Contents) (same_at : (name : ℕ) → 1 ≤ name → get n name ≡ get m name) where
     each_still : AllByRecursion (HoldsAt m) ts → AllByRecursion (λ t. HoldsAt n t × (cells_at n t ≡ cells_at m t)) ts
     each_still holds = each_of (λ t. HoldsAt n t × (cells_at n t ≡ cells_at m t)) ts (λ j t e.
         law m n t (each_at (HoldsAt m) ts holds j t e)
-        (each_map (λ name. (1 ≤ name) × (name < next)) (λ name. get n name ≡ get m name) (λ name is. elsewhere name is.0) (names_of t)
+        (each_map (λ name. (1 ≤ name) × (name < next)) (λ name. get n name ≡ get m name) (λ name is. same_at name is.0) (names_of t)
         (each_at (λ u. AreFiles next (names_of u)) ts (each_says (λ u. AreFiles next (names_of u)) (named_says None places matched.placed matched.files)) j t e).named))
+
+    open_still : AllByRecursion (HoldsAt m) ts → AllByRecursion (HoldsAt n) ts
+    open_still holds = each_map (λ t. HoldsAt n t × (cells_at n t ≡ cells_at m t)) (HoldsAt n) (λ t h. h.0) ts (each_still holds)
+
+    cells_still : AllByRecursion (HoldsAt m) ts → cells_in (Some n) ts ≡ cells_in (Some m) ts
+    cells_still holds = ap joined (maps_alike (cells_at n) (cells_at m) ts (each_map (λ t. HoldsAt n t × (cells_at n t ≡ cells_at m t)) (λ t. cells_at n t ≡ cells_at m t) (λ t h. h.1) ts (each_still holds)))
+
+  others_still : UnnamedMayGo → (old new : Option Contents) → KeepsOthers root_name old new → InOrder old next ts → InOrder new next ts × (cells_in new ts ≡ cells_in old ts)
+  others_still law None new others order = let none = order.are_told in cc
+  others_still law (Some m) None others order = absurd others
+  others_still law (Some m) (Some n) others order =
+      let same : m ≡ order.contents = same_Some m order.contents order.are_told in
+      let holds : AllByRecursion (HoldsAt m) ts = subst (λ (o : Contents). AllByRecursion (HoldsAt o) ts) (sym same) order.each_open in
+      let same_at : (name : ℕ) → 1 ≤ name → get n name ≡ get m name = λ name from. others name (λ is. absurd (omega (arith, is, from))) in
+      (record { contents = n; are_told = refl; each_open = open_still law m n same_at holds; each_below = order.each_below }, cells_still law m n same_at holds)
+
+  -- the bytes of the root file change nothing for tablets
+  pub still_told : UnnamedMayGo → (old new : Option Contents) → (new ≡ old) ⊎ KeepsOthers root_name old new → InOrder old next ts → InOrder new next ts × (cells_in new ts ≡ cells_in old ts)
+  still_told law old new may order = elim may [
+    | inl same ↦ (subst (λ (o : Option Contents). InOrder o next ts) (sym same) order, ap (λ (o : Option Contents). cells_in o ts) same)
+    | inr others ↦ others_still law old new others order
+  ]
+
+  module _ (law : UnnamedMayGo) (m : Contents) (image : List ℕ) where
+    abbrev n : Contents
+    n = with_root m image
 
     keeps : AllByRecursion (HoldsAt m) ts → AllByRecursion (λ k. Numbered IsEmptied k ts) (numbers_of places) → (root : RootView) → root.places ≡ places → IsRoot root image → KeepsCells n root (cells_in (Some m) ts)
     keeps holds flushed root same form =
-        let each = each_still holds in
         record {
           image = image;
           there = get-insert nat_cmp_total m root_name image root_name;
@@ -126,9 +158,9 @@ module _ (places : List PlaceView) (ts : List Tablet) (limit next : ℕ) (table 
             placed = matched.placed;
             as_many = matched.as_many;
             emptied = each_says IsEmptied (emptied_says places flushed);
-            each_open = each_map (λ t. HoldsAt n t × (cells_at n t ≡ cells_at m t)) (HoldsAt n) (λ t h. h.0) ts each;
+            each_open = open_still law m n (elsewhere m image) holds;
           });
-          shows = ap joined (maps_alike (cells_at n) (cells_at m) ts (each_map (λ t. HoldsAt n t × (cells_at n t ≡ cells_at m t)) (λ t. cells_at n t ≡ cells_at m t) (λ t h. h.1) ts each));
+          shows = cells_still law m n (elsewhere m image) holds;
         }
 
   pub keeps_told : UnnamedMayGo → (old new : Option Contents) (image : List ℕ) (root : RootView) → new ≡ with_file root_name image old → root.places ≡ places → IsRoot root image → AllByRecursion (λ k. Numbered IsEmptied k ts) (numbers_of places)
@@ -138,13 +170,21 @@ module _ (places : List PlaceView) (ts : List Tablet) (limit next : ℕ) (table 
       (subst (λ (o : Option Contents). IsSomeAnd (with_file root_name image o) (λ k. KeepsCells k root (cells_in o ts))) (sym order.are_told)
       (keeps law order.contents image order.each_open flushed root same form))
 
+-- what a state's own root says of it
+pub rooted : {F : Type 0} (contents : F → Option Contents) (top floor : ℕ) (state : ClusterState F) (cells : Cells) → IsSomeAnd (contents state.files) (λ m. KeepsCells m (root_at top floor state) cells) → KeepsRoot contents (root_at top floor state) cells state
+rooted contents top floor state cells keeps = go (contents state.files) refl keeps
+  where
+    go : (told : Option Contents) → contents state.files ≡ told → IsSomeAnd told (λ m. KeepsCells m (root_at top floor state) cells) → KeepsRoot contents (root_at top floor state) cells state
+    go None e keeps = absurd keeps
+    go (Some m) e keeps = record { has = record { kept = m; are_told = e; keeps = keeps; below = omega arith }; lists = λ name l. l }
+
 -- ---- both
 
 module _ {F : Type 0} (contents : F → Option Contents) (faults : F → ℕ) (top floor : ℕ) where
   pub rests_after : (old mid new : ClusterState F) → FlushesEach contents faults old (numbers_of old.places) outcome.Done mid → Rests contents top floor mid new → Rests contents top floor old new
   rests_after old mid new flushes rests holds =
       let kept = all_keep contents faults old mid (numbers_of old.places) flushes in
-      subst (λ (cells : Cells). IsSomeAnd (contents new.files) (λ m. KeepsCells m (root_at top floor new) cells)) (kept.same holds) (rests (kept.still holds))
+      subst (λ (cells : Cells). KeepsRoot contents (root_at top floor new) cells new) (kept.same holds) (rests (kept.still holds))
 
   pub flushed_then : (mid new : ClusterState F) → new ≡ record mid { files = new.files } → AreFlushed mid → AreFlushed new
   flushed_then mid new rest flushed = subst AreFlushed (sym rest) flushed

@@ -62,7 +62,7 @@ module _ {A : Type 0} (test : A → Bool) where
     | inr t ↦ (let rest = any_there xs t in (rest.0, ((suc rest.1.0.0, omega (arith, rest.1.0.1), rest.1.0.2), rest.1.1)))
   ]
 
-listed_true : (places : List PlaceView) (name : ℕ) → IsListed name places → any_has places name ≡ true
+pub listed_true : (places : List PlaceView) (name : ℕ) → IsListed name places → any_has places name ≡ true
 listed_true places name l = any_at (λ p. has name p.files) places l.0 l.1 (any_at (λ file. file == name) l.0.files name l.2 (itself name))
 
 listed_there : (places : List PlaceView) (name : ℕ) → any_has places name ≡ true → IsListed name places

@@ -10,7 +10,7 @@ use Rattle.sorted_file.specs.Opened.{listed}
 use Rattle.sorted_file.specs.declared.opened.SortedFile.{SortedFile}
 use Rattle.compaction.specs.Writing.{written}
 use Rattle.metadata_table.specs.Places.{PlaceView}
-use Rattle.metadata_table.specs.Table.{IsHolder, Cuts, moved, with_files}
+use Rattle.metadata_table.specs.Table.{Cuts, IsHolder, IsListed, moved, with_files}
 use Rattle.tablet.specs.Ranges.{seen}
 use Rattle.tablet.specs.Views.{Holds as HoldsAt, range_of, memory_of, files_of, names_of, lists_of, with_name}
 use Rattle.tablet.specs.Compactions.{Compacts, IsCompactionRefusal}
@@ -43,6 +43,10 @@ parts_of t = (range_of t, (memory_of t, files_of t))
 pub record IsAsBefore {F : Type 0} (old new : ClusterState F) : Type 0 where
   pub places : new.places ≡ old.places
   pub tablets : map parts_of new.tablets ≡ map parts_of old.tablets
+
+-- each file that tablets have at the first places is one that tablets have at the second
+abbrev pub ListsAll : List PlaceView → List PlaceView → Type 0
+ListsAll first second = (name : ℕ) → IsListed name first → IsListed name second
 
 -- nothing was done: the tablets, their places, the files and the next name are as before
 pub record IsUndone {F : Type 0} (contents : F → Option Contents)

@@ -12,7 +12,7 @@ use Rattle.cell_key.specs.declared.refusals.Refusal.TheVariants as refused
 use Rattle.file_store.specs.Store.{Contents}
 use Rattle.metadata_table.specs.Table.{BarsSplit, HasTablet, most_servers}
 use Rattle.tablet.specs.Views.{UsesName}
-use Rattle.row_atomic.specs.Changes.{ComesOfWriting, ComesTo, Fits, Holds, IsAsBefore, IsCompacted, IsCut, IsEmptied, IsFull, IsHalved, IsMoveRefusal, IsNumberedRefusal, IsOn, IsSplitRefusal, IsTooLarge, IsUndone, MayBeFlushed, MayHolderBeFlushed, MeetsBadCount, MeetsFull, Numbered, OfHolder, WritesNone}
+use Rattle.row_atomic.specs.Changes.{ComesOfWriting, ComesTo, Fits, Holds, IsAsBefore, IsCompacted, IsCut, IsEmptied, IsFull, IsHalved, IsMoveRefusal, IsNumberedRefusal, IsOn, IsSplitRefusal, IsTooLarge, IsUndone, ListsAll, MayBeFlushed, MayHolderBeFlushed, MeetsBadCount, MeetsFull, Numbered, OfHolder, WritesNone}
 use Rattle.row_atomic.specs.Clusters.{ClusterState, Overfills, cells_in, spots_of, storage_of}
 use Rattle.row_atomic.specs.Compactions as compaction
 use Rattle.row_atomic.specs.Refusals.{IsApplyRefusal, IsReadRefusal}
@@ -158,6 +158,16 @@ UsesFiles contents (command.Split row) old new = WritesOne contents (command.Spl
 UsesFiles contents (command.Move tablet server) old new =
     WritesOne contents (command.Move tablet server) old new
 UsesFiles contents _ old new = ⊤
+
+-- a merging or a major compaction: where it is done a tablet has its new file in place of others
+abbrev pub IsMerging : Command → Type 0
+IsMerging (command.Merge tablet count) = ⊤
+IsMerging (command.Major tablet) = ⊤
+IsMerging _ = ⊥
+
+-- such a one was done
+abbrev pub TakesFiles : Command → Outcome → Type 0
+TakesFiles command result = IsMerging command × (result ≡ outcome.Done)
 
 -- ---- the room in memory
 
@@ -319,6 +329,8 @@ pub record IsOutcome {F : Type 0} (contents : F → Option Contents) (count : F 
   pub upholds : Upholds contents command result old new
   -- it wrote one file at most
   pub files : UsesFiles contents command old new
+  -- the tablets have every file that they had, unless files were taken from one
+  pub lists : ¬ TakesFiles command result → ListsAll old.places new.places
   -- the room in memory that it took
   pub room : LeavesRoom command result old new
   -- nothing stood against it, or its refusal has a cause

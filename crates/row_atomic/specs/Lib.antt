@@ -8,6 +8,7 @@ pub mod Laws
 pub mod Oldest
 pub mod Refusals
 pub mod Roots
+pub mod RootsOpened
 pub mod Room
 pub mod Slots
 pub mod Sweeps

@@ -1,5 +1,5 @@
 -- What the files keep of a cluster, and the checkpoint that leaves it there.
-use Rattle.std.specs.Prelude.{◌≡◌, ◌⊎◌, ℕ, List, [], ◌∷◌, length, Option, None, Some, IsSomeAnd}
+use Rattle.std.specs.Prelude.{◌≡◌, ◌≤◌, ◌⊎◌, ℕ, List, [], ◌∷◌, length, Option, None, Some}
 use Rattle.std.specs.List.{AllByRecursion}
 use Rattle.std.specs.FinMap.{get}
 use Rattle.cell_key.specs.Cells.{Cells}
@@ -10,10 +10,11 @@ use Rattle.metadata_table.specs.Places.{PlaceView}
 use Rattle.metadata_table.specs.Roots.{IsRoot, RootView}
 use Rattle.tablet.specs.Views.{Holds as HoldsAt}
 use Rattle.tablet.specs.declared.tablet.Tablet.{Tablet}
-use Rattle.row_atomic.specs.Changes.{Holds, IsEmptied, Numbered}
-use Rattle.row_atomic.specs.Clusters.{ArePlaced, ClusterState, cells_in}
-use Rattle.row_atomic.specs.Commands.{IsOutcome, TellsFaults, cells_shown}
-use Rattle.row_atomic.specs.Flushes.{numbers_of}
+use Rattle.row_atomic.specs.Changes.{Holds, IsEmptied, ListsAll, Numbered}
+use Rattle.row_atomic.specs.Clusters.{ArePlaced, ClusterState, cells_in, storage_of}
+use Rattle.row_atomic.specs.Commands.{IsOutcome, TakesFiles, TellsFaults, cells_shown}
+use Rattle.row_atomic.specs.Flushes.{CompactsFull, MergesMany, numbers_of}
+use Rattle.row_atomic.specs.declared.commands.Command.{Command}
 use Rattle.row_atomic.specs.declared.commands.Command.TheVariants as command
 use Rattle.row_atomic.specs.declared.commands.Outcome.{Outcome}
 use Rattle.row_atomic.specs.declared.commands.Outcome.TheVariants as outcome
@@ -87,11 +88,69 @@ pub data Checkpoints {F : Type 0} (contents : F → Option Contents) (faults : F
 
 -- each tablet that has a place has an empty memtable
 abbrev pub AreFlushed : {F : Type 0} → ClusterState F → Type 0
-AreFlushed state = AllByRecursion (λ n. Numbered IsEmptied n state.tablets) (numbers_of state.places)
+AreFlushed state =
+    AllByRecursion (λ n. Numbered IsEmptied n state.tablets) (numbers_of state.places)
+
+-- ---- what stays in the files
+
+-- The files are told, and keep a root and cells. Files to come have other names than the root's.
+pub record HasRoot {F : Type 0} (contents : F → Option Contents) (root : RootView) (cells : Cells)
+    (state : ClusterState F) : Type 0 where
+  pub kept : Contents
+  pub are_told : contents state.files ≡ Some kept
+  pub keeps : KeepsCells kept root cells
+  pub below : root.next_name ≤ state.next_name
+
+-- They keep them, and the tablets have every file that the root lists: no sweep removes one.
+pub record KeepsRoot {F : Type 0} (contents : F → Option Contents) (root : RootView) (cells : Cells)
+    (state : ClusterState F) : Type 0 where
+  pub has : HasRoot contents root cells state
+  pub lists : ListsAll root.places state.places
 
 -- Its files keep the cells that the cluster showed, and tell of these stamps.
 abbrev pub Rests : {F : Type 0} → (F → Option Contents) → ℕ → ℕ → ClusterState F → ClusterState F
     → Type 0
 Rests contents top floor old new =
-    Holds contents old → IsSomeAnd (contents new.files)
-    (λ m. KeepsCells m (root_at top floor new) (cells_shown contents old))
+    Holds contents old → KeepsRoot contents (root_at top floor new) (cells_shown contents old) new
+
+-- ---- how long it stays
+
+-- A command leaves a root and its cells in the files, whatever its outcome. A sweep does so where
+-- the tablets have every file that the root lists. They have them still, unless files were taken.
+abbrev pub RootStays : {F : Type 0} → (F → Option Contents) → (F → ℕ) → Type 0
+RootStays {F} contents faults =
+    (request : Command) (result : Outcome) (root : RootView) (cells : Cells)
+    (old new : ClusterState F) → IsOutcome contents faults request result old new
+    → ((request ≡ command.Sweep → ListsAll root.places old.places)
+    → HasRoot contents root cells old → HasRoot contents root cells new)
+    × (¬ TakesFiles request result
+    → KeepsRoot contents root cells old → KeepsRoot contents root cells new)
+
+-- what the files keep of a root they keep after a change, and so do the tablets the root's files
+abbrev pub StayRooted : {F : Type 0} → (F → Option Contents) → RootView → Cells → ClusterState F
+    → ClusterState F → Type 0
+StayRooted contents root cells old new =
+    (HasRoot contents root cells old → HasRoot contents root cells new)
+    × (KeepsRoot contents root cells old → KeepsRoot contents root cells new)
+
+-- this depends on what lies below the memtables alone
+abbrev pub RootIsStored : {F : Type 0} → (F → Option Contents) → Type 0
+RootIsStored {F} contents =
+    (root : RootView) (cells : Cells) (old new : ClusterState F)
+    → storage_of contents new ≡ storage_of contents old → StayRooted contents root cells old new
+
+-- Minor compactions of many tablets leave it so, as far as they went.
+abbrev pub RootOutlastsFlushes : {F : Type 0} → (F → Option Contents) → (F → ℕ) → Type 0
+RootOutlastsFlushes {F} contents faults =
+    (root : RootView) (cells : Cells) (old new : ClusterState F)
+    → ((flush : ℕ) → CompactsFull contents faults flush old new
+    → StayRooted contents root cells old new)
+    × ((numbers : List ℕ) (result : Outcome) → FlushesEach contents faults old numbers result new
+    → StayRooted contents root cells old new)
+
+-- Merges of many tablets leave what the files keep. The tablets may then lack files of the root.
+abbrev pub RootOutlastsMerges : {F : Type 0} → (F → Option Contents) → (F → ℕ) → Type 0
+RootOutlastsMerges {F} contents faults =
+    (root : RootView) (cells : Cells) (old new : ClusterState F) (most : ℕ)
+    → MergesMany contents faults most old new
+    → HasRoot contents root cells old → HasRoot contents root cells new

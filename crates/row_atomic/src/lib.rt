@@ -6,6 +6,7 @@ mod cluster_compactions;
 mod cluster_full;
 mod cluster_laws;
 mod cluster_moving;
+mod cluster_open;
 mod cluster_roots;
 mod cluster_rows;
 mod cluster_sweep;
@@ -18,7 +19,9 @@ mod rows;
 mod slots;
 
 pub use cluster::Cluster;
-pub use cluster_laws::cells_by_tablet;
+pub use cluster_laws::{
+    cells_by_tablet, root_is_stored, root_outlasts_flushes, root_outlasts_merges, root_stays,
+};
 pub use commands::{Command, Outcome};
 pub use laws::{one_newest, one_next_cell};
 pub use oldest_version::oldest;

@@ -3,6 +3,7 @@ use Rattle.std.proofs.Common.{subst}
 use Rattle.std.proofs.lemmas.Result.{on_err_weaker, on_ok_weaker}
 use Rattle.cell_key.specs.Places.{IsNextCell}
 use Rattle.row_atomic.proofs.Calls.{either_way, is_read_refusal, read_undamaged}
+use Rattle.row_atomic.proofs.Listing.{stored_lists}
 use Rattle.row_atomic.proofs.Outcomes.{applied, of_done, read_refused, tells_read}
 use Rattle.row_atomic.specs.Commands.{cells_shown}
 use Rattle.row_atomic.specs.declared.commands.Command.TheVariants as command
@@ -20,6 +21,7 @@ returns-in-Ok g c =
       answers = λ order. (c.in-Ok.ensures.found order, told.reads.kept order);
       upholds = told.reads.stays;
       files = tt;
+      lists = λ _. stored_lists g.F.Files.contents c.args.self.now c.newest.new.self told.reads.stays;
       room = told.reads.room;
       cause = tt;
       faults = tells_read g.F.Files.faults c.newest.result c.in-Ok.found (outcome.Newest c.in-Ok.found) c.args.self.now c.newest.new.self c.in-Ok.is (λ is. cc) told.reason.later told.reason.told;
@@ -29,7 +31,7 @@ pub returns-in-Newest : goal.returns-in-Newest
 returns-in-Newest g c =
     let told = c.newest.ensures in
     rw c.in-Newest.is (read_refused g.F.Files.contents g.F.Files.faults (command.Newest c.in-Newest.row c.in-Newest.family c.in-Newest.qualifier c.in-Newest.lo c.in-Newest.hi) c.newest.result c.in-Err.refusal c.args.self.now c.newest.new.self c.in-Err.is told.reads.still
-    (λ order. (read_undamaged _ c.in-Err.refusal c.in-Err.ensures.refusal order, told.reads.kept order)) (is_read_refusal _ c.in-Err.refusal c.in-Err.ensures.refusal, told.reads.stays) tt told.reads.room (λ many. record { due = tt; barred = λ bars. absurd bars; undone = λ is. absurd (many is) }) (is_read_refusal _ c.in-Err.refusal c.in-Err.ensures.refusal) told.reason.later told.reason.device told.reason.told)
+    (λ order. (read_undamaged _ c.in-Err.refusal c.in-Err.ensures.refusal order, told.reads.kept order)) (is_read_refusal _ c.in-Err.refusal c.in-Err.ensures.refusal, told.reads.stays) tt told.reads.stays told.reads.room (λ many. record { due = tt; barred = λ bars. absurd bars; undone = λ is. absurd (many is) }) (is_read_refusal _ c.in-Err.refusal c.in-Err.ensures.refusal) told.reason.later told.reason.device told.reason.told)
 
 pub returns-in-Ok-next_cell : goal.returns-in-Ok-next_cell
 returns-in-Ok-next_cell g c =
@@ -39,6 +41,7 @@ returns-in-Ok-next_cell g c =
       answers = λ order. (subst (λ after. IsNextCell (cells_shown g.F.Files.contents c.args.self.now) after c.in-Ok-next_cell.found) c.lent.ensures (c.in-Ok-next_cell.ensures.found order), told.reads.kept order);
       upholds = told.reads.stays;
       files = tt;
+      lists = λ _. stored_lists g.F.Files.contents c.args.self.now c.next_cell.new.self told.reads.stays;
       room = told.reads.room;
       cause = tt;
       faults = tells_read g.F.Files.faults c.next_cell.result c.in-Ok-next_cell.found (outcome.NextCell c.in-Ok-next_cell.found) c.args.self.now c.next_cell.new.self c.in-Ok-next_cell.is (λ is. cc) told.reason.later told.reason.told;
@@ -48,7 +51,7 @@ pub returns-in-NextCell : goal.returns-in-NextCell
 returns-in-NextCell g c =
     let told = c.next_cell.ensures in
     rw c.in-NextCell.is (read_refused g.F.Files.contents g.F.Files.faults (command.NextCell c.in-NextCell.after) c.next_cell.result c.in-Err-next_cell.refusal c.args.self.now c.next_cell.new.self c.in-Err-next_cell.is told.reads.still
-    (λ order. (read_undamaged _ c.in-Err-next_cell.refusal c.in-Err-next_cell.ensures.refusal order, told.reads.kept order)) (is_read_refusal _ c.in-Err-next_cell.refusal c.in-Err-next_cell.ensures.refusal, told.reads.stays) tt told.reads.room (λ many. record { due = tt; barred = λ bars. absurd bars; undone = λ is. absurd (many is) }) (is_read_refusal _ c.in-Err-next_cell.refusal c.in-Err-next_cell.ensures.refusal) told.reason.later told.reason.device told.reason.told)
+    (λ order. (read_undamaged _ c.in-Err-next_cell.refusal c.in-Err-next_cell.ensures.refusal order, told.reads.kept order)) (is_read_refusal _ c.in-Err-next_cell.refusal c.in-Err-next_cell.ensures.refusal, told.reads.stays) tt told.reads.stays told.reads.room (λ many. record { due = tt; barred = λ bars. absurd bars; undone = λ is. absurd (many is) }) (is_read_refusal _ c.in-Err-next_cell.refusal c.in-Err-next_cell.ensures.refusal) told.reason.later told.reason.device told.reason.told)
 
 pub returns-in-Apply : goal.returns-in-Apply
 returns-in-Apply g c =

@@ -1,5 +1,5 @@
 -- One tablet is compacted, and its place lists its files.
-use Rattle.std.proofs.Common.{None, ◌≡◌, rules, refl, ap, ◌∙◌, map}
+use Rattle.std.proofs.Common.{None, ◌≡◌, rules, refl, ap, ◌∙◌, map, subst}
 use Rattle.std.proofs.lemmas.Option.{slice_get_within}
 use Rattle.std.specs.Vec.{vec_capacity}
 use Rattle.cell_key.specs.declared.refusals.Refusal.TheVariants.{BadCount, Damaged, Exhausted, FileTooLarge, NoMemory, TooManyFiles}
@@ -9,8 +9,10 @@ use Rattle.row_atomic.specs.Clusters.{spot_of}
 use Rattle.row_atomic.specs.Changes.{Fits, IsCleaned, IsFull, IsMade, IsTooLarge, MeetsBadCount, MeetsFull, WritesNone, kind_of}
 use Rattle.tablet.specs.Compactions.{Compacts}
 use Rattle.row_atomic.proofs.Answering.{found_there, undamaged}
+use Rattle.row_atomic.proofs.Listing.{flush_lists}
 use Rattle.row_atomic.proofs.Naming.{compacted_files, no_less, placed_names}
 use Rattle.row_atomic.proofs.Changing.{numbered_at, has_room, in_order, is_set, matched_unchanged, matched_listed, numbered_new, numbered_old, parts_stay, remade, same_spots, stays}
+use Rattle.row_atomic.specs.declared.cluster_compactions.Compaction.{Compaction}
 use Rattle.row_atomic.specs.declared.commands.Outcome.TheVariants.{Done}
 use Rattle.row_atomic.proofs.Outcomes.{compacted, err_of, full_meets, known_refusal, refused_done, tells_done, tells_refused, uncompacted, unstarted}
 use Rattle.row_atomic.proofs.Passing.{none_answered}
@@ -112,4 +114,8 @@ returns-clause-outcome g c =
       named = λ most. numbered_old c.self.inside.tablets.items c.position-index.result c.index_mut.result.now c.compact.new.tablet there (WritesNone c.args.compaction) c.args.tablet at.number (c.in_ok-compact.ensures.left most);
       fits = numbered_old c.self.inside.tablets.items c.position-index.result c.index_mut.result.now c.compact.new.tablet there (Fits c.self.inside.file_limit (g.F.Files.contents c.self.inside.files) c.args.compaction) c.args.tablet at.number c.in_ok-compact.ensures.fits;
     })
+    (λ minor. flush_lists c.self.inside.tablets.items c.self.inside.table c.self.invariant.placed c.list_files.new.table c.args.tablet c.self.inside.next_name c.index_mut.result.now c.compact.new.tablet
+    (numbered_at c.self.inside.tablets.items c.args.tablet c.position-index.result c.index_mut.result.now at.number there)
+    (subst (λ (kind : Compaction). IsMade kind c.self.inside.next_name c.index_mut.result.now c.compact.new.tablet) minor c.in_ok-compact.ensures.made).names
+    (c.list_files.ensures ∙ ap (λ t. with_files c.args.tablet (names_of t) c.self.inside.table) (is_set c.self.inside.tablets.items c.position-index.result c.index_mut.result.now c.compact.new.tablet c.index-2.result.now there c.index-2.ensures)))
     (tells_done g.F.Files.faults _ Done _ _ (λ is. cc) c.in_ok-compact.ensures.reason))

@@ -1,5 +1,8 @@
 -- One tablet after the other is flushed, in the order of their ends.
 use Rattle.std.proofs.Common.{◌<◌, ◌≤◌, length, arith}
+use Rattle.row_atomic.specs.Changes.{IsRefusalOf}
+use Rattle.row_atomic.specs.Compactions.{minor}
+use Rattle.row_atomic.proofs.Checkpointing.{known_refusal, passed_on}
 use Rattle.row_atomic.proofs.Rooting.{after_one, at_end, at_refusal, at_start, within_now}
 use Rattle.row_atomic.proofs.cluster.Cluster.flush_each.Goals as goal
 
@@ -20,11 +23,16 @@ loop-index-preserved g c = record {
   flushing = after_one g.F.Files.contents g.F.Files.faults c.args.self.now c.loop-index.self c.loop-index.index c.loop-index.invariant.flushing c.number_at-tablet.result c.number_at-tablet.ensures.at c.minor.new.self c.in_ok-minor.ensures;
 }
 
-pub returns-in_err-minor : goal.returns-in_err-minor
-returns-in_err-minor g c =
+pub returns-in_err-minor-clause-refusal : goal.returns-in_err-minor-clause-refusal
+returns-in_err-minor-clause-refusal g c =
+    let is = c.in_err-minor.ensures in
+    passed_on (IsRefusalOf minor) c.from_residual.result c.in_err-minor.field-0.0 c.from_residual.ensures.1 (known_refusal _ is.upholds.0 (λ same. is.cause.due.unknown.0 same c.number_at-tablet.ensures.known))
+
+pub returns-in_err-minor-clause-flushes : goal.returns-in_err-minor-clause-flushes
+returns-in_err-minor-clause-flushes g c =
     at_refusal g.F.Files.contents g.F.Files.faults c.args.self.now c.loop-index.self c.loop-index.index c.loop-index.invariant.flushing c.number_at-tablet.result c.number_at-tablet.ensures.at c.minor.new.self c.minor.result c.from_residual.result c.in_err-minor.field-0.0 c.from_residual.ensures.1 c.in_err-minor.ensures
 
-pub returns : goal.returns
-returns g c =
+pub returns-clause-flushes : goal.returns-clause-flushes
+returns-clause-flushes g c =
     let past : length c.args.self.now.places ≤ c.loop-index.index = let as_many = c.loop-index.invariant.as_many in omega arith in
     at_end g.F.Files.contents g.F.Files.faults c.args.self.now c.loop-index.self c.loop-index.index c.loop-index.invariant.flushing past

@@ -7,6 +7,7 @@ use Rattle.row_atomic.specs.Changes.{IsFlushed, Remakes}
 use Rattle.row_atomic.specs.Clusters.{spot_of}
 use Rattle.row_atomic.proofs.Changing.{on_ok}
 use Rattle.row_atomic.proofs.Emptying.{flushed_opened}
+use Rattle.row_atomic.proofs.Listing.{move_lists}
 use Rattle.row_atomic.proofs.Moving.{known_after}
 use Rattle.row_atomic.proofs.Outcomes.{as_refusal, flush_refused, put_after, refused_done, stayed, unmoved}
 use Rattle.row_atomic.proofs.Passing.{not_both}
@@ -59,6 +60,7 @@ returns-clause-outcome g c =
     (on_ok _ _ c.put.result (λ opened. flushed_opened old.next_name c.args.tablet old.tablets mid.tablets new.tablets outcome.upholds.made opened) c.put.ensures.opened)
     (on_err_weaker c.put.result (λ same. ap (map spot_of) same ∙ outcome.files.1) c.put.ensures.stay)
     (on_err_weaker c.put.result (λ stay. inr (subst (Remakes (IsFlushed old.next_name) c.args.tablet old.tablets) (sym stay) outcome.upholds.made)) c.put.ensures.err)
+    (move_lists c.args.tablet c.args.server mid.places new.places c.put.result c.put.ensures.places c.put.ensures.stay)
     c.put.ensures.undamaged c.put.ensures.refusal c.put.ensures.reason
 
 pub returns-in_err-is_on-clause-table : goal.returns-in_err-is_on-clause-table

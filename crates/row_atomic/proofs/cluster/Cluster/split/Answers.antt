@@ -6,6 +6,7 @@ use Rattle.metadata_table.specs.Places.{view_of}
 use Rattle.row_atomic.specs.Changes.{IsEmptied}
 use Rattle.row_atomic.specs.Clusters.{spot_of}
 use Rattle.row_atomic.proofs.Emptying.{cut_listed, flushed_alone, halved_after}
+use Rattle.row_atomic.proofs.Listing.{cut_lists}
 use Rattle.row_atomic.proofs.Outcomes.{cut_after, refused_split, uncut, unflushed}
 use Rattle.row_atomic.proofs.Passing.{number_after}
 use Rattle.row_atomic.proofs.Roomy.{holder_that, still_used}
@@ -57,4 +58,5 @@ returns g c =
     (IfOk-weaker c.cut.result _ _ (halved_after c.self.inside.next_name mid.next_name c.args.row.now c.self.inside.table mid.places c.self.inside.tablets.items mid.tablets new.tablets (view_of c.locate.result.now) c.locate.ensures.holder listed made) c.cut.ensures.halved)
     (on_err_weaker c.cut.result (λ same. ap (map spot_of) same ∙ files.1) c.cut.ensures.err)
     (on_err_weaker c.cut.result (flushed_alone c.self.inside.next_name mid.next_name c.args.row.now c.self.inside.table mid.places c.self.inside.tablets.items mid.tablets new.tablets (view_of c.locate.result.now) c.locate.ensures.holder listed made) c.cut.ensures.unchanged)
+    (cut_lists c.args.row.now mid.places new.places c.cut.result c.cut.ensures.cut c.cut.ensures.err)
     c.cut.ensures.undamaged c.cut.ensures.refusal c.cut.ensures.reason)

@@ -1,0 +1,124 @@
+-- What a checkpoint keeps, and what its refusal tells.
+use Rattle.std.proofs.Common.{◌≡◌, ◌≢◌, ◌≤◌, ◌⊎◌, inl, inr, ℕ, List, [], ◌∷◌, Option, Result, Ok, Err, IfErr, IsErrOf, refl, sym, ap, ◌∙◌, subst, arith}
+use Rattle.std.specs.Result.{IsErrAnd}
+use Rattle.cell_key.specs.Faults.{HasRisen}
+use Rattle.cell_key.specs.declared.refusals.Refusal.{Refusal}
+use Rattle.cell_key.specs.declared.refusals.Refusal.TheVariants as refused
+use Rattle.file_store.specs.Store.{Contents, KeepsOthers}
+use Rattle.metadata_table.specs.Table.{HasTablet, IsTable}
+use Rattle.tablet.specs.Laws.{UnnamedMayGo}
+use Rattle.row_atomic.specs.Changes.{Holds, IsNumberedRefusal, IsRefusalOf}
+use Rattle.row_atomic.specs.Clusters.{ClusterState, IsMatched}
+use Rattle.row_atomic.specs.Commands.{IsOutcome, TellsFaults, done_of}
+use Rattle.row_atomic.specs.Compactions as compaction
+use Rattle.row_atomic.specs.Flushes.{KeepsShown}
+use Rattle.row_atomic.specs.Roots.{FlushesEach, PutsRoot, root_name}
+use Rattle.row_atomic.specs.declared.commands.Command.TheVariants as command
+use Rattle.row_atomic.specs.declared.commands.Outcome.{Outcome}
+use Rattle.row_atomic.specs.declared.commands.Outcome.TheVariants as outcome
+use Rattle.row_atomic.proofs.Flushes.{keeps_on, keeps_start}
+use Rattle.row_atomic.proofs.Resting.{still_told}
+use Rattle.row_atomic.proofs.Rooting.{refused_same}
+
+-- what is kept, and what is told
+pub record Tells {F : Type 0} (contents : F → Option Contents) (faults : F → ℕ) (result : Outcome) (old new : ClusterState F) : Type 0 where
+  pub keeps : KeepsShown contents faults old new
+  pub telling : TellsFaults faults result old new
+  pub undamaged : Holds contents old → result ≢ outcome.Refused refused.Damaged
+
+module _ {F : Type 0} (contents : F → Option Contents) (faults : F → ℕ) where
+  -- a compaction that was done, and one that was refused
+  one_done : (old new : ClusterState F) (n : ℕ) → IsOutcome contents faults (command.Minor n) outcome.Done old new → Tells contents faults outcome.Done old new
+  one_done old new n is = record {
+    keeps = record { kept = λ holds. (is.still holds, is.answers holds); spots = is.files.1; limit = is.files.0.limit; later = is.faults.later };
+    telling = is.faults;
+    undamaged = λ holds same. cc;
+  }
+
+  same_refusal : (e f : Refusal) → outcome.Refused e ≡ outcome.Refused f → e ≡ f
+  same_refusal e f same = cc
+
+  one_refused : (old new : ClusterState F) (n : ℕ) (e : Refusal) → IsOutcome contents faults (command.Minor n) (outcome.Refused e) old new → Tells contents faults (outcome.Refused e) old new
+  one_refused old new n e is = record {
+    keeps = record { kept = λ holds. (is.still holds, (is.answers holds).1); spots = is.files.1; limit = is.files.0.limit; later = is.faults.later };
+    telling = is.faults;
+    undamaged = λ holds same. (is.answers holds).0 (same_refusal e refused.Damaged same);
+  }
+
+  not_device : outcome.Done ≢ outcome.Refused refused.Device
+  not_device same = cc
+
+  -- what was done first tells no fault
+  pub both_tell : (old mid new : ClusterState F) (result : Outcome) → Tells contents faults outcome.Done old mid → Tells contents faults result mid new → Tells contents faults result old new
+  both_tell old mid new result first then =
+      let same : faults mid.files ≡ faults old.files = first.telling.told not_device in
+      record {
+        keeps = keeps_on contents faults old mid new first.keeps then.keeps;
+        telling = record {
+          later = subst (λ (n : ℕ). n ≤ faults new.files) same then.telling.later;
+          device = λ is. subst (λ (n : ℕ). HasRisen n (faults new.files)) same (then.telling.device is);
+          told = λ other. then.telling.told other ∙ same;
+        };
+        undamaged = λ holds. then.undamaged (first.keeps.kept holds).0;
+      }
+
+  pub flushes_tell : (old new : ClusterState F) (ns : List ℕ) (result : Outcome) → FlushesEach contents faults old ns result new → Tells contents faults result old new
+  flushes_tell old new [] result FlushesEach.flushes_none = record {
+    keeps = keeps_start contents faults old;
+    telling = record { later = omega arith; device = λ is. absurd (not_device is); told = λ other. refl };
+    undamaged = λ holds same. cc;
+  }
+  flushes_tell old new (n ∷ ns) result (FlushesEach.flushes_one {now = now} is rest) = both_tell old now new result (one_done old now n is) (flushes_tell now new ns result rest)
+  flushes_tell old new (n ∷ ns) result (FlushesEach.refuses_one e is) = one_refused old new n e is
+
+  -- ---- the root
+
+  pub root_keeps : (old : ClusterState F) (files : F) → IsTable old.places → IsMatched old.file_limit old.next_name old.places old.tablets → UnnamedMayGo
+      → (contents files ≡ contents old.files) ⊎ KeepsOthers root_name (contents old.files) (contents files) → faults old.files ≤ faults files
+      → KeepsShown contents faults old (record old { files = files })
+  root_keeps old files table matched law may later = record {
+    kept = still_told old.places old.tablets old.file_limit old.next_name table matched law (contents old.files) (contents files) may;
+    spots = refl;
+    limit = refl;
+    later = later;
+  }
+
+  put_undamaged : (top floor : ℕ) (old : ClusterState F) (result : Outcome) (files : F) → PutsRoot contents top floor old result files → result ≢ outcome.Refused refused.Damaged
+  put_undamaged top floor old outcome.Done files puts same = cc
+  put_undamaged top floor old (outcome.Refused e) files puts same = elim puts.0 [
+    | inl is ↦ (let this = same_refusal e refused.Damaged same in cc)
+    | inr is ↦ (let this = same_refusal e refused.Damaged same in cc)
+  ]
+  put_undamaged top floor old _ files puts same = absurd puts
+
+  pub put_tells : (top floor : ℕ) (old new : ClusterState F) (result : Outcome) → PutsRoot contents top floor old result new.files → KeepsShown contents faults old new → TellsFaults faults result old new → Tells contents faults result old new
+  put_tells top floor old new result puts keeps tells = record { keeps = keeps; telling = tells; undamaged = λ holds. put_undamaged top floor old result new.files puts }
+
+-- ---- refusals
+
+-- a tablet that is known is never refused as unknown
+pub known_refusal : (e : Refusal) → IsNumberedRefusal compaction.minor e → e ≢ refused.UnknownTablet → IsRefusalOf compaction.minor e
+known_refusal refused.UnknownTablet is known = absurd (known refl)
+known_refusal e is known = is
+
+pub put_refusal : (e : Refusal) → (e ≡ refused.Device) ⊎ (e ≡ refused.NoMemory) → IsRefusalOf compaction.minor e
+put_refusal e which = elim which [
+  | inl is ↦ subst (IsRefusalOf compaction.minor) (sym is) tt
+  | inr is ↦ subst (IsRefusalOf compaction.minor) (sym is) tt
+]
+
+pub passed_on : (P : Refusal → Type 0) (r : Result (Unit {0}) Refusal) (e : Refusal) → IsErrAnd r (λ f. f ≡ e) → P e → IfErr r P
+passed_on P (Ok x) e by such = tt
+passed_on P (Err f) e by such = subst P (sym by) such
+
+module _ {F : Type 0} (contents : F → Option Contents) where
+  pub when_refused : (top floor : ℕ) (old : ClusterState F) (files : F) (r : Result (Unit {0}) Refusal) → PutsRoot contents top floor old (done_of r) files → IfErr r (IsRefusalOf compaction.minor)
+  when_refused top floor old files (Ok x) puts = tt
+  when_refused top floor old files (Err e) puts = put_refusal e puts.0
+
+  module _ (faults : F → ℕ) (old new : ClusterState F) (r : Result (Unit {0}) Refusal) where
+    pub refused_tells : (e : Refusal) → IsErrAnd r (λ f. f ≡ e) → Tells contents faults (outcome.Refused e) old new → Tells contents faults (done_of r) old new
+    refused_tells e by tells = subst (λ (result : Outcome). Tells contents faults result old new) (refused_same r e by) tells
+
+    pub done_undamaged : Tells contents faults (done_of r) old new → Holds contents old → ¬ IsErrOf r refused.Damaged
+    done_undamaged tells holds is = tells.undamaged holds (ap done_of is)
