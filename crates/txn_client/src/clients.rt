@@ -8,7 +8,8 @@ ghost use Rattle.std.specs.FinMap.{empty};
 ghost use Rattle.std.specs.Ordering.{nat_cmp};
 ghost use Rattle.cell_key.specs.Cells.{Cells};
 ghost use Rattle.cell_key.specs.Names.{IsFamily, IsRow};
-ghost use Rattle.oracle.specs.Ranges.{IsDrawRefusal};
+ghost use Rattle.oracle.specs.Marks.{MayHold};
+ghost use Rattle.oracle.specs.Ranges.{IsDrawRefusal, next_range_end};
 ghost use Rattle.cell_key.specs.Faults.{HasReason};
 ghost use Rattle.si_model.specs.Machine as machine;
 ghost use Rattle.si_model.specs.Machine.{IsReached, State};
@@ -73,7 +74,8 @@ impl Clients {
 
     /// The greatest stamp that was answered, and 0 before the first.
     pub fn top(&self) -> Stamp
-        ensures { (st : State) → ShowsClients self.now st → result ≡ st.top }
+        ensures top { result ≡ self.now.top }
+        ensures shown { (st : State) → ShowsClients self.now st → result ≡ st.top }
     {
         self.top
     }
@@ -104,6 +106,9 @@ impl Clients {
         ensures next { IfOk result (λ start. (start ≡ oracle.old.last + 1)
             × (oracle.new.last ≡ start)) }
         ensures stays { OnErr result (oracle.new.last ≡ oracle.old.last) }
+        // A refusal leaves the mark, or it is the end of the next range.
+        ensures mark { OnErr result (MayHold (next_range_end oracle.old.range_end)
+            (M.mark oracle.old.marks) (M.mark oracle.new.marks)) }
         ensures refusal { IfErr result IsBeginRefusal }
         ensures crowded { (st : State) → ShowsClients self.old st → IsCrowded st
             → IsErrOf result Refusal.TooManySessions }
@@ -285,6 +290,9 @@ impl Clients {
         ensures last { IfOk result (λ progress.
             oracle.new.last ≡ top_after oracle.old.last progress) }
         ensures stays { OnErr result (oracle.new.last ≡ oracle.old.last) }
+        // A refusal leaves the mark, or it is the end of the next range.
+        ensures mark { OnErr result (MayHold (next_range_end oracle.old.range_end)
+            (M.mark oracle.old.marks) (M.mark oracle.new.marks)) }
         ensures undamaged { R.holds rows.old → ¬ (IsErrOf result Refusal.Damaged) }
         ensures refusal { IfErr result IsStepRefusal }
         ensures err { OnErr result (SameClients self.old self.new) }

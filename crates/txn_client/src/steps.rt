@@ -3,7 +3,8 @@
 ghost use Rattle.std.specs.Prelude.{◌≡◌, ◌≢◌, ◌+◌, ◌≤◌, ℕ, length, IfOk, OnErr, IfErr, IsErrOf};
 ghost use Rattle.cell_key.specs.Cells.{Cells};
 ghost use Rattle.cell_key.specs.Faults.{HasReason};
-ghost use Rattle.oracle.specs.Ranges.{IsDrawRefusal};
+ghost use Rattle.oracle.specs.Marks.{MayHold};
+ghost use Rattle.oracle.specs.Ranges.{IsDrawRefusal, next_range_end};
 ghost use Rattle.row_atomic.specs.Calls.{OnlyReads};
 ghost use Rattle.row_atomic.specs.Room.{HasNoRoom};
 ghost use Rattle.txn_client.specs.Shows.{Advances, DrawsNext, HasHeldSo, HasNoNext, top_after};
@@ -80,6 +81,8 @@ impl Session {
         ensures writes { self.new.writes ≡ self.old.writes }
         ensures err { OnErr result (self.new ≡ self.old) }
         ensures stays { OnErr result (oracle.new.last ≡ oracle.old.last) }
+        ensures mark { OnErr result (MayHold (next_range_end oracle.old.range_end)
+            (M.mark oracle.old.marks) (M.mark oracle.new.marks)) }
         ensures refusal { IfErr result IsDrawRefusal }
         ensures reason { HasReason (M.faults oracle.old.marks) (M.faults oracle.new.marks) result }
         ensures exhausted { IsErrOf result Refusal.Exhausted → oracle.old.last ≡ MOST_STAMP }
@@ -183,6 +186,8 @@ impl Session {
         ensures writes { self.new.writes ≡ self.old.writes }
         ensures err { OnErr result (self.new ≡ self.old) }
         ensures stays { OnErr result (oracle.new.last ≡ oracle.old.last) }
+        ensures mark { OnErr result (MayHold (next_range_end oracle.old.range_end)
+            (M.mark oracle.old.marks) (M.mark oracle.new.marks)) }
         ensures does { IfOk result (λ outcome. Does R.holds R.cells R.overfills R.storage (EditsOf
             (R.holds rows.old) (R.cells rows.old) self.old) outcome.progress rows.old rows.new) }
         ensures same { OnErr result (OnlyReads

@@ -179,3 +179,9 @@ returns-in-Ok-clause-reason g c = record { later = c.in-Ok.ensures.later; device
 
 pub returns-in-Err-clause-reason : goal.returns-in-Err-clause-reason
 returns-in-Err-clause-reason g c = record { later = c.in-Err.ensures.later; device = c.in-Err.ensures.device; told = c.in-Err.ensures.told }
+
+pub returns-in_err-start-clause-mark : goal.returns-in_err-start-clause-mark
+returns-in_err-start-clause-mark g c = passed_kept c.from_residual.result _ (inl refl)
+
+pub returns-in_err-make_session-clause-mark : goal.returns-in_err-make_session-clause-mark
+returns-in_err-make_session-clause-mark g c = passed_kept c.from_residual-in_err-make_session.result _ (inl refl)

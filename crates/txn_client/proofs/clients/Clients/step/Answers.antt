@@ -133,6 +133,9 @@ returns-then-outcome-clause-last g c = c.in_ok-outcome.ensures.draws.1
 pub returns-then-outcome-clause-stays : goal.returns-then-outcome-clause-stays
 returns-then-outcome-clause-stays g c = tt
 
+pub returns-then-outcome-clause-mark : goal.returns-then-outcome-clause-mark
+returns-then-outcome-clause-mark g c = tt
+
 pub returns-then-outcome-clause-refusal : goal.returns-then-outcome-clause-refusal
 returns-then-outcome-clause-refusal g c = tt
 
@@ -162,6 +165,9 @@ returns-else-outcome-clause-last g c = c.in_ok-outcome.ensures.draws.1
 
 pub returns-else-outcome-clause-stays : goal.returns-else-outcome-clause-stays
 returns-else-outcome-clause-stays g c = tt
+
+pub returns-else-outcome-clause-mark : goal.returns-else-outcome-clause-mark
+returns-else-outcome-clause-mark g c = tt
 
 pub returns-else-outcome-clause-refusal : goal.returns-else-outcome-clause-refusal
 returns-else-outcome-clause-refusal g c = tt
