@@ -11,7 +11,7 @@ use Rattle.request_codec.specs.Fields.{number, field, cell_fields}
 use Rattle.request_codec.specs.Replies.{replied, reply_body, ReplyBytesFit}
 use Rattle.request_codec.specs.declared.replies.Reply.{Reply}
 use Rattle.request_codec.specs.declared.replies.Reply.TheVariants as kept
-use Rattle.server_loop.specs.Runs.{HasShortValue}
+use Rattle.server_loop.specs.Runs.{KeepsToLimits}
 
 length-number : (k n : ℕ) → length (number k n) ≡ k
 unfolding number
@@ -29,7 +29,7 @@ pub record FitsFrame (reply : Reply) : Type 0 where
   pub short : length (reply_body (replied reply)) + 4 ≤ 65554
   pub bytes : ReplyBytesFit (replied reply)
 
-pub fits_frame : (reply : Reply) → HasShortValue reply → FitsFrame reply
+pub fits_frame : (reply : Reply) → KeepsToLimits reply → FitsFrame reply
 fits_frame (kept.Begin s) h = record { short = omega (arith, length-number 8 s); bytes = tt }
 fits_frame (kept.Get (founds.Value value)) h = record { short = omega (arith, length-field value.items, h); bytes = omega (arith, h) }
 fits_frame (kept.Get founds.Nothing) h = record { short = omega arith; bytes = tt }
@@ -63,5 +63,6 @@ fits_frame kept.Move h = record { short = omega arith; bytes = tt }
 fits_frame (kept.Sweep count) h = record { short = omega (arith, length-number 8 count); bytes = tt }
 fits_frame (kept.Raw (Some found)) h = record { short = omega (arith, length-append (number 8 found.0) (field found.1.items), length-number 8 found.0, length-field found.1.items, h); bytes = omega (arith, h) }
 fits_frame (kept.Raw None) h = record { short = omega arith; bytes = tt }
+fits_frame kept.Checkpoint h = record { short = omega arith; bytes = tt }
 fits_frame kept.OracleRestart h = record { short = omega arith; bytes = tt }
 fits_frame (kept.Refused refusal) h = record { short = omega arith; bytes = tt }

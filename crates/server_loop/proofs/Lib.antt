@@ -5,6 +5,7 @@ mod CollectSteps
 mod Filled
 mod Framing
 mod Lengths
+mod Opened
 mod Placing
 mod Reaching
 mod RawReads
@@ -12,6 +13,7 @@ mod Reading
 mod Refusing
 mod Relocating
 mod Replacing
+mod Rested
 mod ServingLemmas
 mod Staying
 mod Stepping

@@ -1,5 +1,5 @@
 -- The outcome of a raw read.
-use Rattle.std.proofs.Common.{arith, ◌≡◌, ◌≤◌, ℕ, List, Option, Err, IsErrOf, Global, ap, subst}
+use Rattle.std.proofs.Common.{arith, ◌≡◌, ◌≤◌, ℕ, List, Option, Err, IsErrOf, Global, ap, subst, sym}
 use Rattle.std.specs.Prelude.{option_map}
 use Rattle.std.specs.declared.vec.Vec.{Vec}
 use Rattle.cell_key.specs.Cells.{IsNewest, version}
@@ -9,6 +9,7 @@ use Rattle.cell_key.specs.declared.keys.Qualifier.{Qualifier}
 use Rattle.cell_key.specs.declared.refusals.Refusal.{Refusal}
 use Rattle.cell_key.specs.declared.refusals.Refusal.TheVariants.{Damaged, Device, TooManyFiles}
 use Rattle.file_store.specs.Store.{Contents}
+use Rattle.metadata_table.specs.Table.{IsListed}
 use Rattle.row_atomic.specs.Changes.{Holds}
 use Rattle.row_atomic.specs.Clusters.{ClusterState, storage_of}
 use Rattle.row_atomic.specs.Commands.{IsNoFuller, IsOutcome, cells_shown}
@@ -29,6 +30,7 @@ module _ {F : Type 0} (contents : F → Option Contents) (faults : F → ℕ) (r
     answers = λ order. (is order, kept order);
     upholds = storage;
     files = tt;
+    lists = λ _ name l. subst (IsListed name) (sym (ap (λ s. s.places) storage)) l;
     room = room;
     cause = tt;
     faults = record { later = omega (arith, told); device = λ is. cc; told = λ _. told };
@@ -44,6 +46,7 @@ module _ {F : Type 0} (contents : F → Option Contents) (faults : F → ℕ) (r
     answers = λ order. (whole order, kept order);
     upholds = (refusal, storage);
     files = tt;
+    lists = λ _ name l. subst (IsListed name) (sym (ap (λ s. s.places) storage)) l;
     room = room;
     cause = record { due = tt; barred = λ bars. absurd bars; undone = λ is. absurd (many_not_read (subst IsReadRefusal is refusal)) };
     faults = record { later = later; device = λ is. device (let that : e ≡ Device = cc in ap (λ (r : Refusal). Err r) that); told = λ other. told (λ err. other (let that : e ≡ Device = cc in ap (λ (r : Refusal). Refused r) that)) };

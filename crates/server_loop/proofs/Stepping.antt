@@ -28,7 +28,7 @@ use Rattle.request_codec.specs.declared.replies.Reply.{Reply as Kept}
 use Rattle.request_codec.specs.declared.replies.Reply.TheVariants as kept
 use Rattle.server_loop.specs.declared.server.Server.{Server}
 use Rattle.server_loop.specs.Server.{Shows, cells_of}
-use Rattle.server_loop.specs.Runs.{HasShortValue, StampsGoOn, StepsAs, IfRefused}
+use Rattle.server_loop.specs.Runs.{KeepsToLimits, StampsGoOn, StepsAs, IfRefused}
 use Rattle.server_loop.proofs.CleanSteps.{spots_in}
 use Rattle.server_loop.proofs.Staying.{cleaners_stay, collectors_stay, not_kind, sessions_not_cleaners, sessions_not_collectors}
 use Rattle.server_loop.proofs.Replacing.{KeepsPlaces}
@@ -149,7 +149,7 @@ found_stays founds.Nothing last = refl
 found_stays (founds.Pending start) last = refl
 
 -- a value that is found is short
-pub short_found : (found : Found) → IsShort found → HasShortValue (kept.Get found)
+pub short_found : (found : Found) → IsShort found → KeepsToLimits (kept.Get found)
 short_found (founds.Value value) short = short
 short_found founds.Nothing short = tt
 short_found (founds.Pending start) short = tt

@@ -9,12 +9,12 @@ use Rattle.cell_key.specs.declared.refusals.Refusal.TheVariants.{BadRow, BadColu
 use Rattle.file_store.specs.Store.{Contents}
 use Rattle.metadata_table.specs.Places.{PlaceView}
 use Rattle.metadata_table.specs.Table.{BarsSplit, HasTablet, IsTable, most_servers}
-use Rattle.row_atomic.specs.Changes.{ComesTo, Holds, IsBadCount, IsCut, IsMerged, IsMoveRefusal, IsNumberedRefusal, IsSplitRefusal, KeepsMap, Numbered, Remakes}
+use Rattle.row_atomic.specs.Changes.{ComesTo, Holds, IsBadCount, IsCut, IsMerged, IsMoveRefusal, IsNumberedRefusal, IsRefusalOf as IsFlushRefusal, IsSplitRefusal, KeepsMap, Numbered, Remakes}
 use Rattle.row_atomic.specs.Clusters.{ClusterState, cells_in, spots_of}
 use Rattle.row_atomic.specs.Refusals.{IsReadRefusal}
 use Rattle.row_atomic.specs.Compactions as compaction
 use Rattle.tablet.specs.declared.tablet.Tablet.{Tablet}
-use Rattle.si_model.specs.Machine.{State, Request, Reply, Refused, Step, Refuses, Minor, MinorDone, Merge, MergeDone, Major, MajorDone, Split, SplitOff, Move, MoveDone, Sweep, Swept, Raw, RawFound, accepts, tells, minors, merges, majors, sweeps, finds_raw}
+use Rattle.si_model.specs.Machine.{State, Request, Reply, Refused, Step, Refuses, Minor, MinorDone, Merge, MergeDone, Major, MajorDone, Split, SplitOff, Move, MoveDone, Sweep, Swept, Raw, RawFound, Checkpoint, CheckpointDone, accepts, tells, minors, merges, majors, sweeps, finds_raw, checkpoints}
 use Rattle.si_model.specs.Refusing.{gives_up}
 use Rattle.si_model.specs.declared.replies.Cell.{Cell}
 use Rattle.txn_client.specs.Shows as clients
@@ -27,7 +27,7 @@ use Rattle.server_loop.specs.Runs.{StepsAs}
 use Rattle.server_loop.specs.Server.{Shows, machine_place, machine_places}
 use Rattle.server_loop.specs.declared.server.Server.{Server}
 use Rattle.server_loop.proofs.Placing.{has_tablet_so, has_tablet_back, length_so}
-use Rattle.server_loop.proofs.Refusing.{minor_unknown_first, minor_accepted, merge_unknown_first, merge_bad, merge_accepted, major_unknown_first, major_accepted, split_row_first, sweep_accepted, raw_row_first, raw_family_first, raw_accepted}
+use Rattle.server_loop.proofs.Refusing.{minor_unknown_first, minor_accepted, merge_unknown_first, merge_bad, merge_accepted, major_unknown_first, major_accepted, split_row_first, sweep_accepted, checkpoint_accepted, raw_row_first, raw_family_first, raw_accepted}
 use Rattle.server_loop.proofs.Relocating.{splits_so, split_next, split_barred, moves_step, stays_step, move_unknown, move_far, move_next}
 use Rattle.server_loop.proofs.Changing.{unchanged_if}
 use Rattle.server_loop.proofs.Staying.{cleaners_stay, collectors_stay, places_not_cleaners, places_not_collectors}
@@ -103,6 +103,18 @@ sweep_refuses st e which = elim which [
 
 pub sweep_done : (st : State) (n : ℕ) → Step st Sweep (Swept n) st
 sweep_done st n = accepts (sweep_accepted st) (tells sweeps)
+
+pub checkpoint_refuses : (st : State) (e : Refusal) → IsFlushRefusal compaction.minor e → Refuses st Checkpoint e
+checkpoint_refuses st TooManyFiles u = gives_up tt
+checkpoint_refuses st FileTooLarge u = gives_up tt
+checkpoint_refuses st Exhausted u = gives_up tt
+checkpoint_refuses st Device u = gives_up tt
+checkpoint_refuses st NoMemory u = gives_up tt
+checkpoint_refuses st Damaged u = gives_up tt
+checkpoint_refuses st _ u = absurd u
+
+pub checkpoint_done : (st : State) → Step st Checkpoint CheckpointDone st
+checkpoint_done st = accepts (checkpoint_accepted st) (tells checkpoints)
 
 pub raw_refuses : (st : State) (x : Cell) (q : Qualifier) (lo hi : ℕ) (e : Refusal) → IsReadRefusal e → Refuses st (Raw x q lo hi) e
 raw_refuses st x q lo hi Device u = gives_up tt
@@ -267,6 +279,9 @@ major_whole e = cc
 
 pub swept_whole : (n : ℕ) → ¬ (Swept n ≡ Refused Damaged)
 swept_whole n e = cc
+
+pub checkpoint_whole : ¬ (CheckpointDone ≡ Refused Damaged)
+checkpoint_whole e = cc
 
 pub raw_whole : (found : Option (ℕ × List ℕ)) → ¬ (RawFound found ≡ Refused Damaged)
 raw_whole found e = cc

@@ -1,4 +1,4 @@
--- All that is said of an answer to a request, in seven parts.
+-- All that is said of an answer to a request, in eight parts.
 use Rattle.std.specs.Prelude.{◌≡◌, ℕ, Option, IfSome, ⊤}
 use Rattle.cell_key.specs.declared.refusals.Refusal.TheVariants.{Device, Exhausted, MemtableFull}
 use Rattle.file_store.specs.Store.{Contents}
@@ -7,16 +7,18 @@ use Rattle.request_codec.specs.Requests.{asked}
 use Rattle.request_codec.specs.declared.replies.Reply.{Reply}
 use Rattle.request_codec.specs.declared.replies.Reply.TheVariants as kept
 use Rattle.request_codec.specs.declared.requests.Request.{Request}
-use Rattle.request_codec.specs.declared.requests.Request.TheVariants.{Begin, Step, CleanBegin, CleanStep, CollectBegin, CollectStep}
+use Rattle.request_codec.specs.declared.requests.Request.TheVariants.{Begin, Step, CleanBegin, CleanStep, CollectBegin, CollectStep, Checkpoint}
 use Rattle.row_atomic.specs.Changes.{Holds}
 use Rattle.row_atomic.specs.Commands.{OverfillsCluster}
 use Rattle.row_atomic.specs.Room.{HasNoRoom}
+use Rattle.row_atomic.specs.Roots.{Checkpoints, Rests}
 use Rattle.si_model.specs.Machine.{IsReached, State}
-use Rattle.server_loop.specs.Commands.{HasOutcome, command_of}
+use Rattle.server_loop.specs.Commands.{HasOutcome, command_of, outcome_of}
 use Rattle.server_loop.specs.Refusals.{IsRefusalOf}
-use Rattle.server_loop.specs.Runs.{HasShortValue, IfRefused, StampsGoOn, StepsAs}
+use Rattle.server_loop.specs.Resting.{KeepsResting}
+use Rattle.server_loop.specs.Runs.{KeepsToLimits, IfRefused, StampsGoOn, StepsAs}
 use Rattle.server_loop.specs.Sessions.{ChangesCells, IsAlwaysTold, KeepsCleaners, KeepsCollectors, KeepsOracle, KeepsSessions, LeavesRoom}
-use Rattle.server_loop.specs.Server.{IsFaultSeen, SeesNoFault, Shows, cells_of, cluster_of, tending_of, last_of, marks_of}
+use Rattle.server_loop.specs.Server.{IsFaultSeen, SeesNoFault, Shows, cells_of, cluster_of, floor_of, tending_of, last_of, marks_of, top_of}
 use Rattle.server_loop.specs.declared.server.Server.{Server}
 use Rattle.txn_client.specs.Room.{ChangesNext, EditsOfStep}
 use Rattle.txn_client.specs.Shows.{IsAboutToDraw}
@@ -27,11 +29,11 @@ use Rattle.version_collector.specs.Shows as collectors
 
 -- ---- the machine
 
--- The answer is a step of the machine. It is refused what such a request may be, and a value in it is short.
+-- The answer is a step of the machine. It is refused what such a request may be, and what it holds keeps to the limits.
 pub record IsMachineStep {F M : Type 0} (contents : F → Option Contents) (request : Request) (reply : Reply) (old new : Server F M) : Type 0 where
   pub step : StepsAs (Shows contents) old new (asked request) (replied reply)
   pub refusal : IfRefused (IsRefusalOf request) (replied reply)
-  pub short : HasShortValue reply
+  pub limits : KeepsToLimits reply
 
 -- ---- stamps
 
@@ -67,18 +69,27 @@ pub record MakesEdits {F M : Type 0} (contents : F → Option Contents) (request
 
 -- What is always told where a state is shown, and what a request leaves of the sessions, of the cleaners, of the collectors and of
 -- the oracle.
-pub record ServesSessions {F M : Type 0} (contents : F → Option Contents) (request : Request) (reply : Reply) (old new : Server F M) : Type 0 where
+pub record ServesSessions {F M : Type 0} (contents : F → Option Contents) (mark : M → Option ℕ)
+    (request : Request) (reply : Reply) (old new : Server F M) : Type 0 where
   pub told : (st : State) → Shows contents old st → IsAlwaysTold request reply st
   pub sessions : KeepsSessions request reply old.clients new.clients
   pub cleaners : KeepsCleaners request reply old.cleaners new.cleaners
   pub collectors : KeepsCollectors request reply old.collectors new.collectors
-  pub oracle : KeepsOracle contents request old new
+  pub oracle : KeepsOracle contents mark request reply old new
 
 -- ---- tablets and files
 
--- What a request did to tablets and files.
-abbrev pub TendsTablets : {F M : Type 0} → (F → Option Contents) → (F → ℕ) → Request → Reply → Server F M → Server F M → Type 0
-TendsTablets contents faults request reply old new = HasOutcome contents faults (command_of request) request reply (cluster_of old) (cluster_of new)
+-- What a request did to tablets and files. A checkpoint tells of the sessions' top and of the
+-- collectors' greatest floor, and once it is done the files keep what the tablets show.
+abbrev pub TendsTablets : {F M : Type 0} → (F → Option Contents) → (F → ℕ) → Request → Reply
+    → Server F M → Server F M → Type 0
+TendsTablets contents faults Checkpoint reply old new =
+    Checkpoints contents faults (top_of old) (floor_of old)
+    (cluster_of old) (outcome_of reply) (cluster_of new)
+    × (reply ≡ kept.Checkpoint
+    → Rests contents (top_of old) (floor_of old) (cluster_of old) (cluster_of new))
+TendsTablets contents faults request reply old new =
+    HasOutcome contents faults (command_of request) request reply (cluster_of old) (cluster_of new)
 
 -- ---- faults and causes
 
@@ -102,14 +113,23 @@ pub record TellsCauses {F M : Type 0} (contents : F → Option Contents) (file_f
 
 -- ---- all of them
 
--- What is said of an answer: over the files' bytes, the counts of faults and the mark, as far as they are told.
-pub record IsAnswer {F M : Type 0} (contents : F → Option Contents) (file_faults : F → ℕ) (mark : M → Option ℕ) (mark_faults : M → ℕ)
+-- What is said of an answer, but for what the server rests at: over the files' bytes, the counts of
+-- faults and the mark, as far as they are told.
+pub record IsPlainAnswer {F M : Type 0} (contents : F → Option Contents) (file_faults : F → ℕ)
+    (mark : M → Option ℕ) (mark_faults : M → ℕ)
     (old : Server F M) (request : Request) (reply : Reply) (new : Server F M) : Type 0 where
   pub step : IsMachineStep contents request reply old new
   pub stamps : DrawsStamps contents mark request reply old new
   pub edits : MakesEdits contents request reply old new
-  pub sessions : ServesSessions contents request reply old new
+  pub sessions : ServesSessions contents mark request reply old new
   pub tablets : TendsTablets contents file_faults request reply old new
   pub causes : TellsCauses contents file_faults mark_faults request reply old new
   -- no request changes when a server compacts and merges by itself
   pub tending : tending_of new ≡ tending_of old
+
+-- What is said of an answer.
+pub record IsAnswer {F M : Type 0} (contents : F → Option Contents) (file_faults : F → ℕ)
+    (mark : M → Option ℕ) (mark_faults : M → ℕ)
+    (old : Server F M) (request : Request) (reply : Reply) (new : Server F M) : Type 0 where
+  pub plain : IsPlainAnswer contents file_faults mark mark_faults old request reply new
+  pub resting : KeepsResting contents mark request reply old new

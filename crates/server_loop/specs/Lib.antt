@@ -5,5 +5,7 @@ pub mod Serve
 pub mod Server
 pub mod Commands
 pub mod Sessions
+pub mod Resting
+pub mod Opening
 pub mod Answer
 pub mod Tending

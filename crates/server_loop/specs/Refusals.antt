@@ -2,6 +2,7 @@
 use Rattle.std.specs.Prelude.{◌≡◌, ◌⊎◌, ⊤}
 use Rattle.cell_key.specs.declared.refusals.Refusal.{Refusal}
 use Rattle.cell_key.specs.declared.refusals.Refusal.TheVariants.{UnknownSession, BadRow, BadColumn, Device, NoMemory}
+use Rattle.row_atomic.specs.Changes as cluster
 use Rattle.row_atomic.specs.Changes.{IsNumberedRefusal, IsSplitRefusal, IsMoveRefusal}
 use Rattle.row_atomic.specs.Refusals.{IsReadRefusal}
 use Rattle.row_atomic.specs.Compactions as compaction
@@ -9,7 +10,7 @@ use Rattle.txn_client.specs.Refusals.{IsBeginRefusal, IsGetRefusal, IsSetRefusal
 use Rattle.clean_up.specs.Refusals as clean_up
 use Rattle.version_collector.specs.Refusals as version_collector
 use Rattle.request_codec.specs.declared.requests.Request.{Request}
-use Rattle.request_codec.specs.declared.requests.Request.TheVariants.{Begin, Get, Set, Step, Stop, CleanBegin, CleanStep, CollectBegin, CollectStep, Minor, Merge, Major, Split, Move, Sweep, OracleRestart, Raw}
+use Rattle.request_codec.specs.declared.requests.Request.TheVariants.{Begin, Get, Set, Step, Stop, CleanBegin, CleanStep, CollectBegin, CollectStep, Minor, Merge, Major, Split, Move, Sweep, OracleRestart, Raw, Checkpoint}
 
 -- a cut at a row that may be none
 abbrev pub IsCutRefusal : Refusal → Type 0
@@ -44,3 +45,4 @@ IsRefusalOf (Move tablet server) refusal = IsMoveRefusal refusal
 IsRefusalOf Sweep refusal = IsSweepRefusal refusal
 IsRefusalOf OracleRestart refusal = refusal ≡ Device
 IsRefusalOf (Raw row family qualifier lo hi) refusal = IsRawRefusal refusal
+IsRefusalOf Checkpoint refusal = cluster.IsRefusalOf compaction.minor refusal

@@ -81,11 +81,11 @@ StepsAs shows old new request reply = (before : State) → IsReached before → 
     → (after : State) × Step before request reply after × shows new after × (reply ≡ Refused Damaged → ⊥)
 
 -- A value that is answered has at most 65,536 bytes, and a cell that is named is within the limits of rows and families.
-abbrev pub HasShortValue : Kept → Type 0
-HasShortValue (kept.Get (Value value)) = length value.items ≤ 65536
-HasShortValue (kept.Raw (Some found)) = length found.1.items ≤ 65536
-HasShortValue (kept.CollectStep (Blocked cell start)) = IsRow cell.row × IsFamily cell.family
-HasShortValue other = ⊤
+abbrev pub KeepsToLimits : Kept → Type 0
+KeepsToLimits (kept.Get (Value value)) = length value.items ≤ 65536
+KeepsToLimits (kept.Raw (Some found)) = length found.1.items ≤ 65536
+KeepsToLimits (kept.CollectStep (Blocked cell start)) = IsRow cell.row × IsFamily cell.family
+KeepsToLimits other = ⊤
 
 -- what holds of a reply's refusal, if it is one
 abbrev pub IfRefused : (Refusal → Type 0) → Reply → Type 0

@@ -24,6 +24,13 @@ marks_of server = server.oracle.marks
 abbrev pub last_of : {F M : Type 0} → Server F M → ℕ
 last_of server = server.oracle.last
 
+-- the greatest stamp that was answered, and the greatest floor that a collector began with
+abbrev pub top_of : {F M : Type 0} → Server F M → ℕ
+top_of server = server.clients.top
+
+abbrev pub floor_of : {F M : Type 0} → Server F M → ℕ
+floor_of server = server.collectors.greatest_floor
+
 -- when it compacts by itself
 abbrev pub tending_of : {F M : Type 0} → Server F M → Tending
 tending_of server = server.tending

@@ -9,14 +9,15 @@ use Rattle.row_atomic.specs.Commands.{IsNoFuller, OverfillsCluster}
 use Rattle.si_model.specs.Collection.{Collects}
 use Rattle.si_model.specs.Machine.{IsReached, State}
 use Rattle.si_model.specs.declared.replies.CollectReply.{CollectReply}
-use Rattle.oracle.specs.Ranges.{IsDrawRefusal}
+use Rattle.oracle.specs.Marks.{MayHold}
+use Rattle.oracle.specs.Ranges.{IsDrawRefusal, next_range_end}
 use Rattle.request_codec.specs.Replies.{replied}
 use Rattle.request_codec.specs.declared.replies.Reply.{Reply}
 use Rattle.request_codec.specs.declared.replies.Reply.TheVariants as kept
 use Rattle.request_codec.specs.declared.requests.Request.{Request}
 use Rattle.request_codec.specs.declared.requests.Request.TheVariants.{Begin, Get, Set, Step, Stop, CleanBegin, CleanStep, CollectBegin, CollectStep, OracleRestart}
 use Rattle.server_loop.specs.Runs.{IfRefused}
-use Rattle.server_loop.specs.Server.{Shows, cells_of, cluster_of}
+use Rattle.server_loop.specs.Server.{Shows, cells_of, cluster_of, marks_of}
 use Rattle.server_loop.specs.declared.server.Server.{Server}
 use Rattle.txn_client.specs.Room.{ChangesNext, Makes, TakesRoom}
 use Rattle.txn_client.specs.declared.clients.Clients.{Clients}
@@ -59,7 +60,7 @@ ChangesCells contents (CollectStep collector n) (kept.Refused refusal) old new =
 ChangesCells contents request reply old new = Holds contents (cluster_of old) → cells_of contents new ≡ cells_of contents old
 
 -- What is for sessions, cleaners, collectors and the oracle takes no room in memory, but a step that of its edits. What a command
--- takes its outcome says.
+-- or a checkpoint takes its outcome says.
 abbrev pub LeavesRoom : {F M : Type 0} → (F → Option Contents) → Request → Reply → Server F M → Server F M → Type 0
 LeavesRoom contents Begin reply old new = IsNoFuller (cluster_of old) (cluster_of new)
 LeavesRoom contents (Get start row family) reply old new = IsNoFuller (cluster_of old) (cluster_of new)
@@ -117,9 +118,19 @@ KeepsCollectors (CollectStep collector n) reply old new =
     ChangesOne collector old new × IfRefused (λ refusal. IsEarlyRefusal refusal → SameCollectors old new) (replied reply)
 KeepsCollectors request reply old new = SameCollectors old new
 
+-- the mark is as before, or it is the end of the oracle's next range
+abbrev pub LeavesMark : {F M : Type 0} → (M → Option ℕ) → Server F M → Server F M → Type 0
+LeavesMark mark old new =
+    MayHold (next_range_end old.oracle.range_end) (mark (marks_of old)) (mark (marks_of new))
+
 -- Only a begin, a step that comes to draw a stamp, and a restart use the oracle.
-abbrev pub KeepsOracle : {F M : Type 0} → (F → Option Contents) → Request → Server F M → Server F M → Type 0
-KeepsOracle contents Begin old new = ⊤
-KeepsOracle contents (Step start) old new = (st : State) → Shows contents old st → ¬ IsAboutToDraw st start → new.oracle ≡ old.oracle
-KeepsOracle contents OracleRestart old new = ⊤
-KeepsOracle contents request old new = new.oracle ≡ old.oracle
+abbrev pub KeepsOracle : {F M : Type 0} → (F → Option Contents) → (M → Option ℕ) → Request → Reply
+    → Server F M → Server F M → Type 0
+KeepsOracle contents mark Begin reply old new =
+    IfRefused (λ _. LeavesMark mark old new) (replied reply)
+KeepsOracle contents mark (Step start) reply old new =
+    ((st : State) → Shows contents old st → ¬ IsAboutToDraw st start → new.oracle ≡ old.oracle)
+    × IfRefused (λ _. LeavesMark mark old new) (replied reply)
+KeepsOracle contents mark OracleRestart reply old new =
+    mark (marks_of new) ≡ mark (marks_of old)
+KeepsOracle contents mark request reply old new = new.oracle ≡ old.oracle

@@ -1,7 +1,7 @@
 //! What a server does for collectors, one step of the snapshot machine each.
 
 ghost use Rattle.std.specs.Prelude.{◌≡◌};
-ghost use Rattle.server_loop.specs.Runs.{HasShortValue};
+ghost use Rattle.server_loop.specs.Runs.{KeepsToLimits};
 
 use crate::server::Server;
 use cell_key::Refusal;
@@ -13,7 +13,7 @@ use si_model::CollectReply;
 /// The reply to a collector's step that is done. A cell that it names is within its limits.
 fn collected(done: CollectReply) -> Reply
     ensures reply { result ≡ Reply.CollectStep done }
-    ensures short { HasShortValue result }
+    ensures limits { KeepsToLimits result }
 {
     if let CollectReply::Blocked(cell, _) = &done {
         // These calls tell that row and family are within their limits.
@@ -24,10 +24,10 @@ fn collected(done: CollectReply) -> Reply
 }
 
 impl<F: Files + Drop, M: MarkStore + Drop> Server<F, M> {
-    ghost use Rattle.server_loop.specs.Answer.{IsAnswer};
+    ghost use Rattle.server_loop.specs.Answer.{IsPlainAnswer};
 
     pub(crate) fn collect_begin(&mut self) -> Reply
-        ensures { IsAnswer F.contents F.faults M.mark M.faults
+        ensures { IsPlainAnswer F.contents F.faults M.mark M.faults
             self.old Request.CollectBegin result self.new }
     {
         let floor = self.clients.floor();
@@ -38,7 +38,7 @@ impl<F: Files + Drop, M: MarkStore + Drop> Server<F, M> {
     }
 
     pub(crate) fn collect_step(&mut self, collector: u64, visits: u32) -> Reply
-        ensures { IsAnswer F.contents F.faults M.mark M.faults
+        ensures { IsPlainAnswer F.contents F.faults M.mark M.faults
             self.old (Request.CollectStep collector visits) result self.new }
     {
         match self.collectors.step(&mut self.cluster, collector, visits) {

@@ -4,7 +4,7 @@ ghost use Rattle.std.specs.Prelude.{◌≡◌, ℕ, ◌<◌, ◌≤◌, length, 
 ghost use Rattle.std.specs.Io.KnownBytes.{Appends, Keeps};
 ghost use Rattle.request_codec.specs.Replies.{replied, reply_body};
 ghost use Rattle.request_codec.specs.Stream.{frame};
-ghost use Rattle.server_loop.specs.Runs.{HasShortValue};
+ghost use Rattle.server_loop.specs.Runs.{KeepsToLimits};
 
 use crate::ends::{End, ServeFault};
 use request_codec::{LONGEST_REPLY, Reply, encode_reply, reply_length};
@@ -35,7 +35,7 @@ fn write_whole<W: Write>(writer: &mut W, bytes: &[u8]) -> Result<(), WriteFailed
 #[tactic(auto, using(crate::proofs::Lengths::fits_frame), unfolding(request_codec::specs::Stream::frame))]
 fn frame_reply(reply: &Reply, out: &mut Vec<u8>)
     requires room { LONGEST_REPLY ≤ vec_capacity out.old }
-    requires short { HasShortValue reply.now }
+    requires limits { KeepsToLimits reply.now }
     ensures items { out.new.items ≡ frame (reply_body (replied reply.now)) }
     ensures capacity { vec_capacity out.old ≤ vec_capacity out.new }
 {
@@ -52,7 +52,7 @@ pub(crate) fn send<W: Write>(
     out: &mut Vec<u8>,
 ) -> Result<(), WriteFailed>
     requires room { LONGEST_REPLY ≤ vec_capacity out.old }
-    requires short { HasShortValue reply.now }
+    requires limits { KeepsToLimits reply.now }
     ensures ok { OnOk result
         (Appends (W.contents writer.old) (W.contents writer.new)
         (frame (reply_body (replied reply.now)))) }

@@ -6,6 +6,8 @@ mod collecting;
 mod command_line;
 mod ends;
 mod frames;
+mod laws;
+mod opening;
 mod server;
 mod serving;
 mod sessions;
@@ -14,5 +16,6 @@ mod words;
 
 pub use command_line::options;
 pub use ends::{End, ServeFault, end_status, open_status};
+pub use laws::{resting_is_kept, rests_between};
 pub use server::{Config, Server};
 pub use words::{DEFAULT_FLUSH, MOST_FLUSH, MOST_MERGE, Options};

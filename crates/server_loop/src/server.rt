@@ -13,7 +13,8 @@ use clean_up::Cleaners;
 use file_store::Files;
 use oracle::{MarkStore, Oracle};
 use request_codec::{Reply, Request};
-use row_atomic::Cluster;
+use row_atomic::{Cluster, root_is_stored, root_stays};
+use si_model::shows_reopened;
 use std::alloc::Global;
 use std::io::{Read, Write};
 use txn_client::Clients;
@@ -55,9 +56,10 @@ pub struct Server<F, M: MarkStore> {
 }
 
 impl<F: Files + Drop, M: MarkStore + Drop> Server<F, M> {
-    ghost use Rattle.server_loop.specs.Answer.{DrawsStamps, IsAnswer, IsMachineStep, MakesEdits, ServesSessions, TellsCauses, TendsTablets};
+    ghost use Rattle.server_loop.specs.Answer.{DrawsStamps, IsAnswer, IsMachineStep, IsPlainAnswer, MakesEdits, ServesSessions, TellsCauses, TendsTablets};
     ghost use Rattle.server_loop.specs.Server.{Shows, cluster_of, tending_of, last_of, marks_of};
     ghost use Rattle.row_atomic.specs.Flushes.{KeepsShown};
+    ghost use Rattle.server_loop.specs.Resting.{KeepsResting};
     ghost use Rattle.server_loop.specs.Tending.{IsTended, Merges};
 
     /// A server over these files and this mark store, with one tablet of no cells. It shows the new machine.
@@ -141,17 +143,57 @@ impl<F: Files + Drop, M: MarkStore + Drop> Server<F, M> {
         }
     }
 
+    /// Takes a request to the function that answers it.
+    fn take(&mut self, request: Request<'_>) -> Reply
+        ensures { IsPlainAnswer F.contents F.faults M.mark M.faults
+            self.old request.entry result self.new }
+    {
+        match request {
+            Request::Begin => self.begin(),
+            Request::Get { start, row, family } => self.get(start, row, family),
+            Request::Set {
+                start,
+                row,
+                family,
+                value,
+            } => self.set(start, row, family, value),
+            Request::Step { start } => self.step(start),
+            Request::Stop { start } => self.stop(start),
+            Request::CleanBegin { row, family } => self.clean_begin(row, family),
+            Request::CleanStep { cleaner } => self.clean_step(cleaner),
+            Request::CollectBegin => self.collect_begin(),
+            Request::CollectStep { collector, visits } => self.collect_step(collector, visits),
+            Request::Minor { tablet } => self.minor(tablet),
+            Request::Merge { tablet, count } => self.merge(tablet, count),
+            Request::Major { tablet } => self.major(tablet),
+            Request::Split { row } => self.split(row),
+            Request::Move { tablet, server } => self.move_to(tablet, server),
+            Request::Sweep => self.sweep(),
+            Request::OracleRestart => self.restart(),
+            Request::Raw {
+                row,
+                family,
+                qualifier,
+                lo,
+                hi,
+            } => self.raw(row, family, qualifier, lo, hi),
+            Request::Checkpoint => self.checkpoint(),
+        }
+    }
+
     /// Answers a request: one step of the snapshot machine, from each reached state that is shown. It compacts nothing
-    /// that it isn't asked to.
+    /// that it isn't asked to. After a checkpoint that is done the files and the mark keep the state that is shown.
     pub fn answer(&mut self, request: Request<'_>) -> Reply
         ensures step { IsMachineStep F.contents request.entry result self.old self.new }
         ensures stamps { DrawsStamps F.contents M.mark request.entry result self.old self.new }
         ensures edits { MakesEdits F.contents request.entry result self.old self.new }
-        ensures sessions { ServesSessions F.contents request.entry result self.old self.new }
+        ensures sessions { ServesSessions
+            F.contents M.mark request.entry result self.old self.new }
         ensures tablets { TendsTablets F.contents F.faults request.entry result self.old self.new }
         ensures causes { TellsCauses
             F.contents F.faults M.faults request.entry result self.old self.new }
         ensures tending { tending_of self.new ≡ tending_of self.old }
+        ensures resting { KeepsResting F.contents M.mark request.entry result self.old self.new }
     {
         self.reply_to(request)
     }
@@ -203,36 +245,13 @@ impl<F: Files + Drop, M: MarkStore + Drop> Answering for Server<F, M> {
     ghost between = { IsTended F.contents F.faults };
 
     fn reply_to(&mut self, request: Request<'_>) -> Reply {
-        match request {
-            Request::Begin => self.begin(),
-            Request::Get { start, row, family } => self.get(start, row, family),
-            Request::Set {
-                start,
-                row,
-                family,
-                value,
-            } => self.set(start, row, family, value),
-            Request::Step { start } => self.step(start),
-            Request::Stop { start } => self.stop(start),
-            Request::CleanBegin { row, family } => self.clean_begin(row, family),
-            Request::CleanStep { cleaner } => self.clean_step(cleaner),
-            Request::CollectBegin => self.collect_begin(),
-            Request::CollectStep { collector, visits } => self.collect_step(collector, visits),
-            Request::Minor { tablet } => self.minor(tablet),
-            Request::Merge { tablet, count } => self.merge(tablet, count),
-            Request::Major { tablet } => self.major(tablet),
-            Request::Split { row } => self.split(row),
-            Request::Move { tablet, server } => self.move_to(tablet, server),
-            Request::Sweep => self.sweep(),
-            Request::OracleRestart => self.restart(),
-            Request::Raw {
-                row,
-                family,
-                qualifier,
-                lo,
-                hi,
-            } => self.raw(row, family, qualifier, lo, hi),
-        }
+        shows_reopened();
+        root_is_stored::<F>();
+        root_stays::<F>();
+        let reply = self.take(request);
+        // This call tells that the last stamp is within the mark.
+        let _last = self.oracle.last();
+        reply
     }
 
     fn tend(&mut self) {

@@ -7,7 +7,7 @@ ghost use Rattle.request_codec.specs.Stream.{IsPartial};
 ghost use Rattle.request_codec.specs.declared.replies.Reply.{Reply as Kept};
 ghost use Rattle.request_codec.specs.declared.requests.Request.{Request as Lent};
 ghost use Rattle.request_codec.specs.Requests.{asked};
-ghost use Rattle.server_loop.specs.Runs.{StepsAs, RunsAs, SaysOf, Body, HasShortValue};
+ghost use Rattle.server_loop.specs.Runs.{StepsAs, RunsAs, SaysOf, Body, KeepsToLimits};
 ghost use Rattle.server_loop.specs.Serve.{Serves, Delivers, HandlesFirst, HandlesTo, IsRest, ReadsOn};
 
 use crate::ends::{End, ServeFault};
@@ -44,7 +44,7 @@ pub(crate) trait Answering {
     fn reply_to(&mut self, request: Request<'_>) -> Reply
         ensures step { StepsAs shows self.old self.new (asked request.entry) (replied result) }
         ensures says { says self.old request.entry result self.new }
-        ensures short { HasShortValue result };
+        ensures limits { KeepsToLimits result };
 
     /// Does what is to be done between one answer and the next. The states that are shown stay so.
     fn tend(&mut self)
@@ -63,7 +63,7 @@ fn zeros(alloc: Global, size: usize) -> Result<Vec<u8>, AllocError>
 fn reply_to_body<A: Answering>(server: &mut A, body: &[u8]) -> Reply
     ensures run { RunsAs A.shows server.old server.new (Body body.now ∷ []) (replied result ∷ []) }
     ensures says { SaysOf A.says server.old (Body body.now) (replied result) server.new }
-    ensures short { HasShortValue result }
+    ensures limits { KeepsToLimits result }
 {
     match decode_request(body) {
         Some(request) => server.reply_to(request),
@@ -79,7 +79,7 @@ fn deliver<A: Answering, W: Write>(
     out: &mut Vec<u8>,
 ) -> Result<(), ServeFault>
     requires out { LONGEST_REPLY ≤ vec_capacity out.old }
-    requires short { HasShortValue reply.now }
+    requires limits { KeepsToLimits reply.now }
     ensures delivers { Delivers A.shows A.between result (reply_body (replied reply.now)) server.old
         server.new (W.contents writer.old) (W.contents writer.new) }
     ensures room { vec_capacity out.old ≤ vec_capacity out.new }

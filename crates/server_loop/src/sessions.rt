@@ -7,10 +7,10 @@ use oracle::MarkStore;
 use request_codec::{Reply, Request};
 
 impl<F: Files + Drop, M: MarkStore + Drop> Server<F, M> {
-    ghost use Rattle.server_loop.specs.Answer.{IsAnswer};
+    ghost use Rattle.server_loop.specs.Answer.{IsPlainAnswer};
 
     pub(crate) fn begin(&mut self) -> Reply
-        ensures { IsAnswer F.contents F.faults M.mark M.faults self.old
+        ensures { IsPlainAnswer F.contents F.faults M.mark M.faults self.old
             Request.Begin result self.new }
     {
         match self.clients.begin(&mut self.oracle) {
@@ -20,7 +20,7 @@ impl<F: Files + Drop, M: MarkStore + Drop> Server<F, M> {
     }
 
     pub(crate) fn get(&mut self, start: Stamp, row: &[u8], family: &[u8]) -> Reply
-        ensures { IsAnswer F.contents F.faults M.mark M.faults self.old
+        ensures { IsPlainAnswer F.contents F.faults M.mark M.faults self.old
             (Request.Get start row.entry family.entry) result self.new }
     {
         match self.clients.get(&mut self.cluster, start, row, family) {
@@ -30,7 +30,7 @@ impl<F: Files + Drop, M: MarkStore + Drop> Server<F, M> {
     }
 
     pub(crate) fn set(&mut self, start: Stamp, row: &[u8], family: &[u8], value: &[u8]) -> Reply
-        ensures { IsAnswer F.contents F.faults M.mark M.faults self.old
+        ensures { IsPlainAnswer F.contents F.faults M.mark M.faults self.old
             (Request.Set start row.entry family.entry value.entry) result self.new }
     {
         match self.clients.set(start, row, family, value) {
@@ -40,7 +40,7 @@ impl<F: Files + Drop, M: MarkStore + Drop> Server<F, M> {
     }
 
     pub(crate) fn step(&mut self, start: Stamp) -> Reply
-        ensures { IsAnswer F.contents F.faults M.mark M.faults self.old
+        ensures { IsPlainAnswer F.contents F.faults M.mark M.faults self.old
             (Request.Step start) result self.new }
     {
         match self
@@ -53,7 +53,7 @@ impl<F: Files + Drop, M: MarkStore + Drop> Server<F, M> {
     }
 
     pub(crate) fn stop(&mut self, start: Stamp) -> Reply
-        ensures { IsAnswer F.contents F.faults M.mark M.faults self.old
+        ensures { IsPlainAnswer F.contents F.faults M.mark M.faults self.old
             (Request.Stop start) result self.new }
     {
         match self.clients.stop(start) {
@@ -63,7 +63,7 @@ impl<F: Files + Drop, M: MarkStore + Drop> Server<F, M> {
     }
 
     pub(crate) fn restart(&mut self) -> Reply
-        ensures { IsAnswer F.contents F.faults M.mark M.faults self.old
+        ensures { IsPlainAnswer F.contents F.faults M.mark M.faults self.old
             Request.OracleRestart result self.new }
     {
         match self.oracle.restart() {

@@ -8,10 +8,10 @@ use request_codec::{Reply, Request};
 use row_atomic::Rows;
 
 impl<F: Files + Drop, M: MarkStore + Drop> Server<F, M> {
-    ghost use Rattle.server_loop.specs.Answer.{IsAnswer};
+    ghost use Rattle.server_loop.specs.Answer.{IsPlainAnswer};
 
     pub(crate) fn minor(&mut self, tablet: u32) -> Reply
-        ensures { IsAnswer F.contents F.faults M.mark M.faults self.old
+        ensures { IsPlainAnswer F.contents F.faults M.mark M.faults self.old
             (Request.Minor tablet) result self.new }
     {
         match self.cluster.minor(tablet) {
@@ -21,7 +21,7 @@ impl<F: Files + Drop, M: MarkStore + Drop> Server<F, M> {
     }
 
     pub(crate) fn merge(&mut self, tablet: u32, count: u32) -> Reply
-        ensures { IsAnswer F.contents F.faults M.mark M.faults self.old
+        ensures { IsPlainAnswer F.contents F.faults M.mark M.faults self.old
             (Request.Merge tablet count) result self.new }
     {
         match self.cluster.merge(tablet, count) {
@@ -31,7 +31,7 @@ impl<F: Files + Drop, M: MarkStore + Drop> Server<F, M> {
     }
 
     pub(crate) fn major(&mut self, tablet: u32) -> Reply
-        ensures { IsAnswer F.contents F.faults M.mark M.faults self.old
+        ensures { IsPlainAnswer F.contents F.faults M.mark M.faults self.old
             (Request.Major tablet) result self.new }
     {
         match self.cluster.major(tablet) {
@@ -41,7 +41,7 @@ impl<F: Files + Drop, M: MarkStore + Drop> Server<F, M> {
     }
 
     pub(crate) fn split(&mut self, row: &[u8]) -> Reply
-        ensures { IsAnswer F.contents F.faults M.mark M.faults self.old
+        ensures { IsPlainAnswer F.contents F.faults M.mark M.faults self.old
             (Request.Split row.entry) result self.new }
     {
         let row = match Row::new(self.alloc, row) {
@@ -55,7 +55,7 @@ impl<F: Files + Drop, M: MarkStore + Drop> Server<F, M> {
     }
 
     pub(crate) fn move_to(&mut self, tablet: u32, server: u8) -> Reply
-        ensures { IsAnswer F.contents F.faults M.mark M.faults self.old
+        ensures { IsPlainAnswer F.contents F.faults M.mark M.faults self.old
             (Request.Move tablet server) result self.new }
     {
         match self.cluster.move_to(tablet, server) {
@@ -65,11 +65,23 @@ impl<F: Files + Drop, M: MarkStore + Drop> Server<F, M> {
     }
 
     pub(crate) fn sweep(&mut self) -> Reply
-        ensures { IsAnswer F.contents F.faults M.mark M.faults self.old
+        ensures { IsPlainAnswer F.contents F.faults M.mark M.faults self.old
             Request.Sweep result self.new }
     {
         match self.cluster.sweep() {
             Ok(count) => Reply::Sweep(count),
+            Err(refusal) => Reply::Refused(refusal),
+        }
+    }
+
+    pub(crate) fn checkpoint(&mut self) -> Reply
+        ensures { IsPlainAnswer F.contents F.faults M.mark M.faults self.old
+            Request.Checkpoint result self.new }
+    {
+        let top = self.clients.top();
+        let floor = self.collectors.greatest_floor();
+        match self.cluster.checkpoint(top, floor) {
+            Ok(()) => Reply::Checkpoint,
             Err(refusal) => Reply::Refused(refusal),
         }
     }
@@ -82,7 +94,7 @@ impl<F: Files + Drop, M: MarkStore + Drop> Server<F, M> {
         lo: Stamp,
         hi: Stamp,
     ) -> Reply
-        ensures { IsAnswer F.contents F.faults M.mark M.faults self.old
+        ensures { IsPlainAnswer F.contents F.faults M.mark M.faults self.old
             (Request.Raw row.entry family.entry qualifier lo hi) result self.new }
     {
         let row = match Row::new(self.alloc, row) {

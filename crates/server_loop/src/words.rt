@@ -11,7 +11,9 @@ pub const MOST_MERGE: u32 = 64;
 
 /// What the command line says.
 #[derive(Clone, Copy, Debug, PartialEq, Eq)]
-pub struct Options {
+pub struct Options<'a> {
+    /// The folder that the store is in, or memory.
+    pub dir: Option<&'a str>,
     /// How many entries a memtable has before it is compacted: 1 to 100,000.
     pub flush: u32,
     /// How many files a tablet has before newest ones are merged: 2 to 64, or never.

@@ -1,17 +1,19 @@
-//! `tabletd [--flush N] [--merge M]` serves framed requests from the standard input, and writes a framed reply to each to the
-//! standard output. The store is in memory.
+//! `tabletd [--dir DIR] [--flush N] [--merge M]` serves framed requests from the standard input, and writes a framed reply to
+//! each to the standard output. The store is in memory, or in a folder.
 #![tactic(auto)]
 
 ghost use Rattle.std.specs.Prelude.{◌≡◌, ◌≤◌, IfOk};
 
+use cell_key::Refusal;
 use clap::error::ErrorKind;
-use file_store::MemFiles;
-use oracle::MemMark;
+use file_store::{DirFiles, FileFault, Files, MemFiles};
+use oracle::{DirMark, MarkStore, MemMark};
 use server_loop::{Config, Options, Server, end_status, open_status, options};
 use std::alloc::{AllocError, Global};
+use std::fs::File;
 use std::io::BufWriter;
 use std::process::ExitCode;
-use std::rt::Env;
+use std::rt::{Env, Files as Folders};
 use std::{env, io};
 
 #[cfg(test)]
@@ -63,18 +65,77 @@ impl From<clap::Error> for LineError {
     }
 }
 
-/// Reads the command line.
-fn read_line<R: Env + AllocGlobal>(rt: &R) -> Result<Options, LineError>
-    ensures { IfOk result (λ options. (1 ≤ options.flush) × (options.flush ≤ 100000)) }
-{
-    let args: Vec<String> = env::args(rt)?.collect(rt.alloc())?;
-    let words: Vec<&str> = args.iter().map(|arg| arg.as_str()).collect(rt.alloc())?;
-    let options = options(rt.alloc(), words.as_slice())?;
-    Ok(options)
+/// What the program says where a folder's files can't be opened.
+fn folder_status(fault: &FileFault) -> (u8, &'static str) {
+    match fault {
+        FileFault::Device => open_status(&Refusal::Device),
+        FileFault::Memory => open_status(&Refusal::NoMemory),
+    }
 }
 
-/// Serves the standard input, and gives the exit status with its line on the standard error.
-fn serve<R: AllocGlobal + Input + Print>(rt: &R, options: Options) -> (u8, &'static str)
+/// Serves the standard input with a server that was made or opened, and gives the exit status with its line on the
+/// standard error.
+fn serve<R: AllocGlobal + Input + Print, F: Files + Drop, M: MarkStore + Drop>(
+    rt: &R,
+    opened: Result<Server<F, M>, (Refusal, F, M)>,
+    merge: Option<u32>,
+) -> (u8, &'static str) {
+    let mut server = match opened {
+        Ok(server) => server,
+        Err((refusal, _, _)) => return open_status(&refusal),
+    };
+    if let Some(most) = merge {
+        server.merge_at(most);
+    }
+    let mut reader = rt.reader();
+    match BufWriter::with_capacity(rt.alloc(), WAITING, io::writer(rt)) {
+        Ok(mut writer) => end_status(&server.serve(&mut reader, &mut writer, u64::MAX)),
+        Err(_) => (NO_MEMORY, NO_MEMORY_LINE),
+    }
+}
+
+/// Serves a store in memory.
+fn serve_memory<R: AllocGlobal + Input + Print>(
+    rt: &R,
+    config: Config,
+    merge: Option<u32>,
+) -> (u8, &'static str)
+    requires flush_least { 1 ≤ config.flush }
+    requires flush_most { config.flush ≤ 100000 }
+    requires limit { config.file_limit ≡ FILE_LIMIT }
+{
+    let alloc = rt.alloc();
+    let made = Server::new(alloc, MemFiles::new(alloc), MemMark::new(), config);
+    serve(rt, made, merge)
+}
+
+/// Serves the store of a folder.
+fn serve_folder<R: AllocGlobal + Input + Print + Folders<File = File> + Clone + Drop>(
+    rt: &R,
+    folder: &str,
+    config: Config,
+    merge: Option<u32>,
+) -> Result<(u8, &'static str), AllocError>
+    requires flush_least { 1 ≤ config.flush }
+    requires flush_most { config.flush ≤ 100000 }
+    requires limit { config.file_limit ≡ FILE_LIMIT }
+{
+    let files = match DirFiles::open(rt.clone()?, folder) {
+        Ok(files) => files,
+        Err(fault) => return Ok(folder_status(&fault)),
+    };
+    let Ok(marks) = DirMark::open(rt.clone()?, folder) else {
+        return Ok(open_status(&Refusal::Device));
+    };
+    let opened = Server::open(rt.alloc(), files, marks, config);
+    Ok(serve(rt, opened, merge))
+}
+
+/// Serves the store that the command line names.
+fn serve_options<R: AllocGlobal + Input + Print + Folders<File = File> + Clone + Drop>(
+    rt: &R,
+    options: Options<'_>,
+) -> Result<(u8, &'static str), AllocError>
     requires flush_least { 1 ≤ options.flush }
     requires flush_most { options.flush ≤ 100000 }
 {
@@ -82,30 +143,30 @@ fn serve<R: AllocGlobal + Input + Print>(rt: &R, options: Options) -> (u8, &'sta
         flush: options.flush,
         file_limit: FILE_LIMIT,
     };
-    match Server::new(
-        rt.alloc(),
-        MemFiles::new(rt.alloc()),
-        MemMark::new(),
-        config,
-    ) {
-        Ok(mut server) => {
-            if let Some(most) = options.merge {
-                server.merge_at(most);
-            }
-            let mut reader = rt.reader();
-            match BufWriter::with_capacity(rt.alloc(), WAITING, io::writer(rt)) {
-                Ok(mut writer) => end_status(&server.serve(&mut reader, &mut writer, u64::MAX)),
-                Err(_) => (NO_MEMORY, NO_MEMORY_LINE),
-            }
-        }
-        Err((refusal, _, _)) => open_status(&refusal),
+    match options.dir {
+        Some(folder) => serve_folder(rt, folder, config, options.merge),
+        None => Ok(serve_memory(rt, config, options.merge)),
     }
 }
 
+/// Serves as the words of the command line say, and gives the exit status with its line on the standard error.
+fn serve_line<R>(rt: &R) -> Result<(u8, &'static str), LineError>
+where
+    R: Env + AllocGlobal + Input + Print + Folders<File = File> + Clone + Drop,
+{
+    let args: Vec<String> = env::args(rt)?.collect(rt.alloc())?;
+    let words: Vec<&str> = args.iter().map(|arg| arg.as_str()).collect(rt.alloc())?;
+    let told = serve_options(rt, options(rt.alloc(), words.as_slice())?)?;
+    Ok(told)
+}
+
 /// Runs the program, and gives the exit status.
-fn run<R: Env + AllocGlobal + Input + Print + Eprint>(rt: &R) -> u8 {
-    let (status, line) = match read_line(rt) {
-        Ok(options) => serve(rt, options),
+fn run<R>(rt: &R) -> u8
+where
+    R: Env + AllocGlobal + Input + Print + Eprint + Folders<File = File> + Clone + Drop,
+{
+    let (status, line) = match serve_line(rt) {
+        Ok(told) => told,
         Err(LineError::NoMemory) => (NO_MEMORY, NO_MEMORY_LINE),
         Err(LineError::NotText(error)) => {
             let _ = rt.eprintln(error);

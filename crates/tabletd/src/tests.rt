@@ -1,6 +1,7 @@
 //! The store as its users meet it: streams of requests with the replies that they get. Below it are the tests of each crate.
 
 mod bodies;
+mod checkpoints;
 mod cleaning;
 mod clusters;
 mod collecting;

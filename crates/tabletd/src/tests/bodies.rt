@@ -12,7 +12,7 @@ const RAW: &[u8] = b"\x11\0\0\0\x01m\0\0\0\x01c\x02\0\0\0\0\0\0\0\0\0\0\0\0\0\0\
 const RAW_FOUND: &[u8] = b"\x91\x01\0\0\0\0\0\0\0\x01\0\0\0\x06m\0\0c\0\0";
 
 /// A request of each kind.
-const REQUESTS: [&[u8]; 17] = [
+const REQUESTS: [&[u8]; 18] = [
     b"\x01",
     GET,
     SET,
@@ -30,10 +30,11 @@ const REQUESTS: [&[u8]; 17] = [
     b"\x0F",
     b"\x10",
     RAW,
+    b"\x12",
 ];
 
 /// Bodies outside the grammar of requests.
-const NO_REQUESTS: [&[u8]; 21] = [
+const NO_REQUESTS: [&[u8]; 22] = [
     b"",
     b"\0",
     b"\x13",
@@ -52,6 +53,7 @@ const NO_REQUESTS: [&[u8]; 21] = [
     b"\x0E\0\0\0\x02",
     b"\x0E\0\0\0\x02\0\x03",
     b"\x0F\0",
+    b"\x12\0",
     b"\x11\0\0\0\x01m\0\0\0\x01c\x04\0\0\0\0\0\0\0\0\0\0\0\0\0\0\0\x09",
     b"\x11\0\0\0\x01m\0\0\0\x01c\0\0\0\0\0\0\0\0\0\0\0\0\0\0\0\0\x09",
     b"\x11\0\0\0\x01m\0\0\0\x01c\x02\0\0\0\0\0\0\0\0\0\0\0\0\0\0\0",
@@ -72,7 +74,7 @@ fn bodies_of_requests(rt: HostRuntime) -> Result<(), Fail> {
 }
 
 /// A reply of each kind.
-const REPLIES: [&[u8]; 32] = [
+const REPLIES: [&[u8]; 33] = [
     b"\x81\0\0\0\0\0\0\0\x01",
     b"\x82\0",
     b"\x82\x01\0\0\0\x0210",
@@ -104,11 +106,12 @@ const REPLIES: [&[u8]; 32] = [
     b"\x90",
     b"\x91\0",
     RAW_FOUND,
+    b"\x92",
     b"\xFF\x16",
 ];
 
 /// Bodies outside the grammar of replies.
-const NO_REPLIES: [&[u8]; 22] = [
+const NO_REPLIES: [&[u8]; 23] = [
     b"",
     b"\x01",
     b"\x82",
@@ -128,6 +131,7 @@ const NO_REPLIES: [&[u8]; 22] = [
     b"\x91\0\0",
     b"\x91\x01\0\0\0\0\0\0\0\x01\0\0\0\x06m\0\0c\0",
     b"\x91\x02",
+    b"\x92\0",
     b"\xFF\0",
     b"\xFF\x18",
     b"\xFF\x16\0",

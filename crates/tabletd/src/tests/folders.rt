@@ -7,7 +7,7 @@ use std::test::Fail;
 use std::{fs, io, process};
 
 /// A new folder of this name in the machine's temporary folder.
-fn new_folder(rt: &HostRuntime, name: &str) -> io::Result<String> {
+pub fn new_folder(rt: &HostRuntime, name: &str) -> io::Result<String> {
     let number = process::id(rt.process());
     let folder = format!(in rt.alloc(); "/tmp/duqishom-{number}-{name}")?;
     let _ = fs::remove_dir_all(rt, folder.as_str());

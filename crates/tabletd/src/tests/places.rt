@@ -39,7 +39,7 @@ fn places_of_rows(rt: HostRuntime) -> Result<(), Fail> {
 }
 
 /// The root of a new store.
-const NEW_ROOT: &[u8] =
+pub const NEW_ROOT: &[u8] =
     b"TABROOT1\0\0\0\0\0\0\0\0\0\0\0\0\0\0\0\0\0\0\0\0\0\0\0\x01\0\0\0\x02\0\0\0\x01\0\0\0\x01\x01\0\0\0\0\0TABROOTZ";
 
 /// What is written of a new store is read again. With one more byte behind it, or one less, it is no root.

@@ -35,41 +35,47 @@ fn statuses(rt: HostRuntime) -> Result<(), Fail> {
     Ok(())
 }
 
+/// Words of the command line, and the folder and the two numbers that they say, where they are taken.
+type Line = (
+    &'static [&'static str],
+    Option<(Option<&'static str>, u32, Option<u32>)>,
+);
+
+const LINES: [Line; 15] = [
+    (&["tabletd"], Some((None, 10_000, None))),
+    (&["tabletd", "--flush", "1"], Some((None, 1, None))),
+    (
+        &["tabletd", "--flush", "100000"],
+        Some((None, 100_000, None)),
+    ),
+    (&["tabletd", "--flush=7"], Some((None, 7, None))),
+    (&["tabletd", "--flush", "0"], None),
+    (&["tabletd", "--flush", "100001"], None),
+    (&["tabletd", "--flush"], None),
+    (&["tabletd", "--merge", "2"], Some((None, 10_000, Some(2)))),
+    (
+        &["tabletd", "--merge", "64"],
+        Some((None, 10_000, Some(64))),
+    ),
+    (&["tabletd", "--merge", "1"], None),
+    (&["tabletd", "--merge", "65"], None),
+    (
+        &["tabletd", "--dir", "a b"],
+        Some((Some("a b"), 10_000, None)),
+    ),
+    (&["tabletd", "--dir"], None),
+    (&["tabletd", "more"], None),
+    (&["tabletd", "--help"], None),
+];
+
 #[test]
 fn command_lines(rt: HostRuntime) -> Result<(), Fail> {
-    let table: [(&[&str], Option<u32>); 11] = [
-        (&["tabletd"], Some(10_000)),
-        (&["tabletd", "--flush", "1"], Some(1)),
-        (&["tabletd", "--flush", "100000"], Some(100_000)),
-        (&["tabletd", "--flush=7"], Some(7)),
-        (&["tabletd", "--flush", "0"], None),
-        (&["tabletd", "--flush", "100001"], None),
-        (&["tabletd", "--flush", "x"], None),
-        (&["tabletd", "--flush"], None),
-        (&["tabletd", "--dir", "d"], None),
-        (&["tabletd", "more"], None),
-        (&["tabletd", "--help"], None),
-    ];
-    for (words, flush) in table {
+    for (words, said) in LINES {
         let read = match options(rt.alloc(), words) {
-            Ok(options) => Some(options.flush),
+            Ok(options) => Some((options.dir, options.flush, options.merge)),
             Err(_) => None,
         };
-        assert!(rt; read == flush);
-    }
-    let table: [(&[&str], Option<Option<u32>>); 5] = [
-        (&["tabletd", "--flush", "7"], Some(None)),
-        (&["tabletd", "--merge", "2"], Some(Some(2))),
-        (&["tabletd", "--merge", "64"], Some(Some(64))),
-        (&["tabletd", "--merge", "1"], None),
-        (&["tabletd", "--merge", "65"], None),
-    ];
-    for (words, merge) in table {
-        let read = match options(rt.alloc(), words) {
-            Ok(options) => Some(options.merge),
-            Err(_) => None,
-        };
-        assert!(rt; read == merge);
+        assert!(rt; read == said);
     }
     Ok(())
 }

@@ -118,7 +118,7 @@ const READS: [&[u8]; 8] = [
 ];
 
 /// The requests that are made with allocations refused.
-const REQUESTS: [&[u8]; 26] = [
+const REQUESTS: [&[u8]; 27] = [
     // Begin: 13
     b"\x01",
     // Get 12 a c: 3
@@ -171,6 +171,8 @@ const REQUESTS: [&[u8]; 26] = [
     b"\x11\0\0\0\x01n\0\0\0\x01c\x01\0\0\0\0\0\0\0\0\0\0\0\0\0\0\0c",
     // Raw p c lock
     b"\x11\0\0\0\x01p\0\0\0\x01c\x02\0\0\0\0\0\0\0\0\0\0\0\0\0\0\0c",
+    // Checkpoint
+    b"\x12",
 ];
 
 /// What is read before a call.
@@ -244,7 +246,7 @@ const NO_MEMORY: &[u8] = b"\0\0\0\x02\xFF\x14";
 
 /// The calls: each request by itself, with the number of its refusal or 0, a new server, and then each request as a
 /// frame, with the frame of its reply.
-const CALLS: [Call; 53] = [
+const CALLS: [Call; 55] = [
     // Begin: 13
     (b"\0", STILL),
     // Get 12 a c: 3
@@ -296,6 +298,8 @@ const CALLS: [Call; 53] = [
     // Raw n c data: stamp 1, 2
     (b"\0", STILL),
     // Raw p c lock: stamp 5, 70 00 00 63 00 00
+    (b"\0", STILL),
+    // Checkpoint: done
     (b"\0", STILL),
     // Server::new
     (b"\0", STILL),
@@ -357,6 +361,8 @@ const CALLS: [Call; 53] = [
         b"\0\0\0\x14\x91\x01\0\0\0\0\0\0\0\x05\0\0\0\x06p\0\0c\0\0",
         STILL,
     ),
+    // Checkpoint: done
+    (b"\0\0\0\x01\x92", STILL),
 ];
 
 /// The number of the refusal of a request, or 0, where memory was not refused.

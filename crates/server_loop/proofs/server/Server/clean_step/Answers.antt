@@ -7,7 +7,7 @@ use Rattle.server_loop.proofs.server.Server.clean_step.Goals as goal
 
 pub returns-in-Ok : goal.returns-in-Ok
 returns-in-Ok g c = let told = c.in-Ok.ensures in record {
-  step = record { step = cleans_as _ _ _ _ _ tt refl refl refl refl (λ st reached shown. clean_changes _ _ st _ _ (told.made shown.in_order st reached shown.shows.store shown.cleaners)) told.step told.below.still told.below.stays (λ held st reached cells cleaners. cleaned_undamaged c.in-Ok.done); refusal = cleaned_told IsStepRefusal c.in-Ok.done; short = tt };
+  step = record { step = cleans_as _ _ _ _ _ tt refl refl refl refl (λ st reached shown. clean_changes _ _ st _ _ (told.made shown.in_order st reached shown.shows.store shown.cleaners)) told.step told.below.still told.below.stays (λ held st reached cells cleaners. cleaned_undamaged c.in-Ok.done); refusal = cleaned_told IsStepRefusal c.in-Ok.done; limits = tt };
   stamps = record { last = cleaned_stays c.in-Ok.done _; restarted = tt; exhausted = λ is. absurd (not_done _ _ tt is) };
   edits = record { changes = λ st reached shown. (told.touched shown.in_order st reached shown.shows.store shown.cleaners, told.made shown.in_order st reached shown.shows.store shown.cleaners); room = λ st reached shown. told.room shown.in_order st reached shown.shows.store shown.cleaners };
   sessions = record { told = λ st shown gone. absurd (ok_not _ _ (told.unknown st shown.cleaners gone)); sessions = record { top = refl; each = λ t. refl }; cleaners = tt; collectors = record { next = refl; floor = refl; each = λ i. refl; count = refl }; oracle = refl };
@@ -18,7 +18,7 @@ returns-in-Ok g c = let told = c.in-Ok.ensures in record {
 
 pub returns-in-Err : goal.returns-in-Err
 returns-in-Err g c = let told = c.in-Err.ensures in record {
-  step = record { step = cleans_as _ _ _ _ _ tt refl refl refl refl (λ st reached shown. unchanged_if _ _ st (told.same.kept shown.in_order)) told.step told.below.still told.below.stays (λ held st reached cells cleaners. err_undamaged _ _ refl (told.undamaged held st reached cells cleaners)); refusal = told.refusal; short = tt };
+  step = record { step = cleans_as _ _ _ _ _ tt refl refl refl refl (λ st reached shown. unchanged_if _ _ st (told.same.kept shown.in_order)) told.step told.below.still told.below.stays (λ held st reached cells cleaners. err_undamaged _ _ refl (told.undamaged held st reached cells cleaners)); refusal = told.refusal; limits = tt };
   stamps = record { last = refl; restarted = tt; exhausted = λ _. tt };
   edits = record { changes = told.same.kept; room = told.same.room };
   sessions = record { told = λ st shown gone. as_refused _ _ _ refl (told.unknown st shown.cleaners gone); sessions = record { top = refl; each = λ t. refl }; cleaners = told.err; collectors = record { next = refl; floor = refl; each = λ i. refl; count = refl }; oracle = refl };

@@ -1,13 +1,13 @@
 use Rattle.std.proofs.Common.{inl, refl, subst}
 use Rattle.version_collector.specs.Refusals.{IsStepRefusal}
-use Rattle.server_loop.specs.Runs.{HasShortValue}
+use Rattle.server_loop.specs.Runs.{KeepsToLimits}
 use Rattle.server_loop.proofs.CollectSteps.{bad_told, collected_stays, collected_told, collected_undamaged, collects_as, never_bad, same_cells}
 use Rattle.server_loop.proofs.Stepping.{as_err, as_refused, err_undamaged, not_done, ok_not}
 use Rattle.server_loop.proofs.server.Server.collect_step.Goals as goal
 
 pub returns-in-Ok : goal.returns-in-Ok
 returns-in-Ok g c = let told = c.in-Ok.ensures in rw c.collected.ensures.reply (record {
-  step = record { step = collects_as _ _ _ _ _ tt refl refl refl refl (λ st reached shown. told.step shown.in_order st reached shown.shows.store shown.collectors) told.below.still told.below.stays (λ st reached shown. collected_undamaged c.in-Ok.done); refusal = collected_told IsStepRefusal c.in-Ok.done; short = subst HasShortValue c.collected.ensures.reply c.collected.ensures.short };
+  step = record { step = collects_as _ _ _ _ _ tt refl refl refl refl (λ st reached shown. told.step shown.in_order st reached shown.shows.store shown.collectors) told.below.still told.below.stays (λ st reached shown. collected_undamaged c.in-Ok.done); refusal = collected_told IsStepRefusal c.in-Ok.done; limits = subst KeepsToLimits c.collected.ensures.reply c.collected.ensures.limits };
   stamps = record { last = collected_stays c.in-Ok.done _; restarted = tt; exhausted = λ _. tt };
   edits = record {
     changes = λ st reached shown. (
@@ -28,7 +28,7 @@ returns-in-Ok g c = let told = c.in-Ok.ensures in rw c.collected.ensures.reply (
 
 pub returns-in-Err : goal.returns-in-Err
 returns-in-Err g c = let told = c.in-Err.ensures in record {
-  step = record { step = collects_as _ _ _ _ _ tt refl refl refl refl (λ st reached shown. told.step shown.in_order st reached shown.shows.store shown.collectors) told.below.still told.below.stays (λ st reached shown. err_undamaged _ _ refl (told.undamaged shown.in_order st reached shown.shows.store shown.collectors)); refusal = told.refusal; short = tt };
+  step = record { step = collects_as _ _ _ _ _ tt refl refl refl refl (λ st reached shown. told.step shown.in_order st reached shown.shows.store shown.collectors) told.below.still told.below.stays (λ st reached shown. err_undamaged _ _ refl (told.undamaged shown.in_order st reached shown.shows.store shown.collectors)); refusal = told.refusal; limits = tt };
   stamps = record { last = refl; restarted = tt; exhausted = λ _. tt };
   edits = record {
     changes = (

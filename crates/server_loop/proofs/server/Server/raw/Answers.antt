@@ -8,7 +8,7 @@ use Rattle.cell_key.specs.declared.refusals.Refusal.{Refusal}
 use Rattle.si_model.specs.Machine.{refuses}
 use Rattle.request_codec.specs.declared.replies.Reply.TheVariants as kept
 use Rattle.row_atomic.proofs.Calls.{is_read_refusal, read_undamaged}
-use Rattle.server_loop.specs.Runs.{HasShortValue}
+use Rattle.server_loop.specs.Runs.{KeepsToLimits}
 use Rattle.server_loop.proofs.Causes.{unmet_causes}
 use Rattle.server_loop.proofs.RawReads.{found_outcome, refused_outcome}
 use Rattle.server_loop.proofs.CleanSteps.{spots_in}
@@ -16,13 +16,13 @@ use Rattle.server_loop.proofs.Stepping.{as_err, as_refused, column_not_device, m
 use Rattle.server_loop.proofs.Upkeeping.{family_whole, raw_unnamed, raw_refused, raw_done, raw_family_named, raw_refuses, raw_row_named, row_whole, tells_as, raw_whole}
 use Rattle.server_loop.proofs.server.Server.raw.Goals as goal
 
-short_found : (lo hi : ℕ) (found : Option (ℕ × Vec ℕ Global)) → IfSome (option_map stamped found) (IsVersionIn lo hi) → HasShortValue (kept.Raw found)
+short_found : (lo hi : ℕ) (found : Option (ℕ × Vec ℕ Global)) → IfSome (option_map stamped found) (IsVersionIn lo hi) → KeepsToLimits (kept.Raw found)
 short_found lo hi None limits = tt
 short_found lo hi (Some version) limits = limits.limits.value
 
 pub returns-in-Err : goal.returns-in-Err
 returns-in-Err g c = record {
-  step = record { step = tells_as _ _ _ (λ held. (held, refl)) refl refl refl refl _ _ refl (λ st shown. refuses (raw_row_named st _ _ _ _ _ c.in-Err.ensures.others (λ is. c.in-Err.ensures.bad.0 (ap (λ (r : Refusal). Err r) is)))) (λ held. name_undamaged _ (row_whole _ c.in-Err.ensures.others)); refusal = raw_unnamed _ tt tt c.in-Err.ensures.others; short = tt };
+  step = record { step = tells_as _ _ _ (λ held. (held, refl)) refl refl refl refl _ _ refl (λ st shown. refuses (raw_row_named st _ _ _ _ _ c.in-Err.ensures.others (λ is. c.in-Err.ensures.bad.0 (ap (λ (r : Refusal). Err r) is)))) (λ held. name_undamaged _ (row_whole _ c.in-Err.ensures.others)); refusal = raw_unnamed _ tt tt c.in-Err.ensures.others; limits = tt };
   stamps = record { last = refl; restarted = tt; exhausted = λ _. tt };
   edits = record { changes = λ held. refl; room = tt };
   sessions = record { told = λ st shown. tt; sessions = record { top = refl; each = λ t. refl }; cleaners = record { next = refl; each = λ i. refl; count = refl }; collectors = record { next = refl; floor = refl; each = λ i. refl; count = refl }; oracle = refl };
@@ -33,7 +33,7 @@ returns-in-Err g c = record {
 
 pub returns-in-Err-new : goal.returns-in-Err-new
 returns-in-Err-new g c = record {
-  step = record { step = tells_as _ _ _ (λ held. (held, refl)) refl refl refl refl _ _ refl (λ st shown. refuses (raw_family_named st _ _ _ _ _ c.in-Ok.ensures.valid c.in-Err-new.ensures.others (λ is. c.in-Err-new.ensures.bad.0 (ap (λ (r : Refusal). Err r) is)))) (λ held. name_undamaged _ (family_whole _ c.in-Err-new.ensures.others)); refusal = raw_unnamed _ tt tt c.in-Err-new.ensures.others; short = tt };
+  step = record { step = tells_as _ _ _ (λ held. (held, refl)) refl refl refl refl _ _ refl (λ st shown. refuses (raw_family_named st _ _ _ _ _ c.in-Ok.ensures.valid c.in-Err-new.ensures.others (λ is. c.in-Err-new.ensures.bad.0 (ap (λ (r : Refusal). Err r) is)))) (λ held. name_undamaged _ (family_whole _ c.in-Err-new.ensures.others)); refusal = raw_unnamed _ tt tt c.in-Err-new.ensures.others; limits = tt };
   stamps = record { last = refl; restarted = tt; exhausted = λ _. tt };
   edits = record { changes = λ held. refl; room = tt };
   sessions = record { told = λ st shown. tt; sessions = record { top = refl; each = λ t. refl }; cleaners = record { next = refl; each = λ i. refl; count = refl }; collectors = record { next = refl; floor = refl; each = λ i. refl; count = refl }; oracle = refl };
@@ -46,7 +46,7 @@ pub returns-in-Ok-newest : goal.returns-in-Ok-newest
 returns-in-Ok-newest g c =
     let told = c.in-Ok-newest.ensures in
     record {
-      step = record { step = tells_as _ _ _ (λ held. (told.reads.still held, told.reads.kept held)) refl refl refl refl _ _ (ap spots_in told.reads.stays) (λ st shown. raw_done st _ _ _ _ _ c.in-Ok.ensures.valid c.in-Ok-new.ensures.valid) (λ held. raw_whole _); refusal = tt; short = short_found c.args.lo c.args.hi c.in-Ok-newest.found told.limits };
+      step = record { step = tells_as _ _ _ (λ held. (told.reads.still held, told.reads.kept held)) refl refl refl refl _ _ (ap spots_in told.reads.stays) (λ st shown. raw_done st _ _ _ _ _ c.in-Ok.ensures.valid c.in-Ok-new.ensures.valid) (λ held. raw_whole _); refusal = tt; limits = short_found c.args.lo c.args.hi c.in-Ok-newest.found told.limits };
       stamps = record { last = refl; restarted = tt; exhausted = λ _. tt };
       edits = record { changes = told.reads.kept; room = tt };
       sessions = record { told = λ st shown. tt; sessions = record { top = refl; each = λ t. refl }; cleaners = record { next = refl; each = λ i. refl; count = refl }; collectors = record { next = refl; floor = refl; each = λ i. refl; count = refl }; oracle = refl };
@@ -60,7 +60,7 @@ returns g c =
     let told = c.in-Err-newest.ensures in
     let refusal = is_read_refusal _ c.in-Err-newest.refusal told.refusal in
     record {
-      step = record { step = tells_as _ _ _ (λ held. (told.reads.still held, told.reads.kept held)) refl refl refl refl _ _ (ap spots_in told.reads.stays) (λ st shown. refuses (raw_refuses st _ _ _ _ _ refusal)) (λ held. name_undamaged _ (read_undamaged _ _ told.refusal held)); refusal = raw_refused _ refusal; short = tt };
+      step = record { step = tells_as _ _ _ (λ held. (told.reads.still held, told.reads.kept held)) refl refl refl refl _ _ (ap spots_in told.reads.stays) (λ st shown. refuses (raw_refuses st _ _ _ _ _ refusal)) (λ held. name_undamaged _ (read_undamaged _ _ told.refusal held)); refusal = raw_refused _ refusal; limits = tt };
       stamps = record { last = refl; restarted = tt; exhausted = λ _. tt };
       edits = record { changes = told.reads.kept; room = tt };
       sessions = record { told = λ st shown. tt; sessions = record { top = refl; each = λ t. refl }; cleaners = record { next = refl; each = λ i. refl; count = refl }; collectors = record { next = refl; floor = refl; each = λ i. refl; count = refl }; oracle = refl };

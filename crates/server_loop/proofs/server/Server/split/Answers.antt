@@ -9,7 +9,7 @@ use Rattle.server_loop.proofs.server.Server.split.Goals as goal
 
 pub returns-in-Err : goal.returns-in-Err
 returns-in-Err g c = record {
-  step = record { step = tells_as _ _ _ (λ held. (held, refl)) refl refl refl refl _ _ refl (λ st shown. refuses (split_named st _ _ c.in-Err.ensures.others (λ is. c.in-Err.ensures.bad.0 (ap (λ (r : Refusal). Err r) is)))) (λ held. name_undamaged _ (row_whole _ c.in-Err.ensures.others)); refusal = cut_named _ c.in-Err.ensures.others; short = tt };
+  step = record { step = tells_as _ _ _ (λ held. (held, refl)) refl refl refl refl _ _ refl (λ st shown. refuses (split_named st _ _ c.in-Err.ensures.others (λ is. c.in-Err.ensures.bad.0 (ap (λ (r : Refusal). Err r) is)))) (λ held. name_undamaged _ (row_whole _ c.in-Err.ensures.others)); refusal = cut_named _ c.in-Err.ensures.others; limits = tt };
   stamps = record { last = refl; restarted = tt; exhausted = λ _. tt };
   edits = record { changes = λ held. refl; room = tt };
   sessions = record { told = λ st shown. tt; sessions = record { top = refl; each = λ t. refl }; cleaners = record { next = refl; each = λ i. refl; count = refl }; collectors = record { next = refl; floor = refl; each = λ i. refl; count = refl }; oracle = refl };
@@ -23,7 +23,7 @@ returns-in-Ok-split g c =
     let is_row = rw (← c.in-Ok.ensures.ok) at c.in-Ok.ensures.valid in
     let o = c.in-Ok-split.ensures in
     rw (← c.in-Ok.ensures.ok) (record {
-      step = record { step = splits_as _ _ _ (λ held. (o.still held, o.answers held)) refl refl refl refl _ _ is_row o.cause.free o.upholds.0 o.upholds.1; refusal = tt; short = tt };
+      step = record { step = splits_as _ _ _ (λ held. (o.still held, o.answers held)) refl refl refl refl _ _ is_row o.cause.free o.upholds.0 o.upholds.1; refusal = tt; limits = tt };
       stamps = record { last = refl; restarted = tt; exhausted = λ _. tt };
       edits = record { changes = o.answers; room = tt };
       sessions = record { told = λ st shown. tt; sessions = record { top = refl; each = λ t. refl }; cleaners = record { next = refl; each = λ i. refl; count = refl }; collectors = record { next = refl; floor = refl; each = λ i. refl; count = refl }; oracle = refl };
@@ -37,7 +37,7 @@ returns g c =
     let is_row = rw (← c.in-Ok.ensures.ok) at c.in-Ok.ensures.valid in
     let o = c.in-Err-split.ensures in
     rw (← c.in-Ok.ensures.ok) (record {
-      step = record { step = tells_as _ _ _ (λ held. (o.still held, (o.answers held).1)) refl refl refl refl _ _ o.upholds.1.0 (λ st shown. refuses (split_refuses st _ (sym shown.places) _ _ is_row o.upholds.0 o.cause.due.bad.0)) (λ held. name_undamaged _ (o.answers held).0); refusal = cut_refused _ o.upholds.0; short = tt };
+      step = record { step = tells_as _ _ _ (λ held. (o.still held, (o.answers held).1)) refl refl refl refl _ _ o.upholds.1.0 (λ st shown. refuses (split_refuses st _ (sym shown.places) _ _ is_row o.upholds.0 o.cause.due.bad.0)) (λ held. name_undamaged _ (o.answers held).0); refusal = cut_refused _ o.upholds.0; limits = tt };
       stamps = record { last = refl; restarted = tt; exhausted = λ _. tt };
       edits = record { changes = λ held. (o.answers held).1; room = tt };
       sessions = record { told = λ st shown. tt; sessions = record { top = refl; each = λ t. refl }; cleaners = record { next = refl; each = λ i. refl; count = refl }; collectors = record { next = refl; floor = refl; each = λ i. refl; count = refl }; oracle = refl };

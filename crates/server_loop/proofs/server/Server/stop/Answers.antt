@@ -13,7 +13,7 @@ device_not_unknown is = cc
 
 pub returns-in-Ok : goal.returns-in-Ok
 returns-in-Ok g c = let told = c.in-Ok.ensures in record {
-  step = record { step = steps_as _ _ _ _ _ tt refl refl refl (λ st reached shown. unchanged) (λ _. told.step _ _) (λ h. h) refl (λ st reached held shown. stop_undamaged); refusal = tt; short = tt };
+  step = record { step = steps_as _ _ _ _ _ tt refl refl refl (λ st reached shown. unchanged) (λ _. told.step _ _) (λ h. h) refl (λ st reached held shown. stop_undamaged); refusal = tt; limits = tt };
   stamps = record { last = refl; restarted = tt; exhausted = λ _. tt };
   edits = record { changes = λ held. refl; room = λ row edits over. over };
   sessions = record { told = λ st shown gone. absurd (ok_not _ _ (told.unknown st shown.shows.sessions gone)); sessions = tt; cleaners = record { next = refl; each = λ i. refl; count = refl }; collectors = record { next = refl; floor = refl; each = λ i. refl; count = refl }; oracle = refl };
@@ -24,7 +24,7 @@ returns-in-Ok g c = let told = c.in-Ok.ensures in record {
 
 pub returns-in-Err : goal.returns-in-Err
 returns-in-Err g c = let told = c.in-Err.ensures in record {
-  step = record { step = steps_as _ _ _ _ _ tt refl refl refl (λ st reached shown. unchanged) (λ _. told.step _ _) (λ h. h) refl (λ st reached held shown. undamaged (λ (refusal : Refusal). refusal ≡ UnknownSession) _ told.refusal damaged_not_unknown); refusal = told.refusal; short = tt };
+  step = record { step = steps_as _ _ _ _ _ tt refl refl refl (λ st reached shown. unchanged) (λ _. told.step _ _) (λ h. h) refl (λ st reached held shown. undamaged (λ (refusal : Refusal). refusal ≡ UnknownSession) _ told.refusal damaged_not_unknown); refusal = told.refusal; limits = tt };
   stamps = record { last = refl; restarted = tt; exhausted = λ _. tt };
   edits = record { changes = λ held. refl; room = λ row edits over. over };
   sessions = record { told = λ st shown gone. as_refused _ _ _ refl (told.unknown st shown.shows.sessions gone); sessions = told.err; cleaners = record { next = refl; each = λ i. refl; count = refl }; collectors = record { next = refl; floor = refl; each = λ i. refl; count = refl }; oracle = refl };

@@ -1,0 +1,192 @@
+-- What a server rests at after an answer, and between two requests.
+use Rattle.std.proofs.Common.{◌≡◌, ◌≢◌, ◌≤◌, ◌⊎◌, inl, inr, ℕ, Bool, true, false, Option, None, Some, refl, ap, subst, sym, arith}
+use Rattle.std.specs.Prelude.{IsSome, IsSomeAnd}
+use Rattle.cell_key.specs.Cells.{Cells}
+use Rattle.cell_key.specs.declared.refusals.Refusal.{Refusal}
+use Rattle.file_store.specs.Store.{Contents}
+use Rattle.metadata_table.specs.Roots.{RootView}
+use Rattle.oracle.specs.Marks.{IsWithin, MayHold}
+use Rattle.oracle.specs.Ranges.{OracleState}
+use Rattle.request_codec.specs.Requests.{asked}
+use Rattle.request_codec.specs.declared.replies.Reply.{Reply as Kept}
+use Rattle.request_codec.specs.declared.replies.Reply.TheVariants as kept
+use Rattle.request_codec.specs.declared.requests.Request.{Request as Lent}
+use Rattle.request_codec.specs.declared.requests.Request.TheVariants as lent
+use Rattle.row_atomic.specs.Clusters.{ClusterState}
+use Rattle.row_atomic.specs.Roots.{KeepsRoot, RootIsStored, RootOutlastsFlushes, RootStays}
+use Rattle.row_atomic.specs.declared.commands.Command.{Command}
+use Rattle.row_atomic.specs.declared.commands.Outcome.TheVariants as outcome
+use Rattle.si_model.specs.Machine as machine
+use Rattle.si_model.specs.Machine.{Acts, CheckpointDone, IsReached, Refused, State, Step, accepts, refuses, reopened, tells}
+use Rattle.si_model.specs.ShowsCells.{ShowsCells}
+use Rattle.server_loop.specs.Answer.{IsPlainAnswer, TendsTablets}
+use Rattle.server_loop.specs.Commands.{HasOutcome, command_of}
+use Rattle.server_loop.specs.Resting.{IsSparing, KeepsResting, RestingIsKept, RestsAt, RestsBetween, TellsState}
+use Rattle.server_loop.specs.Server.{Shows, cluster_of, last_of, marks_of}
+use Rattle.server_loop.specs.Sessions.{KeepsOracle}
+use Rattle.server_loop.specs.Tending.{MergesWhere}
+use Rattle.server_loop.specs.declared.server.Server.{Server}
+use Rattle.server_loop.proofs.Tended.{still_shown}
+
+-- ---- the machine's state stays
+
+no_refusal : (st next : State) (q : machine.Request) (e : Refusal) → Acts st q (Refused e) next → ⊥
+no_refusal st next q e (tells t) = elim t [ ]
+
+refused_same : (st next : State) (q : machine.Request) (e : Refusal) → Step st q (Refused e) next → next ≡ st
+refused_same st next q e (refuses n) = refl
+refused_same st next q e (accepts ok acts) = absurd (no_refusal st next q e acts)
+
+checkpoint_same : (st next : State) → Step st machine.Checkpoint CheckpointDone next → next ≡ st
+checkpoint_same st next (accepts ok (tells t)) = refl
+
+spared_same : (st next : State) (q : Lent) (r : machine.Reply) → IsSparing q → Step st (asked q) r next → next ≡ st
+spared_same st next (lent.Minor t) r is (refuses n) = refl
+spared_same st next (lent.Minor t) r is (accepts ok (tells told)) = refl
+spared_same st next lent.Sweep r is (refuses n) = refl
+spared_same st next lent.Sweep r is (accepts ok (tells told)) = refl
+spared_same st next lent.OracleRestart r is (refuses n) = refl
+spared_same st next lent.OracleRestart r is (accepts ok (tells told)) = refl
+spared_same st next (lent.Raw row family qualifier lo hi) r is (refuses n) = refl
+spared_same st next (lent.Raw row family qualifier lo hi) r is (accepts ok (tells told)) = refl
+spared_same st next q r is step = absurd is
+
+-- ---- the mark is told still
+
+may_told : (n : ℕ) (old new : Option ℕ) → MayHold n old new → IsSome old → IsSome new
+may_told n old new (inl same) told = subst (λ (o : Option ℕ). IsSome o) (sym same) told
+may_told n None new (inr same) told = cc
+may_told n (Some m) new (inr same) told = subst (λ (o : Option ℕ). IsSome o) (sym same) refl
+
+some_told : (told : Option ℕ) (P : ℕ → Type 0) → IsSomeAnd told P → IsSome told
+some_told None P is = absurd is
+some_told (Some m) P is = refl
+
+marked_now : (told : Option ℕ) (top last : ℕ) → IsSome told → IsWithin last told → top ≤ last → IsSomeAnd told (λ m. top ≤ m)
+marked_now None top last is within low = cc
+marked_now (Some m) top last is within low = omega (arith, within, low)
+
+module _ {F M : Type 0} (contents : F → Option Contents) (faults : F → ℕ) (mark : M → Option ℕ) (mark_faults : M → ℕ) where
+  told_mark : (request : Lent) (e : Refusal) (old new : Server F M) → KeepsOracle contents mark request (kept.Refused e) old new → IsSome (mark (marks_of old)) → IsSome (mark (marks_of new))
+  told_mark lent.Begin e old new keeps told = may_told _ _ _ keeps told
+  told_mark (lent.Step start) e old new keeps told = may_told _ _ _ keeps.1 told
+  told_mark lent.OracleRestart e old new keeps told = subst (λ (o : Option ℕ). IsSome o) (sym keeps) told
+  told_mark request e old new keeps told = subst (λ (o : OracleState M). IsSome (mark o.marks)) (sym keeps) told
+
+  told_spared : (request : Lent) (reply : Kept) (old new : Server F M) → IsSparing request → KeepsOracle contents mark request reply old new → IsSome (mark (marks_of old)) → IsSome (mark (marks_of new))
+  told_spared (lent.Minor t) reply old new is keeps told = subst (λ (o : OracleState M). IsSome (mark o.marks)) (sym keeps) told
+  told_spared lent.Sweep reply old new is keeps told = subst (λ (o : OracleState M). IsSome (mark o.marks)) (sym keeps) told
+  told_spared lent.OracleRestart reply old new is keeps told = subst (λ (o : Option ℕ). IsSome o) (sym keeps) told
+  told_spared (lent.Raw row family qualifier lo hi) reply old new is keeps told = subst (λ (o : OracleState M). IsSome (mark o.marks)) (sym keeps) told
+  told_spared request reply old new is keeps told = absurd is
+
+  -- ---- the files keep the root
+
+  module _ (stored : RootIsStored contents) (stays : RootStays contents faults) (root : RootView) (cells : Cells) where
+    not_done : (e : Refusal) → outcome.Refused e ≢ outcome.Done
+    not_done e same = cc
+
+    by_command : (command : Option Command) (request : Lent) (e : Refusal) (old new : ClusterState F) → HasOutcome contents faults command request (kept.Refused e) old new → KeepsRoot contents root cells old → KeepsRoot contents root cells new
+    by_command None request e old new same keeps = (stored root cells old new same).1 keeps
+    by_command (Some command) request e old new (inl is) keeps = (stays command (outcome.Refused e) root cells old new is).1 (λ takes. not_done e takes.1) keeps
+    by_command (Some command) request e old new (inr none) keeps = subst (λ (state : ClusterState F). KeepsRoot contents root cells state) (sym none.1) keeps
+
+    tends_root : (request : Lent) (e : Refusal) (old new : Server F M) → request ≢ lent.Checkpoint → TendsTablets contents faults request (kept.Refused e) old new
+        → KeepsRoot contents root cells (cluster_of old) → KeepsRoot contents root cells (cluster_of new)
+    tends_root lent.Checkpoint e old new other tends keeps = absurd (other refl)
+    tends_root request e old new other tends keeps = by_command (command_of request) request e (cluster_of old) (cluster_of new) tends keeps
+
+    spared_root : (request : Lent) (reply : Kept) (old new : Server F M) → IsSparing request → TendsTablets contents faults request reply old new
+        → KeepsRoot contents root cells (cluster_of old) → KeepsRoot contents root cells (cluster_of new)
+    spared_root (lent.Minor t) reply old new is (inl made) keeps = (stays _ _ root cells (cluster_of old) (cluster_of new) made).1 (λ takes. takes.0) keeps
+    spared_root (lent.Minor t) reply old new is (inr none) keeps = absurd none.0
+    spared_root lent.Sweep reply old new is (inl made) keeps = (stays _ _ root cells (cluster_of old) (cluster_of new) made).1 (λ takes. takes.0) keeps
+    spared_root lent.Sweep reply old new is (inr none) keeps = absurd none.0
+    spared_root lent.OracleRestart reply old new is same keeps = (stored root cells (cluster_of old) (cluster_of new) same).1 keeps
+    spared_root (lent.Raw row family qualifier lo hi) reply old new is (inl made) keeps = (stays _ _ root cells (cluster_of old) (cluster_of new) made).1 (λ takes. takes.0) keeps
+    spared_root (lent.Raw row family qualifier lo hi) reply old new is (inr none) keeps = subst (λ (state : ClusterState F). KeepsRoot contents root cells state) (sym none.1) keeps
+    spared_root request reply old new is tends keeps = absurd is
+
+  module _ (reopens : (cells : Cells) (st : State) → ShowsCells cells st → ShowsCells cells (reopened st)) (stored : RootIsStored contents) (stays : RootStays contents faults) (old new : Server F M) (within : IsWithin (last_of new) (mark (marks_of new))) where
+    -- it rests at the same root
+    rests_on : (st : State) → Shows contents new st → (rests : RestsAt contents mark old st) → KeepsRoot contents rests.root rests.cells (cluster_of new) → IsSome (mark (marks_of new)) → RestsAt contents mark new st
+    rests_on st shown rests keeps told = record {
+      shows = shown;
+      root = rests.root;
+      cells = rests.cells;
+      keeps = keeps;
+      tells = record {
+        top = rests.tells.top;
+        floor = rests.tells.floor;
+        places = rests.tells.places;
+        next = rests.tells.next;
+        marked = marked_now _ _ _ told within shown.shows.top;
+        shows = rests.tells.shows;
+      };
+    }
+
+    rests_refused : (request : Lent) (e : Refusal) → request ≢ lent.Checkpoint → IsPlainAnswer contents faults mark mark_faults old request (kept.Refused e) new → (st : State) → IsReached st → RestsAt contents mark old st → RestsAt contents mark new st
+    rests_refused request e other plain st reached rests =
+        let (next, step, after, whole) = plain.step.step st reached rests.shows in
+        let shown : Shows contents new st = subst (λ (s : State). Shows contents new s) (refused_same _ _ _ _ step) after in
+        rests_on st shown rests (tends_root stored stays rests.root rests.cells request e old new other plain.tablets rests.keeps) (told_mark request e old new plain.sessions.oracle (some_told _ _ rests.tells.marked))
+
+    rests_spared : (request : Lent) (reply : Kept) → IsSparing request → IsPlainAnswer contents faults mark mark_faults old request reply new → (st : State) → IsReached st → RestsAt contents mark old st → RestsAt contents mark new st
+    rests_spared request reply is plain st reached rests =
+        let (next, step, after, whole) = plain.step.step st reached rests.shows in
+        let shown : Shows contents new st = subst (λ (s : State). Shows contents new s) (spared_same _ _ request _ is step) after in
+        rests_on st shown rests (spared_root stored stays rests.root rests.cells request reply old new is plain.tablets rests.keeps) (told_spared request reply old new is plain.sessions.oracle (some_told _ _ rests.tells.marked))
+
+    rests_done : IsPlainAnswer contents faults mark mark_faults old lent.Checkpoint kept.Checkpoint new → (st : State) → IsReached st → Shows contents old st → IsSome (mark (marks_of old)) → RestsAt contents mark new st
+    rests_done plain st reached shown told =
+        let (next, step, after, whole) = plain.step.step st reached shown in
+        let shows : Shows contents new st = subst (λ (s : State). Shows contents new s) (checkpoint_same _ _ step) after in
+        record {
+          shows = shows;
+          root = _;
+          cells = _;
+          keeps = plain.tablets.1 refl shown.in_order;
+          tells = record {
+            top = shown.shows.sessions.top;
+            floor = shown.collectors.floor;
+            places = shows.places;
+            next = shows.next;
+            marked = marked_now _ _ _ (subst (λ (o : OracleState M). IsSome (mark o.marks)) (sym plain.sessions.oracle) told) within shows.shows.top;
+            shows = reopens _ st shown.shows.store;
+          };
+        }
+
+    pub keeps_resting : (request : Lent) (reply : Kept) → IsPlainAnswer contents faults mark mark_faults old request reply new → KeepsResting contents mark request reply old new
+    keeps_resting request reply plain = record {
+      done = λ is told. rests_done (subst (λ (q : Lent). IsPlainAnswer contents faults mark mark_faults old q kept.Checkpoint new) is (subst (λ (r : Kept). IsPlainAnswer contents faults mark mark_faults old request r new) told plain));
+      refused = λ other e told. rests_refused request e other (subst (λ (r : Kept). IsPlainAnswer contents faults mark mark_faults old request r new) told plain);
+      spared = λ is. rests_spared request reply is plain;
+    }
+
+  -- ---- between two requests
+
+  merged_none : (b : Bool) (merge : Option ℕ) (old new : ClusterState F) → (merge ≡ None) ⊎ (b ≡ false) → MergesWhere b contents faults merge old new → new ≡ old
+  merged_none false merge old new none merges = merges
+  merged_none true None old new none merges = merges
+  merged_none true (Some most) old new (inl none) merges = cc
+  merged_none true (Some most) old new (inr none) merges = cc
+
+  pub rests_between : RootOutlastsFlushes contents faults → RestsBetween contents faults mark
+  rests_between outlasts old new st tended none rests = record {
+    shows = still_shown contents faults old new st tended.keeps tended.sessions tended.cleaners tended.collectors (ap (λ (o : OracleState M). o.last) tended.oracle) rests.shows;
+    root = rests.root;
+    cells = rests.cells;
+    keeps = subst (λ (state : ClusterState F). KeepsRoot contents rests.root rests.cells state) (sym (merged_none _ _ _ _ none tended.merges))
+        (((outlasts rests.root rests.cells (cluster_of old) tended.compacted).0 _ tended.compacts).1 rests.keeps);
+    tells = subst (λ (o : OracleState M). TellsState rests.root rests.cells (mark o.marks) st) (sym tended.oracle) rests.tells;
+  }
+
+  pub resting_is_kept : RestingIsKept contents mark
+  resting_is_kept server st rests = record {
+    kept = rests.keeps.has.kept;
+    are_told = rests.keeps.has.are_told;
+    root = rests.root;
+    cells = rests.cells;
+    keeps = rests.keeps.has.keeps;
+    tells = rests.tells;
+  }

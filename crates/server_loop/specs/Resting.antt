@@ -1,0 +1,82 @@
+-- What a server rests at: the state of the machine that its files and its mark keep.
+use Rattle.std.specs.Prelude.{◌≡◌, ◌≢◌, ◌+◌, ◌≤◌, ◌⊎◌, ℕ, false, length, Option, None, Some, IsSome, IsSomeAnd, ⊤}
+use Rattle.cell_key.specs.Cells.{Cells}
+use Rattle.cell_key.specs.declared.refusals.Refusal.{Refusal}
+use Rattle.file_store.specs.Store.{Contents}
+use Rattle.metadata_table.specs.Roots.{RootView}
+use Rattle.request_codec.specs.declared.replies.Reply.{Reply}
+use Rattle.request_codec.specs.declared.replies.Reply.TheVariants as kept
+use Rattle.request_codec.specs.declared.requests.Request.{Request}
+use Rattle.request_codec.specs.declared.requests.Request.TheVariants.{Minor, Sweep, OracleRestart, Raw, Checkpoint}
+use Rattle.row_atomic.specs.Roots.{KeepsCells, KeepsRoot}
+use Rattle.si_model.specs.Machine.{IsReached, State, reopened}
+use Rattle.si_model.specs.ShowsCells.{ShowsCells}
+use Rattle.server_loop.specs.Server.{Shows, cluster_of, machine_places, marks_of, tending_of}
+use Rattle.server_loop.specs.Tending.{IsTended, has_full}
+use Rattle.server_loop.specs.declared.server.Server.{Server}
+
+-- A root tells the greatest stamp of a state, its greatest floor and the places of its tablets, a
+-- mark isn't below that stamp, and cells show the state after a clean restart.
+pub record TellsState (root : RootView) (cells : Cells) (told : Option ℕ)
+    (st : State) : Type 0 where
+  pub top : root.top ≡ st.top
+  pub floor : root.floor ≡ st.floor
+  pub places : machine_places root.places ≡ st.places
+  pub next : st.next_tablet ≡ length st.places + 1
+  pub marked : IsSomeAnd told (λ mark. st.top ≤ mark)
+  pub shows : ShowsCells cells (reopened st)
+
+-- Files and a mark keep a state: the files keep cells under a root, and these tell the state.
+pub record KeepsState {F M : Type 0} (contents : F → Option Contents) (mark : M → Option ℕ)
+    (files : F) (marks : M) (st : State) : Type 0 where
+  pub kept : Contents
+  pub are_told : contents files ≡ Some kept
+  pub root : RootView
+  pub cells : Cells
+  pub keeps : KeepsCells kept root cells
+  pub tells : TellsState root cells (mark marks) st
+
+-- A server shows a state, and its files and its mark keep it. Its tablets have every file of the
+-- root, and files to come have other names.
+pub record RestsAt {F M : Type 0} (contents : F → Option Contents) (mark : M → Option ℕ)
+    (server : Server F M) (st : State) : Type 0 where
+  pub shows : Shows contents server st
+  pub root : RootView
+  pub cells : Cells
+  pub keeps : KeepsRoot contents root cells (cluster_of server)
+  pub tells : TellsState root cells (mark (marks_of server)) st
+
+-- requests that leave the machine as it is, and to each tablet all its files
+abbrev pub IsSparing : Request → Type 0
+IsSparing (Minor tablet) = ⊤
+IsSparing Sweep = ⊤
+IsSparing OracleRestart = ⊤
+IsSparing (Raw row family qualifier lo hi) = ⊤
+IsSparing request = ⊥
+
+-- What a server rests at after an answer.
+pub record KeepsResting {F M : Type 0} (contents : F → Option Contents) (mark : M → Option ℕ)
+    (request : Request) (reply : Reply) (old new : Server F M) : Type 0 where
+  -- An accepted checkpoint leaves a server that shows a reached state resting at it, where the mark
+  -- is told.
+  pub done : request ≡ Checkpoint → reply ≡ kept.Checkpoint → (st : State) → IsReached st
+      → Shows contents old st → IsSome (mark (marks_of old)) → RestsAt contents mark new st
+  -- Any other request that is refused leaves it resting where it did, and so does a sparing one.
+  pub refused : request ≢ Checkpoint → (refusal : Refusal) → reply ≡ kept.Refused refusal
+      → (st : State) → IsReached st → RestsAt contents mark old st → RestsAt contents mark new st
+  pub spared : IsSparing request → (st : State) → IsReached st → RestsAt contents mark old st
+      → RestsAt contents mark new st
+
+-- Between two requests a server goes on resting where it did, if it doesn't merge by itself, or if
+-- no memtable is full.
+abbrev pub RestsBetween : {F M : Type 0} → (F → Option Contents) → (F → ℕ) → (M → Option ℕ) → Type 0
+RestsBetween {F} {M} contents faults mark =
+    (old new : Server F M) (st : State) → IsTended contents faults old new
+    → ((tending_of old).merge ≡ None) ⊎ (has_full (tending_of old).flush (cluster_of old) ≡ false)
+    → RestsAt contents mark old st → RestsAt contents mark new st
+
+-- A server that rests at a state leaves it in its files and its mark.
+abbrev pub RestingIsKept : {F M : Type 0} → (F → Option Contents) → (M → Option ℕ) → Type 0
+RestingIsKept {F} {M} contents mark =
+    (server : Server F M) (st : State) → RestsAt contents mark server st
+    → KeepsState contents mark (cluster_of server).files (marks_of server) st
