@@ -1,4 +1,4 @@
-"""The seventeen operations: how each is asked, and how its answer is read."""
+"""The eighteen operations: how each is asked, and how its answer is read."""
 
 from __future__ import annotations
 
@@ -273,6 +273,16 @@ class Raw:
 
     def read(self, fields: FieldReader) -> Version | None:
         return read_version(fields)
+
+
+@dataclass(frozen=True)
+class Checkpoint(WithoutAnswer):
+    """Writes all memtables as files, and then the root file, which names what the store needs to be opened again."""
+
+    code: ClassVar[int] = 0x12
+
+    def fields(self) -> bytes:
+        return b""
 
 
 def request_body(operation: Operation[Answer]) -> bytes:

@@ -11,7 +11,7 @@ from duqishom.refusals import FrameTooLarge
 LONGEST_BODY = 1_048_576
 
 # How many seconds a program may take to end once its input has ended.
-PATIENCE = 60
+PATIENCE = 300
 
 ENDS = {
     1: "the command line is refused",
@@ -26,7 +26,7 @@ ENDS = {
 
 
 class ProgramEnded(Exception):
-    """The program has ended, and all that it kept is lost. The status is its exit status."""
+    """The program has ended, and what it kept in memory is lost. The status is its exit status."""
 
     def __init__(self, status: int) -> None:
         why = f": {ENDS[status]}" if status in ENDS else ""
@@ -71,6 +71,10 @@ class Program:
         if len(taken) < count:
             raise ProgramEnded(self.close())
         return taken
+
+    def kill(self) -> None:
+        """Ends the program at once, whatever it is at."""
+        self._child.kill()
 
     def close(self) -> int:
         """Ends the input, waits for the program's end, and gives its exit status. It may be called again."""

@@ -24,6 +24,7 @@ from duqishom.answers import (
 )
 from duqishom.operations import (
     Begin,
+    Checkpoint,
     CleanBegin,
     CleanStep,
     CollectBegin,
@@ -46,7 +47,7 @@ from duqishom.operations import (
 )
 from duqishom.program import Program
 from duqishom.refusals import MemtableFull, TooManyFiles
-from duqishom.tablets import Tablet, TabletMap
+from duqishom.tablets import NEW_STORE, Tablet, TabletMap, tablets_of
 from duqishom.texts import first_row
 from duqishom.transactions import MOST_STAMP, Patience, StillPending, Transaction, TransactionConflict
 
@@ -57,18 +58,31 @@ Result = TypeVar("Result")
 
 
 class Store:
-    """A new store, in a child process that ends with it. What it keeps is lost then.
+    """A store in a child process that ends with it: a new one in memory, which is lost then, or that of a folder, which lasts
+    as its last checkpoint left it.
 
     Several threads may use one store, each with transactions of its own. Each method that asks the store raises a
     `Refused` where it refuses, and `ProgramEnded` where the program has ended.
     """
 
-    def __init__(self, program: str | None = None, patience: Patience = Patience(), words: Sequence[str] = ()) -> None:
-        """Starts the program, scripts/tabletd of the repository where no other is named, with these words of its command line."""
-        self._program = Program(program, words)
+    def __init__(
+        self,
+        program: str | None = None,
+        patience: Patience = Patience(),
+        words: Sequence[str] = (),
+        folder: str | None = None,
+    ) -> None:
+        """Starts the program, scripts/tabletd of the repository where no other is named, with these words of its command line.
+
+        With a folder, which must be there, the store is opened of it, or is new where the folder is empty. One program has a
+        folder at a time.
+        """
+        placed = () if folder is None else ("--dir", folder)
+        tablets = NEW_STORE if folder is None else tablets_of(folder)
+        self._program = Program(program, (*placed, *words))
         self._patience = patience
         self._turn = threading.RLock()
-        self._tablets = TabletMap()
+        self._tablets = TabletMap(tablets)
 
     def ask(self, operation: Operation[Answer]) -> Answer:
         """Asks for an operation, and gives the answer."""
@@ -187,8 +201,23 @@ class Store:
         self.ask(Move(tablet, server))
 
     def sweep(self) -> int:
-        """Removes the files that no tablet names: how many these were."""
+        """Removes the files that no tablet names: how many these were.
+
+        A file that only the root file names goes too. So a store in a folder makes a checkpoint next, or it is damaged when it
+        is opened again.
+        """
         return self.ask(Sweep())
+
+    def checkpoint(self) -> None:
+        """Writes all that the store keeps into its files: what was committed, and each lock. A folder is opened as its last
+        checkpoint left it, with no session. Where a tablet has too many files, all of its files become one first."""
+        with self._turn:
+            try:
+                self.ask(Checkpoint())
+            except TooManyFiles:
+                for tablet in self.tablets():
+                    self._write(tablet.number)
+                self.ask(Checkpoint())
 
     def restart_oracle(self) -> None:
         """Has the oracle of stamps go on from its stored mark."""
@@ -237,6 +266,10 @@ class Store:
                     raise
             attempt += 1
             time.sleep(self._patience.pause)
+
+    def kill(self) -> None:
+        """Ends the program at once, whatever it is at. A folder then has what it has."""
+        self._program.kill()
 
     def close(self) -> int:
         """Ends the program, and gives its exit status."""

@@ -162,6 +162,7 @@ class Words:
             Line("compact TABLET merge COUNT", "makes one file of so many newest ones", self.merge),
             Line("compact TABLET major", "makes one file of all that the tablet has", self.major),
             Line("sweep", "removes the files that no tablet names", self.sweep),
+            Line("checkpoint", "writes all into files, from which a folder is opened", self.checkpoint),
             Line("restart", "has the oracle go on from its mark", self.restart),
             Line("help", "these lines", self.help),
         )
@@ -291,6 +292,11 @@ class Words:
     def sweep(self) -> str:
         """Removes the files that no tablet names."""
         return f"{self._store.sweep()} files removed"
+
+    def checkpoint(self) -> str:
+        """Writes all into files."""
+        self._store.checkpoint()
+        return "written"
 
     def restart(self) -> str:
         """Has the oracle go on from its mark."""

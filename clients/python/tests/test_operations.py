@@ -244,6 +244,12 @@ class Operations(StoreTest):
         self.store.restart_oracle()
         self.assertEqual(self.store.begin(), 1001)
 
+    def test_checkpoint(self) -> None:
+        self.commit(BOB, b"10")
+        self.store.checkpoint()
+        self.assertEqual(self.store.sweep(), 0)
+        self.assertEqual(self.store.get(self.store.begin(), BOB, BAL), Value(b"10"))
+
 
 class Refusals(StoreTest):
     """The refusals that a client can bring about, and the limits that they tell of."""

@@ -56,6 +56,7 @@ class Words(unittest.TestCase):
             ("in 1 step", "finished 2 of 2"),
             ("in 3 get Joe bal", "2"),
             ("in 3 stop", "stopped"),
+            ("checkpoint", "written"),
         ]
         self.assert_answered(table, 0)
 
@@ -127,7 +128,7 @@ class Words(unittest.TestCase):
 
     def test_help(self) -> None:
         status, lines = answers("help\n")
-        self.assertEqual((status, len(lines)), (0, 20))
+        self.assertEqual((status, len(lines)), (0, 21))
 
     def test_another_program(self) -> None:
         self.assertEqual(answers("begin\n", "--program", "true")[0], 2)
