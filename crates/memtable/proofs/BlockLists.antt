@@ -215,6 +215,17 @@ module _ {X : Type 0} (f : X → List Entry) where
         find_past name (f y) (flat_map f xs) (rising_front (f y) (flat_map f xs) r) p.0
         ∙ found_nowhere xs i (rising_back (f y) (flat_map f xs) r) p.1 (omega arith)
 
+    -- where the last block is behind none, what it has all have
+    pub found_last : (xs : List X) (i j : ℕ) (x : X) → IsRising (flat_map f xs) → IsBlockPlace name (map f xs) j → length xs ≤ j → i + 1 ≡ length xs → x ≡ get_or xs i x → entry_of_key (flat_map f xs) name ≡ entry_of_key (f x) name
+    found_last [] i j x r p le last g = absurd (omega (arith, last))
+    found_last (z ∷ xs) i zero x r p le last g = absurd (omega arith)
+    found_last (z ∷ []) zero (suc j) x r p le last g = ap (λ (es : List Entry). entry_of_key es name) (append-nil (f z)) ∙ ap (λ (w : X). entry_of_key (f w) name) (sym g)
+    found_last (z ∷ []) (suc i) (suc j) x r p le last g = absurd (omega (arith, last))
+    found_last (z ∷ w ∷ xs) zero (suc j) x r p le last g = absurd (omega (arith, last))
+    found_last (z ∷ w ∷ xs) (suc i) (suc j) x r p le last g =
+        find_past name (f z) (flat_map f (w ∷ xs)) (rising_front (f z) (flat_map f (w ∷ xs)) r) p.0
+        ∙ found_last (w ∷ xs) i j x (rising_back (f z) (flat_map f (w ∷ xs)) r) p.1 (omega arith) (omega (arith, last)) g
+
     abbrev pub from_first : List X → List Entry
     from_first [] = []
     from_first (x ∷ xs) = entries_from name (f x) ++ flat_map f xs

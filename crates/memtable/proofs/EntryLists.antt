@@ -1,5 +1,5 @@
 -- Entries put over others, and how many bytes they have.
-use Rattle.std.proofs.Common.{◌≡◌, ◌≤◌, ◌+◌, ℕ, Bool, true, false, cond, List, [], ◌∷◌, ◌++◌, Option, Some, None, refl, sym, ap, subst, ◌∙◌, arith}
+use Rattle.std.proofs.Common.{◌≡◌, ◌<◌, ◌≤◌, ◌+◌, ℕ, zero, suc, Bool, true, false, cond, List, [], ◌∷◌, ◌++◌, drop, get_or, length, map, Option, Some, None, refl, sym, ap, subst, ◌∙◌, arith}
 use Rattle.std.specs.List.{AllByRecursion}
 use Rattle.std.specs.declared.cmp.Ordering.{Ordering}
 use Rattle.std.specs.declared.cmp.Ordering.TheVariants.{Less, Equal, Greater}
@@ -10,7 +10,7 @@ use Rattle.cell_key.specs.Keys.{byte_cmp}
 use Rattle.cell_key.specs.Entries.{Entry, IsRising, IsEntry, or_else, entry_of_key, entry_len}
 use Rattle.memtable.specs.Edits.{bytes_of}
 use Rattle.memtable.specs.Slots.{one_value, over, value_count}
-use Rattle.cell_key.proofs.Finding.{one_text, find_lower, second}
+use Rattle.cell_key.proofs.Finding.{one_text, find_below, find_lower, first, second}
 
 pub over_rising : (es base : List Entry) → IsRising base → IsRising (over es base)
 over_rising [] base r = r
@@ -38,6 +38,10 @@ over-put name v es base r =
     ∙ sym (cond_or (eq_by_cmp byte_cmp q name) v (entry_of_key es q) (entry_of_key base q))
     ∙ ap (cond (eq_by_cmp byte_cmp q name) (Some v)) (sym (find-over q es base))
     ∙ sym (find-put byte_cmp nat_list_cmp_total q name v (over es base)))
+
+pub all_pushed : {X : Type 0} (P : X → Type 0) (xs : List X) (x : X) → AllByRecursion P (xs ++ x ∷ []) → AllByRecursion P xs × P x
+all_pushed P [] x all = (tt, all.0)
+all_pushed P (y ∷ xs) x all = let rest = all_pushed P xs x all.1 in ((all.0, rest.0), rest.1)
 
 pub over-push : (es : List Entry) (e : Entry) (base : List Entry) → over (es ++ e ∷ []) base ≡ over es (put byte_cmp e.0 e.1 base)
 over-push [] e base = refl
@@ -124,3 +128,20 @@ each-put name v (e ∷ es) one all = go (each-put name v es one all.1) (byte_cmp
 pub each-over : (es base : List Entry) → AllByRecursion IsEntry es → AllByRecursion IsEntry base → AllByRecursion IsEntry (over es base)
 each-over [] base h k = k
 each-over (e ∷ es) base h k = each-put e.0 e.1 (over es base) h.0 (each-over es base h.1 k)
+
+-- ---- the entries from a place on
+
+pub rising_drop : (i : ℕ) (es : List Entry) → IsRising es → IsRising (drop i es)
+rising_drop zero [] r = r
+rising_drop (suc i) [] r = r
+rising_drop zero (e ∷ es) r = r
+rising_drop (suc i) (e ∷ es) r = rising_drop i es (second _ _ r)
+
+pub drop_one : {X : Type 0} (f : X → Entry) (xs : List X) (i : ℕ) (x : X) → i < length xs → x ≡ get_or xs i x → drop i (map f xs) ≡ f x ∷ drop (suc i) (map f xs)
+drop_one f [] i x lt g = absurd (omega arith)
+drop_one f (y ∷ xs) zero x lt g = ap (λ (z : _). f z ∷ map f xs) (sym g)
+drop_one f (y ∷ xs) (suc i) x lt g = drop_one f xs i x (omega arith) g
+
+-- what the entries behind one are put over has its text where the table does
+pub stands_alone : (e : Entry) (es base : List Entry) → IsRising (e ∷ es) → entry_of_key (over es base) e.0 ≡ entry_of_key base e.0
+stands_alone e es base r = find-over e.0 es base ∙ ap (λ (o : Option (Option (List ℕ))). or_else o (entry_of_key base e.0)) (find_below e.0 es (first _ _ r))

@@ -7,3 +7,4 @@ mod Places
 mod Sizes
 mod Values
 mod Versions
+mod Words

@@ -1,8 +1,7 @@
 -- How many entries there are, and how many bytes they have.
-use Rattle.std.proofs.Common.{◌≡◌, ◌≤◌, ◌+◌, ◌*◌, ◌^◌, ◌==◌, ℕ, zero, suc, Bool, false, cond, List, [], ◌∷◌, length, Option, Some, None, IfSome, option_map, is_some, refl, sym, ap, subst, ◌∙◌, arith, length-append}
+use Rattle.std.proofs.Common.{◌≡◌, ◌≤◌, ◌+◌, ◌*◌, ◌^◌, ◌==◌, ℕ, zero, suc, Bool, true, false, cond, List, [], ◌∷◌, length, Option, Some, None, IfSome, is_some, refl, sym, ap, subst, ◌∙◌, arith, length-append}
 use Rattle.std.proofs.lemmas.Bool.Decides.{nat_tests}
 use Rattle.std.specs.List.{AllByRecursion}
-use Rattle.std.specs.Borrow.{Bor}
 use Rattle.std.specs.Cmp.Lexicographic.{nat_list_cmp_total}
 use Rattle.std.specs.FinMap.Entries.{put, length-put}
 use Rattle.cell_key.specs.Keys.{byte_cmp, text, qualifier_name}
@@ -12,11 +11,11 @@ use Rattle.cell_key.specs.declared.keys.CellKey.{CellKey}
 use Rattle.cell_key.specs.declared.keys.Qualifier.{Qualifier}
 use Rattle.cell_key.specs.declared.keys.Qualifier.TheVariants.{Data, Lock, Write}
 use Rattle.memtable.specs.Edits.{bytes_of, IsWithinLimits}
-use Rattle.memtable.specs.Slots.{slot_entry, slot_len, over, IsSizeOf}
+use Rattle.memtable.specs.Slots.{over}
+use Rattle.memtable.specs.Sizes.{IsSizeOf, stood_bytes, or_zero}
 use Rattle.memtable.specs.Blocks.{block_entries, AreBlocks, IsKept}
 use Rattle.memtable.specs.declared.blocks.Blocks.{Blocks}
-use Rattle.memtable.specs.declared.slots.Slot.{Slot}
-use Rattle.memtable.specs.declared.staging.Size.{Size}
+use Rattle.memtable.specs.declared.size.Size.{Size}
 use Rattle.memtable.proofs.EntryLists.{stood_len, bytes-put, stood_within, over_rising, each-over}
 
 -- ---- the size of one entry
@@ -54,47 +53,79 @@ entry_small e is =
 
 -- ---- the size of a list
 
-slot_len-stood : (o : Option (Bor Slot)) (name : List ℕ) → IfSome o (λ slot. slot.now.text.items ≡ name) → slot_len o ≡ stood_len name (option_map (λ slot. (slot_entry slot.now).1) o)
-slot_len-stood None name h = refl
-slot_len-stood (Some slot) name h = ap (λ (n : List ℕ). entry_len (n, (slot_entry slot.now).1)) h
+stood_as_len : (name : List ℕ) (o : Option (Option (List ℕ))) → or_zero (stood_bytes name o) ≡ stood_len name o
+stood_as_len name None = refl
+stood_as_len name (Some v) = refl
 
-mapped_some : {A B : Type 0} (f : A → B) (o : Option A) → is_some (option_map f o) ≡ is_some o
-mapped_some f None = refl
-mapped_some f (Some x) = refl
+stood_some : (name : List ℕ) (o : Option (Option (List ℕ))) → is_some (stood_bytes name o) ≡ is_some o
+stood_some name None = refl
+stood_some name (Some v) = refl
 
-module _ (es : List Entry) (name : List ℕ) (o : Option (Bor Slot)) (found : option_map (λ slot. (slot_entry slot.now).1) o ≡ entry_of_key es name) (named : IfSome o (λ slot. slot.now.text.items ≡ name)) where
-  stood : slot_len o ≡ stood_len name (entry_of_key es name)
-  stood = slot_len-stood o name named ∙ ap (stood_len name) found
+-- an entry in the place of one of so many bytes
+module _ (es : List Entry) (name : List ℕ) (replaced : Option ℕ) (found : replaced ≡ stood_bytes name (entry_of_key es name)) where
+  stood : or_zero replaced ≡ stood_len name (entry_of_key es name)
+  stood = ap or_zero found ∙ stood_as_len name (entry_of_key es name)
 
-  pub replaced_within : (size : Size) → IsSizeOf size es → slot_len o ≤ size.bytes
+  pub replaced_within : (size : Size) → IsSizeOf size es → or_zero replaced ≤ size.bytes
   replaced_within size is = let e = stood in let h = stood_within name es in let b = is.bytes in omega (arith, e, h, b)
 
-  pub size_step : (v : Option (List ℕ)) (size new : Size) → IsRising es → IsSizeOf size es → new.entries ≡ cond (is_some o) size.entries (size.entries + 1) → new.bytes + slot_len o ≡ size.bytes + entry_len (name, v) → IsSizeOf new (put byte_cmp name v es)
+  pub size_step : (v : Option (List ℕ)) (size new : Size) → IsRising es → IsSizeOf size es → new.entries ≡ cond (is_some replaced) size.entries (size.entries + 1) → new.bytes + or_zero replaced ≡ size.bytes + entry_len (name, v) → IsSizeOf new (put byte_cmp name v es)
   size_step v size new r is count bytes =
       record {
         entries =
-            count ∙ ap (λ (n : ℕ). cond (is_some o) n (n + 1)) is.entries
-            ∙ ap (λ (b : Bool). cond b (length es) (length es + 1)) (sym (mapped_some (λ (slot : Bor Slot). (slot_entry slot.now).1) o) ∙ ap is_some found)
+            count ∙ ap (λ (n : ℕ). cond (is_some replaced) n (n + 1)) is.entries
+            ∙ ap (λ (b : Bool). cond b (length es) (length es + 1)) (ap is_some found ∙ stood_some name (entry_of_key es name))
             ∙ sym (length-put byte_cmp nat_list_cmp_total name v es r);
         bytes = let e = stood in let h = bytes-put name v es r in let b = is.bytes in omega (arith, e, h, b, bytes);
       }
+
+few_left : (b : Bool) (n new r before : ℕ) → new ≡ cond b n (n + 1) → before ≡ suc r → n + before ≤ 2 ^ 65 → new + r ≤ 2 ^ 65
+few_left true n new r before e len h = omega arith
+few_left false n new r before e len h = omega arith
+
+-- sizes on the way stay small
+pub few_more : (replaced : Option ℕ) (size new : Size) (r before : ℕ) → new.entries ≡ cond (is_some replaced) size.entries (size.entries + 1) → before ≡ suc r → size.entries + before ≤ 2 ^ 65 → new.entries + r ≤ 2 ^ 65
+few_more replaced size new r before e len h = few_left (is_some replaced) size.entries new.entries r before e len h
+
+pub small_more : (n new old one r before : ℕ) → new + old ≡ n + one → one ≤ 2 ^ 18 → before ≡ suc r → n + 2 ^ 18 * before ≤ 2 ^ 83 → new + 2 ^ 18 * r ≤ 2 ^ 83
+small_more n new old one r before e small len h = omega arith
+
+-- ---- entries put over others
+
+longer : (b : Bool) (n l : ℕ) → l ≡ cond b n (n + 1) → l ≤ n + 1
+longer true n l e = omega (arith, e)
+longer false n l e = omega (arith, e)
+
+pub over_len : (es base : List Entry) → IsRising base → length (over es base) ≤ length base + length es
+over_len [] base r = omega arith
+over_len (e ∷ es) base r =
+    let h = over_len es base r in
+    let one = longer _ (length (over es base)) _ (length-put byte_cmp nat_list_cmp_total e.0 e.1 (over es base) (over_rising es base r)) in
+    omega (arith, h, one)
+
+pub over_bytes : (es base : List Entry) → IsRising base → AllByRecursion IsEntry es → bytes_of (over es base) ≤ bytes_of base + 2 ^ 18 * length es
+over_bytes [] base r all = omega arith
+over_bytes (e ∷ es) base r all =
+    let h = over_bytes es base r all.1 in
+    let one = bytes-put e.0 e.1 (over es base) (over_rising es base r) in
+    let small = entry_small e all.0 in
+    omega (arith, h, one, small)
 
 -- ---- what a memtable keeps
 
 pub within_limits : (es : List Entry) (size : Size) → IsSizeOf size es → size.entries ≤ 100000 → size.bytes ≤ 67108864 → IsWithinLimits es
 within_limits es size is few small = record { entries = let e = is.entries in omega (arith, e); bytes = let b = is.bytes in omega (arith, b) }
 
-pub kept : (blocks : Blocks) (staged base es : List Entry) (size : Size) → block_entries blocks.filled.items ≡ over staged base → over staged base ≡ es → IsEntryList base → AllByRecursion IsEntry staged → IsSizeOf size es → size.entries ≤ 100000 → size.bytes ≤ 67108864 → AreBlocks blocks → IsKept blocks size.entries size.bytes
-kept blocks staged base es size made edited list limits is few small are =
-    let same = made ∙ edited in
+pub kept : (blocks : Blocks) (staged base : List Entry) (size : Size) → block_entries blocks.filled.items ≡ over staged base → IsEntryList base → AllByRecursion IsEntry staged → IsSizeOf size (over staged base) → IsWithinLimits (over staged base) → AreBlocks blocks → IsKept blocks size.entries size.bytes
+kept blocks staged base size made list limits is within are =
     record {
       list =
           record {
             rising = subst (λ (xs : List Entry). IsRising xs) (sym made) (over_rising staged base list.rising);
             each = subst (λ (xs : List Entry). AllByRecursion IsEntry xs) (sym made) (each-over staged base limits list.each);
           };
-      limits = subst (λ (xs : List Entry). IsWithinLimits xs) (sym same) (within_limits es size is few small);
-      count = is.entries ∙ ap length (sym same);
-      bytes = is.bytes ∙ ap bytes_of (sym same);
+      limits = subst (λ (xs : List Entry). IsWithinLimits xs) (sym made) within;
+      count = is.entries ∙ ap length (sym made);
+      bytes = is.bytes ∙ ap bytes_of (sym made);
       blocks = are;
     }

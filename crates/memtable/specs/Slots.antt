@@ -1,14 +1,12 @@
 -- The entries that slots stand for.
-use Rattle.std.specs.Prelude.{◌≡◌, ◌+◌, ℕ, zero, suc, Bool, false, List, [], ◌∷◌, map, length, Option, Some, None, option_map}
+use Rattle.std.specs.Prelude.{◌+◌, ℕ, zero, suc, Bool, false, List, [], ◌∷◌, map, Option, Some, None, option_map}
 use Rattle.std.specs.declared.boxed.Box.{Box}
 use Rattle.std.specs.Ordering.{is_eq}
 use Rattle.std.specs.FinMap.Entries.{put}
 use Rattle.cell_key.specs.Keys.{byte_cmp}
-use Rattle.cell_key.specs.Entries.{Entry, entry_len}
+use Rattle.cell_key.specs.Entries.{Entry}
 use Rattle.std.specs.Borrow.{Bor}
 use Rattle.memtable.specs.declared.slots.Slot.{Slot}
-use Rattle.memtable.specs.declared.staging.Size.{Size}
-use Rattle.memtable.specs.Edits.{bytes_of}
 
 abbrev pub slot_entry : Slot → Entry
 slot_entry slot = (slot.text.items, option_map (λ value. value.items) slot.value)
@@ -42,16 +40,6 @@ is_named name (e ∷ es) (suc i) = is_named name es i
 abbrev pub over : List Entry → List Entry → List Entry
 over [] base = base
 over (e ∷ es) base = put byte_cmp e.0 e.1 (over es base)
-
--- the bytes of an entry that may be there
-abbrev pub slot_len : Option (Bor Slot) → ℕ
-slot_len None = 0
-slot_len (Some slot) = entry_len (slot_entry slot.now)
-
--- a size is that of a list
-pub record IsSizeOf (size : Size) (es : List Entry) : Type 0 where
-  pub entries : size.entries ≡ length es
-  pub bytes : size.bytes ≡ bytes_of es
 
 -- a stamp and the bytes of a value that is lent
 abbrev pub lent_version : ℕ × Bor (List ℕ) → ℕ × List ℕ

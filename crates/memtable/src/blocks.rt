@@ -1,15 +1,18 @@
 //! Entries in blocks, in the byte order of their texts. To make place, pointers to some entries of one block
 //! are moved, and at times those to the blocks.
 
-ghost use Rattle.std.specs.Prelude.{◌≡◌, ℕ, ◌+◌, ◌≤◌, ◌<◌, [], ◌∷◌, ◌++◌, IfSome, OnOk, option_map, length, vec_len, vec_capacity};
+ghost use Rattle.std.specs.Prelude.{◌≡◌, ℕ, ◌+◌, ◌≤◌, ◌<◌, ◌^◌, [], ◌∷◌, ◌++◌, IfSome, OnOk, option_map, length, vec_len, vec_capacity};
 ghost use Rattle.std.specs.List.{AllByRecursion};
 ghost use Rattle.std.specs.FinMap.Entries.{put as put_entry};
-ghost use Rattle.cell_key.specs.Keys.{byte_cmp};
-ghost use Rattle.cell_key.specs.Entries.{IsRising, entries_from, entry_of_key};
+ghost use Rattle.cell_key.specs.Keys.{byte_cmp, text};
+ghost use Rattle.cell_key.specs.Entries.{IsEntry, IsRising, entries_from, entry_of_key};
 ghost use Rattle.memtable.specs.Slots.{slot_entry, slot_entries, first_value, over};
+ghost use Rattle.memtable.specs.Order.{key_of};
+ghost use Rattle.memtable.specs.Sizes.{IsSizeOf, stood_bytes};
 ghost use Rattle.memtable.specs.Blocks.{block_entries, lists_of, list_of, ends_below, IsBlockPlace, IsCounted, IsBlock, IsSpare, IsFullAt, AreBlocks, HasRoom};
 
-use crate::order::Sought;
+use crate::order::{Sought, Version};
+use crate::size::Size;
 use crate::slots::{self, Slot};
 use std::alloc::{AllocError, Global};
 
@@ -61,6 +64,18 @@ pub(crate) fn find<S: Sought>(blocks: &[Block], sought: S) -> Option<&Slot>
 {
     let block = blocks.get(place(blocks, sought))?;
     slots::find(&block.slots, sought)
+}
+
+/// How many bytes the entry of a text has, if there is one.
+pub(crate) fn stood_bytes(blocks: &[Block], text: &[u8]) -> Option<u128>
+    requires rising { IsRising (block_entries blocks.now) }
+    requires blocks { AllByRecursion IsBlock blocks.now }
+    ensures { result ≡ stood_bytes text.now (entry_of_key (block_entries blocks.now) text.now) }
+{
+    match find(blocks, text) {
+        Some(slot) => Some(slot.len()),
+        None => None,
+    }
 }
 
 /// What isn't below what is sought: the rest of one block, and the blocks after that.
@@ -119,6 +134,19 @@ pub(crate) fn first_value_from<S: Sought>(blocks: &[Block], sought: S) -> Option
     match slots::first_value(rest) {
         Some(slot) => Some(slot),
         None => first_value(later),
+    }
+}
+
+/// The first entry that isn't below the text of a version and has a value.
+pub(crate) fn first_value_at<'a>(blocks: &'a [Block], sought: Version<'_>) -> Option<&'a Slot>
+    requires rising { IsRising (block_entries blocks.now) }
+    requires blocks { AllByRecursion IsBlock blocks.now }
+    ensures { option_map (λ slot. slot_entry slot.now) result
+        ≡ first_value (entries_from (text (key_of sought.entry)) (block_entries blocks.now)) }
+{
+    match sought.short_text() {
+        Some(text) => first_value_from(blocks, text.as_slice()),
+        None => first_value_from(blocks, sought),
     }
 }
 
@@ -204,58 +232,77 @@ fn open(blocks: &mut Blocks, slot: Box<Slot>)
     blocks.filled.push(Block { slots, values }).unwrap();
 }
 
-/// Puts an entry at its place in a block, where there is room for one more. An entry of the same text goes.
-fn put_in(block: &mut Block, slot: Box<Slot>)
+/// Puts an entry at its place in a block, where there is room for one more. An entry of the same text goes: how many
+/// bytes it had.
+fn put_in(block: &mut Block, slot: Box<Slot>) -> Option<u128>
     requires rising { IsRising (list_of block.old) }
     requires room { vec_len block.old.slots < vec_capacity block.old.slots }
     requires few { vec_len block.old.slots < 128 }
     requires counted { IsCounted block.old }
     ensures entries { list_of block.new
         ≡ put_entry byte_cmp (slot_entry slot.value).0 (slot_entry slot.value).1 (list_of block.old) }
+    ensures replaced { result ≡ stood_bytes (slot_entry slot.value).0
+        (entry_of_key (list_of block.old) (slot_entry slot.value).0) }
     ensures some { 1 ≤ vec_len block.new.slots }
     ensures len { vec_len block.new.slots ≤ vec_len block.old.slots + 1 }
     ensures capacity { vec_capacity block.old.slots ≤ vec_capacity block.new.slots }
     ensures counted { IsCounted block.new }
 {
     block.values += slot.value_count();
-    if let Some(old) = slots::put(&mut block.slots, slot) {
-        block.values -= old.value_count();
+    match slots::put(&mut block.slots, slot) {
+        Some(old) => {
+            block.values -= old.value_count();
+            Some(old.len())
+        }
+        None => None,
     }
 }
 
-/// Puts an entry at its place, where there is room for one more. An entry of the same text goes.
-pub(crate) fn put(blocks: &mut Blocks, slot: Box<Slot>)
+/// Puts an entry at its place, where there is room for one more. An entry of the same text goes: how many bytes it had.
+pub(crate) fn put(blocks: &mut Blocks, slot: Box<Slot>) -> Option<u128>
     requires rising { IsRising (block_entries blocks.old.filled.items) }
     requires blocks { AreBlocks blocks.old }
     requires room { HasRoom 1 blocks.old }
     ensures entries { block_entries blocks.new.filled.items
         ≡ put_entry byte_cmp (slot_entry slot.value).0 (slot_entry slot.value).1
         (block_entries blocks.old.filled.items) }
+    ensures replaced { result ≡ stood_bytes (slot_entry slot.value).0
+        (entry_of_key (block_entries blocks.old.filled.items) (slot_entry slot.value).0) }
     ensures blocks { AreBlocks blocks.new }
     ensures room { (n : ℕ) → HasRoom (n + 1) blocks.old → HasRoom n blocks.new }
 {
     let count = blocks.filled.len();
     if count == 0 {
         open(blocks, slot);
-        return;
+        return None;
     }
     let at = place(&blocks.filled, slot.text.as_slice()).min(count - 1);
-    put_in(&mut blocks.filled[at], slot);
+    let replaced = put_in(&mut blocks.filled[at], slot);
     if blocks.filled[at].slots.len() == BLOCK_ROOM {
         split(blocks, at);
     }
+    replaced
 }
 
-/// Puts entries over others, where there is room for all of them.
-pub(crate) fn put_all(blocks: &mut Blocks, mut staged: Vec<Box<Slot>>)
+/// Puts entries over others, where there is room for all of them. Returns the size of all.
+pub(crate) fn put_all(blocks: &mut Blocks, mut staged: Vec<Box<Slot>>, before: Size) -> Size
     requires rising { IsRising (block_entries blocks.old.filled.items) }
     requires blocks { AreBlocks blocks.old }
     requires room { HasRoom (vec_len staged) blocks.old }
+    requires limits { AllByRecursion IsEntry (slot_entries staged.items) }
+    requires before { IsSizeOf before (block_entries blocks.old.filled.items) }
+    requires few { before.entries ≤ 2 ^ 64 }
+    requires small { before.bytes ≤ 2 ^ 64 }
+    ensures size { IsSizeOf result
+        (over (slot_entries staged.items) (block_entries blocks.old.filled.items)) }
     ensures entries { block_entries blocks.new.filled.items
         ≡ over (slot_entries staged.items) (block_entries blocks.old.filled.items) }
     ensures blocks { AreBlocks blocks.new }
 {
+    let mut size = before;
     while let Some(slot) = staged.pop() {
-        put(blocks, slot);
+        let added = slot.len();
+        size = size.with(added, put(blocks, slot));
     }
+    size
 }

@@ -4,6 +4,7 @@
 mod blocks;
 mod cursor;
 mod order;
+mod size;
 mod slots;
 mod staging;
 mod table;

@@ -1,13 +1,44 @@
-//! Comparing what is sought with texts. The text of a key isn't made, so this takes no memory.
+//! Comparing what is sought with texts. The text of a key is made on the stack where it is short, and else not at all,
+//! so this takes no memory.
 
-ghost use Rattle.std.specs.Prelude.{◌≡◌, ◌≢◌, ◌<◌, ◌^◌, ℕ, List, ◌++◌, length, IfSome, IfNone, MatchResult};
-ghost use Rattle.cell_key.specs.Keys.{byte_cmp, text};
+ghost use Rattle.std.specs.Prelude.{◌≡◌, ◌≢◌, ◌<◌, ◌≤◌, ◌^◌, ℕ, List, ◌++◌, drop, length, IfSome, IfNone, OnOk, MatchResult};
+ghost use Rattle.std.specs.Ordering.{ordering_then};
+ghost use Rattle.cell_key.specs.Keys.{byte_cmp, qualifier_name, text};
 ghost use Rattle.cell_key.specs.Texts.{escaped, ended, stamp_text};
 ghost use Rattle.memtable.specs.Order.{ComparesAs, ComparesTo, at_stamp, column_text, key_of};
 
+use arrayvec::{ArrayVec, CapacityError};
 use byteorder::{BigEndian, ByteOrder};
 use cell_key::{CellKey, Family, Qualifier, Row, Stamp};
 use std::cmp::Ordering;
+
+/// The order of the first eight bytes of two texts.
+fn compare_fronts(a: &[u8], b: &[u8]) -> Ordering
+    requires first { 8 ≤ length a.now }
+    requires second { 8 ≤ length b.now }
+    ensures { byte_cmp a.now b.now ≡ ordering_then result (byte_cmp (drop 8 a.now) (drop 8 b.now)) }
+{
+    let front = BigEndian::read_u64(a);
+    let other = BigEndian::read_u64(b);
+    front.cmp(&other)
+}
+
+/// The byte order of two texts, by eight bytes at once while both have as many.
+pub(crate) fn compare_texts(a: &[u8], b: &[u8]) -> Ordering
+    ensures { result ≡ byte_cmp a.now b.now }
+{
+    let mut left = a;
+    let mut right = b;
+    'fronts: while left.len() >= 8 && right.len() >= 8 {
+        let order = compare_fronts(left, right);
+        if order.is_ne() {
+            return order;
+        }
+        left = left.split_at(8).1;
+        right = right.split_at(8).1;
+    }
+    left.cmp(&right)
+}
 
 /// What follows the part at the front of the bytes. Where they don't begin with it, how whatever begins
 /// with it compares with them.
@@ -54,6 +85,14 @@ fn after_row<'a>(row: &[u8], bytes: &'a [u8]) -> Result<&'a [u8], Ordering>
     after_part(b"\0\0", left)
 }
 
+/// Appends a part and its end. Refused where there is no room.
+fn push_ended(out: &mut ShortText, part: &[u8]) -> Result<(), CapacityError>
+    ensures { OnOk result (out.new.items ≡ out.old.items ++ ended part.now) }
+{
+    out.try_extend_from_slice(part)?;
+    out.try_extend_from_slice(b"\0\0")
+}
+
 /// The stamp of a text.
 fn stamp_of(bytes: &[u8]) -> Option<Stamp>
     ensures some { IfSome result (λ stamp. bytes.now ≡ stamp_text stamp) }
@@ -68,6 +107,9 @@ fn stamp_of(bytes: &[u8]) -> Option<Stamp>
     ]);
     Some(u64::MAX - falling)
 }
+
+/// A text that stands on the stack.
+pub(crate) type ShortText = ArrayVec<u8, 96>;
 
 /// A version of a cell's column, whose names are lent.
 #[derive(Clone, Copy)]
@@ -88,6 +130,35 @@ impl Version<'_> {
         let after_row = after_row(self.row.as_bytes(), bytes)?;
         let after_family = after_end(self.family.as_bytes(), after_row)?;
         after_end(self.qualifier.name().as_bytes(), after_family)
+    }
+
+    /// Appends the parts of the text with the row as it is. Refused where there is no room.
+    fn push_parts(self, out: &mut ShortText) -> Result<(), CapacityError>
+        ensures { OnOk result (out.new.items ≡ out.old.items ++ (ended self.entry.row.now
+            ++ (ended self.entry.family.now ++ (ended (qualifier_name self.entry.qualifier)
+            ++ stamp_text self.entry.stamp)))) }
+    {
+        let stamp = self.stamp;
+        let mut falling = [0u8; 8];
+        BigEndian::write_u64(&mut falling, u64::MAX - stamp);
+        push_ended(out, self.row.as_bytes())?;
+        push_ended(out, self.family.as_bytes())?;
+        push_ended(out, self.qualifier.name().as_bytes())?;
+        out.try_extend_from_slice(falling.as_slice())
+    }
+
+    /// The text, if it has at most 96 bytes and the row has no byte 0.
+    pub(crate) fn short_text(self) -> Option<ShortText>
+        ensures { IfSome result (λ made. made.items ≡ text (key_of self.entry)) }
+    {
+        if self.row.as_bytes().contains(&0) {
+            return None;
+        }
+        let mut out = ArrayVec::new();
+        match self.push_parts(&mut out) {
+            Ok(()) => Some(out),
+            Err(_full) => None,
+        }
     }
 
     /// The order as `Ok` where the stamps decide, and else as `Err`.
@@ -131,7 +202,7 @@ impl Sought for &[u8] {
     ghost name = { λ sought. sought.now };
 
     fn compare(&self, text: &[u8]) -> Ordering {
-        (*self).cmp(&text)
+        compare_texts(self, text)
     }
 }
 

@@ -6,7 +6,7 @@ ghost use Rattle.cell_key.specs.Keys.{byte_cmp};
 ghost use Rattle.cell_key.specs.Entries.{IsPlace, IsRising, entry_of_key, lent_entry, entry_len};
 ghost use Rattle.memtable.specs.Slots.{slot_entry, slot_entries, is_named, first_value, one_value, value_count};
 
-use crate::order::Sought;
+use crate::order::{Sought, compare_texts};
 use cell_key::EntryRef;
 use std::mem;
 
@@ -68,7 +68,7 @@ fn is_named(slots: &[Box<Slot>], at: usize, text: &[u8]) -> bool
     ensures { result ≡ is_named text.now (slot_entries slots.now) at }
 {
     match slots.get(at) {
-        Some(slot) => text.cmp(&slot.text.as_slice()).is_eq(),
+        Some(slot) => compare_texts(text, &slot.text).is_eq(),
         None => false,
     }
 }
@@ -127,6 +127,7 @@ pub(crate) fn put(slots: &mut Vec<Box<Slot>>, slot: Box<Slot>) -> Option<Box<Slo
         (slot_entries slots.old.items) }
     ensures replaced { option_map (λ old. (slot_entry old.value).1) result
         ≡ entry_of_key (slot_entries slots.old.items) slot.value.text.items }
+    ensures named { IfSome result (λ old. old.value.text.items ≡ slot.value.text.items) }
     ensures some { 1 ≤ vec_len slots.new }
     ensures len { vec_len slots.new ≤ vec_len slots.old + 1 }
     ensures capacity { vec_capacity slots.old ≤ vec_capacity slots.new }

@@ -1,18 +1,22 @@
 //! The memtable: recent writes, in the order of their keys.
 
-ghost use Rattle.std.specs.Prelude.{◌≡◌, ◌↔◌, [], length, IsTrue, OnOk, OnErr, IfErr, IfSome, IsErrOf, option_map, None, ◌⊎◌};
+ghost use Rattle.std.specs.Prelude.{◌≡◌, ◌↔◌, ◌≤◌, ◌^◌, [], length, IsTrue, OnOk, OnErr, IfErr, IfSome, IsErrOf, option_map, None, ◌⊎◌};
 ghost use Rattle.std.specs.List.{AllByRecursion};
 ghost use Rattle.cell_key.specs.Keys.{text};
 ghost use Rattle.cell_key.specs.Cells.{IsEditOf, IsNewest, version};
 ghost use Rattle.cell_key.specs.Versions.{IsVersion};
-ghost use Rattle.cell_key.specs.Entries.{IsEntryList, cells_of, lent_entry, entry_of_key, entries_from};
-ghost use Rattle.memtable.specs.Slots.{lent_version};
+ghost use Rattle.cell_key.specs.Entries.{IsEntry, IsEntryList, IsRising, cells_of, lent_entry, entry_of_key, entries_from};
+ghost use Rattle.memtable.specs.Slots.{lent_version, over, slot_entries};
+ghost use Rattle.memtable.specs.Sizes.{IsSizeOf};
+ghost use Rattle.memtable.specs.Blocks.{block_entries, IsBlock};
 ghost use Rattle.memtable.specs.Edits.{with_edits, bytes_of, IsWithinLimits, HasStoredKey};
 
-use crate::blocks::{self, Blocks};
+use crate::blocks::{self, Block, Blocks};
 use crate::cursor::Cursor;
 use crate::order::Version;
-use crate::staging::{self, Size};
+use crate::size::{self, Size};
+use crate::slots::Slot;
+use crate::staging;
 use cell_key::{CellKey, Edit, EntryRef, Family, Qualifier, Refusal, Row, Stamp};
 use std::alloc::Global;
 use std::marker::Model;
@@ -39,12 +43,32 @@ impl Model for Memtable {
     ghost invariant = { λ table. IsKept table.blocks table.len table.bytes };
 }
 
+/// Whether a table is within the limits once entries are put over it. Where there is room for them whatever they
+/// replace, they aren't looked up.
+fn fit(table: &[Block], before: Size, staged: &[Box<Slot>]) -> bool
+    requires rising { IsRising (block_entries table.now) }
+    requires blocks { AllByRecursion IsBlock table.now }
+    requires before { IsSizeOf before (block_entries table.now) }
+    requires few { before.entries ≤ 2 ^ 64 }
+    requires small { before.bytes ≤ 2 ^ 64 }
+    requires staged { IsRising (slot_entries staged.now) }
+    requires limits { AllByRecursion IsEntry (slot_entries staged.now) }
+    ensures { IsTrue result
+        ↔ IsWithinLimits (over (slot_entries staged.now) (block_entries table.now)) }
+{
+    if before.has_room(staged.len()) {
+        return true;
+    }
+    let size = staging::size_with(table, before, staged);
+    size.entries <= Memtable::MOST_ENTRIES as u128 && size.bytes <= Memtable::MOST_BYTES as u128
+}
+
 impl Memtable {
     /// The most entries.
-    pub const MOST_ENTRIES: usize = 100_000;
+    pub const MOST_ENTRIES: usize = size::MOST_ENTRIES;
 
     /// The most bytes of all entries together, as `entry_bytes` counts them.
-    pub const MOST_BYTES: usize = 67_108_864;
+    pub const MOST_BYTES: usize = size::MOST_BYTES;
 
     /// No entries. Takes no memory.
     pub fn new(alloc: Global) -> Memtable
@@ -129,7 +153,7 @@ impl Memtable {
             qualifier,
             stamp: hi,
         };
-        let slot = blocks::first_value_from(&self.blocks.filled, sought)?;
+        let slot = blocks::first_value_at(&self.blocks.filled, sought)?;
         let stamp = sought.stamp_in(&slot.text)?;
         if stamp < lo {
             return None;
@@ -163,14 +187,12 @@ impl Memtable {
             entries: self.len as u128,
             bytes: self.bytes as u128,
         };
-        let (staged, size) = staging::stage(self.alloc, &self.blocks.filled, before, row, edits)?;
-        if size.entries > Memtable::MOST_ENTRIES as u128
-            || size.bytes > Memtable::MOST_BYTES as u128
-        {
+        let staged = staging::stage(self.alloc, row, edits)?;
+        if !fit(&self.blocks.filled, before, &staged) {
             return Err(Refusal::MemtableFull);
         }
         blocks::make_room(self.alloc, &mut self.blocks, staged.len())?;
-        blocks::put_all(&mut self.blocks, staged);
+        let size = blocks::put_all(&mut self.blocks, staged, before);
         self.len = size.entries as usize;
         self.bytes = size.bytes as usize;
         Ok(())

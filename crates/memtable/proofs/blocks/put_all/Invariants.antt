@@ -1,6 +1,8 @@
-use Rattle.std.proofs.Common.{◌≡◌, vec_len}
-use Rattle.cell_key.specs.Entries.{IsRising}
+use Rattle.std.proofs.Common.{◌≡◌, ◌+◌, ◌*◌, ◌≤◌, ◌^◌, vec_len}
+use Rattle.std.specs.List.{AllByRecursion}
+use Rattle.cell_key.specs.Entries.{IsEntry, IsRising}
 use Rattle.memtable.specs.Slots.{slot_entries, over}
+use Rattle.memtable.specs.Sizes.{IsSizeOf}
 use Rattle.memtable.specs.Blocks.{block_entries, AreBlocks, HasRoom}
 use Rattle.memtable.proofs.blocks.put_all.Given as goal
 
@@ -12,6 +14,10 @@ invariant-loop-slot l =
       entries : over (slot_entries l.staged.items) (block_entries l.blocks.filled.items) ≡ over (slot_entries l.fn.staged.items) (block_entries l.fn.blocks.filled.items);
       blocks : AreBlocks l.blocks;
       room : HasRoom (vec_len l.staged) l.blocks;
+      limits : AllByRecursion IsEntry (slot_entries l.staged.items);
+      size : IsSizeOf l.size (block_entries l.blocks.filled.items);
+      few : l.size.entries + vec_len l.staged ≤ 2 ^ 65;
+      small : l.size.bytes + 2 ^ 18 * vec_len l.staged ≤ 2 ^ 83;
     }
 
 abbrev pub decreases-loop-slot : goal.decreases-loop-slot

@@ -1,8 +1,10 @@
-use Rattle.std.proofs.Common.{ap, ◌∙◌, arith}
+use Rattle.std.proofs.Common.{Some, List, ℕ, ap, ◌∙◌, arith}
 use Rattle.std.proofs.lemmas.List.{length-map}
 use Rattle.memtable.specs.declared.slots.Slot.{Slot}
 use Rattle.memtable.specs.Slots.{slot_entry, slot_entries, one_value}
 use Rattle.memtable.specs.Blocks.{list_of}
+use Rattle.memtable.specs.Sizes.{stood_bytes}
+use Rattle.cell_key.specs.Entries.{entry_len}
 use Rattle.memtable.proofs.EntryLists.{count-put}
 use Rattle.memtable.proofs.Values.{one_at_most, value_count-within}
 use Rattle.memtable.proofs.blocks.put_in.Goals as goal
@@ -27,6 +29,16 @@ overflow_sub-block c =
     let counted = c.requires.counted in
     omega (arith, made, one, gone, counted)
 
+pub returns-in-Some-clause-replaced : goal.returns-in-Some-clause-replaced
+returns-in-Some-clause-replaced c =
+    let name = c.args.slot.value.text.items in
+    let old = ap slot_entry c.deref-in-Some-2.ensures in
+    ap Some (c.len.ensures ∙ ap entry_len old ∙ ap (λ (n : List ℕ). entry_len (n, (slot_entry c.in-Some.old.value).1)) c.in-Some.ensures.named)
+    ∙ ap (stood_bytes name) c.in-Some.ensures.replaced
+
+pub returns-in-None-clause-replaced : goal.returns-in-None-clause-replaced
+returns-in-None-clause-replaced c = ap (stood_bytes c.args.slot.value.text.items) c.in-None.ensures.replaced
+
 pub returns-in-Some-clause-counted : goal.returns-in-Some-clause-counted
 returns-in-Some-clause-counted c =
     let slot = slot_entry c.args.slot.value in
@@ -36,10 +48,10 @@ returns-in-Some-clause-counted c =
     let counted = c.requires.counted in
     omega (arith, made, one, gone, counted)
 
-pub returns-in_default-clause-counted : goal.returns-in_default-clause-counted
-returns-in_default-clause-counted c =
+pub returns-in-None-clause-counted : goal.returns-in-None-clause-counted
+returns-in-None-clause-counted c =
     let slot = slot_entry c.args.slot.value in
-    let none = rw c.in_default.is at c.put.ensures.replaced in
+    let none = rw c.in-None.is at c.put.ensures.replaced in
     let made = count-put slot.0 slot.1 (list_of c.args.block.now) (slot_entries c.put.new.slots.items) _ c.requires.rising c.put.ensures.entries none in
     let one = c.value_count.ensures ∙ ap (λ (s : Slot). one_value (slot_entry s).1) c.deref.ensures in
     let counted = c.requires.counted in

@@ -1,7 +1,7 @@
 use Rattle.std.proofs.Common.{Some, refl, set, sym, ◌∙◌, ap, arith}
 use Rattle.memtable.specs.declared.slots.Slot.{Slot}
 use Rattle.memtable.specs.Slots.{slot_entry, slot_entries}
-use Rattle.cell_key.proofs.Finding.{found_at}
+use Rattle.cell_key.proofs.Finding.{equal, found_at, one_text}
 use Rattle.memtable.proofs.Places.{named_some, named_within, not_found, put_over, put_beside}
 use Rattle.memtable.proofs.slots.put.Goals as goal
 
@@ -52,3 +52,15 @@ returns-clause-replaced c =
     let place = rw (name, c.deref.ensures.value) at c.first_from-at.ensures.place in
     let named = rw (name2, c.deref-3.ensures.value) at c.if-is_named.ensures in
     sym (not_found (λ (s : _). slot_entry s.value) c.args.slot.value.text.items c.args.slots.now.items c.first_from-at.result c.requires.rising place (sym named))
+
+pub returns-then-is_named-clause-named : goal.returns-then-is_named-clause-named
+returns-then-is_named-clause-named c =
+    let entry = λ (s : _). slot_entry s.value in
+    let xs = c.args.slots.now.items in
+    let sought = c.args.slot.value.text.items in
+    let at = c.first_from-at.result in
+    let name2 = c.deref-5.ensures.value ∙ ap (λ (s : Slot). s.text.items) c.deref-4.ensures in
+    let named = rw (name2, c.deref-3.ensures.value) at c.if-is_named.ensures in
+    let within = named_within entry sought xs at (sym named) in
+    let same = sym (named_some entry sought xs at c.index_mut.result.now within c.index_mut.ensures.value) ∙ sym named in
+    ap (λ (s : _). (slot_entry s.value).0) c.replace.ensures.value ∙ sym (one_text sought (entry c.index_mut.result.now).0 (equal _ same))
