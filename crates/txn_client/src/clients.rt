@@ -247,9 +247,7 @@ impl Clients {
     {
         let cell = self.open_cell(start, row, family)?;
         let value = Value::new(self.alloc, value)?;
-        let Some(session) = self.sessions.get_mut(&start) else {
-            return Err(Refusal::UnknownSession);
-        };
+        let session = self.sessions.get_mut(&start).unwrap();
         session.writes.set(Write { cell, value })
     }
 

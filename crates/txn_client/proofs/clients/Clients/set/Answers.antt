@@ -1,7 +1,9 @@
 use Rattle.std.proofs.Common.{◌≡◌, ◌≤◌, ℕ, List, length, Option, refl, sym, ap, subst, ◌∙◌}
 use Rattle.cell_key.specs.declared.refusals.Refusal.{Refusal}
 use Rattle.txn_client.proofs.Exact.{cell_unknown, is_open}
-use Rattle.std.specs.Prelude.{IsSome}
+use Rattle.std.specs.Prelude.{IsSome, Some, None}
+use Rattle.std.specs.Borrow.{MutBor}
+use Rattle.std.specs.Option.{option_copied_mut}
 use Rattle.std.specs.Ordering.{nat_cmp}
 use Rattle.std.specs.BTreeMap as btree
 use Rattle.std.specs.declared.result.Result.TheVariants.{Err}
@@ -28,14 +30,15 @@ returns-in_err-value-clause-step c = λ cells last.
 
 pub returns-clause-step : goal.returns-clause-step
 returns-clause-step c = λ cells last.
-    let was = sym c.in-Some.ensures.value in
-    let there : IsSome (btree.get nat_cmp c.args.self.now.sessions c.args.start) = subst (λ (o : Option Session). IsSome o) c.in-Some.ensures.value refl in
-    let w = record c.in-Some.session.now { writes = c.set.new.self } in
+    let session = c.unwrap-session.result.now in
+    let was = sym c.get_mut.ensures.value ∙ ap option_copied_mut c.unwrap-session.ensures in
+    let there : IsSome (btree.get nat_cmp c.args.self.now.sessions c.args.start) = subst (λ (o : Option Session). IsSome o) (sym was) refl in
+    let w = record session { writes = c.set.new.self } in
     let lent = c.get_mut.follows.holds w in
     let same = c.in_ok-cell.ensures.ok in
     let bytes = c.in_ok-value.ensures.ok in
     subst (λ (p : Cell × List ℕ). Steps cells c.args.self.now last (machine.Set c.args.start p.0 p.1) (result_reply (λ _. machine.SetDone) c.set.result) cells (record c.args.self.now { sessions = c.get_mut.follows.lender w }) last) (λ i. (same i, bytes i))
-    (sets_at cells c.args.self.now (record c.args.self.now { sessions = c.get_mut.follows.lender w }) last c.args.start c.in-Some.session.now w c.in_ok-cell.cell c.in_ok-value.value was (open_same c.args.self.now c.args.start c.in-Some.session.now was c.in_ok-cell.ensures.open)
+    (sets_at cells c.args.self.now (record c.args.self.now { sessions = c.get_mut.follows.lender w }) last c.args.start session w c.in_ok-cell.cell c.in_ok-value.value was (open_same c.args.self.now c.args.start session was c.in_ok-cell.ensures.open)
     refl refl refl (subst (λ (x : Cell). IsRow x.row) (sym same) c.in_ok-cell.ensures.row) (subst (λ (x : Cell). IsFamily x.family) (sym same) c.in_ok-cell.ensures.family)
     (subst (λ (bs : List ℕ). length bs ≤ 65536) (sym bytes) c.in_ok-value.ensures.valid) refl (lent.3 there).0 lent.2
     c.set.result c.set.ensures.ok c.set.ensures.room c.set.ensures.err c.set.ensures.refusal c.set.ensures.full)
@@ -59,11 +62,19 @@ returns-in_err-value-clause-err c = rw (as_err c.from_residual-in_err-value.resu
 
 pub returns-clause-err : goal.returns-clause-err
 returns-clause-err c =
-    let was = sym c.in-Some.ensures.value in
-    let there : IsSome (btree.get nat_cmp c.args.self.now.sessions c.args.start) = subst (λ (o : Option Session). IsSome o) c.in-Some.ensures.value refl in
-    let w = record c.in-Some.session.now { writes = c.set.new.self } in
+    let session = c.unwrap-session.result.now in
+    let was = sym c.get_mut.ensures.value ∙ ap option_copied_mut c.unwrap-session.ensures in
+    let there : IsSome (btree.get nat_cmp c.args.self.now.sessions c.args.start) = subst (λ (o : Option Session). IsSome o) (sym was) refl in
+    let w = record session { writes = c.set.new.self } in
     let lent = c.get_mut.follows.holds w in
-    on_err_then _ _ c.set.result (λ (same : c.set.new.self ≡ c.in-Some.session.now.writes). record {
+    on_err_then _ _ c.set.result (λ (same : c.set.new.self ≡ session.writes). record {
       top = refl;
-      each = same_each (btree.get nat_cmp c.args.self.now.sessions) (btree.get nat_cmp (c.get_mut.follows.lender w)) c.args.start c.in-Some.session.now w was (ap (λ ws. record c.in-Some.session.now { writes = ws }) same) (lent.3 there).0;
+      each = same_each (btree.get nat_cmp c.args.self.now.sessions) (btree.get nat_cmp (c.get_mut.follows.lender w)) c.args.start session w was (ap (λ ws. record session { writes = ws }) same) (lent.3 there).0;
     }) c.set.ensures.err
+
+there_mut : (o : Option (MutBor Session)) (session : Session) → option_copied_mut o ≡ Some session → IsSome o
+there_mut None session e = cc
+there_mut (Some lent) session e = refl
+
+pub unwrap-session-requires : goal.unwrap-session-requires
+unwrap-session-requires c = there_mut c.get_mut.result c.in_ok-cell.ensures.open.0 (c.get_mut.ensures.value ∙ c.in_ok-cell.ensures.open.1)
