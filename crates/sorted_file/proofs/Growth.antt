@@ -15,16 +15,16 @@ append-nil (x ∷ xs) = ap (λ (l : List _). x ∷ l) (append-nil xs)
 flat : List (List Entry) → List Entry
 flat blocks = flat_map (λ block. block) blocks
 
-flat-last : (blocks : List (List Entry)) (es : List Entry) → flat_map (λ block. block) (blocks ++ es ∷ []) ≡ flat_map (λ block. block) blocks ++ es
+pub flat-last : (blocks : List (List Entry)) (es : List Entry) → flat_map (λ block. block) (blocks ++ es ∷ []) ≡ flat_map (λ block. block) blocks ++ es
 flat-last blocks es = flat_map-append (λ block. block) blocks (es ∷ []) ∙ ap (λ (l : List Entry). flat_map (λ block. block) blocks ++ l) (append-nil es)
 
-body-last : (blocks : List (List Entry)) (es : List Entry) → body (blocks ++ es ∷ []) ≡ body blocks ++ block_bytes es
+pub body-last : (blocks : List (List Entry)) (es : List Entry) → body (blocks ++ es ∷ []) ≡ body blocks ++ block_bytes es
 body-last blocks es = flat_map-append block_bytes blocks (es ∷ []) ∙ ap (λ (l : List ℕ). body blocks ++ l) (append-nil (block_bytes es))
 
 block_bytes-last : (es : List Entry) (e : Entry) → block_bytes (es ++ e ∷ []) ≡ block_bytes es ++ spelled e
 block_bytes-last es e = flat_map-append spelled es (e ∷ []) ∙ ap (λ (l : List ℕ). block_bytes es ++ l) (append-nil (spelled e))
 
-index-last : (at : ℕ) (blocks : List (List Entry)) (es : List Entry) → index at (blocks ++ es ∷ []) ≡ index at blocks ++ row (at + length (body blocks)) es
+pub index-last : (at : ℕ) (blocks : List (List Entry)) (es : List Entry) → index at (blocks ++ es ∷ []) ≡ index at blocks ++ row (at + length (body blocks)) es
 index-last at [] es = append-nil (row at es) ∙ ap (λ (n : ℕ). row n es) (omega arith)
 index-last at (block ∷ blocks) es =
     let l : at + length (block_bytes block) + length (body blocks) ≡ at + length (body (block ∷ blocks)) = omega (arith, length-append (block_bytes block) (body blocks)) in

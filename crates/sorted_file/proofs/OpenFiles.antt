@@ -7,7 +7,7 @@ use Rattle.sorted_file.specs.Opened.{StaysOpen, OneListing, OpenIsThere, Written
 use Rattle.sorted_file.proofs.EntryParts.{one_list}
 
 pub stays_open : StaysOpen
-stays_open m n file o e = (record { list = o.list; spans = o.spans; skips = o.skips; image = o.image; there = e ∙ o.there; form = o.form }, refl)
+stays_open m n file o e = (record { list = o.list; spans = o.spans; spanned = o.spanned; heads = o.heads; skips = o.skips; counted = o.counted; image = o.image; there = e ∙ o.there; form = o.form; rows = o.rows; blocks = o.blocks; cached = o.cached }, refl)
 
 pub open_is_there : OpenIsThere
 open_is_there m file o = record { entries = _; image = o.image; list = o.list; there = o.there; form = o.form }

@@ -13,7 +13,7 @@ use Rattle.cell_key.specs.Keys.{byte_cmp}
 use Rattle.cell_key.specs.Entries.{Entry, IsEntry, IsRising, spelled, spelled_value, field}
 use Rattle.sorted_file.specs.Grammar.{IsFile}
 use Rattle.sorted_file.proofs.Spelling.{one_spelling, field_split, field_length, spelled_split, spelled_length, short, goes_on, is_cut}
-use Rattle.sorted_file.proofs.EntryParts.{index_place, entry_bytes}
+use Rattle.sorted_file.proofs.EntryParts.{index_place}
 
 -- ---- an entry
 
@@ -139,14 +139,6 @@ place_of es image last rest n small f d s =
     let is : n ≡ 8 + length (flat_map spelled es) =
     sym (from_be_bytes-to_be_bytes_4 n small) ∙ ap (λ (l : List ℕ). from_be_bytes w32 (take 4 l)) (sym s ∙ d) ∙ index_place es image f.small c in
     record { exact = is; within = omega (arith, is, size) }
-
-pub part_of : (es : List Entry) (image : List ℕ) (n : ℕ) → IsFile es image → IsIndexPlace n es image → take (n - 8) (drop 8 image) ≡ flat_map spelled es
-part_of es image n f p =
-    let e = p.exact in
-    ap (λ (k : ℕ). take k (drop 8 image)) (omega (arith, e)) ∙ entry_bytes es image (is_cut es image f)
-
-pub too_short : (es : List Entry) (image : List ℕ) → IsFile es image → length image < 32 → ⊥
-too_short es image f h = let c = is_cut es image f in let size = c.size in omega (arith, size, h)
 
 -- the entries that were read are those of each list of this image
 pub same_list : (es got : List Entry) (part : List ℕ) → length part < 2 ^ 32 → part ≡ flat_map spelled got → part ≡ flat_map spelled es → es ≡ got

@@ -7,6 +7,7 @@ use Rattle.std.specs.FinMap.{slice_cmp-IsAntisymmetric, nat_cmp-IsAntisymmetric}
 use Rattle.cell_key.specs.Keys.{byte_cmp, text, IsStored}
 use Rattle.cell_key.specs.Entries.{Entry, entry_of_key, value_of}
 use Rattle.cell_key.specs.declared.keys.CellKey.{CellKey}
+use Rattle.cell_key.specs.declared.keys.Qualifier.TheVariants.{Data, Lock, Write}
 use Rattle.std.specs.declared.cmp.Ordering.{Ordering}
 use Rattle.std.specs.declared.cmp.Ordering.TheVariants.{Less, Equal, Greater}
 use Rattle.std.specs.Ordering.{is_eq}
@@ -36,3 +37,12 @@ module _ (spans : Spans) (key : CellKey) (stored : IsStored key) (out : ¬ (HasS
 
 pub covered : (old new : Spans) (entry : Entry) → Covers old new → IsSpanned old entry → IsSpanned new entry
 covered old new entry keeps is = λ key stored named some. keeps key.qualifier key.stamp (is key stored named some)
+
+pub covered_all : (old new : Spans) (es : List Entry) → Covers old new → AllByRecursion (IsSpanned old) es → AllByRecursion (IsSpanned new) es
+covered_all old new [] keeps all = tt
+covered_all old new (e ∷ es) keeps all = (covered old new e keeps all.0, covered_all old new es keeps all.1)
+
+pub by_kind : (old new : Spans) → ((s : ℕ) → HasStamp old.data s → HasStamp new.data s) → ((s : ℕ) → HasStamp old.lock s → HasStamp new.lock s) → ((s : ℕ) → HasStamp old.write s → HasStamp new.write s) → Covers old new
+by_kind old new d l w Data = d
+by_kind old new d l w Lock = l
+by_kind old new d l w Write = w

@@ -11,19 +11,15 @@ use Rattle.std.specs.Cmp.Lexicographic.{nat_list_cmp_total}
 use Rattle.std.specs.FinMap.Entries.{find}
 use Rattle.cell_key.specs.Names.{IsRow, IsFamily}
 use Rattle.cell_key.specs.Keys.{byte_cmp, key_cmp, text, exact_qualifiers, same_key, qualifier_name, IsKey}
-use Rattle.cell_key.specs.Entries.{Entry, IsEntry, IsEntryList, IsPlace, IsRising, entries_from, entry_of_key, value_of}
+use Rattle.cell_key.specs.Entries.{Entry, IsEntry, IsEntryList, IsRising, entries_from, entry_of_key, value_of}
 use Rattle.cell_key.specs.declared.keys.CellKey.{CellKey}
 use Rattle.cell_key.proofs.Order.{text_order}
 use Rattle.cell_key.proofs.EntryLaws.{stored_key}
-use Rattle.cell_key.proofs.Finding.{equal, find_below, find_lower, first, from_place, one_text, second}
+use Rattle.cell_key.proofs.Finding.{equal, find_below, find_lower, first, one_text, second}
+use Rattle.sorted_file.specs.Searching.{first_value}
 use Rattle.sorted_file.specs.Newest.{at_stamp, erased_first, skips, HasNoneAt, IsFirstValue, IsNewestStamp}
 
 -- ---- the first value from a text on
-
-abbrev first_value : List Entry → Option Entry
-first_value [] = None
-first_value ((name, None) ∷ es) = first_value es
-first_value ((name, Some value) ∷ es) = Some (name, Some value)
 
 module _ (from : List ℕ) where
   module _ (n : List ℕ) (o : Option (List ℕ)) (es : List Entry) (r : IsRising ((n, o) ∷ es)) (pass : (k : List ℕ) → is_le (byte_cmp from k) ≡ true → value_of (entry_of_key es k) ≡ None → value_of (entry_of_key ((n, o) ∷ es) k) ≡ None) where
@@ -46,7 +42,7 @@ module _ (from : List ℕ) where
   below n o es low k le none false t = none
   below n o es low k le none true t = let same = sym (ap (λ (x : List ℕ). is_le (byte_cmp from x)) (one_text k n (equal _ t))) ∙ le in let no : false ≡ true = sym low ∙ same in cc
 
-  tells : (es : List Entry) → IsRising es → IsFirstValue from es (first_value (entries_from from es))
+  pub tells : (es : List Entry) → IsRising es → IsFirstValue from es (first_value (entries_from from es))
   tells [] r = λ k le. refl
   tells ((n, o) ∷ es) r = go (is_le (byte_cmp from n)) refl o r (tells es (second _ _ r))
     where
@@ -106,12 +102,12 @@ module _ {X : Type 0} (f : X → Entry) where
       go more (name, None) (suc n) e le = more n (omega (arith, e)) (omega (arith, le))
       go more (name, Some v) n e le = absurd (omega (arith, e, le))
 
-  module _ (from : List ℕ) (xs : List X) (i : ℕ) (rising : IsRising (map f xs)) (place : IsPlace from (map f xs) i) where
-    at_first : (o : Option Entry) → first_value (drop i (map f xs)) ≡ o → IsFirstValue from (map f xs) o
-    at_first o e = subst (IsFirstValue from (map f xs)) (ap first_value (from_place from (map f xs) i rising place) ∙ e) (tells from (map f xs) rising)
+  pub as_long : (xs : List X) (cs : List ℕ) → cs ≡ skips (map f xs) → length cs ≡ length xs
+  as_long xs cs is = ap length is ∙ counts (map f xs) ∙ length-map xs
 
-    pub none_after : (cs : List ℕ) → cs ≡ skips (map f xs) → length cs ≤ i → IsFirstValue from (map f xs) None
-    none_after cs is le = at_first None (ap first_value (drop_short i (map f xs) (omega (arith, le, ap length is, counts (map f xs)))))
+  module _ (xs : List X) (i : ℕ) where
+    pub none_after : (cs : List ℕ) → cs ≡ skips (map f xs) → length cs ≤ i → None ≡ first_value (drop i (map f xs))
+    none_after cs is le = sym (ap first_value (drop_short i (map f xs) (omega (arith, le, ap length is, counts (map f xs)))))
 
     module _ (cs : List ℕ) (is : cs ≡ skips (map f xs)) (n : ℕ) (lt : i < length cs) (at : n ≡ get_or cs i n) (rest : List X) (back : rest ≡ drop i xs) where
       left : map f rest ≡ drop i (map f xs)
@@ -120,11 +116,11 @@ module _ {X : Type 0} (f : X → Entry) where
       skipped : n ≡ erased_first (map f rest)
       skipped = at ∙ ap (λ (ns : List ℕ). get_or ns i n) is ∙ counted (map f xs) i n (omega (arith, lt, ap length is, counts (map f xs))) ∙ ap erased_first (sym left)
 
-      pub value_after : (x : X) → n < length rest → x ≡ get_or rest n x → IsFirstValue from (map f xs) (Some (f x))
-      value_after x below g = at_first (Some (f x)) (ap first_value (sym left) ∙ reached rest n x skipped below g)
+      pub value_after : (x : X) → n < length rest → x ≡ get_or rest n x → Some (f x) ≡ first_value (drop i (map f xs))
+      value_after x below g = sym (ap first_value (sym left) ∙ reached rest n x skipped below g)
 
-      pub no_value_after : length rest ≤ n → IsFirstValue from (map f xs) None
-      no_value_after le = at_first None (ap first_value (sym left) ∙ ended rest n skipped le)
+      pub no_value_after : length rest ≤ n → None ≡ first_value (drop i (map f xs))
+      no_value_after le = sym (ap first_value (sym left) ∙ ended rest n skipped le)
 
 -- ---- the versions of a column
 
@@ -197,7 +193,7 @@ module _ (sought : CellKey) (is_row : IsRow sought.row) (is_family : IsFamily so
   abbrev from : List ℕ
   from = text sought
 
-  within : (s : ℕ) → s ≤ hi → is_le (byte_cmp from (text (at s))) ≡ true
+  pub within : (s : ℕ) → s ≤ hi → is_le (byte_cmp from (text (at s))) ≡ true
   within s h = ap is_le (order hi s small (omega arith)) ∙ no_more s hi h
 
   -- no text has a value

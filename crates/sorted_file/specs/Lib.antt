@@ -1,10 +1,15 @@
 pub mod Grammar
 pub mod Sources
+pub mod Blocks
 pub mod Building
+pub mod Cached
 pub mod Cursors
 pub mod Kept
 pub mod Newest
 pub mod Opened
+pub mod Parsed
+pub mod Placing
+pub mod Searching
 pub mod Spans
 pub use Rattle.cell_key.specs.Entries
 pub use Rattle.file_store.specs.Store

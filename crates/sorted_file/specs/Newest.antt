@@ -1,11 +1,12 @@
 -- The newest value of a column among entries.
-use Rattle.std.specs.Prelude.{◌≡◌, ◌≤◌, ◌<◌, ◌+◌, ℕ, List, [], ◌∷◌, Option, Some, None, IsSome, true}
+use Rattle.std.specs.Prelude.{◌≡◌, ◌≤◌, ◌<◌, ◌+◌, ℕ, List, [], ◌∷◌, Option, Some, None, IsSome, option_map, true}
 use Rattle.std.specs.Ordering.{is_le}
 use Rattle.std.specs.declared.cmp.Ordering.TheVariants.{Less}
-use Rattle.cell_key.specs.Keys.{byte_cmp, text, IsStored}
+use Rattle.cell_key.specs.Keys.{byte_cmp, text, IsKey, IsStored}
 use Rattle.cell_key.specs.Cells.{version}
-use Rattle.cell_key.specs.Entries.{Entry, entry_of_key, value_of}
+use Rattle.cell_key.specs.Entries.{Entry, IsEntryList, entries_from, entry_of_key, value_of}
 use Rattle.cell_key.specs.declared.keys.CellKey.{CellKey}
+use Rattle.sorted_file.specs.Searching.{first_value}
 
 -- the key of the same column at another stamp
 abbrev pub at_stamp : CellKey → ℕ → CellKey
@@ -41,3 +42,12 @@ erased_first ((name, Some value) ∷ es) = 0
 abbrev pub skips : List Entry → List ℕ
 skips [] = []
 skips (e ∷ es) = erased_first (e ∷ es) ∷ skips es
+
+-- A part of entries has what they have of a column from the one stamp to the other, and this is the text of its first
+-- value at a text that isn't below the key's.
+pub record IsFirstIn (es : List Entry) (key : CellKey) (lo : ℕ) (found : Option (List ℕ)) : Type 0 where
+  pub part : List Entry
+  pub list : IsEntryList part
+  pub first : found ≡ option_map (λ e. e.0) (first_value (entries_from (text key) part))
+  pub same : IsKey key → (stamp : Option ℕ) → IsNewestStamp part key lo stamp
+      → IsNewestStamp es key lo stamp

@@ -1,15 +1,20 @@
 -- What an open file stands for.
-use Rattle.std.specs.Prelude.{◌≡◌, ◌≤◌, ℕ, List, length, Option, Some, IfSome, option_map}
+use Rattle.std.specs.Prelude.{◌≡◌, ◌+◌, ◌≤◌, ℕ, List, length, map, slice_get, Option, Some, IfSome, option_map}
 use Rattle.std.specs.declared.vec.Vec.{Vec}
 use Rattle.std.specs.FinMap as map
 use Rattle.std.specs.List.{AllByRecursion}
-use Rattle.cell_key.specs.Entries.{Entry, IsEntryList}
-use Rattle.file_store.specs.Store.{Contents}
-use Rattle.sorted_file.specs.Grammar.{IsFile}
+use Rattle.cell_key.specs.Entries.{Entry, IsEntryList, entry_of_key}
+use Rattle.file_store.specs.Store.{Contents, part}
+use Rattle.sorted_file.specs.Blocks.{blocks_of, entries_in, row_head, AreRows, IsRowPlace, IsSpannedRow, Tells}
+use Rattle.sorted_file.specs.Cached.{AreCached, IsUncached}
+use Rattle.sorted_file.specs.Grammar.{block_bytes, IsFile}
 use Rattle.sorted_file.specs.Kept.{kept}
 use Rattle.sorted_file.specs.Newest.{skips}
+use Rattle.sorted_file.specs.Parsed.{BeginsWith, IsParsed}
 use Rattle.sorted_file.specs.Spans.{IsSpanned}
+use Rattle.sorted_file.specs.declared.blocks.BlockRow.{BlockRow}
 use Rattle.sorted_file.specs.declared.opened.SortedFile.{SortedFile}
+use Rattle.sorted_file.specs.declared.parsed.Block.{Block}
 
 abbrev pub name_of : SortedFile → ℕ
 name_of file = file.name
@@ -24,23 +29,51 @@ pub record HasFile (m : Contents) (name : ℕ) : Type 0 where
 
 -- the entries that an open file stands for over these files
 abbrev pub listed : Contents → SortedFile → List Entry
-listed m file = kept file.entries.items
+listed m file = entries_in (blocks_of file.rows.items)
 
 -- the file of its name is there and is that of an entry list, the one that it stands for,
--- and what it keeps of its values and its erasures is so
+-- its rows name the blocks of that file, and what it keeps of them is so
 pub record IsOpen (m : Contents) (file : SortedFile) : Type 0 where
   pub list : IsEntryList (listed m file)
   pub spans : AllByRecursion (IsSpanned file.spans) (listed m file)
-  pub skips : file.skips.items ≡ skips (listed m file)
+  pub spanned : AllByRecursion IsSpannedRow file.rows.items
+  pub heads : kept file.heads.items ≡ map row_head file.rows.items
+  pub skips : file.skips.items ≡ skips (kept file.heads.items)
+  pub counted : file.count ≡ length (listed m file)
   pub image : List ℕ
   pub there : map.get m (name_of file) ≡ Some image
   pub form : IsFile (listed m file) image
+  pub rows : AreRows 8 file.rows.items
+  pub blocks : form.blocks ≡ blocks_of file.rows.items
+  pub cached : AreCached file.rows.items file.cache.entries
+
+-- The block of a row was read from these bytes: they have, where the row says, those of an entry list that begins
+-- with the row's text.
+pub record IsReadFrom (image : List ℕ) (row : BlockRow) (es : List Entry) : Type 0 where
+  pub list : IsEntryList es
+  pub first : BeginsWith row.first.items es
+  pub bytes : part image row.offset row.length ≡ block_bytes es
+
+-- a block was read from what stands under a name now
+pub record IsReadNow (told : Option Contents) (name : ℕ) (row : BlockRow) (block : Block) : Type 0 where
+  pub entries : List Entry
+  pub parsed : IsParsed entries block
+  pub read : (image : List ℕ) → Tells told name image → IsReadFrom image row entries
 
 -- Over these files an open file is what it was: it has its name, and where it was open it is,
 -- and stands for the same entries.
 pub record IsSameFile (told : Option Contents) (old new : SortedFile) : Type 0 where
   pub name : name_of new ≡ name_of old
   pub still : IfSome told (λ m. IsOpen m old → IsOpen m new × (listed m new ≡ listed m old))
+
+-- What was found at a text in a block that wasn't kept is what stands under the name of an opened file now: whatever that
+-- is, it has an entry list where the row says, and the entry of that list at the text is this one.
+abbrev pub IsFoundNow : Option Contents → SortedFile → List ℕ → Option (Option (List ℕ)) → Type 0
+IsFoundNow told file name found =
+    (m : Contents) → IsOpen m file → (number : ℕ) (row : BlockRow) (image : List ℕ)
+    → IsRowPlace name file.rows.items (number + 1) → slice_get file.rows.items number ≡ Some row
+    → IsUncached number file.cache.entries → Tells told (name_of file) image
+    → (es : List Entry) × IsReadFrom image row es × (found ≡ entry_of_key es name)
 
 -- the bytes of a value that was found, or of an erasure none
 abbrev pub value_bytes : {Z : Type 0} → Option (Vec ℕ Z) → Option (List ℕ)

@@ -10,10 +10,10 @@ use cell_key::{EntryRef, Refusal};
 use std::alloc::Global;
 
 /// The most bytes of a block of several entries.
-const BLOCK_LIMIT: u128 = 4096;
+pub(crate) const BLOCK_LIMIT: u128 = 4096;
 
 /// How many bytes an entry has in a file.
-fn spelled_len(entry: EntryRef<'_>) -> u128
+pub(crate) fn spelled_len(entry: EntryRef<'_>) -> u128
     ensures { result ≡ entry_len (lent_entry entry.entry) }
 {
     let text = 4 + entry.key.len() as u128;
@@ -61,7 +61,7 @@ fn push_entry(out: &mut Vec<u8>, entry: EntryRef<'_>) -> Result<(), Refusal>
 }
 
 /// Appends the foot.
-fn push_foot(
+pub(crate) fn push_foot(
     out: &mut Vec<u8>,
     index_at: u32,
     blocks: u32,

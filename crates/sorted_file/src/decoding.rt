@@ -1,10 +1,9 @@
 //! Reading the bytes of a file.
 
-ghost use Rattle.std.specs.Prelude.{◌≡◌, ◌≢◌, ◌≤◌, ◌<◌, ◌+◌, ◌^◌, ◌++◌, ℕ, List, length, take, flat_map, IfOk, IfErr, IfSome, IfNone};
+ghost use Rattle.std.specs.Prelude.{◌≡◌, ◌≢◌, ◌≤◌, ◌<◌, ◌+◌, ◌^◌, ◌++◌, ℕ, List, length, take, flat_map, IfOk, IfErr, IfSome, IfNone, IsTrue, ◌↔◌};
 ghost use Rattle.std.specs.List.{AllByRecursion};
-ghost use Rattle.std.specs.Int.{w32, to_be_bytes, from_be_bytes};
+ghost use Rattle.std.specs.Int.{w32, to_be_bytes};
 ghost use Rattle.cell_key.specs.Entries.{Entry, IsEntry, lent_entry, spelled, field};
-ghost use Rattle.sorted_file.specs.Grammar.{IsFile};
 ghost use Rattle.sorted_file.specs.Kept.{kept};
 
 use crate::entries::{FileEntry, checked};
@@ -12,7 +11,7 @@ use cell_key::{EntryRef, Refusal};
 use std::alloc::Global;
 
 /// The number of four bytes at the front, and what follows.
-fn read_number(bytes: &[u8]) -> Option<(u32, &[u8])>
+pub(crate) fn read_number(bytes: &[u8]) -> Option<(u32, &[u8])>
     ensures found { IfSome result (λ p. bytes.now ≡ to_be_bytes w32 p.0 ++ p.1.now) }
     ensures fits { IfSome result (λ p. p.0 < 2 ^ 32) }
     ensures none { IfNone result (length bytes.now < 4) }
@@ -28,7 +27,7 @@ fn read_number(bytes: &[u8]) -> Option<(u32, &[u8])>
 }
 
 /// The length and as many bytes at the front, and what follows.
-fn read_field(bytes: &[u8]) -> Option<(&[u8], &[u8])>
+pub(crate) fn read_field(bytes: &[u8]) -> Option<(&[u8], &[u8])>
     ensures found { IfSome result (λ p. bytes.now ≡ field p.0.now ++ p.1.now) }
     ensures none { IfNone result ((part rest : List ℕ) → length part < 2 ^ 32
         → bytes.now ≢ field part ++ rest) }
@@ -41,7 +40,7 @@ fn read_field(bytes: &[u8]) -> Option<(&[u8], &[u8])>
 }
 
 /// The entry at the front, and what follows.
-fn read_entry(bytes: &[u8]) -> Option<(EntryRef<'_>, &[u8])>
+pub(crate) fn read_entry(bytes: &[u8]) -> Option<(EntryRef<'_>, &[u8])>
     ensures found { IfSome result (λ p. bytes.now ≡ spelled (lent_entry p.0) ++ p.1.now) }
     ensures none { IfNone result (length bytes.now < 2 ^ 32 → (entry : Entry) (rest : List ℕ)
         → bytes.now ≢ spelled entry ++ rest) }
@@ -85,27 +84,9 @@ pub(crate) fn read_entries(alloc: Global, bytes: &[u8]) -> Result<Option<Vec<Fil
     Ok(Some(entries))
 }
 
-/// The bytes between the head and the index.
-pub(crate) fn entry_bytes(bytes: &[u8]) -> Option<&[u8]>
-    requires { length bytes.now < 2 ^ 32 }
-    ensures found { IfSome result (λ part. (es : List Entry) → IsFile es bytes.now
-        → part.now ≡ flat_map spelled es) }
-    ensures bound { IfSome result (λ part. length part.now < 2 ^ 32) }
-    ensures least { IfSome result (λ part. 32 ≤ length bytes.now) }
-    ensures none { IfNone result ((es : List Entry) → ¬ IsFile es bytes.now) }
+/// Whether the bytes are the same.
+pub(crate) fn is_same(first: &[u8], second: &[u8]) -> bool
+    ensures { IsTrue result ↔ (first.now ≡ second.now) }
 {
-    if bytes.len() < 32 {
-        return None;
-    }
-    let foot_at = bytes.len() - 24;
-    let (_, foot) = bytes.split_at(foot_at);
-    let (index_at, _) = read_number(foot)?;
-    let index_at = index_at as usize;
-    if index_at < 8 {
-        return None;
-    }
-    if index_at > foot_at {
-        return None;
-    }
-    Some(&bytes[8..index_at])
+    first == second
 }

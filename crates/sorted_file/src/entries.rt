@@ -1,12 +1,13 @@
 //! Entries that are kept in memory.
 
 ghost use Rattle.std.specs.Prelude.{◌≡◌, ◌≤◌, ◌<◌, ◌^◌, ◌↔◌, ◌⊎◌, List, length, IsTrue, IfOk, IfErr, IfSome, IfNone, IsErrOf, option_map};
+ghost use Rattle.std.specs.Option.{option_copied};
 ghost use Rattle.std.specs.Ordering.{is_lt};
 ghost use Rattle.cell_key.specs.Keys.{byte_cmp};
-ghost use Rattle.cell_key.specs.Entries.{Entry, IsEntry, IsPlace, IsRising, lent_entry, entry_of_key};
+ghost use Rattle.cell_key.specs.Entries.{IsEntry, IsRising, lent_entry};
 ghost use Rattle.sorted_file.specs.Kept.{file_entry, kept};
 
-use cell_key::{CellKey, EntryRef, Refusal};
+use cell_key::{EntryRef, Refusal, is_key_text};
 use std::alloc::Global;
 
 /// The most bytes of a value.
@@ -33,43 +34,38 @@ impl FileEntry {
             value,
         }
     }
+}
 
-    /// A copy of the value, or nothing for an erasure. Refused Damaged where it is longer than a value may be,
-    /// and NoMemory.
-    pub(crate) fn copy_value(&self, alloc: Global) -> Result<Option<Vec<u8>>, Refusal>
-        ensures copy { IfOk result (λ copy.
-            option_map (λ bytes. bytes.items) copy ≡ (file_entry self.now).1) }
-        ensures short { IfOk result (λ copy. IfSome copy (λ bytes. length bytes.items ≤ 65536)) }
-        ensures damaged { IsErrOf result Refusal.Damaged
-            → ¬ IfSome (file_entry self.now).1 (λ bytes. length bytes ≤ 65536) }
-        ensures refusal { IfErr result (λ refusal. (refusal ≡ Refusal.NoMemory)
-            ⊎ (refusal ≡ Refusal.Damaged)) }
-    {
-        let Some(value) = &self.value else {
-            return Ok(None);
-        };
-        if value.len() > MOST_VALUE {
-            return Err(Refusal::Damaged);
-        }
-        let copy = Vec::from_slice(alloc, value)?;
-        Ok(Some(copy))
+/// A copy of a value, or nothing for an erasure. Refused Damaged where it is longer than a value may be, and NoMemory.
+pub(crate) fn copy_value(alloc: Global, value: Option<&[u8]>) -> Result<Option<Vec<u8>>, Refusal>
+    ensures copy { IfOk result (λ copy.
+        option_map (λ bytes. bytes.items) copy ≡ option_copied value.entry) }
+    ensures short { IfOk result (λ copy. IfSome copy (λ bytes. length bytes.items ≤ 65536)) }
+    ensures damaged { IsErrOf result Refusal.Damaged
+        → ¬ IfSome (option_copied value.entry) (λ bytes. length bytes ≤ 65536) }
+    ensures refusal { IfErr result (λ refusal. (refusal ≡ Refusal.NoMemory)
+        ⊎ (refusal ≡ Refusal.Damaged)) }
+{
+    let Some(value) = value else {
+        return Ok(None);
+    };
+    if value.len() > MOST_VALUE {
+        return Err(Refusal::Damaged);
     }
+    let copy = Vec::from_slice(alloc, value)?;
+    Ok(Some(copy))
 }
 
 /// Whether an entry has the text of a key within the limits, and a value that is not too long.
-fn is_entry(alloc: Global, entry: EntryRef<'_>) -> Result<bool, Refusal>
-    ensures exact { IfOk result (λ is. IsTrue is ↔ IsEntry (lent_entry entry.entry)) }
-    ensures refusal { IfErr result (λ refusal. refusal ≡ Refusal.NoMemory) }
+pub(crate) fn is_entry(entry: EntryRef<'_>) -> bool
+    ensures { IsTrue result ↔ IsEntry (lent_entry entry.entry) }
 {
     if let Some(value) = entry.value {
         if value.len() > MOST_VALUE {
-            return Ok(false);
+            return false;
         }
     }
-    match CellKey::decode(alloc, entry.key)? {
-        Some(_) => Ok(true),
-        None => Ok(false),
-    }
+    is_key_text(entry.key)
 }
 
 /// A copy of an entry.
@@ -94,7 +90,7 @@ pub(crate) fn checked(alloc: Global, entry: EntryRef<'_>) -> Result<Option<FileE
     ensures none { IfOk result (λ found. IfNone found (¬ IsEntry (lent_entry entry.entry))) }
     ensures refusal { IfErr result (λ refusal. refusal ≡ Refusal.NoMemory) }
 {
-    if !is_entry(alloc, entry)? {
+    if !is_entry(entry) {
         return Ok(None);
     }
     let copy = copied(alloc, entry)?;
@@ -102,7 +98,7 @@ pub(crate) fn checked(alloc: Global, entry: EntryRef<'_>) -> Result<Option<FileE
 }
 
 /// Whether a text is below another.
-fn is_below(first: &[u8], second: &[u8]) -> bool
+pub(crate) fn is_below(first: &[u8], second: &[u8]) -> bool
     ensures { result ≡ is_lt (byte_cmp first.now second.now) }
 {
     first.cmp(&second).is_lt()
@@ -124,25 +120,4 @@ pub(crate) fn is_rising(entries: &[FileEntry]) -> bool
         }
     }
     true
-}
-
-/// The place of the first entry whose text isn't below this one.
-pub(crate) fn first_from(entries: &[FileEntry], text: &[u8]) -> usize
-    ensures bound { result ≤ length entries.now }
-    ensures place { IsRising (kept entries.now) → IsPlace text.now (kept entries.now) result }
-{
-    entries.partition_point(|entry| text.cmp(&entry.text.as_slice()).is_gt())
-}
-
-/// The entry at a text.
-pub(crate) fn find<'a>(entries: &'a [FileEntry], text: &[u8]) -> Option<&'a FileEntry>
-    ensures { IsRising (kept entries.now) → option_map (λ entry. (file_entry entry.now).1) result
-        ≡ entry_of_key (kept entries.now) text.now }
-{
-    let entry = entries.get(first_from(entries, text))?;
-    if text.cmp(&entry.text.as_slice()).is_eq() {
-        Some(entry)
-    } else {
-        None
-    }
 }

@@ -1,14 +1,20 @@
 //! Files of entries in the order of their keys, and the sources that entries come from (Bigtable, the SSTable).
 #![tactic(auto)]
 
+mod blocks;
 mod building;
+mod cache;
 mod cursors;
 mod decoding;
 mod entries;
-mod images;
 mod laws;
 mod newest;
 mod opened;
+mod opening;
+mod parsed;
+mod parts;
+mod placing;
+mod searching;
 mod sources;
 mod spans;
 mod writing;

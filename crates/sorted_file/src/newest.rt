@@ -1,16 +1,16 @@
 //! The newest value of a column among the entries of a file. Erasures are passed by at once.
 
-ghost use Rattle.std.specs.Prelude.{◌≡◌, ◌≢◌, ◌≤◌, ◌<◌, ◌^◌, ℕ, length, option_map, IfOk, IfErr, IfSome, IfNone};
+ghost use Rattle.std.specs.Prelude.{◌≡◌, ◌≢◌, ◌≤◌, ◌<◌, ◌^◌, ℕ, length, drop, option_map, IfOk, IfErr, IfSome, IfNone};
 ghost use Rattle.cell_key.specs.Keys.{text};
 ghost use Rattle.cell_key.specs.Texts.{stamp_text};
-ghost use Rattle.cell_key.specs.Entries.{IsEntryList, IsRising};
 ghost use Rattle.cell_key.specs.declared.keys.CellKey.{CellKey as KeyOf};
 ghost use Rattle.sorted_file.specs.Kept.{file_entry, kept};
-ghost use Rattle.sorted_file.specs.Newest.{at_stamp, skips, IsFirstValue, IsNewestStamp};
+ghost use Rattle.sorted_file.specs.Newest.{at_stamp, skips};
+ghost use Rattle.sorted_file.specs.Searching.{first_value};
 
-use crate::entries::{FileEntry, first_from};
-use crate::images::is_same;
-use cell_key::{CellKey, Refusal, Stamp};
+use crate::decoding::is_same;
+use crate::entries::FileEntry;
+use cell_key::{Refusal, Stamp};
 use std::alloc::Global;
 
 /// How many erasures come before the next value, from each entry on.
@@ -30,20 +30,18 @@ pub(crate) fn skips_of(alloc: Global, entries: &[FileEntry]) -> Result<Vec<usize
     Ok(skips)
 }
 
-/// The first value at a text that isn't below this one, by how many erasures come before each next
-/// value.
-fn first_value_from<'a>(
+/// The first value from a place on, by how many erasures come before each next value.
+pub(crate) fn value_from<'a>(
     entries: &'a [FileEntry],
     counts: &[usize],
-    text: &[u8],
+    at: usize,
 ) -> Option<&'a FileEntry>
-    ensures { IsRising (kept entries.now) → counts.now ≡ skips (kept entries.now)
-        → IsFirstValue text.now (kept entries.now)
-        (option_map (λ entry. file_entry entry.now) result) }
+    ensures { counts.now ≡ skips (kept entries.now)
+        → option_map (λ entry. file_entry entry.now) result
+        ≡ first_value (drop at (kept entries.now)) }
 {
-    let at = first_from(entries, text);
     let skip = *counts.get(at)?;
-    let entry = entries.split_at(at).1.get(skip)?;
+    let entry = entries.split_at(at.min(entries.len())).1.get(skip)?;
     Some(entry)
 }
 
@@ -63,7 +61,7 @@ fn stamp_of(bytes: &[u8]) -> Option<Stamp>
 }
 
 /// The stamp of a text, if it is one of the column that another text is of.
-fn stamp_in(column: &[u8], bytes: &[u8]) -> Option<Stamp>
+pub(crate) fn stamp_in(column: &[u8], bytes: &[u8]) -> Option<Stamp>
     requires { 8 ≤ length column.now }
     ensures some { IfSome result (λ stamp. (key : KeyOf) → column.now ≡ text key
         → bytes.now ≡ text (at_stamp key stamp)) }
@@ -81,38 +79,4 @@ fn stamp_in(column: &[u8], bytes: &[u8]) -> Option<Stamp>
     } else {
         None
     }
-}
-
-/// The greatest stamp, from `lo` up to that of the key, at which the entries have a value of the
-/// key's column.
-pub(crate) fn newest_in(
-    alloc: Global,
-    entries: &[FileEntry],
-    counts: &[usize],
-    key: &CellKey,
-    lo: Stamp,
-) -> Result<Option<Stamp>, Refusal>
-    ensures found { IfOk result (λ found. IsEntryList (kept entries.now)
-        → counts.now ≡ skips (kept entries.now)
-        → IsNewestStamp (kept entries.now) key.now lo found) }
-    ensures within { IfOk result (λ found.
-        IfSome found (λ stamp. (lo ≤ stamp) × (stamp ≤ key.now.stamp))) }
-    ensures refusal { IfErr result (λ refusal. refusal ≡ Refusal.NoMemory) }
-{
-    // These calls tell that row and family are within their limits.
-    let _row = key.row.as_bytes();
-    let _family = key.family.as_bytes();
-    let most = key.stamp;
-    let mut sought = Vec::new(alloc);
-    key.encode(&mut sought)?;
-    let Some(entry) = first_value_from(entries, counts, &sought) else {
-        return Ok(None);
-    };
-    let Some(stamp) = stamp_in(&sought, &entry.text) else {
-        return Ok(None);
-    };
-    if stamp < lo || most < stamp {
-        return Ok(None);
-    }
-    Ok(Some(stamp))
 }

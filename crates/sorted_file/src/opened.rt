@@ -1,56 +1,86 @@
 //! A file of entries that is open for reading.
 
-ghost use Rattle.std.specs.Prelude.{◌≡◌, ◌≤◌, Some, None, false, length, option_map, IfOk, IfErr, IfSome, IsErrOf};
+ghost use Rattle.std.specs.Prelude.{◌≡◌, ◌≤◌, ◌<◌, ◌-◌, List, ℕ, drop, Option, Some, None, true, false, length, slice_get, option_map, IfOk, IfErr, IfSome, IsErrOf};
 ghost use Rattle.std.specs.FinMap as map;
 ghost use Rattle.cell_key.specs.Keys.{text};
-ghost use Rattle.cell_key.specs.Entries.{entry_of_key, entries_from};
+ghost use Rattle.cell_key.specs.Entries.{Entry, entry_of_key, entries_from};
 ghost use Rattle.file_store.specs.Store.{Contents};
+ghost use Rattle.sorted_file.specs.Blocks.{block_of, blocks_of, entries_in, Tells};
+ghost use Rattle.sorted_file.specs.Cached.{IsUncached};
+ghost use Rattle.sorted_file.specs.Opened.{IsShortValue, value_bytes};
+ghost use Rattle.sorted_file.specs.Parsed.{IsParsed};
+ghost use Rattle.sorted_file.specs.Searching.{first_value};
 ghost use Rattle.sorted_file.specs.Sources.{IsReadRefusal};
+ghost use Rattle.sorted_file.specs.declared.blocks.BlockRow.{BlockRow as Row};
 ghost use Rattle.cell_key.specs.Faults.{HasReason};
 
+use crate::blocks::{BlockRow, rows_to};
+use crate::cache::{keep, no_blocks, promote};
 use crate::cursors::FileCursor;
-use crate::entries::{FileEntry, find, first_from};
-use crate::images::entries_of;
-use crate::newest::{newest_in, skips_of};
-use crate::sources::refusal_of;
-use crate::spans::{Spans, spans_of};
+use crate::entries::{FileEntry, copy_value};
+use crate::newest::{skips_of, stamp_in, value_from};
+use crate::opening::{Opening, read_file};
+use crate::parsed::Block;
+use crate::parts::read_part;
+use crate::spans::Spans;
 use cell_key::{CellKey, Qualifier, Refusal, Stamp};
-use file_store::{Files, read_whole};
+use file_store::Files;
+use lru::LruCache;
 use std::alloc::Global;
-
-/// The bytes of a file.
-fn read_file<F: Files>(alloc: Global, name: u64, files: &mut F) -> Result<Vec<u8>, Refusal>
-    ensures found { IfOk result (λ bytes.
-        IfSome (F.contents files.old) (λ m. map.get m name ≡ Some bytes.items)) }
-    ensures missing { IsErrOf result Refusal.Damaged
-        → IfSome (F.contents files.old) (λ m. map.get m name ≡ None) }
-    ensures refusal { IfErr result IsReadRefusal }
-    ensures same { F.contents files.new ≡ F.contents files.old }
-    ensures reason { HasReason (F.faults files.old) (F.faults files.new) result }
-{
-    match read_whole(alloc, files, name) {
-        Ok(Some(bytes)) => Ok(bytes),
-        Ok(None) => Err(Refusal::Damaged),
-        Err(fault) => Err(refusal_of(fault)),
-    }
-}
 
 /// A file of entries, open for reading. What it reads is under its name as long as the file stays as it is.
 #[derive(Drop)]
 pub struct SortedFile {
     alloc: Global,
     name: u64,
-    entries: Vec<FileEntry>,
-    /// How many erasures come before the next value, from each entry on.
+    /// What the index names: a row of each block.
+    rows: Vec<BlockRow>,
+    /// The text of the first value of each block, or an erasure for one that has none.
+    heads: Vec<FileEntry>,
+    /// How many blocks have no value before the next one that has, from each block on.
     skips: Vec<usize>,
+    /// How many entries there are.
+    count: u32,
     spans: Spans,
+    /// The blocks that were looked into last, by their numbers.
+    cache: LruCache<usize, Block>,
+}
+
+/// What a block has at a text: a value, `Some(None)` where it is an erasure, `None` where it has no entry. Refused NoMemory,
+/// and Damaged where the value is too long.
+fn value_at(alloc: Global, block: &Block, text: &[u8]) -> Result<Option<Option<Vec<u8>>>, Refusal>
+    ensures found { IfOk result (λ found. (es : List Entry) → IsParsed es block.now
+        → option_map value_bytes found ≡ entry_of_key es text.now) }
+    ensures short { IfOk result (λ found. IfSome found IsShortValue) }
+    ensures damaged { IsErrOf result Refusal.Damaged → (es : List Entry)
+        → ¬ IsParsed es block.now }
+    ensures refusal { IfErr result IsReadRefusal }
+    ensures inside { ¬ IsErrOf result Refusal.Device }
+{
+    match block.find(text) {
+        Some(entry) => Ok(Some(copy_value(alloc, entry.value)?)),
+        None => Ok(None),
+    }
+}
+
+/// The text of the first value of a block at a text that isn't below this one. Refused NoMemory.
+fn text_at(alloc: Global, block: &Block, text: &[u8]) -> Result<Option<Vec<u8>>, Refusal>
+    ensures found { IfOk result (λ found. (es : List Entry) → IsParsed es block.now
+        → option_map (λ bytes. bytes.items) found
+        ≡ option_map (λ e. e.0) (first_value (entries_from text.now es))) }
+    ensures refusal { IfErr result (λ refusal. refusal ≡ Refusal.NoMemory) }
+{
+    match block.first_value(text) {
+        Some(entry) => Ok(Some(Vec::from_slice(alloc, entry.key)?)),
+        None => Ok(None),
+    }
 }
 
 impl SortedFile {
     ghost use Rattle.sorted_file.specs.Cursors.{cursor_lent, cursor_remaining, CursorHolds};
-    ghost use Rattle.sorted_file.specs.Newest.{IsNewestStamp};
-    ghost use Rattle.sorted_file.specs.Spans.{HasNoValue};
-    ghost use Rattle.sorted_file.specs.Opened.{HasFile, IsOpen, IsSameFile, IsShortValue, listed, name_of, value_bytes};
+    ghost use Rattle.sorted_file.specs.Newest.{IsFirstIn, IsNewestStamp};
+    ghost use Rattle.sorted_file.specs.Spans.{span_of, HasNoValue, HasStamp};
+    ghost use Rattle.sorted_file.specs.Opened.{HasFile, IsFoundNow, IsOpen, IsReadFrom, IsReadNow, IsSameFile, listed, name_of};
 
     /// Opens a file. Refused Damaged where it isn't there or is the file of no entry list, Device and
     /// NoMemory.
@@ -63,18 +93,24 @@ impl SortedFile {
         ensures same { F.contents files.new ≡ F.contents files.old }
         ensures reason { HasReason (F.faults files.old) (F.faults files.new) result }
     {
-        let bytes = read_file(alloc, name, files)?;
-        let Some(entries) = entries_of(alloc, &bytes)? else {
-            return Err(Refusal::Damaged);
-        };
-        let skips = skips_of(alloc, &entries)?;
-        let spans = spans_of(alloc, &entries)?;
+        let Opening {
+            rows,
+            heads,
+            count,
+            spans,
+            ..
+        } = read_file(alloc, name, files)?;
+        let skips = skips_of(alloc, &heads)?;
+        let cache = no_blocks(alloc)?;
         Ok(SortedFile {
             alloc,
             name,
-            entries,
+            rows,
+            heads,
             skips,
+            count,
             spans,
+            cache,
         })
     }
 
@@ -89,7 +125,7 @@ impl SortedFile {
     pub fn len(&self) -> usize
         ensures { (m : Contents) → IsOpen m self.now → result ≡ length (listed m self.now) }
     {
-        self.entries.len()
+        self.count as usize
     }
 
     /// Whether the file may have a value of a column of this kind at a stamp in `lo..=hi`. Takes no memory and
@@ -102,7 +138,8 @@ impl SortedFile {
     }
 
     /// What the file has of a key: a value, of at most 65,536 bytes, `Some(None)` where it is an erasure, and
-    /// `None` where the file has no entry of the key. The file stays what it was, also after an `Err`.
+    /// `None` where the file has no entry of the key. It reads one block at most, and none that is kept from an earlier
+    /// look-up. The file stays what it was, also after an `Err`.
     ///
     /// # Errors
     ///
@@ -114,6 +151,8 @@ impl SortedFile {
     ) -> Result<Option<Option<Vec<u8>>>, Refusal>
         ensures found { IfOk result (λ found. IfSome (F.contents files.old) (λ m. IsOpen m self.old
             → option_map value_bytes found ≡ entry_of_key (listed m self.old) (text key.now))) }
+        ensures now { IfOk result (λ found. IsFoundNow (F.contents files.old) self.old (text key.now)
+            (option_map value_bytes found)) }
         ensures short { IfOk result (λ found. IfSome found IsShortValue) }
         ensures stays { IsSameFile (F.contents files.old) self.old self.new }
         ensures damaged { IsErrOf result Refusal.Damaged
@@ -124,16 +163,81 @@ impl SortedFile {
     {
         let mut text = Vec::new(self.alloc);
         key.encode(&mut text)?;
-        let Some(entry) = find(&self.entries, &text) else {
-            return Ok(None);
+        match rows_to(&self.rows, &text) {
+            0 => Ok(None),
+            to => self.value_in(to - 1, &text, files),
+        }
+    }
+
+    /// What a block has at a text. Refused Damaged where the block isn't there, Device and NoMemory.
+    fn value_in<F: Files>(
+        &mut self,
+        number: usize,
+        text: &[u8],
+        files: &mut F,
+    ) -> Result<Option<Option<Vec<u8>>>, Refusal>
+        requires { number < length self.old.rows.items }
+        ensures found { IfOk result (λ found. IfSome (F.contents files.old) (λ m. IsOpen m self.old
+            → (row : Row) → slice_get self.old.rows.items number ≡ Some row
+            → option_map value_bytes found ≡ entry_of_key (block_of row) text.now)) }
+        ensures now { IfOk result (λ found. (row : Row) (image : List ℕ)
+            → slice_get self.old.rows.items number ≡ Some row
+            → IsUncached number self.old.cache.entries
+            → Tells (F.contents files.old) (name_of self.old) image → (es : List Entry)
+            × IsReadFrom image row es × (option_map value_bytes found ≡ entry_of_key es text.now)) }
+        ensures short { IfOk result (λ found. IfSome found IsShortValue) }
+        ensures stays { IsSameFile (F.contents files.old) self.old self.new }
+        ensures damaged { IsErrOf result Refusal.Damaged
+            → IfSome (F.contents files.old) (λ m. ¬ IsOpen m self.old) }
+        ensures refusal { IfErr result IsReadRefusal }
+        ensures same { F.contents files.new ≡ F.contents files.old }
+        ensures reason { HasReason (F.faults files.old) (F.faults files.new) result }
+    {
+        match self.cache.peek(&number) {
+            Some(block) => {
+                let found = value_at(self.alloc, block, text)?;
+                promote(&mut self.cache, number);
+                Ok(found)
+            }
+            None => {
+                let block = self.read_block(number, files)?;
+                let found = value_at(self.alloc, &block, text)?;
+                keep(&mut self.cache, number, block);
+                Ok(found)
+            }
+        }
+    }
+
+    /// A block, read anew. Refused Damaged where no block is there that begins with the text that the index names,
+    /// Device and NoMemory.
+    fn read_block<F: Files>(&self, number: usize, files: &mut F) -> Result<Block, Refusal>
+        requires { number < length self.now.rows.items }
+        ensures read { IfOk result (λ block. (row : Row)
+            → slice_get self.now.rows.items number ≡ Some row
+            → IsReadNow (F.contents files.old) (name_of self.now) row block) }
+        ensures right { IfOk result (λ block. IfSome (F.contents files.old) (λ m. IsOpen m self.now
+            → (row : Row) → slice_get self.now.rows.items number ≡ Some row
+            → IsParsed (block_of row) block)) }
+        ensures damaged { IsErrOf result Refusal.Damaged
+            → IfSome (F.contents files.old) (λ m. ¬ IsOpen m self.now) }
+        ensures refusal { IfErr result IsReadRefusal }
+        ensures same { F.contents files.new ≡ F.contents files.old }
+        ensures reason { HasReason (F.faults files.old) (F.faults files.new) result }
+    {
+        let row = &self.rows[number];
+        let bytes = read_part(self.alloc, self.name, row.offset, row.length, files)?;
+        let Some(block) = Block::parse(self.alloc, bytes)? else {
+            return Err(Refusal::Damaged);
         };
-        let value = entry.copy_value(self.alloc)?;
-        Ok(Some(value))
+        if !block.begins_with(&row.first) {
+            return Err(Refusal::Damaged);
+        }
+        Ok(block)
     }
 
     /// The greatest stamp, from `lo` up to that of the key, at which the file has a value of the key's
-    /// column. Where `may_have` tells that there is none it takes no memory and reads nothing. The file
-    /// stays what it was, also after an `Err`.
+    /// column. It reads one block at most, and none that can't have such a value; where `may_have` tells that there is
+    /// none it takes no memory. The file stays what it was, also after an `Err`.
     ///
     /// # Errors
     ///
@@ -158,8 +262,123 @@ impl SortedFile {
         if !self.spans.meet(key.qualifier, lo, key.stamp) {
             return Ok(None);
         }
-        let found = newest_in(self.alloc, &self.entries, &self.skips, key, lo)?;
-        Ok(found)
+        // These calls tell that row and family are within their limits.
+        let _row = key.row.as_bytes();
+        let _family = key.family.as_bytes();
+        let most = key.stamp;
+        let mut sought = Vec::new(self.alloc);
+        key.encode(&mut sought)?;
+        let Some(text) = self.first_text(key, lo, &sought, files)? else {
+            return Ok(None);
+        };
+        let Some(stamp) = stamp_in(&sought, &text) else {
+            return Ok(None);
+        };
+        if stamp < lo || most < stamp {
+            return Ok(None);
+        }
+        Ok(Some(stamp))
+    }
+
+    /// The text of the first value of a block at a text that isn't below this one. Refused Damaged where the block isn't
+    /// there, Device and NoMemory.
+    fn text_in<F: Files>(
+        &mut self,
+        number: usize,
+        text: &[u8],
+        files: &mut F,
+    ) -> Result<Option<Vec<u8>>, Refusal>
+        requires { number < length self.old.rows.items }
+        ensures found { IfOk result (λ found. IfSome (F.contents files.old) (λ m. IsOpen m self.old
+            → (row : Row) → slice_get self.old.rows.items number ≡ Some row
+            → option_map (λ bytes. bytes.items) found
+            ≡ option_map (λ e. e.0) (first_value (entries_from text.now (block_of row))))) }
+        ensures rows { self.new.rows ≡ self.old.rows }
+        ensures stays { IsSameFile (F.contents files.old) self.old self.new }
+        ensures damaged { IsErrOf result Refusal.Damaged
+            → IfSome (F.contents files.old) (λ m. ¬ IsOpen m self.old) }
+        ensures refusal { IfErr result IsReadRefusal }
+        ensures same { F.contents files.new ≡ F.contents files.old }
+        ensures reason { HasReason (F.faults files.old) (F.faults files.new) result }
+    {
+        match self.cache.peek(&number) {
+            Some(block) => {
+                let found = text_at(self.alloc, block, text)?;
+                promote(&mut self.cache, number);
+                Ok(found)
+            }
+            None => {
+                let block = self.read_block(number, files)?;
+                let found = text_at(self.alloc, &block, text)?;
+                keep(&mut self.cache, number, block);
+                Ok(found)
+            }
+        }
+    }
+
+    /// The text of the first value of the blocks from a place on. Refused NoMemory.
+    fn head_from(&self, at: usize) -> Result<Option<Vec<u8>>, Refusal>
+        ensures found { IfOk result (λ found. (m : Contents) → IsOpen m self.now
+            → option_map (λ bytes. bytes.items) found ≡ option_map (λ e. e.0)
+            (first_value (entries_in (blocks_of (drop at self.now.rows.items))))) }
+        ensures refusal { IfErr result (λ refusal. refusal ≡ Refusal.NoMemory) }
+    {
+        match value_from(&self.heads, &self.skips, at) {
+            Some(head) => Ok(Some(Vec::from_slice(self.alloc, &head.text)?)),
+            None => Ok(None),
+        }
+    }
+
+    /// The text of the first value at a text that isn't below this one, the key's, or of the first behind the block of
+    /// that text where this one can't have a value of the column. Refused Damaged where the file is no longer what was
+    /// opened, Device and NoMemory.
+    fn first_text<F: Files>(
+        &mut self,
+        key: &CellKey,
+        lo: Stamp,
+        sought: &[u8],
+        files: &mut F,
+    ) -> Result<Option<Vec<u8>>, Refusal>
+        requires { sought.now ≡ text key.now }
+        ensures found { IfOk result (λ found. IfSome (F.contents files.old) (λ m. IsOpen m self.old
+            → IsFirstIn (listed m self.old) key.now lo
+            (option_map (λ bytes. bytes.items) found))) }
+        ensures stays { IsSameFile (F.contents files.old) self.old self.new }
+        ensures damaged { IsErrOf result Refusal.Damaged
+            → IfSome (F.contents files.old) (λ m. ¬ IsOpen m self.old) }
+        ensures refusal { IfErr result IsReadRefusal }
+        ensures same { F.contents files.new ≡ F.contents files.old }
+        ensures reason { HasReason (F.faults files.old) (F.faults files.new) result }
+    {
+        let to = rows_to(&self.rows, sought);
+        if !self.may_have_before(to, key, lo) {
+            return self.head_from(to);
+        }
+        match self.text_in(to - 1, sought, files)? {
+            Some(found) => Ok(Some(found)),
+            None => self.head_from(to),
+        }
+    }
+
+    /// Whether there is a block before a place, and it may have a value of the key's column from the stamp up to the key's.
+    fn may_have_before(&self, place: usize, key: &CellKey, lo: Stamp) -> bool
+        requires { place ≤ length self.now.rows.items }
+        ensures there { result ≡ true → 0 < place }
+        ensures none { result ≡ false → (row : Row) → 0 < place
+            → slice_get self.now.rows.items (place - 1) ≡ Some row → (s : ℕ) → lo ≤ s
+            → s ≤ key.now.stamp → ¬ HasStamp (span_of row.spans key.now.qualifier) s }
+    {
+        place > 0
+            && self.rows[place - 1]
+                .spans
+                .meet(key.qualifier, lo, key.stamp)
+    }
+
+    /// Forgets the blocks that are kept. The file stays what it was. Takes no memory.
+    pub fn drop_cache(&mut self)
+        ensures { (told : Option Contents) → IsSameFile told self.old self.new }
+    {
+        self.cache.clear();
     }
 
     /// The entries from the first text on that isn't below `from`, which is any bytes. Takes no memory and reads
@@ -170,7 +389,7 @@ impl SortedFile {
             → cursor_remaining (Some m) result ≡ entries_from from.now (listed m self.now) }
         ensures holds { (m : Contents) → IsOpen m self.now → CursorHolds (Some m) result }
     {
-        let at = first_from(&self.entries, from);
-        FileCursor::new(self.entries.split_at(at).1)
+        let at = rows_to(&self.rows, from).saturating_sub(1);
+        FileCursor::new(self.alloc, self.name, from, self.rows.split_at(at).1)
     }
 }

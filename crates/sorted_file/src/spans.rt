@@ -1,4 +1,4 @@
-//! Where the values of a file are, so that a read can pass by a file that has none for it.
+//! Where the values of a file and of its blocks are, so that a read passes by what has none for it.
 
 ghost use Rattle.std.specs.Prelude.{◌≡◌, ◌≤◌, ℕ, false, IfOk, IfErr};
 ghost use Rattle.std.specs.List.{AllByRecursion};
@@ -34,6 +34,17 @@ impl Span {
         }
     }
 
+    /// These stamps and others.
+    fn joined(self, other: Span) -> Span
+        ensures first { (s : ℕ) → HasStamp self s → HasStamp result s }
+        ensures second { (s : ℕ) → HasStamp other s → HasStamp result s }
+    {
+        Span {
+            least: self.least.min(other.least),
+            greatest: self.greatest.max(other.greatest),
+        }
+    }
+
     /// Whether one of the stamps may be in `lo..=hi`.
     fn meets(self, lo: Stamp, hi: Stamp) -> bool
         ensures { result ≡ false → (s : ℕ) → lo ≤ s → s ≤ hi → ¬ (HasStamp self s) }
@@ -42,7 +53,7 @@ impl Span {
     }
 }
 
-/// The stamps of the values of a file, for each kind of a cell's columns.
+/// The stamps of values, for each kind of a cell's columns.
 #[derive(Clone, Copy)]
 pub(crate) struct Spans {
     pub(crate) data: Span,
@@ -51,7 +62,7 @@ pub(crate) struct Spans {
 }
 
 impl Spans {
-    /// Those of a file without values.
+    /// Those of no values.
     pub(crate) const NONE: Spans = Spans {
         data: Span::NONE,
         lock: Span::NONE,
@@ -72,7 +83,19 @@ impl Spans {
         spans
     }
 
-    /// Whether the file may have a value of such a column at a stamp in `lo..=hi`.
+    /// Those and others.
+    pub(crate) fn joined(self, other: Spans) -> Spans
+        ensures first { Covers self result }
+        ensures second { Covers other result }
+    {
+        Spans {
+            data: self.data.joined(other.data),
+            lock: self.lock.joined(other.lock),
+            write: self.write.joined(other.write),
+        }
+    }
+
+    /// Whether there may be a value of such a column at a stamp in `lo..=hi`.
     pub(crate) fn meet(&self, qualifier: Qualifier, lo: Stamp, hi: Stamp) -> bool
         ensures { result ≡ false → (s : ℕ) → lo ≤ s → s ≤ hi
             → ¬ (HasStamp (span_of self.now qualifier) s) }

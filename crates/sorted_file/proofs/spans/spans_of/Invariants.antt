@@ -7,7 +7,9 @@ use Rattle.sorted_file.proofs.spans.spans_of.Given as goal
 
 -- where later ones have the stamps of what is left, they have those of all
 abbrev pub invariant-entries : goal.invariant-entries
-invariant-entries l = (new : Spans) → Covers l.spans new → AllByRecursion (IsSpanned new) (kept l.rest) → AllByRecursion (IsSpanned new) (kept l.fn.entries)
+invariant-entries l = record {
+  all : (new : Spans) → Covers l.spans new → AllByRecursion (IsSpanned new) (kept l.rest) → AllByRecursion (IsSpanned new) (kept l.fn.entries);
+}
 
 abbrev pub decreases-entries : goal.decreases-entries
 decreases-entries l = length l.rest

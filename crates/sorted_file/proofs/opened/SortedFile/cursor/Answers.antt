@@ -1,25 +1,50 @@
-use Rattle.std.proofs.Common.{refl, sym, subst, ap, ◌∙◌, List, drop, Option}
+use Rattle.std.proofs.Common.{◌≡◌, ◌++◌, ℕ, List, [], map, drop, Option, Some, None, sym, ap, subst, ◌∙◌, arith}
+use Rattle.std.proofs.Math.ListN.{drop_of_length-le}
+use Rattle.std.specs.Option.{option_copied}
 use Rattle.std.specs.Prelude.{option_map}
-use Rattle.std.specs.Borrow.{Bor}
-use Rattle.cell_key.specs.Entries.{Entry, IsEntryList, IsPlace, IsRising}
-use Rattle.sorted_file.specs.declared.entries.FileEntry.{FileEntry}
-use Rattle.sorted_file.specs.Kept.{file_entry, kept}
+use Rattle.std.specs.FinMap as map
+use Rattle.std.specs.List.{AllByRecursion}
+use Rattle.cell_key.specs.Entries.{Entry, IsEntryList, IsRising, entries_from}
+use Rattle.sorted_file.specs.Blocks.{blocks_of, entries_in, first_of, IsBlockIn, IsRowPlace}
+use Rattle.sorted_file.specs.Cursors.{block_left, cursor_ahead, cursor_remaining, last_of}
+use Rattle.sorted_file.specs.Grammar.{block_bytes}
+use Rattle.sorted_file.specs.Opened.{listed}
+use Rattle.sorted_file.specs.Placing.{entry_at}
 use Rattle.sorted_file.specs.Sources.{pending}
-use Rattle.sorted_file.proofs.Places.{cursor_entries, cursor_list}
+use Rattle.sorted_file.specs.declared.blocks.BlockRow.{BlockRow}
+use Rattle.sorted_file.specs.declared.cursors.FileCursor.{FileCursor}
+use Rattle.sorted_file.proofs.OpenBlocks.{open_firsts, open_in, open_named, rows_behind}
+use Rattle.sorted_file.proofs.Rows.{from_row}
+use Rattle.sorted_file.proofs.Searched.{each_from, rising_from}
 use Rattle.sorted_file.proofs.opened.SortedFile.cursor.Goals as goal
+
+none_ahead : (s : FileCursor) → s.row ≡ None → cursor_ahead s ≡ []
+none_ahead s e = ap (λ row. last_of (block_left s) (option_copied row)) e
 
 pub returns-clause-entries : goal.returns-clause-entries
 returns-clause-entries c = λ m o.
-    let rest = c.new.ensures.rest ∙ c.split_at.ensures.back ∙ ap (λ (l : List FileEntry). drop c.first_from-at.result l) c.deref-2.ensures.value in
-    let k = ap kept c.deref.ensures.value in
-    let list = o.list in
-    let place = subst (λ (l : List Entry). IsPlace c.args.from.now l c.first_from-at.result) k (c.first_from-at.ensures.place (subst (λ (l : List Entry). IsRising l) (sym k) list.rising)) in
-    ap kept rest ∙ cursor_entries file_entry c.args.from.now c.args.self.now.entries.items _ c.first_from-at.result refl list.rising place
+    let rows = c.args.self.now.rows.items in
+    let firsts = open_firsts m c.args.self.now o in
+    let place = subst (λ (l : List BlockRow). IsRowPlace c.args.from.now l c.rows_to.result) c.deref.ensures.value (c.rows_to.ensures.place (subst (λ (l : List BlockRow). IsRising (map first_of l)) (sym c.deref.ensures.value) firsts)) in
+    let behind = c.new.ensures.rows ∙ c.split_at.ensures.back ∙ ap (λ (l : List BlockRow). drop c.saturating_sub-at.result l) c.deref-2.ensures.value ∙ ap (λ (n : ℕ). drop n rows) c.saturating_sub-at.ensures in
+    ap (λ (l : List Entry). l ++ entries_from c.new.result.from.now (entries_in (blocks_of c.new.result.rows.now))) (none_ahead c.new.result c.new.ensures.row)
+    ∙ ap (λ (t : List ℕ). entries_from t (entries_in (blocks_of c.new.result.rows.now))) c.new.ensures.from
+    ∙ ap (λ (l : List BlockRow). entries_from c.args.from.now (entries_in (blocks_of l))) behind
+    ∙ sym (from_row c.args.from.now rows (open_named m c.args.self.now o) o.list.rising c.rows_to.result place)
 
 pub returns-clause-holds : goal.returns-clause-holds
 returns-clause-holds c = λ m o.
-    let rest = c.new.ensures.rest ∙ c.split_at.ensures.back ∙ ap (λ (l : List FileEntry). drop c.first_from-at.result l) c.deref-2.ensures.value in (
-      refl,
-      subst (λ (lent : Option (Bor FileEntry)). IsEntryList (pending (option_map (λ entry. file_entry entry.now) lent) (kept c.new.result.rest.now))) (sym c.new.ensures.current)
-          (subst IsEntryList (sym (ap kept rest)) (cursor_list file_entry c.args.self.now.entries.items _ c.first_from-at.result refl o.list)),
-    )
+    let rows = c.args.self.now.rows.items in
+    let behind = c.new.ensures.rows ∙ c.split_at.ensures.back ∙ ap (λ (l : List BlockRow). drop c.saturating_sub-at.result l) c.deref-2.ensures.value in
+    let remaining = returns-clause-entries c m o in
+    let list : IsEntryList (entries_from c.args.from.now (listed m c.args.self.now)) = record { rising = rising_from c.args.from.now (listed m c.args.self.now) o.list.rising; each = each_from c.args.from.now (listed m c.args.self.now) o.list.each } in
+    record {
+      later = record {
+        image = o.image;
+        there = ap (map.get m) c.new.ensures.name ∙ o.there;
+        each = subst (λ (l : List BlockRow). AllByRecursion (IsBlockIn o.image) l) (sym behind) (rows_behind (IsBlockIn o.image) c.saturating_sub-at.result rows (open_in m c.args.self.now o));
+      };
+      small = rw c.new.ensures.block (omega arith);
+      ahead = drop_of_length-le c.new.result.block.items (rw c.new.ensures.block (omega arith)) ∙ ap block_bytes (sym (none_ahead c.new.result c.new.ensures.row));
+      list = subst (λ (lent : Option Entry). IsEntryList (pending lent (cursor_remaining (Some m) c.new.result))) (sym (ap (option_map (entry_at c.new.result.block.items)) c.new.ensures.current)) (subst IsEntryList (sym remaining) list);
+    }

@@ -1,0 +1,67 @@
+-- Blocks that are looked into.
+use Rattle.std.proofs.Common.{◌≡◌, ◌<◌, ℕ, zero, suc, List, [], ◌∷◌, ◌++◌, length, take, slice_get, get_or, Option, Some, None, refl, sym, ap, subst, ◌∙◌, arith}
+use Rattle.std.proofs.lemmas.Option.{same_Some, slice_get_read}
+use Rattle.std.specs.Prelude.{IfSome}
+use Rattle.std.specs.List.{AllByRecursion}
+use Rattle.cell_key.specs.Entries.{Entry}
+use Rattle.file_store.specs.Store.{Contents}
+use Rattle.lru.specs.LruCache.{LruCache}
+use Rattle.sorted_file.specs.Blocks.{block_of, IsBlockIn}
+use Rattle.sorted_file.specs.Cached.{AreCached}
+use Rattle.sorted_file.specs.Opened.{name_of, IsOpen, IsReadNow, IsSameFile}
+use Rattle.sorted_file.specs.Parsed.{BeginsWith, IsParsed}
+use Rattle.sorted_file.specs.declared.blocks.BlockRow.{BlockRow}
+use Rattle.sorted_file.specs.declared.opened.SortedFile.{SortedFile}
+use Rattle.sorted_file.specs.declared.parsed.Block.{Block}
+use Rattle.sorted_file.proofs.OpenBlocks.{open_in, open_named}
+use Rattle.sorted_file.proofs.Rows.{IsNamed}
+use Rattle.sorted_file.proofs.Starts.{parsed_as}
+
+pub of_row : (P : BlockRow → Type 0) (rows : List BlockRow) (n : ℕ) (row : BlockRow) → slice_get rows n ≡ Some row → AllByRecursion P rows → P row
+of_row P [] n row at all = cc
+of_row P (r ∷ rows) zero row at all = let same : r ≡ row = cc in subst P same all.0
+of_row P (r ∷ rows) (suc n) row at all = of_row P rows n row at all.1
+
+pub same_row : (rows : List BlockRow) (n : ℕ) (row x : BlockRow) → n < length rows → x ≡ get_or rows n x → slice_get rows n ≡ Some row → row ≡ x
+same_row rows n row x lt got at = same_Some row x (sym at ∙ slice_get_read rows (length rows) n x refl lt got)
+
+begins : (row : BlockRow) → IsNamed row → BeginsWith row.first.items (block_of row)
+begins row is = subst (BeginsWith row.first.items) (sym is.block) is.first
+
+module _ (m : Contents) (file : SortedFile) (o : IsOpen m file) (n : ℕ) (row : BlockRow) (at : slice_get file.rows.items n ≡ Some row) where
+  pub block_in : IsBlockIn o.image row
+  block_in = of_row (IsBlockIn o.image) file.rows.items n row at (open_in m file o)
+
+  pub row_begins : BeginsWith row.first.items (block_of row)
+  row_begins = begins row (of_row IsNamed file.rows.items n row at (open_named m file o))
+
+  -- a block that is read from an open file is the one that it was
+  pub read_right : (block : Block) → IsReadNow (Some m) (name_of file) row block → IsParsed (block_of row) block
+  read_right block r =
+      let from = r.read o.image o.there in
+      subst (λ (es : List Entry). IsParsed es block) (sym (parsed_as r.entries (block_of row) block r.parsed (sym block_in.bytes ∙ from.bytes))) r.parsed
+
+-- with other blocks that are kept a file is the same
+pub same_file : (told : Option Contents) (file : SortedFile) (cache : LruCache ℕ Block) → IfSome told (λ m. IsOpen m file → AreCached file.rows.items cache.entries)
+    → IsSameFile told file (record { alloc = file.alloc; name = file.name; rows = file.rows; heads = file.heads; skips = file.skips; count = file.count; spans = file.spans; cache = cache })
+same_file None file cache h = record { name = refl; still = tt }
+same_file (Some m) file cache h = record {
+  name = refl;
+  still = λ o. (
+    record { list = o.list; spans = o.spans; spanned = o.spanned; heads = o.heads; skips = o.skips; counted = o.counted; image = o.image; there = o.there; form = o.form; rows = o.rows; blocks = o.blocks; cached = h o },
+    refl,
+  );
+}
+
+pub here_row : (rows : List BlockRow) (n : ℕ) (x : BlockRow) → n < length rows → x ≡ get_or rows n x → slice_get rows n ≡ Some x
+here_row rows n x lt got = slice_get_read rows (length rows) n x refl lt got
+
+pub some_row : (rows : List BlockRow) (n : ℕ) → n < length rows → (row : BlockRow) × (slice_get rows n ≡ Some row)
+some_row [] n lt = absurd (omega (arith, lt))
+some_row (r ∷ rows) zero lt = (r, refl)
+some_row (r ∷ rows) (suc n) lt = some_row rows n (omega (arith, lt))
+
+pub front_row : (rows : List BlockRow) (k : ℕ) (row : BlockRow) → slice_get rows k ≡ Some row → take (suc k) rows ≡ take k rows ++ row ∷ []
+front_row [] k row at = cc
+front_row (r ∷ rows) zero row at = let same : r ≡ row = cc in ap (λ (x : BlockRow). x ∷ []) same
+front_row (r ∷ rows) (suc k) row at = ap (λ (l : List BlockRow). r ∷ l) (front_row rows k row at)

@@ -1,0 +1,216 @@
+-- Where the entries of a block begin, and the list that bytes are read as.
+use Rattle.std.proofs.Common.{◌≡◌, ◌≢◌, ◌+◌, ◌-◌, ◌≤◌, ◌<◌, ◌^◌, ℕ, zero, suc, T, List, [], ◌∷◌, ◌++◌, length, drop, slice_get, Some, None, refl, sym, ap, subst, ◌∙◌, arith, length-append, length-drop, append_assoc}
+use Rattle.std.specs.List.{AllByRecursion}
+use Rattle.std.specs.Ordering.{is_lt}
+use Rattle.std.specs.declared.cmp.Ordering.{Ordering}
+use Rattle.std.specs.declared.cmp.Ordering.TheVariants.{Less}
+use Rattle.std.specs.Cmp.Lexicographic.{nat_list_cmp_total}
+use Rattle.std.specs.FinMap.Entries.{below_all}
+use Rattle.cell_key.specs.Keys.{byte_cmp, qualifier_name}
+use Rattle.cell_key.specs.Texts.{ended, escaped, stamp_text}
+use Rattle.cell_key.specs.Entries.{Entry, IsEntry, IsEntryList, IsRising, spelled}
+use Rattle.cell_key.proofs.Finding.{first, less, second}
+use Rattle.sorted_file.specs.Grammar.{block_bytes}
+use Rattle.sorted_file.specs.Parsed.{starts_from, IsParsed, IsSpelling}
+use Rattle.sorted_file.specs.declared.parsed.Block.{Block}
+use Rattle.sorted_file.proofs.Joining.{all_joined, both}
+use Rattle.sorted_file.proofs.Spelling.{goes_on, one_spelling, short, spelled_length, spelled_split}
+
+-- ---- the entry that begins at a place
+
+pub starts_length : (at : ℕ) (es : List Entry) → length (starts_from at es) ≡ length es
+starts_length at [] = refl
+starts_length at (e ∷ es) = ap suc (starts_length (at + length (spelled e)) es)
+
+starts_joined : (at : ℕ) (es : List Entry) (e : Entry) → starts_from at (es ++ e ∷ []) ≡ starts_from at es ++ (at + length (block_bytes es)) ∷ []
+starts_joined at [] e = let same : at ≡ at + 0 = omega arith in ap (λ (n : ℕ). n ∷ []) same
+starts_joined at (d ∷ es) e =
+    let same : at + length (spelled d) + length (block_bytes es) ≡ at + length (block_bytes (d ∷ es)) = omega (arith, length-append (spelled d) (block_bytes es)) in
+    ap (λ (l : List ℕ). at ∷ l) (starts_joined (at + length (spelled d)) es e ∙ ap (λ (n : ℕ). starts_from (at + length (spelled d)) es ++ n ∷ []) same)
+
+drop_past : (xs ys : List ℕ) (k : ℕ) → drop (length xs + k) (xs ++ ys) ≡ drop k ys
+drop_past [] ys k = let same : 0 + k ≡ k = omega arith in ap (λ (n : ℕ). drop n ys) same
+drop_past (x ∷ xs) ys k =
+    let same : length (x ∷ xs) + k ≡ suc (length xs + k) = omega arith in
+    ap (λ (n : ℕ). drop n (x ∷ (xs ++ ys))) same ∙ drop_past xs ys k
+
+-- an entry of a list, and what its bytes are followed by
+pub record IsEntryAt (es : List Entry) (i from start : ℕ) : Type 0 where
+  pub entry : Entry
+  pub more : List ℕ
+  pub is : slice_get es i ≡ Some entry
+  pub behind : from ≤ start
+  pub within : start - from ≤ length (block_bytes es)
+  pub bytes : drop (start - from) (block_bytes es) ≡ spelled entry ++ more
+
+pub entry_at : (es : List Entry) (i from start : ℕ) → slice_get (starts_from from es) i ≡ Some start → IsEntryAt es i from start
+entry_at [] i from start e = cc
+entry_at (d ∷ es) zero from start e =
+    let same : from ≡ start = cc in
+    let none : start - from ≡ 0 = omega (arith, same) in
+    record {
+      entry = d;
+      more = block_bytes es;
+      is = refl;
+      behind = omega (arith, same);
+      within = omega (arith, none);
+      bytes = ap (λ (n : ℕ). drop n (block_bytes (d ∷ es))) none;
+    }
+entry_at (d ∷ es) (suc i) from start e =
+    let at = entry_at es i (from + length (spelled d)) start e in
+    let behind = at.behind in
+    let within = at.within in
+    let on : start - from ≡ length (spelled d) + (start - (from + length (spelled d))) = omega (arith, behind) in
+    record {
+      entry = at.entry;
+      more = at.more;
+      is = at.is;
+      behind = omega (arith, behind);
+      within = omega (arith, behind, within, length-append (spelled d) (block_bytes es));
+      bytes = ap (λ (n : ℕ). drop n (spelled d ++ block_bytes es)) on ∙ drop_past (spelled d) (block_bytes es) (start - (from + length (spelled d))) ∙ at.bytes;
+    }
+
+pub no_entry_at : (es : List Entry) (i from : ℕ) → slice_get (starts_from from es) i ≡ None → slice_get es i ≡ None
+no_entry_at [] i from e = refl
+no_entry_at (d ∷ es) zero from e = cc
+no_entry_at (d ∷ es) (suc i) from e = no_entry_at es i (from + length (spelled d)) e
+
+-- ---- bytes that are read as a list
+
+-- this is the last text of entries, or there is none
+abbrev pub IsLastText : List Entry → List ℕ → Type 0
+IsLastText [] name = name ≡ []
+IsLastText (e ∷ []) name = name ≡ e.0
+IsLastText (e ∷ f ∷ es) name = IsLastText (f ∷ es) name
+
+-- these bytes were read as entries, and this is left
+pub record IsDone (bytes rest last starts : List ℕ) : Type 0 where
+  pub done : List Entry
+  pub list : IsEntryList done
+  pub read : bytes ≡ block_bytes done ++ rest
+  pub starts_are : starts ≡ starts_from 0 done
+  pub last_is : IsLastText done last
+
+is_less : (o : Ordering) → o ≡ Less → T (is_lt o)
+is_less o e = subst (λ (o : Ordering). T (is_lt o)) (sym e) tt
+
+below_last : (name last : List ℕ) (e : Entry) (es : List Entry) → T (below_all byte_cmp name (e ∷ es)) → IsLastText (e ∷ es) last → byte_cmp name last ≡ Less
+below_last name last e [] h is = subst (λ (t : List ℕ). byte_cmp name t ≡ Less) (sym is) (less _ (first _ _ h))
+below_last name last e (f ∷ es) h is = below_last name last f es (second _ _ h) is
+
+below_on : (name : List ℕ) (es : List Entry) (e : Entry) → T (below_all byte_cmp name es) → byte_cmp name e.0 ≡ Less → T (below_all byte_cmp name (es ++ e ∷ []))
+below_on name [] e h p = both _ _ (is_less _ p) tt
+below_on name (d ∷ es) e h p = both _ _ (first _ _ h) (below_on name es e (second _ _ h) p)
+
+rising_on : (es : List Entry) (e : Entry) (last : List ℕ) → IsRising es → IsLastText es last → byte_cmp last e.0 ≡ Less → IsRising (es ++ e ∷ [])
+rising_on [] e last r is p = tt
+rising_on (d ∷ []) e last r is p = both _ _ (both _ _ (is_less _ (subst (λ (t : List ℕ). byte_cmp t e.0 ≡ Less) is p)) tt) tt
+rising_on (d ∷ f ∷ es) e last r is p =
+    let low = nat_list_cmp_total.trans d.0 last e.0 (below_last d.0 last f es (first _ _ r) is) p in
+    both _ _ (below_on d.0 (f ∷ es) e (first _ _ r) low) (rising_on (f ∷ es) e last (second _ _ r) is p)
+
+last_on : (es : List Entry) (e : Entry) → IsLastText (es ++ e ∷ []) e.0
+last_on [] e = refl
+last_on (d ∷ []) e = refl
+last_on (d ∷ f ∷ es) e = last_on (f ∷ es) e
+
+bytes_on : (es : List Entry) (e : Entry) (rest after : List ℕ) → rest ≡ spelled e ++ after → block_bytes es ++ rest ≡ block_bytes (es ++ e ∷ []) ++ after
+bytes_on [] e rest after r = r ∙ sym (append_assoc (spelled e) [] after)
+bytes_on (d ∷ es) e rest after r =
+    append_assoc (spelled d) (block_bytes es) rest ∙ ap (λ (l : List ℕ). spelled d ++ l) (bytes_on es e rest after r)
+    ∙ sym (append_assoc (spelled d) (block_bytes (es ++ e ∷ [])) after)
+
+pub next_done : (bytes rest last starts after : List ℕ) (e : Entry) → IsDone bytes rest last starts → rest ≡ spelled e ++ after → IsEntry e → byte_cmp last e.0 ≡ Less → IsDone bytes after e.0 (starts ++ (length bytes - length rest) ∷ [])
+next_done bytes rest last starts after e d r is p =
+    let at : length bytes - length rest ≡ 0 + length (block_bytes d.done) = omega (arith, ap length d.read, length-append (block_bytes d.done) rest) in
+    record {
+      done = d.done ++ e ∷ [];
+      list = record { rising = rising_on d.done e last d.list.rising d.last_is p; each = all_joined IsEntry d.done (e ∷ []) d.list.each (is, tt) };
+      read = d.read ∙ bytes_on d.done e rest after r;
+      starts_are = ap (λ (l : List ℕ). l ++ (length bytes - length rest) ∷ []) d.starts_are ∙ ap (λ (n : ℕ). starts_from 0 d.done ++ n ∷ []) at ∙ sym (starts_joined 0 d.done e);
+      last_is = last_on d.done e;
+    }
+
+none_below : (xs : List ℕ) → 0 < length xs → byte_cmp [] xs ≡ Less
+none_below [] h = absurd (omega (arith, h))
+none_below (x ∷ xs) h = refl
+
+seam : (es : List Entry) (e : Entry) (more : List Entry) (last : List ℕ) → 0 < length e.0 → IsRising (es ++ e ∷ more) → IsLastText es last → byte_cmp last e.0 ≡ Less
+seam [] e more last some r is = subst (λ (t : List ℕ). byte_cmp t e.0 ≡ Less) (sym is) (none_below e.0 some)
+seam (d ∷ []) e more last some r is = subst (λ (t : List ℕ). byte_cmp t e.0 ≡ Less) (sym is) (less _ (first _ _ (first _ _ r)))
+seam (d ∷ f ∷ es) e more last some r is = seam (f ∷ es) e more last some (second _ _ r) is
+
+some_text : (e : Entry) → IsEntry e → 0 < length e.0
+some_text e is =
+    let key = is.key in
+    let named = ap length is.named in
+    let whole = length-append (ended (escaped key.row)) (ended key.family ++ (ended (qualifier_name key.qualifier) ++ stamp_text key.stamp)) in
+    let row = length-append (escaped key.row) (0 ∷ 0 ∷ []) in
+    omega (arith, named, whole, row)
+
+all_at : (done more : List Entry) (e : Entry) → AllByRecursion IsEntry (done ++ e ∷ more) → IsEntry e
+all_at [] more e h = h.0
+all_at (d ∷ done) more e h = all_at done more e h.1
+
+module _ (bytes rest last starts : List ℕ) (d : IsDone bytes rest last starts) (small : length bytes < 2 ^ 32) (es : List Entry) (list : IsEntryList es) (are : bytes ≡ block_bytes es) where
+  -- bytes that go on with no entry are those of no list
+  pub stuck_here : length rest ≢ 0 → ((e : Entry) (x : List ℕ) → rest ≢ spelled e ++ x) → ⊥
+  stuck_here some none = let on = goes_on d.done es bytes rest small d.read are in go on.more on.bytes
+    where
+      go : (more : List Entry) → rest ≡ block_bytes more → ⊥
+      go [] q = some (ap length q)
+      go (f ∷ more) q = none f (block_bytes more) q
+
+  -- nor those that go on with one that can't be the next
+  pub wrong_next : (after : List ℕ) (e : Entry) → rest ≡ spelled e ++ after → ¬ (IsEntry e × (byte_cmp last e.0 ≡ Less)) → ⊥
+  wrong_next after e r bad = let on = goes_on d.done es bytes rest small d.read are in go on.more on.list on.bytes
+    where
+      go : (more : List Entry) → es ≡ d.done ++ more → rest ≡ block_bytes more → ⊥
+      go [] l q =
+          let n = ap length r ∙ length-append (spelled e) after in
+          let z : length rest ≡ 0 = ap length q in
+          omega (arith, n, z, spelled_length e)
+      go (f ∷ more) l q =
+          let few : length rest < 2 ^ 32 = omega (arith, small, ap length d.read, length-append (block_bytes d.done) rest) in
+          let same = spelled_split e f after (block_bytes more) (short e after rest r few) (short f (block_bytes more) rest q few) (sym r ∙ q) in
+          let cut = subst (λ (g : Entry). es ≡ d.done ++ g ∷ more) (sym same.0) l in
+          let is = all_at d.done more e (subst (AllByRecursion IsEntry) cut list.each) in
+          bad (is, seam d.done e more last (some_text e is) (subst (λ (l : List Entry). IsRising l) cut list.rising) d.last_is)
+
+append-nil : {A : Type 0} (xs : List A) → xs ++ [] ≡ xs
+append-nil [] = refl
+append-nil (x ∷ xs) = ap (λ (l : List _). x ∷ l) (append-nil xs)
+
+pub all_read : (bytes rest last starts : List ℕ) → IsDone bytes rest last starts → length rest ≡ 0 → IsSpelling bytes starts
+all_read bytes [] last starts d z = record { entries = d.done; list = d.list; bytes_are = d.read ∙ append-nil (block_bytes d.done); starts_are = d.starts_are }
+all_read bytes (x ∷ rest) last starts d z = absurd (omega (arith, z))
+
+pub nothing_read : (bytes : List ℕ) → IsDone bytes bytes [] []
+nothing_read bytes = record { done = []; list = record { rising = tt; each = tt }; read = refl; starts_are = refl; last_is = refl }
+
+-- a block that is that of one list is so of each list with these bytes
+pub parsed_as : (es fs : List Entry) (block : Block) → IsParsed es block → block_bytes fs ≡ block_bytes es → fs ≡ es
+parsed_as es fs block p e = one_spelling es fs p.small (sym e)
+
+-- what stands in a block where an entry begins
+pub record IsReadAt (es : List Entry) (i : ℕ) (rest : List ℕ) : Type 0 where
+  pub entry : Entry
+  pub more : List ℕ
+  pub is : slice_get es i ≡ Some entry
+  pub bytes : rest ≡ spelled entry ++ more
+  pub small : length rest < 2 ^ 32
+
+pub read_at : (es : List Entry) (block : Block) (i start n : ℕ) → IsParsed es block → slice_get block.starts.items i ≡ Some start → n ≤ start → (start ≤ length block.bytes.items → n ≡ start) → IsReadAt es i (drop n block.bytes.items)
+read_at es block i start n p got low is =
+    let at = entry_at es i 0 start (ap (λ (l : List ℕ). slice_get l i) (sym p.starts) ∙ got) in
+    let within = at.within in
+    let size = ap length p.bytes in
+    let same : n ≡ start - 0 = omega (arith, is (omega (arith, within, size))) in
+    let rest : drop n block.bytes.items ≡ drop (start - 0) (block_bytes es) = ap (λ (k : ℕ). drop k block.bytes.items) same ∙ ap (drop (start - 0)) p.bytes in
+    let len = length-drop (start - 0) (block_bytes es) in
+    record { entry = at.entry; more = at.more; is = at.is; bytes = rest ∙ at.bytes; small = omega (arith, p.small, ap length rest, len) }
+
+pub same_entry : (es : List Entry) (i : ℕ) (rest after : List ℕ) (b : Entry) → IsReadAt es i rest → rest ≡ spelled b ++ after → Some b ≡ slice_get es i
+same_entry es i rest after b r e =
+    let same = spelled_split b r.entry after r.more (short b after rest e r.small) (short r.entry r.more rest r.bytes r.small) (sym e ∙ r.bytes) in
+    ap Some same.0 ∙ sym r.is
