@@ -148,6 +148,20 @@ impl MetadataTable {
         ensures err { OnErr result (self.new ≡ self.old) }
     {
         self.check_split(row)?;
+        Ok(self.cut_at(row)?)
+    }
+
+    /// The same of a tablet that can be cut there, as `check_split` says.
+    ///
+    /// # Errors
+    ///
+    /// A growth was refused. The table is then as before.
+    pub fn cut_at(&mut self, row: &Row) -> Result<u32, AllocError>
+        requires free { ¬ BarsSplit row.now self.old }
+        ensures number { IfOk result (λ left. left ≡ length self.old + 1) }
+        ensures cut { IfOk result (λ left. Cuts row.now left self.old self.new) }
+        ensures err { OnErr result (self.new ≡ self.old) }
+    {
         let left = self.len() as u32 + 1;
         let position = positions::of_row(&self.places, row);
         let part = self.places[position].left_part(row, left)?;

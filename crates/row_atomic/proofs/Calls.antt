@@ -13,7 +13,7 @@ use Rattle.row_atomic.specs.Calls.{Applies, AppliesSuch, KeepsBelow, OnlyReads}
 use Rattle.row_atomic.specs.Clusters.{ClusterState, InOrder, Overfills, Storage, cells_in, storage_of}
 use Rattle.row_atomic.specs.Refusals.{IsReadRefusal, IsRefusalOfRead}
 use Rattle.row_atomic.proofs.Answering.{read_kept, read_still, same_cells_in, still_in_order}
-use Rattle.row_atomic.proofs.Roomy.{room_same}
+use Rattle.row_atomic.proofs.CompactionRoom.{room_same}
 use Rattle.row_atomic.proofs.Placing.{set_same}
 
 module _ {R : Type 0} {holds : R → Type 0} {storage : R → Storage} where

@@ -5,7 +5,7 @@ use Rattle.cell_key.specs.Faults.{HasRisen}
 use Rattle.cell_key.specs.declared.refusals.Refusal.{Refusal}
 use Rattle.cell_key.specs.declared.refusals.Refusal.TheVariants as refused
 use Rattle.file_store.specs.Store.{Contents, KeepsOthers}
-use Rattle.metadata_table.specs.Table.{HasTablet, IsTable}
+use Rattle.metadata_table.specs.Table.{IsTable}
 use Rattle.tablet.specs.Laws.{UnnamedMayGo}
 use Rattle.row_atomic.specs.Changes.{Holds, IsNumberedRefusal, IsRefusalOf}
 use Rattle.row_atomic.specs.Clusters.{ClusterState, IsMatched}

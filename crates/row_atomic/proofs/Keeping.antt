@@ -25,6 +25,7 @@ use Rattle.row_atomic.proofs.Changing.{contained}
 use Rattle.row_atomic.proofs.Owners.{each_placed}
 use Rattle.row_atomic.proofs.Shares.{each_at, each_map}
 use Rattle.row_atomic.proofs.Sweeping.{each_of, listed_true, maps_alike}
+use Rattle.row_atomic.proofs.Uncaching.{uncached_stored}
 
 -- ---- what is listed
 
@@ -218,6 +219,7 @@ module _ {F : Type 0} (contents : F → Option Contents) (law : UnnamedMayGo) (r
     one_has command.Sweep (outcome.Swept count) is lists = has_swept old new count is.upholds (lists refl)
     one_has command.Sweep (outcome.Refused refusal) is lists = has_lacking old new is.upholds.1 (lists refl)
     one_has command.Sweep _ is lists = has_stored contents root cells old new is.upholds
+    one_has command.DropCaches outcome.Done is lists = has_stored contents root cells old new (uncached_stored contents old new is.upholds)
     one_has _ (outcome.Refused refusal) is lists = has_stored contents root cells old new is.upholds.1
     one_has _ _ is lists = has_stored contents root cells old new is.upholds
 

@@ -3,6 +3,7 @@ pub mod Calls
 pub mod Changing
 pub mod Checkpointing
 pub mod Commanding
+pub mod CompactionRoom
 pub mod Cutting
 pub mod Emptying
 pub mod Firsts
@@ -18,15 +19,15 @@ pub mod Moving
 pub mod Naming
 pub mod Nexts
 pub mod Numbers
-pub mod Opening
+pub mod OpenedRoots
 pub mod Outcomes
 pub mod Owners
 pub mod Parts
 pub mod Passing
 pub mod Places
+pub mod PlaceCaching
 pub mod Placing
 pub mod Resting
-pub mod Roomy
 pub mod Rooting
 pub mod Scans
 pub mod Shares
@@ -35,3 +36,4 @@ pub mod Splitting
 pub mod Stamps
 pub mod Sweeping
 pub mod Tiers
+pub mod Uncaching

@@ -11,8 +11,8 @@ use Rattle.tablet.specs.Views.{UsesName, memory_of, names_of, with_name}
 use Rattle.tablet.specs.declared.tablet.Tablet.{Tablet}
 use Rattle.row_atomic.specs.Changes.{IsMade, MeetsBadCount, MeetsFull, WritesNone}
 use Rattle.row_atomic.specs.Clusters.{ArePlaced, tablet_numbered}
-use Rattle.row_atomic.specs.declared.cluster_compactions.Compaction.{Compaction}
-use Rattle.row_atomic.specs.declared.cluster_compactions.Compaction.TheVariants.{Minor, Merge, Major}
+use Rattle.tablet.specs.declared.compactions.Compaction.{Compaction}
+use Rattle.tablet.specs.declared.compactions.Compaction.TheVariants.{Minor, Merge, Major}
 
 abbrev Distinct : List ℕ → Type 0
 Distinct names = AllPairs (λ (m n : ℕ). m ≢ n) names

@@ -18,8 +18,8 @@ use Rattle.row_atomic.specs.Clusters.{ClusterState, spots_of, storage_of}
 use Rattle.row_atomic.specs.Commands.{Answers, BarsCompaction, HasCause, IsNoFuller, IsOutcome, LeavesRoom, MayCompact, OverfillsCluster, TellsFaults, Upholds, UsesFiles, cells_shown, compacting, done_of, split_of, swept_of}
 use Rattle.row_atomic.specs.Refusals.{IsApplyRefusal, IsReadRefusal}
 use Rattle.row_atomic.specs.Sweeps.{MayLackUnkept, count_swept, swept}
-use Rattle.row_atomic.specs.declared.cluster_compactions.Compaction.{Compaction}
-use Rattle.row_atomic.specs.declared.cluster_compactions.Compaction.TheVariants as compactions
+use Rattle.tablet.specs.declared.compactions.Compaction.{Compaction}
+use Rattle.tablet.specs.declared.compactions.Compaction.TheVariants as compactions
 use Rattle.row_atomic.specs.declared.commands.Command.{Command}
 use Rattle.row_atomic.specs.declared.commands.Command.TheVariants as command
 use Rattle.row_atomic.specs.declared.commands.Outcome.{Outcome}
@@ -27,7 +27,7 @@ use Rattle.row_atomic.specs.declared.commands.Outcome.TheVariants.{Done, Refused
 use Rattle.row_atomic.proofs.Passing.{IsUnknown, below_only, read_move, read_split, unknown_move, unknown_only, unknown_unwritten, want_compacts}
 use Rattle.row_atomic.proofs.Changing.{contained}
 use Rattle.row_atomic.proofs.Listing.{same_lists, stored_lists}
-use Rattle.row_atomic.proofs.Roomy.{holder_not, holder_that}
+use Rattle.row_atomic.proofs.CompactionRoom.{holder_not, holder_that}
 use Rattle.row_atomic.proofs.Splitting.{holder_known}
 
 -- ---- refusals

@@ -1,22 +1,21 @@
 -- What a call tells where one that it makes was refused, or wasn't.
-use Rattle.std.proofs.Common.{◌≡◌, ◌+◌, ◌<◌, ◌≤◌, ◌⊎◌, ◌↔◌, inl, inr, ℕ, Bool, false, IsTrue, List, length, map, Result, Ok, Err, IfOk, IfErr, IsErrOf, refl, sym, ap, ◌∙◌, subst, arith}
+use Rattle.std.proofs.Common.{◌≡◌, ◌+◌, ◌<◌, ◌≤◌, ◌⊎◌, ◌↔◌, inl, inr, ℕ, Bool, false, IsTrue, List, length, map, Result, Ok, Err, IfOk, IfErr, IsErrOf, sym, ap, ◌∙◌, subst, arith}
 use Rattle.std.specs.Result.{IsErrAnd}
 use Rattle.std.proofs.lemmas.List.{length-map}
 use Rattle.std.proofs.lemmas.Result.{IfOk-weaker}
 use Rattle.cell_key.specs.declared.refusals.Refusal.{Refusal}
 use Rattle.cell_key.specs.declared.refusals.Refusal.TheVariants.{BadSplit, Device, NoMemory, Damaged, TooManyFiles, UnknownServer, UnknownTablet}
+pub use Rattle.cell_key.proofs.Reasons.{not_refused, reason_none as no_fault, reason_passed, reason_then as reason_after}
+pub use Rattle.compaction.proofs.Passed.{passed_err as refused_so, passed_none as none_answered}
 use Rattle.metadata_table.specs.Places.{PlaceView}
 use Rattle.sorted_file.specs.Sources.{IsReadRefusal}
 use Rattle.cell_key.specs.Faults.{HasReason}
 use Rattle.row_atomic.specs.Changes.{ComesOfWriting, IsMoveRefusal, IsRefusalOf, IsSplitRefusal}
 use Rattle.row_atomic.specs.Clusters.{spot_of}
-use Rattle.row_atomic.specs.declared.cluster_compactions.Compaction.{Compaction}
-use Rattle.row_atomic.specs.declared.cluster_compactions.Compaction.TheVariants.{Minor, Merge, Major}
+use Rattle.tablet.specs.declared.compactions.Compaction.{Compaction}
+use Rattle.tablet.specs.declared.compactions.Compaction.TheVariants.{Minor, Merge, Major}
 
 -- ---- a refusal that is passed on
-
-pub not_refused : {A : Type 0} (x : A) (n : Refusal) → ¬ IsErrOf (Ok x) n
-not_refused x n is = cc
 
 pub passed : {A B : Type 0} (r : Result B Refusal) (e n : Refusal) → IsErrAnd r (λ f. f ≡ e) → IsErrOf r n → IsErrOf {T = A} (Err e) n
 passed (Ok x) e n by is = absurd by
@@ -33,18 +32,10 @@ named e n is = cc
 pub same_refusal : {A B : Type 0} (r : Result B Refusal) (e n : Refusal) (P : Type 0) → IsErrAnd r (λ f. f ≡ e) → (IsErrOf {T = A} (Err e) n ↔ P) → (IsErrOf r n ↔ P)
 same_refusal r e n P by only = (λ is. only.0 (passed r e n by is), λ h. refused_as r e n by (named e n (only.1 h)))
 
-pub none_answered : {B : Type 0} (r : Result B Refusal) (e : Refusal) (P : B → Type 0) → IsErrAnd r (λ f. f ≡ e) → IfOk r P
-none_answered (Ok x) e P by = absurd by
-none_answered (Err f) e P by = tt
-
 -- what holds of each refusal
 pub each_refusal : {B : Type 0} (r : Result B Refusal) (P : Refusal → Type 0) → ((e : Refusal) → P e) → IfErr r P
 each_refusal (Ok x) P f = tt
 each_refusal (Err e) P f = f e
-
-pub refused_so : {B : Type 0} (r : Result B Refusal) (e : Refusal) (P : Refusal → Type 0) → IsErrAnd r (λ f. f ≡ e) → P e → IfErr r P
-refused_so (Ok x) e P by h = tt
-refused_so (Err f) e P by h = subst P (sym by) h
 
 -- it is one of those that the call may answer
 pub one_of : {B : Type 0} (P : Refusal → Type 0) (r : Result B Refusal) (e n : Refusal) → IsErrAnd r (λ f. f ≡ e) → P e → IsErrOf r n → P n
@@ -60,10 +51,6 @@ IsBad _ = ⊥
 abbrev pub IsWant : Refusal → Type 0
 IsWant NoMemory = Unit {0}
 IsWant _ = ⊥
-
-pub want_alone : (x : Refusal) → (x ≡ BadSplit) ⊎ (x ≡ NoMemory) → ¬ (x ≡ BadSplit) → IsWant x
-want_alone x (inl bad) not = absurd (not bad)
-want_alone x (inr want) not = subst IsWant (sym want) tt
 
 pub want_read : (x : Refusal) → IsWant x → IsReadRefusal x
 want_read NoMemory h = tt
@@ -129,16 +116,6 @@ below_only n m below from = omega arith
 
 -- ---- a device's faults
 
-pub no_fault : {B : Type 0} (r : Result B Refusal) (count : ℕ) → ¬ IsErrOf r Device → HasReason count count r
-no_fault r count not = record { later = omega arith; device = λ is. absurd (not is); told = λ _. refl }
-
-pub reason_passed : {A B : Type 0} (r : Result B Refusal) (e : Refusal) (before now : ℕ) → IsErrAnd r (λ f. f ≡ e) → HasReason {T = A} before now (Err e) → HasReason before now r
-reason_passed r e before now by reason = record {
-  later = reason.later;
-  device = λ is. reason.device (passed r e Device by is);
-  told = λ other. reason.told (λ is. other (refused_as r e Device by (named e Device is)));
-}
-
 pub reason_since : {B : Type 0} (r : Result B Refusal) (before mid now : ℕ) → mid ≡ before → HasReason mid now r → HasReason before now r
 reason_since r before mid now same reason = subst (λ (count : ℕ). HasReason count now r) same reason
 
@@ -146,10 +123,6 @@ reason_since r before mid now same reason = subst (λ (count : ℕ). HasReason c
 pub not_wanted : {B : Type 0} (r : Result B Refusal) (e n : Refusal) → IsErrAnd r (λ f. f ≡ e) → ¬ (e ≡ n) → ¬ IsErrOf r n
 not_wanted (Ok x) e n by other is = absurd by
 not_wanted (Err f) e n by other is = other (let same : f ≡ n = cc in sym by ∙ same)
-
--- a call that was not refused met no fault
-pub reason_after : {A B : Type 0} (r : Result B Refusal) (x : A) (before mid now : ℕ) → HasReason before mid (Ok x) → HasReason mid now r → HasReason before now r
-reason_after r x before mid now first second = subst (λ (k : ℕ). HasReason k now r) (first.told (not_refused x Device)) second
 
 pub reason_kept : {A B : Type 0} (x : A) (y : B) (before now : ℕ) → HasReason before now (Ok x) → HasReason before now (Ok y)
 reason_kept x y before now reason = record { later = reason.later; device = λ is. absurd (not_refused y Device is); told = λ other. reason.told (not_refused x Device) }

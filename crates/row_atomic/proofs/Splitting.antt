@@ -1,17 +1,13 @@
 -- What a split leaves of the cluster.
-use Rattle.std.proofs.Common.{◌≡◌, ◌≤◌, ◌<◌, ◌+◌, ◌^◌, inl, inr, ℕ, zero, suc, Bool, true, false, cond, nat_eq, List, [], ◌∷◌, ◌++◌, map, set, length, get_or, Option, Some, None, IfSome, IsSomeAnd, IsTrue, Err, IsErrOf, slice_get, refl, sym, ap, ◌∙◌, subst, arith}
+use Rattle.std.proofs.Common.{◌≡◌, ◌≤◌, ◌<◌, ◌+◌, ◌^◌, inl, inr, ℕ, zero, suc, Bool, true, false, cond, nat_eq, List, [], ◌∷◌, ◌++◌, map, set, length, get_or, Option, Some, None, IfSome, IsSomeAnd, IsTrue, slice_get, refl, sym, ap, ◌∙◌, subst, arith}
 use Rattle.std.proofs.lemmas.Option.{same_Some}
 use Rattle.std.proofs.lemmas.List.{length-set}
 use Rattle.std.specs.List.{AllByRecursion, Contains}
-use Rattle.cell_key.specs.declared.refusals.Refusal.{Refusal}
-use Rattle.cell_key.specs.declared.refusals.Refusal.TheVariants.{Device, NoMemory, Damaged, TooManyFiles, FileTooLarge, Exhausted}
 use Rattle.file_store.specs.Store.{Contents}
-use Rattle.sorted_file.specs.Sources.{IsReadRefusal}
 use Rattle.metadata_table.specs.Places.{EndsBefore, PlaceView}
 use Rattle.metadata_table.specs.Table.{BarsSplit, Cuts, HasTablet, IsHolder, IsTable, naming, with_files}
 use Rattle.tablet.specs.Ranges.{has_row}
 use Rattle.tablet.specs.Views.{AreParts, Holds, IsBelow, Keeps, UsesName, cells_at, memory_of, names_of, range_of}
-use Rattle.tablet.specs.Compactions.{IsMinorRefusal}
 use Rattle.tablet.specs.Laws.{OthersStay, StaysInRange}
 use Rattle.tablet.specs.declared.tablet.Tablet.{Tablet}
 use Rattle.row_atomic.specs.Clusters.{ArePlaced, InOrder, IsMatched, cells_in}
@@ -37,16 +33,6 @@ holder_known row places p holder = (p, subst (λ (ps : List PlaceView). Contains
 
 pub emptied_at : (ts : List Tablet) (n i : ℕ) (t : Tablet) → n ≡ i + 1 → slice_get ts i ≡ Some t → Numbered IsEmptied n ts → memory_of t ≡ []
 emptied_at ts n i t e there emptied = subst IsEmptied (same_Some emptied.tablet t (sym emptied.numbered ∙ numbered_at ts n i t e there)) emptied.such
-
--- where the memtable was empty no limit is met
-pub read_alone : {T : Type 0} (x : Refusal) → IsMinorRefusal x → (IsErrOf {T = T} (Err x) TooManyFiles → ⊥) → (IsErrOf {T = T} (Err x) Exhausted → ⊥) → (IsErrOf {T = T} (Err x) FileTooLarge → ⊥) → IsReadRefusal x
-read_alone Device h full exhausted large = tt
-read_alone NoMemory h full exhausted large = tt
-read_alone Damaged h full exhausted large = tt
-read_alone TooManyFiles h full exhausted large = absurd (full refl)
-read_alone Exhausted h full exhausted large = absurd (exhausted refl)
-read_alone FileTooLarge h full exhausted large = absurd (large refl)
-read_alone _ h full exhausted large = h
 
 pub stays_over : (ts xs : List Tablet) → xs ≡ ts → (i : ℕ) (t u : Tablet) → slice_get xs i ≡ Some t → OthersStay → (old new : Option Contents) (before after : ℕ) → UsesName old before new after → Keeps old before t new after u → InOrder old before ts
     → InOrder new after (set xs i u) × (cells_in new (set xs i u) ≡ cells_in old ts)

@@ -1,6 +1,6 @@
 -- What the calls of a cluster do to its tablets and their places.
 use Rattle.std.specs.Prelude.{◌≡◌, ◌≢◌, ◌≤◌, ◌+◌, ◌⊎◌, ℕ, false, nat_lt, List, [], ◌∷◌, length, map, take, drop, Option, Some, IsSome, IsSomeAnd, IfSome, ⊤}
-use Rattle.std.specs.List.{AllByRecursion, Contains, slice_get}
+use Rattle.std.specs.List.{AllByRecursion, AllZip, Contains, slice_get}
 use Rattle.cell_key.specs.Entries.{Entry}
 use Rattle.cell_key.specs.declared.refusals.Refusal.{Refusal}
 use Rattle.cell_key.specs.declared.refusals.Refusal.TheVariants as refused
@@ -12,15 +12,13 @@ use Rattle.compaction.specs.Writing.{written}
 use Rattle.metadata_table.specs.Places.{PlaceView}
 use Rattle.metadata_table.specs.Table.{Cuts, IsHolder, IsListed, moved, with_files}
 use Rattle.tablet.specs.Ranges.{seen}
-use Rattle.tablet.specs.Views.{Holds as HoldsAt, range_of, memory_of, files_of, names_of, lists_of, with_name}
+use Rattle.tablet.specs.Views.{Holds as HoldsAt, IsSameTablet, range_of, memory_of, files_of, names_of, lists_of, with_name}
 use Rattle.tablet.specs.Compactions.{Compacts, IsCompactionRefusal}
-use Rattle.tablet.specs.declared.compactions.Compaction.{Compaction as Kind}
-use Rattle.tablet.specs.declared.compactions.Compaction.TheVariants as kinds
+use Rattle.tablet.specs.declared.compactions.Compaction.{Compaction}
+use Rattle.tablet.specs.declared.compactions.Compaction.TheVariants.{Minor, Merge, Major}
 use Rattle.tablet.specs.declared.ranges.RowRange.{RowRange}
 use Rattle.tablet.specs.declared.tablet.Tablet.{Tablet}
 use Rattle.row_atomic.specs.Clusters.{ClusterState, InOrder, cells_in, tablet_numbered}
-use Rattle.row_atomic.specs.declared.cluster_compactions.Compaction.{Compaction}
-use Rattle.row_atomic.specs.declared.cluster_compactions.Compaction.TheVariants.{Minor, Merge, Major}
 
 -- ---- all tablets
 
@@ -54,6 +52,12 @@ pub record IsUndone {F : Type 0} (contents : F → Option Contents)
   pub as_before : IsAsBefore old new
   pub name : new.next_name ≡ old.next_name
   pub files : contents new.files ≡ contents old.files
+
+-- Over its files each tablet is what it was, and all else is as before.
+pub record IsUncached {F : Type 0} (contents : F → Option Contents)
+    (old new : ClusterState F) : Type 0 where
+  pub tablets : AllZip (IsSameTablet (contents old.files)) old.tablets new.tablets
+  pub rest : new ≡ record old { tablets = new.tablets }
 
 -- the tablet of a number stands at the index
 pub record IsAt (n : ℕ) (tablets : List Tablet) (index : ℕ) : Type 0 where
@@ -111,18 +115,12 @@ abbrev pub IsCleaned : Compaction → Option Contents → Tablet → Type 0
 IsCleaned Major told t = LacksErasures told t
 IsCleaned _ told t = ⊤
 
--- a compaction, as the tablet says it
-abbrev pub kind_of : Compaction → Kind
-kind_of Minor = kinds.Minor
-kind_of (Merge count) = kinds.Merge count
-kind_of Major = kinds.Major
-
 -- The tablet of a number was compacted: its file has keys of the tablet's range alone,
 -- and erasures unless all files were merged.
 pub record IsCompacted {F : Type 0} (contents : F → Option Contents) (compaction : Compaction)
     (tablet : ℕ) (old new : ClusterState F) : Type 0 where
   pub made : Remakes (IsMade compaction old.next_name) tablet old.tablets new.tablets
-  pub lists : Remakes (Compacts (kind_of compaction)
+  pub lists : Remakes (Compacts compaction
       (contents old.files) old.next_name (contents new.files)) tablet old.tablets new.tablets
   pub cleaned : Holds contents old
       → Numbered (IsCleaned compaction (contents new.files)) tablet new.tablets

@@ -12,14 +12,14 @@ use Rattle.cell_key.specs.declared.refusals.Refusal.TheVariants as refused
 use Rattle.file_store.specs.Store.{Contents}
 use Rattle.metadata_table.specs.Table.{BarsSplit, HasTablet, most_servers}
 use Rattle.tablet.specs.Views.{UsesName}
-use Rattle.row_atomic.specs.Changes.{ComesOfWriting, ComesTo, Fits, Holds, IsAsBefore, IsCompacted, IsCut, IsEmptied, IsFull, IsHalved, IsMoveRefusal, IsNumberedRefusal, IsOn, IsSplitRefusal, IsTooLarge, IsUndone, ListsAll, MayBeFlushed, MayHolderBeFlushed, MeetsBadCount, MeetsFull, Numbered, OfHolder, WritesNone}
+use Rattle.row_atomic.specs.Changes.{ComesOfWriting, ComesTo, Fits, Holds, IsAsBefore, IsCompacted, IsCut, IsEmptied, IsFull, IsHalved, IsMoveRefusal, IsNumberedRefusal, IsOn, IsSplitRefusal, IsTooLarge, IsUncached, IsUndone, ListsAll, MayBeFlushed, MayHolderBeFlushed, MeetsBadCount, MeetsFull, Numbered, OfHolder, WritesNone}
 use Rattle.row_atomic.specs.Clusters.{ClusterState, Overfills, cells_in, spots_of, storage_of}
 use Rattle.row_atomic.specs.Compactions as compaction
 use Rattle.row_atomic.specs.Refusals.{IsApplyRefusal, IsReadRefusal}
 use Rattle.row_atomic.specs.Room.{TakesNoRoom, TakesRoomOf}
 use Rattle.row_atomic.specs.Sweeps.{IsSwept, IsSweptInPart}
-use Rattle.row_atomic.specs.declared.cluster_compactions.Compaction.{Compaction}
-use Rattle.row_atomic.specs.declared.cluster_compactions.Compaction.TheVariants as compactions
+use Rattle.tablet.specs.declared.compactions.Compaction.{Compaction}
+use Rattle.tablet.specs.declared.compactions.Compaction.TheVariants as compactions
 use Rattle.row_atomic.specs.declared.commands.Command.{Command}
 use Rattle.row_atomic.specs.declared.commands.Command.TheVariants as command
 use Rattle.row_atomic.specs.declared.commands.Outcome.{Outcome}
@@ -69,6 +69,7 @@ Answers old (command.Major tablet) outcome.Done new = new ≡ old
 Answers old (command.Split row) (outcome.Split left) new = new ≡ old
 Answers old (command.Move tablet server) outcome.Done new = new ≡ old
 Answers old command.Sweep (outcome.Swept count) new = new ≡ old
+Answers old command.DropCaches outcome.Done new = new ≡ old
 Answers old _ (outcome.Refused refusal) new = (refusal ≢ refused.Damaged) × (new ≡ old)
 Answers old _ _ new = ⊥
 
@@ -86,6 +87,7 @@ MayRefuse (command.Major tablet) refusal = IsNumberedRefusal compaction.major re
 MayRefuse (command.Split row) refusal = IsSplitRefusal refusal
 MayRefuse (command.Move tablet server) refusal = IsMoveRefusal refusal
 MayRefuse command.Sweep refusal = (refusal ≡ refused.Device) ⊎ (refusal ≡ refused.NoMemory)
+MayRefuse command.DropCaches refusal = ⊥
 
 -- what a command that is done does to tablets and files
 abbrev pub Does : {F : Type 0}
@@ -101,6 +103,7 @@ Does contents (command.Split row) (outcome.Split left) old new =
     × IsHalved old.next_name row left old.places old.tablets new.tablets
 Does contents (command.Move tablet server) outcome.Done old new = ComesTo tablet server old new
 Does contents command.Sweep (outcome.Swept count) old new = IsSwept contents count old new
+Does contents command.DropCaches outcome.Done old new = IsUncached contents old new
 Does contents _ _ old new = storage_of contents new ≡ storage_of contents old
 
 -- what one that is refused leaves of them
@@ -184,7 +187,7 @@ abbrev pub AreThese : List ℕ → List Edit → List ℕ → List Edit → Type
 AreThese row edits other others = (other ≡ row) × (others ≡ edits)
 
 -- An apply that is done takes the room of its edits.
--- A read, a sweep and an apply that is refused take none.
+-- A read, a sweep, an apply that is refused and the emptying of caches take none.
 abbrev pub LeavesRoom : {F : Type 0} → Command → Outcome → ClusterState F → ClusterState F → Type 0
 LeavesRoom (command.Newest row family qualifier lo hi) result old new = IsNoFuller old new
 LeavesRoom (command.NextCell after) result old new = IsNoFuller old new
@@ -192,6 +195,7 @@ LeavesRoom (command.Apply row edits) outcome.Done old new =
     TakesRoomOf OverfillsCluster (AreThese row edits.items) old new
 LeavesRoom (command.Apply row edits) (outcome.Refused refusal) old new = IsNoFuller old new
 LeavesRoom command.Sweep result old new = IsNoFuller old new
+LeavesRoom command.DropCaches result old new = IsNoFuller old new
 LeavesRoom _ result old new = ⊤
 
 -- ---- why a command is refused

@@ -1,7 +1,7 @@
 -- The compactions, by names for the crates above.
 use Rattle.std.specs.Prelude.{ℕ}
-use Rattle.row_atomic.specs.declared.cluster_compactions.Compaction.{Compaction}
-use Rattle.row_atomic.specs.declared.cluster_compactions.Compaction.TheVariants.{Minor, Merge, Major}
+use Rattle.tablet.specs.declared.compactions.Compaction.{Compaction}
+use Rattle.tablet.specs.declared.compactions.Compaction.TheVariants.{Minor, Merge, Major}
 
 abbrev pub minor : Compaction
 minor = Minor

@@ -1,4 +1,5 @@
--- Compactions that no command asks for: of each tablet whose memtable has many entries, or that has many files.
+-- Compactions that no command asks for: of each tablet whose memtable has many entries, or that has
+-- many files.
 use Rattle.std.specs.Prelude.{◌≡◌, ◌≤◌, ◌^◌, ◌+◌, ◌&&◌, ℕ, Bool, false, nat_le, nat_lt, List, [], ◌∷◌, length, map, filter, Option, None, Some}
 use Rattle.file_store.specs.Store.{Contents}
 use Rattle.metadata_table.specs.Places.{PlaceView}

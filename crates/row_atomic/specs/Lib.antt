@@ -6,6 +6,7 @@ pub mod Compactions
 pub mod Flushes
 pub mod Laws
 pub mod Oldest
+pub mod PlaceCaches
 pub mod Refusals
 pub mod Roots
 pub mod RootsOpened

@@ -5,6 +5,7 @@ ghost use Rattle.std.specs.FinMap.{empty};
 ghost use Rattle.metadata_table.specs.Table.{first_place};
 ghost use Rattle.row_atomic.specs.Clusters.{InOrder, IsFirstTablet, cells_in};
 
+use crate::place_cache::PlaceCache;
 use cell_key::Refusal;
 use file_store::Files;
 use metadata_table::MetadataTable;
@@ -22,10 +23,12 @@ pub struct Cluster<F> {
     pub(crate) next_name: u64,
     pub(crate) table: MetadataTable,
     pub(crate) tablets: Vec<Tablet>,
+    pub(crate) place_cache: PlaceCache,
 }
 
 impl<F> Model for Cluster<F> {
     ghost use Rattle.row_atomic.specs.Clusters.{ClusterState, IsMatched};
+    ghost use Rattle.row_atomic.specs.PlaceCaches.{AreHeld};
 
     ghost Value = { ClusterState F };
 
@@ -39,7 +42,8 @@ impl<F> Model for Cluster<F> {
         } };
 
     ghost invariant = { λ cluster.
-        IsMatched cluster.file_limit cluster.next_name cluster.table cluster.tablets.items };
+        IsMatched cluster.file_limit cluster.next_name cluster.table cluster.tablets.items
+        × AreHeld cluster.table cluster.place_cache.numbers.entries };
 }
 
 /// The table of a new store, and its one tablet.
@@ -77,6 +81,10 @@ impl<F: Files> Cluster<F> {
         ensures refusal { IfErr result (λ refused. refused.0 ≡ Refusal.NoMemory) }
         ensures returned { IfErr result (λ refused. refused.1 ≡ files) }
     {
+        let place_cache = match PlaceCache::new(alloc) {
+            Ok(place_cache) => place_cache,
+            Err(refusal) => return Err((refusal, files)),
+        };
         match first_tablet(alloc) {
             Ok((table, tablets)) => Ok(Cluster {
                 alloc,
@@ -85,6 +93,7 @@ impl<F: Files> Cluster<F> {
                 next_name: 1,
                 table,
                 tablets,
+                place_cache,
             }),
             Err(refusal) => Err((refusal, files)),
         }
@@ -101,6 +110,7 @@ impl<F: Files> Cluster<F> {
             next_name: _,
             table: _,
             tablets: _,
+            place_cache: _,
         } = self;
         files
     }

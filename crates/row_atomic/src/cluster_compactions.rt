@@ -5,7 +5,7 @@ ghost use Rattle.metadata_table.specs.Table.{HasTablet, IsTable, with_files};
 ghost use Rattle.cell_key.specs.Faults.{HasReason};
 ghost use Rattle.tablet.specs.Compactions.{Compacts};
 ghost use Rattle.tablet.specs.Views.{Holds as HoldsAt, IsBelow, IsUnchanged, Keeps, UsesName, names_of, range_of};
-ghost use Rattle.row_atomic.specs.Changes.{ComesOfWriting, Fits, IsAt, IsBadCount, IsCleaned, IsFull, IsMade, IsRefusalOf, IsTooLarge, MeetsBadCount, MeetsFull, Numbered, WritesNone, kind_of};
+ghost use Rattle.row_atomic.specs.Changes.{ComesOfWriting, Fits, IsAt, IsBadCount, IsCleaned, IsFull, IsMade, IsRefusalOf, IsTooLarge, MeetsBadCount, MeetsFull, Numbered, WritesNone};
 ghost use Rattle.row_atomic.specs.Commands.{IsOutcome, compacting, done_of};
 
 use crate::cluster::Cluster;
@@ -14,18 +14,7 @@ use cell_key::Refusal;
 use file_store::Files;
 use metadata_table::MetadataTable;
 use std::alloc::Global;
-use tablet::{Tablet, others_stay};
-
-/// A compaction of a tablet.
-#[derive(Clone, Copy)]
-pub(crate) enum Compaction {
-    /// The memtable is written.
-    Minor,
-    /// This many of the newest files are written as one.
-    Merge(u32),
-    /// The memtable and all files are written as one.
-    Major,
-}
+use tablet::{Compaction, Tablet, others_stay};
 
 /// Compacts a tablet.
 fn compact<F: Files>(
@@ -66,7 +55,7 @@ fn compact<F: Files>(
     ensures fits { OnOk result (Fits file_limit (F.contents files.old) compaction tablet.old) }
     ensures used { OnOk result (¬ WritesNone compaction tablet.old
         → next_name.new ≡ next_name.old + 1) }
-    ensures lists { OnOk result (Compacts (kind_of compaction)
+    ensures lists { OnOk result (Compacts compaction
         (F.contents files.old) next_name.old (F.contents files.new) tablet.old tablet.new) }
     ensures damaged { IsErrOf result Refusal.Damaged
         → IfSome (F.contents files.old) (λ m. ¬ HoldsAt m tablet.old) }

@@ -10,13 +10,12 @@ ghost use Rattle.row_atomic.specs.Changes.{Holds, IsEmptied, IsHalved, IsOn, IsR
 ghost use Rattle.row_atomic.specs.Commands.{IsOutcome, done_of, split_of};
 
 use crate::cluster::Cluster;
-use crate::cluster_compactions::Compaction;
 use crate::commands::Command;
 use cell_key::{Refusal, Row};
 use file_store::Files;
 use metadata_table::MetadataTable;
 use std::alloc::Global;
-use tablet::{Tablet, files_are_there, others_stay, same_cells, stays_in_range};
+use tablet::{Compaction, Tablet, files_are_there, others_stay, same_cells, stays_in_range};
 
 /// A tablet of the same rows, whose files are opened anew, with an empty memtable.
 fn open_again<F: Files>(alloc: Global, tablet: &Tablet, files: &mut F) -> Result<Tablet, Refusal>
@@ -63,16 +62,12 @@ impl<F: Files> Cluster<F> {
         let tablet = self.table.locate(row).tablet;
         let index = self.position(tablet);
         let mut table = self.table.clone()?;
-        let left = table.split_at(row)?;
+        let left = table.cut_at(row)?;
         self.tablets.reserve(1)?;
-        let part = self.tablets[index].split(
-            row,
-            self.file_limit,
-            &mut self.next_name,
-            &mut self.files,
-        )?;
+        let part = self.tablets[index].cut(row, &mut self.files)?;
         self.tablets.push(part).unwrap();
         self.table = table;
+        self.place_cache.clear();
         Ok(left)
     }
 
@@ -136,6 +131,7 @@ impl<F: Files> Cluster<F> {
         let opened = open_again(self.alloc, &self.tablets[index], &mut self.files)?;
         self.tablets[index] = opened;
         self.table.assign(tablet, server).unwrap();
+        self.place_cache.clear();
         Ok(())
     }
 
@@ -153,6 +149,7 @@ impl<F: Files> Cluster<F> {
         ensures table { IsTable self.old.places }
     {
         if self.is_on(tablet, server)? {
+            self.place_cache.clear();
             return Ok(());
         }
         self.compact_tablet(tablet, Compaction::Minor)?;

@@ -15,6 +15,7 @@ ghost use Rattle.row_atomic.specs.RootsOpened.{AreLoaded, FindsRoot, FitsAt, IsD
 
 use crate::cluster::Cluster;
 use crate::cluster_roots::ROOT_NAME;
+use crate::place_cache::PlaceCache;
 use cell_key::{Refusal, Row, Stamp};
 use file_store::{Files, read_whole};
 use metadata_table::{MetadataTable, Place, Root, one_root};
@@ -152,6 +153,10 @@ impl<F: Files> Cluster<F> {
             }
             Err(refusal) => return Err((refusal, files)),
         };
+        let place_cache = match PlaceCache::new(alloc) {
+            Ok(place_cache) => place_cache,
+            Err(refusal) => return Err((refusal, files)),
+        };
         match load_each(alloc, &root.table, &mut files) {
             Ok(tablets) => Ok((
                 Cluster {
@@ -161,6 +166,7 @@ impl<F: Files> Cluster<F> {
                     next_name: root.next_name,
                     table: root.table,
                     tablets,
+                    place_cache,
                 },
                 root.top,
                 root.floor,

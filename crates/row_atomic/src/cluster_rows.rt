@@ -9,9 +9,10 @@ ghost use Rattle.metadata_table.specs.Table.{IsTable};
 ghost use Rattle.sorted_file.specs.Sources.{IsReadRefusal};
 ghost use Rattle.cell_key.specs.Faults.{HasReason};
 ghost use Rattle.tablet.specs.Views.{Holds};
-ghost use Rattle.row_atomic.specs.Clusters.{ArePlaced, HasTabletAt, InOrder, Overfills, PrecedesCell, cells_in, storage_of};
+ghost use Rattle.row_atomic.specs.Clusters.{ArePlaced, InOrder, Overfills, PrecedesCell, cells_in, storage_of};
 
 use crate::cluster::Cluster;
+use crate::place_cache::index_of;
 use crate::rows::Rows;
 use cell_key::{Edit, Family, Qualifier, Refusal, Row, Stamp};
 use file_store::Files;
@@ -61,16 +62,6 @@ fn next_cell_in<F: Files>(
     Ok(None)
 }
 
-impl<F: Files> Cluster<F> {
-    /// The index of the tablet that holds a row.
-    pub(crate) fn index_of(&self, row: &Row) -> usize
-        ensures holder { HasTabletAt self.now.places self.now.tablets row.now result }
-        ensures table { IsTable self.now.places }
-    {
-        self.table.locate(row).tablet as usize - 1
-    }
-}
-
 impl<F: Files> Rows for Cluster<F> {
     ghost cells = { λ cluster. cells_in (F.contents cluster.files) cluster.tablets };
 
@@ -92,7 +83,7 @@ impl<F: Files> Rows for Cluster<F> {
         hi: Stamp,
     ) -> Result<Option<(Stamp, Vec<u8>)>, Refusal> {
         stays_in_range();
-        let index = self.index_of(row);
+        let index = index_of(&self.table, &mut self.place_cache, row);
         self.tablets[index].newest(row, family, qualifier, lo, hi, &mut self.files)
     }
 
@@ -105,7 +96,7 @@ impl<F: Files> Rows for Cluster<F> {
 
     fn apply(&mut self, row: &Row, edits: Vec<Edit>) -> Result<(), Refusal> {
         stays_in_range();
-        let index = self.index_of(row);
+        let index = index_of(&self.table, &mut self.place_cache, row);
         self.tablets[index].apply(row, edits)
     }
 

@@ -55,6 +55,8 @@ pub enum Command {
     },
     /// A sweep of the files that no tablet has.
     Sweep,
+    /// The emptying of all caches.
+    DropCaches,
 }
 
 /// What a command answered.
@@ -64,7 +66,7 @@ pub enum Outcome {
     Newest(Option<(Stamp, Vec<u8>)>),
     /// The cell that was asked for, if there is one.
     NextCell(Option<(Row, Family)>),
-    /// An apply, a compaction or a move was done.
+    /// An apply, a compaction or a move was done, or the caches were emptied.
     Done,
     /// The number of the left part.
     Split(u32),
@@ -138,6 +140,10 @@ impl<F: Files> Cluster<F> {
                 Ok(count) => Outcome::Swept(count),
                 Err(refusal) => Outcome::Refused(refusal),
             },
+            Command::DropCaches => {
+                self.drop_caches();
+                Outcome::Done
+            }
         }
     }
 

@@ -2,6 +2,7 @@
 #![tactic(auto)]
 
 mod cluster;
+mod cluster_caches;
 mod cluster_compactions;
 mod cluster_full;
 mod cluster_laws;
@@ -14,6 +15,7 @@ mod cluster_tiers;
 mod commands;
 mod laws;
 mod oldest_version;
+mod place_cache;
 mod plain;
 mod rows;
 mod slots;

@@ -20,7 +20,7 @@ use Rattle.tablet.specs.Ranges.{has_row}
 use Rattle.tablet.specs.Reads.{IsAsked, IsLater}
 use Rattle.tablet.specs.Views.{range_of, memory_of, files_of, lists_of, cells_at, Holds}
 use Rattle.tablet.specs.declared.tablet.Tablet.{Tablet}
-use Rattle.tablet.proofs.Answering.{if_one}
+use Rattle.tablet.proofs.Lookups.{if_one}
 use Rattle.tablet.proofs.Held.{held_lists}
 use Rattle.tablet.proofs.LeftOut.{none_named, value_or}
 use Rattle.tablet.proofs.Passed.{over_any}

@@ -19,7 +19,7 @@ use Rattle.tablet.specs.declared.ranges.RowRange.{RowRange}
 use Rattle.cell_key.specs.Entries.{merged}
 use Rattle.tablet.proofs.Held.{held_lists}
 use Rattle.tablet.proofs.LeftOut.{value_or}
-use Rattle.tablet.proofs.SameFiles.{told_any, told_both}
+use Rattle.tablet.proofs.SameFiles.{told_both}
 use Rattle.tablet.proofs.Shown.{first_at, shown, stored_or_hidden}
 
 pub same_after_tablet : (o : Option Contents) (t u w : Tablet) → IsSameTablet o t u → IsSameTablet o u w → IsSameTablet o t w
@@ -42,9 +42,6 @@ same_cells o m t u is same held =
     let range = same.range in
     λ i. cells_of (merged (map (seen (range i)) (lists i)))
 
-pub not_held_before : (o now : Option Contents) (t u : Tablet) → now ≡ o → IsSameTablet o t u → IfSome now (λ m. ¬ Holds m u) → IfSome o (λ m. ¬ Holds m t)
-not_held_before o now t u same is closed = told_both o now same _ (λ m. ¬ Holds m u) _ (λ m at _ not held. not (still_at o m t u at is held).0) (told_any o) closed
-
 module _ (o : Option Contents) (t : Tablet) (row family : List ℕ) (q : Qualifier) (lo hi : ℕ) where
   abbrev at : ℕ → CellKey
   at s = version row family q s
@@ -60,13 +57,6 @@ module _ (o : Option Contents) (t : Tablet) (row family : List ℕ) (q : Qualifi
   -- nor one after that of the files
   abbrev pub NoneAfter : Option ℕ → Type 0
   NoneAfter found = Tells (λ m. (s : ℕ) → IsAfterStamp s lo found → lo ≤ s → s ≤ hi → get (cells_at m t) (at s) ≡ None)
-
-  pub all_told : NoneAbove hi
-  all_told = go o
-    where
-      go : (o : Option Contents) → IfSome o (λ m. Holds m t → IsTrue (has_row (range_of t) row) → IsNewest (cells_of (memory_of t)) at lo hi None → (s : ℕ) → hi < s → s ≤ hi → get (cells_at m t) (at s) ≡ None)
-      go None = tt
-      go (Some m) = λ held has memory s a b. absurd (omega (arith, a, b))
 
   none_shown : (m : Contents) → Holds m t → IsTrue (has_row (range_of t) row) → IsNewest (cells_of (memory_of t)) at lo hi None → (s : ℕ) → lo ≤ s → s ≤ hi → (IsStored (at s) → value_of (first_naming (map (listed m) (files_of t)) (text (at s))) ≡ None) → get (cells_at m t) (at s) ≡ None
   none_shown m held has memory s low high none = go (stored_or_hidden (range_of t) (lists_of m t) (held_lists m t held) (at s))

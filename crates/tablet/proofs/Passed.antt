@@ -1,8 +1,8 @@
 -- An error that is passed on.
-use Rattle.std.proofs.Common.{rules, ◌≡◌, ℕ, ◌<◌, ◌≤◌, Bool, false, List, [], map, length, ◌⊎◌, inl, inr, refl, sym, subst, ap, ◌∙◌, arith}
+use Rattle.std.proofs.Common.{rules, ◌≡◌, ℕ, ◌<◌, ◌≤◌, Bool, false, List, [], map, length, ◌⊎◌, inl, inr, sym, subst, ◌∙◌, arith}
 use Rattle.std.proofs.lemmas.List.{length-map}
 use Rattle.std.specs.Prelude.{◌≢◌, ◌↔◌, IsTrue, Option, Some, None, IfSome, if◌then◌else◌}
-use Rattle.std.specs.Result.{IfErr, IfOk, IsErrAnd, IsErrOf, OnErr, is_ok}
+use Rattle.std.specs.Result.{IfErr, IsErrAnd, IsErrOf, OnErr, is_ok}
 use Rattle.std.specs.declared.result.Result.{Result}
 use Rattle.std.specs.declared.result.Result.TheVariants.{Ok, Err}
 use Rattle.cell_key.specs.Entries.{Entry}
@@ -11,48 +11,15 @@ use Rattle.cell_key.specs.declared.refusals.Refusal.TheVariants.{BadCount, Devic
 use Rattle.file_store.specs.Store.{Contents}
 use Rattle.sorted_file.specs.Opened.{name_of}
 use Rattle.sorted_file.specs.Sources.{IsReadRefusal, IsWriteRefusal}
-use Rattle.cell_key.specs.Faults.{HasReason}
 use Rattle.sorted_file.specs.declared.opened.SortedFile.{SortedFile}
+pub use Rattle.compaction.proofs.Passed.{passed_on, not_err, passed_err, passed_none, passed_reason, reason_after, quiet_reason, reason_of_ok}
 use Rattle.tablet.specs.Compactions.{IsCompactionRefusal, IsMergeRefusal, IsMinorRefusal}
-
-pub passed_on : {A B : Type 0} (r : Result B Refusal) (s : Result A Refusal) (e n : Refusal) → IsErrAnd r (λ f. f ≡ e) → s ≡ Err e → IsErrOf r n → IsErrOf s n
-passed_on (Ok x) s e n by was is = absurd by
-passed_on (Err f) s e n by was is = let same : f ≡ n = cc in was ∙ ap (λ x. Err x) (sym by ∙ same)
-
-pub passed_back : {A B : Type 0} (r : Result B Refusal) (s : Result A Refusal) (e n : Refusal) → IsErrAnd r (λ f. f ≡ e) → s ≡ Err e → IsErrOf s n → IsErrOf r n
-passed_back (Ok x) s e n by was is = absurd by
-passed_back (Err f) s e n by was is = let same : e ≡ n = cc in ap (λ x. Err x) (by ∙ same)
-
-pub not_err : {A : Type 0} (x : A) (n : Refusal) → Ok x ≡ Err n → ⊥
-not_err x n is = cc
-
-pub passed_err : {B : Type 0} (r : Result B Refusal) (e : Refusal) (P : Refusal → Type 0) → IsErrAnd r (λ f. f ≡ e) → P e → IfErr r P
-passed_err (Ok x) e P by h = tt
-passed_err (Err f) e P by h = subst P (sym by) h
-
-pub passed_none : {B : Type 0} (r : Result B Refusal) (e : Refusal) (P : B → Type 0) → IsErrAnd r (λ f. f ≡ e) → IfOk r P
-passed_none (Ok x) e P by = absurd by
-passed_none (Err f) e P by = tt
 
 pub passed_kept : {B : Type 0} (r : Result B Refusal) (P : Type 0) → P → OnErr r P
 passed_kept (Ok x) P h = tt
 passed_kept (Err f) P h = h
 
-pub passed_reason : {A B : Type 0} (r : Result B Refusal) (s : Result A Refusal) (e : Refusal) (before now : ℕ) → IsErrAnd r (λ f. f ≡ e) → s ≡ Err e → HasReason before now s → HasReason before now r
-passed_reason r s e before now by was h = record {
-  later = h.later;
-  device = λ is. h.device (passed_on r s e Device by was is);
-  told = λ other. h.told (λ is. other (passed_back r s e Device by was is));
-}
-
-pub reason_after : {A : Type 0} {s : Result A Refusal} (before mid now : ℕ) → mid ≡ before → HasReason mid now s → HasReason before now s
-reason_after {s = s} before mid now quiet h = subst (λ (n : ℕ). HasReason n now s) quiet h
-
 -- reading is refused nothing else
-pub passed_read : {B : Type 0} (r : Result B Refusal) (e n : Refusal) → IsErrAnd r (λ f. f ≡ e) → IsReadRefusal e → IsErrOf r n → IsReadRefusal n
-passed_read (Ok x) e n by read is = absurd by
-passed_read (Err f) e n by read is = let same : f ≡ n = cc in subst IsReadRefusal (sym by ∙ same) read
-
 pub minor_read : (e : Refusal) → IsReadRefusal e → IsMinorRefusal e
 minor_read Device read = tt
 minor_read NoMemory read = tt
@@ -78,17 +45,6 @@ IsTooManyFiles _ = ⊥
 pub minor_of : (e : Refusal) → IsCompactionRefusal e → IsMinorRefusal e
 minor_of TooManyFiles h = tt
 minor_of _ h = h
-
--- what reads no file counts no fault
-pub quiet_reason : {B : Type 0} (r : Result B Refusal) (now : ℕ) → ¬ (IsErrOf r Device) → HasReason now now r
-quiet_reason r now other = record { later = omega arith; device = λ is. absurd (other is); told = λ _. refl }
-
-pub reason_of_ok : {A B : Type 0} (x : A) (y : B) (before now : ℕ) → HasReason before now (Ok x) → HasReason before now (Ok y)
-reason_of_ok x y before now h = record {
-  later = h.later;
-  device = λ is. absurd (not_err y Device is);
-  told = λ _. h.told (not_err x Device);
-}
 
 pub not_empty : (b : Bool) (es : List Entry) → IsTrue b ↔ (es ≡ []) → b ≡ false → es ≢ []
 not_empty b es h is = λ none. absurd (let t = h.1 none in search rules)
@@ -132,10 +88,6 @@ held_read e (inr is) = subst IsReadRefusal (sym is) tt
 pub over : (old now : Option Contents) (P Q R : Contents → Type 0) → now ≡ old → ((m : Contents) → P m → Q m → R m) → IfSome old P → IfSome now Q → IfSome old R
 over None now P Q R same f p q = tt
 over (Some m) now P Q R same f p q = f m p (subst (λ (o : Option Contents). IfSome o Q) same q)
-
-pub over_both : (old now : Option Contents) (P Q S R : Contents → Type 0) → now ≡ old → ((m : Contents) → P m → Q m → S m → R m) → IfSome old P → IfSome now Q → IfSome now S → IfSome old R
-over_both None now P Q S R same f p q s = tt
-over_both (Some m) now P Q S R same f p q s = f m p (subst (λ (o : Option Contents). IfSome o Q) same q) (subst (λ (o : Option Contents). IfSome o S) same s)
 
 pub over_any : (old : Option Contents) (P : Contents → Type 0) → ((m : Contents) → P m) → IfSome old P
 over_any None P f = tt

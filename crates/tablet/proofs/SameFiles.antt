@@ -156,12 +156,6 @@ no_later (Some m) xs i key lo stamp le h = λ each s after high stored. h each s
     all_dropped (x ∷ xs) zero le = absurd (omega (arith, le))
     all_dropped (x ∷ xs) (suc i) le = all_dropped xs i (omega (arith, le))
 
-pub zip_length : (P : SortedFile → SortedFile → Type 0) (xs ys : List SortedFile) → AllZip P xs ys → length xs ≡ length ys
-zip_length P [] [] all = refl
-zip_length P [] (y ∷ ys) all = absurd all
-zip_length P (x ∷ xs) [] all = absurd all
-zip_length P (x ∷ xs) (y ∷ ys) all = ap suc (zip_length P xs ys all.1)
-
 -- a tablet is what it was where its files are
 pub same_tablet : (o : Option Contents) (t u : Tablet) → range_of u ≡ range_of t → memory_of u ≡ memory_of t → AllZip (IsSameFile o) (files_of t) (files_of u) → IsSameTablet o t u
 same_tablet o t u range memory files = record { range = range; memory = memory; names = same_names o (files_of t) (files_of u) files; still = go o files }

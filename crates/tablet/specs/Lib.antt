@@ -3,6 +3,7 @@ pub mod Laws
 pub mod Ranges
 pub mod Reads
 pub mod Sources
+pub mod Splits
 pub mod Views
 pub use Rattle.cell_key.specs.Cells
 pub use Rattle.cell_key.specs.Entries

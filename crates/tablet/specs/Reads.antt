@@ -44,11 +44,14 @@ pub record IsFound (key : CellKey) (bytes : List ℕ) : Type 0 where
   pub stored : IsStored key
   pub value : length bytes ≤ 65536
 
--- Of some files, the newest first, these come first, and those after them have no value of a column of this kind at these stamps.
-pub record IsAsked (qualifier : Qualifier) (lo hi : ℕ) (files asked : List SortedFile) : Type 0 where
+-- Of some files, the newest first, these come first, and those after them have no value of a column
+-- of this kind at these stamps.
+pub record IsAsked (qualifier : Qualifier) (lo hi : ℕ)
+    (files asked : List SortedFile) : Type 0 where
   pub rest : List SortedFile
   pub parts : files ≡ asked ++ rest
-  pub none : AllByRecursion (λ file. (m : Contents) → IsOpen m file → HasNoValue qualifier lo hi (listed m file)) rest
+  pub none : AllByRecursion
+      (λ file. (m : Contents) → IsOpen m file → HasNoValue qualifier lo hi (listed m file)) rest
 
 -- a stamp that comes after that of a version, or from the least one on where there is none
 abbrev pub IsLater : ℕ → ℕ → Option (ℕ × List ℕ) → Type 0

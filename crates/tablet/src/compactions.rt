@@ -35,7 +35,7 @@ pub enum Compaction {
     /// The memtable.
     Minor,
     /// This many of the newest files.
-    Merge(usize),
+    Merge(u32),
     /// The memtable and all files.
     Major,
 }
@@ -133,7 +133,7 @@ impl Tablet {
     {
         match compaction {
             Compaction::Minor => (Some(&self.memtable), &[]),
-            Compaction::Merge(count) => (None, &self.files[..count]),
+            Compaction::Merge(count) => (None, &self.files[..count as usize]),
             Compaction::Major => (Some(&self.memtable), &self.files),
         }
     }
@@ -144,7 +144,7 @@ impl Tablet {
     {
         match compaction {
             Compaction::Minor => true,
-            Compaction::Merge(count) => count < self.files.len(),
+            Compaction::Merge(count) => (count as usize) < self.files.len(),
             Compaction::Major => false,
         }
     }
@@ -317,11 +317,12 @@ impl Tablet {
     {
         stays_open();
         names_first();
+        let compaction = Compaction::Merge(count);
         let count = count as usize;
         if count < 2 || count > self.files.len() {
             return Err(Refusal::BadCount);
         }
-        let file = self.write(Compaction::Merge(count), file_limit, next_name, files)?;
+        let file = self.write(compaction, file_limit, next_name, files)?;
         replace_newest(&mut self.files, count, file);
         Ok(())
     }

@@ -2,6 +2,7 @@
 //! (Bigtable, tablet serving).
 #![tactic(auto)]
 
+mod caches;
 mod compactions;
 mod laws;
 mod moving;

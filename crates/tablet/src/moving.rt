@@ -1,14 +1,15 @@
 //! Cutting a tablet in two, and moving it: after a minor compaction its files are all that it has, and they may
 //! be named by two tablets or opened by another server.
 
-ghost use Rattle.std.specs.Prelude.{◌≡◌, ◌≢◌, ◌≤◌, ◌<◌, ◌+◌, ◌^◌, ◌∷◌, [], Some, length, IsTrue, IfOk, IfErr, OnOk, OnErr, IfSome, IsSomeAnd, IsErrOf};
+ghost use Rattle.std.specs.Prelude.{◌≡◌, ◌≢◌, ◌≤◌, ◌<◌, ◌+◌, ◌^◌, ◌∷◌, [], Some, length, ℕ, IfOk, IfErr, OnOk, OnErr, IfSome, IsErrOf};
 ghost use Rattle.std.specs.List.{AllByRecursion};
 ghost use Rattle.sorted_file.specs.Grammar.{FitsIn};
 ghost use Rattle.sorted_file.specs.Opened.{HasFile};
 ghost use Rattle.sorted_file.specs.Sources.{IsReadRefusal};
 ghost use Rattle.cell_key.specs.Faults.{HasReason};
-ghost use Rattle.tablet.specs.Ranges.{has_row, seen};
-ghost use Rattle.tablet.specs.Views.{range_of, memory_of, names_of, Holds, IsBelow, IsUnchanged, MayBeFlushed, UsesName, Keeps, AreParts, with_name};
+ghost use Rattle.tablet.specs.Ranges.{seen};
+ghost use Rattle.tablet.specs.Views.{range_of, memory_of, names_of, Holds, IsBelow, IsUnchanged, MayBeFlushed, UsesName, Keeps, with_name};
+ghost use Rattle.tablet.specs.Splits.{MakesParts};
 ghost use Rattle.tablet.specs.declared.compactions.Compaction.TheVariants.{Minor};
 ghost use Rattle.tablet.specs.Compactions.{Compacts, IsMinorRefusal};
 
@@ -146,9 +147,44 @@ impl Tablet {
         Ok((range, row.clone()?))
     }
 
-    /// Cuts the tablet at a row of its range that isn't its end (Bigtable, tablets are split). Answers the left
-    /// part, which ends with the row; the tablet becomes the right part, which begins after it. A minor
-    /// compaction comes first, and both have the same files after it.
+    /// Cuts the tablet, whose memtable is empty, at a row of its range that isn't its end (Bigtable, tablets are
+    /// split). Answers the left part, which ends with the row; the tablet becomes the right part, which begins
+    /// after it. Both have its files.
+    ///
+    /// # Errors
+    ///
+    /// `Device`, `NoMemory`, and `Damaged` only where a file is no longer what was opened. The tablet is then as
+    /// before.
+    pub fn cut<F: Files>(&mut self, row: &Row, files: &mut F) -> Result<Tablet, Refusal>
+        requires flushed { memory_of self.old ≡ [] }
+        ensures left_range { IfOk result (λ left.
+            range_of left ≡ record { after = (range_of self.old).after; end = Some row.now }) }
+        ensures right_range { OnOk result (range_of self.new
+            ≡ record { after = Some row.now; end = (range_of self.old).end }) }
+        ensures left_names { IfOk result (λ left. names_of left ≡ names_of self.old) }
+        ensures right_names { OnOk result (names_of self.new ≡ names_of self.old) }
+        ensures left_memory { IfOk result (λ left. memory_of left ≡ []) }
+        ensures right_memory { memory_of self.new ≡ [] }
+        ensures parts { IfOk result (λ left. (next : ℕ) → MakesParts (F.contents files.old)
+            next self.old row.now (F.contents files.new) next left self.new) }
+        ensures err { OnErr result (IsUnchanged self.old self.new) }
+        ensures keeps { OnErr result ((next : ℕ) → Keeps
+            (F.contents files.old) next self.old (F.contents files.new) next self.new) }
+        ensures damaged { IsErrOf result Refusal.Damaged
+            → IfSome (F.contents files.old) (λ m. ¬ Holds m self.old) }
+        ensures refusal { IfErr result IsReadRefusal }
+        ensures same { F.contents files.new ≡ F.contents files.old }
+        ensures reason { HasReason (F.faults files.old) (F.faults files.new) result }
+    {
+        one_listing();
+        open_is_there();
+        let (range, after) = self.left_of(row)?;
+        let left = self.open_again(range, files)?;
+        self.range.after = Some(after);
+        Ok(left)
+    }
+
+    /// A minor compaction, and then `cut`.
     ///
     /// # Errors
     ///
@@ -172,10 +208,8 @@ impl Tablet {
             ≡ with_name next_name.old (memory_of self.old) (names_of self.old)) }
         ensures left_memory { IfOk result (λ left. memory_of left ≡ []) }
         ensures right_memory { OnOk result (memory_of self.new ≡ []) }
-        ensures parts { IfOk result (λ left. IfSome (F.contents files.old) (λ m. Holds m self.old
-            → IsBelow next_name.old self.old → IsTrue (has_row (range_of self.old) row.now)
-            → IsSomeAnd (F.contents files.new) (λ n.
-            AreParts m self.old n next_name.new left self.new))) }
+        ensures parts { IfOk result (λ left. MakesParts (F.contents files.old)
+            next_name.old self.old row.now (F.contents files.new) next_name.new left self.new) }
         ensures keeps { OnErr result (Keeps (F.contents files.old)
             next_name.old self.old (F.contents files.new) next_name.new self.new) }
         ensures err_range { OnErr result (range_of self.new ≡ range_of self.old) }
@@ -204,12 +238,7 @@ impl Tablet {
             → (next_name.new ≡ next_name.old) × (F.contents files.new ≡ F.contents files.old) }
         ensures used { OnOk result (memory_of self.old ≢ [] → next_name.new ≡ next_name.old + 1) }
     {
-        let (range, after) = self.left_of(row)?;
-        one_listing();
-        open_is_there();
         self.minor(file_limit, next_name, files)?;
-        let left = self.open_again(range, files)?;
-        self.range.after = Some(after);
-        Ok(left)
+        self.cut(row, files)
     }
 }

@@ -5,7 +5,7 @@ use Rattle.tablet.specs.Compactions.{IsCompactionRefusal, IsMergeRefusal, IsMino
 use Rattle.row_atomic.proofs.Changing.{cleaned, if_ok, on_ok}
 use Rattle.row_atomic.proofs.Commanding.{not_answered}
 use Rattle.row_atomic.proofs.Passing.{each_refusal}
-use Rattle.row_atomic.proofs.Roomy.{has_room, minor_fits, none_written, not_full_written, not_least}
+use Rattle.row_atomic.proofs.CompactionRoom.{has_room, minor_fits, none_written, not_full_written, not_least}
 use Rattle.row_atomic.proofs.cluster_compactions.compact.Goals as goal
 
 pub returns-in-Minor-clause-large : goal.returns-in-Minor-clause-large

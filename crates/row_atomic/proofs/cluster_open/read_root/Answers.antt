@@ -1,7 +1,7 @@
 -- A root file that tells nothing is damaged.
 use Rattle.std.proofs.Common.{subst}
 use Rattle.metadata_table.specs.Roots.{IsNoRoot}
-use Rattle.row_atomic.proofs.Opening.{no_root_told}
+use Rattle.row_atomic.proofs.OpenedRoots.{no_root_told}
 use Rattle.row_atomic.proofs.cluster_open.read_root.Goals as goal
 
 pub returns-in-Ok-Some-clause-damaged : goal.returns-in-Ok-Some-clause-damaged

@@ -9,7 +9,7 @@ use Rattle.compaction.specs.Merging.{AreAtStart}
 use Rattle.compaction.specs.Writing.{written}
 use Rattle.tablet.specs.Compactions.{IsCompactionRefusal}
 use Rattle.tablet.proofs.Passed.{err_kind, err_map, not_err, passed_err, passed_kind, passed_none, passed_on, passed_reason, quiet_reason, reason_after, writes_of}
-use Rattle.tablet.proofs.Writing.{as_on_ok, not_missing, opened_as_written, others_kept, start_written, told_not, within_limit}
+use Rattle.tablet.proofs.WrittenFiles.{as_on_ok, not_missing, opened_as_written, others_kept, start_written, told_not, within_limit}
 use Rattle.tablet.proofs.compactions.write_new.Goals as goal
 
 abbrev pub IsExhausted : Refusal → Type 0

@@ -5,7 +5,7 @@ use Rattle.std.specs.Option.{option_copied}
 use Rattle.std.specs.Prelude.{option_map}
 use Rattle.tablet.specs.Reads.{first_value, texted}
 use Rattle.tablet.specs.Sources.{part}
-use Rattle.tablet.proofs.Answering.{ok_map, told_closed, told_found}
+use Rattle.tablet.proofs.Lookups.{ok_map, told_closed, told_found}
 use Rattle.tablet.proofs.Passed.{IsNoMemory, no_memory, passed_err, passed_kind, passed_none, quiet_reason}
 use Rattle.tablet.proofs.reads.first_value.Goals as goal
 

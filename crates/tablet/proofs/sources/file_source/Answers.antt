@@ -1,5 +1,5 @@
 use Rattle.std.specs.Option.{option_copied}
-use Rattle.tablet.proofs.Gathering.{file_remaining, file_start}
+use Rattle.tablet.proofs.SourceLists.{file_remaining, file_start}
 use Rattle.tablet.proofs.sources.file_source.Goals as goal
 
 pub returns-clause-start : goal.returns-clause-start

@@ -6,7 +6,7 @@ use Rattle.cell_key.specs.Entries.{Entry, IsEntryList, entries_from}
 use Rattle.sorted_file.specs.Sources.{pending}
 use Rattle.compaction.specs.FilterLaws.{filter-list}
 use Rattle.compaction.specs.declared.input.Input.TheVariants.{Memtable}
-use Rattle.tablet.proofs.Gathering.{source_start, source_remaining}
+use Rattle.tablet.proofs.SourceLists.{source_start, source_remaining}
 use Rattle.tablet.proofs.sources.memtable_source.Goals as goal
 
 pub returns-clause-start : goal.returns-clause-start

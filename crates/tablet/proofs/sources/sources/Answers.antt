@@ -1,6 +1,6 @@
 use Rattle.std.proofs.Common.{arith}
 use Rattle.std.specs.Option.{option_copied}
-use Rattle.tablet.proofs.Gathering.{entry_lists, first_gathered, one_gathered, all_gathered}
+use Rattle.tablet.proofs.SourceLists.{entry_lists, first_gathered, one_gathered, all_gathered}
 use Rattle.tablet.proofs.sources.sources.Goals as goal
 
 pub loop-file-init : goal.loop-file-init

@@ -1,5 +1,5 @@
 use Rattle.std.specs.Option.{option_copied}
-use Rattle.tablet.proofs.Gathering.{AreGathered}
+use Rattle.tablet.proofs.SourceLists.{AreGathered}
 use Rattle.tablet.proofs.sources.sources.Given as goal
 
 abbrev pub invariant-loop-file : goal.invariant-loop-file

@@ -83,5 +83,8 @@ returns-in-Split g c = rw c.in-Split.is c.in-Err-split.ensures
 pub returns-in-Ok-sweep : goal.returns-in-Ok-sweep
 returns-in-Ok-sweep g c = rw c.in-Sweep.is c.in-Ok-sweep.ensures
 
+pub returns-in-Sweep : goal.returns-in-Sweep
+returns-in-Sweep g c = rw c.in-Sweep.is c.in-Err-sweep.ensures
+
 pub returns : goal.returns
-returns g c = rw c.in-Sweep.is c.in-Err-sweep.ensures
+returns g c = rw c.in-DropCaches.is c.drop_caches.ensures

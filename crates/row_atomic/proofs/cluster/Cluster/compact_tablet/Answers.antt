@@ -1,29 +1,32 @@
 -- One tablet is compacted, and its place lists its files.
-use Rattle.std.proofs.Common.{None, ◌≡◌, rules, refl, ap, ◌∙◌, map, subst}
+use Rattle.std.proofs.Common.{None, ◌≡◌, rules, refl, ap, ◌∙◌, List, map, sym, subst}
 use Rattle.std.proofs.lemmas.Option.{slice_get_within}
 use Rattle.std.specs.Vec.{vec_capacity}
 use Rattle.cell_key.specs.declared.refusals.Refusal.TheVariants.{BadCount, Damaged, Exhausted, FileTooLarge, NoMemory, TooManyFiles}
+use Rattle.metadata_table.specs.Places.{PlaceView}
 use Rattle.metadata_table.specs.Table.{with_files}
 use Rattle.tablet.specs.Views.{names_of}
 use Rattle.row_atomic.specs.Clusters.{spot_of}
-use Rattle.row_atomic.specs.Changes.{Fits, IsCleaned, IsFull, IsMade, IsTooLarge, MeetsBadCount, MeetsFull, WritesNone, kind_of}
+use Rattle.row_atomic.specs.PlaceCaches.{AreHeld}
+use Rattle.row_atomic.specs.Changes.{Fits, IsCleaned, IsFull, IsMade, IsTooLarge, MeetsBadCount, MeetsFull, WritesNone}
 use Rattle.tablet.specs.Compactions.{Compacts}
 use Rattle.row_atomic.proofs.Answering.{found_there, undamaged}
 use Rattle.row_atomic.proofs.Listing.{flush_lists}
 use Rattle.row_atomic.proofs.Naming.{compacted_files, no_less, placed_names}
 use Rattle.row_atomic.proofs.Changing.{numbered_at, has_room, in_order, is_set, matched_unchanged, matched_listed, numbered_new, numbered_old, parts_stay, remade, same_spots, stays}
-use Rattle.row_atomic.specs.declared.cluster_compactions.Compaction.{Compaction}
+use Rattle.tablet.specs.declared.compactions.Compaction.{Compaction}
 use Rattle.row_atomic.specs.declared.commands.Outcome.TheVariants.{Done}
 use Rattle.row_atomic.proofs.Outcomes.{compacted, err_of, full_meets, known_refusal, refused_done, tells_done, tells_refused, uncompacted, unstarted}
 use Rattle.row_atomic.proofs.Passing.{none_answered}
-use Rattle.row_atomic.proofs.Roomy.{numbered_not, numbered_that}
+use Rattle.row_atomic.proofs.CompactionRoom.{numbered_not, numbered_that}
+use Rattle.row_atomic.proofs.PlaceCaching.{held_listed}
 use Rattle.row_atomic.proofs.cluster.Cluster.compact_tablet.Goals as goal
 
 pub invariant_of-self : goal.invariant_of-self
 invariant_of-self g c =
     let at = rw (← c.self.view_is) at c.position-index.ensures in
     let there = found_there c.self.inside.tablets.items c.position-index.result at.tablet c.index_mut.result.now at.there c.index_mut.ensures.value in
-    matched_unchanged c.self.inside.file_limit (g.F.Files.contents c.self.inside.files) (g.F.Files.contents c.compact.new.files) c.self.inside.next_name c.compact.new.next_name c.self.inside.table c.self.inside.tablets.items c.position-index.result c.index_mut.result.now c.compact.new.tablet there c.compact.ensures.name c.compact.ensures.limit c.in_err-compact.ensures.err c.self.invariant
+    (matched_unchanged c.self.inside.file_limit (g.F.Files.contents c.self.inside.files) (g.F.Files.contents c.compact.new.files) c.self.inside.next_name c.compact.new.next_name c.self.inside.table c.self.inside.tablets.items c.position-index.result c.index_mut.result.now c.compact.new.tablet there c.compact.ensures.name c.compact.ensures.limit c.in_err-compact.ensures.err c.self.invariant.0, c.self.invariant.1)
 
 pub index-requires-2 : goal.index-requires-2
 index-requires-2 g c =
@@ -42,12 +45,15 @@ pub invariant_of-self-2 : goal.invariant_of-self-2
 invariant_of-self-2 g c =
     let at = rw (← c.self.view_is) at c.position-index.ensures in
     let there = found_there c.self.inside.tablets.items c.position-index.result at.tablet c.index_mut.result.now at.there c.index_mut.ensures.value in
-    matched_listed c.self.inside.file_limit (g.F.Files.contents c.self.inside.files) (g.F.Files.contents c.compact.new.files) c.self.inside.next_name c.compact.new.next_name c.self.inside.table c.list_files.new.table c.self.inside.tablets.items c.args.tablet c.position-index.result c.index_mut.result.now c.compact.new.tablet at.number there c.compact.ensures.name c.compact.ensures.limit c.compact.ensures.range (c.list_files.ensures ∙ ap (λ t. with_files c.args.tablet (names_of t) c.self.inside.table) (is_set c.self.inside.tablets.items c.position-index.result c.index_mut.result.now c.compact.new.tablet c.index-2.result.now there c.index-2.ensures))
-    (compacted_files c.args.compaction c.index_mut.result.now c.compact.new.tablet c.self.inside.next_name c.compact.new.next_name c.in_ok-compact.ensures.made c.in_ok-compact.ensures.room
-    (λ bad. (rw (← c.self.view_is) at c.requires.counted) (numbered_old c.self.inside.tablets.items c.position-index.result c.index_mut.result.now c.compact.new.tablet there (MeetsBadCount c.args.compaction) c.args.tablet at.number bad))
-    c.in_ok-compact.ensures.used c.self.invariant.named_from (no_less (g.F.Files.contents c.self.inside.files) (g.F.Files.contents c.compact.new.files) c.self.inside.next_name c.compact.new.next_name c.compact.ensures.name)
-    (placed_names c.self.inside.next_name c.self.inside.tablets.items c.args.tablet c.index_mut.result.now (numbered_at c.self.inside.tablets.items c.args.tablet c.position-index.result c.index_mut.result.now at.number there) None c.self.inside.table c.self.invariant.placed c.self.invariant.files (rw (← c.self.view_is) at c.requires.known)))
-    c.self.invariant
+    let listed = c.list_files.ensures ∙ ap (λ t. with_files c.args.tablet (names_of t) c.self.inside.table) (is_set c.self.inside.tablets.items c.position-index.result c.index_mut.result.now c.compact.new.tablet c.index-2.result.now there c.index-2.ensures) in (
+      matched_listed c.self.inside.file_limit (g.F.Files.contents c.self.inside.files) (g.F.Files.contents c.compact.new.files) c.self.inside.next_name c.compact.new.next_name c.self.inside.table c.list_files.new.table c.self.inside.tablets.items c.args.tablet c.position-index.result c.index_mut.result.now c.compact.new.tablet at.number there c.compact.ensures.name c.compact.ensures.limit c.compact.ensures.range listed
+          (compacted_files c.args.compaction c.index_mut.result.now c.compact.new.tablet c.self.inside.next_name c.compact.new.next_name c.in_ok-compact.ensures.made c.in_ok-compact.ensures.room
+          (λ bad. (rw (← c.self.view_is) at c.requires.counted) (numbered_old c.self.inside.tablets.items c.position-index.result c.index_mut.result.now c.compact.new.tablet there (MeetsBadCount c.args.compaction) c.args.tablet at.number bad))
+          c.in_ok-compact.ensures.used c.self.invariant.0.named_from (no_less (g.F.Files.contents c.self.inside.files) (g.F.Files.contents c.compact.new.files) c.self.inside.next_name c.compact.new.next_name c.compact.ensures.name)
+          (placed_names c.self.inside.next_name c.self.inside.tablets.items c.args.tablet c.index_mut.result.now (numbered_at c.self.inside.tablets.items c.args.tablet c.position-index.result c.index_mut.result.now at.number there) None c.self.inside.table c.self.invariant.0.placed c.self.invariant.0.files (rw (← c.self.view_is) at c.requires.known)))
+          c.self.invariant.0,
+      subst (λ (ps : List PlaceView). AreHeld ps c.self.inside.place_cache.numbers.entries) (sym listed) (held_listed c.self.inside.table c.args.tablet (names_of c.compact.new.tablet) c.self.inside.place_cache.numbers.entries c.self.invariant.1),
+    )
 
 pub returns-clause-listed : goal.returns-clause-listed
 returns-clause-listed g c =
@@ -100,7 +106,7 @@ returns-clause-outcome g c =
     let there = found_there c.self.inside.tablets.items c.position-index.result at.tablet c.index_mut.result.now at.there c.index_mut.ensures.value in
     rw (← c.self.view_is) (compacted g.F.Files.contents g.F.Files.faults c.args.tablet _ _ c.args.compaction
     (λ order. stays c.self.inside.tablets.items c.position-index.result c.index_mut.result.now c.compact.new.tablet there c.others_stay.ensures (g.F.Files.contents c.self.inside.files) (g.F.Files.contents c.compact.new.files) c.self.inside.next_name c.compact.new.next_name c.compact.ensures.name c.compact.ensures.keeps order)
-    (record { made = remade c.self.inside.tablets.items c.position-index.result c.index_mut.result.now c.compact.new.tablet there (IsMade c.args.compaction c.self.inside.next_name) c.args.tablet at.number c.in_ok-compact.ensures.made; lists = remade c.self.inside.tablets.items c.position-index.result c.index_mut.result.now c.compact.new.tablet there (Compacts (kind_of c.args.compaction) (g.F.Files.contents c.self.inside.files) c.self.inside.next_name (g.F.Files.contents c.compact.new.files)) c.args.tablet at.number c.in_ok-compact.ensures.lists; cleaned = λ order. numbered_new c.self.inside.tablets.items c.position-index.result c.index_mut.result.now c.compact.new.tablet there (IsCleaned c.args.compaction (g.F.Files.contents c.compact.new.files)) c.args.tablet at.number (in_order _ (g.F.Files.contents c.self.inside.files) c.self.inside.next_name c.self.inside.tablets.items c.position-index.result c.index_mut.result.now there order c.in_ok-compact.ensures.cleaned) })
+    (record { made = remade c.self.inside.tablets.items c.position-index.result c.index_mut.result.now c.compact.new.tablet there (IsMade c.args.compaction c.self.inside.next_name) c.args.tablet at.number c.in_ok-compact.ensures.made; lists = remade c.self.inside.tablets.items c.position-index.result c.index_mut.result.now c.compact.new.tablet there (Compacts c.args.compaction (g.F.Files.contents c.self.inside.files) c.self.inside.next_name (g.F.Files.contents c.compact.new.files)) c.args.tablet at.number c.in_ok-compact.ensures.lists; cleaned = λ order. numbered_new c.self.inside.tablets.items c.position-index.result c.index_mut.result.now c.compact.new.tablet there (IsCleaned c.args.compaction (g.F.Files.contents c.compact.new.files)) c.args.tablet at.number (in_order _ (g.F.Files.contents c.self.inside.files) c.self.inside.next_name c.self.inside.tablets.items c.position-index.result c.index_mut.result.now there order c.in_ok-compact.ensures.cleaned) })
     (record {
       name = c.compact.ensures.name;
       limit = refl;
@@ -114,7 +120,7 @@ returns-clause-outcome g c =
       named = λ most. numbered_old c.self.inside.tablets.items c.position-index.result c.index_mut.result.now c.compact.new.tablet there (WritesNone c.args.compaction) c.args.tablet at.number (c.in_ok-compact.ensures.left most);
       fits = numbered_old c.self.inside.tablets.items c.position-index.result c.index_mut.result.now c.compact.new.tablet there (Fits c.self.inside.file_limit (g.F.Files.contents c.self.inside.files) c.args.compaction) c.args.tablet at.number c.in_ok-compact.ensures.fits;
     })
-    (λ minor. flush_lists c.self.inside.tablets.items c.self.inside.table c.self.invariant.placed c.list_files.new.table c.args.tablet c.self.inside.next_name c.index_mut.result.now c.compact.new.tablet
+    (λ minor. flush_lists c.self.inside.tablets.items c.self.inside.table c.self.invariant.0.placed c.list_files.new.table c.args.tablet c.self.inside.next_name c.index_mut.result.now c.compact.new.tablet
     (numbered_at c.self.inside.tablets.items c.args.tablet c.position-index.result c.index_mut.result.now at.number there)
     (subst (λ (kind : Compaction). IsMade kind c.self.inside.next_name c.index_mut.result.now c.compact.new.tablet) minor c.in_ok-compact.ensures.made).names
     (c.list_files.ensures ∙ ap (λ t. with_files c.args.tablet (names_of t) c.self.inside.table) (is_set c.self.inside.tablets.items c.position-index.result c.index_mut.result.now c.compact.new.tablet c.index-2.result.now there c.index-2.ensures)))

@@ -1,6 +1,6 @@
 -- The tablet of a number is looked for first.
 use Rattle.cell_key.specs.declared.refusals.Refusal.TheVariants.{UnknownTablet}
-use Rattle.row_atomic.specs.declared.cluster_compactions.Compaction.TheVariants.{Major}
+use Rattle.tablet.specs.declared.compactions.Compaction.TheVariants.{Major}
 use Rattle.row_atomic.proofs.Outcomes.{refused_done, unknown}
 use Rattle.row_atomic.proofs.cluster.Cluster.major.Goals as goal
 

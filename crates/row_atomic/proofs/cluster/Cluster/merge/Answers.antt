@@ -1,6 +1,6 @@
 -- The tablet of a number is looked for first, and then its files are counted.
 use Rattle.cell_key.specs.declared.refusals.Refusal.TheVariants.{BadCount, UnknownTablet}
-use Rattle.row_atomic.specs.declared.cluster_compactions.Compaction.TheVariants.{Merge}
+use Rattle.tablet.specs.declared.compactions.Compaction.TheVariants.{Merge}
 use Rattle.row_atomic.proofs.Outcomes.{refused_done, uncounted, unknown}
 use Rattle.row_atomic.proofs.cluster.Cluster.merge.Goals as goal
 

@@ -1,6 +1,6 @@
 -- The tablet of a number is looked for first.
 use Rattle.cell_key.specs.declared.refusals.Refusal.TheVariants.{UnknownTablet}
-use Rattle.row_atomic.specs.declared.cluster_compactions.Compaction.TheVariants.{Minor}
+use Rattle.tablet.specs.declared.compactions.Compaction.TheVariants.{Minor}
 use Rattle.row_atomic.proofs.Outcomes.{refused_done, unknown}
 use Rattle.row_atomic.proofs.cluster.Cluster.minor.Goals as goal
 

@@ -11,7 +11,7 @@ use Rattle.row_atomic.proofs.Listing.{move_lists}
 use Rattle.row_atomic.proofs.Moving.{known_after}
 use Rattle.row_atomic.proofs.Outcomes.{as_refusal, flush_refused, put_after, refused_done, stayed, unmoved}
 use Rattle.row_atomic.proofs.Passing.{not_both}
-use Rattle.row_atomic.proofs.Roomy.{still_used}
+use Rattle.row_atomic.proofs.CompactionRoom.{still_used}
 use Rattle.row_atomic.proofs.cluster.Cluster.move_to.Goals as goal
 
 pub compact_tablet-requires-clause-known : goal.compact_tablet-requires-clause-known
@@ -36,7 +36,10 @@ returns-in_err-is_on-clause-outcome g c =
     (unmoved g.F.Files.contents g.F.Files.faults c.args.tablet c.args.server c.args.self.now e c.is_on.ensures.table c.in_err-is_on.ensures.refusal (as_refusal e _ _ c.in_err-is_on.ensures.unknown) (as_refusal e _ _ c.in_err-is_on.ensures.server))
 
 pub returns-then-branch-clause-outcome : goal.returns-then-branch-clause-outcome
-returns-then-branch-clause-outcome g c = stayed g.F.Files.contents g.F.Files.faults c.args.tablet c.args.server c.args.self.now c.is_on.ensures.table (c.in_ok-is_on.ensures.on.0 c.if-branch.true)
+returns-then-branch-clause-outcome g c =
+    let table = rw (← c.self.view_is) at c.is_on.ensures.table in
+    let on = rw (← c.self.view_is) at c.in_ok-is_on.ensures.on.0 c.if-branch.true in
+    rw (← c.self.view_is) (stayed g.F.Files.contents g.F.Files.faults c.args.tablet c.args.server _ table on)
 
 pub returns-in_err-compact_tablet-clause-outcome : goal.returns-in_err-compact_tablet-clause-outcome
 returns-in_err-compact_tablet-clause-outcome g c =

@@ -4,24 +4,27 @@ use Rattle.metadata_table.specs.Places.{PlaceView}
 use Rattle.tablet.specs.declared.tablet.Tablet.{Tablet}
 use Rattle.row_atomic.specs.Clusters.{InOrder, IsMatched, cells_in}
 use Rattle.row_atomic.proofs.Fresh.{new_cells, new_in_order, new_matched}
+use Rattle.row_atomic.proofs.PlaceCaching.{none_held}
 use Rattle.row_atomic.proofs.cluster.Cluster.new.Goals as goal
 
 pub invariant_of-result : goal.invariant_of-result
 invariant_of-result g c =
-    let first = c.in-Ok.ensures.tablet in
-    subst (λ (ts : List Tablet). IsMatched c.args.file_limit 1 c.in-Ok.table ts) (sym first.alone)
-    (subst (λ (ps : List PlaceView). IsMatched c.args.file_limit 1 ps (first.tablet ∷ [])) (sym c.in-Ok.ensures.table)
-    (new_matched first.tablet first.memory first.files c.args.file_limit c.requires.least c.requires.most first.range))
+    let first = c.in-Ok-first_tablet.ensures.tablet in (
+      subst (λ (ts : List Tablet). IsMatched c.args.file_limit 1 c.in-Ok-first_tablet.table ts) (sym first.alone)
+          (subst (λ (ps : List PlaceView). IsMatched c.args.file_limit 1 ps (first.tablet ∷ [])) (sym c.in-Ok-first_tablet.ensures.table)
+          (new_matched first.tablet first.memory first.files c.args.file_limit c.requires.least c.requires.most first.range)),
+      none_held c.in-Ok-first_tablet.table c.in-Ok.place_cache.numbers.entries c.in-Ok.ensures.none,
+    )
 
-pub returns-in-Ok-clause-cells : goal.returns-in-Ok-clause-cells
-returns-in-Ok-clause-cells g c =
-    let first = c.in-Ok.ensures.tablet in
+pub returns-in-Ok-first_tablet-clause-cells : goal.returns-in-Ok-first_tablet-clause-cells
+returns-in-Ok-first_tablet-clause-cells g c =
+    let first = c.in-Ok-first_tablet.ensures.tablet in
     ap (cells_in (g.F.Files.contents c.args.files)) first.alone ∙ new_cells first.tablet first.memory first.files (g.F.Files.contents c.args.files)
 
-pub returns-in-Ok-clause-holds : goal.returns-in-Ok-clause-holds
-returns-in-Ok-clause-holds g c =
-    let first = c.in-Ok.ensures.tablet in
+pub returns-in-Ok-first_tablet-clause-holds : goal.returns-in-Ok-first_tablet-clause-holds
+returns-in-Ok-first_tablet-clause-holds g c =
+    let first = c.in-Ok-first_tablet.ensures.tablet in
     λ told. subst (λ (ts : List Tablet). InOrder (g.F.Files.contents c.args.files) 1 ts) (sym first.alone) (new_in_order first.tablet first.memory first.files (g.F.Files.contents c.args.files) 1 told)
 
-pub returns-in-Ok-clause-name : goal.returns-in-Ok-clause-name
-returns-in-Ok-clause-name g c = refl
+pub returns-in-Ok-first_tablet-clause-name : goal.returns-in-Ok-first_tablet-clause-name
+returns-in-Ok-first_tablet-clause-name g c = refl

@@ -3,7 +3,7 @@ use Rattle.row_atomic.proofs.Changing.{known}
 use Rattle.row_atomic.proofs.cluster.Cluster.position.Goals as goal
 
 pub overflow_sub-result : goal.overflow_sub-result
-overflow_sub-result g c = (known c.self.inside.table c.self.inside.tablets.items c.args.tablet c.self.invariant.placed (rw (← c.self.view_is) at c.requires.known)).from
+overflow_sub-result g c = (known c.self.inside.table c.self.inside.tablets.items c.args.tablet c.self.invariant.0.placed (rw (← c.self.view_is) at c.requires.known)).from
 
 pub returns : goal.returns
-returns g c = rw (← c.self.view_is) ((known c.self.inside.table c.self.inside.tablets.items c.args.tablet c.self.invariant.placed (rw (← c.self.view_is) at c.requires.known)).at)
+returns g c = rw (← c.self.view_is) ((known c.self.inside.table c.self.inside.tablets.items c.args.tablet c.self.invariant.0.placed (rw (← c.self.view_is) at c.requires.known)).at)

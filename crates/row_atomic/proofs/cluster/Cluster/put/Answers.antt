@@ -8,6 +8,7 @@ use Rattle.row_atomic.proofs.Changing.{if_err, remade}
 use Rattle.row_atomic.proofs.Commanding.{when_ok}
 use Rattle.metadata_table.specs.Table.{moved}
 use Rattle.row_atomic.proofs.Moving.{matched_moved, opened_keeps}
+use Rattle.row_atomic.proofs.PlaceCaching.{none_held}
 use Rattle.row_atomic.proofs.Passing.{below_only, none_answered, not_refused, passed, reason_kept, reason_passed, refused_so}
 use Rattle.std.proofs.Common.{◌≡◌, ◌<◌, ◌⊎◌, inl, inr, ℕ, Result, Ok, Err, IfErr, IsErrOf, IsOk, refl, sym, ap, subst, set}
 use Rattle.row_atomic.proofs.Splitting.{emptied_at}
@@ -23,9 +24,11 @@ pub invariant_of-self-2 : goal.invariant_of-self-2
 invariant_of-self-2 g c =
     let at = rw (← c.self.view_is) at c.position-index.ensures in
     let there = found_there c.self.inside.tablets.items c.position-index.result at.tablet c.index.result.now at.there c.index.ensures in
-    let done : c.assign.new.self ≡ moved c.args.tablet c.args.server c.self.inside.table = when_ok c.assign.result _ c.assign.ensures.ok c.unwrap.ensures in
-    matched_moved c.self.inside.file_limit c.self.inside.next_name c.args.tablet c.args.server c.self.inside.table c.assign.new.self (set c.self.inside.tablets.items c.position-index.result c.in_ok-opened.opened) done
-    (matched_set c.self.inside.file_limit c.self.inside.next_name c.self.inside.table c.self.inside.tablets.items c.position-index.result c.index.result.now c.in_ok-opened.opened there c.in_ok-opened.ensures.range c.in_ok-opened.ensures.names c.self.invariant)
+    let done : c.assign.new.self ≡ moved c.args.tablet c.args.server c.self.inside.table = when_ok c.assign.result _ c.assign.ensures.ok c.unwrap.ensures in (
+      matched_moved c.self.inside.file_limit c.self.inside.next_name c.args.tablet c.args.server c.self.inside.table c.assign.new.self (set c.self.inside.tablets.items c.position-index.result c.in_ok-opened.opened) done
+          (matched_set c.self.inside.file_limit c.self.inside.next_name c.self.inside.table c.self.inside.tablets.items c.position-index.result c.index.result.now c.in_ok-opened.opened there c.in_ok-opened.ensures.range c.in_ok-opened.ensures.names c.self.invariant.0),
+      none_held c.assign.new.self c.clear.new.self.numbers.entries c.clear.ensures.none,
+    )
 
 pub returns-clause-kept : goal.returns-clause-kept
 returns-clause-kept g c =

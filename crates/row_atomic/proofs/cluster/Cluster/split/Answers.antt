@@ -9,7 +9,7 @@ use Rattle.row_atomic.proofs.Emptying.{cut_listed, flushed_alone, halved_after}
 use Rattle.row_atomic.proofs.Listing.{cut_lists}
 use Rattle.row_atomic.proofs.Outcomes.{cut_after, refused_split, uncut, unflushed}
 use Rattle.row_atomic.proofs.Passing.{number_after}
-use Rattle.row_atomic.proofs.Roomy.{holder_that, still_used}
+use Rattle.row_atomic.proofs.CompactionRoom.{holder_that, still_used}
 use Rattle.row_atomic.proofs.Splitting.{free_after, holder_flushed, holder_known}
 use Rattle.row_atomic.proofs.cluster.Cluster.split.Goals as goal
 

@@ -27,7 +27,7 @@ returns g c =
     let names = c.in_ok-names.names.items in
     let lacks = subst (λ (o : Option Contents). MayLackUnkept places o (g.F.Files.contents c.remove_unkept.new.files)) c.names_of.ensures.same c.remove_unkept.ensures.lacks in
     rw (← c.self.view_is) (swept_so g.F.Files.contents g.F.Files.faults _ _
-    (λ order. let kept = swept_order places c.self.inside.tablets.items c.len.ensures.table c.self.invariant.placed c.self.invariant.as_many c.unnamed_may_go.ensures (g.F.Files.contents c.self.inside.files) (g.F.Files.contents c.remove_unkept.new.files) c.self.inside.next_name lacks order in (kept.order, kept.same))
+    (λ order. let kept = swept_order places c.self.inside.tablets.items c.len.ensures.table c.self.invariant.0.placed c.self.invariant.0.as_many c.unnamed_may_go.ensures (g.F.Files.contents c.self.inside.files) (g.F.Files.contents c.remove_unkept.new.files) c.self.inside.next_name lacks order in (kept.order, kept.same))
     refl c.remove_unkept.result
     (on_ok c.remove_unkept.result (λ e. e ∙ ap (without_files (unkept places names)) c.names_of.ensures.same ∙ swept_is places (g.F.Files.contents c.self.inside.files) names c.in_ok-names.ensures.names) c.remove_unkept.ensures.removed)
     (counted places (g.F.Files.contents c.self.inside.files) names c.remove_unkept.result c.in_ok-names.ensures.names c.remove_unkept.ensures.count) lacks c.remove_unkept.ensures.refusal (reason_after c.remove_unkept.result c.in_ok-names.names _ _ _ c.in_ok-names.ensures.reason c.remove_unkept.ensures.reason))

@@ -1,4 +1,4 @@
-use Rattle.tablet.proofs.Making.{after_apply, holds_after_apply}
+use Rattle.tablet.proofs.MadeTablets.{after_apply, holds_after_apply}
 use Rattle.tablet.proofs.tablet.Tablet.apply.Goals as goal
 
 pub returns-clause-ok : goal.returns-clause-ok

@@ -5,7 +5,7 @@ use Rattle.sorted_file.specs.declared.opened.SortedFile.{SortedFile}
 use Rattle.tablet.specs.Sources.{IsOpenIn, listed_in}
 use Rattle.tablet.specs.Views.{files_of, memory_of}
 use Rattle.tablet.specs.Compactions.{ReadsOpen, inputs_of}
-use Rattle.tablet.proofs.Writing.{all_take}
+use Rattle.tablet.proofs.WrittenFiles.{all_take}
 use Rattle.tablet.proofs.tablet.Tablet.inputs.Goals as goal
 
 pub returns-in-Minor-clause-lists : goal.returns-in-Minor-clause-lists

@@ -9,8 +9,8 @@ use Rattle.sorted_file.specs.Opened.{IsOpen, name_of}
 use Rattle.sorted_file.specs.declared.opened.SortedFile.{SortedFile}
 use Rattle.tablet.specs.Views.{Holds, files_of, memory_of}
 use Rattle.tablet.specs.declared.tablet.Tablet.{Tablet}
-use Rattle.tablet.proofs.Compacting.{no_entries}
-use Rattle.tablet.proofs.Making.{missing_one}
+use Rattle.tablet.proofs.CompactedCells.{no_entries}
+use Rattle.tablet.proofs.MadeTablets.{missing_one}
 use Rattle.tablet.proofs.Passed.{IsNoMemory, not_err, passed_err, passed_kind, passed_none, passed_on, passed_reason, quiet_reason, reason_after}
 use Rattle.tablet.proofs.tablet.Tablet.load.Goals as goal
 

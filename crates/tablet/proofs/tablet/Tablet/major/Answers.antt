@@ -10,11 +10,11 @@ use Rattle.sorted_file.specs.declared.opened.SortedFile.{SortedFile}
 use Rattle.compaction.specs.Writing.{written}
 use Rattle.tablet.specs.Ranges.{seen}
 use Rattle.tablet.specs.Views.{Holds, files_of, memory_of, range_of}
-use Rattle.tablet.proofs.Compacting.{major_cells, no_entries}
+use Rattle.tablet.proofs.CompactedCells.{major_cells, no_entries}
 use Rattle.tablet.proofs.Held.{held_lists}
-use Rattle.tablet.proofs.Making.{large_of, made_keeps, made_lists, made_of, still_holds, still_keeps}
+use Rattle.tablet.proofs.MadeTablets.{large_of, made_keeps, made_lists, made_of, still_holds, still_keeps}
 use Rattle.tablet.proofs.Passed.{IsNoMemory, inserted, not_err, passed_err, passed_kept, passed_kind, passed_none, passed_on, passed_reason, quiet_reason, reason_of_ok}
-use Rattle.tablet.proofs.Writing.{if_some_not, told_written}
+use Rattle.tablet.proofs.WrittenFiles.{if_some_not, told_written}
 use Rattle.cell_key.specs.Entries.{cells_of}
 use Rattle.tablet.proofs.Seen.{shown}
 use Rattle.tablet.proofs.tablet.Tablet.major.Goals as goal

@@ -12,11 +12,11 @@ use Rattle.tablet.specs.Ranges.{seen}
 use Rattle.tablet.specs.Compactions.{IsCompactionRefusal}
 use Rattle.tablet.specs.Views.{Holds, files_of, memory_of, names_of, range_of}
 use Rattle.tablet.specs.declared.tablet.Tablet.{Tablet}
-use Rattle.tablet.proofs.Compacting.{merge_cells}
+use Rattle.tablet.proofs.CompactedCells.{merge_cells}
 use Rattle.tablet.proofs.Held.{held_lists}
-use Rattle.tablet.proofs.Making.{large_of, made_keeps, made_lists, still_keeps}
+use Rattle.tablet.proofs.MadeTablets.{large_of, made_keeps, made_lists, still_keeps}
 use Rattle.tablet.proofs.Passed.{IsBadCount, merge_of, not_err, passed_err, passed_kept, passed_kind, passed_none, passed_on, passed_reason, quiet_reason, reason_of_ok, told_kind}
-use Rattle.tablet.proofs.Writing.{told_written}
+use Rattle.tablet.proofs.WrittenFiles.{told_written}
 use Rattle.tablet.proofs.tablet.Tablet.merge.Goals as goal
 
 within : (files : List SortedFile) (len count : ℕ) → len ≡ length files → count ≤ len → count ≤ length (map name_of files)

@@ -9,10 +9,10 @@ use Rattle.compaction.specs.Writing.{written}
 use Rattle.tablet.specs.Ranges.{seen}
 use Rattle.tablet.specs.Compactions.{IsCompactionRefusal}
 use Rattle.tablet.specs.Views.{Holds, files_of, flushed, memory_of, range_of, with_name}
-use Rattle.tablet.proofs.Compacting.{minor_cells, minor_form, minor_writes, no_entries}
-use Rattle.tablet.proofs.Making.{made_keeps, made_lists, made_of, still_holds, still_keeps}
+use Rattle.tablet.proofs.CompactedCells.{minor_cells, minor_form, minor_writes, no_entries}
+use Rattle.tablet.proofs.MadeTablets.{made_keeps, made_lists, made_of, still_holds, still_keeps}
 use Rattle.tablet.proofs.Passed.{IsNoMemory, IsTooManyFiles, inserted, minor_of, not_both, not_empty, not_err, passed_err, passed_kept, passed_kind, passed_none, passed_on, passed_reason, quiet_reason, reason_of_ok, told_kind, too_few, too_many}
-use Rattle.tablet.proofs.Writing.{if_some_not}
+use Rattle.tablet.proofs.WrittenFiles.{if_some_not}
 use Rattle.tablet.proofs.tablet.Tablet.minor.Goals as goal
 
 names_more : (next : ℕ) (memory : List Entry) (file : SortedFile) (old new : List SortedFile) → memory ≢ [] → new ≡ file ∷ old → name_of file ≡ next → map name_of new ≡ with_name next memory (map name_of old)

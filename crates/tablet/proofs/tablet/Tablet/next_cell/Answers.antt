@@ -6,9 +6,9 @@ use Rattle.tablet.specs.Views.{Holds}
 use Rattle.std.specs.Option.{option_copied}
 use Rattle.cell_key.specs.Places.{place_named}
 use Rattle.tablet.specs.Reads.{later}
-use Rattle.tablet.proofs.Answering.{cell_none, cell_some}
+use Rattle.tablet.proofs.Lookups.{cell_none, cell_some}
 use Rattle.tablet.proofs.Passed.{IsNoMemory, no_memory, not_err, passed_err, passed_kind, passed_none, passed_on, passed_reason, quiet_reason, reason_of_ok}
-use Rattle.tablet.proofs.Writing.{if_some_not}
+use Rattle.tablet.proofs.WrittenFiles.{if_some_not}
 use Rattle.tablet.proofs.tablet.Tablet.next_cell.Goals as goal
 
 pub returns-in-Some-clause-found : goal.returns-in-Some-clause-found

@@ -2,7 +2,7 @@ use Rattle.std.proofs.Common.{inl, inr, refl, sym, subst}
 use Rattle.cell_key.specs.declared.refusals.Refusal.TheVariants.{Device}
 use Rattle.tablet.specs.Compactions.{IsMinorRefusal}
 use Rattle.tablet.proofs.Passed.{IsNoMemory, err_kind, err_map, no_memory, not_err, passed_err, passed_kept, passed_none, passed_on, passed_reason, quiet_reason, reason_after}
-use Rattle.tablet.proofs.Writing.{as_on_ok}
+use Rattle.tablet.proofs.WrittenFiles.{as_on_ok}
 use Rattle.tablet.proofs.tablet.Tablet.unload.Goals as goal
 
 pub returns-clause-fits : goal.returns-clause-fits

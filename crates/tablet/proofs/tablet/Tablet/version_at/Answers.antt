@@ -4,10 +4,10 @@ use Rattle.std.specs.List.{AllByRecursion}
 use Rattle.sorted_file.specs.Opened.{IsOpen}
 use Rattle.sorted_file.specs.Sources.{IsReadRefusal}
 use Rattle.tablet.specs.Views.{Holds}
-use Rattle.tablet.proofs.Answering.{one_none, one_some}
+use Rattle.tablet.proofs.Lookups.{one_none, one_some}
 use Rattle.tablet.proofs.Passed.{IsNoMemory, no_memory, not_err, passed_err, passed_kind, passed_none, passed_on, passed_reason, quiet_reason, reason_of_ok}
 use Rattle.tablet.proofs.SameFiles.{same_itself, same_looked}
-use Rattle.tablet.proofs.Writing.{if_some_not}
+use Rattle.tablet.proofs.WrittenFiles.{if_some_not}
 use Rattle.tablet.proofs.tablet.Tablet.version_at.Goals as goal
 
 pub returns-in-Some-clause-found : goal.returns-in-Some-clause-found

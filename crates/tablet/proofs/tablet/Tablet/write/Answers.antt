@@ -8,7 +8,7 @@ use Rattle.tablet.specs.Compactions.{IsCompactionRefusal, compacted}
 use Rattle.tablet.specs.Sources.{listed_in, lists_over}
 use Rattle.tablet.specs.Views.{Holds, files_of, memory_of, range_of}
 use Rattle.tablet.proofs.Passed.{IsNoMemory, no_memory, passed_err, passed_kind, passed_none, quiet_reason}
-use Rattle.tablet.proofs.Writing.{compacts, if_ok_holds, if_some_not, on_ok_map, reads_held}
+use Rattle.tablet.proofs.WrittenFiles.{compacts, if_ok_holds, if_some_not, on_ok_map, reads_held}
 use Rattle.tablet.proofs.tablet.Tablet.write.Goals as goal
 
 pub returns-clause-made : goal.returns-clause-made

@@ -19,7 +19,7 @@ use Rattle.tablet.specs.Views.{range_of, memory_of, files_of, names_of, lists_of
 use Rattle.tablet.specs.declared.tablet.Tablet.{Tablet}
 use Rattle.tablet.proofs.Held.{held_lists}
 use Rattle.tablet.proofs.Seen.{shown}
-use Rattle.tablet.proofs.Showing.{edits_list, edits_shown}
+use Rattle.tablet.proofs.KeptCells.{edits_list, edits_shown}
 use Rattle.tablet.proofs.TabletLaws.{each_same, files_over, still_below}
 
 -- ---- edits

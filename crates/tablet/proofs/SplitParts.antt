@@ -7,6 +7,7 @@ use Rattle.std.specs.declared.cmp.Ordering.{Ordering}
 use Rattle.std.specs.declared.cmp.Ordering.TheVariants.{Less, Equal, Greater}
 use Rattle.std.specs.FinMap.{get}
 use Rattle.cell_key.specs.Keys.{byte_cmp}
+use Rattle.cell_key.specs.Cells.{Cells}
 use Rattle.cell_key.specs.Entries.{IsEntryList, cells_of}
 use Rattle.file_store.specs.Store.{Contents}
 use Rattle.sorted_file.specs.Opened.{HasFile, IsOpen, OneListing, OpenIsThere, listed, name_of}
@@ -14,11 +15,12 @@ use Rattle.sorted_file.specs.declared.opened.SortedFile.{SortedFile}
 use Rattle.compaction.specs.OrderLaws.{same_key, total}
 use Rattle.tablet.specs.Ranges.{has_row, is_after, is_up_to}
 use Rattle.tablet.specs.Views.{AreParts, Holds, IsBelow, IsPart, Keeps, cells_at, files_of, lists_of, memory_of, names_of, range_of}
+use Rattle.tablet.specs.Splits.{MakesParts}
 use Rattle.tablet.specs.declared.ranges.RowRange.{RowRange}
 use Rattle.tablet.specs.declared.tablet.Tablet.{Tablet}
 use Rattle.tablet.proofs.Held.{held_lists}
 use Rattle.tablet.proofs.Seen.{shown}
-use Rattle.tablet.proofs.Showing.{part_of}
+use Rattle.tablet.proofs.KeptCells.{part_of}
 use Rattle.tablet.proofs.TabletLaws.{files_there, one_names}
 
 -- ---- rows
@@ -103,15 +105,44 @@ parts_of law m n after whole middle left right row is inside left_holds h below 
     }
 
 pub splits : OneListing → (old mid new : Option Contents) (next after : ℕ) (whole middle left right : Tablet) (row : List ℕ) → IsSplit whole middle left right row → Keeps old next whole mid after middle → IfSome mid (λ n. Holds n left) → new ≡ mid
-    → IfSome old (λ m. Holds m whole → IsBelow next whole → IsTrue (has_row (range_of whole) row) → IsSomeAnd new (λ n. AreParts m whole n after left right))
+    → MakesParts old next whole row new after left right
 splits law None mid new next after whole middle left right row is keeps holds same = tt
 splits law (Some m) None new next after whole middle left right row is keeps holds same = λ h below inside. absurd (keeps h below)
 splits law (Some m) (Some n) new next after whole middle left right row is keeps holds same = λ h below inside.
     let kept = keeps h below in
     subst (λ (o : Option Contents). IsSomeAnd o (λ n. AreParts m whole n after left right)) (sym same) (parts_of law m n after whole middle left right row is inside holds kept.0 kept.1 kept.2)
 
--- after a minor compaction the files of a tablet are there
-pub still_there : OpenIsThere → (old mid : Option Contents) (next after : ℕ) (whole middle : Tablet) → Keeps old next whole mid after middle → IfSome mid (λ n. ¬ (AllByRecursion (HasFile n) (names_of middle))) → IfSome old (λ m. Holds m whole → ¬ (IsBelow next whole))
-still_there law None mid next after whole middle keeps missing = tt
-still_there law (Some m) None next after whole middle keeps missing = λ h below. keeps h below
-still_there law (Some m) (Some n) next after whole middle keeps missing = λ h below. missing (files_there law n (files_of middle) (keeps h below).0.files)
+-- a tablet that stays keeps its cells
+pub keeps_itself : (told : Option Contents) (next : ℕ) (t : Tablet) → Keeps told next t told next t
+keeps_itself None next t = tt
+keeps_itself (Some m) next t = λ h below. (h, below, refl)
+
+-- what was cut after a minor compaction are the parts of what there was before
+pub parts_after : (old mid new : Option Contents) (next after : ℕ) (whole middle left right : Tablet) (row : List ℕ) → range_of middle ≡ range_of whole → Keeps old next whole mid after middle → MakesParts mid after middle row new after left right → MakesParts old next whole row new after left right
+parts_after None mid new next after whole middle left right row range keeps parts = tt
+parts_after (Some m) None new next after whole middle left right row range keeps parts = λ h below inside. absurd (keeps h below)
+parts_after (Some m) (Some k) new next after whole middle left right row range keeps parts = λ h below inside.
+    let kept = keeps h below in
+    by new kept.2 (parts kept.0 kept.1 (subst (λ (r : RowRange). IsTrue (has_row r row)) (sym range) inside))
+  where
+    by : (new : Option Contents) → cells_at k middle ≡ cells_at m whole → IsSomeAnd new (λ n. AreParts k middle n after left right) → IsSomeAnd new (λ n. AreParts m whole n after left right)
+    by None same parts = absurd parts
+    by (Some n) same parts = record {
+      left_holds = parts.left_holds;
+      right_holds = parts.right_holds;
+      left_below = parts.left_below;
+      right_below = parts.right_below;
+      left_cells = subst (λ (cells : Cells). IsPart (range_of left) cells (cells_at n left)) same parts.left_cells;
+      right_cells = subst (λ (cells : Cells). IsPart (range_of right) cells (cells_at n right)) same parts.right_cells;
+    }
+
+-- the files of a tablet are there
+pub still_there : OpenIsThere → (told : Option Contents) (t : Tablet) → IfSome told (λ n. ¬ (AllByRecursion (HasFile n) (names_of t))) → IfSome told (λ m. ¬ Holds m t)
+still_there law None t missing = tt
+still_there law (Some m) t missing = λ h. missing (files_there law m (files_of t) h.files)
+
+-- a tablet whose files are no longer open after a minor compaction had none open before
+pub not_open : (old mid : Option Contents) (next after : ℕ) (whole middle : Tablet) → Keeps old next whole mid after middle → IfSome mid (λ m. ¬ Holds m middle) → IfSome old (λ m. Holds m whole → ¬ IsBelow next whole)
+not_open None mid next after whole middle keeps closed = tt
+not_open (Some m) None next after whole middle keeps closed = λ h below. keeps h below
+not_open (Some m) (Some n) next after whole middle keeps closed = λ h below. closed (keeps h below).0

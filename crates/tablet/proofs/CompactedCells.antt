@@ -10,7 +10,7 @@ use Rattle.tablet.specs.Ranges.{seen}
 use Rattle.tablet.specs.Views.{flushed}
 use Rattle.tablet.specs.declared.ranges.RowRange.{RowRange}
 use Rattle.tablet.proofs.Seen.{merged_same, seen_list, shown}
-use Rattle.tablet.proofs.Showing.{or_last, stands_for, stands_for_all}
+use Rattle.tablet.proofs.KeptCells.{or_last, stands_for, stands_for_all}
 
 -- an empty list shows nothing
 pub empty_first : (range : RowRange) (lists : List (List Entry)) → shown range ([] ∷ lists) ≡ shown range lists

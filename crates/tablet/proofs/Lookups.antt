@@ -1,5 +1,5 @@
 -- What a tablet answers, by what was found in its lists.
-use Rattle.std.proofs.Common.{◌≡◌, ◌<◌, ◌≤◌, ◌^◌, ℕ, List, ◌∷◌, ◌⊎◌, inl, inr, map, Option, Some, None, sym, subst, ◌∙◌, arith}
+use Rattle.std.proofs.Common.{◌≡◌, ◌<◌, ◌≤◌, ◌^◌, ℕ, List, ◌∷◌, ◌⊎◌, inl, inr, map, Option, Some, None, sym, subst, ◌∙◌}
 use Rattle.std.specs.Prelude.{IfSome, IfOk, IsTrue, Result, Ok, Err}
 use Rattle.std.specs.FinMap.{get}
 use Rattle.std.specs.List.{AllByRecursion}
@@ -28,11 +28,6 @@ pub if_one : {A : Type 0} {P Q : A → Type 0} (o : Option A) → IfSome o P →
 if_one None h f = tt
 if_one (Some m) h f = f m h
 
-pub if_ok_one : {T E A : Type 0} {P Q : T → A → Type 0} (r : Result T E) (o : Option A) → IfOk r (λ x. IfSome o (P x)) → ((x : T) (m : A) → P x m → Q x m) → IfOk r (λ x. IfSome o (Q x))
-if_ok_one (Ok x) None h f = tt
-if_ok_one (Ok x) (Some m) h f = f x m h
-if_ok_one (Err e) o h f = tt
-
 pub ok_map : {T E : Type 0} {P Q : T → Type 0} (r : Result T E) → IfOk r P → ((x : T) → P x → Q x) → IfOk r Q
 ok_map (Ok x) h f = f x h
 ok_map (Err e) h f = tt
@@ -52,25 +47,12 @@ module _ (m : Contents) (t : Tablet) (held : Holds m t) (row family : List ℕ) 
   stored_or_not : (s : ℕ) → IsStored (version row family q s) ⊎ (get (cells_at m t) (version row family q s) ≡ None)
   stored_or_not s = stored_or_hidden (range_of t) (lists_of m t) (held_lists m t held) (version row family q s)
 
-  -- no stamp of a version is between these
-  pub nothing_stored : (lo hi : ℕ) → ((s : ℕ) → 1 ≤ s → s < 2 ^ 63 → lo ≤ s → s ≤ hi → ⊥) → IsNewest (cells_at m t) (version row family q) lo hi None
-  nothing_stored lo hi out s a b = go (stored_or_not s)
-    where
-      go : IsStored (version row family q s) ⊎ (get (cells_at m t) (version row family q s) ≡ None) → get (cells_at m t) (version row family q s) ≡ None
-      go (inl stored) = absurd (out s stored.from stored.to a b)
-      go (inr e) = e
-
   none_from : (lo first hi : ℕ) → ((s : ℕ) → 1 ≤ s → lo ≤ s → first ≤ s) → IsNewest (cells_at m t) (version row family q) first hi None → IsNewest (cells_at m t) (version row family q) lo hi None
   none_from lo first hi up h s a b = go (stored_or_not s)
     where
       go : IsStored (version row family q s) ⊎ (get (cells_at m t) (version row family q s) ≡ None) → get (cells_at m t) (version row family q s) ≡ None
       go (inl stored) = h s (up s stored.from a) b
       go (inr e) = e
-
-  -- no version has a stamp below 1
-  pub widened : (lo first hi : ℕ) → lo ≤ first → ((s : ℕ) → 1 ≤ s → lo ≤ s → first ≤ s) → (found : Option (ℕ × List ℕ)) → IsNewest (cells_at m t) (version row family q) first hi found → IsNewest (cells_at m t) (version row family q) lo hi found
-  widened lo first hi low up None h = none_from lo first hi up h
-  widened lo first hi low up (Some found) h = (let l = h.0 in omega arith, h.1, h.2, h.3)
 
   up_to : (last hi : ℕ) → ((s : ℕ) → s < 2 ^ 63 → s ≤ hi → s ≤ last) → (s : ℕ) → s ≤ hi → (s ≤ last → get (cells_at m t) (version row family q s) ≡ None) → get (cells_at m t) (version row family q s) ≡ None
   up_to last hi down s b h = go (stored_or_not s)
@@ -79,23 +61,9 @@ module _ (m : Contents) (t : Tablet) (held : Holds m t) (row family : List ℕ) 
       go (inl stored) = h (down s stored.to b)
       go (inr e) = e
 
-  -- nor one above the greatest
-  pub raised : (first last hi : ℕ) → last ≤ hi → ((s : ℕ) → s < 2 ^ 63 → s ≤ hi → s ≤ last) → (found : Option (ℕ × List ℕ)) → IsNewest (cells_at m t) (version row family q) first last found → IsNewest (cells_at m t) (version row family q) first hi found
-  raised first last hi high down None h = λ s a b. up_to last hi down s b (h s a)
-  raised first last hi high down (Some found) h = (h.0, (let b = h.1 in omega (arith, b, high)), h.2, λ s a b. up_to last hi down s b (h.3 s a))
-
-pub nothing_held : (o : Option Contents) (t : Tablet) (row family : List ℕ) (q : Qualifier) (lo hi : ℕ) → ((s : ℕ) → 1 ≤ s → s < 2 ^ 63 → lo ≤ s → s ≤ hi → ⊥) → IfSome o (λ m. Holds m t → IsTrue (has_row (range_of t) row) → IsNewest (cells_at m t) (version row family q) lo hi None)
-nothing_held None t row family q lo hi out = tt
-nothing_held (Some m) t row family q lo hi out = λ held has. nothing_stored m t held row family q lo hi out
-
 module _ (t : Tablet) (fs : List SortedFile) (files : fs ≡ files_of t) where
   open_files : (m : Contents) → Holds m t → AllByRecursion (IsOpen m) fs
   open_files m h = subst (λ (gs : List SortedFile). AllByRecursion (IsOpen m) gs) (sym files) h.files
-
-  -- what isn't open isn't held
-  pub not_held : (o : Option Contents) → IfSome o (λ m. ¬ AllByRecursion (IsOpen m) fs) → IfSome o (λ m. ¬ Holds m t)
-  not_held None h = tt
-  not_held (Some m) h = λ held. h (open_files m held)
 
   module _ (row family : List ℕ) (q : Qualifier) (stamp : ℕ) (is_row : IsRow row) (is_family : IsFamily family) (from : 1 ≤ stamp) (to : stamp < 2 ^ 63) (key : CellKey) (named : key ≡ version row family q stamp) where
     abbrev AnswersOne : Option Contents → Option (List ℕ) → Type 0

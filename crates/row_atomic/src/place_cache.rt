@@ -1,0 +1,114 @@
+//! The tablets of the rows that were located last.
+
+ghost use Rattle.std.specs.Prelude.{◌≡◌, ◌+◌, [], IfErr, IfOk, option_map, slice_get};
+ghost use Rattle.metadata_table.specs.Table.{IsTable};
+ghost use Rattle.lru.specs.LruCache.{promoted};
+ghost use Rattle.row_atomic.specs.PlaceCaches.{AddsOnly, AreHeld, IsHeldBy, hits_after, is_key_of, number_kept};
+
+use cell_key::{Refusal, Row};
+use lru::LruCache;
+use metadata_table::MetadataTable;
+use std::alloc::Global;
+use std::num::NonZeroUsize;
+
+/// How many rows are kept.
+const ROWS: usize = 128;
+
+/// The numbers of the tablets that hold the rows that were located last. A compaction changes the files of a tablet, and
+/// not its number.
+#[derive(Drop)]
+pub(crate) struct PlaceCache {
+    alloc: Global,
+    numbers: LruCache<Vec<u8>, u32>,
+    hits: u64,
+}
+
+impl PlaceCache {
+    /// A cache of no rows, without a hit. Refused NoMemory.
+    pub(crate) fn new(alloc: Global) -> Result<PlaceCache, Refusal>
+        ensures none { IfOk result (λ cache. cache.numbers.entries ≡ []) }
+        ensures rows { IfOk result (λ cache. cache.numbers.cap ≡ 128) }
+        ensures hits { IfOk result (λ cache. cache.hits ≡ 0) }
+        ensures refusal { IfErr result (λ refusal. refusal ≡ Refusal.NoMemory) }
+    {
+        let rows = NonZeroUsize::new(ROWS).unwrap();
+        let numbers = LruCache::new(alloc, rows)?;
+        Ok(PlaceCache {
+            alloc,
+            numbers,
+            hits: 0,
+        })
+    }
+
+    /// How many rows were found. A count of 2^64 - 1 stays.
+    pub(crate) fn hits(&self) -> u64
+        ensures { result ≡ self.now.hits }
+    {
+        self.hits
+    }
+
+    /// Forgets all rows. The hits stay.
+    pub(crate) fn clear(&mut self)
+        ensures none { self.new.numbers.entries ≡ [] }
+        ensures rows { self.new.numbers.cap ≡ self.old.numbers.cap }
+        ensures hits { self.new.hits ≡ self.old.hits }
+    {
+        self.numbers.clear();
+    }
+
+    /// The number that is kept with the row that was located last.
+    fn first(&self) -> Option<u32>
+        ensures { result ≡ option_map (λ entry. entry.1) (slice_get self.now.numbers.entries 0) }
+    {
+        let (_, number) = self.numbers.peek_mru()?;
+        Some(*number)
+    }
+
+    /// The number that is kept with a row, which is a hit. The row is then the one that was located last.
+    fn find(&mut self, row: &Row) -> Option<u32>
+        ensures found { result ≡ number_kept row.now self.old.numbers.entries }
+        ensures first { self.new.numbers.entries
+            ≡ promoted (is_key_of row.now) self.old.numbers.entries }
+        ensures rows { self.new.numbers.cap ≡ self.old.numbers.cap }
+        ensures hits { self.new.hits ≡ hits_after result self.old.hits }
+    {
+        if !self.numbers.promote(row.as_bytes()) {
+            return None;
+        }
+        self.hits = self.hits.saturating_add(1);
+        self.first()
+    }
+
+    /// Keeps a number with a row, in place of the row that was located the longest ago where there are 128. Where there is no
+    /// memory for it nothing is kept.
+    fn keep(&mut self, row: &Row, number: u32)
+        ensures adds { AddsOnly row.now number self.old.numbers.entries self.new.numbers.entries }
+        ensures rows { self.new.numbers.cap ≡ self.old.numbers.cap }
+        ensures hits { self.new.hits ≡ self.old.hits }
+    {
+        if let Ok(bytes) = Vec::from_slice(self.alloc, row.as_bytes()) {
+            let _told: Result<_, _> = self.numbers.put(bytes, number);
+        }
+    }
+}
+
+/// The index of the tablet that holds a row, from what is kept, or else from the table. It is kept then.
+pub(crate) fn index_of(table: &MetadataTable, cache: &mut PlaceCache, row: &Row) -> usize
+    requires { AreHeld table.now cache.old.numbers.entries }
+    ensures holder { IsHeldBy table.now row.now (result + 1) }
+    ensures table { IsTable table.now }
+    ensures right { AreHeld table.now cache.new.numbers.entries }
+    ensures hits { cache.new.hits
+        ≡ hits_after (number_kept row.now cache.old.numbers.entries) cache.old.hits }
+{
+    let _ = table.len();
+    let number = match cache.find(row) {
+        Some(number) => number,
+        None => {
+            let number = table.locate(row).tablet;
+            cache.keep(row, number);
+            number
+        }
+    };
+    number as usize - 1
+}
