@@ -11,7 +11,7 @@ use Rattle.row_atomic.specs.declared.commands.Outcome.{Outcome}
 use Rattle.row_atomic.specs.declared.commands.Outcome.TheVariants.{Refused}
 use Rattle.server_loop.specs.Answer.{LacksRoom, TellsCauses}
 use Rattle.server_loop.specs.declared.server.Server.{Server}
-use Rattle.server_loop.proofs.Stepping.{IfTold}
+use Rattle.server_loop.proofs.SessionSteps.{IfTold}
 
 module _ {F M : Type 0} (contents : F → Option Contents) (file_faults : F → ℕ) (mark_faults : M → ℕ) (request : Request) where
   pub done_causes : (reply : Kept) (outcome : Outcome) (old new : Server F M) → new.oracle ≡ old.oracle → (reply ≡ kept.Refused Device → outcome ≡ Refused Device) → (outcome ≡ Refused Device → reply ≡ kept.Refused Device)

@@ -19,9 +19,9 @@ use Rattle.std.specs.Prelude.{Option}
 use Rattle.server_loop.specs.declared.server.Server.{Server}
 use Rattle.server_loop.specs.Server.{Shows, cells_of}
 use Rattle.server_loop.specs.Runs.{IfRefused, StampsGoOn, StepsAs}
-use Rattle.server_loop.proofs.Replacing.{KeepsPlaces}
-use Rattle.server_loop.proofs.Staying.{cleaners_not_collectors, cleaners_not_sessions, collectors_stay, not_kind, sessions_stay}
-use Rattle.server_loop.proofs.Relocating.{still_placed, still_next}
+use Rattle.server_loop.proofs.SamePlaces.{KeepsPlaces}
+use Rattle.server_loop.proofs.OthersShown.{cleaners_not_collectors, cleaners_not_sessions, collectors_stay, not_kind, sessions_stay}
+use Rattle.server_loop.proofs.SplitSteps.{still_placed, still_next}
 
 -- where the tablets are, by what lies below the memtables
 abbrev pub spots_in : Storage → List Spot

@@ -18,10 +18,10 @@ use Rattle.server_loop.specs.declared.server.Server.{Server}
 use Rattle.server_loop.specs.Server.{Shows, cells_of}
 use Rattle.server_loop.specs.Runs.{IfRefused, StampsGoOn, StepsAs}
 use Rattle.server_loop.proofs.CleanSteps.{spots_in}
-use Rattle.server_loop.proofs.Replacing.{KeepsPlaces}
-use Rattle.server_loop.proofs.Relocating.{still_placed, still_next}
-use Rattle.server_loop.proofs.Stepping.{as_refused, ok_not}
-use Rattle.server_loop.proofs.Staying.{cleaners_stay, collectors_not_cleaners, collectors_not_sessions, not_kind, sessions_stay}
+use Rattle.server_loop.proofs.SamePlaces.{KeepsPlaces}
+use Rattle.server_loop.proofs.SplitSteps.{still_placed, still_next}
+use Rattle.server_loop.proofs.SessionSteps.{as_refused, ok_not}
+use Rattle.server_loop.proofs.OthersShown.{cleaners_stay, collectors_not_cleaners, collectors_not_sessions, not_kind, sessions_stay}
 
 -- ---- whole steps
 

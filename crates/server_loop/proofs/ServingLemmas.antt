@@ -11,8 +11,8 @@ use Rattle.request_codec.specs.Replies.{reply_body}
 use Rattle.request_codec.specs.declared.replies.Reply.{Reply as Kept}
 use Rattle.request_codec.specs.declared.requests.Request.{Request as Lent}
 use Rattle.server_loop.specs.Runs.{Taken, Body, Oversize, AnswersAs, RunsAs, SaysOf}
-use Rattle.server_loop.proofs.Reaching.{RunOver-append, SaysAll-append, laws_of}
-use Rattle.server_loop.proofs.Framing.{IsTooLarge-more}
+use Rattle.server_loop.proofs.ReachedRuns.{RunOver-append, SaysAll-append, laws_of}
+use Rattle.server_loop.proofs.FrameHeads.{IsTooLarge-more}
 use Rattle.request_codec.specs.Framing.{longest_frame}
 use Rattle.request_codec.specs.Stream.{frame, frames, IsTooLarge, IsPartial, IsOpen, IsBody}
 use Rattle.server_loop.specs.Serve.{taken_of, written_of, Answered, Delivers, Handles, HandlesFirst, HandlesTo, IsCutShort, IsRest, Takes, Writes}
@@ -396,6 +396,3 @@ has_room hand p = if_few (nat_le 4 (length hand)) refl where
 -- what was taken of the part of a piece from a place on
 pub fits_piece : (n at room : ℕ) (piece : List ℕ) → at ≤ length piece → n ≡ min (length (take (length piece - at) (drop at piece))) room → at + n ≤ length piece
 fits_piece n at room piece within is = omega (arith, is, length-take (length piece - at) (drop at piece), length-drop at piece, within)
-
-pub some_taken : (n at : ℕ) (hand piece : List ℕ) → at < length piece → IsPartial hand → n ≡ min (length (take (length piece - at) (drop at piece))) (longest_frame - length hand) → 0 < n
-some_taken n at hand piece within partial is = omega (arith, is, length-take (length piece - at) (drop at piece), length-drop at piece, within, has_room hand partial)

@@ -11,7 +11,7 @@ use Rattle.server_loop.specs.declared.ends.End.{End}
 use Rattle.server_loop.specs.declared.ends.End.TheVariants as ends
 use Rattle.server_loop.specs.declared.ends.ServeFault.{ServeFault}
 use Rattle.server_loop.proofs.ServingLemmas.{IsOpen-from_large, taken-large}
-use Rattle.server_loop.proofs.Framing.{IsTooLarge-more}
+use Rattle.server_loop.proofs.FrameHeads.{IsTooLarge-more}
 
 module _ {S : Type 0} (shows : S → State → Type 0) (says : S → Lent → Kept → S → Type 0) (between : S → S → Type 0) where
   -- the reader was at its end

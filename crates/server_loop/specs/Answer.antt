@@ -29,8 +29,10 @@ use Rattle.version_collector.specs.Shows as collectors
 
 -- ---- the machine
 
--- The answer is a step of the machine. It is refused what such a request may be, and what it holds keeps to the limits.
-pub record IsMachineStep {F M : Type 0} (contents : F → Option Contents) (request : Request) (reply : Reply) (old new : Server F M) : Type 0 where
+-- The answer is a step of the machine. It is refused what such a request may be, and what it holds
+-- keeps to the limits.
+pub record IsMachineStep {F M : Type 0} (contents : F → Option Contents) (request : Request)
+    (reply : Reply) (old new : Server F M) : Type 0 where
   pub step : StepsAs (Shows contents) old new (asked request) (replied reply)
   pub refusal : IfRefused (IsRefusalOf request) (replied reply)
   pub limits : KeepsToLimits reply
@@ -42,33 +44,39 @@ abbrev pub FollowsMark : {F M : Type 0} → (M → Option ℕ) → Reply → Ser
 FollowsMark mark kept.OracleRestart old new = IfSome (mark (marks_of old)) (λ n. last_of new ≡ n)
 FollowsMark mark reply old new = ⊤
 
--- What Exhausted means: no stamp is left, for a Begin and for a Step that comes to draw one; no number, for a cleaner and for a
--- collector. Of a command its outcome says what.
+-- What Exhausted means: no stamp is left, for a Begin and for a Step that comes to draw one; no
+-- number, for a cleaner and for a collector. Of a command its outcome says what.
 abbrev pub LacksStamp : {F M : Type 0} → (F → Option Contents) → Request → Server F M → Type 0
 LacksStamp contents Begin old = last_of old ≡ 9_223_372_036_854_775_807
-LacksStamp contents (Step start) old = (last_of old ≡ 9_223_372_036_854_775_807) × ((st : State) → Shows contents old st → IsAboutToDraw st start)
+LacksStamp contents (Step start) old =
+    (last_of old ≡ 9_223_372_036_854_775_807)
+    × ((st : State) → Shows contents old st → IsAboutToDraw st start)
 LacksStamp contents (CleanBegin row family) old = (st : State) → Shows contents old st → IsUsedUp st
 LacksStamp contents CollectBegin old = (st : State) → Shows contents old st → collectors.IsUsedUp st
 LacksStamp contents request old = ⊤
 
--- A stamp that is answered is the oracle's next one, and nothing else but a restart moves the last one.
-pub record DrawsStamps {F M : Type 0} (contents : F → Option Contents) (mark : M → Option ℕ) (request : Request) (reply : Reply) (old new : Server F M) : Type 0 where
+-- A stamp that is answered is the oracle's next one, and nothing else but a restart moves the last
+-- one.
+pub record DrawsStamps {F M : Type 0} (contents : F → Option Contents) (mark : M → Option ℕ)
+    (request : Request) (reply : Reply) (old new : Server F M) : Type 0 where
   pub last : StampsGoOn (replied reply) (last_of old) (last_of new)
   pub restarted : FollowsMark mark reply old new
   pub exhausted : reply ≡ kept.Refused Exhausted → LacksStamp contents request old
 
 -- ---- cells and room
 
--- A step makes its session's next edits, or its cleaner's, or its collector's visits, and takes their room in memory. Nothing else
--- changes a cell, and what room a command takes its outcome says.
-pub record MakesEdits {F M : Type 0} (contents : F → Option Contents) (request : Request) (reply : Reply) (old new : Server F M) : Type 0 where
+-- A step makes its session's next edits, or its cleaner's, or its collector's visits, and takes
+-- their room in memory. Nothing else changes a cell, and what room a command takes its outcome
+-- says.
+pub record MakesEdits {F M : Type 0} (contents : F → Option Contents) (request : Request)
+    (reply : Reply) (old new : Server F M) : Type 0 where
   pub changes : ChangesCells contents request reply old new
   pub room : LeavesRoom contents request reply old new
 
 -- ---- sessions
 
--- What is always told where a state is shown, and what a request leaves of the sessions, of the cleaners, of the collectors and of
--- the oracle.
+-- What is always told where a state is shown, and what a request leaves of the sessions, of the
+-- cleaners, of the collectors and of the oracle.
 pub record ServesSessions {F M : Type 0} (contents : F → Option Contents) (mark : M → Option ℕ)
     (request : Request) (reply : Reply) (old new : Server F M) : Type 0 where
   pub told : (st : State) → Shows contents old st → IsAlwaysTold request reply st
@@ -93,20 +101,29 @@ TendsTablets contents faults request reply old new =
 
 -- ---- faults and causes
 
--- A step comes to make the edits that its session or its cleaner names, and the memtable of their row's tablet has no room for them.
--- Where a state is shown they are those of the next step there. A collector's step comes to make edits of its visits.
+-- A step comes to make the edits that its session or its cleaner names, and the memtable of their
+-- row's tablet has no room for them. Where a state is shown they are those of the next step there.
+-- A collector's step comes to make edits of its visits.
 abbrev pub LacksRoom : {F M : Type 0} → (F → Option Contents) → Request → Server F M → Type 0
 LacksRoom contents (Step start) old =
-    HasNoRoom OverfillsCluster (cluster_of old) (EditsOfStep (Holds contents (cluster_of old)) (cells_of contents old) old.clients start)
-    × ((st : State) → IsReached st → Shows contents old st → HasNoRoom OverfillsCluster (cluster_of old) (ChangesNext st start))
+    HasNoRoom OverfillsCluster (cluster_of old)
+    (EditsOfStep (Holds contents (cluster_of old)) (cells_of contents old) old.clients start)
+    × ((st : State) → IsReached st → Shows contents old st
+    → HasNoRoom OverfillsCluster (cluster_of old) (ChangesNext st start))
 LacksRoom contents (CleanStep cleaner) old =
-    HasNoRoom OverfillsCluster (cluster_of old) (clean_up.EditsOfStep (Holds contents (cluster_of old)) (cells_of contents old) old.cleaners cleaner)
-    × ((st : State) → IsReached st → Shows contents old st → HasNoRoom OverfillsCluster (cluster_of old) (clean_up.ChangesNext st cleaner))
-LacksRoom contents (CollectStep collector n) old = HasNoRoom OverfillsCluster (cluster_of old) (AreOfVisitsIn n)
+    HasNoRoom OverfillsCluster (cluster_of old)
+    (clean_up.EditsOfStep (Holds contents (cluster_of old)) (cells_of contents old) old.cleaners
+    cleaner)
+    × ((st : State) → IsReached st → Shows contents old st
+    → HasNoRoom OverfillsCluster (cluster_of old) (clean_up.ChangesNext st cleaner))
+LacksRoom contents (CollectStep collector n) old =
+    HasNoRoom OverfillsCluster (cluster_of old) (AreOfVisitsIn n)
 LacksRoom contents request old = ⊤
 
--- A device's fault is told where a count of them rose, and nowhere else. Of a command the outcome says why it is refused.
-pub record TellsCauses {F M : Type 0} (contents : F → Option Contents) (file_faults : F → ℕ) (mark_faults : M → ℕ) (request : Request) (reply : Reply) (old new : Server F M) : Type 0 where
+-- A device's fault is told where a count of them rose, and nowhere else. Of a command the outcome
+-- says why it is refused.
+pub record TellsCauses {F M : Type 0} (contents : F → Option Contents) (file_faults : F → ℕ)
+    (mark_faults : M → ℕ) (request : Request) (reply : Reply) (old new : Server F M) : Type 0 where
   pub device : reply ≡ kept.Refused Device → IsFaultSeen file_faults mark_faults old new
   pub told : ¬ (reply ≡ kept.Refused Device) → SeesNoFault file_faults mark_faults old new
   pub full : reply ≡ kept.Refused MemtableFull → LacksRoom contents request old

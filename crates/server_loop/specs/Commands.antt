@@ -21,7 +21,8 @@ command_of (Major tablet) = Some (command.Major tablet)
 command_of (Split row) = Some (command.Split row.now)
 command_of (Move tablet server) = Some (command.Move tablet server)
 command_of Sweep = Some command.Sweep
-command_of (Raw row family qualifier lo hi) = Some (command.Newest row.now family.now qualifier lo hi)
+command_of (Raw row family qualifier lo hi) =
+    Some (command.Newest row.now family.now qualifier lo hi)
 command_of request = None
 
 -- the outcome of a command that a reply tells
@@ -35,12 +36,17 @@ outcome_of reply = outcome.Done
 -- a name in a request is none, or there is no memory to copy it
 abbrev pub RefusesName : Request → Reply → Type 0
 RefusesName (Split row) reply = (reply ≡ kept.Refused BadRow) ⊎ (reply ≡ kept.Refused NoMemory)
-RefusesName (Raw row family qualifier lo hi) reply = (reply ≡ kept.Refused BadRow) ⊎ ((reply ≡ kept.Refused BadColumn) ⊎ (reply ≡ kept.Refused NoMemory))
+RefusesName (Raw row family qualifier lo hi) reply =
+    (reply ≡ kept.Refused BadRow)
+    ⊎ ((reply ≡ kept.Refused BadColumn) ⊎ (reply ≡ kept.Refused NoMemory))
 RefusesName request reply = ⊥
 
--- A request that is a command has the outcome that its reply tells, or a name in it was refused and nothing was done. Any other
--- leaves what lies below the memtables.
-abbrev pub HasOutcome : {F : Type 0} → (F → Option Contents) → (F → ℕ) → Option Command → Request → Reply → ClusterState F → ClusterState F → Type 0
-HasOutcome contents faults None request reply old new = storage_of contents new ≡ storage_of contents old
+-- A request that is a command has the outcome that its reply tells, or a name in it was refused and
+-- nothing was done. Any other leaves what lies below the memtables.
+abbrev pub HasOutcome : {F : Type 0} → (F → Option Contents) → (F → ℕ) → Option Command → Request
+    → Reply → ClusterState F → ClusterState F → Type 0
+HasOutcome contents faults None request reply old new =
+    storage_of contents new ≡ storage_of contents old
 HasOutcome contents faults (Some command) request reply old new =
-    IsOutcome contents faults command (outcome_of reply) old new ⊎ (RefusesName request reply × (new ≡ old))
+    IsOutcome contents faults command (outcome_of reply) old new
+    ⊎ (RefusesName request reply × (new ≡ old))

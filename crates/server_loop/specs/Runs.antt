@@ -19,22 +19,26 @@ pub data Taken : Type 0 where
   Body : (body : List ℕ) → Taken
   Oversize : Taken
 
--- A body in the grammar is a step of the machine. Any other is refused, and so is a length past the limit.
+-- A body in the grammar is a step of the machine. Any other is refused, and so is a length past the
+-- limit.
 abbrev pub Answers : State → Taken → Reply → State → Type 0
-Answers old (Body body) reply new = ((request : machine.Request) × IsRequest request body × Step old request reply new)
+Answers old (Body body) reply new =
+    ((request : machine.Request) × IsRequest request body × Step old request reply new)
     ⊎ (IsMalformed body × (reply ≡ Refused BadRequest) × (new ≡ old))
 Answers old Oversize reply new = (reply ≡ Refused FrameTooLarge) × (new ≡ old)
 
 -- one answer after the other
 abbrev pub RunOver : State → List Taken → List Reply → State → Type 0
 RunOver old [] [] new = new ≡ old
-RunOver old (taken ∷ more) (reply ∷ replies) new = (mid : State) × Answers old taken reply mid × RunOver mid more replies new
+RunOver old (taken ∷ more) (reply ∷ replies) new =
+    (mid : State) × Answers old taken reply mid × RunOver mid more replies new
 RunOver old [] (reply ∷ replies) new = ⊥
 RunOver old (taken ∷ more) [] new = ⊥
 
 -- the laws of snapshot isolation at a state
 pub record ObeysLaws (st : State) : Type 0 where
-  -- each answered value is the last one committed by its session's start, in the commits as they are now
+  -- each answered value is the last one committed by its session's start, in the commits as they
+  -- are now
   pub settled : IsSettled st
   -- no two commits of one cell overlap
   pub first_committer : FirstCommitterWins st
@@ -44,20 +48,26 @@ pub record ObeysLaws (st : State) : Type 0 where
   pub one_mark : OneMark st
 
 -- The machine went from a state by these answers to one that is shown and obeys the laws.
-pub record RunsTo (before : State) (shown : State → Type 0) (taken : List Taken) (replies : List Reply) : Type 0 where
+pub record RunsTo (before : State) (shown : State → Type 0) (taken : List Taken)
+    (replies : List Reply) : Type 0 where
   pub after : State
   pub run : RunOver before taken replies after
   pub reached : IsReached after
   pub laws : ObeysLaws after
   pub shows : shown after
 
--- These replies are those of a run, from each reached state that is shown before to one that is shown after.
+-- These replies are those of a run, from each reached state that is shown before to one that is
+-- shown after.
 abbrev pub RunsAs : {S : Type 0} → (S → State → Type 0) → S → S → List Taken → List Reply → Type 0
-RunsAs shows old new taken replies = (before : State) → IsReached before → shows old before → RunsTo before (shows new) taken replies
+RunsAs shows old new taken replies =
+    (before : State) → IsReached before → shows old before → RunsTo before (shows new) taken replies
 
--- A body in the grammar is answered as is said of its request. Any other, and a length past the limit, is refused and changes nothing.
+-- A body in the grammar is answered as is said of its request. Any other, and a length past the
+-- limit, is refused and changes nothing.
 abbrev pub SaysOf : {S : Type 0} → (S → Lent → Kept → S → Type 0) → S → Taken → Reply → S → Type 0
-SaysOf says old (Body body) reply new = ((request : Lent) × (kept : Kept) × IsRequest (asked request) body × (reply ≡ replied kept) × says old request kept new)
+SaysOf says old (Body body) reply new =
+    ((request : Lent) × (kept : Kept) × IsRequest (asked request) body × (reply ≡ replied kept)
+    × says old request kept new)
     ⊎ (IsMalformed body × (reply ≡ Refused BadRequest) × (new ≡ old))
 SaysOf says old Oversize reply new = (reply ≡ Refused FrameTooLarge) × (new ≡ old)
 
@@ -65,22 +75,29 @@ module _ {S : Type 0} (says : S → Lent → Kept → S → Type 0) (between : S
   -- One answer after the other. After each one comes what is between it and the next.
   abbrev pub SaysAll : S → List Taken → List Reply → S → Type 0
   SaysAll old [] [] new = new ≡ old
-  SaysAll old (taken ∷ more) (reply ∷ replies) new = (mid next : S) × SaysOf says old taken reply mid × between mid next × SaysAll next more replies new
+  SaysAll old (taken ∷ more) (reply ∷ replies) new =
+      (mid next : S) × SaysOf says old taken reply mid × between mid next
+      × SaysAll next more replies new
   SaysAll old [] (reply ∷ replies) new = ⊥
   SaysAll old (taken ∷ more) [] new = ⊥
 
--- These replies are those of a run of the machine. Each is what is said of one answer, from one server to the next, and after it comes
--- what is between the two.
-pub record AnswersAs {S : Type 0} (shows : S → State → Type 0) (says : S → Lent → Kept → S → Type 0) (between : S → S → Type 0) (old new : S) (taken : List Taken) (replies : List Reply) : Type 0 where
+-- These replies are those of a run of the machine. Each is what is said of one answer, from one
+-- server to the next, and after it comes what is between the two.
+pub record AnswersAs {S : Type 0} (shows : S → State → Type 0) (says : S → Lent → Kept → S → Type 0)
+    (between : S → S → Type 0) (old new : S) (taken : List Taken)
+    (replies : List Reply) : Type 0 where
   pub run : RunsAs shows old new taken replies
   pub said : SaysAll says between old taken replies new
 
--- This reply is a step of the machine, from each reached state that is shown before to one that is shown after. It is never that bytes are damaged.
+-- This reply is a step of the machine, from each reached state that is shown before to one that is
+-- shown after. It is never that bytes are damaged.
 abbrev pub StepsAs : {S : Type 0} → (S → State → Type 0) → S → S → machine.Request → Reply → Type 0
 StepsAs shows old new request reply = (before : State) → IsReached before → shows old before
-    → (after : State) × Step before request reply after × shows new after × (reply ≡ Refused Damaged → ⊥)
+    → (after : State) × Step before request reply after × shows new after
+    × (reply ≡ Refused Damaged → ⊥)
 
--- A value that is answered has at most 65,536 bytes, and a cell that is named is within the limits of rows and families.
+-- A value that is answered has at most 65,536 bytes, and a cell that is named is within the limits
+-- of rows and families.
 abbrev pub KeepsToLimits : Kept → Type 0
 KeepsToLimits (kept.Get (Value value)) = length value.items ≤ 65536
 KeepsToLimits (kept.Raw (Some found)) = length found.1.items ≤ 65536
@@ -92,8 +109,8 @@ abbrev pub IfRefused : (Refusal → Type 0) → Reply → Type 0
 IfRefused P (Refused refusal) = P refusal
 IfRefused P reply = ⊤
 
--- What a reply says of the oracle's last stamp: a stamp that is answered is the next one and becomes the last, a restart never
--- goes back, and all else leaves it.
+-- What a reply says of the oracle's last stamp: a stamp that is answered is the next one and
+-- becomes the last, a restart never goes back, and all else leaves it.
 abbrev pub StampsGoOn : Reply → ℕ → ℕ → Type 0
 StampsGoOn (machine.Begun start) old new = (start ≡ old + 1) × (new ≡ start)
 StampsGoOn (machine.Drawn stamp) old new = (stamp ≡ old + 1) × (new ≡ stamp)

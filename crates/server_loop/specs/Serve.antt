@@ -28,13 +28,17 @@ taken_of bodies rest = map Body bodies ++ (if is_too_large rest then Oversize �
 abbrev pub written_of : List Reply → List ℕ
 written_of replies = frames (map reply_body replies)
 
--- All of the bodies and of their rest was taken. Where a write failed, a length past the limit may not have been come to.
+-- All of the bodies and of their rest was taken. Where a write failed, a length past the limit may
+-- not have been come to.
 abbrev pub Takes : Result End ServeFault → List (List ℕ) → List ℕ → List Taken → Type 0
-Takes (Err faults.Write) bodies rest taken = (taken ≡ map Body bodies) ⊎ (IsTooLarge rest × (taken ≡ map Body bodies ++ Oversize ∷ []))
+Takes (Err faults.Write) bodies rest taken =
+    (taken ≡ map Body bodies) ⊎ (IsTooLarge rest × (taken ≡ map Body bodies ++ Oversize ∷ []))
 Takes result bodies rest taken = taken ≡ taken_of bodies rest
 
--- The last reply was not written to its end, and nothing came after it: the server is as after the last request.
-pub record IsCutShort {S : Type 0} (says : S → Lent → Kept → S → Type 0) (between : S → S → Type 0) (old new : S) (taken : List Taken) (replies : List Reply) (written : List ℕ) : Type 0 where
+-- The last reply was not written to its end, and nothing came after it: the server is as after the
+-- last request.
+pub record IsCutShort {S : Type 0} (says : S → Lent → Kept → S → Type 0) (between : S → S → Type 0)
+    (old new : S) (taken : List Taken) (replies : List Reply) (written : List ℕ) : Type 0 where
   pub front : List Taken
   pub last : Taken
   pub is_taken : taken ≡ front ++ last ∷ []
@@ -49,32 +53,45 @@ pub record IsCutShort {S : Type 0} (says : S → Lent → Kept → S → Type 0)
   pub wrote : written ≡ written_of earlier ++ take count (frame (reply_body reply))
 
 -- every reply was written to its end
-abbrev pub WritesAll : {S : Type 0} → (S → Lent → Kept → S → Type 0) → (S → S → Type 0) → S → S → List Taken → List Reply → List ℕ → Type 0
-WritesAll says between old new taken replies written = SaysAll says between old taken replies new × (written ≡ written_of replies)
+abbrev pub WritesAll : {S : Type 0} → (S → Lent → Kept → S → Type 0) → (S → S → Type 0) → S → S
+    → List Taken → List Reply → List ℕ → Type 0
+WritesAll says between old new taken replies written =
+    SaysAll says between old taken replies new × (written ≡ written_of replies)
 
--- What was written. Only a failed write cuts a reply short; after a failed flush all replies were written.
-abbrev pub Writes : {S : Type 0} → (S → Lent → Kept → S → Type 0) → (S → S → Type 0) → Result End ServeFault → S → S → List Taken → List Reply → List ℕ → Type 0
+-- What was written. Only a failed write cuts a reply short; after a failed flush all replies were
+-- written.
+abbrev pub Writes : {S : Type 0} → (S → Lent → Kept → S → Type 0) → (S → S → Type 0)
+    → Result End ServeFault → S → S → List Taken → List Reply → List ℕ → Type 0
 Writes says between (Err faults.Write) old new taken replies written =
-    WritesAll says between old new taken replies written ⊎ IsCutShort says between old new taken replies written
-Writes says between result old new taken replies written = WritesAll says between old new taken replies written
+    WritesAll says between old new taken replies written
+    ⊎ IsCutShort says between old new taken replies written
+Writes says between result old new taken replies written =
+    WritesAll says between old new taken replies written
 
 -- ---- how it ends
 
--- How each end comes about, by the bytes that were read, their rest, what the reader has left and what the writer holds.
-abbrev pub EndsBy : Result End ServeFault → ℕ → List ℕ → List ℕ → Option (List ℕ) → Option (List ℕ) → Option (List ℕ) → Type 0
+-- How each end comes about, by the bytes that were read, their rest, what the reader has left and
+-- what the writer holds.
+abbrev pub EndsBy : Result End ServeFault → ℕ → List ℕ → List ℕ → Option (List ℕ) → Option (List ℕ)
+    → Option (List ℕ) → Type 0
 EndsBy (Ok ends.Clean) most_reads read rest left held held' = (rest ≡ []) × IsAtEnd left
-EndsBy (Ok ends.Truncated) most_reads read rest left held held' = (0 < length rest) × IsPartial rest × IsAtEnd left
+EndsBy (Ok ends.Truncated) most_reads read rest left held held' =
+    (0 < length rest) × IsPartial rest × IsAtEnd left
 EndsBy (Ok ends.TooLarge) most_reads read rest left held held' = IsTooLarge rest
-EndsBy (Ok ends.ReadsUsedUp) most_reads read rest left held held' = (most_reads ≤ length read) × IsPartial rest
+EndsBy (Ok ends.ReadsUsedUp) most_reads read rest left held held' =
+    (most_reads ≤ length read) × IsPartial rest
 EndsBy (Err faults.Read) most_reads read rest left held held' = IsPartial rest
 EndsBy (Err faults.Write) most_reads read rest left held held' = ⊤
 EndsBy (Err faults.NoMemory) most_reads read rest left held held' = (read ≡ []) × Keeps held held'
 
 -- ---- what was done with bytes
 
--- Bytes are the frames of bodies and a rest. The replies are those of a run of the machine over what was taken of these, each is what
--- is said of one answer, and what was written are the replies' frames, the last one's in part where a write failed.
-pub record Handles {S : Type 0} (shows : S → State → Type 0) (says : S → Lent → Kept → S → Type 0) (between : S → S → Type 0) (result : Result End ServeFault) (old new : S) (bytes rest : List ℕ) (held held' : Option (List ℕ)) : Type 0 where
+-- Bytes are the frames of bodies and a rest. The replies are those of a run of the machine over
+-- what was taken of these, each is what is said of one answer, and what was written are the
+-- replies' frames, the last one's in part where a write failed.
+pub record Handles {S : Type 0} (shows : S → State → Type 0) (says : S → Lent → Kept → S → Type 0)
+    (between : S → S → Type 0) (result : Result End ServeFault) (old new : S) (bytes rest : List ℕ)
+    (held held' : Option (List ℕ)) : Type 0 where
   pub bodies : List (List ℕ)
   pub whole : bytes ≡ frames bodies ++ rest
   pub each : AllByRecursion IsBody bodies
@@ -87,7 +104,9 @@ pub record Handles {S : Type 0} (shows : S → State → Type 0) (says : S → L
   pub appended : Appends held held' written
 
 -- Whole frames of bytes were answered, and all the replies written.
-pub record Answered {S : Type 0} (shows : S → State → Type 0) (says : S → Lent → Kept → S → Type 0) (between : S → S → Type 0) (old new : S) (bytes rest : List ℕ) (held held' : Option (List ℕ)) : Type 0 where
+pub record Answered {S : Type 0} (shows : S → State → Type 0) (says : S → Lent → Kept → S → Type 0)
+    (between : S → S → Type 0) (old new : S) (bytes rest : List ℕ)
+    (held held' : Option (List ℕ)) : Type 0 where
   pub bodies : List (List ℕ)
   pub whole : bytes ≡ frames bodies ++ rest
   pub each : AllByRecursion IsBody bodies
@@ -95,38 +114,55 @@ pub record Answered {S : Type 0} (shows : S → State → Type 0) (says : S → 
   pub run : AnswersAs shows says between old new (map Body bodies) replies
   pub appended : Appends held held' (written_of replies)
 
--- What bytes were handled to: less than a frame is left of them, or a length past the limit, or a write failed.
-abbrev pub HandlesTo : {S : Type 0} → (S → State → Type 0) → (S → Lent → Kept → S → Type 0) → (S → S → Type 0) → Result Rest ServeFault → S → S → List ℕ → List ℕ → Option (List ℕ) → Option (List ℕ) → Type 0
-HandlesTo shows says between (Ok rests.Partial) old new bytes rest held held' = IsPartial rest × Answered shows says between old new bytes rest held held'
-HandlesTo shows says between (Ok rests.TooLarge) old new bytes rest held held' = IsTooLarge rest × Handles shows says between (Ok ends.TooLarge) old new bytes rest held held'
-HandlesTo shows says between (Err faults.Write) old new bytes rest held held' = Handles shows says between (Err faults.Write) old new bytes rest held held'
+-- What bytes were handled to: less than a frame is left of them, or a length past the limit, or a
+-- write failed.
+abbrev pub HandlesTo : {S : Type 0} → (S → State → Type 0) → (S → Lent → Kept → S → Type 0)
+    → (S → S → Type 0) → Result Rest ServeFault → S → S → List ℕ → List ℕ → Option (List ℕ)
+    → Option (List ℕ) → Type 0
+HandlesTo shows says between (Ok rests.Partial) old new bytes rest held held' =
+    IsPartial rest × Answered shows says between old new bytes rest held held'
+HandlesTo shows says between (Ok rests.TooLarge) old new bytes rest held held' =
+    IsTooLarge rest × Handles shows says between (Ok ends.TooLarge) old new bytes rest held held'
+HandlesTo shows says between (Err faults.Write) old new bytes rest held held' =
+    Handles shows says between (Err faults.Write) old new bytes rest held held'
 HandlesTo shows says between (Err faults.Read) old new bytes rest held held' = ⊥
 HandlesTo shows says between (Err faults.NoMemory) old new bytes rest held held' = ⊥
 
 -- the same of the first frame alone: where it was whole, fewer bytes are left
-abbrev pub HandlesFirst : {S : Type 0} → (S → State → Type 0) → (S → Lent → Kept → S → Type 0) → (S → S → Type 0) → Result (Option Rest) ServeFault → S → S → List ℕ → List ℕ → Option (List ℕ) → Option (List ℕ) → Type 0
-HandlesFirst shows says between (Ok None) old new bytes rest held held' = (length rest < length bytes) × Answered shows says between old new bytes rest held held'
-HandlesFirst shows says between (Ok (Some rest_is)) old new bytes rest held held' = HandlesTo shows says between (Ok rest_is) old new bytes rest held held'
-HandlesFirst shows says between (Err fault) old new bytes rest held held' = HandlesTo shows says between (Err fault) old new bytes rest held held'
+abbrev pub HandlesFirst : {S : Type 0} → (S → State → Type 0) → (S → Lent → Kept → S → Type 0)
+    → (S → S → Type 0) → Result (Option Rest) ServeFault → S → S → List ℕ → List ℕ → Option (List ℕ)
+    → Option (List ℕ) → Type 0
+HandlesFirst shows says between (Ok None) old new bytes rest held held' =
+    (length rest < length bytes) × Answered shows says between old new bytes rest held held'
+HandlesFirst shows says between (Ok (Some rest_is)) old new bytes rest held held' =
+    HandlesTo shows says between (Ok rest_is) old new bytes rest held held'
+HandlesFirst shows says between (Err fault) old new bytes rest held held' =
+    HandlesTo shows says between (Err fault) old new bytes rest held held'
 
 -- After a failed write, or a length past the limit, more may be left than is at hand.
 abbrev pub IsRest : Result Rest ServeFault → List ℕ → List ℕ → Type 0
 IsRest (Ok rests.Partial) rest hand = hand ≡ rest
 IsRest result rest hand = ⊤
 
--- One reply was written to its end, and then came what is between it and the next. Or it was not, and nothing came.
-abbrev pub Delivers : {S : Type 0} → (S → State → Type 0) → (S → S → Type 0) → Result (Unit {0}) ServeFault → List ℕ → S → S → Option (List ℕ) → Option (List ℕ) → Type 0
+-- One reply was written to its end, and then came what is between it and the next. Or it was not,
+-- and nothing came.
+abbrev pub Delivers : {S : Type 0} → (S → State → Type 0) → (S → S → Type 0)
+    → Result (Unit {0}) ServeFault → List ℕ → S → S → Option (List ℕ) → Option (List ℕ) → Type 0
 Delivers shows between (Ok done) body old new held held' =
     between old new × ((st : State) → shows old st → shows new st) × Appends held held' (frame body)
 Delivers shows between (Err faults.Write) body old new held held' =
-    (new ≡ old) × ((count : ℕ) × (count < length (frame body)) × Appends held held' (take count (frame body)))
+    (new ≡ old) × ((count : ℕ) × (count < length (frame body))
+    × Appends held held' (take count (frame body)))
 Delivers shows between (Err faults.Read) body old new held held' = ⊥
 Delivers shows between (Err faults.NoMemory) body old new held held' = ⊥
 
 -- ---- a call
 
 -- Bytes were read after those at hand. What was read and at hand was handled, and so it ended.
-pub record ServesOn {S : Type 0} (shows : S → State → Type 0) (says : S → Lent → Kept → S → Type 0) (between : S → S → Type 0) (hand : List ℕ) (old new : S) (left left' held held' : Option (List ℕ)) (most_reads : ℕ) (result : Result End ServeFault) : Type 0 where
+pub record ServesOn {S : Type 0} (shows : S → State → Type 0) (says : S → Lent → Kept → S → Type 0)
+    (between : S → S → Type 0) (hand : List ℕ) (old new : S)
+    (left left' held held' : Option (List ℕ)) (most_reads : ℕ)
+    (result : Result End ServeFault) : Type 0 where
   pub read : List ℕ
   pub consumed : Consumes left left' read
   pub rest : List ℕ
@@ -135,8 +171,11 @@ pub record ServesOn {S : Type 0} (shows : S → State → Type 0) (says : S → 
   pub ending : EndsBy result most_reads read rest left' held held'
 
 -- What a call of `serve` did, which has nothing at hand when it begins.
-abbrev pub Serves : {S : Type 0} → (S → State → Type 0) → (S → Lent → Kept → S → Type 0) → (S → S → Type 0) → S → S → Option (List ℕ) → Option (List ℕ) → Option (List ℕ) → Option (List ℕ) → ℕ → Result End ServeFault → Type 0
-Serves shows says between old new left left' held held' most_reads result = ServesOn shows says between [] old new left left' held held' most_reads result
+abbrev pub Serves : {S : Type 0} → (S → State → Type 0) → (S → Lent → Kept → S → Type 0)
+    → (S → S → Type 0) → S → S → Option (List ℕ) → Option (List ℕ) → Option (List ℕ)
+    → Option (List ℕ) → ℕ → Result End ServeFault → Type 0
+Serves shows says between old new left left' held held' most_reads result =
+    ServesOn shows says between [] old new left left' held held' most_reads result
 
 -- what an end says of the stream's rest
 abbrev pub RestIs : End → List ℕ → Type 0
@@ -146,7 +185,9 @@ RestIs ends.TooLarge rest = IsTooLarge rest
 RestIs ends.ReadsUsedUp rest = Unit {0}
 
 -- The whole of a stream was served: its bodies, and its rest as the end says.
-pub record ServesStream {S : Type 0} (shows : S → State → Type 0) (says : S → Lent → Kept → S → Type 0) (between : S → S → Type 0) (old new : S) (stream : List ℕ) (held held' : Option (List ℕ)) (end : End) : Type 0 where
+pub record ServesStream {S : Type 0} (shows : S → State → Type 0)
+    (says : S → Lent → Kept → S → Type 0) (between : S → S → Type 0) (old new : S) (stream : List ℕ)
+    (held held' : Option (List ℕ)) (end : End) : Type 0 where
   pub bodies : List (List ℕ)
   pub rest : List ℕ
   pub cut : IsCut stream bodies rest
@@ -155,8 +196,11 @@ pub record ServesStream {S : Type 0} (shows : S → State → Type 0) (says : S 
   pub run : AnswersAs shows says between old new (taken_of bodies rest) replies
   pub appended : Appends held held' (written_of replies)
 
--- Bytes were read after those at hand. All that is whole was answered, all the replies were written, and the rest is at hand.
-pub record Served {S : Type 0} (shows : S → State → Type 0) (says : S → Lent → Kept → S → Type 0) (between : S → S → Type 0) (hand hand' : List ℕ) (old new : S) (left left' held held' : Option (List ℕ)) (reads reads' : ℕ) : Type 0 where
+-- Bytes were read after those at hand. All that is whole was answered, all the replies were
+-- written, and the rest is at hand.
+pub record Served {S : Type 0} (shows : S → State → Type 0) (says : S → Lent → Kept → S → Type 0)
+    (between : S → S → Type 0) (hand hand' : List ℕ) (old new : S)
+    (left left' held held' : Option (List ℕ)) (reads reads' : ℕ) : Type 0 where
   pub read : List ℕ
   pub consumed : Consumes left left' read
   pub counted : reads ≤ reads' + length read
@@ -164,9 +208,17 @@ pub record Served {S : Type 0} (shows : S → State → Type 0) (says : S → Le
   pub answered : Answered shows says between old new (hand ++ read) hand' held held'
 
 -- what one read came to: the input goes on, or it ended
-abbrev pub ReadsOn : {S : Type 0} → (S → State → Type 0) → (S → Lent → Kept → S → Type 0) → (S → S → Type 0) → Result (Option End) ServeFault → List ℕ → List ℕ → S → S → Option (List ℕ) → Option (List ℕ) → Option (List ℕ) → Option (List ℕ) → ℕ → ℕ → Type 0
-ReadsOn shows says between (Ok None) hand hand' old new left left' held held' reads reads' = (reads' < reads) × Served shows says between hand hand' old new left left' held held' reads reads'
-ReadsOn shows says between (Ok (Some end)) hand hand' old new left left' held held' reads reads' = ServesOn shows says between hand old new left left' held held' reads (Ok end)
-ReadsOn shows says between (Err faults.Read) hand hand' old new left left' held held' reads reads' = ServesOn shows says between hand old new left left' held held' reads (Err faults.Read)
-ReadsOn shows says between (Err faults.Write) hand hand' old new left left' held held' reads reads' = ServesOn shows says between hand old new left left' held held' reads (Err faults.Write)
-ReadsOn shows says between (Err faults.NoMemory) hand hand' old new left left' held held' reads reads' = ⊥
+abbrev pub ReadsOn : {S : Type 0} → (S → State → Type 0) → (S → Lent → Kept → S → Type 0)
+    → (S → S → Type 0) → Result (Option End) ServeFault → List ℕ → List ℕ → S → S → Option (List ℕ)
+    → Option (List ℕ) → Option (List ℕ) → Option (List ℕ) → ℕ → ℕ → Type 0
+ReadsOn shows says between (Ok None) hand hand' old new left left' held held' reads reads' =
+    (reads' < reads)
+    × Served shows says between hand hand' old new left left' held held' reads reads'
+ReadsOn shows says between (Ok (Some end)) hand hand' old new left left' held held' reads reads' =
+    ServesOn shows says between hand old new left left' held held' reads (Ok end)
+ReadsOn shows says between (Err faults.Read) hand hand' old new left left' held held' reads reads' =
+    ServesOn shows says between hand old new left left' held held' reads (Err faults.Read)
+ReadsOn shows says between (Err faults.Write) hand hand' old new left left' held held' reads
+    reads' = ServesOn shows says between hand old new left left' held held' reads (Err faults.Write)
+ReadsOn shows says between (Err faults.NoMemory) hand hand' old new left left' held held' reads
+    reads' = ⊥

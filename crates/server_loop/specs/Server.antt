@@ -1,5 +1,6 @@
 -- What it means that a server shows a state of the machine.
-use Rattle.std.specs.Prelude.{◌≡◌, ℕ, ◌+◌, ◌⊎◌, List, length, map, Option}
+use Rattle.std.specs.Prelude.{◌≡◌, ◌≤◌, ℕ, ◌+◌, ◌⊎◌, List, length, map, Option}
+use Rattle.std.specs.FinMap.{empty}
 use Rattle.cell_key.specs.Cells.{Cells}
 use Rattle.cell_key.specs.Faults.{HasRisen}
 use Rattle.file_store.specs.Store.{Contents}
@@ -8,6 +9,7 @@ use Rattle.row_atomic.specs.Clusters.{ClusterState, Spot, cells_in, spot_of}
 use Rattle.row_atomic.specs.Changes.{Holds}
 use Rattle.si_model.specs.Machine as machine
 use Rattle.si_model.specs.Machine.{State}
+use Rattle.si_model.specs.ShowsCells.{ShowsCells}
 use Rattle.txn_client.specs.Shows as clients
 use Rattle.clean_up.specs.Shows.{ShowsCleaners}
 use Rattle.version_collector.specs.Shows.{ShowsCollectors}
@@ -42,23 +44,47 @@ machine_place spot = record { end = spot.0; tablet = spot.1.0; server = spot.1.1
 abbrev pub machine_places : List PlaceView → List machine.Place
 machine_places places = map machine_place (map spot_of places)
 
--- The tablets are in order over their files. Their cells, the sessions and the oracle show the state, and so do the cleaners and
--- the collectors; the tablets are where the state has them: the next one gets the number after theirs.
-pub record Shows {F M : Type 0} (contents : F → Option Contents) (server : Server F M) (st : State) : Type 0 where
+-- The tablets are in order over their files. Their cells, the sessions and the oracle show the
+-- state, and so do the cleaners and the collectors; the tablets are where the state has them: the
+-- next one gets the number after theirs.
+pub record Shows {F M : Type 0} (contents : F → Option Contents) (server : Server F M)
+    (st : State) : Type 0 where
   pub in_order : Holds contents server.cluster
-  pub shows : clients.Shows (cells_in (contents server.cluster.files) server.cluster.tablets) server.clients server.oracle.last st
+  pub shows : clients.Shows (cells_in (contents server.cluster.files) server.cluster.tablets)
+      server.clients server.oracle.last st
   pub cleaners : ShowsCleaners server.cleaners st
-  pub collectors : ShowsCollectors (cells_in (contents server.cluster.files) server.cluster.tablets) server.collectors st
+  pub collectors : ShowsCollectors (cells_in (contents server.cluster.files) server.cluster.tablets)
+      server.collectors st
   pub places : machine_places server.cluster.places ≡ st.places
   pub next : st.next_tablet ≡ length st.places + 1
+
+-- Tablets in order, an oracle's last stamp, the greatest stamp that was answered and the greatest
+-- floor show a state in which nothing is open: it has no session, and no cleaner or collector has
+-- had a number yet.
+pub record ShowsNoSession {F : Type 0} (contents : F → Option Contents) (cluster : ClusterState F)
+    (last top floor : ℕ) (st : State) : Type 0 where
+  pub in_order : Holds contents cluster
+  pub store : ShowsCells (cells_in (contents cluster.files) cluster.tablets) st
+  pub places : machine_places cluster.places ≡ st.places
+  pub next : st.next_tablet ≡ length st.places + 1
+  pub answered : st.top ≡ top
+  pub marked : st.top ≤ last
+  pub collected : st.floor ≡ floor
+  pub active : st.active ≡ empty
+  pub cleaner : st.next_cleaner ≡ 1
+  pub cleaners : st.cleaners ≡ empty
+  pub collector : st.next_collector ≡ 1
+  pub collectors : st.collectors ≡ empty
 
 -- a device of the files or of the mark store has failed
 abbrev pub IsFaultSeen : {F M : Type 0} → (F → ℕ) → (M → ℕ) → Server F M → Server F M → Type 0
 IsFaultSeen file_faults mark_faults old new =
-    HasRisen (file_faults old.cluster.files) (file_faults new.cluster.files) ⊎ HasRisen (mark_faults old.oracle.marks) (mark_faults new.oracle.marks)
+    HasRisen (file_faults old.cluster.files) (file_faults new.cluster.files)
+    ⊎ HasRisen (mark_faults old.oracle.marks) (mark_faults new.oracle.marks)
 
 -- no device has failed
-pub record SeesNoFault {F M : Type 0} (file_faults : F → ℕ) (mark_faults : M → ℕ) (old new : Server F M) : Type 0 where
+pub record SeesNoFault {F M : Type 0} (file_faults : F → ℕ) (mark_faults : M → ℕ)
+    (old new : Server F M) : Type 0 where
   pub files : file_faults new.cluster.files ≡ file_faults old.cluster.files
   pub marks : mark_faults new.oracle.marks ≡ mark_faults old.oracle.marks
 

@@ -1,5 +1,5 @@
--- What a request does to the cells, to the room in memory, to sessions, cleaners and collectors and to the oracle, and what it is
--- always told.
+-- What a request does to the cells, to the room in memory, to sessions, cleaners and collectors and
+-- to the oracle, and what it is always told.
 use Rattle.std.specs.Prelude.{◌≡◌, ◌⊎◌, ℕ, Option, Result, Ok, Err, ⊤}
 use Rattle.cell_key.specs.declared.refusals.Refusal.{Refusal}
 use Rattle.cell_key.specs.declared.refusals.Refusal.TheVariants.{UnknownSession, UnknownCleaner, UnknownCollector, BadCount, EmptyCommit, TooManySessions}
@@ -32,71 +32,101 @@ use Rattle.version_collector.specs.Shows.{ChangesOne, IsCount, IsEarlyRefusal, S
 use Rattle.version_collector.specs.Visits.{Thins}
 use Rattle.version_collector.specs.declared.collectors.Collectors.{Collectors}
 
--- What a collector's step for n visits made of the cells, and of its collector: visits, by the rules of collection. All that
--- sessions read, each lock and each fate stays. Keys of n rows go at the most, and none joins.
-pub record MakesVisits {F M : Type 0} (contents : F → Option Contents) (collector n : ℕ) (result : Result CollectReply Refusal)
+-- What a collector's step for n visits made of the cells, and of its collector: visits, by the
+-- rules of collection. All that sessions read, each lock and each fate stays. Keys of n rows go at
+-- the most, and none joins.
+pub record MakesVisits {F M : Type 0} (contents : F → Option Contents) (collector n : ℕ)
+    (result : Result CollectReply Refusal)
     (old new : Server F M) (st : State) : Type 0 where
-  pub visits : IsCount n → VisitsAt collector n result (cells_of contents old) old.collectors (cells_of contents new) new.collectors
+  pub visits : IsCount n
+      → VisitsAt collector n result (cells_of contents old) old.collectors (cells_of contents new)
+      new.collectors
   pub collects : Collects (cells_of contents old) (cells_of contents new) st
   pub thins : Thins n (cells_of contents old) (cells_of contents new)
 
--- A step that is done makes the edits of its session's next step, or of its cleaner's, or none where it makes none: cells of one row
--- at most, at the session's stamps. A collector's step makes visits, and what it tells is so: where all is Collected each cell is
--- tidy, where it is Blocked the lock stands, and after More so much less is left. It alone may change cells and then be refused,
--- by its later visits. All else changes none.
-abbrev pub ChangesCells : {F M : Type 0} → (F → Option Contents) → Request → Reply → Server F M → Server F M → Type 0
+-- A step that is done makes the edits of its session's next step, or of its cleaner's, or none
+-- where it makes none: cells of one row at most, at the session's stamps. A collector's step makes
+-- visits, and what it tells is so: where all is Collected each cell is tidy, where it is Blocked
+-- the lock stands, and after More so much less is left. It alone may change cells and then be
+-- refused, by its later visits. All else changes none.
+abbrev pub ChangesCells : {F M : Type 0} → (F → Option Contents) → Request → Reply → Server F M
+    → Server F M → Type 0
 ChangesCells contents (Step start) (kept.Step progress) old new =
-    (st : State) → Shows contents old st → TouchesFor st start (cells_of contents old) (cells_of contents new)
-    × (IsReached st → Makes (ChangesNext st start) progress (cells_of contents old) (cells_of contents new))
+    (st : State) → Shows contents old st
+    → TouchesFor st start (cells_of contents old) (cells_of contents new)
+    × (IsReached st → Makes (ChangesNext st start) progress (cells_of contents old)
+    (cells_of contents new))
 ChangesCells contents (CleanStep cleaner) (kept.CleanStep done) old new =
-    (st : State) → IsReached st → Shows contents old st → open_cleaners.TouchesFor st cleaner (cells_of contents old) (cells_of contents new)
-    × clean_up.Makes (clean_up.ChangesNext st cleaner) done (cells_of contents old) (cells_of contents new)
+    (st : State) → IsReached st → Shows contents old st
+    → open_cleaners.TouchesFor st cleaner (cells_of contents old) (cells_of contents new)
+    × clean_up.Makes (clean_up.ChangesNext st cleaner) done (cells_of contents old)
+    (cells_of contents new)
 ChangesCells contents (CollectStep collector n) (kept.CollectStep done) old new =
-    (st : State) → IsReached st → Shows contents old st → MakesVisits contents collector n (Ok done) old new st
-    × TellsAt collector n done (cells_of contents old) old.collectors (cells_of contents new) new.collectors st
+    (st : State) → IsReached st → Shows contents old st
+    → MakesVisits contents collector n (Ok done) old new st
+    × TellsAt collector n done (cells_of contents old) old.collectors (cells_of contents new)
+    new.collectors st
 ChangesCells contents (CollectStep collector n) (kept.Refused refusal) old new =
-    ((st : State) → IsReached st → Shows contents old st → MakesVisits contents collector n (Err refusal) old new st)
-    × (IsEarlyRefusal refusal → Holds contents (cluster_of old) → cells_of contents new ≡ cells_of contents old)
-ChangesCells contents request reply old new = Holds contents (cluster_of old) → cells_of contents new ≡ cells_of contents old
+    ((st : State) → IsReached st → Shows contents old st
+    → MakesVisits contents collector n (Err refusal) old new st)
+    × (IsEarlyRefusal refusal → Holds contents (cluster_of old)
+    → cells_of contents new ≡ cells_of contents old)
+ChangesCells contents request reply old new =
+    Holds contents (cluster_of old) → cells_of contents new ≡ cells_of contents old
 
--- What is for sessions, cleaners, collectors and the oracle takes no room in memory, but a step that of its edits. What a command
--- or a checkpoint takes its outcome says.
-abbrev pub LeavesRoom : {F M : Type 0} → (F → Option Contents) → Request → Reply → Server F M → Server F M → Type 0
+-- What is for sessions, cleaners, collectors and the oracle takes no room in memory, but a step
+-- that of its edits. What a command or a checkpoint takes its outcome says.
+abbrev pub LeavesRoom : {F M : Type 0} → (F → Option Contents) → Request → Reply → Server F M
+    → Server F M → Type 0
 LeavesRoom contents Begin reply old new = IsNoFuller (cluster_of old) (cluster_of new)
-LeavesRoom contents (Get start row family) reply old new = IsNoFuller (cluster_of old) (cluster_of new)
-LeavesRoom contents (Set start row family value) reply old new = IsNoFuller (cluster_of old) (cluster_of new)
+LeavesRoom contents (Get start row family) reply old new =
+    IsNoFuller (cluster_of old) (cluster_of new)
+LeavesRoom contents (Set start row family value) reply old new =
+    IsNoFuller (cluster_of old) (cluster_of new)
 LeavesRoom contents (Step start) (kept.Step progress) old new =
-    (st : State) → IsReached st → Shows contents old st → TakesRoom OverfillsCluster (ChangesNext st start) progress (cluster_of old) (cluster_of new)
-LeavesRoom contents (Step start) (kept.Refused refusal) old new = IsNoFuller (cluster_of old) (cluster_of new)
+    (st : State) → IsReached st → Shows contents old st
+    → TakesRoom OverfillsCluster (ChangesNext st start) progress (cluster_of old)
+    (cluster_of new)
+LeavesRoom contents (Step start) (kept.Refused refusal) old new =
+    IsNoFuller (cluster_of old) (cluster_of new)
 LeavesRoom contents (Stop start) reply old new = IsNoFuller (cluster_of old) (cluster_of new)
-LeavesRoom contents (CleanBegin row family) reply old new = IsNoFuller (cluster_of old) (cluster_of new)
+LeavesRoom contents (CleanBegin row family) reply old new =
+    IsNoFuller (cluster_of old) (cluster_of new)
 LeavesRoom contents (CleanStep cleaner) (kept.CleanStep done) old new =
     (st : State) → IsReached st → Shows contents old st
-    → clean_up.TakesRoom OverfillsCluster (clean_up.ChangesNext st cleaner) done (cluster_of old) (cluster_of new)
-LeavesRoom contents (CleanStep cleaner) (kept.Refused refusal) old new = IsNoFuller (cluster_of old) (cluster_of new)
+    → clean_up.TakesRoom OverfillsCluster (clean_up.ChangesNext st cleaner) done (cluster_of old)
+    (cluster_of new)
+LeavesRoom contents (CleanStep cleaner) (kept.Refused refusal) old new =
+    IsNoFuller (cluster_of old) (cluster_of new)
 LeavesRoom contents CollectBegin reply old new = IsNoFuller (cluster_of old) (cluster_of new)
-LeavesRoom contents (CollectStep collector n) reply old new = TakesRoomOfVisits OverfillsCluster n (cluster_of old) (cluster_of new)
+LeavesRoom contents (CollectStep collector n) reply old new =
+    TakesRoomOfVisits OverfillsCluster n (cluster_of old) (cluster_of new)
 LeavesRoom contents OracleRestart reply old new = IsNoFuller (cluster_of old) (cluster_of new)
 LeavesRoom contents request reply old new = ⊤
 
--- What takes no memory is told exactly: that as many sessions are active as there may be, that one isn't active, that a commit has
--- no writes, why a step that draws is refused, that a cleaner or a collector isn't open, and that a number of visits is bad.
+-- What takes no memory is told exactly: that as many sessions are active as there may be, that one
+-- isn't active, that a commit has no writes, why a step that draws is refused, that a cleaner or a
+-- collector isn't open, and that a number of visits is bad.
 abbrev pub IsAlwaysTold : Request → Reply → State → Type 0
 IsAlwaysTold Begin reply st = IsCrowded st → reply ≡ kept.Refused TooManySessions
-IsAlwaysTold (Get start row family) reply st = IsInactive st start → reply ≡ kept.Refused UnknownSession
-IsAlwaysTold (Set start row family value) reply st = IsInactive st start → reply ≡ kept.Refused UnknownSession
+IsAlwaysTold (Get start row family) reply st =
+    IsInactive st start → reply ≡ kept.Refused UnknownSession
+IsAlwaysTold (Set start row family value) reply st =
+    IsInactive st start → reply ≡ kept.Refused UnknownSession
 IsAlwaysTold (Step start) reply st =
     (IsInactive st start → reply ≡ kept.Refused UnknownSession)
     × (IsUnwritten st start → reply ≡ kept.Refused EmptyCommit)
     × (IsAboutToDraw st start → IfRefused IsDrawRefusal (replied reply))
 IsAlwaysTold (Stop start) reply st = IsInactive st start → reply ≡ kept.Refused UnknownSession
-IsAlwaysTold (CleanStep cleaner) reply st = IsUnopened st cleaner → reply ≡ kept.Refused UnknownCleaner
+IsAlwaysTold (CleanStep cleaner) reply st =
+    IsUnopened st cleaner → reply ≡ kept.Refused UnknownCleaner
 IsAlwaysTold (CollectStep collector n) reply st =
     (open_collectors.IsUnopened st collector → reply ≡ kept.Refused UnknownCollector)
     × (¬ IsCount n → (reply ≡ kept.Refused UnknownCollector) ⊎ (reply ≡ kept.Refused BadCount))
 IsAlwaysTold request reply st = ⊤
 
--- A begin, and a write, a step or an end that is done, change the sessions as the machine's step says. All else leaves them.
+-- A begin, and a write, a step or an end that is done, change the sessions as the machine's step
+-- says. All else leaves them.
 abbrev pub KeepsSessions : Request → Reply → Clients → Clients → Type 0
 KeepsSessions Begin reply old new = ⊤
 KeepsSessions (Set start row family value) kept.Set old new = ⊤
@@ -104,18 +134,21 @@ KeepsSessions (Step start) (kept.Step progress) old new = ⊤
 KeepsSessions (Stop start) kept.Stop old new = ⊤
 KeepsSessions request reply old new = SameClients old new
 
--- A beginning, and a step that is done, change the cleaners as the machine's step says. All else leaves them.
+-- A beginning, and a step that is done, change the cleaners as the machine's step says. All else
+-- leaves them.
 abbrev pub KeepsCleaners : Request → Reply → Cleaners → Cleaners → Type 0
 KeepsCleaners (CleanBegin row family) (kept.CleanBegin found) old new = ⊤
 KeepsCleaners (CleanStep cleaner) (kept.CleanStep reply) old new = ⊤
 KeepsCleaners request reply old new = SameCleaners old new
 
--- A beginning, and a step, change the collectors as the machine's step says, and a step its own collector alone. A refused step
--- keeps the visits that it made. All else leaves the collectors, and so does a step for which no collector or no visit is found.
+-- A beginning, and a step, change the collectors as the machine's step says, and a step its own
+-- collector alone. A refused step keeps the visits that it made. All else leaves the collectors,
+-- and so does a step for which no collector or no visit is found.
 abbrev pub KeepsCollectors : Request → Reply → Collectors → Collectors → Type 0
 KeepsCollectors CollectBegin (kept.CollectBegin collector floor) old new = ⊤
 KeepsCollectors (CollectStep collector n) reply old new =
-    ChangesOne collector old new × IfRefused (λ refusal. IsEarlyRefusal refusal → SameCollectors old new) (replied reply)
+    ChangesOne collector old new
+    × IfRefused (λ refusal. IsEarlyRefusal refusal → SameCollectors old new) (replied reply)
 KeepsCollectors request reply old new = SameCollectors old new
 
 -- the mark is as before, or it is the end of the oracle's next range

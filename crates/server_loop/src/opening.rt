@@ -5,16 +5,13 @@ ghost use Rattle.cell_key.specs.Faults.{HasRisen};
 ghost use Rattle.row_atomic.specs.Refusals.{IsReadRefusal};
 ghost use Rattle.si_model.specs.Machine.{State, new_machine, reopened};
 
-use crate::server::{Config, Server, Tending};
+use crate::server::{Config, Server};
 use cell_key::Refusal;
-use clean_up::Cleaners;
 use file_store::Files;
 use metadata_table::one_root;
 use oracle::{MarkStore, Oracle};
 use row_atomic::Cluster;
 use std::alloc::Global;
-use txn_client::Clients;
-use version_collector::Collectors;
 
 impl<F: Files + Drop, M: MarkStore + Drop> Server<F, M> {
     ghost use Rattle.server_loop.specs.Opening.{IsLost, LacksRoot};
@@ -84,17 +81,6 @@ impl<F: Files + Drop, M: MarkStore + Drop> Server<F, M> {
         if oracle.last() < top {
             return Err((Refusal::Damaged, cluster.into_files(), oracle.into_mark()));
         }
-        Ok(Server {
-            alloc,
-            cluster,
-            oracle,
-            clients: Clients::new(alloc, top),
-            cleaners: Cleaners::new(alloc),
-            collectors: Collectors::new(alloc, floor),
-            tending: Tending {
-                flush: config.flush,
-                merge: None,
-            },
-        })
+        Ok(Server::without_sessions(alloc, cluster, oracle, top, floor, config))
     }
 }

@@ -1,14 +1,14 @@
 //! The server.
 
-ghost use Rattle.std.specs.Prelude.{◌≡◌, ◌≢◌, ◌≤◌, ◌⊎◌, IfErr, IfOk, IfSome, IsSome};
+ghost use Rattle.std.specs.Prelude.{◌≡◌, ◌≢◌, ◌≤◌, ◌<◌, ◌^◌, ◌⊎◌, IfErr, IfOk, IfSome, IsSome};
 ghost use Rattle.cell_key.specs.Faults.{HasRisen};
 ghost use Rattle.row_atomic.specs.Clusters.{IsFirstTablet};
 ghost use Rattle.server_loop.specs.Serve.{Serves, ServesStream};
-ghost use Rattle.si_model.specs.Machine.{new_machine};
+ghost use Rattle.si_model.specs.Machine.{State, new_machine};
 
 use crate::ends::{End, ServeFault};
 use crate::serving::{Answering, serve_all};
-use cell_key::{MOST_STAMP, Refusal};
+use cell_key::{MOST_STAMP, Refusal, Stamp};
 use clean_up::Cleaners;
 use file_store::Files;
 use oracle::{MarkStore, Oracle};
@@ -57,10 +57,42 @@ pub struct Server<F, M: MarkStore> {
 
 impl<F: Files + Drop, M: MarkStore + Drop> Server<F, M> {
     ghost use Rattle.server_loop.specs.Answer.{DrawsStamps, IsAnswer, IsMachineStep, IsPlainAnswer, MakesEdits, ServesSessions, TellsCauses, TendsTablets};
-    ghost use Rattle.server_loop.specs.Server.{Shows, cluster_of, tending_of, last_of, marks_of};
+    ghost use Rattle.server_loop.specs.Server.{Shows, ShowsNoSession, cluster_of, tending_of, last_of, marks_of};
     ghost use Rattle.row_atomic.specs.Flushes.{KeepsShown};
     ghost use Rattle.server_loop.specs.Resting.{KeepsResting};
     ghost use Rattle.server_loop.specs.Tending.{IsTended, Merges};
+
+    /// A server with no session, cleaner or collector. `top` is the greatest stamp that was answered, and `floor` the
+    /// greatest floor that a collector began with.
+    pub(crate) fn without_sessions(
+        alloc: Global,
+        cluster: Cluster<F>,
+        oracle: Oracle<M>,
+        top: Stamp,
+        floor: Stamp,
+        config: Config,
+    ) -> Server<F, M>
+        requires top { top < 2 ^ 63 }
+        ensures shown { (st : State) → ShowsNoSession F.contents cluster oracle.last top floor st
+            → Shows F.contents result st }
+        ensures cluster { cluster_of result ≡ cluster }
+        ensures last { last_of result ≡ oracle.last }
+        ensures marks { marks_of result ≡ oracle.marks }
+        ensures tending { tending_of result ≡ record { flush = config.flush; merge = None } }
+    {
+        Server {
+            alloc,
+            cluster,
+            oracle,
+            clients: Clients::new(alloc, top),
+            cleaners: Cleaners::new(alloc),
+            collectors: Collectors::new(alloc, floor),
+            tending: Tending {
+                flush: config.flush,
+                merge: None,
+            },
+        }
+    }
 
     /// A server over these files and this mark store, with one tablet of no cells. It shows the new machine.
     ///
@@ -106,18 +138,7 @@ impl<F: Files + Drop, M: MarkStore + Drop> Server<F, M> {
             Err((refusal, files)) => return Err((refusal, files, marks)),
         };
         match Oracle::open(marks) {
-            Ok(oracle) => Ok(Server {
-                alloc,
-                cluster,
-                oracle,
-                clients: Clients::new(alloc, 0),
-                cleaners: Cleaners::new(alloc),
-                collectors: Collectors::new(alloc, 0),
-                tending: Tending {
-                    flush: config.flush,
-                    merge: None,
-                },
-            }),
+            Ok(oracle) => Ok(Server::without_sessions(alloc, cluster, oracle, 0, 0, config)),
             Err((refusal, marks)) => Err((refusal, cluster.into_files(), marks)),
         }
     }

@@ -1,6 +1,6 @@
 use Rattle.std.proofs.Common.{refl, inl, inr}
 use Rattle.request_codec.specs.Requests.{asked}
-use Rattle.server_loop.proofs.Reaching.{reached_step, laws_of}
+use Rattle.server_loop.proofs.ReachedRuns.{reached_step, laws_of}
 use Rattle.server_loop.proofs.serving.reply_to_body.Goals as goal
 
 pub returns-in-Some-clause-run : goal.returns-in-Some-clause-run

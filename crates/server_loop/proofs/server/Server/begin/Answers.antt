@@ -1,7 +1,7 @@
 use Rattle.std.proofs.Common.{refl, inr}
 use Rattle.txn_client.specs.Refusals.{IsBeginRefusal}
 use Rattle.si_model.specs.Collection.{unchanged}
-use Rattle.server_loop.proofs.Stepping.{as_err, as_refused, begun_undamaged, not_done, ok_not, steps_as, undamaged}
+use Rattle.server_loop.proofs.SessionSteps.{as_err, as_refused, begun_undamaged, not_done, ok_not, steps_as, undamaged}
 use Rattle.server_loop.proofs.server.Server.begin.Goals as goal
 
 pub returns-in-Ok : goal.returns-in-Ok

@@ -2,8 +2,8 @@ use Rattle.std.proofs.Common.{Err, ap, refl, sym}
 use Rattle.cell_key.specs.declared.refusals.Refusal.{Refusal}
 use Rattle.si_model.specs.Machine.{refuses}
 use Rattle.server_loop.proofs.Causes.{done_causes, refused_causes}
-use Rattle.server_loop.proofs.Stepping.{name_undamaged, not_done}
-use Rattle.server_loop.proofs.Upkeeping.{checkpoint_done, checkpoint_refuses, checkpoint_whole, tells_as}
+use Rattle.server_loop.proofs.SessionSteps.{name_undamaged, not_done}
+use Rattle.server_loop.proofs.UpkeepSteps.{checkpoint_done, checkpoint_refuses, checkpoint_whole, tells_as}
 use Rattle.server_loop.proofs.server.Server.checkpoint.Goals as goal
 
 pub returns-in-Ok : goal.returns-in-Ok

@@ -1,8 +1,8 @@
 use Rattle.std.proofs.Common.{refl, inl}
 use Rattle.clean_up.specs.Refusals.{IsBeginRefusal}
-use Rattle.server_loop.proofs.Changing.{unchanged_if}
+use Rattle.server_loop.proofs.CellChanges.{unchanged_if}
 use Rattle.server_loop.proofs.CleanSteps.{cleans_as, started_told, started_undamaged, started_stays}
-use Rattle.server_loop.proofs.Stepping.{as_err, as_refused, err_undamaged, not_done, ok_not}
+use Rattle.server_loop.proofs.SessionSteps.{as_err, as_refused, err_undamaged, not_done, ok_not}
 use Rattle.server_loop.proofs.server.Server.clean_begin.Goals as goal
 
 pub returns-in-Ok : goal.returns-in-Ok

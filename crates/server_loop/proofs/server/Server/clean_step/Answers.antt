@@ -1,8 +1,8 @@
 use Rattle.std.proofs.Common.{refl, inl}
 use Rattle.clean_up.specs.Refusals.{IsStepRefusal}
-use Rattle.server_loop.proofs.Changing.{clean_changes, unchanged_if}
+use Rattle.server_loop.proofs.CellChanges.{clean_changes, unchanged_if}
 use Rattle.server_loop.proofs.CleanSteps.{cleans_as, cleaned_told, cleaned_undamaged, cleaned_stays}
-use Rattle.server_loop.proofs.Stepping.{as_err, as_refused, err_undamaged, not_done, ok_not}
+use Rattle.server_loop.proofs.SessionSteps.{as_err, as_refused, err_undamaged, not_done, ok_not}
 use Rattle.server_loop.proofs.server.Server.clean_step.Goals as goal
 
 pub returns-in-Ok : goal.returns-in-Ok

@@ -1,7 +1,7 @@
 use Rattle.std.proofs.Common.{refl}
 use Rattle.version_collector.specs.Refusals.{IsBeginRefusal}
 use Rattle.server_loop.proofs.CollectSteps.{begun_undamaged, collects_as}
-use Rattle.server_loop.proofs.Stepping.{as_err, never, not_done, undamaged}
+use Rattle.server_loop.proofs.SessionSteps.{as_err, never, not_done, undamaged}
 use Rattle.server_loop.proofs.server.Server.collect_begin.Goals as goal
 
 pub returns-in-Ok : goal.returns-in-Ok

@@ -2,7 +2,7 @@ use Rattle.std.proofs.Common.{inl, refl, subst}
 use Rattle.version_collector.specs.Refusals.{IsStepRefusal}
 use Rattle.server_loop.specs.Runs.{KeepsToLimits}
 use Rattle.server_loop.proofs.CollectSteps.{bad_told, collected_stays, collected_told, collected_undamaged, collects_as, never_bad, same_cells}
-use Rattle.server_loop.proofs.Stepping.{as_err, as_refused, err_undamaged, not_done, ok_not}
+use Rattle.server_loop.proofs.SessionSteps.{as_err, as_refused, err_undamaged, not_done, ok_not}
 use Rattle.server_loop.proofs.server.Server.collect_step.Goals as goal
 
 pub returns-in-Ok : goal.returns-in-Ok

@@ -1,7 +1,7 @@
 use Rattle.std.proofs.Common.{refl, inl}
 use Rattle.txn_client.specs.Refusals.{IsGetRefusal}
-use Rattle.server_loop.proofs.Changing.{unchanged_if}
-use Rattle.server_loop.proofs.Stepping.{as_err, as_refused, err_undamaged, found_stays, found_told, found_undamaged, not_done, ok_not, short_found, steps_as}
+use Rattle.server_loop.proofs.CellChanges.{unchanged_if}
+use Rattle.server_loop.proofs.SessionSteps.{as_err, as_refused, err_undamaged, found_stays, found_told, found_undamaged, not_done, ok_not, short_found, steps_as}
 use Rattle.server_loop.proofs.server.Server.get.Goals as goal
 
 pub returns-in-Ok : goal.returns-in-Ok

@@ -1,8 +1,8 @@
 use Rattle.std.proofs.Common.{refl, sym, inl}
 use Rattle.si_model.specs.Machine.{refuses}
 use Rattle.server_loop.proofs.Causes.{done_causes, refused_causes}
-use Rattle.server_loop.proofs.Stepping.{name_undamaged, not_done}
-use Rattle.server_loop.proofs.Upkeeping.{merge_done, merge_refuses, merge_whole, tells_as, two_merged}
+use Rattle.server_loop.proofs.SessionSteps.{name_undamaged, not_done}
+use Rattle.server_loop.proofs.UpkeepSteps.{merge_done, merge_refuses, merge_whole, tells_as, two_merged}
 use Rattle.server_loop.proofs.server.Server.merge.Goals as goal
 
 pub returns-in-Ok : goal.returns-in-Ok

@@ -1,8 +1,8 @@
 use Rattle.std.proofs.Common.{refl, sym, inl}
 use Rattle.si_model.specs.Machine.{refuses}
 use Rattle.server_loop.proofs.Causes.{done_causes, refused_causes}
-use Rattle.server_loop.proofs.Stepping.{name_undamaged, not_done}
-use Rattle.server_loop.proofs.Upkeeping.{minor_done, minor_refuses, minor_whole, tells_as}
+use Rattle.server_loop.proofs.SessionSteps.{name_undamaged, not_done}
+use Rattle.server_loop.proofs.UpkeepSteps.{minor_done, minor_refuses, minor_whole, tells_as}
 use Rattle.server_loop.proofs.server.Server.minor.Goals as goal
 
 pub returns-in-Ok : goal.returns-in-Ok

@@ -6,46 +6,27 @@ use Rattle.metadata_table.specs.Places.{PlaceView}
 use Rattle.si_model.specs.Machine.{new_machine}
 use Rattle.si_model.specs.ShowsCells.{ShowsCells}
 use Rattle.server_loop.specs.Server.{machine_places}
-use Rattle.server_loop.proofs.Stepping.{new_cells}
+use Rattle.server_loop.proofs.SessionSteps.{new_cells}
 use Rattle.server_loop.proofs.server.Server.new.Goals as goal
 
 two_reasons : (refusal : Refusal) → refusal ≡ NoMemory → refusal ≡ Device → ⊥
 two_reasons refusal memory device = cc
 
 pub returns-in-Ok-open-clause-new : goal.returns-in-Ok-open-clause-new
-returns-in-Ok-open-clause-new g c = λ told. record {
+returns-in-Ok-open-clause-new g c = λ told. c.without_sessions.ensures.shown new_machine (record {
   in_order = rw c.in-Ok.ensures.files (c.in-Ok.ensures.holds told);
-  shows = record {
-    store = rw c.in-Ok.ensures.files (subst (λ (cells : Cells). ShowsCells cells new_machine) (sym c.in-Ok.ensures.cells) new_cells);
-    sessions = c.new-in-Ok-open.ensures.shown new_machine refl refl;
-    top = omega arith;
-  };
-  cleaners = c.new-in-Ok-open-2.ensures.shown new_machine refl refl;
-  collectors = c.new-in-Ok-open-3.ensures.shown _ new_machine refl refl refl;
+  store = rw c.in-Ok.ensures.files (subst (λ (cells : Cells). ShowsCells cells new_machine) (sym c.in-Ok.ensures.cells) new_cells);
   places = ap (λ (places : List PlaceView). machine_places places) c.in-Ok.ensures.places;
   next = refl;
-}
-
-pub returns-in-Ok-open-clause-kept : goal.returns-in-Ok-open-clause-kept
-returns-in-Ok-open-clause-kept g c = c.in-Ok.ensures.files
-
-pub returns-in-Ok-open-clause-name : goal.returns-in-Ok-open-clause-name
-returns-in-Ok-open-clause-name g c = c.in-Ok.ensures.name
-
-pub returns-in-Ok-open-clause-tablet : goal.returns-in-Ok-open-clause-tablet
-returns-in-Ok-open-clause-tablet g c = c.in-Ok.ensures.tablet
-
-pub returns-in-Ok-open-clause-last : goal.returns-in-Ok-open-clause-last
-returns-in-Ok-open-clause-last g c = c.in-Ok-open.ensures.mark
-
-pub returns-in-Ok-open-clause-mark : goal.returns-in-Ok-open-clause-mark
-returns-in-Ok-open-clause-mark g c = c.in-Ok-open.ensures.kept
-
-pub returns-in-Ok-open-clause-limit : goal.returns-in-Ok-open-clause-limit
-returns-in-Ok-open-clause-limit g c = c.in-Ok.ensures.limit
-
-pub returns-in-Ok-open-clause-told : goal.returns-in-Ok-open-clause-told
-returns-in-Ok-open-clause-told g c = c.in-Ok-open.ensures.told
+  answered = refl;
+  marked = omega arith;
+  collected = refl;
+  active = refl;
+  cleaner = refl;
+  cleaners = refl;
+  collector = refl;
+  collectors = refl;
+})
 
 pub returns-in-Err-clause-refusal : goal.returns-in-Err-clause-refusal
 returns-in-Err-clause-refusal g c = inl c.in-Err.ensures.refusal

@@ -4,12 +4,13 @@ use Rattle.cell_key.specs.Cells.{Cells}
 use Rattle.metadata_table.specs.Places.{PlaceView}
 use Rattle.metadata_table.specs.Roots.{RootView}
 use Rattle.row_atomic.specs.Clusters.{cells_in}
+use Rattle.row_atomic.specs.Roots.{KeepsRoot}
 use Rattle.row_atomic.proofs.Fresh.{new_cells as none_in}
 use Rattle.si_model.specs.Machine.{new_machine, reopened}
 use Rattle.si_model.specs.ShowsCells.{ShowsCells}
 use Rattle.server_loop.specs.Server.{machine_places}
 use Rattle.server_loop.proofs.Opened.{below_told, damage_told, new_store, not_below, where_told, whole_told}
-use Rattle.server_loop.proofs.Stepping.{new_cells}
+use Rattle.server_loop.proofs.SessionSteps.{new_cells}
 use Rattle.server_loop.proofs.server.Server.open.Goals as goal
 
 pub returns-in-Err-clause-kept : goal.returns-in-Err-clause-kept
@@ -30,27 +31,29 @@ returns-clause-kept g c = λ st keeps.
     let top : c.in-Ok.opened.1 ≡ st.top = ap (λ (root : RootView). root.top) o.tells ∙ keeps.tells.top in
     let floor : c.in-Ok.opened.2 ≡ st.floor = ap (λ (root : RootView). root.floor) o.tells ∙ keeps.tells.floor in
     record {
-      shows = record {
+      shows = c.without_sessions.ensures.shown (reopened st) (record {
         in_order = o.holds;
-        shows = record {
-          store = subst (λ (cells : Cells). ShowsCells cells (reopened st)) (sym o.shows) keeps.tells.shows;
-          sessions = c.new.ensures.shown (reopened st) (sym top) refl;
-          top = not_below _ _ _ keeps.tells.marked c.in-Ok-open.ensures.mark;
-        };
-        cleaners = c.new-2.ensures.shown (reopened st) refl refl;
-        collectors = c.new-3.ensures.shown _ (reopened st) refl refl (sym floor);
+        store = subst (λ (cells : Cells). ShowsCells cells (reopened st)) (sym o.shows) keeps.tells.shows;
         places = ap (λ (root : RootView). machine_places root.places) o.tells ∙ keeps.tells.places;
         next = keeps.tells.next;
-      };
+        answered = sym top;
+        marked = not_below _ _ _ keeps.tells.marked c.in-Ok-open.ensures.mark;
+        collected = sym floor;
+        active = refl;
+        cleaner = refl;
+        cleaners = refl;
+        collector = refl;
+        collectors = refl;
+      });
       root = keeps.root;
       cells = keeps.cells;
-      keeps = o.keeps;
+      keeps = subst (KeepsRoot g.F.Files.contents keeps.root keeps.cells) (sym c.without_sessions.ensures.cluster) o.keeps;
       tells = record {
         top = keeps.tells.top;
         floor = keeps.tells.floor;
         places = keeps.tells.places;
         next = keeps.tells.next;
-        marked = subst (λ (told : Option ℕ). IsSomeAnd told (λ mark. st.top ≤ mark)) (sym c.in-Ok-open.ensures.kept) keeps.tells.marked;
+        marked = subst (λ (told : Option ℕ). IsSomeAnd told (λ mark. st.top ≤ mark)) (sym (ap g.M.MarkStore.mark c.without_sessions.ensures.marks ∙ c.in-Ok-open.ensures.kept)) keeps.tells.marked;
         shows = keeps.tells.shows;
       };
     }
@@ -59,18 +62,20 @@ pub returns-clause-new : goal.returns-clause-new
 returns-clause-new g c = λ lacks.
     let s = new_store (g.F.Files.contents c.args.files) (g.M.MarkStore.mark c.args.marks) c.in-Ok.opened.1 c.in-Ok.opened.2 c.in-Ok-open.oracle.last c.in-Ok.opened.0 lacks c.in-Ok.ensures.store in
     let none = ap (cells_in (g.F.Files.contents c.in-Ok.opened.0.files)) s.tablet.alone ∙ none_in s.tablet.tablet s.tablet.memory s.tablet.files (g.F.Files.contents c.in-Ok.opened.0.files) in
-    record {
+    c.without_sessions.ensures.shown new_machine (record {
       in_order = where_told _ _ lacks c.in-Ok.ensures.holds;
-      shows = record {
-        store = subst (λ (cells : Cells). ShowsCells cells new_machine) (sym none) new_cells;
-        sessions = c.new.ensures.shown new_machine (sym s.no_top) refl;
-        top = omega arith;
-      };
-      cleaners = c.new-2.ensures.shown new_machine refl refl;
-      collectors = c.new-3.ensures.shown _ new_machine refl refl (sym s.no_floor);
+      store = subst (λ (cells : Cells). ShowsCells cells new_machine) (sym none) new_cells;
       places = ap (λ (places : List PlaceView). machine_places places) s.places;
       next = refl;
-    }
+      answered = sym s.no_top;
+      marked = omega arith;
+      collected = sym s.no_floor;
+      active = refl;
+      cleaner = refl;
+      cleaners = refl;
+      collector = refl;
+      collectors = refl;
+    })
 
 pub returns-clause-whole : goal.returns-clause-whole
 returns-clause-whole g c =

@@ -12,8 +12,8 @@ use Rattle.server_loop.specs.Runs.{KeepsToLimits}
 use Rattle.server_loop.proofs.Causes.{unmet_causes}
 use Rattle.server_loop.proofs.RawReads.{found_outcome, refused_outcome}
 use Rattle.server_loop.proofs.CleanSteps.{spots_in}
-use Rattle.server_loop.proofs.Stepping.{as_err, as_refused, column_not_device, memory_not_device, name_undamaged, named_not, not_done, ok_not, refused_either, row_not_device}
-use Rattle.server_loop.proofs.Upkeeping.{family_whole, raw_unnamed, raw_refused, raw_done, raw_family_named, raw_refuses, raw_row_named, row_whole, tells_as, raw_whole}
+use Rattle.server_loop.proofs.SessionSteps.{as_err, as_refused, column_not_device, memory_not_device, name_undamaged, named_not, not_done, ok_not, refused_either, row_not_device}
+use Rattle.server_loop.proofs.UpkeepSteps.{family_whole, raw_unnamed, raw_refused, raw_done, raw_family_named, raw_refuses, raw_row_named, row_whole, tells_as, raw_whole}
 use Rattle.server_loop.proofs.server.Server.raw.Goals as goal
 
 short_found : (lo hi : ℕ) (found : Option (ℕ × Vec ℕ Global)) → IfSome (option_map stamped found) (IsVersionIn lo hi) → KeepsToLimits (kept.Raw found)

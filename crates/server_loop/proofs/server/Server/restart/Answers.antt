@@ -1,7 +1,7 @@
 use Rattle.request_codec.specs.declared.replies.Reply.TheVariants.{Refused}
 use Rattle.cell_key.specs.declared.refusals.Refusal.{Refusal}
 use Rattle.std.proofs.Common.{ℕ, ◌≤◌, refl, arith, ap, inr}
-use Rattle.server_loop.proofs.Stepping.{restart_done, restart_refused, not_done}
+use Rattle.server_loop.proofs.SessionSteps.{restart_done, restart_refused, not_done}
 use Rattle.server_loop.proofs.server.Server.restart.Goals as goal
 
 no_later : (top last last' : ℕ) → top ≤ last → last ≤ last' → top ≤ last'

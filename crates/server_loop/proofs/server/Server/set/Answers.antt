@@ -1,7 +1,7 @@
 use Rattle.std.proofs.Common.{refl}
 use Rattle.txn_client.specs.Refusals.{IsSetRefusal}
 use Rattle.si_model.specs.Collection.{unchanged}
-use Rattle.server_loop.proofs.Stepping.{as_refused, never, not_done, ok_not, set_undamaged, steps_as, undamaged}
+use Rattle.server_loop.proofs.SessionSteps.{as_refused, never, not_done, ok_not, set_undamaged, steps_as, undamaged}
 use Rattle.server_loop.proofs.server.Server.set.Goals as goal
 
 pub returns-in-Ok : goal.returns-in-Ok

@@ -3,8 +3,8 @@ use Rattle.std.specs.declared.result.Result.TheVariants.{Err}
 use Rattle.cell_key.specs.declared.refusals.Refusal.{Refusal}
 use Rattle.si_model.specs.Machine.{refuses}
 use Rattle.server_loop.proofs.Causes.{done_causes, refused_causes, unmet_causes}
-use Rattle.server_loop.proofs.Stepping.{memory_not_device, name_undamaged, named_not, not_done, refused_either, row_not_device}
-use Rattle.server_loop.proofs.Upkeeping.{cut_named, cut_refused, row_whole, split_named, split_refuses, splits_as, tells_as}
+use Rattle.server_loop.proofs.SessionSteps.{memory_not_device, name_undamaged, named_not, not_done, refused_either, row_not_device}
+use Rattle.server_loop.proofs.UpkeepSteps.{cut_named, cut_refused, row_whole, split_named, split_refuses, splits_as, tells_as}
 use Rattle.server_loop.proofs.server.Server.split.Goals as goal
 
 pub returns-in-Err : goal.returns-in-Err

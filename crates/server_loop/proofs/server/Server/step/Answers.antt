@@ -1,8 +1,8 @@
 use Rattle.std.proofs.Common.{refl}
 use Rattle.oracle.specs.Ranges.{IsDrawRefusal}
 use Rattle.txn_client.specs.Refusals.{IsStepRefusal}
-use Rattle.server_loop.proofs.Changing.{step_changes, unchanged_if}
-use Rattle.server_loop.proofs.Stepping.{as_err, as_refused, err_undamaged, first_stays, not_done, ok_not, one_rose, progress_goes, progress_told, progress_undamaged, second_stays, steps_as}
+use Rattle.server_loop.proofs.CellChanges.{step_changes, unchanged_if}
+use Rattle.server_loop.proofs.SessionSteps.{as_err, as_refused, err_undamaged, first_stays, not_done, ok_not, one_rose, progress_goes, progress_told, progress_undamaged, second_stays, steps_as}
 use Rattle.server_loop.proofs.server.Server.step.Goals as goal
 
 pub returns-in-Ok : goal.returns-in-Ok

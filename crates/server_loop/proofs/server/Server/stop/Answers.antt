@@ -2,7 +2,7 @@ use Rattle.std.proofs.Common.{◌≡◌, refl}
 use Rattle.cell_key.specs.declared.refusals.Refusal.{Refusal}
 use Rattle.cell_key.specs.declared.refusals.Refusal.TheVariants.{Damaged, Device, UnknownSession}
 use Rattle.si_model.specs.Collection.{unchanged}
-use Rattle.server_loop.proofs.Stepping.{as_refused, never, not_done, ok_not, steps_as, stop_undamaged, undamaged}
+use Rattle.server_loop.proofs.SessionSteps.{as_refused, never, not_done, ok_not, steps_as, stop_undamaged, undamaged}
 use Rattle.server_loop.proofs.server.Server.stop.Goals as goal
 
 damaged_not_unknown : Damaged ≡ UnknownSession → ⊥

@@ -1,8 +1,8 @@
 use Rattle.std.proofs.Common.{refl, inl}
 use Rattle.si_model.specs.Machine.{refuses}
 use Rattle.server_loop.proofs.Causes.{done_causes, refused_causes}
-use Rattle.server_loop.proofs.Stepping.{name_undamaged, not_done}
-use Rattle.server_loop.proofs.Upkeeping.{same_spots, sweep_done, sweep_refuses, swept_whole, tells_as}
+use Rattle.server_loop.proofs.SessionSteps.{name_undamaged, not_done}
+use Rattle.server_loop.proofs.UpkeepSteps.{same_spots, sweep_done, sweep_refuses, swept_whole, tells_as}
 use Rattle.server_loop.proofs.server.Server.sweep.Goals as goal
 
 pub returns-in-Ok : goal.returns-in-Ok

@@ -86,6 +86,3 @@ module _ (st : State) (ps : List Place) (n : ℕ) where
   -- what shows a state's transactions shows them wherever the tablets are
   pub shows_placed : (cells : Cells) (cl : Clients) (last : ℕ) → clients.Shows cells cl last st → clients.Shows cells cl last (placed st ps n)
   shows_placed cells cl last shown = record { store = cells_placed cells shown.store; sessions = clients_placed cl shown.sessions; top = shown.top }
-
-pub shows_replaced : (st : State) (ps : List Place) (n : ℕ) (cells : Cells) (cl : Clients) (last : ℕ) → clients.Shows cells cl last (placed st ps n) → clients.Shows cells cl last st
-shows_replaced st ps n = shows_placed (placed st ps n) st.places st.next_tablet

@@ -30,9 +30,9 @@ use Rattle.server_loop.specs.declared.server.Server.{Server}
 use Rattle.server_loop.specs.Server.{Shows, cells_of}
 use Rattle.server_loop.specs.Runs.{KeepsToLimits, StampsGoOn, StepsAs, IfRefused}
 use Rattle.server_loop.proofs.CleanSteps.{spots_in}
-use Rattle.server_loop.proofs.Staying.{cleaners_stay, collectors_stay, not_kind, sessions_not_cleaners, sessions_not_collectors}
-use Rattle.server_loop.proofs.Replacing.{KeepsPlaces}
-use Rattle.server_loop.proofs.Relocating.{still_placed, still_next}
+use Rattle.server_loop.proofs.OthersShown.{cleaners_stay, collectors_stay, not_kind, sessions_not_cleaners, sessions_not_collectors}
+use Rattle.server_loop.proofs.SamePlaces.{KeepsPlaces}
+use Rattle.server_loop.proofs.SplitSteps.{still_placed, still_next}
 
 module _ {F M : Type 0} (contents : F → Option Contents) (old new : Server F M) where
   -- a step of a session, which leaves the tablets where they are, the cleaners and the collectors
@@ -164,9 +164,6 @@ not_done reply refusal done same = subst IsDone same done
 
 pub ok_not : {A E : Type 0} (value : A) (fault : E) → ¬ (Ok value ≡ Err fault)
 ok_not value fault e = cc
-
-pub err_not : {A E : Type 0} (fault : E) (value : A) → ¬ (Err fault ≡ Ok value)
-err_not fault value e = cc
 
 -- a name is refused for two reasons alone
 pub named_not : {bad memory : Refusal} (refusal other : Refusal) → (bad ≡ other → ⊥) → (memory ≡ other → ⊥) → (refusal ≡ bad) ⊎ (refusal ≡ memory)

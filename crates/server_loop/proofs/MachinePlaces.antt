@@ -224,16 +224,5 @@ module _ (n server : ℕ) where
       subst (λ (qs : List machine.Place). machine.Moves n server (machine_places ps) qs) (ap (map machine_place) (stays_spots ps table.distinct q h e s))
       (moves_spots ps table.distinct (q, h, e))
 
-  -- a move leaves the ends, and how many there are
-  pub same_ends : (names : List ℕ) (ps : List PlaceView) → map (λ (q : machine.Place). q.end) (machine_places (moved n server (with_files n names ps))) ≡ map (λ (q : machine.Place). q.end) (machine_places ps)
-  same_ends names ps = ap (map (λ (q : machine.Place). q.end)) (machine_moved names ps) ∙ go ps
-    where
-      end_of : (p : PlaceView) → (on_spot (spot_of p)).0 ≡ p.end
-      end_of p = elim (eqb p.tablet n) as (λ b. (cond b (p.end, (p.tablet, server)) (spot_of p)).0 ≡ p.end) [ true ↦ refl | false ↦ refl ]
-
-      go : (qs : List PlaceView) → map (λ (q : machine.Place). q.end) (map machine_place (map on_spot (map spot_of qs))) ≡ map (λ (q : machine.Place). q.end) (machine_places qs)
-      go [] = refl
-      go (q ∷ qs) = λ i. end_of q i ∷ go qs i
-
   pub move_length : (names : List ℕ) (ps : List PlaceView) → length (moved n server (with_files n names ps)) ≡ length ps
   move_length names ps = length-map (with_files n names ps) (on_server n server) ∙ length-map ps (naming n names)

@@ -26,12 +26,12 @@ use Rattle.server_loop.specs.Refusals.{IsCutRefusal, IsRawRefusal, IsSweepRefusa
 use Rattle.server_loop.specs.Runs.{StepsAs}
 use Rattle.server_loop.specs.Server.{Shows, machine_place, machine_places}
 use Rattle.server_loop.specs.declared.server.Server.{Server}
-use Rattle.server_loop.proofs.Placing.{has_tablet_so, has_tablet_back, length_so}
-use Rattle.server_loop.proofs.Refusing.{minor_unknown_first, minor_accepted, merge_unknown_first, merge_bad, merge_accepted, major_unknown_first, major_accepted, split_row_first, sweep_accepted, checkpoint_accepted, raw_row_first, raw_family_first, raw_accepted}
-use Rattle.server_loop.proofs.Relocating.{splits_so, split_next, split_barred, moves_step, stays_step, move_unknown, move_far, move_next}
-use Rattle.server_loop.proofs.Changing.{unchanged_if}
-use Rattle.server_loop.proofs.Staying.{cleaners_stay, collectors_stay, places_not_cleaners, places_not_collectors}
-use Rattle.server_loop.proofs.Replacing.{placed, shows_placed}
+use Rattle.server_loop.proofs.MachinePlaces.{has_tablet_so, has_tablet_back, length_so}
+use Rattle.server_loop.proofs.UpkeepRefusals.{minor_unknown_first, minor_accepted, merge_unknown_first, merge_bad, merge_accepted, major_unknown_first, major_accepted, split_row_first, sweep_accepted, checkpoint_accepted, raw_row_first, raw_family_first, raw_accepted}
+use Rattle.server_loop.proofs.SplitSteps.{splits_so, split_next, split_barred, moves_step, stays_step, move_unknown, move_far, move_next}
+use Rattle.server_loop.proofs.CellChanges.{unchanged_if}
+use Rattle.server_loop.proofs.OthersShown.{cleaners_stay, collectors_stay, places_not_cleaners, places_not_collectors}
+use Rattle.server_loop.proofs.SamePlaces.{placed, shows_placed}
 
 -- ---- refusals, and what is done
 

@@ -12,8 +12,8 @@ use Rattle.si_model.proofs.Acceptable.{split_ok, move_ok}
 use Rattle.si_model.proofs.FirstRefusals.{split_end_first, split_full_first, move_unknown_first, move_server_first}
 use Rattle.row_atomic.specs.Clusters.{spot_of}
 use Rattle.server_loop.specs.Server.{machine_place, machine_places}
-use Rattle.server_loop.proofs.Placing.{machine_length, has_tablet_so, has_tablet_back, is_end_so, is_end_back, length_so, cuts_so, cut_length, moves_so, move_length, stays_so}
-use Rattle.server_loop.proofs.Replacing.{KeepsPlaces, keeps_places, placed}
+use Rattle.server_loop.proofs.MachinePlaces.{machine_length, has_tablet_so, has_tablet_back, is_end_so, is_end_back, length_so, cuts_so, cut_length, moves_so, move_length, stays_so}
+use Rattle.server_loop.proofs.SamePlaces.{KeepsPlaces, keeps_places, placed}
 
 module _ (st : State) (old : List PlaceView) (same : st.places ≡ machine_places old) where
   room : (row : List ℕ) → ¬ BarsSplit row old → length st.places < machine.most_tablets
