@@ -1,6 +1,7 @@
 //! The store as its users meet it: streams of requests with the replies that they get. Below it are the tests of each crate.
 
 mod bodies;
+mod caches;
 mod checkpoints;
 mod cleaning;
 mod clusters;
@@ -9,7 +10,6 @@ mod compactions;
 mod edits;
 mod files;
 mod folders;
-mod framers;
 mod keys;
 mod limits;
 mod memory;
@@ -237,31 +237,6 @@ fn a_write_fails_at_each_call(rt: HostRuntime) -> Result<(), Fail> {
     for calls_left in 0..=80 {
         assert!(rt; is_cut_short(rt.alloc(), calls_left, false)?);
         assert!(rt; is_cut_short(rt.alloc(), calls_left, true)?);
-    }
-    Ok(())
-}
-
-/// Whether a server that was asked for two sessions in one piece has begun only those whose replies it came to write, where the
-/// writer gives up after so many calls.
-fn stops_at_the_write(alloc: Global, calls_left: usize) -> Result<bool, Refusal> {
-    let mut server = new_server(alloc, FILE_LIMIT)?;
-    let mut reader = TWO_BEGINS;
-    let mut writer = Narrow {
-        written: Vec::new(alloc),
-        calls_left,
-        stalls: false,
-    };
-    let ended = server.serve(&mut reader, &mut writer, u64::MAX);
-    let begun = if calls_left < 13 { 1 } else { 2 };
-    let is_next =
-        matches!(server.answer(Request::Begin), Reply::Begin(start) if start == begun + 1);
-    Ok(matches!(ended, Err(ServeFault::Write)) && is_next)
-}
-
-#[test]
-fn no_frame_is_taken_after_a_failed_write(rt: HostRuntime) -> Result<(), Fail> {
-    for calls_left in 0..26 {
-        assert!(rt; stops_at_the_write(rt.alloc(), calls_left)?);
     }
     Ok(())
 }

@@ -3,13 +3,24 @@
 ghost use Rattle.std.specs.Prelude.{None};
 
 use file_store::{FileFault, Files, MemFiles, read_whole};
+use std::alloc::Global;
 use std::test::Fail;
 
 /// Files that record which bytes are asked for.
 #[derive(Drop)]
-struct Recorder {
+pub(super) struct Recorder {
     files: MemFiles,
-    reads: Vec<(u64, u64, usize)>,
+    /// Of each read the file's name, the offset and the length of the buffer.
+    pub(super) reads: Vec<(u64, u64, usize)>,
+}
+
+impl Recorder {
+    pub(super) fn new(alloc: Global) -> Recorder {
+        Recorder {
+            files: MemFiles::new(alloc),
+            reads: Vec::new(alloc),
+        }
+    }
 }
 
 impl Files for Recorder {
@@ -46,10 +57,7 @@ impl Files for Recorder {
 /// The file 7 is read in one call, and the file 3 is not there.
 #[test]
 fn reads_a_file_once(rt: HostRuntime) -> Result<(), Fail> {
-    let mut files = Recorder {
-        files: MemFiles::new(rt.alloc()),
-        reads: Vec::new(rt.alloc()),
-    };
+    let mut files = Recorder::new(rt.alloc());
     files.put(7, b"seven")?;
     assert!(rt; read_whole(rt.alloc(), &mut files, 7)?.is_some());
     assert!(rt; read_whole(rt.alloc(), &mut files, 3)?.is_none());

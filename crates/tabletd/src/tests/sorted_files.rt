@@ -1,8 +1,9 @@
 //! Sorted files, by their bytes.
 
 use crate::FILE_LIMIT;
+use crate::tests::files::Recorder;
 use crate::tests::slow::is_file;
-use cell_key::Refusal;
+use cell_key::{CellKey, Family, Qualifier, Refusal, Row, Stamp};
 use file_store::{Files, MemFiles, read_whole};
 use sorted_file::{SortedFile, write_file};
 use std::alloc::{AllocError, Global};
@@ -139,5 +140,66 @@ fn a_slow_reader_agrees(rt: HostRuntime) -> Result<(), Fail> {
     for at in 0..99 {
         assert!(rt; agree_at(rt.alloc(), at)?);
     }
+    Ok(())
+}
+
+/// How many bytes the value has that the file of three entries has at a stamp.
+fn value_len(
+    alloc: Global,
+    file: &mut SortedFile,
+    stamp: Stamp,
+    files: &mut Recorder,
+) -> Result<Option<usize>, Refusal> {
+    let key = CellKey {
+        row: Row::new(alloc, b"a")?,
+        family: Family::new(alloc, b"bal")?,
+        qualifier: Qualifier::Data,
+        stamp,
+    };
+    match file.lookup(&key, files)? {
+        Some(Some(value)) => Ok(Some(value.len())),
+        _ => Ok(None),
+    }
+}
+
+/// What is looked up in the file of three entries, one after the other: whether the kept blocks are forgotten first, the stamp, what
+/// is read of the file 1 (an offset and a number of bytes), and the length of the value.
+const LOOK_UPS: [(bool, Stamp, &[(u64, u64, usize)], Option<usize>); 7] = [
+    (true, 3, &[(1, 8, 4096)], Some(2017)),
+    (true, 2, &[(1, 8, 4096)], Some(2017)),
+    (true, 1, &[(1, 4104, 2048)], Some(2017)),
+    (true, 4, &[], None),
+    (false, 3, &[(1, 8, 4096)], Some(2017)),
+    (false, 3, &[], Some(2017)),
+    (false, 2, &[], Some(2017)),
+];
+
+#[test]
+fn look_ups_read_one_block(rt: HostRuntime) -> Result<(), Fail> {
+    let mut files = Recorder::new(rt.alloc());
+    let mut bytes = three(rt.alloc())?;
+    files.put(1, &bytes)?;
+    let mut file = SortedFile::open(rt.alloc(), 1, &mut files)?;
+    for (forgets, stamp, reads, len) in LOOK_UPS {
+        if forgets {
+            file.drop_cache();
+        }
+        files.reads.clear();
+        assert!(rt; value_len(rt.alloc(), &mut file, stamp, &mut files)? == len);
+        assert!(rt; files.reads.as_slice() == reads);
+    }
+    // The length of the second key: a block that is read anew is no block any more.
+    if let Some(place) = bytes.get_mut(2059) {
+        *place = 0x17;
+    }
+    files.put(1, &bytes)?;
+    assert!(rt; value_len(rt.alloc(), &mut file, 3, &mut files)? == Some(2017));
+    file.drop_cache();
+    assert!(rt;
+        matches!(
+            value_len(rt.alloc(), &mut file, 3, &mut files),
+            Err(Refusal::Damaged)
+        )
+    );
     Ok(())
 }

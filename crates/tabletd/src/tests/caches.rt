@@ -1,0 +1,179 @@
+//! The places that a cluster keeps, and the emptying of its caches.
+
+ghost use Rattle.std.specs.Prelude.{IfOk};
+ghost use Rattle.cell_key.specs.Cells.{IsEditOf};
+ghost use Rattle.row_atomic.specs.Commands.{IsUnderRow};
+
+use crate::tests::memory::rows::{new_cluster, newest};
+use cell_key::{CellKey, Edit, Family, Qualifier, Refusal, Row, Stamp};
+use row_atomic::{Command, Outcome};
+use std::alloc::Global;
+use std::test::Fail;
+
+/// What a cluster is asked for. A write is that of a lock at the stamp 1, and a read looks for one in a range of stamps.
+#[derive(Clone, Copy)]
+enum Ask {
+    Write(u8, &'static [u8]),
+    Read(u8, Stamp, Stamp),
+    Minor(u32),
+    Merge(u32, u32),
+    Major(u32),
+    Split(u8),
+    Move(u32, u8),
+    Sweep,
+    DropCaches,
+}
+
+/// The edit that puts a lock of this value, of at most 65,536 bytes, at the stamp 1.
+fn lock_edit(alloc: Global, row: &Row, value: &[u8]) -> Result<Edit, Refusal>
+    ensures { IfOk result (IsEditOf row.now) }
+{
+    if value.len() > 65_536 {
+        return Err(Refusal::BadValue);
+    }
+    let key = CellKey {
+        row: row.clone()?,
+        family: Family::new(alloc, b"c")?,
+        qualifier: Qualifier::Lock,
+        stamp: 1,
+    };
+    Ok(Edit::Put(key, Vec::from_slice(alloc, value)?))
+}
+
+/// The write of a lock of this value at the stamp 1.
+fn write_of(alloc: Global, row: u8, value: &[u8]) -> Result<Command, Refusal>
+    ensures { IfOk result IsUnderRow }
+{
+    let row = Row::new(alloc, &[row])?;
+    let mut edits = Vec::new(alloc);
+    edits.push(lock_edit(alloc, &row, value)?)?;
+    Ok(Command::Apply { row, edits })
+}
+
+fn command_of(alloc: Global, ask: Ask) -> Result<Command, Refusal>
+    ensures { IfOk result IsUnderRow }
+{
+    match ask {
+        Ask::Write(row, value) => write_of(alloc, row, value),
+        Ask::Read(row, lo, hi) => Ok(Command::Newest {
+            row: Row::new(alloc, &[row])?,
+            family: Family::new(alloc, b"c")?,
+            qualifier: Qualifier::Lock,
+            lo,
+            hi,
+        }),
+        Ask::Minor(tablet) => Ok(Command::Minor { tablet }),
+        Ask::Merge(tablet, count) => Ok(Command::Merge { tablet, count }),
+        Ask::Major(tablet) => Ok(Command::Major { tablet }),
+        Ask::Split(row) => Ok(Command::Split {
+            row: Row::new(alloc, &[row])?,
+        }),
+        Ask::Move(tablet, server) => Ok(Command::Move { tablet, server }),
+        Ask::Sweep => Ok(Command::Sweep),
+        Ask::DropCaches => Ok(Command::DropCaches),
+    }
+}
+
+/// Whether an outcome is this: a left part's number, how many files were swept, a value that was found, or a refusal's number
+/// after a byte FF.
+fn is_outcome(outcome: Option<&Outcome>, wanted: &[u8]) -> bool {
+    match outcome {
+        Some(Outcome::Done) | Some(Outcome::Newest(None)) => wanted.is_empty(),
+        Some(Outcome::Newest(Some((_, value)))) => value.as_slice() == wanted,
+        Some(Outcome::Split(left)) => wanted.len() == 1 && u32::from(wanted[0]) == *left,
+        Some(Outcome::Swept(count)) => wanted.len() == 1 && u64::from(wanted[0]) == *count,
+        Some(Outcome::Refused(refusal)) => wanted == [0xFF, refusal.number()].as_slice(),
+        _ => false,
+    }
+}
+
+/// Splits, moves and raw reads, and what each of them answers.
+const ASKED: [(Ask, &[u8]); 13] = [
+    (Ask::Split(b'm'), b"\x02"),
+    (Ask::Split(b'm'), b"\xFF\x0C"),
+    (Ask::Move(3, 16), b"\xFF\x0B"),
+    (Ask::Move(2, 16), b"\xFF\x0D"),
+    (Ask::Move(2, 3), b""),
+    (Ask::Write(b'm', b"m\0\0c\0\0"), b""),
+    (Ask::Read(b'm', 0, 9), b"m\0\0c\0\0"),
+    (Ask::Read(b'm', 9, 0), b""),
+    (Ask::Major(2), b""),
+    (Ask::Read(b'm', 0, 9), b"m\0\0c\0\0"),
+    (Ask::Merge(2, 2), b"\xFF\x0E"),
+    (Ask::Split(b'n'), b"\x03"),
+    (Ask::Sweep, b"\0"),
+];
+
+/// Whether a cluster answers as it is wanted, where its caches are emptied before each request or never.
+fn answers(alloc: Global, drops: bool) -> Result<bool, Refusal> {
+    let mut cluster = new_cluster(alloc)?;
+    for (ask, wanted) in ASKED {
+        if drops {
+            cluster.drop_caches();
+        }
+        let commands = vec![in alloc; command_of(alloc, ask)?]?;
+        if !is_outcome(cluster.run(commands)?.get(0), wanted) {
+            return Ok(false);
+        }
+    }
+    Ok(true)
+}
+
+#[test]
+fn answers_need_no_cache(rt: HostRuntime) -> Result<(), Fail> {
+    assert!(rt; answers(rt.alloc(), false)?);
+    assert!(rt; answers(rt.alloc(), true)?);
+    Ok(())
+}
+
+/// What is done to a cluster, the rows that are read then, one after the other, and how many rows were found among those that
+/// were located last since the cluster was made.
+const HITS: [(Option<Ask>, &[u8], u64); 12] = [
+    (None, b"aaba", 2),
+    (Some(Ask::Split(b'm')), b"a", 2),
+    (None, b"a", 3),
+    (Some(Ask::DropCaches), b"a", 3),
+    // refused
+    (Some(Ask::Split(b'm')), b"a", 4),
+    (Some(Ask::Move(1, 16)), b"a", 5),
+    // to another server, and to the one where it is
+    (Some(Ask::Move(1, 3)), b"a", 5),
+    (Some(Ask::Move(1, 3)), b"a", 5),
+    // a write asks once, and keeps the row
+    (Some(Ask::Write(b'z', b"1")), b"z", 6),
+    // compactions and sweeps keep what was found
+    (Some(Ask::Minor(1)), b"az", 8),
+    (Some(Ask::Major(1)), b"az", 10),
+    (Some(Ask::Sweep), b"az", 12),
+];
+
+#[test]
+fn rows_are_found_again(rt: HostRuntime) -> Result<(), Fail> {
+    let mut cluster = new_cluster(rt.alloc())?;
+    for (ask, rows, hits) in HITS {
+        if let Some(ask) = ask {
+            let commands = vec![in rt.alloc(); command_of(rt.alloc(), ask)?]?;
+            let _outcomes = cluster.run(commands)?;
+        }
+        for row in rows {
+            newest(rt.alloc(), &mut cluster, *row)?;
+        }
+        assert!(rt; cluster.place_hits() == hits);
+    }
+    Ok(())
+}
+
+/// Of 129 rows that are read in turn the first is forgotten, and the last is kept.
+#[test]
+fn rows_are_kept_for_a_while(rt: HostRuntime) -> Result<(), Fail> {
+    let mut cluster = new_cluster(rt.alloc())?;
+    for row in 0..129 {
+        newest(rt.alloc(), &mut cluster, row)?;
+    }
+    newest(rt.alloc(), &mut cluster, 0)?;
+    assert!(rt; cluster.place_hits() == 0);
+    newest(rt.alloc(), &mut cluster, 128)?;
+    newest(rt.alloc(), &mut cluster, 2)?;
+    assert!(rt; cluster.place_hits() == 2);
+    Ok(())
+}
