@@ -1,3 +1,3 @@
-pub mod Deciding
+pub mod CleanerSteps
 pub mod Room
 pub mod Table

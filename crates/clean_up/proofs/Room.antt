@@ -17,7 +17,7 @@ use Rattle.si_model.specs.ShowsCells.{ShowsCells, IsThere, Touches}
 use Rattle.si_model.specs.declared.replies.CleanReply.{CleanReply}
 use Rattle.si_model.specs.declared.replies.CleanReply.TheVariants as clean
 use Rattle.si_model.specs.declared.replies.Cell.{Cell}
-use Rattle.si_model.proofs.Editing.{make_cells}
+use Rattle.si_model.proofs.EditedCells.{make_cells}
 use Rattle.si_model.proofs.ShownTouched.{touches_erased, touches_recorded}
 use Rattle.clean_up.specs.Fates.{HasBadRecord, verdict_of}
 use Rattle.clean_up.specs.Room.{ChangesNext, ChangesOf, Does, EditsIn, EditsOf, Makes, TakesRoom}

@@ -6,9 +6,6 @@ use Rattle.std.specs.Cmp.{nat_cmp_total}
 use Rattle.std.specs.Map.{lookup}
 use Rattle.std.specs.BTreeMap as btree
 use Rattle.std.specs.FinMap as finmap
-use Rattle.std.specs.declared.result.Result.{Result}
-use Rattle.std.specs.declared.result.Result.TheVariants.{Ok, Err}
-use Rattle.std.specs.Result.{IsErrAnd, IsErrOf}
 use Rattle.std.proofs.lemmas.Bool.{cases_eq}
 use Rattle.std.proofs.lemmas.Option.{none-some, same_Some}
 use Rattle.cell_key.specs.Cells.{Cells}
@@ -21,7 +18,7 @@ use Rattle.row_atomic.specs.Refusals.{IsReadRefusal}
 use Rattle.si_model.specs.Deciding.{CleanersKnow}
 use Rattle.si_model.specs.Laws.{IsWritable}
 use Rattle.si_model.specs.Machine as machine
-use Rattle.si_model.specs.Machine.{State, Request, Reply, Step, accepts, refuses, tells, IsReached, IsStorageRefusal, Marked, Refused, end_of_stamps}
+use Rattle.si_model.specs.Machine.{State, Request, Step, accepts, refuses, tells, IsReached, IsStorageRefusal, Marked, Refused}
 use Rattle.si_model.specs.Reads.{IsNameRefusal, IsClear}
 use Rattle.si_model.specs.Refusing.Refuses.{gives_up}
 use Rattle.si_model.specs.Replies.{clean_reply}
@@ -30,10 +27,10 @@ use Rattle.si_model.specs.declared.replies.Cell.{Cell}
 use Rattle.si_model.specs.declared.replies.CleanReply.{CleanReply}
 use Rattle.si_model.proofs.Acceptable.{clean_begin_ok}
 use Rattle.si_model.proofs.Bounds.{reached_bounds}
-use Rattle.si_model.proofs.Deciding.{cleaners_know}
+use Rattle.si_model.proofs.CleanerFates.{cleaners_know}
 use Rattle.si_model.proofs.FirstRefusals.{clean_row_first, clean_family_first, clean_full_first, clean_unknown_first}
 use Rattle.si_model.proofs.Goes.{goes}
-use Rattle.si_model.proofs.Leaving.{leaves_others}
+use Rattle.si_model.proofs.ChangedParts.{leaves_others}
 use Rattle.si_model.proofs.Limits.{writes_within_limits}
 use Rattle.si_model.proofs.Numbers.{reached_numbers}
 use Rattle.si_model.proofs.ShownKept.{shows_beside}
@@ -161,11 +158,6 @@ pub with_none : (m n : ℕ) → m ≡ n → m + 0 ≡ n
 with_none m n e = omega arith
 
 -- ---- refusals
-
--- a call's error is that of the `?`
-pub as_err : {T E : Type 0} (r : Result T E) (e : E) → IsErrAnd r (λ f. f ≡ e) → r ≡ Err e
-as_err (Ok x) e h = absurd h
-as_err (Err f) e h = ap Err h
 
 pub refused_storage : {st : State} {q : Request} {n : Refusal} → IsStorageRefusal n → Step st q (Refused n) st
 refused_storage s = refuses (gives_up s)
@@ -305,15 +297,6 @@ shows_new cleaners st next none empty = record {
   each = λ i. subst (λ es. ShowsAt (lookup (btree.is_at (nat_cmp i)) es) i st) (sym empty) (ap (λ m. finmap.get m i) none ∙ finmap.get-empty nat_cmp i);
   count = ap (λ m. finmap.len m) none ∙ (finmap.len-empty nat_cmp machine.Cleaner ∙ ap (λ es. length es) (sym empty));
 }
-
--- ---- what is told where a call that failed is passed on
-
-pub same_refusal : {B : Type 0} (r : Result B Refusal) (e n : Refusal) → IsErrAnd r (λ f. f ≡ e) → IsErrOf r n → e ≡ n
-same_refusal (Ok x) e n by is = absurd by
-same_refusal (Err f) e n by is = let same : f ≡ n = cc in sym by ∙ same
-
-pub passed_on : {A B : Type 0} (r : Result B Refusal) (e n : Refusal) → IsErrAnd r (λ f. f ≡ e) → IsErrOf r n → IsErrOf {T = A} (Err e) n
-passed_on r e n by is = ap (λ (f : Refusal). Err f) (same_refusal r e n by is)
 
 -- a cleaner that is as it was, in cleaners that are as they were
 pub same_lent : (old new : Cleaners) (i : ℕ) (cleaner w : Cleaner) → btree.get nat_cmp old.cleaners i ≡ Some cleaner → w ≡ cleaner → new.next ≡ old.next

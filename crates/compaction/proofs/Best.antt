@@ -14,8 +14,9 @@ use Rattle.cell_key.specs.Keys.{byte_cmp}
 use Rattle.cell_key.specs.Entries.{Entry}
 use Rattle.compaction.specs.Least.{IsAbove, IsNotBelow, IsLeast, entry_at}
 use Rattle.compaction.specs.Ties.{comes_first}
-use Rattle.compaction.specs.OrderLaws.{total, same_key}
-use Rattle.compaction.specs.HeadLaws.{not_below, none_lent}
+use Rattle.cell_key.proofs.EntryLists.{total}
+use Rattle.cell_key.proofs.TextPlaces.{one_text as same_key}
+use Rattle.compaction.specs.Heads.{not_below, none_lent}
 
 le_trans : (x y z : List ℕ) → T (is_le (byte_cmp x y)) → T (is_le (byte_cmp y z)) → T (is_le (byte_cmp x z))
 le_trans x y z p q =

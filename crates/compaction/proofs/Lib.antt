@@ -1,9 +1,8 @@
 pub mod Best
-pub mod Ending
+pub mod EndedSources
 pub mod Falls
 pub mod Fresh
-pub mod Keeping
-pub mod Passed
+pub mod KeptSources
 pub mod Ranges
 pub mod Tied
 pub mod Turns

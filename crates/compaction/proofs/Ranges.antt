@@ -5,8 +5,8 @@ use Rattle.std.specs.Ordering.{is_le, eq_by_cmp}
 use Rattle.std.specs.FinMap.Entries.{same_entries}
 use Rattle.cell_key.specs.Keys.{byte_cmp}
 use Rattle.cell_key.specs.Entries.{Entry, entries_from, merged, entry_of_key, first_naming, or_else, MergesLists}
-use Rattle.compaction.specs.FilterLaws.{rising-filter}
-use Rattle.compaction.specs.OrderLaws.{equal, same_key, total}
+use Rattle.cell_key.proofs.EntryLists.{rising-filter, total}
+use Rattle.cell_key.proofs.TextPlaces.{equal, one_text as same_key}
 use Rattle.compaction.specs.Ends.{is_below, entries_until, MergesRanges}
 
 module _ (test : List ℕ → Bool) where

@@ -55,9 +55,6 @@ go_on {S} {F} {contents} {faults} {price} {bonus} {before} {step} {start} {files
 pub front_set : {S : Type 0} (ys : List S) (i : ℕ) (t : S) → i < length ys → take (i + 1) (set ys i t) ≡ take i ys ++ t ∷ []
 front_set ys i t l = rw add-one (take-suc-set ys i t l)
 
-pub front_same : {S : Type 0} (ys : List S) (i : ℕ) (s : S) → i < length ys → s ≡ get_or ys i s → take (i + 1) ys ≡ take i ys ++ s ∷ []
-front_same ys i s l e = one_more ys i s l e
-
 pub rest_set : {S : Type 0} (ys : List S) (i : ℕ) (t : S) → drop (i + 1) (set ys i t) ≡ drop (i + 1) ys
 rest_set ys i t = drop-set-lt (i + 1) ys i t (omega arith)
 

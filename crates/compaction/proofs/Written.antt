@@ -5,9 +5,8 @@ use Rattle.std.specs.Ordering.{eq_by_cmp}
 use Rattle.std.specs.FinMap.Entries.{below_all, same_entries}
 use Rattle.cell_key.specs.Keys.{byte_cmp}
 use Rattle.cell_key.specs.Entries.{Entry, IsRising, merged, entry_of_key, or_else, value_of, MergesLists}
-use Rattle.compaction.specs.FilterLaws.{filter-list, first, second}
-use Rattle.compaction.specs.OrderLaws.{equal, same_key, total, merged_list}
-use Rattle.compaction.specs.HeadLaws.{find_below}
+use Rattle.cell_key.proofs.EntryLists.{filter-list, total, merged_list}
+use Rattle.cell_key.proofs.TextPlaces.{first, second, equal, one_text as same_key, find_below}
 use Rattle.compaction.specs.Writing.{is_kept, kept, WritesEntryLists, KeepsOneList, NamesFirst}
 
 pub writes_entry_lists : WritesEntryLists

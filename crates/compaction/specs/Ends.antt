@@ -7,7 +7,7 @@ use Rattle.cell_key.specs.Keys.{byte_cmp}
 use Rattle.cell_key.specs.Entries.{Entry, IsEntryList, entries_from, merged}
 use Rattle.sorted_file.specs.Sources.{pending}
 use Rattle.compaction.specs.declared.until.Until.{Until}
-use Rattle.compaction.specs.FilterLaws.{filter-list, rest-list}
+use Rattle.cell_key.proofs.EntryLists.{filter-list, rest-list}
 
 -- the source that a prefix is of, and the text that it ends before
 abbrev pub source_of : {S : Type 0} → Until S → S
@@ -46,7 +46,11 @@ pub until_list : (end : Option (List ℕ)) (lent : Option Entry) (es : List Entr
     → IsEntryList (pending (lent_until end lent) (entries_until end es))
 until_list end None es h = filter-list (λ entry. is_below end entry.0) es h
 until_list end (Some entry) es h =
-    elim (is_below end entry.0) as (λ b. is_below end entry.0 ≡ b → IsEntryList (pending (cond b (Some entry) None) (entries_until end es))) [
-      | true ↦ λ t. subst (λ b. IsEntryList (cond b (entry ∷ entries_until end es) (entries_until end es))) t (filter-list (λ entry. is_below end entry.0) (entry ∷ es) h)
-      | false ↦ λ _. filter-list (λ entry. is_below end entry.0) es (rest-list entry es h)
+    let below = λ (e : Entry). is_below end e.0 in
+    elim (is_below end entry.0) as (λ b. is_below end entry.0 ≡ b
+    → IsEntryList (pending (cond b (Some entry) None) (entries_until end es))) [
+      | true ↦ λ is. subst
+          (λ b. IsEntryList (cond b (entry ∷ entries_until end es) (entries_until end es)))
+          is (filter-list below (entry ∷ es) h)
+      | false ↦ λ _. filter-list below es (rest-list entry es h)
     ] refl

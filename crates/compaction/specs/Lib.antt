@@ -1,12 +1,11 @@
-pub mod FilterLaws
 pub mod Inputs
 pub mod Ends
 pub mod Least
 pub mod Merging
+pub mod Past
+pub mod Heads
+pub mod MergeSteps
 pub mod Ties
-pub mod OrderLaws
-pub mod HeadLaws
-pub mod MergeLaws
 pub mod Writing
 pub use Rattle.cell_key.specs.Entries
 pub use Rattle.file_store.specs.Store

@@ -4,7 +4,7 @@ use Rattle.std.specs.Prelude.{ℕ, List, [], ◌∷◌, filter, Option, Some, No
 use Rattle.std.specs.List.{AllByRecursion}
 use Rattle.cell_key.specs.Entries.{Entry, IsEntryList, merged, entry_of_key, first_naming, value_of}
 use Rattle.sorted_file.specs.Sources.{pending}
-use Rattle.compaction.specs.FilterLaws.{filter-list, front-list}
+use Rattle.cell_key.proofs.EntryLists.{filter-list, front-list}
 
 -- whether an entry is kept: a value always, and an erasure where erasures are kept
 abbrev pub is_kept : Bool → Entry → Bool

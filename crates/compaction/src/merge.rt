@@ -189,7 +189,7 @@ impl<S> Merge<S> {
 impl<F: Files, S: Source<F>> Source<F> for Merge<S> {
     ghost use Rattle.std.specs.Prelude.{sum_by};
     ghost use Rattle.compaction.specs.Merging.{lent_at, merge_remaining, MergeHolds, cost};
-    ghost use Rattle.compaction.specs.MergeLaws.{merge_list};
+    ghost use Rattle.compaction.specs.MergeSteps.{merge_list};
 
     ghost holds = { λ told s.
         MergeHolds S.lent (S.remaining told) (S.holds told) s.sources.items s.at };

@@ -8,7 +8,7 @@ use Rattle.std.specs.Cmp.Lexicographic.{nat_list_cmp_total}
 use Rattle.std.specs.FinMap.Entries.{put, find, below_all}
 use Rattle.cell_key.specs.Keys.{byte_cmp}
 use Rattle.cell_key.specs.Entries.{Entry, IsRising, entry_of_key, entries_from}
-use Rattle.cell_key.proofs.Finding.{first, second, less, clash, find_lower, from_place}
+use Rattle.cell_key.proofs.TextPlaces.{first, second, less, clash, find_lower, from_place}
 use Rattle.memtable.specs.Blocks.{ends_below, IsBlockPlace}
 
 both : (a b : Bool) → T a → T b → T (a && b)

@@ -10,7 +10,7 @@ use Rattle.cell_key.specs.Keys.{byte_cmp}
 use Rattle.cell_key.specs.Entries.{Entry, IsRising, IsEntry, or_else, entry_of_key, entry_len}
 use Rattle.memtable.specs.Edits.{bytes_of}
 use Rattle.memtable.specs.Slots.{one_value, over, value_count}
-use Rattle.cell_key.proofs.Finding.{one_text, find_below, find_lower, first, second}
+use Rattle.cell_key.proofs.TextPlaces.{one_text, find_below, find_lower, first, second}
 
 pub over_rising : (es base : List Entry) → IsRising base → IsRising (over es base)
 over_rising [] base r = r

@@ -19,7 +19,7 @@ use Rattle.cell_key.specs.declared.keys.CellKey.{CellKey}
 use Rattle.cell_key.specs.declared.keys.Qualifier.{Qualifier}
 use Rattle.cell_key.proofs.Order.{text_order, text_exact, plain_key}
 use Rattle.cell_key.proofs.EntryLaws.{get-cells_of, no_cell, stored_key}
-use Rattle.cell_key.proofs.Finding.{equal, find_below, find_lower, first, one_text, second}
+use Rattle.cell_key.proofs.TextPlaces.{equal, find_below, find_lower, first, one_text, second}
 use Rattle.memtable.specs.Slots.{first_value}
 
 -- ---- the first value from a text on

@@ -1,5 +1,5 @@
 -- The byte order of lists by their fronts.
-use Rattle.std.proofs.Common.{◌≡◌, ℕ, Bool, true, false, ◌&&◌, ◌||◌, ◌==◌, cond, List, [], ◌∷◌, ◌++◌, length, take, drop, nat_eq, refl, ap, ◌∙◌, arith, append_assoc}
+use Rattle.std.proofs.Common.{◌≡◌, ℕ, Bool, true, false, ◌&&◌, ◌||◌, ◌==◌, cond, List, [], ◌∷◌, ◌++◌, length, take, drop, nat_eq, refl, ap, ◌∙◌, arith}
 use Rattle.std.specs.declared.cmp.Ordering.{Ordering}
 use Rattle.std.specs.declared.cmp.Ordering.TheVariants.{Less, Equal, Greater}
 use Rattle.std.specs.Ordering.{nat_cmp, ordering_then}
@@ -41,16 +41,6 @@ differs (x ∷ part) (y ∷ bytes) e tail = go (λ h. differs part bytes h tail)
     go : (pointwise nat_eq (take (length part) bytes) part ≡ false → byte_cmp (part ++ tail) bytes ≡ byte_cmp part bytes) → (b : Bool) → nat_eq y x ≡ b → (b && pointwise nat_eq (take (length part) bytes) part) ≡ false → ordering_then (nat_cmp x y) (byte_cmp (part ++ tail) bytes) ≡ ordering_then (nat_cmp x y) (byte_cmp part bytes)
     go h true t d = ap (ordering_then (nat_cmp x y)) (h d)
     go h false t d = apart (nat_cmp x y) refl t
-
--- one part after the other
-pub both_parts : (a b bytes mid rest : List ℕ) → ComparesAs a bytes mid → ComparesAs b mid rest → ComparesAs (a ++ b) bytes rest
-both_parts a b bytes mid rest h k tail = ap (λ (t : List ℕ). byte_cmp t bytes) (append_assoc a b tail) ∙ h (b ++ tail) ∙ k tail
-
-pub first_decides : (a b bytes : List ℕ) (o : Ordering) → ComparesTo a bytes o → ComparesTo (a ++ b) bytes o
-first_decides a b bytes o h tail = ap (λ (t : List ℕ). byte_cmp t bytes) (append_assoc a b tail) ∙ h (b ++ tail)
-
-pub second_decides : (a b bytes mid : List ℕ) (o : Ordering) → ComparesAs a bytes mid → ComparesTo b mid o → ComparesTo (a ++ b) bytes o
-second_decides a b bytes mid o h k tail = ap (λ (t : List ℕ). byte_cmp t bytes) (append_assoc a b tail) ∙ h (b ++ tail) ∙ k tail
 
 -- ---- a row without a byte 0 is written as it is
 

@@ -7,7 +7,7 @@ use Rattle.std.specs.Ordering.{is_eq}
 use Rattle.std.specs.FinMap.Entries.{put, by_order, find}
 use Rattle.cell_key.specs.Keys.{byte_cmp}
 use Rattle.cell_key.specs.Entries.{Entry, IsPlace, IsRising, entry_of_key}
-use Rattle.cell_key.proofs.Finding.{clash, equal, find_lower, one_text, second}
+use Rattle.cell_key.proofs.TextPlaces.{clash, equal, find_lower, one_text, second}
 use Rattle.memtable.specs.Slots.{is_named}
 
 module _ {X : Type 0} (f : X → Entry) (name : List ℕ) where

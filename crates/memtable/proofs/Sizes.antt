@@ -113,9 +113,6 @@ over_bytes (e ∷ es) base r all =
 
 -- ---- what a memtable keeps
 
-pub within_limits : (es : List Entry) (size : Size) → IsSizeOf size es → size.entries ≤ 100000 → size.bytes ≤ 67108864 → IsWithinLimits es
-within_limits es size is few small = record { entries = let e = is.entries in omega (arith, e); bytes = let b = is.bytes in omega (arith, b) }
-
 pub kept : (blocks : Blocks) (staged base : List Entry) (size : Size) → block_entries blocks.filled.items ≡ over staged base → IsEntryList base → AllByRecursion IsEntry staged → IsSizeOf size (over staged base) → IsWithinLimits (over staged base) → AreBlocks blocks → IsKept blocks size.entries size.bytes
 kept blocks staged base size made list limits is within are =
     record {

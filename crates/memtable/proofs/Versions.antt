@@ -7,7 +7,7 @@ use Rattle.std.specs.Cmp.{tied_itself}
 use Rattle.std.specs.Cmp.Lexicographic.{nat_list_cmp_total}
 use Rattle.cell_key.specs.Keys.{byte_cmp, qualifier_name, text}
 use Rattle.cell_key.specs.Texts.{escaped, ended, stamp_text}
-use Rattle.cell_key.proofs.Finding.{one_text}
+use Rattle.cell_key.proofs.TextPlaces.{one_text}
 use Rattle.memtable.specs.Order.{ComparesAs, ComparesTo, at_stamp, column_text, key_of}
 use Rattle.memtable.specs.declared.order.Version.{Version}
 

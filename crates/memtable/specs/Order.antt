@@ -17,7 +17,8 @@ ComparesTo part bytes order = (tail : List ℕ) → byte_cmp (part ++ tail) byte
 
 -- what the text of a key has before its stamp
 abbrev pub column_text : CellKey → List ℕ
-column_text key = ended (escaped key.row) ++ (ended key.family ++ ended (qualifier_name key.qualifier))
+column_text key =
+    ended (escaped key.row) ++ (ended key.family ++ ended (qualifier_name key.qualifier))
 
 -- the key of a version, and that of the same column at another stamp
 abbrev pub at_stamp : Version → ℕ → CellKey

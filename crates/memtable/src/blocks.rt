@@ -240,7 +240,8 @@ fn put_in(block: &mut Block, slot: Box<Slot>) -> Option<u128>
     requires few { vec_len block.old.slots < 128 }
     requires counted { IsCounted block.old }
     ensures entries { list_of block.new
-        ≡ put_entry byte_cmp (slot_entry slot.value).0 (slot_entry slot.value).1 (list_of block.old) }
+        ≡ put_entry byte_cmp (slot_entry slot.value).0 (slot_entry slot.value).1
+        (list_of block.old) }
     ensures replaced { result ≡ stood_bytes (slot_entry slot.value).0
         (entry_of_key (list_of block.old) (slot_entry slot.value).0) }
     ensures some { 1 ≤ vec_len block.new.slots }

@@ -133,10 +133,6 @@ named_at n (p ∷ ps) (suc i) d lt t = named_at n ps i d (omega arith) t
 abbrev pub is_tablet : ℕ → Place → Bool
 is_tablet n place = eqb place.tablet n
 
-flipped : (b : Bool) → not b ≡ true → b ≡ false
-flipped true e = cc
-flipped false e = refl
-
 none_named : (n : ℕ) (ps : List Place) → length ps ≤ position_or_len (is_tablet n) ps → (p : PlaceView) → Contains (views ps) p → p.tablet ≡ n → ⊥
 none_named n [] le p c e = contains_none p c
 none_named n (q ∷ ps) le p c e = go (λ h k. none_named n ps h p k e) (eqb q.tablet n) refl

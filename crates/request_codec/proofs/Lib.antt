@@ -1,7 +1,7 @@
+mod Cuts
 mod Fields
-mod Names
-mod Cutting
-mod OneRequest
-mod OneReply
+mod FirstFrames
 mod Longest
-mod Handing
+mod Names
+mod OneReply
+mod OneRequest

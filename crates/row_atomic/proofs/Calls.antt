@@ -12,9 +12,9 @@ use Rattle.tablet.specs.declared.tablet.Tablet.{Tablet}
 use Rattle.row_atomic.specs.Calls.{Applies, AppliesSuch, KeepsBelow, OnlyReads}
 use Rattle.row_atomic.specs.Clusters.{ClusterState, InOrder, Overfills, Storage, cells_in, storage_of}
 use Rattle.row_atomic.specs.Refusals.{IsReadRefusal, IsRefusalOfRead}
-use Rattle.row_atomic.proofs.Answering.{read_kept, read_still, same_cells_in, still_in_order}
+use Rattle.row_atomic.proofs.RowAnswers.{read_kept, read_still}
 use Rattle.row_atomic.proofs.CompactionRoom.{room_same}
-use Rattle.row_atomic.proofs.Placing.{set_same}
+use Rattle.row_atomic.proofs.PlacedTablets.{set_same}
 
 module _ {R : Type 0} {holds : R → Type 0} {storage : R → Storage} where
   pub keeps_then : {a b c : R} → KeepsBelow holds storage a b → KeepsBelow holds storage b c → KeepsBelow holds storage a c
@@ -103,15 +103,6 @@ module _ {F : Type 0} (contents : F → Option Contents) (state : ClusterState F
 
   abbrev with_tablet : ℕ → Tablet → ClusterState F
   with_tablet i u = record state { tablets = set state.tablets i u }
-
-  -- a read of the files that leaves what they tell
-  pub files_read : (files : F) → contents files ≡ contents state.files → OnlyReads IsOrdered cells_shown IsOver (storage_of contents) state (record state { files = files })
-  files_read files same = record {
-    still = λ order. still_in_order (contents state.files) (contents files) state.next_name state.tablets same order;
-    kept = λ order. same_cells_in (contents state.files) (contents files) state.tablets same;
-    room = λ row later full. full;
-    stays = λ i. record { told = same i; file_limit = state.file_limit; next_name = state.next_name; places = state.places };
-  }
 
   -- a tablet that is as it was
   pub same_tablet : (i : ℕ) (t u : Tablet) → slice_get state.tablets i ≡ Some t → u ≡ t → OnlyReads IsOrdered cells_shown IsOver (storage_of contents) state (with_tablet i u)

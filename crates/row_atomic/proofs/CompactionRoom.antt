@@ -17,8 +17,8 @@ use Rattle.tablet.specs.declared.ranges.RowRange.{RowRange}
 use Rattle.tablet.specs.declared.tablet.Tablet.{Tablet}
 use Rattle.row_atomic.specs.Clusters.{HasTabletAt, Overfills, edits_in, tablet_numbered}
 use Rattle.row_atomic.specs.Changes.{ComesOfWriting, IsFull, Numbered, OfHolder}
-use Rattle.row_atomic.proofs.Changing.{numbered_at}
-use Rattle.row_atomic.proofs.Splitting.{one_holder}
+use Rattle.row_atomic.proofs.ChangedTablets.{numbered_at}
+use Rattle.row_atomic.proofs.SplitClusters.{one_holder}
 
 -- a file of no entries is a head and a foot
 empty_fits : (limit : ℕ) → 32 ≤ limit → FitsIn limit []

@@ -12,7 +12,7 @@ use Rattle.tablet.specs.Ranges.{seen}
 use Rattle.tablet.specs.Views.{Holds, IsBelow, range_of, memory_of, files_of, lists_of, view_of, cells_at}
 use Rattle.tablet.specs.declared.tablet.Tablet.{Tablet}
 use Rattle.row_atomic.specs.Clusters.{InOrder, IsMatched, cells_in, joined}
-use Rattle.row_atomic.proofs.Naming.{no_files}
+use Rattle.row_atomic.proofs.FileNames.{no_files}
 
 nil_of_length : {A : Type 0} (xs : List A) → length xs ≡ 0 → xs ≡ []
 nil_of_length [] e = refl

@@ -13,13 +13,13 @@ use Rattle.tablet.specs.Laws.{FilesAreThere, SameCells}
 use Rattle.tablet.specs.Views.{Holds as HoldsAt, IsBelow, cells_at}
 use Rattle.tablet.specs.declared.tablet.Tablet.{Tablet}
 use Rattle.row_atomic.specs.Changes.{Holds, IsEmptied}
-use Rattle.row_atomic.specs.Clusters.{ArePlaced, ClusterState, IsMatched, cells_in, joined, tablet_numbered}
+use Rattle.row_atomic.specs.Clusters.{ArePlaced, ClusterState, cells_in, joined, tablet_numbered}
 use Rattle.row_atomic.specs.Roots.{AreOpened, KeepsCells, root_at, root_name}
-use Rattle.row_atomic.specs.RootsOpened.{AreLoaded, FindsRoot, IsDamaged, IsNewStore, IsStore, LacksFile, Reopens, no_file, no_root}
-use Rattle.row_atomic.proofs.Listing.{same_lists}
+use Rattle.row_atomic.specs.RootsOpened.{AreLoaded, FindsRoot, IsDamaged, IsStore, LacksFile, Reopens, no_file, no_root}
+use Rattle.row_atomic.proofs.ListedFiles.{same_lists}
 use Rattle.row_atomic.proofs.Owners.{each_placed}
 use Rattle.row_atomic.proofs.Shares.{each_at, each_map}
-use Rattle.row_atomic.proofs.Sweeping.{each_of}
+use Rattle.row_atomic.proofs.Sweeps.{each_of}
 
 -- ---- damage
 
@@ -131,17 +131,6 @@ below_all next ts before (p ∷ ps) placed files = (
 )
 
 module _ {F : Type 0} (contents : F → Option Contents) (top floor : ℕ) (state : ClusterState F) (sound : IsSound (root_at top floor state)) (loaded : AreLoaded state.places state.tablets) where
-  pub matched_of : 32 ≤ state.file_limit → state.file_limit ≤ 1_073_741_824 → IsMatched state.file_limit state.next_name state.places state.tablets
-  matched_of least most = record {
-    least = least;
-    most = most;
-    named_from = sound.naming.from;
-    named_to = sound.naming.to;
-    placed = loaded.placed;
-    as_many = loaded.as_many;
-    files = sound.naming.files;
-  }
-
   each_below : AllByRecursion (IsBelow state.next_name) state.tablets
   each_below = each_of (IsBelow state.next_name) state.tablets (λ j t e.
       let found = each_placed (λ p. (u : Tablet) × ((tablet_numbered p.tablet state.tablets ≡ Some u) × IsBelow state.next_name u)) state.tablets state.places sound.table loaded.as_many (below_all state.next_name state.tablets None state.places loaded.placed sound.naming.files) j t e in
@@ -159,14 +148,6 @@ module _ {F : Type 0} (contents : F → Option Contents) (top floor : ℕ) (stat
       go : (found : Option (List ℕ)) → FindsRoot found (Some (root_at top floor state)) → IsStore m found top floor state
       go None finds = absurd finds
       go (Some image) finds = record { form = finds; opened = record { placed = loaded.placed; as_many = loaded.as_many; emptied = loaded.emptied; each_open = each } }
-
-pub new_of : {F : Type 0} (told : Option Contents) (state : ClusterState F) → IfSome told (λ m. FindsRoot (get m root_name) None) → IsNewStore 0 0 state → IfSome told (λ m. IsStore m (get m root_name) 0 0 state)
-new_of None state finds new = tt
-new_of (Some m) state finds new = go (get m root_name) finds
-  where
-    go : (found : Option (List ℕ)) → FindsRoot found None → IsStore m found 0 0 state
-    go None finds = new
-    go (Some image) finds = absurd finds
 
 -- ---- files that keep cells
 

@@ -24,11 +24,11 @@ use Rattle.row_atomic.specs.declared.commands.Command.{Command}
 use Rattle.row_atomic.specs.declared.commands.Command.TheVariants as command
 use Rattle.row_atomic.specs.declared.commands.Outcome.{Outcome}
 use Rattle.row_atomic.specs.declared.commands.Outcome.TheVariants.{Done, Refused, Split, Swept}
-use Rattle.row_atomic.proofs.Passing.{IsUnknown, below_only, read_move, read_split, unknown_move, unknown_only, unknown_unwritten, want_compacts}
-use Rattle.row_atomic.proofs.Changing.{contained}
-use Rattle.row_atomic.proofs.Listing.{same_lists, stored_lists}
+use Rattle.row_atomic.proofs.PassedRefusals.{IsUnknown, below_only, read_move, read_split, unknown_move, unknown_only, unknown_unwritten, want_compacts}
+use Rattle.row_atomic.proofs.ChangedTablets.{contained}
+use Rattle.row_atomic.proofs.ListedFiles.{same_lists, stored_lists}
 use Rattle.row_atomic.proofs.CompactionRoom.{holder_not, holder_that}
-use Rattle.row_atomic.proofs.Splitting.{holder_known}
+use Rattle.row_atomic.proofs.SplitClusters.{holder_known}
 
 -- ---- refusals
 

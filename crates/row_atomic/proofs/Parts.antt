@@ -24,7 +24,7 @@ use Rattle.row_atomic.specs.Clusters.{tablet_numbered, joined, cells_in, ArePlac
 use Rattle.row_atomic.proofs.Owners.{OwnsRow, index_of, holder_owns}
 use Rattle.row_atomic.proofs.Joined.{get_joined, get_joined_none, joined_nowhere, joined_set}
 use Rattle.row_atomic.proofs.Shares.{each_at, cells_of_row, set_elsewhere, set_there, map_set}
-use Rattle.row_atomic.proofs.Placing.{is_placed, set_same}
+use Rattle.row_atomic.proofs.PlacedTablets.{is_placed, set_same}
 
 -- ---- each row has a holder
 

@@ -12,7 +12,7 @@ use Rattle.tablet.specs.declared.tablet.Tablet.{Tablet}
 use Rattle.row_atomic.specs.Clusters.{tablet_numbered, cells_in, IsPlaced, ArePlaced, PrecedesCell}
 use Rattle.row_atomic.proofs.Owners.{same_tablet}
 use Rattle.row_atomic.proofs.Nexts.{NoneAfter, found_next, none_next, none_after_end}
-use Rattle.row_atomic.proofs.Placing.{is_placed}
+use Rattle.row_atomic.proofs.PlacedTablets.{is_placed}
 use Rattle.row_atomic.proofs.Shares.{each_at}
 
 below_next : {A : Type 0} (x : A) (xs : List A) (i : ℕ) → suc i < length (x ∷ xs) → i < length xs

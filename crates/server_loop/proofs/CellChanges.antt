@@ -12,7 +12,7 @@ use Rattle.si_model.specs.declared.replies.CleanReply.{CleanReply}
 use Rattle.si_model.specs.declared.replies.CleanReply.TheVariants as cleans
 use Rattle.si_model.specs.declared.replies.Progress.{Progress}
 use Rattle.si_model.specs.declared.replies.Progress.TheVariants as steps
-use Rattle.si_model.proofs.Editing.{make_cells}
+use Rattle.si_model.proofs.EditedCells.{make_cells}
 use Rattle.si_model.proofs.Steps.{reached_sound}
 use Rattle.txn_client.specs.Room as sessions
 use Rattle.txn_client.proofs.Room.{holding_makes}

@@ -5,7 +5,7 @@ use Rattle.row_atomic.specs.Changes.{Holds}
 use Rattle.row_atomic.specs.Clusters.{Spot, Storage, cells_in, spot_of, storage_of}
 use Rattle.si_model.specs.Collection.{ChangesCells}
 use Rattle.si_model.specs.Kinds.{OfCleaners, kind_of}
-use Rattle.si_model.proofs.Leaving.{leaves_others}
+use Rattle.si_model.proofs.ChangedParts.{leaves_others}
 use Rattle.si_model.specs.Machine.{State, Request, Reply, Refused, IsReached}
 use Rattle.cell_key.specs.declared.refusals.Refusal.{Refusal}
 use Rattle.cell_key.specs.declared.refusals.Refusal.TheVariants.{Damaged}

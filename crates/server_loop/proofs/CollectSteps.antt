@@ -11,7 +11,7 @@ use Rattle.si_model.specs.Replies.{collect_reply}
 use Rattle.si_model.specs.ShowsCells.{ShowsCells}
 use Rattle.si_model.specs.declared.replies.CollectReply.{CollectReply}
 use Rattle.si_model.specs.declared.replies.CollectReply.TheVariants as collects
-use Rattle.si_model.proofs.Leaving.{leaves_others}
+use Rattle.si_model.proofs.ChangedParts.{leaves_others}
 use Rattle.request_codec.specs.declared.replies.Reply.TheVariants as kept
 use Rattle.version_collector.specs.Shows.{ShowsCollectors}
 use Rattle.server_loop.specs.declared.server.Server.{Server}

@@ -5,7 +5,7 @@ use Rattle.si_model.specs.Collection.{ChangesCells}
 use Rattle.si_model.specs.Kinds.{Kind, OfCleaners, OfCollectors, OfPlaces, OfSessions, kind_of}
 use Rattle.si_model.specs.Machine.{State, Request, Reply, IsReached, Step}
 use Rattle.si_model.specs.ShowsCells.{ShowsCells}
-use Rattle.si_model.proofs.Leaving.{leaves_others}
+use Rattle.si_model.proofs.ChangedParts.{leaves_others}
 use Rattle.txn_client.specs.Shows.{ShowsClients}
 use Rattle.txn_client.specs.declared.clients.Clients.{Clients}
 use Rattle.txn_client.proofs.Table.{shows_along}

@@ -181,7 +181,8 @@ fn serve_read<A: Answering, R: Read, W: Write>(
     requires partial { IsPartial framer.old }
     ensures reads { ReadsOn A.shows A.says A.between result framer.old framer.new server.old
         server.new
-        (R.remaining reader.old) (R.remaining reader.new) (W.contents writer.old) (W.contents writer.new) reads_left.old reads_left.new }
+        (R.remaining reader.old) (R.remaining reader.new) (W.contents writer.old)
+        (W.contents writer.new) reads_left.old reads_left.new }
     ensures piece { length piece.new ≡ length piece.old }
     ensures room { vec_capacity out.old ≤ vec_capacity out.new }
 {

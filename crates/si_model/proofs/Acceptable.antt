@@ -4,13 +4,12 @@ use Rattle.std.specs.Ordering.{nat_cmp}
 use Rattle.std.specs.FinMap.{FinMap, get, len}
 use Rattle.std.proofs.lemmas.Option.{none-some}
 use Rattle.cell_key.specs.Names.{IsRow, IsFamily}
-use Rattle.cell_key.specs.declared.keys.Qualifier.{Qualifier}
 use Rattle.cell_key.specs.declared.refusals.Refusal.TheVariants.{UnknownSession, WrongPhase}
 use Rattle.si_model.specs.declared.replies.Cell.{Cell}
 use Rattle.si_model.specs.Machine.{State, Value, Writes, Phase, Open, Holding, Stamped, Finishing, Cleaner, InPhase, Wrote, Names, Marked, HasTablet, IsEnd, IsAcceptable}
 use Rattle.si_model.specs.Machine.{most_sessions, most_cleaners, most_collectors, most_tablets, most_servers, most_writes, most_value, most_visits}
-use Rattle.si_model.specs.Machine.{Begin, Get, Set, Advance, Stop, CleanBegin, CleanStep, CollectBegin, CollectStep, Minor, Merge, Major, Split, Move, Sweep, OracleRestart, Raw, Checkpoint}
-use Rattle.si_model.specs.Refusing.{begin_full, get_unknown, get_late, get_row, get_family, set_unknown, set_late, set_row, set_family, set_long, set_full, advance_unknown, advance_empty, stop_unknown, clean_row, clean_family, clean_full, clean_unknown, collect_full, collect_unknown, collect_none, collect_many, minor_unknown, merge_unknown, merge_few, major_unknown, split_row, split_end, split_full, move_unknown, move_server, raw_row, raw_family}
+use Rattle.si_model.specs.Machine.{Begin, Get, Set, Advance, Stop, CleanBegin, CleanStep, CollectBegin, CollectStep, Split, Move}
+use Rattle.si_model.specs.Refusing.{begin_full, get_unknown, get_late, get_row, get_family, set_unknown, set_late, set_row, set_family, set_long, set_full, advance_unknown, advance_empty, stop_unknown, clean_row, clean_family, clean_full, clean_unknown, collect_full, collect_unknown, collect_none, collect_many, split_row, split_end, split_full, move_unknown, move_server}
 use Rattle.si_model.proofs.Tools.{same_entry}
 
 pub no_entry : {X : Type 0} (m : FinMap nat_cmp X) (k : ℕ) (v : X) → get m k ≡ Some v → get m k ≡ None → ⊥
@@ -64,16 +63,6 @@ collect_step_ok {st} {i} f h some few n (collect_unknown e) = no_entry st.collec
 collect_step_ok f h some few n (collect_none none) = absurd (omega arith)
 collect_step_ok f h some few n (collect_many many) = absurd (omega arith)
 
-pub minor_ok : {st : State} {k : ℕ} → HasTablet st k → IsAcceptable st (Minor k)
-minor_ok has n (minor_unknown none) = none has
-
-pub merge_ok : {st : State} {k count : ℕ} → HasTablet st k → 2 ≤ count → IsAcceptable st (Merge k count)
-merge_ok has some n (merge_unknown none) = none has
-merge_ok has some n (merge_few few) = absurd (omega arith)
-
-pub major_ok : {st : State} {k : ℕ} → HasTablet st k → IsAcceptable st (Major k)
-major_ok has n (major_unknown none) = none has
-
 pub split_ok : {st : State} {row : List ℕ} → IsRow row → ¬ IsEnd st row → length st.places < most_tablets → IsAcceptable st (Split row)
 split_ok is new room n (split_row bad) = bad is
 split_ok is new room n (split_end end) = new end
@@ -82,19 +71,6 @@ split_ok is new room n (split_full full) = absurd (omega arith)
 pub move_ok : {st : State} {k server : ℕ} → HasTablet st k → server < most_servers → IsAcceptable st (Move k server)
 move_ok has known n (move_unknown none) = none has
 move_ok has known n (move_server far) = absurd (omega arith)
-
-pub raw_ok : {st : State} {x : Cell} {q : Qualifier} {low high : ℕ} → IsRow x.row → IsFamily x.family → IsAcceptable st (Raw x q low high)
-raw_ok row family n (raw_row bad) = bad row
-raw_ok row family n (raw_family bad) = bad family
-
-pub sweep_ok : {st : State} → IsAcceptable st Sweep
-sweep_ok n a = elim a [ ]
-
-pub checkpoint_ok : {st : State} → IsAcceptable st Checkpoint
-checkpoint_ok n a = elim a [ ]
-
-pub restart_ok : {st : State} → IsAcceptable st OracleRestart
-restart_ok n a = elim a [ ]
 
 -- what follows
 

@@ -16,7 +16,7 @@ use Rattle.si_model.specs.Collection.{Collects, IsNamed, IsTidy, IsUnmarkedBelow
 use Rattle.si_model.proofs.ShownAt.{cases_key, erased_at, erased_off, key_cell, key_stamp, no_lock_data, no_lock_write, no_data_write, no_write_data}
 use Rattle.si_model.proofs.Steps.{reached_sound}
 use Rattle.si_model.proofs.Bounds.{reached_bounds}
-use Rattle.si_model.proofs.Deciding.{same_start, one_commit}
+use Rattle.si_model.proofs.CleanerFates.{same_start, one_commit}
 
 module _ (cells cells' : Cells) (st : State) (shown : ShowsCells cells st) (gone : Collects cells cells' st) where
   record_was : (x : Cell) (c : ℕ) (b : List ℕ) → at cells' x Write c ≡ Some b → at cells x Write c ≡ Some b

@@ -222,13 +222,6 @@ merge_unknown_first {st} {k} {count} none = applies_first (record { applies = me
     first m (merge_unknown n) = inl refl
     first m (merge_few f) = inr (lit< tt)
 
-pub merge_few_first : {st : State} {k count : ℕ} → (has : HasTablet st k) → (few : count < 2) → Refuses st (Merge k count) BadCount
-merge_few_first {st} {k} {count} has few = applies_first (record { applies = merge_few few; first = first })
-  where
-    first : (m : Refusal) → Applies st (Merge k count) m → (m ≡ BadCount) ⊎ (refusal_number BadCount < refusal_number m)
-    first m (merge_unknown n) = absurd (n has)
-    first m (merge_few f) = inl refl
-
 pub split_row_first : {st : State} {row : List ℕ} → (bad : ¬ IsRow row) → Refuses st (Split row) BadRow
 split_row_first {st} {row} bad = applies_first (record { applies = split_row bad; first = first })
   where

@@ -1,14 +1,13 @@
 -- A cell map that shows a state shows the next one, by what the step did to the marks and the commits.
 use Rattle.std.proofs.Common.{◌≡◌, ◌≢◌, ℕ, List, Some, None, ◌⊎◌, inl, inr, refl, sym, ap, subst, ◌∙◌}
 use Rattle.std.proofs.lemmas.Option.{none-some, same_Some}
-use Rattle.std.specs.FinMap.{get, insert, remove, empty, get-empty}
+use Rattle.std.specs.FinMap.{get, insert, remove, get-empty}
 use Rattle.std.specs.Ordering.{nat_cmp}
-use Rattle.cell_key.specs.Keys.{key_cmp}
 use Rattle.cell_key.specs.Cells.{Cells}
 use Rattle.cell_key.specs.declared.keys.Qualifier.TheVariants.{Data, Lock, Write}
 use Rattle.si_model.specs.Sets.{◌∈◌, Leaves}
 use Rattle.si_model.specs.Laws.{Goes}
-use Rattle.si_model.specs.Machine.{new_machine, reopened, State, Value, Writes, Commit, Open, InPhase, Wrote, Gives, Names, Marked}
+use Rattle.si_model.specs.Machine.{reopened, State, Value, Writes, Commit, Open, InPhase, Wrote, Gives, Names, Marked}
 use Rattle.si_model.specs.declared.replies.Cell.{Cell}
 use Rattle.si_model.specs.ShowsCells.{key_of, at, IsThere, lock_text, start_text, IsFirst, ShowsMark, NamesCommit, IsReplaced, IsGiven, ShowsCells}
 use Rattle.si_model.proofs.ShownAt.{cases_key, put_at, put_off, erased_at, erased_off, key_cell, key_stamp, no_lock_data, no_lock_write, no_data_lock, no_data_write, no_write_lock, no_write_data}
@@ -245,16 +244,6 @@ module _ (cells : Cells) (st st' : State) (go : Goes st st') (shown : ShowsCells
       ];
       given = λ y u b h. given_stays y u b (sym (data_rests y u) ∙ h);
     }
-
--- no cells show a new machine
-pub shown_new : ShowsCells empty new_machine
-shown_new = record {
-  marks = λ x t m. elim m [ ];
-  locks = λ x t b h. absurd (none-some b (sym (get-empty key_cmp (key_of x Lock t)) ∙ h));
-  records = λ x c b h. absurd (none-some b (sym (get-empty key_cmp (key_of x Write c)) ∙ h));
-  commits = λ a i x names unmarked. elim i [ ];
-  given = λ x t b h. absurd (none-some b (sym (get-empty key_cmp (key_of x Data t)) ∙ h));
-}
 
 -- a clean restart leaves the cells as they are
 pub shows_reopened : (cells : Cells) (st : State) → ShowsCells cells st → ShowsCells cells (reopened st)

@@ -1,5 +1,5 @@
 -- What the row transactions of a client change.
-use Rattle.std.proofs.Common.{◌≡◌, ℕ, List, inl, inr, sym, ap, ◌∙◌}
+use Rattle.std.proofs.Common.{ℕ, inl, inr, sym, ap, ◌∙◌}
 use Rattle.std.specs.FinMap.{get, insert}
 use Rattle.std.proofs.lemmas.Option.{none-some}
 use Rattle.cell_key.specs.Cells.{Cells}
@@ -9,13 +9,6 @@ use Rattle.si_model.specs.Machine.{Value}
 use Rattle.si_model.specs.declared.replies.Cell.{Cell}
 use Rattle.si_model.specs.ShowsCells.{key_of, lock_text, start_text, held_cells, recorded_cells, erased_cells, Touches}
 use Rattle.si_model.proofs.ShownAt.{cases_key, put_at, put_off, erased_off}
-
-pub touches_nothing : (cells cells' : Cells) (row : List ℕ) (s c : ℕ) → cells' ≡ cells → Touches cells cells' row s c
-touches_nothing cells cells' row s c e = record {
-  others = λ q ne. ap (λ cs. get cs q) e;
-  joins = λ q b none some. absurd (none-some b (sym none ∙ (sym (ap (λ cs. get cs q) e) ∙ some)));
-  goes = λ q b some none. absurd (none-some b (sym none ∙ (ap (λ cs. get cs q) e ∙ some)));
-}
 
 module _ (cells : Cells) (x : Cell) (s c : ℕ) where
   pub touches_held : (v : Value) (first : Cell) → Touches cells (held_cells cells x s v first) x.row s c

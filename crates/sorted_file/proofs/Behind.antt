@@ -7,7 +7,7 @@ use Rattle.std.specs.FinMap.Entries.{find}
 use Rattle.cell_key.specs.Keys.{byte_cmp, text, IsKey, IsStored}
 use Rattle.cell_key.specs.Entries.{Entry, IsEntryList, IsRising, entries_from, entry_of_key, value_of}
 use Rattle.cell_key.specs.declared.keys.CellKey.{CellKey}
-use Rattle.cell_key.proofs.Finding.{equal, find_below, first, one_text, second}
+use Rattle.cell_key.proofs.TextPlaces.{equal, find_below, first, one_text, second}
 use Rattle.file_store.specs.Store.{Contents}
 use Rattle.sorted_file.specs.Blocks.{block_of, blocks_of, entries_in, first_of, IsRowPlace, IsSpannedRow}
 use Rattle.sorted_file.specs.Newest.{at_stamp, IsFirstIn, IsNewestStamp}

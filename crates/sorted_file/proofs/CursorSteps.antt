@@ -9,7 +9,7 @@ use Rattle.std.specs.Ordering.{is_le}
 use Rattle.std.specs.List.{AllByRecursion}
 use Rattle.cell_key.specs.Keys.{byte_cmp}
 use Rattle.cell_key.specs.Entries.{Entry, IsRising, entries_from, spelled}
-use Rattle.cell_key.proofs.Finding.{second}
+use Rattle.cell_key.proofs.TextPlaces.{second}
 use Rattle.file_store.specs.Store.{Contents}
 use Rattle.sorted_file.specs.declared.blocks.BlockRow.{BlockRow}
 use Rattle.sorted_file.specs.Blocks.{block_of, blocks_of, entries_in, AreBlocksIn, IsBlockIn, Tells}

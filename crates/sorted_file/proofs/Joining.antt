@@ -8,7 +8,7 @@ use Rattle.std.specs.Cmp.Lexicographic.{nat_list_cmp_total}
 use Rattle.std.specs.FinMap.Entries.{below_all}
 use Rattle.cell_key.specs.Keys.{byte_cmp}
 use Rattle.cell_key.specs.Entries.{Entry, IsRising}
-use Rattle.cell_key.proofs.Finding.{first, second, less}
+use Rattle.cell_key.proofs.TextPlaces.{first, second, less}
 use Rattle.sorted_file.specs.Grammar.{block_bytes, body, Fits, IsFull, AreBlocks}
 use Rattle.sorted_file.specs.Blocks.{block_of, blocks_of, entries_in, AreRows, IsFollowed, IsLastOf, IsRowAt}
 use Rattle.sorted_file.specs.declared.blocks.BlockRow.{BlockRow}

@@ -1,7 +1,7 @@
 -- The entries of a file from a place on.
 use Rattle.std.proofs.Common.{◌≡◌, List, [], ◌∷◌, length, map, Option, Some, None, refl, arith}
 use Rattle.cell_key.specs.Entries.{Entry, IsEntryList}
-use Rattle.cell_key.proofs.Finding.{second}
+use Rattle.cell_key.proofs.TextPlaces.{second}
 use Rattle.sorted_file.specs.Sources.{pending}
 
 pub rest_list : (o : Option Entry) (es : List Entry) → IsEntryList (pending o es) → IsEntryList es

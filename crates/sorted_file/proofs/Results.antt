@@ -1,8 +1,6 @@
 -- What holds of a result goes on to what follows from it.
-use Rattle.std.proofs.Common.{◌≡◌, refl, sym, ap, subst, ◌∙◌}
+use Rattle.std.proofs.Common.{◌≡◌, refl, subst}
 use Rattle.std.specs.Prelude.{Result, Ok, Err, IfOk, OnOk, Option, Some, None, IfSome, IfNone}
-use Rattle.std.specs.Result.{IsErrAnd, IsErrOf}
-use Rattle.cell_key.specs.declared.refusals.Refusal.{Refusal}
 
 pub if_ok : {A E : Type 0} (r : Result A E) (P Q : A → Type 0) → ((a : A) → P a → Q a) → IfOk r P → IfOk r Q
 if_ok (Ok a) P Q f h = f a h
@@ -33,11 +31,6 @@ as_some (Some a) P f = f a
 
 pub of_some : {A : Type 0} (o : Option A) (a : A) (P : A → Type 0) → o ≡ Some a → IfSome o P → P a
 of_some o a P e h = subst (λ (q : Option _). IfSome q P) e h
-
--- an error that is passed on is the error that it was
-pub passed_on : {A B : Type 0} (r : Result B Refusal) (s : Result A Refusal) (e n : Refusal) → IsErrAnd r (λ f. f ≡ e) → s ≡ Err e → IsErrOf r n → IsErrOf s n
-passed_on (Ok x) s e n by was is = absurd by
-passed_on (Err f) s e n by was is = let same : f ≡ n = cc in was ∙ ap (λ x. Err x) (sym by ∙ same)
 
 pub as_told : {A : Type 0} (o : Option A) (P : A → Type 0) → ((a : A) → o ≡ Some a → P a) → IfSome o P
 as_told None P f = tt

@@ -8,7 +8,7 @@ use Rattle.std.specs.Cmp.Lexicographic.{nat_list_cmp_total}
 use Rattle.std.specs.FinMap.Entries.{find, below_all}
 use Rattle.cell_key.specs.Keys.{byte_cmp}
 use Rattle.cell_key.specs.Entries.{Entry, IsRising, entries_from, entry_of_key}
-use Rattle.cell_key.proofs.Finding.{first, second, less, find_lower, from_place, one_text}
+use Rattle.cell_key.proofs.TextPlaces.{first, second, less, find_lower, from_place, one_text}
 use Rattle.sorted_file.specs.Building.{IsFirst}
 use Rattle.sorted_file.specs.Grammar.{block_bytes, Fits, AreBlocks}
 use Rattle.sorted_file.specs.Blocks.{block_of, blocks_of, entries_in, AreRows, IsRowPlace, first_of}

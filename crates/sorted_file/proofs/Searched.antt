@@ -10,7 +10,7 @@ use Rattle.std.specs.List.{AllByRecursion}
 use Rattle.std.specs.FinMap.Entries.{find, below_all}
 use Rattle.cell_key.specs.Keys.{byte_cmp}
 use Rattle.cell_key.specs.Entries.{Entry, IsEntry, IsRising, entries_from, entry_of_key, spelled}
-use Rattle.cell_key.proofs.Finding.{first, second, from_place, find_lower}
+use Rattle.cell_key.proofs.TextPlaces.{first, second, from_place, find_lower}
 use Rattle.sorted_file.specs.Grammar.{block_bytes}
 use Rattle.sorted_file.specs.Searching.{first_value}
 use Rattle.sorted_file.proofs.Joining.{both}

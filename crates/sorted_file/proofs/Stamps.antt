@@ -15,7 +15,7 @@ use Rattle.cell_key.specs.Entries.{Entry, IsEntry, IsEntryList, IsRising, entrie
 use Rattle.cell_key.specs.declared.keys.CellKey.{CellKey}
 use Rattle.cell_key.proofs.Order.{text_order}
 use Rattle.cell_key.proofs.EntryLaws.{stored_key}
-use Rattle.cell_key.proofs.Finding.{equal, find_below, find_lower, first, one_text, second}
+use Rattle.cell_key.proofs.TextPlaces.{equal, find_below, find_lower, first, one_text, second}
 use Rattle.sorted_file.specs.Searching.{first_value}
 use Rattle.sorted_file.specs.Newest.{at_stamp, erased_first, skips, HasNoneAt, IsFirstValue, IsNewestStamp}
 

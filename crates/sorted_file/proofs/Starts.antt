@@ -9,7 +9,7 @@ use Rattle.std.specs.FinMap.Entries.{below_all}
 use Rattle.cell_key.specs.Keys.{byte_cmp, qualifier_name}
 use Rattle.cell_key.specs.Texts.{ended, escaped, stamp_text}
 use Rattle.cell_key.specs.Entries.{Entry, IsEntry, IsEntryList, IsRising, spelled}
-use Rattle.cell_key.proofs.Finding.{first, less, second}
+use Rattle.cell_key.proofs.TextPlaces.{first, less, second}
 use Rattle.sorted_file.specs.Grammar.{block_bytes}
 use Rattle.sorted_file.specs.Parsed.{starts_from, IsParsed, IsSpelling}
 use Rattle.sorted_file.specs.declared.parsed.Block.{Block}

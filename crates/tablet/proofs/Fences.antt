@@ -12,7 +12,7 @@ use Rattle.cell_key.specs.declared.keys.CellKey.{CellKey}
 use Rattle.cell_key.proofs.Order.{fences_rows}
 use Rattle.cell_key.proofs.EntryLaws.{key_of_text-text}
 use Rattle.compaction.specs.Ends.{is_below}
-use Rattle.compaction.specs.OrderLaws.{total}
+use Rattle.cell_key.proofs.EntryLists.{total}
 use Rattle.tablet.specs.Ranges.{is_after, is_up_to, has_row, seen, fence_after, lower_fence, upper_fence}
 use Rattle.tablet.specs.Sources.{entries_between}
 use Rattle.tablet.specs.declared.ranges.RowRange.{RowRange}

@@ -7,7 +7,7 @@ use Rattle.std.specs.FinMap.Entries.{find-where_key}
 use Rattle.cell_key.specs.Keys.{byte_cmp}
 use Rattle.cell_key.specs.Entries.{Entry, IsEntryList, entry_of_key, first_naming, or_else}
 use Rattle.compaction.specs.Ends.{is_below}
-use Rattle.compaction.specs.OrderLaws.{equal, same_key}
+use Rattle.cell_key.proofs.TextPlaces.{equal, one_text as same_key}
 use Rattle.tablet.specs.Sources.{entries_between}
 
 pub cond_same : {A : Type 0} (b : Bool) (x : A) → cond b x x ≡ x

@@ -6,9 +6,8 @@ use Rattle.std.specs.Ordering.{is_eq, eq_by_cmp}
 use Rattle.std.specs.FinMap.Entries.{find}
 use Rattle.cell_key.specs.Keys.{byte_cmp}
 use Rattle.cell_key.specs.Entries.{Entry, IsRising, entry_of_key, value_of}
-use Rattle.compaction.specs.FilterLaws.{first, second}
-use Rattle.compaction.specs.OrderLaws.{below_less, ties_itself}
-use Rattle.compaction.specs.HeadLaws.{find_below}
+use Rattle.cell_key.proofs.TextPlaces.{below_less, first, second, find_below}
+use Rattle.cell_key.proofs.EntryLists.{ties_itself}
 use Rattle.tablet.specs.Reads.{first_value}
 use Rattle.tablet.proofs.Filters.{one_text}
 

@@ -15,7 +15,8 @@ use Rattle.cell_key.specs.declared.edits.Edit.TheVariants.{Put, Erase}
 use Rattle.cell_key.proofs.EntryLaws.{stored_key}
 use Rattle.cell_key.proofs.Order.{text_order}
 use Rattle.memtable.specs.Edits.{HasStoredKey, edit_entry, with_edit, with_edits}
-use Rattle.compaction.specs.OrderLaws.{equal, same_key, total}
+use Rattle.cell_key.proofs.TextPlaces.{equal, one_text as same_key}
+use Rattle.cell_key.proofs.EntryLists.{total}
 use Rattle.tablet.specs.Ranges.{has_row, seen}
 use Rattle.tablet.specs.declared.ranges.RowRange.{RowRange}
 use Rattle.tablet.proofs.Filters.{cond_same}

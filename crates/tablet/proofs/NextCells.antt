@@ -16,7 +16,7 @@ use Rattle.cell_key.specs.declared.keys.Qualifier.{Qualifier}
 use Rattle.cell_key.specs.declared.keys.Qualifier.TheVariants.{Data, Lock, Write}
 use Rattle.cell_key.proofs.Order.{text_order}
 use Rattle.cell_key.proofs.EntryLaws.{stored_key}
-use Rattle.compaction.specs.OrderLaws.{total}
+use Rattle.cell_key.proofs.EntryLists.{total}
 use Rattle.tablet.specs.Ranges.{has_row, lower_fence, upper_fence}
 use Rattle.tablet.specs.Reads.{later, past_place, start_of, IsPlace, IsPlaceOrNone}
 use Rattle.tablet.specs.declared.ranges.RowRange.{RowRange}

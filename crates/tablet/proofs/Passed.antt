@@ -12,12 +12,9 @@ use Rattle.file_store.specs.Store.{Contents}
 use Rattle.sorted_file.specs.Opened.{name_of}
 use Rattle.sorted_file.specs.Sources.{IsReadRefusal, IsWriteRefusal}
 use Rattle.sorted_file.specs.declared.opened.SortedFile.{SortedFile}
-pub use Rattle.compaction.proofs.Passed.{passed_on, not_err, passed_err, passed_none, passed_reason, reason_after, quiet_reason, reason_of_ok}
+pub use Rattle.cell_key.proofs.Passed.{passed_err, passed_kept, passed_kind, passed_none, passed_on, passed_reason, reason_after, reason_of_ok}
+pub use Rattle.cell_key.proofs.Reasons.{not_refused as not_err, reason_none as quiet_reason}
 use Rattle.tablet.specs.Compactions.{IsCompactionRefusal, IsMergeRefusal, IsMinorRefusal}
-
-pub passed_kept : {B : Type 0} (r : Result B Refusal) (P : Type 0) → P → OnErr r P
-passed_kept (Ok x) P h = tt
-passed_kept (Err f) P h = h
 
 -- reading is refused nothing else
 pub minor_read : (e : Refusal) → IsReadRefusal e → IsMinorRefusal e
@@ -25,11 +22,6 @@ minor_read Device read = tt
 minor_read NoMemory read = tt
 minor_read Damaged read = tt
 minor_read _ read = absurd read
-
--- a refusal that is passed on is of the kind that it was
-pub passed_kind : {B : Type 0} (r : Result B Refusal) (e n : Refusal) (P : Refusal → Type 0) → IsErrAnd r (λ f. f ≡ e) → P e → IsErrOf r n → P n
-passed_kind (Ok x) e n P by h is = absurd by
-passed_kind (Err f) e n P by h is = let same : f ≡ n = cc in subst P (sym by ∙ same) h
 
 pub told_kind : {B : Type 0} (e n : Refusal) (P : Refusal → Type 0) → P e → IsErrOf {T = B} (Err e) n → P n
 told_kind e n P h is = let same : e ≡ n = cc in subst P same h

@@ -9,8 +9,8 @@ use Rattle.cell_key.specs.Entries.{Entry, IsEntry, IsEntryList, entries_from, me
 use Rattle.cell_key.specs.declared.keys.CellKey.{CellKey}
 use Rattle.cell_key.proofs.EntryLaws.{key_of_merged, key_of_text-text}
 use Rattle.compaction.specs.Ends.{is_below}
-use Rattle.compaction.specs.FilterLaws.{filter-list}
-use Rattle.compaction.specs.OrderLaws.{equal, merged_list}
+use Rattle.cell_key.proofs.EntryLists.{filter-list, merged_list}
+use Rattle.cell_key.proofs.TextPlaces.{equal}
 use Rattle.tablet.specs.Ranges.{has_row, seen}
 use Rattle.tablet.specs.Sources.{entries_between, part}
 use Rattle.tablet.specs.declared.ranges.RowRange.{RowRange}

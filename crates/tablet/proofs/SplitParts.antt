@@ -12,7 +12,8 @@ use Rattle.cell_key.specs.Entries.{IsEntryList, cells_of}
 use Rattle.file_store.specs.Store.{Contents}
 use Rattle.sorted_file.specs.Opened.{HasFile, IsOpen, OneListing, OpenIsThere, listed, name_of}
 use Rattle.sorted_file.specs.declared.opened.SortedFile.{SortedFile}
-use Rattle.compaction.specs.OrderLaws.{same_key, total}
+use Rattle.cell_key.proofs.TextPlaces.{one_text as same_key}
+use Rattle.cell_key.proofs.EntryLists.{total}
 use Rattle.tablet.specs.Ranges.{has_row, is_after, is_up_to}
 use Rattle.tablet.specs.Views.{AreParts, Holds, IsBelow, IsPart, Keeps, cells_at, files_of, lists_of, memory_of, names_of, range_of}
 use Rattle.tablet.specs.Splits.{MakesParts}

@@ -14,7 +14,7 @@ use Rattle.sorted_file.specs.Opened.{HasFile, IsOpen, WrittenIsListed, WrittenIs
 use Rattle.sorted_file.specs.Sources.{pending}
 use Rattle.sorted_file.specs.declared.opened.SortedFile.{SortedFile}
 use Rattle.compaction.specs.Merging.{AreAtStart}
-use Rattle.compaction.specs.OrderLaws.{equal}
+use Rattle.cell_key.proofs.TextPlaces.{equal}
 use Rattle.compaction.specs.Writing.{WritesEntryLists, written}
 use Rattle.tablet.specs.Compactions.{IsNewFile, ReadsOpen, compacted, inputs_of, keeps_erasures}
 use Rattle.tablet.specs.Ranges.{lower_fence, seen, upper_fence}

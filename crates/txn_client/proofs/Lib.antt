@@ -1,9 +1,9 @@
 pub mod Advance
 pub mod Exact
 pub mod Passed
-pub mod Placing
-pub mod Reading
+pub mod ShownReads
 pub mod Refused
 pub mod Room
 pub mod Sessions
 pub mod Table
+pub mod WritePlaces

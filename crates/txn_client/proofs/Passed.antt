@@ -10,28 +10,11 @@ use Rattle.cell_key.specs.declared.keys.CellKey.{CellKey}
 use Rattle.cell_key.specs.Faults.{HasReason}
 use Rattle.cell_key.specs.declared.refusals.Refusal.{Refusal}
 use Rattle.cell_key.specs.declared.refusals.Refusal.TheVariants.{EmptyCommit, MemtableFull, Exhausted, Device, NoMemory, Damaged}
+pub use Rattle.cell_key.proofs.Passed.{as_err, passed_err, passed_kept, passed_none, passed_on}
 use Rattle.cell_key.proofs.Reasons.{reason_kept}
 use Rattle.row_atomic.specs.Refusals.{IsApplyRefusal, IsRefusalOfRead}
 use Rattle.si_model.specs.ShowsCells.{Touches}
 use Rattle.txn_client.specs.Refusals.{IsAdvanceRefusal, IsCellStepRefusal, IsRowRefusal, IsStepRefusal}
-
--- an error that is passed on
-pub passed_on : {A B : Type 0} (r : Result B Refusal) (s : Result A Refusal) (e n : Refusal) → IsErrAnd r (λ f. f ≡ e) → s ≡ Err e → IsErrOf r n → IsErrOf s n
-passed_on (Ok x) s e n by was is = absurd by
-passed_on (Err f) s e n by was is = let same : f ≡ n = cc in was ∙ ap (λ x. Err x) (sym by ∙ same)
-
--- what is told of an error that is passed on, and what isn't
-pub passed_err : {B : Type 0} (r : Result B Refusal) (e : Refusal) (P : Refusal → Type 0) → IsErrAnd r (λ f. f ≡ e) → P e → IfErr r P
-passed_err (Ok x) e P by h = tt
-passed_err (Err f) e P by h = subst P (sym by) h
-
-pub passed_none : {B : Type 0} (r : Result B Refusal) (e : Refusal) (P : B → Type 0) → IsErrAnd r (λ f. f ≡ e) → IfOk r P
-passed_none (Ok x) e P by = absurd by
-passed_none (Err f) e P by = tt
-
-pub passed_kept : {B : Type 0} (r : Result B Refusal) (P : Type 0) → P → OnErr r P
-passed_kept (Ok x) P h = tt
-passed_kept (Err f) P h = h
 
 pub passed_kept_not : {B : Type 0} (r : Result B Refusal) (e : Refusal) (P : Type 0) → IsErrAnd r (λ f. f ≡ e) → OnOk r P
 passed_kept_not (Ok x) e P by = absurd by

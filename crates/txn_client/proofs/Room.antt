@@ -14,7 +14,7 @@ use Rattle.si_model.specs.ShowsCells.{ShowsCells, Touches, TouchesOneRow, held_c
 use Rattle.si_model.specs.declared.replies.Cell.{Cell}
 use Rattle.si_model.specs.declared.replies.Progress.{Progress}
 use Rattle.si_model.specs.declared.replies.Progress.TheVariants as progress
-use Rattle.si_model.proofs.Editing.{make_cells, put_so}
+use Rattle.si_model.proofs.EditedCells.{make_cells, put_so}
 use Rattle.si_model.proofs.Kept.{held_phase}
 use Rattle.si_model.proofs.ShownTouched.{touches_held, touches_recorded}
 use Rattle.txn_client.specs.Room.{ChangesIn, ChangesNext, Does, EditsIn, EditsOf, EditsOfStep, HoldsAt, HoldsNext, IsHolding, IsStamped, Makes, RecordsAt, RecordsNext, TakesRoom}

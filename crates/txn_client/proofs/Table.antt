@@ -8,7 +8,7 @@ use Rattle.std.specs.BTreeMap as btree
 use Rattle.std.specs.FinMap as finmap
 use Rattle.std.specs.declared.result.Result.{Result}
 use Rattle.std.specs.declared.result.Result.TheVariants.{Ok, Err}
-use Rattle.std.specs.Result.{IsErrAnd, IfOk, IfErr, OnOk, OnErr, IsErrOf}
+use Rattle.std.specs.Result.{IfOk, IfErr, OnOk, OnErr, IsErrOf}
 use Rattle.std.proofs.lemmas.Bool.{cases_eq}
 use Rattle.std.proofs.lemmas.List.{length-map}
 use Rattle.std.proofs.lemmas.Option.{none-some, same_Some}
@@ -19,7 +19,7 @@ use Rattle.cell_key.specs.declared.refusals.Refusal.TheVariants.{UnknownSession,
 use Rattle.row_atomic.specs.Refusals.{IsReadRefusal}
 use Rattle.si_model.specs.Laws.{Fits}
 use Rattle.si_model.specs.Machine as machine
-use Rattle.si_model.specs.Machine.{State, Request, Reply, Step, accepts, refuses, IsReached, IsStorageRefusal, InPhase, Wrote, Names, Sets, Refused}
+use Rattle.si_model.specs.Machine.{State, Request, Step, accepts, refuses, IsReached, IsStorageRefusal, InPhase, Wrote, Names, Sets, Refused}
 use Rattle.si_model.specs.Replies.{found_reply, progress_reply, result_reply}
 use Rattle.si_model.specs.ShowsCells.{ShowsCells, TouchesOneRow}
 use Rattle.si_model.specs.declared.replies.Cell.{Cell}
@@ -41,7 +41,7 @@ use Rattle.txn_client.specs.declared.session.Outcome.{Outcome}
 use Rattle.txn_client.specs.declared.session.Phase.{Phase}
 use Rattle.txn_client.specs.declared.session.Phase.TheVariants.{Open, Holding, Stamped, Finishing}
 use Rattle.txn_client.specs.declared.session.Session.{Session}
-use Rattle.txn_client.proofs.Reading.{after_read, waits_at, reads_nothing, reads_value, undamaged}
+use Rattle.txn_client.proofs.ShownReads.{after_read, waits_at, reads_nothing, reads_value, undamaged}
 use Rattle.txn_client.proofs.Refused.{refused_storage, read_storage, advance_storage}
 
 -- what a map holds after one key has changed
@@ -219,11 +219,6 @@ module _ (cells cells' : Cells) (old new : Clients) (last last' : ℕ) (session 
   takes_at t was at st reached shown =
       let h = subst (λ (o : Option Session). ShowsAt o t st) was (shown.sessions.sessions t) in
       subst (λ (u : ℕ). Updated u → Goal st u) h.start (takes_own st reached shown (subst (λ (u : ℕ). ShowsSession session u st) (sym h.start) h)) at
-
--- a call's error is that of the `?`
-pub as_err : {T E : Type 0} (r : Result T E) (e : E) → IsErrAnd r (λ f. f ≡ e) → r ≡ Err e
-as_err (Ok x) e h = absurd h
-as_err (Err f) e h = ap Err h
 
 pub twice : {X : Type 0} (b : Bool) (a c x : X) → cond b a (cond b c x) ≡ cond b a x
 twice true a c x = refl

@@ -182,13 +182,6 @@ found_after Before Now old new x floor ts still kept found held shown one =
 
 -- ---- refusals
 
-pub same_refusal : {B : Type 0} (r : Result B Refusal) (e n : Refusal) → IsErrAnd r (λ f. f ≡ e) → IsErrOf r n → e ≡ n
-same_refusal (Ok x) e n by is = absurd by
-same_refusal (Err f) e n by is = let same : f ≡ n = cc in sym by ∙ same
-
-pub passed_on : {A B : Type 0} (r : Result B Refusal) (e n : Refusal) → IsErrAnd r (λ f. f ≡ e) → IsErrOf r n → IsErrOf {T = A} (Err e) n
-passed_on r e n by is = ap (λ (f : Refusal). Err f) (same_refusal r e n by is)
-
 is_visit_refusal : (Holds : Type 0) (e : Refusal) → IsRefusalOfRead Holds e → IsVisitRefusal e
 is_visit_refusal H Device u = tt
 is_visit_refusal H NoMemory u = tt

@@ -1,8 +1,8 @@
 pub mod Erasures
 pub mod Greatest
-pub mod Passing
+pub mod OneVisit
+pub mod PassedRefusals
 pub mod Room
 pub mod Starts
 pub mod Table
-pub mod Turning
-pub mod Visiting
+pub mod VisitedCells

@@ -9,7 +9,7 @@ use Rattle.si_model.specs.Sets.{◌∈◌, here, there}
 use Rattle.si_model.specs.declared.replies.Cell.{Cell}
 use Rattle.version_collector.specs.Erasing.{CollectsCell, data_erasures, record_erasures}
 use Rattle.version_collector.specs.Room.{AreOfVisits, AreOfVisitsIn, ErasesVersion, TakesRoomOfVisits}
-use Rattle.version_collector.proofs.Visiting.{together_length}
+use Rattle.version_collector.proofs.VisitedCells.{together_length}
 
 joined : {A : Type 0} (xs ys zs : List A) → (xs ++ ys) ++ zs ≡ xs ++ (ys ++ zs)
 joined [] ys zs = refl

@@ -6,7 +6,6 @@ use Rattle.std.specs.Cmp.{nat_cmp_total}
 use Rattle.std.specs.Map.{lookup}
 use Rattle.std.specs.BTreeMap as btree
 use Rattle.std.specs.FinMap as finmap
-use Rattle.std.specs.Result.{IsErrAnd}
 use Rattle.std.proofs.lemmas.Bool.{cases_eq}
 use Rattle.std.proofs.lemmas.Option.{none-some, same_Some}
 use Rattle.cell_key.specs.Cells.{Cells}
@@ -25,11 +24,11 @@ use Rattle.si_model.specs.declared.replies.CollectReply.{CollectReply}
 use Rattle.si_model.specs.declared.replies.CollectReply.TheVariants.{More, Blocked, Collected}
 use Rattle.si_model.proofs.Acceptable.{collect_begin_ok, collect_step_ok}
 use Rattle.si_model.proofs.Collected.{come_collected, shows_collected}
-use Rattle.si_model.proofs.Coming.{come_stays}
+use Rattle.si_model.proofs.CollectorProgress.{come_stays}
 use Rattle.si_model.proofs.FirstRefusals.{collect_full_first, collect_many_first, collect_none_first, collect_unknown_first}
 use Rattle.si_model.proofs.Floors.{reached_floors}
 use Rattle.si_model.proofs.Goes.{goes}
-use Rattle.si_model.proofs.Leaving.{leaves_others}
+use Rattle.si_model.proofs.ChangedParts.{leaves_others}
 use Rattle.si_model.proofs.Numbers.{reached_numbers}
 use Rattle.si_model.proofs.ShownKept.{shows_beside}
 use Rattle.si_model.proofs.Tools.{eq_test, ne_test, get_same, get_other, get_removed, get_remains}
@@ -39,7 +38,7 @@ use Rattle.version_collector.specs.Visits.{HasVisited, IsTold, Leaves, WhereCome
 use Rattle.version_collector.specs.declared.collector.Collector.{Collector}
 use Rattle.version_collector.specs.declared.collector.Pass.TheVariants.{First}
 use Rattle.version_collector.specs.declared.collectors.Collectors.{Collectors}
-use Rattle.version_collector.proofs.Visiting.{request_is}
+use Rattle.version_collector.proofs.VisitedCells.{request_is}
 
 -- what a map holds after one key has changed
 upd_at : (old new : ℕ → Option Collector) (k : ℕ) (w : Option Collector) → ((q : ℕ) → new q ≡ cond (is_eq (nat_cmp k q)) w (old q)) → new k ≡ w
@@ -281,11 +280,6 @@ shows_new collectors cells st next none floor empty = record {
   each = λ i. subst (λ es. ShowsAt cells (lookup (btree.is_at (nat_cmp i)) es) i st) (sym empty) (ap (λ m. finmap.get m i) none ∙ finmap.get-empty nat_cmp i);
   count = ap (λ m. finmap.len m) none ∙ (finmap.len-empty nat_cmp ℕ ∙ ap (λ es. length es) (sym empty));
 }
-
--- a call's error is that of the `?`
-pub as_err : {T E : Type 0} (r : Result T E) (e : E) → IsErrAnd r (λ f. f ≡ e) → r ≡ Err e
-as_err (Ok x) e h = absurd h
-as_err (Err f) e h = ap Err h
 
 pub same_itself : (collectors : Collectors) → SameCollectors collectors collectors
 same_itself collectors = record { next = refl; floor = refl; each = λ i. refl; count = refl }

@@ -12,22 +12,27 @@ use Rattle.version_collector.specs.Versions.{AreOld, AreShown, AreUnnamed}
 -- each record is erased with the data that it names
 abbrev pub record_erasures : Cell → List (ℕ × ℕ) → List Edit
 record_erasures x [] = []
-record_erasures x (v ∷ vs) = Erase (key_of x Write v.0) ∷ Erase (key_of x Data v.1) ∷ record_erasures x vs
+record_erasures x (v ∷ vs) =
+    Erase (key_of x Write v.0) ∷ Erase (key_of x Data v.1) ∷ record_erasures x vs
 
 abbrev pub data_erasures : Cell → List ℕ → List Edit
 data_erasures x [] = []
 data_erasures x (t ∷ ts) = Erase (key_of x Data t) ∷ data_erasures x ts
 
--- The edits erase records, each with the data that it names. Where the rows hold and show a reached state, these are the old ones.
-pub record ErasesRecords (Holds : Type 0) (cells : Cells) (x : Cell) (floor : ℕ) (edits : List Edit) : Type 0 where
+-- The edits erase records, each with the data that it names. Where the rows hold and show a reached
+-- state, these are the old ones.
+pub record ErasesRecords (Holds : Type 0) (cells : Cells) (x : Cell) (floor : ℕ) (edits : List Edit)
+    : Type 0 where
   pub vs : List (ℕ × ℕ)
   pub are : edits ≡ record_erasures x vs
   pub some : vs ≢ []
   pub few : length vs ≤ 128
   pub old : Holds → AreShown cells → AreOld cells x floor vs
 
--- They erase data. Where the rows hold and show a reached state, this is data that no record names, and there are no old records.
-pub record ErasesData (Holds : Type 0) (cells : Cells) (x : Cell) (floor : ℕ) (edits : List Edit) : Type 0 where
+-- They erase data. Where the rows hold and show a reached state, this is data that no record names,
+-- and there are no old records.
+pub record ErasesData (Holds : Type 0) (cells : Cells) (x : Cell) (floor : ℕ) (edits : List Edit)
+    : Type 0 where
   pub ts : List ℕ
   pub are : edits ≡ data_erasures x ts
   pub some : ts ≢ []
@@ -36,9 +41,11 @@ pub record ErasesData (Holds : Type 0) (cells : Cells) (x : Cell) (floor : ℕ) 
 
 -- the row and such edits
 abbrev pub CollectsCell : Type 0 → Cells → Cell → ℕ → List ℕ → List Edit → Type 0
-CollectsCell Holds cells x floor row edits = (row ≡ x.row) × (ErasesRecords Holds cells x floor edits ⊎ ErasesData Holds cells x floor edits)
+CollectsCell Holds cells x floor row edits =
+    (row ≡ x.row) × (ErasesRecords Holds cells x floor edits ⊎ ErasesData Holds cells x floor edits)
 
--- the edits erase old records or data, or there are none: where the rows hold and show a reached state, the cell is tidy then
+-- the edits erase old records or data, or there are none: where the rows hold and show a reached
+-- state, the cell is tidy then
 abbrev pub ErasesOrIsTidy : Type 0 → Cells → Cell → ℕ → List Edit → Type 0
 ErasesOrIsTidy Holds cells x floor [] = Holds → AreShown cells → IsTidy cells x floor
 ErasesOrIsTidy Holds cells x floor (edit ∷ edits) =

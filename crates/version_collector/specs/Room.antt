@@ -9,7 +9,8 @@ use Rattle.si_model.specs.declared.replies.Cell.{Cell}
 
 -- a record or data of a cell is erased
 abbrev pub ErasesVersion : Edit → Type 0
-ErasesVersion edit = (x : Cell) × (s : ℕ) × ((edit ≡ Erase (key_of x Write s)) ⊎ (edit ≡ Erase (key_of x Data s)))
+ErasesVersion edit =
+    (x : Cell) × (s : ℕ) × ((edit ≡ Erase (key_of x Write s)) ⊎ (edit ≡ Erase (key_of x Data s)))
 
 -- the edits of at most n visits: each erases a version, and a visit makes 256 at the most
 pub record AreOfVisits (n : ℕ) (edits : List Edit) : Type 0 where

@@ -26,26 +26,34 @@ abbrev pub ShowsAt : Cells → Option Collector → ℕ → State → Type 0
 ShowsAt cells None i st = finmap.get st.collectors i ≡ None
 ShowsAt cells (Some c) i st = ShowsCollector cells c i st
 
--- the collectors that are kept are those that are open, and the next number and the greatest floor are the machine's
+-- the collectors that are kept are those that are open, and the next number and the greatest floor
+-- are the machine's
 pub record ShowsCollectors (cells : Cells) (collectors : Collectors) (st : State) : Type 0 where
   pub next : collectors.next ≡ st.next_collector
   pub floor : collectors.greatest_floor ≡ st.floor
   pub each : (i : ℕ) → ShowsAt cells (btree.get nat_cmp collectors.collectors i) i st
   pub count : finmap.len st.collectors ≡ btree.btree_map_len collectors.collectors
 
--- From each reached state that is shown before, the machine may answer so, and goes to a state that is shown after.
+-- From each reached state that is shown before, the machine may answer so, and goes to a state that
+-- is shown after.
 abbrev pub Steps : Cells → Collectors → Request → Reply → Cells → Collectors → Type 0
 Steps cells collectors request reply cells' collectors' =
     (st : State) → IsReached st → ShowsCells cells st → ShowsCollectors cells collectors st
-    → (next : State) × Step st request reply next × ShowsCells cells' next × ShowsCollectors cells' collectors' next
+    → (next : State) × Step st request reply next × ShowsCells cells' next
+    × ShowsCollectors cells' collectors' next
 
 -- so it is in each reached state that cells and collectors show
 abbrev pub InEachShown : Cells → Collectors → (State → Type 0) → Type 0
-InEachShown cells collectors IsSo = (st : State) → IsReached st → ShowsCells cells st → ShowsCollectors cells collectors st → IsSo st
+InEachShown cells collectors IsSo =
+    (st : State) → IsReached st → ShowsCells cells st → ShowsCollectors cells collectors st
+    → IsSo st
 
--- From this state, shown before, the machine may answer a CollectBegin so, and goes to a state that is shown after.
+-- From this state, shown before, the machine may answer a CollectBegin so, and goes to a state that
+-- is shown after.
 abbrev pub Begins : Cells → Collectors → Reply → State → Type 0
-Begins cells collectors' reply st = (next : State) × Step st CollectBegin reply next × ShowsCells cells next × ShowsCollectors cells collectors' next
+Begins cells collectors' reply st =
+    (next : State) × Step st CollectBegin reply next × ShowsCells cells next
+    × ShowsCollectors cells collectors' next
 
 -- the collector that is kept at this number
 abbrev pub kept_at : Collectors → ℕ → Option Collector
@@ -57,13 +65,16 @@ kept_after (Ok Collected) c = None
 kept_after result c = Some c
 
 -- The collector with this number has made visits for a request of n, and is kept as they left it.
-abbrev pub VisitsAt : ℕ → ℕ → Result CollectReply Refusal → Cells → Collectors → Cells → Collectors → Type 0
+abbrev pub VisitsAt : ℕ → ℕ → Result CollectReply Refusal → Cells → Collectors → Cells → Collectors
+    → Type 0
 VisitsAt i n result cells old cells' new = (c : Collector) → kept_at old i ≡ Some c
-    → (c' : Collector) × HasVisited n result cells c cells' c' × (kept_at new i ≡ kept_after result c')
+    → (c' : Collector) × HasVisited n result cells c cells' c'
+    × (kept_at new i ≡ kept_after result c')
 
 -- and what it told is so
 abbrev pub TellsAt : ℕ → ℕ → CollectReply → Cells → Collectors → Cells → Collectors → State → Type 0
-TellsAt i n reply cells old cells' new st = (c c' : Collector) → kept_at old i ≡ Some c → kept_at new i ≡ kept_after (Ok reply) c'
+TellsAt i n reply cells old cells' new st =
+    (c c' : Collector) → kept_at old i ≡ Some c → kept_at new i ≡ kept_after (Ok reply) c'
     → IsTold n reply cells c cells' c' st
 
 -- no collector but the one with this number changes, and none begins
@@ -104,9 +115,14 @@ IsUsedUp st = end_of_stamps ≤ st.next_collector
 
 -- what others do leaves what collectors show
 abbrev pub AreShownOn : Type 0
-AreShownOn = (cells cells' : Cells) (collectors : Collectors) (st next : State) (q : Request) (r : Reply) → IsReached st → ShowsCells cells st
-    → Step st q r next → kind_of q ≢ OfCollectors → ChangesCells cells st cells' → ShowsCollectors cells collectors st → ShowsCollectors cells' collectors next
+AreShownOn =
+    (cells cells' : Cells) (collectors : Collectors) (st next : State) (q : Request) (r : Reply)
+    → IsReached st → ShowsCells cells st → Step st q r next → kind_of q ≢ OfCollectors
+    → ChangesCells cells st cells'
+    → ShowsCollectors cells collectors st → ShowsCollectors cells' collectors next
 
 -- collectors that are the same show the same
 abbrev pub AreShownSame : Type 0
-AreShownSame = (cells : Cells) (old new : Collectors) (st : State) → SameCollectors old new → ShowsCollectors cells old st → ShowsCollectors cells new st
+AreShownSame =
+    (cells : Cells) (old new : Collectors) (st : State) → SameCollectors old new
+    → ShowsCollectors cells old st → ShowsCollectors cells new st

@@ -17,7 +17,8 @@ AreShown cells = (st : State) × IsReached st × ShowsCells cells st
 
 -- the n greatest numbers of which something is so, in falling order; all of them, if they are fewer
 pub record AreGreatest (n : ℕ) (IsSo : ℕ → Type 0) (found : List ℕ) : Type 0 where
-  pub falling : (i j a b : ℕ) → i < j → slice_get found i ≡ Some a → slice_get found j ≡ Some b → b < a
+  pub falling : (i j a b : ℕ) → i < j → slice_get found i ≡ Some a → slice_get found j ≡ Some b
+      → b < a
   pub each : (s : ℕ) → s ∈ found → IsSo s
   pub few : length found ≤ n
   pub rest : (s : ℕ) → IsSo s → (s ∈ found) ⊎ ((length found ≡ n) × ((t : ℕ) → t ∈ found → s < t))
@@ -39,7 +40,8 @@ pub record AreOld (cells : Cells) (x : Cell) (floor : ℕ) (vs : List (ℕ × �
 abbrev pub IsLatestBelow : Cells → Cell → Qualifier → ℕ → Option (ℕ × List ℕ) → Type 0
 IsLatestBelow cells x q below None = (s : ℕ) → s < below → at cells x q s ≡ None
 IsLatestBelow cells x q below (Some found) =
-    (found.0 < below) × (at cells x q found.0 ≡ Some found.1) × ((s : ℕ) → found.0 < s → s < below → at cells x q s ≡ None)
+    (found.0 < below) × (at cells x q found.0 ≡ Some found.1)
+    × ((s : ℕ) → found.0 < s → s < below → at cells x q s ≡ None)
 
 -- a record's text names t
 abbrev pub NamesStart : List ℕ → ℕ → Type 0
@@ -47,9 +49,11 @@ NamesStart b t = (length b ≡ 8) × (big_number 8 b ≡ t)
 
 -- at most one record of x stands at or below the floor
 abbrev pub HasOneRecord : Cells → Cell → ℕ → Type 0
-HasOneRecord cells x floor = (c d : ℕ) → c ≤ floor → d ≤ floor → IsThere cells x Write c → IsThere cells x Write d → c ≡ d
+HasOneRecord cells x floor =
+    (c d : ℕ) → c ≤ floor → d ≤ floor → IsThere cells x Write c → IsThere cells x Write d → c ≡ d
 
--- what a search for old records finds: old ones, or none where at most one stands at or below the floor
+-- what a search for old records finds: old ones, or none where at most one stands at or below the
+-- floor
 abbrev pub AreFound : Cells → Cell → ℕ → List (ℕ × ℕ) → Type 0
 AreFound cells x floor [] = HasOneRecord cells x floor
 AreFound cells x floor (v ∷ vs) = AreOld cells x floor (v ∷ vs)
@@ -71,11 +75,15 @@ NamesNone (Some found) = (t : ℕ) → 1 ≤ t → t < 2 ^ 63 → ¬ NamesStart 
 
 -- the start that the newest record at or below the floor names
 abbrev pub NamesLast : Cells → Cell → ℕ → Option ℕ → Type 0
-NamesLast cells x floor start = (last : Option (ℕ × List ℕ)) × IsNewest cells (key_of x Write) 0 floor last × IsNamedBy last start
+NamesLast cells x floor start =
+    (last : Option (ℕ × List ℕ)) × IsNewest cells (key_of x Write) 0 floor last
+    × IsNamedBy last start
 
 -- the start that the oldest record above the floor names
 abbrev pub NamesNext : Cells → Cell → ℕ → Option ℕ → Type 0
-NamesNext cells x floor start = (next : Option (ℕ × List ℕ)) × IsOldest cells (key_of x Write) (floor + 1) (2 ^ 64 - 1) next × IsNamedBy next start
+NamesNext cells x floor start =
+    (next : Option (ℕ × List ℕ)) × IsOldest cells (key_of x Write) (floor + 1) (2 ^ 64 - 1) next
+    × IsNamedBy next start
 
 -- data below the floor that no record names
 abbrev pub IsUnnamed : Cells → Cell → ℕ → ℕ → Type 0

@@ -146,7 +146,8 @@ impl Collectors {
         // Collected: each cell is tidy. More: so much less is left. Blocked: a lock below the floor stands there.
         ensures told { R.holds rows.old
             → IfOk result (λ reply. InEachShown (R.cells rows.old) self.old (λ st.
-            TellsAt number visits reply (R.cells rows.old) self.old (R.cells rows.new) self.new st)) }
+            TellsAt number visits reply (R.cells rows.old) self.old (R.cells rows.new) self.new
+            st)) }
         ensures one { ChangesOne number self.old self.new }
         // Nothing is read or changed where no collector has this number, or the number of visits is bad.
         ensures early { IfErr result (λ refusal. IsEarlyRefusal refusal

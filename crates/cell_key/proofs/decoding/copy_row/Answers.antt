@@ -1,5 +1,5 @@
 use Rattle.std.proofs.Common.{sym, ◌∙◌}
-use Rattle.cell_key.proofs.Reading.{row_end}
+use Rattle.cell_key.proofs.PartEnds.{row_end}
 use Rattle.cell_key.proofs.decoding.copy_row.Goals as goal
 
 pub returns : goal.returns

@@ -1,7 +1,7 @@
 use Rattle.std.proofs.Common.{◌==◌, ℕ, List, [], ◌++◌, length, sym, ap, ◌∙◌, append_assoc}
 use Rattle.std.proofs.lemmas.List.{append-nil}
 use Rattle.cell_key.specs.Texts.{escaped, ended, place_text}
-use Rattle.cell_key.proofs.Finding.{clash}
+use Rattle.cell_key.proofs.TextPlaces.{clash}
 use Rattle.cell_key.proofs.Order.{one_place, plain_family}
 use Rattle.cell_key.proofs.decoding.decode_place.Goals as goal
 

@@ -2,7 +2,7 @@ use Rattle.std.proofs.Common.{◌++◌, sym, ◌∙◌}
 use Rattle.cell_key.specs.Keys.{qualifier_name}
 use Rattle.cell_key.specs.Texts.{ended, stamp_text}
 use Rattle.cell_key.proofs.Order.{after_place, part_rest, plain_family, plain_name, text_of_place}
-use Rattle.cell_key.proofs.Reading.{if_none}
+use Rattle.cell_key.proofs.PartEnds.{if_none}
 use Rattle.cell_key.proofs.decoding.split_key.Goals as goal
 
 pub returns-in_err-row_len-clause-none : goal.returns-in_err-row_len-clause-none

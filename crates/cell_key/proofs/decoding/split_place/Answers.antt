@@ -1,9 +1,9 @@
 use Rattle.std.proofs.Common.{◌≡◌, ℕ, List, ◌++◌, length, sym, ap, subst, ◌∙◌, arith, append_assoc}
 use Rattle.cell_key.specs.Names.{IsFamily}
 use Rattle.cell_key.specs.Texts.{escaped, ended}
-use Rattle.cell_key.proofs.Finding.{clash}
+use Rattle.cell_key.proofs.TextPlaces.{clash}
 use Rattle.cell_key.proofs.Order.{one_place, plain_family, row_rest}
-use Rattle.cell_key.proofs.Reading.{if_none}
+use Rattle.cell_key.proofs.PartEnds.{if_none}
 use Rattle.cell_key.proofs.decoding.split_place.Goals as goal
 use Rattle.cell_key.proofs.decoding.split_place.Goals.{then-row_len-lt1-via-then-row_len-lt1, then-row_len-lt1-via-else-row_len-lt1+then-row_len-gt-MOST_BYTES, then-row_len-lt1-via-else-row_len-lt1+else-row_len-gt-MOST_BYTES+then-not-is_family}
 

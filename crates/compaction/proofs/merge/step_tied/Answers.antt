@@ -7,7 +7,8 @@ use Rattle.compaction.specs.Merging.{cost}
 use Rattle.compaction.proofs.Tied.{all_tied_part, cost_tied, lent_there, tied_whole}
 use Rattle.compaction.proofs.Turns.{cost_falls_from}
 use Rattle.cell_key.specs.declared.refusals.Refusal.TheVariants.{Device}
-use Rattle.compaction.proofs.Passed.{not_err, passed_err, passed_none, passed_on, passed_reason, reason_after, reason_of_ok}
+use Rattle.cell_key.proofs.Passed.{passed_err, passed_none, passed_on, passed_reason, reason_after, reason_of_ok}
+use Rattle.cell_key.proofs.Reasons.{not_refused as not_err}
 use Rattle.compaction.proofs.merge.step_tied.Goals as goal
 
 pub returns-clause-steps : goal.returns-clause-steps

@@ -3,7 +3,7 @@ use Rattle.std.proofs.lemmas.List.{drop-map, nil_from_length}
 use Rattle.cell_key.specs.Entries.{Entry, IsRising}
 use Rattle.memtable.specs.Slots.{slot_entry, slot_entries}
 use Rattle.memtable.specs.Blocks.{list_of, block_entries}
-use Rattle.cell_key.proofs.Finding.{from_place}
+use Rattle.cell_key.proofs.TextPlaces.{from_place}
 use Rattle.memtable.proofs.BlockLists.{rising_first, from_first, from_block}
 use Rattle.memtable.proofs.BlockFacts.{blocks_some}
 use Rattle.memtable.proofs.blocks.rest_from.Goals as goal

@@ -4,7 +4,7 @@ use Rattle.std.specs.Ordering.{is_eq}
 use Rattle.cell_key.specs.Keys.{byte_cmp}
 use Rattle.memtable.specs.declared.slots.Slot.{Slot}
 use Rattle.memtable.specs.Slots.{slot_entry}
-use Rattle.cell_key.proofs.Finding.{equal, one_text, found_at, missed_at, missed_end}
+use Rattle.cell_key.proofs.TextPlaces.{equal, one_text, found_at, missed_at, missed_end}
 use Rattle.memtable.proofs.slots.find.Goals as goal
 
 pub returns-in_err-slot-clause-found : goal.returns-in_err-slot-clause-found

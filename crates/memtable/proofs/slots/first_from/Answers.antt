@@ -1,7 +1,7 @@
 use Rattle.std.proofs.Common.{rules}
 use Rattle.std.proofs.lemmas.List.Sorted.{IsPartitionPoint-from_clause}
 use Rattle.memtable.specs.Slots.{slot_entry}
-use Rattle.cell_key.proofs.Finding.{is_below, parted, at_point}
+use Rattle.cell_key.proofs.TextPlaces.{is_below, parted, at_point}
 use Rattle.memtable.proofs.slots.first_from.Goals as goal
 
 pub returns-clause-place : goal.returns-clause-place

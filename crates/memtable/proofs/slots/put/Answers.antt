@@ -1,7 +1,7 @@
 use Rattle.std.proofs.Common.{Some, refl, set, sym, ◌∙◌, ap, arith}
 use Rattle.memtable.specs.declared.slots.Slot.{Slot}
 use Rattle.memtable.specs.Slots.{slot_entry, slot_entries}
-use Rattle.cell_key.proofs.Finding.{equal, found_at, one_text}
+use Rattle.cell_key.proofs.TextPlaces.{equal, found_at, one_text}
 use Rattle.memtable.proofs.Places.{named_some, named_within, not_found, put_over, put_beside}
 use Rattle.memtable.proofs.slots.put.Goals as goal
 

@@ -1,5 +1,5 @@
 use Rattle.std.proofs.Common.{◌≤◌, ◌+◌, length, refl, arith}
-use Rattle.request_codec.proofs.Handing.{IsTooLarge-from_header, IsPartial-from_header, frame-from_header}
+use Rattle.request_codec.proofs.FirstFrames.{IsTooLarge-from_header, IsPartial-from_header, frame-from_header}
 use Rattle.request_codec.proofs.framer.advance.Goals as goal
 
 pub returns-then-len-gt-LONGEST_BODY-clause-first :

@@ -1,4 +1,4 @@
-use Rattle.request_codec.proofs.Cutting.{cut_from}
+use Rattle.request_codec.proofs.Cuts.{cut_from}
 use Rattle.request_codec.proofs.laws.cut_goes_on.Goals as goal
 
 pub returns : goal.returns

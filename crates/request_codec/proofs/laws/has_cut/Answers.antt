@@ -1,4 +1,4 @@
-use Rattle.request_codec.proofs.Cutting.{has_cut_always}
+use Rattle.request_codec.proofs.Cuts.{has_cut_always}
 use Rattle.request_codec.proofs.laws.has_cut.Goals as goal
 
 pub returns : goal.returns

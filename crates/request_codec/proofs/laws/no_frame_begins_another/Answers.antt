@@ -1,4 +1,4 @@
-use Rattle.request_codec.proofs.Cutting.{frame_begins}
+use Rattle.request_codec.proofs.Cuts.{frame_begins}
 use Rattle.request_codec.proofs.laws.no_frame_begins_another.Goals as goal
 
 pub returns : goal.returns

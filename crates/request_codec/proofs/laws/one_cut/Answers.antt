@@ -1,4 +1,4 @@
-use Rattle.request_codec.proofs.Cutting.{one_cut_only}
+use Rattle.request_codec.proofs.Cuts.{one_cut_only}
 use Rattle.request_codec.proofs.laws.one_cut.Goals as goal
 
 pub returns : goal.returns

@@ -1,6 +1,6 @@
 -- One tablet after the other stays what it was.
 use Rattle.std.proofs.Common.{◌<◌, length, arith}
-use Rattle.row_atomic.proofs.Uncaching.{all_same, same_set}
+use Rattle.row_atomic.proofs.EmptiedCaches.{all_same, same_set}
 use Rattle.row_atomic.proofs.cluster_caches.drop_each.Goals as goal
 
 pub loop-tablet-init : goal.loop-tablet-init

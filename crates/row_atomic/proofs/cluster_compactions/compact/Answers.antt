@@ -2,9 +2,9 @@
 use Rattle.std.proofs.Common.{◌^◌, refl}
 use Rattle.cell_key.specs.declared.refusals.Refusal.TheVariants.{BadCount, TooManyFiles}
 use Rattle.tablet.specs.Compactions.{IsCompactionRefusal, IsMergeRefusal, IsMinorRefusal}
-use Rattle.row_atomic.proofs.Changing.{cleaned, if_ok, on_ok}
-use Rattle.row_atomic.proofs.Commanding.{not_answered}
-use Rattle.row_atomic.proofs.Passing.{each_refusal}
+use Rattle.row_atomic.proofs.ChangedTablets.{cleaned, if_ok, on_ok}
+use Rattle.row_atomic.proofs.CommandSteps.{not_answered}
+use Rattle.row_atomic.proofs.PassedRefusals.{each_refusal}
 use Rattle.row_atomic.proofs.CompactionRoom.{has_room, minor_fits, none_written, not_full_written, not_least}
 use Rattle.row_atomic.proofs.cluster_compactions.compact.Goals as goal
 

@@ -1,5 +1,5 @@
 -- What stays where the storage does.
-use Rattle.row_atomic.proofs.Keeping.{stored_stay}
+use Rattle.row_atomic.proofs.KeptRoots.{stored_stay}
 use Rattle.row_atomic.proofs.cluster_laws.root_is_stored.Goals as goal
 
 pub returns : goal.returns

@@ -1,6 +1,6 @@
 -- What stays after one minor compaction stays after many.
 use Rattle.row_atomic.specs.Flushes.{numbers_with}
-use Rattle.row_atomic.proofs.Keeping.{flushes_stay, minors_stay}
+use Rattle.row_atomic.proofs.KeptRoots.{flushes_stay, minors_stay}
 use Rattle.row_atomic.proofs.cluster_laws.root_outlasts_flushes.Goals as goal
 
 pub returns : goal.returns

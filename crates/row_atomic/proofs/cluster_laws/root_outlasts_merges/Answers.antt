@@ -1,6 +1,6 @@
 -- What stays after one merge stays after many.
 use Rattle.row_atomic.specs.Flushes.{numbers_over}
-use Rattle.row_atomic.proofs.Keeping.{merges_have}
+use Rattle.row_atomic.proofs.KeptRoots.{merges_have}
 use Rattle.row_atomic.proofs.cluster_laws.root_outlasts_merges.Goals as goal
 
 pub returns : goal.returns

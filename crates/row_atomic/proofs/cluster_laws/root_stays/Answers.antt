@@ -1,5 +1,5 @@
 -- What stays after one command.
-use Rattle.row_atomic.proofs.Keeping.{one_has, one_keeps}
+use Rattle.row_atomic.proofs.KeptRoots.{one_has, one_keeps}
 use Rattle.row_atomic.proofs.cluster_laws.root_stays.Goals as goal
 
 pub returns : goal.returns

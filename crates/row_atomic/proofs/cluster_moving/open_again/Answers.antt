@@ -3,8 +3,8 @@ use Rattle.std.proofs.lemmas.Result.{IfOk-from_err}
 use Rattle.cell_key.specs.declared.refusals.Refusal.TheVariants.{Damaged, Device}
 use Rattle.sorted_file.specs.Sources.{IsReadRefusal}
 use Rattle.tablet.specs.Views.{names_of}
-use Rattle.row_atomic.proofs.Moving.{not_there}
-use Rattle.row_atomic.proofs.Passing.{IsWant, no_fault, none_answered, one_of, refused_so, want_read}
+use Rattle.row_atomic.proofs.MovedTablets.{not_there}
+use Rattle.row_atomic.proofs.PassedRefusals.{IsWant, no_fault, none_answered, one_of, refused_so, want_read}
 use Rattle.row_atomic.proofs.cluster_moving.open_again.Goals as goal
 
 pub returns-clause-damaged : goal.returns-clause-damaged

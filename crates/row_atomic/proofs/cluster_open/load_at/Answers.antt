@@ -4,7 +4,7 @@ use Rattle.std.proofs.lemmas.List.{length-map}
 use Rattle.metadata_table.specs.Places.{PlaceView, view_of}
 use Rattle.tablet.specs.declared.tablet.Tablet.{Tablet}
 use Rattle.row_atomic.specs.RootsOpened.{FitsAt}
-use Rattle.row_atomic.proofs.Loading.{BeginsAfter, fits_of, fits_there, lacks_one}
+use Rattle.row_atomic.proofs.LoadedTablets.{BeginsAfter, fits_of, fits_there, lacks_one}
 use Rattle.row_atomic.proofs.cluster_open.load_at.Goals as goal
 use Rattle.row_atomic.proofs.cluster_open.load_at.Goals.{then-index-eq0, else-index-eq0+in_ok-after}
 

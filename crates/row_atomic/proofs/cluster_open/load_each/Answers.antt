@@ -5,9 +5,9 @@ use Rattle.file_store.specs.Store.{Contents}
 use Rattle.tablet.specs.Views.{Holds as HoldsAt}
 use Rattle.tablet.specs.declared.tablet.Tablet.{Tablet}
 use Rattle.row_atomic.specs.RootsOpened.{LacksFile}
-use Rattle.row_atomic.proofs.Loading.{IsLoading, all_loaded, has_tablet, none_loaded, one_loaded}
+use Rattle.row_atomic.proofs.LoadedTablets.{IsLoading, all_loaded, has_tablet, none_loaded, one_loaded}
 use Rattle.row_atomic.proofs.Numbers.{each_number}
-use Rattle.row_atomic.proofs.Passing.{no_fault, not_refused, not_wanted, passed, reason_passed, reason_since}
+use Rattle.row_atomic.proofs.PassedRefusals.{no_fault, not_refused, not_wanted, passed, reason_passed, reason_since}
 use Rattle.row_atomic.proofs.cluster_open.load_each.Goals as goal
 
 pub loop-number-init : goal.loop-number-init

@@ -1,7 +1,7 @@
 -- The tablets of the first numbers are loaded.
 use Rattle.std.proofs.Common.{◌≡◌, ◌≤◌, length}
 use Rattle.metadata_table.specs.Table.{IsTable}
-use Rattle.row_atomic.proofs.Loading.{IsLoading}
+use Rattle.row_atomic.proofs.LoadedTablets.{IsLoading}
 use Rattle.row_atomic.proofs.cluster_open.load_each.Given as goal
 
 abbrev pub invariant-loop-number : goal.invariant-loop-number

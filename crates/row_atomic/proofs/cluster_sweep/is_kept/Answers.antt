@@ -1,4 +1,4 @@
-use Rattle.row_atomic.proofs.Sweeping.{kept_if_listed}
+use Rattle.row_atomic.proofs.Sweeps.{kept_if_listed}
 use Rattle.row_atomic.proofs.cluster_sweep.is_kept.Goals as goal
 
 pub returns-else-name-eq0 : goal.returns-else-name-eq0

@@ -4,8 +4,8 @@ use Rattle.cell_key.specs.declared.refusals.Refusal.{Refusal}
 use Rattle.cell_key.specs.declared.refusals.Refusal.TheVariants.{Device, NoMemory}
 use Rattle.cell_key.specs.Faults.{HasReason}
 use Rattle.row_atomic.specs.Sweeps.{is_kept, unkept, without_files}
-use Rattle.row_atomic.proofs.Passing.{no_fault, none_answered, not_refused, reason_passed, refused_so}
-use Rattle.row_atomic.proofs.Sweeping.{lacks_more, unkept_first}
+use Rattle.row_atomic.proofs.PassedRefusals.{no_fault, none_answered, not_refused, reason_passed, refused_so}
+use Rattle.row_atomic.proofs.Sweeps.{lacks_more, unkept_first}
 use Rattle.row_atomic.proofs.cluster_sweep.remove_unkept.Goals as goal
 
 no_fault_since : {A : Type 0} (r : Result A Refusal) (before now : ℕ) → now ≡ before → ¬ IsErrOf r Device → HasReason before now r

@@ -5,7 +5,7 @@ use Rattle.cell_key.specs.Versions.{IsVersionIn, stamped}
 use Rattle.cell_key.specs.declared.refusals.Refusal.TheVariants.{Device}
 use Rattle.cell_key.proofs.Reasons.{not_refused, reason_none, reason_passed}
 use Rattle.row_atomic.proofs.Calls.{reads_then, refused_later}
-use Rattle.row_atomic.proofs.Halving.{at_none, at_some, half_below, nearer_above, older_is_nearer, oldest_is, rest_above, rest_at_first, rest_with_older}
+use Rattle.row_atomic.proofs.Halves.{at_none, at_some, half_below, nearer_above, older_is_nearer, oldest_is, rest_above, rest_at_first, rest_with_older}
 use Rattle.row_atomic.proofs.oldest_version.oldest.Goals as goal
 
 answered : {A : Type 0} (x : A) (before now : ℕ) → now ≡ before → HasReason before now (Ok x)

@@ -2,7 +2,7 @@ use Rattle.std.proofs.Common.{◌≡◌, ◌-◌, ◌≤◌}
 use Rattle.cell_key.specs.Cells.{version}
 use Rattle.cell_key.specs.Versions.{IsVersionIn, stamped}
 use Rattle.row_atomic.specs.Calls.{OnlyReads}
-use Rattle.row_atomic.proofs.Halving.{IsRest}
+use Rattle.row_atomic.proofs.Halves.{IsRest}
 use Rattle.row_atomic.proofs.oldest_version.oldest.Given as goal
 
 -- what was found is a version, and the oldest one stands between low and it

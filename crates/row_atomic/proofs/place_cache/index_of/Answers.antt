@@ -2,7 +2,7 @@
 use Rattle.std.proofs.Common.{◌≡◌, ◌+◌, ◌-◌, refl, sym, subst, ◌∙◌, arith}
 use Rattle.metadata_table.specs.Places.{view_of}
 use Rattle.row_atomic.specs.PlaceCaches.{AreHeld, IsHeldBy}
-use Rattle.row_atomic.proofs.PlaceCaching.{found_held, held_added, held_number, held_promoted}
+use Rattle.row_atomic.proofs.PlaceCaches.{found_held, held_added, held_number, held_promoted}
 use Rattle.row_atomic.proofs.place_cache.index_of.Goals as goal
 use Rattle.row_atomic.proofs.place_cache.index_of.Goals.{in-Some, in-None}
 

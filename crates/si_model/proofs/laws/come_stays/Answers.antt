@@ -1,4 +1,4 @@
-use Rattle.si_model.proofs.Coming.{come_stays}
+use Rattle.si_model.proofs.CollectorProgress.{come_stays}
 use Rattle.si_model.proofs.laws.come_stays.Goals as goal
 
 pub returns : goal.returns

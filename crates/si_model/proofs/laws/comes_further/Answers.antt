@@ -1,4 +1,4 @@
-use Rattle.si_model.proofs.Coming.{comes_further}
+use Rattle.si_model.proofs.CollectorProgress.{comes_further}
 use Rattle.si_model.proofs.laws.comes_further.Goals as goal
 
 pub returns : goal.returns

@@ -1,4 +1,4 @@
-use Rattle.si_model.proofs.Enduring.{endures}
+use Rattle.si_model.proofs.LastingMarks.{endures}
 use Rattle.si_model.proofs.laws.endures.Goals as goal
 
 pub returns : goal.returns

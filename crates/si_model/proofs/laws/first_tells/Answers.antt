@@ -1,4 +1,4 @@
-use Rattle.si_model.proofs.Deciding.{first_tells}
+use Rattle.si_model.proofs.CleanerFates.{first_tells}
 use Rattle.si_model.proofs.laws.first_tells.Goals as goal
 
 pub returns : goal.returns

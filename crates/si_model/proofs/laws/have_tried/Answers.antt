@@ -1,4 +1,4 @@
-use Rattle.si_model.proofs.Enduring.{have_tried}
+use Rattle.si_model.proofs.LastingMarks.{have_tried}
 use Rattle.si_model.proofs.laws.have_tried.Goals as goal
 
 pub returns : goal.returns

@@ -1,4 +1,4 @@
-use Rattle.si_model.proofs.Leaving.{leaves_others}
+use Rattle.si_model.proofs.ChangedParts.{leaves_others}
 use Rattle.si_model.proofs.laws.leaves_others.Goals as goal
 
 pub returns : goal.returns

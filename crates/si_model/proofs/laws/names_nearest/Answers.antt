@@ -1,4 +1,4 @@
-use Rattle.si_model.proofs.Deciding.{names_nearest}
+use Rattle.si_model.proofs.CleanerFates.{names_nearest}
 use Rattle.si_model.proofs.laws.names_nearest.Goals as goal
 
 pub returns : goal.returns

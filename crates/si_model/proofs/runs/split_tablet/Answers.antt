@@ -1,4 +1,4 @@
-use Rattle.si_model.proofs.Placing.{split_tablet}
+use Rattle.si_model.proofs.TabletScript.{split_tablet}
 use Rattle.si_model.proofs.runs.split_tablet.Goals as goal
 
 pub returns : goal.returns

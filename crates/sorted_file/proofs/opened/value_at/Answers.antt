@@ -2,7 +2,7 @@ use Rattle.std.proofs.Common.{refl, ap, sym, ◌∙◌}
 use Rattle.std.specs.Prelude.{option_map}
 use Rattle.cell_key.specs.Entries.{lent_entry}
 use Rattle.cell_key.specs.declared.entries.EntryRef.{EntryRef}
-use Rattle.sorted_file.proofs.Results.{passed_on}
+use Rattle.cell_key.proofs.Passed.{passed_on}
 use Rattle.sorted_file.proofs.Values.{entry_short}
 use Rattle.sorted_file.proofs.opened.value_at.Goals as goal
 

@@ -1,7 +1,7 @@
 use Rattle.std.proofs.Common.{List, ℕ, refl, sym, subst, ◌∙◌, Option}
 use Rattle.file_store.specs.Store.{Contents}
 use Rattle.sorted_file.specs.Blocks.{IsReading, Tells}
-use Rattle.sorted_file.proofs.Results.{passed_on}
+use Rattle.cell_key.proofs.Passed.{passed_on}
 use Rattle.sorted_file.proofs.WholeFiles.{foot_there, formed, no_file, start_reading, whole_file}
 use Rattle.sorted_file.proofs.opening.read_file.Goals as goal
 

@@ -1,5 +1,5 @@
 use Rattle.std.proofs.Common.{refl}
-use Rattle.sorted_file.proofs.Results.{passed_on}
+use Rattle.cell_key.proofs.Passed.{passed_on}
 use Rattle.sorted_file.proofs.parts.read_frame.Goals as goal
 
 pub returns-in_err-at-clause-damaged : goal.returns-in_err-at-clause-damaged

@@ -4,7 +4,7 @@ use Rattle.std.specs.Ordering.{is_le}
 use Rattle.cell_key.specs.Keys.{byte_cmp}
 use Rattle.cell_key.specs.Entries.{Entry, IsEntryList, entries_from}
 use Rattle.sorted_file.specs.Sources.{pending}
-use Rattle.compaction.specs.FilterLaws.{filter-list}
+use Rattle.cell_key.proofs.EntryLists.{filter-list}
 use Rattle.compaction.specs.declared.input.Input.TheVariants.{Memtable}
 use Rattle.tablet.proofs.SourceLists.{source_start, source_remaining}
 use Rattle.tablet.proofs.sources.memtable_source.Goals as goal

@@ -2,7 +2,7 @@ use Rattle.std.proofs.Common.{option_map}
 use Rattle.cell_key.specs.Versions.{stamped}
 use Rattle.row_atomic.proofs.Calls.{refused_later}
 use Rattle.version_collector.specs.Versions.{AreShown}
-use Rattle.version_collector.proofs.Passing.{refused_damaged, shown_later}
+use Rattle.version_collector.proofs.PassedRefusals.{refused_damaged, shown_later}
 use Rattle.version_collector.proofs.Starts.{newest_there, none_named}
 use Rattle.version_collector.proofs.versions.near_starts.Goals as goal
 

@@ -1,7 +1,7 @@
 use Rattle.std.proofs.Common.{◌+◌, ◌-◌, ◌^◌, option_map}
 use Rattle.cell_key.specs.Versions.{stamped}
 use Rattle.version_collector.specs.Versions.{AreShown, NamesNone}
-use Rattle.version_collector.proofs.Passing.{refused_named}
+use Rattle.version_collector.proofs.PassedRefusals.{refused_named}
 use Rattle.version_collector.proofs.Starts.{none_named, oldest_there}
 use Rattle.version_collector.proofs.versions.next_start.Goals as goal
 

@@ -1,7 +1,7 @@
 use Rattle.std.proofs.Common.{refl}
 use Rattle.std.proofs.lemmas.Bool.{OnFalse_at, OnTrue_at}
 use Rattle.clean_up.specs.declared.fates.Fate.TheVariants.{Back, Forward}
-use Rattle.clean_up.proofs.Deciding.{back_so, decides_so, forward_so, gone_so}
+use Rattle.clean_up.proofs.CleanerSteps.{back_so, decides_so, forward_so, gone_so}
 use Rattle.clean_up.proofs.cleaner.Cleaner.advance.Goals as goal
 
 pub returns-in_ok-self-in-Open-clause-step : goal.returns-in_ok-self-in-Open-clause-step

@@ -9,7 +9,8 @@ use Rattle.si_model.specs.declared.replies.Cell.{Cell}
 use Rattle.clean_up.specs.Locks.{Stands}
 use Rattle.clean_up.specs.Shows.{Steps}
 use Rattle.clean_up.specs.declared.cleaner.Cleaner.{Cleaner}
-use Rattle.clean_up.proofs.Table.{as_err, full_at, is_full, is_room, name_refused_at, no_lacking, no_lock_at, opens_at, read_storage, refused_at, same_entries, same_itself, same_refusal, standing_none, standing_some}
+use Rattle.cell_key.proofs.Passed.{as_err, same_refusal}
+use Rattle.clean_up.proofs.Table.{full_at, is_full, is_room, name_refused_at, no_lacking, no_lock_at, opens_at, read_storage, refused_at, same_entries, same_itself, standing_none, standing_some}
 use Rattle.clean_up.proofs.cleaners.Cleaners.begin.Goals as goal
 
 pub returns-in_err-cell-clause-step : goal.returns-in_err-cell-clause-step

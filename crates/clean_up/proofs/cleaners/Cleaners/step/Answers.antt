@@ -6,7 +6,8 @@ use Rattle.cell_key.specs.declared.refusals.Refusal.TheVariants.{MemtableFull, D
 use Rattle.si_model.specs.Machine as machine
 use Rattle.clean_up.specs.declared.cleaner.Cleaner.{Cleaner}
 use Rattle.clean_up.proofs.Room.{changes_shown, does_make, does_so, does_take, does_touch, no_bad_record, no_room_so, touches_shown}
-use Rattle.clean_up.proofs.Table.{advance_storage, as_err, passed_on, refused_at, same_entries, same_lent, same_refusal, takes_at, twice, unknown_at, with_none}
+use Rattle.cell_key.proofs.Passed.{as_err, passed as passed_on, same_refusal}
+use Rattle.clean_up.proofs.Table.{advance_storage, refused_at, same_entries, same_lent, takes_at, twice, unknown_at, with_none}
 use Rattle.clean_up.proofs.cleaners.Cleaners.step.Goals as goal
 
 pub returns-in_default-clause-step : goal.returns-in_default-clause-step

@@ -2,7 +2,7 @@ use Rattle.std.proofs.Common.{◌≡◌, true, refl, sym, ap, ◌∙◌}
 use Rattle.std.specs.Prelude.{Option, Some, None, option_map, is_some}
 use Rattle.cell_key.specs.Entries.{lent_entry}
 use Rattle.compaction.specs.Ends.{end_of, source_of, is_at_end}
-use Rattle.compaction.proofs.Ending.{until_stays, until_takes}
+use Rattle.compaction.proofs.EndedSources.{until_stays, until_takes}
 use Rattle.compaction.proofs.until.UntilSource.advance.Goals as goal
 
 pub returns-then-is_at_end-clause-takes : goal.returns-then-is_at_end-clause-takes

@@ -3,7 +3,7 @@ use Rattle.std.proofs.Common.{subst}
 use Rattle.std.proofs.lemmas.Result.{on_err_weaker, on_ok_weaker}
 use Rattle.cell_key.specs.Places.{IsNextCell}
 use Rattle.row_atomic.proofs.Calls.{either_way, is_read_refusal, read_undamaged}
-use Rattle.row_atomic.proofs.Listing.{stored_lists}
+use Rattle.row_atomic.proofs.ListedFiles.{stored_lists}
 use Rattle.row_atomic.proofs.Outcomes.{applied, of_done, read_refused, tells_read}
 use Rattle.row_atomic.specs.Commands.{cells_shown}
 use Rattle.row_atomic.specs.declared.commands.Command.TheVariants as command

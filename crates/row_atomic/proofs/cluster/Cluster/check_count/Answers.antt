@@ -1,7 +1,7 @@
 -- The tablet's number of files decides.
 use Rattle.std.proofs.Common.{arith}
-use Rattle.row_atomic.proofs.Answering.{found_there}
-use Rattle.row_atomic.proofs.Changing.{not_bad, too_few, too_many}
+use Rattle.row_atomic.proofs.RowAnswers.{found_there}
+use Rattle.row_atomic.proofs.ChangedTablets.{not_bad, too_few, too_many}
 use Rattle.row_atomic.proofs.cluster.Cluster.check_count.Goals as goal
 use Rattle.row_atomic.proofs.cluster.Cluster.check_count.Goals.{then-count-lt2-via-then-count-lt2, then-count-lt2-via-else-count-lt2+then-count-file_count}
 

@@ -2,9 +2,9 @@
 use Rattle.row_atomic.specs.Changes.{IsRefusalOf}
 use Rattle.row_atomic.specs.Commands.{done_of}
 use Rattle.row_atomic.specs.Compactions.{minor}
-use Rattle.row_atomic.proofs.Checkpointing.{both_tell, done_undamaged, flushes_tell, passed_on, put_tells, refused_tells, when_refused}
-use Rattle.row_atomic.proofs.Resting.{are_flushed, flushed_then, rests_after, when_done, when_true}
-use Rattle.row_atomic.proofs.Rooting.{checkpointed, not_flushed}
+use Rattle.row_atomic.proofs.Checkpoints.{both_tell, done_undamaged, flushes_tell, passed_on, put_tells, refused_tells, when_refused}
+use Rattle.row_atomic.proofs.RestedClusters.{are_flushed, flushed_then, rests_after, when_done, when_true}
+use Rattle.row_atomic.proofs.RootFlushes.{checkpointed, not_flushed}
 use Rattle.row_atomic.proofs.cluster.Cluster.checkpoint.Goals as goal
 
 pub returns-in_err-flush_each-clause-steps : goal.returns-in_err-flush_each-clause-steps

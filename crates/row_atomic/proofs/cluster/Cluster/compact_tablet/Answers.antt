@@ -10,16 +10,16 @@ use Rattle.row_atomic.specs.Clusters.{spot_of}
 use Rattle.row_atomic.specs.PlaceCaches.{AreHeld}
 use Rattle.row_atomic.specs.Changes.{Fits, IsCleaned, IsFull, IsMade, IsTooLarge, MeetsBadCount, MeetsFull, WritesNone}
 use Rattle.tablet.specs.Compactions.{Compacts}
-use Rattle.row_atomic.proofs.Answering.{found_there, undamaged}
-use Rattle.row_atomic.proofs.Listing.{flush_lists}
-use Rattle.row_atomic.proofs.Naming.{compacted_files, no_less, placed_names}
-use Rattle.row_atomic.proofs.Changing.{numbered_at, has_room, in_order, is_set, matched_unchanged, matched_listed, numbered_new, numbered_old, parts_stay, remade, same_spots, stays}
+use Rattle.row_atomic.proofs.RowAnswers.{found_there, undamaged}
+use Rattle.row_atomic.proofs.ListedFiles.{flush_lists}
+use Rattle.row_atomic.proofs.FileNames.{compacted_files, no_less, placed_names}
+use Rattle.row_atomic.proofs.ChangedTablets.{numbered_at, has_room, in_order, is_set, matched_unchanged, matched_listed, numbered_new, numbered_old, parts_stay, remade, same_spots, stays}
 use Rattle.tablet.specs.declared.compactions.Compaction.{Compaction}
 use Rattle.row_atomic.specs.declared.commands.Outcome.TheVariants.{Done}
 use Rattle.row_atomic.proofs.Outcomes.{compacted, err_of, full_meets, known_refusal, refused_done, tells_done, tells_refused, uncompacted, unstarted}
-use Rattle.row_atomic.proofs.Passing.{none_answered}
+use Rattle.row_atomic.proofs.PassedRefusals.{none_answered}
 use Rattle.row_atomic.proofs.CompactionRoom.{numbered_not, numbered_that}
-use Rattle.row_atomic.proofs.PlaceCaching.{held_listed}
+use Rattle.row_atomic.proofs.PlaceCaches.{held_listed}
 use Rattle.row_atomic.proofs.cluster.Cluster.compact_tablet.Goals as goal
 
 pub invariant_of-self : goal.invariant_of-self

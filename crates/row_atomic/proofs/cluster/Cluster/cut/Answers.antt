@@ -8,13 +8,13 @@ use Rattle.sorted_file.specs.Sources.{IsReadRefusal}
 use Rattle.tablet.specs.Views.{IsUnchanged, names_of, with_name}
 use Rattle.tablet.specs.declared.tablet.Tablet.{Tablet}
 use Rattle.row_atomic.specs.Clusters.{InOrder, IsMatched, cells_in}
-use Rattle.row_atomic.proofs.Answering.{found_there}
-use Rattle.row_atomic.proofs.Changing.{if_err, in_order, matched_unchanged}
+use Rattle.row_atomic.proofs.RowAnswers.{found_there}
+use Rattle.row_atomic.proofs.ChangedTablets.{if_err, in_order, matched_unchanged}
 use Rattle.row_atomic.specs.Changes.{IsHalved, Remakes}
-use Rattle.row_atomic.proofs.Emptying.{cut_in_two, holder_stays, holder_unchanged}
-use Rattle.row_atomic.proofs.Passing.{IsWant, no_fault, none_answered, not_refused, one_of, passed, reason_kept, reason_passed, refused_so, want_read}
-use Rattle.row_atomic.proofs.Splitting.{holder_emptied, holder_known, matched_cut, parts_keep, stays_over}
-use Rattle.row_atomic.proofs.PlaceCaching.{none_held}
+use Rattle.row_atomic.proofs.LeftTablets.{cut_in_two, holder_stays, holder_unchanged}
+use Rattle.row_atomic.proofs.PassedRefusals.{IsWant, no_fault, none_answered, not_refused, one_of, passed, reason_kept, reason_passed, refused_so}
+use Rattle.row_atomic.proofs.SplitClusters.{holder_emptied, holder_known, matched_cut, parts_keep, stays_over}
+use Rattle.row_atomic.proofs.PlaceCaches.{none_held}
 use Rattle.row_atomic.proofs.cluster.Cluster.cut.Goals as goal
 
 -- a push that is done

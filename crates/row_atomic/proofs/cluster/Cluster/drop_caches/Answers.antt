@@ -4,8 +4,8 @@ use Rattle.std.specs.List.{AllZip}
 use Rattle.std.proofs.lemmas.List.{with_items_is}
 use Rattle.tablet.specs.Views.{IsSameTablet}
 use Rattle.tablet.specs.declared.tablet.Tablet.{Tablet}
-use Rattle.row_atomic.proofs.PlaceCaching.{none_held}
-use Rattle.row_atomic.proofs.Uncaching.{matched_still, uncached}
+use Rattle.row_atomic.proofs.PlaceCaches.{none_held}
+use Rattle.row_atomic.proofs.EmptiedCaches.{matched_still, uncached}
 use Rattle.row_atomic.proofs.cluster.Cluster.drop_caches.Goals as goal
 
 pub invariant_of-self : goal.invariant_of-self

@@ -2,8 +2,8 @@
 use Rattle.std.proofs.Common.{◌<◌, ◌≤◌, length, arith}
 use Rattle.row_atomic.specs.Changes.{IsRefusalOf}
 use Rattle.row_atomic.specs.Compactions.{minor}
-use Rattle.row_atomic.proofs.Checkpointing.{known_refusal, passed_on}
-use Rattle.row_atomic.proofs.Rooting.{after_one, at_end, at_refusal, at_start, within_now}
+use Rattle.row_atomic.proofs.Checkpoints.{known_refusal, passed_on}
+use Rattle.row_atomic.proofs.RootFlushes.{after_one, at_end, at_refusal, at_start, within_now}
 use Rattle.row_atomic.proofs.cluster.Cluster.flush_each.Goals as goal
 
 pub loop-index-init : goal.loop-index-init

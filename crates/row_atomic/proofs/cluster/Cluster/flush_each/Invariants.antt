@@ -1,6 +1,6 @@
 -- The tablets before the index are flushed.
 use Rattle.std.proofs.Common.{◌≡◌, length}
-use Rattle.row_atomic.proofs.Rooting.{IsFlushing}
+use Rattle.row_atomic.proofs.RootFlushes.{IsFlushing}
 use Rattle.row_atomic.proofs.cluster.Cluster.flush_each.Given as goal
 
 abbrev pub invariant-loop-index : goal.invariant-loop-index

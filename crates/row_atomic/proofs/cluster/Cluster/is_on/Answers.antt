@@ -1,8 +1,8 @@
 use Rattle.std.proofs.Common.{inr, Bool, Err, IsErrOf, refl}
 use Rattle.cell_key.specs.declared.refusals.Refusal.TheVariants.{UnknownServer, UnknownTablet}
 use Rattle.metadata_table.specs.Places.{view_of}
-use Rattle.row_atomic.proofs.Moving.{on_same}
-use Rattle.row_atomic.proofs.Passing.{below_only, none_answered, not_refused}
+use Rattle.row_atomic.proofs.MovedTablets.{on_same}
+use Rattle.row_atomic.proofs.PassedRefusals.{below_only, none_answered, not_refused}
 use Rattle.row_atomic.proofs.cluster.Cluster.is_on.Goals as goal
 
 server_alone : ¬ IsErrOf {T = Bool} (Err UnknownServer) UnknownTablet

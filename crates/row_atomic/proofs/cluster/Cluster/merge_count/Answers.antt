@@ -1,6 +1,6 @@
 -- The tablet says which count leaves fewer files.
-use Rattle.row_atomic.proofs.Answering.{found_there}
-use Rattle.row_atomic.proofs.Changing.{numbered_at}
+use Rattle.row_atomic.proofs.RowAnswers.{found_there}
+use Rattle.row_atomic.proofs.ChangedTablets.{numbered_at}
 use Rattle.row_atomic.proofs.cluster.Cluster.merge_count.Goals as goal
 
 pub returns : goal.returns

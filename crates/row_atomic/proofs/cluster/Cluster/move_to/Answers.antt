@@ -5,12 +5,12 @@ use Rattle.metadata_table.specs.Table.{moved}
 use Rattle.tablet.specs.Views.{names_of}
 use Rattle.row_atomic.specs.Changes.{IsFlushed, Remakes}
 use Rattle.row_atomic.specs.Clusters.{spot_of}
-use Rattle.row_atomic.proofs.Changing.{on_ok}
-use Rattle.row_atomic.proofs.Emptying.{flushed_opened}
-use Rattle.row_atomic.proofs.Listing.{move_lists}
-use Rattle.row_atomic.proofs.Moving.{known_after}
+use Rattle.row_atomic.proofs.ChangedTablets.{on_ok}
+use Rattle.row_atomic.proofs.LeftTablets.{flushed_opened}
+use Rattle.row_atomic.proofs.ListedFiles.{move_lists}
+use Rattle.row_atomic.proofs.MovedTablets.{known_after}
 use Rattle.row_atomic.proofs.Outcomes.{as_refusal, flush_refused, put_after, refused_done, stayed, unmoved}
-use Rattle.row_atomic.proofs.Passing.{not_both}
+use Rattle.row_atomic.proofs.PassedRefusals.{not_both}
 use Rattle.row_atomic.proofs.CompactionRoom.{still_used}
 use Rattle.row_atomic.proofs.cluster.Cluster.move_to.Goals as goal
 

@@ -4,7 +4,7 @@ use Rattle.metadata_table.specs.Places.{PlaceView}
 use Rattle.tablet.specs.declared.tablet.Tablet.{Tablet}
 use Rattle.row_atomic.specs.Clusters.{InOrder, IsMatched, cells_in}
 use Rattle.row_atomic.proofs.Fresh.{new_cells, new_in_order, new_matched}
-use Rattle.row_atomic.proofs.PlaceCaching.{none_held}
+use Rattle.row_atomic.proofs.PlaceCaches.{none_held}
 use Rattle.row_atomic.proofs.cluster.Cluster.new.Goals as goal
 
 pub invariant_of-result : goal.invariant_of-result

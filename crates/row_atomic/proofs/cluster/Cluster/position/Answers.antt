@@ -1,5 +1,5 @@
 -- Each number of a place is that of a tablet.
-use Rattle.row_atomic.proofs.Changing.{known}
+use Rattle.row_atomic.proofs.ChangedTablets.{known}
 use Rattle.row_atomic.proofs.cluster.Cluster.position.Goals as goal
 
 pub overflow_sub-result : goal.overflow_sub-result

@@ -2,16 +2,16 @@
 use Rattle.cell_key.specs.declared.refusals.Refusal.{Refusal}
 use Rattle.cell_key.specs.declared.refusals.Refusal.TheVariants.{Damaged, UnknownServer, UnknownTablet}
 use Rattle.sorted_file.specs.Sources.{IsReadRefusal}
-use Rattle.row_atomic.proofs.Answering.{found_there, index_below, matched_set, same_cells_in, still_in_order, undamaged}
+use Rattle.row_atomic.proofs.RowAnswers.{found_there, index_below, matched_set, same_cells_in, still_in_order, undamaged}
 use Rattle.row_atomic.specs.Changes.{IsReopened}
-use Rattle.row_atomic.proofs.Changing.{if_err, remade}
-use Rattle.row_atomic.proofs.Commanding.{when_ok}
+use Rattle.row_atomic.proofs.ChangedTablets.{if_err, remade}
+use Rattle.row_atomic.proofs.CommandSteps.{when_ok}
 use Rattle.metadata_table.specs.Table.{moved}
-use Rattle.row_atomic.proofs.Moving.{matched_moved, opened_keeps}
-use Rattle.row_atomic.proofs.PlaceCaching.{none_held}
-use Rattle.row_atomic.proofs.Passing.{below_only, none_answered, not_refused, passed, reason_kept, reason_passed, refused_so}
+use Rattle.row_atomic.proofs.MovedTablets.{matched_moved, opened_keeps}
+use Rattle.row_atomic.proofs.PlaceCaches.{none_held}
+use Rattle.row_atomic.proofs.PassedRefusals.{below_only, none_answered, not_refused, passed, reason_kept, reason_passed, refused_so}
 use Rattle.std.proofs.Common.{◌≡◌, ◌<◌, ◌⊎◌, inl, inr, ℕ, Result, Ok, Err, IfErr, IsErrOf, IsOk, refl, sym, ap, subst, set}
-use Rattle.row_atomic.proofs.Splitting.{emptied_at}
+use Rattle.row_atomic.proofs.SplitClusters.{emptied_at}
 use Rattle.row_atomic.proofs.cluster.Cluster.put.Goals as goal
 
 -- a tablet that is known was put on a server that is there

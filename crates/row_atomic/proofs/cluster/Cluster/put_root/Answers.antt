@@ -4,8 +4,8 @@ use Rattle.file_store.specs.Store.{Contents, KeepsOthers, with_file}
 use Rattle.metadata_table.specs.Roots.{RootView, root_bytes}
 use Rattle.row_atomic.specs.Clusters.{cells_in}
 use Rattle.row_atomic.specs.Roots.{root_name}
-use Rattle.row_atomic.proofs.Checkpointing.{root_keeps}
-use Rattle.row_atomic.proofs.Resting.{keeps_told, put_keeps, rooted}
+use Rattle.row_atomic.proofs.Checkpoints.{root_keeps}
+use Rattle.row_atomic.proofs.RestedClusters.{keeps_told, put_keeps, rooted}
 use Rattle.row_atomic.proofs.cluster.Cluster.put_root.Goals as goal
 
 pub write_root-requires : goal.write_root-requires

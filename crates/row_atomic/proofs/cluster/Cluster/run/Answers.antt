@@ -4,7 +4,7 @@ use Rattle.std.specs.List.{AllByRecursion}
 use Rattle.std.specs.Vec.Iter.{into_iter_items}
 use Rattle.row_atomic.specs.Commands.{IsUnderRow}
 use Rattle.row_atomic.specs.declared.commands.Command.{Command}
-use Rattle.row_atomic.proofs.Commanding.{all_answered, answered, none_left}
+use Rattle.row_atomic.proofs.CommandSteps.{all_answered, answered, none_left}
 use Rattle.row_atomic.proofs.cluster.Cluster.run.Goals as goal
 
 pub answer-outcome-requires : goal.answer-outcome-requires

@@ -5,7 +5,7 @@ use Rattle.std.specs.List.{AllByRecursion}
 use Rattle.std.specs.Vec.Iter.{into_iter_items}
 use Rattle.row_atomic.specs.Changes.{Holds}
 use Rattle.row_atomic.specs.Commands.{IsUnderRow}
-use Rattle.row_atomic.proofs.Commanding.{Completes}
+use Rattle.row_atomic.proofs.CommandSteps.{Completes}
 use Rattle.row_atomic.proofs.cluster.Cluster.run.Given as goal
 
 abbrev pub invariant-loop-command : goal.invariant-loop-command

@@ -5,12 +5,12 @@ use Rattle.cell_key.specs.declared.refusals.Refusal.TheVariants.{BadSplit}
 use Rattle.metadata_table.specs.Places.{view_of}
 use Rattle.row_atomic.specs.Changes.{IsEmptied}
 use Rattle.row_atomic.specs.Clusters.{spot_of}
-use Rattle.row_atomic.proofs.Emptying.{cut_listed, flushed_alone, halved_after}
-use Rattle.row_atomic.proofs.Listing.{cut_lists}
+use Rattle.row_atomic.proofs.LeftTablets.{cut_listed, flushed_alone, halved_after}
+use Rattle.row_atomic.proofs.ListedFiles.{cut_lists}
 use Rattle.row_atomic.proofs.Outcomes.{cut_after, refused_split, uncut, unflushed}
-use Rattle.row_atomic.proofs.Passing.{number_after}
+use Rattle.row_atomic.proofs.PassedRefusals.{number_after}
 use Rattle.row_atomic.proofs.CompactionRoom.{holder_that, still_used}
-use Rattle.row_atomic.proofs.Splitting.{free_after, holder_flushed, holder_known}
+use Rattle.row_atomic.proofs.SplitClusters.{free_after, holder_flushed, holder_known}
 use Rattle.row_atomic.proofs.cluster.Cluster.split.Goals as goal
 
 pub compact_tablet-requires-clause-known : goal.compact_tablet-requires-clause-known

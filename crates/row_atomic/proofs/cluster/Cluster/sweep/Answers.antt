@@ -2,10 +2,10 @@
 use Rattle.std.proofs.Common.{◌∙◌, Option, Err, refl, sym, ap, subst}
 use Rattle.file_store.specs.Store.{Contents}
 use Rattle.row_atomic.specs.Sweeps.{MayLackUnkept, unkept, without_files}
-use Rattle.row_atomic.proofs.Answering.{same_cells_in, still_in_order}
+use Rattle.row_atomic.proofs.RowAnswers.{same_cells_in, still_in_order}
 use Rattle.row_atomic.proofs.Outcomes.{err_reason, refused_sweep, swept_so}
-use Rattle.row_atomic.proofs.Passing.{reason_after}
-use Rattle.row_atomic.proofs.Sweeping.{counted, lacks_none, on_ok, swept_is, swept_order}
+use Rattle.row_atomic.proofs.PassedRefusals.{reason_after}
+use Rattle.row_atomic.proofs.Sweeps.{counted, lacks_none, on_ok, swept_is, swept_order}
 use Rattle.row_atomic.proofs.cluster.Cluster.sweep.Goals as goal
 
 pub invariant_of-self : goal.invariant_of-self

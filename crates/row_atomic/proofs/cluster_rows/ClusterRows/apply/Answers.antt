@@ -3,11 +3,11 @@ use Rattle.std.proofs.Common.{◌<◌, ℕ, ap, map, sym, subst}
 use Rattle.std.proofs.lemmas.Result.{on_err_weaker}
 use Rattle.sorted_file.specs.Opened.{name_of}
 use Rattle.tablet.specs.Views.{range_of}
-use Rattle.row_atomic.proofs.Answering.{apply_answer, apply_still, found_there, index_below, matched_set, over_full, owner_at}
-use Rattle.row_atomic.proofs.Changing.{on_ok}
+use Rattle.row_atomic.proofs.RowAnswers.{apply_answer, apply_still, found_there, index_below, matched_set, over_full, owner_at}
+use Rattle.row_atomic.proofs.ChangedTablets.{on_ok}
 use Rattle.row_atomic.proofs.Calls.{applied_in, same_tablet}
 use Rattle.row_atomic.proofs.CompactionRoom.{all_kept, not_full, room_after}
-use Rattle.row_atomic.proofs.PlaceCaching.{at_kept}
+use Rattle.row_atomic.proofs.PlaceCaches.{at_kept}
 use Rattle.row_atomic.proofs.cluster_rows.ClusterRows.apply.Goals as goal
 
 pub index_of-index-requires : goal.index_of-index-requires

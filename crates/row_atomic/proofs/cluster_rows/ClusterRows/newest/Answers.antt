@@ -1,8 +1,8 @@
 -- The cells of the row are those of its tablet, which stays what it was.
 use Rattle.std.proofs.Common.{◌<◌, ℕ, sym, subst}
-use Rattle.row_atomic.proofs.Answering.{found_there, index_below, matched_set, newest_answer, owner_at, undamaged}
+use Rattle.row_atomic.proofs.RowAnswers.{found_there, index_below, matched_set, newest_answer, owner_at, undamaged}
 use Rattle.row_atomic.proofs.Calls.{refused_read, tablet_read}
-use Rattle.row_atomic.proofs.PlaceCaching.{at_kept}
+use Rattle.row_atomic.proofs.PlaceCaches.{at_kept}
 use Rattle.row_atomic.proofs.cluster_rows.ClusterRows.newest.Goals as goal
 
 pub index_of-index-requires : goal.index_of-index-requires

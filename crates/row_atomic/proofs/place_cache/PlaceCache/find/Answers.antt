@@ -1,7 +1,7 @@
 -- What is found comes first.
 use Rattle.std.proofs.Common.{List, ℕ, sym, ap, ◌∙◌, is_some, option_map, slice_get}
 use Rattle.row_atomic.specs.PlaceCaches.{is_key_of, number_kept}
-use Rattle.row_atomic.proofs.PlaceCaching.{first_promoted, one_hit}
+use Rattle.row_atomic.proofs.PlaceCaches.{first_promoted, one_hit}
 use Rattle.row_atomic.proofs.place_cache.PlaceCache.find.Goals as goal
 
 pub returns-clause-found : goal.returns-clause-found

@@ -1,7 +1,7 @@
 -- What is put is the row's, and what isn't put leaves all.
 use Rattle.std.proofs.Common.{List, ℕ, subst, ◌∙◌}
 use Rattle.row_atomic.specs.PlaceCaches.{AddsOnly}
-use Rattle.row_atomic.proofs.PlaceCaching.{added_by}
+use Rattle.row_atomic.proofs.PlaceCaches.{added_by}
 use Rattle.row_atomic.proofs.place_cache.PlaceCache.keep.Goals as goal
 
 pub returns-in-Ok-clause-adds : goal.returns-in-Ok-clause-adds

@@ -6,7 +6,8 @@ use Rattle.sorted_file.specs.Opened.{name_of, IsReadNow}
 use Rattle.sorted_file.specs.Parsed.{BeginsWith}
 use Rattle.sorted_file.specs.declared.blocks.BlockRow.{BlockRow}
 use Rattle.sorted_file.proofs.LookUps.{block_in, here_row, read_right, row_begins, same_row}
-use Rattle.sorted_file.proofs.Results.{as_told, of_none, of_some, passed_on}
+use Rattle.cell_key.proofs.Passed.{passed_on}
+use Rattle.sorted_file.proofs.Results.{as_told, of_none, of_some}
 use Rattle.sorted_file.proofs.Starts.{parsed_as}
 use Rattle.sorted_file.proofs.opened.SortedFile.read_block.Goals as goal
 

@@ -2,7 +2,8 @@ use Rattle.std.proofs.Common.{refl, sym, ap, ◌∙◌}
 use Rattle.std.specs.Prelude.{option_copied}
 use Rattle.sorted_file.proofs.Keeping.{found_cached}
 use Rattle.sorted_file.proofs.LookUps.{same_file, some_row}
-use Rattle.sorted_file.proofs.Results.{as_told, of_told, passed_on}
+use Rattle.cell_key.proofs.Passed.{passed_on}
+use Rattle.sorted_file.proofs.Results.{as_told, of_told}
 use Rattle.sorted_file.proofs.opened.SortedFile.value_in.Goals as goal
 
 pub returns-in_err-found-in-Some-clause-damaged : goal.returns-in_err-found-in-Some-clause-damaged

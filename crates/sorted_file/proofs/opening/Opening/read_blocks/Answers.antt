@@ -2,7 +2,7 @@ use Rattle.std.proofs.Common.{rules, List, ℕ, refl, sym, subst, ◌∙◌, Opt
 use Rattle.std.proofs.lemmas.List.{nil_from_length}
 use Rattle.file_store.specs.Store.{Contents}
 use Rattle.sorted_file.specs.Blocks.{IsReading}
-use Rattle.sorted_file.proofs.Results.{passed_on}
+use Rattle.cell_key.proofs.Passed.{passed_on}
 use Rattle.sorted_file.proofs.opening.Opening.read_blocks.Goals as goal
 
 pub returns-in_err-rest-clause-damaged : goal.returns-in_err-rest-clause-damaged

@@ -6,7 +6,7 @@ use Rattle.sorted_file.specs.Kept.{kept}
 use Rattle.sorted_file.specs.Blocks.{blocks_of, IsNext, IsRead, Tells}
 use Rattle.sorted_file.proofs.NextBlocks.{next_block, row_there, block_there, block_next, reads_on, rest_small}
 use Rattle.sorted_file.specs.declared.entries.FileEntry.{FileEntry}
-use Rattle.sorted_file.proofs.Results.{passed_on}
+use Rattle.cell_key.proofs.Passed.{passed_on}
 use Rattle.sorted_file.proofs.opening.Opening.read_next.Goals as goal
 
 pub returns-in_default-clause-damaged : goal.returns-in_default-clause-damaged

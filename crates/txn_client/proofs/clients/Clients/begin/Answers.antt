@@ -10,9 +10,9 @@ use Rattle.txn_client.specs.Refusals.{IsBeginRefusal}
 use Rattle.txn_client.specs.Shows.{Steps}
 use Rattle.txn_client.proofs.Exact.{not_crowded}
 use Rattle.cell_key.proofs.Reasons.{not_refused, reason_none}
-use Rattle.txn_client.proofs.Passed.{at_most_itself, passed_err, passed_none, passed_kept, no_memory_only, device_not, refused_not}
+use Rattle.txn_client.proofs.Passed.{as_err, at_most_itself, passed_err, passed_none, passed_kept, no_memory_only, device_not, refused_not}
 use Rattle.txn_client.proofs.Refused.{draw_begin, draw_storage}
-use Rattle.txn_client.proofs.Table.{begins_at, begin_full_at, begin_storage_at, begin_undone_key, as_err}
+use Rattle.txn_client.proofs.Table.{begins_at, begin_full_at, begin_storage_at, begin_undone_key}
 use Rattle.txn_client.proofs.clients.Clients.begin.Goals as goal
 
 too_many_not_exhausted : {A : Type 0} → IsErrOf {T = A} (Err TooManySessions) Exhausted → ⊥

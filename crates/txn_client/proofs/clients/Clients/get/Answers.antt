@@ -10,8 +10,8 @@ use Rattle.si_model.specs.Reads.{cell_of}
 use Rattle.cell_key.proofs.Reasons.{reason_none}
 use Rattle.row_atomic.proofs.Calls.{reads_none}
 use Rattle.txn_client.specs.Shows.{IsCellRefusal, Steps}
-use Rattle.txn_client.proofs.Passed.{refused_not}
-use Rattle.txn_client.proofs.Table.{reads_open_at, undamaged_at, get_refused_at, as_err}
+use Rattle.txn_client.proofs.Passed.{as_err, refused_not}
+use Rattle.txn_client.proofs.Table.{reads_open_at, undamaged_at, get_refused_at}
 use Rattle.txn_client.proofs.clients.Clients.get.Goals as goal
 
 pub returns-in_err-cell-clause-step : goal.returns-in_err-cell-clause-step

@@ -14,7 +14,8 @@ use Rattle.si_model.specs.Replies.{result_reply}
 use Rattle.si_model.specs.Reads.{cell_of}
 use Rattle.txn_client.specs.Shows.{Steps}
 use Rattle.txn_client.specs.declared.session.Session.{Session}
-use Rattle.txn_client.proofs.Table.{on_err_then, same_each, sets_at, set_refused_at, set_value_at, open_same, as_err}
+use Rattle.cell_key.proofs.Passed.{as_err}
+use Rattle.txn_client.proofs.Table.{on_err_then, same_each, sets_at, set_refused_at, set_value_at, open_same}
 use Rattle.txn_client.proofs.clients.Clients.set.Goals as goal
 
 pub returns-in_err-cell-clause-step : goal.returns-in_err-cell-clause-step

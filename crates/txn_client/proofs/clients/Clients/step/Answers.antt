@@ -12,9 +12,9 @@ use Rattle.row_atomic.proofs.Calls.{reads_keep, reads_none}
 use Rattle.txn_client.specs.Refusals.{HasOneReason, IsAdvanceRefusal}
 use Rattle.txn_client.specs.declared.session.Session.{Session}
 use Rattle.txn_client.proofs.Room.{changes_shown, does_below, does_make, does_so, does_take, does_touch, draws_shown, edits_touch, no_room_so, same_touch}
-use Rattle.txn_client.proofs.Passed.{passed_on, passed_err, passed_none, passed_kept, refused_not, advance_step}
+use Rattle.txn_client.proofs.Passed.{as_err, passed_on, passed_err, passed_none, passed_kept, refused_not, advance_step}
 use Rattle.txn_client.proofs.Exact.{is_kept, is_there, passes, unwritten_none, unwritten_phase}
-use Rattle.txn_client.proofs.Table.{entries_each, same_each, takes_at, steps_refused, advance_unknown_at, as_err, twice, with_none, touches_at, draws_next, never_draws}
+use Rattle.txn_client.proofs.Table.{entries_each, same_each, takes_at, steps_refused, advance_unknown_at, twice, with_none, touches_at, draws_next, never_draws}
 use Rattle.txn_client.proofs.clients.Clients.step.Goals as goal
 
 one_reason_kept : {A B : Type 0} (x : A) (y : B) (before now before' now' : ℕ) → HasOneReason before now before' now' (Ok x) → HasOneReason before now before' now' (Ok y)

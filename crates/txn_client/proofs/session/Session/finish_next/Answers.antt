@@ -4,7 +4,7 @@ use Rattle.std.specs.Bool.{OnTrue, OnFalse}
 use Rattle.cell_key.proofs.Reasons.{not_refused, reason_kept, reason_none, reason_passed}
 use Rattle.row_atomic.proofs.Calls.{reads_none, such_so}
 use Rattle.txn_client.proofs.Sessions.{advance_finished}
-use Rattle.si_model.proofs.Editing.{make_cells}
+use Rattle.si_model.proofs.EditedCells.{make_cells}
 use Rattle.txn_client.proofs.Room.{no_room_so}
 use Rattle.txn_client.proofs.Passed.{passed_on, passed_err, passed_none, passed_kept, row_step, empty_not_full, empty_no_device}
 use Rattle.txn_client.proofs.session.Session.finish_next.Goals as goal

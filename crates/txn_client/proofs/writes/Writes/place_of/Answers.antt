@@ -1,6 +1,6 @@
 use Rattle.std.proofs.Common.{◌∙◌, length, refl, arith}
 use Rattle.std.proofs.lemmas.Option.{slice_get_read}
-use Rattle.txn_client.proofs.Placing.{none_yet, found_there, found_nowhere}
+use Rattle.txn_client.proofs.WritePlaces.{none_yet, found_there, found_nowhere}
 use Rattle.txn_client.proofs.writes.Writes.place_of.Goals as goal
 
 pub loop-place-init : goal.loop-place-init

@@ -3,7 +3,7 @@ use Rattle.std.specs.Prelude.{slice_set}
 use Rattle.si_model.specs.Machine.{Sets}
 use Rattle.txn_client.specs.Writes.{write_of}
 use Rattle.txn_client.specs.declared.writes.Write.{Write}
-use Rattle.txn_client.proofs.Placing.{sets_last, sets_there, named_there, unnamed}
+use Rattle.txn_client.proofs.WritePlaces.{sets_last, sets_there, named_there, unnamed}
 use Rattle.cell_key.proofs.Reasons.{not_refused}
 use Rattle.txn_client.proofs.writes.Writes.set.Goals as goal
 

@@ -5,8 +5,8 @@ use Rattle.row_atomic.proofs.Calls.{keeps_then}
 use Rattle.si_model.specs.declared.replies.CollectReply.{CollectReply}
 use Rattle.version_collector.specs.Visits.{Visits, none, then}
 use Rattle.version_collector.proofs.Room.{no_room_then, room_few, room_same, room_then}
-use Rattle.version_collector.proofs.Turning.{passed_on}
-use Rattle.version_collector.proofs.Visiting.{still_shown}
+use Rattle.cell_key.proofs.Passed.{passed as passed_on}
+use Rattle.version_collector.proofs.VisitedCells.{still_shown}
 use Rattle.version_collector.proofs.collector.Collector.advance.Goals as goal
 
 one_more : (k n : ℕ) → k < n → k + 1 ≤ n

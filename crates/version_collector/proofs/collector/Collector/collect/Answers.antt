@@ -5,7 +5,8 @@ use Rattle.cell_key.specs.declared.refusals.Refusal.TheVariants.{MemtableFull}
 use Rattle.si_model.specs.declared.replies.CollectReply.TheVariants.{More}
 use Rattle.version_collector.specs.Visits.{Visits}
 use Rattle.version_collector.proofs.Room.{no_room_of, room_applied, room_none}
-use Rattle.version_collector.proofs.Turning.{collect_erased, collect_past, passed_on}
+use Rattle.cell_key.proofs.Passed.{passed as passed_on}
+use Rattle.version_collector.proofs.OneVisit.{collect_erased, collect_past}
 use Rattle.version_collector.proofs.collector.Collector.collect.Goals as goal
 
 pub returns-in_err-erased-clause-room : goal.returns-in_err-erased-clause-room

@@ -1,6 +1,6 @@
 use Rattle.std.proofs.Common.{ℕ, Option, subst}
 use Rattle.version_collector.specs.Locks.{IsLowLock}
-use Rattle.version_collector.proofs.Turning.{look_blocked, look_past}
+use Rattle.version_collector.proofs.OneVisit.{look_blocked, look_past}
 use Rattle.version_collector.proofs.collector.Collector.look.Goals as goal
 
 pub returns-in-Some-clause-visit : goal.returns-in-Some-clause-visit

@@ -1,4 +1,4 @@
-use Rattle.version_collector.proofs.Turning.{turn_first, turn_second}
+use Rattle.version_collector.proofs.OneVisit.{turn_first, turn_second}
 use Rattle.version_collector.proofs.collector.Collector.turn.Goals as goal
 
 pub returns-in-First : goal.returns-in-First

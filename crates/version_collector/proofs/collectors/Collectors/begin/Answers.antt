@@ -3,7 +3,8 @@ use Rattle.std.specs.Prelude.{is_some, if◌then◌else◌}
 use Rattle.std.specs.BTreeMap as btree
 use Rattle.cell_key.specs.declared.refusals.Refusal.TheVariants.{Exhausted, NoMemory}
 use Rattle.version_collector.specs.declared.collector.Collector.{Collector}
-use Rattle.version_collector.proofs.Table.{as_err, begin_full, begin_refused, begins_at, is_full, is_room, same_entries, same_itself}
+use Rattle.cell_key.proofs.Passed.{as_err}
+use Rattle.version_collector.proofs.Table.{begin_full, begin_refused, begins_at, is_full, is_room, same_entries, same_itself}
 use Rattle.version_collector.proofs.collectors.Collectors.begin.Goals as goal
 
 pub returns-then-len-ge-MOST_COLLECTORS-clause-step : goal.returns-then-len-ge-MOST_COLLECTORS-clause-step

@@ -5,8 +5,8 @@ use Rattle.std.specs.BTreeMap as btree
 use Rattle.cell_key.specs.declared.refusals.Refusal.TheVariants.{Damaged}
 use Rattle.version_collector.specs.declared.collector.Collector.{Collector}
 use Rattle.version_collector.proofs.Room.{room_same}
-use Rattle.version_collector.proofs.Table.{as_err, is_count, kept_is, leaves_at, many_at, none_at, now_at, one_at, same_entries, same_lent, shown_low, shown_some, steps_at, tells_at, twice, unknown_at, visits_at, with_none}
-use Rattle.version_collector.proofs.Turning.{passed_on}
+use Rattle.cell_key.proofs.Passed.{as_err, passed as passed_on}
+use Rattle.version_collector.proofs.Table.{is_count, kept_is, leaves_at, many_at, none_at, now_at, one_at, same_entries, same_lent, shown_low, shown_some, steps_at, tells_at, twice, unknown_at, visits_at, with_none}
 use Rattle.version_collector.proofs.collectors.Collectors.step.Goals as goal
 
 pub returns-in_default-clause-step : goal.returns-in_default-clause-step

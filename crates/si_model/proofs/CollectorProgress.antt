@@ -21,7 +21,7 @@ use Rattle.si_model.proofs.Left.{exact_places, place_cmp_total}
 use Rattle.si_model.proofs.ShownAt.{cases_key, put_off, erased_off, key_stamp, no_data_lock, no_data_write, no_write_lock, no_write_data}
 use Rattle.si_model.proofs.Steps.{reached_sound}
 use Rattle.si_model.proofs.Floors.{reached_floors}
-use Rattle.si_model.proofs.Enduring.{endures}
+use Rattle.si_model.proofs.LastingMarks.{endures}
 use Rattle.si_model.proofs.Collected.{come_collected}
 
 -- a cell with a key is one

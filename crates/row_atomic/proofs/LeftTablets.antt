@@ -1,22 +1,20 @@
 -- The tablets that splits and moves leave.
-use Rattle.std.proofs.Common.{◌≡◌, ◌≢◌, ◌+◌, inr, ℕ, zero, suc, List, [], ◌∷◌, ◌++◌, map, set, length, Option, Some, Result, Ok, Err, IfOk, IfErr, IsErrOf, slice_get, refl, sym, ap, ◌∙◌, subst, arith}
+use Rattle.std.proofs.Common.{◌≡◌, ◌≢◌, ◌+◌, inr, ℕ, zero, suc, List, [], ◌∷◌, ◌++◌, map, set, length, Option, Some, Result, Ok, Err, IfOk, slice_get, refl, sym, ap, ◌∙◌, subst, arith}
 use Rattle.std.proofs.lemmas.List.{length-set}
 use Rattle.cell_key.specs.Entries.{Entry}
 use Rattle.cell_key.specs.declared.refusals.Refusal.{Refusal}
-use Rattle.cell_key.specs.declared.refusals.Refusal.TheVariants.{BadSplit, Exhausted}
 use Rattle.metadata_table.specs.Places.{PlaceView}
 use Rattle.metadata_table.specs.Table.{Cuts, IsHolder, naming, with_files}
-use Rattle.sorted_file.specs.Sources.{IsReadRefusal}
 use Rattle.sorted_file.specs.Opened.{name_of}
 use Rattle.sorted_file.specs.declared.opened.SortedFile.{SortedFile}
 use Rattle.tablet.specs.Views.{IsUnchanged, names_of, with_name}
 use Rattle.tablet.specs.declared.tablet.Tablet.{Tablet}
 use Rattle.row_atomic.specs.Clusters.{tablet_numbered}
 use Rattle.row_atomic.specs.Changes.{IsCut, IsEmptied, IsFlushed, IsHalved, IsReopened, MayBeFlushed, MayHolderBeFlushed, Numbered, OfHolder, Remakes}
-use Rattle.row_atomic.proofs.Changing.{numbered_at, remade}
-use Rattle.row_atomic.proofs.Cutting.{pushed_before, pushed_there}
+use Rattle.row_atomic.proofs.ChangedTablets.{numbered_at, remade}
+use Rattle.row_atomic.proofs.CutTablets.{pushed_before, pushed_there}
 use Rattle.row_atomic.proofs.Shares.{set_elsewhere, set_there}
-use Rattle.row_atomic.proofs.Splitting.{holder_listed, one_holder, same_tablet}
+use Rattle.row_atomic.proofs.SplitClusters.{holder_listed, one_holder, same_tablet}
 
 -- ---- splits
 
@@ -138,18 +136,6 @@ cut_listed row places places' new ts p (Ok left) holder listed cut = record {
   names = names_of listed.tablet;
   cut = subst (λ (ps : List PlaceView). Cuts row left ps new) listed.such cut;
 }
-
--- what a read may answer isn't that there can be no cut
-pub not_cut : (r : Result ℕ Refusal) → IfErr r IsReadRefusal → ¬ IsErrOf r BadSplit
-not_cut (Ok left) read is = cc
-not_cut (Err BadSplit) read is = read
-not_cut (Err _) read is = cc
-
--- and isn't that no name is left
-pub not_out : (r : Result ℕ Refusal) → IfErr r IsReadRefusal → ¬ IsErrOf r Exhausted
-not_out (Ok left) read is = cc
-not_out (Err Exhausted) read is = read
-not_out (Err _) read is = cc
 
 -- ---- moves
 

@@ -42,7 +42,7 @@ clash b e f = cc
 pub one_text : (x y : List ℕ) → byte_cmp x y ≡ Equal → x ≡ y
 one_text = slice_cmp-IsAntisymmetric nat_cmp-IsAntisymmetric
 
-below_less : (x y : List ℕ) (es : List Entry) → byte_cmp x y ≡ Less → T (below_all byte_cmp y es) → T (below_all byte_cmp x es)
+pub below_less : (x y : List ℕ) (es : List Entry) → byte_cmp x y ≡ Less → T (below_all byte_cmp y es) → T (below_all byte_cmp x es)
 below_less x y [] p h = tt
 below_less x y (e ∷ es) p h =
     let lower : byte_cmp x e.0 ≡ Less = nat_list_cmp_total.trans x y e.0 p (less _ (first _ _ h)) in

@@ -1,5 +1,5 @@
 -- Tablets that are loaded by their numbers, each with the rows and files of its place.
-use Rattle.std.proofs.Common.{◌≡◌, ◌≢◌, ◌≤◌, ◌<◌, ◌+◌, ◌-◌, ◌⊎◌, ℕ, zero, suc, List, [], ◌∷◌, ◌++◌, length, Option, Some, None, Result, Ok, Err, inl, inr, slice_get, slice_index_or, IfOk, IfSome, IsErrOf, refl, sym, ap, ◌∙◌, subst, arith}
+use Rattle.std.proofs.Common.{◌≡◌, ◌≢◌, ◌≤◌, ◌<◌, ◌+◌, ◌-◌, ◌⊎◌, ℕ, zero, suc, List, [], ◌∷◌, ◌++◌, length, Option, Some, None, Result, Ok, Err, inl, inr, slice_get, slice_index_or, IfOk, IfSome, refl, sym, ap, ◌∙◌, subst, arith}
 use Rattle.std.specs.Bool.{⊤}
 use Rattle.std.specs.List.{AllByRecursion}
 use Rattle.cell_key.specs.declared.refusals.Refusal.{Refusal}
@@ -58,9 +58,6 @@ fits_there (q ∷ places) (suc j) after end d e h (inr begins) ends t range name
 pub fits_of : (r : Result Tablet Refusal) (range : RowRange) (names : List ℕ) (P : Tablet → Type 0) → ((t : Tablet) → range_of t ≡ range → names_of t ≡ names → P t) → IfOk r (λ t. range_of t ≡ range) → IfOk r (λ t. names_of t ≡ names) → IfOk r P
 fits_of (Ok t) range names P h a b = h t a b
 fits_of (Err e) range names P h a b = tt
-
-pub lacks_of : (r : Result Tablet Refusal) (told : Option Contents) (n : Refusal) (P Q : Contents → Type 0) → ((m : Contents) → P m → Q m) → (IsErrOf r n → IfSome told P) → IsErrOf r n → IfSome told Q
-lacks_of r told n P Q h lacks is = each_told P Q h told (lacks is)
 
 -- ---- by numbers
 

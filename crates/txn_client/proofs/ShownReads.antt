@@ -8,7 +8,7 @@ use Rattle.cell_key.specs.Cells.{Cells}
 use Rattle.cell_key.specs.declared.keys.Qualifier.TheVariants.{Data, Lock, Write}
 use Rattle.si_model.specs.Sets.{◌∈◌}
 use Rattle.si_model.specs.Machine as step
-use Rattle.si_model.specs.Machine.{State, Value, Writes, Open, Commit, IsReached, Step, accepts, tells, Get, Answered, Pending, InPhase, Wrote, Gives, Names, Marked, IsSnapshot}
+use Rattle.si_model.specs.Machine.{State, Value, Writes, Open, Commit, IsReached, Step, accepts, tells, Get, Answered, Pending, InPhase, Gives, Names, Marked, IsSnapshot}
 use Rattle.si_model.specs.declared.replies.Cell.{Cell}
 use Rattle.si_model.proofs.Tools.{same_entry}
 use Rattle.si_model.proofs.Steps.{reached_sound}

@@ -26,7 +26,7 @@ use Rattle.row_atomic.specs.declared.commands.Outcome.TheVariants as outcome
 use Rattle.row_atomic.proofs.Flushes.{same_numbers}
 use Rattle.row_atomic.proofs.Owners.{each_placed}
 use Rattle.row_atomic.proofs.Shares.{each_at, each_map}
-use Rattle.row_atomic.proofs.Sweeping.{each_of, maps_alike}
+use Rattle.row_atomic.proofs.Sweeps.{each_of, maps_alike}
 
 -- ---- tablets that were flushed
 

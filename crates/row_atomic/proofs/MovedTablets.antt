@@ -10,12 +10,12 @@ use Rattle.tablet.specs.declared.tablet.Tablet.{Tablet}
 use Rattle.metadata_table.specs.Places.{PlaceView}
 use Rattle.metadata_table.specs.Table.{HasTablet, IsTable, moved, naming, with_files}
 use Rattle.row_atomic.specs.Changes.{IsOn, Numbered}
-use Rattle.row_atomic.proofs.Naming.{moved_files}
-use Rattle.row_atomic.proofs.Changing.{contained}
+use Rattle.row_atomic.proofs.FileNames.{moved_files}
+use Rattle.row_atomic.proofs.ChangedTablets.{contained}
 use Rattle.row_atomic.proofs.Numbers.{Differ, differ_of}
-use Rattle.row_atomic.proofs.Splitting.{same_tablet}
+use Rattle.row_atomic.proofs.SplitClusters.{same_tablet}
 use Rattle.row_atomic.specs.Clusters.{InOrder, IsMatched, cells_in, joined}
-use Rattle.row_atomic.proofs.Placing.{placed_moved}
+use Rattle.row_atomic.proofs.PlacedTablets.{placed_moved}
 use Rattle.row_atomic.proofs.Shares.{each_at, each_set, map_set}
 
 -- a file that can't be opened isn't that of a tablet in order

@@ -21,11 +21,11 @@ use Rattle.row_atomic.specs.declared.commands.Command.{Command}
 use Rattle.row_atomic.specs.declared.commands.Command.TheVariants as command
 use Rattle.row_atomic.specs.declared.commands.Outcome.{Outcome}
 use Rattle.row_atomic.specs.declared.commands.Outcome.TheVariants as outcome
-use Rattle.row_atomic.proofs.Changing.{contained}
+use Rattle.row_atomic.proofs.ChangedTablets.{contained}
 use Rattle.row_atomic.proofs.Owners.{each_placed}
 use Rattle.row_atomic.proofs.Shares.{each_at, each_map}
-use Rattle.row_atomic.proofs.Sweeping.{each_of, listed_true, maps_alike}
-use Rattle.row_atomic.proofs.Uncaching.{uncached_stored}
+use Rattle.row_atomic.proofs.Sweeps.{each_of, listed_true, maps_alike}
+use Rattle.row_atomic.proofs.EmptiedCaches.{uncached_stored}
 
 -- ---- what is listed
 

@@ -1,10 +1,8 @@
 -- Refusals that are passed on, after reads that changed nothing.
-use Rattle.std.proofs.Common.{◌≡◌, ◌≢◌, ◌∙◌, ℕ, List, Result, Ok, Err, IfErr, IsErrOf, sym, subst}
+use Rattle.std.proofs.Common.{◌≡◌, ◌≢◌, ◌∙◌, ℕ, List, Result, Ok, Err, IfErr, sym, subst}
 use Rattle.std.specs.Result.{IsErrAnd}
-use Rattle.cell_key.specs.Faults.{HasReason}
 use Rattle.cell_key.specs.declared.refusals.Refusal.{Refusal}
-use Rattle.cell_key.specs.declared.refusals.Refusal.TheVariants.{Damaged, Device, NoMemory}
-use Rattle.cell_key.proofs.Reasons.{not_refused, reason_none}
+use Rattle.cell_key.specs.declared.refusals.Refusal.TheVariants.{Damaged, Device}
 use Rattle.cell_key.specs.Cells.{Cells}
 use Rattle.cell_key.specs.declared.edits.Edit.{Edit}
 use Rattle.row_atomic.specs.Calls.{OnlyReads}
@@ -12,22 +10,8 @@ use Rattle.row_atomic.specs.Clusters.{Storage}
 use Rattle.row_atomic.specs.Refusals.{IsRefusalOfRead}
 use Rattle.version_collector.specs.Versions.{AreShown}
 
--- no device's fault is told
-pub reason_other : {B : Type 0} (r : Result B Refusal) (e : Refusal) (before now : ℕ) → IsErrAnd r (λ f. f ≡ e) → e ≢ Device → now ≡ before → HasReason before now r
-reason_other {B} r e before now by other same = subst (λ (k : ℕ). HasReason k now r) same (reason_none r now (told r by))
-  where
-    told : (r : Result B Refusal) → IsErrAnd r (λ f. f ≡ e) → ¬ IsErrOf r Device
-    told (Ok x) by is = absurd by
-    told (Err f) by is = other (let same : f ≡ Device = cc in sym by ∙ same)
-
-pub reason_answered : {B : Type 0} (x : B) (before now : ℕ) → now ≡ before → HasReason before now (Ok x)
-reason_answered x before now same = subst (λ (k : ℕ). HasReason k now (Ok x)) same (reason_none (Ok x) now (not_refused x Device))
-
 pub not_device : (e : Refusal) → e ≡ Damaged → e ≢ Device
 not_device e is other = cc
-
-pub no_memory_device : (e : Refusal) → e ≡ NoMemory → e ≢ Device
-no_memory_device e is other = cc
 
 -- damage is told where something doesn't hold
 pub refused_damaged : {B : Type 0} (Holds : Type 0) (r : Result B Refusal) (e : Refusal) → IsErrAnd r (λ f. f ≡ e) → e ≡ Damaged → ¬ Holds → IfErr r (IsRefusalOfRead Holds)

@@ -12,8 +12,8 @@ use Rattle.tablet.specs.Views.{memory_of, names_of, with_name}
 use Rattle.tablet.specs.declared.tablet.Tablet.{Tablet}
 use Rattle.row_atomic.specs.Changes.{ListsAll}
 use Rattle.row_atomic.specs.Clusters.{ArePlaced, ClusterState, storage_of, tablet_numbered}
-use Rattle.row_atomic.proofs.Changing.{contained}
-use Rattle.row_atomic.proofs.Placing.{is_placed}
+use Rattle.row_atomic.proofs.ChangedTablets.{contained}
+use Rattle.row_atomic.proofs.PlacedTablets.{is_placed}
 
 pub same_lists : (old new : List PlaceView) → new ≡ old → ListsAll old new
 same_lists old new same name l = subst (IsListed name) (sym same) l

@@ -23,9 +23,9 @@ use Rattle.si_model.specs.declared.replies.CleanReply.{CleanReply}
 use Rattle.si_model.specs.declared.replies.CleanReply.TheVariants as clean
 use Rattle.si_model.proofs.Acceptable.{clean_step_ok}
 use Rattle.si_model.proofs.Bounds.{reached_bounds}
-use Rattle.si_model.proofs.Deciding.{first_tells, names_nearest}
-use Rattle.si_model.proofs.Editing.{make_cells}
-use Rattle.si_model.proofs.Enduring.{have_tried}
+use Rattle.si_model.proofs.CleanerFates.{first_tells, names_nearest}
+use Rattle.si_model.proofs.EditedCells.{make_cells}
+use Rattle.si_model.proofs.LastingMarks.{have_tried}
 use Rattle.si_model.proofs.Goes.{goes}
 use Rattle.si_model.proofs.ShownKept.{shows_beside, shows_erased, shows_recorded}
 use Rattle.si_model.proofs.Snapshots.{same_commit}

@@ -3,7 +3,7 @@ use Rattle.std.proofs.Common.{◌≡◌, refl}
 use Rattle.si_model.specs.State.{State}
 use Rattle.si_model.specs.Messages.{Request, Reply}
 use Rattle.si_model.specs.Machine.{Acts, tells, begins, reads, sets, holds, conflicts, draws, loses, commits, finishes, stops, opens, kills, learns, rolls_forward, rolls_back, finds_gone, collects, has_collected, splits, moves_tablet, Step, refuses, accepts}
-use Rattle.si_model.specs.Kinds.{Kind, OfSessions, OfCleaners, OfCollectors, OfPlaces, OfStorage, kind_of, SameSessions, SameCleaners, SameCollectors, SamePlaces, LeavesOthers}
+use Rattle.si_model.specs.Kinds.{Kind, OfSessions, OfCleaners, OfCollectors, OfPlaces, kind_of, SameSessions, SameCleaners, SameCollectors, SamePlaces, LeavesOthers}
 
 -- a step that changes nothing
 leaves_all : (kind : Kind) (st : State) → LeavesOthers kind st st
@@ -79,28 +79,3 @@ acts_leave (moves_tablet is_moved) = by_place (same_sessions refl refl refl refl
 pub leaves_others : (st next : State) (q : Request) (r : Reply) → Step st q r next → LeavesOthers (kind_of q) st next
 leaves_others st next q _ (refuses n) = leaves_all (kind_of q) st
 leaves_others st next q r (accepts ok a) = acts_leave a
-
--- what leaves all parts leaves the state
-pub storage_leaves_all : (st next : State) → LeavesOthers OfStorage st next → next ≡ st
-storage_leaves_all st next leaves =
-    let sessions = leaves.sessions (λ e. cc) in
-    let cleaners = leaves.cleaners (λ e. cc) in
-    let collectors = leaves.collectors (λ e. cc) in
-    let places = leaves.places (λ e. cc) in
-    let marks = leaves.marks (λ e. cc) (λ e. cc) in
-    λ i. record {
-      top = sessions.top i;
-      begun = sessions.begun i;
-      active = sessions.active i;
-      commits = sessions.commits i;
-      dead = cleaners.dead i;
-      marks = marks i;
-      reads = sessions.reads i;
-      cleaners = cleaners.cleaners i;
-      next_cleaner = cleaners.next_cleaner i;
-      collectors = collectors.collectors i;
-      next_collector = collectors.next_collector i;
-      floor = collectors.floor i;
-      places = places.places i;
-      next_tablet = places.next_tablet i;
-    }

@@ -4,9 +4,10 @@ use Rattle.std.specs.Result.{IsErrAnd}
 use Rattle.std.proofs.lemmas.List.{length-map}
 use Rattle.std.proofs.lemmas.Result.{IfOk-weaker}
 use Rattle.cell_key.specs.declared.refusals.Refusal.{Refusal}
-use Rattle.cell_key.specs.declared.refusals.Refusal.TheVariants.{BadSplit, Device, NoMemory, Damaged, TooManyFiles, UnknownServer, UnknownTablet}
+use Rattle.cell_key.specs.declared.refusals.Refusal.TheVariants.{Device, NoMemory, Damaged, UnknownServer, UnknownTablet}
 pub use Rattle.cell_key.proofs.Reasons.{not_refused, reason_none as no_fault, reason_passed, reason_then as reason_after}
-pub use Rattle.compaction.proofs.Passed.{passed_err as refused_so, passed_none as none_answered}
+pub use Rattle.cell_key.proofs.Passed.{passed, passed_err as refused_so, passed_none as none_answered}
+use Rattle.cell_key.proofs.Passed.{passed_kind}
 use Rattle.metadata_table.specs.Places.{PlaceView}
 use Rattle.sorted_file.specs.Sources.{IsReadRefusal}
 use Rattle.cell_key.specs.Faults.{HasReason}
@@ -16,10 +17,6 @@ use Rattle.tablet.specs.declared.compactions.Compaction.{Compaction}
 use Rattle.tablet.specs.declared.compactions.Compaction.TheVariants.{Minor, Merge, Major}
 
 -- ---- a refusal that is passed on
-
-pub passed : {A B : Type 0} (r : Result B Refusal) (e n : Refusal) → IsErrAnd r (λ f. f ≡ e) → IsErrOf r n → IsErrOf {T = A} (Err e) n
-passed (Ok x) e n by is = absurd by
-passed (Err f) e n by is = let same : f ≡ n = cc in ap (λ d. Err d) (sym by ∙ same)
 
 pub refused_as : {B : Type 0} (r : Result B Refusal) (e n : Refusal) → IsErrAnd r (λ f. f ≡ e) → e ≡ n → IsErrOf r n
 refused_as (Ok x) e n by is = absurd by
@@ -39,13 +36,7 @@ each_refusal (Err e) P f = f e
 
 -- it is one of those that the call may answer
 pub one_of : {B : Type 0} (P : Refusal → Type 0) (r : Result B Refusal) (e n : Refusal) → IsErrAnd r (λ f. f ≡ e) → P e → IsErrOf r n → P n
-one_of P (Ok x) e n by h is = absurd by
-one_of P (Err f) e n by h is = let same : f ≡ n = cc in subst P (sym by ∙ same) h
-
--- that there can be no cut is no other refusal
-abbrev pub IsBad : Refusal → Type 0
-IsBad BadSplit = Unit {0}
-IsBad _ = ⊥
+one_of P r e n = passed_kind r e n P
 
 -- nor is want of memory
 abbrev pub IsWant : Refusal → Type 0
@@ -62,21 +53,11 @@ want_compacts (Merge count) NoMemory h = tt
 want_compacts Major NoMemory h = tt
 want_compacts _ _ h = absurd h
 
-pub split_refusal : (x : Refusal) → IsRefusalOf Minor x → IsSplitRefusal x
-split_refusal BadSplit h = tt
-split_refusal _ h = h
-
 pub read_split : (x : Refusal) → IsReadRefusal x → IsSplitRefusal x
 read_split Device h = tt
 read_split NoMemory h = tt
 read_split Damaged h = tt
 read_split _ h = absurd h
-
-pub move_refusal : (x : Refusal) → IsRefusalOf Minor x → IsMoveRefusal x
-move_refusal TooManyFiles h = tt
-move_refusal UnknownServer h = tt
-move_refusal UnknownTablet h = tt
-move_refusal _ h = h
 
 pub read_move : (x : Refusal) → IsReadRefusal x → IsMoveRefusal x
 read_move Device h = tt

@@ -1,5 +1,5 @@
 -- Answers to one command more.
-use Rattle.std.proofs.Common.{◌≡◌, ℕ, Option, Result, Ok, Err, OnOk, OnErr, IfErr, List, [], ◌∷◌, ◌++◌, refl, sym, ap, ◌∙◌, subst, append-nil, length, arith}
+use Rattle.std.proofs.Common.{◌≡◌, ℕ, Option, Result, Ok, Err, OnOk, IfErr, List, [], ◌∷◌, ◌++◌, refl, sym, ap, ◌∙◌, subst, append-nil, length, arith}
 use Rattle.file_store.specs.Store.{Contents}
 use Rattle.cell_key.specs.declared.refusals.Refusal.{Refusal}
 use Rattle.row_atomic.specs.Clusters.{ClusterState}
@@ -44,8 +44,3 @@ not_answered P (Err d) e f answers is same = subst P (let i = is in cc) answers
 pub when_ok : {A : Type 0} {P : Type 0} (r : Result A Refusal) (x : A) → OnOk r P → r ≡ Ok x → P
 when_ok (Ok y) x p is = p
 when_ok (Err e) x p is = cc
-
--- what is so where a call is refused
-pub when_err : {A : Type 0} {P : Type 0} (r : Result A Refusal) (e : Refusal) → OnErr r P → r ≡ Err e → P
-when_err (Ok y) e p is = cc
-when_err (Err d) e p is = p

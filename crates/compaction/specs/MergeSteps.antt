@@ -7,10 +7,11 @@ use Rattle.sorted_file.specs.Sources.{pending}
 use Rattle.compaction.specs.Least.{IsLeast}
 use Rattle.compaction.specs.Ties.{ties}
 use Rattle.compaction.specs.Merging.{past, past_lent, lent_at, waiting, HasStarted, merge_remaining, MergeHolds, StepsTo}
-use Rattle.compaction.specs.HeadLaws.{whole_some, whole_none}
-use Rattle.compaction.specs.OrderLaws.{merged_list}
+use Rattle.compaction.specs.Heads.{whole_some, whole_none}
+use Rattle.cell_key.proofs.EntryLists.{merged_list}
 
-module _ {S : Type 0} (lent : S → Option Entry) (remaining : S → List Entry) (holds : S → Type 0) where
+module _ {S : Type 0} (lent : S → Option Entry) (remaining : S → List Entry) (holds : S
+    → Type 0) where
   taken : (a b : Option Entry) (s t : S) → lent s ≡ a
       → lent t ≡ b → Takes b (remaining s) (remaining t) → waiting lent remaining t ≡ remaining s
   taken a None s t p q k = ap (λ o. pending o (remaining t)) q ∙ k.1 ∙ sym k.0
@@ -66,7 +67,9 @@ module _ {S : Type 0} (lent : S → Option Entry) (remaining : S → List Entry)
   zip_lists at [] [] z = refl
   zip_lists at [] (t ∷ ts) z = absurd z
   zip_lists at (s ∷ ss) [] z = absurd z
-  zip_lists at (s ∷ ss) (t ∷ ts) z = ap (λ es. es ∷ map (λ s. past_lent at (waiting lent remaining s)) ss) (sym z.0.goes) ∙ ap (λ l. waiting lent remaining t ∷ l) (zip_lists at ss ts z.1)
+  zip_lists at (s ∷ ss) (t ∷ ts) z =
+      ap (λ es. es ∷ map (λ s. past_lent at (waiting lent remaining s)) ss) (sym z.0.goes)
+      ∙ ap (λ l. waiting lent remaining t ∷ l) (zip_lists at ss ts z.1)
 
   pub zip_still : (at : Option Entry) (olds news : List S)
       → AllZip (StepsTo lent remaining holds at) olds news → AllByRecursion holds news
@@ -98,7 +101,9 @@ module _ {S : Type 0} (lent : S → Option Entry) (remaining : S → List Entry)
       → AllByRecursion (λ s. IsRising (waiting lent remaining s)) sources
       → Takes o (merged (map (waiting lent remaining) sources))
       (merged (map (λ s. past_lent o (waiting lent remaining s)) sources))
-  lends sources at None is l h r = let none : merged (map (waiting lent remaining) sources) ≡ [] = whole_none lent remaining sources at l is h in (none, none)
+  lends sources at None is l h r =
+      let none : merged (map (waiting lent remaining) sources)
+      ≡ [] = whole_none lent remaining sources at l is h in (none, none)
   lends sources at (Some e) is l h r = whole_some lent remaining sources at e l is h r
 
   -- The sources went past the entry, and the merge went to the least that they are at.
@@ -109,8 +114,11 @@ module _ {S : Type 0} (lent : S → Option Entry) (remaining : S → List Entry)
       → Takes (lent_at lent news new)
       (merge_remaining lent remaining olds old) (merge_remaining lent remaining news new)
   merge_takes r olds news old new z l =
-      subst (λ all. Takes (lent_at lent news new) (merged all) (merge_remaining lent remaining news new)) (sym (zip_lists (lent_at lent olds old) olds news z))
-      (lends news new (lent_at lent news new) refl l (zip_started _ olds news z) (rising_each r news (zip_still _ olds news z)))
+      subst (λ all. Takes (lent_at lent news new) (merged all)
+      (merge_remaining lent remaining news new))
+      (sym (zip_lists (lent_at lent olds old) olds news z))
+      (lends news new (lent_at lent news new) refl l (zip_started _ olds news z)
+      (rising_each r news (zip_still _ olds news z)))
 
   pub merge_holds : (olds news : List S) (at : Option Entry) (new : ℕ)
       → AllZip (StepsTo lent remaining holds at) olds news → IsLeast (map lent news) new
@@ -134,12 +142,14 @@ module _ {S : Type 0} (lent : S → Option Entry) (remaining : S → List Entry)
       → IsEntryList (merged (map (waiting lent remaining) sources))
       → IsEntryList (pending o (merged (map (λ s. past_lent o (waiting lent remaining s)) sources)))
   list_at sources at None is l h r list = list
-  list_at sources at (Some e) is l h r list = subst IsEntryList (whole_some lent remaining sources at e l is h r) list
+  list_at sources at (Some e) is l h r list =
+      subst IsEntryList (whole_some lent remaining sources at e l is h r) list
 
   -- what a merge has is an entry list
   pub merge_list : ((s : S) → holds s → IsEntryList (waiting lent remaining s))
       → (sources : List S) (at : ℕ) → MergeHolds lent remaining holds sources at
       → IsEntryList (pending (lent_at lent sources at) (merge_remaining lent remaining sources at))
   merge_list list sources at h =
-      list_at sources at (lent_at lent sources at) refl h.least h.started (rising_each (λ s k. (list s k).rising) sources h.each)
+      list_at sources at (lent_at lent sources at) refl h.least h.started
+      (rising_each (λ s k. (list s k).rising) sources h.each)
       (merged_list (map (waiting lent remaining) sources) (each_list list sources h.each))

@@ -12,9 +12,9 @@ use Rattle.tablet.specs.Laws.{OthersStay, StaysInRange}
 use Rattle.tablet.specs.declared.tablet.Tablet.{Tablet}
 use Rattle.row_atomic.specs.Clusters.{ArePlaced, InOrder, IsMatched, cells_in}
 use Rattle.row_atomic.specs.Changes.{IsEmptied, IsFlushed, Numbered, OfHolder, Remakes}
-use Rattle.row_atomic.proofs.Naming.{cut_files}
-use Rattle.row_atomic.proofs.Changing.{matched_next, numbered_at, stays}
-use Rattle.row_atomic.proofs.Cutting.{cut_placed}
+use Rattle.row_atomic.proofs.FileNames.{cut_files}
+use Rattle.row_atomic.proofs.ChangedTablets.{matched_next, numbered_at, stays}
+use Rattle.row_atomic.proofs.CutTablets.{cut_placed}
 use Rattle.row_atomic.proofs.Numbers.{differ_of}
 use Rattle.row_atomic.proofs.Owners.{holder_owns}
 use Rattle.row_atomic.proofs.Parts.{parted}

@@ -1,12 +1,10 @@
 -- One visit, by what was found.
-use Rattle.std.proofs.Common.{◌≡◌, ℕ, List, [], ◌∷◌, Some, None, Result, Ok, Err, inl, inr, refl, sym, ap, subst, ◌∙◌}
+use Rattle.std.proofs.Common.{◌≡◌, ℕ, List, [], ◌∷◌, Some, None, inl, inr, refl, sym, ap, subst, ◌∙◌}
 use Rattle.std.specs.FinMap.{remove}
-use Rattle.std.specs.Result.{IsErrAnd, IsErrOf}
 use Rattle.cell_key.specs.Cells.{Cells, after_edits}
 use Rattle.cell_key.specs.Places.{IsNextCell}
 use Rattle.cell_key.specs.declared.edits.Edit.{Edit}
 use Rattle.cell_key.specs.declared.keys.Qualifier.TheVariants.{Data, Write}
-use Rattle.cell_key.specs.declared.refusals.Refusal.{Refusal}
 use Rattle.si_model.specs.Collection.{IsTidy, SecondPass, collected_cells, dropped_cells, place_at}
 use Rattle.si_model.specs.ShowsCells.{key_of}
 use Rattle.si_model.specs.declared.replies.Cell.{Cell}
@@ -18,14 +16,6 @@ use Rattle.version_collector.specs.Visits.{IsVisit, Visits, ends, erases_data, e
 use Rattle.version_collector.specs.declared.collector.Collector.{Collector}
 use Rattle.version_collector.specs.declared.collector.Pass.{Pass}
 use Rattle.version_collector.specs.declared.collector.Pass.TheVariants.{First, Second}
-
--- an error that is passed on is the call's
-pub same_refusal : {B : Type 0} (r : Result B Refusal) (e n : Refusal) → IsErrAnd r (λ f. f ≡ e) → IsErrOf r n → e ≡ n
-same_refusal (Ok x) e n by is = absurd by
-same_refusal (Err f) e n by is = let same : f ≡ n = cc in sym by ∙ same
-
-pub passed_on : {A B : Type 0} (r : Result B Refusal) (e n : Refusal) → IsErrAnd r (λ f. f ≡ e) → IsErrOf r n → IsErrOf {T = A} (Err e) n
-passed_on r e n by is = ap (λ (f : Refusal). Err f) (same_refusal r e n by is)
 
 module _ (cells : Cells) (c : Collector) where
   -- no next cell

@@ -1,6 +1,6 @@
 -- A source that ends before a text.
-use Rattle.std.proofs.Common.{◌≡◌, ◌+◌, ◌≤◌, ℕ, Bool, true, false, cond, T, List, [], ◌∷◌, refl, sym, ap, subst, ◌∙◌, arith}
-use Rattle.std.specs.Prelude.{Option, Some, None, is_some, not}
+use Rattle.std.proofs.Common.{◌≡◌, ℕ, Bool, true, false, cond, T, List, [], ◌∷◌, refl, sym, ap, subst, ◌∙◌}
+use Rattle.std.specs.Prelude.{Option, Some, None, not}
 use Rattle.std.specs.declared.cmp.Ordering.{Ordering}
 use Rattle.std.specs.declared.cmp.Ordering.TheVariants.{Less, Equal, Greater}
 use Rattle.std.specs.Ordering.{is_lt}
@@ -8,8 +8,8 @@ use Rattle.std.specs.FinMap.Entries.{below_all}
 use Rattle.cell_key.specs.Keys.{byte_cmp}
 use Rattle.cell_key.specs.Entries.{Entry, IsEntryList, Takes}
 use Rattle.sorted_file.specs.Sources.{pending}
-use Rattle.compaction.specs.FilterLaws.{first, second}
-use Rattle.compaction.specs.OrderLaws.{less, total}
+use Rattle.cell_key.proofs.TextPlaces.{first, second, less}
+use Rattle.cell_key.proofs.EntryLists.{total}
 use Rattle.compaction.specs.Ends.{is_below, entries_until, lent_until, is_at_end}
 
 less_or_not : (o : Ordering) → is_lt o ≡ true → o ≡ Less
@@ -49,12 +49,3 @@ until_stays end (Some e) es h t = stays (is_below end e.0) refl t
     stays : (b : Bool) → is_below end e.0 ≡ b → not b ≡ true → Takes (cond b (Some e) None) (entries_until end es) (entries_until end es)
     stays true p q = cc
     stays false p q = let none = none_until end e.0 es (first _ _ h.rising) p in (none, none)
-
--- the number falls at least as far as the source's
-pub until_lower : (end : Option (List ℕ)) (lent : Option Entry) (new old : ℕ) → new + cond (is_some lent) 1 0 ≤ old → new + cond (is_some (lent_until end lent)) 1 0 ≤ old
-until_lower end None new old h = h
-until_lower end (Some e) new old h = lower (is_below end e.0)
-  where
-    lower : (b : Bool) → new + cond (is_some (cond b (Some e) None)) 1 0 ≤ old
-    lower true = h
-    lower false = omega (arith, h)

@@ -17,8 +17,8 @@ use Rattle.row_atomic.specs.declared.commands.Command.TheVariants as command
 use Rattle.row_atomic.specs.declared.commands.Outcome.{Outcome}
 use Rattle.row_atomic.specs.declared.commands.Outcome.TheVariants as outcome
 use Rattle.row_atomic.proofs.Flushes.{keeps_on, keeps_start}
-use Rattle.row_atomic.proofs.Resting.{still_told}
-use Rattle.row_atomic.proofs.Rooting.{refused_same}
+use Rattle.row_atomic.proofs.RestedClusters.{still_told}
+use Rattle.row_atomic.proofs.RootFlushes.{refused_same}
 
 -- what is kept, and what is told
 pub record Tells {F : Type 0} (contents : F → Option Contents) (faults : F → ℕ) (result : Outcome) (old new : ClusterState F) : Type 0 where

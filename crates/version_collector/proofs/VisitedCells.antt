@@ -10,7 +10,7 @@ use Rattle.cell_key.specs.declared.keys.Qualifier.{Qualifier}
 use Rattle.cell_key.specs.declared.keys.Qualifier.TheVariants.{Data, Lock, Write}
 use Rattle.cell_key.specs.declared.refusals.Refusal.{Refusal}
 use Rattle.si_model.specs.Collection as model
-use Rattle.si_model.specs.Collection.{Collects, FirstPass, GoesFurther, HasCome, IsTidy, IsUnmarkedBelow, MayErase, SecondPass, collected_cells, dropped_cells, left_of, place_at}
+use Rattle.si_model.specs.Collection.{Collects, FirstPass, GoesFurther, HasCome, IsTidy, IsUnmarkedBelow, SecondPass, collected_cells, dropped_cells, left_of, place_at}
 use Rattle.si_model.specs.Machine.{State, IsReached}
 use Rattle.si_model.specs.Sets.{◌∈◌, here, there}
 use Rattle.si_model.specs.ShowsCells.{at, key_of, IsThere, ShowsCells, start_text}
@@ -18,7 +18,7 @@ use Rattle.si_model.specs.declared.replies.Cell.{Cell}
 use Rattle.si_model.specs.declared.replies.CollectReply.{CollectReply}
 use Rattle.si_model.specs.declared.replies.CollectReply.TheVariants.{More, Blocked, Collected}
 use Rattle.si_model.proofs.Collected.{come_collected, may_erase, no_new_key, shows_collected}
-use Rattle.si_model.proofs.Coming.{comes_further}
+use Rattle.si_model.proofs.CollectorProgress.{comes_further}
 use Rattle.si_model.proofs.Left.{left_falls}
 use Rattle.si_model.proofs.ShownAt.{cases_key, erased_at, erased_off}
 use Rattle.version_collector.specs.Versions.{AreOld, AreShown, AreUnnamed}

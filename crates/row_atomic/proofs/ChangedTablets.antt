@@ -17,10 +17,10 @@ use Rattle.tablet.specs.Laws.{OthersStay}
 use Rattle.tablet.specs.declared.tablet.Tablet.{Tablet}
 use Rattle.row_atomic.specs.Clusters.{ArePlaced, InOrder, IsMatched, cells_in, spot_of, tablet_numbered}
 use Rattle.row_atomic.specs.Changes.{HasValue, IsAt, IsBadCount, LacksErasures, Numbered, Remakes, parts_of}
-use Rattle.row_atomic.proofs.Answering.{found_there, matched_set}
+use Rattle.row_atomic.proofs.RowAnswers.{found_there, matched_set}
 use Rattle.metadata_table.specs.Roots.{AreFiles}
-use Rattle.row_atomic.proofs.Naming.{later_files, listed_files, no_less}
-use Rattle.row_atomic.proofs.Placing.{is_placed, placed_files}
+use Rattle.row_atomic.proofs.FileNames.{later_files, listed_files, no_less}
+use Rattle.row_atomic.proofs.PlacedTablets.{is_placed, placed_files}
 use Rattle.row_atomic.proofs.Shares.{each_at, keeps_cells, set_there, set_elsewhere}
 
 -- ---- numbers and indices
@@ -186,10 +186,6 @@ at_order P (Some m) next ts i t there order h =
 pub on_ok : {A : Type 0} (P Q : Type 0) (r : Result A Refusal) → (P → Q) → OnOk r P → OnOk r Q
 on_ok P Q (Ok x) f h = f h
 on_ok P Q (Err e) f h = h
-
-pub on_both : {A : Type 0} (P Q : Type 0) (r : Result A Refusal) → OnOk r P → OnOk r Q → OnOk r (P × Q)
-on_both P Q (Ok x) h k = (h, k)
-on_both P Q (Err e) h k = tt
 
 pub if_ok : {A : Type 0} (P : Type 0) (r : Result A Refusal) → P → OnOk r P
 if_ok P (Ok x) h = h

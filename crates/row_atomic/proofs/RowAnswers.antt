@@ -20,7 +20,7 @@ use Rattle.tablet.specs.declared.tablet.Tablet.{Tablet}
 use Rattle.row_atomic.specs.Clusters.{tablet_numbered, cells_in, joined, edits_in, InOrder, ArePlaced, IsMatched, HasTabletAt, Overfills}
 use Rattle.row_atomic.proofs.Owners.{OwnsRow, index_of, holder_owns}
 use Rattle.row_atomic.proofs.Shares.{each_at, each_set, at_told, cells_told, newest_of_row, applied}
-use Rattle.row_atomic.proofs.Placing.{is_placed, placed_set}
+use Rattle.row_atomic.proofs.PlacedTablets.{is_placed, placed_set}
 use Rattle.row_atomic.proofs.Parts.{IsNumbered, at_parts}
 
 -- what stands at an index of a list

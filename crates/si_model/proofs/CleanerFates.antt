@@ -21,7 +21,7 @@ use Rattle.si_model.proofs.Steps.{reached_sound}
 use Rattle.si_model.proofs.Bounds.{reached_bounds}
 use Rattle.si_model.proofs.Fates.{fate_seen}
 use Rattle.si_model.proofs.Goes.{goes}
-use Rattle.si_model.proofs.Enduring.{have_tried, endures}
+use Rattle.si_model.proofs.LastingMarks.{have_tried, endures}
 
 start_back : (t : ℕ) → t < 2 ^ 64 → big_number 8 (start_text t) ≡ t
 start_back t h = ap (λ xs. big_from 0 8 xs) (sym (append-nil (start_text t))) ∙ big_number-reads_back 8 t [] h

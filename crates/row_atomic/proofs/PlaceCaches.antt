@@ -12,9 +12,9 @@ use Rattle.metadata_table.specs.Table.{IsNumbered, IsTable, naming, with_files}
 use Rattle.tablet.specs.declared.tablet.Tablet.{Tablet}
 use Rattle.row_atomic.specs.Clusters.{ArePlaced, HasTabletAt}
 use Rattle.row_atomic.specs.PlaceCaches.{AddsOnly, AreHeld, IsHeldBy, hits_after, is_key_of, number_kept}
-use Rattle.row_atomic.proofs.Answering.{holder_index}
+use Rattle.row_atomic.proofs.RowAnswers.{holder_index}
 use Rattle.row_atomic.proofs.Parts.{at_parts}
-use Rattle.row_atomic.proofs.Splitting.{holder_listed, same_tablet}
+use Rattle.row_atomic.proofs.SplitClusters.{holder_listed, same_tablet}
 
 -- ---- what was found
 
@@ -86,10 +86,6 @@ module _ {Z : Type 0} where
   pub added_by : {A B : Type 0} (r : Result A B) (new old : LruCache (Vec ℕ Z) ℕ) (key : Vec ℕ Z) (n : ℕ) → OnOk r (new ≡ lru_cache (put_entries same_bytes old key n) old.cap) → OnErr r (new ≡ old) → AddsOnly key.items n old.entries new.entries
   added_by (Ok x) new old key n ok err = subst (λ (c : LruCache (Vec ℕ Z) ℕ). AddsOnly key.items n old.entries c.entries) (sym ok) (added old key n)
   added_by (Err x) new old key n ok err = subst (λ (c : LruCache (Vec ℕ Z) ℕ). AddsOnly key.items n old.entries c.entries) (sym err) (λ entry there. inl there)
-
-  pub cap_by : {A B : Type 0} (r : Result A B) (new old : LruCache (Vec ℕ Z) ℕ) (es : List (Vec ℕ Z × ℕ)) → OnOk r (new ≡ lru_cache es old.cap) → OnErr r (new ≡ old) → new.cap ≡ old.cap
-  cap_by (Ok x) new old es ok err = ap (λ c. c.cap) ok
-  cap_by (Err x) new old es ok err = ap (λ c. c.cap) err
 
 -- ---- the tablet at the index
 

@@ -19,7 +19,7 @@ use Rattle.tablet.specs.declared.tablet.Tablet.{Tablet}
 use Rattle.row_atomic.specs.Clusters.{tablet_numbered, cells_in, joined, InOrder, ArePlaced}
 use Rattle.row_atomic.specs.Sweeps.{MayLackUnkept, is_kept, swept, unkept, without_files, count_swept}
 use Rattle.row_atomic.proofs.Owners.{each_placed}
-use Rattle.row_atomic.proofs.Placing.{is_placed}
+use Rattle.row_atomic.proofs.PlacedTablets.{is_placed}
 use Rattle.row_atomic.proofs.Shares.{each_at, each_map}
 
 or_right : (a b : Bool) → b ≡ true → (a || b) ≡ true
