@@ -1,11 +1,11 @@
 -- Blocks that stay kept.
-use Rattle.std.proofs.Common.{◌≡◌, ℕ, Bool, nat_eq, List, [], inl, inr, slice_get, Some, Result, Ok, Err, OnOk, OnErr, sym, ap, subst, ◌∙◌, arith}
+use Rattle.std.proofs.Common.{◌≡◌, ◌⊎◌, ℕ, Bool, nat_eq, List, [], inl, inr, slice_get, Contains, Some, Result, Ok, Err, OnOk, OnErr, refl, sym, ap, subst, ◌∙◌, arith}
 use Rattle.std.proofs.lemmas.Bool.{eqb-true}
 use Rattle.std.specs.Map.{lookup}
 use Rattle.lru.specs.LruCache.{LruCache, lru_cache, put_entries, promoted}
 use Rattle.lru.proofs.CallerLemmas.{Contains-put_entries, Contains-promoted, Contains-lookup}
 use Rattle.sorted_file.specs.Blocks.{block_of}
-use Rattle.sorted_file.specs.Cached.{AreCached}
+use Rattle.sorted_file.specs.Cached.{AreCached, IsUncached}
 use Rattle.sorted_file.specs.Parsed.{IsParsed}
 use Rattle.sorted_file.specs.declared.blocks.BlockRow.{BlockRow}
 use Rattle.sorted_file.specs.declared.parsed.Block.{Block}
@@ -35,3 +35,21 @@ module _ (rows : List BlockRow) where
 
   pub none_kept : (cached : List (ℕ × Block)) → cached ≡ [] → AreCached rows cached
   none_kept cached is = subst (λ (l : List (ℕ × Block)). AreCached rows l) (sym is) (λ e h row at. let few = h.1 in absurd (omega (arith, few)))
+
+-- each entry after a block is put was there or is that block's
+of_put : (c : LruCache ℕ Block) (k : ℕ) (v : Block) (e : ℕ × Block) → Contains (put_entries nat_eq c k v) e → Contains c.entries e ⊎ (e ≡ (k, v))
+of_put c k v (n, block) d = elim (Contains-put_entries nat_eq c k v (n, block) d) [
+  | inl old ↦ inl old
+  | inr is ↦
+      let same : n ≡ k = elim is.1 [
+        | inl one ↦ one
+        | inr there ↦ sym (eqb-true k n there.2)
+      ] in inr (ap (λ (m : ℕ). (m, block)) same ∙ ap (λ (b : Block). (k, b)) is.0)
+]
+
+pub among_put : {A B : Type 0} (r : Result A B) (new old : LruCache ℕ Block) (k : ℕ) (v : Block) → OnOk r (new ≡ lru_cache (put_entries nat_eq old k v) old.cap) → OnErr r (new ≡ old) → (e : ℕ × Block) → Contains new.entries e → Contains old.entries e ⊎ (e ≡ (k, v))
+among_put (Ok x) new old k v ok err e d = of_put old k v e (subst (λ (c : LruCache ℕ Block). Contains c.entries e) ok d)
+among_put (Err x) new old k v ok err e d = inl (subst (λ (c : LruCache ℕ Block). Contains c.entries e) err d)
+
+pub none_left : (c : LruCache ℕ Block) (most : ℕ) → c ≡ lru_cache [] most → (k : ℕ) → IsUncached k c.entries
+none_left c most is k = subst (λ (c : LruCache ℕ Block). IsUncached k c.entries) (sym is) refl

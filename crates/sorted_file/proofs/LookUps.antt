@@ -1,5 +1,5 @@
 -- Blocks that are looked into.
-use Rattle.std.proofs.Common.{◌≡◌, ◌<◌, ℕ, zero, suc, List, [], ◌∷◌, ◌++◌, length, take, slice_get, get_or, Option, Some, None, refl, sym, ap, subst, ◌∙◌, arith}
+use Rattle.std.proofs.Common.{◌≡◌, ◌<◌, ◌⊎◌, ℕ, zero, suc, List, [], ◌∷◌, ◌++◌, length, take, slice_get, get_or, Contains, Option, Some, None, inl, inr, refl, sym, ap, subst, ◌∙◌, arith}
 use Rattle.std.proofs.lemmas.Option.{same_Some, slice_get_read}
 use Rattle.std.specs.Prelude.{IfSome}
 use Rattle.std.specs.List.{AllByRecursion}
@@ -8,7 +8,7 @@ use Rattle.file_store.specs.Store.{Contents}
 use Rattle.lru.specs.LruCache.{LruCache}
 use Rattle.sorted_file.specs.Blocks.{block_of, IsBlockIn}
 use Rattle.sorted_file.specs.Cached.{AreCached}
-use Rattle.sorted_file.specs.Opened.{name_of, IsOpen, IsReadNow, IsSameFile}
+use Rattle.sorted_file.specs.Opened.{name_of, IsOpen, IsReadNow, IsSameFile, WasRead}
 use Rattle.sorted_file.specs.Parsed.{BeginsWith, IsParsed}
 use Rattle.sorted_file.specs.declared.blocks.BlockRow.{BlockRow}
 use Rattle.sorted_file.specs.declared.opened.SortedFile.{SortedFile}
@@ -52,6 +52,12 @@ same_file (Some m) file cache h = record {
     refl,
   );
 }
+
+-- a block that is kept after one was read was kept before or is that one
+pub kept_or_read : (told : Option Contents) (file : SortedFile) (n : ℕ) (block : Block) (row : BlockRow) → slice_get file.rows.items n ≡ Some row → IsReadNow told (name_of file) row block
+    → (e : ℕ × Block) → Contains file.cache.entries e ⊎ (e ≡ (n, block)) → Contains file.cache.entries e ⊎ WasRead told file e
+kept_or_read told file n block row at read e (inl old) = inl old
+kept_or_read told file n block row at read e (inr is) = inr (subst (WasRead told file) (sym is) (record { row = row; named = at; read = read }))
 
 pub here_row : (rows : List BlockRow) (n : ℕ) (x : BlockRow) → n < length rows → x ≡ get_or rows n x → slice_get rows n ≡ Some x
 here_row rows n x lt got = slice_get_read rows (length rows) n x refl lt got

@@ -1,5 +1,5 @@
 -- What an open file stands for.
-use Rattle.std.specs.Prelude.{◌≡◌, ◌+◌, ◌≤◌, ℕ, List, length, map, slice_get, Option, Some, IfSome, option_map}
+use Rattle.std.specs.Prelude.{◌≡◌, ◌⊎◌, ◌+◌, ◌≤◌, ℕ, List, length, map, slice_get, Contains, Option, Some, IfSome, option_map}
 use Rattle.std.specs.declared.vec.Vec.{Vec}
 use Rattle.std.specs.FinMap as map
 use Rattle.std.specs.List.{AllByRecursion}
@@ -55,7 +55,8 @@ pub record IsReadFrom (image : List ℕ) (row : BlockRow) (es : List Entry) : Ty
   pub bytes : part image row.offset row.length ≡ block_bytes es
 
 -- a block was read from what stands under a name now
-pub record IsReadNow (told : Option Contents) (name : ℕ) (row : BlockRow) (block : Block) : Type 0 where
+pub record IsReadNow
+    (told : Option Contents) (name : ℕ) (row : BlockRow) (block : Block) : Type 0 where
   pub entries : List Entry
   pub parsed : IsParsed entries block
   pub read : (image : List ℕ) → Tells told name image → IsReadFrom image row entries
@@ -65,6 +66,18 @@ pub record IsReadNow (told : Option Contents) (name : ℕ) (row : BlockRow) (blo
 pub record IsSameFile (told : Option Contents) (old new : SortedFile) : Type 0 where
   pub name : name_of new ≡ name_of old
   pub still : IfSome told (λ m. IsOpen m old → IsOpen m new × (listed m new ≡ listed m old))
+
+-- the block of a number was read from what stands under a file's name now
+pub record WasRead (told : Option Contents) (file : SortedFile) (e : ℕ × Block) : Type 0 where
+  pub row : BlockRow
+  pub named : slice_get file.rows.items e.0 ≡ Some row
+  pub read : IsReadNow told (name_of file) row e.1
+
+-- each block that a file keeps was kept before, or was read from what stands under its name now
+abbrev pub KeepsWhatItRead : Option Contents → SortedFile → SortedFile → Type 0
+KeepsWhatItRead told old new =
+    (e : ℕ × Block) → Contains new.cache.entries e
+    → Contains old.cache.entries e ⊎ WasRead told old e
 
 -- What was found at a text in a block that wasn't kept is what stands under the name of an opened file now: whatever that
 -- is, it has an entry list where the row says, and the entry of that list at the text is this one.

@@ -80,7 +80,7 @@ impl SortedFile {
     ghost use Rattle.sorted_file.specs.Cursors.{cursor_lent, cursor_remaining, CursorHolds};
     ghost use Rattle.sorted_file.specs.Newest.{IsFirstIn, IsNewestStamp};
     ghost use Rattle.sorted_file.specs.Spans.{span_of, HasNoValue, HasStamp};
-    ghost use Rattle.sorted_file.specs.Opened.{HasFile, IsFoundNow, IsOpen, IsReadFrom, IsReadNow, IsSameFile, listed, name_of};
+    ghost use Rattle.sorted_file.specs.Opened.{HasFile, IsFoundNow, IsOpen, IsReadFrom, IsReadNow, IsSameFile, KeepsWhatItRead, listed, name_of};
 
     /// Opens a file. Refused Damaged where it isn't there or is the file of no entry list, Device and
     /// NoMemory.
@@ -151,10 +151,11 @@ impl SortedFile {
     ) -> Result<Option<Option<Vec<u8>>>, Refusal>
         ensures found { IfOk result (λ found. IfSome (F.contents files.old) (λ m. IsOpen m self.old
             → option_map value_bytes found ≡ entry_of_key (listed m self.old) (text key.now))) }
-        ensures now { IfOk result (λ found. IsFoundNow (F.contents files.old) self.old (text key.now)
-            (option_map value_bytes found)) }
+        ensures now { IfOk result (λ found. IsFoundNow (F.contents files.old) self.old
+            (text key.now) (option_map value_bytes found)) }
         ensures short { IfOk result (λ found. IfSome found IsShortValue) }
         ensures stays { IsSameFile (F.contents files.old) self.old self.new }
+        ensures kept { KeepsWhatItRead (F.contents files.old) self.old self.new }
         ensures damaged { IsErrOf result Refusal.Damaged
             → IfSome (F.contents files.old) (λ m. ¬ IsOpen m self.old) }
         ensures refusal { IfErr result IsReadRefusal }
@@ -187,6 +188,7 @@ impl SortedFile {
             × IsReadFrom image row es × (option_map value_bytes found ≡ entry_of_key es text.now)) }
         ensures short { IfOk result (λ found. IfSome found IsShortValue) }
         ensures stays { IsSameFile (F.contents files.old) self.old self.new }
+        ensures kept { KeepsWhatItRead (F.contents files.old) self.old self.new }
         ensures damaged { IsErrOf result Refusal.Damaged
             → IfSome (F.contents files.old) (λ m. ¬ IsOpen m self.old) }
         ensures refusal { IfErr result IsReadRefusal }
@@ -253,6 +255,7 @@ impl SortedFile {
         ensures within { IfOk result (λ found.
             IfSome found (λ stamp. (lo ≤ stamp) × (stamp ≤ key.now.stamp))) }
         ensures stays { IsSameFile (F.contents files.old) self.old self.new }
+        ensures kept { KeepsWhatItRead (F.contents files.old) self.old self.new }
         ensures damaged { IsErrOf result Refusal.Damaged
             → IfSome (F.contents files.old) (λ m. ¬ IsOpen m self.old) }
         ensures refusal { IfErr result IsReadRefusal }
@@ -295,6 +298,7 @@ impl SortedFile {
             ≡ option_map (λ e. e.0) (first_value (entries_from text.now (block_of row))))) }
         ensures rows { self.new.rows ≡ self.old.rows }
         ensures stays { IsSameFile (F.contents files.old) self.old self.new }
+        ensures kept { KeepsWhatItRead (F.contents files.old) self.old self.new }
         ensures damaged { IsErrOf result Refusal.Damaged
             → IfSome (F.contents files.old) (λ m. ¬ IsOpen m self.old) }
         ensures refusal { IfErr result IsReadRefusal }
@@ -344,6 +348,7 @@ impl SortedFile {
             → IsFirstIn (listed m self.old) key.now lo
             (option_map (λ bytes. bytes.items) found))) }
         ensures stays { IsSameFile (F.contents files.old) self.old self.new }
+        ensures kept { KeepsWhatItRead (F.contents files.old) self.old self.new }
         ensures damaged { IsErrOf result Refusal.Damaged
             → IfSome (F.contents files.old) (λ m. ¬ IsOpen m self.old) }
         ensures refusal { IfErr result IsReadRefusal }
@@ -376,7 +381,8 @@ impl SortedFile {
 
     /// Forgets the blocks that are kept. The file stays what it was. Takes no memory.
     pub fn drop_cache(&mut self)
-        ensures { (told : Option Contents) → IsSameFile told self.old self.new }
+        ensures stays { (told : Option Contents) → IsSameFile told self.old self.new }
+        ensures none { (number : ℕ) → IsUncached number self.new.cache.entries }
     {
         self.cache.clear();
     }

@@ -38,7 +38,8 @@ fn starts_of(alloc: Global, bytes: &[u8]) -> Result<Option<Vec<u32>>, Refusal>
         → bytes.now ≢ block_bytes es)) }
     ensures refusal { IfErr result (λ refusal. refusal ≡ Refusal.NoMemory) }
 {
-    let mut starts = Vec::new(alloc);
+    // Room for the entries of a block of short values.
+    let mut starts = Vec::with_capacity(alloc, (bytes.len() / 32).min(128))?;
     let mut last: &[u8] = &[];
     let mut rest = bytes;
     'entries: while !rest.is_empty() {

@@ -1,4 +1,4 @@
-//! A slow reader of files whose entries fit in one block, written from the form alone.
+//! Slow readers of files, written from the form alone: of those whose entries fit in one block, and of values.
 
 use cell_key::{CellKey, Refusal};
 use std::alloc::Global;
@@ -23,15 +23,15 @@ fn field_at(bytes: &[u8], at: usize) -> Option<(&[u8], usize)> {
     Some((field, from.checked_add(len)?))
 }
 
-/// The key of the entry at a place, and the place after the entry.
-fn entry_at(bytes: &[u8], at: usize) -> Option<(&[u8], usize)> {
+/// The key and the value of the entry at a place, no value where it is an erasure, and the place after the entry.
+fn entry_at(bytes: &[u8], at: usize) -> Option<(&[u8], Option<&[u8]>, usize)> {
     let (key, after) = field_at(bytes, at)?;
     let value_at = after.checked_add(1)?;
     match bytes.get(after) {
-        Some(0) => Some((key, value_at)),
+        Some(0) => Some((key, None, value_at)),
         Some(1) => {
             let (value, end) = field_at(bytes, value_at)?;
-            (value.len() <= 65_536).then_some((key, end))
+            (value.len() <= 65_536).then_some((key, Some(value), end))
         }
         _ => None,
     }
@@ -51,7 +51,7 @@ fn entries_up_to(
         if at >= index_at {
             break;
         }
-        let Some((key, after)) = entry_at(bytes, at) else {
+        let Some((key, _, after)) = entry_at(bytes, at) else {
             return Ok(None);
         };
         if last.cmp(&key).is_ge() || CellKey::decode(alloc, key)?.is_none() {
@@ -108,4 +108,23 @@ pub fn is_file(alloc: Global, bytes: &[u8]) -> Result<bool, Refusal> {
             && number_at(bytes, numbers[2]) == Some(count)
             && number_at(bytes, numbers[3]) == Some(bytes.len()),
     )
+}
+
+/// What stands at a text among the entries of a file, from the place 8 up to the index: a value, `Some(None)` where it is
+/// an erasure, and `None` where there is no entry.
+pub fn found_at<'a>(bytes: &'a [u8], text: &[u8]) -> Option<Option<&'a [u8]>> {
+    let foot_at = bytes.len().checked_sub(24)?;
+    let index_at = number_at(bytes, foot_at)?;
+    let mut at = 8;
+    for _ in 0..bytes.len() {
+        if at >= index_at {
+            break;
+        }
+        let (key, value, after) = entry_at(bytes, at)?;
+        if key == text {
+            return Some(value);
+        }
+        at = after;
+    }
+    None
 }

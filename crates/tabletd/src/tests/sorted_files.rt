@@ -1,10 +1,13 @@
 //! Sorted files, by their bytes.
 
 use crate::FILE_LIMIT;
+use crate::tests::edits::{data_key, edits_of};
 use crate::tests::files::Recorder;
-use crate::tests::slow::is_file;
+use crate::tests::memory::files::merge;
+use crate::tests::slow::{found_at, is_file};
 use cell_key::{CellKey, Family, Qualifier, Refusal, Row, Stamp};
 use file_store::{Files, MemFiles, read_whole};
+use memtable::Memtable;
 use sorted_file::{SortedFile, write_file};
 use std::alloc::{AllocError, Global};
 use std::test::Fail;
@@ -201,5 +204,77 @@ fn look_ups_read_one_block(rt: HostRuntime) -> Result<(), Fail> {
             Err(Refusal::Damaged)
         )
     );
+    Ok(())
+}
+
+/// Places in the file of three entries, and bytes that are put there: the length of the second key, and the row of the
+/// first.
+const GARBLED: [(usize, u8); 2] = [(2059, 0x17), (12, b'`')];
+
+/// Whether a look-up at the stamp 3 is refused as damaged.
+fn is_refused(alloc: Global, file: &mut SortedFile, files: &mut Recorder) -> bool {
+    matches!(value_len(alloc, file, 3, files), Err(Refusal::Damaged))
+}
+
+#[test]
+fn garbled_blocks_are_not_kept(rt: HostRuntime) -> Result<(), Fail> {
+    for (at, byte) in GARBLED {
+        let mut files = Recorder::new(rt.alloc());
+        let mut bytes = three(rt.alloc())?;
+        files.put(1, &bytes)?;
+        let mut file = SortedFile::open(rt.alloc(), 1, &mut files)?;
+        if let Some(place) = bytes.get_mut(at) {
+            *place = byte;
+        }
+        files.put(1, &bytes)?;
+        assert!(rt; is_refused(rt.alloc(), &mut file, &mut files));
+        assert!(rt; is_refused(rt.alloc(), &mut file, &mut files));
+    }
+    Ok(())
+}
+
+/// A memtable of `a` at the even stamps from 2 to 28: erasures where 3 divides them, and else values of 500 to 4,000 bytes.
+fn many(alloc: Global) -> Result<Memtable, Refusal> {
+    let row = Row::new(alloc, b"a")?;
+    let mut table = Memtable::new(alloc);
+    for half in 1..15u64 {
+        let stamp = half * 2;
+        let value = vec![in alloc; (stamp % 256) as u8; 500 * (stamp % 9) as usize]?;
+        let put = (stamp % 3 != 0).then_some(value.as_slice());
+        let edits = edits_of(alloc, &row, stamp, put, None)?;
+        table.apply(&row, edits)?;
+    }
+    Ok(table)
+}
+
+/// Whether a look-up finds what a slow one finds in the bytes.
+fn agree_on(
+    alloc: Global,
+    file: &mut SortedFile,
+    key: &CellKey,
+    bytes: &[u8],
+    files: &mut MemFiles,
+) -> Result<bool, Refusal> {
+    let mut text = Vec::new(alloc);
+    key.encode(&mut text)?;
+    Ok(match (file.lookup(key, files)?, found_at(bytes, &text)) {
+        (Some(Some(value)), Some(Some(slow))) => value.as_slice() == slow,
+        (Some(None), Some(None)) | (None, None) => true,
+        _ => false,
+    })
+}
+
+/// Each key of a file of more than five blocks, and keys before, between and behind them.
+#[test]
+fn a_slow_look_up_agrees(rt: HostRuntime) -> Result<(), Fail> {
+    let mut files = MemFiles::new(rt.alloc());
+    merge(rt.alloc(), &many(rt.alloc())?, None, true, 1, &mut files)?;
+    let bytes = read_whole(rt.alloc(), &mut files, 1)?.ok_or("no file")?;
+    let mut file = SortedFile::open(rt.alloc(), 1, &mut files)?;
+    let row = Row::new(rt.alloc(), b"a")?;
+    for stamp in 0..31 {
+        let key = data_key(rt.alloc(), &row, stamp)?;
+        assert!(rt; agree_on(rt.alloc(), &mut file, &key, &bytes, &mut files)?);
+    }
     Ok(())
 }

@@ -5,7 +5,7 @@ use Rattle.sorted_file.proofs.Starts.{next_done, nothing_read, stuck_here, wrong
 use Rattle.sorted_file.proofs.parsed.starts_of.Goals as goal
 
 pub entries-init : goal.entries-init
-entries-init c = subst (λ (l : List ℕ). IsDone c.args.bytes.now c.args.bytes.now [] l) (sym c.new-starts.ensures.items) (nothing_read c.args.bytes.now)
+entries-init c = subst (λ (l : List ℕ). IsDone c.args.bytes.now c.args.bytes.now [] l) (sym c.in_ok-starts.ensures.items) (nothing_read c.args.bytes.now)
 
 pub returns-in_default-clause-none : goal.returns-in_default-clause-none
 returns-in_default-clause-none c = λ es list are.

@@ -9,7 +9,7 @@ loop-file-init c = record { same = λ told. same_files told c.args.files.now }
 pub loop-file-preserved : goal.loop-file-preserved
 loop-file-preserved c =
     let below : c.loop-file.file-index < length c.loop-file.files = omega arith in
-    record { same = λ told. same_set told told refl c.args.files.now c.loop-file.files c.loop-file.file-index c.file-item.result below (c.loop-file.invariant.same told) c.drop_cache.new.self (c.drop_cache.ensures told) }
+    record { same = λ told. same_set told told refl c.args.files.now c.loop-file.files c.loop-file.file-index c.file-item.result below (c.loop-file.invariant.same told) c.drop_cache.new.self (c.drop_cache.ensures.stays told) }
 
 pub returns : goal.returns
 returns c = c.loop-file.invariant.same
