@@ -219,16 +219,22 @@ impl Sought for Version<'_> {
     }
 }
 
+/// The version that a key is of.
+pub(crate) fn version_of(key: &CellKey) -> Version<'_>
+    ensures { key_of result ≡ key.now }
+{
+    Version {
+        row: &key.row,
+        family: &key.family,
+        qualifier: key.qualifier,
+        stamp: key.stamp,
+    }
+}
+
 impl Sought for &CellKey {
     ghost name = { λ key. text key.now };
 
     fn compare(&self, text: &[u8]) -> Ordering {
-        let version = Version {
-            row: &self.row,
-            family: &self.family,
-            qualifier: self.qualifier,
-            stamp: self.stamp,
-        };
-        version.compare(text)
+        version_of(self).compare(text)
     }
 }

@@ -12,6 +12,7 @@ ghost use Rattle.memtable.specs.Blocks.{block_entries, IsBlock};
 ghost use Rattle.memtable.specs.Edits.{edit_entry, with_edits, HasStoredKey};
 
 use crate::blocks::{self, Block};
+use crate::order::version_of;
 use crate::size::Size;
 use crate::slots::{self, Slot};
 use cell_key::{CellKey, Edit, Refusal, Row};
@@ -27,6 +28,9 @@ fn text_of(alloc: Global, key: &CellKey) -> Result<Vec<u8>, Refusal>
     // These calls tell that row and family are within their limits.
     let _row = key.row.as_bytes();
     let _family = key.family.as_bytes();
+    if let Some(short) = version_of(key).short_text() {
+        return Ok(Vec::from_slice(alloc, short.as_slice())?);
+    }
     let mut bytes = Vec::new(alloc);
     key.encode(&mut bytes)?;
     Ok(bytes)

@@ -13,7 +13,7 @@ use Rattle.sorted_file.specs.Blocks.{block_of, blocks_of, entries_in, first_of, 
 use Rattle.sorted_file.specs.Newest.{at_stamp, IsFirstIn, IsNewestStamp}
 use Rattle.sorted_file.specs.Opened.{IsOpen, listed}
 use Rattle.sorted_file.specs.Searching.{first_value}
-use Rattle.sorted_file.specs.Spans.{span_of, HasStamp}
+use Rattle.sorted_file.specs.Spans.{span_of, IsWithin}
 use Rattle.sorted_file.specs.declared.blocks.BlockRow.{BlockRow}
 use Rattle.sorted_file.specs.declared.opened.SortedFile.{SortedFile}
 use Rattle.sorted_file.proofs.LookUps.{front_row, of_row}
@@ -146,7 +146,7 @@ module _ (m : Contents) (file : SortedFile) (o : IsOpen m file) (key : CellKey) 
   above_after n p = all_above (text key) (drop n all_rows) (rows_behind IsNamed n all_rows named) (list_behind n all_rows o.list).rising 0 (place_behind (text key) all_rows n p) refl
 
   -- the block before the place has no value of the column at these stamps
-  pub first_behind : (n : ℕ) → IsRowPlace (text key) all_rows n → ((row : BlockRow) → 0 < n → slice_get all_rows (n - 1) ≡ Some row → (s : ℕ) → lo ≤ s → s ≤ key.stamp → ¬ HasStamp (span_of row.spans key.qualifier) s)
+  pub first_behind : (n : ℕ) → IsRowPlace (text key) all_rows n → ((row : BlockRow) → 0 < n → slice_get all_rows (n - 1) ≡ Some row → (s : ℕ) → lo ≤ s → s ≤ key.stamp → ¬ IsWithin (span_of row.spans key.qualifier) key.row s)
       → (found : Option (List ℕ)) → found ≡ option_map text_of (first_value (after n)) → IsFirstIn (listed m file) key lo found
   first_behind zero p none found e = whole found (e ∙ ap (λ (l : List Entry). option_map text_of (first_value l)) (sym (all_above (text key) all_rows named o.list.rising 0 p refl)))
   first_behind (suc k) p none found e =

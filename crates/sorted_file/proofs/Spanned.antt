@@ -11,7 +11,7 @@ use Rattle.cell_key.specs.declared.keys.Qualifier.TheVariants.{Data, Lock, Write
 use Rattle.std.specs.declared.cmp.Ordering.{Ordering}
 use Rattle.std.specs.declared.cmp.Ordering.TheVariants.{Less, Equal, Greater}
 use Rattle.std.specs.Ordering.{is_eq}
-use Rattle.sorted_file.specs.Spans.{HasStamp, span_of, Covers, IsSpanned}
+use Rattle.sorted_file.specs.Spans.{span_of, Covers, IsSpanned, IsWithin}
 use Rattle.sorted_file.specs.declared.spans.Spans.{Spans}
 
 equal : (o : Ordering) → is_eq o ≡ true → o ≡ Equal
@@ -22,7 +22,7 @@ equal Greater e = cc
 one_text : (x y : List ℕ) → eq_by_cmp byte_cmp x y ≡ true → x ≡ y
 one_text x y e = slice_cmp-IsAntisymmetric nat_cmp-IsAntisymmetric x y (equal (byte_cmp x y) e)
 
-module _ (spans : Spans) (key : CellKey) (stored : IsStored key) (out : ¬ (HasStamp (span_of spans key.qualifier) key.stamp)) where
+module _ (spans : Spans) (key : CellKey) (stored : IsStored key) (out : ¬ (IsWithin (span_of spans key.qualifier) key.row key.stamp)) where
   none_here : (name : List ℕ) (value : Option (List ℕ)) → IsSpanned spans (name, value) → name ≡ text key → value ≡ None
   none_here name None is e = refl
   none_here name (Some v) is e = absurd (out (is key stored e refl))
@@ -36,13 +36,15 @@ module _ (spans : Spans) (key : CellKey) (stored : IsStored key) (out : ¬ (HasS
       go more false e = more
 
 pub covered : (old new : Spans) (entry : Entry) → Covers old new → IsSpanned old entry → IsSpanned new entry
-covered old new entry keeps is = λ key stored named some. keeps key.qualifier key.stamp (is key stored named some)
+covered old new entry keeps is = λ key stored named some. keeps key.qualifier key.row key.stamp (is key stored named some)
 
 pub covered_all : (old new : Spans) (es : List Entry) → Covers old new → AllByRecursion (IsSpanned old) es → AllByRecursion (IsSpanned new) es
 covered_all old new [] keeps all = tt
 covered_all old new (e ∷ es) keeps all = (covered old new e keeps all.0, covered_all old new es keeps all.1)
 
-pub by_kind : (old new : Spans) → ((s : ℕ) → HasStamp old.data s → HasStamp new.data s) → ((s : ℕ) → HasStamp old.lock s → HasStamp new.lock s) → ((s : ℕ) → HasStamp old.write s → HasStamp new.write s) → Covers old new
+pub by_kind : (old new : Spans) → ((r : List ℕ) (s : ℕ) → IsWithin old.data r s → IsWithin new.data r s)
+    → ((r : List ℕ) (s : ℕ) → IsWithin old.lock r s → IsWithin new.lock r s)
+    → ((r : List ℕ) (s : ℕ) → IsWithin old.write r s → IsWithin new.write r s) → Covers old new
 by_kind old new d l w Data = d
 by_kind old new d l w Lock = l
 by_kind old new d l w Write = w

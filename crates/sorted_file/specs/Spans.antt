@@ -1,5 +1,6 @@
 -- Where the values of entries are.
-use Rattle.std.specs.Prelude.{◌≡◌, ◌≤◌, ℕ, List, None, IsSome}
+use Rattle.std.specs.Prelude.{◌≡◌, ◌≤◌, ℕ, List, [], ◌∷◌, get_or, None, IsSome}
+use Rattle.std.specs.Int.{w64, from_be_bytes}
 use Rattle.cell_key.specs.Keys.{text, IsStored}
 use Rattle.cell_key.specs.Entries.{Entry, entry_of_key, value_of}
 use Rattle.cell_key.specs.declared.keys.CellKey.{CellKey}
@@ -8,26 +9,34 @@ use Rattle.cell_key.specs.declared.keys.Qualifier.TheVariants.{Data, Lock, Write
 use Rattle.sorted_file.specs.declared.spans.Span.{Span}
 use Rattle.sorted_file.specs.declared.spans.Spans.{Spans}
 
--- a stamp is between the least and the greatest
-pub record HasStamp (span : Span) (stamp : ℕ) : Type 0 where
-  pub low : span.least ≤ stamp
-  pub high : stamp ≤ span.greatest
+-- the number of a row's first eight bytes, a row of fewer filled up with zeros
+abbrev pub front : List ℕ → ℕ
+front row = from_be_bytes w64 (get_or row 0 0 ∷ get_or row 1 0 ∷ get_or row 2 0 ∷ get_or row 3 0
+    ∷ get_or row 4 0 ∷ get_or row 5 0 ∷ get_or row 6 0 ∷ get_or row 7 0 ∷ [])
+
+-- a row and a stamp are within the bounds
+pub record IsWithin (span : Span) (row : List ℕ) (stamp : ℕ) : Type 0 where
+  pub least : span.least ≤ stamp
+  pub greatest : stamp ≤ span.greatest
+  pub first : span.first ≤ front row
+  pub last : front row ≤ span.last
 
 abbrev pub span_of : Spans → Qualifier → Span
 span_of spans Data = spans.data
 span_of spans Lock = spans.lock
 span_of spans Write = spans.write
 
--- the stamps of the first are among those of the second
+-- the bounds of the first are within those of the second
 abbrev pub Covers : Spans → Spans → Type 0
 Covers old new =
-    (q : Qualifier) (stamp : ℕ) → HasStamp (span_of old q) stamp → HasStamp (span_of new q) stamp
+    (q : Qualifier) (row : List ℕ) (stamp : ℕ) → IsWithin (span_of old q) row stamp
+    → IsWithin (span_of new q) row stamp
 
--- the stamp of an entry's key is among them, if the entry is a value
+-- the row and the stamp of an entry's key are within them, if the entry is a value
 abbrev pub IsSpanned : Spans → Entry → Type 0
 IsSpanned spans entry =
     (key : CellKey) → IsStored key → entry.0 ≡ text key → IsSome entry.1
-    → HasStamp (span_of spans key.qualifier) key.stamp
+    → IsWithin (span_of spans key.qualifier) key.row key.stamp
 
 -- entries have no value of a column of this kind at these stamps: erasures they may have
 abbrev pub HasNoValue : Qualifier → ℕ → ℕ → List Entry → Type 0

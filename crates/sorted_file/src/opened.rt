@@ -79,7 +79,7 @@ fn text_at(alloc: Global, block: &Block, text: &[u8]) -> Result<Option<Vec<u8>>,
 impl SortedFile {
     ghost use Rattle.sorted_file.specs.Cursors.{cursor_lent, cursor_remaining, CursorHolds};
     ghost use Rattle.sorted_file.specs.Newest.{IsFirstIn, IsNewestStamp};
-    ghost use Rattle.sorted_file.specs.Spans.{span_of, HasNoValue, HasStamp};
+    ghost use Rattle.sorted_file.specs.Spans.{span_of, HasNoValue, IsWithin};
     ghost use Rattle.sorted_file.specs.Opened.{HasFile, IsFoundNow, IsOpen, IsReadFrom, IsReadNow, IsSameFile, KeepsWhatItRead, listed, name_of};
 
     /// Opens a file. Refused Damaged where it isn't there or is the file of no entry list, Device and
@@ -262,7 +262,7 @@ impl SortedFile {
         ensures same { F.contents files.new ≡ F.contents files.old }
         ensures reason { HasReason (F.faults files.old) (F.faults files.new) result }
     {
-        if !self.spans.meet(key.qualifier, lo, key.stamp) {
+        if !self.spans.meet_column(key, lo) {
             return Ok(None);
         }
         // These calls tell that row and family are within their limits.
@@ -371,12 +371,10 @@ impl SortedFile {
         ensures there { result ≡ true → 0 < place }
         ensures none { result ≡ false → (row : Row) → 0 < place
             → slice_get self.now.rows.items (place - 1) ≡ Some row → (s : ℕ) → lo ≤ s
-            → s ≤ key.now.stamp → ¬ HasStamp (span_of row.spans key.now.qualifier) s }
+            → s ≤ key.now.stamp
+            → ¬ IsWithin (span_of row.spans key.now.qualifier) key.now.row s }
     {
-        place > 0
-            && self.rows[place - 1]
-                .spans
-                .meet(key.qualifier, lo, key.stamp)
+        place > 0 && self.rows[place - 1].spans.meet_column(key, lo)
     }
 
     /// Forgets the blocks that are kept. The file stays what it was. Takes no memory.

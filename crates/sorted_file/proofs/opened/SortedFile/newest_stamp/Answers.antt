@@ -14,10 +14,10 @@ use Rattle.sorted_file.proofs.Stamps.{stamp_found, stamp_none, stamp_other, stam
 use Rattle.sorted_file.proofs.opened.SortedFile.newest_stamp.Goals.{then-stamp-lo-via-then-stamp-lo, then-stamp-lo-via-else-stamp-lo+then-most-stamp}
 use Rattle.sorted_file.proofs.opened.SortedFile.newest_stamp.Goals as goal
 
-pub returns-then-not-meet-clause-found : goal.returns-then-not-meet-clause-found
-returns-then-not-meet-clause-found g c =
+pub returns-then-not-meet_column-clause-found : goal.returns-then-not-meet_column-clause-found
+returns-then-not-meet_column-clause-found g c =
     as_some (g.F.Files.contents c.args.files.now) _ (λ m o s low high stored.
-    no_value c.args.self.now.spans (at_stamp c.args.key.now s) stored (c.meet.ensures c.if-not-meet.true s low high) _ o.spans)
+    no_value c.args.self.now.spans (at_stamp c.args.key.now s) stored (c.meet_column.ensures c.if-not-meet_column.true s low high) _ o.spans)
 
 pub returns-in_default-clause-found : goal.returns-in_default-clause-found
 returns-in_default-clause-found g c =

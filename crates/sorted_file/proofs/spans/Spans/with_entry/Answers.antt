@@ -2,7 +2,7 @@ use Rattle.std.proofs.Common.{sym, ap, subst, ◌∙◌}
 use Rattle.cell_key.specs.declared.keys.CellKey.{CellKey}
 use Rattle.cell_key.specs.Entries.{key_of_text}
 use Rattle.cell_key.proofs.EntryLaws.{key_of_text-text}
-use Rattle.sorted_file.specs.Spans.{HasStamp, span_of}
+use Rattle.sorted_file.specs.Spans.{front, span_of, IsWithin}
 use Rattle.sorted_file.proofs.Results.{of_some}
 use Rattle.sorted_file.proofs.spans.Spans.with_entry.Goals as goal
 
@@ -11,4 +11,4 @@ returns-in-Some-clause-has c = λ key stored named some.
     let here = of_some _ _ _ c.in-Some.is c.in_ok-key.ensures.found in
     let is = of_some _ _ _ c.in-Some.is c.in_ok-key.ensures.stored in
     let same = sym (key_of_text-text c.in-Some.key is) ∙ ap key_of_text (sym here ∙ c.deref.ensures.value ∙ named) ∙ key_of_text-text key stored in
-    subst (λ (k : CellKey). HasStamp (span_of c.with.result k.qualifier) k.stamp) same c.with.ensures.has
+    subst (λ (k : CellKey). IsWithin (span_of c.with.result k.qualifier) k.row k.stamp) same (c.with.ensures.has c.in-Some.key.row (c.front_of.ensures ∙ ap front c.as_bytes.ensures.bytes))
