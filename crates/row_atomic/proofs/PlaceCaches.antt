@@ -11,7 +11,7 @@ use Rattle.metadata_table.specs.Places.{PlaceView}
 use Rattle.metadata_table.specs.Table.{IsNumbered, IsTable, naming, with_files}
 use Rattle.tablet.specs.declared.tablet.Tablet.{Tablet}
 use Rattle.row_atomic.specs.Clusters.{ArePlaced, HasTabletAt}
-use Rattle.row_atomic.specs.PlaceCaches.{AddsOnly, AreHeld, IsHeldBy, hits_after, is_key_of, number_kept}
+use Rattle.row_atomic.specs.PlaceCaches.{AddsOnly, AreHeld, IsFirst, IsHeldBy, hits_after, is_key_of, number_kept}
 use Rattle.row_atomic.proofs.RowAnswers.{holder_index}
 use Rattle.row_atomic.proofs.Parts.{at_parts}
 use Rattle.row_atomic.proofs.SplitClusters.{holder_listed, same_tablet}
@@ -34,6 +34,24 @@ module _ {K V : Type 0} (test : K → Bool) where
       go : (o : Option (K × V)) → lookup_entry test es ≡ o → option_map (λ e. e.1) (slice_get (option_map_or (λ e. e ∷ remove_entry test es) o es) 0) ≡ lookup test es
       go None is = let none : lookup test es ≡ None = by_entry es ∙ ap (option_map (λ e. e.1)) is in cc
       go (Some e) is = sym (by_entry es ∙ ap (option_map (λ f. f.1)) is)
+
+-- ---- the row that was located last
+
+first_test : {Z : Type 0} (row : List ℕ) (key : Vec ℕ Z) → key.items ≡ row → is_key_of row key ≡ true
+first_test row key same = (bytes_decides row key.items).1 (sym same)
+
+pub first_number : {Z : Type 0} (row : List ℕ) (kept : List (Vec ℕ Z × ℕ)) (n : ℕ) → IsFirst row kept n → Some n ≡ number_kept row kept
+first_number row [] n is = let none = is.1 in cc
+first_number row (e ∷ es) n is =
+    let same : e ≡ (is.0, n) = let some = is.1 in cc in
+    sym (ap (λ (b : Bool). cond b (Some e.1) (lookup (is_key_of row) es)) (ap (is_key_of row) (ap (λ p. p.0) same) ∙ first_test row is.0 is.2) ∙ ap (λ p. Some p.1) same)
+
+pub first_stays : {Z : Type 0} (row : List ℕ) (kept : List (Vec ℕ Z × ℕ)) (n : ℕ) → IsFirst row kept n → kept ≡ promoted (is_key_of row) kept
+first_stays row [] n is = let none = is.1 in cc
+first_stays {Z} row (e ∷ es) n is =
+    let same : e ≡ (is.0, n) = let some = is.1 in cc in
+    let test : is_key_of row e.0 ≡ true = ap (is_key_of row) (ap (λ p. p.0) same) ∙ first_test row is.0 is.2 in
+    sym (ap (λ (b : Bool). option_map_or (λ (f : Vec ℕ Z × ℕ). f ∷ cond b es (e ∷ remove_entry (is_key_of row) es)) (cond b (Some e) (lookup_entry (is_key_of row) es)) (e ∷ es)) test)
 
 -- ---- what is kept
 

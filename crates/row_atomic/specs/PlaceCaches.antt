@@ -1,5 +1,5 @@
 -- What a cluster keeps of the rows that it located last.
-use Rattle.std.specs.Prelude.{◌≡◌, ◌+◌, ◌-◌, ◌^◌, ◌⊎◌, ℕ, Bool, List, Contains, Option, None, Some, min, nat_eq}
+use Rattle.std.specs.Prelude.{◌≡◌, ◌+◌, ◌-◌, ◌^◌, ◌⊎◌, ℕ, Bool, List, Contains, Option, None, Some, min, nat_eq, slice_get}
 use Rattle.std.specs.Cmp.Lexicographic.{pointwise}
 use Rattle.std.specs.Map.{lookup}
 use Rattle.std.specs.declared.vec.Vec.{Vec}
@@ -24,6 +24,11 @@ is_key_of row key = pointwise nat_eq row key.items
 -- the number that is kept with a row
 abbrev pub number_kept : {Z : Type 0} → List ℕ → List (Vec ℕ Z × ℕ) → Option ℕ
 number_kept row kept = lookup (is_key_of row) kept
+
+-- a row is the one that was located last, and this number is kept with it
+abbrev pub IsFirst : {Z : Type 0} → List ℕ → List (Vec ℕ Z × ℕ) → ℕ → Type 0
+IsFirst {Z} row kept n =
+    (key : Vec ℕ Z) × (slice_get kept 0 ≡ Some (key, n)) × (key.items ≡ row)
 
 -- No row is kept that wasn't but this one, with this number.
 abbrev pub AddsOnly : {Z : Type 0} → List ℕ → ℕ → List (Vec ℕ Z × ℕ) → List (Vec ℕ Z × ℕ) → Type 0

@@ -1,9 +1,9 @@
 //! The tablets of the rows that were located last.
 
-ghost use Rattle.std.specs.Prelude.{◌≡◌, ◌+◌, [], IfErr, IfOk, option_map, slice_get};
+ghost use Rattle.std.specs.Prelude.{◌≡◌, ◌+◌, [], IfErr, IfOk, IfSome, option_map, slice_get};
 ghost use Rattle.metadata_table.specs.Table.{IsTable};
 ghost use Rattle.lru.specs.LruCache.{promoted};
-ghost use Rattle.row_atomic.specs.PlaceCaches.{AddsOnly, AreHeld, IsHeldBy, hits_after, is_key_of, number_kept};
+ghost use Rattle.row_atomic.specs.PlaceCaches.{AddsOnly, AreHeld, IsFirst, IsHeldBy, hits_after, is_key_of, number_kept};
 
 use cell_key::{Refusal, Row};
 use lru::LruCache;
@@ -64,6 +64,36 @@ impl PlaceCache {
         Some(*number)
     }
 
+    /// The number that is kept with a row, if the row is the one that was located last.
+    fn last(&self, row: &Row) -> Option<u32>
+        ensures { IfSome result (IsFirst row.now self.now.numbers.entries) }
+    {
+        let (bytes, number) = self.numbers.peek_mru()?;
+        if row.as_bytes() == bytes.as_slice() {
+            Some(*number)
+        } else {
+            None
+        }
+    }
+
+    /// The number that is kept with a row. The row is then the one that was located last.
+    fn number_of(&mut self, row: &Row) -> Option<u32>
+        ensures found { result ≡ number_kept row.now self.old.numbers.entries }
+        ensures first { self.new.numbers.entries
+            ≡ promoted (is_key_of row.now) self.old.numbers.entries }
+        ensures rows { self.new.numbers.cap ≡ self.old.numbers.cap }
+        ensures hits { self.new.hits ≡ self.old.hits }
+    {
+        if let Some(number) = self.last(row) {
+            return Some(number);
+        }
+        if self.numbers.promote(row.as_bytes()) {
+            self.first()
+        } else {
+            None
+        }
+    }
+
     /// The number that is kept with a row, which is a hit. The row is then the one that was located last.
     fn find(&mut self, row: &Row) -> Option<u32>
         ensures found { result ≡ number_kept row.now self.old.numbers.entries }
@@ -72,11 +102,9 @@ impl PlaceCache {
         ensures rows { self.new.numbers.cap ≡ self.old.numbers.cap }
         ensures hits { self.new.hits ≡ hits_after result self.old.hits }
     {
-        if !self.numbers.promote(row.as_bytes()) {
-            return None;
-        }
+        let number = self.number_of(row)?;
         self.hits = self.hits.saturating_add(1);
-        self.first()
+        Some(number)
     }
 
     /// Keeps a number with a row, in place of the row that was located the longest ago where there are 128. Where there is no

@@ -1,5 +1,5 @@
 -- What the texts of a column's versions have before their stamps.
-use Rattle.std.proofs.Common.{◌≡◌, ◌-◌, ◌≤◌, ℕ, List, ◌++◌, ◌+◌, length, take, drop, Option, Some, None, refl, sym, ap, ◌∙◌, arith, append_assoc, length-append}
+use Rattle.std.proofs.Common.{◌≡◌, ◌-◌, ℕ, List, ◌++◌, ◌+◌, length, take, drop, Option, Some, None, refl, sym, ap, ◌∙◌, arith, append_assoc, length-append}
 use Rattle.std.specs.Prelude.{false, IfSome, IsTrue}
 use Rattle.std.proofs.Math.Seq.{take-append_seam}
 use Rattle.std.proofs.lemmas.List.{take-append-drop}
@@ -24,9 +24,6 @@ text_length key s = ap length (in_parts key s) ∙ length-append (front key) (st
 
 pub one_length : (key : CellKey) (s t : ℕ) → length (text (at_stamp key s)) ≡ length (text (at_stamp key t))
 one_length key s t = text_length key s ∙ sym (text_length key t)
-
-pub long_text : (key : CellKey) → 8 ≤ length (text key)
-long_text key = let l = text_length key key.stamp in omega (arith, l)
 
 before : (key : CellKey) (s : ℕ) → take (length (text (at_stamp key s)) - 8) (text (at_stamp key s)) ≡ front key
 before key s =

@@ -192,17 +192,6 @@ closes s es b z =
       | some o os is ↦ close_parts s es b.before o os (parts s es b (o ∷ os) is)
     ]
 
-stays_parts : (s : State) (es : List Entry) → Parts s es [] [] → IsClosed s es
-stays_parts s es p = record { all = []; whole = p.whole; grammar = tt; bytes = p.bytes; places = p.places; count = p.count; total = p.total }
-
-pub stays_closed : (s : State) (es : List Entry) → IsBuilt s es → s.entries ≡ 0 → IsClosed s es
-stays_closed s es b z =
-    elim (shape b.current) [
-      | none is ↦ let p = parts s es b [] is in let n = some_entries s es b.before p in
-          stays_parts s es (subst (λ (blocks : List (List Entry)). Parts s es blocks []) n.2 p)
-      | some o os is ↦ absurd (no_entries s es b.before o os (parts s es b (o ∷ os) is) z)
-    ]
-
 open_parts : (s : State) (es : List Entry) (e : Entry) (before : List (List Entry)) (o : Entry) (os : List Entry) → Parts s es before (o ∷ os) → 4096 < length s.out - s.start + length (spelled e) → IsBuilt (added (opened (closed s) e.0) e) (es ++ e ∷ [])
 unfolding close_parts
 open_parts s es e before o os p h =

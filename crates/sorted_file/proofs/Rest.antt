@@ -1,9 +1,9 @@
 -- A source is written as a file.
-use Rattle.std.proofs.Common.{◌≡◌, ℕ, ◌+◌, ◌≤◌, ◌<◌, false, List, [], ◌∷◌, ◌++◌, length, refl, sym, ap, subst, ◌∙◌, arith, length-append, append_assoc}
+use Rattle.std.proofs.Common.{◌≡◌, ℕ, ◌+◌, ◌<◌, false, List, [], ◌∷◌, ◌++◌, length, refl, sym, ap, subst, ◌∙◌, arith, length-append, append_assoc}
 use Rattle.std.specs.Prelude.{flat_map, codes, Option, Some, None, is_some}
 use Rattle.std.proofs.lemmas.List.Concat.{flat_map-append}
 use Rattle.cell_key.specs.Entries.{Entry, spelled, entry_len, Takes}
-use Rattle.file_store.specs.Store.{Contents, KeepsOthers, HasRisen}
+use Rattle.file_store.specs.Store.{Contents, KeepsOthers}
 use Rattle.sorted_file.specs.Grammar.{FitsIn, body}
 use Rattle.sorted_file.specs.Building.{State, IsBuilt, IsWriting, with_open}
 use Rattle.sorted_file.proofs.Spelling.{body-whole, is_cut}
@@ -11,9 +11,6 @@ use Rattle.sorted_file.proofs.Spelling.{body-whole, is_cut}
 append-nil : {A : Type 0} (xs : List A) → xs ++ [] ≡ xs
 append-nil [] = refl
 append-nil (x ∷ xs) = ap (λ (l : List _). x ∷ l) (append-nil xs)
-
-pub writing_start : (s : State) (all : List Entry) → IsBuilt s [] → IsWriting s all all
-writing_start s all b = record { done = []; built = b; parts = refl }
 
 pub writing_step : (s t : State) (all old new : List Entry) (e : Entry) → old ≡ e ∷ new → ((es : List Entry) → IsBuilt s es → IsBuilt t (es ++ e ∷ [])) → IsWriting s all old → IsWriting t all new
 writing_step s t all old new e o f w =
@@ -48,9 +45,6 @@ keeps_same name old new e = subst (KeepsOthers name old) (sym e) (itself old)
     itself : (o : Option Contents) → KeepsOthers name o o
     itself None = refl
     itself (Some m) = λ other n. refl
-
-pub risen_later : (before mid now : ℕ) → before ≤ mid → HasRisen mid now → HasRisen before now
-risen_later before mid now h r = omega (arith, h, r)
 
 pub takes_some : (o : Option Entry) (e : Entry) (old new : List Entry) → o ≡ Some e → Takes o old new → old ≡ e ∷ new
 takes_some o e old new is t = subst (λ (q : Option Entry). Takes q old new) is t

@@ -18,9 +18,6 @@ parted (a ∷ as₁) (b ∷ bs) x y l e =
     let rest = parted as₁ bs x y (omega (arith, l)) tails in
     (ap (λ z. z ∷ as₁) heads ∙ ap (λ l. b ∷ l) rest.0, rest.1)
 
-pub number_length : (n : ℕ) → length (to_be_bytes w32 n) ≡ 4
-number_length n = refl
-
 pub same_number : (m n : ℕ) → m < 2 ^ 32 → n < 2 ^ 32 → to_be_bytes w32 m ≡ to_be_bytes w32 n → m ≡ n
 same_number m n p q e = sym (from_be_bytes-to_be_bytes_4 m p) ∙ ap (from_be_bytes w32) e ∙ from_be_bytes-to_be_bytes_4 n q
 

@@ -11,7 +11,7 @@ use Rattle.cell_key.specs.Texts.{ended, escaped, stamp_text}
 use Rattle.cell_key.specs.Entries.{Entry, IsEntry, IsEntryList, IsRising, spelled}
 use Rattle.cell_key.proofs.TextPlaces.{first, less, second}
 use Rattle.sorted_file.specs.Grammar.{block_bytes}
-use Rattle.sorted_file.specs.Parsed.{starts_from, IsParsed, IsSpelling}
+use Rattle.sorted_file.specs.Parsed.{starts_from, IsParsed}
 use Rattle.sorted_file.specs.declared.parsed.Block.{Block}
 use Rattle.sorted_file.proofs.Joining.{all_joined, both}
 use Rattle.sorted_file.proofs.Spelling.{goes_on, one_spelling, short, spelled_length, spelled_split}
@@ -180,10 +180,6 @@ module _ (bytes rest last starts : List ℕ) (d : IsDone bytes rest last starts)
 append-nil : {A : Type 0} (xs : List A) → xs ++ [] ≡ xs
 append-nil [] = refl
 append-nil (x ∷ xs) = ap (λ (l : List _). x ∷ l) (append-nil xs)
-
-pub all_read : (bytes rest last starts : List ℕ) → IsDone bytes rest last starts → length rest ≡ 0 → IsSpelling bytes starts
-all_read bytes [] last starts d z = record { entries = d.done; list = d.list; bytes_are = d.read ∙ append-nil (block_bytes d.done); starts_are = d.starts_are }
-all_read bytes (x ∷ rest) last starts d z = absurd (omega (arith, z))
 
 pub nothing_read : (bytes : List ℕ) → IsDone bytes bytes [] []
 nothing_read bytes = record { done = []; list = record { rising = tt; each = tt }; read = refl; starts_are = refl; last_is = refl }

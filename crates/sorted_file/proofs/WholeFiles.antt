@@ -13,7 +13,7 @@ use Rattle.sorted_file.specs.declared.blocks.BlockRow.{BlockRow}
 use Rattle.sorted_file.specs.declared.opening.Opening.{Opening}
 use Rattle.sorted_file.proofs.Joining.{block_fits}
 use Rattle.sorted_file.proofs.NextBlocks.{drop_part, end_is, image_length, left}
-use Rattle.sorted_file.proofs.Spelling.{parted, same_number, spelled_length, body-whole}
+use Rattle.sorted_file.proofs.Spelling.{parted, same_number, spelled_length}
 
 -- ---- there are no more blocks or entries than bytes
 
@@ -43,9 +43,6 @@ pub record HasBlocks (es : List Entry) (image : List ℕ) (blocks : List (List E
   pub form : IsFile es image
   pub split : form.blocks ≡ blocks
 
-pub has_blocks : (es fs : List Entry) (image : List ℕ) (blocks : List (List Entry)) → es ≡ fs → (f : IsFile es image) → f.blocks ≡ blocks → HasBlocks fs image blocks
-has_blocks es fs image blocks e f b = subst (λ (l : List Entry). HasBlocks l image blocks) e (record { form = f; split = b })
-
 module _ (o : Opening) (opening : IsOpening o) where
   count_rows : length o.rows.items ≡ length (blocks_of o.rows.items)
   count_rows = sym (length-map o.rows.items block_of)
@@ -59,14 +56,6 @@ module _ (o : Opening) (opening : IsOpening o) where
       let reached = opening.reached in
       let within = opening.within in
       omega (arith, few, reached, within, count_rows)
-
-  pub entries_fit : o.count ≤ o.size
-  entries_fit =
-      let few = few_entries (entries_in (blocks_of o.rows.items)) in
-      let same = ap length (body-whole (blocks_of o.rows.items)) in
-      let reached = opening.reached in
-      let within = opening.within in
-      omega (arith, few, same, reached, within, count_entries)
 
   abbrev foot_of : List ℕ
   foot_of = foot o.end (length o.rows.items) (o.count) o.size
