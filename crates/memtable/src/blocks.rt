@@ -39,7 +39,7 @@ fn ends_below<S: Sought>(block: &Block, sought: S) -> bool
     ensures { result ≡ ends_below (S.name sought) (list_of block.now) }
 {
     match block.slots.last() {
-        Some(slot) => sought.compare(&slot.text).is_gt(),
+        Some(slot) => sought.compare(slot.text.as_slice()).is_gt(),
         None => false,
     }
 }

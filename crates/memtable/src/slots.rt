@@ -8,13 +8,25 @@ ghost use Rattle.memtable.specs.Slots.{slot_entry, slot_entries, is_named, first
 
 use crate::order::{Sought, compare_texts};
 use cell_key::EntryRef;
+use smallvec::SmallVec;
 use std::mem;
 
+/// The text of a key that is kept. One of at most 48 bytes takes no memory beside its own.
+pub(crate) type KeptText = SmallVec<u8, 48>;
+
 /// An entry that is kept: the text of a key, and its value or an erasure.
-#[derive(Drop)]
 pub(crate) struct Slot {
-    pub(crate) text: Vec<u8>,
+    pub(crate) text: KeptText,
     pub(crate) value: Option<Vec<u8>>,
+}
+
+impl Drop for Slot {
+    /// A call of its own, so that what drops an entry doesn't branch by where its text stands.
+    fn drop(self) {
+        let Slot { text, value } = self;
+        drop(text);
+        drop(value);
+    }
 }
 
 impl Slot {
@@ -60,7 +72,7 @@ pub(crate) fn first_from<S: Sought>(slots: &[Box<Slot>], sought: S) -> usize
     ensures bound { result ≤ length slots.now }
     ensures place { IsPlace (S.name sought) (slot_entries slots.now) result }
 {
-    slots.partition_point(|slot| sought.compare(&slot.text).is_gt())
+    slots.partition_point(|slot| sought.compare(slot.text.as_slice()).is_gt())
 }
 
 /// Whether the entry at a place has this text.
@@ -68,7 +80,7 @@ fn is_named(slots: &[Box<Slot>], at: usize, text: &[u8]) -> bool
     ensures { result ≡ is_named text.now (slot_entries slots.now) at }
 {
     match slots.get(at) {
-        Some(slot) => compare_texts(text, &slot.text).is_eq(),
+        Some(slot) => compare_texts(text, slot.text.as_slice()).is_eq(),
         None => false,
     }
 }
@@ -81,7 +93,7 @@ pub(crate) fn find<S: Sought>(slots: &[Box<Slot>], sought: S) -> Option<&Slot>
     ensures named { IfSome result (λ slot. slot.now.text.items ≡ S.name sought) }
 {
     let slot = slots.get(first_from(slots, sought))?;
-    if sought.compare(&slot.text).is_eq() {
+    if sought.compare(slot.text.as_slice()).is_eq() {
         Some(slot)
     } else {
         None
@@ -133,7 +145,7 @@ pub(crate) fn put(slots: &mut Vec<Box<Slot>>, slot: Box<Slot>) -> Option<Box<Slo
     ensures capacity { vec_capacity slots.old ≤ vec_capacity slots.new }
 {
     let at = first_from(slots, slot.text.as_slice());
-    if is_named(slots, at, &slot.text) {
+    if is_named(slots, at, slot.text.as_slice()) {
         return Some(mem::replace(&mut slots[at], slot));
     }
     slots.insert(at, slot).unwrap();

@@ -14,12 +14,12 @@ ghost use Rattle.memtable.specs.Edits.{edit_entry, with_edits, HasStoredKey};
 use crate::blocks::{self, Block};
 use crate::order::version_of;
 use crate::size::Size;
-use crate::slots::{self, Slot};
+use crate::slots::{self, KeptText, Slot};
 use cell_key::{CellKey, Edit, Refusal, Row};
 use std::alloc::Global;
 
 /// The text of a key.
-fn text_of(alloc: Global, key: &CellKey) -> Result<Vec<u8>, Refusal>
+fn text_of(alloc: Global, key: &CellKey) -> Result<KeptText, Refusal>
     ensures text { IfOk result (λ bytes. bytes.items ≡ text key.now) }
     ensures row { IsRow key.now.row }
     ensures family { IsFamily key.now.family }
@@ -29,11 +29,11 @@ fn text_of(alloc: Global, key: &CellKey) -> Result<Vec<u8>, Refusal>
     let _row = key.row.as_bytes();
     let _family = key.family.as_bytes();
     if let Some(short) = version_of(key).short_text() {
-        return Ok(Vec::from_slice(alloc, short.as_slice())?);
+        return Ok(KeptText::from_slice(alloc, short.as_slice())?);
     }
     let mut bytes = Vec::new(alloc);
     key.encode(&mut bytes)?;
-    Ok(bytes)
+    Ok(KeptText::from(bytes))
 }
 
 /// An edit as an entry.
@@ -91,7 +91,7 @@ pub(crate) fn size_with(table: &[Block], before: Size, staged: &[Box<Slot>]) -> 
     while at > 0 {
         at -= 1;
         let slot = &staged[at];
-        size = size.with(slot.len(), blocks::stood_bytes(table, &slot.text));
+        size = size.with(slot.len(), blocks::stood_bytes(table, slot.text.as_slice()));
     }
     size
 }

@@ -154,7 +154,7 @@ impl Memtable {
             stamp: hi,
         };
         let slot = blocks::first_value_at(&self.blocks.filled, sought)?;
-        let stamp = sought.stamp_in(&slot.text)?;
+        let stamp = sought.stamp_in(slot.text.as_slice())?;
         if stamp < lo {
             return None;
         }

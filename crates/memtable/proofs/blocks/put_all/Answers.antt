@@ -18,6 +18,17 @@ with-size-requires-clause-replaced c =
     let old = block_entries c.loop-slot.blocks.filled.items in
     replaced_within old (slot_entry c.in-Some.slot.value).0 c.put.result c.put.ensures.replaced c.loop-slot.size c.loop-slot.invariant.size
 
+pub with-size-requires-clause-small : goal.with-size-requires-clause-small
+with-size-requires-clause-small c =
+    let entry = slot_entry c.in-Some.slot.value in
+    let rest = slot_entries c.pop.new.self.items in
+    let whole = ap slot_entries c.in-Some.ensures.items ∙ map-append (λ (s : _). slot_entry s.value) c.pop.new.self.items (c.in-Some.slot ∷ []) in
+    let all = all_pushed IsEntry rest entry (subst (λ (es : List Entry). AllByRecursion IsEntry es) whole c.loop-slot.invariant.limits) in
+    let small = entry_small entry all.1 in
+    let added = c.len-added.ensures ∙ ap (λ (s : Slot). entry_len (slot_entry s)) c.deref.ensures in
+    let bytes = c.loop-slot.invariant.small in
+    omega (arith, small, added, bytes)
+
 pub loop-slot-preserved : goal.loop-slot-preserved
 loop-slot-preserved c =
     let entry = slot_entry c.in-Some.slot.value in

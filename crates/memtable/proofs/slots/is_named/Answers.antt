@@ -8,7 +8,7 @@ use Rattle.memtable.proofs.slots.is_named.Goals as goal
 
 pub returns-in-Some : goal.returns-in-Some
 returns-in-Some c =
-    let text = c.deref-in-Some.ensures.value ∙ ap (λ (s : Slot). s.text.items) c.deref.ensures in
+    let text = c.as_slice.ensures ∙ ap (λ (s : Slot). s.text.items) c.deref.ensures in
     c.is_eq.ensures ∙ ap is_eq (c.compare_texts.ensures ∙ ap (byte_cmp c.args.text.now) text)
     ∙ sym (named_some (λ (s : _). slot_entry s.value) c.args.text.now c.args.slots.now c.args.at c.in-Some.slot.now c.in-Some.ensures.lookup.3.0 c.in-Some.ensures.lookup.1)
 

@@ -25,7 +25,7 @@ returns-in_err-stamp-clause-found c =
     let first = c.in_ok-slot.ensures ∙ ap (λ (xs : _). first_value (entries_from (text (at c.args.hi)) (block_entries xs))) c.deref.ensures.value ∙ ap (λ (es : List Entry). first_value (entries_from (text (at c.args.hi)) es)) c.self.view_is in
     subst (λ (o : _). IsNewest (cells_of es) at c.args.lo c.args.hi (option_map lent_version o)) (sym c.from_residual-in_err-stamp.ensures)
     (by_other c.args.row.now c.args.family.now c.args.qualifier c.as_bytes-row.ensures.valid c.as_bytes-family.ensures.valid es list c.args.hi (omega arith) (slot_entry c.in_ok-slot.slot.now) first c.args.lo
-    (λ s small e. c.in_err-stamp.ensures.none s small (c.deref-2.ensures.value ∙ e)))
+    (λ s small e. c.in_err-stamp.ensures.none s small (c.as_slice.ensures ∙ e)))
 
 pub returns-then-stamp-lo-clause-found : goal.returns-then-stamp-lo-clause-found
 returns-then-stamp-lo-clause-found c =
@@ -34,7 +34,7 @@ returns-then-stamp-lo-clause-found c =
     let list = subst (λ (es : List Entry). IsEntryList es) c.self.view_is c.self.invariant.list in
     let first = c.in_ok-slot.ensures ∙ ap (λ (xs : _). first_value (entries_from (text (at c.args.hi)) (block_entries xs))) c.deref.ensures.value ∙ ap (λ (es : List Entry). first_value (entries_from (text (at c.args.hi)) es)) c.self.view_is in
     by_below c.args.row.now c.args.family.now c.args.qualifier c.as_bytes-row.ensures.valid c.as_bytes-family.ensures.valid es list c.args.hi (omega arith) (slot_entry c.in_ok-slot.slot.now) first c.in_ok-stamp.stamp c.in_ok-stamp.ensures.small
-    (sym c.deref-2.ensures.value ∙ c.in_ok-stamp.ensures.some) c.args.lo c.if-stamp-lo.true
+    (sym c.as_slice.ensures ∙ c.in_ok-stamp.ensures.some) c.args.lo c.if-stamp-lo.true
 
 pub returns-in-Some-clause-found : goal.returns-in-Some-clause-found
 returns-in-Some-clause-found c =
@@ -43,9 +43,9 @@ returns-in-Some-clause-found c =
     let list = subst (λ (es : List Entry). IsEntryList es) c.self.view_is c.self.invariant.list in
     let name = c.in_ok-slot.slot.now.text.items in
     let first = ap (λ (o : _). Some (name, option_map (λ (v : _). v.items) o)) (sym c.in-Some.is) ∙ c.in_ok-slot.ensures ∙ ap (λ (xs : _). first_value (entries_from (text (at c.args.hi)) (block_entries xs))) c.deref.ensures.value ∙ ap (λ (es : List Entry). first_value (entries_from (text (at c.args.hi)) es)) c.self.view_is in
-    subst (λ (bytes : List ℕ). IsNewest (cells_of es) at c.args.lo c.args.hi (Some (c.in_ok-stamp.stamp, bytes))) (sym c.as_slice.ensures.value)
+    subst (λ (bytes : List ℕ). IsNewest (cells_of es) at c.args.lo c.args.hi (Some (c.in_ok-stamp.stamp, bytes))) (sym c.as_slice-in-Some.ensures.value)
     (by_value c.args.row.now c.args.family.now c.args.qualifier c.as_bytes-row.ensures.valid c.as_bytes-family.ensures.valid es list c.args.hi (omega arith) name c.in-Some.value.items first c.in_ok-stamp.stamp c.in_ok-stamp.ensures.small
-    (sym c.deref-2.ensures.value ∙ c.in_ok-stamp.ensures.some) c.args.lo (let not = c.if-stamp-lo.false in omega (arith, not)))
+    (sym c.as_slice.ensures ∙ c.in_ok-stamp.ensures.some) c.args.lo (let not = c.if-stamp-lo.false in omega (arith, not)))
 
 pub returns-in-Some-clause-limits : goal.returns-in-Some-clause-limits
 returns-in-Some-clause-limits c =
@@ -54,9 +54,9 @@ returns-in-Some-clause-limits c =
     let list = subst (λ (es : List Entry). IsEntryList es) c.self.view_is c.self.invariant.list in
     let name = c.in_ok-slot.slot.now.text.items in
     let first = ap (λ (o : _). Some (name, option_map (λ (v : _). v.items) o)) (sym c.in-Some.is) ∙ c.in_ok-slot.ensures ∙ ap (λ (xs : _). first_value (entries_from (text (at c.args.hi)) (block_entries xs))) c.deref.ensures.value ∙ ap (λ (es : List Entry). first_value (entries_from (text (at c.args.hi)) es)) c.self.view_is in
-    subst (λ (bytes : List ℕ). IsVersion c.in_ok-stamp.stamp bytes) (sym c.as_slice.ensures.value)
+    subst (λ (bytes : List ℕ). IsVersion c.in_ok-stamp.stamp bytes) (sym c.as_slice-in-Some.ensures.value)
     (by_limits c.args.row.now c.args.family.now c.args.qualifier c.as_bytes-row.ensures.valid c.as_bytes-family.ensures.valid es list c.args.hi (omega arith) name c.in-Some.value.items first c.in_ok-stamp.stamp c.in_ok-stamp.ensures.small
-    (sym c.deref-2.ensures.value ∙ c.in_ok-stamp.ensures.some))
+    (sym c.as_slice.ensures ∙ c.in_ok-stamp.ensures.some))
 
 pub returns-in-None-clause-found : goal.returns-in-None-clause-found
 returns-in-None-clause-found c =
