@@ -128,6 +128,9 @@ impl Tablet {
         ensures empty { memory_of self.old ≡ []
             → (next_name.new ≡ next_name.old) × (F.contents files.new ≡ F.contents files.old) }
         ensures used { OnOk result (memory_of self.old ≢ [] → next_name.new ≡ next_name.old + 1) }
+        // Where there are 64 files it is refused before a file is written, whatever else may fail.
+        ensures always_full { memory_of self.old ≢ [] → 64 ≤ length (names_of self.old)
+            → IsErrOf result Refusal.TooManyFiles }
     {
         self.minor(file_limit, next_name, files)?;
         self.names()
@@ -237,6 +240,9 @@ impl Tablet {
         ensures empty { memory_of self.old ≡ []
             → (next_name.new ≡ next_name.old) × (F.contents files.new ≡ F.contents files.old) }
         ensures used { OnOk result (memory_of self.old ≢ [] → next_name.new ≡ next_name.old + 1) }
+        // Where there are 64 files it is refused before a file is written, whatever else may fail.
+        ensures always_full { memory_of self.old ≢ [] → 64 ≤ length (names_of self.old)
+            → IsErrOf result Refusal.TooManyFiles }
     {
         self.minor(file_limit, next_name, files)?;
         self.cut(row, files)
