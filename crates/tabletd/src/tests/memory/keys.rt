@@ -14,15 +14,20 @@ pub struct Keys {
 
 const KEY: &[u8] = b"a\0\xFFb\0\0bal\0\0data\0\0\xFF\xFF\xFF\xFF\xFF\xFF\xFF\xFE";
 
+/// Names that take memory.
+const LONG_ROW: &[u8] = b"the name of a row that takes memory";
+
+const LONG_FAMILY: &[u8] = b"family_of_columns";
+
 const GET: &[u8] = b"\x02\0\0\0\0\0\0\0\x01\0\0\0\x01a\0\0\0\x03bal";
 
 const RAW: &[u8] = b"\x91\x01\0\0\0\0\0\0\0\x01\0\0\0\x06m\0\0c\0\0";
 
 const CALLS: [Call; 11] = [
     // Row::new
-    (b"m\0", b"text"),
+    (LONG_ROW, b"text"),
     // Family::new
-    (b"c", b"text"),
+    (LONG_FAMILY, b"text"),
     // CellKey::clone
     (b"a\0b", b"text"),
     // Row::fence
@@ -58,8 +63,8 @@ impl Keys {
     /// Calls of names, and of a raw reply.
     fn names(&self, alloc: Global, number: usize, wanted: &[u8]) -> Result<bool, Refusal> {
         match number {
-            0 => Ok(Row::new(alloc, b"m\0")?.as_bytes() == wanted),
-            1 => Ok(Family::new(alloc, b"c")?.as_bytes() == wanted),
+            0 => Ok(Row::new(alloc, LONG_ROW)?.as_bytes() == wanted),
+            1 => Ok(Family::new(alloc, LONG_FAMILY)?.as_bytes() == wanted),
             2 => Ok(self.key.clone()?.row.as_bytes() == wanted),
             3 => Ok(self.key.row.fence(alloc)?.as_slice() == wanted),
             4 => Ok(place(alloc, &self.key.row, &self.key.family)?.as_slice() == wanted),

@@ -44,6 +44,11 @@ const CALLS: [Call; 11] = [
     (b"", b"a345\x02\x03"),
 ];
 
+/// A row of one byte forty times, so that it and the texts of its keys take memory.
+fn row_of(alloc: Global, byte: u8) -> Result<Row, Refusal> {
+    Row::new(alloc, &[byte; 40])
+}
+
 /// Writes a value of one byte into a row, and an erasure at the stamp 9.
 fn write(
     alloc: Global,
@@ -52,7 +57,7 @@ fn write(
     stamp: Stamp,
     value: u8,
 ) -> Result<(), Refusal> {
-    let row = Row::new(alloc, &[row])?;
+    let row = row_of(alloc, row)?;
     let edits = edits_of(alloc, &row, stamp, Some(&[value]), Some(9))?;
     tablet.apply(&row, edits)
 }
@@ -73,7 +78,7 @@ fn newest(
     files: &mut MemFiles,
     row: u8,
 ) -> Result<u8, Refusal> {
-    let row = Row::new(alloc, &[row])?;
+    let row = row_of(alloc, row)?;
     let family = Family::new(alloc, b"bal")?;
     match tablet.newest(&row, &family, Qualifier::Data, 0, 9, files)? {
         Some((_, value)) => Ok(value.first().copied().unwrap_or(b' ')),
@@ -91,7 +96,7 @@ fn first(tablet: &Tablet, files: &mut MemFiles) -> Result<u8, Refusal> {
 
 /// The first byte of the row of the cell after that of `a`, or a dash.
 fn next(alloc: Global, tablet: &Tablet, files: &mut MemFiles) -> Result<u8, Refusal> {
-    let row = Row::new(alloc, b"a")?;
+    let row = row_of(alloc, b'a')?;
     let family = Family::new(alloc, b"bal")?;
     match tablet.next_cell(Some((&row, &family)), files)? {
         Some((row, _)) => Ok(row.as_bytes().first().copied().unwrap_or(b' ')),
@@ -109,7 +114,7 @@ impl Served {
             5 => self.tablet.merge(2, FILE_LIMIT, name, files)?,
             6 => self.tablet.major(FILE_LIMIT, name, files)?,
             7 => {
-                let row = Row::new(alloc, b"b")?;
+                let row = row_of(alloc, b'b')?;
                 let left = self.tablet.split(&row, FILE_LIMIT, name, files)?;
                 return Ok(wanted == [(left.file_count() % 256) as u8].as_slice());
             }
