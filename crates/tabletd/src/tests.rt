@@ -28,35 +28,16 @@ use cell_key::Refusal;
 use file_store::MemFiles;
 use oracle::MemMark;
 use request_codec::{Reply, Request};
-use rows::Exchange;
+use rows::{Row, TRANSFER};
 use server_loop::{Config, End, ServeFault, Server, end_status};
 use std::alloc::{AllocError, Global};
 use std::cell::Cell;
 use std::io::{Read, Write};
+use std::iter;
 use std::test::Fail;
 use streams::{Asking, Holding, Narrow, Pieces, Telling};
 
 type MemServer = Server<MemFiles, MemMark>;
-
-/// Each row of exchanges, on a server of its own.
-const ROWS: [&[Exchange]; 16] = [
-    &rows::FIRST_CELL,
-    &rows::TRANSFER,
-    &rows::COMMIT_POINT,
-    &rows::FIRST_COMMITTER,
-    &rows::SECOND_COMMITTER,
-    &rows::ORACLE_RESTART,
-    &rows::ORACLE_RANGES,
-    &rows::WRITE_SKEW,
-    &rows::PHASES,
-    &upkeep::TABLETS,
-    &upkeep::ERASURES,
-    &upkeep::SPLIT_UNDER_A_SESSION,
-    &upkeep::SHARED_FILES,
-    &upkeep::REFUSALS,
-    &upkeep::OUTSIDE_THE_FORM,
-    &upkeep::SPLIT_AND_COMPACT,
-];
 
 /// How a server ended.
 type Ended = Result<End, ServeFault>;
@@ -97,31 +78,39 @@ fn outcome(alloc: Global, reader: Pieces, most_reads: u64) -> Result<(Ended, Vec
     Ok((ended, writer.out))
 }
 
+/// Writes the frame of a body.
+fn push_frame(stream: &mut Vec<u8>, body: &[u8]) -> Result<(), AllocError> {
+    let length = u32::try_from(body.len()).unwrap_or(0);
+    stream.extend_from_slice(&length.to_be_bytes())?;
+    stream.extend_from_slice(body)
+}
+
 /// The frames of some bodies.
 fn stream_of(alloc: Global, bodies: &[&[u8]]) -> Result<Vec<u8>, AllocError> {
     let mut stream = Vec::new(alloc);
     for body in bodies {
-        let length = u32::try_from(body.len()).unwrap_or(0);
-        stream.extend_from_slice(&length.to_be_bytes())?;
-        stream.extend_from_slice(body)?;
+        push_frame(&mut stream, body)?;
     }
     Ok(stream)
 }
 
 /// The stream of a row's requests, and that of its replies.
-fn streams_of(alloc: Global, row: &[Exchange]) -> Result<(Vec<u8>, Vec<u8>), AllocError> {
-    let mut requests: Vec<&[u8]> = Vec::new(alloc);
-    let mut replies: Vec<&[u8]> = Vec::new(alloc);
-    for (request, reply) in row {
-        requests.push(request)?;
-        replies.push(reply)?;
+fn streams_of(alloc: Global, row: &Row) -> Result<(Vec<u8>, Vec<u8>), AllocError> {
+    let mut requests = Vec::new(alloc);
+    let mut replies = Vec::new(alloc);
+    let (first, _) = TRANSFER.split_at_checked(row.0).unwrap_or((&[], &[]));
+    for part in iter::once(&first).chain(row.1) {
+        for (request, reply) in *part {
+            push_frame(&mut requests, request)?;
+            push_frame(&mut replies, reply)?;
+        }
     }
-    Ok((stream_of(alloc, &requests)?, stream_of(alloc, &replies)?))
+    Ok((requests, replies))
 }
 
 /// Whether a new server ends cleanly, and writes the row's replies: where each read gives a byte, and where the stream is
 /// cut in two at each place.
-fn is_met(alloc: Global, row: &[Exchange]) -> Result<bool, Refusal> {
+fn is_met(alloc: Global, row: &Row) -> Result<bool, Refusal> {
     let (requests, replies) = streams_of(alloc, row)?;
     for cut in 0..=requests.len() {
         let mut reader = Pieces::new(alloc, &requests)?;
@@ -137,8 +126,15 @@ fn is_met(alloc: Global, row: &[Exchange]) -> Result<bool, Refusal> {
 
 #[test]
 fn rows_are_met(rt: HostRuntime) -> Result<(), Fail> {
-    for row in ROWS {
-        assert!(rt; is_met(rt.alloc(), row)?);
+    for rows in [
+        rows::ROWS.as_slice(),
+        &upkeep::ROWS,
+        &cleaning::ROWS,
+        &collecting::ROWS,
+    ] {
+        for row in rows {
+            assert!(rt; is_met(rt.alloc(), row)?);
+        }
     }
     Ok(())
 }
@@ -272,12 +268,7 @@ fn a_flush_fails(rt: HostRuntime) -> Result<(), Fail> {
 }
 
 /// Whether a server that compacts memtables at so many entries, and merges at so many files, writes a row's replies.
-fn flushing(
-    alloc: Global,
-    flush: u32,
-    merge: Option<u32>,
-    row: &[Exchange],
-) -> Result<bool, Refusal> {
+fn flushing(alloc: Global, flush: u32, merge: Option<u32>, row: &Row) -> Result<bool, Refusal> {
     let (requests, replies) = streams_of(alloc, row)?;
     let mut server = flushing_server(alloc, flush, FILE_LIMIT)?;
     if let Some(most) = merge {
@@ -293,7 +284,7 @@ fn flushing(
 fn full_memtables_are_compacted(rt: HostRuntime) -> Result<(), Fail> {
     assert!(rt; flushing(rt.alloc(), 2, None, &upkeep::COMPACTED)?);
     assert!(rt; flushing(rt.alloc(), 2, Some(3), &upkeep::COMPACTED)?);
-    assert!(rt; flushing(rt.alloc(), 2, Some(2), &upkeep::MERGED)?);
+    assert!(rt; flushing(rt.alloc(), 2, Some(2), &upkeep::MERGED_AT_TWO)?);
     assert!(rt; flushing(rt.alloc(), 3, Some(2), &upkeep::NOT_COMPACTED)?);
     assert!(rt; flushing(rt.alloc(), 10_000, None, &upkeep::NOT_COMPACTED)?);
     Ok(())
