@@ -33,7 +33,6 @@ use server_loop::{Config, End, ServeFault, Server, end_status};
 use std::alloc::{AllocError, Global};
 use std::cell::Cell;
 use std::io::{Read, Write};
-use std::iter;
 use std::test::Fail;
 use streams::{Asking, Holding, Narrow, Pieces, Telling};
 
@@ -98,8 +97,11 @@ fn stream_of(alloc: Global, bodies: &[&[u8]]) -> Result<Vec<u8>, AllocError> {
 fn streams_of(alloc: Global, row: &Row) -> Result<(Vec<u8>, Vec<u8>), AllocError> {
     let mut requests = Vec::new(alloc);
     let mut replies = Vec::new(alloc);
-    let (first, _) = TRANSFER.split_at_checked(row.0).unwrap_or((&[], &[]));
-    for part in iter::once(&first).chain(row.1) {
+    for (request, reply) in TRANSFER.iter().take(row.0) {
+        push_frame(&mut requests, request)?;
+        push_frame(&mut replies, reply)?;
+    }
+    for part in row.1 {
         for (request, reply) in *part {
             push_frame(&mut requests, request)?;
             push_frame(&mut replies, reply)?;
@@ -177,34 +179,45 @@ const BEGIN: &[u8] = b"\0\0\0\x01\x01";
 /// Two requests.
 const TWO_BEGINS: &[u8] = b"\0\0\0\x01\x01\0\0\0\x01\x01";
 
-/// Their replies.
+/// The first reply, and both.
+const ONE_REPLY: &[u8] = b"\0\0\0\x09\x81\0\0\0\0\0\0\0\x01";
+
 const TWO_REPLIES: &[u8] = b"\0\0\0\x09\x81\0\0\0\0\0\0\0\x01\0\0\0\x09\x81\0\0\0\0\0\0\0\x02";
+
+/// Whether a new server can't read what is behind a place of these bytes, of which a read gives so many at most, and has
+/// written these replies.
+fn is_read_to(
+    alloc: Global,
+    bytes: &[u8],
+    most: usize,
+    place: usize,
+    replies: &[u8],
+) -> Result<bool, Refusal> {
+    let mut reader = Pieces::new(alloc, bytes)?;
+    reader.most = most;
+    reader.fails_at = place;
+    let (ended, written) = outcome(alloc, reader, u64::MAX)?;
+    Ok(matches!(ended, Err(ServeFault::Read)) && written.as_slice() == replies)
+}
+
+/// Whether a new server ends after so many reads of a byte of two requests, and has written these replies.
+fn is_used_up(alloc: Global, most_reads: u64, replies: &[u8]) -> Result<bool, Refusal> {
+    let mut reader = Pieces::new(alloc, TWO_BEGINS)?;
+    reader.most = 1;
+    let (ended, written) = outcome(alloc, reader, most_reads)?;
+    Ok(matches!(ended, Ok(End::ReadsUsedUp)) && written.as_slice() == replies)
+}
 
 /// A reader that fails at each place of two requests, which it gives byte by byte or all at once: the requests before it are
 /// answered. So it is where the reads are used up there.
 #[test]
 fn a_read_fails_at_each_place(rt: HostRuntime) -> Result<(), Fail> {
     for place in 0..10 {
-        let (replies, _) = TWO_REPLIES
-            .split_at_checked(place / 5 * 13)
-            .ok_or("too far")?;
-        let mut reader = Pieces::new(rt.alloc(), TWO_BEGINS)?;
-        reader.most = 1;
-        reader.fails_at = place;
-        let (ended, written) = outcome(rt.alloc(), reader, u64::MAX)?;
-        assert!(rt; matches!(ended, Err(ServeFault::Read)));
-        assert!(rt; written.as_slice() == replies);
-        let (given, _) = TWO_BEGINS.split_at_checked(place).ok_or("too far")?;
-        let mut reader = Pieces::new(rt.alloc(), given)?;
-        reader.fails_at = place;
-        let (ended, written) = outcome(rt.alloc(), reader, u64::MAX)?;
-        assert!(rt; matches!(ended, Err(ServeFault::Read)));
-        assert!(rt; written.as_slice() == replies);
-        let mut reader = Pieces::new(rt.alloc(), TWO_BEGINS)?;
-        reader.most = 1;
-        let (ended, written) = outcome(rt.alloc(), reader, place as u64)?;
-        assert!(rt; matches!(ended, Ok(End::ReadsUsedUp)));
-        assert!(rt; written.as_slice() == replies);
+        let replies = if place < 5 { b"" } else { ONE_REPLY };
+        let given = &TWO_BEGINS[..place];
+        assert!(rt; is_read_to(rt.alloc(), TWO_BEGINS, 1, place, replies)?);
+        assert!(rt; is_read_to(rt.alloc(), given, usize::MAX, place, replies)?);
+        assert!(rt; is_used_up(rt.alloc(), place as u64, replies)?);
     }
     Ok(())
 }
@@ -237,21 +250,21 @@ fn a_write_fails_at_each_call(rt: HostRuntime) -> Result<(), Fail> {
     Ok(())
 }
 
-/// How many flushes there are before one that fails, how many bytes have left then, and the next session's start.
-const FLUSHES: [(usize, usize, u64); 4] = [
+/// How many flushes there are before one that fails, what has left then, and the next session's start.
+const FLUSHES: [(usize, &[u8], u64); 4] = [
     // before the first read
-    (0, 0, 1),
+    (0, b"", 1),
     // before the second one
-    (1, 0, 2),
+    (1, b"", 2),
     // before that at the end
-    (2, 13, 3),
+    (2, ONE_REPLY, 3),
     // the last
-    (3, 26, 3),
+    (3, TWO_REPLIES, 3),
 ];
 
 #[test]
 fn a_flush_fails(rt: HostRuntime) -> Result<(), Fail> {
-    for (flushes_left, count, start) in FLUSHES {
+    for (flushes_left, replies, start) in FLUSHES {
         let mut server = new_server(rt.alloc(), FILE_LIMIT)?;
         let mut reader = Pieces::new(rt.alloc(), TWO_BEGINS)?;
         reader.most = BEGIN.len();
@@ -259,7 +272,6 @@ fn a_flush_fails(rt: HostRuntime) -> Result<(), Fail> {
         writer.flushes_left = flushes_left;
         let ended = server.serve(&mut reader, &mut writer, u64::MAX);
         assert!(rt; matches!(ended, Err(ServeFault::Write)));
-        let (replies, _) = TWO_REPLIES.split_at_checked(count).ok_or("too far")?;
         assert!(rt; writer.out.as_slice() == replies);
         let next = server.answer(Request::Begin);
         assert!(rt; matches!(next, Reply::Begin(next) if next == start));
@@ -280,13 +292,20 @@ fn flushing(alloc: Global, flush: u32, merge: Option<u32>, row: &Row) -> Result<
     Ok(matches!(ended, Ok(End::Clean)) && writer.out == replies)
 }
 
+/// At how many entries memtables are compacted, at how many files these are merged, and the row.
+const COMPACTIONS: [(u32, Option<u32>, Row); 5] = [
+    (2, None, upkeep::COMPACTED),
+    (2, Some(3), upkeep::COMPACTED),
+    (2, Some(2), upkeep::MERGED_AT_TWO),
+    (3, Some(2), upkeep::NOT_COMPACTED),
+    (10_000, None, upkeep::NOT_COMPACTED),
+];
+
 #[test]
 fn full_memtables_are_compacted(rt: HostRuntime) -> Result<(), Fail> {
-    assert!(rt; flushing(rt.alloc(), 2, None, &upkeep::COMPACTED)?);
-    assert!(rt; flushing(rt.alloc(), 2, Some(3), &upkeep::COMPACTED)?);
-    assert!(rt; flushing(rt.alloc(), 2, Some(2), &upkeep::MERGED_AT_TWO)?);
-    assert!(rt; flushing(rt.alloc(), 3, Some(2), &upkeep::NOT_COMPACTED)?);
-    assert!(rt; flushing(rt.alloc(), 10_000, None, &upkeep::NOT_COMPACTED)?);
+    for (flush, merge, row) in COMPACTIONS {
+        assert!(rt; flushing(rt.alloc(), flush, merge, &row)?);
+    }
     Ok(())
 }
 
