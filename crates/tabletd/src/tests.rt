@@ -28,7 +28,7 @@ use cell_key::Refusal;
 use file_store::MemFiles;
 use oracle::MemMark;
 use request_codec::{Reply, Request};
-use rows::Exchange;
+use rows::{Row, TRANSFER};
 use server_loop::{Config, End, ServeFault, Server, end_status};
 use std::alloc::{AllocError, Global};
 use std::cell::Cell;
@@ -37,26 +37,6 @@ use std::test::Fail;
 use streams::{Asking, Holding, Narrow, Pieces, Telling};
 
 type MemServer = Server<MemFiles, MemMark>;
-
-/// Each row of exchanges, on a server of its own.
-const ROWS: [&[Exchange]; 16] = [
-    &rows::FIRST_CELL,
-    &rows::TRANSFER,
-    &rows::COMMIT_POINT,
-    &rows::FIRST_COMMITTER,
-    &rows::SECOND_COMMITTER,
-    &rows::ORACLE_RESTART,
-    &rows::ORACLE_RANGES,
-    &rows::WRITE_SKEW,
-    &rows::PHASES,
-    &upkeep::TABLETS,
-    &upkeep::ERASURES,
-    &upkeep::SPLIT_UNDER_A_SESSION,
-    &upkeep::SHARED_FILES,
-    &upkeep::REFUSALS,
-    &upkeep::OUTSIDE_THE_FORM,
-    &upkeep::SPLIT_AND_COMPACT,
-];
 
 /// How a server ended.
 type Ended = Result<End, ServeFault>;
@@ -97,31 +77,42 @@ fn outcome(alloc: Global, reader: Pieces, most_reads: u64) -> Result<(Ended, Vec
     Ok((ended, writer.out))
 }
 
+/// Writes the frame of a body.
+fn push_frame(stream: &mut Vec<u8>, body: &[u8]) -> Result<(), AllocError> {
+    let length = u32::try_from(body.len()).unwrap_or(0);
+    stream.extend_from_slice(&length.to_be_bytes())?;
+    stream.extend_from_slice(body)
+}
+
 /// The frames of some bodies.
 fn stream_of(alloc: Global, bodies: &[&[u8]]) -> Result<Vec<u8>, AllocError> {
     let mut stream = Vec::new(alloc);
     for body in bodies {
-        let length = u32::try_from(body.len()).unwrap_or(0);
-        stream.extend_from_slice(&length.to_be_bytes())?;
-        stream.extend_from_slice(body)?;
+        push_frame(&mut stream, body)?;
     }
     Ok(stream)
 }
 
 /// The stream of a row's requests, and that of its replies.
-fn streams_of(alloc: Global, row: &[Exchange]) -> Result<(Vec<u8>, Vec<u8>), AllocError> {
-    let mut requests: Vec<&[u8]> = Vec::new(alloc);
-    let mut replies: Vec<&[u8]> = Vec::new(alloc);
-    for (request, reply) in row {
-        requests.push(request)?;
-        replies.push(reply)?;
+fn streams_of(alloc: Global, row: &Row) -> Result<(Vec<u8>, Vec<u8>), AllocError> {
+    let mut requests = Vec::new(alloc);
+    let mut replies = Vec::new(alloc);
+    for (request, reply) in TRANSFER.iter().take(row.0) {
+        push_frame(&mut requests, request)?;
+        push_frame(&mut replies, reply)?;
     }
-    Ok((stream_of(alloc, &requests)?, stream_of(alloc, &replies)?))
+    for part in row.1 {
+        for (request, reply) in *part {
+            push_frame(&mut requests, request)?;
+            push_frame(&mut replies, reply)?;
+        }
+    }
+    Ok((requests, replies))
 }
 
 /// Whether a new server ends cleanly, and writes the row's replies: where each read gives a byte, and where the stream is
 /// cut in two at each place.
-fn is_met(alloc: Global, row: &[Exchange]) -> Result<bool, Refusal> {
+fn is_met(alloc: Global, row: &Row) -> Result<bool, Refusal> {
     let (requests, replies) = streams_of(alloc, row)?;
     for cut in 0..=requests.len() {
         let mut reader = Pieces::new(alloc, &requests)?;
@@ -137,8 +128,15 @@ fn is_met(alloc: Global, row: &[Exchange]) -> Result<bool, Refusal> {
 
 #[test]
 fn rows_are_met(rt: HostRuntime) -> Result<(), Fail> {
-    for row in ROWS {
-        assert!(rt; is_met(rt.alloc(), row)?);
+    for rows in [
+        rows::ROWS.as_slice(),
+        &upkeep::ROWS,
+        &cleaning::ROWS,
+        &collecting::ROWS,
+    ] {
+        for row in rows {
+            assert!(rt; is_met(rt.alloc(), row)?);
+        }
     }
     Ok(())
 }
@@ -181,34 +179,45 @@ const BEGIN: &[u8] = b"\0\0\0\x01\x01";
 /// Two requests.
 const TWO_BEGINS: &[u8] = b"\0\0\0\x01\x01\0\0\0\x01\x01";
 
-/// Their replies.
+/// The first reply, and both.
+const ONE_REPLY: &[u8] = b"\0\0\0\x09\x81\0\0\0\0\0\0\0\x01";
+
 const TWO_REPLIES: &[u8] = b"\0\0\0\x09\x81\0\0\0\0\0\0\0\x01\0\0\0\x09\x81\0\0\0\0\0\0\0\x02";
+
+/// Whether a new server can't read what is behind a place of these bytes, of which a read gives so many at most, and has
+/// written these replies.
+fn is_read_to(
+    alloc: Global,
+    bytes: &[u8],
+    most: usize,
+    place: usize,
+    replies: &[u8],
+) -> Result<bool, Refusal> {
+    let mut reader = Pieces::new(alloc, bytes)?;
+    reader.most = most;
+    reader.fails_at = place;
+    let (ended, written) = outcome(alloc, reader, u64::MAX)?;
+    Ok(matches!(ended, Err(ServeFault::Read)) && written.as_slice() == replies)
+}
+
+/// Whether a new server ends after so many reads of a byte of two requests, and has written these replies.
+fn is_used_up(alloc: Global, most_reads: u64, replies: &[u8]) -> Result<bool, Refusal> {
+    let mut reader = Pieces::new(alloc, TWO_BEGINS)?;
+    reader.most = 1;
+    let (ended, written) = outcome(alloc, reader, most_reads)?;
+    Ok(matches!(ended, Ok(End::ReadsUsedUp)) && written.as_slice() == replies)
+}
 
 /// A reader that fails at each place of two requests, which it gives byte by byte or all at once: the requests before it are
 /// answered. So it is where the reads are used up there.
 #[test]
 fn a_read_fails_at_each_place(rt: HostRuntime) -> Result<(), Fail> {
     for place in 0..10 {
-        let (replies, _) = TWO_REPLIES
-            .split_at_checked(place / 5 * 13)
-            .ok_or("too far")?;
-        let mut reader = Pieces::new(rt.alloc(), TWO_BEGINS)?;
-        reader.most = 1;
-        reader.fails_at = place;
-        let (ended, written) = outcome(rt.alloc(), reader, u64::MAX)?;
-        assert!(rt; matches!(ended, Err(ServeFault::Read)));
-        assert!(rt; written.as_slice() == replies);
-        let (given, _) = TWO_BEGINS.split_at_checked(place).ok_or("too far")?;
-        let mut reader = Pieces::new(rt.alloc(), given)?;
-        reader.fails_at = place;
-        let (ended, written) = outcome(rt.alloc(), reader, u64::MAX)?;
-        assert!(rt; matches!(ended, Err(ServeFault::Read)));
-        assert!(rt; written.as_slice() == replies);
-        let mut reader = Pieces::new(rt.alloc(), TWO_BEGINS)?;
-        reader.most = 1;
-        let (ended, written) = outcome(rt.alloc(), reader, place as u64)?;
-        assert!(rt; matches!(ended, Ok(End::ReadsUsedUp)));
-        assert!(rt; written.as_slice() == replies);
+        let replies = if place < 5 { b"" } else { ONE_REPLY };
+        let given = &TWO_BEGINS[..place];
+        assert!(rt; is_read_to(rt.alloc(), TWO_BEGINS, 1, place, replies)?);
+        assert!(rt; is_read_to(rt.alloc(), given, usize::MAX, place, replies)?);
+        assert!(rt; is_used_up(rt.alloc(), place as u64, replies)?);
     }
     Ok(())
 }
@@ -241,21 +250,21 @@ fn a_write_fails_at_each_call(rt: HostRuntime) -> Result<(), Fail> {
     Ok(())
 }
 
-/// How many flushes there are before one that fails, how many bytes have left then, and the next session's start.
-const FLUSHES: [(usize, usize, u64); 4] = [
+/// How many flushes there are before one that fails, what has left then, and the next session's start.
+const FLUSHES: [(usize, &[u8], u64); 4] = [
     // before the first read
-    (0, 0, 1),
+    (0, b"", 1),
     // before the second one
-    (1, 0, 2),
+    (1, b"", 2),
     // before that at the end
-    (2, 13, 3),
+    (2, ONE_REPLY, 3),
     // the last
-    (3, 26, 3),
+    (3, TWO_REPLIES, 3),
 ];
 
 #[test]
 fn a_flush_fails(rt: HostRuntime) -> Result<(), Fail> {
-    for (flushes_left, count, start) in FLUSHES {
+    for (flushes_left, replies, start) in FLUSHES {
         let mut server = new_server(rt.alloc(), FILE_LIMIT)?;
         let mut reader = Pieces::new(rt.alloc(), TWO_BEGINS)?;
         reader.most = BEGIN.len();
@@ -263,7 +272,6 @@ fn a_flush_fails(rt: HostRuntime) -> Result<(), Fail> {
         writer.flushes_left = flushes_left;
         let ended = server.serve(&mut reader, &mut writer, u64::MAX);
         assert!(rt; matches!(ended, Err(ServeFault::Write)));
-        let (replies, _) = TWO_REPLIES.split_at_checked(count).ok_or("too far")?;
         assert!(rt; writer.out.as_slice() == replies);
         let next = server.answer(Request::Begin);
         assert!(rt; matches!(next, Reply::Begin(next) if next == start));
@@ -272,12 +280,7 @@ fn a_flush_fails(rt: HostRuntime) -> Result<(), Fail> {
 }
 
 /// Whether a server that compacts memtables at so many entries, and merges at so many files, writes a row's replies.
-fn flushing(
-    alloc: Global,
-    flush: u32,
-    merge: Option<u32>,
-    row: &[Exchange],
-) -> Result<bool, Refusal> {
+fn flushing(alloc: Global, flush: u32, merge: Option<u32>, row: &Row) -> Result<bool, Refusal> {
     let (requests, replies) = streams_of(alloc, row)?;
     let mut server = flushing_server(alloc, flush, FILE_LIMIT)?;
     if let Some(most) = merge {
@@ -289,13 +292,20 @@ fn flushing(
     Ok(matches!(ended, Ok(End::Clean)) && writer.out == replies)
 }
 
+/// At how many entries memtables are compacted, at how many files these are merged, and the row.
+const COMPACTIONS: [(u32, Option<u32>, Row); 5] = [
+    (2, None, upkeep::COMPACTED),
+    (2, Some(3), upkeep::COMPACTED),
+    (2, Some(2), upkeep::MERGED_AT_TWO),
+    (3, Some(2), upkeep::NOT_COMPACTED),
+    (10_000, None, upkeep::NOT_COMPACTED),
+];
+
 #[test]
 fn full_memtables_are_compacted(rt: HostRuntime) -> Result<(), Fail> {
-    assert!(rt; flushing(rt.alloc(), 2, None, &upkeep::COMPACTED)?);
-    assert!(rt; flushing(rt.alloc(), 2, Some(3), &upkeep::COMPACTED)?);
-    assert!(rt; flushing(rt.alloc(), 2, Some(2), &upkeep::MERGED)?);
-    assert!(rt; flushing(rt.alloc(), 3, Some(2), &upkeep::NOT_COMPACTED)?);
-    assert!(rt; flushing(rt.alloc(), 10_000, None, &upkeep::NOT_COMPACTED)?);
+    for (flush, merge, row) in COMPACTIONS {
+        assert!(rt; flushing(rt.alloc(), flush, merge, &row)?);
+    }
     Ok(())
 }
 

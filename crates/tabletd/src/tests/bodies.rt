@@ -1,6 +1,8 @@
 //! The bodies of requests and replies.
 
+use cell_key::Refusal;
 use request_codec::{decode_reply, decode_request, encode_reply, encode_request};
+use std::alloc::Global;
 use std::test::Fail;
 
 const GET: &[u8] = b"\x02\0\0\0\0\0\0\0\x01\0\0\0\x01a\0\0\0\x03bal";
@@ -59,13 +61,20 @@ const NO_REQUESTS: [&[u8]; 22] = [
     b"\x11\0\0\0\x01m\0\0\0\x01c\x02\0\0\0\0\0\0\0\0\0\0\0\0\0\0\0",
 ];
 
+/// Whether a body is that of a request, which is written with the same bytes.
+fn is_request(alloc: Global, body: &[u8]) -> Result<bool, Refusal> {
+    let Some(request) = decode_request(body) else {
+        return Ok(false);
+    };
+    let mut out = Vec::new(alloc);
+    encode_request(&request, &mut out)?;
+    Ok(out.as_slice() == body)
+}
+
 #[test]
 fn bodies_of_requests(rt: HostRuntime) -> Result<(), Fail> {
     for body in REQUESTS {
-        let mut out = Vec::new(rt.alloc());
-        let request = decode_request(body).ok_or("no request")?;
-        encode_request(&request, &mut out)?;
-        assert!(rt; out.as_slice() == body);
+        assert!(rt; is_request(rt.alloc(), body)?);
     }
     for body in NO_REQUESTS {
         assert!(rt; decode_request(body).is_none());
@@ -137,16 +146,28 @@ const NO_REPLIES: [&[u8]; 23] = [
     b"\xFF\x16\0",
 ];
 
+/// Whether a body is that of a reply, which is written with the same bytes.
+fn is_reply(alloc: Global, body: &[u8]) -> Result<bool, Refusal> {
+    let Some(reply) = decode_reply(alloc, body)? else {
+        return Ok(false);
+    };
+    let mut out = Vec::new(alloc);
+    encode_reply(&reply, &mut out)?;
+    Ok(out.as_slice() == body)
+}
+
+/// Whether a body is that of no reply.
+fn is_no_reply(alloc: Global, body: &[u8]) -> Result<bool, Refusal> {
+    Ok(decode_reply(alloc, body)?.is_none())
+}
+
 #[test]
 fn bodies_of_replies(rt: HostRuntime) -> Result<(), Fail> {
     for body in REPLIES {
-        let mut out = Vec::new(rt.alloc());
-        let reply = decode_reply(rt.alloc(), body)?.ok_or("no reply")?;
-        encode_reply(&reply, &mut out)?;
-        assert!(rt; out.as_slice() == body);
+        assert!(rt; is_reply(rt.alloc(), body)?);
     }
     for body in NO_REPLIES {
-        assert!(rt; decode_reply(rt.alloc(), body)?.is_none());
+        assert!(rt; is_no_reply(rt.alloc(), body)?);
     }
     Ok(())
 }

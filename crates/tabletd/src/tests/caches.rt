@@ -6,7 +6,8 @@ ghost use Rattle.row_atomic.specs.Commands.{IsUnderRow};
 
 use crate::tests::memory::rows::{new_cluster, newest};
 use cell_key::{CellKey, Edit, Family, Qualifier, Refusal, Row, Stamp};
-use row_atomic::{Command, Outcome};
+use file_store::MemFiles;
+use row_atomic::{Cluster, Command, Outcome};
 use std::alloc::Global;
 use std::test::Fail;
 
@@ -104,15 +105,25 @@ const ASKED: [(Ask, &[u8]); 13] = [
     (Ask::Sweep, b"\0"),
 ];
 
-/// Whether a cluster answers as it is wanted, where its caches are emptied before each request or never.
+/// Whether a cluster answers as it is wanted.
+fn is_answered(
+    alloc: Global,
+    cluster: &mut Cluster<MemFiles>,
+    ask: Ask,
+    wanted: &[u8],
+) -> Result<bool, Refusal> {
+    let commands = vec![in alloc; command_of(alloc, ask)?]?;
+    Ok(is_outcome(cluster.run(commands)?.get(0), wanted))
+}
+
+/// Whether a cluster answers all as it is wanted, where its caches are emptied before each request or never.
 fn answers(alloc: Global, drops: bool) -> Result<bool, Refusal> {
     let mut cluster = new_cluster(alloc)?;
     for (ask, wanted) in ASKED {
         if drops {
             cluster.drop_caches();
         }
-        let commands = vec![in alloc; command_of(alloc, ask)?]?;
-        if !is_outcome(cluster.run(commands)?.get(0), wanted) {
+        if !is_answered(alloc, &mut cluster, ask, wanted)? {
             return Ok(false);
         }
     }
@@ -147,18 +158,28 @@ const HITS: [(Option<Ask>, &[u8], u64); 12] = [
     (Some(Ask::Sweep), b"az", 12),
 ];
 
+/// Asks a cluster, and reads rows of it: how many rows were found among those that were located last.
+fn hits_after(
+    alloc: Global,
+    cluster: &mut Cluster<MemFiles>,
+    ask: Option<Ask>,
+    rows: &[u8],
+) -> Result<u64, Refusal> {
+    if let Some(ask) = ask {
+        let commands = vec![in alloc; command_of(alloc, ask)?]?;
+        let _outcomes = cluster.run(commands)?;
+    }
+    for row in rows {
+        newest(alloc, cluster, *row)?;
+    }
+    Ok(cluster.place_hits())
+}
+
 #[test]
 fn rows_are_found_again(rt: HostRuntime) -> Result<(), Fail> {
     let mut cluster = new_cluster(rt.alloc())?;
     for (ask, rows, hits) in HITS {
-        if let Some(ask) = ask {
-            let commands = vec![in rt.alloc(); command_of(rt.alloc(), ask)?]?;
-            let _outcomes = cluster.run(commands)?;
-        }
-        for row in rows {
-            newest(rt.alloc(), &mut cluster, *row)?;
-        }
-        assert!(rt; cluster.place_hits() == hits);
+        assert!(rt; hits_after(rt.alloc(), &mut cluster, ask, rows)? == hits);
     }
     Ok(())
 }
@@ -170,10 +191,7 @@ fn rows_are_kept_for_a_while(rt: HostRuntime) -> Result<(), Fail> {
     for row in 0..129 {
         newest(rt.alloc(), &mut cluster, row)?;
     }
-    newest(rt.alloc(), &mut cluster, 0)?;
-    assert!(rt; cluster.place_hits() == 0);
-    newest(rt.alloc(), &mut cluster, 128)?;
-    newest(rt.alloc(), &mut cluster, 2)?;
-    assert!(rt; cluster.place_hits() == 2);
+    assert!(rt; hits_after(rt.alloc(), &mut cluster, None, &[0])? == 0);
+    assert!(rt; hits_after(rt.alloc(), &mut cluster, None, &[128, 2])? == 2);
     Ok(())
 }

@@ -1,9 +1,10 @@
 //! Checkpoints, and what is opened of the folder that they are in.
 
 use crate::FILE_LIMIT;
+use crate::tests::cleaning::ROLLED_FORWARD;
 use crate::tests::folders::new_folder;
 use crate::tests::places::NEW_ROOT;
-use crate::tests::rows::{Exchange, after_transfer};
+use crate::tests::rows::{COMMITTED, Exchange, Row};
 use crate::tests::streams::{Holding, Pieces};
 use crate::tests::streams_of;
 use cell_key::Refusal;
@@ -15,14 +16,20 @@ use std::test::Fail;
 
 type DirServer = Server<DirFiles<HostRuntime>, DirMark<HostRuntime>>;
 
-/// A new store is written.
+/// A store is written.
 const WRITTEN: [Exchange; 1] = [(b"\x12", b"\x92")];
 
-/// A new store begins with 1.
-const BEGUN: [Exchange; 1] = [(b"\x01", b"\x81\0\0\0\0\0\0\0\x01")];
+/// A new store is written.
+const NEW: Row = (0, &[&WRITTEN]);
 
-/// A transfer stopped after its commit. Its session is gone, and its last lock stands until it is cleaned.
-const REOPENED: [Exchange; 8] = [
+/// The transfer is written when it has committed its first cell.
+const HALF: Row = (COMMITTED, &[&WRITTEN]);
+
+/// A new store begins with 1.
+const BEGUN: Row = (0, &[&[(b"\x01", b"\x81\0\0\0\0\0\0\0\x01")]]);
+
+/// A transfer stopped after its commit. Its session is gone, and its last lock stands.
+const STOPPED: [Exchange; 4] = [
     // Step 3: refused 1
     (b"\x04\0\0\0\0\0\0\0\x03", b"\xFF\x01"),
     // Begin: 1001
@@ -37,21 +44,19 @@ const REOPENED: [Exchange; 8] = [
         b"\x02\0\0\0\0\0\0\x03\xE9\0\0\0\x03Joe\0\0\0\x03bal",
         b"\x82\x02\0\0\0\0\0\0\0\x03",
     ),
-    // CleanBegin Joe bal: Cleaner 1 3
-    (
-        b"\x06\0\0\0\x03Joe\0\0\0\x03bal",
-        b"\x86\x01\0\0\0\0\0\0\0\x01\0\0\0\0\0\0\0\x03",
-    ),
-    // CleanStep 1: Decided
-    (b"\x07\0\0\0\0\0\0\0\x01", b"\x87\x01"),
-    // CleanStep 1: RolledForward 4
-    (b"\x07\0\0\0\0\0\0\0\x01", b"\x87\x02\0\0\0\0\0\0\0\x04"),
+];
+
+/// The lock was cleaned, and the cell is read.
+const CLEANED: [Exchange; 1] = [
     // Get 1001 Joe bal: 9
     (
         b"\x02\0\0\0\0\0\0\x03\xE9\0\0\0\x03Joe\0\0\0\x03bal",
         b"\x82\x01\0\0\0\x019",
     ),
 ];
+
+/// Such a transfer is cleaned.
+const REOPENED: Row = (0, &[&STOPPED, &ROLLED_FORWARD, &CLEANED]);
 
 /// A server of a folder. It takes the folder's files and mark as a program that is started does.
 fn opened(rt: &HostRuntime, path: &str) -> Result<DirServer, Refusal> {
@@ -74,7 +79,7 @@ fn opened(rt: &HostRuntime, path: &str) -> Result<DirServer, Refusal> {
 }
 
 /// Whether a server that is opened of a folder ends cleanly, and writes the row's replies.
-fn is_met(rt: &HostRuntime, path: &str, row: &[Exchange]) -> Result<bool, Refusal> {
+fn is_met(rt: &HostRuntime, path: &str, row: &Row) -> Result<bool, Refusal> {
     let (requests, replies) = streams_of(rt.alloc(), row)?;
     let mut reader = Pieces::new(rt.alloc(), &requests)?;
     let mut writer = Holding::new(rt.alloc());
@@ -86,7 +91,7 @@ fn is_met(rt: &HostRuntime, path: &str, row: &[Exchange]) -> Result<bool, Refusa
 fn a_new_store_is_opened(rt: HostRuntime) -> Result<(), Fail> {
     let folder = new_folder(&rt, "new")?;
     let path = folder.as_str();
-    assert!(rt; is_met(&rt, path, &WRITTEN)?);
+    assert!(rt; is_met(&rt, path, &NEW)?);
     let root = format!(in rt.alloc(); "{path}/t0000000000000000.tab")?;
     assert!(rt; fs::read(&rt, root.as_str())?.as_slice() == NEW_ROOT);
     assert!(rt; is_met(&rt, path, &BEGUN)?);
@@ -97,8 +102,7 @@ fn a_new_store_is_opened(rt: HostRuntime) -> Result<(), Fail> {
 /// A folder with the transfer up to its commit, and a checkpoint behind it.
 fn committed_folder(rt: &HostRuntime, name: &str) -> Result<String, Fail> {
     let folder = new_folder(rt, name)?;
-    let row = after_transfer(rt.alloc(), 17, &WRITTEN)?;
-    if !is_met(rt, folder.as_str(), &row)? {
+    if !is_met(rt, folder.as_str(), &HALF)? {
         return Err(Fail::from("the transfer isn't met"));
     }
     Ok(folder)

@@ -1,13 +1,15 @@
-//! Requests of cleaners with their replies, as bodies of frames.
+//! Rows of exchanges with cleaners.
 
-use crate::tests::is_met;
-use crate::tests::rows::{Exchange, after_transfer};
-use std::test::Fail;
+use crate::tests::rows::{COMMITTED, Exchange, Row, STAMPED};
 
-/// A committed transfer is rolled forward.
-const ROLLED_FORWARD: [Exchange; 9] = [
+/// The transfer stops.
+pub const SESSION_STOPPED: [Exchange; 1] = [
     // Stop 3: done
     (b"\x05\0\0\0\0\0\0\0\x03", b"\x85"),
+];
+
+/// A later session reads its first cell, and waits for the other.
+const READ_PENDING: [Exchange; 3] = [
     // Begin: 5
     (b"\x01", b"\x81\0\0\0\0\0\0\0\x05"),
     // Get 5 Bob bal: 3
@@ -20,6 +22,10 @@ const ROLLED_FORWARD: [Exchange; 9] = [
         b"\x02\0\0\0\0\0\0\0\x05\0\0\0\x03Joe\0\0\0\x03bal",
         b"\x82\x02\0\0\0\0\0\0\0\x03",
     ),
+];
+
+/// A cleaner rolls the other cell forward.
+pub const ROLLED_FORWARD: [Exchange; 3] = [
     // CleanBegin Joe bal: Cleaner 1 3
     (
         b"\x06\0\0\0\x03Joe\0\0\0\x03bal",
@@ -29,6 +35,10 @@ const ROLLED_FORWARD: [Exchange; 9] = [
     (b"\x07\0\0\0\0\0\0\0\x01", b"\x87\x01"),
     // CleanStep 1: RolledForward 4
     (b"\x07\0\0\0\0\0\0\0\x01", b"\x87\x02\0\0\0\0\0\0\0\x04"),
+];
+
+/// It is done, and the cell is read.
+const READ_NEW: [Exchange; 2] = [
     // CleanStep 1: refused 9
     (b"\x07\0\0\0\0\0\0\0\x01", b"\xFF\x09"),
     // Get 5 Joe bal: 9
@@ -38,10 +48,8 @@ const ROLLED_FORWARD: [Exchange; 9] = [
     ),
 ];
 
-/// A stamped transfer is rolled back.
-const ROLLED_BACK: [Exchange; 7] = [
-    // Stop 3: done
-    (b"\x05\0\0\0\0\0\0\0\x03", b"\x85"),
+/// A cleaner rolls a stamped transfer back, and both cells are read.
+const ROLLED_BACK: [Exchange; 6] = [
     // Begin: 5
     (b"\x01", b"\x81\0\0\0\0\0\0\0\x05"),
     // CleanBegin Joe bal: Cleaner 1 3
@@ -65,29 +73,8 @@ const ROLLED_BACK: [Exchange; 7] = [
     ),
 ];
 
-/// So is one that goes on, and its commit is lost.
-const LOST: [Exchange; 8] = [
-    // Begin: 5
-    (b"\x01", b"\x81\0\0\0\0\0\0\0\x05"),
-    // CleanBegin Joe bal: Cleaner 1 3
-    (
-        b"\x06\0\0\0\x03Joe\0\0\0\x03bal",
-        b"\x86\x01\0\0\0\0\0\0\0\x01\0\0\0\0\0\0\0\x03",
-    ),
-    // CleanStep 1: Decided
-    (b"\x07\0\0\0\0\0\0\0\x01", b"\x87\x01"),
-    // CleanStep 1: RolledBack
-    (b"\x07\0\0\0\0\0\0\0\x01", b"\x87\x03"),
-    // Get 5 Bob bal: 10
-    (
-        b"\x02\0\0\0\0\0\0\0\x05\0\0\0\x03Bob\0\0\0\x03bal",
-        b"\x82\x01\0\0\0\x0210",
-    ),
-    // Get 5 Joe bal: 2
-    (
-        b"\x02\0\0\0\0\0\0\0\x05\0\0\0\x03Joe\0\0\0\x03bal",
-        b"\x82\x01\0\0\0\x012",
-    ),
+/// Its commit is lost.
+const LOST: [Exchange; 2] = [
     // Step 3: Lost
     (b"\x04\0\0\0\0\0\0\0\x03", b"\x84\x05"),
     // Step 3: refused 1
@@ -145,12 +132,14 @@ const CLEANED_WHILE_HOLDING: [Exchange; 16] = [
     (b"\x02\0\0\0\0\0\0\0\x03\0\0\0\x01b\0\0\0\x01c", b"\x82\0"),
 ];
 
-/// Two cleaners of one lock: the stale one finds it gone.
-const STALE: [Exchange; 9] = [
-    // Stop 3: done
-    (b"\x05\0\0\0\0\0\0\0\x03", b"\x85"),
+/// No cleaner begins where there is no lock.
+const NO_LOCK: [Exchange; 1] = [
     // CleanBegin Bob bal: NoLock
     (b"\x06\0\0\0\x03Bob\0\0\0\x03bal", b"\x86\0"),
+];
+
+/// Two cleaners of one lock begin, and the second takes its first step.
+const TWO_CLEANERS: [Exchange; 3] = [
     // CleanBegin Joe bal: Cleaner 1 3
     (
         b"\x06\0\0\0\x03Joe\0\0\0\x03bal",
@@ -163,6 +152,10 @@ const STALE: [Exchange; 9] = [
     ),
     // CleanStep 2: Decided
     (b"\x07\0\0\0\0\0\0\0\x02", b"\x87\x01"),
+];
+
+/// The second finds the lock gone.
+const STALE: [Exchange; 4] = [
     // CleanStep 1: Decided
     (b"\x07\0\0\0\0\0\0\0\x01", b"\x87\x01"),
     // CleanStep 1: RolledForward 4
@@ -174,19 +167,7 @@ const STALE: [Exchange; 9] = [
 ];
 
 /// Cleaners stop before their first step, between the two, and after the second.
-const STOPPED: [Exchange; 15] = [
-    // CleanBegin Joe bal: Cleaner 1 3
-    (
-        b"\x06\0\0\0\x03Joe\0\0\0\x03bal",
-        b"\x86\x01\0\0\0\0\0\0\0\x01\0\0\0\0\0\0\0\x03",
-    ),
-    // CleanBegin Joe bal: Cleaner 2 3
-    (
-        b"\x06\0\0\0\x03Joe\0\0\0\x03bal",
-        b"\x86\x01\0\0\0\0\0\0\0\x02\0\0\0\0\0\0\0\x03",
-    ),
-    // CleanStep 2: Decided
-    (b"\x07\0\0\0\0\0\0\0\x02", b"\x87\x01"),
+const STOPPED: [Exchange; 12] = [
     // Begin: 5
     (b"\x01", b"\x81\0\0\0\0\0\0\0\x05"),
     // Get 5 Joe bal: Pending 3
@@ -225,21 +206,21 @@ const STOPPED: [Exchange; 15] = [
     ),
 ];
 
-/// How many exchanges of the transfer come first, and the row.
-const ROWS: [(usize, &[Exchange]); 6] = [
-    (17, &ROLLED_FORWARD),
-    (16, &ROLLED_BACK),
-    (16, &LOST),
-    (0, &CLEANED_WHILE_HOLDING),
-    (17, &STALE),
-    (16, &STOPPED),
+/// Rows of cleaners.
+pub const ROWS: [Row; 6] = [
+    // a committed transfer is rolled forward
+    (
+        COMMITTED,
+        &[&SESSION_STOPPED, &READ_PENDING, &ROLLED_FORWARD, &READ_NEW],
+    ),
+    // a stamped transfer is rolled back
+    (STAMPED, &[&SESSION_STOPPED, &ROLLED_BACK]),
+    // so is one that goes on
+    (STAMPED, &[&ROLLED_BACK, &LOST]),
+    (0, &[&CLEANED_WHILE_HOLDING]),
+    (
+        COMMITTED,
+        &[&SESSION_STOPPED, &NO_LOCK, &TWO_CLEANERS, &STALE],
+    ),
+    (STAMPED, &[&TWO_CLEANERS, &STOPPED]),
 ];
-
-#[test]
-fn cleaners(rt: HostRuntime) -> Result<(), Fail> {
-    for (count, row) in ROWS {
-        let all = after_transfer(rt.alloc(), count, row)?;
-        assert!(rt; is_met(rt.alloc(), &all)?);
-    }
-    Ok(())
-}

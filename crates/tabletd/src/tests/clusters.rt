@@ -6,7 +6,8 @@ ghost use Rattle.row_atomic.specs.Commands.{IsUnderRow};
 use crate::tests::edits::edits_of;
 use crate::tests::memory::rows::{new_cluster, newest, next};
 use cell_key::{Refusal, Row, Stamp};
-use row_atomic::{Command, Outcome, Rows, one_newest, one_next_cell};
+use file_store::MemFiles;
+use row_atomic::{Cluster, Command, Outcome, Rows, one_newest, one_next_cell};
 use std::alloc::Global;
 use std::test::Fail;
 
@@ -70,6 +71,16 @@ fn command_of(alloc: Global, step: Step) -> Result<Command, Refusal>
     }
 }
 
+/// Takes a step, and sweeps then: how many files were swept.
+fn take(alloc: Global, cluster: &mut Cluster<MemFiles>, step: Step) -> Result<u64, Refusal> {
+    let commands = vec![in alloc; command_of(alloc, step)?]?;
+    match cluster.run(commands)?.get(0) {
+        Some(Outcome::Refused(refusal)) => Err(*refusal),
+        Some(_) => cluster.sweep(),
+        None => Err(Refusal::BadRequest),
+    }
+}
+
 /// Rows, their newest values and the rows of the next cells. Each value is its stamp.
 const SHOWN: [(u8, u8, u8); 6] = [
     (b'a', b'1', b'b'),
@@ -85,10 +96,7 @@ fn tablets_keep_the_cells(rt: HostRuntime) -> Result<(), Fail> {
     let mut cluster = new_cluster(rt.alloc())?;
     let mut swept: u64 = 0;
     for step in STEPS {
-        let commands = vec![in rt.alloc(); command_of(rt.alloc(), step)?]?;
-        let outcomes = cluster.run(commands)?;
-        assert!(rt; !matches!(outcomes.get(0), Some(Outcome::Refused(_)) | None));
-        swept = swept.saturating_add(cluster.sweep()?);
+        swept = swept.saturating_add(take(rt.alloc(), &mut cluster, step)?);
     }
     for (row, value, after) in SHOWN {
         assert!(rt; newest(rt.alloc(), &mut cluster, row)? == value);

@@ -1,13 +1,10 @@
-//! Requests of collectors with their replies, as bodies of frames.
+//! Rows of exchanges with collectors.
 
-use crate::tests::is_met;
-use crate::tests::rows::{Exchange, after_transfer};
-use std::test::Fail;
+use crate::tests::cleaning::{ROLLED_FORWARD, SESSION_STOPPED};
+use crate::tests::rows::{COMMITTED, Exchange, Row};
 
-/// A collector is blocked by a lock that a stopped session left, and goes on when it is cleaned.
-const BLOCKED: [Exchange; 11] = [
-    // Stop 3: done
-    (b"\x05\0\0\0\0\0\0\0\x03", b"\x85"),
+/// A collector is blocked by the lock of the transfer.
+const BLOCKED: [Exchange; 2] = [
     // CollectBegin: 1, floor 5
     (b"\x08", b"\x88\0\0\0\0\0\0\0\x01\0\0\0\0\0\0\0\x05"),
     // CollectStep 1 10: Blocked Joe bal 3
@@ -15,19 +12,18 @@ const BLOCKED: [Exchange; 11] = [
         b"\x09\0\0\0\0\0\0\0\x01\0\0\0\x0A",
         b"\x89\x02\0\0\0\x03Joe\0\0\0\x03bal\0\0\0\0\0\0\0\x03",
     ),
-    // CleanBegin Joe bal: Cleaner 1 3
-    (
-        b"\x06\0\0\0\x03Joe\0\0\0\x03bal",
-        b"\x86\x01\0\0\0\0\0\0\0\x01\0\0\0\0\0\0\0\x03",
-    ),
-    // CleanStep 1: Decided
-    (b"\x07\0\0\0\0\0\0\0\x01", b"\x87\x01"),
-    // CleanStep 1: RolledForward 4
-    (b"\x07\0\0\0\0\0\0\0\x01", b"\x87\x02\0\0\0\0\0\0\0\x04"),
+];
+
+/// It goes on when the lock is cleaned.
+const COLLECTED: [Exchange; 2] = [
     // CollectStep 1 6: More
     (b"\x09\0\0\0\0\0\0\0\x01\0\0\0\x06", b"\x89\x01"),
     // CollectStep 1 1: Collected
     (b"\x09\0\0\0\0\0\0\0\x01\0\0\0\x01", b"\x89\x03"),
+];
+
+/// The old versions are gone.
+const OLD_GONE: [Exchange; 3] = [
     // Raw Joe bal write 0..9: stamp 4, start 3
     (
         b"\x11\0\0\0\x03Joe\0\0\0\x03bal\x03\0\0\0\0\0\0\0\0\0\0\0\0\0\0\0\x09",
@@ -45,10 +41,8 @@ const BLOCKED: [Exchange; 11] = [
     ),
 ];
 
-/// A record of the first cell stays as long as a lock of its transaction stands, and goes then.
-const PRIMARY: [Exchange; 18] = [
-    // Stop 3: done
-    (b"\x05\0\0\0\0\0\0\0\x03", b"\x85"),
+/// The transfer's first cell is written once more, and a collector is blocked. The lock is still seen.
+const OVERWRITTEN: [Exchange; 9] = [
     // Begin: 5
     (b"\x01", b"\x81\0\0\0\0\0\0\0\x05"),
     // Set 5 Bob bal 1: done
@@ -76,24 +70,19 @@ const PRIMARY: [Exchange; 18] = [
         b"\x02\0\0\0\0\0\0\0\x07\0\0\0\x03Joe\0\0\0\x03bal",
         b"\x82\x02\0\0\0\0\0\0\0\x03",
     ),
-    // CleanBegin Joe bal: Cleaner 1 3
-    (
-        b"\x06\0\0\0\x03Joe\0\0\0\x03bal",
-        b"\x86\x01\0\0\0\0\0\0\0\x01\0\0\0\0\0\0\0\x03",
-    ),
-    // CleanStep 1: Decided
-    (b"\x07\0\0\0\0\0\0\0\x01", b"\x87\x01"),
-    // CleanStep 1: RolledForward 4
-    (b"\x07\0\0\0\0\0\0\0\x01", b"\x87\x02\0\0\0\0\0\0\0\x04"),
+];
+
+/// The other cell is read.
+const OTHER_READ: [Exchange; 1] = [
     // Get 7 Joe bal: 9
     (
         b"\x02\0\0\0\0\0\0\0\x07\0\0\0\x03Joe\0\0\0\x03bal",
         b"\x82\x01\0\0\0\x019",
     ),
-    // CollectStep 1 6: More
-    (b"\x09\0\0\0\0\0\0\0\x01\0\0\0\x06", b"\x89\x01"),
-    // CollectStep 1 1: Collected
-    (b"\x09\0\0\0\0\0\0\0\x01\0\0\0\x01", b"\x89\x03"),
+];
+
+/// The record of the first cell is gone.
+const PRIMARY_GONE: [Exchange; 2] = [
     // Get 7 Bob bal: 1
     (
         b"\x02\0\0\0\0\0\0\0\x07\0\0\0\x03Bob\0\0\0\x03bal",
@@ -186,19 +175,31 @@ const EMPTY: [Exchange; 5] = [
     (b"\x09\0\0\0\0\0\0\0\x01\0\0\0\x01", b"\xFF\x0A"),
 ];
 
-/// How many exchanges of the transfer come first, and the row.
-const ROWS: [(usize, &[Exchange]); 4] = [
-    (17, &BLOCKED),
-    (17, &PRIMARY),
-    (0, &OLD_READER),
-    (0, &EMPTY),
+/// Rows of collectors.
+pub const ROWS: [Row; 4] = [
+    // a collector is blocked by a lock that a stopped session left, and goes on when it is cleaned
+    (
+        COMMITTED,
+        &[
+            &SESSION_STOPPED,
+            &BLOCKED,
+            &ROLLED_FORWARD,
+            &COLLECTED,
+            &OLD_GONE,
+        ],
+    ),
+    // a record of the first cell stays as long as a lock of its transaction stands, and goes then
+    (
+        COMMITTED,
+        &[
+            &SESSION_STOPPED,
+            &OVERWRITTEN,
+            &ROLLED_FORWARD,
+            &OTHER_READ,
+            &COLLECTED,
+            &PRIMARY_GONE,
+        ],
+    ),
+    (0, &[&OLD_READER]),
+    (0, &[&EMPTY]),
 ];
-
-#[test]
-fn collectors(rt: HostRuntime) -> Result<(), Fail> {
-    for (count, row) in ROWS {
-        let all = after_transfer(rt.alloc(), count, row)?;
-        assert!(rt; is_met(rt.alloc(), &all)?);
-    }
-    Ok(())
-}

@@ -40,6 +40,22 @@ fn table_of(alloc: Global, writes: &[(Stamp, Option<&[u8]>)]) -> Result<Memtable
     Ok(table)
 }
 
+/// Whether a memtable and an older file are merged to these bytes.
+fn is_merged(
+    alloc: Global,
+    newer: &Memtable,
+    file: &SortedFile,
+    keep_erasures: bool,
+    bytes: &[u8],
+    files: &mut MemFiles,
+) -> Result<bool, Refusal> {
+    merge(alloc, newer, Some(file), keep_erasures, 2, files)?;
+    match read_whole(alloc, files, 2) {
+        Ok(Some(written)) => Ok(written.as_slice() == bytes),
+        _ => Ok(false),
+    }
+}
+
 #[test]
 fn newest_wins(rt: HostRuntime) -> Result<(), Fail> {
     let older = table_of(rt.alloc(), &OLDER)?;
@@ -48,16 +64,7 @@ fn newest_wins(rt: HostRuntime) -> Result<(), Fail> {
     merge(rt.alloc(), &older, None, true, 1, &mut files)?;
     let file = SortedFile::open(rt.alloc(), 1, &mut files)?;
     for (keep_erasures, bytes) in [(true, ERASURE_KEPT), (false, ERASURE_DROPPED)] {
-        merge(
-            rt.alloc(),
-            &newer,
-            Some(&file),
-            keep_erasures,
-            2,
-            &mut files,
-        )?;
-        let written = read_whole(rt.alloc(), &mut files, 2)?.ok_or("no file")?;
-        assert!(rt; written.as_slice() == bytes);
+        assert!(rt; is_merged(rt.alloc(), &newer, &file, keep_erasures, bytes, &mut files)?);
     }
     Ok(())
 }

@@ -2,7 +2,7 @@
 
 use cell_key::MOST_STAMP;
 use file_store::{DirFiles, FileFault, Files};
-use oracle::{DirMark, MarkFault, MarkStore};
+use oracle::{DirMark, MarkStore};
 use std::test::Fail;
 use std::{fs, io, process};
 
@@ -28,56 +28,83 @@ fn part(
     Ok(bytes)
 }
 
-#[test]
-fn files_in_a_folder(rt: HostRuntime) -> Result<(), Fail> {
-    let folder = new_folder(&rt, "files")?;
-    let path = folder.as_str();
-    for (name, bytes) in [
-        ("t0000000000000003.new", "left"),
-        ("t0000000000000004.tab.old", "other"),
-        ("T0000000000000005.tab", "other"),
-        ("t000000000000000A.tab", "other"),
-        ("notes", "other"),
-    ] {
-        let path = format!(in rt.alloc(); "{path}/{name}")?;
-        fs::write(&rt, path.as_str(), bytes)?;
+/// Files that are none of the store's.
+const OTHERS: [&str; 5] = [
+    "t0000000000000003.new",
+    "t0000000000000004.tab.old",
+    "T0000000000000005.tab",
+    "t000000000000000A.tab",
+    "notes",
+];
+
+/// A new folder with files that are none of the store's.
+fn folder_of_others(rt: &HostRuntime) -> io::Result<String> {
+    let folder = new_folder(rt, "files")?;
+    for name in OTHERS {
+        let path = format!(in rt.alloc(); "{}/{name}", folder.as_str())?;
+        fs::write(rt, path.as_str(), "other")?;
     }
-    let mut files = DirFiles::open(rt, path)?;
+    Ok(folder)
+}
+
+/// Whether a store has just these files.
+fn has_files(
+    rt: &HostRuntime,
+    files: &mut DirFiles<HostRuntime>,
+    wanted: &[u64],
+) -> Result<bool, FileFault> {
     let mut names = Vec::new(rt.alloc());
     files.list(&mut names)?;
-    assert!(rt; names.is_empty());
-    files.put(10, b"old bytes")?;
-    files.put(10, b"ten bytes!")?;
-    files.put(2, b"")?;
-    files.list(&mut names)?;
-    assert_eq!(rt; names.as_slice(), [2, 10].as_slice());
-    assert_eq!(rt; files.size(10), Ok(Some(10)));
-    assert_eq!(rt; files.size(2), Ok(Some(0)));
-    assert_eq!(rt; files.size(3), Ok(None));
-    for (name, offset, bytes) in [
-        (10, 0, "ten byte"),
-        (10, 6, "tes!"),
-        (10, 10, ""),
-        (10, u64::MAX, ""),
-        (2, 0, ""),
-        (3, 0, ""),
-    ] {
-        let found = part(&rt, &mut files, name, offset)?;
-        assert_eq!(rt; found.as_slice(), bytes.as_bytes());
+    Ok(names.as_slice() == wanted)
+}
+
+/// Names of files, and their sizes.
+const SIZES: [(u64, Option<u64>); 3] = [(10, Some(10)), (2, Some(0)), (3, None)];
+
+/// Names of files and offsets, and what is there.
+const PARTS: [(u64, u64, &[u8]); 6] = [
+    (10, 0, b"ten byte"),
+    (10, 6, b"tes!"),
+    (10, 10, b""),
+    (10, u64::MAX, b""),
+    (2, 0, b""),
+    (3, 0, b""),
+];
+
+#[test]
+fn files_in_a_folder(rt: HostRuntime) -> Result<(), Fail> {
+    let folder = folder_of_others(&rt)?;
+    let path = folder.as_str();
+    let mut files = DirFiles::open(rt, path)?;
+    assert!(rt; has_files(&rt, &mut files, &[])?);
+    for (name, bytes) in [(10, "old bytes"), (10, "ten bytes!"), (2, "")] {
+        files.put(name, bytes.as_bytes())?;
     }
-    files.remove(10)?;
-    files.remove(10)?;
-    assert_eq!(rt; files.size(10), Ok(None));
+    assert!(rt; has_files(&rt, &mut files, &[2, 10])?);
+    for (name, size) in SIZES {
+        assert!(rt; files.size(name)? == size);
+    }
+    for (name, offset, bytes) in PARTS {
+        assert!(rt; part(&rt, &mut files, name, offset)?.as_slice() == bytes);
+    }
+    for name in [10, 10] {
+        files.remove(name)?;
+    }
+    assert!(rt; has_files(&rt, &mut files, &[2])? && files.size(10)?.is_none());
+    assert!(rt; files.faults() == 0);
     let kept = format!(in rt.alloc(); "{path}/t0000000000000002.tab")?;
     assert!(rt; fs::exists(&rt, kept.as_str())?);
-    assert_eq!(rt; files.faults(), 0);
     fs::remove_dir_all(&rt, path)?;
-    assert_eq!(rt; files.put(1, b"x"), Err(FileFault::Device));
-    assert_eq!(rt; files.list(&mut names), Err(FileFault::Device));
-    assert_eq!(rt; files.faults(), 2);
-    assert!(rt; matches!(DirFiles::open(rt, path), Err(FileFault::Device)));
     Ok(())
 }
+
+/// Bytes that are no mark.
+const NO_MARKS: [&[u8]; 4] = [
+    b"",
+    b"\0\0\0\0\0\0\0",
+    b"\0\0\0\0\0\0\0\0\0",
+    b"\x80\0\0\0\0\0\0\0",
+];
 
 #[test]
 fn mark_in_a_folder(rt: HostRuntime) -> Result<(), Fail> {
@@ -85,28 +112,33 @@ fn mark_in_a_folder(rt: HostRuntime) -> Result<(), Fail> {
     let path = folder.as_str();
     let file = format!(in rt.alloc(); "{path}/oracle.mark")?;
     let mut mark = DirMark::open(rt, path)?;
-    assert_eq!(rt; mark.load(), Ok(0));
+    assert!(rt; mark.load()? == 0);
     mark.store(1000)?;
-    assert_eq!(rt;
-        fs::read(&rt, file.as_str())?.as_slice(),
-        b"\0\0\0\0\0\0\x03\xE8".as_slice()
-    );
+    assert!(rt; fs::read(&rt, file.as_str())?.as_slice() == b"\0\0\0\0\0\0\x03\xE8".as_slice());
     mark.store(MOST_STAMP)?;
     let mut again = DirMark::open(rt, path)?;
-    assert_eq!(rt; again.load(), Ok(MOST_STAMP));
-    assert_eq!(rt; again.faults(), 0);
-    for bytes in [
-        b"".as_slice(),
-        b"\0\0\0\0\0\0\0",
-        b"\0\0\0\0\0\0\0\0\0",
-        b"\x80\0\0\0\0\0\0\0",
-    ] {
+    assert!(rt; again.load()? == MOST_STAMP && again.faults() == 0);
+    for bytes in NO_MARKS {
         fs::write(&rt, file.as_str(), bytes)?;
-        assert_eq!(rt; again.load(), Err(MarkFault));
+        assert!(rt; again.load().is_err());
     }
-    assert_eq!(rt; again.faults(), 4);
+    assert!(rt; again.faults() == 4);
     fs::remove_dir_all(&rt, path)?;
-    assert_eq!(rt; again.store(5), Err(MarkFault));
+    Ok(())
+}
+
+#[test]
+fn a_folder_is_removed(rt: HostRuntime) -> Result<(), Fail> {
+    let folder = new_folder(&rt, "removed")?;
+    let path = folder.as_str();
+    let mut files = DirFiles::open(rt, path)?;
+    let mut mark = DirMark::open(rt, path)?;
+    fs::remove_dir_all(&rt, path)?;
+    assert!(rt; files.put(1, b"x") == Err(FileFault::Device));
+    assert!(rt; has_files(&rt, &mut files, &[]) == Err(FileFault::Device));
+    assert!(rt; files.faults() == 2);
+    assert!(rt; mark.store(5).is_err());
+    assert!(rt; matches!(DirFiles::open(rt, path), Err(FileFault::Device)));
     assert!(rt; DirMark::open(rt, path).is_err());
     Ok(())
 }

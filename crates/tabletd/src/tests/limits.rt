@@ -2,9 +2,11 @@
 
 use crate::FILE_LIMIT;
 use crate::tests::streams::Pieces;
-use crate::tests::{MemServer, new_server, outcome, stream_of};
+use crate::tests::{MemServer, new_server, outcome, push_frame, stream_of};
+use cell_key::Refusal;
 use request_codec::{Reply, Request};
 use server_loop::End;
+use std::alloc::{AllocError, Global};
 use std::test::Fail;
 
 /// The number of the refusal that a request is answered, and 0 where it is done.
@@ -34,6 +36,16 @@ fn set<'a>(row: &'a [u8], value: &'a [u8]) -> Request<'a> {
     }
 }
 
+/// Whether a server sets each of these rows.
+fn are_set(server: &mut MemServer, first: u8, last: u8) -> bool {
+    for row in first..=last {
+        if refused(server, set(&[row], b"v")) != 0 {
+            return false;
+        }
+    }
+    true
+}
+
 #[test]
 fn limits_of_a_session(rt: HostRuntime) -> Result<(), Fail> {
     let longest = vec![in rt.alloc(); b'v'; 65_536]?;
@@ -46,9 +58,7 @@ fn limits_of_a_session(rt: HostRuntime) -> Result<(), Fail> {
         (set(b"\0", &too_long), 5),
     ];
     assert!(rt; are_answered(&mut server, &first));
-    for row in 1..=255u8 {
-        assert!(rt; refused(&mut server, set(&[row], b"v")) == 0);
-    }
+    assert!(rt; are_set(&mut server, 1, 255));
     let last = [(set(b"another", b"v"), 6), (set(b"\0", b"w"), 0)];
     assert!(rt; are_answered(&mut server, &last));
     Ok(())
@@ -140,9 +150,7 @@ const FULL: [(Request<'static>, u8); 7] = [
 fn at_most_64_files(rt: HostRuntime) -> Result<(), Fail> {
     let mut server = new_server(rt.alloc(), FILE_LIMIT)?;
     assert!(rt; refused(&mut server, Request::Begin) == 0);
-    for row in 0..=64u8 {
-        assert!(rt; refused(&mut server, set(&[row], b"v")) == 0);
-    }
+    assert!(rt; are_set(&mut server, 0, 64));
     let step = (Request::Step { start: 1 }, 0);
     for _ in 0..64 {
         assert!(rt; are_answered(&mut server, &[step, (MINOR, 0)]));
@@ -194,21 +202,35 @@ const LONGEST: [(u32, &[u8], bool); 2] = [
     ),
 ];
 
+/// The stream that sets a value, holds its cell and reads it.
+fn stream_of_set(alloc: Global, value: &[u8]) -> Result<Vec<u8>, AllocError> {
+    let mut set = Vec::from_slice(alloc, SET)?;
+    push_frame(&mut set, value)?;
+    stream_of(alloc, &[b"\x01", &set, STEP, RAW])
+}
+
+/// Whether a new server that sets a value of so many bytes writes these replies, with the value behind them where it is
+/// accepted.
+fn is_answered(
+    alloc: Global,
+    length: u32,
+    replies: &[u8],
+    is_accepted: bool,
+) -> Result<bool, Refusal> {
+    let value = vec![in alloc; b'v'; length as usize]?;
+    let stream = stream_of_set(alloc, &value)?;
+    let mut expected = Vec::from_slice(alloc, replies)?;
+    if is_accepted {
+        expected.extend_from_slice(&value)?;
+    }
+    let (ended, written) = outcome(alloc, Pieces::new(alloc, &stream)?, u64::MAX)?;
+    Ok(matches!(ended, Ok(End::Clean)) && written == expected)
+}
+
 #[test]
 fn longest_value_and_reply(rt: HostRuntime) -> Result<(), Fail> {
     for (length, replies, is_accepted) in LONGEST {
-        let value = vec![in rt.alloc(); b'v'; length as usize]?;
-        let mut set = Vec::from_slice(rt.alloc(), SET)?;
-        set.extend_from_slice(&length.to_be_bytes())?;
-        set.extend_from_slice(&value)?;
-        let stream = stream_of(rt.alloc(), &[b"\x01", &set, STEP, RAW])?;
-        let mut expected = Vec::from_slice(rt.alloc(), replies)?;
-        if is_accepted {
-            expected.extend_from_slice(&value)?;
-        }
-        let (ended, written) = outcome(rt.alloc(), Pieces::new(rt.alloc(), &stream)?, u64::MAX)?;
-        assert!(rt; matches!(ended, Ok(End::Clean)));
-        assert!(rt; written == expected);
+        assert!(rt; is_answered(rt.alloc(), length, replies, is_accepted)?);
     }
     Ok(())
 }

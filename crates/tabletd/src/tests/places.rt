@@ -3,6 +3,7 @@
 use crate::tests::memory::tablets::split_at;
 use cell_key::{Refusal, Row};
 use metadata_table::MetadataTable;
+use std::alloc::Global;
 use std::test::Fail;
 
 /// Rows, and the tablets that hold them where the ends are a, m and z.
@@ -15,23 +16,37 @@ const HOLDERS: [(&[u8], u32); 6] = [
     (b"\xFF", 1),
 ];
 
+/// Tablets and servers, and why the one is not moved to the other.
+const MOVES: [(u32, u8, Refusal); 3] = [
+    (5, 16, Refusal::UnknownTablet),
+    (0, 0, Refusal::UnknownTablet),
+    (1, 16, Refusal::UnknownServer),
+];
+
+/// A table of tablets whose ends are a, m and z.
+fn three_splits(alloc: Global) -> Result<MetadataTable, Refusal> {
+    let mut table = MetadataTable::new(alloc)?;
+    for row in [b"m", b"a", b"z"] {
+        split_at(alloc, &mut table, row)?;
+    }
+    Ok(table)
+}
+
+/// The tablet that holds a row.
+fn holder(alloc: Global, table: &MetadataTable, row: &[u8]) -> Result<u32, Refusal> {
+    Ok(table.locate(&Row::new(alloc, row)?).tablet)
+}
+
 /// A row is in the first tablet that doesn't end before it. An unknown tablet is told before an unknown server.
 #[test]
 fn places_of_rows(rt: HostRuntime) -> Result<(), Fail> {
-    let mut table = MetadataTable::new(rt.alloc())?;
-    for row in [b"m", b"a", b"z"] {
-        split_at(rt.alloc(), &mut table, row)?;
-    }
+    let mut table = three_splits(rt.alloc())?;
     for (row, tablet) in HOLDERS {
-        assert!(rt; table.locate(&Row::new(rt.alloc(), row)?).tablet == tablet);
+        assert!(rt; holder(rt.alloc(), &table, row)? == tablet);
     }
     let end = Row::new(rt.alloc(), b"m")?;
     assert!(rt; table.check_split(&end) == Err(Refusal::BadSplit));
-    for (tablet, server, refusal) in [
-        (5, 16, Refusal::UnknownTablet),
-        (0, 0, Refusal::UnknownTablet),
-        (1, 16, Refusal::UnknownServer),
-    ] {
+    for (tablet, server, refusal) in MOVES {
         assert!(rt; table.assign(tablet, server) == Err(refusal));
     }
     assert!(rt; table.place(5).is_err() && !table.listed(9));
@@ -42,19 +57,35 @@ fn places_of_rows(rt: HostRuntime) -> Result<(), Fail> {
 pub const NEW_ROOT: &[u8] =
     b"TABROOT1\0\0\0\0\0\0\0\0\0\0\0\0\0\0\0\0\0\0\0\0\0\0\0\x01\0\0\0\x02\0\0\0\x01\0\0\0\x01\x01\0\0\0\0\0TABROOTZ";
 
+/// Whether the bytes are a root, and that of a new store.
+fn is_root(alloc: Global, bytes: &[u8]) -> Result<bool, Refusal> {
+    let Some(root) = MetadataTable::read_root(alloc, bytes)? else {
+        return Ok(false);
+    };
+    let place = root.table.place(1)?;
+    Ok(
+        (root.top, root.floor, root.next_name) == (0, 0, 1)
+            && root.table.len() == 1
+            && place.end.is_none()
+            && place.server == 0
+            && place.files.is_empty(),
+    )
+}
+
+/// Whether the bytes are no root.
+fn is_no_root(alloc: Global, bytes: &[u8]) -> Result<bool, Refusal> {
+    Ok(MetadataTable::read_root(alloc, bytes)?.is_none())
+}
+
 /// What is written of a new store is read again. With one more byte behind it, or one less, it is no root.
 #[test]
 fn root_of_a_new_store(rt: HostRuntime) -> Result<(), Fail> {
     let mut out = Vec::new(rt.alloc());
     MetadataTable::new(rt.alloc())?.write_root(0, 0, 1, &mut out)?;
     assert!(rt; out.len() == 58 && out.as_slice() == NEW_ROOT);
-    let root = MetadataTable::read_root(rt.alloc(), &out)?.ok_or("no root")?;
-    assert!(rt; (root.top, root.floor, root.next_name) == (0, 0, 1));
-    let place = root.table.place(1)?;
-    assert!(rt; root.table.len() == 1 && place.end.is_none());
-    assert!(rt; place.server == 0 && place.files.is_empty());
+    assert!(rt; is_root(rt.alloc(), &out)?);
     out.push(0)?;
-    assert!(rt; MetadataTable::read_root(rt.alloc(), &out)?.is_none());
-    assert!(rt; MetadataTable::read_root(rt.alloc(), &out[..57])?.is_none());
+    assert!(rt; is_no_root(rt.alloc(), &out)?);
+    assert!(rt; is_no_root(rt.alloc(), &out[..57])?);
     Ok(())
 }

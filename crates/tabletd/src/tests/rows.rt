@@ -1,12 +1,13 @@
-//! Requests with their replies, as bodies of frames.
-
-use std::alloc::{AllocError, Global};
+//! Requests with their replies, as bodies of frames: transactions without and with others beside them.
 
 /// A request's body and its reply's.
 pub type Exchange = (&'static [u8], &'static [u8]);
 
-/// One cell is set, committed and read.
-pub const FIRST_CELL: [Exchange; 7] = [
+/// A row of exchanges: how many of the transfer come first, and the parts after them.
+pub type Row = (usize, &'static [&'static [Exchange]]);
+
+/// A session holds the one cell that it sets.
+pub const CELL_HELD: [Exchange; 3] = [
     // Begin: 1
     (b"\x01", b"\x81\0\0\0\0\0\0\0\x01"),
     // Set 1 r c v: done
@@ -16,10 +17,22 @@ pub const FIRST_CELL: [Exchange; 7] = [
     ),
     // Step 1: Held 1 1
     (b"\x04\0\0\0\0\0\0\0\x01", b"\x84\x01\0\x01\0\x01"),
+];
+
+/// It draws its commit stamp.
+pub const CELL_STAMPED: [Exchange; 1] = [
     // Step 1: Stamped 2
     (b"\x04\0\0\0\0\0\0\0\x01", b"\x84\x03\0\0\0\0\0\0\0\x02"),
+];
+
+/// It commits.
+pub const CELL_COMMITTED: [Exchange; 1] = [
     // Step 1: Committed 2
     (b"\x04\0\0\0\0\0\0\0\x01", b"\x84\x04\0\0\0\0\0\0\0\x02"),
+];
+
+/// A later session reads the cell.
+const CELL_READ: [Exchange; 2] = [
     // Begin: 3
     (b"\x01", b"\x81\0\0\0\0\0\0\0\x03"),
     // Get 3 r c: v
@@ -28,6 +41,9 @@ pub const FIRST_CELL: [Exchange; 7] = [
         b"\x82\x01\0\0\0\x01v",
     ),
 ];
+
+/// One cell is set, committed and read.
+pub const FIRST_CELL: Row = (0, &[&CELL_HELD, &CELL_STAMPED, &CELL_COMMITTED, &CELL_READ]);
 
 /// A transfer between two cells, to its end.
 pub const TRANSFER: [Exchange; 22] = [
@@ -101,72 +117,20 @@ pub const TRANSFER: [Exchange; 22] = [
     (b"\x04\0\0\0\0\0\0\0\x03", b"\xFF\x01"),
 ];
 
-/// So many exchanges of the transfer, and then these.
-pub fn after_transfer(
-    alloc: Global,
-    count: usize,
-    row: &[Exchange],
-) -> Result<Vec<Exchange>, AllocError> {
-    let mut all = Vec::new(alloc);
-    for exchange in TRANSFER.iter().take(count) {
-        all.push(*exchange)?;
-    }
-    all.extend_from_slice(row)?;
-    Ok(all)
-}
+/// Where the transfer is when its cells have their first values.
+pub const BALANCES: usize = 8;
 
-/// The commit point is the first cell: the others follow.
-pub const COMMIT_POINT: [Exchange; 23] = [
-    // Begin: 1
-    (b"\x01", b"\x81\0\0\0\0\0\0\0\x01"),
-    // Set 1 Bob bal 10: done
-    (
-        b"\x03\0\0\0\0\0\0\0\x01\0\0\0\x03Bob\0\0\0\x03bal\0\0\0\x0210",
-        b"\x83",
-    ),
-    // Set 1 Joe bal 2: done
-    (
-        b"\x03\0\0\0\0\0\0\0\x01\0\0\0\x03Joe\0\0\0\x03bal\0\0\0\x012",
-        b"\x83",
-    ),
-    // Step 1: Held 1 2
-    (b"\x04\0\0\0\0\0\0\0\x01", b"\x84\x01\0\x01\0\x02"),
-    // Step 1: Held 2 2
-    (b"\x04\0\0\0\0\0\0\0\x01", b"\x84\x01\0\x02\0\x02"),
-    // Step 1: Stamped 2
-    (b"\x04\0\0\0\0\0\0\0\x01", b"\x84\x03\0\0\0\0\0\0\0\x02"),
-    // Step 1: Committed 2
-    (b"\x04\0\0\0\0\0\0\0\x01", b"\x84\x04\0\0\0\0\0\0\0\x02"),
-    // Step 1: Finished 2 2
-    (b"\x04\0\0\0\0\0\0\0\x01", b"\x84\x06\0\x02\0\x02"),
-    // Begin: 3
-    (b"\x01", b"\x81\0\0\0\0\0\0\0\x03"),
-    // Get 3 Bob bal: 10
-    (
-        b"\x02\0\0\0\0\0\0\0\x03\0\0\0\x03Bob\0\0\0\x03bal",
-        b"\x82\x01\0\0\0\x0210",
-    ),
-    // Get 3 Joe bal: 2
-    (
-        b"\x02\0\0\0\0\0\0\0\x03\0\0\0\x03Joe\0\0\0\x03bal",
-        b"\x82\x01\0\0\0\x012",
-    ),
-    // Set 3 Bob bal 3: done
-    (
-        b"\x03\0\0\0\0\0\0\0\x03\0\0\0\x03Bob\0\0\0\x03bal\0\0\0\x013",
-        b"\x83",
-    ),
-    // Set 3 Joe bal 9: done
-    (
-        b"\x03\0\0\0\0\0\0\0\x03\0\0\0\x03Joe\0\0\0\x03bal\0\0\0\x019",
-        b"\x83",
-    ),
-    // Step 3: Held 1 2
-    (b"\x04\0\0\0\0\0\0\0\x03", b"\x84\x01\0\x01\0\x02"),
-    // Step 3: Held 2 2
-    (b"\x04\0\0\0\0\0\0\0\x03", b"\x84\x01\0\x02\0\x02"),
-    // Step 3: Stamped 4
-    (b"\x04\0\0\0\0\0\0\0\x03", b"\x84\x03\0\0\0\0\0\0\0\x04"),
+/// When it holds both cells.
+pub const HELD: usize = 15;
+
+/// When it has its commit stamp.
+pub const STAMPED: usize = 16;
+
+/// When its first cell is committed.
+pub const COMMITTED: usize = 17;
+
+/// The commit point is the first cell: the other follows.
+const COMMIT_POINT: [Exchange; 7] = [
     // Begin: 5
     (b"\x01", b"\x81\0\0\0\0\0\0\0\x05"),
     // Get 5 Bob bal: Pending 3
@@ -195,8 +159,8 @@ pub const COMMIT_POINT: [Exchange; 23] = [
     ),
 ];
 
-/// Of two sessions that write one cell the first to hold it wins.
-pub const FIRST_COMMITTER: [Exchange; 7] = [
+/// Two sessions set one cell.
+const TWO_SESSIONS: [Exchange; 4] = [
     // Begin: 1
     (b"\x01", b"\x81\0\0\0\0\0\0\0\x01"),
     // Begin: 2
@@ -211,6 +175,10 @@ pub const FIRST_COMMITTER: [Exchange; 7] = [
         b"\x03\0\0\0\0\0\0\0\x02\0\0\0\x01r\0\0\0\x01c\0\0\0\x01v",
         b"\x83",
     ),
+];
+
+/// The first to hold it wins.
+const FIRST_COMMITTER: [Exchange; 3] = [
     // Step 1: Held 1 1
     (b"\x04\0\0\0\0\0\0\0\x01", b"\x84\x01\0\x01\0\x01"),
     // Step 2: Conflict 1
@@ -220,21 +188,7 @@ pub const FIRST_COMMITTER: [Exchange; 7] = [
 ];
 
 /// The same, and the later session is the first.
-pub const SECOND_COMMITTER: [Exchange; 8] = [
-    // Begin: 1
-    (b"\x01", b"\x81\0\0\0\0\0\0\0\x01"),
-    // Begin: 2
-    (b"\x01", b"\x81\0\0\0\0\0\0\0\x02"),
-    // Set 1 r c v: done
-    (
-        b"\x03\0\0\0\0\0\0\0\x01\0\0\0\x01r\0\0\0\x01c\0\0\0\x01v",
-        b"\x83",
-    ),
-    // Set 2 r c v: done
-    (
-        b"\x03\0\0\0\0\0\0\0\x02\0\0\0\x01r\0\0\0\x01c\0\0\0\x01v",
-        b"\x83",
-    ),
+const SECOND_COMMITTER: [Exchange; 4] = [
     // Step 2: Held 1 1
     (b"\x04\0\0\0\0\0\0\0\x02", b"\x84\x01\0\x01\0\x01"),
     // Step 2: Stamped 3
@@ -246,7 +200,7 @@ pub const SECOND_COMMITTER: [Exchange; 8] = [
 ];
 
 /// A restart of the oracle drops the range that it serves.
-pub const ORACLE_RESTART: [Exchange; 6] = [
+const ORACLE_RESTART: [Exchange; 6] = [
     // Begin: 1
     (b"\x01", b"\x81\0\0\0\0\0\0\0\x01"),
     // Begin: 2
@@ -262,7 +216,7 @@ pub const ORACLE_RESTART: [Exchange; 6] = [
 ];
 
 /// Each restart goes on from the stored mark.
-pub const ORACLE_RANGES: [Exchange; 7] = [
+const ORACLE_RANGES: [Exchange; 7] = [
     // OracleRestart: restarted
     (b"\x10", b"\x90"),
     // Begin: 1
@@ -280,7 +234,7 @@ pub const ORACLE_RANGES: [Exchange; 7] = [
 ];
 
 /// Two sessions that write what the other reads both commit.
-pub const WRITE_SKEW: [Exchange; 21] = [
+const WRITE_SKEW: [Exchange; 21] = [
     // Begin: 1
     (b"\x01", b"\x81\0\0\0\0\0\0\0\x01"),
     // Set 1 x c 1: done
@@ -344,7 +298,7 @@ pub const WRITE_SKEW: [Exchange; 21] = [
 ];
 
 /// A stopped session is unknown; names are tested; after the first step nothing is read or set.
-pub const PHASES: [Exchange; 12] = [
+const PHASES: [Exchange; 12] = [
     // Begin: 1
     (b"\x01", b"\x81\0\0\0\0\0\0\0\x01"),
     // Stop 1: stopped
@@ -375,4 +329,17 @@ pub const PHASES: [Exchange; 12] = [
         b"\x03\0\0\0\0\0\0\0\x02\0\0\0\x01r\0\0\0\x01c\0\0\0\x01v",
         b"\xFF\x02",
     ),
+];
+
+/// Rows of transactions.
+pub const ROWS: [Row; 9] = [
+    FIRST_CELL,
+    (TRANSFER.len(), &[]),
+    (STAMPED, &[&COMMIT_POINT]),
+    (0, &[&TWO_SESSIONS, &FIRST_COMMITTER]),
+    (0, &[&TWO_SESSIONS, &SECOND_COMMITTER]),
+    (0, &[&ORACLE_RESTART]),
+    (0, &[&ORACLE_RANGES]),
+    (0, &[&WRITE_SKEW]),
+    (0, &[&PHASES]),
 ];

@@ -3,7 +3,7 @@
 use crate::FILE_LIMIT;
 use crate::tests::edits::{data_key, edits_of};
 use crate::tests::files::Recorder;
-use crate::tests::memory::files::merge;
+use crate::tests::memory::files::{merge, refused};
 use crate::tests::slow::{found_at, is_file};
 use cell_key::{CellKey, Family, Qualifier, Refusal, Row, Stamp};
 use file_store::{Files, MemFiles, read_whole};
@@ -38,9 +38,7 @@ const SPLIT_EARLY: &[u8] = b"TABLET01\
 
 /// Opens a file of these bytes under the name 1.
 fn opened(alloc: Global, files: &mut MemFiles, bytes: &[u8]) -> Result<SortedFile, Refusal> {
-    if files.put(1, bytes).is_err() {
-        return Err(Refusal::NoMemory);
-    }
+    refused(files.put(1, bytes))?;
     SortedFile::open(alloc, 1, files)
 }
 
@@ -97,6 +95,20 @@ fn files_of_literal_bytes(rt: HostRuntime) -> Result<(), Fail> {
     Ok(())
 }
 
+/// Puts a byte at a place.
+fn put_at(bytes: &mut [u8], at: usize, byte: u8) {
+    if let Some(place) = bytes.get_mut(at) {
+        *place = byte;
+    }
+}
+
+/// Whether the file of one entry is damaged where this byte is put at a place.
+fn is_damaged_by(alloc: Global, at: usize, byte: u8) -> Result<bool, AllocError> {
+    let mut bytes = Vec::from_slice(alloc, ONE)?;
+    put_at(&mut bytes, at, byte);
+    Ok(is_damaged(alloc, &bytes))
+}
+
 /// Places in the file of one entry, the bytes that are put there, and whether the file is damaged then.
 const CHANGES: [(usize, u8, bool); 4] = [
     (34, 2, true),
@@ -113,11 +125,7 @@ fn damaged_files(rt: HostRuntime) -> Result<(), Fail> {
         assert!(rt; is_damaged(rt.alloc(), &ONE[..len]));
     }
     for (at, byte, damaged) in CHANGES {
-        let mut bytes = Vec::from_slice(rt.alloc(), ONE)?;
-        if let Some(place) = bytes.get_mut(at) {
-            *place = byte;
-        }
-        assert!(rt; is_damaged(rt.alloc(), &bytes) == damaged);
+        assert!(rt; is_damaged_by(rt.alloc(), at, byte)? == damaged);
     }
     Ok(())
 }
@@ -126,9 +134,7 @@ fn damaged_files(rt: HostRuntime) -> Result<(), Fail> {
 fn agree_at(alloc: Global, at: usize) -> Result<bool, Refusal> {
     let mut bytes = Vec::from_slice(alloc, ONE)?;
     for byte in 0..=255 {
-        if let Some(place) = bytes.get_mut(at) {
-            *place = byte;
-        }
+        put_at(&mut bytes, at, byte);
         if is_file(alloc, &bytes)? == is_damaged(alloc, &bytes) {
             return Ok(false);
         }
@@ -177,33 +183,31 @@ const LOOK_UPS: [(bool, Stamp, &[(u64, u64, usize)], Option<usize>); 7] = [
     (false, 2, &[], Some(2017)),
 ];
 
+/// Whether a look-up at a stamp reads this, and finds a value of so many bytes.
+fn is_found(
+    alloc: Global,
+    file: &mut SortedFile,
+    stamp: Stamp,
+    files: &mut Recorder,
+    reads: &[(u64, u64, usize)],
+    len: Option<usize>,
+) -> Result<bool, Refusal> {
+    files.reads.clear();
+    let found = value_len(alloc, file, stamp, files)?;
+    Ok(found == len && files.reads.as_slice() == reads)
+}
+
 #[test]
 fn look_ups_read_one_block(rt: HostRuntime) -> Result<(), Fail> {
     let mut files = Recorder::new(rt.alloc());
-    let mut bytes = three(rt.alloc())?;
-    files.put(1, &bytes)?;
+    files.put(1, &three(rt.alloc())?)?;
     let mut file = SortedFile::open(rt.alloc(), 1, &mut files)?;
     for (forgets, stamp, reads, len) in LOOK_UPS {
         if forgets {
             file.drop_cache();
         }
-        files.reads.clear();
-        assert!(rt; value_len(rt.alloc(), &mut file, stamp, &mut files)? == len);
-        assert!(rt; files.reads.as_slice() == reads);
+        assert!(rt; is_found(rt.alloc(), &mut file, stamp, &mut files, reads, len)?);
     }
-    // The length of the second key: a block that is read anew is no block any more.
-    if let Some(place) = bytes.get_mut(2059) {
-        *place = 0x17;
-    }
-    files.put(1, &bytes)?;
-    assert!(rt; value_len(rt.alloc(), &mut file, 3, &mut files)? == Some(2017));
-    file.drop_cache();
-    assert!(rt;
-        matches!(
-            value_len(rt.alloc(), &mut file, 3, &mut files),
-            Err(Refusal::Damaged)
-        )
-    );
     Ok(())
 }
 
@@ -216,19 +220,39 @@ fn is_refused(alloc: Global, file: &mut SortedFile, files: &mut Recorder) -> boo
     matches!(value_len(alloc, file, 3, files), Err(Refusal::Damaged))
 }
 
+/// Writes the file of three entries, with this byte at a place.
+fn put_changed(alloc: Global, files: &mut Recorder, at: usize, byte: u8) -> Result<(), Refusal> {
+    let mut bytes = three(alloc)?;
+    put_at(&mut bytes, at, byte);
+    refused(files.put(1, &bytes))
+}
+
+/// Whether a block that was kept is still found when its bytes have changed so, and is no block when it is read anew.
+fn is_kept(alloc: Global, at: usize, byte: u8) -> Result<bool, Refusal> {
+    let mut files = Recorder::new(alloc);
+    refused(files.put(1, &three(alloc)?))?;
+    let mut file = SortedFile::open(alloc, 1, &mut files)?;
+    let before = value_len(alloc, &mut file, 3, &mut files)?;
+    put_changed(alloc, &mut files, at, byte)?;
+    let after = value_len(alloc, &mut file, 3, &mut files)?;
+    file.drop_cache();
+    Ok(before == Some(2017) && after == before && is_refused(alloc, &mut file, &mut files))
+}
+
+/// Whether a block whose bytes have changed so is no block, however often it is read.
+fn is_never_kept(alloc: Global, at: usize, byte: u8) -> Result<bool, Refusal> {
+    let mut files = Recorder::new(alloc);
+    refused(files.put(1, &three(alloc)?))?;
+    let mut file = SortedFile::open(alloc, 1, &mut files)?;
+    put_changed(alloc, &mut files, at, byte)?;
+    Ok(is_refused(alloc, &mut file, &mut files) && is_refused(alloc, &mut file, &mut files))
+}
+
 #[test]
 fn garbled_blocks_are_not_kept(rt: HostRuntime) -> Result<(), Fail> {
     for (at, byte) in GARBLED {
-        let mut files = Recorder::new(rt.alloc());
-        let mut bytes = three(rt.alloc())?;
-        files.put(1, &bytes)?;
-        let mut file = SortedFile::open(rt.alloc(), 1, &mut files)?;
-        if let Some(place) = bytes.get_mut(at) {
-            *place = byte;
-        }
-        files.put(1, &bytes)?;
-        assert!(rt; is_refused(rt.alloc(), &mut file, &mut files));
-        assert!(rt; is_refused(rt.alloc(), &mut file, &mut files));
+        assert!(rt; is_kept(rt.alloc(), at, byte)?);
+        assert!(rt; is_never_kept(rt.alloc(), at, byte)?);
     }
     Ok(())
 }
@@ -247,17 +271,18 @@ fn many(alloc: Global) -> Result<Memtable, Refusal> {
     Ok(table)
 }
 
-/// Whether a look-up finds what a slow one finds in the bytes.
+/// Whether a look-up at a stamp of `a` finds what a slow one finds in the bytes.
 fn agree_on(
     alloc: Global,
     file: &mut SortedFile,
-    key: &CellKey,
+    stamp: Stamp,
     bytes: &[u8],
     files: &mut MemFiles,
 ) -> Result<bool, Refusal> {
+    let key = data_key(alloc, &Row::new(alloc, b"a")?, stamp)?;
     let mut text = Vec::new(alloc);
     key.encode(&mut text)?;
-    Ok(match (file.lookup(key, files)?, found_at(bytes, &text)) {
+    Ok(match (file.lookup(&key, files)?, found_at(bytes, &text)) {
         (Some(Some(value)), Some(Some(slow))) => value.as_slice() == slow,
         (Some(None), Some(None)) | (None, None) => true,
         _ => false,
@@ -271,10 +296,8 @@ fn a_slow_look_up_agrees(rt: HostRuntime) -> Result<(), Fail> {
     merge(rt.alloc(), &many(rt.alloc())?, None, true, 1, &mut files)?;
     let bytes = read_whole(rt.alloc(), &mut files, 1)?.ok_or("no file")?;
     let mut file = SortedFile::open(rt.alloc(), 1, &mut files)?;
-    let row = Row::new(rt.alloc(), b"a")?;
     for stamp in 0..31 {
-        let key = data_key(rt.alloc(), &row, stamp)?;
-        assert!(rt; agree_on(rt.alloc(), &mut file, &key, &bytes, &mut files)?);
+        assert!(rt; agree_on(rt.alloc(), &mut file, stamp, &bytes, &mut files)?);
     }
     Ok(())
 }

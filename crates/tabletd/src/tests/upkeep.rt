@@ -1,9 +1,11 @@
 //! Rows of exchanges with compactions, splits, moves, sweeps and raw reads.
 
-use crate::tests::rows::Exchange;
+use crate::tests::rows::{
+    BALANCES, CELL_COMMITTED, CELL_HELD, CELL_STAMPED, COMMITTED, Exchange, HELD, Row,
+};
 
 /// Splits, moves and a raw read of a lock.
-pub const TABLETS: [Exchange; 16] = [
+const TABLETS: [Exchange; 16] = [
     // Split m: 2
     (b"\x0D\0\0\0\x01m", b"\x8D\0\0\0\x02"),
     // Split m: refused 12
@@ -53,17 +55,8 @@ pub const TABLETS: [Exchange; 16] = [
     (b"\x0F", b"\x8F\0\0\0\0\0\0\0\0"),
 ];
 
-/// A merge of the newest files keeps the erasure of a lock that stands in an older one.
-pub const ERASURES: [Exchange; 27] = [
-    // Begin: 1
-    (b"\x01", b"\x81\0\0\0\0\0\0\0\x01"),
-    // Set 1 r c v: done
-    (
-        b"\x03\0\0\0\0\0\0\0\x01\0\0\0\x01r\0\0\0\x01c\0\0\0\x01v",
-        b"\x83",
-    ),
-    // Step 1: Held 1 1
-    (b"\x04\0\0\0\0\0\0\0\x01", b"\x84\x01\0\x01\0\x01"),
+/// After one cell is held: a merge of the newest files keeps the erasure of a lock that stands in an older one.
+const ERASURES: [Exchange; 24] = [
     // Minor 1: done
     (b"\x0A\0\0\0\x01", b"\x8A"),
     // Step 1: Stamped 2
@@ -145,55 +138,7 @@ pub const ERASURES: [Exchange; 27] = [
 ];
 
 /// A session whose cells are held goes on over a split and two moves.
-pub const SPLIT_UNDER_A_SESSION: [Exchange; 26] = [
-    // Begin: 1
-    (b"\x01", b"\x81\0\0\0\0\0\0\0\x01"),
-    // Set 1 Bob bal 10: done
-    (
-        b"\x03\0\0\0\0\0\0\0\x01\0\0\0\x03Bob\0\0\0\x03bal\0\0\0\x0210",
-        b"\x83",
-    ),
-    // Set 1 Joe bal 2: done
-    (
-        b"\x03\0\0\0\0\0\0\0\x01\0\0\0\x03Joe\0\0\0\x03bal\0\0\0\x012",
-        b"\x83",
-    ),
-    // Step 1: Held 1 2
-    (b"\x04\0\0\0\0\0\0\0\x01", b"\x84\x01\0\x01\0\x02"),
-    // Step 1: Held 2 2
-    (b"\x04\0\0\0\0\0\0\0\x01", b"\x84\x01\0\x02\0\x02"),
-    // Step 1: Stamped 2
-    (b"\x04\0\0\0\0\0\0\0\x01", b"\x84\x03\0\0\0\0\0\0\0\x02"),
-    // Step 1: Committed 2
-    (b"\x04\0\0\0\0\0\0\0\x01", b"\x84\x04\0\0\0\0\0\0\0\x02"),
-    // Step 1: Finished 2 2
-    (b"\x04\0\0\0\0\0\0\0\x01", b"\x84\x06\0\x02\0\x02"),
-    // Begin: 3
-    (b"\x01", b"\x81\0\0\0\0\0\0\0\x03"),
-    // Get 3 Bob bal: 10
-    (
-        b"\x02\0\0\0\0\0\0\0\x03\0\0\0\x03Bob\0\0\0\x03bal",
-        b"\x82\x01\0\0\0\x0210",
-    ),
-    // Get 3 Joe bal: 2
-    (
-        b"\x02\0\0\0\0\0\0\0\x03\0\0\0\x03Joe\0\0\0\x03bal",
-        b"\x82\x01\0\0\0\x012",
-    ),
-    // Set 3 Bob bal 3: done
-    (
-        b"\x03\0\0\0\0\0\0\0\x03\0\0\0\x03Bob\0\0\0\x03bal\0\0\0\x013",
-        b"\x83",
-    ),
-    // Set 3 Joe bal 9: done
-    (
-        b"\x03\0\0\0\0\0\0\0\x03\0\0\0\x03Joe\0\0\0\x03bal\0\0\0\x019",
-        b"\x83",
-    ),
-    // Step 3: Held 1 2
-    (b"\x04\0\0\0\0\0\0\0\x03", b"\x84\x01\0\x01\0\x02"),
-    // Step 3: Held 2 2
-    (b"\x04\0\0\0\0\0\0\0\x03", b"\x84\x01\0\x02\0\x02"),
+const SPLIT_UNDER_A_SESSION: [Exchange; 11] = [
     // Split Bob: 2
     (b"\x0D\0\0\0\x03Bob", b"\x8D\0\0\0\x02"),
     // Split Bob: refused 12
@@ -228,59 +173,7 @@ pub const SPLIT_UNDER_A_SESSION: [Exchange; 26] = [
 ];
 
 /// The parts of a split share the parent's files: each sees and writes its own rows, and a file goes when neither has it.
-pub const SHARED_FILES: [Exchange; 53] = [
-    // Begin: 1
-    (b"\x01", b"\x81\0\0\0\0\0\0\0\x01"),
-    // Set 1 Bob bal 10: done
-    (
-        b"\x03\0\0\0\0\0\0\0\x01\0\0\0\x03Bob\0\0\0\x03bal\0\0\0\x0210",
-        b"\x83",
-    ),
-    // Set 1 Joe bal 2: done
-    (
-        b"\x03\0\0\0\0\0\0\0\x01\0\0\0\x03Joe\0\0\0\x03bal\0\0\0\x012",
-        b"\x83",
-    ),
-    // Step 1: Held 1 2
-    (b"\x04\0\0\0\0\0\0\0\x01", b"\x84\x01\0\x01\0\x02"),
-    // Step 1: Held 2 2
-    (b"\x04\0\0\0\0\0\0\0\x01", b"\x84\x01\0\x02\0\x02"),
-    // Step 1: Stamped 2
-    (b"\x04\0\0\0\0\0\0\0\x01", b"\x84\x03\0\0\0\0\0\0\0\x02"),
-    // Step 1: Committed 2
-    (b"\x04\0\0\0\0\0\0\0\x01", b"\x84\x04\0\0\0\0\0\0\0\x02"),
-    // Step 1: Finished 2 2
-    (b"\x04\0\0\0\0\0\0\0\x01", b"\x84\x06\0\x02\0\x02"),
-    // Begin: 3
-    (b"\x01", b"\x81\0\0\0\0\0\0\0\x03"),
-    // Get 3 Bob bal: 10
-    (
-        b"\x02\0\0\0\0\0\0\0\x03\0\0\0\x03Bob\0\0\0\x03bal",
-        b"\x82\x01\0\0\0\x0210",
-    ),
-    // Get 3 Joe bal: 2
-    (
-        b"\x02\0\0\0\0\0\0\0\x03\0\0\0\x03Joe\0\0\0\x03bal",
-        b"\x82\x01\0\0\0\x012",
-    ),
-    // Set 3 Bob bal 3: done
-    (
-        b"\x03\0\0\0\0\0\0\0\x03\0\0\0\x03Bob\0\0\0\x03bal\0\0\0\x013",
-        b"\x83",
-    ),
-    // Set 3 Joe bal 9: done
-    (
-        b"\x03\0\0\0\0\0\0\0\x03\0\0\0\x03Joe\0\0\0\x03bal\0\0\0\x019",
-        b"\x83",
-    ),
-    // Step 3: Held 1 2
-    (b"\x04\0\0\0\0\0\0\0\x03", b"\x84\x01\0\x01\0\x02"),
-    // Step 3: Held 2 2
-    (b"\x04\0\0\0\0\0\0\0\x03", b"\x84\x01\0\x02\0\x02"),
-    // Step 3: Stamped 4
-    (b"\x04\0\0\0\0\0\0\0\x03", b"\x84\x03\0\0\0\0\0\0\0\x04"),
-    // Step 3: Committed 4
-    (b"\x04\0\0\0\0\0\0\0\x03", b"\x84\x04\0\0\0\0\0\0\0\x04"),
+const SHARED_FILES: [Exchange; 36] = [
     // Stop 3: stopped
     (b"\x05\0\0\0\0\0\0\0\x03", b"\x85"),
     // Minor 1: done
@@ -401,7 +294,7 @@ pub const SHARED_FILES: [Exchange; 53] = [
 ];
 
 /// Each operation is refused in each of its ways, and accepted.
-pub const REFUSALS: [Exchange; 50] = [
+const REFUSALS: [Exchange; 50] = [
     // Get 1 r c: refused 1
     (b"\x02\0\0\0\0\0\0\0\x01\0\0\0\x01r\0\0\0\x01c", b"\xFF\x01"),
     // Set 1 r c v: refused 1
@@ -535,7 +428,7 @@ pub const REFUSALS: [Exchange; 50] = [
 ];
 
 /// Bodies outside the form are answered, and the server goes on.
-pub const OUTSIDE_THE_FORM: [Exchange; 17] = [
+const OUTSIDE_THE_FORM: [Exchange; 17] = [
     // Minor without its field: refused 22
     (b"\x0A", b"\xFF\x16"),
     // Minor with a byte more: refused 22
@@ -584,30 +477,8 @@ pub const OUTSIDE_THE_FORM: [Exchange; 17] = [
     (b"\x0D\0\0\0\x01m", b"\x8D\0\0\0\x02"),
 ];
 
-/// Two cells are committed, and are read when their tablet was split and both parts compacted.
-pub const SPLIT_AND_COMPACT: [Exchange; 16] = [
-    // Begin: 1
-    (b"\x01", b"\x81\0\0\0\0\0\0\0\x01"),
-    // Set 1 Bob bal 10: done
-    (
-        b"\x03\0\0\0\0\0\0\0\x01\0\0\0\x03Bob\0\0\0\x03bal\0\0\0\x0210",
-        b"\x83",
-    ),
-    // Set 1 Joe bal 2: done
-    (
-        b"\x03\0\0\0\0\0\0\0\x01\0\0\0\x03Joe\0\0\0\x03bal\0\0\0\x012",
-        b"\x83",
-    ),
-    // Step 1: Held 1 2
-    (b"\x04\0\0\0\0\0\0\0\x01", b"\x84\x01\0\x01\0\x02"),
-    // Step 1: Held 2 2
-    (b"\x04\0\0\0\0\0\0\0\x01", b"\x84\x01\0\x02\0\x02"),
-    // Step 1: Stamped 2
-    (b"\x04\0\0\0\0\0\0\0\x01", b"\x84\x03\0\0\0\0\0\0\0\x02"),
-    // Step 1: Committed 2
-    (b"\x04\0\0\0\0\0\0\0\x01", b"\x84\x04\0\0\0\0\0\0\0\x02"),
-    // Step 1: Finished 2 2
-    (b"\x04\0\0\0\0\0\0\0\x01", b"\x84\x06\0\x02\0\x02"),
+/// Two cells that were committed are read when their tablet was split and both parts compacted.
+const SPLIT_AND_COMPACT: [Exchange; 8] = [
     // Split Bob: 2
     (b"\x0D\0\0\0\x03Bob", b"\x8D\0\0\0\x02"),
     // Major 2: done
@@ -635,71 +506,76 @@ pub const SPLIT_AND_COMPACT: [Exchange; 16] = [
     ),
 ];
 
-/// A commit of one cell, where a memtable of two entries is compacted after the reply.
-pub const COMPACTED: [Exchange; 8] = [
-    // Begin: 1
-    (b"\x01", b"\x81\0\0\0\0\0\0\0\x01"),
-    // Set 1 r c v: done
-    (
-        b"\x03\0\0\0\0\0\0\0\x01\0\0\0\x01r\0\0\0\x01c\0\0\0\x01v",
-        b"\x83",
-    ),
-    // Step 1: Held 1 1
-    (b"\x04\0\0\0\0\0\0\0\x01", b"\x84\x01\0\x01\0\x01"),
+/// Rows of upkeep.
+pub const ROWS: [Row; 7] = [
+    (0, &[&TABLETS]),
+    (0, &[&CELL_HELD, &ERASURES]),
+    (HELD, &[&SPLIT_UNDER_A_SESSION]),
+    (COMMITTED, &[&SHARED_FILES]),
+    (0, &[&REFUSALS]),
+    (0, &[&OUTSIDE_THE_FORM]),
+    (BALANCES, &[&SPLIT_AND_COMPACT]),
+];
+
+/// There are no two files.
+const NOT_MERGED: [Exchange; 1] = [
     // Merge 1 2: refused 14
     (b"\x0B\0\0\0\x01\0\0\0\x02", b"\xFF\x0E"),
-    // Step 1: Stamped 2
-    (b"\x04\0\0\0\0\0\0\0\x01", b"\x84\x03\0\0\0\0\0\0\0\x02"),
-    // Step 1: Committed 2
-    (b"\x04\0\0\0\0\0\0\0\x01", b"\x84\x04\0\0\0\0\0\0\0\x02"),
+];
+
+/// There are two, and they are merged.
+const MERGED: [Exchange; 1] = [
     // Merge 1 2: done
     (b"\x0B\0\0\0\x01\0\0\0\x02", b"\x8B"),
+];
+
+/// No file is left behind.
+const NONE_SWEPT: [Exchange; 1] = [
+    // Sweep: 0
+    (b"\x0F", b"\x8F\0\0\0\0\0\0\0\0"),
+];
+
+/// Two files are.
+const TWO_SWEPT: [Exchange; 1] = [
     // Sweep: 2
     (b"\x0F", b"\x8F\0\0\0\0\0\0\0\x02"),
 ];
+
+/// A commit of one cell, where a memtable of two entries is compacted after the reply.
+pub const COMPACTED: Row = (
+    0,
+    &[
+        &CELL_HELD,
+        &NOT_MERGED,
+        &CELL_STAMPED,
+        &CELL_COMMITTED,
+        &MERGED,
+        &TWO_SWEPT,
+    ],
+);
 
 /// The same where two files are merged after it.
-pub const MERGED: [Exchange; 8] = [
-    // Begin: 1
-    (b"\x01", b"\x81\0\0\0\0\0\0\0\x01"),
-    // Set 1 r c v: done
-    (
-        b"\x03\0\0\0\0\0\0\0\x01\0\0\0\x01r\0\0\0\x01c\0\0\0\x01v",
-        b"\x83",
-    ),
-    // Step 1: Held 1 1
-    (b"\x04\0\0\0\0\0\0\0\x01", b"\x84\x01\0\x01\0\x01"),
-    // Step 1: Stamped 2
-    (b"\x04\0\0\0\0\0\0\0\x01", b"\x84\x03\0\0\0\0\0\0\0\x02"),
-    // Sweep: 0
-    (b"\x0F", b"\x8F\0\0\0\0\0\0\0\0"),
-    // Step 1: Committed 2
-    (b"\x04\0\0\0\0\0\0\0\x01", b"\x84\x04\0\0\0\0\0\0\0\x02"),
-    // Merge 1 2: refused 14
-    (b"\x0B\0\0\0\x01\0\0\0\x02", b"\xFF\x0E"),
-    // Sweep: 2
-    (b"\x0F", b"\x8F\0\0\0\0\0\0\0\x02"),
-];
+pub const MERGED_AT_TWO: Row = (
+    0,
+    &[
+        &CELL_HELD,
+        &CELL_STAMPED,
+        &NONE_SWEPT,
+        &CELL_COMMITTED,
+        &NOT_MERGED,
+        &TWO_SWEPT,
+    ],
+);
 
 /// The same where it takes more entries.
-pub const NOT_COMPACTED: [Exchange; 8] = [
-    // Begin: 1
-    (b"\x01", b"\x81\0\0\0\0\0\0\0\x01"),
-    // Set 1 r c v: done
-    (
-        b"\x03\0\0\0\0\0\0\0\x01\0\0\0\x01r\0\0\0\x01c\0\0\0\x01v",
-        b"\x83",
-    ),
-    // Step 1: Held 1 1
-    (b"\x04\0\0\0\0\0\0\0\x01", b"\x84\x01\0\x01\0\x01"),
-    // Merge 1 2: refused 14
-    (b"\x0B\0\0\0\x01\0\0\0\x02", b"\xFF\x0E"),
-    // Step 1: Stamped 2
-    (b"\x04\0\0\0\0\0\0\0\x01", b"\x84\x03\0\0\0\0\0\0\0\x02"),
-    // Step 1: Committed 2
-    (b"\x04\0\0\0\0\0\0\0\x01", b"\x84\x04\0\0\0\0\0\0\0\x02"),
-    // Merge 1 2: refused 14
-    (b"\x0B\0\0\0\x01\0\0\0\x02", b"\xFF\x0E"),
-    // Sweep: 0
-    (b"\x0F", b"\x8F\0\0\0\0\0\0\0\0"),
-];
+pub const NOT_COMPACTED: Row = (
+    0,
+    &[
+        &CELL_HELD,
+        &NOT_MERGED,
+        &CELL_STAMPED,
+        &CELL_COMMITTED,
+        &NOT_MERGED,
+        &NONE_SWEPT,
+    ],
+);

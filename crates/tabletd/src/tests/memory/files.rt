@@ -11,7 +11,7 @@ use sorted_file::{SortedFile, refusal_of, write_file};
 use std::alloc::Global;
 
 /// The refusal of a call of files.
-fn refused<T>(call: Result<T, FileFault>) -> Result<T, Refusal> {
+pub fn refused<T>(call: Result<T, FileFault>) -> Result<T, Refusal> {
     match call {
         Ok(value) => Ok(value),
         Err(fault) => Err(refusal_of(fault)),
