@@ -126,18 +126,37 @@ fn is_met(alloc: Global, row: &Row) -> Result<bool, Refusal> {
     Ok(true)
 }
 
-#[test]
-fn rows_are_met(rt: HostRuntime) -> Result<(), Fail> {
-    for rows in [
-        rows::ROWS.as_slice(),
-        &upkeep::ROWS,
-        &cleaning::ROWS,
-        &collecting::ROWS,
-    ] {
-        for row in rows {
-            assert!(rt; is_met(rt.alloc(), row)?);
+/// Whether each of some rows is met.
+fn are_met(alloc: Global, rows: &[Row]) -> Result<bool, Refusal> {
+    for row in rows {
+        if !is_met(alloc, row)? {
+            return Ok(false);
         }
     }
+    Ok(true)
+}
+
+#[test]
+fn transactions(rt: HostRuntime) -> Result<(), Fail> {
+    assert!(rt; are_met(rt.alloc(), &rows::ROWS)?);
+    Ok(())
+}
+
+#[test]
+fn upkeep_of_tablets(rt: HostRuntime) -> Result<(), Fail> {
+    assert!(rt; are_met(rt.alloc(), &upkeep::ROWS)?);
+    Ok(())
+}
+
+#[test]
+fn cleaners(rt: HostRuntime) -> Result<(), Fail> {
+    assert!(rt; are_met(rt.alloc(), &cleaning::ROWS)?);
+    Ok(())
+}
+
+#[test]
+fn collectors(rt: HostRuntime) -> Result<(), Fail> {
+    assert!(rt; are_met(rt.alloc(), &collecting::ROWS)?);
     Ok(())
 }
 
