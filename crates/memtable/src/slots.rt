@@ -11,7 +11,7 @@ use cell_key::EntryRef;
 use smallvec::SmallVec;
 use std::mem;
 
-/// The text of a key that is kept. One of at most 48 bytes takes no memory beside its own.
+/// The text of a key that is kept. One of at most 48 bytes takes no memory beside its own, unless its row has a byte 0.
 pub(crate) type KeptText = SmallVec<u8, 48>;
 
 /// An entry that is kept: the text of a key, and its value or an erasure.
