@@ -1,5 +1,6 @@
 -- What the front of some bytes tells of their order, and the texts of the versions of a column.
-use Rattle.std.specs.Prelude.{◌≡◌, ℕ, List, ◌++◌}
+use Rattle.std.specs.Prelude.{◌≡◌, ◌≤◌, ◌<◌, ℕ, List, ◌++◌, length, get_or}
+use Rattle.byteorder.specs.Endian.{big_number}
 use Rattle.std.specs.declared.cmp.Ordering.{Ordering}
 use Rattle.cell_key.specs.Keys.{byte_cmp, qualifier_name}
 use Rattle.cell_key.specs.Cells.{version}
@@ -14,6 +15,12 @@ ComparesAs part bytes rest = (tail : List ℕ) → byte_cmp (part ++ tail) bytes
 -- the part decides, whatever follows it
 abbrev pub ComparesTo : List ℕ → List ℕ → Ordering → Type 0
 ComparesTo part bytes order = (tail : List ℕ) → byte_cmp (part ++ tail) bytes ≡ order
+
+-- the number that the first eight bytes of a text are
+pub record IsFront (front : ℕ) (text : List ℕ) : Type 0 where
+  pub long : 8 ≤ length text
+  pub bytes : (i : ℕ) → get_or text i 0 < 256
+  pub is : front ≡ big_number 8 text
 
 -- what the text of a key has before its stamp
 abbrev pub column_text : CellKey → List ℕ

@@ -9,7 +9,7 @@ use Rattle.std.specs.Borrow.{Bor}
 use Rattle.memtable.specs.declared.slots.Slot.{Slot}
 
 abbrev pub slot_entry : Slot → Entry
-slot_entry slot = (slot.text.items, option_map (λ value. value.items) slot.value)
+slot_entry slot = (slot.text, option_map (λ value. value.items) slot.value)
 
 abbrev pub slot_entries : {A : Type 0} → List (Box Slot A) → List Entry
 slot_entries slots = map (λ slot. slot_entry slot.value) slots

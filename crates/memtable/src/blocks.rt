@@ -39,7 +39,7 @@ fn ends_below<S: Sought>(block: &Block, sought: S) -> bool
     ensures { result ≡ ends_below (S.name sought) (list_of block.now) }
 {
     match block.slots.last() {
-        Some(slot) => sought.compare(slot.text.as_slice()).is_gt(),
+        Some(slot) => sought.compare(&slot.text).is_gt(),
         None => false,
     }
 }
@@ -60,7 +60,7 @@ pub(crate) fn find<S: Sought>(blocks: &[Block], sought: S) -> Option<&Slot>
     requires blocks { AllByRecursion IsBlock blocks.now }
     ensures found { option_map (λ slot. (slot_entry slot.now).1) result
         ≡ entry_of_key (block_entries blocks.now) (S.name sought) }
-    ensures named { IfSome result (λ slot. slot.now.text.items ≡ S.name sought) }
+    ensures named { IfSome result (λ slot. slot.now.text ≡ S.name sought) }
 {
     let block = blocks.get(place(blocks, sought))?;
     slots::find(&block.slots, sought)
@@ -145,7 +145,7 @@ pub(crate) fn first_value_at<'a>(blocks: &'a [Block], sought: Version<'_>) -> Op
         ≡ first_value (entries_from (text (key_of sought.entry)) (block_entries blocks.now)) }
 {
     match sought.short_text() {
-        Some(text) => first_value_from(blocks, text.as_slice()),
+        Some(text) => first_value_from(blocks, &text),
         None => first_value_from(blocks, sought),
     }
 }
@@ -277,7 +277,7 @@ pub(crate) fn put(blocks: &mut Blocks, slot: Box<Slot>) -> Option<u128>
         open(blocks, slot);
         return None;
     }
-    let at = place(&blocks.filled, slot.text.as_slice()).min(count - 1);
+    let at = place(&blocks.filled, &slot.text).min(count - 1);
     let replaced = put_in(&mut blocks.filled[at], slot);
     if blocks.filled[at].slots.len() == BLOCK_ROOM {
         split(blocks, at);

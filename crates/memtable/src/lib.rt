@@ -8,6 +8,7 @@ mod size;
 mod slots;
 mod staging;
 mod table;
+mod texts;
 
 pub use cursor::Cursor;
 pub use table::Memtable;

@@ -7,6 +7,7 @@ ghost use Rattle.cell_key.specs.Keys.{byte_cmp, qualifier_name, text};
 ghost use Rattle.cell_key.specs.Texts.{escaped, ended, stamp_text};
 ghost use Rattle.memtable.specs.Order.{ComparesAs, ComparesTo, at_stamp, column_text, key_of};
 
+use crate::texts::{KeptText, ShortText};
 use arrayvec::{ArrayVec, CapacityError};
 use byteorder::{BigEndian, ByteOrder};
 use cell_key::{CellKey, Family, Qualifier, Row, Stamp};
@@ -86,7 +87,7 @@ fn after_row<'a>(row: &[u8], bytes: &'a [u8]) -> Result<&'a [u8], Ordering>
 }
 
 /// Appends a part and its end. Refused where there is no room.
-fn push_ended(out: &mut ShortText, part: &[u8]) -> Result<(), CapacityError>
+fn push_ended(out: &mut ArrayVec<u8, 96>, part: &[u8]) -> Result<(), CapacityError>
     ensures { OnOk result (out.new.items ≡ out.old.items ++ ended part.now) }
 {
     out.try_extend_from_slice(part)?;
@@ -107,9 +108,6 @@ fn stamp_of(bytes: &[u8]) -> Option<Stamp>
     ]);
     Some(u64::MAX - falling)
 }
-
-/// A text that stands on the stack.
-pub(crate) type ShortText = ArrayVec<u8, 96>;
 
 /// A version of a cell's column, whose names are lent.
 #[derive(Clone, Copy)]
@@ -133,7 +131,7 @@ impl Version<'_> {
     }
 
     /// Appends the parts of the text with the row as it is. Refused where there is no room.
-    fn push_parts(self, out: &mut ShortText) -> Result<(), CapacityError>
+    fn push_parts(self, out: &mut ArrayVec<u8, 96>) -> Result<(), CapacityError>
         ensures { OnOk result (out.new.items ≡ out.old.items ++ (ended self.entry.row.now
             ++ (ended self.entry.family.now ++ (ended (qualifier_name self.entry.qualifier)
             ++ stamp_text self.entry.stamp)))) }
@@ -149,14 +147,14 @@ impl Version<'_> {
 
     /// The text, if it has at most 96 bytes and the row has no byte 0.
     pub(crate) fn short_text(self) -> Option<ShortText>
-        ensures { IfSome result (λ made. made.items ≡ text (key_of self.entry)) }
+        ensures { IfSome result (λ made. made ≡ text (key_of self.entry)) }
     {
         if self.row.as_bytes().contains(&0) {
             return None;
         }
         let mut out = ArrayVec::new();
         match self.push_parts(&mut out) {
-            Ok(()) => Some(out),
+            Ok(()) => ShortText::of(out),
             Err(_full) => None,
         }
     }
@@ -193,16 +191,16 @@ pub(crate) trait Sought: Copy {
     /// The text.
     ghost name: { Self → List ℕ };
 
-    /// The byte order of the text that is sought and another one.
-    fn compare(&self, text: &[u8]) -> Ordering
+    /// The byte order of the text that is sought and one that is kept.
+    fn compare(&self, text: &KeptText) -> Ordering
         ensures { result ≡ byte_cmp (name self.now) text.now };
 }
 
 impl Sought for &[u8] {
     ghost name = { λ sought. sought.now };
 
-    fn compare(&self, text: &[u8]) -> Ordering {
-        compare_texts(self, text)
+    fn compare(&self, text: &KeptText) -> Ordering {
+        compare_texts(self, text.as_slice())
     }
 }
 
@@ -211,8 +209,8 @@ impl Sought for Version<'_> {
 
     ghost name = { λ version. text (key_of version) };
 
-    fn compare(&self, text: &[u8]) -> Ordering {
-        match self.cut_and_compare(text) {
+    fn compare(&self, text: &KeptText) -> Ordering {
+        match self.cut_and_compare(text.as_slice()) {
             Ok(order) => order,
             Err(order) => order,
         }
@@ -234,7 +232,7 @@ pub(crate) fn version_of(key: &CellKey) -> Version<'_>
 impl Sought for &CellKey {
     ghost name = { λ key. text key.now };
 
-    fn compare(&self, text: &[u8]) -> Ordering {
+    fn compare(&self, text: &KeptText) -> Ordering {
         version_of(self).compare(text)
     }
 }

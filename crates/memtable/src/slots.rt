@@ -6,27 +6,16 @@ ghost use Rattle.cell_key.specs.Keys.{byte_cmp};
 ghost use Rattle.cell_key.specs.Entries.{IsPlace, IsRising, entry_of_key, lent_entry, entry_len};
 ghost use Rattle.memtable.specs.Slots.{slot_entry, slot_entries, is_named, first_value, one_value, value_count};
 
-use crate::order::{Sought, compare_texts};
+use crate::order::Sought;
+use crate::texts::KeptText;
 use cell_key::EntryRef;
-use smallvec::SmallVec;
 use std::mem;
 
-/// The text of a key that is kept. One of at most 48 bytes takes no memory beside its own, unless its row has a byte 0.
-pub(crate) type KeptText = SmallVec<u8, 48>;
-
 /// An entry that is kept: the text of a key, and its value or an erasure.
+#[derive(Drop)]
 pub(crate) struct Slot {
     pub(crate) text: KeptText,
     pub(crate) value: Option<Vec<u8>>,
-}
-
-impl Drop for Slot {
-    /// A call of its own, so that what drops an entry doesn't branch by where its text stands.
-    fn drop(self) {
-        let Slot { text, value } = self;
-        drop(text);
-        drop(value);
-    }
 }
 
 impl Slot {
@@ -48,7 +37,7 @@ impl Slot {
     pub(crate) fn len(&self) -> u128
         ensures { result ≡ entry_len (slot_entry self.now) }
     {
-        let text = 4 + self.text.len() as u128;
+        let text = 4 + self.text.as_slice().len() as u128;
         match &self.value {
             Some(value) => text + 5 + value.len() as u128,
             None => text + 1,
@@ -72,15 +61,15 @@ pub(crate) fn first_from<S: Sought>(slots: &[Box<Slot>], sought: S) -> usize
     ensures bound { result ≤ length slots.now }
     ensures place { IsPlace (S.name sought) (slot_entries slots.now) result }
 {
-    slots.partition_point(|slot| sought.compare(slot.text.as_slice()).is_gt())
+    slots.partition_point(|slot| sought.compare(&slot.text).is_gt())
 }
 
 /// Whether the entry at a place has this text.
-fn is_named(slots: &[Box<Slot>], at: usize, text: &[u8]) -> bool
-    ensures { result ≡ is_named text.now (slot_entries slots.now) at }
+fn is_named<S: Sought>(slots: &[Box<Slot>], at: usize, sought: S) -> bool
+    ensures { result ≡ is_named (S.name sought) (slot_entries slots.now) at }
 {
     match slots.get(at) {
-        Some(slot) => compare_texts(text, slot.text.as_slice()).is_eq(),
+        Some(slot) => sought.compare(&slot.text).is_eq(),
         None => false,
     }
 }
@@ -90,10 +79,10 @@ pub(crate) fn find<S: Sought>(slots: &[Box<Slot>], sought: S) -> Option<&Slot>
     requires { IsRising (slot_entries slots.now) }
     ensures found { option_map (λ slot. (slot_entry slot.now).1) result
         ≡ entry_of_key (slot_entries slots.now) (S.name sought) }
-    ensures named { IfSome result (λ slot. slot.now.text.items ≡ S.name sought) }
+    ensures named { IfSome result (λ slot. slot.now.text ≡ S.name sought) }
 {
     let slot = slots.get(first_from(slots, sought))?;
-    if sought.compare(slot.text.as_slice()).is_eq() {
+    if sought.compare(&slot.text).is_eq() {
         Some(slot)
     } else {
         None
@@ -138,14 +127,14 @@ pub(crate) fn put(slots: &mut Vec<Box<Slot>>, slot: Box<Slot>) -> Option<Box<Slo
         ≡ put_entry byte_cmp (slot_entry slot.value).0 (slot_entry slot.value).1
         (slot_entries slots.old.items) }
     ensures replaced { option_map (λ old. (slot_entry old.value).1) result
-        ≡ entry_of_key (slot_entries slots.old.items) slot.value.text.items }
-    ensures named { IfSome result (λ old. old.value.text.items ≡ slot.value.text.items) }
+        ≡ entry_of_key (slot_entries slots.old.items) slot.value.text }
+    ensures named { IfSome result (λ old. old.value.text ≡ slot.value.text) }
     ensures some { 1 ≤ vec_len slots.new }
     ensures len { vec_len slots.new ≤ vec_len slots.old + 1 }
     ensures capacity { vec_capacity slots.old ≤ vec_capacity slots.new }
 {
-    let at = first_from(slots, slot.text.as_slice());
-    if is_named(slots, at, slot.text.as_slice()) {
+    let at = first_from(slots, &slot.text);
+    if is_named(slots, at, &slot.text) {
         return Some(mem::replace(&mut slots[at], slot));
     }
     slots.insert(at, slot).unwrap();

@@ -14,13 +14,15 @@ ghost use Rattle.memtable.specs.Edits.{edit_entry, with_edits, HasStoredKey};
 use crate::blocks::{self, Block};
 use crate::order::version_of;
 use crate::size::Size;
-use crate::slots::{self, KeptText, Slot};
+use crate::slots::{self, Slot};
+use crate::texts::KeptText;
 use cell_key::{CellKey, Edit, Refusal, Row};
+use smallvec::SmallVec;
 use std::alloc::Global;
 
 /// The text of a key.
 fn text_of(alloc: Global, key: &CellKey) -> Result<KeptText, Refusal>
-    ensures text { IfOk result (λ bytes. bytes.items ≡ text key.now) }
+    ensures text { IfOk result (λ made. made ≡ text key.now) }
     ensures row { IsRow key.now.row }
     ensures family { IsFamily key.now.family }
     ensures refusal { IfErr result (λ refusal. refusal ≡ Refusal.NoMemory) }
@@ -29,11 +31,12 @@ fn text_of(alloc: Global, key: &CellKey) -> Result<KeptText, Refusal>
     let _row = key.row.as_bytes();
     let _family = key.family.as_bytes();
     if let Some(short) = version_of(key).short_text() {
-        return Ok(KeptText::from_slice(alloc, short.as_slice())?);
+        let bytes = SmallVec::from_slice(alloc, short.as_slice())?;
+        return Ok(KeptText::new(bytes));
     }
     let mut bytes = Vec::new(alloc);
     key.encode(&mut bytes)?;
-    Ok(KeptText::from(bytes))
+    Ok(KeptText::new(SmallVec::from(bytes)))
 }
 
 /// An edit as an entry.

@@ -11,7 +11,7 @@ pub returns-in-Some : goal.returns-in-Some
 returns-in-Some g c =
     let name = g.S.Sought.name c.args.sought in
     let xs = c.deref.result.now in
-    let text = c.as_slice.ensures ∙ ap (λ (s : Slot). s.text.items) c.deref-in-Some.ensures in
+    let text = ap (λ (s : Slot). s.text) c.deref-in-Some.ensures in
     let item = c.in-Some.ensures.item in
     let within = item.3.0 in
     c.is_gt.ensures ∙ ap is_gt (c.compare.ensures ∙ ap (byte_cmp name) text)

@@ -31,13 +31,13 @@ overflow_sub-block c =
 
 pub returns-in-Some-clause-replaced : goal.returns-in-Some-clause-replaced
 returns-in-Some-clause-replaced c =
-    let name = c.args.slot.value.text.items in
+    let name = c.args.slot.value.text in
     let old = ap slot_entry c.deref-in-Some-2.ensures in
     ap Some (c.len.ensures ∙ ap entry_len old ∙ ap (λ (n : List ℕ). entry_len (n, (slot_entry c.in-Some.old.value).1)) c.in-Some.ensures.named)
     ∙ ap (stood_bytes name) c.in-Some.ensures.replaced
 
 pub returns-in-None-clause-replaced : goal.returns-in-None-clause-replaced
-returns-in-None-clause-replaced c = ap (stood_bytes c.args.slot.value.text.items) c.in-None.ensures.replaced
+returns-in-None-clause-replaced c = ap (stood_bytes c.args.slot.value.text) c.in-None.ensures.replaced
 
 pub returns-in-Some-clause-counted : goal.returns-in-Some-clause-counted
 returns-in-Some-clause-counted c =

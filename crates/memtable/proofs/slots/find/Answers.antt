@@ -15,7 +15,7 @@ returns-in_err-slot-clause-found g c =
 pub returns-then-is_eq-clause-found : goal.returns-then-is_eq-clause-found
 returns-then-is_eq-clause-found g c =
     let name = g.S.Sought.name c.args.sought in
-    let text = c.as_slice.ensures ∙ ap (λ (s : Slot). s.text.items) c.deref.ensures in
+    let text = ap (λ (s : Slot). s.text) c.deref.ensures in
     let same = ap is_eq (ap (byte_cmp name) (sym text) ∙ sym c.compare.ensures) ∙ sym c.if-is_eq.ensures in
     ap (λ (s : Slot). Some (slot_entry s).1) c.deref-then-is_eq.ensures
     ∙ sym (found_at (λ (s : _). slot_entry s.value) name c.args.slots.now c.first_from.result c.in_ok-slot.slot.now c.first_from.ensures.place c.in_ok-slot.ensures.lookup.3.0 c.in_ok-slot.ensures.lookup.1 same)
@@ -23,13 +23,13 @@ returns-then-is_eq-clause-found g c =
 pub returns-then-is_eq-clause-named : goal.returns-then-is_eq-clause-named
 returns-then-is_eq-clause-named g c =
     let name = g.S.Sought.name c.args.sought in
-    let text = c.as_slice.ensures ∙ ap (λ (s : Slot). s.text.items) c.deref.ensures in
+    let text = ap (λ (s : Slot). s.text) c.deref.ensures in
     let same = ap is_eq (ap (byte_cmp name) (sym text) ∙ sym c.compare.ensures) ∙ sym c.if-is_eq.ensures in
-    ap (λ (s : Slot). s.text.items) c.deref-then-is_eq.ensures ∙ sym (one_text name c.in_ok-slot.slot.now.value.text.items (equal _ same))
+    ap (λ (s : Slot). s.text) c.deref-then-is_eq.ensures ∙ sym (one_text name c.in_ok-slot.slot.now.value.text (equal _ same))
 
 pub returns-else-is_eq-clause-found : goal.returns-else-is_eq-clause-found
 returns-else-is_eq-clause-found g c =
     let name = g.S.Sought.name c.args.sought in
-    let text = c.as_slice.ensures ∙ ap (λ (s : Slot). s.text.items) c.deref.ensures in
+    let text = ap (λ (s : Slot). s.text) c.deref.ensures in
     let other = ap is_eq (ap (byte_cmp name) (sym text) ∙ sym c.compare.ensures) ∙ sym c.if-is_eq.ensures in
     sym (missed_at (λ (s : _). slot_entry s.value) name c.args.slots.now c.first_from.result c.in_ok-slot.slot.now c.requires c.first_from.ensures.place c.in_ok-slot.ensures.lookup.3.0 c.in_ok-slot.ensures.lookup.1 other)

@@ -21,7 +21,7 @@ with-size-requires-clause-replaced c =
     let behind : drop at all ≡ entry ∷ drop c.loop-at.at all =
     drop_one (λ (s : _). slot_entry s.value) c.args.staged.now at c.index-staged-at.result (omega (arith, within, next)) c.index-staged-at.is ∙ ap (λ (k : ℕ). entry ∷ drop k all) next in
     let rising : IsRising (entry ∷ drop c.loop-at.at all) = subst (λ (es : List Entry). IsRising es) behind (rising_drop at all c.requires.staged) in
-    let name = c.as_slice.ensures ∙ ap (λ (s : Slot). s.text.items) c.deref-in-loop-at.ensures in
+    let name = c.as_slice.ensures ∙ ap (λ (s : Slot). s.text) c.deref-in-loop-at.ensures in
     let found = c.stood_bytes.ensures ∙ ap (λ (n : List ℕ). stood_bytes n (entry_of_key base n)) name ∙ ap (stood_bytes entry.0) (sym (stands_alone entry (drop c.loop-at.at all) base rising)) in
     replaced_within (over (drop c.loop-at.at all) base) entry.0 c.stood_bytes.result found c.loop-at.size c.loop-at.invariant.size
 
@@ -38,7 +38,7 @@ loop-at-preserved c =
     drop_one (λ (s : _). slot_entry s.value) c.args.staged.now at c.index-staged-at.result (omega (arith, within, next)) c.index-staged-at.is ∙ ap (λ (k : ℕ). entry ∷ drop k all) next in
     let rising : IsRising (entry ∷ later) = subst (λ (es : List Entry). IsRising es) behind (rising_drop at all c.requires.staged) in
     let limits : AllByRecursion IsEntry (entry ∷ later) = subst (λ (es : List Entry). AllByRecursion IsEntry es) behind (all_drop IsEntry all at c.requires.limits) in
-    let name = c.as_slice.ensures ∙ ap (λ (s : Slot). s.text.items) c.deref-in-loop-at.ensures in
+    let name = c.as_slice.ensures ∙ ap (λ (s : Slot). s.text) c.deref-in-loop-at.ensures in
     let found = c.stood_bytes.ensures ∙ ap (λ (n : List ℕ). stood_bytes n (entry_of_key base n)) name ∙ ap (stood_bytes entry.0) (sym (stands_alone entry later base rising)) in
     let added = c.len.ensures ∙ ap (λ (s : Slot). entry_len (slot_entry s)) c.deref.ensures in
     let bytes = c.with-size.ensures.bytes ∙ ap (λ (n : ℕ). c.loop-at.size.bytes + n) added in

@@ -1,4 +1,4 @@
-use Rattle.std.proofs.Common.{List, ℕ, sym, ap, ◌∙◌, ◌++◌}
+use Rattle.std.proofs.Common.{◌≡◌, IfSome, subst, List, ℕ, sym, ap, ◌∙◌, ◌++◌}
 use Rattle.cell_key.specs.Keys.{qualifier_name}
 use Rattle.cell_key.specs.Texts.{ended, escaped, stamp_text}
 use Rattle.memtable.proofs.OrderLemmas.{plain_row}
@@ -10,4 +10,5 @@ returns-in-Ok c =
     let row = c.as_bytes.ensures.bytes in
     let plain = ap escaped (sym row) ∙ plain_row c.as_bytes.result.now (sym c.contains.ensures.value ∙ c.if-contains.false) ∙ row in
     let rest : List ℕ = ended v.family.now ++ (ended (qualifier_name v.qualifier) ++ stamp_text v.stamp) in
-    c.in-Ok.ensures ∙ ap (λ (xs : List ℕ). xs ++ (ended v.row.now ++ rest)) c.new-out.ensures ∙ ap (λ (row : List ℕ). ended row ++ rest) (sym plain)
+    let made = c.in-Ok.ensures ∙ ap (λ (xs : List ℕ). xs ++ (ended v.row.now ++ rest)) c.new-out.ensures ∙ ap (λ (row : List ℕ). ended row ++ rest) (sym plain) in
+    subst (λ (bytes : List ℕ). IfSome c.of.result (λ text. text ≡ bytes)) made c.of.ensures

@@ -41,7 +41,7 @@ returns-in-Some-clause-found c =
     let es = c.args.self.now in
     let at = version c.args.row.now c.args.family.now c.args.qualifier in
     let list = subst (λ (es : List Entry). IsEntryList es) c.self.view_is c.self.invariant.list in
-    let name = c.in_ok-slot.slot.now.text.items in
+    let name = c.in_ok-slot.slot.now.text in
     let first = ap (λ (o : _). Some (name, option_map (λ (v : _). v.items) o)) (sym c.in-Some.is) ∙ c.in_ok-slot.ensures ∙ ap (λ (xs : _). first_value (entries_from (text (at c.args.hi)) (block_entries xs))) c.deref.ensures.value ∙ ap (λ (es : List Entry). first_value (entries_from (text (at c.args.hi)) es)) c.self.view_is in
     subst (λ (bytes : List ℕ). IsNewest (cells_of es) at c.args.lo c.args.hi (Some (c.in_ok-stamp.stamp, bytes))) (sym c.as_slice-in-Some.ensures.value)
     (by_value c.args.row.now c.args.family.now c.args.qualifier c.as_bytes-row.ensures.valid c.as_bytes-family.ensures.valid es list c.args.hi (omega arith) name c.in-Some.value.items first c.in_ok-stamp.stamp c.in_ok-stamp.ensures.small
@@ -52,7 +52,7 @@ returns-in-Some-clause-limits c =
     let es = c.args.self.now in
     let at = version c.args.row.now c.args.family.now c.args.qualifier in
     let list = subst (λ (es : List Entry). IsEntryList es) c.self.view_is c.self.invariant.list in
-    let name = c.in_ok-slot.slot.now.text.items in
+    let name = c.in_ok-slot.slot.now.text in
     let first = ap (λ (o : _). Some (name, option_map (λ (v : _). v.items) o)) (sym c.in-Some.is) ∙ c.in_ok-slot.ensures ∙ ap (λ (xs : _). first_value (entries_from (text (at c.args.hi)) (block_entries xs))) c.deref.ensures.value ∙ ap (λ (es : List Entry). first_value (entries_from (text (at c.args.hi)) es)) c.self.view_is in
     subst (λ (bytes : List ℕ). IsVersion c.in_ok-stamp.stamp bytes) (sym c.as_slice-in-Some.ensures.value)
     (by_limits c.args.row.now c.args.family.now c.args.qualifier c.as_bytes-row.ensures.valid c.as_bytes-family.ensures.valid es list c.args.hi (omega arith) name c.in-Some.value.items first c.in_ok-stamp.stamp c.in_ok-stamp.ensures.small
@@ -63,6 +63,6 @@ returns-in-None-clause-found c =
     let es = c.args.self.now in
     let at = version c.args.row.now c.args.family.now c.args.qualifier in
     let list = subst (λ (es : List Entry). IsEntryList es) c.self.view_is c.self.invariant.list in
-    let name = c.in_ok-slot.slot.now.text.items in
+    let name = c.in_ok-slot.slot.now.text in
     let first = ap (λ (o : _). Some (name, option_map (λ (v : _). v.items) o)) (sym c.in-None.is) ∙ c.in_ok-slot.ensures ∙ ap (λ (xs : _). first_value (entries_from (text (at c.args.hi)) (block_entries xs))) c.deref.ensures.value ∙ ap (λ (es : List Entry). first_value (entries_from (text (at c.args.hi)) es)) c.self.view_is in
     absurd (by_erased c.args.row.now c.args.family.now c.args.qualifier c.as_bytes-row.ensures.valid c.as_bytes-family.ensures.valid es list c.args.hi (omega arith) name first)
