@@ -13,11 +13,11 @@ use Rattle.row_atomic.specs.Calls.{AppliesSuch, OnlyReads}
 use Rattle.row_atomic.specs.Clusters.{Storage}
 use Rattle.si_model.specs.Deciding.{IsRight, TellsFirst}
 use Rattle.si_model.specs.Enduring.{HasTried}
-use Rattle.si_model.specs.Sets.{◌∈◌, here, Leaves}
+use Rattle.si_model.specs.Sets.{◌∈◌, here, IsWithout}
 use Rattle.si_model.specs.Machine as machine
 use Rattle.si_model.specs.Machine.{State, Commit, Step, accepts, IsAcceptable, IsReached, Marked, Names, IsDead, IsCommitted, CommittedAt}
 use Rattle.si_model.specs.Replies.{clean_reply}
-use Rattle.si_model.specs.ShowsCells.{NamesCommit, ShowsCells, IsThere, at, erased_cells, recorded_cells, start_text}
+use Rattle.si_model.specs.ShowsCells.{NamesCommit, ShowsCells, IsThere, at, erased_cells, recorded_cells, start_text, NamesStart}
 use Rattle.si_model.specs.declared.replies.Cell.{Cell}
 use Rattle.si_model.specs.declared.replies.CleanReply.{CleanReply}
 use Rattle.si_model.specs.declared.replies.CleanReply.TheVariants as clean
@@ -32,7 +32,7 @@ use Rattle.si_model.proofs.Snapshots.{same_commit}
 use Rattle.si_model.proofs.Steps.{reached_sound}
 use Rattle.si_model.proofs.Tools.{same_entry}
 use Rattle.si_model.proofs.Without.{without}
-use Rattle.clean_up.specs.Fates.{Decides, IsNextRecord, IsToldBy, NamesStart, verdict_of}
+use Rattle.clean_up.specs.Fates.{Decides, IsNextRecord, IsToldBy, verdict_of}
 use Rattle.clean_up.specs.Room.{ClearsCell}
 use Rattle.clean_up.specs.Shows.{Advances, Follows, ShowsCleaner, cleaner_of, is_decided}
 use Rattle.clean_up.specs.declared.cleaner.Cleaner.{Cleaner}
@@ -98,7 +98,7 @@ module _ (cells : Cells) (cleaner : Cleaner) (st : State) (i : ℕ) (reached : I
       open_yet : (¬ IsCommitted st t) × (¬ IsDead st t)
       open_yet = tells.locked there
 
-      less : Leaves st.marks (first, t) (without st.marks (first, t)).0
+      less : IsWithout st.marks (first, t) (without st.marks (first, t)).0
       less = (without st.marks (first, t)).1
 
       s : Step st (machine.CleanStep i) machine.Decided killed
@@ -165,7 +165,7 @@ module _ (cells : Cells) (cleaner : Cleaner) (st : State) (i : ℕ) (reached : I
   abbrev cleared : State
   cleared = record st { marks = (without st.marks (x, t)).0; cleaners = finmap.remove st.cleaners i }
 
-  less : Leaves st.marks (x, t) (without st.marks (x, t)).0
+  less : IsWithout st.marks (x, t) (without st.marks (x, t)).0
   less = (without st.marks (x, t)).1
 
   -- the lock is gone already

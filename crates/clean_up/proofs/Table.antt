@@ -22,7 +22,7 @@ use Rattle.si_model.specs.Machine.{State, Request, Step, accepts, refuses, tells
 use Rattle.si_model.specs.Reads.{IsNameRefusal, IsClear}
 use Rattle.si_model.specs.Refusing.Refuses.{gives_up}
 use Rattle.si_model.specs.Replies.{clean_reply}
-use Rattle.si_model.specs.ShowsCells.{ShowsCells, ShowsMark, IsFirst, lock_text}
+use Rattle.si_model.specs.ShowsCells.{ShowsCells, ShowsMark, IsFirstCell, lock_text}
 use Rattle.si_model.specs.declared.replies.Cell.{Cell}
 use Rattle.si_model.specs.declared.replies.CleanReply.{CleanReply}
 use Rattle.si_model.proofs.Acceptable.{clean_begin_ok}
@@ -219,8 +219,8 @@ full_at cells cleaners x lock row family stands full = stays cells cleaners clea
     (λ st reached store shown. refuses (clean_full_first row family lock.start (stands_marked cells st store x lock stands) (let n = shown.count in omega arith)))
 
 -- the first cell that a lock names is its start's
-stands_first : (cells : Cells) (st : State) → IsReached st → ShowsCells cells st → (x : Cell) (lock : Lock) → Stands cells x lock → IsFirst st lock.start lock.first
-stands_first cells st reached store x lock stands = subst (λ (y : Cell). IsFirst st lock.start y) same m.is_first
+stands_first : (cells : Cells) (st : State) → IsReached st → ShowsCells cells st → (x : Cell) (lock : Lock) → Stands cells x lock → IsFirstCell st lock.start lock.first
+stands_first cells st reached store x lock stands = subst (λ (y : Cell). IsFirstCell st lock.start y) same m.is_first
   where
     m : ShowsMark cells st x lock.start
     m = store.marks x lock.start (stands_marked cells st store x lock stands)

@@ -1,6 +1,5 @@
 -- The fate of a start, as the records of its first cell tell it.
 use Rattle.std.specs.Prelude.{◌≡◌, ◌≢◌, ◌⊎◌, ℕ, ◌+◌, ◌-◌, ◌^◌, List, length, Option, Some}
-use Rattle.byteorder.specs.Endian.{big_number}
 use Rattle.cell_key.specs.Cells.{Cells}
 use Rattle.cell_key.specs.declared.edits.Edit.{Edit}
 use Rattle.cell_key.specs.declared.keys.Qualifier.TheVariants.{Write}
@@ -11,7 +10,7 @@ use Rattle.si_model.specs.Deciding as deciding
 use Rattle.si_model.specs.Deciding.{Verdict}
 use Rattle.si_model.specs.Edits.{ErasesCell}
 use Rattle.si_model.specs.Reads.{IsGone}
-use Rattle.si_model.specs.ShowsCells.{at, key_of}
+use Rattle.si_model.specs.ShowsCells.{NamesStart, at, key_of}
 use Rattle.si_model.specs.declared.replies.Cell.{Cell}
 use Rattle.clean_up.specs.declared.fates.Fate.{Fate}
 use Rattle.clean_up.specs.declared.fates.Fate.TheVariants.{Open, Forward, Back}
@@ -26,10 +25,6 @@ verdict_of Back = deciding.Back
 -- the first record of x above t
 abbrev pub IsNextRecord : Cells → Cell → ℕ → Option (ℕ × List ℕ) → Type 0
 IsNextRecord cells x t found = IsOldest cells (key_of x Write) (t + 1) (2 ^ 64 - 1) found
-
--- a record's text names t
-abbrev pub NamesStart : List ℕ → ℕ → Type 0
-NamesStart b t = (length b ≡ 8) × (big_number 8 b ≡ t)
 
 -- What the records of its first cell tell of t: one names it, or the first one above it,
 -- if there is one, doesn't.

@@ -12,7 +12,7 @@ use Rattle.row_atomic.specs.Room.{AreAfter, TakesNoRoom, TakesRoomOf}
 use Rattle.si_model.specs.Edits.{ErasesCell, IsErasing, IsRecording, RecordsCell}
 use Rattle.si_model.specs.Machine as machine
 use Rattle.si_model.specs.Machine.{State, Marked, IsDead, CommittedAt}
-use Rattle.si_model.specs.ShowsCells.{IsFirst, IsThere}
+use Rattle.si_model.specs.ShowsCells.{IsFirstCell, IsThere}
 use Rattle.si_model.specs.declared.replies.Cell.{Cell}
 use Rattle.si_model.specs.declared.replies.CleanReply.{CleanReply}
 use Rattle.si_model.specs.declared.replies.CleanReply.TheVariants as clean
@@ -71,7 +71,7 @@ Does holds cells overfills storage Such clean.Gone old new =
 abbrev pub ChangesOf : State → machine.Cleaner → Bool → List ℕ → List Edit → Type 0
 -- the mark of its start goes from that start's first cell
 ChangesOf st k false row edits =
-    (first : Cell) × IsFirst st k.start first
+    (first : Cell) × IsFirstCell st k.start first
     × Marked st first k.start × (row ≡ first.row) × IsErasing first k.start edits
 -- it goes from the cleaner's cell, and the record of the commit takes its place, or nothing does
 ChangesOf st k true row edits =

@@ -15,7 +15,7 @@ abbrev pub HasRisen : ℕ → ℕ → Type 0
 HasRisen before now = min (before + 1) (2 ^ 64 - 1) ≤ now
 
 -- A count never falls. A device's fault is told where it has risen, and nowhere else.
-pub record HasCause {T : Type 0} (before now : ℕ) (result : Result T FileFault) : Type 0 where
+pub record HasFaultCause {T : Type 0} (before now : ℕ) (result : Result T FileFault) : Type 0 where
   pub later : before ≤ now
   pub device : IsErrOf result Device → HasRisen before now
   pub told : ¬ IsErrOf result Device → now ≡ before

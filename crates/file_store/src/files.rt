@@ -2,7 +2,7 @@
 
 ghost use Rattle.std.specs.Prelude.{◌≡◌, ◌≤◌, ℕ, ◌++◌, length, Option, Some, option_map, OnOk, OnErr, IfOk, IfSome};
 ghost use Rattle.std.specs.FinMap as map;
-ghost use Rattle.file_store.specs.Store.{Contents, HasCause, KeepsOthers, MayLack, Reads, bytes_of, with_file, without_file};
+ghost use Rattle.file_store.specs.Store.{Contents, HasFaultCause, KeepsOthers, MayLack, Reads, bytes_of, with_file, without_file};
 ghost use Rattle.file_store.specs.Faults.{fault_text};
 ghost use Rattle.file_store.specs.declared.files.FileFault.TheVariants.{Memory};
 
@@ -62,14 +62,14 @@ pub trait Files {
         ensures ok { OnOk result (contents self.new
             ≡ with_file name bytes.now (contents self.old)) }
         ensures err { OnErr result (KeepsOthers name (contents self.old) (contents self.new)) }
-        ensures cause { HasCause (faults self.old) (faults self.new) result };
+        ensures cause { HasFaultCause (faults self.old) (faults self.new) result };
 
     /// How many bytes a file has, if it is there.
     fn size(&mut self, name: u64) -> Result<Option<u64>, FileFault>
         ensures ok { IfOk result (λ size.
             IfSome (contents self.old) (λ m. size ≡ option_map length (map.get m name))) }
         ensures same { contents self.new ≡ contents self.old }
-        ensures cause { HasCause (faults self.old) (faults self.new) result };
+        ensures cause { HasFaultCause (faults self.old) (faults self.new) result };
 
     /// Reads from an offset to the front of a buffer, and answers how many bytes it read: fewer
     /// than the buffer has only at the file's end, and 0 of a missing file. After an `Err` the
@@ -79,7 +79,7 @@ pub trait Files {
         ensures ok { IfOk result (λ n.
             IfSome (contents self.old) (λ m. Reads (bytes_of m name) offset out.old out.new n)) }
         ensures same { contents self.new ≡ contents self.old }
-        ensures cause { HasCause (faults self.old) (faults self.new) result };
+        ensures cause { HasFaultCause (faults self.old) (faults self.new) result };
 
     /// Appends the names of all files, rising. An `Err` leaves the list as it was.
     fn list(&mut self, names: &mut Vec<u64>) -> Result<(), FileFault>
@@ -87,13 +87,13 @@ pub trait Files {
             names.new.items ≡ names.old.items ++ map.keys m)) }
         ensures err { OnErr result (names.new.items ≡ names.old.items) }
         ensures same { contents self.new ≡ contents self.old }
-        ensures cause { HasCause (faults self.old) (faults self.new) result };
+        ensures cause { HasFaultCause (faults self.old) (faults self.new) result };
 
     /// Removes a file, if it is there. After an `Err` it may be there still or not.
     fn remove(&mut self, name: u64) -> Result<(), FileFault>
         ensures ok { OnOk result (contents self.new ≡ without_file name (contents self.old)) }
         ensures err { OnErr result (MayLack name (contents self.old) (contents self.new)) }
-        ensures cause { HasCause (faults self.old) (faults self.new) result };
+        ensures cause { HasFaultCause (faults self.old) (faults self.new) result };
 
     /// How often a device has failed, up to the greatest number.
     fn faults(&self) -> u64

@@ -1,7 +1,7 @@
 //! Files in a folder.
 
 ghost use Rattle.std.specs.Prelude.{◌≡◌, ◌≤◌, ℕ, Err, IfOk, IfErr, None, Ok, length};
-ghost use Rattle.file_store.specs.Store.{HasCause};
+ghost use Rattle.file_store.specs.Store.{HasFaultCause};
 
 use crate::files::{FileFault, Files};
 use std::alloc::Global;
@@ -204,7 +204,7 @@ impl<R: Folders<File = File> + AllocGlobal + Clone + Drop> DirFiles<R> {
 impl<R: Folders + AllocGlobal + Clone + Drop> DirFiles<R> {
     /// What a call answered, or its fault, which is counted if it is a device's.
     fn told<T: Drop>(&mut self, called: io::Result<T>) -> Result<T, FileFault>
-        ensures cause { HasCause self.old.faults self.new.faults result }
+        ensures cause { HasFaultCause self.old.faults self.new.faults result }
         ensures same { IfOk result (λ value. called ≡ Ok value) }
     {
         match called {

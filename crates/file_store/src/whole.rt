@@ -2,7 +2,7 @@
 
 ghost use Rattle.std.specs.Prelude.{◌≡◌, option_map, IfOk, IfSome};
 ghost use Rattle.std.specs.FinMap as map;
-ghost use Rattle.file_store.specs.Store.{HasCause};
+ghost use Rattle.file_store.specs.Store.{HasFaultCause};
 
 use crate::files::{FileFault, Files};
 use std::alloc::Global;
@@ -16,7 +16,7 @@ pub fn read_whole<F: Files>(
     ensures ok { IfOk result (λ found.
         IfSome (F.contents files.old) (λ m. option_map (λ v. v.items) found ≡ map.get m name)) }
     ensures same { F.contents files.new ≡ F.contents files.old }
-    ensures cause { HasCause (F.faults files.old) (F.faults files.new) result }
+    ensures cause { HasFaultCause (F.faults files.old) (F.faults files.new) result }
 {
     let Some(size) = files.size(name)? else {
         return Ok(None);

@@ -9,14 +9,14 @@ use Rattle.cell_key.specs.Keys.{byte_cmp}
 use Rattle.cell_key.specs.Entries.{Entry, IsRising, entry_of_key}
 use Rattle.memtable.specs.declared.blocks.Block.{Block}
 use Rattle.memtable.specs.Slots.{slot_entry}
-use Rattle.memtable.specs.Blocks.{ends_below, list_of, lists_of, block_entries, IsBlockPlace, IsCounted, IsBlock, IsFullAt}
+use Rattle.memtable.specs.Blocks.{ends_below, list_of, lists_of, block_entries, IsBlockPlace, IsCounted, IsEntryBlock, IsFullAt}
 use Rattle.memtable.proofs.BlockLists.{all_set, found_in, found_last, put_in, put_last}
 
 -- a block has entries
-block_some : (block : Block) → IsBlock block → 1 ≤ length (list_of block)
+block_some : (block : Block) → IsEntryBlock block → 1 ≤ length (list_of block)
 block_some block is = let some = is.some in let len = block.slots.ok.0 in let same = length-map block.slots.items (λ slot. slot_entry slot.value) in omega (arith, len, same)
 
-pub blocks_some : (blocks : List Block) → AllByRecursion IsBlock blocks → AllByRecursion (λ block. 1 ≤ length (list_of block)) blocks
+pub blocks_some : (blocks : List Block) → AllByRecursion IsEntryBlock blocks → AllByRecursion (λ block. 1 ≤ length (list_of block)) blocks
 blocks_some [] all = tt
 blocks_some (block ∷ blocks) all = (block_some block all.0, blocks_some blocks all.1)
 
@@ -45,17 +45,17 @@ within_set (z ∷ xs) zero x lt = omega arith
 within_set (z ∷ xs) (suc i) x lt = let h = within_set xs i x (omega arith) in omega (arith, h)
 
 -- a block that became full
-pub full_at : (blocks : List Block) (i : ℕ) (block : Block) → i < length blocks → vec_len block.slots ≡ 128 → IsCounted block → AllByRecursion IsBlock blocks → IsFullAt (set blocks i block) i
+pub full_at : (blocks : List Block) (i : ℕ) (block : Block) → i < length blocks → vec_len block.slots ≡ 128 → IsCounted block → AllByRecursion IsEntryBlock blocks → IsFullAt (set blocks i block) i
 full_at blocks i block lt full counted all =
     record {
       within = within_set blocks i block lt;
       full = λ d. ap (λ (b : Block). vec_len b.slots) (at_set blocks i block d lt) ∙ full;
       counted = λ d. subst IsCounted (sym (at_set blocks i block d lt)) counted;
-      others = λ other is. subst (AllByRecursion IsBlock) (sym (set_again blocks i block other)) (all_set IsBlock blocks i other all is);
+      others = λ other is. subst (AllByRecursion IsEntryBlock) (sym (set_again blocks i block other)) (all_set IsEntryBlock blocks i other all is);
     }
 
 -- an entry put into the block at its place, or into the last one where that is behind all
-pub put_chosen : (name : List ℕ) (v : Option (List ℕ)) (old new : Block) → list_of new ≡ put byte_cmp name v (list_of old) → (blocks : List Block) (place at : ℕ) → IsRising (block_entries blocks) → AllByRecursion IsBlock blocks → IsBlockPlace name (lists_of blocks) place → at < length blocks → (at ≢ place → (at + 1 ≡ length blocks) × (length blocks ≤ place)) → old ≡ get_or blocks at old → block_entries (set blocks at new) ≡ put byte_cmp name v (block_entries blocks)
+pub put_chosen : (name : List ℕ) (v : Option (List ℕ)) (old new : Block) → list_of new ≡ put byte_cmp name v (list_of old) → (blocks : List Block) (place at : ℕ) → IsRising (block_entries blocks) → AllByRecursion IsEntryBlock blocks → IsBlockPlace name (lists_of blocks) place → at < length blocks → (at ≢ place → (at + 1 ≡ length blocks) × (length blocks ≤ place)) → old ≡ get_or blocks at old → block_entries (set blocks at new) ≡ put byte_cmp name v (block_entries blocks)
 put_chosen name v old new made blocks place at r all p lt last g = go (nat_eq at place) refl
   where
     go : (b : Bool) → nat_eq at place ≡ b → block_entries (set blocks at new) ≡ put byte_cmp name v (block_entries blocks)
@@ -67,7 +67,7 @@ put_chosen name v old new made blocks place at r all p lt last g = go (nat_eq at
         put_last list_of name v old new made blocks at place r p other.1 other.0 g
 
 -- what stands at the text in the chosen block stands there in all
-pub found_chosen : (name : List ℕ) (old : Block) (blocks : List Block) (place at : ℕ) → IsRising (block_entries blocks) → AllByRecursion IsBlock blocks → IsBlockPlace name (lists_of blocks) place → at < length blocks → (at ≢ place → (at + 1 ≡ length blocks) × (length blocks ≤ place)) → old ≡ get_or blocks at old → entry_of_key (block_entries blocks) name ≡ entry_of_key (list_of old) name
+pub found_chosen : (name : List ℕ) (old : Block) (blocks : List Block) (place at : ℕ) → IsRising (block_entries blocks) → AllByRecursion IsEntryBlock blocks → IsBlockPlace name (lists_of blocks) place → at < length blocks → (at ≢ place → (at + 1 ≡ length blocks) × (length blocks ≤ place)) → old ≡ get_or blocks at old → entry_of_key (block_entries blocks) name ≡ entry_of_key (list_of old) name
 found_chosen name old blocks place at r all p lt last g = go (nat_eq at place) refl
   where
     go : (b : Bool) → nat_eq at place ≡ b → entry_of_key (block_entries blocks) name ≡ entry_of_key (list_of old) name

@@ -13,7 +13,7 @@ use Rattle.cell_key.specs.declared.keys.Qualifier.TheVariants.{Data, Lock, Write
 use Rattle.memtable.specs.Edits.{bytes_of, IsWithinLimits}
 use Rattle.memtable.specs.Slots.{over}
 use Rattle.memtable.specs.Sizes.{IsSizeOf, stood_bytes, or_zero}
-use Rattle.memtable.specs.Blocks.{block_entries, AreBlocks, IsKept}
+use Rattle.memtable.specs.Blocks.{block_entries, AreEntryBlocks, IsKept}
 use Rattle.memtable.specs.declared.blocks.Blocks.{Blocks}
 use Rattle.memtable.specs.declared.size.Size.{Size}
 use Rattle.memtable.proofs.EntryLists.{stood_len, bytes-put, stood_within, over_rising, each-over}
@@ -113,7 +113,7 @@ over_bytes (e ∷ es) base r all =
 
 -- ---- what a memtable keeps
 
-pub kept : (blocks : Blocks) (staged base : List Entry) (size : Size) → block_entries blocks.filled.items ≡ over staged base → IsEntryList base → AllByRecursion IsEntry staged → IsSizeOf size (over staged base) → IsWithinLimits (over staged base) → AreBlocks blocks → IsKept blocks size.entries size.bytes
+pub kept : (blocks : Blocks) (staged base : List Entry) (size : Size) → block_entries blocks.filled.items ≡ over staged base → IsEntryList base → AllByRecursion IsEntry staged → IsSizeOf size (over staged base) → IsWithinLimits (over staged base) → AreEntryBlocks blocks → IsKept blocks size.entries size.bytes
 kept blocks staged base size made list limits is within are =
     record {
       list =

@@ -42,7 +42,7 @@ abbrev pub IsCounted : Block → Type 0
 IsCounted block = block.values ≡ value_count (list_of block)
 
 -- a block has entries, and room for one more
-pub record IsBlock (block : Block) : Type 0 where
+pub record IsEntryBlock (block : Block) : Type 0 where
   pub some : 1 ≤ vec_len block.slots
   pub few : vec_len block.slots < 128
   pub room : 128 ≤ vec_capacity block.slots
@@ -58,11 +58,12 @@ pub record IsFullAt (blocks : List Block) (at : ℕ) : Type 0 where
   pub within : at < length blocks
   pub full : (d : Block) → vec_len (get_or blocks at d).slots ≡ 128
   pub counted : (d : Block) → IsCounted (get_or blocks at d)
-  pub others : (block : Block) → IsBlock block → AllByRecursion IsBlock (set blocks at block)
+  pub others : (block : Block) → IsEntryBlock block
+      → AllByRecursion IsEntryBlock (set blocks at block)
 
 -- blocks with room each, and room for more
-pub record AreBlocks (blocks : Blocks) : Type 0 where
-  pub filled : AllByRecursion IsBlock blocks.filled.items
+pub record AreEntryBlocks (blocks : Blocks) : Type 0 where
+  pub filled : AllByRecursion IsEntryBlock blocks.filled.items
   pub spare : AllByRecursion IsSpare blocks.spare.items
 
 -- so many entries more can be put without memory: each of them fills no more than one block
@@ -76,4 +77,4 @@ pub record IsKept (table : Blocks) (len total : ℕ) : Type 0 where
   pub limits : IsWithinLimits (block_entries table.filled.items)
   pub count : len ≡ length (block_entries table.filled.items)
   pub bytes : total ≡ bytes_of (block_entries table.filled.items)
-  pub blocks : AreBlocks table
+  pub blocks : AreEntryBlocks table

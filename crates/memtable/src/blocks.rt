@@ -9,11 +9,12 @@ ghost use Rattle.cell_key.specs.Entries.{IsEntry, IsRising, entries_from, entry_
 ghost use Rattle.memtable.specs.Slots.{slot_entry, slot_entries, first_value, over};
 ghost use Rattle.memtable.specs.Order.{key_of};
 ghost use Rattle.memtable.specs.Sizes.{IsSizeOf, stood_bytes};
-ghost use Rattle.memtable.specs.Blocks.{block_entries, lists_of, list_of, ends_below, IsBlockPlace, IsCounted, IsBlock, IsSpare, IsFullAt, AreBlocks, HasRoom};
+ghost use Rattle.memtable.specs.Blocks.{block_entries, lists_of, list_of, ends_below, IsBlockPlace, IsCounted, IsEntryBlock, IsSpare, IsFullAt, AreEntryBlocks, HasRoom};
 
 use crate::order::{Sought, Version};
 use crate::size::Size;
 use crate::slots::{self, Slot};
+use crate::texts::ShortText;
 use std::alloc::{AllocError, Global};
 
 /// How many entries a block has room for. It has at least one, and fewer than these.
@@ -47,7 +48,7 @@ fn ends_below<S: Sought>(block: &Block, sought: S) -> bool
 /// The place of the first block that doesn't end below what is sought.
 pub(crate) fn place<S: Sought>(blocks: &[Block], sought: S) -> usize
     requires rising { IsRising (block_entries blocks.now) }
-    requires blocks { AllByRecursion IsBlock blocks.now }
+    requires blocks { AllByRecursion IsEntryBlock blocks.now }
     ensures bound { result ≤ length blocks.now }
     ensures place { IsBlockPlace (S.name sought) (lists_of blocks.now) result }
 {
@@ -57,7 +58,7 @@ pub(crate) fn place<S: Sought>(blocks: &[Block], sought: S) -> usize
 /// The entry that is sought.
 pub(crate) fn find<S: Sought>(blocks: &[Block], sought: S) -> Option<&Slot>
     requires rising { IsRising (block_entries blocks.now) }
-    requires blocks { AllByRecursion IsBlock blocks.now }
+    requires blocks { AllByRecursion IsEntryBlock blocks.now }
     ensures found { option_map (λ slot. (slot_entry slot.now).1) result
         ≡ entry_of_key (block_entries blocks.now) (S.name sought) }
     ensures named { IfSome result (λ slot. slot.now.text ≡ S.name sought) }
@@ -69,7 +70,7 @@ pub(crate) fn find<S: Sought>(blocks: &[Block], sought: S) -> Option<&Slot>
 /// How many bytes the entry of a text has, if there is one.
 pub(crate) fn stood_bytes(blocks: &[Block], text: &[u8]) -> Option<u128>
     requires rising { IsRising (block_entries blocks.now) }
-    requires blocks { AllByRecursion IsBlock blocks.now }
+    requires blocks { AllByRecursion IsEntryBlock blocks.now }
     ensures { result ≡ stood_bytes text.now (entry_of_key (block_entries blocks.now) text.now) }
 {
     match find(blocks, text) {
@@ -81,10 +82,10 @@ pub(crate) fn stood_bytes(blocks: &[Block], text: &[u8]) -> Option<u128>
 /// What isn't below what is sought: the rest of one block, and the blocks after that.
 pub(crate) fn rest_from<S: Sought>(blocks: &[Block], sought: S) -> (&[Box<Slot>], &[Block])
     requires rising { IsRising (block_entries blocks.now) }
-    requires blocks { AllByRecursion IsBlock blocks.now }
+    requires blocks { AllByRecursion IsEntryBlock blocks.now }
     ensures entries { slot_entries result.0.now ++ block_entries result.1.now
         ≡ entries_from (S.name sought) (block_entries blocks.now) }
-    ensures blocks { AllByRecursion IsBlock result.1.now }
+    ensures blocks { AllByRecursion IsEntryBlock result.1.now }
 {
     let at = place(blocks, sought);
     match blocks.split_at(at).1.split_first() {
@@ -109,7 +110,7 @@ fn first_value_in(block: &Block) -> Option<&Slot>
 
 /// The first entry of some blocks that has a value.
 fn first_value(blocks: &[Block]) -> Option<&Slot>
-    requires { AllByRecursion IsBlock blocks.now }
+    requires { AllByRecursion IsEntryBlock blocks.now }
     ensures { option_map (λ slot. slot_entry slot.now) result
         ≡ first_value (block_entries blocks.now) }
 {
@@ -126,7 +127,7 @@ fn first_value(blocks: &[Block]) -> Option<&Slot>
 /// The first entry that isn't below what is sought and has a value.
 pub(crate) fn first_value_from<S: Sought>(blocks: &[Block], sought: S) -> Option<&Slot>
     requires rising { IsRising (block_entries blocks.now) }
-    requires blocks { AllByRecursion IsBlock blocks.now }
+    requires blocks { AllByRecursion IsEntryBlock blocks.now }
     ensures { option_map (λ slot. slot_entry slot.now) result
         ≡ first_value (entries_from (S.name sought) (block_entries blocks.now)) }
 {
@@ -137,24 +138,29 @@ pub(crate) fn first_value_from<S: Sought>(blocks: &[Block], sought: S) -> Option
     }
 }
 
-/// The first entry that isn't below the text of a version and has a value.
-pub(crate) fn first_value_at<'a>(blocks: &'a [Block], sought: Version<'_>) -> Option<&'a Slot>
+/// The first entry that isn't below the text of a version and has a value. A short text is the version's own.
+pub(crate) fn first_value_at<'a>(
+    blocks: &'a [Block],
+    sought: Version<'_>,
+    short: Option<&ShortText>,
+) -> Option<&'a Slot>
     requires rising { IsRising (block_entries blocks.now) }
-    requires blocks { AllByRecursion IsBlock blocks.now }
+    requires blocks { AllByRecursion IsEntryBlock blocks.now }
+    requires short { IfSome short (λ made. made.now ≡ text (key_of sought)) }
     ensures { option_map (λ slot. slot_entry slot.now) result
         ≡ first_value (entries_from (text (key_of sought.entry)) (block_entries blocks.now)) }
 {
-    match sought.short_text() {
-        Some(text) => first_value_from(blocks, &text),
+    match short {
+        Some(text) => first_value_from(blocks, text),
         None => first_value_from(blocks, sought),
     }
 }
 
 /// Makes room for this many entries more.
 pub(crate) fn make_room(alloc: Global, blocks: &mut Blocks, count: usize) -> Result<(), AllocError>
-    requires { AreBlocks blocks.old }
+    requires { AreEntryBlocks blocks.old }
     ensures same { blocks.new.filled.items ≡ blocks.old.filled.items }
-    ensures blocks { AreBlocks blocks.new }
+    ensures blocks { AreEntryBlocks blocks.new }
     ensures room { OnOk result (HasRoom count blocks.new) }
 {
     blocks.filled.reserve(count)?;
@@ -190,8 +196,8 @@ fn cut(block: &mut Block, spare: Vec<Box<Slot>>) -> Block
     requires counted { IsCounted block.old }
     requires spare { IsSpare spare }
     ensures entries { list_of block.old ≡ list_of block.new ++ list_of result }
-    ensures lower { IsBlock block.new }
-    ensures upper { IsBlock result }
+    ensures lower { IsEntryBlock block.new }
+    ensures upper { IsEntryBlock result }
 {
     let mut upper = spare;
     halve(&mut block.slots, &mut upper);
@@ -209,7 +215,7 @@ fn split(blocks: &mut Blocks, at: usize)
     requires spare { AllByRecursion IsSpare blocks.old.spare.items }
     requires full { IsFullAt blocks.old.filled.items at }
     ensures same { block_entries blocks.new.filled.items ≡ block_entries blocks.old.filled.items }
-    ensures blocks { AreBlocks blocks.new }
+    ensures blocks { AreEntryBlocks blocks.new }
     ensures room { (n : ℕ) → HasRoom (n + 1) blocks.old → HasRoom n blocks.new }
 {
     let spare = blocks.spare.pop().unwrap();
@@ -220,10 +226,10 @@ fn split(blocks: &mut Blocks, at: usize)
 /// Makes an entry the first block, where there is none.
 fn open(blocks: &mut Blocks, slot: Box<Slot>)
     requires empty { blocks.old.filled.items ≡ [] }
-    requires blocks { AreBlocks blocks.old }
+    requires blocks { AreEntryBlocks blocks.old }
     requires room { HasRoom 1 blocks.old }
     ensures entries { block_entries blocks.new.filled.items ≡ slot_entry slot.value ∷ [] }
-    ensures blocks { AreBlocks blocks.new }
+    ensures blocks { AreEntryBlocks blocks.new }
     ensures room { (n : ℕ) → HasRoom (n + 1) blocks.old → HasRoom n blocks.new }
 {
     let values = slot.value_count();
@@ -262,14 +268,14 @@ fn put_in(block: &mut Block, slot: Box<Slot>) -> Option<u128>
 /// Puts an entry at its place, where there is room for one more. An entry of the same text goes: how many bytes it had.
 pub(crate) fn put(blocks: &mut Blocks, slot: Box<Slot>) -> Option<u128>
     requires rising { IsRising (block_entries blocks.old.filled.items) }
-    requires blocks { AreBlocks blocks.old }
+    requires blocks { AreEntryBlocks blocks.old }
     requires room { HasRoom 1 blocks.old }
     ensures entries { block_entries blocks.new.filled.items
         ≡ put_entry byte_cmp (slot_entry slot.value).0 (slot_entry slot.value).1
         (block_entries blocks.old.filled.items) }
     ensures replaced { result ≡ stood_bytes (slot_entry slot.value).0
         (entry_of_key (block_entries blocks.old.filled.items) (slot_entry slot.value).0) }
-    ensures blocks { AreBlocks blocks.new }
+    ensures blocks { AreEntryBlocks blocks.new }
     ensures room { (n : ℕ) → HasRoom (n + 1) blocks.old → HasRoom n blocks.new }
 {
     let count = blocks.filled.len();
@@ -288,7 +294,7 @@ pub(crate) fn put(blocks: &mut Blocks, slot: Box<Slot>) -> Option<u128>
 /// Puts entries over others, where there is room for all of them. Returns the size of all.
 pub(crate) fn put_all(blocks: &mut Blocks, mut staged: Vec<Box<Slot>>, before: Size) -> Size
     requires rising { IsRising (block_entries blocks.old.filled.items) }
-    requires blocks { AreBlocks blocks.old }
+    requires blocks { AreEntryBlocks blocks.old }
     requires room { HasRoom (vec_len staged) blocks.old }
     requires limits { AllByRecursion IsEntry (slot_entries staged.items) }
     requires before { IsSizeOf before (block_entries blocks.old.filled.items) }
@@ -298,7 +304,7 @@ pub(crate) fn put_all(blocks: &mut Blocks, mut staged: Vec<Box<Slot>>, before: S
         (over (slot_entries staged.items) (block_entries blocks.old.filled.items)) }
     ensures entries { block_entries blocks.new.filled.items
         ≡ over (slot_entries staged.items) (block_entries blocks.old.filled.items) }
-    ensures blocks { AreBlocks blocks.new }
+    ensures blocks { AreEntryBlocks blocks.new }
 {
     let mut size = before;
     while let Some(slot) = staged.pop() {

@@ -4,7 +4,7 @@ ghost use Rattle.std.specs.Prelude.{◌≡◌, ◌↔◌, ◌++◌, ◌∷◌, [
 ghost use Rattle.std.specs.List.{AllByRecursion};
 ghost use Rattle.cell_key.specs.Entries.{lent_entry, Takes};
 ghost use Rattle.memtable.specs.Slots.{slot_entry, slot_entries};
-ghost use Rattle.memtable.specs.Blocks.{block_entries, IsBlock};
+ghost use Rattle.memtable.specs.Blocks.{block_entries, IsEntryBlock};
 
 use crate::blocks::Block;
 use crate::slots::Slot;
@@ -25,7 +25,7 @@ impl<'a> Model for Cursor<'a> {
     ghost use Rattle.std.specs.List.{AllByRecursion};
     ghost use Rattle.cell_key.specs.Entries.{Entry};
     ghost use Rattle.memtable.specs.Slots.{slot_entry, slot_entries};
-    ghost use Rattle.memtable.specs.Blocks.{block_entries, IsBlock};
+    ghost use Rattle.memtable.specs.Blocks.{block_entries, IsEntryBlock};
 
     ghost Value = { Option Entry × List Entry };
 
@@ -34,7 +34,7 @@ impl<'a> Model for Cursor<'a> {
       slot_entries cursor.rest.now ++ block_entries cursor.later.now,
     ) };
 
-    ghost invariant = { λ cursor. AllByRecursion IsBlock cursor.later.now };
+    ghost invariant = { λ cursor. AllByRecursion IsEntryBlock cursor.later.now };
 }
 
 /// The first of some entries, with those after it in its block and the blocks after that.
@@ -42,11 +42,11 @@ fn first<'a>(
     rest: &'a [Box<Slot>],
     later: &'a [Block],
 ) -> Option<(&'a Slot, &'a [Box<Slot>], &'a [Block])>
-    requires { AllByRecursion IsBlock later.now }
+    requires { AllByRecursion IsEntryBlock later.now }
     ensures first { MatchOption result (slot_entries rest.now ++ block_entries later.now ≡ []) (λ t.
         slot_entries rest.now ++ block_entries later.now
         ≡ slot_entry t.0.now ∷ (slot_entries t.1.now ++ block_entries t.2.now)) }
-    ensures blocks { IfSome result (λ t. AllByRecursion IsBlock t.2.now) }
+    ensures blocks { IfSome result (λ t. AllByRecursion IsEntryBlock t.2.now) }
 {
     if let Some((slot, rest)) = rest.split_first() {
         return Some((slot, rest, later));
@@ -59,7 +59,7 @@ fn first<'a>(
 impl<'a> Cursor<'a> {
     /// A place before entries.
     pub(crate) fn new(rest: &'a [Box<Slot>], later: &'a [Block]) -> Cursor<'a>
-        requires { AllByRecursion IsBlock later.now }
+        requires { AllByRecursion IsEntryBlock later.now }
         ensures { result ≡ (None, slot_entries rest.now ++ block_entries later.now) }
     {
         Cursor {

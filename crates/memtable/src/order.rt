@@ -109,6 +109,26 @@ fn stamp_of(bytes: &[u8]) -> Option<Stamp>
     Some(u64::MAX - falling)
 }
 
+/// The stamp of a text that differs from another one in its last eight bytes alone.
+fn stamp_beside(text: &[u8], bytes: &[u8]) -> Option<Stamp>
+    ensures some { IfSome result (λ stamp. (front : List ℕ) (other : ℕ)
+        → text.now ≡ front ++ stamp_text other → bytes.now ≡ front ++ stamp_text stamp) }
+    ensures small { IfSome result (λ stamp. stamp < 2 ^ 64) }
+    ensures none { IfNone result ((front : List ℕ) (other stamp : ℕ)
+        → text.now ≡ front ++ stamp_text other → bytes.now ≢ front ++ stamp_text stamp) }
+{
+    if text.len() < 8 || bytes.len() != text.len() {
+        return None;
+    }
+    let (front, _) = text.split_at(text.len() - 8);
+    let (other, falling) = bytes.split_at(text.len() - 8);
+    if front == other {
+        stamp_of(falling)
+    } else {
+        None
+    }
+}
+
 /// A version of a cell's column, whose names are lent.
 #[derive(Clone, Copy)]
 pub(crate) struct Version<'a> {
@@ -172,13 +192,18 @@ impl Version<'_> {
         Ok(falling.as_slice().cmp(&after_column))
     }
 
-    /// The stamp of the version of the same column whose text the bytes are, if they are one's.
-    pub(crate) fn stamp_in(self, bytes: &[u8]) -> Option<Stamp>
+    /// The stamp of the version of the same column whose text the bytes are, if they are one's. A short text is the
+    /// version's own.
+    pub(crate) fn stamp_in(self, short: Option<&ShortText>, bytes: &[u8]) -> Option<Stamp>
+        requires { IfSome short (λ made. made.now ≡ text (key_of self)) }
         ensures some { IfSome result (λ stamp. bytes.now ≡ text (at_stamp self.entry stamp)) }
         ensures small { IfSome result (λ stamp. stamp < 2 ^ 64) }
         ensures none { IfNone result ((stamp : ℕ) → stamp < 2 ^ 64
             → bytes.now ≢ text (at_stamp self.entry stamp)) }
     {
+        if let Some(short) = short {
+            return stamp_beside(short.as_slice(), bytes);
+        }
         match self.after_column(bytes) {
             Ok(falling) => stamp_of(falling),
             Err(_order) => None,

@@ -8,7 +8,7 @@ ghost use Rattle.cell_key.specs.Cells.{IsEditOf};
 ghost use Rattle.cell_key.specs.Entries.{Entry, IsRising, IsEntry};
 ghost use Rattle.memtable.specs.Slots.{slot_entry, slot_entries, over};
 ghost use Rattle.memtable.specs.Sizes.{IsSizeOf};
-ghost use Rattle.memtable.specs.Blocks.{block_entries, IsBlock};
+ghost use Rattle.memtable.specs.Blocks.{block_entries, IsEntryBlock};
 ghost use Rattle.memtable.specs.Edits.{edit_entry, with_edits, HasStoredKey};
 
 use crate::blocks::{self, Block};
@@ -81,7 +81,7 @@ pub(crate) fn stage(alloc: Global, row: &Row, edits: Vec<Edit>) -> Result<Vec<Bo
 /// The size of a table once entries are put over it.
 pub(crate) fn size_with(table: &[Block], before: Size, staged: &[Box<Slot>]) -> Size
     requires rising { IsRising (block_entries table.now) }
-    requires blocks { AllByRecursion IsBlock table.now }
+    requires blocks { AllByRecursion IsEntryBlock table.now }
     requires before { IsSizeOf before (block_entries table.now) }
     requires few { before.entries ≤ 2 ^ 64 }
     requires small { before.bytes ≤ 2 ^ 64 }

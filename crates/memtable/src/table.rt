@@ -8,7 +8,7 @@ ghost use Rattle.cell_key.specs.Versions.{IsVersion};
 ghost use Rattle.cell_key.specs.Entries.{IsEntry, IsEntryList, IsRising, cells_of, lent_entry, entry_of_key, entries_from};
 ghost use Rattle.memtable.specs.Slots.{lent_version, over, slot_entries};
 ghost use Rattle.memtable.specs.Sizes.{IsSizeOf};
-ghost use Rattle.memtable.specs.Blocks.{block_entries, IsBlock};
+ghost use Rattle.memtable.specs.Blocks.{block_entries, IsEntryBlock};
 ghost use Rattle.memtable.specs.Edits.{with_edits, bytes_of, IsWithinLimits, HasStoredKey};
 
 use crate::blocks::{self, Block, Blocks};
@@ -47,7 +47,7 @@ impl Model for Memtable {
 /// replace, they aren't looked up.
 fn fit(table: &[Block], before: Size, staged: &[Box<Slot>]) -> bool
     requires rising { IsRising (block_entries table.now) }
-    requires blocks { AllByRecursion IsBlock table.now }
+    requires blocks { AllByRecursion IsEntryBlock table.now }
     requires before { IsSizeOf before (block_entries table.now) }
     requires few { before.entries ≤ 2 ^ 64 }
     requires small { before.bytes ≤ 2 ^ 64 }
@@ -153,8 +153,9 @@ impl Memtable {
             qualifier,
             stamp: hi,
         };
-        let slot = blocks::first_value_at(&self.blocks.filled, sought)?;
-        let stamp = sought.stamp_in(slot.text.as_slice())?;
+        let text = sought.short_text();
+        let slot = blocks::first_value_at(&self.blocks.filled, sought, text.as_ref())?;
+        let stamp = sought.stamp_in(text.as_ref(), slot.text.as_slice())?;
         if stamp < lo {
             return None;
         }

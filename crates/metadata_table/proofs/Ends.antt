@@ -7,7 +7,7 @@ use Rattle.std.specs.Ordering.{is_lt, ordering_reverse}
 use Rattle.std.specs.Cmp.Lexicographic.{nat_list_cmp_total}
 use Rattle.std.specs.FinMap.{slice_cmp-IsAntisymmetric, nat_cmp-IsAntisymmetric}
 use Rattle.cell_key.specs.Keys.{byte_cmp}
-use Rattle.metadata_table.specs.Places.{PlaceView, EndsBefore, IsLower, IsAfter}
+use Rattle.metadata_table.specs.Places.{PlaceView, EndsBefore, IsLower, IsRowAfter}
 use Rattle.metadata_table.specs.Table.{EndsRise}
 use Rattle.metadata_table.specs.Positions.{ends_before}
 
@@ -90,11 +90,11 @@ some_lower None row h = h
 some_lower (Some x) row h = h
 
 -- a row after an end that isn't infinite is one that the end is before, and the other way round
-pub before_after : (end : Option (List ℕ)) (row : List ℕ) → EndsBefore end row → IsAfter end row
+pub before_after : (end : Option (List ℕ)) (row : List ℕ) → EndsBefore end row → IsRowAfter end row
 before_after None row h = tt
 before_after (Some end) row h = h
 
-pub after_before : (a b : Option (List ℕ)) (row : List ℕ) → IsLower a b → IsAfter a row → EndsBefore a row
+pub after_before : (a b : Option (List ℕ)) (row : List ℕ) → IsLower a b → IsRowAfter a row → EndsBefore a row
 after_before None b row l h = l
 after_before (Some x) b row l h = h
 

@@ -4,7 +4,7 @@ use Rattle.std.specs.List.{AllByRecursion, AllPairs, Contains}
 use Rattle.std.specs.declared.cmp.Ordering.TheVariants.{Less}
 use Rattle.std.specs.Cmp.Lexicographic.{nat_list_cmp_total}
 use Rattle.cell_key.specs.Keys.{byte_cmp}
-use Rattle.metadata_table.specs.Places.{PlaceView, EndsBefore, IsAfter}
+use Rattle.metadata_table.specs.Places.{PlaceView, EndsBefore, IsRowAfter}
 use Rattle.metadata_table.specs.Table.{EndsRise, Cuts, cuts_last, cuts, cuts_later, on_server, naming, moved, with_files}
 use Rattle.metadata_table.specs.Ranges.{TabletRange, HasRow, ranges_after, ranges, CutsRange, PartsRange}
 use Rattle.metadata_table.proofs.Ends.{not_both, below_other, is_before, lower_before, before_after, after_before}
@@ -15,11 +15,11 @@ use Rattle.metadata_table.proofs.Members.{contains_first, contains_later, contai
 after_all : (p : PlaceView) (ps : List PlaceView) → EndsRise (p ∷ ps) → (r : TabletRange) (row : List ℕ) → Contains (ranges_after p.end ps) r → HasRow r row → EndsBefore p.end row
 after_all p [] rise r row c h = absurd (contains_none r c)
 after_all p (q ∷ ps) rise r row c h = elim (contains_cases _ r (ranges_after q.end ps) c) [
-  | inl e ↦ after_before p.end q.end row rise.0 (subst (λ (s : TabletRange). IsAfter s.after row) (sym e) h.past)
+  | inl e ↦ after_before p.end q.end row rise.0 (subst (λ (s : TabletRange). IsRowAfter s.after row) (sym e) h.past)
   | inr k ↦ lower_before p.end q.end row rise.0 (after_all q ps rise.1 r row k h)
 ]
 
-pub has_range : (start : Option (List ℕ)) (ps : List PlaceView) → EndsRise ps → (row : List ℕ) → IsAfter start row → (r : TabletRange) × Contains (ranges_after start ps) r × HasRow r row
+pub has_range : (start : Option (List ℕ)) (ps : List PlaceView) → EndsRise ps → (row : List ℕ) → IsRowAfter start row → (r : TabletRange) × Contains (ranges_after start ps) r × HasRow r row
 has_range start [] rise row a = absurd rise
 has_range start (p ∷ []) rise row a =
     let head : TabletRange = record { tablet = p.tablet; after = start; end = p.end } in
@@ -51,7 +51,7 @@ only_range start (p ∷ q ∷ ps) rise row r s c h d k = elim (contains_cases _ 
 ]
 
 -- the range of the place that holds a row
-pub held_range : (start : Option (List ℕ)) (row : List ℕ) (before after : List PlaceView) (p : PlaceView) → IsAfter start row → AllByRecursion (λ q. EndsBefore q.end row) before → (EndsBefore p.end row → ⊥) → (r : TabletRange) × Contains (ranges_after start (before ++ p ∷ after)) r × (r.tablet ≡ p.tablet) × (r.end ≡ p.end) × HasRow r row
+pub held_range : (start : Option (List ℕ)) (row : List ℕ) (before after : List PlaceView) (p : PlaceView) → IsRowAfter start row → AllByRecursion (λ q. EndsBefore q.end row) before → (EndsBefore p.end row → ⊥) → (r : TabletRange) × Contains (ranges_after start (before ++ p ∷ after)) r × (r.tablet ≡ p.tablet) × (r.end ≡ p.end) × HasRow r row
 held_range start row [] after p a past n =
     let head : TabletRange = record { tablet = p.tablet; after = start; end = p.end } in
     (head, contains_first head (ranges_after p.end after), refl, refl, record { past = a; within = n })
@@ -86,7 +86,7 @@ infinite end row e h = subst (λ (o : Option (List ℕ)). EndsBefore o row) e h
 finite : (end : Option (List ℕ)) (row last : List ℕ) → end ≡ Some last → byte_cmp row last ≡ Less → EndsBefore end row → ⊥
 finite end row last e l h = not_both row last l (subst (λ (o : Option (List ℕ)). EndsBefore o row) e h)
 
-pub cut_range : (row : List ℕ) (n : ℕ) (start : Option (List ℕ)) (ps ps' : List PlaceView) → IsAfter start row → Cuts row n ps ps' → CutsRange row n (ranges_after start ps) (ranges_after start ps')
+pub cut_range : (row : List ℕ) (n : ℕ) (start : Option (List ℕ)) (ps ps' : List PlaceView) → IsRowAfter start row → Cuts row n ps ps' → CutsRange row n (ranges_after start ps) (ranges_after start ps')
 cut_range row n start _ _ a (cuts_last {p = p} e) = record {
   before = [];
   range = record { tablet = p.tablet; after = start; end = p.end };
@@ -120,7 +120,7 @@ ends_later : (end : Option (List ℕ)) (row other : List ℕ) → (EndsBefore en
 ends_later None row other n m h = h
 ends_later (Some last) row other n m h = n (below_other last other row h m)
 
-starts_before : (start : Option (List ℕ)) (row other : List ℕ) → IsAfter start row → byte_cmp row other ≡ Less → IsAfter start other
+starts_before : (start : Option (List ℕ)) (row other : List ℕ) → IsRowAfter start row → byte_cmp row other ≡ Less → IsRowAfter start other
 starts_before None row other a l = tt
 starts_before (Some first) row other a l = nat_list_cmp_total.trans first row other a l
 

@@ -12,7 +12,7 @@ use Rattle.cell_key.specs.Names.{IsRow}
 use Rattle.metadata_table.specs.Places.{PlaceView}
 use Rattle.metadata_table.specs.Table.{IsNumbered}
 use Rattle.metadata_table.proofs.Members.{all_implied}
-use Rattle.metadata_table.specs.Roots.{RootView, AreFiles, IsSound, IsRoot, IsNoRoot, OneRoot, end_bytes, files_bytes, place_bytes, places_bytes, root_bytes}
+use Rattle.metadata_table.specs.Roots.{RootView, AreFiles, IsSoundRoot, IsRoot, IsNoRoot, OneRoot, end_bytes, files_bytes, place_bytes, places_bytes, root_bytes}
 use Rattle.metadata_table.specs.RootReading.{number_at, field_at, row_at, end_at, each_at, place_at, root_at}
 
 record IsWide (w : Width) (limit : ℕ) : Type 0 where
@@ -96,7 +96,7 @@ head_again rest =
     let long : ltb (length (head ++ rest)) 8 ≡ false = le-ltb _ _ (omega (arith, length-append head rest)) in
     rw (long) refl
 
-pub root_again : (r : RootView) → IsSound r → root_at (root_bytes r) ≡ Some r
+pub root_again : (r : RootView) → IsSoundRoot r → root_at (root_bytes r) ≡ Some r
 unfolding root_at
 root_again r sound =
     let foot = codes "TABROOTZ" in

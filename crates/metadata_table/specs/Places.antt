@@ -36,6 +36,6 @@ IsLower (Some end) None = ⊤
 IsLower (Some end) (Some other) = byte_cmp end other ≡ Less
 
 -- a row comes after another one, or after the start
-abbrev pub IsAfter : Option (List ℕ) → List ℕ → Type 0
-IsAfter None row = ⊤
-IsAfter (Some before) row = byte_cmp before row ≡ Less
+abbrev pub IsRowAfter : Option (List ℕ) → List ℕ → Type 0
+IsRowAfter None row = ⊤
+IsRowAfter (Some before) row = byte_cmp before row ≡ Less

@@ -3,7 +3,7 @@ use Rattle.std.specs.Prelude.{◌≡◌, ◌≢◌, ◌↔◌, ℕ, List, [], �
 use Rattle.std.specs.List.{Contains}
 use Rattle.std.specs.declared.cmp.Ordering.TheVariants.{Less}
 use Rattle.cell_key.specs.Keys.{byte_cmp}
-use Rattle.metadata_table.specs.Places.{PlaceView, EndsBefore, IsAfter}
+use Rattle.metadata_table.specs.Places.{PlaceView, EndsBefore, IsRowAfter}
 use Rattle.metadata_table.specs.Table.{IsTable, IsHolder, Cuts, moved, with_files}
 
 -- a tablet, and its rows: those after one row, or after the start, up to and with its end
@@ -14,7 +14,7 @@ pub record TabletRange : Type 0 where
 
 -- a range has a row
 pub record HasRow (range : TabletRange) (row : List ℕ) : Type 0 where
-  pub past : IsAfter range.after row
+  pub past : IsRowAfter range.after row
   pub within : ¬ EndsBefore range.end row
 
 -- the ranges of places, each after the end of the one before, and the first after this one

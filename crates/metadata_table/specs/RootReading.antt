@@ -18,9 +18,9 @@ abbrev pub Fails : {Y : Type 0} → ReadFault → Option Y → Type 0
 Fails fault.Memory read = Unit {0}
 Fails fault.Malformed read = read ≡ None
 
-abbrev pub Gives : {X Y : Type 0} → (X → Y) → Result X ReadFault → Option Y → Type 0
-Gives view (Ok x) read = read ≡ Some (view x)
-Gives view (Err e) read = Fails e read
+abbrev pub GivesRead : {X Y : Type 0} → (X → Y) → Result X ReadFault → Option Y → Type 0
+GivesRead view (Ok x) read = read ≡ Some (view x)
+GivesRead view (Err e) read = Fails e read
 
 -- what was read so
 abbrev pub draft_of : Draft → RootView

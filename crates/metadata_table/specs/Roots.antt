@@ -37,7 +37,7 @@ pub record IsNaming (next_name : ℕ) (ps : List PlaceView) : Type 0 where
 abbrev pub AreEnds : List PlaceView → Type 0
 AreEnds ps = AllByRecursion (λ p. IfSome p.end IsRow) ps
 
-pub record IsSound (root : RootView) : Type 0 where
+pub record IsSoundRoot (root : RootView) : Type 0 where
   pub top : root.top < 2 ^ 64
   pub floor : root.floor < 2 ^ 64
   pub table : IsTable root.places
@@ -72,7 +72,7 @@ root_bytes root =
 
 -- the bytes are the root that tells this
 pub record IsRoot (root : RootView) (bytes : List ℕ) : Type 0 where
-  pub sound : IsSound root
+  pub sound : IsSoundRoot root
   pub whole : bytes ≡ root_bytes root
 
 -- the bytes are no root

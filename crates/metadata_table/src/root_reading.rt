@@ -3,7 +3,7 @@
 ghost use Rattle.std.specs.Prelude.{◌≡◌};
 ghost use Rattle.std.specs.Int.{w32, w64};
 ghost use Rattle.metadata_table.specs.Places.{view_of, views};
-ghost use Rattle.metadata_table.specs.RootReading.{Gives, draft_of, number_at, byte_at, field_at, row_at, end_at, names_at, place_at, places_at, root_at};
+ghost use Rattle.metadata_table.specs.RootReading.{GivesRead, draft_of, number_at, byte_at, field_at, row_at, end_at, names_at, place_at, places_at, root_at};
 ghost use Rattle.metadata_table.specs.declared.root_reading.ReadFault.TheVariants.{Memory};
 
 use crate::places::Place;
@@ -46,7 +46,7 @@ pub(crate) struct Draft {
 
 /// The number of four bytes at the front, and what follows.
 fn read_u32(bytes: &[u8]) -> Result<(u32, &[u8]), ReadFault>
-    ensures { Gives (λ x. (x.0, x.1.now)) result (number_at w32 bytes.now) }
+    ensures { GivesRead (λ x. (x.0, x.1.now)) result (number_at w32 bytes.now) }
 {
     if bytes.len() < 4 {
         return Err(ReadFault::Malformed);
@@ -58,7 +58,7 @@ fn read_u32(bytes: &[u8]) -> Result<(u32, &[u8]), ReadFault>
 
 /// The number of eight bytes at the front, and what follows.
 fn read_u64(bytes: &[u8]) -> Result<(u64, &[u8]), ReadFault>
-    ensures { Gives (λ x. (x.0, x.1.now)) result (number_at w64 bytes.now) }
+    ensures { GivesRead (λ x. (x.0, x.1.now)) result (number_at w64 bytes.now) }
 {
     if bytes.len() < 8 {
         return Err(ReadFault::Malformed);
@@ -72,7 +72,7 @@ fn read_u64(bytes: &[u8]) -> Result<(u64, &[u8]), ReadFault>
 
 /// The byte at the front, and what follows.
 fn read_byte(bytes: &[u8]) -> Result<(u8, &[u8]), ReadFault>
-    ensures { Gives (λ x. (x.0, x.1.now)) result (byte_at bytes.now) }
+    ensures { GivesRead (λ x. (x.0, x.1.now)) result (byte_at bytes.now) }
 {
     match bytes {
         [] => Err(ReadFault::Malformed),
@@ -83,7 +83,7 @@ fn read_byte(bytes: &[u8]) -> Result<(u8, &[u8]), ReadFault>
 /// The length and as many bytes at the front, and what follows.
 #[tactic(auto, unfolding(crate::specs::RootReading::field_at))]
 fn read_field(bytes: &[u8]) -> Result<(&[u8], &[u8]), ReadFault>
-    ensures { Gives (λ x. (x.0.now, x.1.now)) result (field_at bytes.now) }
+    ensures { GivesRead (λ x. (x.0.now, x.1.now)) result (field_at bytes.now) }
 {
     let (len, rest) = read_u32(bytes)?;
     let len = len as usize;
@@ -96,7 +96,7 @@ fn read_field(bytes: &[u8]) -> Result<(&[u8], &[u8]), ReadFault>
 /// The row at the front, and what follows.
 #[tactic(auto, unfolding(crate::specs::RootReading::row_at))]
 fn read_row(alloc: Global, bytes: &[u8]) -> Result<(Row, &[u8]), ReadFault>
-    ensures { Gives (λ x. (x.0, x.1.now)) result (row_at bytes.now) }
+    ensures { GivesRead (λ x. (x.0, x.1.now)) result (row_at bytes.now) }
 {
     let (text, rest) = read_field(bytes)?;
     if text.len() < 1 {
@@ -114,7 +114,7 @@ fn read_row(alloc: Global, bytes: &[u8]) -> Result<(Row, &[u8]), ReadFault>
 /// The end at the front, and what follows.
 #[tactic(auto, unfolding(crate::specs::RootReading::end_at))]
 fn read_end(alloc: Global, bytes: &[u8]) -> Result<(Option<Row>, &[u8]), ReadFault>
-    ensures { Gives (λ x. (x.0, x.1.now)) result (end_at bytes.now) }
+    ensures { GivesRead (λ x. (x.0, x.1.now)) result (end_at bytes.now) }
 {
     match bytes {
         [] => Err(ReadFault::Malformed),
@@ -129,7 +129,7 @@ fn read_end(alloc: Global, bytes: &[u8]) -> Result<(Option<Row>, &[u8]), ReadFau
 
 /// So many names at the front, and what follows.
 fn read_names(alloc: Global, count: u32, bytes: &[u8]) -> Result<(Vec<u64>, &[u8]), ReadFault>
-    ensures { Gives (λ x. (x.0.items, x.1.now)) result (names_at count bytes.now) }
+    ensures { GivesRead (λ x. (x.0.items, x.1.now)) result (names_at count bytes.now) }
 {
     let mut names = Vec::new(alloc);
     let mut rest = bytes;
@@ -144,7 +144,7 @@ fn read_names(alloc: Global, count: u32, bytes: &[u8]) -> Result<(Vec<u64>, &[u8
 /// The place at the front, and what follows.
 #[tactic(auto, unfolding(crate::specs::RootReading::place_at))]
 fn read_place(alloc: Global, bytes: &[u8]) -> Result<(Place, &[u8]), ReadFault>
-    ensures { Gives (λ x. (view_of x.0, x.1.now)) result (place_at bytes.now) }
+    ensures { GivesRead (λ x. (view_of x.0, x.1.now)) result (place_at bytes.now) }
 {
     let (tablet, rest) = read_u32(bytes)?;
     let (end, rest) = read_end(alloc, rest)?;
@@ -162,7 +162,7 @@ fn read_place(alloc: Global, bytes: &[u8]) -> Result<(Place, &[u8]), ReadFault>
 
 /// So many places at the front, and what follows.
 fn read_places(alloc: Global, count: u32, bytes: &[u8]) -> Result<(Vec<Place>, &[u8]), ReadFault>
-    ensures { Gives (λ x. (views x.0.items, x.1.now)) result (places_at count bytes.now) }
+    ensures { GivesRead (λ x. (views x.0.items, x.1.now)) result (places_at count bytes.now) }
 {
     let mut places = Vec::new(alloc);
     let mut rest = bytes;
@@ -177,7 +177,7 @@ fn read_places(alloc: Global, count: u32, bytes: &[u8]) -> Result<(Vec<Place>, &
 /// What the bytes tell where they are a root. Head and foot are passed over.
 #[tactic(auto, unfolding(crate::specs::RootReading::root_at))]
 pub(crate) fn read_draft(alloc: Global, bytes: &[u8]) -> Result<Draft, ReadFault>
-    ensures { Gives draft_of result (root_at bytes.now) }
+    ensures { GivesRead draft_of result (root_at bytes.now) }
 {
     let (_, rest) = read_u64(bytes)?;
     let (top, rest) = read_u64(rest)?;

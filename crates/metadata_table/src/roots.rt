@@ -1,7 +1,7 @@
 //! The root of a store: what it tells, and its bytes.
 
 ghost use Rattle.std.specs.Prelude.{◌≡◌, ◌≤◌, ◌<◌, ◌++◌, ◌↔◌, ◌⊎◌, IsTrue, IfOk, IfErr, IfSome, IfNone, OnOk, OnErr, IsOkUnless, length};
-ghost use Rattle.metadata_table.specs.Roots.{IsNaming, IsNoRoot, IsRoot, IsSound, root_bytes, root_of};
+ghost use Rattle.metadata_table.specs.Roots.{IsNaming, IsNoRoot, IsRoot, IsSoundRoot, root_bytes, root_of};
 ghost use Rattle.metadata_table.specs.RootReading.{draft_of};
 
 use crate::root_checks::is_named_table;
@@ -80,7 +80,7 @@ impl MetadataTable {
           next_name = next_name;
           places = self.now;
         })) }
-        ensures sound { OnOk result (IsSound (record {
+        ensures sound { OnOk result (IsSoundRoot (record {
           top = top;
           floor = floor;
           next_name = next_name;

@@ -10,5 +10,5 @@ abbrev pub MayHold : ℕ → Option ℕ → Option ℕ → Type 0
 MayHold number old new = (new ≡ old) ⊎ (new ≡ mark_after number old)
 
 -- a number isn't past the mark, where the mark is told
-abbrev pub IsWithin : ℕ → Option ℕ → Type 0
-IsWithin number mark = IfSome mark (λ stored. number ≤ stored)
+abbrev pub IsWithinMark : ℕ → Option ℕ → Type 0
+IsWithinMark number mark = IfSome mark (λ stored. number ≤ stored)

@@ -2,7 +2,7 @@
 
 ghost use Rattle.std.specs.Prelude.{◌≡◌, ◌↔◌, ◌+◌, ◌-◌, ◌<◌, ◌≤◌, ◌^◌, OnOk, OnErr, IfOk, IfErr, IfSome, IsOk, IsErrOf};
 ghost use Rattle.cell_key.specs.Faults.{HasRisen};
-ghost use Rattle.oracle.specs.Marks.{MayHold, mark_after, IsWithin};
+ghost use Rattle.oracle.specs.Marks.{MayHold, mark_after, IsWithinMark};
 ghost use Rattle.oracle.specs.Ranges.{next_range_end, IsDrawRefusal, SameNumbers};
 
 use crate::marks::MarkStore;
@@ -24,7 +24,7 @@ pub struct Oracle<M: MarkStore> {
 
 impl<M: MarkStore> Model for Oracle<M> {
     ghost use Rattle.std.specs.Prelude.{◌≤◌, ◌<◌, ◌^◌};
-    ghost use Rattle.oracle.specs.Marks.{IsWithin};
+    ghost use Rattle.oracle.specs.Marks.{IsWithinMark};
     ghost use Rattle.oracle.specs.Ranges.{OracleState};
 
     ghost Value = { OracleState M };
@@ -34,7 +34,7 @@ impl<M: MarkStore> Model for Oracle<M> {
 
     ghost invariant = { λ oracle.
         (oracle.last ≤ oracle.range_end) × (oracle.range_end < 2 ^ 63)
-        × IsWithin oracle.range_end (M.mark oracle.marks) };
+        × IsWithinMark oracle.range_end (M.mark oracle.marks) };
 }
 
 /// The end of the range that follows one with this end.
@@ -103,7 +103,7 @@ impl<M: MarkStore> Oracle<M> {
             (next_range_end self.old.range_end) (M.mark self.old.marks) (M.mark self.new.marks)) }
 
         ensures later { M.faults self.old.marks ≤ M.faults self.new.marks }
-        ensures below_mark { IsWithin self.new.last (M.mark self.new.marks) }
+        ensures below_mark { IsWithinMark self.new.last (M.mark self.new.marks) }
     {
         if self.last == MOST_STAMP {
             return Err(Refusal::Exhausted);
@@ -130,7 +130,7 @@ impl<M: MarkStore> Oracle<M> {
             (M.faults self.old.marks) (M.faults self.new.marks)) }
         ensures told { OnOk result (M.faults self.new.marks ≡ M.faults self.old.marks) }
         ensures later { M.faults self.old.marks ≤ M.faults self.new.marks }
-        ensures below_mark { IsWithin self.new.last (M.mark self.new.marks) }
+        ensures below_mark { IsWithinMark self.new.last (M.mark self.new.marks) }
     {
         let mark = self.marks.load()?;
         self.last = self.last.max(mark);
@@ -142,7 +142,7 @@ impl<M: MarkStore> Oracle<M> {
     pub fn last(&self) -> Stamp
         ensures last { result ≡ self.now.last }
         ensures limit { result < 2 ^ 63 }
-        ensures below_mark { IsWithin result (M.mark self.now.marks) }
+        ensures below_mark { IsWithinMark result (M.mark self.now.marks) }
     {
         self.last
     }

@@ -5,7 +5,7 @@ use Rattle.std.proofs.lemmas.Bool.{cases_lt}
 use Rattle.std.specs.Int.{to_be_bytes, w32}
 use Rattle.std.specs.List.{AllByRecursion}
 use Rattle.std.proofs.lemmas.Nat.{be_bytes_4, from_be_bytes-to_be_bytes_4}
-use Rattle.request_codec.specs.Stream.{longest, frame, frames, announced, IsOpen, IsCut, IsBody}
+use Rattle.request_codec.specs.Stream.{longest, frame, frames, announced, BeginsNoFrame, CutsInto, IsBody}
 
 announced-frame : (a x : List ℕ) → IsBody a → announced (frame a ++ x) ≡ length a
 unfolding announced frame
@@ -30,23 +30,23 @@ same_frame a b x y p q same =
     let size : length a ≡ length b = sym (announced-frame a x p) ∙ ap announced same ∙ announced-frame b y q in
     same_front a b x y size (sym (drop-frame a x) ∙ ap (drop 4) same ∙ drop-frame b y)
 
-not_open : (a x : List ℕ) → IsBody a → IsOpen (frame a ++ x) → ⊥
+not_open : (a x : List ℕ) → IsBody a → BeginsNoFrame (frame a ++ x) → ⊥
 not_open a x fits p =
     let says = announced-frame a x fits in
     let size = length-frame a x in
     let short = p.short (omega arith) (omega arith) in
     omega arith
 
-one_way : (bodies others : List (List ℕ)) (rest other : List ℕ) → AllByRecursion IsBody bodies → AllByRecursion IsBody others → IsOpen rest → IsOpen other → frames bodies ++ rest ≡ frames others ++ other → (bodies ≡ others) × (rest ≡ other)
+one_way : (bodies others : List (List ℕ)) (rest other : List ℕ) → AllByRecursion IsBody bodies → AllByRecursion IsBody others → BeginsNoFrame rest → BeginsNoFrame other → frames bodies ++ rest ≡ frames others ++ other → (bodies ≡ others) × (rest ≡ other)
 one_way [] [] rest other p q u v same = (refl, same)
-one_way [] (b ∷ bs) rest other p q u v same = absurd (not_open b (frames bs ++ other) q.0 (subst IsOpen (same ∙ append_assoc (frame b) (frames bs) other) u))
-one_way (a ∷ as') [] rest other p q u v same = absurd (not_open a (frames as' ++ rest) p.0 (subst IsOpen (sym same ∙ append_assoc (frame a) (frames as') rest) v))
+one_way [] (b ∷ bs) rest other p q u v same = absurd (not_open b (frames bs ++ other) q.0 (subst BeginsNoFrame (same ∙ append_assoc (frame b) (frames bs) other) u))
+one_way (a ∷ as') [] rest other p q u v same = absurd (not_open a (frames as' ++ rest) p.0 (subst BeginsNoFrame (sym same ∙ append_assoc (frame a) (frames as') rest) v))
 one_way (a ∷ as') (b ∷ bs) rest other p q u v same =
     let first = same_frame a b (frames as' ++ rest) (frames bs ++ other) p.0 q.0 (sym (append_assoc (frame a) (frames as') rest) ∙ same ∙ append_assoc (frame b) (frames bs) other) in
     let more = one_way as' bs rest other p.1 q.1 u v first.1 in
     (ap (λ h. h ∷ as') first.0 ∙ ap (λ t. b ∷ t) more.0, more.1)
 
-pub one_cut_only : (stream : List ℕ) (bodies others : List (List ℕ)) (rest other : List ℕ) → IsCut stream bodies rest → IsCut stream others other → (bodies ≡ others) × (rest ≡ other)
+pub one_cut_only : (stream : List ℕ) (bodies others : List (List ℕ)) (rest other : List ℕ) → CutsInto stream bodies rest → CutsInto stream others other → (bodies ≡ others) × (rest ≡ other)
 one_cut_only stream bodies others rest other p q = one_way bodies others rest other p.each q.each p.open_rest q.open_rest (sym p.whole ∙ q.whole)
 
 -- ---- each stream of bytes has a cut
@@ -55,7 +55,7 @@ abbrev pub IsBytes : List ℕ → Type 0
 IsBytes bytes = (i : ℕ) → get_or bytes i 0 < 256
 
 abbrev Cut : List ℕ → Type 0
-Cut stream = (bodies : List (List ℕ)) × (rest : List ℕ) × IsCut stream bodies rest
+Cut stream = (bodies : List (List ℕ)) × (rest : List ℕ) × CutsInto stream bodies rest
 
 alone : (stream : List ℕ) → (4 ≤ length stream → announced stream ≤ longest → length stream < 4 + announced stream) → Cut stream
 alone stream h = ([], stream, record { whole = refl; each = tt; open_rest = record { short = h } })
@@ -128,11 +128,11 @@ frame_begins a b more p q e = sym (same_frame b a [] more q p (append-nil (frame
 
 -- ---- the cut goes on after frames that were handed out
 
-pub cut_from : (handed : List (List ℕ)) (stream pending : List ℕ) (bodies : List (List ℕ)) (rest : List ℕ) → stream ≡ frames handed ++ pending → AllByRecursion IsBody handed → IsCut stream bodies rest
-    → (more : List (List ℕ)) × (bodies ≡ handed ++ more) × IsCut pending more rest
+pub cut_from : (handed : List (List ℕ)) (stream pending : List ℕ) (bodies : List (List ℕ)) (rest : List ℕ) → stream ≡ frames handed ++ pending → AllByRecursion IsBody handed → CutsInto stream bodies rest
+    → (more : List (List ℕ)) × (bodies ≡ handed ++ more) × CutsInto pending more rest
 cut_from [] stream pending bodies rest same fits cut = (bodies, refl, record { whole = sym same ∙ cut.whole; each = cut.each; open_rest = cut.open_rest })
 cut_from (h ∷ hs) stream pending [] rest same fits cut =
-    absurd (not_open h (frames hs ++ pending) fits.0 (subst IsOpen (sym cut.whole ∙ same ∙ append_assoc (frame h) (frames hs) pending) cut.open_rest))
+    absurd (not_open h (frames hs ++ pending) fits.0 (subst BeginsNoFrame (sym cut.whole ∙ same ∙ append_assoc (frame h) (frames hs) pending) cut.open_rest))
 cut_from (h ∷ hs) stream pending (b ∷ bs) rest same fits cut =
     let parts = same_frame h b (frames hs ++ pending) (frames bs ++ rest) fits.0 cut.each.0
     (sym (append_assoc (frame h) (frames hs) pending) ∙ sym same ∙ cut.whole ∙ append_assoc (frame b) (frames bs) rest) in

@@ -2,14 +2,14 @@
 use Rattle.std.proofs.Common.{◌≡◌, ℕ, ◌+◌, ◌<◌, ◌≤◌, List, ◌++◌, length, take, drop, arith, sym, ap, ◌∙◌, append_assoc, length-take-le}
 use Rattle.std.proofs.lemmas.List.{take-append-drop, length-drop, drop-drop}
 use Rattle.std.specs.Int.{from_be_bytes, to_be_bytes, w32}
-use Rattle.request_codec.specs.Stream.{longest, frame, announced, IsPartial, IsTooLarge}
+use Rattle.request_codec.specs.Stream.{longest, frame, announced, IsPartial, IsTooLong}
 
 announced-header : (bytes header : List ℕ) (n : ℕ) → take 4 bytes ≡ header → n ≡ from_be_bytes w32 header → announced bytes ≡ n
 unfolding announced
 announced-header bytes header n first value = ap (from_be_bytes w32) first ∙ sym value
 
-pub IsTooLarge-from_header : (bytes header : List ℕ) (n : ℕ) → take 4 bytes ≡ header → n ≡ from_be_bytes w32 header → 4 ≤ length bytes → longest < n → IsTooLarge bytes
-IsTooLarge-from_header bytes header n first value long past = record {
+pub IsTooLong-from_header : (bytes header : List ℕ) (n : ℕ) → take 4 bytes ≡ header → n ≡ from_be_bytes w32 header → 4 ≤ length bytes → longest < n → IsTooLong bytes
+IsTooLong-from_header bytes header n first value long past = record {
   whole_length = long;
   past = omega (arith, announced-header bytes header n first value);
 }

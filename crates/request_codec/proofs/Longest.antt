@@ -3,7 +3,7 @@ use Rattle.std.proofs.Common.{◌≡◌, ℕ, ◌+◌, ◌≤◌, List, ◌++◌
 use Rattle.std.specs.Int.{to_be_bytes, w32}
 use Rattle.si_model.specs.Messages.{Reply, Answered, Cleaning, Collecting, Blocked, RawFound, Begun, Pending, Held, Conflict, Drawn, Committed, Finished, RolledForward, SplitOff, Swept}
 use Rattle.request_codec.specs.Fields.{number, field, cell_fields}
-use Rattle.request_codec.specs.Replies.{reply_body, IsWithinLimits}
+use Rattle.request_codec.specs.Replies.{reply_body, HoldsWithinLimits}
 use Rattle.request_codec.specs.Stream.{frame, longest_reply}
 use Rattle.request_codec.proofs.Fields.{length-number, length-field, length-cell}
 
@@ -14,7 +14,7 @@ length-frame body = omega (arith, length-append (to_be_bytes w32 (length body)) 
 length-two : (j k m n : ℕ) → length (number j m ++ number k n) ≡ j + k
 length-two j k m n = omega (arith, length-append (number j m) (number k n), length-number j m, length-number k n)
 
-pub short_body : (reply : Reply) → IsWithinLimits reply → length (reply_body reply) ≤ 65550
+pub short_body : (reply : Reply) → HoldsWithinLimits reply → length (reply_body reply) ≤ 65550
 short_body (Begun n) p = omega (arith, length-number 8 n)
 short_body (Answered None) p = omega arith
 short_body (Answered (Some value)) p = omega (arith, length-field value)

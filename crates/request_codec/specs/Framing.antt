@@ -1,6 +1,6 @@
 -- What a framer hands out of the bytes that it has taken.
 use Rattle.std.specs.Prelude.{◌≡◌, ℕ, ◌+◌, ◌<◌, ◌≤◌, List, ◌++◌, ◌⊎◌, length, take}
-use Rattle.request_codec.specs.Stream.{announced, frame, longest, IsBody, IsPartial, IsTooLarge}
+use Rattle.request_codec.specs.Stream.{announced, frame, longest, IsBody, IsPartial, IsTooLong}
 use Rattle.request_codec.specs.declared.framer.First.{First}
 use Rattle.request_codec.specs.declared.framer.First.TheVariants as first
 use Rattle.request_codec.specs.declared.framer.Next.{Next}
@@ -20,11 +20,11 @@ IsReady bytes =
 abbrev pub HandsOut : Next → List ℕ → List ℕ → Type 0
 HandsOut More bytes left = IsPartial bytes × (left ≡ bytes)
 HandsOut (Frame body) bytes left = IsBody body.now × (bytes ≡ frame body.now ++ left)
-HandsOut TooLarge bytes left = IsTooLarge bytes × (left ≡ bytes)
+HandsOut TooLarge bytes left = IsTooLong bytes × (left ≡ bytes)
 
 -- the same, where the body is the front of a buffer
 abbrev pub IsAtFirst : First → List ℕ → List ℕ → List ℕ → Type 0
 IsAtFirst first.Part buffer bytes left = IsPartial bytes × (left ≡ bytes)
 IsAtFirst (first.Whole len) buffer bytes left =
     (len ≤ longest) × (len ≤ length buffer) × (bytes ≡ frame (take len buffer) ++ left)
-IsAtFirst first.TooLarge buffer bytes left = IsTooLarge bytes × (left ≡ bytes)
+IsAtFirst first.TooLarge buffer bytes left = IsTooLong bytes × (left ≡ bytes)

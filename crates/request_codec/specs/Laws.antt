@@ -3,25 +3,26 @@ use Rattle.std.specs.Prelude.{◌≡◌, ℕ, List, ◌++◌, ◌<◌, ◌≤◌
 use Rattle.std.specs.List.{AllByRecursion}
 use Rattle.si_model.specs.Messages.{Request, Reply, RawFound}
 use Rattle.request_codec.specs.Requests.{IsRequest}
-use Rattle.request_codec.specs.Replies.{reply_body, IsReply, IsWithinLimits}
-use Rattle.request_codec.specs.Stream.{frame, frames, longest_reply, IsBody, IsCut}
+use Rattle.request_codec.specs.Replies.{reply_body, IsReply, HoldsWithinLimits}
+use Rattle.request_codec.specs.Stream.{frame, frames, longest_reply, IsBody, CutsInto}
 
 -- a stream is cut into bodies and a rest in one way
 abbrev pub OneCut : Type 0
 OneCut = (stream : List ℕ) (bodies others : List (List ℕ)) (rest other : List ℕ)
-    → IsCut stream bodies rest → IsCut stream others other → (bodies ≡ others) × (rest ≡ other)
+    → CutsInto stream bodies rest → CutsInto stream others other
+    → (bodies ≡ others) × (rest ≡ other)
 
 -- each stream of bytes has a cut
 abbrev pub HasCut : Type 0
 HasCut = (stream : List ℕ) → ((i : ℕ) → slice_index stream i < 256)
-    → (bodies : List (List ℕ)) × (rest : List ℕ) × IsCut stream bodies rest
+    → (bodies : List (List ℕ)) × (rest : List ℕ) × CutsInto stream bodies rest
 
 -- Whatever frames were handed out of a stream, they are a beginning of its cut, and the cut of what
 -- is left has its other bodies and its rest.
 abbrev pub CutGoesOn : Type 0
 CutGoesOn = (stream pending rest : List ℕ) (handed bodies : List (List ℕ))
-    → stream ≡ frames handed ++ pending → AllByRecursion IsBody handed → IsCut stream bodies rest
-    → (more : List (List ℕ)) × (bodies ≡ handed ++ more) × IsCut pending more rest
+    → stream ≡ frames handed ++ pending → AllByRecursion IsBody handed → CutsInto stream bodies rest
+    → (more : List (List ℕ)) × (bodies ≡ handed ++ more) × CutsInto pending more rest
 
 -- a frame that begins another one is that frame
 abbrev pub NoFrameBeginsAnother : Type 0
@@ -38,7 +39,7 @@ OneReplyABody = (a b : Reply) (body : List ℕ) → IsReply a body → IsReply b
 -- no reply within the limits has a longer frame
 abbrev pub RepliesFit : Type 0
 RepliesFit =
-    (reply : Reply) → IsWithinLimits reply → length (frame (reply_body reply)) ≤ longest_reply
+    (reply : Reply) → HoldsWithinLimits reply → length (frame (reply_body reply)) ≤ longest_reply
 
 -- the reply of a raw read that finds a value of the greatest length has the longest frame
 abbrev pub RawIsLongest : Type 0

@@ -113,11 +113,11 @@ abbrev pub IsNoReply : List ℕ → Type 0
 IsNoReply body = (reply : Reply) → IsReply reply body → ⊥
 
 -- what the reply holds is within the limits of rows, families and values
-abbrev pub IsWithinLimits : Reply → Type 0
-IsWithinLimits (Answered (Some value)) = length value ≤ 65536
-IsWithinLimits (RawFound (Some found)) = length found.1 ≤ 65536
-IsWithinLimits (Blocked cell start) = IsRow cell.row × IsFamily cell.family
-IsWithinLimits other = Unit {0}
+abbrev pub HoldsWithinLimits : Reply → Type 0
+HoldsWithinLimits (Answered (Some value)) = length value ≤ 65536
+HoldsWithinLimits (RawFound (Some found)) = length found.1 ≤ 65536
+HoldsWithinLimits (Blocked cell start) = IsRow cell.row × IsFamily cell.family
+HoldsWithinLimits other = Unit {0}
 
 -- the reply holds bytes, which take memory
 abbrev pub HoldsBytes : Reply → Type 0

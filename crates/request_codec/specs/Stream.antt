@@ -23,7 +23,7 @@ unfoldable pub announced : List ℕ → ℕ
 announced bytes = from_be_bytes w32 (take 4 bytes)
 
 -- its first four bytes give a length past the limit
-pub record IsTooLarge (rest : List ℕ) : Type 0 where
+pub record IsTooLong (rest : List ℕ) : Type 0 where
   pub whole_length : 4 ≤ length rest
   pub past : longest < announced rest
 
@@ -33,14 +33,14 @@ pub record IsPartial (rest : List ℕ) : Type 0 where
   pub short : 4 ≤ length rest → length rest < 4 + announced rest
 
 -- the rest doesn't begin with a whole frame
-pub record IsOpen (rest : List ℕ) : Type 0 where
+pub record BeginsNoFrame (rest : List ℕ) : Type 0 where
   pub short : 4 ≤ length rest → announced rest ≤ longest → length rest < 4 + announced rest
 
 abbrev pub IsBody : List ℕ → Type 0
 IsBody body = length body ≤ longest
 
 -- The stream is the frames of these bodies, and a rest that doesn't begin with one.
-pub record IsCut (stream : List ℕ) (bodies : List (List ℕ)) (rest : List ℕ) : Type 0 where
+pub record CutsInto (stream : List ℕ) (bodies : List (List ℕ)) (rest : List ℕ) : Type 0 where
   pub whole : stream ≡ frames bodies ++ rest
   pub each : AllByRecursion IsBody bodies
-  pub open_rest : IsOpen rest
+  pub open_rest : BeginsNoFrame rest

@@ -16,7 +16,7 @@ use Rattle.tablet.specs.Views.{UsesName, memory_of, names_of, range_of}
 use Rattle.tablet.specs.declared.ranges.RowRange.{RowRange}
 use Rattle.tablet.specs.declared.tablet.Tablet.{Tablet}
 use Rattle.row_atomic.specs.Clusters.{HasTabletAt, Overfills, edits_in, tablet_numbered}
-use Rattle.row_atomic.specs.Changes.{ComesOfWriting, IsFull, Numbered, OfHolder}
+use Rattle.row_atomic.specs.Changes.{ComesOfWriting, IsFullTablet, Numbered, OfHolder}
 use Rattle.row_atomic.proofs.ChangedTablets.{numbered_at}
 use Rattle.row_atomic.proofs.SplitClusters.{one_holder}
 
@@ -38,14 +38,14 @@ minor_fits limit t least fits = go (memory_of t) fits
     go [] h = empty_fits limit least
     go (e ∷ es) h = h (not_empty e es)
 
-pub has_room : (t : Tablet) → (memory_of t ≢ [] → length (names_of t) < 64) → ¬ IsFull t
+pub has_room : (t : Tablet) → (memory_of t ≢ [] → length (names_of t) < 64) → ¬ IsFullTablet t
 has_room t room full =
     let less = room full.memory in
     let many = full.files in
     absurd (omega arith)
 
 -- a full tablet is told nothing that comes of writing
-pub not_full_written : {A : Type 0} (r : Result A Refusal) (t : Tablet) → (memory_of t ≢ [] → 64 ≤ length (names_of t) → IsErrOf r TooManyFiles) → IfErr r (λ refusal. ComesOfWriting refusal → ¬ IsFull t)
+pub not_full_written : {A : Type 0} (r : Result A Refusal) (t : Tablet) → (memory_of t ≢ [] → 64 ≤ length (names_of t) → IsErrOf r TooManyFiles) → IfErr r (λ refusal. ComesOfWriting refusal → ¬ IsFullTablet t)
 not_full_written (Ok x) t told = tt
 not_full_written (Err e) t told = λ of full. subst ComesOfWriting (which (told full.memory full.files)) of
   where

@@ -8,14 +8,14 @@ use Rattle.std.specs.BTreeMap.{BTreeMap}
 use Rattle.std.specs.BTreeMap.Range.{IsInRange, IsRangeOf}
 use Rattle.cell_key.specs.Keys.{key_cmp, key_cmp_total}
 use Rattle.cell_key.specs.declared.keys.CellKey.{CellKey}
-use Rattle.row_atomic.specs.Slots.{cells_of, content, slot_at, IsFirst}
+use Rattle.row_atomic.specs.Slots.{slot_cells, content, slot_at, IsFirstKey}
 use Rattle.row_atomic.proofs.SlotLemmas.{get_cells, clash}
 
 module _ {Z : Type 0} (m : BTreeMap CellKey (Option (Vec ℕ Z))) (lo hi : Bound CellKey) where
-  pub first_none : IsRangeOf key_cmp lo hi m [] → IsFirst (cells_of m.entries) lo hi None
+  pub first_none : IsRangeOf key_cmp lo hi m [] → IsFirstKey (slot_cells m.entries) lo hi None
   first_none range key inside = get_cells m.entries key ∙ ap content (range.5 refl key inside)
 
-  pub first_some : (key : CellKey) (value : Vec ℕ Z) (rest : List (CellKey × Option (Vec ℕ Z))) → IsRangeOf key_cmp lo hi m ((key, Some value) ∷ rest) → IsFirst (cells_of m.entries) lo hi (Some (key, value.items))
+  pub first_some : (key : CellKey) (value : Vec ℕ Z) (rest : List (CellKey × Option (Vec ℕ Z))) → IsRangeOf key_cmp lo hi m ((key, Some value) ∷ rest) → IsFirstKey (slot_cells m.entries) lo hi (Some (key, value.items))
   first_some key value rest range = (
     range.1.0,
     get_cells m.entries key ∙ ap content range.1.1,

@@ -6,7 +6,7 @@ use Rattle.std.specs.List.{AllByRecursion, Contains, list_any}
 use Rattle.cell_key.specs.Cells.{Cells}
 use Rattle.file_store.specs.Store.{Contents, KeepsOthers}
 use Rattle.metadata_table.specs.Places.{PlaceView}
-use Rattle.metadata_table.specs.Roots.{AreFiles, IsSound, RootView}
+use Rattle.metadata_table.specs.Roots.{AreFiles, IsSoundRoot, RootView}
 use Rattle.metadata_table.specs.Table.{IsListed, IsTable}
 use Rattle.tablet.specs.Laws.{UnnamedMayGo}
 use Rattle.tablet.specs.Views.{Holds as HoldsAt, UsesName, cells_at, names_of}
@@ -110,7 +110,7 @@ others_told places m next (Some n) others from below = (
     other_name : (name k : ℕ) → name < k → name ≢ k
     other_name name k h e = absurd (omega arith)
 
-used_told : (root : RootView) (m : Contents) (next after : ℕ) (told : Option Contents) → IsSound root → root.next_name ≤ next → UsesName (Some m) next told after → StillTells root.places m told × (root.next_name ≤ after)
+used_told : (root : RootView) (m : Contents) (next after : ℕ) (told : Option Contents) → IsSoundRoot root → root.next_name ≤ next → UsesName (Some m) next told after → StillTells root.places m told × (root.next_name ≤ after)
 used_told root m next after told sound below (inl same) = (same_told root.places m told same.1, (let stays = same.0 in omega arith))
 used_told root m next after told sound below (inr used) = (
   others_told root.places m next told used.1 (let from = sound.naming.from in omega arith) (λ name l. let is = (listed_below root.next_name root.places sound.naming.files name l).1 in omega arith),

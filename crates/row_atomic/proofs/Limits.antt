@@ -12,16 +12,16 @@ use Rattle.cell_key.specs.declared.keys.Qualifier.{Qualifier}
 use Rattle.cell_key.specs.declared.edits.Edit.{Edit}
 use Rattle.cell_key.specs.declared.edits.Edit.TheVariants.{Put, Erase}
 use Rattle.cell_key.specs.Versions.{IsVersion, IsVersionIn, HasLimits}
-use Rattle.row_atomic.specs.Slots.{IsKept}
+use Rattle.row_atomic.specs.Slots.{AreKept}
 use Rattle.row_atomic.proofs.SlotLemmas.{same_at, not_empty}
 
 nothing : {A : Type 0} (x : A) (o : Option A) → o ≡ None → o ≡ Some x → ⊥
 nothing x o n e = cc
 
 -- no slots at all
-pub kept_none : {Z : Type 0} (slots : List (CellKey × Option (Vec ℕ Z))) → slots ≡ [] → IsKept slots
+pub kept_none : {Z : Type 0} (slots : List (CellKey × Option (Vec ℕ Z))) → slots ≡ [] → AreKept slots
 kept_none {Z} slots e =
-    subst (λ (es : List (CellKey × Option (Vec ℕ Z))). IsKept es) (sym e)
+    subst (λ (es : List (CellKey × Option (Vec ℕ Z))). AreKept es) (sym e)
     (record {
       full = λ key h. not_empty None refl h;
       limits = λ key value h. absurd (nothing value (get empty key) (get-empty key_cmp key) h);

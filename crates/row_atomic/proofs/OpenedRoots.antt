@@ -6,7 +6,7 @@ use Rattle.std.specs.List.{AllByRecursion}
 use Rattle.cell_key.specs.Cells.{Cells}
 use Rattle.file_store.specs.Store.{Contents}
 use Rattle.metadata_table.specs.Places.{PlaceView}
-use Rattle.metadata_table.specs.Roots.{AreFiles, IsNoRoot, IsRoot, IsSound, OneRoot, RootView}
+use Rattle.metadata_table.specs.Roots.{AreFiles, IsNoRoot, IsRoot, IsSoundRoot, OneRoot, RootView}
 use Rattle.metadata_table.specs.Table.{IsTable}
 use Rattle.sorted_file.specs.Opened.{HasFile}
 use Rattle.tablet.specs.Laws.{FilesAreThere, SameCells}
@@ -130,7 +130,7 @@ below_all next ts before (p ∷ ps) placed files = (
   below_all next ts p.end ps placed.1 files.1,
 )
 
-module _ {F : Type 0} (contents : F → Option Contents) (top floor : ℕ) (state : ClusterState F) (sound : IsSound (root_at top floor state)) (loaded : AreLoaded state.places state.tablets) where
+module _ {F : Type 0} (contents : F → Option Contents) (top floor : ℕ) (state : ClusterState F) (sound : IsSoundRoot (root_at top floor state)) (loaded : AreLoaded state.places state.tablets) where
   each_below : AllByRecursion (IsBelow state.next_name) state.tablets
   each_below = each_of (IsBelow state.next_name) state.tablets (λ j t e.
       let found = each_placed (λ p. (u : Tablet) × ((tablet_numbered p.tablet state.tablets ≡ Some u) × IsBelow state.next_name u)) state.tablets state.places sound.table loaded.as_many (below_all state.next_name state.tablets None state.places loaded.placed sound.naming.files) j t e in
@@ -193,7 +193,7 @@ module _ {F : Type 0} (contents : F → Option Contents) (one : OneRoot) (law : 
     abbrev state : ClusterState F
     state = record { files = last; file_limit = limit; next_name = next; places = places; tablets = tablets }
 
-    module _ (sound : IsSound view) (loaded : AreLoaded places tablets) (finds : IfSome (contents first) (λ m. FindsRoot (get m root_name) (Some view))) (each : IfSome (contents mid) (λ m. AllByRecursion (HoldsAt m) tablets)) where
+    module _ (sound : IsSoundRoot view) (loaded : AreLoaded places tablets) (finds : IfSome (contents first) (λ m. FindsRoot (get m root_name) (Some view))) (each : IfSome (contents mid) (λ m. AllByRecursion (HoldsAt m) tablets)) where
       each_first : IfSome (contents first) (λ m. AllByRecursion (HoldsAt m) tablets)
       each_first = subst (λ (told : Option Contents). IfSome told (λ m. AllByRecursion (HoldsAt m) tablets)) read each
 

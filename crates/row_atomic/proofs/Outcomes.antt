@@ -13,9 +13,9 @@ use Rattle.metadata_table.specs.Table.{BarsSplit, HasTablet, IsHolder, IsNumbere
 use Rattle.sorted_file.specs.Sources.{IsReadRefusal as IsFileRefusal}
 use Rattle.tablet.specs.Views.{UsesName}
 use Rattle.tablet.specs.declared.tablet.Tablet.{Tablet}
-use Rattle.row_atomic.specs.Changes.{Holds, IsAsBefore, IsCompacted, IsCut, IsEmptied, IsFlushed, IsFull, IsHalved, IsMoveRefusal, IsMoved, IsNumberedRefusal, IsOn, IsRefusalOf, IsSplitRefusal, IsUndone, KeepsMap, ListsAll, MayBeFlushed, MayHolderBeFlushed, MeetsBadCount, MeetsFull, Numbered, OfHolder, Remakes, WritesNone}
+use Rattle.row_atomic.specs.Changes.{Holds, IsAsBefore, IsCompacted, IsCut, IsEmptied, IsFlushed, IsFullTablet, IsHalved, IsMoveRefusal, IsMoved, IsNumberedRefusal, IsOn, IsRefusalOf, IsSplitRefusal, IsUndone, KeepsMap, ListsAll, MayBeFlushed, MayHolderBeFlushed, MeetsBadCount, MeetsFull, Numbered, OfHolder, Remakes, WritesNone}
 use Rattle.row_atomic.specs.Clusters.{ClusterState, spots_of, storage_of}
-use Rattle.row_atomic.specs.Commands.{Answers, BarsCompaction, HasCause, IsNoFuller, IsOutcome, LeavesRoom, MayCompact, OverfillsCluster, TellsFaults, Upholds, UsesFiles, cells_shown, compacting, done_of, split_of, swept_of}
+use Rattle.row_atomic.specs.Commands.{AnswersFromCells, BarsCompaction, HasCause, IsNoFuller, IsOutcome, LeavesRoom, MayCompact, OverfillsCluster, TellsFaults, Upholds, UsesFiles, cells_shown, compacting, done_of, split_of, swept_of}
 use Rattle.row_atomic.specs.Refusals.{IsApplyRefusal, IsReadRefusal}
 use Rattle.row_atomic.specs.Sweeps.{MayLackUnkept, count_swept, swept}
 use Rattle.tablet.specs.declared.compactions.Compaction.{Compaction}
@@ -45,7 +45,7 @@ pub known_refusal : (compaction : Compaction) (e : Refusal) → IsRefusalOf comp
 known_refusal compaction e refusal is = not_unknown compaction (subst (IsRefusalOf compaction) is refusal)
 
 -- only what flushes a tablet is refused for its files
-pub full_meets : {n : ℕ} {ts : List Tablet} (compaction : Compaction) (e : Refusal) → IsRefusalOf compaction e → (e ≡ TooManyFiles → Numbered IsFull n ts) → e ≡ TooManyFiles → Numbered (MeetsFull compaction) n ts
+pub full_meets : {n : ℕ} {ts : List Tablet} (compaction : Compaction) (e : Refusal) → IsRefusalOf compaction e → (e ≡ TooManyFiles → Numbered IsFullTablet n ts) → e ≡ TooManyFiles → Numbered (MeetsFull compaction) n ts
 full_meets compactions.Minor e refusal full is = full is
 full_meets (compactions.Merge count) e refusal full is = absurd (subst (IsRefusalOf (compactions.Merge count)) is refusal)
 full_meets compactions.Major e refusal full is = absurd (subst (IsRefusalOf compactions.Major) is refusal)
@@ -328,7 +328,7 @@ module _ {F : Type 0} (contents : F → Option Contents) (count : F → ℕ) (ro
             due = record {
               bad = ((λ is. absurd (flush_bad (subst (IsNumberedRefusal compactions.Minor) is flush.upholds.0))), λ bars. absurd (free bars));
               full = λ is. record { place = p; holder = holder; tablet = due.full is };
-              unfilled = λ of. holder_not IsFull row old.places old.tablets p holder (due.unfilled of);
+              unfilled = λ of. holder_not IsFullTablet row old.places old.tablets p holder (due.unfilled of);
               exhausted = λ is. let none_left = due.exhausted is in (none_left.0, holder_not IsEmptied row old.places old.tablets p holder none_left.1);
               large = λ is. record { place = p; holder = holder; tablet = due.large is };
             };
@@ -354,7 +354,7 @@ module _ {F : Type 0} (contents : F → Option Contents) (count : F → ℕ) (ro
       room = tt;
       cause = record {
         free = free;
-        room = holder_not IsFull row old.places old.tablets p holder flush.cause.room;
+        room = holder_not IsFullTablet row old.places old.tablets p holder flush.cause.room;
         named = λ most. record { place = p; holder = holder; tablet = flush.cause.named most };
         fits = record { place = p; holder = holder; tablet = flush.cause.fits };
       };
@@ -371,7 +371,7 @@ module _ {F : Type 0} (contents : F → Option Contents) (count : F → ℕ) (ro
         due = record {
           bad = ((λ is. absurd (read_not_bad (subst IsFileRefusal is refusal))), λ bars. absurd (free bars));
           full = λ is. absurd (read_not_many (subst IsFileRefusal is refusal));
-          unfilled = λ of. holder_not IsFull row old.places old.tablets p holder flush.cause.room;
+          unfilled = λ of. holder_not IsFullTablet row old.places old.tablets p holder flush.cause.room;
           exhausted = λ is. absurd (read_not_out (subst IsFileRefusal is refusal));
           large = λ is. absurd (read_not_large (subst IsFileRefusal is refusal));
         };
@@ -575,7 +575,7 @@ tells_read count r x result old new is not later told = record { later = later; 
 
 module _ {F : Type 0} (contents : F → Option Contents) (count : F → ℕ) where
   pub read_refused : {A : Type 0} (command : Command) (r : Result A Refusal) (e : Refusal) (old new : ClusterState F) → r ≡ Err e → (Holds contents old → Holds contents new)
-      → (Holds contents old → Answers (cells_shown contents old) command (Refused e) (cells_shown contents new)) → Upholds contents command (Refused e) old new → UsesFiles contents command old new → storage_of contents new ≡ storage_of contents old
+      → (Holds contents old → AnswersFromCells (cells_shown contents old) command (Refused e) (cells_shown contents new)) → Upholds contents command (Refused e) old new → UsesFiles contents command old new → storage_of contents new ≡ storage_of contents old
       → LeavesRoom command (Refused e) old new → (¬ (e ≡ TooManyFiles) → HasCause contents command (Refused e) old new) → IsReadRefusal e
       → count old.files ≤ count new.files → (IsErrOf r Device → HasRisen (count old.files) (count new.files)) → (¬ IsErrOf r Device → count new.files ≡ count old.files)
       → IsOutcome contents count command (Refused e) old new

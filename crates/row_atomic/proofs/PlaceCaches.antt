@@ -11,7 +11,7 @@ use Rattle.metadata_table.specs.Places.{PlaceView}
 use Rattle.metadata_table.specs.Table.{IsNumbered, IsTable, naming, with_files}
 use Rattle.tablet.specs.declared.tablet.Tablet.{Tablet}
 use Rattle.row_atomic.specs.Clusters.{ArePlaced, HasTabletAt}
-use Rattle.row_atomic.specs.PlaceCaches.{AddsOnly, AreHeld, IsFirst, IsHeldBy, hits_after, is_key_of, number_kept}
+use Rattle.row_atomic.specs.PlaceCaches.{AddsOnly, AreHeld, IsLocatedLast, IsHeldBy, is_key_of, number_kept}
 use Rattle.row_atomic.proofs.RowAnswers.{holder_index}
 use Rattle.row_atomic.proofs.Parts.{at_parts}
 use Rattle.row_atomic.proofs.SplitClusters.{holder_listed, same_tablet}
@@ -40,13 +40,13 @@ module _ {K V : Type 0} (test : K → Bool) where
 first_test : {Z : Type 0} (row : List ℕ) (key : Vec ℕ Z) → key.items ≡ row → is_key_of row key ≡ true
 first_test row key same = (bytes_decides row key.items).1 (sym same)
 
-pub first_number : {Z : Type 0} (row : List ℕ) (kept : List (Vec ℕ Z × ℕ)) (n : ℕ) → IsFirst row kept n → Some n ≡ number_kept row kept
+pub first_number : {Z : Type 0} (row : List ℕ) (kept : List (Vec ℕ Z × ℕ)) (n : ℕ) → IsLocatedLast row kept n → Some n ≡ number_kept row kept
 first_number row [] n is = let none = is.1 in cc
 first_number row (e ∷ es) n is =
     let same : e ≡ (is.0, n) = let some = is.1 in cc in
     sym (ap (λ (b : Bool). cond b (Some e.1) (lookup (is_key_of row) es)) (ap (is_key_of row) (ap (λ p. p.0) same) ∙ first_test row is.0 is.2) ∙ ap (λ p. Some p.1) same)
 
-pub first_stays : {Z : Type 0} (row : List ℕ) (kept : List (Vec ℕ Z × ℕ)) (n : ℕ) → IsFirst row kept n → kept ≡ promoted (is_key_of row) kept
+pub first_stays : {Z : Type 0} (row : List ℕ) (kept : List (Vec ℕ Z × ℕ)) (n : ℕ) → IsLocatedLast row kept n → kept ≡ promoted (is_key_of row) kept
 first_stays row [] n is = let none = is.1 in cc
 first_stays {Z} row (e ∷ es) n is =
     let same : e ≡ (is.0, n) = let some = is.1 in cc in
@@ -120,9 +120,3 @@ at_kept places ts row i placed held =
     let number = held.number in
     let index : held.place.tablet - 1 ≡ i = omega arith in
     subst (HasTabletAt places ts row) index (holder_index places ts row held.place placed held.holder).at
-
--- ---- hits
-
-pub one_hit : (found : Option ℕ) (hits : ℕ) → is_some found ≡ true → hits_after found hits ≡ min (hits + 1) (2 ^ 64 - 1)
-one_hit None hits there = cc
-one_hit (Some n) hits there = refl

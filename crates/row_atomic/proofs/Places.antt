@@ -14,7 +14,7 @@ use Rattle.cell_key.specs.declared.keys.CellKey.{CellKey}
 use Rattle.cell_key.specs.declared.keys.Qualifier.{Qualifier}
 use Rattle.cell_key.specs.declared.keys.Qualifier.TheVariants.{Data, Lock, Write}
 use Rattle.cell_key.specs.Places.{Place, place_of, place_cmp, IsAfter, IsNextCell}
-use Rattle.row_atomic.specs.Slots.{IsFirst, past}
+use Rattle.row_atomic.specs.Slots.{IsFirstKey, past}
 
 place_cmp_total : IsTotalOrder place_cmp
 place_cmp_total = then_total (on_total (λ (p : Place). p.0) nat_list_cmp_total) (on_total (λ (p : Place). p.1) nat_list_cmp_total)
@@ -72,12 +72,12 @@ no_value None e h = cc
 no_value (Some x) e h = cc
 
 module _ (cells : Cells) (after : Option Place) where
-  pub next_none : IsFirst cells (past after) Unbounded None → IsNextCell cells after None
+  pub next_none : IsFirstKey cells (past after) Unbounded None → IsNextCell cells after None
   next_none first place behind cell =
       let at : IsAfter after (place_of cell.key) = subst (λ (p : Place). IsAfter after p) (sym cell.at) behind in
       no_value (get cells cell.key) (first cell.key (past_from_after after cell.key at, tt)) cell.some
 
-  pub next_some : (key : CellKey) (value : List ℕ) → IsFirst cells (past after) Unbounded (Some (key, value)) → IsNextCell cells after (Some (place_of key))
+  pub next_some : (key : CellKey) (value : List ℕ) → IsFirstKey cells (past after) Unbounded (Some (key, value)) → IsNextCell cells after (Some (place_of key))
   next_some key value first = (
     after_from_past after key first.0.0,
     record { key = key; at = refl; some = subst (λ (o : Option (List ℕ)). IsSome o) (sym first.1) refl },

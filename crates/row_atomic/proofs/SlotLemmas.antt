@@ -11,21 +11,21 @@ use Rattle.cell_key.specs.Keys.{key_cmp, key_cmp_total, exact_keys}
 use Rattle.cell_key.specs.Cells.{Cells, edited_key}
 use Rattle.cell_key.specs.declared.keys.CellKey.{CellKey}
 use Rattle.cell_key.specs.declared.edits.Edit.{Edit}
-use Rattle.row_atomic.specs.Slots.{cells_of, content, slot_at, HasSlot, HasEdited, KeepsSlots, EmptiesNone, IsFull, IsFullBut}
+use Rattle.row_atomic.specs.Slots.{slot_cells, content, slot_at, HasSlot, HasEdited, KeepsSlots, EmptiesNone, AreFilled, IsFullBut}
 
 content-cond : {Z : Type 0} (b : Bool) (w r : Option (Option (Vec ℕ Z))) → content (cond b w r) ≡ cond b (content w) (content r)
 content-cond true w r = refl
 content-cond false w r = refl
 
 -- a cell is what its slot holds
-pub get_cells : {Z : Type 0} (slots : List (CellKey × Option (Vec ℕ Z))) (q : CellKey) → get (cells_of slots) q ≡ content (slot_at slots q)
+pub get_cells : {Z : Type 0} (slots : List (CellKey × Option (Vec ℕ Z))) (q : CellKey) → get (slot_cells slots) q ≡ content (slot_at slots q)
 get_cells [] q = get-empty key_cmp q
 get_cells ((key, None) ∷ slots) q =
-    get-remove key_cmp_total (cells_of slots) key q
+    get-remove key_cmp_total (slot_cells slots) key q
     ∙ ap (cond (eq_by_cmp key_cmp q key) None) (get_cells slots q)
     ∙ sym (content-cond (eq_by_cmp key_cmp q key) (Some None) (slot_at slots q))
 get_cells ((key, Some value) ∷ slots) q =
-    get-insert key_cmp_total (cells_of slots) key value.items q
+    get-insert key_cmp_total (slot_cells slots) key value.items q
     ∙ ap (cond (eq_by_cmp key_cmp q key) (Some value.items)) (get_cells slots q)
     ∙ sym (content-cond (eq_by_cmp key_cmp q key) (Some (Some value)) (slot_at slots q))
 
@@ -43,20 +43,20 @@ same_at k q e = exact_keys k q (tied (key_cmp k q) e)
 
 module _ {Z : Type 0} (old new : List (CellKey × Option (Vec ℕ Z))) (k : CellKey) where
   -- the slots after one of them is set or goes
-  at_all : (w : Option (Option (Vec ℕ Z))) → ((q : CellKey) → slot_at new q ≡ cond (eq_by_cmp key_cmp k q) w (slot_at old q)) → (q : CellKey) → get (cells_of new) q ≡ cond (eq_by_cmp key_cmp q k) (content w) (get (cells_of old) q)
+  at_all : (w : Option (Option (Vec ℕ Z))) → ((q : CellKey) → slot_at new q ≡ cond (eq_by_cmp key_cmp k q) w (slot_at old q)) → (q : CellKey) → get (slot_cells new) q ≡ cond (eq_by_cmp key_cmp q k) (content w) (get (slot_cells old) q)
   at_all w h q =
       get_cells new q ∙ ap content (h q) ∙ content-cond (eq_by_cmp key_cmp k q) w (slot_at old q)
       ∙ ap (λ (b : Bool). cond b (content w) (content (slot_at old q))) (turned k q)
       ∙ ap (cond (eq_by_cmp key_cmp q k) (content w)) (sym (get_cells old q))
 
-  pub cells_after_fill : (v : Vec ℕ Z) → ((q : CellKey) → slot_at new q ≡ cond (eq_by_cmp key_cmp k q) (Some (Some v)) (slot_at old q)) → cells_of new ≡ insert (cells_of old) k v.items
-  cells_after_fill v h = same_map key_cmp_total exact_keys (cells_of new) (insert (cells_of old) k v.items) (λ q. at_all (Some (Some v)) h q ∙ sym (get-insert key_cmp_total (cells_of old) k v.items q))
+  pub cells_after_fill : (v : Vec ℕ Z) → ((q : CellKey) → slot_at new q ≡ cond (eq_by_cmp key_cmp k q) (Some (Some v)) (slot_at old q)) → slot_cells new ≡ insert (slot_cells old) k v.items
+  cells_after_fill v h = same_map key_cmp_total exact_keys (slot_cells new) (insert (slot_cells old) k v.items) (λ q. at_all (Some (Some v)) h q ∙ sym (get-insert key_cmp_total (slot_cells old) k v.items q))
 
   -- an empty slot is no cell, and neither is none
-  pub cells_after_none : (w : Option (Option (Vec ℕ Z))) → content w ≡ None → ((q : CellKey) → slot_at new q ≡ cond (eq_by_cmp key_cmp k q) w (slot_at old q)) → cells_of new ≡ remove (cells_of old) k
+  pub cells_after_none : (w : Option (Option (Vec ℕ Z))) → content w ≡ None → ((q : CellKey) → slot_at new q ≡ cond (eq_by_cmp key_cmp k q) w (slot_at old q)) → slot_cells new ≡ remove (slot_cells old) k
   cells_after_none w none h =
-      same_map key_cmp_total exact_keys (cells_of new) (remove (cells_of old) k)
-      (λ q. at_all w h q ∙ ap (λ (o : Option (List ℕ)). cond (eq_by_cmp key_cmp q k) o (get (cells_of old) q)) none ∙ sym (get-remove key_cmp_total (cells_of old) k q))
+      same_map key_cmp_total exact_keys (slot_cells new) (remove (slot_cells old) k)
+      (λ q. at_all w h q ∙ ap (λ (o : Option (List ℕ)). cond (eq_by_cmp key_cmp q k) o (get (slot_cells old) q)) none ∙ sym (get-remove key_cmp_total (slot_cells old) k q))
 
 pub absent_none : {X : Type 0} (o : Option X) → is_some o ≡ false → o ≡ None
 absent_none None e = refl
@@ -71,8 +71,8 @@ remove_absent cells k none = same_map key_cmp_total exact_keys (remove cells k) 
     go q false e = refl
 
 -- where there was no cell, a slot that is empty or goes changes none
-pub cells_same : {Z : Type 0} (old new : List (CellKey × Option (Vec ℕ Z))) (k : CellKey) (w : Option (Option (Vec ℕ Z))) → content w ≡ None → content (slot_at old k) ≡ None → ((q : CellKey) → slot_at new q ≡ cond (eq_by_cmp key_cmp k q) w (slot_at old q)) → cells_of new ≡ cells_of old
-cells_same old new k w none before h = cells_after_none old new k w none h ∙ remove_absent (cells_of old) k (get_cells old k ∙ before)
+pub cells_same : {Z : Type 0} (old new : List (CellKey × Option (Vec ℕ Z))) (k : CellKey) (w : Option (Option (Vec ℕ Z))) → content w ≡ None → content (slot_at old k) ≡ None → ((q : CellKey) → slot_at new q ≡ cond (eq_by_cmp key_cmp k q) w (slot_at old q)) → slot_cells new ≡ slot_cells old
+cells_same old new k w none before h = cells_after_none old new k w none h ∙ remove_absent (slot_cells old) k (get_cells old k ∙ before)
 
 -- at other keys a slot that is set says nothing
 pub elsewhere : {X : Type 0} (old new : List (CellKey × X)) (k : CellKey) (w : Option X) → ((q : CellKey) → slot_at new q ≡ cond (eq_by_cmp key_cmp k q) w (slot_at old q)) → (q : CellKey) → k ≢ q → slot_at new q ≡ slot_at old q
@@ -145,10 +145,10 @@ ready slots keys edits e all = edits_have_slots slots edits (subst (λ (ks : Lis
 
 module _ {X : Type 0} (old made : List (CellKey × Option X)) (keys : List CellKey) where
   -- only the keys got empty slots
-  pub but_made : IsFull old → EmptiesNone (λ q. All (λ key. key ≢ q) keys) old made → IsFullBut keys made
+  pub but_made : AreFilled old → EmptiesNone (λ q. All (λ key. key ≢ q) keys) old made → IsFullBut keys made
   but_made full empties q others empty = full q (empties q (by_place (λ key. key ≢ q) keys others) empty)
 
   -- and only they have them once the edits are made
-  pub but_written : (new : List (CellKey × Option X)) (edits : List Edit) → keys ≡ map edited_key edits → IsFull old → EmptiesNone (λ q. All (λ key. key ≢ q) keys) old made → EmptiesNone (λ q. AllByRecursion (λ edit. edited_key edit ≢ q) edits) made new → IsFullBut keys new
+  pub but_written : (new : List (CellKey × Option X)) (edits : List Edit) → keys ≡ map edited_key edits → AreFilled old → EmptiesNone (λ q. All (λ key. key ≢ q) keys) old made → EmptiesNone (λ q. AllByRecursion (λ edit. edited_key edit ≢ q) edits) made new → IsFullBut keys new
   but_written new edits e full empties later q others empty =
       but_made full empties q others (later q (keys_differ q edits (subst (λ (ks : List CellKey). AllByRecursion (λ key. key ≢ q) ks) e others)) empty)

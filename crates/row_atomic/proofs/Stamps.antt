@@ -12,7 +12,7 @@ use Rattle.cell_key.specs.Keys.{byte_cmp, key_cmp, exact_qualifiers, same_key, q
 use Rattle.cell_key.specs.Cells.{Cells, IsNewest, version}
 use Rattle.cell_key.specs.declared.keys.CellKey.{CellKey}
 use Rattle.cell_key.specs.declared.keys.Qualifier.{Qualifier}
-use Rattle.row_atomic.specs.Slots.{IsFirst}
+use Rattle.row_atomic.specs.Slots.{IsFirstKey}
 
 -- what is neither above the first nor below the second, where both begin with the same part
 both_level : (r u v : Ordering) → is_gt (ordering_then r u) ≡ false → is_gt (ordering_then (ordering_reverse r) v) ≡ false → (r ≡ Equal) × (is_gt u ≡ false) × (is_gt v ≡ false)
@@ -75,10 +75,10 @@ module _ (row family : List ℕ) (qualifier : Qualifier) (lo hi : ℕ) where
   pub versions_fall : lo ≤ hi → IsLeBy key_cmp (at hi) (at lo)
   versions_fall h = ap is_gt (same_column hi lo) ∙ no_more lo hi h
 
-  pub newest_none : (cells : Cells) → IsFirst cells (Included (at hi)) (Included (at lo)) None → IsNewest cells at lo hi None
+  pub newest_none : (cells : Cells) → IsFirstKey cells (Included (at hi)) (Included (at lo)) None → IsNewest cells at lo hi None
   newest_none cells first s a b = first (at s) (inside_at s a b)
 
-  pub newest_some : (cells : Cells) (key : CellKey) (value : List ℕ) → IsFirst cells (Included (at hi)) (Included (at lo)) (Some (key, value)) → IsNewest cells at lo hi (Some (key.stamp, value))
+  pub newest_some : (cells : Cells) (key : CellKey) (value : List ℕ) → IsFirstKey cells (Included (at hi)) (Included (at lo)) (Some (key, value)) → IsNewest cells at lo hi (Some (key.stamp, value))
   newest_some cells key value first =
       let inside = between key first.0 in
       let before : (s : ℕ) → key.stamp < s → key_cmp (at s) key ≡ Less = λ s a. ap (key_cmp (at s)) inside.same ∙ same_column s key.stamp ∙ sym (nat_cmp_is key.stamp s Less a) in (

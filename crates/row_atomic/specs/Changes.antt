@@ -93,14 +93,14 @@ pub record IsMerged (count next : ℕ) (t u : Tablet) : Type 0 where
   pub names : names_of u ≡ next ∷ drop count (names_of t)
 
 -- the memtable and all files became one file
-pub record IsWhole (next : ℕ) (t u : Tablet) : Type 0 where
+pub record IsOneFile (next : ℕ) (t u : Tablet) : Type 0 where
   pub memory : memory_of u ≡ []
   pub names : names_of u ≡ next ∷ []
 
 abbrev pub IsMade : Compaction → ℕ → Tablet → Tablet → Type 0
 IsMade Minor next t u = IsFlushed next t u
 IsMade (Merge count) next t u = IsMerged count next t u
-IsMade Major next t u = IsWhole next t u
+IsMade Major next t u = IsOneFile next t u
 
 -- an entry has a value
 abbrev pub HasValue : Entry → Type 0
@@ -142,9 +142,9 @@ IsTooLarge limit told compaction t =
     IfSome told (λ m. HoldsAt m t → ¬ FitsIn limit (written_by compaction m t))
 
 -- or it has as many at most
-abbrev pub Fits : ℕ → Option Contents → Compaction → Tablet → Type 0
-Fits limit told Minor t = FitsIn limit (seen (range_of t) (memory_of t))
-Fits limit told compaction t =
+abbrev pub FitsLimit : ℕ → Option Contents → Compaction → Tablet → Type 0
+FitsLimit limit told Minor t = FitsIn limit (seen (range_of t) (memory_of t))
+FitsLimit limit told compaction t =
     IfSome told (λ m. HoldsAt m t → FitsIn limit (written_by compaction m t))
 
 -- this many files can't be merged
@@ -156,12 +156,12 @@ MeetsBadCount (Merge count) t = IsBadCount count t
 MeetsBadCount _ t = ⊥
 
 -- there are as many files as there may be, and one more would come
-pub record IsFull (t : Tablet) : Type 0 where
+pub record IsFullTablet (t : Tablet) : Type 0 where
   pub memory : memory_of t ≢ []
   pub files : 64 ≤ length (names_of t)
 
 abbrev pub MeetsFull : Compaction → Tablet → Type 0
-MeetsFull Minor t = IsFull t
+MeetsFull Minor t = IsFullTablet t
 MeetsFull _ t = ⊥
 
 -- a refusal that comes of writing a file: a full tablet is told that it is full instead
@@ -248,14 +248,15 @@ abbrev pub IsOn : ℕ → ℕ → List PlaceView → Type 0
 IsOn n server places = (p : PlaceView) × Contains places p × (p.tablet ≡ n) × (p.server ≡ server)
 
 -- a tablet that was on another server was flushed and put on this one
-pub record IsPut {F : Type 0} (n server : ℕ) (old new : ClusterState F) : Type 0 where
+pub record IsFlushedAndPut {F : Type 0} (n server : ℕ) (old new : ClusterState F) : Type 0 where
   pub elsewhere : ¬ IsOn n server old.places
   pub moved : IsMoved n server old.places new.places
   pub flushed : Remakes (IsFlushed old.next_name) n old.tablets new.tablets
 
 -- a tablet that is on the server stays so, and nothing is done; any other is put there
 abbrev pub ComesTo : {F : Type 0} → ℕ → ℕ → ClusterState F → ClusterState F → Type 0
-ComesTo n server old new = (IsOn n server old.places × (new ≡ old)) ⊎ IsPut n server old new
+ComesTo n server old new =
+    (IsOn n server old.places × (new ≡ old)) ⊎ IsFlushedAndPut n server old new
 
 abbrev pub IsSplitRefusal : Refusal → Type 0
 IsSplitRefusal refused.BadSplit = ⊤

@@ -12,7 +12,7 @@ use Rattle.cell_key.specs.declared.refusals.Refusal.TheVariants as refused
 use Rattle.file_store.specs.Store.{Contents}
 use Rattle.metadata_table.specs.Table.{BarsSplit, HasTablet, most_servers}
 use Rattle.tablet.specs.Views.{UsesName}
-use Rattle.row_atomic.specs.Changes.{ComesOfWriting, ComesTo, Fits, Holds, IsAsBefore, IsCompacted, IsCut, IsEmptied, IsFull, IsHalved, IsMoveRefusal, IsNumberedRefusal, IsOn, IsSplitRefusal, IsTooLarge, IsUncached, IsUndone, ListsAll, MayBeFlushed, MayHolderBeFlushed, MeetsBadCount, MeetsFull, Numbered, OfHolder, WritesNone}
+use Rattle.row_atomic.specs.Changes.{ComesOfWriting, ComesTo, FitsLimit, Holds, IsAsBefore, IsCompacted, IsCut, IsEmptied, IsFullTablet, IsHalved, IsMoveRefusal, IsNumberedRefusal, IsOn, IsSplitRefusal, IsTooLarge, IsUncached, IsUndone, ListsAll, MayBeFlushed, MayHolderBeFlushed, MeetsBadCount, MeetsFull, Numbered, OfHolder, WritesNone}
 use Rattle.row_atomic.specs.Clusters.{ClusterState, Overfills, cells_in, spots_of, storage_of}
 use Rattle.row_atomic.specs.Compactions as compaction
 use Rattle.row_atomic.specs.Refusals.{IsApplyRefusal, IsReadRefusal}
@@ -57,21 +57,21 @@ cells_shown contents state = cells_in (contents state.files) state.tablets
 
 -- A command answers what is true of the cells, and leaves these:
 -- only an apply that is done changes them.
-abbrev pub Answers : Cells → Command → Outcome → Cells → Type 0
-Answers old (command.Newest row family qualifier lo hi) (outcome.Newest found) new =
+abbrev pub AnswersFromCells : Cells → Command → Outcome → Cells → Type 0
+AnswersFromCells old (command.Newest row family qualifier lo hi) (outcome.Newest found) new =
     IsNewest old (version row family qualifier) lo hi (option_map stamped found) × (new ≡ old)
-Answers old (command.NextCell after) (outcome.NextCell found) new =
+AnswersFromCells old (command.NextCell after) (outcome.NextCell found) new =
     IsNextCell old after found × (new ≡ old)
-Answers old (command.Apply row edits) outcome.Done new = new ≡ after_edits old edits.items
-Answers old (command.Minor tablet) outcome.Done new = new ≡ old
-Answers old (command.Merge tablet count) outcome.Done new = new ≡ old
-Answers old (command.Major tablet) outcome.Done new = new ≡ old
-Answers old (command.Split row) (outcome.Split left) new = new ≡ old
-Answers old (command.Move tablet server) outcome.Done new = new ≡ old
-Answers old command.Sweep (outcome.Swept count) new = new ≡ old
-Answers old command.DropCaches outcome.Done new = new ≡ old
-Answers old _ (outcome.Refused refusal) new = (refusal ≢ refused.Damaged) × (new ≡ old)
-Answers old _ _ new = ⊥
+AnswersFromCells old (command.Apply row edits) outcome.Done new = new ≡ after_edits old edits.items
+AnswersFromCells old (command.Minor tablet) outcome.Done new = new ≡ old
+AnswersFromCells old (command.Merge tablet count) outcome.Done new = new ≡ old
+AnswersFromCells old (command.Major tablet) outcome.Done new = new ≡ old
+AnswersFromCells old (command.Split row) (outcome.Split left) new = new ≡ old
+AnswersFromCells old (command.Move tablet server) outcome.Done new = new ≡ old
+AnswersFromCells old command.Sweep (outcome.Swept count) new = new ≡ old
+AnswersFromCells old command.DropCaches outcome.Done new = new ≡ old
+AnswersFromCells old _ (outcome.Refused refusal) new = (refusal ≢ refused.Damaged) × (new ≡ old)
+AnswersFromCells old _ _ new = ⊥
 
 -- ---- tablets and files
 
@@ -90,43 +90,44 @@ MayRefuse command.Sweep refusal = (refusal ≡ refused.Device) ⊎ (refusal ≡ 
 MayRefuse command.DropCaches refusal = ⊥
 
 -- what a command that is done does to tablets and files
-abbrev pub Does : {F : Type 0}
+abbrev pub DoesToTablets : {F : Type 0}
     → (F → Option Contents) → Command → Outcome → ClusterState F → ClusterState F → Type 0
-Does contents (command.Minor tablet) outcome.Done old new =
+DoesToTablets contents (command.Minor tablet) outcome.Done old new =
     IsCompacted contents compaction.minor tablet old new
-Does contents (command.Merge tablet count) outcome.Done old new =
+DoesToTablets contents (command.Merge tablet count) outcome.Done old new =
     IsCompacted contents (compaction.merging count) tablet old new
-Does contents (command.Major tablet) outcome.Done old new =
+DoesToTablets contents (command.Major tablet) outcome.Done old new =
     IsCompacted contents compaction.major tablet old new
-Does contents (command.Split row) (outcome.Split left) old new =
+DoesToTablets contents (command.Split row) (outcome.Split left) old new =
     (left ≡ length old.places + 1) × IsCut row left old.places new.places
     × IsHalved old.next_name row left old.places old.tablets new.tablets
-Does contents (command.Move tablet server) outcome.Done old new = ComesTo tablet server old new
-Does contents command.Sweep (outcome.Swept count) old new = IsSwept contents count old new
-Does contents command.DropCaches outcome.Done old new = IsUncached contents old new
-Does contents _ _ old new = storage_of contents new ≡ storage_of contents old
+DoesToTablets contents (command.Move tablet server) outcome.Done old new =
+    ComesTo tablet server old new
+DoesToTablets contents command.Sweep (outcome.Swept count) old new = IsSwept contents count old new
+DoesToTablets contents command.DropCaches outcome.Done old new = IsUncached contents old new
+DoesToTablets contents _ _ old new = storage_of contents new ≡ storage_of contents old
 
 -- what one that is refused leaves of them
-abbrev pub Leaves : {F : Type 0} → (F → Option Contents) → Command → ClusterState F → ClusterState F
-    → Type 0
-Leaves contents (command.Minor tablet) old new = IsAsBefore old new
-Leaves contents (command.Merge tablet count) old new = IsAsBefore old new
-Leaves contents (command.Major tablet) old new = IsAsBefore old new
-Leaves contents (command.Split row) old new =
+abbrev pub LeavesTablets : {F : Type 0} → (F → Option Contents) → Command → ClusterState F
+    → ClusterState F → Type 0
+LeavesTablets contents (command.Minor tablet) old new = IsAsBefore old new
+LeavesTablets contents (command.Merge tablet count) old new = IsAsBefore old new
+LeavesTablets contents (command.Major tablet) old new = IsAsBefore old new
+LeavesTablets contents (command.Split row) old new =
     (spots_of new ≡ spots_of old)
     × MayHolderBeFlushed old.next_name row old.places old.tablets new.tablets
-Leaves contents (command.Move tablet server) old new =
+LeavesTablets contents (command.Move tablet server) old new =
     (¬ IsOn tablet server old.places)
     × (spots_of new ≡ spots_of old) × MayBeFlushed old.next_name tablet old.tablets new.tablets
-Leaves contents command.Sweep old new = IsSweptInPart contents old new
-Leaves contents _ old new = storage_of contents new ≡ storage_of contents old
+LeavesTablets contents command.Sweep old new = IsSweptInPart contents old new
+LeavesTablets contents _ old new = storage_of contents new ≡ storage_of contents old
 
 -- a command was done, or it was refused what it may be refused
 abbrev pub Upholds : {F : Type 0}
     → (F → Option Contents) → Command → Outcome → ClusterState F → ClusterState F → Type 0
 Upholds contents command (outcome.Refused refusal) old new =
-    MayRefuse command refusal × Leaves contents command old new
-Upholds contents command result old new = Does contents command result old new
+    MayRefuse command refusal × LeavesTablets contents command old new
+Upholds contents command result old new = DoesToTablets contents command result old new
 
 -- ---- what a command writes
 
@@ -217,8 +218,8 @@ pub record BarsCompaction {F : Type 0} (contents : F → Option Contents) (compa
 pub record BarsCut {F : Type 0} (contents : F → Option Contents) (row : List ℕ) (refusal : Refusal)
     (old : ClusterState F) : Type 0 where
   pub bad : refusal ≡ refused.BadSplit ↔ BarsSplit row old.places
-  pub full : refusal ≡ refused.TooManyFiles → OfHolder IsFull row old.places old.tablets
-  pub unfilled : ComesOfWriting refusal → ¬ OfHolder IsFull row old.places old.tablets
+  pub full : refusal ≡ refused.TooManyFiles → OfHolder IsFullTablet row old.places old.tablets
+  pub unfilled : ComesOfWriting refusal → ¬ OfHolder IsFullTablet row old.places old.tablets
   pub exhausted : refusal ≡ refused.Exhausted
       → (2 ^ 63 ≤ old.next_name) × (¬ OfHolder IsEmptied row old.places old.tablets)
   pub large : refusal ≡ refused.FileTooLarge → OfHolder
@@ -253,16 +254,16 @@ pub record MayCompact {F : Type 0} (contents : F → Option Contents) (compactio
   pub counted : ¬ Numbered (MeetsBadCount compaction) tablet old.tablets
   pub room : ¬ Numbered (MeetsFull compaction) tablet old.tablets
   pub named : 2 ^ 63 ≤ old.next_name → Numbered (WritesNone compaction) tablet old.tablets
-  pub fits : Numbered (Fits old.file_limit (contents old.files) compaction) tablet old.tablets
+  pub fits : Numbered (FitsLimit old.file_limit (contents old.files) compaction) tablet old.tablets
 
 -- and so may a split at a row, which flushes the tablet that holds it
 pub record MayCut {F : Type 0} (contents : F → Option Contents) (row : List ℕ)
     (old : ClusterState F) : Type 0 where
   pub free : ¬ BarsSplit row old.places
-  pub room : ¬ OfHolder IsFull row old.places old.tablets
+  pub room : ¬ OfHolder IsFullTablet row old.places old.tablets
   pub named : 2 ^ 63 ≤ old.next_name → OfHolder IsEmptied row old.places old.tablets
   pub fits : OfHolder
-      (Fits old.file_limit (contents old.files) compaction.minor) row old.places old.tablets
+      (FitsLimit old.file_limit (contents old.files) compaction.minor) row old.places old.tablets
 
 -- and a move, which flushes a tablet that is on another server
 pub record MayMove {F : Type 0} (contents : F → Option Contents) (tablet server : ℕ)
@@ -328,7 +329,7 @@ pub record IsOutcome {F : Type 0} (contents : F → Option Contents) (count : F 
   pub still : Holds contents old → Holds contents new
   -- it answers what is true of the one cell map
   pub answers : Holds contents old
-      → Answers (cells_shown contents old) command result (cells_shown contents new)
+      → AnswersFromCells (cells_shown contents old) command result (cells_shown contents new)
   -- what it is for was done to tablets, places and files, or it was refused what it may be refused
   pub upholds : Upholds contents command result old new
   -- it wrote one file at most

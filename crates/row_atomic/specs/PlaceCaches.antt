@@ -26,8 +26,8 @@ abbrev pub number_kept : {Z : Type 0} → List ℕ → List (Vec ℕ Z × ℕ) �
 number_kept row kept = lookup (is_key_of row) kept
 
 -- a row is the one that was located last, and this number is kept with it
-abbrev pub IsFirst : {Z : Type 0} → List ℕ → List (Vec ℕ Z × ℕ) → ℕ → Type 0
-IsFirst {Z} row kept n =
+abbrev pub IsLocatedLast : {Z : Type 0} → List ℕ → List (Vec ℕ Z × ℕ) → ℕ → Type 0
+IsLocatedLast {Z} row kept n =
     (key : Vec ℕ Z) × (slice_get kept 0 ≡ Some (key, n)) × (key.items ≡ row)
 
 -- No row is kept that wasn't but this one, with this number.

@@ -19,10 +19,10 @@ use Rattle.cell_key.specs.Places.{Place}
 use Rattle.cell_key.specs.Versions.{HasLimits}
 
 -- the first slot of a key decides, and an empty one is no cell
-abbrev pub cells_of : {Z : Type 0} → List (CellKey × Option (Vec ℕ Z)) → Cells
-cells_of [] = empty
-cells_of ((key, None) ∷ slots) = remove (cells_of slots) key
-cells_of ((key, Some value) ∷ slots) = insert (cells_of slots) key value.items
+abbrev pub slot_cells : {Z : Type 0} → List (CellKey × Option (Vec ℕ Z)) → Cells
+slot_cells [] = empty
+slot_cells ((key, None) ∷ slots) = remove (slot_cells slots) key
+slot_cells ((key, Some value) ∷ slots) = insert (slot_cells slots) key value.items
 
 -- what a slot holds
 abbrev pub content : {Z : Type 0} → Option (Option (Vec ℕ Z)) → Option (List ℕ)
@@ -52,8 +52,8 @@ EmptiesNone IsOne old new =
     (key : CellKey) → IsOne key → slot_at new key ≡ Some None → slot_at old key ≡ Some None
 
 -- no slot is empty
-abbrev pub IsFull : {X : Type 0} → List (CellKey × Option X) → Type 0
-IsFull slots = (key : CellKey) → slot_at slots key ≢ Some None
+abbrev pub AreFilled : {X : Type 0} → List (CellKey × Option X) → Type 0
+AreFilled slots = (key : CellKey) → slot_at slots key ≢ Some None
 
 -- no slot is empty but those of these keys
 abbrev pub IsFullBut : {X : Type 0} → List CellKey → List (CellKey × Option X) → Type 0
@@ -61,18 +61,18 @@ IsFullBut keys slots =
     (key : CellKey) → AllByRecursion (λ other. other ≢ key) keys → slot_at slots key ≢ Some None
 
 -- between calls no slot is empty, and all cells are within the limits
-pub record IsKept {Z : Type 0} (slots : List (CellKey × Option (Vec ℕ Z))) : Type 0 where
-  pub full : IsFull slots
-  pub limits : HasLimits (cells_of slots)
+pub record AreKept {Z : Type 0} (slots : List (CellKey × Option (Vec ℕ Z))) : Type 0 where
+  pub full : AreFilled slots
+  pub limits : HasLimits (slot_cells slots)
 
 -- a key and the bytes of its value
 abbrev pub keyed : {Z : Type 0} → Bor CellKey × Bor (Vec ℕ Z) → CellKey × List ℕ
 keyed entry = (entry.0.now, entry.1.now.items)
 
 -- found is the first key of a cell map from one bound to the other, with its value
-abbrev pub IsFirst : Cells → Bound CellKey → Bound CellKey → Option (CellKey × List ℕ) → Type 0
-IsFirst cells lo hi None = (key : CellKey) → IsInRange key_cmp lo hi key → get cells key ≡ None
-IsFirst cells lo hi (Some found) =
+abbrev pub IsFirstKey : Cells → Bound CellKey → Bound CellKey → Option (CellKey × List ℕ) → Type 0
+IsFirstKey cells lo hi None = (key : CellKey) → IsInRange key_cmp lo hi key → get cells key ≡ None
+IsFirstKey cells lo hi (Some found) =
     IsInRange key_cmp lo hi found.0 × (get cells found.0 ≡ Some found.1) × ((key : CellKey)
     → IsInRange key_cmp lo hi key → key_cmp key found.0 ≡ Less → get cells key ≡ None)
 

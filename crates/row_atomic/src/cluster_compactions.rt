@@ -5,7 +5,7 @@ ghost use Rattle.metadata_table.specs.Table.{HasTablet, IsTable, with_files};
 ghost use Rattle.cell_key.specs.Faults.{HasReason};
 ghost use Rattle.tablet.specs.Compactions.{Compacts};
 ghost use Rattle.tablet.specs.Views.{Holds as HoldsAt, IsBelow, IsUnchanged, Keeps, UsesName, names_of, range_of};
-ghost use Rattle.row_atomic.specs.Changes.{ComesOfWriting, Fits, IsAt, IsBadCount, IsCleaned, IsFull, IsMade, IsRefusalOf, IsTooLarge, MeetsBadCount, MeetsFull, Numbered, WritesNone};
+ghost use Rattle.row_atomic.specs.Changes.{ComesOfWriting, FitsLimit, IsAt, IsBadCount, IsCleaned, IsFullTablet, IsMade, IsRefusalOf, IsTooLarge, MeetsBadCount, MeetsFull, Numbered, WritesNone};
 ghost use Rattle.row_atomic.specs.Commands.{IsOutcome, compacting, done_of};
 
 use crate::cluster::Cluster;
@@ -39,7 +39,7 @@ fn compact<F: Files>(
         (F.contents files.old) next_name.old (F.contents files.new) next_name.new }
     ensures limit { next_name.old ≤ 2 ^ 63 → next_name.new ≤ 2 ^ 63 }
     ensures count { IsErrOf result Refusal.BadCount → MeetsBadCount compaction tablet.old }
-    ensures full { IsErrOf result Refusal.TooManyFiles → IsFull tablet.old }
+    ensures full { IsErrOf result Refusal.TooManyFiles → IsFullTablet tablet.old }
     ensures undone { IsErrOf result Refusal.TooManyFiles
         → (next_name.new ≡ next_name.old) × (F.contents files.new ≡ F.contents files.old) }
     ensures room { OnOk result (¬ MeetsFull compaction tablet.old) }
@@ -52,7 +52,7 @@ fn compact<F: Files>(
         × ((next_name.new ≡ next_name.old) × (F.contents files.new ≡ F.contents files.old)) }
     ensures large { IsErrOf result Refusal.FileTooLarge
         → IsTooLarge file_limit (F.contents files.old) compaction tablet.old }
-    ensures fits { OnOk result (Fits file_limit (F.contents files.old) compaction tablet.old) }
+    ensures fits { OnOk result (FitsLimit file_limit (F.contents files.old) compaction tablet.old) }
     ensures used { OnOk result (¬ WritesNone compaction tablet.old
         → next_name.new ≡ next_name.old + 1) }
     ensures lists { OnOk result (Compacts compaction

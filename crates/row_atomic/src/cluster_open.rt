@@ -6,7 +6,7 @@ ghost use Rattle.std.specs.List.{AllByRecursion};
 ghost use Rattle.cell_key.specs.Cells.{Cells};
 ghost use Rattle.cell_key.specs.Faults.{HasReason};
 ghost use Rattle.file_store.specs.Store.{Contents};
-ghost use Rattle.metadata_table.specs.Roots.{IsSound, RootView, root_of};
+ghost use Rattle.metadata_table.specs.Roots.{IsSoundRoot, RootView, root_of};
 ghost use Rattle.sorted_file.specs.Sources.{IsReadRefusal};
 ghost use Rattle.tablet.specs.Views.{Holds as HoldsAt};
 ghost use Rattle.row_atomic.specs.Changes.{Holds, IsEmptied};
@@ -27,7 +27,7 @@ use tablet::{RowRange, Tablet, files_are_there, same_cells};
 fn read_root<F: Files>(alloc: Global, files: &mut F) -> Result<Option<Root>, Refusal>
     ensures finds { IfOk result (λ found. IfSome (F.contents files.old) (λ m.
         FindsRoot (get m root_name) (option_map root_of found))) }
-    ensures sound { IfOk result (λ found. IfSome found (λ root. IsSound (root_of root))) }
+    ensures sound { IfOk result (λ found. IfSome found (λ root. IsSoundRoot (root_of root))) }
     ensures damaged { IsErrOf result Refusal.Damaged
         → IfSome (F.contents files.old) (λ m. IsDamaged m) }
     ensures refusal { IfErr result IsReadRefusal }

@@ -3,7 +3,7 @@
 ghost use Rattle.std.specs.Prelude.{◌≡◌, ◌+◌, [], IfErr, IfOk, IfSome, option_map, slice_get};
 ghost use Rattle.metadata_table.specs.Table.{IsTable};
 ghost use Rattle.lru.specs.LruCache.{promoted};
-ghost use Rattle.row_atomic.specs.PlaceCaches.{AddsOnly, AreHeld, IsFirst, IsHeldBy, hits_after, is_key_of, number_kept};
+ghost use Rattle.row_atomic.specs.PlaceCaches.{AddsOnly, AreHeld, IsLocatedLast, IsHeldBy, hits_after, is_key_of, number_kept};
 
 use cell_key::{Refusal, Row};
 use lru::LruCache;
@@ -66,7 +66,7 @@ impl PlaceCache {
 
     /// The number that is kept with a row, if the row is the one that was located last.
     fn last(&self, row: &Row) -> Option<u32>
-        ensures { IfSome result (IsFirst row.now self.now.numbers.entries) }
+        ensures { IfSome result (IsLocatedLast row.now self.now.numbers.entries) }
     {
         let (bytes, number) = self.numbers.peek_mru()?;
         if row.as_bytes() == bytes.as_slice() {

@@ -22,15 +22,15 @@ pub struct PlainRows {
 
 impl Model for PlainRows {
     ghost use Rattle.cell_key.specs.Cells.{Cells, cells_code};
-    ghost use Rattle.row_atomic.specs.Slots.{cells_of, IsKept};
+    ghost use Rattle.row_atomic.specs.Slots.{slot_cells, AreKept};
 
     ghost Value = { Cells };
 
     ghost coded = { cells_code };
 
-    ghost view = { λ rows. cells_of rows.slots.entries };
+    ghost view = { λ rows. slot_cells rows.slots.entries };
 
-    ghost invariant = { λ rows. IsKept rows.slots.entries };
+    ghost invariant = { λ rows. AreKept rows.slots.entries };
 }
 
 impl PlainRows {

@@ -11,7 +11,7 @@ ghost use Rattle.cell_key.specs.Cells.{after_edit, after_edits, edited_key, IsNe
 ghost use Rattle.cell_key.specs.declared.keys.CellKey.{CellKey as Key};
 ghost use Rattle.cell_key.specs.Places.{IsNextCell, place_named};
 ghost use Rattle.cell_key.specs.Versions.{stamped};
-ghost use Rattle.row_atomic.specs.Slots.{cells_of, slot_at, keyed, HasSlot, KeepsSlots, EmptiesNone, IsFull, IsFullBut, IsFirst, past, HasEdited};
+ghost use Rattle.row_atomic.specs.Slots.{slot_cells, slot_at, keyed, HasSlot, KeepsSlots, EmptiesNone, AreFilled, IsFullBut, IsFirstKey, past, HasEdited};
 
 use cell_key::{CellKey, Edit, Family, Qualifier, Row, Stamp};
 use std::alloc::{AllocError, Global};
@@ -22,9 +22,9 @@ pub(crate) type Slots = BTreeMap<CellKey, Option<Vec<u8>>>;
 
 /// The first key from one bound to the other, with its value.
 fn first(slots: &Slots, from: Bound<CellKey>, to: Bound<CellKey>) -> Option<(&CellKey, &Vec<u8>)>
-    requires full { IsFull slots.now.entries }
+    requires full { AreFilled slots.now.entries }
     requires forward { IsForward (IsLeBy key_cmp) (IsLtBy key_cmp) from to }
-    ensures { IsFirst (cells_of slots.now.entries) from to (option_map keyed result) }
+    ensures { IsFirstKey (slot_cells slots.now.entries) from to (option_map keyed result) }
 {
     let (key, slot) = slots.range((from, to)).next()?;
     let value = slot.as_ref()?;
@@ -57,8 +57,8 @@ pub(crate) fn newest(
     lo: Stamp,
     hi: Stamp,
 ) -> Result<Option<(Stamp, Vec<u8>)>, AllocError>
-    requires { IsFull slots.now.entries }
-    ensures { IfOk result (λ found. IsNewest (cells_of slots.now.entries)
+    requires { AreFilled slots.now.entries }
+    ensures { IfOk result (λ found. IsNewest (slot_cells slots.now.entries)
         (version row.now family.now qualifier) lo hi (option_map stamped found)) }
 {
     if hi < lo {
@@ -90,9 +90,9 @@ pub(crate) fn next_cell(
     slots: &Slots,
     after: Option<(&Row, &Family)>,
 ) -> Result<Option<(Row, Family)>, AllocError>
-    requires { IsFull slots.now.entries }
+    requires { AreFilled slots.now.entries }
     ensures { IfOk result (λ found.
-        IsNextCell (cells_of slots.now.entries) (option_map place_named after.entry) found) }
+        IsNextCell (slot_cells slots.now.entries) (option_map place_named after.entry) found) }
 {
     let from = start_after(after)?;
     match first(slots, from, Bound::Unbounded) {
@@ -125,7 +125,7 @@ fn keys_of(alloc: Global, edits: &[Edit]) -> Result<Vec<CellKey>, AllocError>
 
 /// Makes a slot for the key, an empty one where it has none.
 fn make_slot(slots: &mut Slots, key: &CellKey) -> Result<(), AllocError>
-    ensures same { cells_of slots.new.entries ≡ cells_of slots.old.entries }
+    ensures same { slot_cells slots.new.entries ≡ slot_cells slots.old.entries }
     ensures kept { KeepsSlots slots.old.entries slots.new.entries }
     ensures slot { OnOk result (HasSlot slots.new.entries key.now) }
     ensures empties { EmptiesNone (λ q. key.now ≢ q) slots.old.entries slots.new.entries }
@@ -138,7 +138,7 @@ fn make_slot(slots: &mut Slots, key: &CellKey) -> Result<(), AllocError>
 
 /// Makes a slot for each key.
 fn make_slots(slots: &mut Slots, keys: &[CellKey]) -> Result<(), AllocError>
-    ensures same { cells_of slots.new.entries ≡ cells_of slots.old.entries }
+    ensures same { slot_cells slots.new.entries ≡ slot_cells slots.old.entries }
     ensures slots { OnOk result (All (HasSlot slots.new.entries) keys.now) }
     ensures empties { EmptiesNone
         (λ q. All (λ key. key ≢ q) keys.now) slots.old.entries slots.new.entries }
@@ -161,7 +161,7 @@ fn set_slot(slots: &mut Slots, key: CellKey, content: Option<Vec<u8>>)
 /// Makes an edit, whose key has a slot.
 fn write(slots: &mut Slots, edit: Edit)
     requires { HasSlot slots.old.entries (edited_key edit) }
-    ensures cells { cells_of slots.new.entries ≡ after_edit (cells_of slots.old.entries) edit }
+    ensures cells { slot_cells slots.new.entries ≡ after_edit (slot_cells slots.old.entries) edit }
     ensures kept { KeepsSlots slots.old.entries slots.new.entries }
     ensures empties { EmptiesNone (λ q. edited_key edit ≢ q) slots.old.entries slots.new.entries }
 {
@@ -174,8 +174,8 @@ fn write(slots: &mut Slots, edit: Edit)
 /// Makes edits in order. Each of their keys has a slot.
 fn write_all(slots: &mut Slots, edits: Vec<Edit>)
     requires { AllByRecursion (HasEdited slots.old.entries) edits.items }
-    ensures cells { cells_of slots.new.entries
-        ≡ after_edits (cells_of slots.old.entries) edits.items }
+    ensures cells { slot_cells slots.new.entries
+        ≡ after_edits (slot_cells slots.old.entries) edits.items }
     ensures empties { EmptiesNone (λ q. AllByRecursion (λ edit. edited_key edit ≢ q) edits.items)
         slots.old.entries slots.new.entries }
 {
@@ -186,7 +186,7 @@ fn write_all(slots: &mut Slots, edits: Vec<Edit>)
 
 /// Frees the slot of a key, if it is empty.
 fn drop_empty(slots: &mut Slots, key: &CellKey)
-    ensures same { cells_of slots.new.entries ≡ cells_of slots.old.entries }
+    ensures same { slot_cells slots.new.entries ≡ slot_cells slots.old.entries }
     ensures empties { (keys : List Key) → IsFullBut (key.now ∷ keys) slots.old.entries
         → IsFullBut keys slots.new.entries }
 {
@@ -199,8 +199,8 @@ fn drop_empty(slots: &mut Slots, key: &CellKey)
 /// Frees the empty slots, all of which are at these keys.
 fn drop_empties(slots: &mut Slots, keys: Vec<CellKey>)
     requires { IsFullBut keys.items slots.old.entries }
-    ensures same { cells_of slots.new.entries ≡ cells_of slots.old.entries }
-    ensures full { IsFull slots.new.entries }
+    ensures same { slot_cells slots.new.entries ≡ slot_cells slots.old.entries }
+    ensures full { AreFilled slots.new.entries }
 {
     for key in keys {
         drop_empty(slots, &key);
@@ -209,11 +209,11 @@ fn drop_empties(slots: &mut Slots, keys: Vec<CellKey>)
 
 /// Makes edits in order, all of them or none.
 pub(crate) fn apply(alloc: Global, slots: &mut Slots, edits: Vec<Edit>) -> Result<(), AllocError>
-    requires { IsFull slots.old.entries }
-    ensures ok { OnOk result (cells_of slots.new.entries
-        ≡ after_edits (cells_of slots.old.entries) edits.items) }
-    ensures err { OnErr result (cells_of slots.new.entries ≡ cells_of slots.old.entries) }
-    ensures full { IsFull slots.new.entries }
+    requires { AreFilled slots.old.entries }
+    ensures ok { OnOk result (slot_cells slots.new.entries
+        ≡ after_edits (slot_cells slots.old.entries) edits.items) }
+    ensures err { OnErr result (slot_cells slots.new.entries ≡ slot_cells slots.old.entries) }
+    ensures full { AreFilled slots.new.entries }
 {
     let keys = keys_of(alloc, &edits)?;
     match make_slots(slots, &keys) {

@@ -17,7 +17,7 @@ use Rattle.si_model.specs.declared.replies.CleanStart.TheVariants as starts
 use Rattle.clean_up.specs.Shows as open_cleaners
 use Rattle.std.specs.Prelude.{Option}
 use Rattle.server_loop.specs.declared.server.Server.{Server}
-use Rattle.server_loop.specs.Server.{Shows, cells_of}
+use Rattle.server_loop.specs.Server.{Shows, server_cells}
 use Rattle.server_loop.specs.Runs.{IfRefused, StampsGoOn, StepsAs}
 use Rattle.server_loop.proofs.SamePlaces.{KeepsPlaces}
 use Rattle.server_loop.proofs.OthersShown.{cleaners_not_collectors, cleaners_not_sessions, collectors_stay, not_kind, sessions_stay}
@@ -32,7 +32,7 @@ spots_in storage = map spot_of storage.places
 module _ {F M : Type 0} (contents : F → Option Contents) (old new : Server F M) where
   -- a step of a cleaner, which leaves the tablets where they are, the sessions and the collectors
   pub cleans_as : (request : Request) (reply : Reply) → KeepsPlaces request → kind_of request ≡ OfCleaners → new.clients ≡ old.clients → new.oracle.last ≡ old.oracle.last
-      → new.collectors ≡ old.collectors → ((st : State) → IsReached st → Shows contents old st → ChangesCells (cells_of contents old) st (cells_of contents new))
+      → new.collectors ≡ old.collectors → ((st : State) → IsReached st → Shows contents old st → ChangesCells (server_cells contents old) st (server_cells contents new))
       → (Holds contents old.cluster → open_cleaners.Steps (cells_in (contents old.cluster.files) old.cluster.tablets) old.cleaners request reply (cells_in (contents new.cluster.files) new.cluster.tablets) new.cleaners)
       → (Holds contents old.cluster → Holds contents new.cluster) → storage_of contents new.cluster ≡ storage_of contents old.cluster
       → (Holds contents old.cluster → open_cleaners.InEachShown (cells_in (contents old.cluster.files) old.cluster.tablets) old.cleaners (λ st. reply ≡ Refused Damaged → ⊥))

@@ -15,7 +15,7 @@ use Rattle.si_model.proofs.ChangedParts.{leaves_others}
 use Rattle.request_codec.specs.declared.replies.Reply.TheVariants as kept
 use Rattle.version_collector.specs.Shows.{ShowsCollectors}
 use Rattle.server_loop.specs.declared.server.Server.{Server}
-use Rattle.server_loop.specs.Server.{Shows, cells_of}
+use Rattle.server_loop.specs.Server.{Shows, server_cells}
 use Rattle.server_loop.specs.Runs.{IfRefused, StampsGoOn, StepsAs}
 use Rattle.server_loop.proofs.CleanSteps.{spots_in}
 use Rattle.server_loop.proofs.SamePlaces.{KeepsPlaces}
@@ -30,7 +30,7 @@ module _ {F M : Type 0} (contents : F → Option Contents) (old new : Server F M
   pub collects_as : (request : Request) (reply : Reply) → KeepsPlaces request → kind_of request ≡ OfCollectors → new.clients ≡ old.clients → new.oracle.last ≡ old.oracle.last
       → new.cleaners ≡ old.cleaners
       → ((st : State) → IsReached st → Shows contents old st
-      → (next : State) × Step st request reply next × ShowsCells (cells_of contents new) next × ShowsCollectors (cells_of contents new) new.collectors next)
+      → (next : State) × Step st request reply next × ShowsCells (server_cells contents new) next × ShowsCollectors (server_cells contents new) new.collectors next)
       → (Holds contents old.cluster → Holds contents new.cluster) → storage_of contents new.cluster ≡ storage_of contents old.cluster
       → ((st : State) → IsReached st → Shows contents old st → reply ≡ Refused Damaged → ⊥)
       → StepsAs (Shows contents) old new request reply

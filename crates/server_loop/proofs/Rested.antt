@@ -5,7 +5,7 @@ use Rattle.cell_key.specs.Cells.{Cells}
 use Rattle.cell_key.specs.declared.refusals.Refusal.{Refusal}
 use Rattle.file_store.specs.Store.{Contents}
 use Rattle.metadata_table.specs.Roots.{RootView}
-use Rattle.oracle.specs.Marks.{IsWithin, MayHold}
+use Rattle.oracle.specs.Marks.{IsWithinMark, MayHold}
 use Rattle.oracle.specs.Ranges.{OracleState}
 use Rattle.request_codec.specs.Requests.{asked}
 use Rattle.request_codec.specs.declared.replies.Reply.{Reply as Kept}
@@ -62,7 +62,7 @@ some_told : (told : Option ℕ) (P : ℕ → Type 0) → IsSomeAnd told P → Is
 some_told None P is = absurd is
 some_told (Some m) P is = refl
 
-marked_now : (told : Option ℕ) (top last : ℕ) → IsSome told → IsWithin last told → top ≤ last → IsSomeAnd told (λ m. top ≤ m)
+marked_now : (told : Option ℕ) (top last : ℕ) → IsSome told → IsWithinMark last told → top ≤ last → IsSomeAnd told (λ m. top ≤ m)
 marked_now None top last is within low = cc
 marked_now (Some m) top last is within low = omega (arith, within, low)
 
@@ -107,7 +107,7 @@ module _ {F M : Type 0} (contents : F → Option Contents) (faults : F → ℕ) 
     spared_root (lent.Raw row family qualifier lo hi) reply old new is (inr none) keeps = subst (λ (state : ClusterState F). KeepsRoot contents root cells state) (sym none.1) keeps
     spared_root request reply old new is tends keeps = absurd is
 
-  module _ (reopens : (cells : Cells) (st : State) → ShowsCells cells st → ShowsCells cells (reopened st)) (stored : RootIsStored contents) (stays : RootStays contents faults) (old new : Server F M) (within : IsWithin (last_of new) (mark (marks_of new))) where
+  module _ (reopens : (cells : Cells) (st : State) → ShowsCells cells st → ShowsCells cells (reopened st)) (stored : RootIsStored contents) (stays : RootStays contents faults) (old new : Server F M) (within : IsWithinMark (last_of new) (mark (marks_of new))) where
     -- it rests at the same root
     rests_on : (st : State) → Shows contents new st → (rests : RestsAt contents mark old st) → KeepsRoot contents rests.root rests.cells (cluster_of new) → IsSome (mark (marks_of new)) → RestsAt contents mark new st
     rests_on st shown rests keeps told = record {

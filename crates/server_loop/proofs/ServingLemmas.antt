@@ -12,10 +12,10 @@ use Rattle.request_codec.specs.declared.replies.Reply.{Reply as Kept}
 use Rattle.request_codec.specs.declared.requests.Request.{Request as Lent}
 use Rattle.server_loop.specs.Runs.{Taken, Body, Oversize, AnswersAs, RunsAs, SaysOf}
 use Rattle.server_loop.proofs.ReachedRuns.{RunOver-append, SaysAll-append, laws_of}
-use Rattle.server_loop.proofs.FrameHeads.{IsTooLarge-more}
+use Rattle.server_loop.proofs.FrameHeads.{IsTooLong-more}
 use Rattle.request_codec.specs.Framing.{longest_frame}
-use Rattle.request_codec.specs.Stream.{frame, frames, IsTooLarge, IsPartial, IsOpen, IsBody}
-use Rattle.server_loop.specs.Serve.{taken_of, written_of, Answered, Delivers, Handles, HandlesFirst, HandlesTo, IsCutShort, IsRest, Takes, Writes}
+use Rattle.request_codec.specs.Stream.{frame, frames, IsTooLong, IsPartial, BeginsNoFrame, IsBody}
+use Rattle.server_loop.specs.Serve.{taken_of, written_of, Answered, Delivers, Handles, HandlesFirst, HandlesTo, IsCutShort, IsRest, TakesBodies, WritesReplies}
 use Rattle.server_loop.specs.declared.ends.End.{End}
 use Rattle.server_loop.specs.declared.ends.End.TheVariants as ends
 use Rattle.server_loop.specs.declared.ends.ServeFault.{ServeFault}
@@ -55,11 +55,11 @@ whole-more bs bytes rest more p = ap (λ x. x ++ more) p ∙ append_assoc (frame
 
 -- ---- the rest
 
-pub IsOpen-from_partial : (rest : List ℕ) → IsPartial rest → IsOpen rest
-IsOpen-from_partial rest p = record { short = λ h _. p.short h }
+pub BeginsNoFrame-from_partial : (rest : List ℕ) → IsPartial rest → BeginsNoFrame rest
+BeginsNoFrame-from_partial rest p = record { short = λ h _. p.short h }
 
-pub IsOpen-from_large : (rest : List ℕ) → IsTooLarge rest → IsOpen rest
-IsOpen-from_large rest p = record { short = λ h k. absurd (omega (arith, p.past)) }
+pub BeginsNoFrame-from_large : (rest : List ℕ) → IsTooLong rest → BeginsNoFrame rest
+BeginsNoFrame-from_large rest p = record { short = λ h k. absurd (omega (arith, p.past)) }
 
 pub IsPartial-nil : IsPartial []
 IsPartial-nil = record { within = λ h. absurd (omega arith); short = λ h. absurd (omega arith) }
@@ -67,14 +67,14 @@ IsPartial-nil = record { within = λ h. absurd (omega arith); short = λ h. absu
 no_oversize : (rest : List ℕ) → IsPartial rest → taken_of [] rest ≡ []
 no_oversize rest p = let w = p.within in grind (arith, nat_tests)
 
-pub oversize : (rest : List ℕ) → IsTooLarge rest → taken_of [] rest ≡ Oversize ∷ []
+pub oversize : (rest : List ℕ) → IsTooLong rest → taken_of [] rest ≡ Oversize ∷ []
 oversize rest p = let w = p.past in let v = p.whole_length in grind (arith, nat_tests)
 
 -- bodies alone are taken before less than a frame
 pub taken-partial : (bodies : List (List ℕ)) (rest : List ℕ) → IsPartial rest → map Body bodies ≡ taken_of bodies rest
 taken-partial bodies rest p = sym (append-nil (map Body bodies)) ∙ ap (λ l. map Body bodies ++ l) (sym (no_oversize rest p))
 
-pub taken-large : (bodies : List (List ℕ)) (rest : List ℕ) → IsTooLarge rest → map Body bodies ++ Oversize ∷ [] ≡ taken_of bodies rest
+pub taken-large : (bodies : List (List ℕ)) (rest : List ℕ) → IsTooLong rest → map Body bodies ++ Oversize ∷ [] ≡ taken_of bodies rest
 taken-large bodies rest p = ap (λ l. map Body bodies ++ l) (sym (oversize rest p))
 
 -- ---- runs, answers and what is written
@@ -141,19 +141,19 @@ module _ {S : Type 0} (shows : S → State → Type 0) (says : S → Lent → Ke
         ∙ ap (λ l. l ++ take q.count (frame (reply_body q.reply))) (sym (written_of-join rs q.earlier));
   }
 
-  all_after : (a b c : S) (ts us : List Taken) (rs qs : List Reply) (written : List ℕ) → AnswersAs shows says between a b ts rs → Writes says between (Ok ends.Clean) b c us qs written
-      → Writes says between (Ok ends.Clean) a c (ts ++ us) (rs ++ qs) (written_of rs ++ written)
+  all_after : (a b c : S) (ts us : List Taken) (rs qs : List Reply) (written : List ℕ) → AnswersAs shows says between a b ts rs → WritesReplies says between (Ok ends.Clean) b c us qs written
+      → WritesReplies says between (Ok ends.Clean) a c (ts ++ us) (rs ++ qs) (written_of rs ++ written)
   all_after a b c ts us rs qs written p q = (SaysAll-append says between a b c ts us rs qs p.said q.0, ap (λ l. written_of rs ++ l) q.1 ∙ sym (written_of-join rs qs))
 
-  writes_after : (result : Result End ServeFault) (a b c : S) (ts us : List Taken) (rs qs : List Reply) (written : List ℕ) → AnswersAs shows says between a b ts rs → Writes says between result b c us qs written
-      → Writes says between result a c (ts ++ us) (rs ++ qs) (written_of rs ++ written)
+  writes_after : (result : Result End ServeFault) (a b c : S) (ts us : List Taken) (rs qs : List Reply) (written : List ℕ) → AnswersAs shows says between a b ts rs → WritesReplies says between result b c us qs written
+      → WritesReplies says between result a c (ts ++ us) (rs ++ qs) (written_of rs ++ written)
   writes_after (Ok end) a b c ts us rs qs written p q = all_after a b c ts us rs qs written p q
   writes_after (Err faults.Read) a b c ts us rs qs written p q = all_after a b c ts us rs qs written p q
   writes_after (Err faults.NoMemory) a b c ts us rs qs written p q = all_after a b c ts us rs qs written p q
   writes_after (Err faults.Write) a b c ts us rs qs written p (inl q) = inl (all_after a b c ts us rs qs written p q)
   writes_after (Err faults.Write) a b c ts us rs qs written p (inr q) = inr (cut_after a b c ts us rs qs written p q)
 
-  takes_after : (result : Result End ServeFault) (bs cs : List (List ℕ)) (rest : List ℕ) (us : List Taken) → Takes result cs rest us → Takes result (bs ++ cs) rest (map Body bs ++ us)
+  takes_after : (result : Result End ServeFault) (bs cs : List (List ℕ)) (rest : List ℕ) (us : List Taken) → TakesBodies result cs rest us → TakesBodies result (bs ++ cs) rest (map Body bs ++ us)
   takes_after (Ok end) bs cs rest us p = ap (λ l. map Body bs ++ l) p ∙ taken-join bs cs (taken_of [] rest)
   takes_after (Err faults.Read) bs cs rest us p = ap (λ l. map Body bs ++ l) p ∙ taken-join bs cs (taken_of [] rest)
   takes_after (Err faults.NoMemory) bs cs rest us p = ap (λ l. map Body bs ++ l) p ∙ taken-join bs cs (taken_of [] rest)
@@ -235,13 +235,13 @@ module _ {S : Type 0} (shows : S → State → Type 0) (says : S → Lent → Ke
     writes = p.writes;
     appended = p.appended;
   } where
-    more_taken : (bs : List (List ℕ)) (rest more : List ℕ) (ts : List Taken) → Takes (Err faults.Write) bs rest ts → Takes (Err faults.Write) bs (rest ++ more) ts
+    more_taken : (bs : List (List ℕ)) (rest more : List ℕ) (ts : List Taken) → TakesBodies (Err faults.Write) bs rest ts → TakesBodies (Err faults.Write) bs (rest ++ more) ts
     more_taken bs rest more ts (inl p) = inl p
-    more_taken bs rest more ts (inr p) = inr (IsTooLarge-more rest more p.0, p.1)
+    more_taken bs rest more ts (inr p) = inr (IsTooLong-more rest more p.0, p.1)
 
   -- one reply was cut short
   Handles-cut : (a b : S) (bodies : List (List ℕ)) (bytes rest : List ℕ) (t : Taken) (reply : Reply) (count : ℕ) (h i : Option (List ℕ)) → bytes ≡ frames bodies ++ rest → AllByRecursion IsBody bodies
-      → Takes (Err faults.Write) bodies rest (t ∷ []) → RunsAs shows a b (t ∷ []) (reply ∷ []) → SaysOf says a t reply b → count < length (frame (reply_body reply)) → Appends h i (take count (frame (reply_body reply)))
+      → TakesBodies (Err faults.Write) bodies rest (t ∷ []) → RunsAs shows a b (t ∷ []) (reply ∷ []) → SaysOf says a t reply b → count < length (frame (reply_body reply)) → Appends h i (take count (frame (reply_body reply)))
       → Handles shows says between (Err faults.Write) a b bytes rest h i
   Handles-cut a b bodies bytes rest t reply count h i whole each takes run says_of short appended = record {
     bodies = bodies;
@@ -271,7 +271,7 @@ module _ {S : Type 0} (shows : S → State → Type 0) (says : S → Lent → Ke
 
   -- one reply was not delivered
   undelivered : (fault : ServeFault) (a b c : S) (bodies : List (List ℕ)) (bytes rest : List ℕ) (t : Taken) (reply : Reply) (h i : Option (List ℕ)) → bytes ≡ frames bodies ++ rest → AllByRecursion IsBody bodies
-      → Takes (Err faults.Write) bodies rest (t ∷ []) → RunsAs shows a b (t ∷ []) (reply ∷ []) → SaysOf says a t reply b → Delivers shows between (Err fault) (reply_body reply) b c h i
+      → TakesBodies (Err faults.Write) bodies rest (t ∷ []) → RunsAs shows a b (t ∷ []) (reply ∷ []) → SaysOf says a t reply b → Delivers shows between (Err fault) (reply_body reply) b c h i
       → HandlesTo shows says between (Err fault) a c bytes rest h i
   undelivered faults.Read a b c bodies bytes rest t reply h i whole each takes run says_of d = absurd d
   undelivered faults.NoMemory a b c bodies bytes rest t reply h i whole each takes run says_of d = absurd d
@@ -284,16 +284,16 @@ module _ {S : Type 0} (shows : S → State → Type 0) (says : S → Lent → Ke
   undelivered-one fault a b c body bytes rest reply h i fits whole run says_of d =
       undelivered fault a b c (body ∷ []) bytes rest (Body body) reply h i (whole ∙ ap (λ l. l ++ rest) (sym (append-nil (frame body)))) (fits, tt) (inl refl) run says_of d
 
-  pub undelivered-large : (fault : ServeFault) (a c : S) (bytes rest : List ℕ) (h i : Option (List ℕ)) → IsTooLarge bytes → rest ≡ bytes
+  pub undelivered-large : (fault : ServeFault) (a c : S) (bytes rest : List ℕ) (h i : Option (List ℕ)) → IsTooLong bytes → rest ≡ bytes
       → Delivers shows between (Err fault) (reply_body (Refused FrameTooLarge)) a c h i → HandlesTo shows says between (Err fault) a c bytes rest h i
   undelivered-large fault a c bytes rest h i large same d =
-      undelivered fault a a c [] bytes rest Oversize (Refused FrameTooLarge) h i (sym same) tt (inr (subst IsTooLarge (sym same) large, refl)) (RunsAs-oversize shows a) (refl, refl) d
+      undelivered fault a a c [] bytes rest Oversize (Refused FrameTooLarge) h i (sym same) tt (inr (subst IsTooLong (sym same) large, refl)) (RunsAs-oversize shows a) (refl, refl) d
 
   -- the refusal of a length past the limit was delivered
-  pub delivered-large : (a c : S) (bytes rest : List ℕ) (h i : Option (List ℕ)) → IsTooLarge bytes → rest ≡ bytes → between a c → ((st : State) → shows a st → shows c st) → Appends h i (frame (reply_body (Refused FrameTooLarge)))
-      → IsTooLarge rest × Handles shows says between (Ok ends.TooLarge) a c bytes rest h i
+  pub delivered-large : (a c : S) (bytes rest : List ℕ) (h i : Option (List ℕ)) → IsTooLong bytes → rest ≡ bytes → between a c → ((st : State) → shows a st → shows c st) → Appends h i (frame (reply_body (Refused FrameTooLarge)))
+      → IsTooLong rest × Handles shows says between (Ok ends.TooLarge) a c bytes rest h i
   delivered-large a c bytes rest h i large same tends keeps appended =
-      let rest_large : IsTooLarge rest = subst IsTooLarge (sym same) large in (
+      let rest_large : IsTooLong rest = subst IsTooLong (sym same) large in (
         rest_large,
         record {
           bodies = [];
@@ -330,13 +330,13 @@ module _ {S : Type 0} (shows : S → State → Type 0) (says : S → Lent → Ke
   HandlesTo-after (Err faults.Read) a b c bytes mid rest h i j p q = absurd q
   HandlesTo-after (Err faults.NoMemory) a b c bytes mid rest h i j p q = absurd q
 
-  Handles-more_large : (a b : S) (bytes rest more : List ℕ) (h i : Option (List ℕ)) → IsTooLarge rest → Handles shows says between (Ok ends.TooLarge) a b bytes rest h i → Handles shows says between (Ok ends.TooLarge) a b (bytes ++ more) (rest ++ more) h i
+  Handles-more_large : (a b : S) (bytes rest more : List ℕ) (h i : Option (List ℕ)) → IsTooLong rest → Handles shows says between (Ok ends.TooLarge) a b bytes rest h i → Handles shows says between (Ok ends.TooLarge) a b (bytes ++ more) (rest ++ more) h i
   Handles-more_large a b bytes rest more h i large p = record {
     bodies = p.bodies;
     whole = whole-more p.bodies bytes rest more p.whole;
     each = p.each;
     taken = p.taken;
-    takes = p.takes ∙ sym (taken-large p.bodies rest large) ∙ taken-large p.bodies (rest ++ more) (IsTooLarge-more rest more large);
+    takes = p.takes ∙ sym (taken-large p.bodies rest large) ∙ taken-large p.bodies (rest ++ more) (IsTooLong-more rest more large);
     replies = p.replies;
     run = p.run;
     written = p.written;
@@ -380,7 +380,7 @@ module _ {S : Type 0} (shows : S → State → Type 0) (says : S → Lent → Ke
     rest ++ drop m piece,
     tt,
     (
-      IsTooLarge-more rest (drop m piece) p.0,
+      IsTooLong-more rest (drop m piece) p.0,
       subst (λ (l : List ℕ). Handles shows says between (Ok ends.TooLarge) a c l (rest ++ drop m piece) h i) (rest_of_piece first piece m)
           (Handles-more_large a c (first ++ take m piece) rest (drop m piece) h i p.0 p.1),
     ),

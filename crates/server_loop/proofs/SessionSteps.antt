@@ -27,7 +27,7 @@ use Rattle.request_codec.specs.Replies.{replied}
 use Rattle.request_codec.specs.declared.replies.Reply.{Reply as Kept}
 use Rattle.request_codec.specs.declared.replies.Reply.TheVariants as kept
 use Rattle.server_loop.specs.declared.server.Server.{Server}
-use Rattle.server_loop.specs.Server.{Shows, cells_of}
+use Rattle.server_loop.specs.Server.{Shows, server_cells}
 use Rattle.server_loop.specs.Runs.{KeepsToLimits, StampsGoOn, StepsAs, IfRefused}
 use Rattle.server_loop.proofs.CleanSteps.{spots_in}
 use Rattle.server_loop.proofs.OthersShown.{cleaners_stay, collectors_stay, not_kind, sessions_not_cleaners, sessions_not_collectors}
@@ -37,7 +37,7 @@ use Rattle.server_loop.proofs.SplitSteps.{still_placed, still_next}
 module _ {F M : Type 0} (contents : F → Option Contents) (old new : Server F M) where
   -- a step of a session, which leaves the tablets where they are, the cleaners and the collectors
   pub steps_as : (request : Request) (reply : Reply) → KeepsPlaces request → kind_of request ≡ OfSessions → new.cleaners ≡ old.cleaners
-      → new.collectors ≡ old.collectors → ((st : State) → IsReached st → Shows contents old st → ChangesCells (cells_of contents old) st (cells_of contents new))
+      → new.collectors ≡ old.collectors → ((st : State) → IsReached st → Shows contents old st → ChangesCells (server_cells contents old) st (server_cells contents new))
       → (Holds contents old.cluster → clients.Steps (cells_in (contents old.cluster.files) old.cluster.tablets) old.clients old.oracle.last request reply (cells_in (contents new.cluster.files) new.cluster.tablets) new.clients new.oracle.last)
       → (Holds contents old.cluster → Holds contents new.cluster) → storage_of contents new.cluster ≡ storage_of contents old.cluster
       → ((st : State) → IsReached st → Holds contents old.cluster → clients.Shows (cells_in (contents old.cluster.files) old.cluster.tablets) old.clients old.oracle.last st → reply ≡ Refused Damaged → ⊥)

@@ -8,13 +8,13 @@ use Rattle.request_codec.specs.declared.replies.Reply.{Reply as Kept}
 use Rattle.request_codec.specs.declared.requests.Request.{Request as Lent}
 use Rattle.request_codec.specs.Stream.{IsPartial}
 use Rattle.server_loop.specs.Runs.{Taken, Body}
-use Rattle.server_loop.specs.Serve.{taken_of, Answered, EndsBy, Handles, HandlesTo, IsRest, ReadsOn, Served, ServesOn, Takes, Writes}
+use Rattle.server_loop.specs.Serve.{taken_of, Answered, EndsBy, Handles, HandlesTo, IsRest, ReadsOn, Served, ServesOn, TakesBodies, WritesReplies}
 use Rattle.server_loop.specs.declared.ends.End.{End}
 use Rattle.server_loop.specs.declared.ends.End.TheVariants as ends
 use Rattle.server_loop.specs.declared.ends.ServeFault.{ServeFault}
 use Rattle.server_loop.specs.declared.ends.ServeFault.TheVariants as faults
 use Rattle.server_loop.specs.declared.serving.Rest.TheVariants as rests
-use Rattle.server_loop.proofs.ServingLemmas.{AnswersAs-none, Answered-more, Answered-none, Answered-then, Handles-after, IsOpen-from_large, IsOpen-from_partial, IsPartial-nil, taken-large, taken-partial}
+use Rattle.server_loop.proofs.ServingLemmas.{AnswersAs-none, Answered-more, Answered-none, Answered-then, Handles-after, BeginsNoFrame-from_large, BeginsNoFrame-from_partial, IsPartial-nil, taken-large, taken-partial}
 
 -- ---- bytes that stay
 
@@ -47,20 +47,20 @@ EndsBy-after (Err faults.Write) r s front read rest left h i j k known counted p
 EndsBy-after (Err faults.NoMemory) r s front read rest left h i j k known counted p = absurd (known refl)
 
 -- what an end takes is taken too where the last flush fails
-takes_so : (end : End) (bodies : List (List ℕ)) (r : ℕ) (read rest : List ℕ) (left h i : Option (List ℕ)) (taken : List Taken) → EndsBy (Ok end) r read rest left h i → taken ≡ taken_of bodies rest → Takes (Err faults.Write) bodies rest taken
+takes_so : (end : End) (bodies : List (List ℕ)) (r : ℕ) (read rest : List ℕ) (left h i : Option (List ℕ)) (taken : List Taken) → EndsBy (Ok end) r read rest left h i → taken ≡ taken_of bodies rest → TakesBodies (Err faults.Write) bodies rest taken
 takes_so ends.Clean bodies r read rest left h i taken p q = inl (q ∙ sym (taken-partial bodies rest (subst IsPartial (sym p.0) IsPartial-nil)))
 takes_so ends.Truncated bodies r read rest left h i taken p q = inl (q ∙ sym (taken-partial bodies rest p.1))
 takes_so ends.TooLarge bodies r read rest left h i taken p q = inr (p, q ∙ sym (taken-large bodies rest p))
 takes_so ends.ReadsUsedUp bodies r read rest left h i taken p q = inl (q ∙ sym (taken-partial bodies rest p.1))
 
-nothing_taken : (result : Result End ServeFault) (rest : List ℕ) → IsPartial rest → Takes result [] rest []
+nothing_taken : (result : Result End ServeFault) (rest : List ℕ) → IsPartial rest → TakesBodies result [] rest []
 nothing_taken (Ok end) rest p = taken-partial [] rest p
 nothing_taken (Err faults.Read) rest p = taken-partial [] rest p
 nothing_taken (Err faults.Write) rest p = inl refl
 nothing_taken (Err faults.NoMemory) rest p = taken-partial [] rest p
 
 module _ {S : Type 0} (shows : S → State → Type 0) (says : S → Lent → Kept → S → Type 0) (between : S → S → Type 0) where
-  nothing_written : (result : Result End ServeFault) (a : S) → Writes says between result a a [] [] []
+  nothing_written : (result : Result End ServeFault) (a : S) → WritesReplies says between result a a [] [] []
   nothing_written (Ok end) a = (refl, refl)
   nothing_written (Err faults.Read) a = (refl, refl)
   nothing_written (Err faults.Write) a = inl (refl, refl)
@@ -74,7 +74,7 @@ module _ {S : Type 0} (shows : S → State → Type 0) (says : S → Lent → Ke
     read = [];
     consumed = consumed;
     rest = hand;
-    open_rest = λ _. IsOpen-from_partial hand partial;
+    open_rest = λ _. BeginsNoFrame-from_partial hand partial;
     handled = record {
       bodies = [];
       whole = append-nil hand;
@@ -147,7 +147,7 @@ module _ {S : Type 0} (shows : S → State → Type 0) (says : S → Lent → Ke
     read = read;
     consumed = consumed;
     rest = p.0;
-    open_rest = λ _. IsOpen-from_large p.0 p.2.0;
+    open_rest = λ _. BeginsNoFrame-from_large p.0 p.2.0;
     handled = kept_handled (Ok ends.TooLarge) a b (hand ++ read) p.0 h i j keeps p.2.1;
     ending = p.2.0;
   }
@@ -218,7 +218,7 @@ module _ {S : Type 0} (shows : S → State → Type 0) (says : S → Lent → Ke
     read = p.read;
     consumed = p.consumed;
     rest = hand';
-    open_rest = λ _. IsOpen-from_partial hand' p.partial;
+    open_rest = λ _. BeginsNoFrame-from_partial hand' p.partial;
     handled = record {
       bodies = p.answered.bodies;
       whole = p.answered.whole;

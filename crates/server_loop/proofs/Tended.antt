@@ -11,7 +11,7 @@ use Rattle.clean_up.specs.Shows.{ShowsCleaners}
 use Rattle.clean_up.specs.declared.cleaners.Cleaners.{Cleaners}
 use Rattle.version_collector.specs.Shows.{ShowsCollectors}
 use Rattle.version_collector.specs.declared.collectors.Collectors.{Collectors}
-use Rattle.server_loop.specs.Server.{Shows, cells_of, cluster_of, last_of, machine_place}
+use Rattle.server_loop.specs.Server.{Shows, server_cells, cluster_of, last_of, machine_place}
 use Rattle.server_loop.specs.declared.server.Server.{Server}
 
 pub still_shown : {F M : Type 0} (contents : F → Option Contents) (faults : F → ℕ) (old new : Server F M) (st : State) → KeepsShown contents faults (cluster_of old) (cluster_of new)
@@ -21,11 +21,11 @@ still_shown contents faults old new st keeps sessions cleaners collectors last s
     record {
       in_order = held;
       shows = subst (λ (c : Cells). clients.Shows c new.clients (last_of new) st) (sym cells)
-          (subst (λ (s : Clients). clients.Shows (cells_of contents old) s (last_of new) st) (sym sessions)
-          (subst (λ (l : ℕ). clients.Shows (cells_of contents old) old.clients l st) (sym last) shown.shows));
+          (subst (λ (s : Clients). clients.Shows (server_cells contents old) s (last_of new) st) (sym sessions)
+          (subst (λ (l : ℕ). clients.Shows (server_cells contents old) old.clients l st) (sym last) shown.shows));
       cleaners = subst (λ (s : Cleaners). ShowsCleaners s st) (sym cleaners) shown.cleaners;
       collectors = subst (λ (c : Cells). ShowsCollectors c new.collectors st) (sym cells)
-          (subst (λ (s : Collectors). ShowsCollectors (cells_of contents old) s st) (sym collectors) shown.collectors);
+          (subst (λ (s : Collectors). ShowsCollectors (server_cells contents old) s st) (sym collectors) shown.collectors);
       places = ap (λ (spots : List Spot). map machine_place spots) keeps.spots ∙ shown.places;
       next = shown.next;
     }

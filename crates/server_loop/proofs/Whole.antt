@@ -10,8 +10,8 @@ use Rattle.server_loop.specs.Serve.{Serves, ServesStream, RestIs}
 use Rattle.server_loop.specs.declared.ends.End.{End}
 use Rattle.server_loop.specs.declared.ends.End.TheVariants as ends
 use Rattle.server_loop.specs.declared.ends.ServeFault.{ServeFault}
-use Rattle.server_loop.proofs.ServingLemmas.{IsOpen-from_large, taken-large}
-use Rattle.server_loop.proofs.FrameHeads.{IsTooLarge-more}
+use Rattle.server_loop.proofs.ServingLemmas.{BeginsNoFrame-from_large, taken-large}
+use Rattle.server_loop.proofs.FrameHeads.{IsTooLong-more}
 
 module _ {S : Type 0} (shows : S → State → Type 0) (says : S → Lent → Kept → S → Type 0) (between : S → S → Type 0) where
   -- the reader was at its end
@@ -33,14 +33,14 @@ module _ {S : Type 0} (shows : S → State → Type 0) (says : S → Lent → Ke
   past : (a b : S) (stream rest' : List ℕ) (h i : Option (List ℕ)) (r : ℕ) (p : Serves shows says between a b (Some stream) (Some rest') h i r (Ok ends.TooLarge)) → ServesStream shows says between a b stream h i ends.TooLarge
   past a b stream rest' h i r p =
       let q = p.handled in
-      let large = IsTooLarge-more p.rest rest' p.ending in
+      let large = IsTooLong-more p.rest rest' p.ending in
       record {
         bodies = q.bodies;
         rest = p.rest ++ rest';
         cut = record {
           whole = p.consumed ∙ ap (λ x. x ++ rest') q.whole ∙ append_assoc (frames q.bodies) p.rest rest';
           each = q.each;
-          open_rest = IsOpen-from_large (p.rest ++ rest') large;
+          open_rest = BeginsNoFrame-from_large (p.rest ++ rest') large;
         };
         rest_is = large;
         replies = q.replies;

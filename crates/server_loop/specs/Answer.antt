@@ -14,11 +14,11 @@ use Rattle.row_atomic.specs.Room.{HasNoRoom}
 use Rattle.row_atomic.specs.Roots.{Checkpoints, Rests}
 use Rattle.si_model.specs.Machine.{IsReached, State}
 use Rattle.server_loop.specs.Commands.{HasOutcome, command_of, outcome_of}
-use Rattle.server_loop.specs.Refusals.{IsRefusalOf}
+use Rattle.server_loop.specs.Refusals.{IsRefusalOfRequest}
 use Rattle.server_loop.specs.Resting.{KeepsResting}
 use Rattle.server_loop.specs.Runs.{KeepsToLimits, IfRefused, StampsGoOn, StepsAs}
-use Rattle.server_loop.specs.Sessions.{ChangesCells, IsAlwaysTold, KeepsCleaners, KeepsCollectors, KeepsOracle, KeepsSessions, LeavesRoom}
-use Rattle.server_loop.specs.Server.{IsFaultSeen, SeesNoFault, Shows, cells_of, cluster_of, floor_of, tending_of, last_of, marks_of, top_of}
+use Rattle.server_loop.specs.Sessions.{ChangesCells, IsAlwaysTold, KeepsCleaners, KeepsCollectors, KeepsOracle, KeepsSessions, LeavesServerRoom}
+use Rattle.server_loop.specs.Server.{IsFaultSeen, SeesNoFault, Shows, server_cells, cluster_of, floor_of, tending_of, last_of, marks_of, top_of}
 use Rattle.server_loop.specs.declared.server.Server.{Server}
 use Rattle.txn_client.specs.Room.{ChangesNext, EditsOfStep}
 use Rattle.txn_client.specs.Shows.{IsAboutToDraw}
@@ -34,7 +34,7 @@ use Rattle.version_collector.specs.Shows as collectors
 pub record IsMachineStep {F M : Type 0} (contents : F → Option Contents) (request : Request)
     (reply : Reply) (old new : Server F M) : Type 0 where
   pub step : StepsAs (Shows contents) old new (asked request) (replied reply)
-  pub refusal : IfRefused (IsRefusalOf request) (replied reply)
+  pub refusal : IfRefused (IsRefusalOfRequest request) (replied reply)
   pub limits : KeepsToLimits reply
 
 -- ---- stamps
@@ -71,7 +71,7 @@ pub record DrawsStamps {F M : Type 0} (contents : F → Option Contents) (mark :
 pub record MakesEdits {F M : Type 0} (contents : F → Option Contents) (request : Request)
     (reply : Reply) (old new : Server F M) : Type 0 where
   pub changes : ChangesCells contents request reply old new
-  pub room : LeavesRoom contents request reply old new
+  pub room : LeavesServerRoom contents request reply old new
 
 -- ---- sessions
 
@@ -107,12 +107,12 @@ TendsTablets contents faults request reply old new =
 abbrev pub LacksRoom : {F M : Type 0} → (F → Option Contents) → Request → Server F M → Type 0
 LacksRoom contents (Step start) old =
     HasNoRoom OverfillsCluster (cluster_of old)
-    (EditsOfStep (Holds contents (cluster_of old)) (cells_of contents old) old.clients start)
+    (EditsOfStep (Holds contents (cluster_of old)) (server_cells contents old) old.clients start)
     × ((st : State) → IsReached st → Shows contents old st
     → HasNoRoom OverfillsCluster (cluster_of old) (ChangesNext st start))
 LacksRoom contents (CleanStep cleaner) old =
     HasNoRoom OverfillsCluster (cluster_of old)
-    (clean_up.EditsOfStep (Holds contents (cluster_of old)) (cells_of contents old) old.cleaners
+    (clean_up.EditsOfStep (Holds contents (cluster_of old)) (server_cells contents old) old.cleaners
     cleaner)
     × ((st : State) → IsReached st → Shows contents old st
     → HasNoRoom OverfillsCluster (cluster_of old) (clean_up.ChangesNext st cleaner))

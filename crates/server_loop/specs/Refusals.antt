@@ -27,22 +27,23 @@ IsRawRefusal BadRow = ⊤
 IsRawRefusal BadColumn = ⊤
 IsRawRefusal refusal = IsReadRefusal refusal
 
-abbrev pub IsRefusalOf : Request → Refusal → Type 0
-IsRefusalOf Begin refusal = IsBeginRefusal refusal
-IsRefusalOf (Get start row family) refusal = IsGetRefusal refusal
-IsRefusalOf (Set start row family value) refusal = IsSetRefusal refusal
-IsRefusalOf (Step start) refusal = IsStepRefusal refusal
-IsRefusalOf (Stop start) refusal = refusal ≡ UnknownSession
-IsRefusalOf (CleanBegin row family) refusal = clean_up.IsBeginRefusal refusal
-IsRefusalOf (CleanStep cleaner) refusal = clean_up.IsStepRefusal refusal
-IsRefusalOf CollectBegin refusal = version_collector.IsBeginRefusal refusal
-IsRefusalOf (CollectStep collector visits) refusal = version_collector.IsStepRefusal refusal
-IsRefusalOf (Minor tablet) refusal = IsNumberedRefusal compaction.minor refusal
-IsRefusalOf (Merge tablet count) refusal = IsNumberedRefusal (compaction.merging count) refusal
-IsRefusalOf (Major tablet) refusal = IsNumberedRefusal compaction.major refusal
-IsRefusalOf (Split row) refusal = IsCutRefusal refusal
-IsRefusalOf (Move tablet server) refusal = IsMoveRefusal refusal
-IsRefusalOf Sweep refusal = IsSweepRefusal refusal
-IsRefusalOf OracleRestart refusal = refusal ≡ Device
-IsRefusalOf (Raw row family qualifier lo hi) refusal = IsRawRefusal refusal
-IsRefusalOf Checkpoint refusal = cluster.IsRefusalOf compaction.minor refusal
+abbrev pub IsRefusalOfRequest : Request → Refusal → Type 0
+IsRefusalOfRequest Begin refusal = IsBeginRefusal refusal
+IsRefusalOfRequest (Get start row family) refusal = IsGetRefusal refusal
+IsRefusalOfRequest (Set start row family value) refusal = IsSetRefusal refusal
+IsRefusalOfRequest (Step start) refusal = IsStepRefusal refusal
+IsRefusalOfRequest (Stop start) refusal = refusal ≡ UnknownSession
+IsRefusalOfRequest (CleanBegin row family) refusal = clean_up.IsBeginRefusal refusal
+IsRefusalOfRequest (CleanStep cleaner) refusal = clean_up.IsStepRefusal refusal
+IsRefusalOfRequest CollectBegin refusal = version_collector.IsBeginRefusal refusal
+IsRefusalOfRequest (CollectStep collector visits) refusal = version_collector.IsStepRefusal refusal
+IsRefusalOfRequest (Minor tablet) refusal = IsNumberedRefusal compaction.minor refusal
+IsRefusalOfRequest (Merge tablet count) refusal =
+    IsNumberedRefusal (compaction.merging count) refusal
+IsRefusalOfRequest (Major tablet) refusal = IsNumberedRefusal compaction.major refusal
+IsRefusalOfRequest (Split row) refusal = IsCutRefusal refusal
+IsRefusalOfRequest (Move tablet server) refusal = IsMoveRefusal refusal
+IsRefusalOfRequest Sweep refusal = IsSweepRefusal refusal
+IsRefusalOfRequest OracleRestart refusal = refusal ≡ Device
+IsRefusalOfRequest (Raw row family qualifier lo hi) refusal = IsRawRefusal refusal
+IsRefusalOfRequest Checkpoint refusal = cluster.IsRefusalOf compaction.minor refusal

@@ -6,7 +6,7 @@ use Rattle.si_model.specs.Machine.{State, Reply}
 use Rattle.request_codec.specs.Replies.{reply_body}
 use Rattle.request_codec.specs.declared.replies.Reply.{Reply as Kept}
 use Rattle.request_codec.specs.declared.requests.Request.{Request as Lent}
-use Rattle.request_codec.specs.Stream.{longest, frame, frames, announced, IsTooLarge, IsPartial, IsOpen, IsCut, IsBody}
+use Rattle.request_codec.specs.Stream.{longest, frame, frames, announced, IsTooLong, IsPartial, BeginsNoFrame, CutsInto, IsBody}
 use Rattle.server_loop.specs.Runs.{Taken, Body, Oversize, AnswersAs, RunsAs, SaysAll, SaysOf}
 use Rattle.server_loop.specs.declared.ends.End.{End}
 use Rattle.server_loop.specs.declared.ends.End.TheVariants as ends
@@ -30,10 +30,10 @@ written_of replies = frames (map reply_body replies)
 
 -- All of the bodies and of their rest was taken. Where a write failed, a length past the limit may
 -- not have been come to.
-abbrev pub Takes : Result End ServeFault → List (List ℕ) → List ℕ → List Taken → Type 0
-Takes (Err faults.Write) bodies rest taken =
-    (taken ≡ map Body bodies) ⊎ (IsTooLarge rest × (taken ≡ map Body bodies ++ Oversize ∷ []))
-Takes result bodies rest taken = taken ≡ taken_of bodies rest
+abbrev pub TakesBodies : Result End ServeFault → List (List ℕ) → List ℕ → List Taken → Type 0
+TakesBodies (Err faults.Write) bodies rest taken =
+    (taken ≡ map Body bodies) ⊎ (IsTooLong rest × (taken ≡ map Body bodies ++ Oversize ∷ []))
+TakesBodies result bodies rest taken = taken ≡ taken_of bodies rest
 
 -- The last reply was not written to its end, and nothing came after it: the server is as after the
 -- last request.
@@ -60,12 +60,12 @@ WritesAll says between old new taken replies written =
 
 -- What was written. Only a failed write cuts a reply short; after a failed flush all replies were
 -- written.
-abbrev pub Writes : {S : Type 0} → (S → Lent → Kept → S → Type 0) → (S → S → Type 0)
+abbrev pub WritesReplies : {S : Type 0} → (S → Lent → Kept → S → Type 0) → (S → S → Type 0)
     → Result End ServeFault → S → S → List Taken → List Reply → List ℕ → Type 0
-Writes says between (Err faults.Write) old new taken replies written =
+WritesReplies says between (Err faults.Write) old new taken replies written =
     WritesAll says between old new taken replies written
     ⊎ IsCutShort says between old new taken replies written
-Writes says between result old new taken replies written =
+WritesReplies says between result old new taken replies written =
     WritesAll says between old new taken replies written
 
 -- ---- how it ends
@@ -77,7 +77,7 @@ abbrev pub EndsBy : Result End ServeFault → ℕ → List ℕ → List ℕ → 
 EndsBy (Ok ends.Clean) most_reads read rest left held held' = (rest ≡ []) × IsAtEnd left
 EndsBy (Ok ends.Truncated) most_reads read rest left held held' =
     (0 < length rest) × IsPartial rest × IsAtEnd left
-EndsBy (Ok ends.TooLarge) most_reads read rest left held held' = IsTooLarge rest
+EndsBy (Ok ends.TooLarge) most_reads read rest left held held' = IsTooLong rest
 EndsBy (Ok ends.ReadsUsedUp) most_reads read rest left held held' =
     (most_reads ≤ length read) × IsPartial rest
 EndsBy (Err faults.Read) most_reads read rest left held held' = IsPartial rest
@@ -96,11 +96,11 @@ pub record Handles {S : Type 0} (shows : S → State → Type 0) (says : S → L
   pub whole : bytes ≡ frames bodies ++ rest
   pub each : AllByRecursion IsBody bodies
   pub taken : List Taken
-  pub takes : Takes result bodies rest taken
+  pub takes : TakesBodies result bodies rest taken
   pub replies : List Reply
   pub run : RunsAs shows old new taken replies
   pub written : List ℕ
-  pub writes : Writes says between result old new taken replies written
+  pub writes : WritesReplies says between result old new taken replies written
   pub appended : Appends held held' written
 
 -- Whole frames of bytes were answered, and all the replies written.
@@ -122,7 +122,7 @@ abbrev pub HandlesTo : {S : Type 0} → (S → State → Type 0) → (S → Lent
 HandlesTo shows says between (Ok rests.Partial) old new bytes rest held held' =
     IsPartial rest × Answered shows says between old new bytes rest held held'
 HandlesTo shows says between (Ok rests.TooLarge) old new bytes rest held held' =
-    IsTooLarge rest × Handles shows says between (Ok ends.TooLarge) old new bytes rest held held'
+    IsTooLong rest × Handles shows says between (Ok ends.TooLarge) old new bytes rest held held'
 HandlesTo shows says between (Err faults.Write) old new bytes rest held held' =
     Handles shows says between (Err faults.Write) old new bytes rest held held'
 HandlesTo shows says between (Err faults.Read) old new bytes rest held held' = ⊥
@@ -166,7 +166,7 @@ pub record ServesOn {S : Type 0} (shows : S → State → Type 0) (says : S → 
   pub read : List ℕ
   pub consumed : Consumes left left' read
   pub rest : List ℕ
-  pub open_rest : result ≢ Err faults.Write → IsOpen rest
+  pub open_rest : result ≢ Err faults.Write → BeginsNoFrame rest
   pub handled : Handles shows says between result old new (hand ++ read) rest held held'
   pub ending : EndsBy result most_reads read rest left' held held'
 
@@ -181,7 +181,7 @@ Serves shows says between old new left left' held held' most_reads result =
 abbrev pub RestIs : End → List ℕ → Type 0
 RestIs ends.Clean rest = rest ≡ []
 RestIs ends.Truncated rest = (0 < length rest) × IsPartial rest
-RestIs ends.TooLarge rest = IsTooLarge rest
+RestIs ends.TooLarge rest = IsTooLong rest
 RestIs ends.ReadsUsedUp rest = Unit {0}
 
 -- The whole of a stream was served: its bodies, and its rest as the end says.
@@ -190,7 +190,7 @@ pub record ServesStream {S : Type 0} (shows : S → State → Type 0)
     (held held' : Option (List ℕ)) (end : End) : Type 0 where
   pub bodies : List (List ℕ)
   pub rest : List ℕ
-  pub cut : IsCut stream bodies rest
+  pub cut : CutsInto stream bodies rest
   pub rest_is : RestIs end rest
   pub replies : List Reply
   pub run : AnswersAs shows says between old new (taken_of bodies rest) replies

@@ -89,5 +89,5 @@ pub record SeesNoFault {F M : Type 0} (file_faults : F → ℕ) (mark_faults : M
   pub marks : mark_faults new.oracle.marks ≡ mark_faults old.oracle.marks
 
 -- all cells
-abbrev pub cells_of : {F M : Type 0} → (F → Option Contents) → Server F M → Cells
-cells_of contents server = cells_in (contents server.cluster.files) server.cluster.tablets
+abbrev pub server_cells : {F M : Type 0} → (F → Option Contents) → Server F M → Cells
+server_cells contents server = cells_in (contents server.cluster.files) server.cluster.tablets

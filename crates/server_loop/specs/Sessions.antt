@@ -17,7 +17,7 @@ use Rattle.request_codec.specs.declared.replies.Reply.TheVariants as kept
 use Rattle.request_codec.specs.declared.requests.Request.{Request}
 use Rattle.request_codec.specs.declared.requests.Request.TheVariants.{Begin, Get, Set, Step, Stop, CleanBegin, CleanStep, CollectBegin, CollectStep, OracleRestart}
 use Rattle.server_loop.specs.Runs.{IfRefused}
-use Rattle.server_loop.specs.Server.{Shows, cells_of, cluster_of, marks_of}
+use Rattle.server_loop.specs.Server.{Shows, server_cells, cluster_of, marks_of}
 use Rattle.server_loop.specs.declared.server.Server.{Server}
 use Rattle.txn_client.specs.Room.{ChangesNext, Makes, TakesRoom}
 use Rattle.txn_client.specs.declared.clients.Clients.{Clients}
@@ -39,10 +39,10 @@ pub record MakesVisits {F M : Type 0} (contents : F → Option Contents) (collec
     (result : Result CollectReply Refusal)
     (old new : Server F M) (st : State) : Type 0 where
   pub visits : IsCount n
-      → VisitsAt collector n result (cells_of contents old) old.collectors (cells_of contents new)
-      new.collectors
-  pub collects : Collects (cells_of contents old) (cells_of contents new) st
-  pub thins : Thins n (cells_of contents old) (cells_of contents new)
+      → VisitsAt collector n result (server_cells contents old) old.collectors
+      (server_cells contents new) new.collectors
+  pub collects : Collects (server_cells contents old) (server_cells contents new) st
+  pub thins : Thins n (server_cells contents old) (server_cells contents new)
 
 -- A step that is done makes the edits of its session's next step, or of its cleaner's, or none
 -- where it makes none: cells of one row at most, at the session's stamps. A collector's step makes
@@ -53,56 +53,56 @@ abbrev pub ChangesCells : {F M : Type 0} → (F → Option Contents) → Request
     → Server F M → Type 0
 ChangesCells contents (Step start) (kept.Step progress) old new =
     (st : State) → Shows contents old st
-    → TouchesFor st start (cells_of contents old) (cells_of contents new)
-    × (IsReached st → Makes (ChangesNext st start) progress (cells_of contents old)
-    (cells_of contents new))
+    → TouchesFor st start (server_cells contents old) (server_cells contents new)
+    × (IsReached st → Makes (ChangesNext st start) progress (server_cells contents old)
+    (server_cells contents new))
 ChangesCells contents (CleanStep cleaner) (kept.CleanStep done) old new =
     (st : State) → IsReached st → Shows contents old st
-    → open_cleaners.TouchesFor st cleaner (cells_of contents old) (cells_of contents new)
-    × clean_up.Makes (clean_up.ChangesNext st cleaner) done (cells_of contents old)
-    (cells_of contents new)
+    → open_cleaners.TouchesFor st cleaner (server_cells contents old) (server_cells contents new)
+    × clean_up.Makes (clean_up.ChangesNext st cleaner) done (server_cells contents old)
+    (server_cells contents new)
 ChangesCells contents (CollectStep collector n) (kept.CollectStep done) old new =
     (st : State) → IsReached st → Shows contents old st
     → MakesVisits contents collector n (Ok done) old new st
-    × TellsAt collector n done (cells_of contents old) old.collectors (cells_of contents new)
-    new.collectors st
+    × TellsAt collector n done (server_cells contents old) old.collectors
+    (server_cells contents new) new.collectors st
 ChangesCells contents (CollectStep collector n) (kept.Refused refusal) old new =
     ((st : State) → IsReached st → Shows contents old st
     → MakesVisits contents collector n (Err refusal) old new st)
     × (IsEarlyRefusal refusal → Holds contents (cluster_of old)
-    → cells_of contents new ≡ cells_of contents old)
+    → server_cells contents new ≡ server_cells contents old)
 ChangesCells contents request reply old new =
-    Holds contents (cluster_of old) → cells_of contents new ≡ cells_of contents old
+    Holds contents (cluster_of old) → server_cells contents new ≡ server_cells contents old
 
 -- What is for sessions, cleaners, collectors and the oracle takes no room in memory, but a step
 -- that of its edits. What a command or a checkpoint takes its outcome says.
-abbrev pub LeavesRoom : {F M : Type 0} → (F → Option Contents) → Request → Reply → Server F M
+abbrev pub LeavesServerRoom : {F M : Type 0} → (F → Option Contents) → Request → Reply → Server F M
     → Server F M → Type 0
-LeavesRoom contents Begin reply old new = IsNoFuller (cluster_of old) (cluster_of new)
-LeavesRoom contents (Get start row family) reply old new =
+LeavesServerRoom contents Begin reply old new = IsNoFuller (cluster_of old) (cluster_of new)
+LeavesServerRoom contents (Get start row family) reply old new =
     IsNoFuller (cluster_of old) (cluster_of new)
-LeavesRoom contents (Set start row family value) reply old new =
+LeavesServerRoom contents (Set start row family value) reply old new =
     IsNoFuller (cluster_of old) (cluster_of new)
-LeavesRoom contents (Step start) (kept.Step progress) old new =
+LeavesServerRoom contents (Step start) (kept.Step progress) old new =
     (st : State) → IsReached st → Shows contents old st
     → TakesRoom OverfillsCluster (ChangesNext st start) progress (cluster_of old)
     (cluster_of new)
-LeavesRoom contents (Step start) (kept.Refused refusal) old new =
+LeavesServerRoom contents (Step start) (kept.Refused refusal) old new =
     IsNoFuller (cluster_of old) (cluster_of new)
-LeavesRoom contents (Stop start) reply old new = IsNoFuller (cluster_of old) (cluster_of new)
-LeavesRoom contents (CleanBegin row family) reply old new =
+LeavesServerRoom contents (Stop start) reply old new = IsNoFuller (cluster_of old) (cluster_of new)
+LeavesServerRoom contents (CleanBegin row family) reply old new =
     IsNoFuller (cluster_of old) (cluster_of new)
-LeavesRoom contents (CleanStep cleaner) (kept.CleanStep done) old new =
+LeavesServerRoom contents (CleanStep cleaner) (kept.CleanStep done) old new =
     (st : State) → IsReached st → Shows contents old st
     → clean_up.TakesRoom OverfillsCluster (clean_up.ChangesNext st cleaner) done (cluster_of old)
     (cluster_of new)
-LeavesRoom contents (CleanStep cleaner) (kept.Refused refusal) old new =
+LeavesServerRoom contents (CleanStep cleaner) (kept.Refused refusal) old new =
     IsNoFuller (cluster_of old) (cluster_of new)
-LeavesRoom contents CollectBegin reply old new = IsNoFuller (cluster_of old) (cluster_of new)
-LeavesRoom contents (CollectStep collector n) reply old new =
+LeavesServerRoom contents CollectBegin reply old new = IsNoFuller (cluster_of old) (cluster_of new)
+LeavesServerRoom contents (CollectStep collector n) reply old new =
     TakesRoomOfVisits OverfillsCluster n (cluster_of old) (cluster_of new)
-LeavesRoom contents OracleRestart reply old new = IsNoFuller (cluster_of old) (cluster_of new)
-LeavesRoom contents request reply old new = ⊤
+LeavesServerRoom contents OracleRestart reply old new = IsNoFuller (cluster_of old) (cluster_of new)
+LeavesServerRoom contents request reply old new = ⊤
 
 -- What takes no memory is told exactly: that as many sessions are active as there may be, that one
 -- isn't active, that a commit has no writes, why a step that draws is refused, that a cleaner or a

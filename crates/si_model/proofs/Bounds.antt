@@ -14,24 +14,24 @@ use Rattle.si_model.specs.declared.replies.Cell.{Cell}
 use Rattle.si_model.specs.Refusing.{begin_full, set_full}
 use Rattle.si_model.specs.Machine.{Acts, tells, begins, reads, sets, holds, conflicts, draws, loses, commits, finishes, stops, opens, kills, learns, rolls_forward, rolls_back, finds_gone, collects, has_collected, splits, moves_tablet, Step, refuses, accepts}
 use Rattle.si_model.specs.Machine.{Run, rests, goes_on, IsReached, begins_new, runs, reopens, new_machine}
-use Rattle.si_model.specs.Laws.{Fits, Bounds}
+use Rattle.si_model.specs.Laws.{FitsPhase, Bounds}
 use Rattle.si_model.proofs.Tools.{get_other, each_insert, each_remove, same_entry, set_length, len_grows, len_stays, len_falls}
 use Rattle.si_model.proofs.Invariant.{Sound}
 use Rattle.si_model.proofs.Kept.{held_phase}
 use Rattle.si_model.proofs.Steps.{acts_sound, step_sound, reached_sound}
 
 -- a session goes on to a phase that fits
-goes_fit : (st : State) (t : ℕ) (p : Phase) (ws : Writes) → Wrote st t ws → Fits p (length ws) → Bounds st → (u : ℕ) (q : Phase) → get (insert st.active t p) u ≡ Some q → (vs : Writes) → Wrote st u vs → Fits q (length vs)
-goes_fit st t p ws w fit b = each_insert st.active t (λ u q. (vs : Writes) → Wrote st u vs → Fits q (length vs)) p
-    (λ vs w'. subst (λ (vs : Writes). Fits p (length vs)) (same_entry st.begun t ws vs w w') fit) (λ u q ne h. b.fits u q h)
+goes_fit : (st : State) (t : ℕ) (p : Phase) (ws : Writes) → Wrote st t ws → FitsPhase p (length ws) → Bounds st → (u : ℕ) (q : Phase) → get (insert st.active t p) u ≡ Some q → (vs : Writes) → Wrote st u vs → FitsPhase q (length vs)
+goes_fit st t p ws w fit b = each_insert st.active t (λ u q. (vs : Writes) → Wrote st u vs → FitsPhase q (length vs)) p
+    (λ vs w'. subst (λ (vs : Writes). FitsPhase p (length vs)) (same_entry st.begun t ws vs w w') fit) (λ u q ne h. b.fits u q h)
 
-ends_fit : (st : State) (t : ℕ) → Bounds st → (u : ℕ) (q : Phase) → get (remove st.active t) u ≡ Some q → (vs : Writes) → Wrote st u vs → Fits q (length vs)
-ends_fit st t b = each_remove st.active t (λ u q. (vs : Writes) → Wrote st u vs → Fits q (length vs)) (λ u q ne h. b.fits u q h)
+ends_fit : (st : State) (t : ℕ) → Bounds st → (u : ℕ) (q : Phase) → get (remove st.active t) u ≡ Some q → (vs : Writes) → Wrote st u vs → FitsPhase q (length vs)
+ends_fit st t b = each_remove st.active t (λ u q. (vs : Writes) → Wrote st u vs → FitsPhase q (length vs)) (λ u q ne h. b.fits u q h)
 
-late_fit : (st : State) (t c k : ℕ) (ws : Writes) → Wrote st t ws → 1 ≤ k → k ≤ length ws → Bounds st → (u : ℕ) (q : Phase) → get (finishing st.active t c k (length ws)) u ≡ Some q → (vs : Writes) → Wrote st u vs → Fits q (length vs)
+late_fit : (st : State) (t c k : ℕ) (ws : Writes) → Wrote st t ws → 1 ≤ k → k ≤ length ws → Bounds st → (u : ℕ) (q : Phase) → get (finishing st.active t c k (length ws)) u ≡ Some q → (vs : Writes) → Wrote st u vs → FitsPhase q (length vs)
 late_fit st t c k ws w some few b = by (nat_eq k (length ws)) refl
   where
-    by : (last : Bool) → nat_eq k (length ws) ≡ last → (u : ℕ) (q : Phase) → get (cond last (remove st.active t) (insert st.active t (Finishing c k))) u ≡ Some q → (vs : Writes) → Wrote st u vs → Fits q (length vs)
+    by : (last : Bool) → nat_eq k (length ws) ≡ last → (u : ℕ) (q : Phase) → get (cond last (remove st.active t) (insert st.active t (Finishing c k))) u ≡ Some q → (vs : Writes) → Wrote st u vs → FitsPhase q (length vs)
     by true e = ends_fit st t b
     by false e = goes_fit st t (Finishing c k) ws w (some, grind (arith, nat_tests, e)) b
 
@@ -76,7 +76,7 @@ finishing_low st i top t c k h = let f = i.finishes t (Finishing c k) h c k refl
 
 -- a step that begins nothing and sets nothing
 kept_bounds : {st st' : State} → Sound st' → Bounds st → st'.begun ≡ st.begun → st'.top < end_of_stamps → len st'.active ≤ most_sessions
-    → ((t : ℕ) (p : Phase) → InPhase st' t p → (ws : Writes) → Wrote st t ws → Fits p (length ws)) → Bounds st'
+    → ((t : ℕ) (p : Phase) → InPhase st' t p → (ws : Writes) → Wrote st t ws → FitsPhase p (length ws)) → Bounds st'
 kept_bounds {st} {st'} i b same top few fits = record {
   top = top;
   start_from = λ t ws w. b.start_from t ws (before t ws w);
@@ -102,7 +102,7 @@ acts_bounds {st} {st'} i b ok (begins {s = s} d) = let sound : Sound st' = acts_
   few_writes = each_insert st.begun s (λ t ws. length ws ≤ most_writes) [] (omega arith) (λ t ws ne w. b.few_writes t ws w);
   has_begun = sound.has_begun;
   few_sessions = begins_few st s ok;
-  fits = each_insert st.active s (λ u q. (vs : Writes) → get (insert st.begun s []) u ≡ Some vs → Fits q (length vs)) Open (λ vs w. tt)
+  fits = each_insert st.active s (λ u q. (vs : Writes) → get (insert st.begun s []) u ≡ Some vs → FitsPhase q (length vs)) Open (λ vs w. tt)
       (λ u q ne h vs w. b.fits u q h vs (sym (get_other st.begun s [] u ne) ∙ w));
   stamped_to = stamped_low st' sound d.1;
   finishing_to = finishing_low st' sound d.1;
@@ -116,7 +116,7 @@ acts_bounds {st} {st'} i b ok (sets {s = s} {x = x} {v = v} {ws = ws} {ws' = ws'
   has_begun = sound.has_begun;
   few_sessions = b.few_sessions;
   fits = λ u q h' vs w. elim (cases_eq u s) [
-    | inl e ↦ subst (λ (p : Phase). Fits p (length vs)) (same_entry st.active u Open q (subst (λ v. InPhase st v Open) (sym e) h) h') tt
+    | inl e ↦ subst (λ (p : Phase). FitsPhase p (length vs)) (same_entry st.active u Open q (subst (λ v. InPhase st v Open) (sym e) h) h') tt
     | inr ne ↦ b.fits u q h' vs (sym (get_other st.begun s ws' u ne) ∙ w)
   ];
   stamped_to = b.stamped_to;

@@ -5,7 +5,7 @@ use Rattle.std.specs.Ordering.{nat_cmp}
 use Rattle.std.specs.FinMap.{get, insert, remove, get-empty}
 use Rattle.std.proofs.lemmas.Bool.{cases_eq}
 use Rattle.std.proofs.lemmas.Option.{same_Some, none-some}
-use Rattle.si_model.specs.Sets.{◌∈◌, here, there, Leaves}
+use Rattle.si_model.specs.Sets.{◌∈◌, here, there, IsWithout}
 use Rattle.si_model.specs.Machine.{State, Value, Writes, Open, Stamped, Finishing, Commit, Cleaner, Request, Reply, InPhase, Wrote, Marked, Puts, IsDead, IsCommitted, HasHeld}
 use Rattle.si_model.specs.declared.replies.Cell.{Cell}
 use Rattle.si_model.specs.Machine.{Acts, tells, begins, reads, sets, holds, conflicts, draws, loses, commits, finishes, stops, opens, kills, learns, rolls_forward, rolls_back, finds_gone, collects, has_collected, splits, moves_tablet, Step, refuses, accepts}
@@ -73,7 +73,7 @@ abbrev still_primary : {st st' : State} {q : Request} {r : Reply} → Sound st �
 still_primary i s u p = record { x = p.x; ws = p.ws; v = p.v; wrote = acts_wrote i s p.x u p.placed p.ws p.wrote; puts = p.puts; placed = acts_placed i s p.x u p.placed }
 
 -- where the mark of t on x leaves, and t is committed or dead by then
-left_known : (st st' : State) (x : Cell) (t : ℕ) → Leaves st.marks (x, t) st'.marks → (IsCommitted st' t ⊎ IsDead st' t) → ((u : ℕ) → IsCommitted st u ⊎ IsDead st u → IsCommitted st' u ⊎ IsDead st' u)
+left_known : (st st' : State) (x : Cell) (t : ℕ) → IsWithout st.marks (x, t) st'.marks → (IsCommitted st' t ⊎ IsDead st' t) → ((u : ℕ) → IsCommitted st u ⊎ IsDead st u → IsCommitted st' u ⊎ IsDead st' u)
     → (y : Cell) (u : ℕ) → Marked st y u ⊎ (IsCommitted st u ⊎ IsDead st u) → Marked st' y u ⊎ (IsCommitted st' u ⊎ IsDead st' u)
 left_known st st' x t less fate later y u (inr f) = inr (later u f)
 left_known st st' x t less fate later y u (inl m) = elim (cases_eq u t) [
@@ -152,7 +152,7 @@ known_held {st} {st'} t zero ws x v i s w h puts w' m = record {
 }
 known_held {st} {st'} t (suc k) ws x v i s w h puts w' m = still_known i s t (known_before st t (suc k) ws x v i h w puts (omega arith))
 
-over_now : (st : State) (t : ℕ) (ws : Writes) (x : Cell) (v : Value) (marks : List (Cell × ℕ)) → Primary st t → Wrote st t ws → Puts ws 0 x v → Leaves marks (x, t) st.marks → IsOver st t
+over_now : (st : State) (t : ℕ) (ws : Writes) (x : Cell) (v : Value) (marks : List (Cell × ℕ)) → Primary st t → Wrote st t ws → Puts ws 0 x v → IsWithout marks (x, t) st.marks → IsOver st t
 over_now st t ws x v marks p w puts less = record {
   first = p;
   left = λ m. ((less.same (p.x, t)).0 m).1 (ap (λ y. (y, t)) (primary_is st t ws x v p w puts));

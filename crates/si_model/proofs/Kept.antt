@@ -5,7 +5,7 @@ use Rattle.std.specs.Ordering.{nat_cmp}
 use Rattle.std.specs.FinMap.{FinMap, get, insert, remove}
 use Rattle.std.proofs.lemmas.Bool.{cases_eq, cases_lt}
 use Rattle.std.proofs.lemmas.Option.{same_Some, slice_get_within}
-use Rattle.si_model.specs.Sets.{◌∈◌, here, there, Leaves}
+use Rattle.si_model.specs.Sets.{◌∈◌, here, there, IsWithout}
 use Rattle.si_model.specs.Machine.{State, Value, Writes, Phase, Open, Holding, Stamped, Finishing, Commit, Read, Cleaner, Place, InPhase, Wrote, Marked, Puts, Names, IsDead, CommittedAt, IsCommitted, IsSnapshot, Clashes, HasHeld, finishing}
 use Rattle.si_model.specs.declared.replies.Cell.{Cell}
 use Rattle.si_model.proofs.Tools.{each_cons, get_same, get_other, each_insert, each_remove, same_entry, CellsDiffer}
@@ -495,7 +495,7 @@ module _ (st : State) (t c : ℕ) (ws : Writes) where
   }
 
 -- a mark leaves, of a start that is dead or committed
-module _ (st : State) (x : Cell) (t : ℕ) (marks' : List (Cell × ℕ)) (less : Leaves st.marks (x, t) marks') where
+module _ (st : State) (x : Cell) (t : ℕ) (marks' : List (Cell × ℕ)) (less : IsWithout st.marks (x, t) marks') where
   abbrev pub unmarked : State
   unmarked = record st { marks = marks' }
 

@@ -11,12 +11,12 @@ use Rattle.si_model.specs.Machine.{State, Place, Request, Reply, CleanBegin, Col
 use Rattle.si_model.specs.Refusing.{clean_full, collect_full, split_full}
 use Rattle.si_model.specs.Machine.{Acts, tells, begins, reads, sets, holds, conflicts, draws, loses, commits, finishes, stops, opens, kills, learns, rolls_forward, rolls_back, finds_gone, collects, has_collected, splits, moves_tablet, Step, refuses, accepts}
 use Rattle.si_model.specs.Machine.{Run, rests, goes_on, IsReached, begins_new, runs, reopens}
-use Rattle.si_model.specs.Laws.{IsNumbered, Numbers}
+use Rattle.si_model.specs.Laws.{AreNumbered, Numbers}
 use Rattle.si_model.proofs.Tools.{each_insert, each_remove, len_grows, len_stays, len_falls}
 
-module _ {X : Type 0} (m : FinMap nat_cmp X) (next most : ℕ) (n : IsNumbered m next most) where
+module _ {X : Type 0} (m : FinMap nat_cmp X) (next most : ℕ) (n : AreNumbered m next most) where
   -- one is opened
-  added : (x : X) → len m < most → next < end_of_stamps → IsNumbered (insert m next x) (next + 1) most
+  added : (x : X) → len m < most → next < end_of_stamps → AreNumbered (insert m next x) (next + 1) most
   added x room low = record {
     first = omega arith;
     from = each_insert m next (λ i y. 1 ≤ i) x n.first (λ i y ne h. n.from i y h);
@@ -26,7 +26,7 @@ module _ {X : Type 0} (m : FinMap nat_cmp X) (next most : ℕ) (n : IsNumbered m
   }
 
   -- one goes on
-  changed : (k : ℕ) (old x : X) → get m k ≡ Some old → IsNumbered (insert m k x) next most
+  changed : (k : ℕ) (old x : X) → get m k ≡ Some old → AreNumbered (insert m k x) next most
   changed k old x h = record {
     first = n.first;
     from = each_insert m k (λ i y. 1 ≤ i) x (n.from k old h) (λ i y ne g. n.from i y g);
@@ -36,7 +36,7 @@ module _ {X : Type 0} (m : FinMap nat_cmp X) (next most : ℕ) (n : IsNumbered m
   }
 
   -- one is closed
-  closed : (k : ℕ) → IsNumbered (remove m k) next most
+  closed : (k : ℕ) → AreNumbered (remove m k) next most
   closed k = record {
     first = n.first;
     from = each_remove m k (λ i y. 1 ≤ i) (λ i y ne g. n.from i y g);
@@ -45,7 +45,7 @@ module _ {X : Type 0} (m : FinMap nat_cmp X) (next most : ℕ) (n : IsNumbered m
     few = le_trans (len_falls m k) n.few;
   }
 
-none : {X : Type 0} (most : ℕ) → IsNumbered (empty {X = X} {R = nat_cmp}) 1 most
+none : {X : Type 0} (most : ℕ) → AreNumbered (empty {X = X} {R = nat_cmp}) 1 most
 none {X} most = record {
   first = omega arith;
   from = λ i x h. absurd (nothing i x h);
@@ -78,7 +78,7 @@ moves_length (moves_later ne rest) = let e = moves_length rest in omega arith
 
 -- a cleaner takes its first step
 decides : (st : State) → Numbers st → (i t : ℕ) (x : Cell) → get st.cleaners i ≡ Some (record { cell = x; start = t; decided = false })
-    → IsNumbered (insert st.cleaners i (record { cell = x; start = t; decided = true })) st.next_cleaner most_cleaners
+    → AreNumbered (insert st.cleaners i (record { cell = x; start = t; decided = true })) st.next_cleaner most_cleaners
 decides st n i t x is = changed st.cleaners st.next_cleaner most_cleaners n.cleaners i (record { cell = x; start = t; decided = false }) (record { cell = x; start = t; decided = true }) is
 
 acts_numbers : {st st' : State} {q : Request} {r : Reply} → Numbers st → IsAcceptable st q → Acts st q r st' → Numbers st'

@@ -4,7 +4,7 @@ use Rattle.std.specs.Prelude.{slice_get}
 use Rattle.std.specs.FinMap.{get, insert, remove, len}
 use Rattle.std.proofs.lemmas.Option.{same_Some}
 use Rattle.cell_key.specs.Names.{IsRow, IsFamily}
-use Rattle.si_model.specs.Sets.{◌∈◌, here, there, Leaves}
+use Rattle.si_model.specs.Sets.{◌∈◌, here, there, IsWithout}
 use Rattle.si_model.specs.declared.replies.Cell.{Cell}
 use Rattle.si_model.specs.Machine.{State, Value, Writes, Open, Holding, Stamped, Finishing, Commit, Request, Reply, InPhase, Wrote, Marked, Puts, Names, IsDead, IsSnapshot, Clashes, Draws, Sets, finishing, most_sessions, most_value, most_writes}
 use Rattle.si_model.specs.Machine.{Begin, Get, Set, Advance, Begun, Answered, SetDone, Held, Conflict, Drawn, Committed, Finished}
@@ -70,19 +70,19 @@ module _ (st : State) where
       → Step st (Advance t) (Drawn c) (record st { top = c; active = insert st.active t (Stamped c) })
   draw_step t c ws h w some d = accepts (advance_ok (Holding (length ws)) ws h w some) (draws h w d)
 
-  pub commit_step : (t c : ℕ) (ws : Writes) (x : Cell) (v : Value) (marks' : List (Cell × ℕ)) → InPhase st t (Stamped c) → ¬ IsDead st t → Wrote st t ws → Puts ws 0 x v → 1 ≤ length ws → Leaves st.marks (x, t) marks'
+  pub commit_step : (t c : ℕ) (ws : Writes) (x : Cell) (v : Value) (marks' : List (Cell × ℕ)) → InPhase st t (Stamped c) → ¬ IsDead st t → Wrote st t ws → Puts ws 0 x v → 1 ≤ length ws → IsWithout st.marks (x, t) marks'
       → Step st (Advance t) (Committed c) (record st { commits = record { start = t; stamp = c; writes = ws } ∷ st.commits; marks = marks'; active = finishing st.active t c 1 (length ws) })
   commit_step t c ws x v marks' h alive w puts some less = accepts (advance_ok (Stamped c) ws h w some) (commits h alive w puts less)
 
-  pub finish_step : (t c k : ℕ) (ws : Writes) (x : Cell) (v : Value) (marks' : List (Cell × ℕ)) → InPhase st t (Finishing c k) → Wrote st t ws → Puts ws k x v → 1 ≤ length ws → Leaves st.marks (x, t) marks'
+  pub finish_step : (t c k : ℕ) (ws : Writes) (x : Cell) (v : Value) (marks' : List (Cell × ℕ)) → InPhase st t (Finishing c k) → Wrote st t ws → Puts ws k x v → 1 ≤ length ws → IsWithout st.marks (x, t) marks'
       → Step st (Advance t) (Finished (k + 1) (length ws)) (record st { marks = marks'; active = finishing st.active t c (k + 1) (length ws) })
   finish_step t c k ws x v marks' h w puts some less = accepts (advance_ok (Finishing c k) ws h w some) (finishes h w puts less)
 
-pub leaves_only : {A : Type 0} (m : A) → Leaves (m ∷ []) m []
+pub leaves_only : {A : Type 0} (m : A) → IsWithout (m ∷ []) m []
 leaves_only m = record { same = λ n. (λ h. elim h [ ], λ p. absurd (each_cons (λ n. n ≢ m → ⊥) (λ ne. ne refl) (λ k h. elim h [ ]) n p.0 p.1)) }
 
 -- the first of two leaves, which stands last in the list
-pub leaves_last : {A : Type 0} (k m : A) → k ≢ m → Leaves (k ∷ m ∷ []) m (k ∷ [])
+pub leaves_last : {A : Type 0} (k m : A) → k ≢ m → IsWithout (k ∷ m ∷ []) m (k ∷ [])
 leaves_last k m ne = record {
   same = λ n. (
     λ h. each_cons (λ n. (n ∈ (k ∷ m ∷ [])) × (n ≢ m)) (here, ne) (λ n h. elim h [ ]) n h,

@@ -5,11 +5,11 @@ use Rattle.std.specs.FinMap.{get, insert, remove, get-empty}
 use Rattle.std.specs.Ordering.{nat_cmp}
 use Rattle.cell_key.specs.Cells.{Cells}
 use Rattle.cell_key.specs.declared.keys.Qualifier.TheVariants.{Data, Lock, Write}
-use Rattle.si_model.specs.Sets.{◌∈◌, Leaves}
+use Rattle.si_model.specs.Sets.{◌∈◌, IsWithout}
 use Rattle.si_model.specs.Laws.{Goes}
 use Rattle.si_model.specs.Machine.{reopened, State, Value, Writes, Commit, Open, InPhase, Wrote, Gives, Names, Marked}
 use Rattle.si_model.specs.declared.replies.Cell.{Cell}
-use Rattle.si_model.specs.ShowsCells.{key_of, at, IsThere, lock_text, start_text, IsFirst, ShowsMark, NamesCommit, IsReplaced, IsGiven, ShowsCells}
+use Rattle.si_model.specs.ShowsCells.{key_of, at, IsThere, lock_text, start_text, IsFirstCell, ShowsMark, NamesCommit, IsReplaced, IsGiven, ShowsCells}
 use Rattle.si_model.proofs.ShownAt.{cases_key, put_at, put_off, erased_at, erased_off, key_cell, key_stamp, no_lock_data, no_lock_write, no_data_lock, no_data_write, no_write_lock, no_write_data}
 
 module _ (cells : Cells) (st st' : State) (go : Goes st st') (shown : ShowsCells cells st) where
@@ -17,7 +17,7 @@ module _ (cells : Cells) (st st' : State) (go : Goes st st') (shown : ShowsCells
   wrote_stays : (y : Cell) (u : ℕ) → IsThere cells y Data u → (ws : Writes) → Wrote st u ws → Wrote st' u ws
   wrote_stays y u there ws w = let g = shown.given y u there.0 there.1 in go.wrote u ws w g.late
 
-  first_stays : (y : Cell) (u : ℕ) (m : ShowsMark cells st y u) → IsFirst st' u m.first
+  first_stays : (y : Cell) (u : ℕ) (m : ShowsMark cells st y u) → IsFirstCell st' u m.first
   first_stays y u m = (m.is_first.0, m.is_first.1, wrote_stays y u m.value m.is_first.0 m.is_first.2, m.is_first.3)
 
   given_stays : (y : Cell) (u : ℕ) (b : List ℕ) → at cells y Data u ≡ Some b → IsGiven st' y u b
@@ -70,7 +70,7 @@ module _ (cells : Cells) (st st' : State) (go : Goes st st') (shown : ShowsCells
 
     pub shows_held : Marked st' x t → ((y : Cell) (u : ℕ) → Marked st' y u → ((y ≡ x) × (u ≡ t)) ⊎ Marked st y u) → ((y : Cell) (u : ℕ) → Marked st y u → Marked st' y u)
         → ((u : ℕ) → ¬ Marked st x u) → st'.commits ≡ st.commits → ((a : Commit) → a ∈ st.commits → a.start ≢ t)
-        → IsFirst st' t first → (ws : Writes) → Wrote st' t ws → Gives ws x v → ¬ InPhase st' t Open → ShowsCells with_lock st'
+        → IsFirstCell st' t first → (ws : Writes) → Wrote st' t ws → Gives ws x v → ¬ InPhase st' t Open → ShowsCells with_lock st'
     shows_held now each more free same uncommitted is_first ws wrote gives late = record {
       marks = λ y u m. elim (each y u m) [
         | inl e ↦ subst (λ (p : Cell × ℕ). ShowsMark with_lock st' p.0 p.1) (λ i. (sym e.0 i, sym e.1 i)) (record { first = first; is_first = is_first; lock = lock_new; value = (v, data_new) })
@@ -133,7 +133,7 @@ module _ (cells : Cells) (st st' : State) (go : Goes st st') (shown : ShowsCells
     value_rests : (y : Cell) (u : ℕ) → IsThere cells y Data u → IsThere without_lock y Data u
     value_rests y u there = (there.0, same_value y u ∙ there.1)
 
-    pub shows_recorded : Marked st x t → Leaves st.marks (x, t) st'.marks → a ∈ st'.commits → a.start ≡ t → Names a.writes x
+    pub shows_recorded : Marked st x t → IsWithout st.marks (x, t) st'.marks → a ∈ st'.commits → a.start ≡ t → Names a.writes x
         → ((b : Commit) → b ∈ st.commits → b ∈ st'.commits) → ((b : Commit) → b ∈ st'.commits → (b ∈ st.commits) ⊎ (b ≡ a))
         → ((b : Commit) → b ∈ st'.commits → b.stamp ≡ a.stamp → b.start ≡ t) → ((b : Commit) → b ∈ st'.commits → b.start ≡ t → b ≡ a)
         → ((y : Cell) → Names a.writes y → ¬ Marked st y t → a ∈ st.commits)
@@ -217,7 +217,7 @@ module _ (cells : Cells) (st st' : State) (go : Goes st st') (shown : ShowsCells
     there_rests : (y : Cell) (u : ℕ) → IsThere cells y Data u → IsThere with_none y Data u
     there_rests y u there = (there.0, data_rests y u ∙ there.1)
 
-    pub shows_erased : Leaves st.marks (x, t) st'.marks → st'.commits ≡ st.commits → ((a : Commit) → a ∈ st.commits → a.start ≢ t) → ShowsCells with_none st'
+    pub shows_erased : IsWithout st.marks (x, t) st'.marks → st'.commits ≡ st.commits → ((a : Commit) → a ∈ st.commits → a.start ≢ t) → ShowsCells with_none st'
     shows_erased less same uncommitted = record {
       marks = λ y u m. let old = (less.same (y, u)).0 m in let k = shown.marks y u old.0 in record {
         first = k.first;

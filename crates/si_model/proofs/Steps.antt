@@ -4,7 +4,7 @@ use Rattle.std.specs.Ordering.{nat_cmp}
 use Rattle.std.specs.FinMap.{empty, get, insert, remove, get-empty}
 use Rattle.std.proofs.lemmas.Bool.{cases_lt}
 use Rattle.std.proofs.lemmas.Option.{none-some}
-use Rattle.si_model.specs.Sets.{here, Leaves}
+use Rattle.si_model.specs.Sets.{here, IsWithout}
 use Rattle.si_model.specs.Machine.{State, Writes, Stamped, Finishing, Cleaner, Request, Reply, InPhase, Wrote, IsDead, CommittedAt, IsCommitted, finishing}
 use Rattle.si_model.specs.declared.replies.Cell.{Cell}
 use Rattle.si_model.specs.Machine.{Acts, tells, begins, reads, sets, holds, conflicts, draws, loses, commits, finishes, stops, opens, kills, learns, rolls_forward, rolls_back, finds_gone, collects, has_collected, splits, moves_tablet, Step, refuses, accepts}
@@ -34,7 +34,7 @@ joins st t c ws i h alive w = record {
     own : IsOwn st t c
     own = i.drawn t (Stamped c) h c refl
 
-commits_sound : (st : State) (t c : ℕ) (ws : Writes) (x : Cell) (marks' : List (Cell × ℕ)) → Sound st → InPhase st t (Stamped c) → ¬ IsDead st t → Wrote st t ws → Leaves st.marks (x, t) marks'
+commits_sound : (st : State) (t c : ℕ) (ws : Writes) (x : Cell) (marks' : List (Cell × ℕ)) → Sound st → InPhase st t (Stamped c) → ¬ IsDead st t → Wrote st t ws → IsWithout st.marks (x, t) marks'
     → Sound (record st { commits = record { start = t; stamp = c; writes = ws } ∷ st.commits; marks = marks'; active = finishing st.active t c 1 (length ws) })
 commits_sound st t c ws x marks' i h alive w less =
     let ended = record st { active = remove st.active t } in
@@ -46,7 +46,7 @@ commits_sound st t c ws x marks' i h alive w less =
     (Kept.receded_sound joined last recedes
     (Kept.joined_sound ended t c ws (joins st t c ws i h alive w) (Kept.receded_sound st (remove st.active t) (Kept.ends st t) i)))
 
-finishes_sound : (st : State) (t c k : ℕ) (ws : Writes) (x : Cell) (marks' : List (Cell × ℕ)) → Sound st → InPhase st t (Finishing c k) → Wrote st t ws → Leaves st.marks (x, t) marks'
+finishes_sound : (st : State) (t c k : ℕ) (ws : Writes) (x : Cell) (marks' : List (Cell × ℕ)) → Sound st → InPhase st t (Finishing c k) → Wrote st t ws → IsWithout st.marks (x, t) marks'
     → Sound (record st { marks = marks'; active = finishing st.active t c (k + 1) (length ws) })
 finishes_sound st t c k ws x marks' i h w less =
     let committed = i.finishes t (Finishing c k) h c k refl in
@@ -59,7 +59,7 @@ closes : (st : State) (n : ℕ) → Sound st → Sound (record st { cleaners = r
 closes st n i = Kept.cleaning_sound st (remove st.cleaners n) st.next_cleaner
     (each_remove st.cleaners n (λ n k. k.decided ≡ true → IsCommitted st k.start ⊎ IsDead st k.start) (λ n k ne g. i.decided n k g)) i
 
-closes_cleared : (st : State) (n t : ℕ) (x : Cell) (marks' : List (Cell × ℕ)) → get st.cleaners n ≡ Some (record { cell = x; start = t; decided = true }) → Leaves st.marks (x, t) marks' → Sound st → Sound (record st { marks = marks'; cleaners = remove st.cleaners n })
+closes_cleared : (st : State) (n t : ℕ) (x : Cell) (marks' : List (Cell × ℕ)) → get st.cleaners n ≡ Some (record { cell = x; start = t; decided = true }) → IsWithout st.marks (x, t) marks' → Sound st → Sound (record st { marks = marks'; cleaners = remove st.cleaners n })
 closes_cleared st n t x marks' is less i = closes (Kept.unmarked st x t marks' less) n
     (Kept.unmarked_sound st x t marks' less (i.decided n (record { cell = x; start = t; decided = true }) is refl) i)
 

@@ -1,7 +1,7 @@
 -- What is told of a start's fate, and of marks, is so.
 use Rattle.std.proofs.Common.{◌≡◌, ℕ, ◌<◌, ◌≤◌, List, true, false, Some, ◌⊎◌, inl, inr, refl, subst}
 use Rattle.std.specs.FinMap.{get}
-use Rattle.si_model.specs.Sets.{◌∈◌, here, Leaves}
+use Rattle.si_model.specs.Sets.{◌∈◌, here, IsWithout}
 use Rattle.si_model.specs.declared.replies.Cell.{Cell}
 use Rattle.si_model.specs.Machine.{State, Cleaner, Marked, IsDead, CommittedAt, IsCommitted, Get, Advance, CleanBegin, CleanStep, CollectStep, Pending, Conflict, NoLock, Cleaning, Blocked, Committed, Lost, Decided, RolledForward, RolledBack, Gone, Step, accepts}
 use Rattle.si_model.specs.Machine.{tells, waits, finds_none, is_blocked, conflicts, opens, commits, loses, kills, learns, rolls_forward, rolls_back, finds_gone}
@@ -25,7 +25,7 @@ decided_told {st} {i} {next} k g (accepts ok (learns {t = t} {x = x} is fate)) =
     subst (λ (k : Cleaner). IsCommitted next k.start ⊎ IsDead next k.start) (same_entry st.cleaners i (record { cell = x; start = t; decided = false }) k is g) fate
 
 -- the mark has left
-left : (x : Cell) (t : ℕ) (old new : List (Cell × ℕ)) → Leaves old (x, t) new → ¬ ((x, t) ∈ new)
+left : (x : Cell) (t : ℕ) (old new : List (Cell × ℕ)) → IsWithout old (x, t) new → ¬ ((x, t) ∈ new)
 left x t old new less m = ((less.same (x, t)).0 m).1 refl
 
 forward_told : {st : State} {i c : ℕ} {next : State} (k : Cleaner) → get st.cleaners i ≡ Some k → Step st (CleanStep i) (RolledForward c) next → CommittedAt st k.start c × (¬ Marked next k.cell k.start)

@@ -2,7 +2,7 @@
 use Rattle.std.proofs.Common.{◌≡◌, ◌≢◌, ℕ, List, [], ◌∷◌, ◌⊎◌, inl, inr, ap}
 use Rattle.std.proofs.lemmas.Bool.{cases_eq, cases_Bool}
 use Rattle.std.proofs.lemmas.Slice.Eq.{bytes_eq-Decides}
-use Rattle.si_model.specs.Sets.{◌∈◌, here, there, Leaves}
+use Rattle.si_model.specs.Sets.{◌∈◌, here, there, IsWithout}
 use Rattle.si_model.specs.Machine.{}
 use Rattle.si_model.specs.declared.replies.Cell.{Cell}
 use Rattle.si_model.proofs.Tools.{each_cons}
@@ -26,7 +26,7 @@ cases_mark m n = elim (cases_bytes m.0.row n.0.row) [
 ]
 
 abbrev Without : List (Cell × ℕ) → Cell × ℕ → Type 0
-Without ms m = (new : List (Cell × ℕ)) × Leaves ms m new
+Without ms m = (new : List (Cell × ℕ)) × IsWithout ms m new
 
 without_more : (k : Cell × ℕ) (ms : List (Cell × ℕ)) (m : Cell × ℕ) → Without ms m → Without (k ∷ ms) m
 without_more k ms m rest = elim (cases_mark k m) [
@@ -51,6 +51,6 @@ without_more k ms m rest = elim (cases_mark k m) [
 ]
 
 -- the rest of the marks, where m leaves them
-pub without : (ms : List (Cell × ℕ)) (m : Cell × ℕ) → (new : List (Cell × ℕ)) × Leaves ms m new
+pub without : (ms : List (Cell × ℕ)) (m : Cell × ℕ) → (new : List (Cell × ℕ)) × IsWithout ms m new
 without [] m = ([], record { same = λ n. (λ h. elim h [ ], λ p. elim p.0 [ ]) })
 without (k ∷ ms) m = without_more k ms m (without ms m)

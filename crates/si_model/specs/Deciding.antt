@@ -5,7 +5,7 @@ use Rattle.cell_key.specs.Cells.{Cells}
 use Rattle.cell_key.specs.declared.keys.Qualifier.TheVariants.{Lock, Write}
 use Rattle.si_model.specs.State.{State, Cleaner, Marked, IsDead, CommittedAt, IsCommitted}
 use Rattle.si_model.specs.declared.replies.Cell.{Cell}
-use Rattle.si_model.specs.ShowsCells.{at, IsThere, IsFirst, start_text}
+use Rattle.si_model.specs.ShowsCells.{at, IsThere, IsFirstCell, start_text}
 
 -- What the first cell of a start tells. (Percolator, clean-up of locks: the primary.)
 pub record TellsFirst (cells : Cells) (st : State) (t : ℕ) (first : Cell) : Type 0 where
@@ -24,7 +24,7 @@ pub record TellsFirst (cells : Cells) (st : State) (t : ℕ) (first : Cell) : Ty
       → (x : Cell) → Marked st x t → IsDead st t
 
 abbrev pub FirstTells : Cells → State → Type 0
-FirstTells cells st = (t : ℕ) (first : Cell) → IsFirst st t first → TellsFirst cells st t first
+FirstTells cells st = (t : ℕ) (first : Cell) → IsFirstCell st t first → TellsFirst cells st t first
 
 -- what a cleaner has found of a start's fate: nothing yet, its commit stamp,
 -- or that it was rolled back
@@ -42,7 +42,7 @@ IsRight st t Back = IsDead st t
 -- what a cleaner of t's mark on x knows: t's first cell,
 -- and a verdict that is right as long as the mark stands
 pub record Knows (st : State) (x : Cell) (t : ℕ) (first : Cell) (verdict : Verdict) : Type 0 where
-  pub is_first : IsFirst st t first
+  pub is_first : IsFirstCell st t first
   pub right : Marked st x t → IsRight st t verdict
 
 -- what each open cleaner knows stays so

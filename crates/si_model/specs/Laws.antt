@@ -146,11 +146,11 @@ pub record Goes (st st' : State) : Type 0 where
   pub cleared : (n : ℕ) → IsCleared st n → IsCleared st' n
 
 -- how many writes a session in this phase has
-abbrev pub Fits : Phase → ℕ → Type 0
-Fits Open n = Unit {0}
-Fits (Holding k) n = (1 ≤ k) × (k ≤ n)
-Fits (Stamped c) n = 1 ≤ n
-Fits (Finishing c k) n = (1 ≤ k) × (k < n)
+abbrev pub FitsPhase : Phase → ℕ → Type 0
+FitsPhase Open n = Unit {0}
+FitsPhase (Holding k) n = (1 ≤ k) × (k ≤ n)
+FitsPhase (Stamped c) n = 1 ≤ n
+FitsPhase (Finishing c k) n = (1 ≤ k) × (k < n)
 
 -- what each number of a state keeps to
 pub record Bounds (st : State) : Type 0 where
@@ -163,7 +163,7 @@ pub record Bounds (st : State) : Type 0 where
   pub has_begun : (t : ℕ) (p : Phase) → InPhase st t p → (ws : Writes) × Wrote st t ws
   pub few_sessions : len st.active ≤ most_sessions
   pub fits : (t : ℕ) (p : Phase) → InPhase st t p → (ws : Writes) → Wrote st t ws
-      → Fits p (length ws)
+      → FitsPhase p (length ws)
   -- commit stamps
   pub stamped_to : (t c : ℕ) → InPhase st t (Stamped c) → c < end_of_stamps
   pub finishing_to : (t c k : ℕ) → InPhase st t (Finishing c k) → c < end_of_stamps
@@ -181,7 +181,7 @@ WritesWithinLimits st =
     (t : ℕ) (ws : Writes) → Wrote st t ws → (x : Cell) (v : Value) → Gives ws x v → IsWritable x v
 
 -- the open ones have numbers from 1 on, each below the next number
-pub record IsNumbered {X : Type 0} (open_ones : FinMap nat_cmp X) (next most : ℕ) : Type 0 where
+pub record AreNumbered {X : Type 0} (open_ones : FinMap nat_cmp X) (next most : ℕ) : Type 0 where
   pub first : 1 ≤ next
   pub from : (i : ℕ) (x : X) → get open_ones i ≡ Some x → 1 ≤ i
   pub below : (i : ℕ) (x : X) → get open_ones i ≡ Some x → i < next
@@ -190,8 +190,8 @@ pub record IsNumbered {X : Type 0} (open_ones : FinMap nat_cmp X) (next most : �
 
 -- how cleaners, collectors and tablets keep to their limits
 pub record Numbers (st : State) : Type 0 where
-  pub cleaners : IsNumbered st.cleaners st.next_cleaner most_cleaners
-  pub collectors : IsNumbered st.collectors st.next_collector most_collectors
+  pub cleaners : AreNumbered st.cleaners st.next_cleaner most_cleaners
+  pub collectors : AreNumbered st.collectors st.next_collector most_collectors
   pub tablets : length st.places ≤ most_tablets
 
 -- the requests of sessions and cleaners

@@ -6,7 +6,7 @@ use Rattle.std.specs.Cmp.Lexicographic.{slice_cmp}
 use Rattle.std.specs.FinMap.{FinMap, get, insert, remove}
 use Rattle.cell_key.specs.declared.keys.Qualifier.{Qualifier}
 use Rattle.cell_key.specs.declared.refusals.Refusal.{Refusal}
-use Rattle.si_model.specs.Sets.{◌∈◌, Leaves}
+use Rattle.si_model.specs.Sets.{◌∈◌, IsWithout}
 use Rattle.si_model.specs.declared.replies.Cell.{Cell}
 pub use Rattle.si_model.specs.State.{State, Value, Writes, Phase, Open, Holding, Stamped, Finishing, Commit, Read, Cleaner, Place, new_machine, reopened, most_sessions, most_cleaners, most_collectors, most_tablets, most_servers, most_writes, most_value, most_visits, end_of_stamps, InPhase, Wrote, Marked, Puts, Gives, Names, IsDead, CommittedAt, IsCommitted, HasTablet, IsEnd}
 pub use Rattle.si_model.specs.Messages.{Request, Begin, Get, Set, Advance, Stop, CleanBegin, CleanStep, CollectBegin, CollectStep, Minor, Merge, Major, Split, Move, Sweep, OracleRestart, Raw, Checkpoint, Reply, Begun, Answered, Pending, SetDone, Held, Conflict, Drawn, Committed, Lost, Finished, StopDone, NoLock, Cleaning, Decided, RolledForward, RolledBack, Gone, Collecting, More, Blocked, Collected, MinorDone, MergeDone, MajorDone, SplitOff, MoveDone, Swept, RestartDone, RawFound, CheckpointDone, Refused}
@@ -127,7 +127,7 @@ pub data Acts (st : State) : Request → Reply → State → Type 0 where
   -- the commit: all writes at once, and the mark of the first cell goes
   commits : {t c : ℕ} {ws : Writes} {x : Cell} {v : Value} {marks' : List (Cell × ℕ)}
       → InPhase st t (Stamped c)
-      → ¬ IsDead st t → Wrote st t ws → Puts ws 0 x v → Leaves st.marks (x, t) marks'
+      → ¬ IsDead st t → Wrote st t ws → Puts ws 0 x v → IsWithout st.marks (x, t) marks'
       → Acts st (Advance t) (Committed c) (record st {
         commits = record { start = t; stamp = c; writes = ws } ∷ st.commits;
         marks = marks';
@@ -135,7 +135,7 @@ pub data Acts (st : State) : Request → Reply → State → Type 0 where
       })
   finishes : {t c k : ℕ} {ws : Writes} {x : Cell} {v : Value} {marks' : List (Cell × ℕ)}
       → InPhase st t (Finishing c k)
-      → Wrote st t ws → Puts ws k x v → Leaves st.marks (x, t) marks'
+      → Wrote st t ws → Puts ws k x v → IsWithout st.marks (x, t) marks'
       → Acts st (Advance t) (Finished (k + 1) (length ws))
       (record st { marks = marks'; active = finishing st.active t c (k + 1) (length ws) })
   stops : {t : ℕ} {p : Phase} → InPhase st t p
@@ -151,7 +151,7 @@ pub data Acts (st : State) : Request → Reply → State → Type 0 where
   kills : {i t : ℕ} {x y : Cell} {v : Value} {ws : Writes} {marks' : List (Cell × ℕ)}
       → get st.cleaners i ≡ Some (record { cell = x; start = t; decided = false })
       → ¬ IsCommitted st t → ¬ IsDead st t → Wrote st t ws → Puts ws 0 y v
-      → Leaves st.marks (y, t) marks'
+      → IsWithout st.marks (y, t) marks'
       → Acts st (CleanStep i) Decided (record st {
         dead = t ∷ st.dead;
         marks = marks';
@@ -166,12 +166,12 @@ pub data Acts (st : State) : Request → Reply → State → Type 0 where
   -- the second step clears the cell, by that fate
   rolls_forward : {i t c : ℕ} {x : Cell} {marks' : List (Cell × ℕ)}
       → get st.cleaners i ≡ Some (record { cell = x; start = t; decided = true })
-      → Marked st x t → CommittedAt st t c → Leaves st.marks (x, t) marks'
+      → Marked st x t → CommittedAt st t c → IsWithout st.marks (x, t) marks'
       → Acts st (CleanStep i) (RolledForward c)
       (record st { marks = marks'; cleaners = remove st.cleaners i })
   rolls_back : {i t : ℕ} {x : Cell} {marks' : List (Cell × ℕ)}
       → get st.cleaners i ≡ Some (record { cell = x; start = t; decided = true })
-      → Marked st x t → ¬ IsCommitted st t → Leaves st.marks (x, t) marks'
+      → Marked st x t → ¬ IsCommitted st t → IsWithout st.marks (x, t) marks'
       → Acts st (CleanStep i) RolledBack
       (record st { marks = marks'; cleaners = remove st.cleaners i })
   finds_gone : {i t : ℕ} {x : Cell}

@@ -1,7 +1,7 @@
 -- What it means that a cell map shows the transactions of a state of the snapshot machine.
-use Rattle.std.specs.Prelude.{◌≡◌, ◌≢◌, ℕ, ◌<◌, ◌⊎◌, List, Option, Some, None}
+use Rattle.std.specs.Prelude.{◌≡◌, ◌≢◌, ℕ, ◌<◌, ◌⊎◌, List, length, Option, Some, None}
 use Rattle.std.specs.FinMap.{get, insert, remove}
-use Rattle.byteorder.specs.Endian.{big_bytes}
+use Rattle.byteorder.specs.Endian.{big_bytes, big_number}
 use Rattle.cell_key.specs.Cells.{Cells, version}
 use Rattle.cell_key.specs.Texts.{place_text}
 use Rattle.cell_key.specs.declared.keys.CellKey.{CellKey}
@@ -30,14 +30,18 @@ lock_text x = place_text x.row x.family
 abbrev pub start_text : ℕ → List ℕ
 start_text t = big_bytes 8 t
 
+-- such a value names t
+abbrev pub NamesStart : List ℕ → ℕ → Type 0
+NamesStart b t = (length b ≡ 8) × (big_number 8 b ≡ t)
+
 -- x is the first cell that t writes
-abbrev pub IsFirst : State → ℕ → Cell → Type 0
-IsFirst st t x = (ws : Writes) × (v : Value) × Wrote st t ws × Puts ws 0 x v
+abbrev pub IsFirstCell : State → ℕ → Cell → Type 0
+IsFirstCell st t x = (ws : Writes) × (v : Value) × Wrote st t ws × Puts ws 0 x v
 
 -- the mark of t on x is shown: its lock holds the place of t's first cell, and its data is there
 pub record ShowsMark (cells : Cells) (st : State) (x : Cell) (t : ℕ) : Type 0 where
   pub first : Cell
-  pub is_first : IsFirst st t first
+  pub is_first : IsFirstCell st t first
   pub lock : at cells x Lock t ≡ Some (lock_text first)
   pub value : IsThere cells x Data t
 

@@ -4,8 +4,8 @@ use Rattle.std.specs.Prelude.{flat_map, codes}
 use Rattle.std.specs.Int.{w32, to_be_bytes}
 use Rattle.std.proofs.lemmas.List.Concat.{flat_map-append}
 use Rattle.cell_key.specs.Entries.{Entry, spelled, field}
-use Rattle.sorted_file.specs.Grammar.{block_bytes, Fits, IsFull, AreBlocks, IsFile, FitsIn, image_of, row, index, body, foot}
-use Rattle.sorted_file.specs.Building.{State, HasMadeRoom, image_from, opened, closed, added, with_open, IsFirst, IsBuilt, IsClosed}
+use Rattle.sorted_file.specs.Grammar.{block_bytes, Fits, IsFullBlock, AreBlocks, IsFile, FitsIn, image_of, row, index, body, foot}
+use Rattle.sorted_file.specs.Building.{State, HasMadeRoom, image_from, opened, closed, added, with_open, IsFirstText, IsBuilt, IsClosed}
 use Rattle.sorted_file.proofs.Splits.{one_split}
 
 append-nil : {A : Type 0} (xs : List A) → xs ++ [] ≡ xs
@@ -43,7 +43,7 @@ fits_more o (p ∷ os) e h =
     let l : length (block_bytes (o ∷ p ∷ os ++ e ∷ [])) ≡ length (block_bytes (o ∷ p ∷ os)) + length (spelled e) = ap length (block_bytes-last (o ∷ p ∷ os) e) ∙ length-append (block_bytes (o ∷ p ∷ os)) (spelled e) in
     omega (arith, l, h)
 
-full_still : (es : List Entry) (blocks : List (List Entry)) (o : Entry) (os more : List Entry) → IsFull es (blocks ++ (o ∷ os) ∷ []) → IsFull es (blocks ++ (o ∷ more) ∷ [])
+full_still : (es : List Entry) (blocks : List (List Entry)) (o : Entry) (os more : List Entry) → IsFullBlock es (blocks ++ (o ∷ os) ∷ []) → IsFullBlock es (blocks ++ (o ∷ more) ∷ [])
 full_still es [] o os more h = h
 full_still es ([] ∷ blocks) o os more h = h
 full_still es ((b ∷ bs) ∷ blocks) o os more h = h
@@ -52,7 +52,7 @@ joined : (blocks : List (List Entry)) (o : Entry) (os : List Entry) (e : Entry) 
 joined [] o os e g h = (fits_more o os e h, tt, tt)
 joined (b ∷ blocks) o os e g h = (g.0, full_still b blocks o os (os ++ e ∷ []) g.1, joined blocks o os e g.2 h)
 
-full_next : (es : List Entry) (blocks : List (List Entry)) (o : Entry) (os next : List Entry) → IsFull es (blocks ++ (o ∷ os) ∷ []) → IsFull es ((blocks ++ (o ∷ os) ∷ []) ++ next ∷ [])
+full_next : (es : List Entry) (blocks : List (List Entry)) (o : Entry) (os next : List Entry) → IsFullBlock es (blocks ++ (o ∷ os) ∷ []) → IsFullBlock es ((blocks ++ (o ∷ os) ∷ []) ++ next ∷ [])
 full_next es [] o os next h = h
 full_next es ([] ∷ blocks) o os next h = h
 full_next es ((b ∷ bs) ∷ blocks) o os next h = h
@@ -86,7 +86,7 @@ record Parts (s : State) (es : List Entry) (before : List (List Entry)) (current
   bytes : s.out ≡ codes "TABLET01" ++ body (with_open before current)
   places : s.rows ≡ index 8 before
   from : s.start ≡ 8 + length (body before)
-  named : IsFirst s.first current
+  named : IsFirstText s.first current
   count : s.blocks ≡ length before
   total : s.entries ≡ length es
 

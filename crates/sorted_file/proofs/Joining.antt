@@ -9,7 +9,7 @@ use Rattle.std.specs.FinMap.Entries.{below_all}
 use Rattle.cell_key.specs.Keys.{byte_cmp}
 use Rattle.cell_key.specs.Entries.{Entry, IsRising}
 use Rattle.cell_key.proofs.TextPlaces.{first, second, less}
-use Rattle.sorted_file.specs.Grammar.{block_bytes, body, Fits, IsFull, AreBlocks}
+use Rattle.sorted_file.specs.Grammar.{block_bytes, body, Fits, IsFullBlock, AreBlocks}
 use Rattle.sorted_file.specs.Blocks.{block_of, blocks_of, entries_in, AreRows, IsFollowed, IsLastOf, IsRowAt}
 use Rattle.sorted_file.specs.declared.blocks.BlockRow.{BlockRow}
 
@@ -80,16 +80,16 @@ append-nil : {A : Type 0} (xs : List A) → xs ++ [] ≡ xs
 append-nil [] = refl
 append-nil (x ∷ xs) = ap (λ (l : List _). x ∷ l) (append-nil xs)
 
-pub followed_last : (blocks : List (List Entry)) (es next : List Entry) → IsFollowed (blocks ++ es ∷ []) next ≡ IsFull es (next ∷ [])
+pub followed_last : (blocks : List (List Entry)) (es next : List Entry) → IsFollowed (blocks ++ es ∷ []) next ≡ IsFullBlock es (next ∷ [])
 followed_last [] es next = refl
 followed_last (b ∷ []) es next = refl
 followed_last (b ∷ c ∷ blocks) es next = followed_last (c ∷ blocks) es next
 
-full_on : (es fs next : List Entry) (blocks : List (List Entry)) → IsFull es (fs ∷ blocks) → IsFull es ((fs ∷ blocks) ++ next ∷ [])
+full_on : (es fs next : List Entry) (blocks : List (List Entry)) → IsFullBlock es (fs ∷ blocks) → IsFullBlock es ((fs ∷ blocks) ++ next ∷ [])
 full_on es [] next blocks h = h
 full_on es (f ∷ fs) next blocks h = h
 
-full_first : (es next : List Entry) (more : List (List Entry)) → IsFull es (next ∷ more) → IsFull es (next ∷ [])
+full_first : (es next : List Entry) (more : List (List Entry)) → IsFullBlock es (next ∷ more) → IsFullBlock es (next ∷ [])
 full_first es [] more h = h
 full_first es (f ∷ next) more h = h
 

@@ -8,7 +8,7 @@ use Rattle.std.specs.List.{AllByRecursion}
 use Rattle.std.specs.Int.{w32, to_be_bytes}
 use Rattle.file_store.specs.Store.{Contents, part}
 use Rattle.cell_key.specs.Entries.{Entry, IsEntry, IsEntryList, IsRising, spelled, spelled_value, field}
-use Rattle.sorted_file.specs.Building.{IsFirst}
+use Rattle.sorted_file.specs.Building.{IsFirstText}
 use Rattle.sorted_file.specs.Grammar.{block_bytes, body, Fits, AreBlocks, IsFile, index, row, foot}
 use Rattle.sorted_file.specs.Blocks.{block_of, blocks_of, entries_in, row_bytes, AreRows, IsBlock, IsFollowed, IsNext, IsOpening, IsRead, IsReading}
 use Rattle.sorted_file.specs.declared.blocks.BlockRow.{BlockRow}
@@ -233,7 +233,7 @@ module _ (o : Opening) (image rest : List ℕ) (n : NextBlock o image rest) (sma
 pub drop_part : (image : List ℕ) (at size : ℕ) → drop at image ≡ part image at size ++ drop (at + size) image
 drop_part image at size = sym (take-append-drop size (drop at image)) ∙ ap (λ (l : List ℕ). take size (drop at image) ++ l) (drop-drop size at image)
 
-pub reads_on : (image tail rest more : List ℕ) (blocks : List (List Entry)) (es : List Entry) (r : RowRef) → IsRead image tail blocks rest → rest ≡ row_bytes r ++ more → r.offset ≡ 8 + length (body blocks) → r.length ≡ length (block_bytes es) → IsFirst r.first.now es → Fits es
+pub reads_on : (image tail rest more : List ℕ) (blocks : List (List Entry)) (es : List Entry) (r : RowRef) → IsRead image tail blocks rest → rest ≡ row_bytes r ++ more → r.offset ≡ 8 + length (body blocks) → r.length ≡ length (block_bytes es) → IsFirstText r.first.now es → Fits es
     → part image (8 + length (body blocks)) r.length ≡ block_bytes es → IsRead image tail (blocks ++ es ∷ []) more
 reads_on image tail rest more blocks [] r was read offset size first fits there = absurd fits
 reads_on image tail rest more blocks (e ∷ es) r was read offset size first fits there =
@@ -271,7 +271,7 @@ pub record IsAdded (rows new : List BlockRow) (es : List Entry) (end : ℕ) : Ty
   pub reached : end ≡ 8 + length (body (blocks_of new))
 
 pub is_added : (rows new : List BlockRow) (row : BlockRow) (es : List Entry) (end : ℕ) → AreRows 8 rows → AreBlocks (blocks_of rows) → IsEntryList (entries_in (blocks_of rows)) → end ≡ 8 + length (body (blocks_of rows))
-    → IsFollowed (blocks_of rows) es → IsRising (entries_in (blocks_of rows) ++ es) → IsEntryList es → Fits es → new ≡ rows ++ row ∷ [] → block_of row ≡ es → row.offset ≡ end → row.length ≡ length (block_bytes es) → IsFirst row.first.items es
+    → IsFollowed (blocks_of rows) es → IsRising (entries_in (blocks_of rows) ++ es) → IsEntryList es → Fits es → new ≡ rows ++ row ∷ [] → block_of row ≡ es → row.offset ≡ end → row.length ≡ length (block_bytes es) → IsFirstText row.first.items es
     → IsAdded rows new es (end + row.length)
 is_added rows new row es end places grammar list reached followed rising each fits made is offset size first =
     let blocks = ap blocks_of made ∙ map_joined block_of rows row ∙ ap (λ (b : List Entry). blocks_of rows ++ b ∷ []) is in
@@ -279,7 +279,7 @@ is_added rows new row es end places grammar list reached followed rising each fi
     let l : length (body (blocks_of new)) ≡ length (body (blocks_of rows)) + length (block_bytes es) = ap (λ (b : List (List Entry)). length (body b)) blocks ∙ ap length (body-last (blocks_of rows) es) ∙ length-append (body (blocks_of rows)) (block_bytes es) in
     record {
       blocks = blocks;
-      places = subst (λ (r : List BlockRow). AreRows 8 r) (sym made) (rows_joined 8 rows row places (record { offset = offset ∙ reached; length = size ∙ ap (λ (b : List Entry). length (block_bytes b)) (sym is); first = subst (λ (b : List Entry). IsFirst row.first.items b) (sym is) first }));
+      places = subst (λ (r : List BlockRow). AreRows 8 r) (sym made) (rows_joined 8 rows row places (record { offset = offset ∙ reached; length = size ∙ ap (λ (b : List Entry). length (block_bytes b)) (sym is); first = subst (λ (b : List Entry). IsFirstText row.first.items b) (sym is) first }));
       grammar = subst AreBlocks (sym blocks) (blocks_joined (blocks_of rows) es grammar fits followed);
       list = subst IsEntryList (sym flat) (record { rising = rising; each = all_joined IsEntry (entries_in (blocks_of rows)) es list.each each.each });
       whole = flat;

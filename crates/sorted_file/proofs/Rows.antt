@@ -9,7 +9,7 @@ use Rattle.std.specs.FinMap.Entries.{find, below_all}
 use Rattle.cell_key.specs.Keys.{byte_cmp}
 use Rattle.cell_key.specs.Entries.{Entry, IsRising, entries_from, entry_of_key}
 use Rattle.cell_key.proofs.TextPlaces.{first, second, less, find_lower, from_place, one_text}
-use Rattle.sorted_file.specs.Building.{IsFirst}
+use Rattle.sorted_file.specs.Building.{IsFirstText}
 use Rattle.sorted_file.specs.Grammar.{block_bytes, Fits, AreBlocks}
 use Rattle.sorted_file.specs.Blocks.{block_of, blocks_of, entries_in, AreRows, IsRowPlace, first_of}
 use Rattle.sorted_file.specs.declared.blocks.BlockRow.{BlockRow}
@@ -23,7 +23,7 @@ pub record IsNamed (row : BlockRow) : Type 0 where
   pub block : block_of row ≡ entry ∷ more
   pub first : row.first.items ≡ entry.0
 
-is_named : (row : BlockRow) (es : List Entry) → block_of row ≡ es → IsFirst row.first.items es → Fits es → IsNamed row
+is_named : (row : BlockRow) (es : List Entry) → block_of row ≡ es → IsFirstText row.first.items es → Fits es → IsNamed row
 is_named row [] e f g = absurd g
 is_named row (x ∷ es) e f g = record { entry = x; more = es; block = e; first = f }
 

@@ -4,7 +4,7 @@ use Rattle.std.proofs.lemmas.Grind.{flat_map-append}
 use Rattle.std.proofs.lemmas.List.Concat.{flat_map-cons}
 use Rattle.std.specs.Prelude.{flat_map}
 use Rattle.cell_key.specs.Entries.{Entry, spelled}
-use Rattle.sorted_file.specs.Grammar.{block_bytes, Fits, IsFull, AreBlocks, image_of, OneImage}
+use Rattle.sorted_file.specs.Grammar.{block_bytes, Fits, IsFullBlock, AreBlocks, image_of, OneImage}
 
 abbrev flat : List (List Entry) → List Entry
 flat blocks = flat_map (λ es. es) blocks
@@ -52,7 +52,7 @@ sizes ys more e =
     omega (arith, all)
 
 -- a block takes what fits, so none goes on past another
-too_long : (xs ys : List Entry) (blocks : List (List Entry)) → Fits xs → Fits ys → IsFull ys blocks → AreBlocks blocks → GoesPast xs ys (flat blocks) → ⊥
+too_long : (xs ys : List Entry) (blocks : List (List Entry)) → Fits xs → Fits ys → IsFullBlock ys blocks → AreBlocks blocks → GoesPast xs ys (flat blocks) → ⊥
 too_long xs ys [] f g full b past = no_entry past.next past.after past.there
   where
     no_entry : (e : Entry) (es : List Entry) → [] ≡ e ∷ es → ⊥

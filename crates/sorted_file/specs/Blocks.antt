@@ -7,8 +7,8 @@ use Rattle.std.specs.Int.{w32, to_be_bytes}
 use Rattle.cell_key.specs.Keys.{byte_cmp}
 use Rattle.cell_key.specs.Entries.{Entry, IsEntryList, IsRising, field}
 use Rattle.file_store.specs.Store.{Contents, part}
-use Rattle.sorted_file.specs.Building.{IsFirst}
-use Rattle.sorted_file.specs.Grammar.{block_bytes, body, Fits, IsFull, AreBlocks, IsFile, index}
+use Rattle.sorted_file.specs.Building.{IsFirstText}
+use Rattle.sorted_file.specs.Grammar.{block_bytes, body, Fits, IsFullBlock, AreBlocks, IsFile, index}
 use Rattle.sorted_file.specs.Kept.{kept}
 use Rattle.sorted_file.specs.Spans.{IsSpanned}
 use Rattle.sorted_file.specs.declared.blocks.BlockRow.{BlockRow}
@@ -41,7 +41,7 @@ entries_in blocks = flat_map (λ es. es) blocks
 pub record IsRowAt (at : ℕ) (row : BlockRow) : Type 0 where
   pub offset : row.offset ≡ at
   pub length : row.length ≡ length (block_bytes (block_of row))
-  pub first : IsFirst row.first.items (block_of row)
+  pub first : IsFirstText row.first.items (block_of row)
 
 -- the stamps that a row keeps are those of the values of its block
 abbrev pub IsSpannedRow : BlockRow → Type 0
@@ -55,7 +55,7 @@ AreRows at (row ∷ rows) = IsRowAt at row × AreRows (at + length (block_bytes 
 -- a block can follow the last of these: with its first entry that one would have too many bytes
 abbrev pub IsFollowed : List (List Entry) → List Entry → Type 0
 IsFollowed [] next = Unit {0}
-IsFollowed (es ∷ []) next = IsFull es (next ∷ [])
+IsFollowed (es ∷ []) next = IsFullBlock es (next ∷ [])
 IsFollowed (es ∷ fs ∷ blocks) next = IsFollowed (fs ∷ blocks) next
 
 -- the first texts of the rows before the place aren't above this one, and that of the row at it is
@@ -148,7 +148,7 @@ pub record IsReading
 -- a block can be the next one, and this row names it
 pub record IsNext (o : Opening) (row : RowRef) (block : List Entry) : Type 0 where
   pub offset : row.offset ≡ o.end
-  pub first : IsFirst row.first.now block
+  pub first : IsFirstText row.first.now block
   pub followed : IsFollowed (blocks_of o.rows.items) block
   pub rising : IsRising (entries_in (blocks_of o.rows.items) ++ block)
 

@@ -80,9 +80,9 @@ with_open blocks [] = blocks
 with_open blocks (e ∷ es) = blocks ++ (e ∷ es) ∷ []
 
 -- the text of the first entry, if there is one
-abbrev pub IsFirst : List ℕ → List Entry → Type 0
-IsFirst name [] = Unit {0}
-IsFirst name (e ∷ es) = name ≡ e.0
+abbrev pub IsFirstText : List ℕ → List Entry → Type 0
+IsFirstText name [] = Unit {0}
+IsFirstText name (e ∷ es) = name ≡ e.0
 
 -- what is kept is that of these entries
 pub record IsBuilt (s : State) (es : List Entry) : Type 0 where
@@ -94,7 +94,7 @@ pub record IsBuilt (s : State) (es : List Entry) : Type 0 where
   pub bytes : s.out ≡ codes "TABLET01" ++ body (with_open before current)
   pub places : s.rows ≡ index 8 before
   pub from : s.start ≡ 8 + length (body before)
-  pub named : IsFirst s.first current
+  pub named : IsFirstText s.first current
   pub count : s.blocks ≡ length before
   pub total : s.entries ≡ length es
 

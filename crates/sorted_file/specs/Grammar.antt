@@ -14,15 +14,15 @@ Fits (e ∷ []) = Unit {0}
 Fits (e ∷ f ∷ es) = length (block_bytes (e ∷ f ∷ es)) ≤ 4096
 
 -- with the first entry of the next block it would have more
-abbrev pub IsFull : List Entry → List (List Entry) → Type 0
-IsFull es [] = Unit {0}
-IsFull es ([] ∷ blocks) = ⊥
-IsFull es ((e ∷ next) ∷ blocks) = 4096 < length (block_bytes es) + length (spelled e)
+abbrev pub IsFullBlock : List Entry → List (List Entry) → Type 0
+IsFullBlock es [] = Unit {0}
+IsFullBlock es ([] ∷ blocks) = ⊥
+IsFullBlock es ((e ∷ next) ∷ blocks) = 4096 < length (block_bytes es) + length (spelled e)
 
 -- the blocks of a file
 abbrev pub AreBlocks : List (List Entry) → Type 0
 AreBlocks [] = Unit {0}
-AreBlocks (es ∷ blocks) = Fits es × IsFull es blocks × AreBlocks blocks
+AreBlocks (es ∷ blocks) = Fits es × IsFullBlock es blocks × AreBlocks blocks
 
 -- the row of a block that begins at this place: the place, the block's length and its first key
 abbrev pub row : ℕ → List Entry → List ℕ

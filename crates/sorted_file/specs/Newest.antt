@@ -29,7 +29,8 @@ abbrev pub IsFirstValue : List ℕ → List Entry → Option Entry → Type 0
 IsFirstValue from es None =
     (name : List ℕ) → is_le (byte_cmp from name) ≡ true → value_of (entry_of_key es name) ≡ None
 IsFirstValue from es (Some found) =
-    (is_le (byte_cmp from found.0) ≡ true) × (entry_of_key es found.0 ≡ Some found.1) × IsSome found.1
+    (is_le (byte_cmp from found.0) ≡ true) × (entry_of_key es found.0 ≡ Some found.1)
+    × IsSome found.1
     × ((name : List ℕ) → is_le (byte_cmp from name) ≡ true → byte_cmp name found.0 ≡ Less
     → value_of (entry_of_key es name) ≡ None)
 
@@ -45,7 +46,8 @@ skips (e ∷ es) = erased_first (e ∷ es) ∷ skips es
 
 -- A part of entries has what they have of a column from the one stamp to the other, and this is the text of its first
 -- value at a text that isn't below the key's.
-pub record IsFirstIn (es : List Entry) (key : CellKey) (lo : ℕ) (found : Option (List ℕ)) : Type 0 where
+pub record IsFirstIn (es : List Entry) (key : CellKey) (lo : ℕ) (found : Option (List ℕ))
+    : Type 0 where
   pub part : List Entry
   pub list : IsEntryList part
   pub first : found ≡ option_map (λ e. e.0) (first_value (entries_from (text key) part))

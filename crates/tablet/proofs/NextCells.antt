@@ -18,7 +18,7 @@ use Rattle.cell_key.proofs.Order.{text_order}
 use Rattle.cell_key.proofs.EntryLaws.{stored_key}
 use Rattle.cell_key.proofs.EntryLists.{total}
 use Rattle.tablet.specs.Ranges.{has_row, lower_fence, upper_fence}
-use Rattle.tablet.specs.Reads.{later, past_place, start_of, IsPlace, IsPlaceOrNone}
+use Rattle.tablet.specs.Reads.{later, past_place, start_of, IsStoredPlace, IsPlaceOrNone}
 use Rattle.tablet.specs.declared.ranges.RowRange.{RowRange}
 use Rattle.tablet.proofs.Fences.{between_fences}
 use Rattle.tablet.proofs.Filters.{is_between}
@@ -67,16 +67,16 @@ last_of_place Write s h = above_zero s h
 pub less_by_place : (a b : CellKey) → place_cmp (place_of a) (place_of b) ≡ Less → key_cmp a b ≡ Less
 less_by_place a b e = two_less (byte_cmp a.row b.row) (byte_cmp a.family b.family) _ e
 
-last_key : (place : Place) → IsPlace place → IsKey (version place.0 place.1 Write 0)
+last_key : (place : Place) → IsStoredPlace place → IsKey (version place.0 place.1 Write 0)
 last_key place is = record { row = is.row; family = is.family; stamp = omega arith }
 
 module _ (key : CellKey) (stored : IsStored key) where
-  past_after : (place : Place) → IsPlace place → is_le (byte_cmp (past_place (Some place)) (text key)) ≡ true → place_cmp place (place_of key) ≡ Less
+  past_after : (place : Place) → IsStoredPlace place → is_le (byte_cmp (past_place (Some place)) (text key)) ≡ true → place_cmp place (place_of key) ≡ Less
   past_after place is e =
       only_two (byte_cmp place.0 key.row) (byte_cmp place.1 key.family) _ (last_of_place key.qualifier key.stamp stored.from)
       (ap is_le (sym (text_order (version place.0 place.1 Write 0) key (last_key place is) (stored_key key stored))) ∙ e)
 
-  after_past : (place : Place) → IsPlace place → place_cmp place (place_of key) ≡ Less → is_le (byte_cmp (past_place (Some place)) (text key)) ≡ true
+  after_past : (place : Place) → IsStoredPlace place → place_cmp place (place_of key) ≡ Less → is_le (byte_cmp (past_place (Some place)) (text key)) ≡ true
   after_past place is e =
       ap is_le (text_order (version place.0 place.1 Write 0) key (last_key place is) (stored_key key stored))
       ∙ two_first (byte_cmp place.0 key.row) (byte_cmp place.1 key.family) _ e

@@ -30,10 +30,10 @@ keeps_erasures (Merge count) files = nat_lt count files
 keeps_erasures Major files = false
 
 -- there are as many files
-abbrev pub IsWithin : Compaction → ℕ → Type 0
-IsWithin Minor files = Unit {0}
-IsWithin (Merge count) files = count ≤ files
-IsWithin Major files = Unit {0}
+abbrev pub HasAsMany : Compaction → ℕ → Type 0
+HasAsMany Minor files = Unit {0}
+HasAsMany (Merge count) files = count ≤ files
+HasAsMany Major files = Unit {0}
 
 -- the files that it may read are open over files that tell this: a minor one reads none
 abbrev pub ReadsOpen : Compaction → Option Contents → Tablet → Type 0

@@ -36,11 +36,11 @@ abbrev pub texted : {Z : Type 0} → CellKey × Vec ℕ Z → List ℕ × List �
 texted found = (text found.0, found.1.items)
 
 -- what a value keeps to
-abbrev pub IsShort : List ℕ → Type 0
-IsShort bytes = length bytes ≤ 65536
+abbrev pub IsValue : List ℕ → Type 0
+IsValue bytes = length bytes ≤ 65536
 
 -- a key and a value within the limits
-pub record IsFound (key : CellKey) (bytes : List ℕ) : Type 0 where
+pub record IsStoredValue (key : CellKey) (bytes : List ℕ) : Type 0 where
   pub stored : IsStored key
   pub value : length bytes ≤ 65536
 
@@ -83,10 +83,10 @@ abbrev pub start_of : RowRange → Option Place → List ℕ
 start_of range after = later (lower_fence range) (past_place after)
 
 -- a place within the limits
-pub record IsPlace (place : Place) : Type 0 where
+pub record IsStoredPlace (place : Place) : Type 0 where
   pub row : IsRow place.0
   pub family : IsFamily place.1
 
 abbrev pub IsPlaceOrNone : Option Place → Type 0
 IsPlaceOrNone None = Unit {0}
-IsPlaceOrNone (Some place) = IsPlace place
+IsPlaceOrNone (Some place) = IsStoredPlace place

@@ -15,7 +15,7 @@ ghost use Rattle.tablet.specs.Ranges.{seen};
 ghost use Rattle.tablet.specs.Sources.{IsOpenIn, listed_in, lists_over};
 ghost use Rattle.tablet.specs.Views.{range_of, memory_of, files_of, names_of, Holds, IsUnchanged, UsesName, Keeps, with_name};
 ghost use Rattle.tablet.specs.declared.compactions.Compaction.TheVariants.{Minor, Merge, Major};
-ghost use Rattle.tablet.specs.Compactions.{Compacts, IsNewFile, IsWithin, IsCompactionRefusal, IsMinorRefusal, IsMergeRefusal, ReadsOpen, compacted, inputs_of, keeps_erasures};
+ghost use Rattle.tablet.specs.Compactions.{Compacts, IsNewFile, HasAsMany, IsCompactionRefusal, IsMinorRefusal, IsMergeRefusal, ReadsOpen, compacted, inputs_of, keeps_erasures};
 
 use crate::sources::{fences, sources};
 use crate::tablet::Tablet;
@@ -124,7 +124,7 @@ fn replace_newest(files: &mut Vec<SortedFile>, count: usize, file: SortedFile)
 impl Tablet {
     /// The memtable, if a compaction writes it, and the files that it writes.
     fn inputs(&self, compaction: Compaction) -> (Option<&Memtable>, &[SortedFile])
-        requires { IsWithin compaction (length (files_of self.now)) }
+        requires { HasAsMany compaction (length (files_of self.now)) }
         ensures lists { (told : Option Contents)
             → lists_over told (option_copied result.0) result.1.now
             ≡ inputs_of compaction (memory_of self.now) (map (listed_in told) (files_of self.now)) }
@@ -160,7 +160,7 @@ impl Tablet {
     ) -> Result<SortedFile, Refusal>
         requires least { 32 ≤ file_limit }
         requires most { file_limit ≤ 1_073_741_824 }
-        requires within { IsWithin compaction (length (files_of self.now)) }
+        requires within { HasAsMany compaction (length (files_of self.now)) }
         ensures named { IfOk result (λ file. name_of file ≡ next_name.old) }
         ensures made { IfOk result (λ file. IfSome (F.contents files.old) (λ m. Holds m self.now
             → IsSomeAnd (F.contents files.new) (λ n. IsNewFile n file (compacted compaction

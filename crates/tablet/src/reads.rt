@@ -11,7 +11,7 @@ ghost use Rattle.sorted_file.specs.Opened.{IsOpen, IsSameFile, IsShortValue, lis
 ghost use Rattle.sorted_file.specs.Sources.{IsReadRefusal};
 ghost use Rattle.cell_key.specs.Faults.{HasReason};
 ghost use Rattle.tablet.specs.Sources.{part};
-ghost use Rattle.tablet.specs.Reads.{first_value, lent_value, texted, HasNoLater, IsAfterStamp, IsAsked, IsFound, IsShort};
+ghost use Rattle.tablet.specs.Reads.{first_value, lent_value, texted, HasNoLater, IsAfterStamp, IsAsked, IsStoredValue, IsValue};
 
 use crate::sources::sources;
 use cell_key::{CellKey, EntryRef, Family, Qualifier, Refusal, Row, Stamp};
@@ -30,7 +30,7 @@ fn copied(alloc: Global, value: Option<&[u8]>) -> Result<Option<Vec<u8>>, Refusa
         option_map (λ bytes. bytes.items) copy ≡ option_copied value.entry) }
     ensures short { IfOk result (λ copy. IfSome copy (λ bytes. length bytes.items ≤ 65536)) }
     ensures damaged { IsErrOf result Refusal.Damaged
-        → ¬ IfSome (option_copied value.entry) IsShort }
+        → ¬ IfSome (option_copied value.entry) IsValue }
     ensures refusal { IfErr result (λ refusal.
         (refusal ≡ Refusal.NoMemory) ⊎ (refusal ≡ Refusal.Damaged)) }
 {
@@ -49,7 +49,7 @@ fn copied(alloc: Global, value: Option<&[u8]>) -> Result<Option<Vec<u8>>, Refusa
 fn keyed_value(alloc: Global, entry: EntryRef<'_>) -> Result<Option<(CellKey, Vec<u8>)>, Refusal>
     ensures found { IfOk result (λ found.
         option_map texted found ≡ lent_value (Some (lent_entry entry.entry))) }
-    ensures limits { IfOk result (λ found. IfSome found (λ p. IsFound p.0 p.1.items)) }
+    ensures limits { IfOk result (λ found. IfSome found (λ p. IsStoredValue p.0 p.1.items)) }
     ensures damaged { IsErrOf result Refusal.Damaged → ¬ IsEntry (lent_entry entry.entry) }
     ensures refusal { IfErr result (λ refusal.
         (refusal ≡ Refusal.NoMemory) ⊎ (refusal ≡ Refusal.Damaged)) }
@@ -70,7 +70,7 @@ fn value_at<F: Files, S: Source<F>>(
 ) -> Result<Option<(CellKey, Vec<u8>)>, Refusal>
     ensures found { IfOk result (λ found.
         option_map texted found ≡ lent_value (S.lent source.now)) }
-    ensures limits { IfOk result (λ found. IfSome found (λ p. IsFound p.0 p.1.items)) }
+    ensures limits { IfOk result (λ found. IfSome found (λ p. IsStoredValue p.0 p.1.items)) }
     ensures damaged { IsErrOf result Refusal.Damaged → ¬ IfSome (S.lent source.now) IsEntry }
     ensures refusal { IfErr result (λ refusal.
         (refusal ≡ Refusal.NoMemory) ⊎ (refusal ≡ Refusal.Damaged)) }
@@ -89,7 +89,7 @@ fn next_value<F: Files, S: Source<F>>(
 ) -> Result<Option<(CellKey, Vec<u8>)>, Refusal>
     ensures found { IfOk result (λ found. S.holds (F.contents store.old) source.old
         → option_map texted found ≡ first_value (S.remaining (F.contents store.old) source.old)) }
-    ensures limits { IfOk result (λ found. IfSome found (λ p. IsFound p.0 p.1.items)) }
+    ensures limits { IfOk result (λ found. IfSome found (λ p. IsStoredValue p.0 p.1.items)) }
     ensures damaged { IsErrOf result Refusal.Damaged → ¬ S.holds (F.contents store.old) source.old }
     ensures refusal { IfErr result IsReadRefusal }
     ensures same { F.contents store.new ≡ F.contents store.old }
@@ -118,7 +118,7 @@ pub(crate) fn first_value<F: Files>(
         → option_map texted found
         ≡ first_value (part from.now (option_copied end.entry)
         (memtable.now ∷ map (listed m) files.now)))) }
-    ensures limits { IfOk result (λ found. IfSome found (λ p. IsFound p.0 p.1.items)) }
+    ensures limits { IfOk result (λ found. IfSome found (λ p. IsStoredValue p.0 p.1.items)) }
     ensures damaged { IsErrOf result Refusal.Damaged
         → IfSome (F.contents store.old) (λ m. ¬ AllByRecursion (IsOpen m) files.now) }
     ensures refusal { IfErr result IsReadRefusal }

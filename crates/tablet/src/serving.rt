@@ -11,7 +11,7 @@ ghost use Rattle.memtable.specs.Slots.{lent_version};
 ghost use Rattle.sorted_file.specs.Sources.{IsReadRefusal};
 ghost use Rattle.cell_key.specs.Faults.{HasReason};
 ghost use Rattle.tablet.specs.Ranges.{has_row};
-ghost use Rattle.tablet.specs.Reads.{past_place, later, HasNoLater, IsAsked, IsLater, IsPlace, IsPlaceOrNone};
+ghost use Rattle.tablet.specs.Reads.{past_place, later, HasNoLater, IsAsked, IsLater, IsStoredPlace, IsPlaceOrNone};
 
 use crate::reads::{asked, first_value, lookup, newest_stamp, version_key, version_text};
 use crate::sources::fences;

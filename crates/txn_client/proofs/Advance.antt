@@ -4,7 +4,7 @@ use Rattle.std.specs.FinMap.{insert, remove}
 use Rattle.std.proofs.lemmas.Option.{none-some, slice_get_within}
 use Rattle.cell_key.specs.Cells.{Cells}
 use Rattle.cell_key.specs.declared.keys.Qualifier.TheVariants.{Lock}
-use Rattle.si_model.specs.Sets.{◌∈◌, here, there, Leaves}
+use Rattle.si_model.specs.Sets.{◌∈◌, here, there, IsWithout}
 use Rattle.si_model.specs.Machine.{State, Value, Writes, Phase, Open, Holding, Stamped, Finishing, Commit, IsReached, Request, Reply, Advance, Begin, Get, Held, Conflict, Drawn, Committed, Lost, Finished, Begun, Answered, Pending, InPhase, Wrote, Puts, Gives, Names, Marked, IsDead, IsCommitted, CommittedAt, Clashes, HasHeld, IsSnapshot, IsAcceptable, finishing, end_of_stamps}
 use Rattle.si_model.specs.declared.replies.Cell.{Cell}
 use Rattle.si_model.specs.Machine as step
@@ -115,7 +115,7 @@ module _ (cells : Cells) (st : State) (reached : IsReached st) (shown : ShowsCel
         marked : Marked st x t
         marked = shown.locks x t lock.0 lock.1
 
-        less : Leaves st.marks (x, t) (without st.marks (x, t)).0
+        less : IsWithout st.marks (x, t) (without st.marks (x, t)).0
         less = (without st.marks (x, t)).1
 
         s : Step st (Advance t) (Committed c) after_commit
@@ -166,7 +166,7 @@ module _ (cells : Cells) (st : State) (reached : IsReached st) (shown : ShowsCel
         left : ¬ Marked st x t
         left m = none-some _ (sym gone ∙ (shown.marks x t m).lock)
 
-        less : Leaves st.marks (x, t) st.marks
+        less : IsWithout st.marks (x, t) st.marks
         less = record { same = λ n. (λ m. (m, λ e. left (subst (λ n. n ∈ st.marks) e m)), λ p. p.0) }
 
         s : Step st (Advance t) (Finished (k + 1) (length ws)) after_gone

@@ -12,7 +12,7 @@ use Rattle.cell_key.specs.declared.refusals.Refusal.TheVariants.{UnknownSession,
 use Rattle.si_model.specs.Machine as machine
 use Rattle.si_model.specs.Machine.{State, Writes}
 use Rattle.si_model.specs.declared.replies.Cell.{Cell}
-use Rattle.txn_client.specs.Shows.{IsCellRefusal, IsCrowded, IsInactive, IsOpen, IsUnwritten, ShowsAt, ShowsClients, ShowsSession, phase_of, writes_of}
+use Rattle.txn_client.specs.Shows.{IsCellRefusal, IsCrowded, IsInactive, IsOpenSession, IsUnwritten, ShowsAt, ShowsClients, ShowsSession, phase_of, writes_of}
 use Rattle.txn_client.specs.Writes.{write_of}
 use Rattle.txn_client.specs.declared.clients.Clients.{Clients}
 use Rattle.txn_client.specs.declared.session.Phase.{Phase}
@@ -35,7 +35,7 @@ module _ (clients : Clients) (t : ℕ) (st : State) (shown : ShowsClients client
   pub is_kept : IsInactive st t → (session : Session) → btree.get nat_cmp clients.sessions t ≡ Some session → ⊥
   is_kept gone session there = absurd (none-some _ (sym gone ∙ (kept_at session there).phase))
 
-  pub is_open : IsInactive st t → IsOpen clients t → ⊥
+  pub is_open : IsInactive st t → IsOpenSession clients t → ⊥
   is_open gone kept = is_kept gone kept.0 kept.1
 
   -- a request to a session that isn't there is told so

@@ -17,7 +17,7 @@ use Rattle.cell_key.specs.Names.{IsRow, IsFamily}
 use Rattle.cell_key.specs.declared.refusals.Refusal.{Refusal}
 use Rattle.cell_key.specs.declared.refusals.Refusal.TheVariants.{UnknownSession, WrongPhase, BadRow, BadColumn, BadValue, TooManyWrites, TooManySessions, EmptyCommit, NoMemory, Damaged}
 use Rattle.row_atomic.specs.Refusals.{IsReadRefusal}
-use Rattle.si_model.specs.Laws.{Fits}
+use Rattle.si_model.specs.Laws.{FitsPhase}
 use Rattle.si_model.specs.Machine as machine
 use Rattle.si_model.specs.Machine.{State, Request, Step, accepts, refuses, IsReached, IsStorageRefusal, InPhase, Wrote, Names, Sets, Refused}
 use Rattle.si_model.specs.Replies.{found_reply, progress_reply, result_reply}
@@ -34,7 +34,7 @@ use Rattle.si_model.proofs.Steps.{reached_sound}
 use Rattle.si_model.proofs.Tools.{eq_test, ne_test, get_same, get_other, get_removed, get_remains, same_entry}
 use Rattle.txn_client.specs.Reads.{IsFound, IsDamaged}
 use Rattle.txn_client.specs.Refusals.{IsAdvanceRefusal}
-use Rattle.txn_client.specs.Shows.{phase_of, writes_of, top_after, Follows, Advances, HasNoNext, TouchesBy, TouchesFor, IsAboutToDraw, IsOpen, IsCellRefusal, open_session, ShowsSession, ShowsAt, ShowsClients, Shows, Steps}
+use Rattle.txn_client.specs.Shows.{phase_of, writes_of, top_after, Follows, Advances, HasNoNext, TouchesBy, TouchesFor, IsAboutToDraw, IsOpenSession, IsCellRefusal, open_session, ShowsSession, ShowsAt, ShowsClients, Shows, Steps}
 use Rattle.txn_client.specs.Writes.{write_of}
 use Rattle.txn_client.specs.declared.clients.Clients.{Clients}
 use Rattle.txn_client.specs.declared.session.Outcome.{Outcome}
@@ -235,8 +235,8 @@ empty_step st t session reached mine = by session.phase refl
     counts : length (writes_of session) ≡ length session.writes
     counts = length-map session.writes write_of
 
-    fits : (p : Phase) → session.phase ≡ p → Fits (phase_of p session.commit) (length session.writes)
-    fits p e = subst (λ (n : ℕ). Fits (phase_of p session.commit) n) counts ((reached_bounds reached).fits t (phase_of p session.commit) (mine.phase ∙ ap (λ (p : Phase). Some (phase_of p session.commit)) e) (writes_of session) mine.writes)
+    fits : (p : Phase) → session.phase ≡ p → FitsPhase (phase_of p session.commit) (length session.writes)
+    fits p e = subst (λ (n : ℕ). FitsPhase (phase_of p session.commit) n) counts ((reached_bounds reached).fits t (phase_of p session.commit) (mine.phase ∙ ap (λ (p : Phase). Some (phase_of p session.commit)) e) (writes_of session) mine.writes)
 
     by : (p : Phase) → session.phase ≡ p → HasNoNext p (length session.writes) → Step st (machine.Advance t) (Refused EmptyCommit) st
     by Open e none = refuses (advance_empty_first machine.Open (mine.phase ∙ ap (λ (p : Phase). Some (phase_of p session.commit)) e) (mine.writes ∙ ap (λ xs. Some (map write_of xs)) (no_items session.writes none)))
@@ -302,7 +302,7 @@ shown_none clients t st shown none = subst (λ (o : Option Session). ShowsAt o t
 pub shown_some : (clients : Clients) (t : ℕ) (st : State) (session : Session) → ShowsClients clients st → btree.get nat_cmp clients.sessions t ≡ Some session → ShowsSession session t st
 shown_some clients t st session shown was = subst (λ (o : Option Session). ShowsAt o t st) was (shown.sessions t)
 
-open_phase : (clients : Clients) (t : ℕ) (st : State) → ShowsClients clients st → IsOpen clients t → InPhase st t machine.Open
+open_phase : (clients : Clients) (t : ℕ) (st : State) → ShowsClients clients st → IsOpenSession clients t → InPhase st t machine.Open
 open_phase clients t st shown open_at = (shown_some clients t st open_at.0 shown open_at.1).phase ∙ ap (λ (p : Phase). Some (phase_of p open_at.0.commit)) open_at.2
 
 late_phase : (p : Phase) (c : ℕ) → p ≢ Open → phase_of p c ≢ machine.Open
@@ -336,7 +336,7 @@ pub set_refused_at : (cells : Cells) (clients : Clients) (last t : ℕ) (x : Cel
 set_refused_at cells clients last t x v e u = stays cells clients last (machine.Set t x v) e (λ st reached shown. set_refused clients t x v st shown.sessions e u)
 
 -- a Set is refused for its value
-pub set_value_at : (cells : Cells) (clients : Clients) (last t : ℕ) (x : Cell) (v : List ℕ) (e : Refusal) → IsOpen clients t → IsRow x.row → IsFamily x.family
+pub set_value_at : (cells : Cells) (clients : Clients) (last t : ℕ) (x : Cell) (v : List ℕ) (e : Refusal) → IsOpenSession clients t → IsRow x.row → IsFamily x.family
     → (e ≡ BadValue) ⊎ (e ≡ NoMemory) → (e ≡ BadValue → 65536 < length v) → Steps cells clients last (machine.Set t x v) (Refused e) cells clients last
 set_value_at cells clients last t x v e open_at row family which long = stays cells clients last (machine.Set t x v) e (λ st reached shown. elim which [
   | inl is ↦ subst (λ (f : Refusal). Step st (machine.Set t x v) (Refused f) st) (sym is) (refuses (set_long_first (open_phase clients t st shown.sessions open_at) row family (long is)))
@@ -410,7 +410,7 @@ begin_undone_key cells old made new last last' start key e r same u next le top 
     (λ q. gone q ∙ ap (λ (k : ℕ). cond (is_eq (nat_cmp k q)) None (btree.get nat_cmp made.sessions q)) same) less
 
 -- the session that is kept at an open session's start is open
-pub open_same : (clients : Clients) (t : ℕ) (session : Session) → btree.get nat_cmp clients.sessions t ≡ Some session → IsOpen clients t → session.phase ≡ Open
+pub open_same : (clients : Clients) (t : ℕ) (session : Session) → btree.get nat_cmp clients.sessions t ≡ Some session → IsOpenSession clients t → session.phase ≡ Open
 open_same clients t session was (open_session', at, is_open) = ap (λ (s : Session). s.phase) (same_Some session open_session' (sym was ∙ at)) ∙ is_open
 
 -- without sessions
@@ -462,7 +462,7 @@ pub undamaged_at : (cells : Cells) (x : Cell) (t : ℕ) (r : Result Found Refusa
 undamaged_at cells x t (Ok f) h st reached shown e = cc
 undamaged_at cells x t (Err e) h st reached shown f = undamaged cells st reached shown x t (h cc)
 
-pub reads_open_at : (cells : Cells) (clients : Clients) (last t : ℕ) (x : Cell) (r : Result Found Refusal) → IsOpen clients t → IsRow x.row → IsFamily x.family
+pub reads_open_at : (cells : Cells) (clients : Clients) (last t : ℕ) (x : Cell) (r : Result Found Refusal) → IsOpenSession clients t → IsRow x.row → IsFamily x.family
     → IfOk r (IsFound cells x t) → IfErr r IsReadRefusal → Steps cells clients last (machine.Get t x) (result_reply found_reply r) cells clients last
 reads_open_at cells clients last t x r (session, was, is_open) row family ok refused = reads_at cells clients last t session x r was is_open row family ok refused
 

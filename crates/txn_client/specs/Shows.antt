@@ -115,8 +115,8 @@ abbrev pub IsAboutToDraw : State → ℕ → Type 0
 IsAboutToDraw st t = (ws : Writes) × Wrote st t ws × InPhase st t (machine.Holding (length ws))
 
 -- a session that is kept, and takes reads and writes
-abbrev pub IsOpen : Clients → ℕ → Type 0
-IsOpen clients t =
+abbrev pub IsOpenSession : Clients → ℕ → Type 0
+IsOpenSession clients t =
     (session : Session)
     × (btree.get nat_cmp clients.sessions t ≡ Some session) × (session.phase ≡ Open)
 
@@ -130,7 +130,7 @@ IsLate clients t =
 abbrev pub IsCellRefusal : Clients → ℕ → Cell → Refusal → Type 0
 IsCellRefusal clients t x UnknownSession = btree.get nat_cmp clients.sessions t ≡ None
 IsCellRefusal clients t x WrongPhase = IsLate clients t
-IsCellRefusal clients t x refusal = IsOpen clients t × IsNameRefusal x refusal
+IsCellRefusal clients t x refusal = IsOpenSession clients t × IsNameRefusal x refusal
 
 -- what a step of one session does: the machine takes the step,
 -- and goes to a state with this session

@@ -21,7 +21,7 @@ ghost use Rattle.txn_client.specs.Refusals.{HasOneReason, IsBeginRefusal, IsGetR
 ghost use Rattle.row_atomic.specs.Calls.{KeepsBelow, OnlyReads};
 ghost use Rattle.row_atomic.specs.Room.{HasNoRoom};
 ghost use Rattle.txn_client.specs.Room.{ChangesNext, Does, EditsOfStep, Makes, TakesRoom};
-ghost use Rattle.txn_client.specs.Shows.{DrawsNext, InEachShown, IsAboutToDraw, IsCellRefusal, IsCrowded, IsInactive, IsOpen, IsUnwritten, SameClients, Shows, ShowsClients, Steps, TouchesFor, open_session, top_after};
+ghost use Rattle.txn_client.specs.Shows.{DrawsNext, InEachShown, IsAboutToDraw, IsCellRefusal, IsCrowded, IsInactive, IsOpenSession, IsUnwritten, SameClients, Shows, ShowsClients, Steps, TouchesFor, open_session, top_after};
 
 use crate::cells;
 use crate::limits::Value;
@@ -177,7 +177,7 @@ impl Clients {
     /// The cell of a request to an open session: UnknownSession, WrongPhase, BadRow, BadColumn, NoMemory.
     fn open_cell(&self, start: Stamp, row: &[u8], family: &[u8]) -> Result<Cell, Refusal>
         ensures ok { IfOk result (λ cell. cell ≡ cell_of row.now family.now) }
-        ensures open { OnOk result (IsOpen self.now start) }
+        ensures open { OnOk result (IsOpenSession self.now start) }
         ensures row { OnOk result (IsRow row.now) }
         ensures family { OnOk result (IsFamily family.now) }
         ensures refusal { IfErr result (IsCellRefusal self.now start (cell_of row.now family.now)) }

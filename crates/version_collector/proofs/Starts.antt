@@ -19,12 +19,12 @@ use Rattle.row_atomic.specs.Oldest.{IsOldest}
 use Rattle.row_atomic.proofs.Halves.{at_none, at_some}
 use Rattle.si_model.specs.Collection.{IsNamed, IsOld}
 use Rattle.si_model.specs.Sets.{◌∈◌}
-use Rattle.si_model.specs.ShowsCells.{IsThere, NamesCommit, at, key_of, start_text}
+use Rattle.si_model.specs.ShowsCells.{IsThere, NamesCommit, at, key_of, start_text, NamesStart}
 use Rattle.si_model.specs.declared.replies.Cell.{Cell}
 use Rattle.si_model.proofs.Bounds.{reached_bounds}
 use Rattle.si_model.proofs.CleanerFates.{names_nearest}
 use Rattle.si_model.proofs.Steps.{reached_sound}
-use Rattle.version_collector.specs.Versions.{AreFound, AreGreatest, AreShown, AreUnnamed, HasOneRecord, IsAmong, IsLastRecord, IsLatestBelow, IsNamedBy, IsUnnamed, NamesLast, NamesNext, NamesNone, NamesStart}
+use Rattle.version_collector.specs.Versions.{AreFound, AreGreatest, AreShown, AreUnnamed, HasOneRecord, IsAmong, IsLastRecord, IsLatestBelow, IsNamedBy, IsUnnamed, NamesLast, NamesNext, NamesNone}
 use Rattle.version_collector.proofs.Greatest.{AreAll, all_more, all_none, all_past, greatest_all, greatest_full, in_last}
 
 start_back : (t : ℕ) → t < 2 ^ 64 → big_number 8 (start_text t) ≡ t

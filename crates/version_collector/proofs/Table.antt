@@ -34,7 +34,7 @@ use Rattle.si_model.proofs.ShownKept.{shows_beside}
 use Rattle.si_model.proofs.Tools.{eq_test, ne_test, get_same, get_other, get_removed, get_remains}
 use Rattle.version_collector.specs.Refusals.{IsVisitRefusal}
 use Rattle.version_collector.specs.Shows.{AreShownOn, Begins, ChangesOne, IsCount, SameCollectors, ShowsAt, ShowsCollector, ShowsCollectors, Steps, TellsAt, VisitsAt, is_last, kept_after, kept_at}
-use Rattle.version_collector.specs.Visits.{HasVisited, IsTold, Leaves, WhereCome, pass_of, position_of}
+use Rattle.version_collector.specs.Visits.{HasVisited, IsTold, VisitsLeave, WhereCome, pass_of, position_of}
 use Rattle.version_collector.specs.declared.collector.Collector.{Collector}
 use Rattle.version_collector.specs.declared.collector.Pass.TheVariants.{First}
 use Rattle.version_collector.specs.declared.collectors.Collectors.{Collectors}
@@ -115,7 +115,7 @@ removed_count m k n n' f there e g = finmap.len-remove nat_cmp_total m k ∙ (ap
 
 module _ (cells cells' : Cells) (old new : Collectors) (i n : ℕ) (c c' : Collector) (was : kept_at old i ≡ Some c) (one : ChangesOne i old new) where
   -- the collector goes on
-  open_shown : (st : State) → IsReached st → ShowsCells cells st → ShowsCollectors cells old st → Leaves n cells c cells' c' st → kept_at new i ≡ Some c'
+  open_shown : (st : State) → IsReached st → ShowsCells cells st → ShowsCollectors cells old st → VisitsLeave n cells c cells' c' st → kept_at new i ≡ Some c'
       → btree.btree_map_len new.collectors ≡ btree.btree_map_len old.collectors → ShowsCollectors cells' new st
   open_shown st reached store shown leaves now len = record {
     next = one.next ∙ shown.next;
@@ -134,7 +134,7 @@ module _ (cells cells' : Cells) (old new : Collectors) (i n : ℕ) (c c' : Colle
   abbrev closed : State → State
   closed st = record st { collectors = finmap.remove st.collectors i }
 
-  closed_shown : (st : State) → IsReached st → ShowsCells cells st → ShowsCollectors cells old st → Leaves n cells c cells' c' st → kept_at new i ≡ None
+  closed_shown : (st : State) → IsReached st → ShowsCells cells st → ShowsCollectors cells old st → VisitsLeave n cells c cells' c' st → kept_at new i ≡ None
       → btree.btree_map_len new.collectors + 1 ≡ btree.btree_map_len old.collectors → ShowsCollectors cells' new (closed st)
   closed_shown st reached store shown leaves now len = record {
     next = one.next ∙ shown.next;
@@ -150,7 +150,7 @@ module _ (cells cells' : Cells) (old new : Collectors) (i n : ℕ) (c c' : Colle
   -- the machine's step, by the answer
   stepped : (result : Result CollectReply Refusal) → IsCount n → IfErr result IsVisitRefusal → kept_at new i ≡ kept_after result c'
       → btree.btree_map_len new.collectors + cond (closes_with result) 1 0 ≡ btree.btree_map_len old.collectors
-      → (st : State) → IsReached st → ShowsCells cells st → ShowsCollectors cells old st → Leaves n cells c cells' c' st × IfOk result (λ reply. IsTold n reply cells c cells' c' st)
+      → (st : State) → IsReached st → ShowsCells cells st → ShowsCollectors cells old st → VisitsLeave n cells c cells' c' st × IfOk result (λ reply. IsTold n reply cells c cells' c' st)
       → (next : State) × Step st (machine.CollectStep i n) (result_reply collect_reply result) next × ShowsCells cells' next × ShowsCollectors cells' new next
   stepped (Ok More) count refusal now len st reached store shown is =
       let kept = (shown_some cells old i st c shown was).kept in
@@ -340,7 +340,7 @@ module _ (cells cells' : Cells) (old new : Collectors) (i n : ℕ) (c w : Collec
   pub visits_at : kept_at new i ≡ kept_after result w → VisitsAt i n result cells old cells' new
   visits_at now d is = (w, subst (λ (e : Collector). HasVisited n result cells e cells' w) (same_Some c d (sym was ∙ is)) done, now)
 
-  pub leaves_at : Leaves n cells c cells' w st
+  pub leaves_at : VisitsLeave n cells c cells' w st
   leaves_at = (request_is st reached cells c store (shown_low cells c i st reached mine) mine.come n result cells' w done).0
 
   is_told : IfOk result (λ reply. IsTold n reply cells c cells' w st)

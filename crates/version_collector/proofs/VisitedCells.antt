@@ -22,7 +22,7 @@ use Rattle.si_model.proofs.CollectorProgress.{comes_further}
 use Rattle.si_model.proofs.Left.{left_falls}
 use Rattle.si_model.proofs.ShownAt.{cases_key, erased_at, erased_off}
 use Rattle.version_collector.specs.Versions.{AreOld, AreShown, AreUnnamed}
-use Rattle.version_collector.specs.Visits.{AreVisits, Comes, EndsWith, HasVisited, IsTold, IsVisit, Leaves, Thins, Visits, ends, erases_data, erases_records, none, passes, pass_of, position_of, left_by, stops, then, tidies, turns}
+use Rattle.version_collector.specs.Visits.{AreVisits, Comes, EndsWith, HasVisited, IsTold, IsVisit, VisitsLeave, Thins, Visits, ends, erases_data, erases_records, none, passes, pass_of, position_of, left_by, stops, then, tidies, turns}
 use Rattle.version_collector.specs.declared.collector.Collector.{Collector}
 
 -- ---- keys that stand, and keys that are gone, where versions of x are erased
@@ -215,7 +215,7 @@ module _ (st : State) (reached : IsReached st) where
   told_by Collected cells c cells' c' told = told
 
   pub visit_is : (cells : Cells) (c : Collector) (reply : CollectReply) (cells' : Cells) (c' : Collector) → ShowsCells cells st → c.floor ≤ st.floor → Comes cells st c
-      → Visits cells c reply cells' c' → Leaves 1 cells c cells' c' st × IsTold 1 reply cells c cells' c' st
+      → Visits cells c reply cells' c' → VisitsLeave 1 cells c cells' c' st × IsTold 1 reply cells c cells' c' st
   visit_is cells c reply cells' c' shown low come v =
       let l = visit_leaves cells st reached shown c.floor low (pass_of c.pass) (position_of c.after) reply cells' (pass_of c'.pass) (position_of c'.after) come v.visit in (
         record {
@@ -229,7 +229,7 @@ module _ (st : State) (reached : IsReached st) where
 
   -- ---- visits after one another
 
-  leaves_then : (m n : ℕ) (a : Cells) (c : Collector) (b : Cells) (d : Collector) (e : Cells) (f : Collector) → Leaves m a c b d st → Leaves n b d e f st → Leaves (m + n) a c e f st
+  leaves_then : (m n : ℕ) (a : Cells) (c : Collector) (b : Cells) (d : Collector) (e : Cells) (f : Collector) → VisitsLeave m a c b d st → VisitsLeave n b d e f st → VisitsLeave (m + n) a c e f st
   leaves_then m n a c b d e f first second = record {
     collects = collects_then a b e st first.collects second.collects;
     thins = thins_then m n a b e first.thins second.thins;
@@ -238,7 +238,7 @@ module _ (st : State) (reached : IsReached st) where
   }
 
   pub visits_are : (cells : Cells) (c : Collector) → ShowsCells cells st → c.floor ≤ st.floor → Comes cells st c → (k : ℕ) (cells' : Cells) (c' : Collector) → AreVisits cells c k cells' c'
-      → Leaves k cells c cells' c' st × (left_by cells' c' + k ≤ left_by cells c)
+      → VisitsLeave k cells c cells' c' st × (left_by cells' c' + k ≤ left_by cells c)
   visits_are cells c shown low come _ _ _ none = (record { collects = collects_none cells st; thins = thins_none 0 cells; floor = refl; come = come }, omega arith)
   visits_are cells c shown low come _ _ _ (then {k} {mid} {cells'} {d} {c'} before last) =
       let b = visits_are cells c shown low come k mid d before in
@@ -249,7 +249,7 @@ module _ (st : State) (reached : IsReached st) where
 
   -- ---- a request
 
-  leaves_few : (m n : ℕ) (a : Cells) (c : Collector) (b : Cells) (d : Collector) → m ≤ n → Leaves m a c b d st → Leaves n a c b d st
+  leaves_few : (m n : ℕ) (a : Cells) (c : Collector) (b : Cells) (d : Collector) → m ≤ n → VisitsLeave m a c b d st → VisitsLeave n a c b d st
   leaves_few m n a c b d le l = record {
     collects = l.collects;
     thins = let f = l.thins.few in record { rows = l.thins.rows; few = omega arith; others = l.thins.others; fewer = l.thins.fewer };
@@ -265,7 +265,7 @@ module _ (st : State) (reached : IsReached st) where
   last_told n Collected cells mid c d cells' c' ne same told = subst (λ (f : ℕ). IsUnmarkedBelow st f × ((x : Cell) → IsTidy cells' x f)) same told
 
   ends_with : (cells : Cells) (c : Collector) → ShowsCells cells st → c.floor ≤ st.floor → Comes cells st c → (n : ℕ) (reply : CollectReply) (cells' : Cells) (c' : Collector)
-      → reply ≢ More → EndsWith n reply cells c cells' c' → Leaves n cells c cells' c' st × IsTold n reply cells c cells' c' st
+      → reply ≢ More → EndsWith n reply cells c cells' c' → VisitsLeave n cells c cells' c' st × IsTold n reply cells c cells' c' st
   ends_with cells c shown low come n reply cells' c' ne e =
       let k = e.visits.count in
       let b = (visits_are cells c shown low come k e.mid e.before e.visits.visits).0 in
@@ -274,7 +274,7 @@ module _ (st : State) (reached : IsReached st) where
       (leaves_few (k + 1) n cells c cells' c' (omega arith) (leaves_then k 1 cells c e.mid e.before cells' c' b l.0), last_told n reply cells e.mid c e.before cells' c' ne b.floor l.1)
 
   pub request_is : (cells : Cells) (c : Collector) → ShowsCells cells st → c.floor ≤ st.floor → Comes cells st c → (n : ℕ) (result : Result CollectReply Refusal) (cells' : Cells) (c' : Collector)
-      → HasVisited n result cells c cells' c' → Leaves n cells c cells' c' st × IfOk result (λ reply. IsTold n reply cells c cells' c' st)
+      → HasVisited n result cells c cells' c' → VisitsLeave n cells c cells' c' st × IfOk result (λ reply. IsTold n reply cells c cells' c' st)
   request_is cells c shown low come n (Ok More) cells' c' did = visits_are cells c shown low come n cells' c' did
   request_is cells c shown low come n (Ok (Blocked x t)) cells' c' did = ends_with cells c shown low come n (Blocked x t) cells' c' (λ e. cc) did
   request_is cells c shown low come n (Ok Collected) cells' c' did = ends_with cells c shown low come n Collected cells' c' (λ e. cc) did

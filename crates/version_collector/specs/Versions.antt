@@ -1,6 +1,5 @@
 -- What a second pass finds in a cell: records that are old, or data that no record names.
 use Rattle.std.specs.Prelude.{◌≡◌, ◌⊎◌, ⊤, ℕ, ◌+◌, ◌-◌, ◌<◌, ◌≤◌, ◌^◌, List, [], ◌∷◌, length, map, Option, Some, None, slice_get}
-use Rattle.byteorder.specs.Endian.{big_number}
 use Rattle.cell_key.specs.Cells.{Cells, IsNewest}
 use Rattle.cell_key.specs.declared.keys.Qualifier.{Qualifier}
 use Rattle.cell_key.specs.declared.keys.Qualifier.TheVariants.{Data, Write}
@@ -8,7 +7,7 @@ use Rattle.row_atomic.specs.Oldest.{IsOldest}
 use Rattle.si_model.specs.Collection.{IsNamed, IsOld}
 use Rattle.si_model.specs.Machine.{State, IsReached}
 use Rattle.si_model.specs.Sets.{◌∈◌}
-use Rattle.si_model.specs.ShowsCells.{IsThere, ShowsCells, at, key_of}
+use Rattle.si_model.specs.ShowsCells.{NamesStart, IsThere, ShowsCells, at, key_of}
 use Rattle.si_model.specs.declared.replies.Cell.{Cell}
 
 -- a reached state is shown
@@ -42,10 +41,6 @@ IsLatestBelow cells x q below None = (s : ℕ) → s < below → at cells x q s 
 IsLatestBelow cells x q below (Some found) =
     (found.0 < below) × (at cells x q found.0 ≡ Some found.1)
     × ((s : ℕ) → found.0 < s → s < below → at cells x q s ≡ None)
-
--- a record's text names t
-abbrev pub NamesStart : List ℕ → ℕ → Type 0
-NamesStart b t = (length b ≡ 8) × (big_number 8 b ≡ t)
 
 -- at most one record of x stands at or below the floor
 abbrev pub HasOneRecord : Cells → Cell → ℕ → Type 0

@@ -117,7 +117,7 @@ pub record Thins (n : ℕ) (cells cells' : Cells) : Type 0 where
 
 -- What n visits at the most leave: what sessions read is kept, keys of at most n rows are gone, and
 -- the collector has come so far.
-pub record Leaves (n : ℕ) (cells : Cells) (c : Collector) (cells' : Cells) (c' : Collector)
+pub record VisitsLeave (n : ℕ) (cells : Cells) (c : Collector) (cells' : Cells) (c' : Collector)
     (st : State) : Type 0 where
   pub collects : Collects cells cells' st
   pub thins : Thins n cells cells'

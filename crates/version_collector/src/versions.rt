@@ -6,7 +6,8 @@ ghost use Rattle.cell_key.specs.Moments.{IsMoment};
 ghost use Rattle.cell_key.specs.Versions.{stamped};
 ghost use Rattle.row_atomic.specs.Calls.{OnlyReads};
 ghost use Rattle.row_atomic.specs.Refusals.{IsRefusalOfRead};
-ghost use Rattle.version_collector.specs.Versions.{AreFound, AreShown, AreUnnamed, HasOneRecord, IsAmong, IsLatestBelow, IsNamedBy, NamesLast, NamesNext, NamesNone, NamesStart};
+ghost use Rattle.si_model.specs.ShowsCells.{NamesStart};
+ghost use Rattle.version_collector.specs.Versions.{AreFound, AreShown, AreUnnamed, HasOneRecord, IsAmong, IsLatestBelow, IsNamedBy, NamesLast, NamesNext, NamesNone};
 
 use cell_key::{MOST_STAMP, Moment, Qualifier, Refusal, Stamp};
 use row_atomic::{Rows, oldest};

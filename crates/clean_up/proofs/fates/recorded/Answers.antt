@@ -6,7 +6,8 @@ use Rattle.byteorder.specs.Endian.{big_number}
 use Rattle.cell_key.specs.Versions.{stamped}
 use Rattle.cell_key.specs.Cells.{Cells}
 use Rattle.si_model.specs.declared.replies.Cell.{Cell}
-use Rattle.clean_up.specs.Fates.{IsNextRecord, IsToldBy, NamesStart}
+use Rattle.si_model.specs.ShowsCells.{NamesStart}
+use Rattle.clean_up.specs.Fates.{IsNextRecord, IsToldBy}
 use Rattle.clean_up.specs.declared.fates.Fate.TheVariants.{Forward, Back}
 use Rattle.clean_up.proofs.fates.recorded.Goals as goal
 

@@ -1,14 +1,14 @@
 use Rattle.std.proofs.Common.{◌≡◌, length}
 use Rattle.std.specs.List.{AllByRecursion}
 use Rattle.memtable.specs.Slots.{first_value}
-use Rattle.memtable.specs.Blocks.{block_entries, IsBlock}
+use Rattle.memtable.specs.Blocks.{block_entries, IsEntryBlock}
 use Rattle.memtable.proofs.blocks.first_value.Given as goal
 
 -- those before what is left have no value
 abbrev pub invariant-each : goal.invariant-each
 invariant-each l =
     record {
-      blocks : AllByRecursion IsBlock l.rest;
+      blocks : AllByRecursion IsEntryBlock l.rest;
       first : first_value (block_entries l.rest) ≡ first_value (block_entries l.fn.blocks);
     }
 

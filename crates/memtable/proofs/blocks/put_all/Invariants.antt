@@ -3,7 +3,7 @@ use Rattle.std.specs.List.{AllByRecursion}
 use Rattle.cell_key.specs.Entries.{IsEntry, IsRising}
 use Rattle.memtable.specs.Slots.{slot_entries, over}
 use Rattle.memtable.specs.Sizes.{IsSizeOf}
-use Rattle.memtable.specs.Blocks.{block_entries, AreBlocks, HasRoom}
+use Rattle.memtable.specs.Blocks.{block_entries, AreEntryBlocks, HasRoom}
 use Rattle.memtable.proofs.blocks.put_all.Given as goal
 
 -- the staged entries that are left lead to where all of them do, and have room
@@ -12,7 +12,7 @@ invariant-loop-slot l =
     record {
       rising : IsRising (block_entries l.blocks.filled.items);
       entries : over (slot_entries l.staged.items) (block_entries l.blocks.filled.items) ≡ over (slot_entries l.fn.staged.items) (block_entries l.fn.blocks.filled.items);
-      blocks : AreBlocks l.blocks;
+      blocks : AreEntryBlocks l.blocks;
       room : HasRoom (vec_len l.staged) l.blocks;
       limits : AllByRecursion IsEntry (slot_entries l.staged.items);
       size : IsSizeOf l.size (block_entries l.blocks.filled.items);

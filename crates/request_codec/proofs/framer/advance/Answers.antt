@@ -1,11 +1,11 @@
 use Rattle.std.proofs.Common.{◌≤◌, ◌+◌, length, refl, arith}
-use Rattle.request_codec.proofs.FirstFrames.{IsTooLarge-from_header, IsPartial-from_header, frame-from_header}
+use Rattle.request_codec.proofs.FirstFrames.{IsTooLong-from_header, IsPartial-from_header, frame-from_header}
 use Rattle.request_codec.proofs.framer.advance.Goals as goal
 
 pub returns-then-len-gt-LONGEST_BODY-clause-first :
     goal.returns-then-len-gt-LONGEST_BODY-clause-first
 returns-then-len-gt-LONGEST_BODY-clause-first c =
-    (IsTooLarge-from_header _ _ _ c.in-Some.ensures.some c.length_in-len.ensures.value c.in-Some.ensures.four c.if-len-gt-LONGEST_BODY.true, refl)
+    (IsTooLong-from_header _ _ _ c.in-Some.ensures.some c.length_in-len.ensures.value c.in-Some.ensures.four c.if-len-gt-LONGEST_BODY.true, refl)
 
 pub returns-then-len-clause-first : goal.returns-then-len-clause-first
 returns-then-len-clause-first c =

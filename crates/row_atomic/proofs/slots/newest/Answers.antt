@@ -3,13 +3,13 @@ use Rattle.std.specs.declared.ops.Bound.TheVariants.{Included}
 use Rattle.std.specs.List.{each_same}
 use Rattle.cell_key.specs.Cells.{version, Cells, IsNewest}
 use Rattle.cell_key.specs.declared.keys.CellKey.{CellKey}
-use Rattle.row_atomic.specs.Slots.{cells_of, IsFirst}
+use Rattle.row_atomic.specs.Slots.{slot_cells, IsFirstKey}
 use Rattle.row_atomic.proofs.Stamps.{versions_fall, newest_none, newest_some}
 use Rattle.row_atomic.proofs.slots.newest.Goals as goal
 
 -- the bounds are the versions at the ends
-at_ends : (cells : Cells) (from to from' to' : CellKey) (found : Option (CellKey × List ℕ)) → from ≡ from' → to ≡ to' → IsFirst cells (Included from) (Included to) found → IsFirst cells (Included from') (Included to') found
-at_ends cells from to from' to' found e f first = subst (λ (k : CellKey). IsFirst cells (Included from') (Included k) found) f (subst (λ (k : CellKey). IsFirst cells (Included k) (Included to) found) e first)
+at_ends : (cells : Cells) (from to from' to' : CellKey) (found : Option (CellKey × List ℕ)) → from ≡ from' → to ≡ to' → IsFirstKey cells (Included from) (Included to) found → IsFirstKey cells (Included from') (Included to') found
+at_ends cells from to from' to' found e f first = subst (λ (k : CellKey). IsFirstKey cells (Included from') (Included k) found) f (subst (λ (k : CellKey). IsFirstKey cells (Included k) (Included to) found) e first)
 
 pub first-requires-clause-forward : goal.first-requires-clause-forward
 first-requires-clause-forward c =
@@ -18,7 +18,7 @@ first-requires-clause-forward c =
 pub returns-in_ok-clone-in-Some : goal.returns-in_ok-clone-in-Some
 returns-in_ok-clone-in-Some c =
     let at = version c.args.row.now c.args.family.now c.args.qualifier in
-    let cells = cells_of c.args.slots.now.entries in
+    let cells = slot_cells c.args.slots.now.entries in
     let key = c.in-Some.key.now in
     let first = at_ends cells c.in_ok-from.from c.in_ok-to.to (at c.args.hi) (at c.args.lo) (Some (key, c.in-Some.value.now.items)) c.in_ok-from.ensures c.in_ok-to.ensures c.in-Some.ensures in
     let newest = newest_some c.args.row.now c.args.family.now c.args.qualifier c.args.lo c.args.hi cells key c.in-Some.value.now.items first in
@@ -28,6 +28,6 @@ returns-in_ok-clone-in-Some c =
 pub returns-in-None : goal.returns-in-None
 returns-in-None c =
     let at = version c.args.row.now c.args.family.now c.args.qualifier in
-    let cells = cells_of c.args.slots.now.entries in
+    let cells = slot_cells c.args.slots.now.entries in
     newest_none c.args.row.now c.args.family.now c.args.qualifier c.args.lo c.args.hi cells
     (at_ends cells c.in_ok-from.from c.in_ok-to.to (at c.args.hi) (at c.args.lo) None c.in_ok-from.ensures c.in_ok-to.ensures c.in-None.ensures)

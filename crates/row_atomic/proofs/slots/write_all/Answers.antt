@@ -3,7 +3,7 @@ use Rattle.std.specs.List.{AllByRecursion}
 use Rattle.std.specs.Vec.Iter.{into_iter_items}
 use Rattle.cell_key.specs.Cells.{Cells, after_edits, edited_key}
 use Rattle.cell_key.specs.declared.edits.Edit.{Edit}
-use Rattle.row_atomic.specs.Slots.{cells_of, HasEdited}
+use Rattle.row_atomic.specs.Slots.{slot_cells, HasEdited}
 use Rattle.row_atomic.proofs.SlotLemmas.{slots_kept}
 use Rattle.row_atomic.proofs.slots.write_all.Goals as goal
 
@@ -22,7 +22,7 @@ loop-edit-preserved c =
     record {
       cells =
           ap (λ (m : Cells). after_edits m rest) c.write.ensures.cells
-          ∙ ap (after_edits (cells_of old)) (sym first)
+          ∙ ap (after_edits (slot_cells old)) (sym first)
           ∙ c.loop-edit.invariant.cells;
       slots = slots_kept old c.write.new.slots.entries c.write.ensures.kept rest all.1;
       empties = λ q others.

@@ -1,7 +1,7 @@
 use Rattle.std.proofs.Common.{◌≡◌, ◌<◌, ◌+◌, List, ◌∷◌, [], length, sym, ap, subst, ◌∙◌, arith}
 use Rattle.std.proofs.lemmas.Bool.{ltb-true, lt-ltb}
 use Rattle.cell_key.specs.Entries.{Entry, spelled}
-use Rattle.sorted_file.specs.Grammar.{block_bytes, IsFull}
+use Rattle.sorted_file.specs.Grammar.{block_bytes, IsFullBlock}
 use Rattle.sorted_file.specs.Kept.{file_entry, kept}
 use Rattle.sorted_file.specs.Blocks.{block_of, blocks_of, AreRows, IsFollowed}
 use Rattle.sorted_file.specs.declared.blocks.BlockRow.{BlockRow}
@@ -17,7 +17,7 @@ returns c = λ rows.
     ap (λ (l : List BlockRow). IsFollowed (blocks_of l) (kept c.args.block.now)) cut
     ∙ ap (λ (l : List (List Entry)). IsFollowed l (kept c.args.block.now)) (map_joined block_of c.in-Some.field-0-1.now c.in-Some.row.now)
     ∙ followed_last (blocks_of c.in-Some.field-0-1.now) (block_of c.in-Some.row.now) (kept c.args.block.now)
-    ∙ ap (λ (l : List Entry). IsFull (block_of c.in-Some.row.now) (l ∷ [])) first in
+    ∙ ap (λ (l : List Entry). IsFullBlock (block_of c.in-Some.row.now) (l ∷ [])) first in
     let len = c.spelled_len.ensures ∙ ap (λ (e : Entry). length (spelled e)) c.lend.ensures in (
       λ t. subst (λ (P : Type 0). P) (sym followed) (let lt = ltb-true 4096 (c.in-Some.row.now.length + c.spelled_len.result) t in omega (arith, lt, size, len)),
       λ f. lt-ltb 4096 (c.in-Some.row.now.length + c.spelled_len.result) (let lt = subst (λ (P : Type 0). P) followed f in omega (arith, lt, size, len)),

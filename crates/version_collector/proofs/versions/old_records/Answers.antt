@@ -5,8 +5,8 @@ use Rattle.cell_key.specs.declared.refusals.Refusal.TheVariants.{Device}
 use Rattle.cell_key.proofs.Reasons.{not_refused}
 use Rattle.row_atomic.proofs.Calls.{reads_then}
 use Rattle.row_atomic.proofs.Halves.{at_none, at_some}
-use Rattle.si_model.specs.ShowsCells.{key_of}
-use Rattle.version_collector.specs.Versions.{AreFound, AreShown, NamesStart}
+use Rattle.si_model.specs.ShowsCells.{key_of, NamesStart}
+use Rattle.version_collector.specs.Versions.{AreFound, AreShown}
 use Rattle.version_collector.proofs.Greatest.{length-last}
 use Rattle.version_collector.proofs.PassedRefusals.{refused_damaged}
 use Rattle.version_collector.proofs.Starts.{AreOldFrom, found_none, latest_none, latest_some, not_damaged, old_all, old_begin, old_full, old_more}

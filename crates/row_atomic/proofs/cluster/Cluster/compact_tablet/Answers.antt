@@ -8,7 +8,7 @@ use Rattle.metadata_table.specs.Table.{with_files}
 use Rattle.tablet.specs.Views.{names_of}
 use Rattle.row_atomic.specs.Clusters.{spot_of}
 use Rattle.row_atomic.specs.PlaceCaches.{AreHeld}
-use Rattle.row_atomic.specs.Changes.{Fits, IsCleaned, IsFull, IsMade, IsTooLarge, MeetsBadCount, MeetsFull, WritesNone}
+use Rattle.row_atomic.specs.Changes.{FitsLimit, IsCleaned, IsFullTablet, IsMade, IsTooLarge, MeetsBadCount, MeetsFull, WritesNone}
 use Rattle.tablet.specs.Compactions.{Compacts}
 use Rattle.row_atomic.proofs.RowAnswers.{found_there, undamaged}
 use Rattle.row_atomic.proofs.ListedFiles.{flush_lists}
@@ -91,7 +91,7 @@ returns-in_err-compact-clause-outcome g c =
     (record {
       unknown = ((λ is. absurd (known_refusal c.args.compaction e refused.refusal is)), λ not. absurd (not known));
       count = ((λ is. absurd (within is)), λ bad. absurd (counted bad.1));
-      full = full_meets c.args.compaction e refused.refusal (λ is. numbered_old c.self.inside.tablets.items c.position-index.result c.index_mut.result.now c.compact.new.tablet there (IsFull) c.args.tablet at.number (refused.full (err_of e TooManyFiles is)));
+      full = full_meets c.args.compaction e refused.refusal (λ is. numbered_old c.self.inside.tablets.items c.position-index.result c.index_mut.result.now c.compact.new.tablet there (IsFullTablet) c.args.tablet at.number (refused.full (err_of e TooManyFiles is)));
       unfilled = λ of. numbered_not c.self.inside.tablets.items c.position-index.result c.index_mut.result.now there (MeetsFull c.args.compaction) c.args.tablet at.number (refused.unfilled of);
       exhausted = λ is. (refused.exhausted (err_of e Exhausted is), numbered_not c.self.inside.tablets.items c.position-index.result c.index_mut.result.now there (WritesNone c.args.compaction) c.args.tablet at.number (refused.needed (err_of e Exhausted is)));
       large = λ is. numbered_old c.self.inside.tablets.items c.position-index.result c.index_mut.result.now c.compact.new.tablet there (IsTooLarge c.self.inside.file_limit (g.F.Files.contents c.self.inside.files) c.args.compaction) c.args.tablet at.number (refused.large (err_of e FileTooLarge is));
@@ -118,7 +118,7 @@ returns-clause-outcome g c =
       counted = rw (← c.self.view_is) at c.requires.counted;
       room = numbered_not c.self.inside.tablets.items c.position-index.result c.index_mut.result.now there (MeetsFull c.args.compaction) c.args.tablet at.number c.in_ok-compact.ensures.room;
       named = λ most. numbered_old c.self.inside.tablets.items c.position-index.result c.index_mut.result.now c.compact.new.tablet there (WritesNone c.args.compaction) c.args.tablet at.number (c.in_ok-compact.ensures.left most);
-      fits = numbered_old c.self.inside.tablets.items c.position-index.result c.index_mut.result.now c.compact.new.tablet there (Fits c.self.inside.file_limit (g.F.Files.contents c.self.inside.files) c.args.compaction) c.args.tablet at.number c.in_ok-compact.ensures.fits;
+      fits = numbered_old c.self.inside.tablets.items c.position-index.result c.index_mut.result.now c.compact.new.tablet there (FitsLimit c.self.inside.file_limit (g.F.Files.contents c.self.inside.files) c.args.compaction) c.args.tablet at.number c.in_ok-compact.ensures.fits;
     })
     (λ minor. flush_lists c.self.inside.tablets.items c.self.inside.table c.self.invariant.0.placed c.list_files.new.table c.args.tablet c.self.inside.next_name c.index_mut.result.now c.compact.new.tablet
     (numbered_at c.self.inside.tablets.items c.args.tablet c.position-index.result c.index_mut.result.now at.number there)

@@ -1,6 +1,6 @@
 use Rattle.std.proofs.Common.{sym, subst}
 use Rattle.cell_key.specs.Cells.{Cells}
-use Rattle.row_atomic.specs.Slots.{cells_of}
+use Rattle.row_atomic.specs.Slots.{slot_cells}
 use Rattle.cell_key.specs.Versions.{HasLimits}
 use Rattle.row_atomic.proofs.Limits.{edits_keep}
 use Rattle.row_atomic.proofs.plain.PlainRowsRows.apply.Goals as goal
@@ -16,5 +16,5 @@ pub invariant_of-self-2 : goal.invariant_of-self-2
 invariant_of-self-2 c =
     record {
       full = c.apply.ensures.full;
-      limits = subst (λ (m : Cells). HasLimits m) (sym c.in_ok-apply.ensures.ok) (edits_keep c.args._row.now (cells_of c.self.inside.slots.entries) c.args.edits.items c.requires c.self.invariant.limits);
+      limits = subst (λ (m : Cells). HasLimits m) (sym c.in_ok-apply.ensures.ok) (edits_keep c.args._row.now (slot_cells c.self.inside.slots.entries) c.args.edits.items c.requires c.self.invariant.limits);
     }

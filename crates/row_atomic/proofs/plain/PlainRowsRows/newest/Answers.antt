@@ -1,10 +1,10 @@
 use Rattle.std.proofs.Common.{option_map}
-use Rattle.row_atomic.specs.Slots.{cells_of}
+use Rattle.row_atomic.specs.Slots.{slot_cells}
 use Rattle.cell_key.specs.Versions.{stamped}
 use Rattle.row_atomic.proofs.Limits.{answered}
 use Rattle.row_atomic.proofs.plain.PlainRowsRows.newest.Goals as goal
 
 pub returns-clause-limits : goal.returns-clause-limits
 returns-clause-limits c =
-    answered (cells_of c.self.inside.slots.entries) c.args.row.now c.args.family.now c.args.qualifier c.args.lo c.args.hi
+    answered (slot_cells c.self.inside.slots.entries) c.args.row.now c.args.family.now c.args.qualifier c.args.lo c.args.hi
     (option_map stamped c.in_ok-newest.field-0) c.self.invariant.limits c.in_ok-newest.ensures

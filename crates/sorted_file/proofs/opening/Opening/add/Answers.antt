@@ -4,7 +4,7 @@ use Rattle.std.specs.Global.{Vec}
 use Rattle.std.specs.List.{AllByRecursion}
 use Rattle.cell_key.specs.Entries.{Entry}
 use Rattle.sorted_file.specs.Blocks.{entries_in, blocks_of, head_in, row_head, IsLastOf, IsSpannedRow}
-use Rattle.sorted_file.specs.Building.{IsFirst}
+use Rattle.sorted_file.specs.Building.{IsFirstText}
 use Rattle.sorted_file.specs.Kept.{file_entry, kept}
 use Rattle.sorted_file.specs.Spans.{IsSpanned}
 use Rattle.sorted_file.specs.declared.blocks.BlockRow.{BlockRow}
@@ -47,7 +47,7 @@ returns-clause-opening c =
     let was = ap (λ (v : Vec FileEntry). kept v.items) c.of-was.ensures in
     let added = is_added c.args.self.now.rows.items c.push.new.self.items _ es c.args.self.now.end o.places o.grammar o.list o.reached next.followed
     next.rising c.requires.list c.requires.fits c.in_ok-push.ensures.items was next.offset (sym c.requires.length)
-    (subst (λ (b : List ℕ). IsFirst b es) (sym c.in_ok-first.ensures.items) next.first) in
+    (subst (λ (b : List ℕ). IsFirstText b es) (sym c.in_ok-first.ensures.items) next.first) in
     let head : file_entry c.in_ok-head.head ≡ row_head (record { offset = c.args.row.offset; length = c.args.row.length; first = c.in_ok-first.first; spans = c.in_ok-spans.spans; was = c.of-was.result }) =
     c.in_ok-head.ensures.head ∙ ap (λ (b : List FileEntry). head_in c.args.row.first.now (kept b)) c.deref.ensures.value
     ∙ ap (λ (t : List ℕ). head_in t es) (sym c.in_ok-first.ensures.items) ∙ ap (head_in c.in_ok-first.first.items) (sym was) in
