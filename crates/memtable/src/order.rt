@@ -7,8 +7,8 @@ ghost use Rattle.cell_key.specs.Keys.{byte_cmp, qualifier_name, text};
 ghost use Rattle.cell_key.specs.Texts.{escaped, ended, stamp_text};
 ghost use Rattle.memtable.specs.Order.{ComparesAs, ComparesTo, at_stamp, column_text, key_of};
 
-use crate::texts::{KeptText, ShortText};
-use arrayvec::{ArrayVec, CapacityError};
+use crate::texts::{KeptText, ShortText, StackBytes};
+use arrayvec::CapacityError;
 use byteorder::{BigEndian, ByteOrder};
 use cell_key::{CellKey, Family, Qualifier, Row, Stamp};
 use std::cmp::Ordering;
@@ -87,7 +87,7 @@ fn after_row<'a>(row: &[u8], bytes: &'a [u8]) -> Result<&'a [u8], Ordering>
 }
 
 /// Appends a part and its end. Refused where there is no room.
-fn push_ended(out: &mut ArrayVec<u8, 96>, part: &[u8]) -> Result<(), CapacityError>
+fn push_ended(out: &mut StackBytes, part: &[u8]) -> Result<(), CapacityError>
     ensures { OnOk result (out.new.items ≡ out.old.items ++ ended part.now) }
 {
     out.try_extend_from_slice(part)?;
@@ -151,7 +151,7 @@ impl Version<'_> {
     }
 
     /// Appends the parts of the text with the row as it is. Refused where there is no room.
-    fn push_parts(self, out: &mut ArrayVec<u8, 96>) -> Result<(), CapacityError>
+    fn push_parts(self, out: &mut StackBytes) -> Result<(), CapacityError>
         ensures { OnOk result (out.new.items ≡ out.old.items ++ (ended self.entry.row.now
             ++ (ended self.entry.family.now ++ (ended (qualifier_name self.entry.qualifier)
             ++ stamp_text self.entry.stamp)))) }
@@ -172,7 +172,7 @@ impl Version<'_> {
         if self.row.as_bytes().contains(&0) {
             return None;
         }
-        let mut out = ArrayVec::new();
+        let mut out = StackBytes::new();
         match self.push_parts(&mut out) {
             Ok(()) => ShortText::of(out),
             Err(_full) => None,

@@ -83,11 +83,14 @@ impl Sought for &KeptText {
     }
 }
 
+/// Bytes that stand on the stack.
+pub(crate) type StackBytes = ArrayVec<u8, 96>;
+
 /// The text of a key that stands on the stack.
 #[derive(Drop)]
 pub(crate) struct ShortText {
     front: u64,
-    bytes: ArrayVec<u8, 96>,
+    bytes: StackBytes,
 }
 
 impl Model for ShortText {
@@ -103,7 +106,7 @@ impl Model for ShortText {
 
 impl ShortText {
     /// The text of these bytes, if there are eight of them.
-    pub(crate) fn of(bytes: ArrayVec<u8, 96>) -> Option<ShortText>
+    pub(crate) fn of(bytes: StackBytes) -> Option<ShortText>
         ensures { IfSome result (λ text. text ≡ bytes.items) }
     {
         if bytes.len() < 8 {

@@ -161,7 +161,8 @@ fn set_slot(slots: &mut Slots, key: CellKey, content: Option<Vec<u8>>)
 /// Makes an edit, whose key has a slot.
 fn write(slots: &mut Slots, edit: Edit)
     requires { HasSlot slots.old.entries (edited_key edit) }
-    ensures cells { slot_cells slots.new.entries ≡ after_edit (slot_cells slots.old.entries) edit }
+    ensures cells { slot_cells slots.new.entries
+        ≡ after_edit (slot_cells slots.old.entries) edit }
     ensures kept { KeepsSlots slots.old.entries slots.new.entries }
     ensures empties { EmptiesNone (λ q. edited_key edit ≢ q) slots.old.entries slots.new.entries }
 {
