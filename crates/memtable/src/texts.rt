@@ -107,7 +107,8 @@ impl Model for ShortText {
 impl ShortText {
     /// The text of these bytes, if there are eight of them.
     pub(crate) fn of(bytes: StackBytes) -> Option<ShortText>
-        ensures { IfSome result (λ text. text ≡ bytes.items) }
+        ensures some { IfSome result (λ text. text ≡ bytes.items) }
+        ensures none { IfNone result (length bytes.items < 8) }
     {
         if bytes.len() < 8 {
             return None;
