@@ -1,23 +1,20 @@
 -- The steps of one cleaner, where cells and cleaner show the machine's state.
-use Rattle.std.proofs.Common.{◌≡◌, ◌≢◌, ℕ, ◌<◌, ◌≤◌, ◌^◌, ◌⊎◌, inl, inr, Bool, true, false, List, [], ◌∷◌, length, Option, Some, None, refl, sym, ap, subst, ◌∙◌, arith}
+use Rattle.std.proofs.Common.{◌≡◌, ◌≢◌, ℕ, ◌<◌, ◌≤◌, ◌^◌, ◌⊎◌, inl, inr, Bool, true, false, List, ◌∷◌, Option, Some, None, refl, sym, ap, subst, ◌∙◌, arith}
 use Rattle.std.specs.FinMap as finmap
 use Rattle.std.proofs.lemmas.Bool.{cases_lt}
-use Rattle.std.proofs.lemmas.List.{append-nil}
 use Rattle.std.proofs.lemmas.Option.{none-some, same_Some}
-use Rattle.byteorder.specs.Endian.{big_number, big_from}
-use Rattle.byteorder.specs.Numbers.{big_number-reads_back, length-bytes_high_first}
 use Rattle.cell_key.specs.Cells.{Cells}
 use Rattle.cell_key.specs.declared.edits.Edit.{Edit}
 use Rattle.cell_key.specs.declared.keys.Qualifier.TheVariants as column
 use Rattle.row_atomic.specs.Calls.{AppliesSuch, OnlyReads}
 use Rattle.row_atomic.specs.Clusters.{Storage}
 use Rattle.si_model.specs.Deciding.{IsRight, TellsFirst}
-use Rattle.si_model.specs.Enduring.{HasTried}
 use Rattle.si_model.specs.Sets.{◌∈◌, here, IsWithout}
 use Rattle.si_model.specs.Machine as machine
-use Rattle.si_model.specs.Machine.{State, Commit, Step, accepts, IsAcceptable, IsReached, Marked, Names, IsDead, IsCommitted, CommittedAt}
+use Rattle.si_model.specs.Machine.{State, Commit, Step, accepts, IsAcceptable, IsReached, Gives, Marked, IsDead, IsCommitted, CommittedAt}
 use Rattle.si_model.specs.Replies.{clean_reply}
-use Rattle.si_model.specs.ShowsCells.{NamesCommit, ShowsCells, IsThere, at, erased_cells, recorded_cells, start_text, NamesStart}
+use Rattle.si_model.specs.ShowsCells.{NamesAt, NamesCommit, NamesStart, IsRecordText, ShowsCells, ShowsMark, IsThere, at, erased_cells, kind_of_change, recorded_cells}
+use Rattle.si_model.specs.declared.cells.WriteKind.{WriteKind}
 use Rattle.si_model.specs.declared.replies.Cell.{Cell}
 use Rattle.si_model.specs.declared.replies.CleanReply.{CleanReply}
 use Rattle.si_model.specs.declared.replies.CleanReply.TheVariants as clean
@@ -25,26 +22,26 @@ use Rattle.si_model.proofs.Acceptable.{clean_step_ok}
 use Rattle.si_model.proofs.Bounds.{reached_bounds}
 use Rattle.si_model.proofs.CleanerFates.{first_tells, names_nearest}
 use Rattle.si_model.proofs.EditedCells.{make_cells}
-use Rattle.si_model.proofs.LastingMarks.{have_tried}
 use Rattle.si_model.proofs.Goes.{goes}
+use Rattle.si_model.proofs.Invariant.{IsFair}
+use Rattle.si_model.proofs.RecordTexts.{names_of, one_write}
 use Rattle.si_model.proofs.ShownKept.{shows_beside, shows_erased, shows_recorded}
 use Rattle.si_model.proofs.Snapshots.{same_commit}
 use Rattle.si_model.proofs.Steps.{reached_sound}
 use Rattle.si_model.proofs.Tools.{same_entry}
 use Rattle.si_model.proofs.Without.{without}
 use Rattle.clean_up.specs.Fates.{Decides, IsNextRecord, IsToldBy, verdict_of}
+use Rattle.clean_up.specs.Locks.{TellsKind}
 use Rattle.clean_up.specs.Room.{ClearsCell}
 use Rattle.clean_up.specs.Shows.{Advances, Follows, ShowsCleaner, cleaner_of, is_decided}
 use Rattle.clean_up.specs.declared.cleaner.Cleaner.{Cleaner}
 use Rattle.clean_up.specs.declared.fates.Fate.{Fate}
 use Rattle.clean_up.specs.declared.fates.Fate.TheVariants.{Open, Forward, Back}
+use Rattle.clean_up.proofs.LockTexts.{told_kind}
 
 -- the machine takes the step, and goes on so
 abbrev Takes : State → ℕ → Cells → Cleaner → CleanReply → Type 0
 Takes st i cells' cleaner' reply = (next : State) × Step st (machine.CleanStep i) (clean_reply reply) next × ShowsCells cells' next × Follows st next i cleaner' reply
-
-start_back : (t : ℕ) → t < 256 ^ 8 → big_number 8 (start_text t) ≡ t
-start_back t h = ap (λ xs. big_from 0 8 xs) (sym (append-nil (start_text t))) ∙ big_number-reads_back 8 t [] h
 
 not_open : true ≡ false → ⊥
 not_open e = cc
@@ -80,7 +77,7 @@ module _ (cells : Cells) (cleaner : Cleaner) (st : State) (i : ℕ) (reached : I
   no_commit : ¬ IsCommitted st t → (a : Commit) → a ∈ st.commits → a.start ≢ t
   no_commit none a is_in e = none (a.stamp, (a.writes, subst (λ (n : ℕ). record { start = n; stamp = a.stamp; writes = a.writes } ∈ st.commits) e is_in))
 
-  start_low : t < 256 ^ 8
+  start_low : t < 2 ^ 64
   start_low = let to = (reached_bounds reached).start_to t mine.knows.is_first.0 mine.knows.is_first.2 in omega arith
 
   -- ---- the first step
@@ -112,45 +109,45 @@ module _ (cells : Cells) (cleaner : Cleaner) (st : State) (i : ℕ) (reached : I
       let s = accepts able (machine.learns (kept Open is) fate) in
       (s, shows_beside cells st learned (goes reached s) store (λ y u m. m) (λ y u m. m) refl)
 
-  -- a record that names t has its text
-  named_text : (c : ℕ) (b : List ℕ) → at cells first column.Write c ≡ Some b → NamesStart b t → at cells first column.Write c ≡ Some (start_text t)
-  named_text c b there names = there ∙ ap (λ (bs : List ℕ). Some bs) (k.text ∙ ap start_text same)
+  -- a record that is read as naming t is that of t
+  named_at : (c : ℕ) (b : List ℕ) → at cells first column.Write c ≡ Some b → NamesStart b t → NamesAt cells first c t
+  named_at c b there (kind, names) = (b, kind_of_change k.change, there, subst (λ (u : ℕ). IsRecordText u (kind_of_change k.change) b) same k.is_text)
     where
       k : NamesCommit cells st first c b
       k = store.records first c b there
 
-      low : k.commit.start < 256 ^ 8
+      low : k.commit.start < 2 ^ 64
       low =
           let start = (reached_sound reached).start_low k.commit.start k.commit.writes ((reached_sound reached).fair k.commit k.is_in).wrote in
           let top = (reached_bounds reached).top in
           omega arith
 
       same : k.commit.start ≡ t
-      same = sym (start_back k.commit.start low) ∙ (sym (ap (big_number 8) k.text) ∙ names.1)
+      same = (one_write b k.commit.start t (kind_of_change k.change) kind (names_of k.commit.start (kind_of_change k.change) b low k.is_text) names).0
 
   -- where the first record above t doesn't name it, none does
   none_names : (next : Option (ℕ × List ℕ)) → IsNextRecord cells first t next → ((c : ℕ) (b : List ℕ) → next ≡ Some (c, b) → ¬ NamesStart b t)
-      → (c : ℕ) → t < c → at cells first column.Write c ≢ Some (start_text t)
-  none_names None none other c above named =
-      let k = store.records first c (start_text t) named in
+      → (c : ℕ) → t < c → ¬ NamesAt cells first c t
+  none_names None none other c above (text, kind, named, is) =
+      let k = store.records first c text named in
       let same = k.stamp in
       let to = (reached_bounds reached).commit_to k.commit k.is_in in
       none-some _ (sym (none c (omega arith) (omega arith)) ∙ named)
-  none_names (Some (d, b)) (low, high, there, before) other c above named = elim (cases_lt c d) [
+  none_names (Some (d, b)) (low, high, there, before) other c above (text, kind, named, is) = elim (cases_lt c d) [
     | inl less ↦ none-some _ (sym (before c (omega arith) less) ∙ named)
-    | inr most ↦ other d b refl (text_names (same_Some b (start_text t) (sym there ∙ subst (λ (n : ℕ). at cells first column.Write n ≡ Some (start_text t)) (same most) named)))
+    | inr most ↦ other d b refl (kind, names_of t kind b start_low (subst (IsRecordText t kind) (same_text most) is))
   ]
     where
       same : d ≤ c → c ≡ d
-      same most = let least = names_nearest cells st reached store first t c d start_low named (omega arith) (b, there) in omega arith
+      same most = let least = names_nearest cells st reached store first t c d start_low (text, kind, named, is) (omega arith) (b, there) in omega arith
 
-      text_names : b ≡ start_text t → NamesStart b t
-      text_names e = (ap (λ (bs : List ℕ). length bs) e ∙ length-bytes_high_first 8 t, ap (big_number 8) e ∙ start_back t start_low)
+      same_text : d ≤ c → text ≡ b
+      same_text most = same_Some text b (sym (subst (λ (n : ℕ). at cells first column.Write n ≡ Some text) (same most) named) ∙ there)
 
   told_at : (f : Fate) → cleaner.fate ≡ Open → at cells first column.Lock t ≡ None → IsToldBy cells first t f → Takes st i cells (with_fate f) clean.Decided
   told_at Open is gone told = absurd told
   told_at (Forward c) is gone told =
-      let committed = tells.forward c (named_text c told.0 told.1 told.2) in
+      let committed = tells.forward c (named_at c told.0 told.1 told.2) in
       let s = learns_at is (inl (c, committed)) in
       (learned, s.0, s.1, record { cleaners = refl; next_cleaner = refl; knows = λ e. record { is_first = mine.knows.is_first; right = λ m. committed } })
   told_at Back is gone told =
@@ -185,15 +182,19 @@ module _ (cells : Cells) (cleaner : Cleaner) (st : State) (i : ℕ) (reached : I
       s : Step st (machine.CleanStep i) machine.RolledBack cleared
       s = accepts able (machine.rolls_back (kept Back is) (marked there) uncommitted less)
 
-  -- the record of the commit takes its place
-  forward_at : (c : ℕ) → cleaner.fate ≡ Forward c → IsThere cells x column.Lock t → Takes st i (recorded_cells cells x t c) cleaner (clean.RolledForward c)
-  forward_at c is there = (
+  -- the record of the commit takes its place, with the kind that the lock told
+  forward_at : (c : ℕ) (kind : WriteKind) → cleaner.fate ≡ Forward c → IsThere cells x column.Lock t → TellsKind cells x t kind → Takes st i (recorded_cells cells x t c kind) cleaner (clean.RolledForward c)
+  forward_at c kind is there told = (
     cleared,
     s,
-    shows_recorded cells st cleared (goes reached s) store x t made_of (marked there) less is_in refl names (λ b i. i) (λ b i. inl i) one_stamp one_start (λ y names left. is_in),
+    subst (λ (k : WriteKind). ShowsCells (recorded_cells cells x t c k) cleared) (sym (told_kind cells st x t kind mark told))
+        (shows_recorded cells st cleared (goes reached s) store x t made_of mark.change (marked there) less is_in refl fair.later gives mark.value (λ b i. i) (λ b i. inl i) one_start (λ y names left. is_in)),
     record { cleaners = refl; next_cleaner = refl; knows = λ e. absurd (not_open e) },
   )
     where
+      mark : ShowsMark cells st x t
+      mark = store.marks x t (marked there)
+
       committed : CommittedAt st t c
       committed = right (Forward c) is there
 
@@ -203,17 +204,14 @@ module _ (cells : Cells) (cleaner : Cleaner) (st : State) (i : ℕ) (reached : I
       is_in : made_of ∈ st.commits
       is_in = committed.1
 
-      tried : HasTried st x t
-      tried = (have_tried st reached).cleaned i (cleaner_of cleaner) mine.kept
+      fair : IsFair st made_of
+      fair = (reached_sound reached).fair made_of is_in
 
-      names : Names committed.0 x
-      names = subst (λ (ws : machine.Writes). Names ws x) (same_entry st.begun t tried.ws committed.0 tried.wrote ((reached_sound reached).fair made_of is_in).wrote) (tried.v, (tried.k, tried.puts))
+      gives : Gives committed.0 x mark.change
+      gives = subst (λ (ws : machine.Writes). Gives ws x mark.change) (same_entry st.begun t mark.is_change.0 committed.0 mark.is_change.1 fair.wrote) mark.is_change.2
 
       s : Step st (machine.CleanStep i) (machine.RolledForward c) cleared
       s = accepts able (machine.rolls_forward (kept (Forward c) is) (marked there) committed less)
-
-      one_stamp : (b : Commit) → b ∈ st.commits → b.stamp ≡ c → b.start ≡ t
-      one_stamp b j e = (reached_sound reached).stamps_differ b made_of j is_in e
 
       one_start : (b : Commit) → b ∈ st.commits → b.start ≡ t → b ≡ made_of
       one_start b j e = same_commit st.commits (reached_sound reached).starts_differ b made_of j is_in e
@@ -241,5 +239,6 @@ module _ {R : Type 0} (holds : R → Type 0) (cells : R → Cells) (overfills : 
 
   pub forward_so : (c : ℕ) → cleaner.fate ≡ Forward c → AppliesSuch holds cells overfills storage (ClearsCell (holds old) (cells old) cleaner.cell cleaner.lock.start (Some c)) old new → Advances (cells old) cleaner (clean.RolledForward c) (cells new) cleaner
   forward_so c is made st i reached store mine =
-      let after = made.applied.made held ∙ (make_cells (cells old) cleaner.cell cleaner.lock.start made.edits).recorded c made.such.2 in
-      subst (λ (cs : Cells). Takes st i cs cleaner (clean.RolledForward c)) (sym after) (forward_at (cells old) cleaner st i reached store mine c is (made.such.1 held))
+      let kind = made.such.0 in
+      let after = made.applied.made held ∙ (make_cells (cells old) cleaner.cell cleaner.lock.start made.edits).recorded c kind made.such.2.2 in
+      subst (λ (cs : Cells). Takes st i cs cleaner (clean.RolledForward c)) (sym after) (forward_at (cells old) cleaner st i reached store mine c kind is (made.such.2.1 held) (made.such.1 held))

@@ -1,3 +1,4 @@
 pub mod CleanerSteps
+pub mod LockTexts
 pub mod Room
 pub mod Table

@@ -1,8 +1,7 @@
 -- What a step does to the rows, as cleaner and state show it.
-use Rattle.std.proofs.Common.{◌≡◌, ◌∙◌, ℕ, List, length, Some, refl, inl, inr, sym, ap, subst}
+use Rattle.std.proofs.Common.{◌≡◌, ◌∙◌, ◌<◌, ◌^◌, ℕ, List, Some, refl, inl, inr, sym, subst, arith}
 use Rattle.std.specs.Ordering.{nat_cmp}
 use Rattle.std.specs.BTreeMap as btree
-use Rattle.byteorder.specs.Numbers.{length-bytes_high_first}
 use Rattle.cell_key.specs.Cells.{Cells, after_edits}
 use Rattle.cell_key.specs.declared.edits.Edit.{Edit}
 use Rattle.cell_key.specs.declared.keys.Qualifier.TheVariants as column
@@ -11,14 +10,18 @@ use Rattle.row_atomic.specs.Clusters.{Storage}
 use Rattle.row_atomic.specs.Room.{HasNoRoom, TakesRoomOf}
 use Rattle.row_atomic.proofs.Calls.{such_so}
 use Rattle.si_model.specs.Deciding.{IsRight}
-use Rattle.si_model.specs.Edits.{ErasesCell}
-use Rattle.si_model.specs.Machine.{State, Marked}
-use Rattle.si_model.specs.ShowsCells.{ShowsCells, IsThere, Touches}
+use Rattle.si_model.specs.Edits.{ErasesCell, IsRecording}
+use Rattle.si_model.specs.Machine.{State, IsReached, Marked}
+use Rattle.si_model.specs.ShowsCells.{NamesCommit, ShowsCells, ShowsMark, IsThere, Touches, kind_of_change}
+use Rattle.si_model.specs.declared.cells.WriteKind.{WriteKind}
 use Rattle.si_model.specs.declared.replies.CleanReply.{CleanReply}
 use Rattle.si_model.specs.declared.replies.CleanReply.TheVariants as clean
 use Rattle.si_model.specs.declared.replies.Cell.{Cell}
+use Rattle.si_model.proofs.Bounds.{reached_bounds}
 use Rattle.si_model.proofs.EditedCells.{make_cells}
+use Rattle.si_model.proofs.RecordTexts.{names_of}
 use Rattle.si_model.proofs.ShownTouched.{touches_erased, touches_recorded}
+use Rattle.si_model.proofs.Steps.{reached_sound}
 use Rattle.clean_up.specs.Fates.{HasBadRecord, verdict_of}
 use Rattle.clean_up.specs.Room.{ChangesNext, ChangesOf, Does, EditsIn, EditsOf, Makes, TakesRoom}
 use Rattle.clean_up.specs.Shows.{ShowsCleaner, ShowsCleaners, TouchesFor, cleaner_of, is_decided}
@@ -26,11 +29,21 @@ use Rattle.clean_up.specs.declared.cleaner.Cleaner.{Cleaner}
 use Rattle.clean_up.specs.declared.cleaners.Cleaners.{Cleaners}
 use Rattle.clean_up.specs.declared.fates.Fate.{Fate}
 use Rattle.clean_up.specs.declared.fates.Fate.TheVariants.{Open, Forward, Back}
+use Rattle.clean_up.proofs.LockTexts.{told_kind}
 use Rattle.clean_up.proofs.Table.{shown_some}
 
 -- what is shown has no bad record
-pub no_bad_record : (cells : Cells) (st : State) → ShowsCells cells st → (x : Cell) → ¬ HasBadRecord cells x
-no_bad_record cells st store x (c, b, there, long) = let k = store.records x c b there in long (ap (λ (t : List ℕ). length t) k.text ∙ length-bytes_high_first 8 k.commit.start)
+pub no_bad_record : (cells : Cells) (st : State) → IsReached st → ShowsCells cells st → (x : Cell) → ¬ HasBadRecord cells x
+no_bad_record cells st reached store x (c, b, there, lacks) = lacks k.commit.start (kind_of_change k.change, names_of k.commit.start (kind_of_change k.change) b low k.is_text)
+  where
+    k : NamesCommit cells st x c b
+    k = store.records x c b there
+
+    low : k.commit.start < 2 ^ 64
+    low =
+        let start = (reached_sound reached).start_low k.commit.start k.commit.writes ((reached_sound reached).fair k.commit k.is_in).wrote in
+        let top = (reached_bounds reached).top in
+        omega arith
 
 -- edits that are of one kind are of another
 pub no_room_so : {R : Type 0} (overfills : R → List ℕ → List Edit → Type 0) (rows : R) {P Q : List ℕ → List Edit → Type 0} → ((row : List ℕ) (edits : List Edit) → P row edits → Q row edits) → HasNoRoom overfills rows P → HasNoRoom overfills rows Q
@@ -88,7 +101,11 @@ module _ (Holds : Type 0) (cells : Cells) (i : ℕ) (cleaner : Cleaner) (held : 
 
   changes_in : (f : Fate) → cleaner.fate ≡ f → (row : List ℕ) (edits : List Edit) → EditsIn f Holds cells cleaner row edits → ChangesOf st (cleaner_of cleaner) (is_decided f) row edits
   changes_in Open is row edits at = let stands = at.1 held in (cleaner.lock.first, mine.knows.is_first, store.locks cleaner.lock.first cleaner.lock.start stands.0 stands.1, at.0, at.2)
-  changes_in (Forward c) is row edits at = let stands = at.1 held in (marked stands, at.0, inl (c, right (Forward c) is stands, at.2))
+  changes_in (Forward c) is row edits at =
+      let stands = at.2.1 held in
+      let mark : ShowsMark cells st cleaner.cell cleaner.lock.start = store.marks cleaner.cell cleaner.lock.start (marked stands) in
+      let kind = told_kind cells st cleaner.cell cleaner.lock.start at.0 mark (at.1 held) in
+      (marked stands, at.2.0, inl (c, mark.change, right (Forward c) is stands, mark.is_change, subst (λ (k : WriteKind). IsRecording cleaner.cell cleaner.lock.start c k edits) kind at.2.2))
   changes_in Back is row edits at = let stands = at.1 held in (marked stands, at.0, inr (right Back is stands, at.2))
 
   erasing_touches : (x : Cell) (new : Cells) (row : List ℕ) (edits : List Edit) → ErasesCell Holds cells x cleaner.lock.start row edits → new ≡ after_edits cells edits → TouchesFor st i cells new
@@ -108,8 +125,8 @@ module _ (Holds : Type 0) (cells : Cells) (i : ℕ) (cleaner : Cleaner) (held : 
     cleaner_of cleaner,
     c,
     mine.kept,
-    inr (right (Forward c) is (at.1 held)),
-    (cleaner.cell.row, subst (λ (cs : Cells). Touches cells cs cleaner.cell.row cleaner.lock.start c) (sym (after ∙ (make_cells cells cleaner.cell cleaner.lock.start edits).recorded c at.2)) (touches_recorded cells cleaner.cell cleaner.lock.start c)),
+    inr (right (Forward c) is (at.2.1 held)),
+    (cleaner.cell.row, subst (λ (cs : Cells). Touches cells cs cleaner.cell.row cleaner.lock.start c) (sym (after ∙ (make_cells cells cleaner.cell cleaner.lock.start edits).recorded c at.0 at.2.2)) (touches_recorded cells cleaner.cell cleaner.lock.start c at.0)),
   )
 
   pub edits_touch : (new : Cells) (row : List ℕ) (edits : List Edit) → EditsOf Holds cells cleaner row edits → new ≡ after_edits cells edits → TouchesFor st i cells new

@@ -1,5 +1,5 @@
 -- The fate of a start, as the records of its first cell tell it.
-use Rattle.std.specs.Prelude.{◌≡◌, ◌≢◌, ◌⊎◌, ℕ, ◌+◌, ◌-◌, ◌^◌, List, length, Option, Some}
+use Rattle.std.specs.Prelude.{◌≡◌, ◌⊎◌, ℕ, ◌+◌, ◌-◌, ◌^◌, List, Option, Some}
 use Rattle.cell_key.specs.Cells.{Cells}
 use Rattle.cell_key.specs.declared.edits.Edit.{Edit}
 use Rattle.cell_key.specs.declared.keys.Qualifier.TheVariants.{Write}
@@ -37,7 +37,8 @@ IsToldBy cells x t Back =
 
 -- a record of x names no start
 abbrev pub HasBadRecord : Cells → Cell → Type 0
-HasBadRecord cells x = (c : ℕ) × (b : List ℕ) × (at cells x Write c ≡ Some b) × (length b ≢ 8)
+HasBadRecord cells x =
+    (c : ℕ) × (b : List ℕ) × (at cells x Write c ≡ Some b) × ((t : ℕ) → ¬ NamesStart b t)
 
 -- The lock stood at its start's first cell and was erased: the start is rolled back.
 -- Or it is gone there, and the records tell.

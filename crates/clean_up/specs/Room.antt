@@ -5,42 +5,44 @@ use Rattle.std.specs.Ordering.{nat_cmp}
 use Rattle.std.specs.BTreeMap as btree
 use Rattle.cell_key.specs.Cells.{Cells}
 use Rattle.cell_key.specs.declared.edits.Edit.{Edit}
-use Rattle.cell_key.specs.declared.keys.Qualifier.TheVariants.{Lock}
 use Rattle.row_atomic.specs.Calls.{AppliesSuch, OnlyReads}
 use Rattle.row_atomic.specs.Clusters.{Storage}
 use Rattle.row_atomic.specs.Room.{AreAfter, TakesNoRoom, TakesRoomOf}
 use Rattle.si_model.specs.Edits.{ErasesCell, IsErasing, IsRecording, RecordsCell}
 use Rattle.si_model.specs.Machine as machine
-use Rattle.si_model.specs.Machine.{State, Marked, IsDead, CommittedAt}
-use Rattle.si_model.specs.ShowsCells.{IsFirstCell, IsThere}
+use Rattle.si_model.specs.Machine.{State, Change, Marked, IsDead, CommittedAt}
+use Rattle.si_model.specs.ShowsCells.{IsChange, IsFirstCell, kind_of_change}
+use Rattle.si_model.specs.declared.cells.WriteKind.{WriteKind}
 use Rattle.si_model.specs.declared.replies.Cell.{Cell}
 use Rattle.si_model.specs.declared.replies.CleanReply.{CleanReply}
 use Rattle.si_model.specs.declared.replies.CleanReply.TheVariants as clean
 use Rattle.clean_up.specs.declared.cleaner.Cleaner.{Cleaner}
 use Rattle.clean_up.specs.declared.cleaners.Cleaners.{Cleaners}
+use Rattle.clean_up.specs.Locks.{TellsKind}
 use Rattle.clean_up.specs.declared.fates.Fate.{Fate}
 use Rattle.clean_up.specs.declared.fates.Fate.TheVariants.{Open, Forward, Back}
 
 -- The edits by which the lock of t on x goes: the record of a commit takes its place,
 -- or nothing does.
-abbrev pub IsClearing : Cell → ℕ → Option ℕ → List Edit → Type 0
-IsClearing x t None edits = IsErasing x t edits
-IsClearing x t (Some c) edits = IsRecording x t c edits
+abbrev pub IsClearing : Cell → ℕ → Option ℕ → WriteKind → List Edit → Type 0
+IsClearing x t None kind edits = IsErasing x t edits
+IsClearing x t (Some c) kind edits = IsRecording x t c kind edits
 
--- The row and such edits. Where the rows hold, the lock of x stands.
+-- The row and such edits. Where the rows hold, the lock of x stands, and the record has its kind.
 abbrev pub ClearsCell : Type 0 → Cells → Cell → ℕ → Option ℕ → List ℕ → List Edit → Type 0
-ClearsCell Holds cells x t commit row edits =
-    (row ≡ x.row) × (Holds → IsThere cells x Lock t) × IsClearing x t commit edits
+ClearsCell Holds cells x t None row edits = ErasesCell Holds cells x t row edits
+ClearsCell Holds cells x t (Some c) row edits =
+    (kind : WriteKind) × (Holds → TellsKind cells x t kind) × RecordsCell Holds cells x t c kind row edits
 
 -- ---- the edits of a cleaner's next step, as its lock and its fate name them
 
 abbrev pub EditsIn : Fate → Type 0 → Cells → Cleaner → List ℕ → List Edit → Type 0
 EditsIn Open Holds cells cleaner row edits =
-    ErasesCell Holds cells cleaner.lock.first cleaner.lock.start row edits
+    ClearsCell Holds cells cleaner.lock.first cleaner.lock.start None row edits
 EditsIn (Forward c) Holds cells cleaner row edits =
-    RecordsCell Holds cells cleaner.cell cleaner.lock.start c row edits
+    ClearsCell Holds cells cleaner.cell cleaner.lock.start (Some c) row edits
 EditsIn Back Holds cells cleaner row edits =
-    ErasesCell Holds cells cleaner.cell cleaner.lock.start row edits
+    ClearsCell Holds cells cleaner.cell cleaner.lock.start None row edits
 
 abbrev pub EditsOf : Type 0 → Cells → Cleaner → List ℕ → List Edit → Type 0
 EditsOf Holds cells cleaner row edits = EditsIn cleaner.fate Holds cells cleaner row edits
@@ -73,10 +75,12 @@ abbrev pub ChangesOf : State → machine.Cleaner → Bool → List ℕ → List 
 ChangesOf st k false row edits =
     (first : Cell) × IsFirstCell st k.start first
     × Marked st first k.start × (row ≡ first.row) × IsErasing first k.start edits
--- it goes from the cleaner's cell, and the record of the commit takes its place, or nothing does
+-- it goes from the cleaner's cell, and the record of the commit takes its place, with the kind of the
+-- start's write, or nothing does
 ChangesOf st k true row edits =
     Marked st k.cell k.start × (row ≡ k.cell.row)
-    × (((c : ℕ) × CommittedAt st k.start c × IsRecording k.cell k.start c edits)
+    × (((c : ℕ) × (v : Change) × CommittedAt st k.start c × IsChange st k.start k.cell v
+    × IsRecording k.cell k.start c (kind_of_change v) edits)
     ⊎ (IsDead st k.start × IsErasing k.cell k.start edits))
 
 abbrev pub ChangesNext : State → ℕ → List ℕ → List Edit → Type 0

@@ -11,31 +11,33 @@ ghost use Rattle.si_model.specs.Reads.{IsGone};
 ghost use Rattle.clean_up.specs.Refusals.{IsRowRefusal};
 ghost use Rattle.clean_up.specs.Room.{ClearsCell, IsClearing};
 
+use crate::locks::parted;
 use cell_key::{Edit, Moment, Qualifier, Refusal};
 use row_atomic::Rows;
-use si_model::{Cell, erasing, recording};
+use si_model::{Cell, WriteKind, erasing, recording};
 use std::alloc::Global;
 
-/// The edits that put the record of a commit in the place of a lock or, where there is none, erase
-/// the lock.
+/// The edits that put the record of a commit, with the kind of its write, in the place of a lock or,
+/// where there is no commit, erase the lock.
 fn clearing(
     alloc: Global,
     cell: &Cell,
     start: Moment,
     commit: Option<Moment>,
+    kind: WriteKind,
 ) -> Result<Vec<Edit>, Refusal>
-    ensures clearing { IfOk result (λ edits. IsClearing cell.now start commit edits.items) }
+    ensures clearing { IfOk result (λ edits. IsClearing cell.now start commit kind edits.items) }
     ensures under { IfOk result (λ edits. AllByRecursion (IsEditOf cell.now.row) edits.items) }
     ensures refusal { IfErr result (λ refusal. refusal ≡ Refusal.NoMemory) }
 {
     match commit {
-        Some(commit) => recording(alloc, cell, start, commit),
+        Some(commit) => recording(alloc, cell, start, commit, kind),
         None => erasing(alloc, cell, start),
     }
 }
 
 /// Takes the lock of a start off a cell, if it stands, and says whether it did. The record of a
-/// commit takes its place; where there is none, nothing does.
+/// commit takes its place, with the kind that the lock has; where there is no commit, nothing does.
 pub(crate) fn clear<R: Rows>(
     alloc: Global,
     rows: &mut R,
@@ -59,10 +61,11 @@ pub(crate) fn clear<R: Rows>(
 {
     let stamp = start.stamp();
     let lock = rows.newest(&cell.row, &cell.family, Qualifier::Lock, stamp, stamp)?;
-    if lock.is_none() {
+    let Some((_, text)) = lock else {
         return Ok(false);
-    }
-    let edits = clearing(alloc, cell, start, commit)?;
+    };
+    let (_, kind) = parted(&text);
+    let edits = clearing(alloc, cell, start, commit, kind)?;
     rows.apply(&cell.row, edits)?;
     Ok(true)
 }

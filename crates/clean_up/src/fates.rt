@@ -13,7 +13,7 @@ use crate::clearing;
 use crate::locks::Lock;
 use cell_key::{Moment, Qualifier, Refusal};
 use row_atomic::{Rows, oldest};
-use si_model::{Cell, named_start};
+use si_model::{Cell, named_write};
 use std::alloc::Global;
 
 /// What a cleaner has found of the fate of its lock's start.
@@ -49,7 +49,7 @@ fn recorded<R: Rows>(rows: &mut R, first: &Cell, start: Moment) -> Result<Fate, 
     let Some((commit, record)) = next else {
         return Ok(Fate::Back);
     };
-    let Some(named) = named_start(&record) else {
+    let Some((named, _)) = named_write(&record) else {
         return Err(Refusal::Damaged);
     };
     if named == start {

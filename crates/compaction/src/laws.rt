@@ -1,4 +1,5 @@
-//! Laws of what several lists mean together, and of what is written of them. Each is the contract of a function that does nothing.
+//! Laws of what several lists mean together, and of what is written of them. Each is the contract of a function that
+//! does nothing.
 
 ghost use Rattle.compaction.specs.Ends.{MergesRanges};
 ghost use Rattle.compaction.specs.Writing.{WritesEntryLists, KeepsOneList, NamesFirst};

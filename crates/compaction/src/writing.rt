@@ -4,6 +4,7 @@ ghost use Rattle.std.specs.Prelude.{◌≡◌, ◌≤◌, ℕ, List, length, map
 ghost use Rattle.file_store.specs.Store.{KeepsOthers, with_file};
 ghost use Rattle.sorted_file.specs.Grammar.{IsFile, FitsIn};
 ghost use Rattle.sorted_file.specs.Sources.{IsWriteRefusal};
+ghost use Rattle.sorted_file.specs.declared.formats.Format.TheVariants.{Two};
 ghost use Rattle.cell_key.specs.Faults.{HasReason};
 ghost use Rattle.compaction.specs.Merging.{AreAtStart};
 ghost use Rattle.compaction.specs.Writing.{written};
@@ -33,12 +34,12 @@ pub fn merge_into<F: Files, S: Source<F> + Drop>(
     file_limit: u64,
     files: &mut F,
 ) -> Result<(), Refusal>
-    requires least { 32 ≤ file_limit }
-    requires most { file_limit ≤ 1_073_741_824 }
+    requires least { 48 ≤ file_limit }
+    requires most { file_limit ≤ 68_719_476_736 }
     ensures written { OnOk result ((image : List ℕ)
         × ((F.contents files.new ≡ with_file name image (F.contents files.old))
         × (length image ≤ file_limit)
-        × (AreAtStart S.lent (S.holds (F.contents files.old)) sources.items → IsFile
+        × (AreAtStart S.lent (S.holds (F.contents files.old)) sources.items → IsFile Two
         (written keep_erasures (map (S.remaining (F.contents files.old)) sources.items)) image))) }
     ensures large { IsErrOf result Refusal.FileTooLarge
         → AreAtStart S.lent (S.holds (F.contents files.old)) sources.items → ¬ FitsIn file_limit

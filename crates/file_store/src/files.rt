@@ -64,6 +64,16 @@ pub trait Files {
         ensures err { OnErr result (KeepsOthers name (contents self.old) (contents self.new)) }
         ensures cause { HasFaultCause (faults self.old) (faults self.new) result };
 
+    /// Makes or replaces a file as `put` does. Files in memory keep these bytes, and no copy of them.
+    fn put_owned(&mut self, name: u64, bytes: Vec<u8>) -> Result<(), FileFault>
+        ensures ok { OnOk result (contents self.new
+            ≡ with_file name bytes.items (contents self.old)) }
+        ensures err { OnErr result (KeepsOthers name (contents self.old) (contents self.new)) }
+        ensures cause { HasFaultCause (faults self.old) (faults self.new) result }
+    {
+        self.put(name, &bytes)
+    }
+
     /// How many bytes a file has, if it is there.
     fn size(&mut self, name: u64) -> Result<Option<u64>, FileFault>
         ensures ok { IfOk result (λ size.

@@ -1,11 +1,13 @@
 //! Files in a folder.
 
-ghost use Rattle.std.specs.Prelude.{◌≡◌, ◌≤◌, ℕ, Err, IfOk, IfErr, None, Ok, length};
+ghost use Rattle.std.specs.Prelude.{◌≡◌, ◌≢◌, ◌≤◌, ◌<◌, ℕ, Err, IfOk, IfErr, None, Ok, OnOk, Some, length};
+ghost use Rattle.std.specs.Io.KnownBytes.{Appends, IsAtEnd};
+ghost use Rattle.std.specs.IoError.{error_kind};
 ghost use Rattle.file_store.specs.Store.{HasFaultCause};
 
 use crate::files::{FileFault, Files};
-use std::alloc::Global;
-use std::fs::{File, OpenFile};
+use std::alloc::{Allocator, Global};
+use std::fs::{DirEntry, File, OpenFile};
 use std::io::{ErrorKind, Read, Seek, SeekFrom, Write};
 use std::rt::Files as Folders;
 use std::{fs, io};
@@ -13,12 +15,13 @@ use std::{fs, io};
 /// How many hexadecimal digits a name has.
 const DIGITS: usize = 16;
 
-/// Files in one folder: `t`, 16 lower-case hexadecimal digits of the name, and `.tab`. Other names in the folder are not
+/// Files in one folder: `t`, 16 lower-case hexadecimal digits of the name, and `.tab`. Other names in the folder aren't
 /// listed. Nothing is known of the bytes. The folder's file `lock` is locked as long as the folder is open, so that one
-/// program has it at a time; the system unlocks it where the program ends, however it does.
+/// program has it at a time; the system unlocks it when the program ends, however it does.
 ///
 /// A file is written beside its place, under the same digits and `.new`, forced to the disk, and then put in its place,
-/// and the folder is forced to the disk too: where the machine stops between, the old bytes stand or the new ones.
+/// and the folder is forced to the disk too: if the machine stops between, the old bytes stand or the new ones. If the
+/// write fails, what stands beside the place is removed.
 #[derive(Drop)]
 pub struct DirFiles<R> {
     rt: R,
@@ -65,7 +68,22 @@ fn sync_folder<R: Folders>(rt: &R, folder: &str) -> io::Result<()> {
     folder.sync_all()
 }
 
-/// Makes or replaces a file in a folder.
+/// Writes bytes behind those of a file, and forces it to the disk.
+fn write_synced<W: Write + OpenFile>(file: &mut W, bytes: &[u8]) -> io::Result<()>
+    ensures { OnOk result (Appends (W.contents file.old) (W.contents file.new) bytes.now) }
+{
+    file.write_all(bytes)?;
+    file.sync_all()
+}
+
+/// Writes a file beside its place, and puts it there.
+fn place_file<R: Folders>(rt: &R, beside: &str, path: &str, bytes: &[u8]) -> io::Result<()> {
+    let mut file = File::create(rt, beside)?;
+    write_synced(&mut file, bytes)?;
+    fs::rename(rt, beside, path)
+}
+
+/// Makes or replaces a file in a folder. If that fails, what was written beside its place is removed.
 fn write_file<R: Folders>(
     rt: &R,
     alloc: Global,
@@ -75,17 +93,21 @@ fn write_file<R: Folders>(
 ) -> io::Result<()> {
     let path = path_of(alloc, folder, name, "tab")?;
     let beside = path_of(alloc, folder, name, "new")?;
-    let mut file = File::create(rt, beside.as_str())?;
-    file.write_all(bytes)?;
-    file.sync_all()?;
-    fs::rename(rt, beside.as_str(), path.as_str())?;
+    let placed = place_file(rt, beside.as_str(), path.as_str(), bytes);
+    if placed.is_err() {
+        let _ = fs::remove_file(rt, beside.as_str());
+    }
+    placed?;
     sync_folder(rt, folder)
 }
 
-/// What a call on a file answers that may be missing.
+/// What a call answers on a file that may be missing: nothing if it is. Any other failure is passed on.
 fn if_there<T: Drop>(called: io::Result<T>) -> io::Result<Option<T>>
-    ensures { IfOk result (λ found.
-        IfOk called (λ value. found ≡ Rattle.std.specs.Prelude.Some value)) }
+    ensures there { IfOk called (λ value. result ≡ Ok (Some value)) }
+    ensures missing { IfErr called (λ error.
+        error_kind error ≡ ErrorKind.NotFound → result ≡ Ok None) }
+    ensures failed { IfErr called (λ error.
+        error_kind error ≢ ErrorKind.NotFound → result ≡ Err error) }
 {
     match called {
         Ok(value) => Ok(Some(value)),
@@ -94,17 +116,11 @@ fn if_there<T: Drop>(called: io::Result<T>) -> io::Result<Option<T>>
     }
 }
 
-/// Reads from an offset of a file to the front of a buffer, and answers how many bytes it read.
-fn read_part<R: Folders>(rt: &R, path: &str, offset: u64, out: &mut [u8]) -> io::Result<usize>
-    ensures { IfOk result (λ n. n ≤ length out.old) }
+/// Reads to the front of a buffer, and answers how many bytes it read: fewer than the buffer has only at the end.
+fn read_full<S: Read>(file: &mut S, out: &mut [u8]) -> io::Result<usize>
+    ensures within { IfOk result (λ n. n ≤ length out.old) }
+    ensures end { IfOk result (λ n. n < length out.old → IsAtEnd (S.remaining file.new)) }
 {
-    let Some(mut file) = if_there(File::open(rt, path))? else {
-        return Ok(0);
-    };
-    if offset > i64::MAX as u64 {
-        return Ok(0);
-    }
-    file.seek(SeekFrom::Start(offset))?;
     let mut at = 0;
     while at < out.len() {
         let count = file.read(&mut out[at..])?;
@@ -114,6 +130,27 @@ fn read_part<R: Folders>(rt: &R, path: &str, offset: u64, out: &mut [u8]) -> io:
         at += count;
     }
     Ok(at)
+}
+
+/// Reads from an offset of a file that was opened to the front of a buffer, and answers how many bytes it read: none
+/// if there is no such file.
+fn read_part<S: Read + Seek + Drop>(
+    opened: io::Result<S>,
+    offset: u64,
+    out: &mut [u8],
+) -> io::Result<usize>
+    ensures within { IfOk result (λ n. n ≤ length out.old) }
+    ensures failed { IfErr opened (λ error.
+        error_kind error ≢ ErrorKind.NotFound → result ≡ Err error) }
+{
+    let Some(mut file) = if_there(opened)? else {
+        return Ok(0);
+    };
+    if offset > i64::MAX as u64 {
+        return Ok(0);
+    }
+    file.seek(SeekFrom::Start(offset))?;
+    read_full(&mut file, out)
 }
 
 /// The same of a file by its name.
@@ -128,7 +165,7 @@ fn read_from<R: Folders>(
     ensures { IfOk result (λ n. n ≤ length out.old) }
 {
     let path = path_of(alloc, folder, name, "tab")?;
-    read_part(rt, path.as_str(), offset, out)
+    read_part(File::open(rt, path.as_str()), offset, out)
 }
 
 /// How many bytes a file has, if it is there.
@@ -149,6 +186,21 @@ fn remove_file<R: Folders>(rt: &R, alloc: Global, folder: &str, name: u64) -> io
     }
 }
 
+/// The name that a file of a listing has, with this ending, if it has one. A name that is no text is none.
+fn name_listed<R: Folders + Drop, A: Allocator + Drop>(
+    entry: io::Result<DirEntry<R, A>>,
+    ending: &str,
+) -> io::Result<Option<u64>>
+    ensures failed { IfErr entry (λ error.
+        error_kind error ≢ ErrorKind.InvalidFilename → result ≡ Err error) }
+{
+    match entry {
+        Ok(entry) => Ok(name_of(entry.file_name(), ending)),
+        Err(error) if error.kind() == ErrorKind::InvalidFilename => Ok(None),
+        Err(error) => Err(error),
+    }
+}
+
 /// The names of the files of a folder that have this ending, rising.
 fn names_in<R: Folders + AllocGlobal + Clone + Drop>(
     rt: &R,
@@ -157,14 +209,8 @@ fn names_in<R: Folders + AllocGlobal + Clone + Drop>(
 ) -> io::Result<Vec<u64>> {
     let mut names = Vec::new(rt.alloc());
     for entry in fs::read_dir(rt, folder)? {
-        match entry {
-            Ok(entry) => {
-                if let Some(name) = name_of(entry.file_name(), ending) {
-                    names.push(name)?;
-                }
-            }
-            Err(error) if error.kind() == ErrorKind::InvalidFilename => {}
-            Err(error) => return Err(error),
+        if let Some(name) = name_listed(entry, ending)? {
+            names.push(name)?;
         }
     }
     names.sort_unstable();
@@ -183,6 +229,18 @@ fn remove_unplaced<R: Folders + AllocGlobal + Clone + Drop>(
     Ok(())
 }
 
+/// The fault that a failure of the system is.
+fn fault_of(error: io::Error) -> FileFault
+    ensures memory { error_kind error ≡ ErrorKind.OutOfMemory → result ≡ FileFault.Memory }
+    ensures device { error_kind error ≢ ErrorKind.OutOfMemory → result ≡ FileFault.Device }
+{
+    if error.kind() == ErrorKind::OutOfMemory {
+        FileFault::Memory
+    } else {
+        FileFault::Device
+    }
+}
+
 impl<R: Folders<File = File> + AllocGlobal + Clone + Drop> DirFiles<R> {
     /// The files of a folder, which no other program may open until these are dropped. What a stopped program left
     /// beside its place there is removed.
@@ -195,8 +253,7 @@ impl<R: Folders<File = File> + AllocGlobal + Clone + Drop> DirFiles<R> {
     {
         match open_folder(rt, folder) {
             Ok(files) => Ok(files),
-            Err(error) if error.kind() == ErrorKind::OutOfMemory => Err(FileFault::Memory),
-            Err(_) => Err(FileFault::Device),
+            Err(error) => Err(fault_of(error)),
         }
     }
 }
@@ -206,15 +263,19 @@ impl<R: Folders + AllocGlobal + Clone + Drop> DirFiles<R> {
     fn told<T: Drop>(&mut self, called: io::Result<T>) -> Result<T, FileFault>
         ensures cause { HasFaultCause self.old.faults self.new.faults result }
         ensures same { IfOk result (λ value. called ≡ Ok value) }
+        ensures memory { IfErr called (λ error.
+            error_kind error ≡ ErrorKind.OutOfMemory → result ≡ Err FileFault.Memory) }
+        ensures device { IfErr called (λ error.
+            error_kind error ≢ ErrorKind.OutOfMemory → result ≡ Err FileFault.Device) }
     {
-        match called {
-            Ok(value) => Ok(value),
-            Err(error) if error.kind() == ErrorKind::OutOfMemory => Err(FileFault::Memory),
-            Err(_) => {
-                self.faults = self.faults.saturating_add(1);
-                Err(FileFault::Device)
-            }
+        let fault = match called {
+            Ok(value) => return Ok(value),
+            Err(error) => fault_of(error),
+        };
+        if fault == FileFault::Device {
+            self.faults = self.faults.saturating_add(1);
         }
+        Err(fault)
     }
 }
 

@@ -63,7 +63,17 @@ impl Files for MemFiles {
         ensures memory { IfErr result (λ fault. fault ≡ FileFault.Memory) }
     {
         let copy = Vec::from_slice(self.alloc, bytes)?;
-        let _ = self.files.insert(name, copy)?;
+        self.put_owned(name, copy)
+    }
+
+    fn put_owned(&mut self, name: u64, bytes: Vec<u8>) -> Result<(), FileFault>
+        ensures ok { OnOk result (self.new ≡ map.insert self.old name bytes.items) }
+        ensures err { OnErr result (self.new ≡ self.old) }
+        ensures memory { IfErr result (λ fault. fault ≡ FileFault.Memory) }
+    {
+        let mut bytes = bytes;
+        bytes.shrink_to_fit();
+        let _ = self.files.insert(name, bytes)?;
         Ok(())
     }
 

@@ -5,10 +5,11 @@ use Rattle.std.specs.declared.cmp.Ordering.TheVariants.{Less, Equal, Greater}
 use Rattle.std.specs.Ordering.{nat_cmp, ordering_then}
 use Rattle.std.specs.Cmp.Lexicographic.{pointwise}
 use Rattle.std.specs.FinMap.{nat_cmp-IsAntisymmetric}
+use Rattle.std.proofs.lemmas.Bool.{eqb-true}
 use Rattle.std.proofs.lemmas.Bool.Decides.{nat_tests}
 use Rattle.cell_key.specs.Keys.{byte_cmp}
-use Rattle.cell_key.specs.Texts.{escaped, escaped_byte}
-use Rattle.std.specs.List.{list_any}
+use Rattle.cell_key.specs.Texts.{IsPlain, escaped, escaped_byte}
+use Rattle.std.specs.List.{AllByRecursion, list_any}
 use Rattle.memtable.specs.Order.{ComparesAs, ComparesTo}
 use Rattle.std.specs.Cmp.{nat_cmp_total, tied_itself}
 
@@ -56,3 +57,12 @@ plain_row [] e = refl
 plain_row (b ∷ row) e =
     let none = or_none (b == 0) (list_any (λ b. b == 0) row) e in
     ap (λ (xs : List ℕ). xs ++ escaped row) (plain_byte b none.0) ∙ ap (λ (xs : List ℕ). b ∷ xs) (plain_row row none.1)
+
+-- a row without a byte 0 has none
+pub none_plain : (row : List ℕ) → AllByRecursion IsPlain row → list_any (λ b. b == 0) row ≡ false
+none_plain [] all = refl
+none_plain (b ∷ row) all = ap (λ (t : Bool). t || list_any (λ b. b == 0) row) (test (b == 0) refl) ∙ none_plain row all.1
+  where
+    test : (t : Bool) → (b == 0) ≡ t → (b == 0) ≡ false
+    test true e = absurd (all.0 (eqb-true b 0 e))
+    test false e = e

@@ -4,7 +4,7 @@ use Rattle.byteorder.specs.Endian.{big_number}
 use Rattle.std.specs.declared.cmp.Ordering.{Ordering}
 use Rattle.cell_key.specs.Keys.{byte_cmp, qualifier_name}
 use Rattle.cell_key.specs.Cells.{version}
-use Rattle.cell_key.specs.Texts.{escaped, ended}
+use Rattle.cell_key.specs.Texts.{escaped, ended, stamp_text}
 use Rattle.cell_key.specs.declared.keys.CellKey.{CellKey}
 use Rattle.memtable.specs.declared.order.Version.{Version}
 
@@ -26,6 +26,11 @@ pub record IsFront (front : ℕ) (text : List ℕ) : Type 0 where
 abbrev pub column_text : CellKey → List ℕ
 column_text key =
     ended (escaped key.row) ++ (ended key.family ++ ended (qualifier_name key.qualifier))
+
+-- the text of a key whose row has no byte 0
+abbrev pub plain_text : CellKey → List ℕ
+plain_text key =
+    ended key.row ++ (ended key.family ++ (ended (qualifier_name key.qualifier) ++ stamp_text key.stamp))
 
 -- the key of a version, and that of the same column at another stamp
 abbrev pub at_stamp : Version → ℕ → CellKey

@@ -1,11 +1,12 @@
 //! Comparing what is sought with texts. The text of a key is made on the stack where it is short, and else not at all,
 //! so this takes no memory.
 
-ghost use Rattle.std.specs.Prelude.{◌≡◌, ◌≢◌, ◌<◌, ◌≤◌, ◌^◌, ℕ, List, ◌++◌, drop, length, IfSome, IfNone, OnOk, MatchResult};
+ghost use Rattle.std.specs.Prelude.{◌≡◌, ◌≢◌, ◌<◌, ◌≤◌, ◌^◌, ℕ, List, ◌++◌, drop, length, IfSome, IfNone, OnErr, OnOk, MatchResult};
+ghost use Rattle.std.specs.List.{AllByRecursion};
 ghost use Rattle.std.specs.Ordering.{ordering_then};
 ghost use Rattle.cell_key.specs.Keys.{byte_cmp, qualifier_name, text};
-ghost use Rattle.cell_key.specs.Texts.{escaped, ended, stamp_text};
-ghost use Rattle.memtable.specs.Order.{ComparesAs, ComparesTo, at_stamp, column_text, key_of};
+ghost use Rattle.cell_key.specs.Texts.{IsPlain, escaped, ended, stamp_text};
+ghost use Rattle.memtable.specs.Order.{ComparesAs, ComparesTo, at_stamp, column_text, key_of, plain_text};
 
 use crate::texts::{KeptText, ShortText, StackBytes};
 use arrayvec::CapacityError;
@@ -88,7 +89,8 @@ fn after_row<'a>(row: &[u8], bytes: &'a [u8]) -> Result<&'a [u8], Ordering>
 
 /// Appends a part and its end. Refused where there is no room.
 fn push_ended(out: &mut StackBytes, part: &[u8]) -> Result<(), CapacityError>
-    ensures { OnOk result (out.new.items ≡ out.old.items ++ ended part.now) }
+    ensures ok { OnOk result (out.new.items ≡ out.old.items ++ ended part.now) }
+    ensures full { OnErr result (96 < length (out.old.items ++ ended part.now)) }
 {
     out.try_extend_from_slice(part)?;
     out.try_extend_from_slice(b"\0\0")
@@ -152,9 +154,9 @@ impl Version<'_> {
 
     /// Appends the parts of the text with the row as it is. Refused where there is no room.
     fn push_parts(self, out: &mut StackBytes) -> Result<(), CapacityError>
-        ensures { OnOk result (out.new.items ≡ out.old.items ++ (ended self.entry.row.now
-            ++ (ended self.entry.family.now ++ (ended (qualifier_name self.entry.qualifier)
-            ++ stamp_text self.entry.stamp)))) }
+        ensures ok { OnOk result (out.new.items ≡ out.old.items ++ plain_text (key_of self.entry)) }
+        ensures full { OnErr result
+            (96 < length (out.old.items ++ plain_text (key_of self.entry))) }
     {
         let stamp = self.stamp;
         let mut falling = [0u8; 8];
@@ -167,7 +169,9 @@ impl Version<'_> {
 
     /// The text, if it has at most 96 bytes and the row has no byte 0.
     pub(crate) fn short_text(self) -> Option<ShortText>
-        ensures { IfSome result (λ made. made ≡ text (key_of self.entry)) }
+        ensures some { IfSome result (λ made. made ≡ text (key_of self.entry)) }
+        ensures none { IfNone result (AllByRecursion IsPlain self.entry.row.now
+            → 96 < length (text (key_of self.entry))) }
     {
         if self.row.as_bytes().contains(&0) {
             return None;

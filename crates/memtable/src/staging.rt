@@ -1,9 +1,10 @@
 //! Edits as entries, before any of them is made.
 
-ghost use Rattle.std.specs.Prelude.{◌≡◌, ◌≤◌, ◌^◌, List, IfOk, OnOk, IfErr};
+ghost use Rattle.std.specs.Prelude.{◌≡◌, ◌≤◌, ◌^◌, List, length, IsOk, IfOk, OnOk, IfErr};
 ghost use Rattle.std.specs.List.{AllByRecursion};
 ghost use Rattle.cell_key.specs.Keys.{text};
 ghost use Rattle.cell_key.specs.Names.{IsRow, IsFamily};
+ghost use Rattle.cell_key.specs.Texts.{IsPlain};
 ghost use Rattle.cell_key.specs.Cells.{IsEditOf};
 ghost use Rattle.cell_key.specs.Entries.{Entry, IsRising, IsEntry};
 ghost use Rattle.memtable.specs.Slots.{slot_entry, slot_entries, over};
@@ -23,6 +24,7 @@ use std::alloc::Global;
 /// The text of a key.
 fn text_of(alloc: Global, key: &CellKey) -> Result<KeptText, Refusal>
     ensures text { IfOk result (λ made. made ≡ text key.now) }
+    ensures short { AllByRecursion IsPlain key.now.row → length (text key.now) ≤ 48 → IsOk result }
     ensures row { IsRow key.now.row }
     ensures family { IsFamily key.now.family }
     ensures refusal { IfErr result (λ refusal. refusal ≡ Refusal.NoMemory) }

@@ -3,7 +3,11 @@ use Rattle.std.proofs.Common.{◌≡◌, ℕ, suc, ◌-◌, ◌+◌, ◌≤◌, 
 use Rattle.std.proofs.lemmas.List.{append-nil}
 use Rattle.metadata_table.specs.declared.root_reading.ReadFault.{ReadFault}
 use Rattle.metadata_table.specs.declared.root_reading.ReadFault.TheVariants as fault
-use Rattle.metadata_table.specs.RootReading.{◌>>=◌, Fails, each_at}
+use Rattle.std.specs.Prelude.{map, flat_map}
+use Rattle.std.proofs.lemmas.List.Concat.{flat_map-append}
+use Rattle.std.proofs.lemmas.List.{map_push}
+use Rattle.metadata_table.specs.Places.{PlaceView}
+use Rattle.metadata_table.specs.RootReading.{◌>>=◌, Fails, each_at, placed}
 
 module _ {X : Type 0} (item : List ℕ → Option (X × List ℕ)) where
   -- what was read before, and what is still read
@@ -37,3 +41,17 @@ module _ {X : Type 0} (item : List ℕ → Option (X × List ℕ)) where
       let k : count - i ≡ 0 = omega arith in
       let one : with_front front (each_at item (count - i) bytes) ≡ Some (front, bytes) = rw k (ap (λ (ns : List X). Some (ns, bytes)) (append-nil front)) in
       sym so_far ∙ one
+
+-- what goes on from what fails fails
+pub fails_with : {A B : Type 0} (e : ReadFault) (read : Option A) (f : A → Option B) → Fails e read → Fails e (read >>= f)
+fails_with fault.Memory read f h = tt
+fails_with fault.Malformed (Some x) f h = cc
+fails_with fault.Malformed None f h = refl
+
+-- one place more, with the lengths of its files
+pub placed_more : (front : List (PlaceView × List ℕ)) (p : PlaceView) (own : List ℕ) (ps : List PlaceView) (lengths : List ℕ) → placed front ≡ (ps, lengths) → placed (front ++ (p, own) ∷ []) ≡ (ps ++ p ∷ [], lengths ++ own)
+placed_more front p own ps lengths e =
+    let these : map (λ (x : PlaceView × List ℕ). x.0) (front ++ (p, own) ∷ []) ≡ ps ++ p ∷ [] = map_push (λ (x : PlaceView × List ℕ). x.0) front (p, own) ∙ ap (λ (x : List PlaceView × List ℕ). x.0 ++ p ∷ []) e in
+    let those : flat_map (λ (x : PlaceView × List ℕ). x.1) (front ++ (p, own) ∷ []) ≡ lengths ++ own =
+    flat_map-append (λ (x : PlaceView × List ℕ). x.1) front ((p, own) ∷ []) ∙ ap (λ (l : List ℕ). flat_map (λ (x : PlaceView × List ℕ). x.1) front ++ l) (append-nil own) ∙ ap (λ (x : List PlaceView × List ℕ). x.1 ++ own) e in
+    λ i. (these i, those i)

@@ -1,5 +1,5 @@
--- The bytes of a root, format 1. Numbers stand with their highest byte first.
-use Rattle.std.specs.Prelude.{◌≡◌, ◌≢◌, ◌≤◌, ◌<◌, ◌+◌, ◌^◌, ℕ, List, [], ◌∷◌, ◌++◌, length, flat_map, codes, Option, Some, None, IfSome, AllPairs}
+-- The bytes of a root, in both formats. Numbers stand with their highest byte first.
+use Rattle.std.specs.Prelude.{◌≡◌, ◌≢◌, ◌≤◌, ◌<◌, ◌+◌, ◌^◌, ℕ, List, [], ◌∷◌, ◌++◌, length, take, drop, flat_map, codes, Option, Some, None, IfSome, AllPairs}
 use Rattle.std.specs.List.{AllByRecursion}
 use Rattle.std.specs.Int.{w32, w64, to_be_bytes}
 use Rattle.cell_key.specs.Entries.{field}
@@ -7,8 +7,11 @@ use Rattle.cell_key.specs.Names.{IsRow}
 use Rattle.metadata_table.specs.Places.{PlaceView}
 use Rattle.metadata_table.specs.Table.{IsTable}
 use Rattle.metadata_table.specs.declared.roots.Root.{Root}
+use Rattle.metadata_table.specs.declared.root_formats.RootFormat.{RootFormat}
+use Rattle.metadata_table.specs.declared.root_formats.RootFormat.TheVariants.{One, Two}
 
--- what a root tells: two stamps, the next file's name, and the places of all tablets
+-- what a root tells, beside the lengths of files: two stamps, the next file's name, and the places of
+-- all tablets
 pub record RootView : Type 0 where
   pub top : ℕ
   pub floor : ℕ
@@ -18,6 +21,14 @@ pub record RootView : Type 0 where
 abbrev pub root_of : Root → RootView
 root_of root =
     record { top = root.top; floor = root.floor; next_name = root.next_name; places = root.table }
+
+-- the lengths of the files, in the order in which the places name them
+abbrev pub lengths_of : Root → List ℕ
+lengths_of root = root.lengths.items
+
+-- the names of all files, in the order in which the places name them
+abbrev pub file_names : List PlaceView → List ℕ
+file_names ps = flat_map (λ p. p.files) ps
 
 -- ---- what a root may tell
 
@@ -44,6 +55,11 @@ pub record IsSoundRoot (root : RootView) : Type 0 where
   pub ends : AreEnds root.places
   pub naming : IsNaming root.next_name root.places
 
+-- format 1 has no lengths, and format 2 one for each file
+abbrev pub HasLengths : RootFormat → List PlaceView → List ℕ → Type 0
+HasLengths One ps lengths = lengths ≡ []
+HasLengths Two ps lengths = length lengths ≡ length (file_names ps)
+
 -- ---- how it is spelled
 
 -- 0 and the row, or 1 for the infinite end
@@ -51,29 +67,63 @@ abbrev pub end_bytes : Option (List ℕ) → List ℕ
 end_bytes (Some row) = 0 ∷ field row
 end_bytes None = 1 ∷ []
 
--- how many files there are, and the name of each, the newest first
-abbrev pub files_bytes : List ℕ → List ℕ
-files_bytes names = to_be_bytes w32 (length names) ++ flat_map (to_be_bytes w64) names
+-- each name, and behind it its length, as far as there are lengths
+abbrev pub numbers_of : List ℕ → List ℕ → List ℕ
+numbers_of [] lengths = []
+numbers_of (name ∷ names) [] = name ∷ numbers_of names []
+numbers_of (name ∷ names) (n ∷ lengths) = name ∷ n ∷ numbers_of names lengths
+
+-- how many files there are, and each, the newest first
+abbrev pub files_bytes : List ℕ → List ℕ → List ℕ
+files_bytes names lengths =
+    to_be_bytes w32 (length names) ++ flat_map (to_be_bytes w64) (numbers_of names lengths)
 
 -- the tablet's number, its end, its server and its files
-abbrev pub place_bytes : PlaceView → List ℕ
-place_bytes p = to_be_bytes w32 p.tablet ++ (end_bytes p.end ++ (p.server ∷ files_bytes p.files))
+abbrev pub place_bytes : PlaceView × List ℕ → List ℕ
+place_bytes p =
+    to_be_bytes w32 p.0.tablet
+    ++ (end_bytes p.0.end ++ (p.0.server ∷ files_bytes p.0.files p.1))
+
+-- each place with the lengths of its files
+abbrev pub with_lengths : List PlaceView → List ℕ → List (PlaceView × List ℕ)
+with_lengths [] lengths = []
+with_lengths (p ∷ ps) lengths =
+    (p, take (length p.files) lengths) ∷ with_lengths ps (drop (length p.files) lengths)
 
 -- the next tablet's number, how many tablets there are, and the place of each
-abbrev pub places_bytes : List PlaceView → List ℕ
-places_bytes ps =
-    to_be_bytes w32 (length ps + 1) ++ (to_be_bytes w32 (length ps) ++ flat_map place_bytes ps)
+abbrev pub places_bytes : List PlaceView → List ℕ → List ℕ
+places_bytes ps lengths =
+    to_be_bytes w32 (length ps + 1)
+    ++ (to_be_bytes w32 (length ps) ++ flat_map place_bytes (with_lengths ps lengths))
+
+abbrev pub root_head : RootFormat → List ℕ
+root_head One = codes "TABROOT1"
+root_head Two = codes "TABROOT2"
 
 -- head, stamps, the next file's name, places and foot
-abbrev pub root_bytes : RootView → List ℕ
-root_bytes root =
-    codes "TABROOT1" ++ (to_be_bytes w64 root.top ++ (to_be_bytes w64 root.floor
-    ++ (to_be_bytes w64 root.next_name ++ (places_bytes root.places ++ codes "TABROOTZ"))))
+abbrev pub root_bytes : RootFormat → RootView → List ℕ → List ℕ
+root_bytes format root lengths =
+    root_head format ++ (to_be_bytes w64 root.top ++ (to_be_bytes w64 root.floor
+    ++ (to_be_bytes w64 root.next_name
+    ++ (places_bytes root.places lengths ++ codes "TABROOTZ"))))
+
+-- the bytes are the root of this format that tells this, with these lengths
+pub record IsRootIn
+    (format : RootFormat) (root : RootView) (lengths bytes : List ℕ) : Type 0 where
+  pub sound : IsSoundRoot root
+  pub measured : HasLengths format root.places lengths
+  pub fit : AllByRecursion (λ n. n < 2 ^ 64) lengths
+  pub whole : bytes ≡ root_bytes format root lengths
+
+-- the bytes are the root that tells this, with these lengths
+pub record IsRootWith (root : RootView) (lengths bytes : List ℕ) : Type 0 where
+  pub format : RootFormat
+  pub form : IsRootIn format root lengths bytes
 
 -- the bytes are the root that tells this
 pub record IsRoot (root : RootView) (bytes : List ℕ) : Type 0 where
-  pub sound : IsSoundRoot root
-  pub whole : bytes ≡ root_bytes root
+  pub lengths : List ℕ
+  pub told : IsRootWith root lengths bytes
 
 -- the bytes are no root
 abbrev pub IsNoRoot : List ℕ → Type 0
@@ -82,3 +132,8 @@ IsNoRoot bytes = (root : RootView) → ¬ IsRoot root bytes
 -- bytes are the root of one table, with one set of numbers
 abbrev pub OneRoot : Type 0
 OneRoot = (a b : RootView) (bytes : List ℕ) → IsRoot a bytes → IsRoot b bytes → a ≡ b
+
+-- and with one list of lengths
+abbrev pub OneMeasure : Type 0
+OneMeasure =
+    (a b : RootView) (m n bytes : List ℕ) → IsRootWith a m bytes → IsRootWith b n bytes → m ≡ n

@@ -1,7 +1,7 @@
 //! Laws of the table and of its tablets' rows. Each is the contract of a function that does nothing.
 
 ghost use Rattle.metadata_table.specs.Ranges.{OneHolder, HolderRange, OneRange, CutRanges, CutRows, SameRanges};
-ghost use Rattle.metadata_table.specs.Roots.{OneRoot};
+ghost use Rattle.metadata_table.specs.Roots.{OneMeasure, OneRoot};
 
 /// Each row is in the range of one tablet.
 pub fn one_holder()
@@ -37,4 +37,9 @@ pub fn same_ranges()
 /// Bytes are the root of one table, with one set of numbers.
 pub fn one_root()
     ensures { OneRoot }
+{}
+
+/// Bytes are a root with one list of lengths.
+pub fn one_measure()
+    ensures { OneMeasure }
 {}

@@ -1,12 +1,13 @@
 //! Whether places and names are a root's.
 
-ghost use Rattle.std.specs.Prelude.{◌≡◌, ◌≢◌, ◌≤◌, ◌<◌, ◌^◌, ◌↔◌, IsTrue, AllPairs};
+ghost use Rattle.std.specs.Prelude.{◌≡◌, ◌≢◌, ◌≤◌, ◌<◌, ◌^◌, ◌↔◌, length, IsTrue, AllPairs};
 ghost use Rattle.std.specs.List.{AllByRecursion};
 ghost use Rattle.metadata_table.specs.Places.{view_of, views};
-ghost use Rattle.metadata_table.specs.Roots.{AreFiles, IsNaming};
+ghost use Rattle.metadata_table.specs.Roots.{AreFiles, HasLengths, IsNaming, file_names};
 ghost use Rattle.metadata_table.specs.Table.{EndsRise, IsNumbered, IsTable};
 
 use crate::places::Place;
+use crate::root_formats::RootFormat;
 use crate::table::MetadataTable;
 
 /// The most files of a tablet.
@@ -140,4 +141,42 @@ pub(crate) fn is_named_table(places: &[Place], next_name: u64) -> bool
     ensures { IsTrue result ↔ (IsTable (views places.now) × IsNaming next_name (views places.now)) }
 {
     is_table(places) && is_naming(places, next_name)
+}
+
+/// Whether there are as many lengths as the places have files.
+fn is_measured(places: &[Place], lengths: &[u64]) -> bool
+    ensures { IsTrue result ↔ (length lengths.now ≡ length (file_names (views places.now))) }
+{
+    let mut rest = places;
+    let mut left = lengths;
+    'places: while let Some((place, after)) = rest.split_first() {
+        let count = place.files.len();
+        if count > left.len() {
+            return false;
+        }
+        (_, left) = left.split_at(count);
+        rest = after;
+    }
+    left.is_empty()
+}
+
+/// Whether a root of a format has these lengths of the files of its places.
+pub(crate) fn has_lengths(format: RootFormat, places: &[Place], lengths: &[u64]) -> bool
+    ensures { IsTrue result ↔ HasLengths format (views places.now) lengths.now }
+{
+    match format {
+        RootFormat::One => lengths.is_empty(),
+        RootFormat::Two => is_measured(places, lengths),
+    }
+}
+
+/// Each of these is a number of eight bytes.
+pub(crate) fn all_fit(numbers: &[u64])
+    ensures { AllByRecursion (λ number. number < 2 ^ 64) numbers.now }
+{
+    let mut rest = numbers;
+    'numbers: while let Some((number, after)) = rest.split_first() {
+        let _number = *number;
+        rest = after;
+    }
 }

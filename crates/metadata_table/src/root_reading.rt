@@ -1,12 +1,13 @@
 //! Reading what the bytes of a root tell.
 
-ghost use Rattle.std.specs.Prelude.{◌≡◌};
+ghost use Rattle.std.specs.Prelude.{◌≡◌, IfOk, IfErr};
 ghost use Rattle.std.specs.Int.{w32, w64};
 ghost use Rattle.metadata_table.specs.Places.{view_of, views};
-ghost use Rattle.metadata_table.specs.RootReading.{GivesRead, draft_of, number_at, byte_at, field_at, row_at, end_at, names_at, place_at, places_at, root_at};
+ghost use Rattle.metadata_table.specs.RootReading.{GivesRead, drafted, every_second, files_at, number_at, byte_at, field_at, row_at, end_at, numbers_at, place_at, places_at, root_at};
 ghost use Rattle.metadata_table.specs.declared.root_reading.ReadFault.TheVariants.{Memory};
 
 use crate::places::Place;
+use crate::root_formats::RootFormat;
 use cell_key::{Refusal, Row};
 use std::alloc::{AllocError, AllocFailed, Global};
 
@@ -41,7 +42,9 @@ pub(crate) struct Draft {
     pub(crate) top: u64,
     pub(crate) floor: u64,
     pub(crate) next_name: u64,
+    pub(crate) format: RootFormat,
     pub(crate) places: Vec<Place>,
+    pub(crate) lengths: Vec<u64>,
 }
 
 /// The number of four bytes at the front, and what follows.
@@ -127,69 +130,131 @@ fn read_end(alloc: Global, bytes: &[u8]) -> Result<(Option<Row>, &[u8]), ReadFau
     }
 }
 
-/// So many names at the front, and what follows.
-fn read_names(alloc: Global, count: u32, bytes: &[u8]) -> Result<(Vec<u64>, &[u8]), ReadFault>
-    ensures { GivesRead (λ x. (x.0.items, x.1.now)) result (names_at count bytes.now) }
+/// `count` numbers of eight bytes at the front, and what follows.
+fn read_numbers(alloc: Global, count: u64, bytes: &[u8]) -> Result<(Vec<u64>, &[u8]), ReadFault>
+    ensures { GivesRead (λ x. (x.0.items, x.1.now)) result (numbers_at count bytes.now) }
 {
-    let mut names = Vec::new(alloc);
+    let mut numbers = Vec::new(alloc);
     let mut rest = bytes;
     for _ in 0..count {
-        let (name, after) = read_u64(rest)?;
-        names.push(name)?;
+        let (number, after) = read_u64(rest)?;
+        numbers.push(number)?;
         rest = after;
     }
-    Ok((names, rest))
+    Ok((numbers, rest))
 }
 
-/// The place at the front, and what follows.
+/// The first number, and each second one behind it.
+fn every_second(alloc: Global, numbers: &[u64]) -> Result<Vec<u64>, ReadFault>
+    ensures half { IfOk result (λ half. half.items ≡ every_second numbers.now) }
+    ensures memory { IfErr result (λ e. e ≡ Memory) }
+{
+    let mut half = Vec::new(alloc);
+    let mut rest = numbers;
+    'numbers: while let Some((number, after)) = rest.split_first() {
+        half.push(*number)?;
+        rest = match after.split_first() {
+            Some((_, behind)) => behind,
+            None => after,
+        };
+    }
+    Ok(half)
+}
+
+/// `count` files at the front, and what follows: their names, and their lengths if the format has them.
+#[tactic(auto, unfolding(crate::specs::RootReading::files_at))]
+fn read_files(
+    alloc: Global,
+    format: RootFormat,
+    count: u32,
+    bytes: &[u8],
+) -> Result<(Vec<u64>, Vec<u64>, &[u8]), ReadFault>
+    ensures { GivesRead (λ x. ((x.0.items, x.1.items), x.2.now)) result
+        (files_at format count bytes.now) }
+{
+    match format {
+        RootFormat::One => {
+            let (names, rest) = read_numbers(alloc, count as u64, bytes)?;
+            Ok((names, Vec::new(alloc), rest))
+        }
+        RootFormat::Two => {
+            let (numbers, rest) = read_numbers(alloc, count as u64 * 2, bytes)?;
+            let names = every_second(alloc, &numbers)?;
+            let lengths = match numbers.split_first() {
+                Some((_, behind)) => every_second(alloc, behind)?,
+                None => Vec::new(alloc),
+            };
+            Ok((names, lengths, rest))
+        }
+    }
+}
+
+/// The place at the front, with the lengths of its files, and what follows.
 #[tactic(auto, unfolding(crate::specs::RootReading::place_at))]
-fn read_place(alloc: Global, bytes: &[u8]) -> Result<(Place, &[u8]), ReadFault>
-    ensures { GivesRead (λ x. (view_of x.0, x.1.now)) result (place_at bytes.now) }
+fn read_place(
+    alloc: Global,
+    format: RootFormat,
+    bytes: &[u8],
+) -> Result<(Place, Vec<u64>, &[u8]), ReadFault>
+    ensures { GivesRead (λ x. ((view_of x.0, x.1.items), x.2.now)) result
+        (place_at format bytes.now) }
 {
     let (tablet, rest) = read_u32(bytes)?;
     let (end, rest) = read_end(alloc, rest)?;
     let (server, rest) = read_byte(rest)?;
     let (count, rest) = read_u32(rest)?;
-    let (files, rest) = read_names(alloc, count, rest)?;
+    let (files, lengths, rest) = read_files(alloc, format, count, rest)?;
     let place = Place {
         tablet,
         end,
         server,
         files,
     };
-    Ok((place, rest))
+    Ok((place, lengths, rest))
 }
 
-/// So many places at the front, and what follows.
-fn read_places(alloc: Global, count: u32, bytes: &[u8]) -> Result<(Vec<Place>, &[u8]), ReadFault>
-    ensures { GivesRead (λ x. (views x.0.items, x.1.now)) result (places_at count bytes.now) }
+/// `count` places at the front, with the lengths of all their files, and what follows.
+#[tactic(auto, unfolding(crate::specs::RootReading::places_at))]
+fn read_places(
+    alloc: Global,
+    format: RootFormat,
+    count: u32,
+    bytes: &[u8],
+) -> Result<(Vec<Place>, Vec<u64>, &[u8]), ReadFault>
+    ensures { GivesRead (λ x. ((views x.0.items, x.1.items), x.2.now)) result
+        (places_at format count bytes.now) }
 {
     let mut places = Vec::new(alloc);
+    let mut lengths = Vec::new(alloc);
     let mut rest = bytes;
     for _ in 0..count {
-        let (place, after) = read_place(alloc, rest)?;
+        let (place, own, after) = read_place(alloc, format, rest)?;
         places.push(place)?;
+        lengths.extend_from_slice(&own)?;
         rest = after;
     }
-    Ok((places, rest))
+    Ok((places, lengths, rest))
 }
 
 /// What the bytes tell where they are a root. Head and foot are passed over.
 #[tactic(auto, unfolding(crate::specs::RootReading::root_at))]
 pub(crate) fn read_draft(alloc: Global, bytes: &[u8]) -> Result<Draft, ReadFault>
-    ensures { GivesRead draft_of result (root_at bytes.now) }
+    ensures { GivesRead drafted result (root_at bytes.now) }
 {
-    let (_, rest) = read_u64(bytes)?;
+    let (head, rest) = read_u64(bytes)?;
+    let format = RootFormat::of(head);
     let (top, rest) = read_u64(rest)?;
     let (floor, rest) = read_u64(rest)?;
     let (next_name, rest) = read_u64(rest)?;
     let (_, rest) = read_u32(rest)?;
     let (count, rest) = read_u32(rest)?;
-    let (places, _) = read_places(alloc, count, rest)?;
+    let (places, lengths, _) = read_places(alloc, format, count, rest)?;
     Ok(Draft {
         top,
         floor,
         next_name,
+        format,
         places,
+        lengths,
     })
 }

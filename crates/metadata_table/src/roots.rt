@@ -1,10 +1,12 @@
 //! The root of a store: what it tells, and its bytes.
 
-ghost use Rattle.std.specs.Prelude.{◌≡◌, ◌≤◌, ◌<◌, ◌++◌, ◌↔◌, ◌⊎◌, IsTrue, IfOk, IfErr, IfSome, IfNone, OnOk, OnErr, IsOkUnless, length};
-ghost use Rattle.metadata_table.specs.Roots.{IsNaming, IsNoRoot, IsRoot, IsSoundRoot, root_bytes, root_of};
-ghost use Rattle.metadata_table.specs.RootReading.{draft_of};
+ghost use Rattle.std.specs.Prelude.{◌≡◌, ◌≤◌, ◌<◌, ◌^◌, ◌++◌, ◌↔◌, ◌⊎◌, IsTrue, IfOk, IfErr, IfSome, IfNone, OnOk, OnErr, IsOkUnless, length};
+ghost use Rattle.metadata_table.specs.Roots.{HasLengths, IsNaming, IsNoRoot, IsRootIn, IsRootWith, IsSoundRoot, lengths_of, root_bytes, root_of};
+ghost use Rattle.metadata_table.specs.RootReading.{draft_of, drafted};
+ghost use Rattle.std.specs.List.{AllByRecursion};
 
-use crate::root_checks::is_named_table;
+use crate::root_checks::{all_fit, has_lengths, is_named_table};
+use crate::root_formats::RootFormat;
 use crate::root_reading::{Draft, ReadFault, read_draft};
 use crate::root_writing::root_image;
 use crate::table::MetadataTable;
@@ -19,22 +21,31 @@ pub struct Root {
     pub floor: Stamp,
     pub next_name: u64,
     pub table: MetadataTable,
+    /// The lengths of the files, in the order in which the table names them. A root of format 1 has none.
+    pub lengths: Vec<u64>,
 }
 
 /// Whether the bytes are the root of what was read from them.
 fn is_root(alloc: Global, draft: &Draft, bytes: &[u8]) -> Result<bool, Refusal>
-    ensures exact { IfOk result (λ is. IsTrue is ↔ IsRoot (draft_of draft.now) bytes.now) }
+    ensures exact { IfOk result (λ is. IsTrue is
+        ↔ IsRootIn draft.now.format (draft_of draft.now) draft.now.lengths.items bytes.now) }
     ensures refusal { IfErr result (λ refusal. refusal ≡ Refusal.NoMemory) }
 {
     if !is_named_table(&draft.places, draft.next_name) {
         return Ok(false);
     }
+    if !has_lengths(draft.format, &draft.places, &draft.lengths) {
+        return Ok(false);
+    }
+    all_fit(&draft.lengths);
     let image = root_image(
         alloc,
+        draft.format,
         draft.top,
         draft.floor,
         draft.next_name,
         &draft.places,
+        &draft.lengths,
     )?;
     Ok(image.as_slice() == bytes)
 }
@@ -42,7 +53,8 @@ fn is_root(alloc: Global, draft: &Draft, bytes: &[u8]) -> Result<bool, Refusal>
 /// What the bytes tell, if they are a root.
 fn draft_of_root(alloc: Global, bytes: &[u8]) -> Result<Option<Draft>, Refusal>
     ensures form { IfOk result (λ found.
-        IfSome found (λ draft. IsRoot (draft_of draft) bytes.now)) }
+        IfSome found (λ draft.
+        IsRootIn draft.format (draft_of draft) draft.lengths.items bytes.now)) }
     ensures none { IfOk result (λ found. IfNone found (IsNoRoot bytes.now)) }
     ensures refusal { IfErr result (λ refusal. refusal ≡ Refusal.NoMemory) }
 {
@@ -60,8 +72,9 @@ fn draft_of_root(alloc: Global, bytes: &[u8]) -> Result<Option<Draft>, Refusal>
 }
 
 impl MetadataTable {
-    /// Appends the bytes of the root that tells of this table and of these numbers. Each tablet has at most 64
-    /// files, each once, whose names are from 1 on and below the next one, which is at most 2^63.
+    /// Appends the bytes of the root of format 2 that tells of this table, of these numbers and of the lengths of the
+    /// files, in the order in which the table names them. Each tablet has at most 64 files, each once, whose names are
+    /// from 1 on and below the next one, which is at most 2^63.
     ///
     /// # Errors
     ///
@@ -71,26 +84,39 @@ impl MetadataTable {
         top: Stamp,
         floor: Stamp,
         next_name: u64,
+        lengths: &[u64],
         out: &mut Vec<u8>,
     ) -> Result<(), Refusal>
-        requires { IsNaming next_name self.now }
-        ensures ok { OnOk result (out.new.items ≡ out.old.items ++ root_bytes (record {
-          top = top;
-          floor = floor;
-          next_name = next_name;
-          places = self.now;
-        })) }
+        requires naming { IsNaming next_name self.now }
+        requires measured { HasLengths RootFormat.Two self.now lengths.now }
+        ensures ok { OnOk result (out.new.items
+            ≡ out.old.items ++ root_bytes RootFormat.Two (record {
+              top = top;
+              floor = floor;
+              next_name = next_name;
+              places = self.now;
+            }) lengths.now) }
         ensures sound { OnOk result (IsSoundRoot (record {
           top = top;
           floor = floor;
           next_name = next_name;
           places = self.now;
         })) }
+        ensures fit { OnOk result (AllByRecursion (λ n. n < 2 ^ 64) lengths.now) }
         ensures err { OnErr result (out.new.items ≡ out.old.items) }
         ensures refusal { IsOkUnless result Refusal.NoMemory }
     {
         let alloc = *out.allocator();
-        let image = root_image(alloc, top, floor, next_name, self.places())?;
+        all_fit(lengths);
+        let image = root_image(
+            alloc,
+            RootFormat::Two,
+            top,
+            floor,
+            next_name,
+            self.places(),
+            lengths,
+        )?;
         out.extend_from_slice(&image)?;
         Ok(())
     }
@@ -103,7 +129,7 @@ impl MetadataTable {
     /// `NoMemory` where a growth was refused.
     pub fn read_root(alloc: Global, bytes: &[u8]) -> Result<Option<Root>, Refusal>
         ensures form { IfOk result (λ found.
-            IfSome found (λ root. IsRoot (root_of root) bytes.now)) }
+            IfSome found (λ root. IsRootWith (root_of root) (lengths_of root) bytes.now)) }
         ensures none { IfOk result (λ found. IfNone found (IsNoRoot bytes.now)) }
         ensures refusal { IfErr result (λ refusal. refusal ≡ Refusal.NoMemory) }
     {
@@ -115,12 +141,15 @@ impl MetadataTable {
             floor,
             next_name,
             places,
+            lengths,
+            ..
         } = draft;
         Ok(Some(Root {
             top,
             floor,
             next_name,
             table: MetadataTable::from_places(places),
+            lengths,
         }))
     }
 }

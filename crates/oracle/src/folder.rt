@@ -1,6 +1,8 @@
 //! A mark in a folder.
 
-ghost use Rattle.std.specs.Prelude.{◌≡◌, ◌≤◌, ◌<◌, ◌^◌, length, IfOk, IfSome, None, Ok, OnErr, OnOk};
+ghost use Rattle.std.specs.Prelude.{◌≡◌, ◌≢◌, ◌≤◌, ◌<◌, ◌^◌, length, Err, IfErr, IfOk, IfSome, IsErr, None, Ok, OnErr, OnOk};
+ghost use Rattle.std.specs.Io.KnownBytes.{Appends, IsAtEnd};
+ghost use Rattle.std.specs.IoError.{error_kind};
 ghost use Rattle.cell_key.specs.Faults.{HasRisen};
 
 use crate::marks::{MarkFault, MarkStore};
@@ -16,7 +18,8 @@ const MARK_BYTES: usize = 8;
 /// A mark in the file `oracle.mark` of a folder, as 8 bytes, the highest first. Nothing is known of the bytes.
 ///
 /// A new mark is written beside the file, as `oracle.new`, forced to the disk, and then put in its place, and the folder is
-/// forced to the disk too: where the machine stops between, the old mark stands or the new one.
+/// forced to the disk too: if the machine stops between, the old mark stands or the new one. If the write fails, what stands
+/// beside the file is removed.
 #[derive(Drop)]
 pub struct DirMark<R> {
     rt: R,
@@ -40,7 +43,8 @@ fn number_of(bytes: &[u8]) -> Option<Stamp>
 
 /// Fills a buffer from a file, and answers how many bytes it got: fewer only at the file's end.
 fn fill<F: Read>(file: &mut F, bytes: &mut [u8]) -> io::Result<usize>
-    ensures { IfOk result (λ n. n ≤ length bytes.old) }
+    ensures within { IfOk result (λ n. n ≤ length bytes.old) }
+    ensures end { IfOk result (λ n. n < length bytes.old → IsAtEnd (F.remaining file.new)) }
 {
     let mut at = 0;
     while at < bytes.len() {
@@ -53,11 +57,15 @@ fn fill<F: Read>(file: &mut F, bytes: &mut [u8]) -> io::Result<usize>
     Ok(at)
 }
 
-/// Reads a file of a mark, and 0 where there is none.
-fn read_mark<R: Folders>(rt: &R, path: &str) -> io::Result<Stamp>
-    ensures { IfOk result (λ number. number < 2 ^ 63) }
+/// Reads the mark of a file that was opened: 0 if there is no such file. Any other failure is passed on.
+fn read_mark<F: Read + Drop>(opened: io::Result<F>) -> io::Result<Stamp>
+    ensures within { IfOk result (λ number. number < 2 ^ 63) }
+    ensures missing { IfErr opened (λ error.
+        error_kind error ≡ ErrorKind.NotFound → result ≡ Ok 0) }
+    ensures failed { IfErr opened (λ error.
+        error_kind error ≢ ErrorKind.NotFound → result ≡ Err error) }
 {
-    let mut file = match File::open(rt, path) {
+    let mut file = match opened {
         Ok(file) => file,
         Err(error) if error.kind() == ErrorKind::NotFound => return Ok(0),
         Err(error) => return Err(error),
@@ -70,7 +78,22 @@ fn read_mark<R: Folders>(rt: &R, path: &str) -> io::Result<Stamp>
     }
 }
 
-/// Puts a mark in the place of the file.
+/// Writes bytes behind those of a file, and forces it to the disk.
+fn write_synced<W: Write + OpenFile>(file: &mut W, bytes: &[u8]) -> io::Result<()>
+    ensures { OnOk result (Appends (W.contents file.old) (W.contents file.new) bytes.now) }
+{
+    file.write_all(bytes)?;
+    file.sync_all()
+}
+
+/// Writes a mark beside the file, and puts it in the file's place.
+fn place_mark<R: Folders>(rt: &R, path: &str, beside: &str, number: Stamp) -> io::Result<()> {
+    let mut file = File::create(rt, beside)?;
+    write_synced(&mut file, &number.to_be_bytes())?;
+    fs::rename(rt, beside, path)
+}
+
+/// Puts a mark in the place of the file. If that fails, what was written beside it is removed.
 fn write_mark<R: Folders>(
     rt: &R,
     folder: &str,
@@ -78,10 +101,11 @@ fn write_mark<R: Folders>(
     beside: &str,
     number: Stamp,
 ) -> io::Result<()> {
-    let mut file = File::create(rt, beside)?;
-    file.write_all(&number.to_be_bytes())?;
-    file.sync_all()?;
-    fs::rename(rt, beside, path)?;
+    let placed = place_mark(rt, path, beside, number);
+    if placed.is_err() {
+        let _ = fs::remove_file(rt, beside);
+    }
+    placed?;
     let folder = File::open(rt, folder)?;
     folder.sync_all()
 }
@@ -107,6 +131,7 @@ impl<R: Folders + AllocGlobal + Drop> DirMark<R> {
         ensures device { OnErr result (HasRisen self.old.faults self.new.faults) }
         ensures told { OnOk result (self.new.faults ≡ self.old.faults) }
         ensures same { IfOk result (λ value. called ≡ Ok value) }
+        ensures failed { OnErr called (IsErr result) }
     {
         match called {
             Ok(value) => Ok(value),
@@ -144,7 +169,7 @@ impl<R: Folders + AllocGlobal + Drop> MarkStore for DirMark<R> {
     ghost faults = { λ mark. mark.faults };
 
     fn load(&mut self) -> Result<Stamp, MarkFault> {
-        let called = read_mark(&self.rt, self.path.as_str());
+        let called = read_mark(File::open(&self.rt, self.path.as_str()));
         self.told(called)
     }
 

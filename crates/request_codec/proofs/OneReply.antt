@@ -4,7 +4,7 @@ use Rattle.cell_key.specs.Names.{IsRow, IsFamily}
 use Rattle.cell_key.specs.Refusals.{refusal_number}
 use Rattle.cell_key.specs.declared.refusals.Refusal.{Refusal}
 use Rattle.cell_key.specs.declared.refusals.Refusal.TheVariants.{UnknownSession, WrongPhase, BadRow, BadColumn, BadValue, TooManyWrites, TooManySessions, EmptyCommit, UnknownCleaner, UnknownCollector, UnknownTablet, BadSplit, UnknownServer, BadCount, MemtableFull, TooManyFiles, FileTooLarge, Exhausted, Device, NoMemory, Damaged, BadRequest, FrameTooLarge}
-use Rattle.si_model.specs.Messages.{Reply, Begun, Answered, Pending, SetDone, Held, Conflict, Drawn, Committed, Lost, Finished, StopDone, NoLock, Cleaning, Decided, RolledForward, RolledBack, Gone, Collecting, More, Blocked, Collected, MinorDone, MergeDone, MajorDone, SplitOff, MoveDone, Swept, RestartDone, RawFound, CheckpointDone, Refused}
+use Rattle.si_model.specs.Messages.{Reply, Begun, Answered, Pending, SetDone, DeleteDone, Held, Conflict, Drawn, Committed, Lost, Finished, StopDone, NoLock, Cleaning, Decided, RolledForward, RolledBack, Gone, Collecting, More, Blocked, Collected, MinorDone, MergeDone, MajorDone, SplitOff, MoveDone, Swept, RestartDone, RawFound, CheckpointDone, Refused}
 use Rattle.si_model.specs.declared.replies.Cell.{Cell}
 use Rattle.request_codec.specs.Fields.{number, field, cell_fields, FitsField}
 use Rattle.request_codec.specs.Replies.{reply_body, IsReply}
@@ -220,6 +220,10 @@ checkpoint_only : (r : Reply) → IsReply r (reply_body CheckpointDone) → r �
 checkpoint_only CheckpointDone p = refl
 checkpoint_only other p = let e = ap first p.whole in let d = ap second p.whole in absurd (omega (arith, e, d))
 
+delete_only : (r : Reply) → IsReply r (reply_body DeleteDone) → r ≡ DeleteDone
+delete_only DeleteDone p = refl
+delete_only other p = let e = ap first p.whole in let d = ap second p.whole in absurd (omega (arith, e, d))
+
 minor_only : (r : Reply) → IsReply r (reply_body MinorDone) → r ≡ MinorDone
 minor_only MinorDone p = refl
 minor_only other p = let e = ap first p.whole in let d = ap second p.whole in absurd (omega (arith, e, d))
@@ -363,4 +367,5 @@ one_reply (RawFound None) b body p q = sym (raw_none_only b (subst (IsReply b) p
 one_reply (RawFound (Some found)) b body p q =
     same_version found.0 found.1 b p.numbers p.bytes (raw_some_only b (number 8 found.0 ++ field found.1) (subst (IsReply b) p.whole q))
 one_reply RestartDone b body p q = sym (restart_only b (subst (IsReply b) p.whole q))
+one_reply DeleteDone b body p q = sym (delete_only b (subst (IsReply b) p.whole q))
 one_reply CheckpointDone b body p q = sym (checkpoint_only b (subst (IsReply b) p.whole q))

@@ -2,7 +2,7 @@
 use Rattle.std.proofs.Common.{◌≡◌, ℕ, ◌<◌, ◌^◌, List, [], ◌∷◌, ◌++◌, refl, sym, ap, subst, ◌∙◌, drop, arith}
 use Rattle.cell_key.specs.declared.keys.Qualifier.{Qualifier}
 use Rattle.si_model.specs.declared.replies.Cell.{Cell}
-use Rattle.si_model.specs.Messages.{Request, Begin, Get, Set, Advance, Stop, CleanBegin, CleanStep, CollectBegin, CollectStep, Minor, Merge, Major, Split, Move, Sweep, OracleRestart, Raw, Checkpoint}
+use Rattle.si_model.specs.Messages.{Request, Begin, Get, Set, Delete, Advance, Stop, CleanBegin, CleanStep, CollectBegin, CollectStep, Minor, Merge, Major, Split, Move, Sweep, OracleRestart, Raw, Checkpoint}
 use Rattle.request_codec.specs.Fields.{number, field, cell_fields, qualifier_number, FitsField, FitsCell}
 use Rattle.request_codec.specs.Requests.{request_body, IsRequest}
 use Rattle.request_codec.proofs.Fields.{same_number, past_number, same_field, same_cell, same_qualifier, first}
@@ -34,17 +34,22 @@ checkpoint_only : (r : Request) (f : List ℕ) → IsRequest r (0x12 ∷ f) → 
 checkpoint_only Checkpoint f p = refl
 checkpoint_only other f p = let e = ap first p.whole in absurd (omega (arith, e))
 
-record AsGet (r : Request) (f : List ℕ) : Type 0 where
+-- a start and a cell
+record AsOfCell (r : Request) (made : ℕ → Cell → Request) (f : List ℕ) : Type 0 where
   start : ℕ
   cell : Cell
   fits : start < 2 ^ 64
   cell_fits : FitsCell cell
-  is : r ≡ Get start cell
+  is : r ≡ made start cell
   fields : f ≡ number 8 start ++ cell_fields cell
 
-get_only : (r : Request) (f : List ℕ) → IsRequest r (0x02 ∷ f) → AsGet r f
+get_only : (r : Request) (f : List ℕ) → IsRequest r (0x02 ∷ f) → AsOfCell r (λ start cell. Get start cell) f
 get_only (Get start cell) f p = record { start = start; cell = cell; fits = p.numbers; cell_fits = p.bytes; is = refl; fields = ap (drop 1) p.whole }
 get_only other f p = let e = ap first p.whole in absurd (omega (arith, e))
+
+delete_only : (r : Request) (f : List ℕ) → IsRequest r (0x13 ∷ f) → AsOfCell r (λ start cell. Delete start cell) f
+delete_only (Delete start cell) f p = record { start = start; cell = cell; fits = p.numbers; cell_fits = p.bytes; is = refl; fields = ap (drop 1) p.whole }
+delete_only other f p = let e = ap first p.whole in absurd (omega (arith, e))
 
 record AsSet (r : Request) (f : List ℕ) : Type 0 where
   start : ℕ
@@ -171,12 +176,11 @@ raw_only other f p = let e = ap first p.whole in absurd (omega (arith, e))
 
 -- ---- two requests of one body
 
-same_get : (start : ℕ) (cell : Cell) (b : Request) → start < 2 ^ 64 → FitsCell cell → IsRequest b (request_body (Get start cell)) → Get start cell ≡ b
-same_get start cell b fits cell_fits q =
-    let g = get_only b (number 8 start ++ cell_fields cell) q in
+same_of_cell : (made : ℕ → Cell → Request) (start : ℕ) (cell : Cell) (b : Request) → start < 2 ^ 64 → FitsCell cell → AsOfCell b made (number 8 start ++ cell_fields cell) → made start cell ≡ b
+same_of_cell made start cell b fits cell_fits g =
     let n = same_number 8 start g.start (cell_fields cell) (cell_fields g.cell) fits g.fits g.fields in
     let c = lone_cell cell g.cell cell_fits g.cell_fits (past_number 8 start g.start (cell_fields cell) (cell_fields g.cell) g.fields) in
-    ap (λ m. Get m cell) n ∙ ap (λ d. Get g.start d) c ∙ sym g.is
+    ap (λ m. made m cell) n ∙ ap (λ d. made g.start d) c ∙ sym g.is
 
 same_set : (start : ℕ) (cell : Cell) (value : List ℕ) (b : Request) → start < 2 ^ 64 → FitsCell cell → FitsField value → IsRequest b (request_body (Set start cell value)) → Set start cell value ≡ b
 same_set start cell value b fits cell_fits value_fits q =
@@ -211,7 +215,10 @@ same_raw cell qualifier low high b cell_fits low_fits high_fits q =
 
 pub one_request : (a b : Request) (body : List ℕ) → IsRequest a body → IsRequest b body → a ≡ b
 one_request Begin b body p q = sym (begin_only b [] (subst (IsRequest b) p.whole q))
-one_request (Get start cell) b body p q = same_get start cell b p.numbers p.bytes (subst (IsRequest b) p.whole q)
+one_request (Get start cell) b body p q =
+    same_of_cell (λ s c. Get s c) start cell b p.numbers p.bytes (get_only b (number 8 start ++ cell_fields cell) (subst (IsRequest b) p.whole q))
+one_request (Delete start cell) b body p q =
+    same_of_cell (λ s c. Delete s c) start cell b p.numbers p.bytes (delete_only b (number 8 start ++ cell_fields cell) (subst (IsRequest b) p.whole q))
 one_request (Set start cell value) b body p q = same_set start cell value b p.numbers p.bytes.0 p.bytes.1 (subst (IsRequest b) p.whole q)
 one_request (Advance start) b body p q =
     let g = step_only b (number 8 start) (subst (IsRequest b) p.whole q) in

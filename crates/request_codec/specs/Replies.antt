@@ -4,7 +4,7 @@ use Rattle.std.specs.Prelude.{◌≡◌, ℕ, List, [], ◌∷◌, ◌++◌, ◌
 use Rattle.cell_key.specs.Names.{IsRow, IsFamily}
 use Rattle.cell_key.specs.Refusals.{refusal_number}
 use Rattle.cell_key.specs.Versions.{stamped}
-use Rattle.si_model.specs.Messages.{Reply, Begun, Answered, Pending, SetDone, Held, Conflict, Drawn, Committed, Lost, Finished, StopDone, NoLock, Cleaning, Decided, RolledForward, RolledBack, Gone, Collecting, More, Blocked, Collected, MinorDone, MergeDone, MajorDone, SplitOff, MoveDone, Swept, RestartDone, RawFound, CheckpointDone, Refused}
+use Rattle.si_model.specs.Messages.{Reply, Begun, Answered, Pending, SetDone, DeleteDone, Held, Conflict, Drawn, Committed, Lost, Finished, StopDone, NoLock, Cleaning, Decided, RolledForward, RolledBack, Gone, Collecting, More, Blocked, Collected, MinorDone, MergeDone, MajorDone, SplitOff, MoveDone, Swept, RestartDone, RawFound, CheckpointDone, Refused}
 use Rattle.si_model.specs.Replies.{found_reply, progress_reply, clean_start_reply, clean_reply, collect_reply}
 use Rattle.request_codec.specs.Fields.{number, field, cell_fields, FitsField}
 use Rattle.request_codec.specs.declared.replies.Reply.{Reply as Kept}
@@ -15,6 +15,7 @@ abbrev pub replied : Kept → Reply
 replied (kept.Begin start) = Begun start
 replied (kept.Get found) = found_reply found
 replied kept.Set = SetDone
+replied kept.Delete = DeleteDone
 replied (kept.Step progress) = progress_reply progress
 replied kept.Stop = StopDone
 replied (kept.CleanBegin found) = clean_start_reply found
@@ -48,6 +49,7 @@ reply_body (Begun start) = 0x81 ∷ number 8 start
 reply_body (Answered answer) = 0x82 ∷ answer_fields answer
 reply_body (Pending start) = 0x82 ∷ 0x02 ∷ number 8 start
 reply_body SetDone = 0x83 ∷ []
+reply_body DeleteDone = 0x93 ∷ []
 reply_body (Held place count) = 0x84 ∷ 0x01 ∷ (number 2 place ++ number 2 count)
 reply_body (Conflict place) = 0x84 ∷ 0x02 ∷ number 2 place
 reply_body (Drawn stamp) = 0x84 ∷ 0x03 ∷ number 8 stamp

@@ -1,6 +1,6 @@
 -- The bodies of requests: an operation's number, and its fields.
 use Rattle.std.specs.Prelude.{◌≡◌, ℕ, List, [], ◌∷◌, ◌++◌, ◌<◌, ◌^◌}
-use Rattle.si_model.specs.Messages.{Request, Begin, Get, Set, Advance, Stop, CleanBegin, CleanStep, CollectBegin, CollectStep, Minor, Merge, Major, Split, Move, Sweep, OracleRestart, Raw, Checkpoint}
+use Rattle.si_model.specs.Messages.{Request, Begin, Get, Set, Delete, Advance, Stop, CleanBegin, CleanStep, CollectBegin, CollectStep, Minor, Merge, Major, Split, Move, Sweep, OracleRestart, Raw, Checkpoint}
 pub use Rattle.request_codec.specs.Fields.{qualifier_number}
 use Rattle.request_codec.specs.Fields.{number, field, cell_fields, FitsField, FitsCell}
 use Rattle.request_codec.specs.declared.requests.Request.{Request as Lent}
@@ -12,6 +12,8 @@ asked lent.Begin = Begin
 asked (lent.Get start row family) = Get start (record { row = row.now; family = family.now })
 asked (lent.Set start row family value) =
     Set start (record { row = row.now; family = family.now }) value.now
+asked (lent.Delete start row family) =
+    Delete start (record { row = row.now; family = family.now })
 asked (lent.Step start) = Advance start
 asked (lent.Stop start) = Stop start
 asked (lent.CleanBegin row family) = CleanBegin (record { row = row.now; family = family.now })
@@ -34,6 +36,7 @@ abbrev pub request_body : Request → List ℕ
 request_body Begin = 0x01 ∷ []
 request_body (Get start cell) = 0x02 ∷ (number 8 start ++ cell_fields cell)
 request_body (Set start cell value) = 0x03 ∷ (number 8 start ++ (cell_fields cell ++ field value))
+request_body (Delete start cell) = 0x13 ∷ (number 8 start ++ cell_fields cell)
 request_body (Advance start) = 0x04 ∷ number 8 start
 request_body (Stop start) = 0x05 ∷ number 8 start
 request_body (CleanBegin cell) = 0x06 ∷ cell_fields cell
@@ -57,6 +60,7 @@ abbrev pub IsOfClient : Request → Type 0
 IsOfClient Begin = Unit {0}
 IsOfClient (Get start cell) = Unit {0}
 IsOfClient (Set start cell value) = Unit {0}
+IsOfClient (Delete start cell) = Unit {0}
 IsOfClient (Advance start) = Unit {0}
 IsOfClient (Stop start) = Unit {0}
 IsOfClient (CleanBegin cell) = Unit {0}
@@ -69,6 +73,7 @@ IsOfClient other = ⊥
 abbrev pub NumbersFit : Request → Type 0
 NumbersFit (Get start cell) = start < 2 ^ 64
 NumbersFit (Set start cell value) = start < 2 ^ 64
+NumbersFit (Delete start cell) = start < 2 ^ 64
 NumbersFit (Advance start) = start < 2 ^ 64
 NumbersFit (Stop start) = start < 2 ^ 64
 NumbersFit (CleanStep cleaner) = cleaner < 2 ^ 64
@@ -84,6 +89,7 @@ NumbersFit other = Unit {0}
 abbrev pub BytesFit : Request → Type 0
 BytesFit (Get start cell) = FitsCell cell
 BytesFit (Set start cell value) = FitsCell cell × FitsField value
+BytesFit (Delete start cell) = FitsCell cell
 BytesFit (CleanBegin cell) = FitsCell cell
 BytesFit (Split row) = FitsField row
 BytesFit (Raw cell qualifier low high) = FitsCell cell

@@ -29,6 +29,8 @@ pub enum Reply {
     Get(Found),
     /// The write is buffered.
     Set,
+    /// The deletion is buffered.
+    Delete,
     /// What the step did.
     Step(Progress),
     /// The session has ended.
@@ -136,6 +138,8 @@ const RAW: u8 = 0x91;
 const VERSION: u8 = 0x01;
 
 const CHECKPOINT: u8 = 0x92;
+
+const DELETE: u8 = 0x93;
 
 const REFUSED: u8 = 0xFF;
 
@@ -379,6 +383,7 @@ fn decode_other(operation: u8, fields: &[u8]) -> Option<Reply>
             Some(Reply::Begin(start))
         }
         SET => fields.is_empty().then_some(Reply::Set),
+        DELETE => fields.is_empty().then_some(Reply::Delete),
         STEP => {
             let progress = decode_progress(fields)?;
             Some(Reply::Step(progress))
@@ -460,7 +465,8 @@ pub fn reply_length(reply: &Reply) -> usize
         Reply::Get(Found::Nothing) | Reply::Raw(None) | Reply::Refused(_) => 2,
         Reply::Get(Found::Value(value)) => 6 + value.len(),
         Reply::Get(Found::Pending(_)) => 10,
-        Reply::Set | Reply::Stop | Reply::OracleRestart | Reply::Checkpoint => 1,
+        Reply::Set | Reply::Delete | Reply::Stop => 1,
+        Reply::OracleRestart | Reply::Checkpoint => 1,
         Reply::Minor | Reply::Merge | Reply::Major | Reply::Move => 1,
         Reply::Step(progress) => progress_length(*progress),
         Reply::CleanBegin(CleanStart::Cleaner(..)) => 18,
@@ -649,6 +655,7 @@ fn push_reply(reply: &Reply, out: &mut Vec<u8>)
         }
         Reply::Get(found) => push_found(found, out),
         Reply::Set => push_byte(out, SET),
+        Reply::Delete => push_byte(out, DELETE),
         Reply::Step(progress) => push_progress(*progress, out),
         Reply::Stop => push_byte(out, STOP),
         Reply::CleanBegin(found) => push_clean_start(*found, out),

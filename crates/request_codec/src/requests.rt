@@ -1,8 +1,8 @@
 //! The bodies of requests.
-ghost use Rattle.std.specs.Prelude.{◌≡◌, ◌+◌, ◌≤◌, ◌<◌, ◌++◌, ◌∷◌, length, vec_len, vec_capacity, IfSome, IfNone, IfErr, OnOk, OnErr, IsOk};
+ghost use Rattle.std.specs.Prelude.{◌≡◌, ◌≢◌, ◌+◌, ◌≤◌, ◌<◌, ◌⊎◌, ◌++◌, ◌∷◌, length, vec_len, vec_capacity, IfSome, IfNone, IfErr, OnOk, OnErr, IsOk};
 ghost use Rattle.request_codec.specs.Requests.{asked, request_body, BytesFit, IsOfClient, IsRequest, IsMalformed};
-ghost use Rattle.request_codec.specs.Fields.{number, FitsField};
-ghost use Rattle.si_model.specs.Messages.{CleanBegin, Get, Set, Split, Raw};
+ghost use Rattle.request_codec.specs.Fields.{number, cell_fields, FitsField};
+ghost use Rattle.si_model.specs.Messages.{CleanBegin, Set, Split, Raw};
 
 use crate::pushing::{
     push_byte, push_cell, push_field, push_qualifier, push_u8, push_u32, push_u64,
@@ -31,6 +31,12 @@ pub enum Request<'a> {
         row: &'a [u8],
         family: &'a [u8],
         value: &'a [u8],
+    },
+    /// Buffers a deletion.
+    Delete {
+        start: Stamp,
+        row: &'a [u8],
+        family: &'a [u8],
     },
     /// Takes the session's next step towards its end.
     Step {
@@ -130,10 +136,12 @@ const RAW: u8 = 0x11;
 
 const CHECKPOINT: u8 = 0x12;
 
+const DELETE: u8 = 0x13;
+
 /// The request of a body that begins with this operation's number, a session's, a cleaner's or a
 /// collector's, and none where it is the body of no request.
 fn decode_client(operation: u8, fields: &[u8]) -> Option<Request<'_>>
-    requires { operation < 0x0A }
+    requires { (operation < 0x0A) ⊎ (operation ≡ 0x13) }
     ensures found { IfSome result (λ request. IsRequest (asked request) (operation ∷ fields.now)) }
     ensures malformed { IfNone result (IsMalformed (operation ∷ fields.now)) }
 {
@@ -173,6 +181,10 @@ fn decode_client(operation: u8, fields: &[u8]) -> Option<Request<'_>>
             let (collector, visits) = whole_visits(fields)?;
             Some(Request::CollectStep { collector, visits })
         }
+        DELETE => {
+            let (start, row, family) = whole_read(fields)?;
+            Some(Request::Delete { start, row, family })
+        }
         _ => None,
     }
 }
@@ -180,7 +192,8 @@ fn decode_client(operation: u8, fields: &[u8]) -> Option<Request<'_>>
 /// The request of a body that begins with this operation's number, no client's, and none where it is the body of
 /// no request.
 fn decode_upkeep(operation: u8, fields: &[u8]) -> Option<Request<'_>>
-    requires { 0x0A ≤ operation }
+    requires later { 0x0A ≤ operation }
+    requires other { operation ≢ 0x13 }
     ensures found { IfSome result (λ request. IsRequest (asked request) (operation ∷ fields.now)) }
     ensures malformed { IfNone result (IsMalformed (operation ∷ fields.now)) }
 {
@@ -234,7 +247,7 @@ pub fn decode_request(body: &[u8]) -> Option<Request<'_>>
     ensures malformed { IfNone result (IsMalformed body.now) }
 {
     let (operation, fields) = body.split_first()?;
-    if *operation < MINOR {
+    if *operation < MINOR || *operation == DELETE {
         decode_client(*operation, fields)
     } else {
         decode_upkeep(*operation, fields)
@@ -250,7 +263,9 @@ fn request_length(request: &Request<'_>) -> usize
     match *request {
         Request::Begin | Request::CollectBegin => 1,
         Request::Sweep | Request::OracleRestart | Request::Checkpoint => 1,
-        Request::Get { row, family, .. } => 17 + row.len() + family.len(),
+        Request::Get { row, family, .. } | Request::Delete { row, family, .. } => {
+            17 + row.len() + family.len()
+        }
         Request::Set {
             row,
             family,
@@ -294,18 +309,19 @@ fn push_tablet(out: &mut Vec<u8>, operation: u8, tablet: u32)
     push_u32(out, tablet);
 }
 
-/// Appends the body of a read.
+/// Appends the number of an operation, a start and a cell: the body of a read or of a deletion.
 #[tactic(auto, using(crate::proofs::Fields::lengths))]
-fn push_get(out: &mut Vec<u8>, start: Stamp, row: &[u8], family: &[u8])
+fn push_of_cell(out: &mut Vec<u8>, operation: u8, start: Stamp, row: &[u8], family: &[u8])
     requires row { FitsField row.now }
     requires family { FitsField family.now }
     requires room { vec_len out.old
         + length row.now + length family.now + 17 ≤ vec_capacity out.old }
     ensures items { out.new.items ≡ out.old.items
-        ++ request_body (Get start (record { row = row.now; family = family.now })) }
+        ++ operation ∷ (number 8 start
+        ++ cell_fields (record { row = row.now; family = family.now })) }
     ensures capacity { vec_capacity out.old ≤ vec_capacity out.new }
 {
-    push_numbered(out, GET, start);
+    push_numbered(out, operation, start);
     push_cell(out, row, family);
 }
 
@@ -390,13 +406,14 @@ fn push_client(request: &Request<'_>, out: &mut Vec<u8>)
 {
     match *request {
         Request::Begin => push_byte(out, BEGIN),
-        Request::Get { start, row, family } => push_get(out, start, row, family),
+        Request::Get { start, row, family } => push_of_cell(out, GET, start, row, family),
         Request::Set {
             start,
             row,
             family,
             value,
         } => push_set(out, start, row, family, value),
+        Request::Delete { start, row, family } => push_of_cell(out, DELETE, start, row, family),
         Request::Step { start } => push_numbered(out, STEP, start),
         Request::Stop { start } => push_numbered(out, STOP, start),
         Request::CleanBegin { row, family } => push_clean_begin(out, row, family),
@@ -458,6 +475,7 @@ fn push_request(request: &Request<'_>, out: &mut Vec<u8>)
         Request::Begin
         | Request::Get { .. }
         | Request::Set { .. }
+        | Request::Delete { .. }
         | Request::Step { .. }
         | Request::Stop { .. }
         | Request::CleanBegin { .. }

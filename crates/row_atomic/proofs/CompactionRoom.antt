@@ -11,6 +11,7 @@ use Rattle.memtable.specs.Edits.{IsWithinLimits, with_edit, with_edits}
 use Rattle.metadata_table.specs.Places.{PlaceView}
 use Rattle.metadata_table.specs.Table.{IsHolder}
 use Rattle.sorted_file.specs.Grammar.{FitsIn, image_of}
+use Rattle.sorted_file.specs.declared.formats.Format.TheVariants.{Two}
 use Rattle.tablet.specs.Ranges.{has_row, seen}
 use Rattle.tablet.specs.Views.{UsesName, memory_of, names_of, range_of}
 use Rattle.tablet.specs.declared.ranges.RowRange.{RowRange}
@@ -21,14 +22,14 @@ use Rattle.row_atomic.proofs.ChangedTablets.{numbered_at}
 use Rattle.row_atomic.proofs.SplitClusters.{one_holder}
 
 -- a file of no entries is a head and a foot
-empty_fits : (limit : ℕ) → 32 ≤ limit → FitsIn limit []
+empty_fits : (limit : ℕ) → 48 ≤ limit → FitsIn limit []
 empty_fits limit least = record {
-  image = image_of [] 0;
-  form = record { blocks = []; grammar = tt; whole = refl; bytes = refl; small = omega arith };
+  image = image_of Two [] 0;
+  form = record { blocks = []; grammar = tt; short = tt; whole = refl; bytes = refl; small = omega arith };
   within = least;
 }
 
-pub minor_fits : (limit : ℕ) (t : Tablet) → 32 ≤ limit → (memory_of t ≢ [] → FitsIn limit (seen (range_of t) (memory_of t))) → FitsIn limit (seen (range_of t) (memory_of t))
+pub minor_fits : (limit : ℕ) (t : Tablet) → 48 ≤ limit → (memory_of t ≢ [] → FitsIn limit (seen (range_of t) (memory_of t))) → FitsIn limit (seen (range_of t) (memory_of t))
 minor_fits limit t least fits = go (memory_of t) fits
   where
     not_empty : (e : Entry) (es : List Entry) → (e ∷ es) ≢ []

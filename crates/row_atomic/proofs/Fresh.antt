@@ -48,7 +48,7 @@ module _ (t : Tablet) (memory : memory_of t ≡ []) (files : files_of t ≡ []) 
   new_in_order None next h = cc
   new_in_order (Some m) next h = record { contents = m; are_told = refl; each_open = (holds m, tt); each_below = (below next, tt) }
 
-  pub new_matched : (limit : ℕ) → 32 ≤ limit → limit ≤ 1_073_741_824 → range_of t ≡ record { after = None; end = None } → IsMatched limit 1 (first_place ∷ []) (t ∷ [])
+  pub new_matched : (limit : ℕ) → 48 ≤ limit → limit ≤ 68_719_476_736 → range_of t ≡ record { after = None; end = None } → IsMatched limit 1 (first_place ∷ []) (t ∷ [])
   new_matched limit least most range = record {
     least = least;
     most = most;

@@ -6,7 +6,7 @@ use Rattle.std.specs.List.{AllByRecursion, Contains, list_any}
 use Rattle.cell_key.specs.Cells.{Cells}
 use Rattle.file_store.specs.Store.{Contents, KeepsOthers}
 use Rattle.metadata_table.specs.Places.{PlaceView}
-use Rattle.metadata_table.specs.Roots.{AreFiles, IsSoundRoot, RootView}
+use Rattle.metadata_table.specs.Roots.{AreFiles, IsSoundRoot, RootView, file_names}
 use Rattle.metadata_table.specs.Table.{IsListed, IsTable}
 use Rattle.tablet.specs.Laws.{UnnamedMayGo}
 use Rattle.tablet.specs.Views.{Holds as HoldsAt, UsesName, cells_at, names_of}
@@ -22,6 +22,7 @@ use Rattle.row_atomic.specs.declared.commands.Command.TheVariants as command
 use Rattle.row_atomic.specs.declared.commands.Outcome.{Outcome}
 use Rattle.row_atomic.specs.declared.commands.Outcome.TheVariants as outcome
 use Rattle.row_atomic.proofs.ChangedTablets.{contained}
+use Rattle.row_atomic.proofs.Lengths.{of_places, still_measured}
 use Rattle.row_atomic.proofs.Owners.{each_placed}
 use Rattle.row_atomic.proofs.Shares.{each_at, each_map}
 use Rattle.row_atomic.proofs.Sweeps.{each_of, listed_true, maps_alike}
@@ -70,11 +71,12 @@ module _ (law : UnnamedMayGo) (m n : Contents) (places : List PlaceView) (ts : L
 
 pub cells_stay : UnnamedMayGo → (m n : Contents) (root : RootView) (cells : Cells) → SameFiles root.places m n → KeepsCells m root cells → KeepsCells n root cells
 cells_stay law m n root cells same keeps =
-    let each = each_still law m n root.places keeps.tablets same keeps.form.sound.table keeps.opened in
+    let each = each_still law m n root.places keeps.tablets same keeps.form.told.form.sound.table keeps.opened in
     record {
       image = keeps.image;
       there = same.root ∙ keeps.there;
       form = keeps.form;
+      measured = still_measured m n (file_names root.places) keeps.form.lengths (of_places (λ name. get n name ≡ get m name) root.places (all_listed (λ name. get n name ≡ get m name) root.places same.listed)) keeps.measured;
       tablets = keeps.tablets;
       opened = record {
         placed = keeps.opened.placed;
@@ -195,7 +197,7 @@ module _ {F : Type 0} (contents : F → Option Contents) (law : UnnamedMayGo) (r
 
   has_used : (old new : ClusterState F) → UsesName (contents old.files) old.next_name (contents new.files) new.next_name → HasRoot contents root cells old → HasRoot contents root cells new
   has_used old new name has =
-      let used = used_told root has.kept old.next_name new.next_name (contents new.files) has.keeps.form.sound has.below (subst (λ (o : Option Contents). UsesName o old.next_name (contents new.files) new.next_name) has.are_told name) in
+      let used = used_told root has.kept old.next_name new.next_name (contents new.files) has.keeps.form.told.form.sound has.below (subst (λ (o : Option Contents). UsesName o old.next_name (contents new.files) new.next_name) has.are_told name) in
       has_told old new has used.0 used.1
 
   -- a sweep leaves what the tablets list

@@ -13,6 +13,7 @@ pub mod Halves
 pub mod Joined
 pub mod KeptRoots
 pub mod LeftTablets
+pub mod Lengths
 pub mod Limits
 pub mod ListedFiles
 pub mod LoadedTablets

@@ -1,12 +1,12 @@
 -- What is opened is what the root file tells, and what is told damaged is.
-use Rattle.std.proofs.Common.{◌≡◌, ◌≤◌, ◌<◌, ℕ, zero, suc, List, [], ◌∷◌, length, map, Option, Some, None, IfSome, slice_get, refl, sym, ap, ◌∙◌, subst, arith}
+use Rattle.std.proofs.Common.{◌≡◌, ◌≤◌, ◌<◌, ◌⊎◌, inl, inr, ℕ, zero, suc, List, [], ◌∷◌, length, map, Option, Some, None, IfSome, slice_get, refl, sym, ap, ◌∙◌, subst, arith}
 use Rattle.std.proofs.lemmas.Option.{same_Some}
 use Rattle.std.specs.FinMap.{get}
 use Rattle.std.specs.List.{AllByRecursion}
 use Rattle.cell_key.specs.Cells.{Cells}
 use Rattle.file_store.specs.Store.{Contents}
 use Rattle.metadata_table.specs.Places.{PlaceView}
-use Rattle.metadata_table.specs.Roots.{AreFiles, IsNoRoot, IsRoot, IsSoundRoot, OneRoot, RootView}
+use Rattle.metadata_table.specs.Roots.{AreFiles, IsNoRoot, IsRoot, IsRootWith, IsSoundRoot, OneMeasure, OneRoot, RootView, file_names}
 use Rattle.metadata_table.specs.Table.{IsTable}
 use Rattle.sorted_file.specs.Opened.{HasFile}
 use Rattle.tablet.specs.Laws.{FilesAreThere, SameCells}
@@ -14,8 +14,8 @@ use Rattle.tablet.specs.Views.{Holds as HoldsAt, IsBelow, cells_at}
 use Rattle.tablet.specs.declared.tablet.Tablet.{Tablet}
 use Rattle.row_atomic.specs.Changes.{Holds, IsEmptied}
 use Rattle.row_atomic.specs.Clusters.{ArePlaced, ClusterState, cells_in, joined, tablet_numbered}
-use Rattle.row_atomic.specs.Roots.{AreOpened, KeepsCells, root_at, root_name}
-use Rattle.row_atomic.specs.RootsOpened.{AreLoaded, FindsRoot, IsDamaged, IsStore, LacksFile, Reopens, no_file, no_root}
+use Rattle.row_atomic.specs.Roots.{AreMeasured, AreOpened, KeepsCells, root_at, root_name}
+use Rattle.row_atomic.specs.RootsOpened.{AreLoaded, FindsRoot, IsDamaged, IsStore, LacksFile, Reopens, no_file, no_length, no_root}
 use Rattle.row_atomic.proofs.ListedFiles.{same_lists}
 use Rattle.row_atomic.proofs.Owners.{each_placed}
 use Rattle.row_atomic.proofs.Shares.{each_at, each_map}
@@ -27,13 +27,16 @@ pub no_root_told : (told : Option Contents) (image : List ℕ) → IfSome told (
 no_root_told None image there none = tt
 no_root_told (Some m) image there none = no_root image (sym there) none
 
-pub lacks_told : (told : Option Contents) (root : RootView) → IfSome told (λ m. FindsRoot (get m root_name) (Some root)) → IfSome told (λ m. LacksFile m root.places) → IfSome told (λ m. IsDamaged m)
-lacks_told None root finds lacks = tt
-lacks_told (Some m) root finds lacks = go (get m root_name) refl finds
+pub lacks_told : (told : Option Contents) (root : RootView) (lengths : List ℕ) → IfSome told (λ m. FindsRoot (get m root_name) (Some (root, lengths))) → IfSome told (λ m. LacksFile m root.places ⊎ (¬ AreMeasured m (file_names root.places) lengths)) → IfSome told (λ m. IsDamaged m)
+lacks_told None root lengths finds lacks = tt
+lacks_told (Some m) root lengths finds lacks = go (get m root_name) refl finds
   where
-    go : (found : Option (List ℕ)) → get m root_name ≡ found → FindsRoot found (Some root) → IsDamaged m
+    go : (found : Option (List ℕ)) → get m root_name ≡ found → FindsRoot found (Some (root, lengths)) → IsDamaged m
     go None e finds = absurd finds
-    go (Some image) e finds = no_file image root e finds lacks
+    go (Some image) e finds = elim lacks [
+      | inl lacking ↦ no_file image root e (record { lengths = lengths; told = finds }) lacking
+      | inr wrong ↦ no_length image root lengths e finds wrong
+    ]
 
 -- the files of tablets that are open are there
 there_all : FilesAreThere → (m : Contents) (ts : List Tablet) (before : Option (List ℕ)) (ps : List PlaceView) → AllByRecursion (HoldsAt m) ts → ArePlaced ts before ps → AllByRecursion (λ p. AllByRecursion (HasFile m) p.files) ps
@@ -47,31 +50,41 @@ there_all law m ts before (p ∷ ps) each placed = (
     of_number zero e = cc
     of_number (suc j) e = each_at (HoldsAt m) ts each j placed.0.tablet e
 
+pub there_told : FilesAreThere → (told : Option Contents) (ts : List Tablet) (ps : List PlaceView) → AreLoaded ps ts → IfSome told (λ m. AllByRecursion (HoldsAt m) ts) → IfSome told (λ m. AllByRecursion (λ p. AllByRecursion (HasFile m) p.files) ps)
+there_told law None ts ps loaded each = tt
+there_told law (Some m) ts ps loaded each = there_all law m ts None ps each loaded.placed
+
 -- where what the root file tells was opened, nothing is damaged
-whole_of : OneRoot → FilesAreThere → (m : Contents) (image : List ℕ) (root : RootView) (ts : List Tablet) → get m root_name ≡ Some image → IsRoot root image → AreOpened m root.places ts → ¬ IsDamaged m
-whole_of one law m image root ts there form opened (no_root bytes e none) = none root (subst (λ (b : List ℕ). IsRoot root b) (same_Some image bytes (sym there ∙ e)) form)
-whole_of one law m image root ts there form opened (no_file bytes other e is lacks) =
+whole_of : OneRoot → OneMeasure → FilesAreThere → (m : Contents) (image : List ℕ) (root : RootView) (ts : List Tablet) → get m root_name ≡ Some image → (form : IsRoot root image) → AreMeasured m (file_names root.places) form.lengths → AreOpened m root.places ts → ¬ IsDamaged m
+whole_of one measure law m image root ts there form measured opened (no_root bytes e none) = none root (subst (λ (b : List ℕ). IsRoot root b) (same_Some image bytes (sym there ∙ e)) form)
+whole_of one measure law m image root ts there form measured opened (no_file bytes other e is lacks) =
     let same : root ≡ other = one root other bytes (subst (λ (b : List ℕ). IsRoot root b) (same_Some image bytes (sym there ∙ e)) form) is in
     subst (λ (r : RootView). LacksFile m r.places) (sym same) lacks (there_all law m ts None root.places opened.each_open opened.placed)
+whole_of one measure law m image root ts there form measured opened (no_length bytes other lengths e is wrong) =
+    let here : IsRootWith other lengths image = subst (λ (b : List ℕ). IsRootWith other lengths b) (sym (same_Some image bytes (sym there ∙ e))) is in
+    let same : root ≡ other = one root other image form (record { lengths = lengths; told = here }) in
+    let alike : form.lengths ≡ lengths = measure root other form.lengths lengths image form.told here in
+    wrong (subst (λ (r : RootView). AreMeasured m (file_names r.places) lengths) same (subst (λ (l : List ℕ). AreMeasured m (file_names root.places) l) alike measured))
 
 none_whole : (m : Contents) → get m root_name ≡ None → ¬ IsDamaged m
 none_whole m none (no_root bytes e is) = let other : None ≡ Some bytes = sym none ∙ e in cc
 none_whole m none (no_file bytes root e is lacks) = let other : None ≡ Some bytes = sym none ∙ e in cc
+none_whole m none (no_length bytes root lengths e is wrong) = let other : None ≡ Some bytes = sym none ∙ e in cc
 
-module _ {F : Type 0} (one : OneRoot) (law : FilesAreThere) where
+module _ {F : Type 0} (one : OneRoot) (measure : OneMeasure) (law : FilesAreThere) where
   pub store_whole : (m : Contents) (top floor : ℕ) (state : ClusterState F) → IsStore m (get m root_name) top floor state → ¬ IsDamaged m
   store_whole m top floor state is = go (get m root_name) refl is
     where
       go : (found : Option (List ℕ)) → get m root_name ≡ found → IsStore m found top floor state → ¬ IsDamaged m
       go None e new = none_whole m e
-      go (Some image) e opened = whole_of one law m image (root_at top floor state) state.tablets e opened.form opened.opened
+      go (Some image) e opened = whole_of one measure law m image (root_at top floor state) state.tablets e opened.form opened.measured opened.opened
 
   pub stores_whole : (told : Option Contents) (top floor : ℕ) (state : ClusterState F) → IfSome told (λ m. IsStore m (get m root_name) top floor state) → IfSome told (λ m. ¬ IsDamaged m)
   stores_whole None top floor state is = tt
   stores_whole (Some m) top floor state is = store_whole m top floor state is
 
-pub kept_whole : OneRoot → FilesAreThere → (m : Contents) (root : RootView) (cells : Cells) → KeepsCells m root cells → ¬ IsDamaged m
-kept_whole one law m root cells keeps = whole_of one law m keeps.image root keeps.tablets keeps.there keeps.form keeps.opened
+pub kept_whole : OneRoot → OneMeasure → FilesAreThere → (m : Contents) (root : RootView) (cells : Cells) → KeepsCells m root cells → ¬ IsDamaged m
+kept_whole one measure law m root cells keeps = whole_of one measure law m keeps.image root keeps.tablets keeps.there keeps.form keeps.measured keeps.opened
 
 -- ---- two openings of one root
 
@@ -141,17 +154,17 @@ module _ {F : Type 0} (contents : F → Option Contents) (top floor : ℕ) (stat
   holds_of None e each = tt
   holds_of (Some m) e each = record { contents = m; are_told = e; each_open = each; each_below = each_below }
 
-  pub store_of : (told : Option Contents) → IfSome told (λ m. FindsRoot (get m root_name) (Some (root_at top floor state))) → IfSome told (λ m. AllByRecursion (HoldsAt m) state.tablets) → IfSome told (λ m. IsStore m (get m root_name) top floor state)
-  store_of None finds each = tt
-  store_of (Some m) finds each = go (get m root_name) finds
+  pub store_of : (told : Option Contents) (lengths : List ℕ) → IfSome told (λ m. FindsRoot (get m root_name) (Some (root_at top floor state, lengths))) → IfSome told (λ m. AreMeasured m (file_names state.places) lengths) → IfSome told (λ m. AllByRecursion (HoldsAt m) state.tablets) → IfSome told (λ m. IsStore m (get m root_name) top floor state)
+  store_of None lengths finds measured each = tt
+  store_of (Some m) lengths finds measured each = go (get m root_name) finds
     where
-      go : (found : Option (List ℕ)) → FindsRoot found (Some (root_at top floor state)) → IsStore m found top floor state
+      go : (found : Option (List ℕ)) → FindsRoot found (Some (root_at top floor state, lengths)) → IsStore m found top floor state
       go None finds = absurd finds
-      go (Some image) finds = record { form = finds; opened = record { placed = loaded.placed; as_many = loaded.as_many; emptied = loaded.emptied; each_open = each } }
+      go (Some image) finds = record { form = record { lengths = lengths; told = finds }; measured = measured; opened = record { placed = loaded.placed; as_many = loaded.as_many; emptied = loaded.emptied; each_open = each } }
 
 -- ---- files that keep cells
 
-module _ {F : Type 0} (contents : F → Option Contents) (one : OneRoot) (law : SameCells) where
+module _ {F : Type 0} (contents : F → Option Contents) (one : OneRoot) (measure : OneMeasure) (law : SameCells) where
   pub reopens : (told : Option Contents) (top floor : ℕ) (state : ClusterState F) → contents state.files ≡ told → IfSome told (λ m. IsStore m (get m root_name) top floor state) → IfSome told (λ _. Holds contents state)
       → (m : Contents) (root : RootView) (cells : Cells) → told ≡ Some m → KeepsCells m root cells → Reopens contents root cells top floor state
   reopens None top floor state told is holds m root cells e keeps = cc
@@ -171,7 +184,7 @@ module _ {F : Type 0} (contents : F → Option Contents) (one : OneRoot) (law : 
             tells = same;
             holds = holds;
             shows = ap (λ (o : Option Contents). cells_in o state.tablets) (told ∙ e)
-                ∙ same_shown law m state.tablets keeps.tablets root.places keeps.form.sound.table (subst (λ (r : RootView). AreOpened m r.places state.tablets) same opened.opened) keeps.opened ∙ keeps.shows;
+                ∙ same_shown law m state.tablets keeps.tablets root.places keeps.form.told.form.sound.table (subst (λ (r : RootView). AreOpened m r.places state.tablets) same opened.opened) keeps.opened ∙ keeps.shows;
             emptied = opened.opened.emptied;
             keeps = record {
               has = record { kept = m; are_told = told ∙ e; keeps = keeps; below = ends (ap (λ r. r.next_name) same) };
@@ -182,7 +195,7 @@ module _ {F : Type 0} (contents : F → Option Contents) (one : OneRoot) (law : 
   -- where they keep cells they are not damaged
   pub not_damaged : FilesAreThere → (told : Option Contents) (P : Type 0) → (P → IfSome told (λ m. IsDamaged m)) → (m : Contents) (root : RootView) (cells : Cells) → told ≡ Some m → KeepsCells m root cells → ¬ P
   not_damaged there None P damaged m root cells e keeps p = cc
-  not_damaged there (Some n) P damaged m root cells e keeps p = kept_whole one there m root cells keeps (subst IsDamaged (same_Some n m e) (damaged p))
+  not_damaged there (Some n) P damaged m root cells e keeps p = kept_whole one measure there m root cells keeps (subst IsDamaged (same_Some n m e) (damaged p))
 
   -- ---- a cluster that is opened
 
@@ -193,18 +206,21 @@ module _ {F : Type 0} (contents : F → Option Contents) (one : OneRoot) (law : 
     abbrev state : ClusterState F
     state = record { files = last; file_limit = limit; next_name = next; places = places; tablets = tablets }
 
-    module _ (sound : IsSoundRoot view) (loaded : AreLoaded places tablets) (finds : IfSome (contents first) (λ m. FindsRoot (get m root_name) (Some view))) (each : IfSome (contents mid) (λ m. AllByRecursion (HoldsAt m) tablets)) where
+    module _ (sound : IsSoundRoot view) (loaded : AreLoaded places tablets) (lengths : List ℕ) (finds : IfSome (contents first) (λ m. FindsRoot (get m root_name) (Some (view, lengths)))) (measured : IfSome (contents mid) (λ m. AreMeasured m (file_names places) lengths)) (each : IfSome (contents mid) (λ m. AllByRecursion (HoldsAt m) tablets)) where
       each_first : IfSome (contents first) (λ m. AllByRecursion (HoldsAt m) tablets)
       each_first = subst (λ (told : Option Contents). IfSome told (λ m. AllByRecursion (HoldsAt m) tablets)) read each
 
+      measured_first : IfSome (contents first) (λ m. AreMeasured m (file_names places) lengths)
+      measured_first = subst (λ (told : Option Contents). IfSome told (λ m. AreMeasured m (file_names places) lengths)) read measured
+
       pub opened_store : IfSome (contents first) (λ m. IsStore m (get m root_name) top floor state)
-      opened_store = store_of contents top floor state sound loaded (contents first) finds each_first
+      opened_store = store_of contents top floor state sound loaded (contents first) lengths finds measured_first each_first
 
       pub opened_holds : IfSome (contents first) (λ _. Holds contents state)
       opened_holds = holds_of contents top floor state sound loaded (contents first) (loads ∙ read) each_first
 
       pub opened_whole : IfSome (contents first) (λ m. ¬ IsDamaged m)
-      opened_whole = stores_whole one there (contents first) top floor state opened_store
+      opened_whole = stores_whole one measure there (contents first) top floor state opened_store
 
       pub opened_kept : (m : Contents) (root : RootView) (cells : Cells) → contents first ≡ Some m → KeepsCells m root cells → Reopens contents root cells top floor state
       opened_kept = reopens (contents first) top floor state (loads ∙ read) opened_store opened_holds

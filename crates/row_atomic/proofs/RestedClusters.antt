@@ -1,5 +1,5 @@
 -- After a checkpoint the files keep what the cluster shows.
-use Rattle.std.proofs.Common.{◌≡◌, ◌≤◌, ◌<◌, ◌==◌, ◌⊎◌, inl, inr, ℕ, Bool, true, false, cond, nat_eq, List, [], ◌∷◌, Option, Some, None, Result, Ok, Err, refl, sym, ap, ◌∙◌, subst, arith}
+use Rattle.std.proofs.Common.{IfSome, ◌≡◌, ◌≤◌, ◌<◌, ◌==◌, ◌⊎◌, ◌++◌, ◌^◌, length, inl, inr, ℕ, Bool, true, false, cond, nat_eq, List, [], ◌∷◌, Option, Some, None, Result, Ok, Err, refl, sym, ap, ◌∙◌, subst, arith}
 use Rattle.std.proofs.lemmas.Option.{same_Some}
 use Rattle.std.specs.Prelude.{IsSomeAnd, OnOk}
 use Rattle.std.specs.FinMap as finite
@@ -11,7 +11,8 @@ use Rattle.cell_key.specs.Cells.{Cells}
 use Rattle.cell_key.specs.declared.refusals.Refusal.{Refusal}
 use Rattle.file_store.specs.Store.{Contents, KeepsOthers, with_file}
 use Rattle.metadata_table.specs.Places.{PlaceView}
-use Rattle.metadata_table.specs.Roots.{AreFiles, IsRoot, RootView}
+use Rattle.metadata_table.specs.Roots.{AreFiles, IsRoot, IsRootIn, IsSoundRoot, RootView, file_names, root_bytes}
+use Rattle.metadata_table.specs.declared.root_formats.RootFormat.TheVariants.{Two}
 use Rattle.metadata_table.specs.Table.{IsTable}
 use Rattle.tablet.specs.Laws.{UnnamedMayGo}
 use Rattle.tablet.specs.Views.{Holds as HoldsAt, cells_at, names_of}
@@ -20,10 +21,11 @@ use Rattle.row_atomic.specs.Changes.{Holds, IsEmptied, Numbered}
 use Rattle.row_atomic.specs.Clusters.{ArePlaced, ClusterState, InOrder, IsMatched, cells_in, joined, spots_of, tablet_numbered}
 use Rattle.row_atomic.specs.Commands.{IsOutcome, cells_shown}
 use Rattle.row_atomic.specs.Flushes.{numbers_of}
-use Rattle.row_atomic.specs.Roots.{AreFlushed, AreOpened, FlushesEach, KeepsCells, KeepsRoot, Rests, root_at, root_name}
+use Rattle.row_atomic.specs.Roots.{AreMeasured, AreFlushed, AreOpened, FlushesEach, KeepsCells, KeepsRoot, Rests, root_at, root_name}
 use Rattle.row_atomic.specs.declared.commands.Command.TheVariants as command
 use Rattle.row_atomic.specs.declared.commands.Outcome.TheVariants as outcome
 use Rattle.row_atomic.proofs.Flushes.{same_numbers}
+use Rattle.row_atomic.proofs.Lengths.{of_places, still_measured}
 use Rattle.row_atomic.proofs.Owners.{each_placed}
 use Rattle.row_atomic.proofs.Shares.{each_at, each_map}
 use Rattle.row_atomic.proofs.Sweeps.{each_of, maps_alike}
@@ -75,6 +77,12 @@ module _ {F : Type 0} (contents : F → Option Contents) (faults : F → ℕ) wh
       (all_emptied old new (numbers_of old.places) flushes)
 
 -- ---- the root beside them
+
+-- bytes that were written behind none are those of the root alone
+pub new_root : (root : RootView) (lengths out image : List ℕ) → IsSoundRoot root → length lengths ≡ length (file_names root.places) → AllByRecursion (λ n. n < 2 ^ 64) lengths
+    → out ≡ [] → image ≡ out ++ root_bytes Two root lengths → IsRootIn Two root lengths image
+new_root root lengths out image sound measured fit none whole =
+    record { sound = sound; measured = measured; fit = fit; whole = whole ∙ ap (λ (bytes : List ℕ). bytes ++ root_bytes Two root lengths) none }
 
 module _ (m : Contents) (image : List ℕ) where
   abbrev with_root : Contents
@@ -147,12 +155,19 @@ module _ (places : List PlaceView) (ts : List Tablet) (limit next : ℕ) (table 
     abbrev n : Contents
     n = with_root m image
 
-    keeps : AllByRecursion (HoldsAt m) ts → AllByRecursion (λ k. Numbered IsEmptied k ts) (numbers_of places) → (root : RootView) → root.places ≡ places → IsRoot root image → KeepsCells n root (cells_in (Some m) ts)
-    keeps holds flushed root same form =
+    names_stay : AllByRecursion (λ name. get n name ≡ get m name) (file_names places)
+    names_stay =
+        of_places (λ name. get n name ≡ get m name) places
+        (each_map (λ p. AreFiles next p.files) (λ p. AllByRecursion (λ name. get n name ≡ get m name) p.files)
+        (λ p is. each_map (λ name. (1 ≤ name) × (name < next)) (λ name. get n name ≡ get m name) (λ name h. elsewhere m image name h.0) p.files is.named) places matched.files)
+
+    keeps : AllByRecursion (HoldsAt m) ts → AllByRecursion (λ k. Numbered IsEmptied k ts) (numbers_of places) → (root : RootView) → root.places ≡ places → (form : IsRoot root image) → AreMeasured m (file_names root.places) form.lengths → KeepsCells n root (cells_in (Some m) ts)
+    keeps holds flushed root same form measured =
         record {
           image = image;
           there = get-insert nat_cmp_total m root_name image root_name;
           form = form;
+          measured = still_measured m n (file_names root.places) form.lengths (subst (λ (ps : List PlaceView). AllByRecursion (λ name. get n name ≡ get m name) (file_names ps)) (sym same) names_stay) measured;
           tablets = ts;
           opened = subst (λ (ps : List PlaceView). AreOpened n ps ts) (sym same) (record {
             placed = matched.placed;
@@ -163,12 +178,12 @@ module _ (places : List PlaceView) (ts : List Tablet) (limit next : ℕ) (table 
           shows = cells_still law m n (elsewhere m image) holds;
         }
 
-  pub keeps_told : UnnamedMayGo → (old new : Option Contents) (image : List ℕ) (root : RootView) → new ≡ with_file root_name image old → root.places ≡ places → IsRoot root image → AllByRecursion (λ k. Numbered IsEmptied k ts) (numbers_of places)
+  pub keeps_told : UnnamedMayGo → (old new : Option Contents) (image : List ℕ) (root : RootView) → new ≡ with_file root_name image old → root.places ≡ places → (form : IsRoot root image) → IfSome old (λ m. AreMeasured m (file_names root.places) form.lengths) → AllByRecursion (λ k. Numbered IsEmptied k ts) (numbers_of places)
       → InOrder old next ts → IsSomeAnd new (λ k. KeepsCells k root (cells_in old ts))
-  keeps_told law old new image root put same form flushed order =
+  keeps_told law old new image root put same form measured flushed order =
       subst (λ (o : Option Contents). IsSomeAnd o (λ k. KeepsCells k root (cells_in old ts))) (sym put)
       (subst (λ (o : Option Contents). IsSomeAnd (with_file root_name image o) (λ k. KeepsCells k root (cells_in o ts))) (sym order.are_told)
-      (keeps law order.contents image order.each_open flushed root same form))
+      (keeps law order.contents image order.each_open flushed root same form (subst (λ (o : Option Contents). IfSome o (λ m. AreMeasured m (file_names root.places) form.lengths)) order.are_told measured)))
 
 -- what a state's own root says of it
 pub rooted : {F : Type 0} (contents : F → Option Contents) (top floor : ℕ) (state : ClusterState F) (cells : Cells) → IsSomeAnd (contents state.files) (λ m. KeepsCells m (root_at top floor state) cells) → KeepsRoot contents (root_at top floor state) cells state

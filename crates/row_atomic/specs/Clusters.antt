@@ -115,8 +115,8 @@ ArePlaced tablets before (p ∷ ps) = IsPlaced tablets before p × ArePlaced tab
 -- each once, with names from 1 on and below the next one.
 pub record IsMatched (file_limit next_name : ℕ) (places : List PlaceView)
     (tablets : List Tablet) : Type 0 where
-  pub least : 32 ≤ file_limit
-  pub most : file_limit ≤ 1_073_741_824
+  pub least : 48 ≤ file_limit
+  pub most : file_limit ≤ 68_719_476_736
   pub named_from : 1 ≤ next_name
   pub named_to : next_name ≤ 2 ^ 63
   pub placed : ArePlaced tablets None places

@@ -45,7 +45,7 @@ abbrev pub numbers_over : {F : Type 0} → ℕ → ClusterState F → List ℕ
 numbers_over most state =
     filter (λ n. has_files most (tablet_numbered n state.tablets)) (numbers_of state.places)
 
--- Where this many of a tablet's files are merged, fewer than so many are left.
+-- If this many of a tablet's files are merged, fewer than `most` are left.
 pub record LeavesFew (most count : ℕ) (t : Tablet) : Type 0 where
   pub within : count ≤ length (names_of t)
   pub enough : length (names_of t) + 2 ≤ most + count
@@ -61,7 +61,7 @@ MergesEach {F} contents faults most old (n ∷ ns) new =
     × IsOutcome contents faults (command.Merge n count) outcome old next
     × MergesEach contents faults most next ns new
 
--- So it was for the tablets that have so many files or more, in the order of their ends, and for
+-- So it was for the tablets that have `most` files or more, in the order of their ends, and for
 -- no other.
 abbrev pub MergesMany : {F : Type 0}
     → (F → Option Contents) → (F → ℕ) → ℕ → ClusterState F → ClusterState F → Type 0

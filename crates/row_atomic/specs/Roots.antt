@@ -1,5 +1,5 @@
 -- What the files keep of a cluster, and the checkpoint that leaves it there.
-use Rattle.std.specs.Prelude.{◌≡◌, ◌≤◌, ◌⊎◌, ℕ, List, [], ◌∷◌, length, Option, None, Some}
+use Rattle.std.specs.Prelude.{◌≡◌, ◌≤◌, ◌⊎◌, ℕ, List, [], ◌∷◌, length, Option, None, Some, IfSome}
 use Rattle.std.specs.List.{AllByRecursion}
 use Rattle.std.specs.FinMap.{get}
 use Rattle.cell_key.specs.Cells.{Cells}
@@ -7,7 +7,8 @@ use Rattle.cell_key.specs.declared.refusals.Refusal.{Refusal}
 use Rattle.cell_key.specs.declared.refusals.Refusal.TheVariants as refused
 use Rattle.file_store.specs.Store.{Contents, KeepsOthers, with_file}
 use Rattle.metadata_table.specs.Places.{PlaceView}
-use Rattle.metadata_table.specs.Roots.{IsRoot, RootView}
+use Rattle.metadata_table.specs.Roots.{IsRoot, IsRootIn, RootView, file_names}
+use Rattle.metadata_table.specs.declared.root_formats.RootFormat.TheVariants.{Two}
 use Rattle.tablet.specs.Views.{Holds as HoldsAt}
 use Rattle.tablet.specs.declared.tablet.Tablet.{Tablet}
 use Rattle.row_atomic.specs.Changes.{Holds, IsEmptied, ListsAll, Numbered}
@@ -38,11 +39,21 @@ pub record AreOpened (m : Contents) (places : List PlaceView) (tablets : List Ta
   pub emptied : AllByRecursion IsEmptied tablets
   pub each_open : AllByRecursion (HoldsAt m) tablets
 
--- The root file is there and tells this, and the tablets that are opened of it show these cells.
+-- Each file that is there has the length that stands at the place of its name, as far as there are
+-- lengths.
+abbrev pub AreMeasured : Contents → List ℕ → List ℕ → Type 0
+AreMeasured m [] lengths = Unit {0}
+AreMeasured m (name ∷ names) [] = Unit {0}
+AreMeasured m (name ∷ names) (n ∷ lengths) =
+    IfSome (get m name) (λ image. length image ≡ n) × AreMeasured m names lengths
+
+-- The root file is there and tells this, its lengths are those of the files, and the tablets that are
+-- opened of it show these cells.
 pub record KeepsCells (m : Contents) (root : RootView) (cells : Cells) : Type 0 where
   pub image : List ℕ
   pub there : get m root_name ≡ Some image
   pub form : IsRoot root image
+  pub measured : AreMeasured m (file_names root.places) form.lengths
   pub tablets : List Tablet
   pub opened : AreOpened m root.places tablets
   pub shows : cells_in (Some m) tablets ≡ cells
@@ -61,12 +72,12 @@ pub data FlushesEach {F : Type 0} (contents : F → Option Contents) (faults : F
       → IsOutcome contents faults (command.Minor n) (outcome.Refused refusal) old new
       → FlushesEach contents faults old (n ∷ ns) (outcome.Refused refusal) new
 
--- The root file that tells of these stamps was put. Or a device failed or memory was refused: its
--- bytes are then open, and all other files are as before. Nothing else changed.
+-- The root file that tells of these stamps was put, in format 2. Or a device failed or memory was
+-- refused: its bytes are then open, and all other files are as before. Nothing else changed.
 abbrev pub PutsRoot : {F : Type 0} → (F → Option Contents) → ℕ → ℕ → ClusterState F → Outcome
     → F → Type 0
 PutsRoot contents top floor old outcome.Done files =
-    (image : List ℕ) × IsRoot (root_at top floor old) image
+    (image : List ℕ) × (lengths : List ℕ) × IsRootIn Two (root_at top floor old) lengths image
     × (contents files ≡ with_file root_name image (contents old.files))
 PutsRoot contents top floor old (outcome.Refused refusal) files =
     ((refusal ≡ refused.Device) ⊎ (refusal ≡ refused.NoMemory))

@@ -1,12 +1,13 @@
 -- What is opened of the files that keep a cluster.
-use Rattle.std.specs.Prelude.{◌≡◌, ℕ, zero, suc, List, [], ◌∷◌, length, Option, None, Some, Result, Err, ⊤}
+use Rattle.std.specs.Prelude.{◌≡◌, ◌⊎◌, ℕ, zero, suc, List, [], ◌∷◌, length, Option, None, Some, Result, Err, ⊤}
 use Rattle.std.specs.List.{AllByRecursion}
 use Rattle.std.specs.FinMap.{get}
 use Rattle.cell_key.specs.Cells.{Cells}
 use Rattle.cell_key.specs.declared.refusals.Refusal.{Refusal}
 use Rattle.file_store.specs.Store.{Contents}
 use Rattle.metadata_table.specs.Places.{PlaceView}
-use Rattle.metadata_table.specs.Roots.{IsNoRoot, IsRoot, RootView}
+use Rattle.metadata_table.specs.Roots.{IsNoRoot, IsRoot, IsRootWith, RootView, file_names, lengths_of, root_of}
+use Rattle.metadata_table.specs.declared.roots.Root.{Root}
 use Rattle.metadata_table.specs.Table.{first_place}
 use Rattle.sorted_file.specs.Opened.{HasFile}
 use Rattle.tablet.specs.Views.{names_of, range_of}
@@ -14,7 +15,7 @@ use Rattle.tablet.specs.declared.tablet.Tablet.{Tablet}
 use Rattle.row_atomic.specs.Changes.{Holds, IsEmptied}
 use Rattle.row_atomic.specs.Clusters.{ArePlaced, ClusterState, IsFirstTablet}
 use Rattle.row_atomic.specs.Commands.{cells_shown}
-use Rattle.row_atomic.specs.Roots.{AreOpened, KeepsRoot, root_at, root_name}
+use Rattle.row_atomic.specs.Roots.{AreMeasured, AreOpened, KeepsRoot, root_at, root_name}
 
 -- ---- damage
 
@@ -22,18 +23,30 @@ use Rattle.row_atomic.specs.Roots.{AreOpened, KeepsRoot, root_at, root_name}
 abbrev pub LacksFile : Contents → List PlaceView → Type 0
 LacksFile m places = ¬ AllByRecursion (λ p. AllByRecursion (HasFile m) p.files) places
 
--- There is a root file that tells nothing, or one that names such a file.
+-- There is a root file that tells nothing, or one that names such a file, or has a length that isn't
+-- its file's.
 pub data IsDamaged (m : Contents) : Type 0 where
   no_root : (image : List ℕ) → get m root_name ≡ Some image → IsNoRoot image → IsDamaged m
   no_file : (image : List ℕ) (root : RootView) → get m root_name ≡ Some image → IsRoot root image
       → LacksFile m root.places → IsDamaged m
+  no_length : (image : List ℕ) (root : RootView) (lengths : List ℕ) → get m root_name ≡ Some image
+      → IsRootWith root lengths image → ¬ AreMeasured m (file_names root.places) lengths
+      → IsDamaged m
 
 -- ---- the parts of an opening
 
+-- what a root tells, with the lengths of its files
+abbrev pub told_of : Root → RootView × List ℕ
+told_of root = (root_of root, lengths_of root)
+
+-- there are no lengths, or one for each file
+abbrev pub AreCounted : List PlaceView → List ℕ → Type 0
+AreCounted places lengths = (lengths ≡ []) ⊎ (length lengths ≡ length (file_names places))
+
 -- nothing is told where there is no file, and else what the file tells
-abbrev pub FindsRoot : Option (List ℕ) → Option RootView → Type 0
+abbrev pub FindsRoot : Option (List ℕ) → Option (RootView × List ℕ) → Type 0
 FindsRoot None None = ⊤
-FindsRoot (Some image) (Some root) = IsRoot root image
+FindsRoot (Some image) (Some told) = IsRootWith told.0 told.1 image
 FindsRoot _ _ = ⊥
 
 -- The tablet has the rows after this one, up to the place's end, and the files of the place.
@@ -67,6 +80,7 @@ pub record IsNewStore {F : Type 0} (top floor : ℕ) (state : ClusterState F) : 
 pub record IsOpenedOf {F : Type 0} (m : Contents) (top floor : ℕ) (image : List ℕ)
     (state : ClusterState F) : Type 0 where
   pub form : IsRoot (root_at top floor state) image
+  pub measured : AreMeasured m (file_names state.places) form.lengths
   pub opened : AreOpened m state.places state.tablets
 
 -- Without a root file it is a new store.

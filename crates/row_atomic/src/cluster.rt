@@ -13,8 +13,8 @@ use std::alloc::Global;
 use std::marker::Model;
 use tablet::Tablet;
 
-/// Tablets that together have all rows, over one store of files (Bigtable: a table is a set of tablets, each of which has the
-/// data of a range of rows).
+/// Tablets that together have all rows, over one store of files (Bigtable: a table is a set of tablets, each of which has
+/// the data of a range of rows).
 #[derive(Drop)]
 pub struct Cluster<F> {
     pub(crate) alloc: Global,
@@ -60,15 +60,15 @@ fn first_tablet(alloc: Global) -> Result<(MetadataTable, Vec<Tablet>), Refusal>
 }
 
 impl<F: Files> Cluster<F> {
-    /// A new store over these files: tablet 1 on server 0, with all rows and no files of its own. A sorted file has at most
-    /// `file_limit` bytes, which is 32 to 1,073,741,824.
+    /// A new store over these files: tablet 1 on server 0, with all rows and no files of its own. A sorted file has at
+    /// most `file_limit` bytes, which is 48 to 68,719,476,736.
     ///
     /// # Errors
     ///
     /// `NoMemory` where a growth was refused. The files come back.
     pub fn new(alloc: Global, files: F, file_limit: u64) -> Result<Cluster<F>, (Refusal, F)>
-        requires least { 32 ≤ file_limit }
-        requires most { file_limit ≤ 1_073_741_824 }
+        requires least { 48 ≤ file_limit }
+        requires most { file_limit ≤ 68_719_476_736 }
         ensures files { IfOk result (λ cluster. cluster.files ≡ files) }
         ensures limit { IfOk result (λ cluster. cluster.file_limit ≡ file_limit) }
         ensures name { IfOk result (λ cluster. cluster.next_name ≡ 1) }

@@ -21,7 +21,8 @@ fn drop_each(tablets: &mut [Tablet])
 }
 
 impl<F: Files> Cluster<F> {
-    /// Empties the cache of places, and the caches of each tablet's open files. All cells and places stay. Takes no memory.
+    /// Empties the cache of places, and the caches of each tablet's open files. All cells and places stay. Takes no
+    /// memory.
     pub fn drop_caches(&mut self)
         ensures { IsOutcome
             F.contents F.faults Command.DropCaches Outcome.Done self.old self.new }

@@ -24,8 +24,8 @@ fn compact<F: Files>(
     next_name: &mut u64,
     files: &mut F,
 ) -> Result<(), Refusal>
-    requires least { 32 ≤ file_limit }
-    requires most { file_limit ≤ 1073741824 }
+    requires least { 48 ≤ file_limit }
+    requires most { file_limit ≤ 68_719_476_736 }
     ensures made { OnOk result (IsMade compaction next_name.old tablet.old tablet.new) }
     ensures few { OnOk result (length (names_of tablet.new) ≤ length (names_of tablet.old) + 1) }
     ensures cleaned { OnOk result (IfSome (F.contents files.old) (λ m. HoldsAt m tablet.old

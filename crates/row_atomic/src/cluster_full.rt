@@ -29,7 +29,7 @@ impl<F: Files> Cluster<F> {
     }
 
     /// Compacts each tablet whose memtable has `flush` entries or more, erasures among them, as `minor` does, in the
-    /// order of their ends. A refusal is not told: the tablet is then as before, and the next one is tried all the
+    /// order of their ends. A refusal isn't answered: the tablet is then as before, and the next one is tried all the
     /// same.
     pub fn compact_full(&mut self, flush: u32)
         ensures compacts { CompactsFull F.contents F.faults flush self.old self.new }

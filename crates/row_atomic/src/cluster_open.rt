@@ -1,24 +1,25 @@
 //! Opening what a checkpoint left.
 
-ghost use Rattle.std.specs.Prelude.{◌≡◌, ◌≢◌, ◌<◌, ◌≤◌, IfErr, IfOk, IfSome, IsErrOf, MatchResult, Some, None, length, option_map};
+ghost use Rattle.std.specs.Prelude.{◌≡◌, ◌≢◌, ◌<◌, ◌≤◌, ◌⊎◌, IfErr, IfOk, IfSome, IsErrOf, MatchResult, Some, None, length, option_map};
 ghost use Rattle.std.specs.FinMap.{get};
 ghost use Rattle.std.specs.List.{AllByRecursion};
 ghost use Rattle.cell_key.specs.Cells.{Cells};
 ghost use Rattle.cell_key.specs.Faults.{HasReason};
 ghost use Rattle.file_store.specs.Store.{Contents};
-ghost use Rattle.metadata_table.specs.Roots.{IsSoundRoot, RootView, root_of};
+ghost use Rattle.metadata_table.specs.Roots.{IsSoundRoot, RootView, file_names, lengths_of, root_of};
 ghost use Rattle.sorted_file.specs.Sources.{IsReadRefusal};
 ghost use Rattle.tablet.specs.Views.{Holds as HoldsAt};
 ghost use Rattle.row_atomic.specs.Changes.{Holds, IsEmptied};
-ghost use Rattle.row_atomic.specs.Roots.{KeepsCells, root_name};
-ghost use Rattle.row_atomic.specs.RootsOpened.{AreLoaded, FindsRoot, FitsAt, IsDamaged, IsStore, LacksFile, Reopens, refused_by};
+ghost use Rattle.row_atomic.specs.Roots.{AreMeasured, KeepsCells, root_name};
+ghost use Rattle.row_atomic.specs.RootsOpened.{AreCounted, AreLoaded, FindsRoot, FitsAt, IsDamaged, IsStore, LacksFile, Reopens, refused_by, told_of};
 
 use crate::cluster::Cluster;
+use crate::cluster_lengths::file_lengths;
 use crate::cluster_roots::ROOT_NAME;
 use crate::place_cache::PlaceCache;
 use cell_key::{Refusal, Row, Stamp};
 use file_store::{Files, read_whole};
-use metadata_table::{MetadataTable, Place, Root, one_root};
+use metadata_table::{MetadataTable, Place, Root, one_measure, one_root};
 use sorted_file::refusal_of;
 use std::alloc::{AllocError, Global};
 use tablet::{RowRange, Tablet, files_are_there, same_cells};
@@ -26,7 +27,9 @@ use tablet::{RowRange, Tablet, files_are_there, same_cells};
 /// What the root file tells, if it is there.
 fn read_root<F: Files>(alloc: Global, files: &mut F) -> Result<Option<Root>, Refusal>
     ensures finds { IfOk result (λ found. IfSome (F.contents files.old) (λ m.
-        FindsRoot (get m root_name) (option_map root_of found))) }
+        FindsRoot (get m root_name) (option_map told_of found))) }
+    ensures counted { IfOk result (λ found.
+        IfSome found (λ root. AreCounted root.table (lengths_of root))) }
     ensures sound { IfOk result (λ found. IfSome found (λ root. IsSoundRoot (root_of root))) }
     ensures damaged { IsErrOf result Refusal.Damaged
         → IfSome (F.contents files.old) (λ m. IsDamaged m) }
@@ -102,22 +105,49 @@ fn load_each<F: Files>(
     Ok(tablets)
 }
 
+/// Opens the files of every tablet of a root, and compares their lengths with those in the root.
+fn load_root<F: Files>(alloc: Global, root: &Root, files: &mut F) -> Result<Vec<Tablet>, Refusal>
+    requires { AreCounted root.now.table (lengths_of root.now) }
+    ensures loaded { IfOk result (λ tablets. AreLoaded root.now.table tablets.items) }
+    ensures holds { IfOk result (λ tablets. IfSome (F.contents files.old) (λ m.
+        AllByRecursion (HoldsAt m) tablets.items)) }
+    ensures measured { IfOk result (λ _. IfSome (F.contents files.old) (λ m.
+        AreMeasured m (file_names root.now.table) (lengths_of root.now))) }
+    ensures damaged { IsErrOf result Refusal.Damaged
+        → IfSome (F.contents files.old) (λ m. LacksFile m root.now.table
+        ⊎ (¬ AreMeasured m (file_names root.now.table) (lengths_of root.now))) }
+    ensures refusal { IfErr result IsReadRefusal }
+    ensures same { F.contents files.new ≡ F.contents files.old }
+    ensures reason { HasReason (F.faults files.old) (F.faults files.new) result }
+{
+    files_are_there();
+    let tablets = load_each(alloc, &root.table, files)?;
+    if root.lengths.is_empty() {
+        return Ok(tablets);
+    }
+    let lengths = file_lengths(alloc, &root.table, files)?;
+    if lengths.as_slice() != root.lengths.as_slice() {
+        return Err(Refusal::Damaged);
+    }
+    Ok(tablets)
+}
+
 impl<F: Files> Cluster<F> {
     /// Opens the store that the files keep, and answers it with its root's two stamps. Without a
     /// root file it is a new store, and both are 0. A sorted file has at most `file_limit` bytes,
-    /// which is 32 to 1,073,741,824.
+    /// which is 48 to 68,719,476,736.
     ///
     /// # Errors
     ///
-    /// `Damaged` where the root file is out of form, or a file that it names is missing or out of
-    /// form, `Device` and `NoMemory`. The files come back.
+    /// `Damaged` if the root file is out of form, or a file that it names is missing, out of form or not of the length
+    /// that stands in the root; `Device` and `NoMemory`. The files come back.
     pub fn open(
         alloc: Global,
         files: F,
         file_limit: u64,
     ) -> Result<(Cluster<F>, Stamp, Stamp), (Refusal, F)>
-        requires least { 32 ≤ file_limit }
-        requires most { file_limit ≤ 1_073_741_824 }
+        requires least { 48 ≤ file_limit }
+        requires most { file_limit ≤ 68_719_476_736 }
         ensures files { IfOk result (λ opened. F.contents opened.0.files ≡ F.contents files) }
         ensures limit { IfOk result (λ opened. opened.0.file_limit ≡ file_limit) }
         ensures store { IfOk result (λ opened. IfSome (F.contents files) (λ m.
@@ -140,6 +170,7 @@ impl<F: Files> Cluster<F> {
             (F.faults files) (F.faults refused.1) (refused_by refused.0)) }
     {
         one_root();
+        one_measure();
         files_are_there();
         same_cells();
         let mut files = files;
@@ -157,7 +188,7 @@ impl<F: Files> Cluster<F> {
             Ok(place_cache) => place_cache,
             Err(refusal) => return Err((refusal, files)),
         };
-        match load_each(alloc, &root.table, &mut files) {
+        match load_root(alloc, &root, &mut files) {
             Ok(tablets) => Ok((
                 Cluster {
                     alloc,

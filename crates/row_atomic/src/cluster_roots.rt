@@ -8,6 +8,7 @@ ghost use Rattle.row_atomic.specs.Roots.{AreFlushed, Checkpoints, FlushesEach, P
 ghost use Rattle.std.specs.Prelude.{◌≡◌, IfErr, IsErrOf, OnOk};
 
 use crate::cluster::Cluster;
+use crate::cluster_lengths::file_lengths;
 use cell_key::{Refusal, Stamp};
 use file_store::Files;
 use sorted_file::refusal_of;
@@ -30,7 +31,7 @@ impl<F: Files> Cluster<F> {
         Ok(())
     }
 
-    /// Puts the root file, which tells of these stamps and of the cluster.
+    /// Puts the root file, which has these stamps, the cluster's places and next name, and the lengths of its files.
     fn put_root(&mut self, top: Stamp, floor: Stamp) -> Result<(), Refusal>
         ensures puts { PutsRoot F.contents top floor self.old (done_of result) self.new.files }
         ensures rest { self.new ≡ record self.old { files = self.new.files } }
@@ -40,18 +41,19 @@ impl<F: Files> Cluster<F> {
         ensures faults { TellsFaults F.faults (done_of result) self.old self.new }
     {
         unnamed_may_go();
+        let lengths = file_lengths(self.alloc, &self.table, &mut self.files)?;
         let mut image = Vec::new(self.alloc);
         self.table
-            .write_root(top, floor, self.next_name, &mut image)?;
+            .write_root(top, floor, self.next_name, &lengths, &mut image)?;
         match self.files.put(ROOT_NAME, &image) {
             Ok(()) => Ok(()),
             Err(fault) => Err(refusal_of(fault)),
         }
     }
 
-    /// Writes the memtable of every tablet as `minor` does, and then the root file, which tells of
-    /// these two stamps, of the next file's name and of the tablets' places. From the files alone
-    /// the cells can then be read again.
+    /// Writes the memtable of every tablet as `minor` does, and then the root file, in format 2: it has these two stamps,
+    /// the next file's name, the tablets' places, and the length of each of their files. From the files alone the cells
+    /// can then be read again.
     ///
     /// # Errors
     ///

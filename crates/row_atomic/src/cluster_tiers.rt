@@ -44,8 +44,9 @@ impl<F: Files> Cluster<F> {
 
     /// Merges newest files of each tablet that has `most` files or more, as `merge` does, so that it has fewer, in the
     /// order of the tablets' ends. A merge takes each next older file that has no more entries than all newer ones
-    /// together, so that an entry is written again some logarithm of times. A refusal is not told: the tablet is then as
-    /// before, and the next one is tried all the same. With a `most` below 2 nothing is merged.
+    /// together, so that an entry is written again only about as often as the logarithm of their number. A refusal isn't
+    /// answered: the tablet is then as before, and the next one is tried all the same. With a `most` below 2 nothing is
+    /// merged.
     pub fn merge_many(&mut self, most: u32)
         ensures merges { MergesMany F.contents F.faults most self.old self.new }
         ensures keeps { KeepsShown F.contents F.faults self.old self.new }

@@ -6,6 +6,7 @@ mod cluster_caches;
 mod cluster_compactions;
 mod cluster_full;
 mod cluster_laws;
+mod cluster_lengths;
 mod cluster_moving;
 mod cluster_open;
 mod cluster_roots;

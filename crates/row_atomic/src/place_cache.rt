@@ -14,8 +14,8 @@ use std::num::NonZeroUsize;
 /// How many rows are kept.
 const ROWS: usize = 128;
 
-/// The numbers of the tablets that hold the rows that were located last. A compaction changes the files of a tablet, and
-/// not its number.
+/// The numbers of the tablets that hold the rows that were located last. A compaction changes the files of a tablet,
+/// and not its number.
 #[derive(Drop)]
 pub(crate) struct PlaceCache {
     alloc: Global,
@@ -107,7 +107,7 @@ impl PlaceCache {
         Some(number)
     }
 
-    /// Keeps a number with a row, in place of the row that was located the longest ago where there are 128. Where there is no
+    /// Keeps a number with a row, in place of the row that was located the longest ago if there are 128. If there is no
     /// memory for it nothing is kept.
     fn keep(&mut self, row: &Row, number: u32)
         ensures adds { AddsOnly row.now number self.old.numbers.entries self.new.numbers.entries }

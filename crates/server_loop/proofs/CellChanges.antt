@@ -6,7 +6,8 @@ use Rattle.row_atomic.specs.Room.{AreAfter}
 use Rattle.si_model.specs.Collection.{ChangesCells, unchanged, locks_cell, records_commit, erases_lock}
 use Rattle.si_model.specs.Edits.{IsErasing, IsRecording}
 use Rattle.si_model.specs.Machine.{State, Phase, Open, Holding, Stamped, Finishing, Writes, Cleaner, InPhase, CommittedAt, IsReached}
-use Rattle.si_model.specs.ShowsCells.{recorded_cells}
+use Rattle.si_model.specs.ShowsCells.{kind_of_change, recorded_cells}
+use Rattle.si_model.specs.declared.cells.WriteKind.{WriteKind}
 use Rattle.si_model.specs.declared.replies.Cell.{Cell}
 use Rattle.si_model.specs.declared.replies.CleanReply.{CleanReply}
 use Rattle.si_model.specs.declared.replies.CleanReply.TheVariants as cleans
@@ -29,8 +30,8 @@ module _ (cells cells' : Cells) (st : State) where
   held t k p ws row edits phase next is =
       subst (ChangesCells cells st) (sym (is ∙ holding_makes cells next.0 next.1 t next.2 edits next.8)) (locks_cell next.0 t p next.2 next.1 phase)
 
-  recorded : (x : Cell) (t c : ℕ) (edits : List Edit) → ChangesCells cells st (recorded_cells cells x t c) → IsRecording x t c edits → cells' ≡ after_edits cells edits → ChangesCells cells st cells'
-  recorded x t c edits changes recording is = subst (ChangesCells cells st) (sym (is ∙ (make_cells cells x t edits).recorded c recording)) changes
+  recorded : (x : Cell) (t c : ℕ) (kind : WriteKind) (edits : List Edit) → ChangesCells cells st (recorded_cells cells x t c kind) → IsRecording x t c kind edits → cells' ≡ after_edits cells edits → ChangesCells cells st cells'
+  recorded x t c kind edits changes recording is = subst (ChangesCells cells st) (sym (is ∙ (make_cells cells x t edits).recorded c kind recording)) changes
 
   erased : (x : Cell) (t : ℕ) (edits : List Edit) → IsErasing x t edits → cells' ≡ after_edits cells edits → ChangesCells cells st cells'
   erased x t edits erasing is = subst (ChangesCells cells st) (sym (is ∙ (make_cells cells x t edits).erased erasing)) (erases_lock x t)
@@ -39,10 +40,10 @@ module _ (cells cells' : Cells) (st : State) where
       → cells' ≡ after_edits cells edits → ChangesCells cells st cells'
   next_changes t Open ws row edits reached phase next is = held t 0 Open ws row edits phase next is
   next_changes t (Holding k) ws row edits reached phase next is = held t k (Holding k) ws row edits phase next is
-  next_changes t (Stamped c) ws row edits reached phase next is = recorded next.0 t c edits (records_commit next.0 t c next.3 (inr phase)) next.5 is
+  next_changes t (Stamped c) ws row edits reached phase next is = recorded next.0 t c (kind_of_change next.1) edits (records_commit next.0 t c (kind_of_change next.1) next.3 (inr phase)) next.5 is
   next_changes t (Finishing c k) ws row edits reached phase next is =
       let committed : CommittedAt st t c = (reached_sound reached).finishes t (Finishing c k) phase c k refl in
-      recorded next.0 t c edits (records_commit next.0 t c next.3 (inl committed)) next.5 is
+      recorded next.0 t c (kind_of_change next.1) edits (records_commit next.0 t c (kind_of_change next.1) next.3 (inl committed)) next.5 is
 
   after_step : (t : ℕ) → IsReached st → AreAfter (sessions.ChangesNext st t) cells cells' → ChangesCells cells st cells'
   after_step t reached (row, edits, next, is) = next_changes t next.0 next.1 row edits reached next.2 next.4 is
@@ -63,7 +64,7 @@ module _ (cells cells' : Cells) (st : State) where
   cleaner_changes : (k : Cleaner) (decided : Bool) (row : List ℕ) (edits : List Edit) → cleaners.ChangesOf st k decided row edits → cells' ≡ after_edits cells edits → ChangesCells cells st cells'
   cleaner_changes k false row edits next is = erased next.0 k.start edits next.4 is
   cleaner_changes k true row edits next is = elim next.2 [
-    | inl forward ↦ recorded k.cell k.start forward.0 edits (records_commit k.cell k.start forward.0 next.0 (inl forward.1)) forward.2 is
+    | inl forward ↦ recorded k.cell k.start forward.0 (kind_of_change forward.1) edits (records_commit k.cell k.start forward.0 (kind_of_change forward.1) next.0 (inl forward.2)) forward.4 is
     | inr back ↦ erased k.cell k.start edits back.1 is
   ]
 

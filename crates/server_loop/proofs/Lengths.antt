@@ -35,6 +35,7 @@ fits_frame (kept.Get (founds.Value value)) h = record { short = omega (arith, le
 fits_frame (kept.Get founds.Nothing) h = record { short = omega arith; bytes = tt }
 fits_frame (kept.Get (founds.Pending s)) h = record { short = omega (arith, length-number 8 s); bytes = tt }
 fits_frame kept.Set h = record { short = omega arith; bytes = tt }
+fits_frame kept.Delete h = record { short = omega arith; bytes = tt }
 fits_frame (kept.Step (steps.Held k n)) h = record { short = omega (arith, length-append (number 2 k) (number 2 n), length-number 2 k, length-number 2 n); bytes = tt }
 fits_frame (kept.Step (steps.Conflict k)) h = record { short = omega (arith, length-number 2 k); bytes = tt }
 fits_frame (kept.Step (steps.Stamped s)) h = record { short = omega (arith, length-number 8 s); bytes = tt }

@@ -1,11 +1,12 @@
 -- Steps that leave the tablets where they are, and states that differ in their tablets alone.
-use Rattle.std.proofs.Common.{◌≡◌, ℕ, List, Option, Some, None, refl}
+use Rattle.std.proofs.Common.{◌≡◌, ◌⊎◌, ℕ, inl, inr, List, Option, Some, None, refl}
 use Rattle.std.specs.Prelude.{⊤}
-use Rattle.si_model.specs.Machine.{State, Place, Request, Reply, Split, Move}
-use Rattle.si_model.specs.Machine.{Acts, tells, begins, reads, sets, holds, conflicts, draws, loses, commits, finishes, stops, opens, kills, learns, rolls_forward, rolls_back, finds_gone, collects, has_collected, splits, moves_tablet, Step, refuses, accepts}
-use Rattle.si_model.specs.ShowsCells.{ShowsCells, ShowsMark, NamesCommit, IsGiven}
+use Rattle.si_model.specs.Machine.{State, Commit, Place, Request, Reply, Split, Move}
+use Rattle.si_model.specs.Machine.{Acts, tells, begins, reads, sets, deletes, holds, conflicts, draws, loses, commits, finishes, stops, opens, kills, learns, rolls_forward, rolls_back, finds_gone, collects, has_collected, splits, moves_tablet, Step, refuses, accepts}
+use Rattle.si_model.specs.ShowsCells.{ShowsCells, ShowsMark, NamesCommit, IsForgotten, IsGiven, IsThere, MayLack}
 use Rattle.si_model.specs.declared.replies.Cell.{Cell}
 use Rattle.cell_key.specs.Cells.{Cells}
+use Rattle.cell_key.specs.declared.keys.Qualifier.TheVariants.{Write}
 use Rattle.txn_client.specs.Shows as clients
 use Rattle.txn_client.specs.Shows.{ShowsAt, ShowsClients}
 use Rattle.txn_client.specs.declared.clients.Clients.{Clients}
@@ -28,6 +29,7 @@ module _ (st : State) where
   acts_keep _ _ _ (begins d) keeps = (refl, refl)
   acts_keep _ _ _ (reads h none shown) keeps = (refl, refl)
   acts_keep _ _ _ (sets h w by) keeps = (refl, refl)
+  acts_keep _ _ _ (deletes h w by) keeps = (refl, refl)
   acts_keep _ _ _ (holds h w puts free) keeps = (refl, refl)
   acts_keep _ _ _ (conflicts h w puts clash) keeps = (refl, refl)
   acts_keep _ _ _ (draws h w d) keeps = (refl, refl)
@@ -59,10 +61,18 @@ placed st ps n = record st { places = ps; next_tablet = n }
 
 module _ (st : State) (ps : List Place) (n : ℕ) where
   mark_placed : (cells : Cells) (x : Cell) (t : ℕ) → ShowsMark cells st x t → ShowsMark cells (placed st ps n) x t
-  mark_placed cells x t m = record { first = m.first; is_first = m.is_first; lock = m.lock; value = m.value }
+  mark_placed cells x t m = record { first = m.first; is_first = m.is_first; change = m.change; is_change = m.is_change; text = m.text; lock = m.lock; is_text = m.is_text; value = m.value }
 
   commit_placed : (cells : Cells) (x : Cell) (c : ℕ) (b : List ℕ) → NamesCommit cells st x c b → NamesCommit cells (placed st ps n) x c b
-  commit_placed cells x c b k = record { commit = k.commit; is_in = k.is_in; stamp = k.stamp; writes = k.writes; text = k.text; unmarked = k.unmarked; value = k.value }
+  commit_placed cells x c b k = record { commit = k.commit; is_in = k.is_in; stamp = k.stamp; change = k.change; gives = k.gives; is_text = k.is_text; unmarked = k.unmarked; value = k.value }
+
+  forgotten_placed : (cells : Cells) (x : Cell) (a : Commit) → IsForgotten cells st x a → IsForgotten cells (placed st ps n) x a
+  forgotten_placed cells x a f = record { deletes = f.deletes; cleared = f.cleared; oldest = f.oldest }
+
+  lacks_placed : (cells : Cells) (a : Commit) (x : Cell) → IsThere cells x Write a.stamp ⊎ MayLack cells st x a → IsThere cells x Write a.stamp ⊎ MayLack cells (placed st ps n) x a
+  lacks_placed cells a x (inl is) = inl is
+  lacks_placed cells a x (inr (inl replaced)) = inr (inl replaced)
+  lacks_placed cells a x (inr (inr forgotten)) = inr (inr (forgotten_placed cells x a forgotten))
 
   given_placed : (x : Cell) (t : ℕ) (b : List ℕ) → IsGiven st x t b → IsGiven (placed st ps n) x t b
   given_placed x t b g = record { ws = g.ws; wrote = g.wrote; gives = g.gives; late = g.late }
@@ -72,7 +82,7 @@ module _ (st : State) (ps : List Place) (n : ℕ) where
     marks = λ x t m. mark_placed cells x t (shown.marks x t m);
     locks = shown.locks;
     records = λ x c b there. commit_placed cells x c b (shown.records x c b there);
-    commits = shown.commits;
+    commits = λ a is_in x writes unmarked. lacks_placed cells a x (shown.commits a is_in x writes unmarked);
     given = λ x t b there. given_placed x t b (shown.given x t b there);
   }
 

@@ -6,7 +6,7 @@ use Rattle.cell_key.specs.Faults.{HasRisen}
 use Rattle.cell_key.specs.Keys.{key_cmp}
 use Rattle.cell_key.specs.declared.refusals.Refusal.{Refusal}
 use Rattle.cell_key.specs.declared.refusals.Refusal.TheVariants.{BadRow, BadColumn, Damaged, Device, NoMemory}
-use Rattle.si_model.specs.Machine.{State, Request, Reply, Begun, SetDone, StopDone, Refused, IsReached, OracleRestart, RestartDone, accepts, refuses, tells, restarts, new_machine}
+use Rattle.si_model.specs.Machine.{State, Request, Reply, Begun, SetDone, DeleteDone, StopDone, Refused, IsReached, OracleRestart, RestartDone, accepts, refuses, tells, restarts, new_machine}
 use Rattle.si_model.specs.Collection.{ChangesCells}
 use Rattle.si_model.specs.Kinds.{OfSessions, kind_of}
 use Rattle.si_model.specs.ShowsCells.{ShowsCells}
@@ -63,6 +63,9 @@ begun_undamaged start e = cc
 
 pub set_undamaged : SetDone ≡ Refused Damaged → ⊥
 set_undamaged e = cc
+
+pub delete_undamaged : DeleteDone ≡ Refused Damaged → ⊥
+delete_undamaged e = cc
 
 pub stop_undamaged : StopDone ≡ Refused Damaged → ⊥
 stop_undamaged e = cc

@@ -15,7 +15,7 @@ use Rattle.request_codec.specs.Replies.{replied}
 use Rattle.request_codec.specs.declared.replies.Reply.{Reply}
 use Rattle.request_codec.specs.declared.replies.Reply.TheVariants as kept
 use Rattle.request_codec.specs.declared.requests.Request.{Request}
-use Rattle.request_codec.specs.declared.requests.Request.TheVariants.{Begin, Get, Set, Step, Stop, CleanBegin, CleanStep, CollectBegin, CollectStep, OracleRestart}
+use Rattle.request_codec.specs.declared.requests.Request.TheVariants.{Begin, Get, Set, Delete, Step, Stop, CleanBegin, CleanStep, CollectBegin, CollectStep, OracleRestart}
 use Rattle.server_loop.specs.Runs.{IfRefused}
 use Rattle.server_loop.specs.Server.{Shows, server_cells, cluster_of, marks_of}
 use Rattle.server_loop.specs.declared.server.Server.{Server}
@@ -83,6 +83,8 @@ LeavesServerRoom contents (Get start row family) reply old new =
     IsNoFuller (cluster_of old) (cluster_of new)
 LeavesServerRoom contents (Set start row family value) reply old new =
     IsNoFuller (cluster_of old) (cluster_of new)
+LeavesServerRoom contents (Delete start row family) reply old new =
+    IsNoFuller (cluster_of old) (cluster_of new)
 LeavesServerRoom contents (Step start) (kept.Step progress) old new =
     (st : State) → IsReached st → Shows contents old st
     → TakesRoom OverfillsCluster (ChangesNext st start) progress (cluster_of old)
@@ -113,6 +115,8 @@ IsAlwaysTold (Get start row family) reply st =
     IsInactive st start → reply ≡ kept.Refused UnknownSession
 IsAlwaysTold (Set start row family value) reply st =
     IsInactive st start → reply ≡ kept.Refused UnknownSession
+IsAlwaysTold (Delete start row family) reply st =
+    IsInactive st start → reply ≡ kept.Refused UnknownSession
 IsAlwaysTold (Step start) reply st =
     (IsInactive st start → reply ≡ kept.Refused UnknownSession)
     × (IsUnwritten st start → reply ≡ kept.Refused EmptyCommit)
@@ -125,11 +129,12 @@ IsAlwaysTold (CollectStep collector n) reply st =
     × (¬ IsCount n → (reply ≡ kept.Refused UnknownCollector) ⊎ (reply ≡ kept.Refused BadCount))
 IsAlwaysTold request reply st = ⊤
 
--- A begin, and a write, a step or an end that is done, change the sessions as the machine's step
+-- A begin, and a write, a deletion, a step or an end that is done, change the sessions as the machine's step
 -- says. All else leaves them.
 abbrev pub KeepsSessions : Request → Reply → Clients → Clients → Type 0
 KeepsSessions Begin reply old new = ⊤
 KeepsSessions (Set start row family value) kept.Set old new = ⊤
+KeepsSessions (Delete start row family) kept.Delete old new = ⊤
 KeepsSessions (Step start) (kept.Step progress) old new = ⊤
 KeepsSessions (Stop start) kept.Stop old new = ⊤
 KeepsSessions request reply old new = SameClients old new

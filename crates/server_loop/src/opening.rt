@@ -35,8 +35,8 @@ impl<F: Files + Drop, M: MarkStore + Drop> Server<F, M> {
     ) -> Result<Server<F, M>, (Refusal, F, M)>
         requires flush_least { 1 ≤ config.flush }
         requires flush_most { config.flush ≤ 100000 }
-        requires limit_least { 32 ≤ config.file_limit }
-        requires limit_most { config.file_limit ≤ 1073741824 }
+        requires limit_least { 48 ≤ config.file_limit }
+        requires limit_most { config.file_limit ≤ 68_719_476_736 }
         // A state that they keep is shown, after a clean restart, and they keep it still.
         ensures kept { (st : State) → KeepsState F.contents M.mark files marks st
             → MatchResult result (λ server. RestsAt F.contents M.mark server (reopened st))
@@ -57,9 +57,12 @@ impl<F: Files + Drop, M: MarkStore + Drop> Server<F, M> {
         ensures mark { IfOk result (λ server. M.mark (marks_of server) ≡ M.mark marks) }
         ensures tending { IfOk result (λ server.
             tending_of server ≡ record { flush = config.flush; merge = None }) }
-        ensures told { IfOk result (λ server.
-            (F.faults (cluster_of server).files ≡ F.faults files)
-            × (M.faults (marks_of server) ≡ M.faults marks)) }
+        // Where it is not refused with Device, both counts of faults are as before.
+        ensures told { MatchResult result
+            (λ server. (F.faults (cluster_of server).files ≡ F.faults files)
+            × (M.faults (marks_of server) ≡ M.faults marks))
+            (λ refused. refused.0 ≢ Refusal.Device
+            → (F.faults refused.1 ≡ F.faults files) × (M.faults refused.2 ≡ M.faults marks)) }
         ensures refusal { IfErr result (λ refused. IsReadRefusal refused.0) }
         ensures device { IfErr result (λ refused. refused.0 ≡ Refusal.Device
             → HasRisen (F.faults files) (F.faults refused.1)

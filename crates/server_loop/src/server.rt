@@ -25,7 +25,7 @@ use version_collector::Collectors;
 pub struct Config {
     /// How many entries a memtable has before it is compacted, which `serve` does after a reply: 1 to 100,000.
     pub flush: u32,
-    /// The most bytes of a sorted file: 32 to 1,073,741,824.
+    /// The most bytes of a sorted file: 48 to 68,719,476,736.
     pub file_limit: u64,
 }
 
@@ -108,8 +108,8 @@ impl<F: Files + Drop, M: MarkStore + Drop> Server<F, M> {
     ) -> Result<Server<F, M>, (Refusal, F, M)>
         requires flush_least { 1 ≤ config.flush }
         requires flush_most { config.flush ≤ 100000 }
-        requires limit_least { 32 ≤ config.file_limit }
-        requires limit_most { config.file_limit ≤ 1073741824 }
+        requires limit_least { 48 ≤ config.file_limit }
+        requires limit_most { config.file_limit ≤ 68_719_476_736 }
         ensures new { IsSome (F.contents files) → IfOk result (λ server.
             Shows F.contents server new_machine) }
         ensures kept { IfOk result (λ server. (cluster_of server).files ≡ files) }
@@ -178,6 +178,7 @@ impl<F: Files + Drop, M: MarkStore + Drop> Server<F, M> {
                 family,
                 value,
             } => self.set(start, row, family, value),
+            Request::Delete { start, row, family } => self.delete(start, row, family),
             Request::Step { start } => self.step(start),
             Request::Stop { start } => self.stop(start),
             Request::CleanBegin { row, family } => self.clean_begin(row, family),

@@ -39,6 +39,16 @@ impl<F: Files + Drop, M: MarkStore + Drop> Server<F, M> {
         }
     }
 
+    pub(crate) fn delete(&mut self, start: Stamp, row: &[u8], family: &[u8]) -> Reply
+        ensures { IsPlainAnswer F.contents F.faults M.mark M.faults self.old
+            (Request.Delete start row.entry family.entry) result self.new }
+    {
+        match self.clients.delete(start, row, family) {
+            Ok(()) => Reply::Delete,
+            Err(refusal) => Reply::Refused(refusal),
+        }
+    }
+
     pub(crate) fn step(&mut self, start: Stamp) -> Reply
         ensures { IsPlainAnswer F.contents F.faults M.mark M.faults self.old
             (Request.Step start) result self.new }

@@ -8,8 +8,8 @@ use Rattle.cell_key.specs.declared.refusals.Refusal.TheVariants.{UnknownSession,
 use Rattle.si_model.specs.declared.replies.Cell.{Cell}
 use Rattle.si_model.specs.Machine.{State, Value, Writes, Phase, Open, Holding, Stamped, Finishing, Cleaner, InPhase, Wrote, Names, Marked, HasTablet, IsEnd, IsAcceptable}
 use Rattle.si_model.specs.Machine.{most_sessions, most_cleaners, most_collectors, most_tablets, most_servers, most_writes, most_value, most_visits}
-use Rattle.si_model.specs.Machine.{Begin, Get, Set, Advance, Stop, CleanBegin, CleanStep, CollectBegin, CollectStep, Split, Move}
-use Rattle.si_model.specs.Refusing.{begin_full, get_unknown, get_late, get_row, get_family, set_unknown, set_late, set_row, set_family, set_long, set_full, advance_unknown, advance_empty, stop_unknown, clean_row, clean_family, clean_full, clean_unknown, collect_full, collect_unknown, collect_none, collect_many, split_row, split_end, split_full, move_unknown, move_server}
+use Rattle.si_model.specs.Machine.{Begin, Get, Set, Delete, Advance, Stop, CleanBegin, CleanStep, CollectBegin, CollectStep, Split, Move}
+use Rattle.si_model.specs.Refusing.{begin_full, get_unknown, get_late, get_row, get_family, set_unknown, set_late, set_row, set_family, set_long, set_full, delete_unknown, delete_late, delete_row, delete_family, delete_full, advance_unknown, advance_empty, stop_unknown, clean_row, clean_family, clean_full, clean_unknown, collect_full, collect_unknown, collect_none, collect_many, split_row, split_end, split_full, move_unknown, move_server}
 use Rattle.si_model.proofs.Tools.{same_entry}
 
 pub no_entry : {X : Type 0} (m : FinMap nat_cmp X) (k : ℕ) (v : X) → get m k ≡ Some v → get m k ≡ None → ⊥
@@ -34,6 +34,19 @@ set_ok ws h row family short w few n (set_row bad) = bad row
 set_ok ws h row family short w few n (set_family bad) = bad family
 set_ok ws h row family short w few n (set_long long) = absurd (omega arith)
 set_ok {st} {s} {x} ws h row family short w few n (set_full {ws = us} g none full) =
+    let same : us ≡ ws = same_entry st.begun s us ws g w in
+    elim few [
+      | inl named ↦ none (subst (λ (l : Writes). Names l x) (sym same) named)
+      | inr room ↦ let e : length us ≡ length ws = ap length same in absurd (omega arith)
+    ]
+
+pub delete_ok : {st : State} {s : ℕ} {x : Cell} (ws : Writes) → InPhase st s Open → IsRow x.row → IsFamily x.family
+    → Wrote st s ws → Names ws x ⊎ (length ws < most_writes) → IsAcceptable st (Delete s x)
+delete_ok {st} {s} ws h row family w few n (delete_unknown e) = no_entry st.active s Open h e
+delete_ok {st} {s} ws h row family w few n (delete_late {p = p} g late) = late (same_entry st.active s p Open g h)
+delete_ok ws h row family w few n (delete_row bad) = bad row
+delete_ok ws h row family w few n (delete_family bad) = bad family
+delete_ok {st} {s} {x} ws h row family w few n (delete_full {ws = us} g none full) =
     let same : us ≡ ws = same_entry st.begun s us ws g w in
     elim few [
       | inl named ↦ none (subst (λ (l : Writes). Names l x) (sym same) named)
@@ -85,9 +98,12 @@ opened : (st : State) (s : ℕ) → (get st.active s ≢ None) → ((p : Phase) 
 opened st s known early None e = absurd (known e)
 opened st s known early (Some p) e = elim (cases_open p) [ inl is ↦ subst (λ (q : Phase). InPhase st s q) is e | inr not ↦ absurd (early p e not) ]
 
--- the session of an acceptable Get or Set is open
+-- the session of an acceptable Get, Set or Delete is open
 pub get_is_open : (st : State) (s : ℕ) (x : Cell) → IsAcceptable st (Get s x) → InPhase st s Open
 get_is_open st s x ok = opened st s (λ e. ok UnknownSession (get_unknown e)) (λ p h late. ok WrongPhase (get_late h late)) (get st.active s) refl
 
 pub set_is_open : (st : State) (s : ℕ) (x : Cell) (v : Value) → IsAcceptable st (Set s x v) → InPhase st s Open
 set_is_open st s x v ok = opened st s (λ e. ok UnknownSession (set_unknown e)) (λ p h late. ok WrongPhase (set_late h late)) (get st.active s) refl
+
+pub delete_is_open : (st : State) (s : ℕ) (x : Cell) → IsAcceptable st (Delete s x) → InPhase st s Open
+delete_is_open st s x ok = opened st s (λ e. ok UnknownSession (delete_unknown e)) (λ p h late. ok WrongPhase (delete_late h late)) (get st.active s) refl

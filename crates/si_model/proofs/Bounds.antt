@@ -1,5 +1,5 @@
 -- The bounds of a reached state's numbers.
-use Rattle.std.proofs.Common.{◌≡◌, ℕ, ◌+◌, ◌<◌, ◌≤◌, Bool, true, false, cond, List, [], length, Some, inl, inr, sym, ap, subst, ◌∙◌, arith, refl}
+use Rattle.std.proofs.Common.{◌≡◌, ℕ, ◌+◌, ◌<◌, ◌≤◌, Bool, true, false, cond, List, [], length, Some, None, inl, inr, sym, ap, subst, ◌∙◌, arith, refl}
 use Rattle.std.specs.Prelude.{nat_eq}
 use Rattle.std.specs.Ordering.{nat_cmp}
 use Rattle.std.specs.FinMap.{get, insert, remove, len, empty, get-empty, len-empty}
@@ -8,11 +8,11 @@ use Rattle.std.proofs.lemmas.Bool.{cases_eq, cases_lt}
 use Rattle.std.proofs.lemmas.Bool.Decides.{nat_tests}
 use Rattle.std.proofs.lemmas.Option.{none-some, slice_get_within}
 use Rattle.cell_key.specs.declared.refusals.Refusal.TheVariants.{TooManyWrites, TooManySessions}
-use Rattle.si_model.specs.Machine.{State, Value, Phase, Open, Holding, Stamped, Finishing, Commit, Request, Reply, Begin, Set, InPhase, Writes, Wrote, Sets, finishing, most_sessions, most_writes, end_of_stamps, IsAcceptable}
+use Rattle.si_model.specs.Machine.{State, Change, Phase, Open, Holding, Stamped, Finishing, Commit, Request, Reply, Begin, InPhase, Writes, Wrote, Names, Sets, finishing, most_sessions, most_writes, end_of_stamps, IsAcceptable}
 use Rattle.si_model.specs.Sets.{◌∈◌}
 use Rattle.si_model.specs.declared.replies.Cell.{Cell}
-use Rattle.si_model.specs.Refusing.{begin_full, set_full}
-use Rattle.si_model.specs.Machine.{Acts, tells, begins, reads, sets, holds, conflicts, draws, loses, commits, finishes, stops, opens, kills, learns, rolls_forward, rolls_back, finds_gone, collects, has_collected, splits, moves_tablet, Step, refuses, accepts}
+use Rattle.si_model.specs.Refusing.{begin_full, set_full, delete_full}
+use Rattle.si_model.specs.Machine.{Acts, tells, begins, reads, sets, deletes, holds, conflicts, draws, loses, commits, finishes, stops, opens, kills, learns, rolls_forward, rolls_back, finds_gone, collects, has_collected, splits, moves_tablet, Step, refuses, accepts}
 use Rattle.si_model.specs.Machine.{Run, rests, goes_on, IsReached, begins_new, runs, reopens, new_machine}
 use Rattle.si_model.specs.Laws.{FitsPhase, Bounds}
 use Rattle.si_model.proofs.Tools.{get_other, each_insert, each_remove, same_entry, set_length, len_grows, len_stays, len_falls}
@@ -55,12 +55,12 @@ begins_few st s ok = elim (cases_lt (len st.active) most_sessions) [
 ]
 
 -- the number of writes
-sets_few : (st : State) (s : ℕ) (x : Cell) (v : Value) (ws ws' : Writes) → IsAcceptable st (Set s x v) → Wrote st s ws → Sets x v ws ws' → length ws ≤ most_writes → length ws' ≤ most_writes
-sets_few st s x v ws ws' ok w by few = elim (set_length by) [
+sets_few : (st : State) (s : ℕ) (x : Cell) (v : Change) (ws ws' : Writes) → (¬ Names ws x → most_writes ≤ length ws → ⊥) → Sets x v ws ws' → length ws ≤ most_writes → length ws' ≤ most_writes
+sets_few st s x v ws ws' room by few = elim (set_length by) [
   | inl same ↦ omega arith
   | inr (none, more) ↦ elim (cases_lt (length ws) most_writes) [
-    | inl room ↦ omega arith
-    | inr full ↦ absurd (ok TooManyWrites (set_full w none full))
+    | inl less ↦ omega arith
+    | inr full ↦ absurd (room none full)
   ]
 ]
 
@@ -93,6 +93,25 @@ kept_bounds {st} {st'} i b same top few fits = record {
     before : (t : ℕ) (ws : Writes) → Wrote st' t ws → Wrote st t ws
     before t ws w = ap (λ m. get m t) (sym same) ∙ w
 
+-- a session's writes change
+rewritten_bounds : (st : State) (s : ℕ) (ws ws' : Writes) → InPhase st s Open → Wrote st s ws → length ws' ≤ most_writes → Sound (record st { begun = insert st.begun s ws' }) → Bounds st
+    → Bounds (record st { begun = insert st.begun s ws' })
+rewritten_bounds st s ws ws' h w few sound b = record {
+  top = b.top;
+  start_from = each_insert st.begun s (λ t ws. 1 ≤ t) ws' (b.start_from s ws w) (λ t ws ne w. b.start_from t ws w);
+  start_to = each_insert st.begun s (λ t ws. t < end_of_stamps) ws' (b.start_to s ws w) (λ t ws ne w. b.start_to t ws w);
+  few_writes = each_insert st.begun s (λ t ws. length ws ≤ most_writes) ws' few (λ t ws ne w. b.few_writes t ws w);
+  has_begun = sound.has_begun;
+  few_sessions = b.few_sessions;
+  fits = λ u q h' vs w'. elim (cases_eq u s) [
+    | inl e ↦ subst (λ (p : Phase). FitsPhase p (length vs)) (same_entry st.active u Open q (subst (λ v. InPhase st v Open) (sym e) h) h') tt
+    | inr ne ↦ b.fits u q h' vs (sym (get_other st.begun s ws' u ne) ∙ w')
+  ];
+  stamped_to = b.stamped_to;
+  finishing_to = b.finishing_to;
+  commit_to = b.commit_to;
+}
+
 acts_bounds : {st st' : State} {q : Request} {r : Reply} → Sound st → Bounds st → IsAcceptable st q → Acts st q r st' → Bounds st'
 acts_bounds i b ok (tells t) = b
 acts_bounds {st} {st'} i b ok (begins {s = s} d) = let sound : Sound st' = acts_sound i (begins d) in record {
@@ -108,21 +127,10 @@ acts_bounds {st} {st'} i b ok (begins {s = s} d) = let sound : Sound st' = acts_
   finishing_to = finishing_low st' sound d.1;
   commit_to = commit_low st' sound d.1;
 }
-acts_bounds {st} {st'} i b ok (sets {s = s} {x = x} {v = v} {ws = ws} {ws' = ws'} h w by) = let sound : Sound st' = acts_sound i (sets {x = x} {v = v} h w by) in record {
-  top = b.top;
-  start_from = each_insert st.begun s (λ t ws. 1 ≤ t) ws' (b.start_from s ws w) (λ t ws ne w. b.start_from t ws w);
-  start_to = each_insert st.begun s (λ t ws. t < end_of_stamps) ws' (b.start_to s ws w) (λ t ws ne w. b.start_to t ws w);
-  few_writes = each_insert st.begun s (λ t ws. length ws ≤ most_writes) ws' (sets_few st s x v ws ws' ok w by (b.few_writes s ws w)) (λ t ws ne w. b.few_writes t ws w);
-  has_begun = sound.has_begun;
-  few_sessions = b.few_sessions;
-  fits = λ u q h' vs w. elim (cases_eq u s) [
-    | inl e ↦ subst (λ (p : Phase). FitsPhase p (length vs)) (same_entry st.active u Open q (subst (λ v. InPhase st v Open) (sym e) h) h') tt
-    | inr ne ↦ b.fits u q h' vs (sym (get_other st.begun s ws' u ne) ∙ w)
-  ];
-  stamped_to = b.stamped_to;
-  finishing_to = b.finishing_to;
-  commit_to = b.commit_to;
-}
+acts_bounds {st} {st'} i b ok (sets {s = s} {x = x} {v = v} {ws = ws} {ws' = ws'} h w by) =
+    rewritten_bounds st s ws ws' h w (sets_few st s x (Some v) ws ws' (λ none full. ok TooManyWrites (set_full w none full)) by (b.few_writes s ws w)) (acts_sound i (sets {x = x} {v = v} h w by)) b
+acts_bounds {st} {st'} i b ok (deletes {s = s} {x = x} {ws = ws} {ws' = ws'} h w by) =
+    rewritten_bounds st s ws ws' h w (sets_few st s x None ws ws' (λ none full. ok TooManyWrites (delete_full w none full)) by (b.few_writes s ws w)) (acts_sound i (deletes {x = x} h w by)) b
 acts_bounds {st} {st'} i b ok (holds {t = t} {k = k} {ws = ws} {x = x} {v = v} h w puts free) =
     let s : Acts st _ _ st' = holds h w puts free in
     let hp = held_phase st t k h in

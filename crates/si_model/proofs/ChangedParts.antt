@@ -2,7 +2,7 @@
 use Rattle.std.proofs.Common.{◌≡◌, refl}
 use Rattle.si_model.specs.State.{State}
 use Rattle.si_model.specs.Messages.{Request, Reply}
-use Rattle.si_model.specs.Machine.{Acts, tells, begins, reads, sets, holds, conflicts, draws, loses, commits, finishes, stops, opens, kills, learns, rolls_forward, rolls_back, finds_gone, collects, has_collected, splits, moves_tablet, Step, refuses, accepts}
+use Rattle.si_model.specs.Machine.{Acts, tells, begins, reads, sets, deletes, holds, conflicts, draws, loses, commits, finishes, stops, opens, kills, learns, rolls_forward, rolls_back, finds_gone, collects, has_collected, splits, moves_tablet, Step, refuses, accepts}
 use Rattle.si_model.specs.Kinds.{Kind, OfSessions, OfCleaners, OfCollectors, OfPlaces, kind_of, SameSessions, SameCleaners, SameCollectors, SamePlaces, LeavesOthers}
 
 -- a step that changes nothing
@@ -58,6 +58,7 @@ acts_leave {st} {next} {q} (tells t) = leaves_all (kind_of q) st
 acts_leave (begins d) = session_acts refl refl refl refl refl refl refl refl
 acts_leave (reads h none shown) = session_acts refl refl refl refl refl refl refl refl
 acts_leave (sets h w by) = session_acts refl refl refl refl refl refl refl refl
+acts_leave (deletes h w by) = session_acts refl refl refl refl refl refl refl refl
 acts_leave (holds h w puts free) = session_acts refl refl refl refl refl refl refl refl
 acts_leave (conflicts h w puts clash) = session_acts refl refl refl refl refl refl refl refl
 acts_leave (draws h w d) = session_acts refl refl refl refl refl refl refl refl

@@ -18,10 +18,10 @@ use Rattle.si_model.proofs.Transfers.{before, stamped, fills, sees, moves, old_b
 
 -- the writes of the transfer
 abbrev two : Writes
-two = (bob, codes "3") ∷ (joe, codes "9") ∷ []
+two = (bob, Some (codes "3")) ∷ (joe, Some (codes "9")) ∷ []
 
 abbrev one : Writes
-one = (bob, codes "v") ∷ []
+one = (bob, Some (codes "v")) ∷ []
 
 open_still : ¬ IsCommitted before 3
 open_still (c, (ws, m)) = other_commit _ 3 (λ e. absurd (omega (arith, e))) c ws m
@@ -40,7 +40,7 @@ rolled_back = (
       (goes_on (accepts (clean_begin_ok {x = joe} joe_is.row joe_is.family (inr (simp gets (lit< tt)))) (opens {t = 3} here (lit< tt)))
       (goes_on
       (accepts (clean_step_ok {i = 1} (record { cell = joe; start = 3; decided = false }) (simp gets refl))
-      (kills {t = 3} {x = joe} {y = bob} {v = codes "3"} {ws = two} (simp gets refl) open_still (λ d. elim d [ ]) (simp gets refl) refl (leaves_last (joe, 3) (bob, 3) marks_differ)))
+      (kills {t = 3} {x = joe} {y = bob} {v = Some (codes "3")} {ws = two} (simp gets refl) open_still (λ d. elim d [ ]) (simp gets refl) refl (leaves_last (joe, 3) (bob, 3) marks_differ)))
       (goes_on
       (accepts (clean_step_ok {i = 1} (record { cell = joe; start = 3; decided = true }) (simp gets refl))
       (rolls_back {t = 3} {x = joe} (simp gets refl) here open_still (leaves_only (joe, 3))))
@@ -59,7 +59,7 @@ lost = (
       (goes_on (accepts (clean_begin_ok {x = joe} joe_is.row joe_is.family (inr (simp gets (lit< tt)))) (opens {t = 3} here (lit< tt)))
       (goes_on
       (accepts (clean_step_ok {i = 1} (record { cell = joe; start = 3; decided = false }) (simp gets refl))
-      (kills {t = 3} {x = joe} {y = bob} {v = codes "3"} {ws = two} (simp gets refl) open_still (λ d. elim d [ ]) (simp gets refl) refl (leaves_last (joe, 3) (bob, 3) marks_differ)))
+      (kills {t = 3} {x = joe} {y = bob} {v = Some (codes "3")} {ws = two} (simp gets refl) open_still (λ d. elim d [ ]) (simp gets refl) refl (leaves_last (joe, 3) (bob, 3) marks_differ)))
       (goes_on
       (accepts (clean_step_ok {i = 1} (record { cell = joe; start = 3; decided = true }) (simp gets refl))
       (rolls_back {t = 3} {x = joe} (simp gets refl) here open_still (leaves_only (joe, 3))))
@@ -83,11 +83,11 @@ commit_point = (
       (run_append moves
       (goes_on (begin_step _ 5 (simp gets (lit< tt)) (lit< tt, lit< tt))
       (goes_on (wait_step _ 5 3 bob bob_is (simp gets refl) (there here) (lit≤ tt))
-      (goes_on (commit_step _ 3 4 two bob (codes "3") ((joe, 3) ∷ []) (simp gets refl) (λ d. elim d [ ]) (simp gets refl) refl (lit≤ tt) (leaves_last (joe, 3) (bob, 3) marks_differ))
-      (goes_on (get_step _ 5 bob _ bob_is (simp gets refl) (λ t m. absurd (other_mark joe bob 3 joe_not_bob t m)) (newest _ _ 5 0 bob (codes "3") refl (lit≤ tt) newer))
+      (goes_on (commit_step _ 3 4 two bob (Some (codes "3")) ((joe, 3) ∷ []) (simp gets refl) (λ d. elim d [ ]) (simp gets refl) refl (lit≤ tt) (leaves_last (joe, 3) (bob, 3) marks_differ))
+      (goes_on (get_step _ 5 bob _ bob_is (simp gets refl) (λ t m. absurd (other_mark joe bob 3 joe_not_bob t m)) (newest _ _ 5 0 bob (Some (codes "3")) refl (lit≤ tt) newer))
       (goes_on (wait_step _ 5 3 joe joe_is (simp gets refl) here (lit≤ tt))
-      (goes_on (finish_step _ 3 4 1 two joe (codes "9") [] (simp gets refl) (simp gets refl) refl (lit≤ tt) (leaves_only (joe, 3)))
-      (goes_on (get_step _ 5 joe _ joe_is (simp gets refl) (λ t m. absurd (no_marks joe t m)) (newest _ _ 5 1 joe (codes "9") refl (lit≤ tt) newer))
+      (goes_on (finish_step _ 3 4 1 two joe (Some (codes "9")) [] (simp gets refl) (simp gets refl) refl (lit≤ tt) (leaves_only (joe, 3)))
+      (goes_on (get_step _ 5 joe _ joe_is (simp gets refl) (λ t m. absurd (no_marks joe t m)) (newest _ _ 5 1 joe (Some (codes "9")) refl (lit≤ tt) newer))
       rests))))))))),
 )
 
@@ -116,7 +116,7 @@ stranded = (
   run_append (fills (codes "10") (codes "2") (lit≤ tt) (lit≤ tt))
       (run_append sees
       (run_append moves
-      (goes_on (commit_step _ 3 4 two bob (codes "3") ((joe, 3) ∷ []) (simp gets refl) (λ d. elim d [ ]) (simp gets refl) refl (lit≤ tt) (leaves_last (joe, 3) (bob, 3) marks_differ))
+      (goes_on (commit_step _ 3 4 two bob (Some (codes "3")) ((joe, 3) ∷ []) (simp gets refl) (λ d. elim d [ ]) (simp gets refl) refl (lit≤ tt) (leaves_last (joe, 3) (bob, 3) marks_differ))
       (goes_on (accepts (stop_ok {s = 3} (Finishing 4 1) (simp gets refl)) (stops {p = Finishing 4 1} (simp gets refl)))
       (goes_on (accepts (collect_begin_ok (simp gets (lit< tt))) (collects (none_active idle_after) (lit< tt)))
       (goes_on (accepts (collect_step_ok {i = 1} {visits = 10} 5 (simp gets refl) (lit≤ tt) (lit≤ tt)) (tells (is_blocked {f = 5} {t = 3} {x = joe} (simp gets refl) here (lit< tt))))
@@ -138,14 +138,14 @@ mark_stays = (
   _,
   goes_on (begin_step _ 1 (simp gets (lit< tt)) (lit< tt, lit< tt))
       (goes_on (set_step _ 1 bob (codes "v") [] one bob_is (lit≤ tt) (lit< tt) (simp gets refl) (simp gets refl) appends)
-      (goes_on (first_hold_step _ 1 one bob (codes "v") (simp gets refl) (simp gets refl) refl (lit≤ tt) (no_marks bob) (λ a m. elim m [ ]))
+      (goes_on (first_hold_step _ 1 one bob (Some (codes "v")) (simp gets refl) (simp gets refl) refl (lit≤ tt) (no_marks bob) (λ a m. elim m [ ]))
       rests)),
   goes_on (begin_step _ 2 (simp gets (lit< tt)) (lit< tt, lit< tt))
       (goes_on (wait_step _ 2 1 bob bob_is (simp gets refl) here (lit≤ tt))
       (goes_on (accepts (clean_begin_ok {x = bob} bob_is.row bob_is.family (inr (simp gets (lit< tt)))) (opens {t = 1} here (lit< tt)))
       (goes_on
       (accepts (clean_step_ok {i = 1} (record { cell = bob; start = 1; decided = false }) (simp gets refl))
-      (kills {t = 1} {x = bob} {y = bob} {v = codes "v"} {ws = one} (simp gets refl) (λ c. elim c.1.1 [ ]) (λ d. elim d [ ]) (simp gets refl) refl (leaves_only (bob, 1))))
+      (kills {t = 1} {x = bob} {y = bob} {v = Some (codes "v")} {ws = one} (simp gets refl) (λ c. elim c.1.1 [ ]) (λ d. elim d [ ]) (simp gets refl) refl (leaves_only (bob, 1))))
       (goes_on
       (accepts (clean_step_ok {i = 1} (record { cell = bob; start = 1; decided = true }) (simp gets refl)) (finds_gone {t = 1} {x = bob} (simp gets refl) (no_marks bob 1)))
       (goes_on (get_step _ 2 bob None bob_is (simp gets refl) (λ t m. absurd (no_marks bob t m)) (inr (refl, λ b m. elim m [ ])))

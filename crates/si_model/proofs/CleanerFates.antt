@@ -1,17 +1,14 @@
 -- What a cleaner learns at the first cell of a start, and that it stays right.
-use Rattle.std.proofs.Common.{◌≡◌, ◌≢◌, ℕ, ◌<◌, ◌≤◌, ◌^◌, List, [], ◌∷◌, Some, None, inl, inr, refl, sym, ap, subst, ◌∙◌, arith}
+use Rattle.std.proofs.Common.{◌≡◌, ℕ, ◌<◌, ◌≤◌, ◌^◌, List, [], ◌∷◌, None, inl, inr, refl, sym, ap, subst, ◌∙◌, arith}
 use Rattle.std.proofs.lemmas.Bool.{cases_eq, cases_lt}
 use Rattle.std.proofs.lemmas.Option.{none-some}
-use Rattle.std.proofs.lemmas.List.{append-nil}
-use Rattle.byteorder.specs.Endian.{big_number, big_from}
-use Rattle.byteorder.specs.Numbers.{big_number-reads_back}
 use Rattle.cell_key.specs.Cells.{Cells}
 use Rattle.cell_key.specs.declared.keys.Qualifier.TheVariants.{Lock, Write}
 use Rattle.si_model.specs.Sets.{◌∈◌, here, there}
 use Rattle.si_model.specs.Laws.{Goes, FateOf}
 use Rattle.si_model.specs.Machine.{State, Commit, Names, Marked, IsCommitted, IsReached, Writes, Open, Puts, Request, Reply, Step}
 use Rattle.si_model.specs.declared.replies.Cell.{Cell}
-use Rattle.si_model.specs.ShowsCells.{at, IsThere, ShowsCells, start_text}
+use Rattle.si_model.specs.ShowsCells.{at, IsThere, IsRecordText, NamesAt, ShowsCells, kind_of_change}
 use Rattle.si_model.specs.Enduring.{HaveTried, Endures}
 use Rattle.si_model.specs.Collection.{NamesNearest}
 use Rattle.si_model.specs.Deciding.{FirstTells, Verdict, NotYet, Forward, Back, IsRight, CleanersKnow}
@@ -22,13 +19,7 @@ use Rattle.si_model.proofs.Bounds.{reached_bounds}
 use Rattle.si_model.proofs.Fates.{fate_seen}
 use Rattle.si_model.proofs.Goes.{goes}
 use Rattle.si_model.proofs.LastingMarks.{have_tried, endures}
-
-start_back : (t : ℕ) → t < 2 ^ 64 → big_number 8 (start_text t) ≡ t
-start_back t h = ap (λ xs. big_from 0 8 xs) (sym (append-nil (start_text t))) ∙ big_number-reads_back 8 t [] h
-
--- a text names one start
-pub same_start : (t u : ℕ) → t < 2 ^ 64 → u < 2 ^ 64 → start_text t ≡ start_text u → t ≡ u
-same_start t u h g e = sym (start_back t h) ∙ (ap (big_number 8) e ∙ start_back u g)
+use Rattle.si_model.proofs.RecordTexts.{same_start}
 
 -- a start has one commit
 pub one_commit : (cs : List Commit) → StartsDiffer cs → (a b : Commit) → a ∈ cs → b ∈ cs → a.start ≡ b.start → a ≡ b
@@ -60,14 +51,14 @@ module _ (cells : Cells) (st : State) (reached : IsReached st) (shown : ShowsCel
       omega arith
 
   -- the record that names a start is the first one above it
-  named_first : (x : Cell) (t c d : ℕ) → t < 2 ^ 64 → t < d → d ≤ c → at cells x Write c ≡ Some (start_text t) → IsThere cells x Write d → c ≡ d
+  named_first : (x : Cell) (t c d : ℕ) → t < 2 ^ 64 → t < d → d ≤ c → NamesAt cells x c t → IsThere cells x Write d → c ≡ d
   named_first x t c d low above most named other =
-      let j = shown.records x c (start_text t) named in
+      let j = shown.records x c named.0 named.2 in
       let k = shown.records x d other.0 other.1 in
-      let ej : j.commit.start ≡ t = same_start j.commit.start t (commit_low j.commit j.is_in) low (sym j.text) in
+      let ej : j.commit.start ≡ t = same_start j.commit.start t (kind_of_change j.change) named.1 named.0 (commit_low j.commit j.is_in) low j.is_text named.3 in
       elim (cases_eq j.commit.start k.commit.start) [
         | inl same ↦ sym j.stamp ∙ (ap (λ (m : Commit). m.stamp) (one_commit st.commits (reached_sound reached).starts_differ j.commit k.commit j.is_in k.is_in same) ∙ k.stamp)
-        | inr ne ↦ absurd (elim ((reached_sound reached).first_committer j.commit k.commit j.is_in k.is_in ne x j.writes k.writes) [
+        | inr ne ↦ absurd (elim ((reached_sound reached).first_committer j.commit k.commit j.is_in k.is_in ne x (j.change, j.gives) (k.change, k.gives)) [
           | inl before ↦ let later = ((reached_sound reached).fair k.commit k.is_in).later in let e = j.stamp in let g = k.stamp in omega arith
           | inr before ↦ let g = k.stamp in omega arith
         ])
@@ -85,8 +76,8 @@ module _ (cells : Cells) (st : State) (reached : IsReached st) (shown : ShowsCel
     locked = λ there. let m = shown.locks first t there.0 there.1 in ((λ c. fate.committed c m), (λ d. fate.dead d m));
     unlocked = λ gone i k g same. elim (fate.cleaned i k g same) [ inl m ↦ absurd (unmarked gone m) | inr f ↦ f ];
     forward = λ c named.
-        let j = shown.records first c (start_text t) named in
-        let e : j.commit.start ≡ t = same_start j.commit.start t (commit_low j.commit j.is_in) low (sym j.text) in
+        let j = shown.records first c named.0 named.2 in
+        let e : j.commit.start ≡ t = same_start j.commit.start t (kind_of_change j.change) named.1 named.0 (commit_low j.commit j.is_in) low j.is_text named.3 in
         (j.commit.writes, subst (λ (p : ℕ × ℕ). record { start = p.0; stamp = p.1; writes = j.commit.writes } ∈ st.commits) (λ i. (e i, j.stamp i)) j.is_in);
     back = λ gone none x m. elim (fate.marked x m) [
       | inl n ↦ absurd (unmarked gone n)
@@ -103,13 +94,23 @@ module _ (cells : Cells) (st : State) (reached : IsReached st) (shown : ShowsCel
       unmarked : at cells first Lock t ≡ None → ¬ Marked st first t
       unmarked gone m = none-some _ (sym gone ∙ (shown.marks first t m).lock)
 
-      uncommitted : at cells first Lock t ≡ None → ((c : ℕ) → t < c → at cells first Write c ≢ Some (start_text t)) → (x : Cell) → Marked st x t → IsCommitted st t → ⊥
+      -- the record of a commit names its start
+      named_by : (a : Commit) → a ∈ st.commits → IsThere cells first Write a.stamp → NamesAt cells first a.stamp a.start
+      named_by a is_in old =
+          let k = shown.records first a.stamp old.0 old.1 in
+          let same : k.commit.start ≡ a.start = (reached_sound reached).stamps_differ k.commit a k.is_in is_in k.stamp in
+          (old.0, kind_of_change k.change, old.1, subst (λ (u : ℕ). IsRecordText u (kind_of_change k.change) old.0) same k.is_text)
+
+      uncommitted : at cells first Lock t ≡ None → ((c : ℕ) → t < c → ¬ NamesAt cells first c t) → (x : Cell) → Marked st x t → IsCommitted st t → ⊥
       uncommitted gone none x m (c, (ws, is_in)) =
           let a : Commit = record { start = t; stamp = c; writes = ws } in
           let f = (reached_sound reached).fair a is_in in
           let names : Names a.writes first = (is.1, (0, subst (λ (l : Writes). Puts l 0 first is.1) (same_entry st.begun t is.0 ws is.2 f.wrote) is.3)) in
           let later = f.later in
           elim (shown.commits a is_in first names (unmarked gone)) [
-            | inl e ↦ none c later e
-            | inr r ↦ let above = r.3 in let below = r.4.1 x t m in omega arith
+            | inl old ↦ none c later (named_by a is_in old)
+            | inr lack ↦ elim lack [
+              | inl r ↦ let above = r.3 in let below = r.4.1 x t m in omega arith
+              | inr f ↦ let below = f.cleared.1 x t m in omega arith
+            ]
           ]

@@ -12,13 +12,14 @@ use Rattle.cell_key.specs.Cells.{Cells}
 use Rattle.cell_key.specs.Places.{Place, place_cmp, HasCell, IsAfter, IsNextCell}
 use Rattle.cell_key.specs.declared.keys.Qualifier.{Qualifier}
 use Rattle.cell_key.specs.declared.keys.Qualifier.TheVariants.{Data, Lock, Write}
-use Rattle.si_model.specs.Machine.{State, Stamped, InPhase, Marked, CommittedAt, IsReached}
+use Rattle.si_model.specs.Machine.{State, Change, Stamped, InPhase, Marked, CommittedAt, IsReached}
 use Rattle.si_model.specs.declared.replies.Cell.{Cell}
-use Rattle.si_model.specs.ShowsCells.{at, key_of, IsThere, ShowsCells, lock_text, start_text, held_cells, recorded_cells, erased_cells}
+use Rattle.si_model.specs.declared.cells.WriteKind.{WriteKind}
+use Rattle.si_model.specs.ShowsCells.{at, key_of, IsThere, ShowsCells, lock_text, record_text, kind_of_change, changed_cells, held_cells, recorded_cells, erased_cells}
 use Rattle.si_model.specs.Enduring.{Endures}
 use Rattle.si_model.specs.Collection.{IsUnmarkedBelow, IsTidy, place_at, Pass, FirstPass, SecondPass, HasCome, ComesFurther, ComeStays, ChangesCells, unchanged, locks_cell, records_commit, erases_lock, erases_versions}
 use Rattle.si_model.proofs.Left.{exact_places, place_cmp_total}
-use Rattle.si_model.proofs.ShownAt.{cases_key, put_off, erased_off, key_stamp, no_data_lock, no_data_write, no_write_lock, no_write_data}
+use Rattle.si_model.proofs.ShownAt.{cases_key, put_off, erased_off, changed_off, key_stamp, no_data_lock, no_data_write, no_write_lock, no_write_data}
 use Rattle.si_model.proofs.Steps.{reached_sound}
 use Rattle.si_model.proofs.Floors.{reached_floors}
 use Rattle.si_model.proofs.LastingMarks.{endures}
@@ -55,7 +56,7 @@ where_is after found p passed = elim (by_after after p) [
 
 module _ (cells : Cells) (st : State) (shown : ShowsCells cells st) (floor : ℕ) (after : Option Place) where
   marked_cell : (x : Cell) (t : ℕ) → Marked st x t → HasCell cells (place_at x)
-  marked_cell x t m = let k = shown.marks x t m in has_key cells x Data t k.value
+  marked_cell x t m = let k = shown.marks x t m in has_key cells x Lock t (k.text, k.lock)
 
   -- the first pass goes past a cell with no lock below the floor
   come_past : (x : Cell) → IsNextCell cells after (Some (place_at x)) → ((t : ℕ) → t < floor → at cells x Lock t ≡ None) → HasCome cells st floor FirstPass after → HasCome cells st floor FirstPass (Some (place_at x))
@@ -76,6 +77,7 @@ module _ (cells : Cells) (st : State) (shown : ShowsCells cells st) (floor : ℕ
   no_key x empty = record {
     one = λ c d lc ld hc hd. absurd (empty (has_key cells x Write c hc));
     named = λ t low h. absurd (empty (has_key cells x Data t h));
+    lasting = λ c t low e. empty (has_key cells x Write c (_, e));
   }
 
   -- the second pass goes past a tidy cell
@@ -138,45 +140,48 @@ module _ (cells : Cells) (st st' : State) (floor : ℕ) (low : floor ≤ st.floo
   come_beside = come_by cells (λ clear x t. t)
 
   -- a cell is held by an active session
-  come_held : (y : Cell) (t : ℕ) (v : List ℕ) (first : Cell) → st.floor ≤ t → (pass : Pass) (after : Option Place) → HasCome cells st floor pass after → HasCome (held_cells cells y t v first) st' floor pass after
+  come_held : (y : Cell) (t : ℕ) (v : Change) (first : Cell) → st.floor ≤ t → (pass : Pass) (after : Option Place) → HasCome cells st floor pass after → HasCome (held_cells cells y t v first) st' floor pass after
   come_held y t v first up = come_by (held_cells cells y t v first) (λ clear x tidy. record {
     one = λ c d lc ld hc hd. tidy.one c d lc ld (hc.0, sym (write_off x c) ∙ hc.1) (hd.0, sym (write_off x d) ∙ hd.1);
     named = λ u less h. elim (cases_key (key_of x Data u) (key_of y Data t)) [
       | inl e ↦ absurd (let same = key_stamp x y Data Data u t e in omega arith)
-      | inr ne ↦ let n = tidy.named u less (h.0, sym (data_off x u ne) ∙ h.1) in (n.0, write_off x n.0 ∙ n.1)
+      | inr ne ↦ let n = tidy.named u less (h.0, sym (data_off x u ne) ∙ h.1) in (n.0, (n.1.0, n.1.1, write_off x n.0 ∙ n.1.2, n.1.3))
     ];
+    lasting = λ c u low e. tidy.lasting c u low (sym (write_off x c) ∙ e);
   })
     where
       write_off : (x : Cell) (c : ℕ) → at (held_cells cells y t v first) x Write c ≡ at cells x Write c
-      write_off x c = put_off (insert cells (key_of y Data t) v) (key_of y Lock t) (lock_text first) (key_of x Write c) (no_write_lock x y c t) ∙ put_off cells (key_of y Data t) v (key_of x Write c) (no_write_data x y c t)
+      write_off x c = put_off (changed_cells cells y t v) (key_of y Lock t) (lock_text first (kind_of_change v)) (key_of x Write c) (no_write_lock x y c t) ∙ changed_off cells y t v (key_of x Write c) (no_write_data x y c t)
 
       data_off : (x : Cell) (u : ℕ) → key_of x Data u ≢ key_of y Data t → at (held_cells cells y t v first) x Data u ≡ at cells x Data u
-      data_off x u ne = put_off (insert cells (key_of y Data t) v) (key_of y Lock t) (lock_text first) (key_of x Data u) (no_data_lock x y u t) ∙ put_off cells (key_of y Data t) v (key_of x Data u) ne
+      data_off x u ne = put_off (changed_cells cells y t v) (key_of y Lock t) (lock_text first (kind_of_change v)) (key_of x Data u) (no_data_lock x y u t) ∙ changed_off cells y t v (key_of x Data u) ne
 
   -- a lock gives way to its record, which is younger
-  come_recorded : (y : Cell) (t c : ℕ) → Marked st y t → t < c → at cells y Write c ≡ None → (pass : Pass) (after : Option Place) → HasCome cells st floor pass after → HasCome (recorded_cells cells y t c) st' floor pass after
-  come_recorded y t c mark later fresh = come_by (recorded_cells cells y t c) (λ clear x tidy. record {
+  come_recorded : (y : Cell) (t c : ℕ) (kind : WriteKind) → Marked st y t → t < c → at cells y Write c ≡ None → (pass : Pass) (after : Option Place) → HasCome cells st floor pass after → HasCome (recorded_cells cells y t c kind) st' floor pass after
+  come_recorded y t c kind mark later fresh = come_by (recorded_cells cells y t c kind) (λ clear x tidy. record {
     one = λ a b la lb ha hb. tidy.one a b la lb (ha.0, sym (write_off x a (old clear x a la)) ∙ ha.1) (hb.0, sym (write_off x b (old clear x b lb)) ∙ hb.1);
     named = λ u less h. let n = tidy.named u less (h.0, sym (data_off x u) ∙ h.1) in elim (cases_key (key_of x Write n.0) (key_of y Write c)) [
-      | inl e ↦ absurd (none-some (start_text u) (sym fresh ∙ (sym (ap (get cells) e) ∙ n.1)))
-      | inr ne ↦ (n.0, write_off x n.0 ne ∙ n.1)
+      | inl e ↦ absurd (none-some n.1.0 (sym fresh ∙ (sym (ap (get cells) e) ∙ n.1.2)))
+      | inr ne ↦ (n.0, (n.1.0, n.1.1, write_off x n.0 ne ∙ n.1.2, n.1.3))
     ];
+    lasting = λ a u low e. tidy.lasting a u low (sym (write_off x a (old clear x a low)) ∙ e);
   })
     where
       old : IsUnmarkedBelow st floor → (x : Cell) (a : ℕ) → a ≤ floor → key_of x Write a ≢ key_of y Write c
       old clear x a le e = let up = clear y t mark in let same = key_stamp x y Write Write a c e in omega arith
 
-      write_off : (x : Cell) (a : ℕ) → key_of x Write a ≢ key_of y Write c → at (recorded_cells cells y t c) x Write a ≡ at cells x Write a
-      write_off x a ne = erased_off (insert cells (key_of y Write c) (start_text t)) (key_of y Lock t) (key_of x Write a) (no_write_lock x y a t) ∙ put_off cells (key_of y Write c) (start_text t) (key_of x Write a) ne
+      write_off : (x : Cell) (a : ℕ) → key_of x Write a ≢ key_of y Write c → at (recorded_cells cells y t c kind) x Write a ≡ at cells x Write a
+      write_off x a ne = erased_off (insert cells (key_of y Write c) (record_text t kind)) (key_of y Lock t) (key_of x Write a) (no_write_lock x y a t) ∙ put_off cells (key_of y Write c) (record_text t kind) (key_of x Write a) ne
 
-      data_off : (x : Cell) (u : ℕ) → at (recorded_cells cells y t c) x Data u ≡ at cells x Data u
-      data_off x u = erased_off (insert cells (key_of y Write c) (start_text t)) (key_of y Lock t) (key_of x Data u) (no_data_lock x y u t) ∙ put_off cells (key_of y Write c) (start_text t) (key_of x Data u) (no_data_write x y u c)
+      data_off : (x : Cell) (u : ℕ) → at (recorded_cells cells y t c kind) x Data u ≡ at cells x Data u
+      data_off x u = erased_off (insert cells (key_of y Write c) (record_text t kind)) (key_of y Lock t) (key_of x Data u) (no_data_lock x y u t) ∙ put_off cells (key_of y Write c) (record_text t kind) (key_of x Data u) (no_data_write x y u c)
 
   -- a lock is erased
   come_erased : (y : Cell) (t : ℕ) → (pass : Pass) (after : Option Place) → HasCome cells st floor pass after → HasCome (erased_cells cells y t) st' floor pass after
   come_erased y t = come_by (erased_cells cells y t) (λ clear x tidy. record {
     one = λ a b la lb ha hb. tidy.one a b la lb (ha.0, sym (off x Write a (no_write_lock x y a t)) ∙ ha.1) (hb.0, sym (off x Write b (no_write_lock x y b t)) ∙ hb.1);
-    named = λ u less h. let n = tidy.named u less (h.0, sym (off x Data u (no_data_lock x y u t)) ∙ h.1) in (n.0, off x Write n.0 (no_write_lock x y n.0 t) ∙ n.1);
+    named = λ u less h. let n = tidy.named u less (h.0, sym (off x Data u (no_data_lock x y u t)) ∙ h.1) in (n.0, (n.1.0, n.1.1, off x Write n.0 (no_write_lock x y n.0 t) ∙ n.1.2, n.1.3));
+    lasting = λ a u low e. tidy.lasting a u low (sym (off x Write a (no_write_lock x y a t)) ∙ e);
   })
     where
       off : (x : Cell) (q : Qualifier) (a : ℕ) → key_of x q a ≢ key_of y Lock t → at (erased_cells cells y t) x q a ≡ at cells x q a
@@ -193,12 +198,12 @@ come_stays cells st reached shown next q r step cells' changes floor low pass af
     by_change _ unchanged = come_beside cells st next floor low keeps pass after come
     by_change _ (locks_cell x t p v first h) =
         come_held cells st next floor low keeps x t v first ((reached_floors reached).above t p h) pass after come
-    by_change _ (records_commit x t c m by) =
+    by_change _ (records_commit x t c kind m by) =
         let fresh : (t < c) × (at cells x Write c ≡ None) = elim by [
           | inl committed ↦ fresh_committed cells st reached shown x t m c committed
           | inr stamped ↦ fresh_stamped cells st reached shown x t m c stamped
         ] in
-        come_recorded cells st next floor low keeps x t c m fresh.0 fresh.1 pass after come
+        come_recorded cells st next floor low keeps x t c kind m fresh.0 fresh.1 pass after come
     by_change _ (erases_lock x t) = come_erased cells st next floor low keeps x t pass after come
     by_change _ (erases_versions more collects) =
         come_beside more st next floor low keeps pass after (come_collected cells more st shown collects floor pass after come)

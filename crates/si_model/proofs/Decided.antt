@@ -4,7 +4,7 @@ use Rattle.std.specs.Prelude.{slice_get}
 use Rattle.std.proofs.lemmas.Bool.{cases_eq, cases_lt}
 use Rattle.si_model.specs.Sets.{◌∈◌, here, there}
 use Rattle.si_model.specs.declared.replies.Cell.{Cell}
-use Rattle.si_model.specs.Machine.{State, Value, Writes, Commit, Puts, Names, IsCommitted, IsSnapshot, Clashes, Sets, appends, replaces, passes}
+use Rattle.si_model.specs.Machine.{State, Value, Change, Writes, Commit, Puts, Names, IsCommitted, IsSnapshot, Clashes, Sets, appends, replaces, passes}
 use Rattle.si_model.proofs.Tools.{each_cons, still_unnamed}
 use Rattle.si_model.proofs.Without.{cases_mark}
 
@@ -26,7 +26,7 @@ mark_of (m ∷ ms) x = elim (cases_cell m.0 x) [
 pub names_of : (ws : Writes) (x : Cell) → Names ws x ⊎ (¬ Names ws x)
 names_of [] x = inr (λ n. elim (put_none x n.0 n.1.0 n.1.1) [ ])
   where
-    put_none : (x : Cell) (v : Value) (k : ℕ) → Puts [] k x v → ⊥
+    put_none : (x : Cell) (v : Change) (k : ℕ) → Puts [] k x v → ⊥
     put_none x v k e = cc
 names_of (w ∷ ws) x = elim (cases_cell w.0 x) [
   | inl e ↦ inl (w.1, (0, ap (λ y. Some (y, w.1)) e))
@@ -68,20 +68,20 @@ abbrev Shown : List Commit → ℕ → Cell → Type 0
 Shown cs s x = (answer : Option Value) × IsSnapshot cs s x answer
 
 skips : (c : Commit) (cs : List Commit) (s : ℕ) (x : Cell) → (Names c.writes x → c.stamp ≤ s → ⊥) → Shown cs s x → Shown (c ∷ cs) s x
-skips c cs s x unseen (answer, (inl (a, v, m, gives, low, most, e))) =
-    (answer, inl (a, v, there m, gives, low, each_cons (λ b. Names b.writes x → b.stamp ≤ s → b.stamp ≤ a.stamp) (λ n l. absurd (unseen n l)) most, e))
+skips c cs s x unseen (answer, (inl (a, m, gives, low, most))) =
+    (answer, inl (a, there m, gives, low, each_cons (λ b. Names b.writes x → b.stamp ≤ s → b.stamp ≤ a.stamp) (λ n l. absurd (unseen n l)) most))
 skips c cs s x unseen (answer, (inr (e, none))) =
     (answer, inr (e, each_cons (λ b. Names b.writes x → s < b.stamp) (λ n. elim (cases_lt s c.stamp) [ inl late ↦ late | inr low ↦ absurd (unseen n low) ]) none))
 
 takes : (c : Commit) (cs : List Commit) (s : ℕ) (x : Cell) → Names c.writes x → c.stamp ≤ s → Shown cs s x → Shown (c ∷ cs) s x
 takes c cs s x (v, gives) low (answer, (inr (e, none))) =
-    (Some v, inl (c, v, here, gives, low, each_cons (λ b. Names b.writes x → b.stamp ≤ s → b.stamp ≤ c.stamp) (λ n l. omega arith) (λ b m n l. let late = none b m n in absurd (omega arith)), refl))
-takes c cs s x (v, gives) low (answer, (inl (a, w, m, g, la, most, e))) = elim (cases_lt a.stamp c.stamp) [
+    (v, inl (c, here, gives, low, each_cons (λ b. Names b.writes x → b.stamp ≤ s → b.stamp ≤ c.stamp) (λ n l. omega arith) (λ b m n l. let late = none b m n in absurd (omega arith))))
+takes c cs s x (v, gives) low (answer, (inl (a, m, g, la, most))) = elim (cases_lt a.stamp c.stamp) [
   | inl newer ↦ (
-    Some v,
-    inl (c, v, here, gives, low, each_cons (λ b. Names b.writes x → b.stamp ≤ s → b.stamp ≤ c.stamp) (λ n l. omega arith) (λ b m n l. let k = most b m n l in omega arith), refl),
+    v,
+    inl (c, here, gives, low, each_cons (λ b. Names b.writes x → b.stamp ≤ s → b.stamp ≤ c.stamp) (λ n l. omega arith) (λ b m n l. let k = most b m n l in omega arith)),
   )
-  | inr older ↦ (answer, inl (a, w, there m, g, la, each_cons (λ b. Names b.writes x → b.stamp ≤ s → b.stamp ≤ a.stamp) (λ n l. older) most, e))
+  | inr older ↦ (answer, inl (a, there m, g, la, each_cons (λ b. Names b.writes x → b.stamp ≤ s → b.stamp ≤ a.stamp) (λ n l. older) most))
 ]
 
 pub snapshot_of : (cs : List Commit) (s : ℕ) (x : Cell) → Shown cs s x
@@ -94,7 +94,7 @@ snapshot_of (c ∷ cs) s x = elim (names_of c.writes x) [
   ]
 ]
 
-pub sets_of : (ws : Writes) (x : Cell) (v : Value) → (ws' : Writes) × Sets x v ws ws'
+pub sets_of : (ws : Writes) (x : Cell) (v : Change) → (ws' : Writes) × Sets x v ws ws'
 sets_of [] x v = ((x, v) ∷ [], appends)
 sets_of (w ∷ ws) x v = elim (cases_cell w.0 x) [
   | inl e ↦ ((x, v) ∷ ws, subst (λ (y : Cell). Sets x v ((y, w.1) ∷ ws) ((x, v) ∷ ws)) (sym e) replaces)
@@ -125,7 +125,7 @@ committed_of st t = elim (commit_of st.commits t) [
   | inr absent ↦ inr (λ c. absent (record { start = t; stamp = c.0; writes = c.1.0 }, c.1.1, refl))
 ]
 
-pub put_of : (ws : Writes) (k : ℕ) → k < length ws → (u : Cell × Value) × (slice_get ws k ≡ Some u)
+pub put_of : (ws : Writes) (k : ℕ) → k < length ws → (u : Cell × Change) × (slice_get ws k ≡ Some u)
 put_of [] k h = absurd (omega arith)
 put_of (w ∷ ws) zero h = (w, refl)
 put_of (w ∷ ws) (suc k) h = put_of ws k (omega arith)

@@ -6,9 +6,9 @@ use Rattle.std.specs.FinMap.{get, insert, remove, get-empty}
 use Rattle.std.proofs.lemmas.Bool.{cases_eq}
 use Rattle.std.proofs.lemmas.Option.{same_Some, none-some}
 use Rattle.si_model.specs.Sets.{◌∈◌, here, there, IsWithout}
-use Rattle.si_model.specs.Machine.{State, Value, Writes, Open, Stamped, Finishing, Commit, Cleaner, Request, Reply, InPhase, Wrote, Marked, Puts, IsDead, IsCommitted, HasHeld}
+use Rattle.si_model.specs.Machine.{State, Change, Writes, Open, Stamped, Finishing, Commit, Cleaner, Request, Reply, InPhase, Wrote, Marked, Puts, IsDead, IsCommitted, HasHeld}
 use Rattle.si_model.specs.declared.replies.Cell.{Cell}
-use Rattle.si_model.specs.Machine.{Acts, tells, begins, reads, sets, holds, conflicts, draws, loses, commits, finishes, stops, opens, kills, learns, rolls_forward, rolls_back, finds_gone, collects, has_collected, splits, moves_tablet, Step, refuses, accepts}
+use Rattle.si_model.specs.Machine.{Acts, tells, begins, reads, sets, deletes, holds, conflicts, draws, loses, commits, finishes, stops, opens, kills, learns, rolls_forward, rolls_back, finds_gone, collects, has_collected, splits, moves_tablet, Step, refuses, accepts}
 use Rattle.si_model.specs.Machine.{Run, rests, goes_on, IsReached, begins_new, runs, reopens, new_machine, reopened}
 use Rattle.si_model.specs.Laws.{FateSeen}
 use Rattle.si_model.proofs.Tools.{each_cons, get_other, each_insert, each_remove, same_entry}
@@ -21,7 +21,7 @@ use Rattle.si_model.proofs.Gone.{acts_placed, acts_no_return}
 pub record Primary (st : State) (t : ℕ) : Type 0 where
   pub x : Cell
   pub ws : Writes
-  pub v : Value
+  pub v : Change
   pub wrote : Wrote st t ws
   pub puts : Puts ws 0 x v
   pub placed : HasTried st x t
@@ -47,6 +47,10 @@ acts_wrote : {st st' : State} {q : Request} {r : Reply} → Sound st → Acts st
 acts_wrote i (tells t) y u p ws w = w
 acts_wrote {st} i (begins {s = s} d) y u p ws w = let low = i.start_low u ws w in let new = d.0 in let ne : u ≢ s = omega arith in get_other st.begun s [] u ne ∙ w
 acts_wrote {st} i (sets {s = s} {ws' = ws'} h w' by) y u p ws w = elim (cases_eq u s) [
+  | inl e ↦ absurd (p.past Open (subst (λ v. InPhase st v Open) (sym e) h))
+  | inr ne ↦ get_other st.begun s ws' u ne ∙ w
+]
+acts_wrote {st} i (deletes {s = s} {ws' = ws'} h w' by) y u p ws w = elim (cases_eq u s) [
   | inl e ↦ absurd (p.past Open (subst (λ v. InPhase st v Open) (sym e) h))
   | inr ne ↦ get_other st.begun s ws' u ne ∙ w
 ]
@@ -97,6 +101,7 @@ acts_fate {st} {st'} i (rolls_back {i = n} {t = t} {x = x} is m nc less) y u f =
 acts_fate i (begins d) y u f = f
 acts_fate i (reads h none shown) y u f = f
 acts_fate i (sets h w by) y u f = f
+acts_fate i (deletes h w by) y u f = f
 acts_fate i (conflicts h w puts clash) y u f = f
 acts_fate i (draws h w d) y u f = f
 acts_fate i (loses h d) y u f = f
@@ -115,17 +120,17 @@ still_known i s u k = record { first = still_primary i s u k.first; fate = acts_
 still_over : {st st' : State} {q : Request} {r : Reply} → Sound st → Acts st q r st' → (u : ℕ) → IsOver st u → IsOver st' u
 still_over i s u o = record { first = still_primary i s u o.first; left = λ m. o.left (acts_no_return i s o.first.x u o.first.placed m) }
 
-primary_is : (st : State) (t : ℕ) (ws : Writes) (x : Cell) (v : Value) (p : Primary st t) → Wrote st t ws → Puts ws 0 x v → p.x ≡ x
+primary_is : (st : State) (t : ℕ) (ws : Writes) (x : Cell) (v : Change) (p : Primary st t) → Wrote st t ws → Puts ws 0 x v → p.x ≡ x
 primary_is st t ws x v p w puts =
-    let pairs : ◌≡◌ {A = Option (Cell × Value)} (Some (p.x, p.v)) (Some (x, v)) = sym p.puts ∙ (ap (λ (l : Writes). slice_get l 0) (same_entry st.begun t p.ws ws p.wrote w) ∙ puts) in
-    ap (λ (q : Cell × Value). q.0) (same_Some (p.x, p.v) (x, v) pairs)
+    let pairs : ◌≡◌ {A = Option (Cell × Change)} (Some (p.x, p.v)) (Some (x, v)) = sym p.puts ∙ (ap (λ (l : Writes). slice_get l 0) (same_entry st.begun t p.ws ws p.wrote w) ∙ puts) in
+    ap (λ (q : Cell × Change). q.0) (same_Some (p.x, p.v) (x, v) pairs)
 
-first_put : (ws : Writes) (k : ℕ) (x : Cell) (v : Value) → Puts ws k x v → (q : Cell × Value) × (slice_get ws 0 ≡ Some q)
+first_put : (ws : Writes) (k : ℕ) (x : Cell) (v : Change) → Puts ws k x v → (q : Cell × Change) × (slice_get ws 0 ≡ Some q)
 first_put [] k x v puts = absurd (none-some (x, v) puts)
 first_put (q ∷ ws) k x v puts = (q, refl)
 
 -- a start that holds a further cell is known: its first mark stands, unless it is dead
-known_before : (st : State) (t k : ℕ) (ws : Writes) (x : Cell) (v : Value) → Sound st → HasHeld st t k → Wrote st t ws → Puts ws k x v → 0 < k → IsKnown st t
+known_before : (st : State) (t k : ℕ) (ws : Writes) (x : Cell) (v : Change) → Sound st → HasHeld st t k → Wrote st t ws → Puts ws k x v → 0 < k → IsKnown st t
 known_before st t k ws x v i h w puts more = record {
   first = record {
     x = one.0.0;
@@ -141,18 +146,18 @@ known_before st t k ws x v i h w puts more = record {
     hp : HeldPhase st t k
     hp = held_phase st t k h
 
-    one : (q : Cell × Value) × (slice_get ws 0 ≡ Some q)
+    one : (q : Cell × Change) × (slice_get ws 0 ≡ Some q)
     one = first_put ws k x v puts
 
 -- the new mark
-known_held : {st st' : State} {q : Request} {r : Reply} (t k : ℕ) (ws : Writes) (x : Cell) (v : Value) → Sound st → Acts st q r st' → Wrote st t ws → HasHeld st t k → Puts ws k x v → Wrote st' t ws → Marked st' x t → IsKnown st' t
+known_held : {st st' : State} {q : Request} {r : Reply} (t k : ℕ) (ws : Writes) (x : Cell) (v : Change) → Sound st → Acts st q r st' → Wrote st t ws → HasHeld st t k → Puts ws k x v → Wrote st' t ws → Marked st' x t → IsKnown st' t
 known_held {st} {st'} t zero ws x v i s w h puts w' m = record {
   first = record { x = x; ws = ws; v = v; wrote = w'; puts = puts; placed = (acts_sound i s).placed x t m };
   fate = inl m;
 }
 known_held {st} {st'} t (suc k) ws x v i s w h puts w' m = still_known i s t (known_before st t (suc k) ws x v i h w puts (omega arith))
 
-over_now : (st : State) (t : ℕ) (ws : Writes) (x : Cell) (v : Value) (marks : List (Cell × ℕ)) → Primary st t → Wrote st t ws → Puts ws 0 x v → IsWithout marks (x, t) st.marks → IsOver st t
+over_now : (st : State) (t : ℕ) (ws : Writes) (x : Cell) (v : Change) (marks : List (Cell × ℕ)) → Primary st t → Wrote st t ws → Puts ws 0 x v → IsWithout marks (x, t) st.marks → IsOver st t
 over_now st t ws x v marks p w puts less = record {
   first = p;
   left = λ m. ((less.same (p.x, t)).0 m).1 (ap (λ y. (y, t)) (primary_is st t ws x v p w puts));
@@ -217,6 +222,7 @@ acts_fates {st} {st'} i f (opens {x = x} {t = t} m room) =
 acts_fates {st} {st'} i f (begins d) = let s : Acts st _ _ st' = begins d in fates_by i f s (λ y u m. m) f.of_cleaner (λ u d. d) (λ a m. m)
 acts_fates {st} {st'} i f (reads h none shown) = let s : Acts st _ _ st' = reads h none shown in fates_by i f s (λ y u m. m) f.of_cleaner (λ u d. d) (λ a m. m)
 acts_fates {st} {st'} i f (sets h w by) = let s : Acts st _ _ st' = sets h w by in fates_by i f s (λ y u m. m) f.of_cleaner (λ u d. d) (λ a m. m)
+acts_fates {st} {st'} i f (deletes h w by) = let s : Acts st _ _ st' = deletes h w by in fates_by i f s (λ y u m. m) f.of_cleaner (λ u d. d) (λ a m. m)
 acts_fates {st} {st'} i f (conflicts h w puts clash) = let s : Acts st _ _ st' = conflicts h w puts clash in fates_by i f s (λ y u m. m) f.of_cleaner (λ u d. d) (λ a m. m)
 acts_fates {st} {st'} i f (draws h w d) = let s : Acts st _ _ st' = draws h w d in fates_by i f s (λ y u m. m) f.of_cleaner (λ u d. d) (λ a m. m)
 acts_fates {st} {st'} i f (loses h d) = let s : Acts st _ _ st' = loses h d in fates_by i f s (λ y u m. m) f.of_cleaner (λ u d. d) (λ a m. m)
@@ -273,10 +279,10 @@ reached_fates begins_new = new_fates
 reached_fates (runs r run) = run_fates (reached_sound r) (reached_fates r) run
 reached_fates (reopens {st = st} r) = reopened_fates st (reached_fates r)
 
-first_gone : (st : State) (t : ℕ) (ws : Writes) (x : Cell) (v : Value) → Wrote st t ws → Puts ws 0 x v → IsOver st t → ¬ Marked st x t
+first_gone : (st : State) (t : ℕ) (ws : Writes) (x : Cell) (v : Change) → Wrote st t ws → Puts ws 0 x v → IsOver st t → ¬ Marked st x t
 first_gone st t ws x v w puts o m = o.left (subst (λ (y : Cell). Marked st y t) (sym (primary_is st t ws x v o.first w puts)) m)
 
-first_known : (st : State) (t : ℕ) (ws : Writes) (x : Cell) (v : Value) → Wrote st t ws → Puts ws 0 x v → IsKnown st t → Marked st x t ⊎ (IsCommitted st t ⊎ IsDead st t)
+first_known : (st : State) (t : ℕ) (ws : Writes) (x : Cell) (v : Change) → Wrote st t ws → Puts ws 0 x v → IsKnown st t → Marked st x t ⊎ (IsCommitted st t ⊎ IsDead st t)
 first_known st t ws x v w puts k = subst (λ (y : Cell). Marked st y t ⊎ (IsCommitted st t ⊎ IsDead st t)) (primary_is st t ws x v k.first w puts) k.fate
 
 pub fate_seen : (st : State) → IsReached st → FateSeen st

@@ -9,8 +9,8 @@ use Rattle.cell_key.specs.declared.refusals.Refusal.TheVariants.{UnknownSession,
 use Rattle.si_model.specs.declared.replies.Cell.{Cell}
 use Rattle.si_model.specs.Machine.{State, Value, Writes, Phase, Open, InPhase, Wrote, Names, Marked, HasTablet, IsEnd, Applies, Refuses}
 use Rattle.si_model.specs.Machine.{most_sessions, most_cleaners, most_collectors, most_tablets, most_servers, most_writes, most_value, most_visits}
-use Rattle.si_model.specs.Machine.{Begin, Get, Set, Advance, Stop, CleanBegin, CleanStep, CollectBegin, CollectStep, Minor, Merge, Major, Split, Move, Raw}
-use Rattle.si_model.specs.Refusing.{begin_full, get_unknown, get_late, get_row, get_family, set_unknown, set_late, set_row, set_family, set_long, set_full, advance_unknown, advance_empty, stop_unknown, clean_row, clean_family, clean_full, clean_unknown, collect_full, collect_unknown, collect_none, collect_many, minor_unknown, merge_unknown, merge_few, major_unknown, split_row, split_end, split_full, move_unknown, move_server, raw_row, raw_family}
+use Rattle.si_model.specs.Machine.{Begin, Get, Set, Delete, Advance, Stop, CleanBegin, CleanStep, CollectBegin, CollectStep, Minor, Merge, Major, Split, Move, Raw}
+use Rattle.si_model.specs.Refusing.{begin_full, get_unknown, get_late, get_row, get_family, set_unknown, set_late, set_row, set_family, set_long, set_full, delete_unknown, delete_late, delete_row, delete_family, delete_full, advance_unknown, advance_empty, stop_unknown, clean_row, clean_family, clean_full, clean_unknown, collect_full, collect_unknown, collect_none, collect_many, minor_unknown, merge_unknown, merge_few, major_unknown, split_row, split_end, split_full, move_unknown, move_server, raw_row, raw_family}
 use Rattle.si_model.specs.Refusing.Refuses.{applies_first}
 use Rattle.si_model.proofs.Tools.{same_entry}
 use Rattle.si_model.proofs.Acceptable.{no_entry}
@@ -122,6 +122,56 @@ set_full_first {st} {s} {x} {v} h row family short ws w none full = applies_firs
     first m (set_family b) = absurd (b family)
     first m (set_long l) = absurd (omega arith)
     first m (set_full u n f) = inl refl
+
+pub delete_unknown_first : {st : State} {s : ℕ} {x : Cell} → (e : get st.active s ≡ None) → Refuses st (Delete s x) UnknownSession
+delete_unknown_first {st} {s} {x} e = applies_first (record { applies = delete_unknown e; first = first })
+  where
+    first : (m : Refusal) → Applies st (Delete s x) m → (m ≡ UnknownSession) ⊎ (refusal_number UnknownSession < refusal_number m)
+    first m (delete_unknown f) = inl refl
+    first m (delete_late {p = p} g late) = inr (lit< tt)
+    first m (delete_row b) = inr (lit< tt)
+    first m (delete_family b) = inr (lit< tt)
+    first m (delete_full u n f) = inr (lit< tt)
+
+pub delete_late_first : {st : State} {s : ℕ} {x : Cell} → (p : Phase) → (h : InPhase st s p) → (late : p ≢ Open) → Refuses st (Delete s x) WrongPhase
+delete_late_first {st} {s} {x} p h late = applies_first (record { applies = delete_late h late; first = first })
+  where
+    first : (m : Refusal) → Applies st (Delete s x) m → (m ≡ WrongPhase) ⊎ (refusal_number WrongPhase < refusal_number m)
+    first m (delete_unknown e) = absurd (no_entry st.active s p h e)
+    first m (delete_late g l) = inl refl
+    first m (delete_row b) = inr (lit< tt)
+    first m (delete_family b) = inr (lit< tt)
+    first m (delete_full u n f) = inr (lit< tt)
+
+pub delete_row_first : {st : State} {s : ℕ} {x : Cell} → (h : InPhase st s Open) → (bad : ¬ IsRow x.row) → Refuses st (Delete s x) BadRow
+delete_row_first {st} {s} {x} h bad = applies_first (record { applies = delete_row bad; first = first })
+  where
+    first : (m : Refusal) → Applies st (Delete s x) m → (m ≡ BadRow) ⊎ (refusal_number BadRow < refusal_number m)
+    first m (delete_unknown e) = absurd (no_entry st.active s Open h e)
+    first m (delete_late {p = p} g late) = absurd (late (same_entry st.active s p Open g h))
+    first m (delete_row b) = inl refl
+    first m (delete_family b) = inr (lit< tt)
+    first m (delete_full u n f) = inr (lit< tt)
+
+pub delete_family_first : {st : State} {s : ℕ} {x : Cell} → (h : InPhase st s Open) → (row : IsRow x.row) → (bad : ¬ IsFamily x.family) → Refuses st (Delete s x) BadColumn
+delete_family_first {st} {s} {x} h row bad = applies_first (record { applies = delete_family bad; first = first })
+  where
+    first : (m : Refusal) → Applies st (Delete s x) m → (m ≡ BadColumn) ⊎ (refusal_number BadColumn < refusal_number m)
+    first m (delete_unknown e) = absurd (no_entry st.active s Open h e)
+    first m (delete_late {p = p} g late) = absurd (late (same_entry st.active s p Open g h))
+    first m (delete_row b) = absurd (b row)
+    first m (delete_family b) = inl refl
+    first m (delete_full u n f) = inr (lit< tt)
+
+pub delete_full_first : {st : State} {s : ℕ} {x : Cell} → (h : InPhase st s Open) → (row : IsRow x.row) → (family : IsFamily x.family) → (ws : Writes) → (w : Wrote st s ws) → (none : ¬ Names ws x) → (full : most_writes ≤ length ws) → Refuses st (Delete s x) TooManyWrites
+delete_full_first {st} {s} {x} h row family ws w none full = applies_first (record { applies = delete_full w none full; first = first })
+  where
+    first : (m : Refusal) → Applies st (Delete s x) m → (m ≡ TooManyWrites) ⊎ (refusal_number TooManyWrites < refusal_number m)
+    first m (delete_unknown e) = absurd (no_entry st.active s Open h e)
+    first m (delete_late {p = p} g late) = absurd (late (same_entry st.active s p Open g h))
+    first m (delete_row b) = absurd (b row)
+    first m (delete_family b) = absurd (b family)
+    first m (delete_full u n f) = inl refl
 
 pub advance_unknown_first : {st : State} {s : ℕ} → (e : get st.active s ≡ None) → Refuses st (Advance s) UnknownSession
 advance_unknown_first {st} {s} e = applies_first (record { applies = advance_unknown e; first = first })

@@ -3,12 +3,13 @@ use Rattle.std.proofs.Common.{◌≡◌, ◌≢◌, ℕ, true, false, cond, [], 
 use Rattle.std.specs.Prelude.{nat_eq}
 use Rattle.std.specs.FinMap.{get, insert, remove}
 use Rattle.si_model.specs.Machine.{State, Phase, Open, Holding, Stamped, Finishing, Request, Reply, Writes, Wrote, InPhase, finishing}
-use Rattle.si_model.specs.Machine.{Acts, tells, begins, reads, sets, holds, conflicts, draws, loses, commits, finishes, stops, opens, kills, learns, rolls_forward, rolls_back, finds_gone, collects, has_collected, splits, moves_tablet, Step, refuses, accepts, goes_on, rests, IsReached}
+use Rattle.si_model.specs.Machine.{Acts, tells, begins, reads, sets, deletes, holds, conflicts, draws, loses, commits, finishes, stops, opens, kills, learns, rolls_forward, rolls_back, finds_gone, collects, has_collected, splits, moves_tablet, Step, refuses, accepts, goes_on, rests, IsReached}
 use Rattle.si_model.specs.Laws.{Goes}
 use Rattle.si_model.proofs.Tools.{get_other, each_insert, each_remove}
 use Rattle.si_model.proofs.Invariant.{Sound}
 use Rattle.si_model.proofs.Steps.{reached_sound}
 use Rattle.si_model.proofs.Floors.{stays_cleared}
+use Rattle.si_model.proofs.LastingMarks.{have_tried}
 
 -- the writes of a start that isn't open stay, and it doesn't get open again
 record OpenStays (st st' : State) : Type 0 where
@@ -43,6 +44,10 @@ acts_open {st} i (sets {s = s} {ws' = ws'} h w' by) = record {
   wrote = λ u ws w late. get_other st.begun s ws' u (λ e. late (subst (λ v. InPhase st v Open) (sym e) h)) ∙ w;
   late = λ u ws w late. late;
 }
+acts_open {st} i (deletes {s = s} {ws' = ws'} h w' by) = record {
+  wrote = λ u ws w late. get_other st.begun s ws' u (λ e. late (subst (λ v. InPhase st v Open) (sym e) h)) ∙ w;
+  late = λ u ws w late. late;
+}
 acts_open {st} {st'} i (reads h none shown) = goes_by st st' refl (λ u h. h)
 acts_open {st} {st'} i (holds {t = t} {k = k} h w puts free) = goes_by st st' refl (goes_open st t (Holding (k + 1)) (λ e. cc))
 acts_open {st} {st'} i (conflicts {t = t} h w puts clash) = goes_by st st' refl (ends_open st t)
@@ -69,4 +74,9 @@ step_open i (accepts ok a) = acts_open i a
 pub goes : {st st' : State} {q : Request} {r : Reply} → IsReached st → Step st q r st' → Goes st st'
 goes {st} {st'} {q} {r} reached s =
     let o = step_open (reached_sound reached) s in
-    record { wrote = o.wrote; late = o.late; cleared = λ n k. stays_cleared st reached st' (q ∷ []) (r ∷ []) (goes_on s rests) n k }
+    record {
+      wrote = o.wrote;
+      marked = λ x u ws m w. o.wrote u ws w (λ h. ((have_tried st reached).marked x u m).past Open h);
+      late = o.late;
+      cleared = λ n k. stays_cleared st reached st' (q ∷ []) (r ∷ []) (goes_on s rests) n k;
+    }

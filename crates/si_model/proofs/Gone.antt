@@ -4,9 +4,9 @@ use Rattle.std.specs.Prelude.{slice_get, nat_eq}
 use Rattle.std.specs.FinMap.{get, insert, remove}
 use Rattle.std.proofs.lemmas.Option.{same_Some, none-some}
 use Rattle.si_model.specs.Sets.{◌∈◌, here, there}
-use Rattle.si_model.specs.Machine.{State, Value, Writes, Phase, Finishing, Commit, Request, Reply, InPhase, Wrote, Marked, Puts, HasHeld, finishing}
+use Rattle.si_model.specs.Machine.{State, Change, Writes, Phase, Finishing, Commit, Request, Reply, InPhase, Wrote, Marked, Puts, HasHeld, finishing}
 use Rattle.si_model.specs.declared.replies.Cell.{Cell}
-use Rattle.si_model.specs.Machine.{Acts, tells, begins, reads, sets, holds, conflicts, draws, loses, commits, finishes, stops, opens, kills, learns, rolls_forward, rolls_back, finds_gone, collects, has_collected, splits, moves_tablet, Step, refuses, accepts}
+use Rattle.si_model.specs.Machine.{Acts, tells, begins, reads, sets, deletes, holds, conflicts, draws, loses, commits, finishes, stops, opens, kills, learns, rolls_forward, rolls_back, finds_gone, collects, has_collected, splits, moves_tablet, Step, refuses, accepts}
 use Rattle.si_model.specs.Machine.{Run, rests, goes_on, IsReached}
 use Rattle.si_model.specs.Laws.{OneFate, GoneForGood}
 use Rattle.si_model.proofs.Tools.{each_cons, each_insert, each_remove, same_entry, one_place}
@@ -48,6 +48,7 @@ acts_placed i (tells t) y u p = p
 acts_placed {st} i (begins {s = s} d) y u p = Kept.begun_placed st s d.0 i y u p
 acts_placed {st} {st'} i (reads h none shown) y u p = same_placed st st' refl refl y u p
 acts_placed {st} i (sets {s = s} {ws' = ws'} h w by) y u p = Kept.rewritten_placed st s ws' h y u p
+acts_placed {st} i (deletes {s = s} {ws' = ws'} h w by) y u p = Kept.rewritten_placed st s ws' h y u p
 acts_placed {st} i (holds {t = t} {k = k} {x = x} h w puts free) y u p = Kept.held_placed st t k x h y u p
 acts_placed {st} i (conflicts {t = t} h w puts clash) y u p = ended_placed st t y u p
 acts_placed {st} i (draws {t = t} {c = c} {ws = ws} h w d) y u p = Kept.stamped_placed st t c ws d.0 h y u p
@@ -67,7 +68,7 @@ acts_placed {st} {st'} i (splits cut) y u p = same_placed st st' refl refl y u p
 acts_placed {st} {st'} i (moves_tablet is_moved) y u p = same_placed st st' refl refl y u p
 
 -- where t holds x now, it has not had its chance before
-not_again : {st : State} {t k : ℕ} {ws : Writes} {x : Cell} {v : Value} → Sound st → HasHeld st t k → Wrote st t ws → Puts ws k x v → HasTried st x t → ⊥
+not_again : {st : State} {t k : ℕ} {ws : Writes} {x : Cell} {v : Change} → Sound st → HasHeld st t k → Wrote st t ws → Puts ws k x v → HasTried st x t → ⊥
 not_again {st} {t} {k} {ws} {x} {v} i h w puts p =
     let hp = Kept.held_phase st t k h in
     let before : p.k < k = hp.below p.k (p.past hp.p hp.is) in
@@ -80,6 +81,7 @@ acts_no_return i (tells t) y u p m = m
 acts_no_return i (begins d) y u p m = m
 acts_no_return i (reads h none shown) y u p m = m
 acts_no_return i (sets h w by) y u p m = m
+acts_no_return i (deletes h w by) y u p m = m
 acts_no_return {st} i (holds {t = t} {x = x} h w puts free) y u p m =
     each_cons (λ (n : Cell × ℕ). n ≡ (y, u) → Marked st y u)
     (λ e. absurd (not_again i h w puts (subst (λ (n : Cell × ℕ). HasTried st n.0 n.1) (sym e) p)))

@@ -2,7 +2,7 @@
 use Rattle.std.proofs.Common.{◌≡◌, ◌≢◌, ℕ, ◌<◌, ◌≤◌, true, List, [], ◌∷◌, Some, ◌⊎◌}
 use Rattle.std.specs.FinMap.{get}
 use Rattle.si_model.specs.Sets.{◌∈◌}
-use Rattle.si_model.specs.Machine.{State, Value, Writes, Phase, Stamped, Finishing, Commit, Read, Cleaner, InPhase, Wrote, Marked, Puts, Names, IsDead, CommittedAt, IsCommitted}
+use Rattle.si_model.specs.Machine.{State, Change, Writes, Phase, Stamped, Finishing, Commit, Read, Cleaner, InPhase, Wrote, Marked, Puts, Names, IsDead, CommittedAt, IsCommitted}
 use Rattle.si_model.specs.declared.replies.Cell.{Cell}
 pub use Rattle.si_model.specs.Enduring.{IsPast, HasTried}
 use Rattle.si_model.specs.Laws.{IsSettled, FirstCommitterWins, OneMark}
@@ -40,7 +40,7 @@ pub record Sound (st : State) : Type 0 where
   pub uncommitted : (t : ℕ) (p : Phase) → InPhase st t p → IsLive p → (a : Commit) → a ∈ st.commits → a.start ≢ t
   -- the marks of a live session stand, unless it is dead
   pub stands : (t : ℕ) (p : Phase) → InPhase st t p → IsLive p → (ws : Writes) → Wrote st t ws
-      → IsDead st t ⊎ ((k : ℕ) (x : Cell) (v : Value) → Puts ws k x v → IsPast p k → Marked st x t)
+      → IsDead st t ⊎ ((k : ℕ) (x : Cell) (v : Change) → Puts ws k x v → IsPast p k → Marked st x t)
   pub drawn : (t : ℕ) (p : Phase) → InPhase st t p → (c : ℕ) → p ≡ Stamped c → IsOwn st t c
   pub finishes : (t : ℕ) (p : Phase) → InPhase st t p → (c k : ℕ) → p ≡ Finishing c k → CommittedAt st t c
   -- marks

@@ -6,7 +6,7 @@ use Rattle.std.specs.FinMap.{FinMap, get, insert, remove}
 use Rattle.std.proofs.lemmas.Bool.{cases_eq, cases_lt}
 use Rattle.std.proofs.lemmas.Option.{same_Some, slice_get_within}
 use Rattle.si_model.specs.Sets.{◌∈◌, here, there, IsWithout}
-use Rattle.si_model.specs.Machine.{State, Value, Writes, Phase, Open, Holding, Stamped, Finishing, Commit, Read, Cleaner, Place, InPhase, Wrote, Marked, Puts, Names, IsDead, CommittedAt, IsCommitted, IsSnapshot, Clashes, HasHeld, finishing}
+use Rattle.si_model.specs.Machine.{State, Value, Change, Writes, Phase, Open, Holding, Stamped, Finishing, Commit, Read, Cleaner, Place, InPhase, Wrote, Marked, Puts, Names, IsDead, CommittedAt, IsCommitted, IsSnapshot, Clashes, HasHeld, finishing}
 use Rattle.si_model.specs.declared.replies.Cell.{Cell}
 use Rattle.si_model.proofs.Tools.{each_cons, get_same, get_other, each_insert, each_remove, same_entry, CellsDiffer}
 use Rattle.si_model.proofs.Invariant.{IsLive, IsPast, HasTried, IsOwn, IsFair, Sound}
@@ -40,7 +40,7 @@ module _ (st : State) (s : ℕ) (new : st.top < s) where
         (λ t p ne h. let b = i.has_begun t p h in (b.0, get_other st.begun s [] t ne ∙ b.1));
     uncommitted = each_insert st.active s (λ t p. IsLive p → (a : Commit) → a ∈ st.commits → a.start ≢ t) Open
         (λ l a m. let low = i.start_low a.start a.writes (i.fair a m).wrote in omega arith) (λ t p ne h. i.uncommitted t p h);
-    stands = each_insert st.active s (λ t p. IsLive p → (ws : Writes) → Wrote begun t ws → IsDead st t ⊎ ((k : ℕ) (x : Cell) (v : Value) → Puts ws k x v → IsPast p k → Marked st x t)) Open
+    stands = each_insert st.active s (λ t p. IsLive p → (ws : Writes) → Wrote begun t ws → IsDead st t ⊎ ((k : ℕ) (x : Cell) (v : Change) → Puts ws k x v → IsPast p k → Marked st x t)) Open
         (λ l ws w. inr (λ k x v h b. absurd b)) (λ t p ne h l ws w. i.stands t p h l ws (sym (get_other st.begun s [] t ne) ∙ w));
     drawn = each_insert st.active s (λ t p. (c : ℕ) → p ≡ Stamped c → IsOwn begun t c) Open
         (λ c e. cc) (λ t p ne h c e. let o = i.drawn t p h c e in record {
@@ -198,14 +198,14 @@ module _ (st : State) (t k : ℕ) (x : Cell) where
       record { ws = p.ws; k = p.k; v = p.v; wrote = p.wrote; puts = p.puts; past = p.past }
 
   -- the marks of the session stand after it
-  stands_on : (i : Sound st) → HasHeld st t k → (ws : Writes) (v : Value) → Wrote st t ws → Puts ws k x v → (us : Writes) → Wrote st t us
-      → IsDead st t ⊎ ((j : ℕ) (y : Cell) (w : Value) → Puts us j y w → IsPast (Holding (k + 1)) j → Marked held y t)
+  stands_on : (i : Sound st) → HasHeld st t k → (ws : Writes) (v : Change) → Wrote st t ws → Puts ws k x v → (us : Writes) → Wrote st t us
+      → IsDead st t ⊎ ((j : ℕ) (y : Cell) (w : Change) → Puts us j y w → IsPast (Holding (k + 1)) j → Marked held y t)
   stands_on i h ws v w puts us g = elim (i.stands t hp.p hp.is hp.live us g) [
     | inl d ↦ inl d
     | inr f ↦ inr (λ j y z at past. elim (cases_lt j k) [
       | inl lt ↦ there (f j y z at (hp.above j lt))
       | inr ge ↦ let e : j ≡ k = omega arith in
-          let same : ◌≡◌ {A = Cell × Value} (y, z) (x, v) = same_Some (y, z) (x, v) (sym at ∙ (ap (slice_get us) e ∙ (ap (λ (l : Writes). slice_get l k) (same_entry st.begun t us ws g w) ∙ puts))) in
+          let same : ◌≡◌ {A = Cell × Change} (y, z) (x, v) = same_Some (y, z) (x, v) (sym at ∙ (ap (slice_get us) e ∙ (ap (λ (l : Writes). slice_get l k) (same_entry st.begun t us ws g w) ∙ puts))) in
           subst (λ (q : Cell). (q, t) ∈ ((x, t) ∷ st.marks)) (ap (λ q. q.0) (sym same)) here
     ])
   ]
@@ -213,14 +213,14 @@ module _ (st : State) (t k : ℕ) (x : Cell) where
       hp : HeldPhase st t k
       hp = held_phase st t k h
 
-  pub held_sound : HasHeld st t k → (ws : Writes) (v : Value) → Wrote st t ws → Puts ws k x v → ¬ Clashes st x t → Sound st → Sound held
+  pub held_sound : HasHeld st t k → (ws : Writes) (v : Change) → Wrote st t ws → Puts ws k x v → ¬ Clashes st x t → Sound st → Sound held
   held_sound h ws v w puts free i = record {
     start_low = i.start_low;
     cells_differ = i.cells_differ;
     has_begun = each_insert st.active t (λ u p. (us : Writes) × Wrote st u us) (Holding (k + 1)) (ws, w) (λ u p ne g. i.has_begun u p g);
     uncommitted = each_insert st.active t (λ u p. IsLive p → (a : Commit) → a ∈ st.commits → a.start ≢ u) (Holding (k + 1))
         (λ l. i.uncommitted t hp.p hp.is hp.live) (λ u p ne g. i.uncommitted u p g);
-    stands = each_insert st.active t (λ u p. IsLive p → (us : Writes) → Wrote st u us → IsDead st u ⊎ ((j : ℕ) (y : Cell) (z : Value) → Puts us j y z → IsPast p j → Marked held y u)) (Holding (k + 1))
+    stands = each_insert st.active t (λ u p. IsLive p → (us : Writes) → Wrote st u us → IsDead st u ⊎ ((j : ℕ) (y : Cell) (z : Change) → Puts us j y z → IsPast p j → Marked held y u)) (Holding (k + 1))
         (λ l. stands_on i h ws v w puts)
         (λ u p ne g l us gw. elim (i.stands u p g l us gw) [ inl d ↦ inl d | inr f ↦ inr (λ j y z at past. there (f j y z at past)) ]);
     drawn = each_insert st.active t (λ u p. (c : ℕ) → p ≡ Stamped c → IsOwn held u c) (Holding (k + 1)) (λ c e. cc)
@@ -294,7 +294,7 @@ module _ (st : State) (t c : ℕ) (ws : Writes) (new : st.top < c) where
       record { ws = p.ws; k = p.k; v = p.v; wrote = p.wrote; puts = p.puts; past = p.past }
 
   all_stand : (i : Sound st) → InPhase st t (Holding (length ws)) → Wrote st t ws → (us : Writes) → Wrote st t us
-      → IsDead st t ⊎ ((j : ℕ) (y : Cell) (w : Value) → Puts us j y w → IsPast (Stamped c) j → Marked st y t)
+      → IsDead st t ⊎ ((j : ℕ) (y : Cell) (w : Change) → Puts us j y w → IsPast (Stamped c) j → Marked st y t)
   all_stand i h w us g = elim (i.stands t (Holding (length ws)) h tt us g) [
     | inl d ↦ inl d
     | inr f ↦ inr (λ j y z at past. f j y z at (subst (λ (l : Writes). j < length l) (same_entry st.begun t us ws g w) (slice_get_within us j (y, z) at)))
@@ -328,7 +328,7 @@ module _ (st : State) (t c : ℕ) (ws : Writes) (new : st.top < c) where
     has_begun = each_insert st.active t (λ u p. (us : Writes) × Wrote st u us) (Stamped c) (ws, w) (λ u p ne g. i.has_begun u p g);
     uncommitted = each_insert st.active t (λ u p. IsLive p → (a : Commit) → a ∈ st.commits → a.start ≢ u) (Stamped c)
         (λ l. i.uncommitted t (Holding (length ws)) h tt) (λ u p ne g. i.uncommitted u p g);
-    stands = each_insert st.active t (λ u p. IsLive p → (us : Writes) → Wrote st u us → IsDead st u ⊎ ((j : ℕ) (y : Cell) (z : Value) → Puts us j y z → IsPast p j → Marked st y u)) (Stamped c)
+    stands = each_insert st.active t (λ u p. IsLive p → (us : Writes) → Wrote st u us → IsDead st u ⊎ ((j : ℕ) (y : Cell) (z : Change) → Puts us j y z → IsPast p j → Marked st y u)) (Stamped c)
         (λ l. all_stand i h w) (λ u p ne g. i.stands u p g);
     drawn = each_insert st.active t (λ u p. (d : ℕ) → p ≡ Stamped d → IsOwn stamped u d) (Stamped c)
         (λ d e. let f : c ≡ d = cc in subst (λ d. IsOwn stamped t d) f (own i w)) (λ u p ne g d e. still_own i u d (i.drawn u p g d e));
@@ -391,7 +391,7 @@ module _ (st : State) (active' : FinMap nat_cmp Phase) (less : Recedes st active
     cells_differ = i.cells_differ;
     has_begun = each_left (λ u p. (ws : Writes) × Wrote st u ws) i.has_begun (λ u c k m ws w. (ws, w));
     uncommitted = each_left (λ u p. IsLive p → (a : Commit) → a ∈ st.commits → a.start ≢ u) i.uncommitted (λ u c k m ws w l. absurd l);
-    stands = each_left (λ u p. IsLive p → (ws : Writes) → Wrote st u ws → IsDead st u ⊎ ((k : ℕ) (x : Cell) (v : Value) → Puts ws k x v → IsPast p k → Marked st x u)) i.stands (λ u c k m ws w l. absurd l);
+    stands = each_left (λ u p. IsLive p → (ws : Writes) → Wrote st u ws → IsDead st u ⊎ ((k : ℕ) (x : Cell) (v : Change) → Puts ws k x v → IsPast p k → Marked st x u)) i.stands (λ u c k m ws w l. absurd l);
     drawn = each_left (λ u p. (c : ℕ) → p ≡ Stamped c → IsOwn receded u c)
         (λ u p g c e. let o = i.drawn u p g c e in record { later = o.later; low = o.low; no_start = o.no_start; no_commit = o.no_commit; no_other = λ r h. o.no_other r (stamped_before r c h) })
         (λ u c k m ws w d e. cc);
@@ -446,14 +446,12 @@ module _ (st : State) (t c : ℕ) (ws : Writes) where
 
   settled_still : Joins st t c ws → (r : Read) → r ∈ st.reads → (v : Option Value) → IsSnapshot st.commits r.start r.cell v → IsSnapshot joined.commits r.start r.cell v
   settled_still j r m v old = elim old [
-    | inl (a, va, ma, gives, le, most, e) ↦ inl (
+    | inl (a, ma, gives, le, most) ↦ inl (
       a,
-      va,
       there ma,
       gives,
       le,
       each_cons (λ b. Names b.writes r.cell → b.stamp ≤ r.start → b.stamp ≤ a.stamp) (λ n low. let late = j.unread r m n in absurd (omega arith)) most,
-      e,
     )
     | inr (e, none) ↦ inr (e, each_cons (λ b. Names b.writes r.cell → r.start < b.stamp) (j.unread r m) none)
   ]
@@ -503,7 +501,7 @@ module _ (st : State) (x : Cell) (t : ℕ) (marks' : List (Cell × ℕ)) (less :
   was_marked y u m = ((less.same (y, u)).0 m).0
 
   stands_still : IsCommitted st t ⊎ IsDead st t → Sound st → (u : ℕ) (p : Phase) → InPhase st u p → IsLive p → (ws : Writes) → Wrote st u ws
-      → IsDead st u ⊎ ((k : ℕ) (y : Cell) (v : Value) → Puts ws k y v → IsPast p k → (y, u) ∈ marks')
+      → IsDead st u ⊎ ((k : ℕ) (y : Cell) (v : Change) → Puts ws k y v → IsPast p k → (y, u) ∈ marks')
   stands_still fate i u p h l ws w = elim (i.stands u p h l ws w) [
     | inl d ↦ inl d
     | inr f ↦ elim (cases_eq u t) [

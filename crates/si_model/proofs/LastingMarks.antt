@@ -6,7 +6,7 @@ use Rattle.std.proofs.lemmas.Option.{none-some}
 use Rattle.si_model.specs.Sets.{◌∈◌, there}
 use Rattle.si_model.specs.Machine.{State, Commit, Cleaner, Request, Reply, Marked, IsDead}
 use Rattle.si_model.specs.declared.replies.Cell.{Cell}
-use Rattle.si_model.specs.Machine.{Acts, tells, begins, reads, sets, holds, conflicts, draws, loses, commits, finishes, stops, opens, kills, learns, rolls_forward, rolls_back, finds_gone, collects, has_collected, splits, moves_tablet, Step, refuses, accepts}
+use Rattle.si_model.specs.Machine.{Acts, tells, begins, reads, sets, deletes, holds, conflicts, draws, loses, commits, finishes, stops, opens, kills, learns, rolls_forward, rolls_back, finds_gone, collects, has_collected, splits, moves_tablet, Step, refuses, accepts}
 use Rattle.si_model.specs.Machine.{Run, rests, goes_on, IsReached, begins_new, runs, reopens}
 use Rattle.si_model.specs.Laws.{FloorStaysLow}
 use Rattle.si_model.specs.Enduring.{HasTried, HaveTried, Endures}
@@ -26,6 +26,7 @@ acts_marks f (tells t) y u m = inl m
 acts_marks f (begins d) y u m = inl m
 acts_marks f (reads h none shown) y u m = inl m
 acts_marks f (sets h w by) y u m = inl m
+acts_marks f (deletes h w by) y u m = inl m
 acts_marks f (conflicts h w puts clash) y u m = inl m
 acts_marks f (draws h w d) y u m = inl m
 acts_marks f (loses h d) y u m = inl m
@@ -50,6 +51,7 @@ acts_commits (tells t) a i = i
 acts_commits (begins d) a i = i
 acts_commits (reads h none shown) a i = i
 acts_commits (sets h w by) a i = i
+acts_commits (deletes h w by) a i = i
 acts_commits (holds h w puts free) a i = i
 acts_commits (conflicts h w puts clash) a i = i
 acts_commits (draws h w d) a i = i
@@ -74,6 +76,7 @@ acts_dead (tells t) u d = d
 acts_dead (begins e) u d = d
 acts_dead (reads h none shown) u d = d
 acts_dead (sets h w by) u d = d
+acts_dead (deletes h w by) u d = d
 acts_dead (holds h w puts free) u d = d
 acts_dead (conflicts h w puts clash) u d = d
 acts_dead (draws h w e) u d = d
@@ -109,6 +112,7 @@ acts_cleaners s p (tells t) = λ i k g. p i k g
 acts_cleaners s p (begins d) = λ i k g. acts_placed s (begins d) k.cell k.start (p i k g)
 acts_cleaners s p (reads h none shown) = λ i k g. acts_placed s (reads h none shown) k.cell k.start (p i k g)
 acts_cleaners s p (sets h w by) = λ i k g. acts_placed s (sets h w by) k.cell k.start (p i k g)
+acts_cleaners s p (deletes h w by) = λ i k g. acts_placed s (deletes h w by) k.cell k.start (p i k g)
 acts_cleaners s p (holds h w puts free) = λ i k g. acts_placed s (holds h w puts free) k.cell k.start (p i k g)
 acts_cleaners s p (conflicts h w puts clash) = λ i k g. acts_placed s (conflicts h w puts clash) k.cell k.start (p i k g)
 acts_cleaners s p (draws h w d) = λ i k g. acts_placed s (draws h w d) k.cell k.start (p i k g)

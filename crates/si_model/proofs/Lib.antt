@@ -1,4 +1,5 @@
 mod Cleaned
+mod Deletions
 mod Races
 mod Scripts
 mod TabletScript
@@ -23,6 +24,7 @@ pub mod LastingMarks
 pub mod Left
 pub mod Limits
 pub mod Numbers
+pub mod RecordTexts
 pub mod Refusals
 pub mod ShownAt
 pub mod ShownKept

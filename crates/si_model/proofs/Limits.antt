@@ -1,17 +1,17 @@
 -- What sessions write keeps to the limits of rows, families and values.
-use Rattle.std.proofs.Common.{◌≡◌, ℕ, zero, suc, List, [], ◌∷◌, length, ◌⊎◌, inl, inr, sym, subst, ◌∙◌, arith}
+use Rattle.std.proofs.Common.{◌≡◌, ◌≤◌, ℕ, zero, suc, List, [], ◌∷◌, length, Some, None, ◌⊎◌, inl, inr, sym, subst, ◌∙◌, arith}
 use Rattle.std.specs.List.{AllByRecursion}
 use Rattle.std.specs.Ordering.{nat_cmp}
-use Rattle.std.specs.FinMap.{get-empty}
+use Rattle.std.specs.FinMap.{get-empty, insert}
 use Rattle.std.proofs.lemmas.Bool.{cases_eq, cases_lt}
 use Rattle.std.proofs.lemmas.Option.{same_Some, none-some}
 use Rattle.cell_key.specs.Names.{IsRow, IsFamily, IsFamilyByte}
 use Rattle.cell_key.specs.declared.refusals.Refusal.TheVariants.{BadRow, BadColumn, BadValue}
 use Rattle.si_model.specs.declared.replies.Cell.{Cell}
-use Rattle.si_model.specs.Machine.{State, Value, Writes, Request, Reply, Set, Puts, Gives, Sets, appends, replaces, passes, IsAcceptable, most_value}
-use Rattle.si_model.specs.Machine.{Acts, tells, begins, reads, sets, holds, conflicts, draws, loses, commits, finishes, stops, opens, kills, learns, rolls_forward, rolls_back, finds_gone, collects, has_collected, splits, moves_tablet, refuses, accepts}
+use Rattle.si_model.specs.Machine.{State, Value, Change, Writes, Request, Reply, Set, Delete, Wrote, Puts, Gives, Sets, appends, replaces, passes, IsAcceptable, most_value}
+use Rattle.si_model.specs.Machine.{Acts, tells, begins, reads, sets, deletes, holds, conflicts, draws, loses, commits, finishes, stops, opens, kills, learns, rolls_forward, rolls_back, finds_gone, collects, has_collected, splits, moves_tablet, refuses, accepts}
 use Rattle.si_model.specs.Machine.{Run, rests, goes_on, IsReached, begins_new, runs, reopens}
-use Rattle.si_model.specs.Refusing.{set_row, set_family, set_long}
+use Rattle.si_model.specs.Refusing.{set_row, set_family, set_long, delete_row, delete_family}
 use Rattle.si_model.specs.Laws.{IsWritable, WritesWithinLimits}
 use Rattle.si_model.proofs.Tools.{each_insert}
 
@@ -57,16 +57,24 @@ family_or family = elim (cases_lt 0 (length family)) [
   | inr none ↦ inr (λ is. let some = is.some in omega arith)
 ]
 
--- what an accepted Set writes
-set_writable : (st : State) (s : ℕ) (x : Cell) (v : Value) → IsAcceptable st (Set s x v) → IsWritable x v
+-- what an accepted Set or Delete writes
+set_writable : (st : State) (s : ℕ) (x : Cell) (v : Value) → IsAcceptable st (Set s x v) → IsWritable x (Some v)
 set_writable st s x v ok = record {
   row = elim (row_or x.row) [ inl is ↦ is | inr bad ↦ absurd (ok BadRow (set_row bad)) ];
   family = elim (family_or x.family) [ inl is ↦ is | inr bad ↦ absurd (ok BadColumn (set_family bad)) ];
-  value = elim (cases_lt most_value (length v)) [ inl long ↦ absurd (ok BadValue (set_long long)) | inr few ↦ few ];
+  value = λ given e. subst (λ (l : List ℕ). length l ≤ most_value) (same_Some v given e)
+      (elim (cases_lt most_value (length v)) [ inl long ↦ absurd (ok BadValue (set_long long)) | inr few ↦ few ]);
 }
 
--- what the writes after a Set give, it gave, or they gave before
-set_puts : {x : Cell} {v : Value} {ws ws' : Writes} → Sets x v ws ws' → (k : ℕ) (y : Cell) (w : Value) → Puts ws' k y w → (◌≡◌ {A = Cell × Value} (x, v) (y, w)) ⊎ Gives ws y w
+delete_writable : (st : State) (s : ℕ) (x : Cell) → IsAcceptable st (Delete s x) → IsWritable x None
+delete_writable st s x ok = record {
+  row = elim (row_or x.row) [ inl is ↦ is | inr bad ↦ absurd (ok BadRow (delete_row bad)) ];
+  family = elim (family_or x.family) [ inl is ↦ is | inr bad ↦ absurd (ok BadColumn (delete_family bad)) ];
+  value = λ given e. absurd (none-some given e);
+}
+
+-- what the writes after a Set or a Delete make, it made, or they made before
+set_puts : {x : Cell} {v : Change} {ws ws' : Writes} → Sets x v ws ws' → (k : ℕ) (y : Cell) (w : Change) → Puts ws' k y w → (◌≡◌ {A = Cell × Change} (x, v) (y, w)) ⊎ Gives ws y w
 set_puts {x} {v} appends zero y w h = inl (same_Some (x, v) (y, w) h)
 set_puts appends (suc k) y w h = absurd (none-some (y, w) h)
 set_puts {x} {v} replaces zero y w h = inl (same_Some (x, v) (y, w) h)
@@ -74,15 +82,21 @@ set_puts replaces (suc k) y w h = inr (suc k, h)
 set_puts (passes ne by) zero y w h = inr (zero, h)
 set_puts (passes ne by) (suc k) y w h = elim (set_puts by k y w h) [ inl e ↦ inl e | inr g ↦ inr (suc g.0, g.1) ]
 
-acts_within : {st st' : State} {q : Request} {r : Reply} → IsAcceptable st q → Acts st q r st' → WritesWithinLimits st → WritesWithinLimits st'
-acts_within {st} ok (begins {s = s} d) within = each_insert st.begun s (λ t ws. (x : Cell) (v : Value) → Gives ws x v → IsWritable x v) []
-    (λ x v g. absurd (none-some (x, v) g.1)) (λ t ws ne w. within t ws w)
-acts_within {st} ok (sets {s = s} {x = x} {v = v} {ws = ws} {ws' = ws'} h w by) within = each_insert st.begun s (λ t us. (y : Cell) (u : Value) → Gives us y u → IsWritable y u) ws'
+-- a session's writes change
+rewritten_within : (st : State) (s : ℕ) (x : Cell) (v : Change) (ws ws' : Writes) → Wrote st s ws → Sets x v ws ws' → IsWritable x v → WritesWithinLimits st
+    → WritesWithinLimits (record st { begun = insert st.begun s ws' })
+rewritten_within st s x v ws ws' w by writable within = each_insert st.begun s (λ t us. (y : Cell) (u : Change) → Gives us y u → IsWritable y u) ws'
     (λ y u g. elim (set_puts by g.0 y u g.1) [
-      | inl e ↦ subst (λ (p : Cell × Value). IsWritable p.0 p.1) e (set_writable st s x v ok)
+      | inl e ↦ subst (λ (p : Cell × Change). IsWritable p.0 p.1) e writable
       | inr old ↦ within s ws w y u old
     ])
     (λ t us ne g. within t us g)
+
+acts_within : {st st' : State} {q : Request} {r : Reply} → IsAcceptable st q → Acts st q r st' → WritesWithinLimits st → WritesWithinLimits st'
+acts_within {st} ok (begins {s = s} d) within = each_insert st.begun s (λ t ws. (x : Cell) (v : Change) → Gives ws x v → IsWritable x v) []
+    (λ x v g. absurd (none-some (x, v) g.1)) (λ t ws ne w. within t ws w)
+acts_within {st} ok (sets {s = s} {x = x} {v = v} {ws = ws} {ws' = ws'} h w by) within = rewritten_within st s x (Some v) ws ws' w by (set_writable st s x v ok) within
+acts_within {st} ok (deletes {s = s} {x = x} {ws = ws} {ws' = ws'} h w by) within = rewritten_within st s x None ws ws' w by (delete_writable st s x ok) within
 acts_within ok (tells t) within = within
 acts_within ok (reads h none shown) within = within
 acts_within ok (holds h w puts free) within = within

@@ -6,14 +6,14 @@ use Rattle.std.proofs.lemmas.Option.{same_Some}
 use Rattle.cell_key.specs.Names.{IsRow, IsFamily}
 use Rattle.si_model.specs.Sets.{◌∈◌, here, there, IsWithout}
 use Rattle.si_model.specs.declared.replies.Cell.{Cell}
-use Rattle.si_model.specs.Machine.{State, Value, Writes, Open, Holding, Stamped, Finishing, Commit, Request, Reply, InPhase, Wrote, Marked, Puts, Names, IsDead, IsSnapshot, Clashes, Draws, Sets, finishing, most_sessions, most_value, most_writes}
-use Rattle.si_model.specs.Machine.{Begin, Get, Set, Advance, Begun, Answered, SetDone, Held, Conflict, Drawn, Committed, Finished}
-use Rattle.si_model.specs.Machine.{begins, reads, sets, holds, conflicts, draws, commits, finishes, appends, passes, Step, refuses, accepts, Run, rests, goes_on, Refused}
+use Rattle.si_model.specs.Machine.{State, Value, Change, Writes, Open, Holding, Stamped, Finishing, Commit, Request, Reply, InPhase, Wrote, Marked, Puts, Names, IsDead, IsSnapshot, Clashes, Draws, Sets, finishing, most_sessions, most_value, most_writes}
+use Rattle.si_model.specs.Machine.{Begin, Get, Set, Delete, Advance, Begun, Answered, SetDone, DeleteDone, Held, Conflict, Drawn, Committed, Finished}
+use Rattle.si_model.specs.Machine.{begins, reads, sets, deletes, holds, conflicts, draws, commits, finishes, appends, passes, Step, refuses, accepts, Run, rests, goes_on, Refused}
 use Rattle.cell_key.specs.declared.refusals.Refusal.TheVariants.{UnknownSession}
 use Rattle.si_model.specs.Scripts.{bob, joe}
 use Rattle.si_model.proofs.Tools.{each_cons, get_same, put_in}
 use Rattle.si_model.proofs.FirstRefusals.{advance_unknown_first}
-use Rattle.si_model.proofs.Acceptable.{begin_ok, get_ok, set_ok, advance_ok}
+use Rattle.si_model.proofs.Acceptable.{begin_ok, get_ok, set_ok, delete_ok, advance_ok}
 
 -- a cell within the limits
 pub record IsCell (x : Cell) : Type 0 where
@@ -47,22 +47,26 @@ module _ (st : State) where
   begin_step s room d = accepts (begin_ok room) (begins d)
 
   pub set_step : (s : ℕ) (x : Cell) (v : Value) (ws ws' : Writes) → IsCell x → length v ≤ most_value → length ws < most_writes
-      → InPhase st s Open → Wrote st s ws → Sets x v ws ws' → Step st (Set s x v) SetDone (record st { begun = insert st.begun s ws' })
+      → InPhase st s Open → Wrote st s ws → Sets x (Some v) ws ws' → Step st (Set s x v) SetDone (record st { begun = insert st.begun s ws' })
   set_step s x v ws ws' is short few h w by = accepts (set_ok ws h is.row is.family short w (inr few)) (sets h w by)
+
+  pub delete_step : (s : ℕ) (x : Cell) (ws ws' : Writes) → IsCell x → length ws < most_writes
+      → InPhase st s Open → Wrote st s ws → Sets x None ws ws' → Step st (Delete s x) DeleteDone (record st { begun = insert st.begun s ws' })
+  delete_step s x ws ws' is few h w by = accepts (delete_ok ws h is.row is.family w (inr few)) (deletes h w by)
 
   pub get_step : (s : ℕ) (x : Cell) (answer : Option Value) → IsCell x → InPhase st s Open → ((t : ℕ) → Marked st x t → s < t) → IsSnapshot st.commits s x answer
       → Step st (Get s x) (Answered answer) (record st { reads = record { start = s; cell = x; answer = answer } ∷ st.reads })
   get_step s x answer is h none shown = accepts (get_ok h is.row is.family) (reads h none shown)
 
-  pub first_hold_step : (t : ℕ) (ws : Writes) (x : Cell) (v : Value) → InPhase st t Open → Wrote st t ws → Puts ws 0 x v → 1 ≤ length ws → ((u : ℕ) → ¬ Marked st x u) → ((a : Commit) → a ∈ st.commits → a.stamp ≤ t)
+  pub first_hold_step : (t : ℕ) (ws : Writes) (x : Cell) (v : Change) → InPhase st t Open → Wrote st t ws → Puts ws 0 x v → 1 ≤ length ws → ((u : ℕ) → ¬ Marked st x u) → ((a : Commit) → a ∈ st.commits → a.stamp ≤ t)
       → Step st (Advance t) (Held 1 (length ws)) (record st { marks = (x, t) ∷ st.marks; active = insert st.active t (Holding 1) })
   first_hold_step t ws x v h w puts some none old = accepts (advance_ok Open ws h w some) (holds (inr (h, refl)) w puts (free x t none old))
 
-  pub hold_step : (t k : ℕ) (ws : Writes) (x : Cell) (v : Value) → InPhase st t (Holding k) → Wrote st t ws → Puts ws k x v → 1 ≤ length ws → ((u : ℕ) → ¬ Marked st x u) → ((a : Commit) → a ∈ st.commits → a.stamp ≤ t)
+  pub hold_step : (t k : ℕ) (ws : Writes) (x : Cell) (v : Change) → InPhase st t (Holding k) → Wrote st t ws → Puts ws k x v → 1 ≤ length ws → ((u : ℕ) → ¬ Marked st x u) → ((a : Commit) → a ∈ st.commits → a.stamp ≤ t)
       → Step st (Advance t) (Held (k + 1) (length ws)) (record st { marks = (x, t) ∷ st.marks; active = insert st.active t (Holding (k + 1)) })
   hold_step t k ws x v h w puts some none old = accepts (advance_ok (Holding k) ws h w some) (holds (inl h) w puts (free x t none old))
 
-  pub conflict_step : (t : ℕ) (ws : Writes) (x : Cell) (v : Value) → InPhase st t Open → Wrote st t ws → Puts ws 0 x v → 1 ≤ length ws → Clashes st x t
+  pub conflict_step : (t : ℕ) (ws : Writes) (x : Cell) (v : Change) → InPhase st t Open → Wrote st t ws → Puts ws 0 x v → 1 ≤ length ws → Clashes st x t
       → Step st (Advance t) (Conflict 1) (record st { active = remove st.active t })
   conflict_step t ws x v h w puts some clash = accepts (advance_ok Open ws h w some) (conflicts (inr (h, refl)) w puts clash)
 
@@ -70,11 +74,11 @@ module _ (st : State) where
       → Step st (Advance t) (Drawn c) (record st { top = c; active = insert st.active t (Stamped c) })
   draw_step t c ws h w some d = accepts (advance_ok (Holding (length ws)) ws h w some) (draws h w d)
 
-  pub commit_step : (t c : ℕ) (ws : Writes) (x : Cell) (v : Value) (marks' : List (Cell × ℕ)) → InPhase st t (Stamped c) → ¬ IsDead st t → Wrote st t ws → Puts ws 0 x v → 1 ≤ length ws → IsWithout st.marks (x, t) marks'
+  pub commit_step : (t c : ℕ) (ws : Writes) (x : Cell) (v : Change) (marks' : List (Cell × ℕ)) → InPhase st t (Stamped c) → ¬ IsDead st t → Wrote st t ws → Puts ws 0 x v → 1 ≤ length ws → IsWithout st.marks (x, t) marks'
       → Step st (Advance t) (Committed c) (record st { commits = record { start = t; stamp = c; writes = ws } ∷ st.commits; marks = marks'; active = finishing st.active t c 1 (length ws) })
   commit_step t c ws x v marks' h alive w puts some less = accepts (advance_ok (Stamped c) ws h w some) (commits h alive w puts less)
 
-  pub finish_step : (t c k : ℕ) (ws : Writes) (x : Cell) (v : Value) (marks' : List (Cell × ℕ)) → InPhase st t (Finishing c k) → Wrote st t ws → Puts ws k x v → 1 ≤ length ws → IsWithout st.marks (x, t) marks'
+  pub finish_step : (t c k : ℕ) (ws : Writes) (x : Cell) (v : Change) (marks' : List (Cell × ℕ)) → InPhase st t (Finishing c k) → Wrote st t ws → Puts ws k x v → 1 ≤ length ws → IsWithout st.marks (x, t) marks'
       → Step st (Advance t) (Finished (k + 1) (length ws)) (record st { marks = marks'; active = finishing st.active t c (k + 1) (length ws) })
   finish_step t c k ws x v marks' h w puts some less = accepts (advance_ok (Finishing c k) ws h w some) (finishes h w puts less)
 
@@ -109,8 +113,8 @@ pub other_commit : (a : Commit) (t : ℕ) → a.start ≢ t → (c : ℕ) (ws : 
 other_commit a t ne c ws m = each_cons (λ (b : Commit). b.start ≡ t → ⊥) ne (λ b h. elim h [ ]) (record { start = t; stamp = c; writes = ws }) m refl
 
 -- one write names its own cell alone
-pub unnamed : (y x : Cell) (w : Value) → y ≢ x → ¬ Names ((y, w) ∷ []) x
-unnamed y x w ne (v, (k, puts)) = each_cons (λ (u : Cell × Value). u.0 ≡ x → ⊥) ne (λ u h. elim h [ ]) (x, v) (put_in ((y, w) ∷ []) k x v puts) refl
+pub unnamed : (y x : Cell) (w : Change) → y ≢ x → ¬ Names ((y, w) ∷ []) x
+unnamed y x w ne (v, (k, puts)) = each_cons (λ (u : Cell × Change). u.0 ≡ x → ⊥) ne (λ u h. elim h [ ]) (x, v) (put_in ((y, w) ∷ []) k x v puts) refl
 
 -- one run after the other
 pub run_append : {st mid end : State} {qs qs' : List Request} {rs rs' : List Reply} → Run st qs rs mid → Run mid qs' rs' end → Run st (qs ++ qs') (rs ++ rs') end
@@ -124,10 +128,10 @@ ended_step st s e = refuses (advance_unknown_first e)
 -- two cells are written by one session, where no mark stands and no commit is later than its start
 module _ (st : State) (s c : ℕ) (x y : Cell) (v w : Value) where
   abbrev pub first_of_two : Writes
-  first_of_two = (x, v) ∷ []
+  first_of_two = (x, Some v) ∷ []
 
   abbrev pub both : Writes
-  both = (x, v) ∷ (y, w) ∷ []
+  both = (x, Some v) ∷ (y, Some w) ∷ []
 
   -- with its stamp drawn
   abbrev pub stamped_two : State
@@ -152,16 +156,16 @@ module _ (st : State) (s c : ℕ) (x y : Cell) (v w : Value) where
   holds_two xs ys ne short short' h new old d =
       goes_on (set_step _ s x v [] first_of_two xs short (lit< tt) h new appends)
       (goes_on (set_step _ s y w first_of_two both ys short' (lit< tt) h (get_same st.begun s first_of_two) (passes ne appends))
-      (goes_on (first_hold_step _ s both x v h (get_same (insert st.begun s first_of_two) s both) refl (lit≤ tt) (no_marks x) old)
-      (goes_on (hold_step _ s 1 both y w (get_same st.active s (Holding 1)) (get_same (insert st.begun s first_of_two) s both) refl (lit≤ tt) (other_mark x y s ne) old)
+      (goes_on (first_hold_step _ s both x (Some v) h (get_same (insert st.begun s first_of_two) s both) refl (lit≤ tt) (no_marks x) old)
+      (goes_on (hold_step _ s 1 both y (Some w) (get_same st.active s (Holding 1)) (get_same (insert st.begun s first_of_two) s both) refl (lit≤ tt) (other_mark x y s ne) old)
       (goes_on (draw_step _ s c both (get_same (insert st.active s (Holding 1)) s (Holding 2)) (get_same (insert st.begun s first_of_two) s both) (lit≤ tt) d)
       rests))))
 
   pub finishes_two : x ≢ y → ¬ IsDead st s → Run stamped_two (Advance s ∷ Advance s ∷ []) (Committed c ∷ Finished 2 2 ∷ []) written_two
   finishes_two ne alive =
-      goes_on (commit_step _ s c both x v ((y, s) ∷ []) (get_same (insert (insert st.active s (Holding 1)) s (Holding 2)) s (Stamped c)) alive (get_same (insert st.begun s first_of_two) s both) refl (lit≤ tt)
+      goes_on (commit_step _ s c both x (Some v) ((y, s) ∷ []) (get_same (insert (insert st.active s (Holding 1)) s (Holding 2)) s (Stamped c)) alive (get_same (insert st.begun s first_of_two) s both) refl (lit≤ tt)
       (leaves_last (y, s) (x, s) (λ e. ne (ap (λ (m : Cell × ℕ). m.0) (sym e)))))
-      (goes_on (finish_step _ s c 1 both y w [] (get_same _ s (Finishing c 1)) (get_same (insert st.begun s first_of_two) s both) refl (lit≤ tt) (leaves_only (y, s)))
+      (goes_on (finish_step _ s c 1 both y (Some w) [] (get_same _ s (Finishing c 1)) (get_same (insert st.begun s first_of_two) s both) refl (lit≤ tt) (leaves_only (y, s)))
       rests)
 
 -- both balances are read by a session that begins
@@ -181,13 +185,13 @@ module _ (st : State) (s : ℕ) (v w : Option Value) where
       rests))
 
 -- the newest of the commits writes the cell
-pub newest : (older : List Commit) (a : Commit) (s k : ℕ) (x : Cell) (v : Value) → Puts a.writes k x v → a.stamp ≤ s → ((b : Commit) → b ∈ older → b.stamp ≤ a.stamp) → IsSnapshot (a ∷ older) s x (Some v)
+pub newest : (older : List Commit) (a : Commit) (s k : ℕ) (x : Cell) (v : Change) → Puts a.writes k x v → a.stamp ≤ s → ((b : Commit) → b ∈ older → b.stamp ≤ a.stamp) → IsSnapshot (a ∷ older) s x v
 newest older a s k x v puts low old =
-    inl (a, v, here, (k, puts), low, each_cons (λ b. Names b.writes x → b.stamp ≤ s → b.stamp ≤ a.stamp) (λ n l. omega arith) (λ b m n l. old b m), refl)
+    inl (a, here, (k, puts), low, each_cons (λ b. Names b.writes x → b.stamp ≤ s → b.stamp ≤ a.stamp) (λ n l. omega arith) (λ b m n l. old b m))
 
 -- the newest of the commits writes another cell alone
-pub skips : (older : List Commit) (t c : ℕ) (y : Cell) (w : Value) (s : ℕ) (x : Cell) (answer : Option Value) → y ≢ x → IsSnapshot older s x answer
+pub skips : (older : List Commit) (t c : ℕ) (y : Cell) (w : Change) (s : ℕ) (x : Cell) (answer : Option Value) → y ≢ x → IsSnapshot older s x answer
     → IsSnapshot (record { start = t; stamp = c; writes = (y, w) ∷ [] } ∷ older) s x answer
-skips older t c y w s x answer ne (inl (a, v, m, gives, low, most, e)) =
-    inl (a, v, there m, gives, low, each_cons (λ b. Names b.writes x → b.stamp ≤ s → b.stamp ≤ a.stamp) (λ n l. absurd (unnamed y x w ne n)) most, e)
+skips older t c y w s x answer ne (inl (a, m, gives, low, most)) =
+    inl (a, there m, gives, low, each_cons (λ b. Names b.writes x → b.stamp ≤ s → b.stamp ≤ a.stamp) (λ n l. absurd (unnamed y x w ne n)) most)
 skips older t c y w s x answer ne (inr (e, none)) = inr (e, each_cons (λ b. Names b.writes x → s < b.stamp) (λ n. absurd (unnamed y x w ne n)) none)

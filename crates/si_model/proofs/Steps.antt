@@ -7,7 +7,7 @@ use Rattle.std.proofs.lemmas.Option.{none-some}
 use Rattle.si_model.specs.Sets.{here, IsWithout}
 use Rattle.si_model.specs.Machine.{State, Writes, Stamped, Finishing, Cleaner, Request, Reply, InPhase, Wrote, IsDead, CommittedAt, IsCommitted, finishing}
 use Rattle.si_model.specs.declared.replies.Cell.{Cell}
-use Rattle.si_model.specs.Machine.{Acts, tells, begins, reads, sets, holds, conflicts, draws, loses, commits, finishes, stops, opens, kills, learns, rolls_forward, rolls_back, finds_gone, collects, has_collected, splits, moves_tablet, Step, refuses, accepts}
+use Rattle.si_model.specs.Machine.{Acts, tells, begins, reads, sets, deletes, holds, conflicts, draws, loses, commits, finishes, stops, opens, kills, learns, rolls_forward, rolls_back, finds_gone, collects, has_collected, splits, moves_tablet, Step, refuses, accepts}
 use Rattle.si_model.specs.Machine.{Run, rests, goes_on, IsReached, begins_new, runs, reopens, new_machine, reopened}
 use Rattle.si_model.proofs.Tools.{get_remains, each_insert, each_remove, cells_differ_after}
 use Rattle.si_model.proofs.Invariant.{IsOwn, Sound}
@@ -68,6 +68,7 @@ acts_sound i (tells t) = i
 acts_sound {st} i (begins {s = s} d) = Kept.begun_sound st s d.0 i
 acts_sound {st} i (reads {s = s} {x = x} {answer = v} h none shown) = Kept.answered_sound st s x v h none shown i
 acts_sound {st} i (sets {s = s} {ws = ws} {ws' = ws'} h w by) = Kept.rewritten_sound st s ws' h ws w (cells_differ_after by (i.cells_differ s ws w)) i
+acts_sound {st} i (deletes {s = s} {ws = ws} {ws' = ws'} h w by) = Kept.rewritten_sound st s ws' h ws w (cells_differ_after by (i.cells_differ s ws w)) i
 acts_sound {st} i (holds {t = t} {k = k} {ws = ws} {x = x} {v = v} h w puts free) = Kept.held_sound st t k x h ws v w puts free i
 acts_sound {st} i (conflicts {t = t} h w puts clash) = Kept.receded_sound st (remove st.active t) (Kept.ends st t) i
 acts_sound {st} i (draws {t = t} {c = c} {ws = ws} h w d) = Kept.stamped_sound st t c ws d.0 h w i

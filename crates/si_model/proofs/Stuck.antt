@@ -6,15 +6,15 @@ use Rattle.std.proofs.lemmas.Bool.{cases_eq, cases_lt}
 use Rattle.cell_key.specs.declared.refusals.Refusal.TheVariants.{UnknownSession, EmptyCommit, UnknownCleaner}
 use Rattle.si_model.specs.declared.replies.Cell.{Cell}
 use Rattle.si_model.specs.Machine.{State, Value, Writes, Phase, Open, Holding, Stamped, Finishing, Cleaner, Request, Reply, InPhase, Wrote, Marked, HasHeld, IsAcceptable, end_of_stamps, IsReached}
-use Rattle.si_model.specs.Machine.{Begin, Get, Set, Advance, Stop, CleanBegin, CleanStep}
-use Rattle.si_model.specs.Machine.{Acts, tells, waits, finds_none, begins, reads, sets, holds, conflicts, draws, loses, commits, finishes, stops, opens, kills, learns, rolls_forward, rolls_back, finds_gone}
+use Rattle.si_model.specs.Machine.{Begin, Get, Set, Delete, Advance, Stop, CleanBegin, CleanStep}
+use Rattle.si_model.specs.Machine.{Acts, tells, waits, finds_none, begins, reads, sets, deletes, holds, conflicts, draws, loses, commits, finishes, stops, opens, kills, learns, rolls_forward, rolls_back, finds_gone}
 use Rattle.si_model.specs.Refusing.{advance_unknown, advance_empty, stop_unknown, clean_unknown}
 use Rattle.si_model.specs.Laws.{OneMark, Bounds, IsNeverStuck}
 use Rattle.si_model.proofs.Steps.{reached_sound}
 use Rattle.si_model.proofs.Bounds.{reached_bounds}
 use Rattle.si_model.proofs.Fates.{Fates, Primary, reached_fates}
 use Rattle.si_model.proofs.Without.{without}
-use Rattle.si_model.proofs.Acceptable.{get_is_open, set_is_open}
+use Rattle.si_model.proofs.Acceptable.{get_is_open, set_is_open, delete_is_open}
 use Rattle.si_model.proofs.Decided.{mark_of, clash_of, snapshot_of, sets_of, dead_of, committed_of, put_of}
 
 -- something can be done
@@ -34,7 +34,10 @@ can_get st s x one h = elim (mark_of st.marks x) [
 ]
 
 can_set : (st : State) (s : ℕ) (x : Cell) (v : Value) (ws : Writes) → InPhase st s Open → Wrote st s ws → Can st (Set s x v)
-can_set st s x v ws h w = let new = sets_of ws x v in (_, _, sets h w new.1)
+can_set st s x v ws h w = let new = sets_of ws x (Some v) in (_, _, sets h w new.1)
+
+can_delete : (st : State) (s : ℕ) (x : Cell) (ws : Writes) → InPhase st s Open → Wrote st s ws → Can st (Delete s x)
+can_delete st s x ws h w = let new = sets_of ws x None in (_, _, deletes h w new.1)
 
 can_hold : (st : State) (t k : ℕ) (ws : Writes) → HasHeld st t k → Wrote st t ws → k < length ws → Can st (Advance t)
 can_hold st t k ws h w more =
@@ -105,6 +108,11 @@ never_stuck st reached (Set s x v) of ok stamps numbers =
     let h = set_is_open st s x v ok in
     let w = (reached_sound reached).has_begun s Open h in
     let c = can_set st s x v w.0 h w.1 in
+    c
+never_stuck st reached (Delete s x) of ok stamps numbers =
+    let h = delete_is_open st s x ok in
+    let w = (reached_sound reached).has_begun s Open h in
+    let c = can_delete st s x w.0 h w.1 in
     c
 never_stuck st reached (Advance s) of ok stamps numbers =
     let p = found st.active s (λ e. ok UnknownSession (advance_unknown e)) (get st.active s) refl in

@@ -1,6 +1,6 @@
 -- What is used of sets, maps and writes.
 use Rattle.std.proofs.Common.{◌≡◌, ◌≢◌, ◌≤◌, ◌+◌, ◌-◌, length, Bool, ℕ, zero, suc, true, false, cond, List, [], ◌∷◌, Some, None, ◌⊎◌, inl, inr, refl, sym, ap, subst, ◌∙◌, arith}
-use Rattle.std.specs.Prelude.{is_some}
+use Rattle.std.specs.Prelude.{is_some, slice_get}
 use Rattle.std.specs.Ordering.{nat_cmp, eq_by_cmp}
 use Rattle.std.specs.Cmp.{nat_cmp_total, unsigned_tied}
 use Rattle.std.specs.FinMap.{FinMap, get, contains_key, insert, remove, len, get-insert, get-remove, len-insert, len-remove}
@@ -8,7 +8,7 @@ use Rattle.std.proofs.lemmas.Bool.{cases_eq}
 use Rattle.std.proofs.lemmas.Bool.Decides.{nat_tests}
 use Rattle.std.proofs.lemmas.Option.{same_Some, none-some}
 use Rattle.si_model.specs.Sets.{◌∈◌, here, there}
-use Rattle.si_model.specs.Machine.{Value, Writes, Puts, Names, Sets, appends, replaces, passes}
+use Rattle.si_model.specs.Machine.{Change, Writes, Puts, Gives, Names, Sets, appends, replaces, passes}
 use Rattle.si_model.specs.declared.replies.Cell.{Cell}
 
 -- what holds of m and of each of ms holds of each of m ∷ ms
@@ -75,9 +75,9 @@ same_entry m k v w g h = same_Some v w (sym g ∙ h)
 -- no cell has two writes
 abbrev pub CellsDiffer : Writes → Type 0
 CellsDiffer [] = Unit {0}
-CellsDiffer (w ∷ ws) = ((u : Cell × Value) → u ∈ ws → u.0 ≢ w.0) × CellsDiffer ws
+CellsDiffer (w ∷ ws) = ((u : Cell × Change) → u ∈ ws → u.0 ≢ w.0) × CellsDiffer ws
 
-after_set : {x : Cell} {v : Value} {ws ws' : Writes} → Sets x v ws ws' → (u : Cell × Value) → u ∈ ws' → (u.0 ≡ x) ⊎ (u ∈ ws)
+after_set : {x : Cell} {v : Change} {ws ws' : Writes} → Sets x v ws ws' → (u : Cell × Change) → u ∈ ws' → (u.0 ≡ x) ⊎ (u ∈ ws)
 after_set appends u here = inl refl
 after_set appends u (there h) = elim h [ ]
 after_set replaces u here = inl refl
@@ -85,29 +85,35 @@ after_set replaces u (there h) = inr (there h)
 after_set (passes ne s) u here = inr here
 after_set (passes ne s) u (there h) = elim (after_set s u h) [ inl e ↦ inl e | inr k ↦ inr (there k) ]
 
-pub cells_differ_after : {x : Cell} {v : Value} {ws ws' : Writes} → Sets x v ws ws' → CellsDiffer ws → CellsDiffer ws'
+pub cells_differ_after : {x : Cell} {v : Change} {ws ws' : Writes} → Sets x v ws ws' → CellsDiffer ws → CellsDiffer ws'
 cells_differ_after appends d = (λ u h. elim h [ ], tt)
 cells_differ_after replaces d = d
 cells_differ_after (passes ne s) d = (λ u h. elim (after_set s u h) [ inl e ↦ λ f. ne (sym f ∙ e) | inr k ↦ d.0 u k ], cells_differ_after s d.1)
 
-pub put_in : (ws : Writes) (k : ℕ) (x : Cell) (v : Value) → Puts ws k x v → (x, v) ∈ ws
+pub put_in : (ws : Writes) (k : ℕ) (x : Cell) (v : Change) → Puts ws k x v → (x, v) ∈ ws
 put_in [] k x v h = absurd (none-some (x, v) h)
 put_in (w ∷ ws) zero x v h = subst (λ u. u ∈ (w ∷ ws)) (same_Some w (x, v) h) here
 put_in (w ∷ ws) (suc k) x v h = there (put_in ws k x v h)
 
-pub one_place : (ws : Writes) (j k : ℕ) (x : Cell) (v w : Value) → CellsDiffer ws → Puts ws j x v → Puts ws k x w → j ≡ k
+pub one_place : (ws : Writes) (j k : ℕ) (x : Cell) (v w : Change) → CellsDiffer ws → Puts ws j x v → Puts ws k x w → j ≡ k
 one_place [] j k x v w d g h = absurd (none-some (x, v) g)
 one_place (u ∷ ws) zero zero x v w d g h = refl
 one_place (u ∷ ws) zero (suc k) x v w d g h = absurd (d.0 (x, w) (put_in ws k x w h) (ap (λ p. p.0) (sym (same_Some u (x, v) g))))
 one_place (u ∷ ws) (suc j) zero x v w d g h = absurd (d.0 (x, v) (put_in ws j x v g) (ap (λ p. p.0) (sym (same_Some u (x, w) h))))
 one_place (u ∷ ws) (suc j) (suc k) x v w d g h = ap suc (one_place ws j k x v w d.1 g h)
 
-pub still_unnamed : (y x : Cell) (w : Value) (ws : Writes) → y ≢ x → ¬ Names ws x → (v : Value) (k : ℕ) → Puts ((y, w) ∷ ws) k x v → ⊥
+-- writes make one change of a cell
+pub one_change : (ws : Writes) (x : Cell) (v w : Change) → CellsDiffer ws → Gives ws x v → Gives ws x w → v ≡ w
+one_change ws x v w differ (j, g) (k, h) =
+    let place : j ≡ k = one_place ws j k x v w differ g h in
+    ap (λ (p : Cell × Change). p.1) (same_Some (x, v) (x, w) (sym g ∙ (ap (slice_get ws) place ∙ h)))
+
+pub still_unnamed : (y x : Cell) (w : Change) (ws : Writes) → y ≢ x → ¬ Names ws x → (v : Change) (k : ℕ) → Puts ((y, w) ∷ ws) k x v → ⊥
 still_unnamed y x w ws ne none v zero puts = ne (ap (λ u. u.0) (same_Some (y, w) (x, v) puts))
 still_unnamed y x w ws ne none v (suc k) puts = none (v, (k, puts))
 
 -- a Set keeps the length, or it names a new cell and adds one
-pub set_length : {x : Cell} {v : Value} {ws ws' : Writes} → Sets x v ws ws' → (length ws' ≡ length ws) ⊎ ((¬ Names ws x) × (length ws' ≡ length ws + 1))
+pub set_length : {x : Cell} {v : Change} {ws ws' : Writes} → Sets x v ws ws' → (length ws' ≡ length ws) ⊎ ((¬ Names ws x) × (length ws' ≡ length ws + 1))
 set_length {x = x} appends = inr (λ named. none-some (x, named.0) named.1.1, omega arith)
 set_length replaces = inl (omega arith)
 set_length {x = x} (passes {y = y} {w = w} {ws = ws} ne s) = elim (set_length s) [

@@ -7,18 +7,18 @@ use Rattle.si_model.proofs.Tools.{each_cons}
 use Rattle.si_model.proofs.Scripts.{bob_is, joe_is, bob_not_joe, begin_step, reads_both, read_both, stamped_two, set_step, get_step, first_hold_step, draw_step, commit_step, ended_step, leaves_only, no_marks, run_append, holds_two, finishes_two, written_two, newest}
 
 abbrev one : Writes
-one = (bob, codes "v") ∷ []
+one = (bob, Some (codes "v")) ∷ []
 
 pub first_cell : FirstCell
 first_cell = (
   _,
   goes_on (begin_step _ 1 (simp gets (lit< tt)) (lit< tt, lit< tt))
       (goes_on (set_step _ 1 bob (codes "v") [] one bob_is (lit≤ tt) (lit< tt) (simp gets refl) (simp gets refl) appends)
-      (goes_on (first_hold_step _ 1 one bob (codes "v") (simp gets refl) (simp gets refl) refl (lit≤ tt) (no_marks bob) (λ a m. elim m [ ]))
+      (goes_on (first_hold_step _ 1 one bob (Some (codes "v")) (simp gets refl) (simp gets refl) refl (lit≤ tt) (no_marks bob) (λ a m. elim m [ ]))
       (goes_on (draw_step _ 1 2 one (simp gets refl) (simp gets refl) (lit≤ tt) (lit< tt, lit< tt))
-      (goes_on (commit_step _ 1 2 one bob (codes "v") [] (simp gets refl) (λ h. elim h [ ]) (simp gets refl) refl (lit≤ tt) (leaves_only (bob, 1)))
+      (goes_on (commit_step _ 1 2 one bob (Some (codes "v")) [] (simp gets refl) (λ h. elim h [ ]) (simp gets refl) refl (lit≤ tt) (leaves_only (bob, 1)))
       (goes_on (begin_step _ 3 (simp gets (lit< tt)) (lit< tt, lit< tt))
-      (goes_on (get_step _ 3 bob (Some (codes "v")) bob_is (simp gets refl) (λ t h. elim h [ ]) (newest [] _ 3 0 bob (codes "v") refl (lit≤ tt) (λ b h. elim h [ ])))
+      (goes_on (get_step _ 3 bob (Some (codes "v")) bob_is (simp gets refl) (λ t h. elim h [ ]) (newest [] _ 3 0 bob (Some (codes "v")) refl (lit≤ tt) (λ b h. elim h [ ])))
       rests)))))),
 )
 
@@ -45,10 +45,10 @@ abbrev pub seen : State
 seen = read_both before 3 (Some (codes "10")) (Some (codes "2"))
 
 pub old_bob : (s : ℕ) → 2 ≤ s → IsSnapshot before.commits s bob (Some (codes "10"))
-old_bob s late = newest [] _ s 0 bob (codes "10") refl late (λ b h. elim h [ ])
+old_bob s late = newest [] _ s 0 bob (Some (codes "10")) refl late (λ b h. elim h [ ])
 
 pub old_joe : (s : ℕ) → 2 ≤ s → IsSnapshot before.commits s joe (Some (codes "2"))
-old_joe s late = newest [] _ s 1 joe (codes "2") refl late (λ b h. elim h [ ])
+old_joe s late = newest [] _ s 1 joe (Some (codes "2")) refl late (λ b h. elim h [ ])
 
 pub sees : Run before (Begin ∷ Get 3 bob ∷ Get 3 joe ∷ []) (Begun 3 ∷ Answered (Some (codes "10")) ∷ Answered (Some (codes "2")) ∷ []) seen
 sees = reads_both before 3 _ _ (simp gets (lit< tt)) (lit< tt, lit< tt) no_marks (old_bob 3 (lit≤ tt)) (old_joe 3 (lit≤ tt))
@@ -73,7 +73,7 @@ transfer = (
       (run_append (finishes_two seen 3 4 bob joe (codes "3") (codes "9") bob_not_joe (λ d. elim d [ ]))
       (run_append
       (reads_both after 5 (Some (codes "3")) (Some (codes "9")) (simp gets (lit< tt)) (lit< tt, lit< tt) no_marks
-      (newest _ _ 5 0 bob (codes "3") refl (lit≤ tt) (each_cons (λ b. b.stamp ≤ 4) (lit≤ tt) (λ b h. elim h [ ])))
-      (newest _ _ 5 1 joe (codes "9") refl (lit≤ tt) (each_cons (λ b. b.stamp ≤ 4) (lit≤ tt) (λ b h. elim h [ ]))))
+      (newest _ _ 5 0 bob (Some (codes "3")) refl (lit≤ tt) (each_cons (λ b. b.stamp ≤ 4) (lit≤ tt) (λ b h. elim h [ ])))
+      (newest _ _ 5 1 joe (Some (codes "9")) refl (lit≤ tt) (each_cons (λ b. b.stamp ≤ 4) (lit≤ tt) (λ b h. elim h [ ]))))
       (goes_on (ended_step _ 3 (simp gets refl)) rests))))),
 )

@@ -8,34 +8,36 @@ use Rattle.cell_key.specs.declared.keys.CellKey.{CellKey}
 use Rattle.cell_key.specs.declared.keys.Qualifier.TheVariants.{Data, Lock, Write}
 use Rattle.si_model.specs.Sets.{◌∈◌}
 use Rattle.si_model.specs.Machine.{Request, Reply, Step}
-use Rattle.si_model.specs.State.{State, Phase, Stamped, Commit, InPhase, Names, Marked, CommittedAt}
+use Rattle.si_model.specs.State.{State, Phase, Stamped, Change, Commit, InPhase, Names, Marked, CommittedAt}
+use Rattle.si_model.specs.declared.cells.WriteKind.{WriteKind}
+use Rattle.si_model.specs.declared.cells.WriteKind.TheVariants as write
 use Rattle.si_model.specs.declared.replies.Cell.{Cell}
-use Rattle.si_model.specs.ShowsCells.{at, key_of, IsThere, IsReplaced, ShowsCells, start_text, held_cells, recorded_cells, erased_cells}
+use Rattle.si_model.specs.ShowsCells.{at, key_of, IsThere, MayLack, NamesAt, ShowsCells, record_text, held_cells, recorded_cells, erased_cells}
 
 -- a record of the cell names t
 abbrev pub IsNamed : Cells → Cell → ℕ → Type 0
-IsNamed cells x t = (c : ℕ) × (at cells x Write c ≡ Some (start_text t))
+IsNamed cells x t = (c : ℕ) × NamesAt cells x c t
 
 -- of a cell's records only the first above a start can name it
 abbrev pub NamesNearest : Cells → State → Type 0
 NamesNearest cells st =
     (x : Cell) (t c d : ℕ) → t < 2 ^ 64
-    → at cells x Write c ≡ Some (start_text t) → t < d → IsThere cells x Write d → c ≤ d
+    → NamesAt cells x c t → t < d → IsThere cells x Write d → c ≤ d
 
 -- ---- what a collection leaves
 
--- Locks stay. A record stays, or goes where its commit is replaced. Data stays, or goes where no
+-- Locks stay. A record stays, or goes where its commit may lack it. Data stays, or goes where no
 -- mark and no record that stays names it; the data that a record names goes with the record.
 pub record Collects (cells cells' : Cells) (st : State) : Type 0 where
   pub locks : (x : Cell) (t : ℕ) → at cells' x Lock t ≡ at cells x Lock t
   pub records : (x : Cell) (c : ℕ) → (at cells' x Write c ≡ at cells x Write c)
       ⊎ ((at cells' x Write c ≡ None)
-      × ((a : Commit) → a ∈ st.commits → Names a.writes x → a.stamp ≡ c → IsReplaced st x a))
+      × ((a : Commit) → a ∈ st.commits → Names a.writes x → a.stamp ≡ c → MayLack cells' st x a))
   pub values : (x : Cell) (t : ℕ) → (at cells' x Data t ≡ at cells x Data t)
       ⊎ ((at cells' x Data t ≡ None)
-      × (¬ Marked st x t) × ((c : ℕ) → at cells' x Write c ≢ Some (start_text t)))
+      × (¬ Marked st x t) × ((c : ℕ) → ¬ NamesAt cells' x c t))
   pub together : (x : Cell) (c t : ℕ) → IsThere cells x Data t
-      → at cells x Write c ≡ Some (start_text t) → at cells' x Write c ≡ None
+      → NamesAt cells x c t → at cells' x Write c ≡ None
       → at cells' x Data t ≡ None
 
 -- what a collection leaves shows the same state
@@ -60,9 +62,19 @@ dropped_cells cells x (t ∷ ts) = dropped_cells (remove cells (key_of x Data t)
 
 -- a record of x older than the one at w, and the start that it names
 pub record IsOld (cells : Cells) (x : Cell) (w : ℕ) (v : ℕ × ℕ) : Type 0 where
-  pub there : at cells x Write v.0 ≡ Some (start_text v.1)
+  pub there : NamesAt cells x v.0 v.1
   pub older : v.0 < w
   pub low : v.1 < 2 ^ 64
+
+-- the cells after the record of x at c was erased
+abbrev pub forgotten_cells : Cells → Cell → ℕ → Cells
+forgotten_cells cells x c = remove cells (key_of x Write c)
+
+-- the record of x at c is that of a deletion, and it is the oldest
+pub record IsOldestDeletion (cells : Cells) (x : Cell) (c : ℕ) : Type 0 where
+  pub start : ℕ
+  pub there : at cells x Write c ≡ Some (record_text start write.Delete)
+  pub oldest : (d : ℕ) → d < c → at cells x Write d ≡ None
 
 -- what a collector may erase of a cell
 pub record MayErase (cells : Cells) (st : State) (floor : ℕ) : Type 0 where
@@ -73,6 +85,9 @@ pub record MayErase (cells : Cells) (st : State) (floor : ℕ) : Type 0 where
   -- data below the floor that no record names
   pub unnamed : (x : Cell) (ts : List ℕ) → ((t : ℕ) → t ∈ ts → (t < floor) × (¬ IsNamed cells x t))
       → Collects cells (dropped_cells cells x ts) st
+  -- the record of a deletion at or below the floor, where no older one stands
+  pub deletion : (x : Cell) (c : ℕ) → c ≤ floor → IsOldestDeletion cells x c
+      → Collects cells (forgotten_cells cells x c) st
 
 -- below a floor that a collector began with, where no mark stands below it
 abbrev pub MayEraseBelow : Cells → State → Type 0
@@ -86,6 +101,8 @@ pub record IsTidy (cells : Cells) (x : Cell) (floor : ℕ) : Type 0 where
   pub one : (c d : ℕ) → c ≤ floor → d ≤ floor → IsThere cells x Write c → IsThere cells x Write d
       → c ≡ d
   pub named : (t : ℕ) → t < floor → IsThere cells x Data t → IsNamed cells x t
+  -- the newest record at or below the floor, which is the only one, is no deletion's
+  pub lasting : (c t : ℕ) → c ≤ floor → at cells x Write c ≢ Some (record_text t write.Delete)
 
 abbrev pub place_at : Cell → Place
 place_at x = (x.row, x.family)
@@ -133,11 +150,11 @@ ComesFurther cells st = (floor : ℕ) (after : Option Place) → GoesFurther cel
 pub data ChangesCells (cells : Cells) (st : State) : Cells → Type 0 where
   unchanged : ChangesCells cells st cells
   -- an active session puts data and lock
-  locks_cell : (x : Cell) (t : ℕ) (p : Phase) (v : List ℕ) (first : Cell) → InPhase st t p
+  locks_cell : (x : Cell) (t : ℕ) (p : Phase) (v : Change) (first : Cell) → InPhase st t p
       → ChangesCells cells st (held_cells cells x t v first)
   -- a lock gives way to the record of its start's commit, which was made or is made now
-  records_commit : (x : Cell) (t c : ℕ) → Marked st x t → CommittedAt st t c
-      ⊎ InPhase st t (Stamped c) → ChangesCells cells st (recorded_cells cells x t c)
+  records_commit : (x : Cell) (t c : ℕ) (kind : WriteKind) → Marked st x t → CommittedAt st t c
+      ⊎ InPhase st t (Stamped c) → ChangesCells cells st (recorded_cells cells x t c kind)
   erases_lock : (x : Cell) (t : ℕ) → ChangesCells cells st (erased_cells cells x t)
   erases_versions : (cells' : Cells) → Collects cells cells' st → ChangesCells cells st cells'
 

@@ -1,11 +1,11 @@
 -- What stands at the first cell of a start tells its fate, and what a cleaner keeps of it.
-use Rattle.std.specs.Prelude.{◌≡◌, ◌≢◌, ℕ, ◌<◌, ◌⊎◌, Some, None}
+use Rattle.std.specs.Prelude.{◌≡◌, ℕ, ◌<◌, ◌⊎◌, Some, None}
 use Rattle.std.specs.FinMap.{get}
 use Rattle.cell_key.specs.Cells.{Cells}
-use Rattle.cell_key.specs.declared.keys.Qualifier.TheVariants.{Lock, Write}
+use Rattle.cell_key.specs.declared.keys.Qualifier.TheVariants.{Lock}
 use Rattle.si_model.specs.State.{State, Cleaner, Marked, IsDead, CommittedAt, IsCommitted}
 use Rattle.si_model.specs.declared.replies.Cell.{Cell}
-use Rattle.si_model.specs.ShowsCells.{at, IsThere, IsFirstCell, start_text}
+use Rattle.si_model.specs.ShowsCells.{at, IsThere, IsFirstCell, NamesAt}
 
 -- What the first cell of a start tells. (Percolator, clean-up of locks: the primary.)
 pub record TellsFirst (cells : Cells) (st : State) (t : ℕ) (first : Cell) : Type 0 where
@@ -15,12 +15,12 @@ pub record TellsFirst (cells : Cells) (st : State) (t : ℕ) (first : Cell) : Ty
   pub unlocked : at cells first Lock t ≡ None → (i : ℕ) (k : Cleaner) → get st.cleaners i ≡ Some k
       → k.start ≡ t → IsCommitted st t ⊎ IsDead st t
   -- a record names it: it was committed there
-  pub forward : (c : ℕ) → at cells first Write c ≡ Some (start_text t) → CommittedAt st t c
+  pub forward : (c : ℕ) → NamesAt cells first c t → CommittedAt st t c
   -- Its lock is gone and no record names it: it was rolled back, as long as any mark of it stands.
   -- Its record may have been collected instead, but then none does:
-  -- a record goes only where a later one lies at or below each mark.
+  -- a record goes only where it, or a later one, lies at or below each mark.
   pub back : at cells first Lock t ≡ None
-      → ((c : ℕ) → t < c → at cells first Write c ≢ Some (start_text t))
+      → ((c : ℕ) → t < c → ¬ NamesAt cells first c t)
       → (x : Cell) → Marked st x t → IsDead st t
 
 abbrev pub FirstTells : Cells → State → Type 0

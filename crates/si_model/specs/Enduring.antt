@@ -2,7 +2,7 @@
 use Rattle.std.specs.Prelude.{◌≡◌, ℕ, ◌<◌, ◌≤◌, ◌⊎◌, Some}
 use Rattle.std.specs.FinMap.{get}
 use Rattle.si_model.specs.Sets.{◌∈◌}
-use Rattle.si_model.specs.State.{State, Value, Writes, Phase, Open, Holding, Stamped, Finishing, Commit, Cleaner, InPhase, Wrote, Puts, Marked, IsDead}
+use Rattle.si_model.specs.State.{State, Change, Writes, Phase, Open, Holding, Stamped, Finishing, Commit, Cleaner, InPhase, Wrote, Puts, Marked, IsDead}
 use Rattle.si_model.specs.declared.replies.Cell.{Cell}
 
 -- the session has gone past its k-th cell, counted from 0
@@ -16,7 +16,7 @@ IsPast (Finishing c n) k = Unit {0}
 pub record HasTried (st : State) (x : Cell) (t : ℕ) : Type 0 where
   pub ws : Writes
   pub k : ℕ
-  pub v : Value
+  pub v : Change
   pub wrote : Wrote st t ws
   pub puts : Puts ws k x v
   pub past : (p : Phase) → InPhase st t p → IsPast p k

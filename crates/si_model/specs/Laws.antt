@@ -5,7 +5,7 @@ use Rattle.std.specs.FinMap.{FinMap, get, len}
 use Rattle.cell_key.specs.Names.{IsRow, IsFamily}
 use Rattle.cell_key.specs.declared.refusals.Refusal.{Refusal}
 use Rattle.si_model.specs.Sets.{◌∈◌}
-use Rattle.si_model.specs.Machine.{State, Value, Phase, Open, Holding, Finishing, end_of_stamps, most_sessions, most_writes, most_value, most_cleaners, most_collectors, most_tablets, Stamped, InPhase, Commit, Read, Request, Reply, Refused, Begin, Get, Set, Advance, Stop, CleanBegin, CleanStep, CollectStep, Pending, Conflict, NoLock, Cleaning, Blocked, Committed, Lost, Decided, RolledForward, RolledBack, Gone, Collected, Gives, Names, Marked, IsDead, CommittedAt, IsCommitted, Cleaner, Writes, Wrote, Puts, IsSnapshot, Clashes, IsAcceptable, IsFirstRefusal, IsStorageRefusal, Acts, Step, Run, IsReached}
+use Rattle.si_model.specs.Machine.{State, Value, Change, Phase, Open, Holding, Finishing, end_of_stamps, most_sessions, most_writes, most_value, most_cleaners, most_collectors, most_tablets, Stamped, InPhase, Commit, Read, Request, Reply, Refused, Begin, Get, Set, Delete, Advance, Stop, CleanBegin, CleanStep, CollectStep, Pending, Conflict, NoLock, Cleaning, Blocked, Committed, Lost, Decided, RolledForward, RolledBack, Gone, Collected, Gives, Names, Marked, IsDead, CommittedAt, IsCommitted, Cleaner, Writes, Wrote, Puts, IsSnapshot, Clashes, IsAcceptable, IsFirstRefusal, IsStorageRefusal, Acts, Step, Run, IsReached}
 use Rattle.si_model.specs.declared.replies.Cell.{Cell}
 
 -- a law of each step from a reached state
@@ -92,7 +92,7 @@ pub record TellsFate (st : State) : Type 0 where
 abbrev pub ClashesAt : State → ℕ → ℕ → Type 0
 ClashesAt st t place =
     (ws : Writes) × (k : ℕ) × (x : Cell)
-    × (v : Value) × Wrote st t ws × Puts ws k x v × (place ≡ k + 1) × Clashes st x t
+    × (v : Change) × Wrote st t ws × Puts ws k x v × (place ≡ k + 1) × Clashes st x t
 
 -- what is told of marks is so, and a Conflict has its mark or its commit
 pub record TellsMarks (st : State) : Type 0 where
@@ -125,7 +125,7 @@ pub record FateOf (st : State) (t : ℕ) (x : Cell) : Type 0 where
 
 abbrev pub FateSeen : State → Type 0
 FateSeen st =
-    (t : ℕ) (ws : Writes) (x : Cell) (v : Value) → Wrote st t ws → Puts ws 0 x v → FateOf st t x
+    (t : ℕ) (ws : Writes) (x : Cell) (v : Change) → Wrote st t ws → Puts ws 0 x v → FateOf st t x
 
 -- no session began above the top
 abbrev pub StartsLow : State → Type 0
@@ -134,14 +134,15 @@ StartsLow st = (t : ℕ) (p : Phase) → InPhase st t p → t ≤ st.top
 -- a session with its stamp may commit exactly if the mark of its first cell stands
 abbrev pub CommitSeen : State → Type 0
 CommitSeen st =
-    (t c : ℕ) (ws : Writes) (x : Cell) (v : Value) → InPhase st t (Stamped c) → Wrote st t ws
+    (t c : ℕ) (ws : Writes) (x : Cell) (v : Change) → InPhase st t (Stamped c) → Wrote st t ws
     → Puts ws 0 x v
     → (Marked st x t → ¬ IsDead st t) × (¬ Marked st x t → IsDead st t)
 
--- What each step keeps, whatever it does: the writes of a start that isn't open stay, it doesn't
--- get open again, and what is cleared stays so.
+-- What each step keeps, whatever it does: the writes of a start that isn't open stay, as do those of
+-- one with a mark, it doesn't get open again, and what is cleared stays so.
 pub record Goes (st st' : State) : Type 0 where
   pub wrote : (u : ℕ) (ws : Writes) → Wrote st u ws → ¬ InPhase st u Open → Wrote st' u ws
+  pub marked : (x : Cell) (u : ℕ) (ws : Writes) → Marked st x u → Wrote st u ws → Wrote st' u ws
   pub late : (u : ℕ) (ws : Writes) → Wrote st u ws → ¬ InPhase st u Open → ¬ InPhase st' u Open
   pub cleared : (n : ℕ) → IsCleared st n → IsCleared st' n
 
@@ -169,16 +170,16 @@ pub record Bounds (st : State) : Type 0 where
   pub finishing_to : (t c k : ℕ) → InPhase st t (Finishing c k) → c < end_of_stamps
   pub commit_to : (a : Commit) → a ∈ st.commits → a.stamp < end_of_stamps
 
--- a cell and a value that a session may write
-pub record IsWritable (x : Cell) (v : Value) : Type 0 where
+-- a cell, and a value or a deletion, that a session may write
+pub record IsWritable (x : Cell) (v : Change) : Type 0 where
   pub row : IsRow x.row
   pub family : IsFamily x.family
-  pub value : length v ≤ most_value
+  pub value : (given : Value) → v ≡ Some given → length given ≤ most_value
 
 -- sessions write nothing else
 abbrev pub WritesWithinLimits : State → Type 0
 WritesWithinLimits st =
-    (t : ℕ) (ws : Writes) → Wrote st t ws → (x : Cell) (v : Value) → Gives ws x v → IsWritable x v
+    (t : ℕ) (ws : Writes) → Wrote st t ws → (x : Cell) (v : Change) → Gives ws x v → IsWritable x v
 
 -- the open ones have numbers from 1 on, each below the next number
 pub record AreNumbered {X : Type 0} (open_ones : FinMap nat_cmp X) (next most : ℕ) : Type 0 where
@@ -199,6 +200,7 @@ abbrev pub IsOfTransactions : Request → Type 0
 IsOfTransactions Begin = ⊤
 IsOfTransactions (Get s x) = ⊤
 IsOfTransactions (Set s x v) = ⊤
+IsOfTransactions (Delete s x) = ⊤
 IsOfTransactions (Advance s) = ⊤
 IsOfTransactions (Stop s) = ⊤
 IsOfTransactions (CleanBegin x) = ⊤

@@ -8,8 +8,8 @@ use Rattle.cell_key.specs.declared.keys.Qualifier.{Qualifier}
 use Rattle.cell_key.specs.declared.refusals.Refusal.{Refusal}
 use Rattle.si_model.specs.Sets.{◌∈◌, IsWithout}
 use Rattle.si_model.specs.declared.replies.Cell.{Cell}
-pub use Rattle.si_model.specs.State.{State, Value, Writes, Phase, Open, Holding, Stamped, Finishing, Commit, Read, Cleaner, Place, new_machine, reopened, most_sessions, most_cleaners, most_collectors, most_tablets, most_servers, most_writes, most_value, most_visits, end_of_stamps, InPhase, Wrote, Marked, Puts, Gives, Names, IsDead, CommittedAt, IsCommitted, HasTablet, IsEnd}
-pub use Rattle.si_model.specs.Messages.{Request, Begin, Get, Set, Advance, Stop, CleanBegin, CleanStep, CollectBegin, CollectStep, Minor, Merge, Major, Split, Move, Sweep, OracleRestart, Raw, Checkpoint, Reply, Begun, Answered, Pending, SetDone, Held, Conflict, Drawn, Committed, Lost, Finished, StopDone, NoLock, Cleaning, Decided, RolledForward, RolledBack, Gone, Collecting, More, Blocked, Collected, MinorDone, MergeDone, MajorDone, SplitOff, MoveDone, Swept, RestartDone, RawFound, CheckpointDone, Refused}
+pub use Rattle.si_model.specs.State.{State, Value, Change, Writes, Phase, Open, Holding, Stamped, Finishing, Commit, Read, Cleaner, Place, new_machine, reopened, most_sessions, most_cleaners, most_collectors, most_tablets, most_servers, most_writes, most_value, most_visits, end_of_stamps, InPhase, Wrote, Marked, Puts, Gives, Names, IsDead, CommittedAt, IsCommitted, HasTablet, IsEnd}
+pub use Rattle.si_model.specs.Messages.{Request, Begin, Get, Set, Delete, Advance, Stop, CleanBegin, CleanStep, CollectBegin, CollectStep, Minor, Merge, Major, Split, Move, Sweep, OracleRestart, Raw, Checkpoint, Reply, Begun, Answered, Pending, SetDone, DeleteDone, Held, Conflict, Drawn, Committed, Lost, Finished, StopDone, NoLock, Cleaning, Decided, RolledForward, RolledBack, Gone, Collecting, More, Blocked, Collected, MinorDone, MergeDone, MajorDone, SplitOff, MoveDone, Swept, RestartDone, RawFound, CheckpointDone, Refused}
 pub use Rattle.si_model.specs.Refusing.{Applies, IsFirstRefusal, IsAcceptable, IsStorageRefusal, Refuses}
 
 -- A stamp that may be drawn: any above the greatest that was answered, up to the limit.
@@ -17,13 +17,13 @@ pub use Rattle.si_model.specs.Refusing.{Applies, IsFirstRefusal, IsAcceptable, I
 abbrev pub Draws : State → ℕ → Type 0
 Draws st s = (st.top < s) × (s < end_of_stamps)
 
--- The answer for x as of s: the value in the commit of greatest stamp at most s among those that
--- write x; nothing if there is none. (Snapshot isolation.)
+-- The answer for x as of s: what the commit of greatest stamp at most s among those that write x
+-- makes of it, its value or, where it deletes x, nothing; nothing if there is none.
+-- (Snapshot isolation.)
 abbrev pub IsSnapshot : List Commit → ℕ → Cell → Option Value → Type 0
 IsSnapshot commits s x answer =
-    ((a : Commit) × (v : Value) × (a ∈ commits) × Gives a.writes x v × (a.stamp ≤ s)
-    × ((b : Commit) → b ∈ commits → Names b.writes x → b.stamp ≤ s → b.stamp ≤ a.stamp)
-    × (answer ≡ Some v))
+    ((a : Commit) × (a ∈ commits) × Gives a.writes x answer × (a.stamp ≤ s)
+    × ((b : Commit) → b ∈ commits → Names b.writes x → b.stamp ≤ s → b.stamp ≤ a.stamp))
     ⊎ ((answer ≡ None) × ((b : Commit) → b ∈ commits → Names b.writes x → s < b.stamp))
 
 -- t may not hold x: a mark stands on it, or it was written after t began. (Percolator, Prewrite.)
@@ -35,12 +35,12 @@ Clashes st x t =
 abbrev pub HasHeld : State → ℕ → ℕ → Type 0
 HasHeld st t k = InPhase st t (Holding k) ⊎ (InPhase st t Open × (k ≡ 0))
 
--- the writes after a Set: a cell that is there keeps its place and takes the new value;
+-- the writes after a Set or a Delete: a cell that is there keeps its place and takes the new change;
 -- otherwise it comes last
-pub data Sets (x : Cell) (v : Value) : Writes → Writes → Type 0 where
+pub data Sets (x : Cell) (v : Change) : Writes → Writes → Type 0 where
   appends : Sets x v [] ((x, v) ∷ [])
-  replaces : {old : Value} {ws : Writes} → Sets x v ((x, old) ∷ ws) ((x, v) ∷ ws)
-  passes : {y : Cell} {w : Value} {ws ws' : Writes} → y ≢ x → Sets x v ws ws'
+  replaces : {old : Change} {ws : Writes} → Sets x v ((x, old) ∷ ws) ((x, v) ∷ ws)
+  passes : {y : Cell} {w : Change} {ws ws' : Writes} → y ≢ x → Sets x v ws ws'
       → Sets x v ((y, w) ∷ ws) ((y, w) ∷ ws')
 
 -- the sessions after one has finished k of its n cells: it ends with the last
@@ -101,7 +101,7 @@ pub data Tells (st : State) : Request → Reply → Type 0 where
 -- What an accepted request may do in st: its reply, and the state that it leads to.
 pub data Acts (st : State) : Request → Reply → State → Type 0 where
   tells : {q : Request} {r : Reply} → Tells st q r → Acts st q r st
-  -- sessions (Percolator, Get, Set, Prewrite and Commit)
+  -- sessions (Percolator, Get, Set, Prewrite and Commit; a Delete is buffered as a Set is)
   begins : {s : ℕ} → Draws st s
       → Acts st Begin (Begun s)
       (record st { top = s; begun = insert st.begun s []; active = insert st.active s Open })
@@ -110,13 +110,16 @@ pub data Acts (st : State) : Request → Reply → State → Type 0 where
       → Acts st (Get s x) (Answered answer)
       (record st { reads = record { start = s; cell = x; answer = answer } ∷ st.reads })
   sets : {s : ℕ} {x : Cell} {v : Value} {ws ws' : Writes} → InPhase st s Open
-      → Wrote st s ws → Sets x v ws ws'
+      → Wrote st s ws → Sets x (Some v) ws ws'
       → Acts st (Set s x v) SetDone (record st { begun = insert st.begun s ws' })
-  holds : {t k : ℕ} {ws : Writes} {x : Cell} {v : Value} → HasHeld st t k
+  deletes : {s : ℕ} {x : Cell} {ws ws' : Writes} → InPhase st s Open
+      → Wrote st s ws → Sets x None ws ws'
+      → Acts st (Delete s x) DeleteDone (record st { begun = insert st.begun s ws' })
+  holds : {t k : ℕ} {ws : Writes} {x : Cell} {v : Change} → HasHeld st t k
       → Wrote st t ws → Puts ws k x v → ¬ Clashes st x t
       → Acts st (Advance t) (Held (k + 1) (length ws))
       (record st { marks = (x, t) ∷ st.marks; active = insert st.active t (Holding (k + 1)) })
-  conflicts : {t k : ℕ} {ws : Writes} {x : Cell} {v : Value} → HasHeld st t k
+  conflicts : {t k : ℕ} {ws : Writes} {x : Cell} {v : Change} → HasHeld st t k
       → Wrote st t ws → Puts ws k x v → Clashes st x t
       → Acts st (Advance t) (Conflict (k + 1)) (record st { active = remove st.active t })
   draws : {t c : ℕ} {ws : Writes} → InPhase st t (Holding (length ws)) → Wrote st t ws → Draws st c
@@ -125,7 +128,7 @@ pub data Acts (st : State) : Request → Reply → State → Type 0 where
   loses : {t c : ℕ} → InPhase st t (Stamped c) → IsDead st t
       → Acts st (Advance t) Lost (record st { active = remove st.active t })
   -- the commit: all writes at once, and the mark of the first cell goes
-  commits : {t c : ℕ} {ws : Writes} {x : Cell} {v : Value} {marks' : List (Cell × ℕ)}
+  commits : {t c : ℕ} {ws : Writes} {x : Cell} {v : Change} {marks' : List (Cell × ℕ)}
       → InPhase st t (Stamped c)
       → ¬ IsDead st t → Wrote st t ws → Puts ws 0 x v → IsWithout st.marks (x, t) marks'
       → Acts st (Advance t) (Committed c) (record st {
@@ -133,7 +136,7 @@ pub data Acts (st : State) : Request → Reply → State → Type 0 where
         marks = marks';
         active = finishing st.active t c 1 (length ws);
       })
-  finishes : {t c k : ℕ} {ws : Writes} {x : Cell} {v : Value} {marks' : List (Cell × ℕ)}
+  finishes : {t c k : ℕ} {ws : Writes} {x : Cell} {v : Change} {marks' : List (Cell × ℕ)}
       → InPhase st t (Finishing c k)
       → Wrote st t ws → Puts ws k x v → IsWithout st.marks (x, t) marks'
       → Acts st (Advance t) (Finished (k + 1) (length ws))
@@ -148,7 +151,7 @@ pub data Acts (st : State) : Request → Reply → State → Type 0 where
         next_cleaner = st.next_cleaner + 1;
       })
   -- the first step decides the fate of the start at its first cell, if that is open
-  kills : {i t : ℕ} {x y : Cell} {v : Value} {ws : Writes} {marks' : List (Cell × ℕ)}
+  kills : {i t : ℕ} {x y : Cell} {v : Change} {ws : Writes} {marks' : List (Cell × ℕ)}
       → get st.cleaners i ≡ Some (record { cell = x; start = t; decided = false })
       → ¬ IsCommitted st t → ¬ IsDead st t → Wrote st t ws → Puts ws 0 y v
       → IsWithout st.marks (y, t) marks'

@@ -9,6 +9,7 @@ pub data Request : Type 0 where
   Begin : Request
   Get : (start : ℕ) (cell : Cell) → Request
   Set : (start : ℕ) (cell : Cell) (value : Value) → Request
+  Delete : (start : ℕ) (cell : Cell) → Request
   -- the session's next step
   Advance : (start : ℕ) → Request
   Stop : (start : ℕ) → Request
@@ -34,6 +35,8 @@ pub data Reply : Type 0 where
   Pending : (start : ℕ) → Reply
   -- Set
   SetDone : Reply
+  -- Delete
+  DeleteDone : Reply
   -- Advance
   Held : (place count : ℕ) → Reply
   Conflict : (place : ℕ) → Reply

@@ -7,7 +7,7 @@ use Rattle.cell_key.specs.declared.keys.Qualifier.{Qualifier}
 use Rattle.cell_key.specs.declared.refusals.Refusal.{Refusal}
 use Rattle.cell_key.specs.declared.refusals.Refusal.TheVariants.{UnknownSession, WrongPhase, BadRow, BadColumn, BadValue, TooManyWrites, TooManySessions, EmptyCommit, UnknownCleaner, UnknownCollector, UnknownTablet, BadSplit, UnknownServer, BadCount, MemtableFull, TooManyFiles, FileTooLarge, Exhausted, Device, NoMemory, Damaged}
 use Rattle.si_model.specs.State.{State, Value, Writes, Phase, Open, InPhase, Wrote, Names, Marked, HasTablet, IsEnd, most_sessions, most_cleaners, most_collectors, most_tablets, most_servers, most_writes, most_value, most_visits}
-use Rattle.si_model.specs.Messages.{Request, Begin, Get, Set, Advance, Stop, CleanBegin, CleanStep, CollectBegin, CollectStep, Minor, Merge, Major, Split, Move, Raw}
+use Rattle.si_model.specs.Messages.{Request, Begin, Get, Set, Delete, Advance, Stop, CleanBegin, CleanStep, CollectBegin, CollectStep, Minor, Merge, Major, Split, Move, Raw}
 use Rattle.si_model.specs.declared.replies.Cell.{Cell}
 
 -- The refusal applies to the request: for each operation its refusals, in the order in which they
@@ -31,6 +31,13 @@ pub data Applies (st : State) : Request → Refusal → Type 0 where
       → Applies st (Set s x v) BadValue
   set_full : {s : ℕ} {x : Cell} {v : Value} {ws : Writes} → Wrote st s ws
       → ¬ Names ws x → most_writes ≤ length ws → Applies st (Set s x v) TooManyWrites
+  delete_unknown : {s : ℕ} {x : Cell} → get st.active s ≡ None → Applies st (Delete s x) UnknownSession
+  delete_late : {s : ℕ} {x : Cell} {p : Phase} → InPhase st s p → p ≢ Open
+      → Applies st (Delete s x) WrongPhase
+  delete_row : {s : ℕ} {x : Cell} → ¬ IsRow x.row → Applies st (Delete s x) BadRow
+  delete_family : {s : ℕ} {x : Cell} → ¬ IsFamily x.family → Applies st (Delete s x) BadColumn
+  delete_full : {s : ℕ} {x : Cell} {ws : Writes} → Wrote st s ws → ¬ Names ws x
+      → most_writes ≤ length ws → Applies st (Delete s x) TooManyWrites
   advance_unknown : {s : ℕ} → get st.active s ≡ None → Applies st (Advance s) UnknownSession
   advance_empty : {s : ℕ} → Wrote st s [] → Applies st (Advance s) EmptyCommit
   stop_unknown : {s : ℕ} → get st.active s ≡ None → Applies st (Stop s) UnknownSession

@@ -2,7 +2,7 @@
 use Rattle.std.specs.Prelude.{List, [], ◌∷◌, Some, None, codes}
 use Rattle.cell_key.specs.declared.refusals.Refusal.TheVariants.{UnknownSession, UnknownCollector, BadSplit}
 use Rattle.si_model.specs.declared.replies.Cell.{Cell}
-use Rattle.si_model.specs.Machine.{State, Request, Reply, Run, new_machine, reopened, Begin, Get, Set, Advance, Stop, CleanBegin, CleanStep, CollectBegin, CollectStep, Split, Move, Begun, Answered, Pending, SetDone, Held, Conflict, Drawn, Committed, Lost, Finished, StopDone, Cleaning, NoLock, Decided, Gone, RolledForward, RolledBack, Collecting, More, Blocked, Collected, SplitOff, MoveDone, Refused}
+use Rattle.si_model.specs.Machine.{State, Request, Reply, Run, new_machine, reopened, Begin, Get, Set, Delete, Advance, Stop, CleanBegin, CleanStep, CollectBegin, CollectStep, Split, Move, Begun, Answered, Pending, SetDone, DeleteDone, Held, Conflict, Drawn, Committed, Lost, Finished, StopDone, Cleaning, NoLock, Decided, Gone, RolledForward, RolledBack, Collecting, More, Blocked, Collected, SplitOff, MoveDone, Refused}
 
 -- a new machine can answer the requests so
 abbrev pub CanAnswer : List Request → List Reply → Type 0
@@ -26,6 +26,18 @@ FirstCell = CanAnswer
     (Begin ∷ Set 1 bob (codes "v") ∷ Advance 1 ∷ Advance 1 ∷ Advance 1 ∷ Begin ∷ Get 3 bob ∷ [])
     (Begun 1
     ∷ SetDone ∷ Held 1 1 ∷ Drawn 2 ∷ Committed 2 ∷ Begun 3 ∷ Answered (Some (codes "v")) ∷ [])
+
+-- A cell that has a value is deleted. A session that began before the deletion's commit waits for it
+-- while its mark stands, and reads the value then; one that began after it reads nothing.
+abbrev pub DeletedCell : Type 0
+DeletedCell = CanAnswer
+    (Begin ∷ Set 1 bob (codes "v") ∷ Advance 1 ∷ Advance 1 ∷ Advance 1
+    ∷ Begin ∷ Delete 3 bob ∷ Advance 3 ∷ Begin ∷ Get 4 bob ∷ Advance 3 ∷ Advance 3 ∷ Get 4 bob
+    ∷ Begin ∷ Get 6 bob ∷ [])
+    (Begun 1 ∷ SetDone ∷ Held 1 1 ∷ Drawn 2 ∷ Committed 2
+    ∷ Begun 3 ∷ DeleteDone ∷ Held 1 1 ∷ Begun 4 ∷ Pending 3 ∷ Drawn 5 ∷ Committed 5
+    ∷ Answered (Some (codes "v"))
+    ∷ Begun 6 ∷ Answered None ∷ [])
 
 -- Bob has 10 and Joe 2. A second session reads both, moves 7 from Bob to Joe,
 -- and a third reads what it wrote.

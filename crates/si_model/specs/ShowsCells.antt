@@ -1,5 +1,5 @@
 -- What it means that a cell map shows the transactions of a state of the snapshot machine.
-use Rattle.std.specs.Prelude.{◌≡◌, ◌≢◌, ℕ, ◌<◌, ◌⊎◌, List, length, Option, Some, None}
+use Rattle.std.specs.Prelude.{◌≡◌, ◌≢◌, ℕ, ◌<◌, ◌⊎◌, List, [], ◌∷◌, ◌++◌, length, slice_get, Option, Some, None}
 use Rattle.std.specs.FinMap.{get, insert, remove}
 use Rattle.byteorder.specs.Endian.{big_bytes, big_number}
 use Rattle.cell_key.specs.Cells.{Cells, version}
@@ -9,7 +9,9 @@ use Rattle.cell_key.specs.declared.keys.Qualifier.{Qualifier}
 use Rattle.cell_key.specs.declared.keys.Qualifier.TheVariants.{Data, Lock, Write}
 use Rattle.si_model.specs.Sets.{◌∈◌}
 use Rattle.si_model.specs.Laws.{IsCleared}
-use Rattle.si_model.specs.Machine.{State, Value, Writes, Commit, Open, InPhase, Wrote, Puts, Gives, Names, Marked, IsReached}
+use Rattle.si_model.specs.Machine.{State, Value, Change, Writes, Commit, Open, InPhase, Wrote, Puts, Gives, Names, Marked, IsReached}
+use Rattle.si_model.specs.declared.cells.WriteKind.{WriteKind}
+use Rattle.si_model.specs.declared.cells.WriteKind.TheVariants as write
 use Rattle.si_model.specs.declared.replies.Cell.{Cell}
 
 abbrev pub key_of : Cell → Qualifier → ℕ → CellKey
@@ -22,51 +24,110 @@ at cells x q s = get cells (key_of x q s)
 abbrev pub IsThere : Cells → Cell → Qualifier → ℕ → Type 0
 IsThere cells x q s = (b : List ℕ) × (at cells x q s ≡ Some b)
 
--- the value of a lock: the place of its session's first cell
-abbrev pub lock_text : Cell → List ℕ
-lock_text x = place_text x.row x.family
+-- what kind of write makes the change
+abbrev pub kind_of_change : Change → WriteKind
+kind_of_change (Some value) = write.Set
+kind_of_change None = write.Delete
 
--- the value of a write record: its session's start
+-- the byte of a kind: S or D
+abbrev pub kind_byte : WriteKind → ℕ
+kind_byte write.Set = 0x53
+kind_byte write.Delete = 0x44
+
+-- A text ends with the byte of a kind. In an older form it ends before it, which means a set.
+abbrev pub HasKind : List ℕ → WriteKind → List ℕ → Type 0
+HasKind before kind text =
+    (text ≡ before ++ (kind_byte kind ∷ [])) ⊎ ((kind ≡ write.Set) × (text ≡ before))
+
+-- the value of a lock: the place of its session's first cell, and the kind of the write
+abbrev pub lock_text : Cell → WriteKind → List ℕ
+lock_text x kind = place_text x.row x.family ++ (kind_byte kind ∷ [])
+
+abbrev pub IsLockText : Cell → WriteKind → List ℕ → Type 0
+IsLockText x kind text = HasKind (place_text x.row x.family) kind text
+
+-- the value of a write record: its session's start, and the kind of the write
 abbrev pub start_text : ℕ → List ℕ
 start_text t = big_bytes 8 t
 
--- such a value names t
+abbrev pub record_text : ℕ → WriteKind → List ℕ
+record_text t kind = start_text t ++ (kind_byte kind ∷ [])
+
+abbrev pub IsRecordText : ℕ → WriteKind → List ℕ → Type 0
+IsRecordText t kind text = HasKind (start_text t) kind text
+
+-- such a value, as it is read, names t and a kind
+pub record NamesWrite (text : List ℕ) (t : ℕ) (kind : WriteKind) : Type 0 where
+  pub start : big_number 8 text ≡ t
+  pub kind_is : ((length text ≡ 8) × (kind ≡ write.Set))
+      ⊎ ((length text ≡ 9) × (slice_get text 8 ≡ Some (kind_byte kind)))
+
 abbrev pub NamesStart : List ℕ → ℕ → Type 0
-NamesStart b t = (length b ≡ 8) × (big_number 8 b ≡ t)
+NamesStart text t = (kind : WriteKind) × NamesWrite text t kind
+
+-- the record of x at c names t
+abbrev pub NamesAt : Cells → Cell → ℕ → ℕ → Type 0
+NamesAt cells x c t =
+    (text : List ℕ) × (kind : WriteKind)
+    × (at cells x Write c ≡ Some text) × IsRecordText t kind text
 
 -- x is the first cell that t writes
 abbrev pub IsFirstCell : State → ℕ → Cell → Type 0
-IsFirstCell st t x = (ws : Writes) × (v : Value) × Wrote st t ws × Puts ws 0 x v
+IsFirstCell st t x = (ws : Writes) × (v : Change) × Wrote st t ws × Puts ws 0 x v
 
--- the mark of t on x is shown: its lock holds the place of t's first cell, and its data is there
+-- t makes the change v of x
+abbrev pub IsChange : State → ℕ → Cell → Change → Type 0
+IsChange st t x v = (ws : Writes) × Wrote st t ws × Gives ws x v
+
+-- where t gives x a value, there is data of it
+abbrev pub HasData : Cells → Cell → ℕ → Change → Type 0
+HasData cells x t v = (given : Value) → v ≡ Some given → IsThere cells x Data t
+
+-- the mark of t on x is shown: its lock holds the place of t's first cell and the kind of t's write,
+-- and its data is there
 pub record ShowsMark (cells : Cells) (st : State) (x : Cell) (t : ℕ) : Type 0 where
   pub first : Cell
   pub is_first : IsFirstCell st t first
-  pub lock : at cells x Lock t ≡ Some (lock_text first)
-  pub value : IsThere cells x Data t
+  pub change : Change
+  pub is_change : IsChange st t x change
+  pub text : List ℕ
+  pub lock : at cells x Lock t ≡ Some text
+  pub is_text : IsLockText first (kind_of_change change) text
+  pub value : HasData cells x t change
 
 -- the write record of x at c names a commit that writes x and has no mark on it,
--- and its data is there
+-- and the kind of its write, and its data is there
 pub record NamesCommit (cells : Cells) (st : State) (x : Cell) (c : ℕ)
-    (record_text : List ℕ) : Type 0 where
+    (text : List ℕ) : Type 0 where
   pub commit : Commit
   pub is_in : commit ∈ st.commits
   pub stamp : commit.stamp ≡ c
-  pub writes : Names commit.writes x
-  pub text : record_text ≡ start_text commit.start
+  pub change : Change
+  pub gives : Gives commit.writes x change
+  pub is_text : IsRecordText commit.start (kind_of_change change) text
   pub unmarked : ¬ Marked st x commit.start
-  pub value : IsThere cells x Data commit.start
+  pub value : HasData cells x commit.start change
 
 -- a later commit of x lies at or below the floor and each mark
 abbrev pub IsReplaced : State → Cell → Commit → Type 0
 IsReplaced st x a =
     (b : Commit) × (b ∈ st.commits) × Names b.writes x × (a.stamp < b.stamp) × IsCleared st b.stamp
 
+-- a commit that deletes x lies at or below the floor and each mark, and no record stands below it
+pub record IsForgotten (cells : Cells) (st : State) (x : Cell) (a : Commit) : Type 0 where
+  pub deletes : Gives a.writes x None
+  pub cleared : IsCleared st a.stamp
+  pub oldest : (c : ℕ) → c < a.stamp → at cells x Write c ≡ None
+
+-- a commit of x may have no record there
+abbrev pub MayLack : Cells → State → Cell → Commit → Type 0
+MayLack cells st x a = IsReplaced st x a ⊎ IsForgotten cells st x a
+
 -- the data of x at t is what t gave, and t has held a cell
 pub record IsGiven (st : State) (x : Cell) (t : ℕ) (given : List ℕ) : Type 0 where
   pub ws : Writes
   pub wrote : Wrote st t ws
-  pub gives : Gives ws x given
+  pub gives : Gives ws x (Some given)
   pub late : ¬ InPhase st t Open
 
 pub record ShowsCells (cells : Cells) (st : State) : Type 0 where
@@ -77,10 +138,10 @@ pub record ShowsCells (cells : Cells) (st : State) : Type 0 where
   pub records : (x : Cell) (c : ℕ) (b : List ℕ) → at cells x Write c ≡ Some b
       → NamesCommit cells st x c b
   -- each commit has its record on each of its cells that it no longer marks,
-  -- unless it is replaced there
+  -- unless it is replaced there, or forgotten
   pub commits : (a : Commit) → a ∈ st.commits → (x : Cell) → Names a.writes x
       → ¬ Marked st x a.start
-      → (at cells x Write a.stamp ≡ Some (start_text a.start)) ⊎ IsReplaced st x a
+      → IsThere cells x Write a.stamp ⊎ MayLack cells st x a
   -- data is what its start gave
   pub given : (x : Cell) (t : ℕ) (b : List ℕ) → at cells x Data t ≡ Some b → IsGiven st x t b
 
@@ -88,15 +149,20 @@ pub record ShowsCells (cells : Cells) (st : State) : Type 0 where
 abbrev pub WhereShown : (Cells → State → Type 0) → Type 0
 WhereShown Law = (cells : Cells) (st : State) → IsReached st → ShowsCells cells st → Law cells st
 
+-- the cells after t put the data of a change of x; a deletion has none
+abbrev pub changed_cells : Cells → Cell → ℕ → Change → Cells
+changed_cells cells x t (Some value) = insert cells (key_of x Data t) value
+changed_cells cells x t None = cells
+
 -- the cells after t put data and lock of x
-abbrev pub held_cells : Cells → Cell → ℕ → List ℕ → Cell → Cells
-held_cells cells x t value first =
-    insert (insert cells (key_of x Data t) value) (key_of x Lock t) (lock_text first)
+abbrev pub held_cells : Cells → Cell → ℕ → Change → Cell → Cells
+held_cells cells x t v first =
+    insert (changed_cells cells x t v) (key_of x Lock t) (lock_text first (kind_of_change v))
 
 -- the cells after t's lock of x gave way to its record at c
-abbrev pub recorded_cells : Cells → Cell → ℕ → ℕ → Cells
-recorded_cells cells x t c =
-    remove (insert cells (key_of x Write c) (start_text t)) (key_of x Lock t)
+abbrev pub recorded_cells : Cells → Cell → ℕ → ℕ → WriteKind → Cells
+recorded_cells cells x t c kind =
+    remove (insert cells (key_of x Write c) (record_text t kind)) (key_of x Lock t)
 
 -- the cells after t's lock of x was erased, and nothing put in its place
 abbrev pub erased_cells : Cells → Cell → ℕ → Cells

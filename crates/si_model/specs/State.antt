@@ -10,11 +10,15 @@ use Rattle.si_model.specs.declared.replies.Cell.{Cell}
 abbrev pub Value : Type 0
 Value = List ℕ
 
--- a session's writes, in the order in which their cells were first set
-abbrev pub Writes : Type 0
-Writes = List (Cell × Value)
+-- what a write makes of its cell: it gives it a value, or deletes it
+abbrev pub Change : Type 0
+Change = Option Value
 
--- how far a session is: it takes Sets; it has marked so many of its cells; it has drawn its commit
+-- a session's writes, in the order in which their cells were first set or deleted
+abbrev pub Writes : Type 0
+Writes = List (Cell × Change)
+
+-- how far a session is: it takes Sets and Deletes; it has marked so many of its cells; it has drawn its commit
 -- stamp; it has committed, and so many of its cells are clear
 pub data Phase : Type 0 where
   Open : Phase
@@ -111,7 +115,7 @@ abbrev pub most_cleaners : ℕ
 most_cleaners = 1024
 
 abbrev pub most_collectors : ℕ
-most_collectors = 1024
+most_collectors = 64
 
 abbrev pub most_tablets : ℕ
 most_tablets = 1024
@@ -146,17 +150,17 @@ Wrote st t ws = get st.begun t ≡ Some ws
 abbrev pub Marked : State → Cell → ℕ → Type 0
 Marked st x t = (x, t) ∈ st.marks
 
--- the k-th write, from 0 on, gives v to x
-abbrev pub Puts : Writes → ℕ → Cell → Value → Type 0
+-- the k-th write, from 0 on, makes the change v of x
+abbrev pub Puts : Writes → ℕ → Cell → Change → Type 0
 Puts ws k x v = slice_get ws k ≡ Some (x, v)
 
--- the writes give v to x
-abbrev pub Gives : Writes → Cell → Value → Type 0
+-- the writes make the change v of x
+abbrev pub Gives : Writes → Cell → Change → Type 0
 Gives ws x v = (k : ℕ) × Puts ws k x v
 
 -- x is among the cells of the writes
 abbrev pub Names : Writes → Cell → Type 0
-Names ws x = (v : Value) × Gives ws x v
+Names ws x = (v : Change) × Gives ws x v
 
 abbrev pub IsDead : State → ℕ → Type 0
 IsDead st t = t ∈ st.dead

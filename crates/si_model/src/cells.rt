@@ -1,18 +1,51 @@
 //! A cell by its names, its keys, the edits by which its lock goes, and what its write records name.
 
-ghost use Rattle.std.specs.Prelude.{◌≡◌, ◌≢◌, length, IfOk, IfErr, IfSome, IfNone, OnOk, OnSome};
+ghost use Rattle.std.specs.Prelude.{◌≡◌, ◌≢◌, ℕ, IfOk, IfErr, IfSome, IfNone, OnOk};
 ghost use Rattle.std.specs.List.{AllByRecursion};
-ghost use Rattle.byteorder.specs.Endian.{big_number};
 ghost use Rattle.cell_key.specs.Cells.{IsEditOf};
 ghost use Rattle.cell_key.specs.Names.{IsFamily, IsRow};
 ghost use Rattle.si_model.specs.Edits.{IsErasing, IsRecording};
 ghost use Rattle.si_model.specs.Reads.{IsNameRefusal, cell_of};
-ghost use Rattle.si_model.specs.ShowsCells.{key_of};
+ghost use Rattle.si_model.specs.ShowsCells.{NamesWrite, key_of, kind_byte};
+ghost use Rattle.si_model.specs.declared.cells.WriteKind.{WriteKind as Kind};
 
 use crate::replies::Cell;
 use byteorder::{BigEndian, ByteOrder};
 use cell_key::{CellKey, Edit, Family, Moment, Qualifier, Refusal, Row, Stamp};
 use std::alloc::{AllocError, Global};
+
+/// What kind of write it is: one that gives its cell a value, or one that deletes it.
+#[derive(Clone, Copy, Debug, PartialEq, Eq)]
+pub enum WriteKind {
+    /// It gives the cell a value.
+    Set,
+    /// It deletes the cell.
+    Delete,
+}
+
+impl WriteKind {
+    /// The byte with which the values of its lock and its write record end.
+    pub fn byte(self) -> u8
+        ensures { result ≡ kind_byte self }
+    {
+        match self {
+            WriteKind::Set => b'S',
+            WriteKind::Delete => b'D',
+        }
+    }
+
+    /// The kind of a byte; `None` where it is that of no kind.
+    pub fn of_byte(byte: u8) -> Option<WriteKind>
+        ensures some { IfSome result (λ kind. kind_byte kind ≡ byte) }
+        ensures none { IfNone result ((kind : Kind) → kind_byte kind ≢ byte) }
+    {
+        match byte {
+            b'S' => Some(WriteKind::Set),
+            b'D' => Some(WriteKind::Delete),
+            _ => None,
+        }
+    }
+}
 
 /// The cell of a row and a family. Refused BadRow and BadColumn where a name is outside its limits,
 /// and NoMemory.
@@ -39,27 +72,31 @@ pub fn key(cell: &Cell, qualifier: Qualifier, stamp: Stamp) -> Result<CellKey, A
     })
 }
 
-/// The start that a write record names; `None` where its text has not eight bytes.
-pub fn named_start(text: &[u8]) -> Option<Stamp>
-    ensures named { IfSome result (λ start. start ≡ big_number 8 text.now) }
-    ensures length { OnSome result (length text.now ≡ 8) }
-    ensures none { IfNone result (length text.now ≢ 8) }
+/// The start that a write record names, and the kind of its write; `None` where its text names none.
+/// A text of eight bytes, which has no kind, is of an older form, and means a set.
+pub fn named_write(text: &[u8]) -> Option<(Stamp, WriteKind)>
+    ensures named { IfSome result (λ named. NamesWrite text.now named.0 named.1) }
+    ensures none { IfNone result ((t : ℕ) (kind : Kind) → ¬ NamesWrite text.now t kind) }
 {
-    if text.len() != 8 {
-        return None;
-    }
-    Some(BigEndian::read_u64(text))
+    let kind = match text.len() {
+        8 => WriteKind::Set,
+        9 => WriteKind::of_byte(text[8])?,
+        _ => return None,
+    };
+    Some((BigEndian::read_u64(text), kind))
 }
 
-/// The two edits that put the write record of a start at its commit stamp in the place of its lock.
+/// The two edits that put the write record of a start at its commit stamp, with the kind of its write,
+/// in the place of its lock.
 /// Refused NoMemory where there is no room for them.
 pub fn recording(
     alloc: Global,
     cell: &Cell,
     start: Moment,
     commit: Moment,
+    kind: WriteKind,
 ) -> Result<Vec<Edit>, Refusal>
-    ensures recording { IfOk result (λ edits. IsRecording cell.now start commit edits.items) }
+    ensures recording { IfOk result (λ edits. IsRecording cell.now start commit kind edits.items) }
     ensures under { IfOk result (λ edits. AllByRecursion (IsEditOf cell.now.row) edits.items) }
     ensures refusal { IfErr result (λ refusal. refusal ≡ Refusal.NoMemory) }
 {
@@ -68,9 +105,10 @@ pub fn recording(
     let mut edits = Vec::new(alloc);
     let record = key(cell, Qualifier::Write, commit)?;
     let lock = key(cell, Qualifier::Lock, start)?;
-    let mut text = [0u8; 8];
-    BigEndian::write_u64(&mut text, start);
-    let text = Vec::from_slice(alloc, &text)?;
+    let mut number = [0u8; 8];
+    BigEndian::write_u64(&mut number, start);
+    let mut text = Vec::from_slice(alloc, &number)?;
+    text.push(kind.byte())?;
     edits.push(Edit::Put(record, text))?;
     edits.push(Edit::Erase(lock))?;
     Ok(edits)

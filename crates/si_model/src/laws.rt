@@ -73,7 +73,7 @@ pub fn bounded()
     ensures { (st : State) → IsReached st → Bounds st }
 {}
 
-/// What each step keeps of starts that are open no more, and of what is cleared.
+/// What each step keeps of starts that are open no more or have a mark, and of what is cleared.
 pub fn goes_on()
     ensures { AtEachStep Goes }
 {}
@@ -159,7 +159,7 @@ pub fn shows_reopened()
 {}
 
 /// Where no mark stands below a floor, a collector may erase the records older than one at or below it, with their data,
-/// and data below it that no record names.
+/// data below it that no record names, and the record of a deletion at or below it that is a cell's oldest.
 pub fn may_erase()
     ensures { WhereShown MayEraseBelow }
 {}

@@ -6,7 +6,7 @@ mod laws;
 mod replies;
 mod runs;
 
-pub use cells::{cell_named, erasing, key, named_start, recording};
+pub use cells::{WriteKind, cell_named, erasing, key, named_write, recording};
 pub use laws::{
     bounded, cleaners_know, clears_its_floor, come_stays, comes_further, commit_seen, endures,
     fate_seen, first_committer, first_tells, floor_stays_low, goes_on, gone_for_good, have_tried,
@@ -16,6 +16,6 @@ pub use laws::{
 };
 pub use replies::{Cell, CleanReply, CleanStart, CollectReply, Found, Progress};
 pub use runs::{
-    commit_point, first_cell, first_holder, lost, mark_stays, rolled_back, split_tablet,
-    stranded_mark, transfer, write_skew, younger_first,
+    commit_point, deleted_cell, first_cell, first_holder, lost, mark_stays, rolled_back,
+    split_tablet, stranded_mark, transfer, write_skew, younger_first,
 };

@@ -1,11 +1,16 @@
 //! Scripts that the machine can follow, which show that its rules are met by something.
 //! Each is a call that does nothing: its contract is the script.
 
-ghost use Rattle.si_model.specs.Scripts.{CommitPoint, FirstCell, FirstHolder, LostTransfer, MarkStays, RolledBackTransfer, SplitTablet, StrandedMark, Transfer, WriteSkew, YoungerFirst};
+ghost use Rattle.si_model.specs.Scripts.{CommitPoint, DeletedCell, FirstCell, FirstHolder, LostTransfer, MarkStays, RolledBackTransfer, SplitTablet, StrandedMark, Transfer, WriteSkew, YoungerFirst};
 
 /// One cell is set, held, committed and read.
 pub fn first_cell()
     ensures { FirstCell }
+{}
+
+/// A cell is deleted: sessions that began before the commit read its value, and later ones nothing.
+pub fn deleted_cell()
+    ensures { DeletedCell }
 {}
 
 /// A session moves 7 from Bob to Joe, and the next one reads both balances.

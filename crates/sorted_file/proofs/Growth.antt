@@ -1,10 +1,13 @@
 -- A file grows by an entry, and is closed.
 use Rattle.std.proofs.Common.{◌≡◌, ◌≢◌, ℕ, ◌+◌, ◌-◌, ◌≤◌, ◌<◌, ◌^◌, List, [], ◌∷◌, ◌++◌, length, refl, sym, ap, subst, inl, inr, ◌∙◌, arith, length-append, append_assoc}
-use Rattle.std.specs.Prelude.{flat_map, codes}
-use Rattle.std.specs.Int.{w32, to_be_bytes}
+use Rattle.std.specs.Prelude.{flat_map}
+use Rattle.std.specs.List.{AllByRecursion}
 use Rattle.std.proofs.lemmas.List.Concat.{flat_map-append}
 use Rattle.cell_key.specs.Entries.{Entry, spelled, field}
-use Rattle.sorted_file.specs.Grammar.{block_bytes, Fits, IsFullBlock, AreBlocks, IsFile, FitsIn, image_of, row, index, body, foot}
+use Rattle.sorted_file.specs.Grammar.{block_bytes, head, number_bytes, Fits, IsFullBlock, AreBlocks, IsFile, IsShortEntry, FitsIn, image_of, row, index, body, foot}
+use Rattle.sorted_file.specs.declared.formats.Format.{Format}
+use Rattle.sorted_file.specs.declared.formats.Format.TheVariants.{Two}
+use Rattle.sorted_file.proofs.Joining.{all_joined}
 use Rattle.sorted_file.specs.Building.{State, HasMadeRoom, image_from, opened, closed, added, with_open, IsFirstText, IsBuilt, IsClosed}
 use Rattle.sorted_file.proofs.Splits.{one_split}
 
@@ -24,12 +27,12 @@ body-last blocks es = flat_map-append block_bytes blocks (es ∷ []) ∙ ap (λ 
 block_bytes-last : (es : List Entry) (e : Entry) → block_bytes (es ++ e ∷ []) ≡ block_bytes es ++ spelled e
 block_bytes-last es e = flat_map-append spelled es (e ∷ []) ∙ ap (λ (l : List ℕ). block_bytes es ++ l) (append-nil (spelled e))
 
-pub index-last : (at : ℕ) (blocks : List (List Entry)) (es : List Entry) → index at (blocks ++ es ∷ []) ≡ index at blocks ++ row (at + length (body blocks)) es
-index-last at [] es = append-nil (row at es) ∙ ap (λ (n : ℕ). row n es) (omega arith)
-index-last at (block ∷ blocks) es =
+pub index-last : (f : Format) (at : ℕ) (blocks : List (List Entry)) (es : List Entry) → index f at (blocks ++ es ∷ []) ≡ index f at blocks ++ row f (at + length (body blocks)) es
+index-last f at [] es = append-nil (row f at es) ∙ ap (λ (n : ℕ). row f n es) (omega arith)
+index-last f at (block ∷ blocks) es =
     let l : at + length (block_bytes block) + length (body blocks) ≡ at + length (body (block ∷ blocks)) = omega (arith, length-append (block_bytes block) (body blocks)) in
-    ap (λ (r : List ℕ). row at block ++ r) (index-last (at + length (block_bytes block)) blocks es ∙ ap (λ (n : ℕ). index (at + length (block_bytes block)) blocks ++ row n es) l)
-    ∙ sym (append_assoc (row at block) (index (at + length (block_bytes block)) blocks) (row (at + length (body (block ∷ blocks))) es))
+    ap (λ (r : List ℕ). row f at block ++ r) (index-last f (at + length (block_bytes block)) blocks es ∙ ap (λ (n : ℕ). index f (at + length (block_bytes block)) blocks ++ row f n es) l)
+    ∙ sym (append_assoc (row f at block) (index f (at + length (block_bytes block)) blocks) (row f (at + length (body (block ∷ blocks))) es))
 
 length-last : {A : Type 0} (xs : List A) (x : A) → length (xs ++ x ∷ []) ≡ length xs + 1
 length-last xs x = length-append xs (x ∷ [])
@@ -61,13 +64,13 @@ followed : (blocks : List (List Entry)) (o : Entry) (os : List Entry) (e : Entry
 followed [] o os e g h = (g.0, h, (tt, tt, tt))
 followed (b ∷ blocks) o os e g h = (g.0, full_next b blocks o os (e ∷ []) g.1, followed blocks o os e g.2 h)
 
-out-last : (s : State) (blocks : List (List Entry)) (e : Entry) → s.out ≡ codes "TABLET01" ++ body blocks → s.out ++ spelled e ≡ codes "TABLET01" ++ body (blocks ++ (e ∷ []) ∷ [])
+out-last : (s : State) (blocks : List (List Entry)) (e : Entry) → s.out ≡ head Two ++ body blocks → s.out ++ spelled e ≡ head Two ++ body (blocks ++ (e ∷ []) ∷ [])
 out-last s blocks e b =
-    ap (λ (l : List ℕ). l ++ spelled e) b ∙ append_assoc (codes "TABLET01") (body blocks) (spelled e)
-    ∙ ap (λ (l : List ℕ). codes "TABLET01" ++ l) (sym (body-last blocks (e ∷ []) ∙ ap (λ (l : List ℕ). body blocks ++ l) (append-nil (spelled e))))
+    ap (λ (l : List ℕ). l ++ spelled e) b ∙ append_assoc (head Two) (body blocks) (spelled e)
+    ∙ ap (λ (l : List ℕ). head Two ++ l) (sym (body-last blocks (e ∷ []) ∙ ap (λ (l : List ℕ). body blocks ++ l) (append-nil (spelled e))))
 
-out_length : (out rest : List ℕ) → out ≡ codes "TABLET01" ++ rest → length out ≡ 8 + length rest
-out_length out rest e = ap length e ∙ length-append (codes "TABLET01") rest
+out_length : (out rest : List ℕ) → out ≡ head Two ++ rest → length out ≡ 8 + length rest
+out_length out rest e = ap length e ∙ length-append (head Two) rest
 
 -- a list is empty or has a first entry
 data Shape (es : List Entry) : Type 0 where
@@ -83,15 +86,16 @@ record Parts (s : State) (es : List Entry) (before : List (List Entry)) (current
   whole : flat_map (λ block. block) (with_open before current) ≡ es
   grammar : AreBlocks (with_open before current)
   alone : current ≡ [] → before ≡ []
-  bytes : s.out ≡ codes "TABLET01" ++ body (with_open before current)
-  places : s.rows ≡ index 8 before
+  short : AllByRecursion IsShortEntry es
+  bytes : s.out ≡ head Two ++ body (with_open before current)
+  places : s.rows ≡ index Two 8 before
   from : s.start ≡ 8 + length (body before)
   named : IsFirstText s.first current
   count : s.blocks ≡ length before
   total : s.entries ≡ length es
 
 parts : (s : State) (es : List Entry) (b : IsBuilt s es) (current : List Entry) → b.current ≡ current → Parts s es b.before current
-parts s es b current e = subst (Parts s es b.before) e (record { whole = b.whole; grammar = b.grammar; alone = b.alone; bytes = b.bytes; places = b.places; from = b.from; named = b.named; count = b.count; total = b.total })
+parts s es b current e = subst (Parts s es b.before) e (record { whole = b.whole; grammar = b.grammar; alone = b.alone; short = b.short; bytes = b.bytes; places = b.places; from = b.from; named = b.named; count = b.count; total = b.total })
 
 -- the length of the open block
 block_length : (s : State) (es : List Entry) (before : List (List Entry)) (o : Entry) (os : List Entry) → Parts s es before (o ∷ os) → length s.out - s.start ≡ length (block_bytes (o ∷ os))
@@ -114,8 +118,8 @@ some_entries s es before p =
     let n : es ≡ [] = sym p.whole ∙ ap (λ (blocks : List (List Entry)). flat_map (λ block. block) blocks) e in
     (n, p.total ∙ ap length n, e)
 
-start_parts : (s : State) (es : List Entry) (e : Entry) → Parts s es [] [] → es ≡ [] → IsBuilt (added (opened s e.0) e) (es ++ e ∷ [])
-start_parts s es e p empty =
+start_parts : (s : State) (es : List Entry) (e : Entry) → IsShortEntry e → Parts s es [] [] → es ≡ [] → IsBuilt (added (opened s e.0) e) (es ++ e ∷ [])
+start_parts s es e k p empty =
     let b = p.bytes in
     let t = p.total in
     let f = out_length s.out _ b in
@@ -125,6 +129,7 @@ start_parts s es e p empty =
       whole = ap (λ (l : List Entry). l ++ e ∷ []) (sym empty);
       grammar = (tt, tt, tt);
       alone = λ q. absurd (omega (arith, ap length q));
+      short = all_joined IsShortEntry es (e ∷ []) p.short (k, tt);
       bytes = out-last s [] e b;
       places = p.places;
       from = f;
@@ -133,16 +138,16 @@ start_parts s es e p empty =
       total = ap (λ (n : ℕ). n + 1) t ∙ sym (length-last es e);
     }
 
-pub first_built : (s : State) (es : List Entry) (e : Entry) → IsBuilt s es → s.entries ≡ 0 → IsBuilt (added (opened s e.0) e) (es ++ e ∷ [])
-first_built s es e b z =
+pub first_built : (s : State) (es : List Entry) (e : Entry) → IsShortEntry e → IsBuilt s es → s.entries ≡ 0 → IsBuilt (added (opened s e.0) e) (es ++ e ∷ [])
+first_built s es e k b z =
     elim (shape b.current) [
       | none is ↦ let p = parts s es b [] is in let n = some_entries s es b.before p in
-          start_parts s es e (subst (λ (blocks : List (List Entry)). Parts s es blocks []) n.2 p) n.0
+          start_parts s es e k (subst (λ (blocks : List (List Entry)). Parts s es blocks []) n.2 p) n.0
       | some o os is ↦ absurd (no_entries s es b.before o os (parts s es b (o ∷ os) is) z)
     ]
 
-join_parts : (s : State) (es : List Entry) (e : Entry) (before : List (List Entry)) (o : Entry) (os : List Entry) → Parts s es before (o ∷ os) → length s.out - s.start + length (spelled e) ≤ 4096 → IsBuilt (added s e) (es ++ e ∷ [])
-join_parts s es e before o os p h =
+join_parts : (s : State) (es : List Entry) (e : Entry) → IsShortEntry e → (before : List (List Entry)) (o : Entry) (os : List Entry) → Parts s es before (o ∷ os) → length s.out - s.start + length (spelled e) ≤ 4096 → IsBuilt (added s e) (es ++ e ∷ [])
+join_parts s es e k before o os p h =
     let len = block_length s es before o os p in
     let more : block_bytes (o ∷ os ++ e ∷ []) ≡ block_bytes (o ∷ os) ++ spelled e = block_bytes-last (o ∷ os) e in
     let all : body (before ++ (o ∷ os ++ e ∷ []) ∷ []) ≡ body (before ++ (o ∷ os) ∷ []) ++ spelled e =
@@ -153,7 +158,8 @@ join_parts s es e before o os p h =
       whole = flat-last before (o ∷ os ++ e ∷ []) ∙ sym (append_assoc (flat_map (λ block. block) before) (o ∷ os) (e ∷ [])) ∙ ap (λ (l : List Entry). l ++ e ∷ []) (sym (flat-last before (o ∷ os)) ∙ p.whole);
       grammar = joined before o os e p.grammar (omega (arith, len, h));
       alone = λ q. absurd (omega (arith, ap length q));
-      bytes = ap (λ (l : List ℕ). l ++ spelled e) p.bytes ∙ append_assoc (codes "TABLET01") (body (before ++ (o ∷ os) ∷ [])) (spelled e) ∙ ap (λ (l : List ℕ). codes "TABLET01" ++ l) (sym all);
+      short = all_joined IsShortEntry es (e ∷ []) p.short (k, tt);
+      bytes = ap (λ (l : List ℕ). l ++ spelled e) p.bytes ∙ append_assoc (head Two) (body (before ++ (o ∷ os) ∷ [])) (spelled e) ∙ ap (λ (l : List ℕ). head Two ++ l) (sym all);
       places = p.places;
       from = p.from;
       named = p.named;
@@ -161,26 +167,27 @@ join_parts s es e before o os p h =
       total = ap (λ (n : ℕ). n + 1) p.total ∙ sym (length-last es e);
     }
 
-pub joins_built : (s : State) (es : List Entry) (e : Entry) → IsBuilt s es → s.entries ≢ 0 → length s.out - s.start + length (spelled e) ≤ 4096 → IsBuilt (added s e) (es ++ e ∷ [])
-joins_built s es e b z h =
+pub joins_built : (s : State) (es : List Entry) (e : Entry) → IsShortEntry e → IsBuilt s es → s.entries ≢ 0 → length s.out - s.start + length (spelled e) ≤ 4096 → IsBuilt (added s e) (es ++ e ∷ [])
+joins_built s es e k b z h =
     elim (shape b.current) [
       | none is ↦ absurd (z (some_entries s es b.before (parts s es b [] is)).1)
-      | some o os is ↦ join_parts s es e b.before o os (parts s es b (o ∷ os) is) h
+      | some o os is ↦ join_parts s es e k b.before o os (parts s es b (o ∷ os) is) h
     ]
 
 close_parts : (s : State) (es : List Entry) (before : List (List Entry)) (o : Entry) (os : List Entry) → Parts s es before (o ∷ os) → IsClosed (closed s) es
 close_parts s es before o os p =
     let len = block_length s es before o os p in
-    let r : to_be_bytes w32 s.start ++ (to_be_bytes w32 (length s.out - s.start) ++ field s.first) ≡ row (8 + length (body before)) (o ∷ os) =
-    ap (λ (n : ℕ). to_be_bytes w32 n ++ (to_be_bytes w32 (length s.out - s.start) ++ field s.first)) p.from
-    ∙ ap (λ (n : ℕ). to_be_bytes w32 (8 + length (body before)) ++ (to_be_bytes w32 n ++ field s.first)) len
-    ∙ ap (λ (l : List ℕ). to_be_bytes w32 (8 + length (body before)) ++ (to_be_bytes w32 (length (block_bytes (o ∷ os))) ++ field l)) p.named in
+    let r : number_bytes Two s.start ++ (number_bytes Two (length s.out - s.start) ++ field s.first) ≡ row Two (8 + length (body before)) (o ∷ os) =
+    ap (λ (n : ℕ). number_bytes Two n ++ (number_bytes Two (length s.out - s.start) ++ field s.first)) p.from
+    ∙ ap (λ (n : ℕ). number_bytes Two (8 + length (body before)) ++ (number_bytes Two n ++ field s.first)) len
+    ∙ ap (λ (l : List ℕ). number_bytes Two (8 + length (body before)) ++ (number_bytes Two (length (block_bytes (o ∷ os))) ++ field l)) p.named in
     record {
       all = before ++ (o ∷ os) ∷ [];
       whole = p.whole;
       grammar = p.grammar;
+      short = p.short;
       bytes = p.bytes;
-      places = ap (λ (l : List ℕ). l ++ (to_be_bytes w32 s.start ++ (to_be_bytes w32 (length s.out - s.start) ++ field s.first))) p.places ∙ ap (λ (l : List ℕ). index 8 before ++ l) r ∙ sym (index-last 8 before (o ∷ os));
+      places = ap (λ (l : List ℕ). l ++ (number_bytes Two s.start ++ (number_bytes Two (length s.out - s.start) ++ field s.first))) p.places ∙ ap (λ (l : List ℕ). index Two 8 before ++ l) r ∙ sym (index-last Two 8 before (o ∷ os));
       count = ap (λ (n : ℕ). n + 1) p.count ∙ sym (length-last before (o ∷ os));
       total = p.total;
     }
@@ -192,9 +199,9 @@ closes s es b z =
       | some o os is ↦ close_parts s es b.before o os (parts s es b (o ∷ os) is)
     ]
 
-open_parts : (s : State) (es : List Entry) (e : Entry) (before : List (List Entry)) (o : Entry) (os : List Entry) → Parts s es before (o ∷ os) → 4096 < length s.out - s.start + length (spelled e) → IsBuilt (added (opened (closed s) e.0) e) (es ++ e ∷ [])
+open_parts : (s : State) (es : List Entry) (e : Entry) → IsShortEntry e → (before : List (List Entry)) (o : Entry) (os : List Entry) → Parts s es before (o ∷ os) → 4096 < length s.out - s.start + length (spelled e) → IsBuilt (added (opened (closed s) e.0) e) (es ++ e ∷ [])
 unfolding close_parts
-open_parts s es e before o os p h =
+open_parts s es e k before o os p h =
     let len = block_length s es before o os p in
     let c = close_parts s es before o os p in
     record {
@@ -203,6 +210,7 @@ open_parts s es e before o os p h =
       whole = flat-last (before ++ (o ∷ os) ∷ []) (e ∷ []) ∙ ap (λ (l : List Entry). l ++ e ∷ []) p.whole;
       grammar = followed before o os e p.grammar (omega (arith, len, h));
       alone = λ q. absurd (omega (arith, ap length q));
+      short = all_joined IsShortEntry es (e ∷ []) p.short (k, tt);
       bytes = out-last s (before ++ (o ∷ os) ∷ []) e p.bytes;
       places = c.places;
       from = out_length s.out _ p.bytes;
@@ -211,44 +219,44 @@ open_parts s es e before o os p h =
       total = ap (λ (n : ℕ). n + 1) p.total ∙ sym (length-last es e);
     }
 
-pub opens_built : (s : State) (es : List Entry) (e : Entry) → IsBuilt s es → s.entries ≢ 0 → 4096 < length s.out - s.start + length (spelled e) → IsBuilt (added (opened (closed s) e.0) e) (es ++ e ∷ [])
-opens_built s es e b z h =
+pub opens_built : (s : State) (es : List Entry) (e : Entry) → IsShortEntry e → IsBuilt s es → s.entries ≢ 0 → 4096 < length s.out - s.start + length (spelled e) → IsBuilt (added (opened (closed s) e.0) e) (es ++ e ∷ [])
+opens_built s es e k b z h =
     elim (shape b.current) [
       | none is ↦ absurd (z (some_entries s es b.before (parts s es b [] is)).1)
-      | some o os is ↦ open_parts s es e b.before o os (parts s es b (o ∷ os) is) h
+      | some o os is ↦ open_parts s es e k b.before o os (parts s es b (o ∷ os) is) h
     ]
 
-closed_image : (s : State) (es : List Entry) (c : IsClosed s es) → image_from s ≡ image_of c.all (length es)
+closed_image : (s : State) (es : List Entry) (c : IsClosed s es) → image_from s ≡ image_of Two c.all (length es)
 closed_image s es c =
     let l = out_length s.out (body c.all) c.bytes in
-    ap (λ (n : ℕ). s.out ++ (s.rows ++ foot (length s.out) n s.entries (length s.out + length s.rows + 24))) c.count
-    ∙ ap (λ (n : ℕ). s.out ++ (s.rows ++ foot (length s.out) (length c.all) n (length s.out + length s.rows + 24))) c.total
-    ∙ ap (λ (n : ℕ). s.out ++ (s.rows ++ foot n (length c.all) (length es) (n + length s.rows + 24))) l
-    ∙ ap (λ (r : List ℕ). s.out ++ (r ++ foot (8 + length (body c.all)) (length c.all) (length es) (8 + length (body c.all) + length r + 24))) c.places
-    ∙ ap (λ (n : ℕ). s.out ++ (index 8 c.all ++ foot (8 + length (body c.all)) (length c.all) (length es) n)) (omega arith)
-    ∙ ap (λ (o : List ℕ). o ++ (index 8 c.all ++ foot (8 + length (body c.all)) (length c.all) (length es) (32 + length (body c.all) + length (index 8 c.all)))) c.bytes
-    ∙ append_assoc (codes "TABLET01") (body c.all) (index 8 c.all ++ foot (8 + length (body c.all)) (length c.all) (length es) (32 + length (body c.all) + length (index 8 c.all)))
+    ap (λ (n : ℕ). s.out ++ (s.rows ++ foot Two (length s.out) n s.entries (length s.out + length s.rows + 40))) c.count
+    ∙ ap (λ (n : ℕ). s.out ++ (s.rows ++ foot Two (length s.out) (length c.all) n (length s.out + length s.rows + 40))) c.total
+    ∙ ap (λ (n : ℕ). s.out ++ (s.rows ++ foot Two n (length c.all) (length es) (n + length s.rows + 40))) l
+    ∙ ap (λ (r : List ℕ). s.out ++ (r ++ foot Two (8 + length (body c.all)) (length c.all) (length es) (8 + length (body c.all) + length r + 40))) c.places
+    ∙ ap (λ (n : ℕ). s.out ++ (index Two 8 c.all ++ foot Two (8 + length (body c.all)) (length c.all) (length es) n)) (omega arith)
+    ∙ ap (λ (o : List ℕ). o ++ (index Two 8 c.all ++ foot Two (8 + length (body c.all)) (length c.all) (length es) (48 + length (body c.all) + length (index Two 8 c.all)))) c.bytes
+    ∙ append_assoc (head Two) (body c.all) (index Two 8 c.all ++ foot Two (8 + length (body c.all)) (length c.all) (length es) (48 + length (body c.all) + length (index Two 8 c.all)))
 
-image_length : (s : State) → length (image_from s) ≡ length s.out + length s.rows + 24
+image_length : (s : State) → length (image_from s) ≡ length s.out + length s.rows + 40
 image_length s =
-    let f : List ℕ = foot (length s.out) s.blocks s.entries (length s.out + length s.rows + 24) in
+    let f : List ℕ = foot Two (length s.out) s.blocks s.entries (length s.out + length s.rows + 40) in
     length-append s.out (s.rows ++ f) ∙ ap (λ (n : ℕ). length s.out + n) (length-append s.rows f) ∙ omega arith
 
 -- what is closed is a file
-pub is_file : (s : State) (es : List Entry) → IsClosed s es → length s.out + length s.rows + 24 < 2 ^ 32 → IsFile es (image_from s)
-is_file s es c h = record { blocks = c.all; grammar = c.grammar; whole = c.whole; bytes = closed_image s es c; small = omega (arith, image_length s, h) }
+pub is_file : (s : State) (es : List Entry) → IsClosed s es → length s.out + length s.rows + 40 < 2 ^ 64 → IsFile Two es (image_from s)
+is_file s es c h = record { blocks = c.all; grammar = c.grammar; short = c.short; whole = c.whole; bytes = closed_image s es c; small = omega (arith, image_length s, h) }
 
 -- no file of its entries is shorter
-pub fits_not : (s : State) (es : List Entry) (limit : ℕ) → IsClosed s es → limit < length s.out + length s.rows + 24 → FitsIn limit es → ⊥
+pub fits_not : (s : State) (es : List Entry) (limit : ℕ) → IsClosed s es → limit < length s.out + length s.rows + 40 → FitsIn limit es → ⊥
 fits_not s es limit c h f =
     let same : f.form.blocks ≡ c.all = one_split f.form.blocks c.all f.form.grammar c.grammar (f.form.whole ∙ sym c.whole) in
-    let e : f.image ≡ image_from s = f.form.bytes ∙ ap (λ (blocks : List (List Entry)). image_of blocks (length es)) same ∙ sym (closed_image s es c) in
+    let e : f.image ≡ image_from s = f.form.bytes ∙ ap (λ (blocks : List (List Entry)). image_of Two blocks (length es)) same ∙ sym (closed_image s es c) in
     let w = f.within in
     omega (arith, ap length e, image_length s, w, h)
 
 -- an empty file
-pub nothing_built : (s : State) → s.out ≡ codes "TABLET01" → s.rows ≡ [] → s.start ≡ 8 → s.blocks ≡ 0 → s.entries ≡ 0 → IsBuilt s []
-nothing_built s o r f b e = record { before = []; current = []; whole = refl; grammar = tt; alone = λ _. refl; bytes = o; places = r; from = f; named = tt; count = b; total = e }
+pub nothing_built : (s : State) → s.out ≡ head Two → s.rows ≡ [] → s.start ≡ 8 → s.blocks ≡ 0 → s.entries ≡ 0 → IsBuilt s []
+nothing_built s o r f b e = record { before = []; current = []; whole = refl; grammar = tt; alone = λ _. refl; short = tt; bytes = o; places = r; from = f; named = tt; count = b; total = e }
 
 -- three pieces that are appended
 pub three : (out a b c x y z : List ℕ) → x ≡ out ++ a → y ≡ x ++ b → z ≡ y ++ c → z ≡ out ++ (a ++ (b ++ c))
@@ -258,12 +266,12 @@ abbrev made : State → List Entry → Entry → State → Type 0
 made old es e new = IsBuilt (added new e) (es ++ e ∷ [])
 
 -- after room was made an entry joins
-pub takes_entry : (old new : State) (es : List Entry) (e : Entry) → HasMadeRoom old e new → IsBuilt old es → IsBuilt (added new e) (es ++ e ∷ [])
-takes_entry old new es e (inl m) b = subst (made old es e) (sym m.1) (first_built old es e b m.0)
-takes_entry old new es e (inr (inl m)) b = subst (made old es e) (sym m.2) (joins_built old es e b m.0 m.1)
-takes_entry old new es e (inr (inr m)) b = subst (made old es e) (sym m.2) (opens_built old es e b m.0 m.1)
+pub takes_entry : (old new : State) (es : List Entry) (e : Entry) → IsShortEntry e → HasMadeRoom old e new → IsBuilt old es → IsBuilt (added new e) (es ++ e ∷ [])
+takes_entry old new es e k (inl m) b = subst (made old es e) (sym m.1) (first_built old es e k b m.0)
+takes_entry old new es e k (inr (inl m)) b = subst (made old es e) (sym m.2) (joins_built old es e k b m.0 m.1)
+takes_entry old new es e k (inr (inr m)) b = subst (made old es e) (sym m.2) (opens_built old es e k b m.0 m.1)
 
-pub closed_from : (s : State) (rows : List ℕ) → rows ≡ s.rows ++ (to_be_bytes w32 s.start ++ (to_be_bytes w32 (length s.out - s.start) ++ field s.first)) → record { limit = s.limit; out = s.out; rows = rows; first = s.first; start = s.start; blocks = s.blocks + 1; entries = s.entries } ≡ closed s
+pub closed_from : (s : State) (rows : List ℕ) → rows ≡ s.rows ++ (number_bytes Two s.start ++ (number_bytes Two (length s.out - s.start) ++ field s.first)) → record { limit = s.limit; out = s.out; rows = rows; first = s.first; start = s.start; blocks = s.blocks + 1; entries = s.entries } ≡ closed s
 closed_from s rows e = ap (λ (r : List ℕ). let t : State = record { limit = s.limit; out = s.out; rows = r; first = s.first; start = s.start; blocks = s.blocks + 1; entries = s.entries } in t) e
 
 pub built_at : (s : State) (out : List ℕ) (es : List Entry) (e : Entry) → out ≡ s.out ++ spelled e → IsBuilt (added s e) es → IsBuilt (record { limit = s.limit; out = out; rows = s.rows; first = s.first; start = s.start; blocks = s.blocks; entries = s.entries + 1 }) es

@@ -26,3 +26,4 @@ mod Stamps
 mod Starts
 mod Values
 mod WholeFiles
+mod Widths

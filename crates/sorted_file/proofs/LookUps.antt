@@ -48,7 +48,7 @@ same_file None file cache h = record { name = refl; still = tt }
 same_file (Some m) file cache h = record {
   name = refl;
   still = λ o. (
-    record { list = o.list; spans = o.spans; spanned = o.spanned; heads = o.heads; skips = o.skips; counted = o.counted; image = o.image; there = o.there; form = o.form; rows = o.rows; blocks = o.blocks; cached = h o },
+    record { list = o.list; spans = o.spans; spanned = o.spanned; heads = o.heads; skips = o.skips; counted = o.counted; format = o.format; image = o.image; there = o.there; form = o.form; rows = o.rows; blocks = o.blocks; cached = h o },
     refl,
   );
 }

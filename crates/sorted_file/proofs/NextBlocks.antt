@@ -1,34 +1,35 @@
 -- What the next block of a file is, after the blocks that were read.
 use Rattle.std.proofs.Common.{◌≡◌, ℕ, ◌+◌, ◌-◌, ◌≤◌, ◌<◌, ◌^◌, List, [], ◌∷◌, ◌++◌, length, take, drop, refl, sym, ap, subst, ◌∙◌, arith, length-append, length-drop, append_assoc}
 use Rattle.std.proofs.Math.Seq.{take-append_seam, drop-append_seam, drop-append-add}
-use Rattle.std.proofs.lemmas.List.{take-append-drop, drop-drop, length-take-le}
+use Rattle.std.proofs.lemmas.List.{take-append-drop, drop-drop}
 use Rattle.std.proofs.lemmas.List.Concat.{flat_map-append}
-use Rattle.std.specs.Prelude.{Option, flat_map, codes}
+use Rattle.std.specs.Prelude.{Option, flat_map}
 use Rattle.std.specs.List.{AllByRecursion}
-use Rattle.std.specs.Int.{w32, to_be_bytes}
 use Rattle.file_store.specs.Store.{Contents, part}
-use Rattle.cell_key.specs.Entries.{Entry, IsEntry, IsEntryList, IsRising, spelled, spelled_value, field}
+use Rattle.cell_key.specs.Entries.{Entry, IsEntry, IsEntryList, IsRising, spelled, field}
 use Rattle.sorted_file.specs.Building.{IsFirstText}
-use Rattle.sorted_file.specs.Grammar.{block_bytes, body, Fits, AreBlocks, IsFile, index, row, foot}
+use Rattle.sorted_file.specs.Grammar.{block_bytes, body, foot_len, head, index, most, number_bytes, row, foot, Fits, AreBlocks, IsFile}
 use Rattle.sorted_file.specs.Blocks.{block_of, blocks_of, entries_in, row_bytes, AreRows, IsBlock, IsFollowed, IsNext, IsOpening, IsRead, IsReading}
 use Rattle.sorted_file.specs.declared.blocks.BlockRow.{BlockRow}
 use Rattle.sorted_file.specs.declared.blocks.RowRef.{RowRef}
+use Rattle.sorted_file.specs.declared.formats.Format.{Format}
 use Rattle.sorted_file.specs.declared.opening.Opening.{Opening}
 use Rattle.sorted_file.proofs.Growth.{index-last, body-last, flat-last}
 use Rattle.sorted_file.proofs.Joining.{all_back, all_front, all_joined, blocks_joined, map_joined, rows_joined, block_fits, block_follows, rising_back, rising_front}
 use Rattle.sorted_file.proofs.Reading.{place_of}
-use Rattle.sorted_file.proofs.Spelling.{parted, same_number, field_split, field_length, one_spelling, body-whole}
+use Rattle.sorted_file.proofs.Widths.{block_small, blocks_small, foot_length, head_length, number_length, some_number, text_small}
+use Rattle.sorted_file.proofs.Spelling.{parted, number_split, field_split, one_spelling, body-whole}
 
-head : (x y : Entry) (xs ys : List Entry) → x ∷ xs ≡ y ∷ ys → x ≡ y
-head x y xs ys e = cc
+first_same : (x y : Entry) (xs ys : List Entry) → x ∷ xs ≡ y ∷ ys → x ≡ y
+first_same x y xs ys e = cc
 
 -- ---- rows
 
 -- a row, apart
-row_apart : (at : ℕ) (e : Entry) (es : List Entry) (x : List ℕ) → row at (e ∷ es) ++ x ≡ to_be_bytes w32 at ++ (to_be_bytes w32 (length (block_bytes (e ∷ es))) ++ (field e.0 ++ x))
-row_apart at e es x =
-    let n = to_be_bytes w32 (length (block_bytes (e ∷ es))) in
-    append_assoc (to_be_bytes w32 at) (n ++ field e.0) x ∙ ap (λ (l : List ℕ). to_be_bytes w32 at ++ l) (append_assoc n (field e.0) x)
+row_apart : (f : Format) (at : ℕ) (e : Entry) (es : List Entry) (x : List ℕ) → row f at (e ∷ es) ++ x ≡ number_bytes f at ++ (number_bytes f (length (block_bytes (e ∷ es))) ++ (field e.0 ++ x))
+row_apart f at e es x =
+    let n = number_bytes f (length (block_bytes (e ∷ es))) in
+    append_assoc (number_bytes f at) (n ++ field e.0) x ∙ ap (λ (l : List ℕ). number_bytes f at ++ l) (append_assoc n (field e.0) x)
 
 pub record IsSameRow (r : RowRef) (rest : List ℕ) (at : ℕ) (e : Entry) (es : List Entry) (after : List ℕ) : Type 0 where
   pub offset : r.offset ≡ at
@@ -37,104 +38,126 @@ pub record IsSameRow (r : RowRef) (rest : List ℕ) (at : ℕ) (e : Entry) (es :
   pub rest_is : rest ≡ after
 
 -- two rows at the front are one
-pub same_row : (r : RowRef) (rest : List ℕ) (at : ℕ) (e : Entry) (es : List Entry) (after tail : List ℕ) → r.offset < 2 ^ 32 → r.length < 2 ^ 32 → at < 2 ^ 32 → length tail < 2 ^ 32 → length (block_bytes (e ∷ es)) < 2 ^ 32
-    → tail ≡ row_bytes r ++ rest → tail ≡ row at (e ∷ es) ++ after → IsSameRow r rest at e es after
-same_row r rest at e es after tail so sl sa st sb p q =
-    let n = to_be_bytes w32 r.length in
-    let m = to_be_bytes w32 (length (block_bytes (e ∷ es))) in
-    let apart : tail ≡ to_be_bytes w32 r.offset ++ (n ++ (field r.first.now ++ rest)) = p ∙ append_assoc (to_be_bytes w32 r.offset) (n ++ field r.first.now) rest ∙ ap (λ (l : List ℕ). to_be_bytes w32 r.offset ++ l) (append_assoc n (field r.first.now) rest) in
-    let one = parted (to_be_bytes w32 r.offset) (to_be_bytes w32 at) _ _ refl (sym apart ∙ q ∙ row_apart at e es after) in
-    let two = parted n m _ _ refl one.1 in
-    let whole : length tail ≡ 4 + (4 + (4 + length r.first.now + length rest)) = ap length apart ∙ length-append (to_be_bytes w32 r.offset) (n ++ (field r.first.now ++ rest)) ∙ ap (λ (k : ℕ). 4 + k) (length-append n (field r.first.now ++ rest) ∙ ap (λ (k : ℕ). 4 + k) (length-append (field r.first.now) rest ∙ ap (λ (k : ℕ). k + length rest) (field_length r.first.now))) in
-    let other : length tail ≡ 4 + (4 + (4 + length e.0 + length after)) = ap length (q ∙ row_apart at e es after) ∙ length-append (to_be_bytes w32 at) (m ++ (field e.0 ++ after)) ∙ ap (λ (k : ℕ). 4 + k) (length-append m (field e.0 ++ after) ∙ ap (λ (k : ℕ). 4 + k) (length-append (field e.0) after ∙ ap (λ (k : ℕ). k + length after) (field_length e.0))) in
-    let three = field_split r.first.now e.0 rest after (omega (arith, whole, st)) (omega (arith, other, st)) two.1 in
-    record { offset = same_number r.offset at so sa one.0; length_is = same_number r.length _ sl sb two.0; first = three.0; rest_is = three.1 }
+pub same_row : (f : Format) (r : RowRef) (rest : List ℕ) (at : ℕ) (e : Entry) (es : List Entry) (after tail : List ℕ) → r.offset < most f → r.length < most f → length r.first.now < 2 ^ 32 → at < most f → length e.0 < 2 ^ 32 → length (block_bytes (e ∷ es)) < most f
+    → tail ≡ row_bytes f r ++ rest → tail ≡ row f at (e ∷ es) ++ after → IsSameRow r rest at e es after
+same_row f r rest at e es after tail so sl sf sa se sb p q =
+    let n = number_bytes f r.length in
+    let apart : tail ≡ number_bytes f r.offset ++ (n ++ (field r.first.now ++ rest)) = p ∙ append_assoc (number_bytes f r.offset) (n ++ field r.first.now) rest ∙ ap (λ (l : List ℕ). number_bytes f r.offset ++ l) (append_assoc n (field r.first.now) rest) in
+    let one = number_split f r.offset at _ _ so sa (sym apart ∙ q ∙ row_apart f at e es after) in
+    let two = number_split f r.length (length (block_bytes (e ∷ es))) _ _ sl sb one.1 in
+    let three = field_split r.first.now e.0 rest after sf se two.1 in
+    record { offset = one.0; length_is = two.0; first = three.0; rest_is = three.1 }
 
 -- ---- what remains of blocks after some of them were read, and of their bytes and rows
 
-pub record Remains (done blocks : List (List Entry)) (bytes tail rows end : List ℕ) (at : ℕ) : Type 0 where
+pub record Remains (f : Format) (done blocks : List (List Entry)) (bytes tail rows end : List ℕ) (at : ℕ) : Type 0 where
   pub more : List (List Entry)
   pub list : blocks ≡ done ++ more
   pub bytes_are : bytes ≡ body more ++ tail
-  pub rows_are : rows ≡ index (at + length (body done)) more ++ end
+  pub rows_are : rows ≡ index f (at + length (body done)) more ++ end
 
-remains : (done blocks : List (List Entry)) (bytes tail rows end : List ℕ) (at : ℕ) → length (body done) < 2 ^ 32 → length (body blocks) < 2 ^ 32 → length end ≤ length rows → AreBlocks done → AreBlocks blocks
-    → body done ++ bytes ≡ body blocks ++ tail → index at done ++ rows ≡ index at blocks ++ end → Remains done blocks bytes tail rows end at
-remains [] blocks bytes tail rows end at sd sb least g h e r = record { more = blocks; list = refl; bytes_are = e; rows_are = r ∙ ap (λ (n : ℕ). index n blocks ++ end) (omega arith) }
-remains ([] ∷ done) blocks bytes tail rows end at sd sb least g h e r = absurd g.0
-remains ((d ∷ ds) ∷ done) [] bytes tail rows end at sd sb least g h e r =
-    let x = index (at + length (block_bytes (d ∷ ds))) done in
-    let apart = append_assoc (row at (d ∷ ds)) x rows ∙ row_apart at d ds (x ++ rows) in
-    let l : length end ≡ 4 + length (to_be_bytes w32 (length (block_bytes (d ∷ ds))) ++ (field d.0 ++ (x ++ rows))) = ap length (sym r ∙ apart) ∙ length-append (to_be_bytes w32 at) (to_be_bytes w32 (length (block_bytes (d ∷ ds))) ++ (field d.0 ++ (x ++ rows))) in
-    let m = length-append (to_be_bytes w32 (length (block_bytes (d ∷ ds)))) (field d.0 ++ (x ++ rows)) in
-    let n = length-append (field d.0) (x ++ rows) in
-    let o = length-append x rows in
-    absurd (omega (arith, l, m, n, o, least))
-remains ((d ∷ ds) ∷ done) ([] ∷ blocks) bytes tail rows end at sd sb least g h e r = absurd h.0
-remains ((d ∷ ds) ∷ done) ((b ∷ bs) ∷ blocks) bytes tail rows end at sd sb least g h e r =
+abbrev IsSmallBlock : List Entry → Type 0
+IsSmallBlock es = length (block_bytes es) < 2 ^ 32
+
+remains : (f : Format) (done blocks : List (List Entry)) (bytes tail rows end : List ℕ) (at : ℕ) → AllByRecursion IsSmallBlock done → length (body done) < most f → length (body blocks) < most f → length end ≤ length rows → AreBlocks done → AreBlocks blocks
+    → body done ++ bytes ≡ body blocks ++ tail → index f at done ++ rows ≡ index f at blocks ++ end → Remains f done blocks bytes tail rows end at
+remains f [] blocks bytes tail rows end at small sd sb least g h e r = record { more = blocks; list = refl; bytes_are = e; rows_are = r ∙ ap (λ (n : ℕ). index f n blocks ++ end) (omega arith) }
+remains f ([] ∷ done) blocks bytes tail rows end at small sd sb least g h e r = absurd g.0
+remains f ((d ∷ ds) ∷ done) [] bytes tail rows end at small sd sb least g h e r =
+    let x = index f (at + length (block_bytes (d ∷ ds))) done in
+    let apart = append_assoc (row f at (d ∷ ds)) x rows ∙ row_apart f at d ds (x ++ rows) in
+    let n = number_bytes f at in
+    let k = number_bytes f (length (block_bytes (d ∷ ds))) in
+    let l : length end ≡ length (n ++ (k ++ (field d.0 ++ (x ++ rows)))) = ap length (sym r ∙ apart) in
+    let a = length-append n (k ++ (field d.0 ++ (x ++ rows))) in
+    let m = length-append k (field d.0 ++ (x ++ rows)) in
+    let o = length-append (field d.0) (x ++ rows) in
+    let q = length-append x rows in
+    let c = number_length f at in
+    let s = some_number f in
+    absurd (omega (arith, l, a, m, o, q, c, s, least))
+remains f ((d ∷ ds) ∷ done) ([] ∷ blocks) bytes tail rows end at small sd sb least g h e r = absurd h.0
+remains f ((d ∷ ds) ∷ done) ((b ∷ bs) ∷ blocks) bytes tail rows end at small sd sb least g h e r =
     let ld = length-append (block_bytes (d ∷ ds)) (body done) in
     let lb = length-append (block_bytes (b ∷ bs)) (body blocks) in
-    let x = index (at + length (block_bytes (d ∷ ds))) done in
-    let y = index (at + length (block_bytes (b ∷ bs))) blocks in
-    let whole = sym (append_assoc (row at (d ∷ ds)) x rows ∙ row_apart at d ds (x ++ rows)) ∙ r ∙ (append_assoc (row at (b ∷ bs)) y end ∙ row_apart at b bs (y ++ end)) in
-    let one = (parted (to_be_bytes w32 at) (to_be_bytes w32 at) _ _ refl whole).1 in
-    let two = parted (to_be_bytes w32 (length (block_bytes (d ∷ ds)))) (to_be_bytes w32 (length (block_bytes (b ∷ bs)))) _ _ refl one in
-    let size : length (block_bytes (d ∷ ds)) ≡ length (block_bytes (b ∷ bs)) = same_number _ _ (omega (arith, ld, sd)) (omega (arith, lb, sb)) two.0 in
+    let sm = small.0 in
+    let x = index f (at + length (block_bytes (d ∷ ds))) done in
+    let y = index f (at + length (block_bytes (b ∷ bs))) blocks in
+    let whole = sym (append_assoc (row f at (d ∷ ds)) x rows ∙ row_apart f at d ds (x ++ rows)) ∙ r ∙ (append_assoc (row f at (b ∷ bs)) y end ∙ row_apart f at b bs (y ++ end)) in
+    let one = (parted (number_bytes f at) (number_bytes f at) _ _ refl whole).1 in
+    let two = number_split f (length (block_bytes (d ∷ ds))) (length (block_bytes (b ∷ bs))) _ _ (omega (arith, ld, sd)) (omega (arith, lb, sb)) one in
+    let size : length (block_bytes (d ∷ ds)) ≡ length (block_bytes (b ∷ bs)) = two.0 in
     let parts = parted (block_bytes (d ∷ ds)) (block_bytes (b ∷ bs)) (body done ++ bytes) (body blocks ++ tail) size (sym (append_assoc (block_bytes (d ∷ ds)) (body done) bytes) ∙ e ∙ append_assoc (block_bytes (b ∷ bs)) (body blocks) tail) in
-    let same : d ∷ ds ≡ b ∷ bs = one_spelling (b ∷ bs) (d ∷ ds) (omega (arith, lb, sb)) (sym parts.0) in
-    let three = parted (field d.0) (field b.0) (x ++ rows) (y ++ end) (ap (λ (z : Entry). length (field z.0)) (head d b ds bs same)) two.1 in
-    let rest = remains done blocks bytes tail rows end (at + length (block_bytes (b ∷ bs))) (omega (arith, ld, sd)) (omega (arith, lb, sb)) least g.2 h.2 parts.1
-    (ap (λ (n : ℕ). index (at + n) done ++ rows) (sym size) ∙ three.1) in
+    let same : d ∷ ds ≡ b ∷ bs = one_spelling (b ∷ bs) (d ∷ ds) (omega (arith, size, sm)) (sym parts.0) in
+    let three = parted (field d.0) (field b.0) (x ++ rows) (y ++ end) (ap (λ (z : Entry). length (field z.0)) (first_same d b ds bs same)) two.1 in
+    let rest = remains f done blocks bytes tail rows end (at + length (block_bytes (b ∷ bs))) small.1 (omega (arith, ld, sd)) (omega (arith, lb, sb)) least g.2 h.2 parts.1
+    (ap (λ (n : ℕ). index f (at + n) done ++ rows) (sym size) ∙ three.1) in
     record {
       more = rest.more;
       list = ap (λ (z : List Entry). z ∷ blocks) (sym same) ∙ ap (λ (l : List (List Entry)). (d ∷ ds) ∷ l) rest.list;
       bytes_are = rest.bytes_are;
-      rows_are = rest.rows_are ∙ ap (λ (n : ℕ). index n rest.more ++ end) (omega (arith, size, ld));
+      rows_are = rest.rows_are ∙ ap (λ (n : ℕ). index f n rest.more ++ end) (omega (arith, size, ld));
     }
 
 -- ---- the same of a file that is being opened
 
-module _ (o : Opening) (opening : IsOpening o) (told : Option Contents) (image all end rest : List ℕ) (reading : IsReading told o image all end rest) (es : List Entry) (f : IsFile es image) where
+module _ (o : Opening) (opening : IsOpening o) (told : Option Contents) (image all end rest : List ℕ) (reading : IsReading told o image all end rest) (es : List Entry) (f : IsFile o.format es image) where
   abbrev done : List (List Entry)
   done = blocks_of o.rows.items
 
+  abbrev rows_of : List ℕ
+  rows_of = index o.format 8 f.blocks
+
   abbrev end_of : List ℕ
-  end_of = foot (8 + length (body f.blocks)) (length f.blocks) (length es) (32 + length (body f.blocks) + length (index 8 f.blocks))
+  end_of = foot o.format (8 + length (body f.blocks)) (length f.blocks) (length es) (8 + foot_len o.format + length (body f.blocks) + length rows_of)
 
   spelled_body : length (body f.blocks) ≡ length (flat_map spelled es)
   spelled_body = ap length (body-whole f.blocks ∙ ap (flat_map spelled) f.whole)
 
-  pub image_length : length image ≡ 8 + (length (body f.blocks) + (length (index 8 f.blocks) + 24))
-  image_length = ap length f.bytes ∙ length-append (codes "TABLET01") (body f.blocks ++ (index 8 f.blocks ++ end_of)) ∙ ap (λ (n : ℕ). 8 + n) (length-append (body f.blocks) (index 8 f.blocks ++ end_of) ∙ ap (λ (n : ℕ). length (body f.blocks) + n) (length-append (index 8 f.blocks) end_of))
+  end_length : length end_of ≡ foot_len o.format
+  end_length = foot_length o.format _ _ _ _
+
+  pub image_length : length image ≡ 8 + (length (body f.blocks) + (length rows_of + foot_len o.format))
+  image_length =
+      let l1 = ap length f.bytes ∙ length-append (head o.format) (body f.blocks ++ (rows_of ++ end_of)) in
+      let l2 = length-append (body f.blocks) (rows_of ++ end_of) in
+      let l3 = length-append rows_of end_of in
+      let h = head_length o.format in
+      omega (arith, l1, l2, l3, h, end_length)
 
   index_at : reading.framed.at ≡ 8 + length (body f.blocks)
   index_at =
       let to = reading.framed.to in
       let small = f.small in
-      let p = place_of es image _ reading.framed.numbers reading.framed.at (omega (arith, to, small)) f reading.framed.last reading.framed.foot in
+      let p = place_of o.format es image _ reading.framed.numbers reading.framed.at (omega (arith, to, small)) f reading.framed.last reading.framed.foot in
       let x = p.exact in
       omega (arith, x, spelled_body)
 
-  behind_body : drop (8 + length (body f.blocks)) image ≡ index 8 f.blocks ++ end_of
-  behind_body =
-      ap (drop (8 + length (body f.blocks))) f.bytes
-      ∙ drop-append-add (codes "TABLET01") (body f.blocks ++ (index 8 f.blocks ++ end_of)) (length (body f.blocks))
-      ∙ drop-append_seam (body f.blocks) (index 8 f.blocks ++ end_of)
+  behind_head : drop 8 image ≡ body f.blocks ++ (rows_of ++ end_of)
+  behind_head =
+      ap (λ (n : ℕ). drop n image) (sym (head_length o.format)) ∙ ap (drop (length (head o.format))) f.bytes
+      ∙ drop-append_seam (head o.format) (body f.blocks ++ (rows_of ++ end_of))
 
-  index_is : all ≡ index 8 f.blocks
+  behind_body : drop (8 + length (body f.blocks)) image ≡ rows_of ++ end_of
+  behind_body =
+      ap (λ (n : ℕ). drop (n + length (body f.blocks)) image) (sym (head_length o.format)) ∙ ap (drop (length (head o.format) + length (body f.blocks))) f.bytes
+      ∙ drop-append-add (head o.format) (body f.blocks ++ (rows_of ++ end_of)) (length (body f.blocks))
+      ∙ drop-append_seam (body f.blocks) (rows_of ++ end_of)
+
+  index_is : all ≡ rows_of
   index_is =
-      reading.framed.behind ∙ ap (λ (n : ℕ). part image n (length image - 24 - n)) index_at
-      ∙ ap (take (length image - 24 - (8 + length (body f.blocks)))) behind_body
-      ∙ ap (λ (n : ℕ). take n (index 8 f.blocks ++ end_of)) (omega (arith, image_length))
-      ∙ take-append_seam (index 8 f.blocks) end_of
+      reading.framed.behind ∙ ap (λ (n : ℕ). part image n (length image - foot_len o.format - n)) index_at
+      ∙ ap (take (length image - foot_len o.format - (8 + length (body f.blocks)))) behind_body
+      ∙ ap (λ (n : ℕ). take n (rows_of ++ end_of)) (omega (arith, image_length))
+      ∙ take-append_seam rows_of end_of
 
   -- the foot is that of the file
   pub end_is : end ≡ end_of
   end_is =
-      reading.framed.last ∙ ap (λ (n : ℕ). drop n image) (omega (arith, image_length)) ∙ sym (drop-drop (length (index 8 f.blocks)) (8 + length (body f.blocks)) image)
-      ∙ ap (drop (length (index 8 f.blocks))) behind_body ∙ drop-append_seam (index 8 f.blocks) end_of
+      reading.framed.last ∙ ap (λ (n : ℕ). drop n image) (omega (arith, image_length)) ∙ sym (drop-drop (length rows_of) (8 + length (body f.blocks)) image)
+      ∙ ap (drop (length rows_of)) behind_body ∙ drop-append_seam rows_of end_of
 
-  done_small : length (body done) < 2 ^ 32
+  done_small : length (body done) < most o.format
   done_small =
       let l = length-drop 8 image in
       let m = ap length reading.read.bytes ∙ length-append (body done) (drop (8 + length (body done)) image) in
@@ -145,18 +168,18 @@ module _ (o : Opening) (opening : IsOpening o) (told : Option Contents) (image a
   append-nil [] = refl
   append-nil (x ∷ xs) = ap (λ (l : List ℕ). x ∷ l) (append-nil xs)
 
-  pub left : Remains done f.blocks (drop (8 + length (body done)) image) (index 8 f.blocks ++ end_of) rest [] 8
+  pub left : Remains o.format done f.blocks (drop (8 + length (body done)) image) (rows_of ++ end_of) rest [] 8
   left =
       let small = f.small in
-      remains done f.blocks (drop (8 + length (body done)) image) (index 8 f.blocks ++ end_of) rest [] 8 done_small (omega (arith, image_length, small)) (omega arith) opening.grammar f.grammar
-      (sym reading.read.bytes ∙ ap (drop 8) f.bytes) (sym reading.read.rows ∙ index_is ∙ sym (append-nil (index 8 f.blocks)))
+      remains o.format done f.blocks (drop (8 + length (body done)) image) (rows_of ++ end_of) rest [] 8 (blocks_small done opening.grammar opening.list.each) done_small (omega (arith, image_length, small)) (omega arith) opening.grammar f.grammar
+      (sym reading.read.bytes ∙ behind_head) (sym reading.read.rows ∙ index_is ∙ sym (append-nil rows_of))
 
 -- the block that comes next
 pub record NextBlock (o : Opening) (image rest : List ℕ) : Type 0 where
   pub first : Entry
   pub others : List Entry
   pub after : List ℕ
-  pub named : rest ≡ row o.end (first ∷ others) ++ after
+  pub named : rest ≡ row o.format o.end (first ∷ others) ++ after
   pub there : part image o.end (length (block_bytes (first ∷ others))) ≡ block_bytes (first ∷ others)
   pub within : o.end + length (block_bytes (first ∷ others)) ≤ length image
   pub list : IsEntryList (first ∷ others)
@@ -164,9 +187,9 @@ pub record NextBlock (o : Opening) (image rest : List ℕ) : Type 0 where
   pub followed : IsFollowed (blocks_of o.rows.items) (first ∷ others)
   pub rising : IsRising (entries_in (blocks_of o.rows.items) ++ first ∷ others)
 
-module _ (o : Opening) (opening : IsOpening o) (told : Option Contents) (image all end rest : List ℕ) (reading : IsReading told o image all end rest) (more_left : 0 < length rest) (es : List Entry) (list : IsEntryList es) (f : IsFile es image) where
-  cut : (more : List (List Entry)) → f.blocks ≡ blocks_of o.rows.items ++ more → drop (8 + length (body (blocks_of o.rows.items))) image ≡ body more ++ (index 8 f.blocks ++ end_of o opening told image all end rest reading es f)
-      → rest ≡ index (8 + length (body (blocks_of o.rows.items))) more ++ [] → NextBlock o image rest
+module _ (o : Opening) (opening : IsOpening o) (told : Option Contents) (image all end rest : List ℕ) (reading : IsReading told o image all end rest) (more_left : 0 < length rest) (es : List Entry) (list : IsEntryList es) (f : IsFile o.format es image) where
+  cut : (more : List (List Entry)) → f.blocks ≡ blocks_of o.rows.items ++ more → drop (8 + length (body (blocks_of o.rows.items))) image ≡ body more ++ (index o.format 8 f.blocks ++ end_of o opening told image all end rest reading es f)
+      → rest ≡ index o.format (8 + length (body (blocks_of o.rows.items))) more ++ [] → NextBlock o image rest
   cut [] l b r =
       let e : length rest ≡ 0 = ap length r in
       absurd (omega (arith, e, more_left))
@@ -180,17 +203,17 @@ module _ (o : Opening) (opening : IsOpening o) (told : Option Contents) (image a
       let rising = subst (λ (l : List Entry). IsRising l) entries list.rising in
       let each = subst (AllByRecursion IsEntry) entries list.each in
       let joined = rising_front (entries_in done ++ e ∷ block) (entries_in more) (subst (λ (l : List Entry). IsRising l) (sym (append_assoc (entries_in done) (e ∷ block) (entries_in more))) rising) in
-      let bytes : drop o.end image ≡ block_bytes (e ∷ block) ++ (body more ++ (index 8 f.blocks ++ foot)) = ap (λ (n : ℕ). drop n image) reached ∙ b ∙ append_assoc (block_bytes (e ∷ block)) (body more) (index 8 f.blocks ++ foot) in
+      let bytes : drop o.end image ≡ block_bytes (e ∷ block) ++ (body more ++ (index o.format 8 f.blocks ++ foot)) = ap (λ (n : ℕ). drop n image) reached ∙ b ∙ append_assoc (block_bytes (e ∷ block)) (body more) (index o.format 8 f.blocks ++ foot) in
       let l1 = length-drop o.end image in
-      let l2 = ap length bytes ∙ length-append (block_bytes (e ∷ block)) (body more ++ (index 8 f.blocks ++ foot)) in
+      let l2 = ap length bytes ∙ length-append (block_bytes (e ∷ block)) (body more ++ (index o.format 8 f.blocks ++ foot)) in
       let inside = opening.within in
       let size = reading.size in
       record {
         first = e;
         others = block;
-        after = index (o.end + length (block_bytes (e ∷ block))) more ++ [];
-        named = r ∙ ap (λ (n : ℕ). (row n (e ∷ block) ++ index (n + length (block_bytes (e ∷ block))) more) ++ []) (sym reached) ∙ append_assoc (row o.end (e ∷ block)) (index (o.end + length (block_bytes (e ∷ block))) more) [];
-        there = ap (take (length (block_bytes (e ∷ block)))) bytes ∙ take-append_seam (block_bytes (e ∷ block)) (body more ++ (index 8 f.blocks ++ foot));
+        after = index o.format (o.end + length (block_bytes (e ∷ block))) more ++ [];
+        named = r ∙ ap (λ (n : ℕ). (row o.format n (e ∷ block) ++ index o.format (n + length (block_bytes (e ∷ block))) more) ++ []) (sym reached) ∙ append_assoc (row o.format o.end (e ∷ block)) (index o.format (o.end + length (block_bytes (e ∷ block))) more) [];
+        there = ap (take (length (block_bytes (e ∷ block)))) bytes ∙ take-append_seam (block_bytes (e ∷ block)) (body more ++ (index o.format 8 f.blocks ++ foot));
         within = omega (arith, l1, l2, inside, size);
         list = record { rising = rising_front (e ∷ block) (entries_in more) (rising_back (entries_in done) (e ∷ block ++ entries_in more) rising); each = all_front IsEntry (e ∷ block) (entries_in more) (all_back IsEntry (entries_in done) (e ∷ block ++ entries_in more) each) };
         fits = block_fits done (e ∷ block) more grammar;
@@ -203,18 +226,18 @@ module _ (o : Opening) (opening : IsOpening o) (told : Option Contents) (image a
 
 -- ---- what was read of the next block
 
-module _ (o : Opening) (image rest : List ℕ) (n : NextBlock o image rest) (small : length image < 2 ^ 32) where
-  -- a row is there
-  pub row_there : (none : (offset size : ℕ) (first more : List ℕ) → length first < 2 ^ 32 → ¬ (rest ≡ to_be_bytes w32 offset ++ (to_be_bytes w32 size ++ (field first ++ more)))) → ⊥
-  row_there none =
-      let w = n.within in
-      let l = length-append (spelled n.first) (flat_map spelled n.others) in
-      let k = length-append (field n.first.0) (spelled_value n.first.1) in
-      none o.end (length (block_bytes (n.first ∷ n.others))) n.first.0 n.after (omega (arith, w, l, k, field_length n.first.0, small)) (n.named ∙ row_apart o.end n.first n.others n.after)
+module _ (o : Opening) (image rest : List ℕ) (n : NextBlock o image rest) (small : length image < most o.format) where
+  first_short : length n.first.0 < 2 ^ 32
+  first_short = let t = text_small n.first n.list.each.0 in omega (arith, t)
 
-  module _ (r : RowRef) (more : List ℕ) (so : r.offset < 2 ^ 32) (sl : r.length < 2 ^ 32) (st : length rest < 2 ^ 32) (at : o.end ≤ length image) (read : rest ≡ row_bytes r ++ more) where
+  -- a row is there
+  pub row_there : (none : (offset size : ℕ) (first more : List ℕ) → length first < 2 ^ 32 → ¬ (rest ≡ number_bytes o.format offset ++ (number_bytes o.format size ++ (field first ++ more)))) → ⊥
+  row_there none =
+      none o.end (length (block_bytes (n.first ∷ n.others))) n.first.0 n.after first_short (n.named ∙ row_apart o.format o.end n.first n.others n.after)
+
+  module _ (r : RowRef) (more : List ℕ) (so : r.offset < most o.format) (sl : r.length < most o.format) (sf : length r.first.now < 2 ^ 32) (at : o.end ≤ length image) (read : rest ≡ row_bytes o.format r ++ more) where
     same : IsSameRow r more o.end n.first n.others n.after
-    same = let w = n.within in same_row r more o.end n.first n.others n.after rest so sl (omega (arith, w, small)) st (omega (arith, w, small)) read n.named
+    same = let w = n.within in same_row o.format r more o.end n.first n.others n.after rest so sl sf (omega (arith, w, small)) first_short (omega (arith, w, small)) read n.named
 
     -- the block that the row names is there
     pub block_there : (none : (es : List Entry) → length (block_bytes es) ≡ r.length → ¬ IsBlock es (part image o.end r.length)) → ⊥
@@ -224,8 +247,8 @@ module _ (o : Opening) (image rest : List ℕ) (n : NextBlock o image rest) (sma
     -- and what was read is this block, which is the next one
     pub block_next : (es : List Entry) → part image o.end r.length ≡ block_bytes es → IsNext o r es
     block_next es there =
-        let w = n.within in
-        let is : es ≡ n.first ∷ n.others = one_spelling (n.first ∷ n.others) es (omega (arith, w, small)) (sym n.there ∙ sym (ap (part image o.end) same.length_is) ∙ there) in
+        let b = block_small (n.first ∷ n.others) n.list.each n.fits in
+        let is : es ≡ n.first ∷ n.others = one_spelling (n.first ∷ n.others) es (omega (arith, b)) (sym n.there ∙ sym (ap (part image o.end) same.length_is) ∙ there) in
         subst (λ (es : List Entry). IsNext o r es) (sym is) (record { offset = same.offset; first = same.first; followed = n.followed; rising = n.rising })
 
 -- ---- a block is added
@@ -233,34 +256,25 @@ module _ (o : Opening) (image rest : List ℕ) (n : NextBlock o image rest) (sma
 pub drop_part : (image : List ℕ) (at size : ℕ) → drop at image ≡ part image at size ++ drop (at + size) image
 drop_part image at size = sym (take-append-drop size (drop at image)) ∙ ap (λ (l : List ℕ). take size (drop at image) ++ l) (drop-drop size at image)
 
-pub reads_on : (image tail rest more : List ℕ) (blocks : List (List Entry)) (es : List Entry) (r : RowRef) → IsRead image tail blocks rest → rest ≡ row_bytes r ++ more → r.offset ≡ 8 + length (body blocks) → r.length ≡ length (block_bytes es) → IsFirstText r.first.now es → Fits es
-    → part image (8 + length (body blocks)) r.length ≡ block_bytes es → IsRead image tail (blocks ++ es ∷ []) more
-reads_on image tail rest more blocks [] r was read offset size first fits there = absurd fits
-reads_on image tail rest more blocks (e ∷ es) r was read offset size first fits there =
+pub reads_on : (f : Format) (image tail rest more : List ℕ) (blocks : List (List Entry)) (es : List Entry) (r : RowRef) → IsRead f image tail blocks rest → rest ≡ row_bytes f r ++ more → r.offset ≡ 8 + length (body blocks) → r.length ≡ length (block_bytes es) → IsFirstText r.first.now es → Fits es
+    → part image (8 + length (body blocks)) r.length ≡ block_bytes es → IsRead f image tail (blocks ++ es ∷ []) more
+reads_on f image tail rest more blocks [] r was read offset size first fits there = absurd fits
+reads_on f image tail rest more blocks (e ∷ es) r was read offset size first fits there =
     let at = 8 + length (body blocks) in
     let l : length (body (blocks ++ (e ∷ es) ∷ [])) ≡ length (body blocks) + length (block_bytes (e ∷ es)) = ap length (body-last blocks (e ∷ es)) ∙ length-append (body blocks) (block_bytes (e ∷ es)) in
-    let same : row_bytes r ≡ row at (e ∷ es) =
-    ap (λ (n : ℕ). to_be_bytes w32 n ++ (to_be_bytes w32 r.length ++ field r.first.now)) offset
-    ∙ ap (λ (n : ℕ). to_be_bytes w32 at ++ (to_be_bytes w32 n ++ field r.first.now)) size
-    ∙ ap (λ (b : List ℕ). to_be_bytes w32 at ++ (to_be_bytes w32 (length (block_bytes (e ∷ es))) ++ field b)) first in
+    let same : row_bytes f r ≡ row f at (e ∷ es) =
+    ap (λ (n : ℕ). number_bytes f n ++ (number_bytes f r.length ++ field r.first.now)) offset
+    ∙ ap (λ (n : ℕ). number_bytes f at ++ (number_bytes f n ++ field r.first.now)) size
+    ∙ ap (λ (b : List ℕ). number_bytes f at ++ (number_bytes f (length (block_bytes (e ∷ es))) ++ field b)) first in
     record {
       bytes =
           was.bytes ∙ ap (λ (l : List ℕ). body blocks ++ l) (drop_part image at r.length ∙ ap (λ (l : List ℕ). l ++ drop (at + r.length) image) there)
           ∙ sym (append_assoc (body blocks) (block_bytes (e ∷ es)) (drop (at + r.length) image)) ∙ ap (λ (l : List ℕ). l ++ drop (at + r.length) image) (sym (body-last blocks (e ∷ es)))
           ∙ ap (λ (n : ℕ). body (blocks ++ (e ∷ es) ∷ []) ++ drop n image) (omega (arith, l, size));
       rows =
-          was.rows ∙ ap (λ (l : List ℕ). index 8 blocks ++ l) (read ∙ ap (λ (l : List ℕ). l ++ more) same)
-          ∙ sym (append_assoc (index 8 blocks) (row at (e ∷ es)) more) ∙ ap (λ (l : List ℕ). l ++ more) (sym (index-last 8 blocks (e ∷ es)));
+          was.rows ∙ ap (λ (l : List ℕ). index f 8 blocks ++ l) (read ∙ ap (λ (l : List ℕ). l ++ more) same)
+          ∙ sym (append_assoc (index f 8 blocks) (row f at (e ∷ es)) more) ∙ ap (λ (l : List ℕ). l ++ more) (sym (index-last f 8 blocks (e ∷ es)));
     }
-
-pub rest_small : (o : Opening) (told : Option Contents) (image all end rest : List ℕ) → IsReading told o image all end rest → length image < 2 ^ 32 → length rest < 2 ^ 32
-rest_small o told image all end rest reading small =
-    let l = ap length reading.read.rows ∙ length-append (index 8 (blocks_of o.rows.items)) rest in
-    let at = reading.framed.at in
-    let m = ap length reading.framed.behind in
-    let n = length-take-le (length image - 24 - at) (drop at image) in
-    let d = length-drop at image in
-    omega (arith, l, m, n, d, small)
 
 pub record IsAdded (rows new : List BlockRow) (es : List Entry) (end : ℕ) : Type 0 where
   pub blocks : blocks_of new ≡ blocks_of rows ++ es ∷ []

@@ -1,18 +1,19 @@
 -- The blocks of an open file are in its image.
 use Rattle.std.proofs.Common.{◌≡◌, ◌+◌, ℕ, zero, suc, List, [], ◌∷◌, ◌++◌, length, map, take, drop, Option, Some, None, refl, sym, ap, subst, ◌∙◌, arith, append_assoc, length-append}
 use Rattle.std.proofs.Math.Seq.{take-append_seam, drop-append_seam}
-use Rattle.std.specs.Prelude.{codes, option_map}
+use Rattle.std.specs.Prelude.{option_map}
 use Rattle.sorted_file.specs.Searching.{first_value}
 use Rattle.std.specs.List.{AllByRecursion}
 use Rattle.cell_key.specs.Entries.{Entry, IsEntry, IsEntryList, IsRising}
 use Rattle.file_store.specs.Store.{Contents, part}
-use Rattle.sorted_file.specs.Grammar.{block_bytes, body, AreBlocks, image_of}
+use Rattle.sorted_file.specs.Grammar.{block_bytes, body, head, AreBlocks, image_of}
 use Rattle.sorted_file.specs.Blocks.{block_of, blocks_of, entries_in, first_of, head_in, row_head, AreRows, IsBlockIn}
 use Rattle.sorted_file.specs.Kept.{kept}
 use Rattle.sorted_file.specs.Opened.{IsOpen, listed}
 use Rattle.sorted_file.specs.declared.blocks.BlockRow.{BlockRow}
 use Rattle.sorted_file.specs.declared.opened.SortedFile.{SortedFile}
 use Rattle.sorted_file.proofs.Joining.{all_back, all_front, rising_back, rising_front}
+use Rattle.sorted_file.proofs.Widths.{head_length}
 use Rattle.sorted_file.proofs.Rows.{all_named, firsts_rise, IsNamed}
 
 pub blocks_in : (image : List ℕ) (at : ℕ) (before : List ℕ) (rows : List BlockRow) (after : List ℕ) → image ≡ before ++ (body (blocks_of rows) ++ after) → length before ≡ at → AreRows at rows → IsEntryList (entries_in (blocks_of rows)) → AllByRecursion (IsBlockIn image) rows
@@ -39,7 +40,7 @@ blocks_in image at before (row ∷ rows) after e l p h =
 module _ (m : Contents) (file : SortedFile) (o : IsOpen m file) where
   pub open_in : AllByRecursion (IsBlockIn o.image) file.rows.items
   open_in =
-      blocks_in o.image 8 (codes "TABLET01") file.rows.items _ (o.form.bytes ∙ ap (λ (b : List (List Entry)). image_of b (length (listed m file))) o.blocks) refl o.rows o.list
+      blocks_in o.image 8 (head o.format) file.rows.items _ (o.form.bytes ∙ ap (λ (b : List (List Entry)). image_of o.format b (length (listed m file))) o.blocks) (head_length o.format) o.rows o.list
 
   pub open_named : AllByRecursion IsNamed file.rows.items
   open_named = all_named 8 file.rows.items o.rows (subst AreBlocks o.blocks o.form.grammar)

@@ -1,9 +1,7 @@
 -- What the front of some bytes can be.
-use Rattle.std.proofs.Common.{◌≡◌, ◌≢◌, ℕ, zero, ◌+◌, ◌-◌, ◌≤◌, ◌<◌, ◌^◌, Bool, true, false, ◌&&◌, T, List, [], ◌∷◌, ◌++◌, length, take, drop, refl, sym, ap, subst, ◌∙◌, arith, length-append, append_assoc}
+use Rattle.std.proofs.Common.{◌≡◌, ◌≢◌, ℕ, zero, ◌+◌, ◌-◌, ◌≤◌, ◌<◌, ◌^◌, Bool, true, false, ◌&&◌, T, List, [], ◌∷◌, ◌++◌, length, drop, refl, sym, ap, subst, ◌∙◌, arith, length-append, append_assoc}
 use Rattle.std.specs.Prelude.{flat_map, Option, Some, None, ◌↔◌}
 use Rattle.std.specs.List.{AllByRecursion}
-use Rattle.std.specs.Int.{w32, to_be_bytes, from_be_bytes}
-use Rattle.std.proofs.lemmas.Nat.{from_be_bytes-to_be_bytes_4}
 use Rattle.std.specs.declared.cmp.Ordering.{Ordering}
 use Rattle.std.specs.declared.cmp.Ordering.TheVariants.{Less, Equal, Greater}
 use Rattle.std.specs.Ordering.{is_lt}
@@ -11,9 +9,10 @@ use Rattle.std.specs.Cmp.Lexicographic.{nat_list_cmp_total}
 use Rattle.std.specs.FinMap.Entries.{below_all}
 use Rattle.cell_key.specs.Keys.{byte_cmp}
 use Rattle.cell_key.specs.Entries.{Entry, IsEntry, IsRising, spelled, spelled_value, field}
-use Rattle.sorted_file.specs.Grammar.{IsFile}
-use Rattle.sorted_file.proofs.Spelling.{one_spelling, field_split, field_length, spelled_split, spelled_length, short, goes_on, is_cut}
-use Rattle.sorted_file.proofs.EntryParts.{index_place}
+use Rattle.sorted_file.specs.Grammar.{foot_len, most, number_bytes, IsFile}
+use Rattle.sorted_file.specs.declared.formats.Format.{Format}
+use Rattle.sorted_file.proofs.Spelling.{one_spelling, field_split, field_length, spelled_split, spelled_length, short, goes_on, is_cut, number_split}
+use Rattle.sorted_file.proofs.EntryParts.{index_cut}
 
 -- ---- an entry
 
@@ -128,17 +127,17 @@ rise_step all l n rest after r p i =
 
 -- ---- the place of the index
 
-pub record IsIndexPlace (n : ℕ) (es : List Entry) (image : List ℕ) : Type 0 where
+pub record IsIndexPlace (f : Format) (n : ℕ) (es : List Entry) (image : List ℕ) : Type 0 where
   pub exact : n ≡ 8 + length (flat_map spelled es)
-  pub within : n + 24 ≤ length image
+  pub within : n + foot_len f ≤ length image
 
-pub place_of : (es : List Entry) (image last rest : List ℕ) (n : ℕ) → n < 2 ^ 32 → IsFile es image → last ≡ drop (length image - 24) image → last ≡ to_be_bytes w32 n ++ rest → IsIndexPlace n es image
-place_of es image last rest n small f d s =
-    let c = is_cut es image f in
+pub place_of : (f : Format) (es : List Entry) (image last rest : List ℕ) (n : ℕ) → n < most f → IsFile f es image → last ≡ drop (length image - foot_len f) image → last ≡ number_bytes f n ++ rest → IsIndexPlace f n es image
+place_of f es image last rest n small is d s =
+    let c = is_cut f es image is in
     let size = c.size in
-    let is : n ≡ 8 + length (flat_map spelled es) =
-    sym (from_be_bytes-to_be_bytes_4 n small) ∙ ap (λ (l : List ℕ). from_be_bytes w32 (take 4 l)) (sym s ∙ d) ∙ index_place es image f.small c in
-    record { exact = is; within = omega (arith, is, size) }
+    let all = is.small in
+    let exact = (number_split f n (8 + length (flat_map spelled es)) rest c.numbers small (omega (arith, size, all)) (sym s ∙ d ∙ index_cut f es image c)).0 in
+    record { exact = exact; within = omega (arith, exact, size) }
 
 -- the entries that were read are those of each list of this image
 pub same_list : (es got : List Entry) (part : List ℕ) → length part < 2 ^ 32 → part ≡ flat_map spelled got → part ≡ flat_map spelled es → es ≡ got

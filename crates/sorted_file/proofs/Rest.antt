@@ -1,10 +1,12 @@
 -- A source is written as a file.
-use Rattle.std.proofs.Common.{◌≡◌, ℕ, ◌+◌, ◌<◌, false, List, [], ◌∷◌, ◌++◌, length, refl, sym, ap, subst, ◌∙◌, arith, length-append, append_assoc}
-use Rattle.std.specs.Prelude.{flat_map, codes, Option, Some, None, is_some}
+use Rattle.std.proofs.Common.{◌≡◌, ℕ, ◌+◌, ◌≤◌, ◌<◌, ◌^◌, ◌⊎◌, inl, inr, false, List, [], ◌∷◌, ◌++◌, length, refl, sym, ap, subst, ◌∙◌, arith, length-append, append_assoc}
+use Rattle.std.specs.Prelude.{flat_map, Option, Some, None, is_some}
 use Rattle.std.proofs.lemmas.List.Concat.{flat_map-append}
 use Rattle.cell_key.specs.Entries.{Entry, spelled, entry_len, Takes}
 use Rattle.file_store.specs.Store.{Contents, KeepsOthers}
-use Rattle.sorted_file.specs.Grammar.{FitsIn, body}
+use Rattle.std.specs.List.{AllByRecursion}
+use Rattle.sorted_file.specs.Grammar.{FitsIn, IsShortEntry, body, head}
+use Rattle.sorted_file.specs.declared.formats.Format.TheVariants.{Two}
 use Rattle.sorted_file.specs.Building.{State, IsBuilt, IsWriting, with_open}
 use Rattle.sorted_file.proofs.Spelling.{body-whole, is_cut}
 
@@ -24,20 +26,31 @@ pub writing_end : (s : State) (all old : List Entry) → old ≡ [] → IsWritin
 writing_end s all old o w = subst (IsBuilt s) (sym (append-nil w.done) ∙ ap (λ (l : List Entry). w.done ++ l) (sym o) ∙ w.parts) w.built
 
 -- a list whose front and next entry are longer than the limit has no file within it
-pub too_large : (s : State) (all old new : List Entry) (e : Entry) (limit : ℕ) → old ≡ e ∷ new → IsWriting s all old → limit < length s.out + entry_len e → FitsIn limit all → ⊥
-too_large s all old new e limit o w h f =
+too_long : (s : State) (all old new : List Entry) (e : Entry) (limit : ℕ) → old ≡ e ∷ new → IsWriting s all old → limit < length s.out + entry_len e → FitsIn limit all → ⊥
+too_long s all old new e limit o w h f =
     let b = w.built in
     let out : length s.out ≡ 8 + length (flat_map spelled w.done) =
-    ap length b.bytes ∙ length-append (codes "TABLET01") (body (with_open b.before b.current))
+    ap length b.bytes ∙ length-append (head Two) (body (with_open b.before b.current))
     ∙ ap (λ (l : List ℕ). 8 + length l) (body-whole (with_open b.before b.current) ∙ ap (flat_map spelled) b.whole) in
     let split : flat_map spelled all ≡ flat_map spelled w.done ++ (spelled e ++ flat_map spelled new) =
     ap (flat_map spelled) (sym w.parts ∙ ap (λ (l : List Entry). w.done ++ l) o) ∙ flat_map-append spelled w.done (e ∷ new) in
     let total : length (flat_map spelled all) ≡ length (flat_map spelled w.done) + (length (spelled e) + length (flat_map spelled new)) =
     ap length split ∙ length-append (flat_map spelled w.done) (spelled e ++ flat_map spelled new) ∙ ap (λ (n : ℕ). length (flat_map spelled w.done) + n) (length-append (spelled e) (flat_map spelled new)) in
-    let cut = is_cut all f.image f.form in
+    let cut = is_cut Two all f.image f.form in
     let size = cut.size in
     let within = f.within in
     omega (arith, out, total, size, within, h)
+
+short_in : (done new : List Entry) (e : Entry) → AllByRecursion IsShortEntry (done ++ e ∷ new) → IsShortEntry e
+short_in [] new e h = h.0
+short_in (d ∷ done) new e h = short_in done new e h.1
+
+-- nor one that has an entry whose lengths don't fit their bytes
+pub too_large : (s : State) (all old new : List Entry) (e : Entry) (limit : ℕ) → old ≡ e ∷ new → IsWriting s all old → (limit < length s.out + entry_len e) ⊎ (2 ^ 32 ≤ entry_len e) → FitsIn limit all → ⊥
+too_large s all old new e limit o w (inl h) f = too_long s all old new e limit o w h f
+too_large s all old new e limit o w (inr h) f =
+    let short = short_in w.done new e (subst (λ (l : List Entry). AllByRecursion IsShortEntry l) (sym w.parts ∙ ap (λ (l : List Entry). w.done ++ l) o) f.form.short) in
+    omega (arith, short, h)
 
 pub keeps_same : (name : ℕ) (old new : Option Contents) → new ≡ old → KeepsOthers name old new
 keeps_same name old new e = subst (KeepsOthers name old) (sym e) (itself old)

@@ -1,11 +1,14 @@
 -- Entries are read back from their bytes, and a file's entries from its image.
 use Rattle.std.proofs.Common.{◌≡◌, ℕ, zero, ◌+◌, ◌≤◌, ◌<◌, ◌^◌, List, [], ◌∷◌, ◌++◌, length, refl, sym, ap, ◌∙◌, arith, length-append, append_assoc}
 use Rattle.std.specs.Prelude.{flat_map, Option, Some, None, codes}
-use Rattle.std.specs.Int.{w32, to_be_bytes, from_be_bytes}
-use Rattle.std.proofs.lemmas.Nat.{from_be_bytes-to_be_bytes_4}
+use Rattle.std.specs.List.{AllByRecursion}
+use Rattle.std.specs.Int.{w32, to_be_bytes}
 use Rattle.std.proofs.lemmas.List.Concat.{flat_map-append}
 use Rattle.cell_key.specs.Entries.{Entry, spelled, spelled_value, field}
-use Rattle.sorted_file.specs.Grammar.{block_bytes, IsFile, index, body}
+use Rattle.sorted_file.specs.Grammar.{block_bytes, body, foot_len, head, index, most, number_bytes, IsFile, IsShortEntry}
+use Rattle.sorted_file.specs.declared.formats.Format.{Format}
+use Rattle.sorted_file.specs.declared.formats.Format.TheVariants.{One}
+use Rattle.sorted_file.proofs.Widths.{foot_length, head_length, same_length, same_number}
 
 -- equal parts of equal lists
 pub parted : {A : Type 0} (a b x y : List A) → length a ≡ length b → a ++ x ≡ b ++ y → (a ≡ b) × (x ≡ y)
@@ -18,8 +21,11 @@ parted (a ∷ as₁) (b ∷ bs) x y l e =
     let rest = parted as₁ bs x y (omega (arith, l)) tails in
     (ap (λ z. z ∷ as₁) heads ∙ ap (λ l. b ∷ l) rest.0, rest.1)
 
-pub same_number : (m n : ℕ) → m < 2 ^ 32 → n < 2 ^ 32 → to_be_bytes w32 m ≡ to_be_bytes w32 n → m ≡ n
-same_number m n p q e = sym (from_be_bytes-to_be_bytes_4 m p) ∙ ap (from_be_bytes w32) e ∙ from_be_bytes-to_be_bytes_4 n q
+-- two numbers at the front are one
+pub number_split : (f : Format) (m n : ℕ) (x y : List ℕ) → m < most f → n < most f → number_bytes f m ++ x ≡ number_bytes f n ++ y → (m ≡ n) × (x ≡ y)
+number_split f m n x y p q e =
+    let parts = parted (number_bytes f m) (number_bytes f n) x y (same_length f m n) e in
+    (same_number f m n p q parts.0, parts.1)
 
 pub field_length : (bytes : List ℕ) → length (field bytes) ≡ 4 + length bytes
 field_length bytes = length-append (to_be_bytes w32 (length bytes)) bytes
@@ -29,7 +35,7 @@ pub field_split : (a b x y : List ℕ) → length a < 2 ^ 32 → length b < 2 ^ 
 field_split a b x y p q e =
     let whole : to_be_bytes w32 (length a) ++ (a ++ x) ≡ to_be_bytes w32 (length b) ++ (b ++ y) = sym (append_assoc (to_be_bytes w32 (length a)) a x) ∙ e ∙ append_assoc (to_be_bytes w32 (length b)) b y in
     let numbers = parted (to_be_bytes w32 (length a)) (to_be_bytes w32 (length b)) (a ++ x) (b ++ y) refl whole in
-    parted a b x y (same_number (length a) (length b) p q numbers.0) numbers.1
+    parted a b x y (same_number One (length a) (length b) p q numbers.0) numbers.1
 
 -- an entry whose lengths fit their four bytes
 pub record IsShort (e : Entry) : Type 0 where
@@ -101,27 +107,38 @@ one_spelling es fs p s =
     let on = goes_on es fs (flat_map spelled es) [] p (sym (append-nil (flat_map spelled es))) s in
     on.list ∙ ap (λ (more : List Entry). es ++ more) (no_more on.more on.bytes) ∙ append-nil es
 
+-- nor another list of short entries
+pub one_short : (es fs : List Entry) → AllByRecursion IsShortEntry es → AllByRecursion IsShortEntry fs → flat_map spelled es ≡ flat_map spelled fs → es ≡ fs
+one_short es [] p q s = no_more es (sym s)
+one_short [] (f ∷ fs) p q s = sym (no_more (f ∷ fs) s)
+one_short (e ∷ es) (f ∷ fs) p q s =
+    let split = spelled_split e f (flat_map spelled es) (flat_map spelled fs) (short e [] (spelled e) (sym (append-nil (spelled e))) p.0) (short f [] (spelled f) (sym (append-nil (spelled f))) q.0) s in
+    ap (λ (x : Entry). x ∷ es) split.0 ∙ ap (λ (l : List Entry). f ∷ l) (one_short es fs p.1 q.1 split.1)
+
 -- the bytes of the blocks are those of the entries
 pub body-whole : (blocks : List (List Entry)) → body blocks ≡ flat_map spelled (flat_map (λ es. es) blocks)
 body-whole [] = refl
 body-whole (es ∷ blocks) = ap (λ bytes. block_bytes es ++ bytes) (body-whole blocks) ∙ sym (flat_map-append spelled es (flat_map (λ es. es) blocks))
 
 -- an image, cut at its entries
-pub record IsCut (es : List Entry) (image : List ℕ) : Type 0 where
+pub record IsCut (f : Format) (es : List Entry) (image : List ℕ) : Type 0 where
   pub rows : List ℕ
   pub numbers : List ℕ
-  pub length_of_numbers : length numbers ≡ 20
-  pub bytes : image ≡ codes "TABLET01" ++ (flat_map spelled es ++ (rows ++ (to_be_bytes w32 (8 + length (flat_map spelled es)) ++ numbers)))
-  pub size : length image ≡ 32 + length (flat_map spelled es) + length rows
+  pub bytes : image ≡ head f ++ (flat_map spelled es ++ (rows ++ (number_bytes f (8 + length (flat_map spelled es)) ++ numbers)))
+  pub size : length image ≡ 8 + foot_len f + length (flat_map spelled es) + length rows
 
-pub is_cut : (es : List Entry) (image : List ℕ) → IsFile es image → IsCut es image
-is_cut es image f =
-    let same : body f.blocks ≡ flat_map spelled es = body-whole f.blocks ∙ ap (flat_map spelled) f.whole in
-    let rows = index 8 f.blocks in
-    let numbers : List ℕ = to_be_bytes w32 (length f.blocks) ++ (to_be_bytes w32 (length es) ++ (to_be_bytes w32 (32 + length (body f.blocks) + length rows) ++ codes "TABLETZZ")) in
-    let whole : image ≡ codes "TABLET01" ++ (flat_map spelled es ++ (rows ++ (to_be_bytes w32 (8 + length (flat_map spelled es)) ++ numbers))) =
-    f.bytes ∙ ap (λ (b : List ℕ). codes "TABLET01" ++ (b ++ (rows ++ (to_be_bytes w32 (8 + length b) ++ numbers)))) same in
-    let tail : List ℕ = to_be_bytes w32 (8 + length (flat_map spelled es)) ++ numbers in
-    let l : length image ≡ 8 + (length (flat_map spelled es) + (length rows + 24)) =
-    ap length whole ∙ length-append (codes "TABLET01") (flat_map spelled es ++ (rows ++ tail)) ∙ ap (λ (n : ℕ). 8 + n) (length-append (flat_map spelled es) (rows ++ tail) ∙ ap (λ (n : ℕ). length (flat_map spelled es) + n) (length-append rows tail)) in
-    record { rows = rows; numbers = numbers; length_of_numbers = refl; bytes = whole; size = omega (arith, l) }
+pub is_cut : (f : Format) (es : List Entry) (image : List ℕ) → IsFile f es image → IsCut f es image
+is_cut f es image is =
+    let same : body is.blocks ≡ flat_map spelled es = body-whole is.blocks ∙ ap (flat_map spelled) is.whole in
+    let rows = index f 8 is.blocks in
+    let all = 8 + foot_len f + length (body is.blocks) + length rows in
+    let numbers : List ℕ = number_bytes f (length is.blocks) ++ (number_bytes f (length es) ++ (number_bytes f all ++ codes "TABLETZZ")) in
+    let tail : List ℕ = number_bytes f (8 + length (flat_map spelled es)) ++ numbers in
+    let whole : image ≡ head f ++ (flat_map spelled es ++ (rows ++ tail)) =
+    is.bytes ∙ ap (λ (b : List ℕ). head f ++ (b ++ (rows ++ (number_bytes f (8 + length b) ++ numbers)))) same in
+    let l1 = ap length whole ∙ length-append (head f) (flat_map spelled es ++ (rows ++ tail)) in
+    let l2 = length-append (flat_map spelled es) (rows ++ tail) in
+    let l3 = length-append rows tail in
+    let h = head_length f in
+    let t : length tail ≡ foot_len f = foot_length f (8 + length (flat_map spelled es)) (length is.blocks) (length es) all in
+    record { rows = rows; numbers = numbers; bytes = whole; size = omega (arith, l1, l2, l3, h, t) }

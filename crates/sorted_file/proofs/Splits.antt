@@ -80,4 +80,4 @@ one_split (xs ∷ xss) (ys ∷ yss) a b e =
 
 -- one list has one image
 pub one_image : OneImage
-one_image entries x y p q = p.bytes ∙ ap (λ (blocks : List (List Entry)). image_of blocks (length entries)) (one_split p.blocks q.blocks p.grammar q.grammar (p.whole ∙ sym q.whole)) ∙ sym q.bytes
+one_image format entries x y p q = p.bytes ∙ ap (λ (blocks : List (List Entry)). image_of format blocks (length entries)) (one_split p.blocks q.blocks p.grammar q.grammar (p.whole ∙ sym q.whole)) ∙ sym q.bytes

@@ -1,19 +1,20 @@
 -- A file whose blocks were all read.
-use Rattle.std.proofs.Common.{◌≡◌, ℕ, ◌+◌, ◌-◌, ◌≤◌, ◌<◌, ◌^◌, List, [], ◌∷◌, ◌++◌, length, drop, refl, sym, ap, subst, ◌∙◌, arith, length-append, Some, None}
+use Rattle.std.proofs.Common.{◌≡◌, ℕ, ◌+◌, ◌-◌, ◌≤◌, ◌<◌, List, [], ◌∷◌, ◌++◌, length, drop, refl, sym, ap, subst, ◌∙◌, arith, length-append, Some, None}
 use Rattle.std.proofs.lemmas.List.{take-append-drop, length-map}
-use Rattle.std.specs.Prelude.{Option, IfSome, IsSome, flat_map, codes}
+use Rattle.std.specs.Prelude.{Option, IfSome, IsSome, flat_map}
 use Rattle.std.specs.FinMap as map
-use Rattle.std.specs.Int.{w32, to_be_bytes}
 use Rattle.file_store.specs.Store.{Contents}
-use Rattle.cell_key.specs.Entries.{Entry, spelled}
-use Rattle.sorted_file.specs.Grammar.{block_bytes, body, AreBlocks, IsFile, index, foot}
+use Rattle.cell_key.specs.Entries.{Entry, field, spelled}
+use Rattle.sorted_file.specs.Grammar.{block_bytes, body, foot_len, head, index, most, number_bytes, row, foot, AreBlocks, IsFile}
 use Rattle.sorted_file.specs.Blocks.{block_of, blocks_of, entries_in, IsFramed, IsNoFile, IsOpening, IsRead, IsReading, IsWhole, Tells}
 use Rattle.sorted_file.specs.Opened.{HasFile}
 use Rattle.sorted_file.specs.declared.blocks.BlockRow.{BlockRow}
+use Rattle.sorted_file.specs.declared.formats.Format.{Format}
 use Rattle.sorted_file.specs.declared.opening.Opening.{Opening}
 use Rattle.sorted_file.proofs.Joining.{block_fits}
 use Rattle.sorted_file.proofs.NextBlocks.{drop_part, end_is, image_length, left}
-use Rattle.sorted_file.proofs.Spelling.{parted, same_number, spelled_length}
+use Rattle.sorted_file.proofs.Spelling.{body-whole, number_split, spelled_length}
+use Rattle.sorted_file.proofs.Widths.{all_short, foot_length, head_length, number_length, some_number}
 
 -- ---- there are no more blocks or entries than bytes
 
@@ -35,12 +36,12 @@ few_blocks ((e ∷ es) ∷ blocks) g =
     omega (arith, l, m, n, k, j)
 
 pub record IsFormed (o : Opening) (image : List ℕ) : Type 0 where
-  pub form : IsFile (entries_in (blocks_of o.rows.items)) image
+  pub form : IsFile o.format (entries_in (blocks_of o.rows.items)) image
   pub blocks : form.blocks ≡ blocks_of o.rows.items
 
 -- the bytes are the file of these entries in these blocks
-pub record HasBlocks (es : List Entry) (image : List ℕ) (blocks : List (List Entry)) : Type 0 where
-  pub form : IsFile es image
+pub record HasBlocks (f : Format) (es : List Entry) (image : List ℕ) (blocks : List (List Entry)) : Type 0 where
+  pub form : IsFile f es image
   pub split : form.blocks ≡ blocks
 
 module _ (o : Opening) (opening : IsOpening o) where
@@ -57,11 +58,19 @@ module _ (o : Opening) (opening : IsOpening o) where
       let within = opening.within in
       omega (arith, few, reached, within, count_rows)
 
+  pub entries_fit : o.count ≤ o.size
+  entries_fit =
+      let few = few_entries (entries_in (blocks_of o.rows.items)) in
+      let whole = ap length (body-whole (blocks_of o.rows.items)) in
+      let reached = opening.reached in
+      let within = opening.within in
+      omega (arith, few, whole, reached, within, count_entries)
+
   abbrev foot_of : List ℕ
-  foot_of = foot o.end (length o.rows.items) (o.count) o.size
+  foot_of = foot o.format o.end (length o.rows.items) (o.count) o.size
 
   module _ (told : Option Contents) (image all end : List ℕ) (reading : IsReading told o image all end []) where
-    small : o.size < 2 ^ 32
+    small : o.size < most o.format
     small = opening.small
 
     abbrev blocks : List (List Entry)
@@ -75,39 +84,41 @@ module _ (o : Opening) (opening : IsOpening o) where
           let to = reading.framed.to in
           let size = reading.size in
           let within = opening.within in
-          let numbers = parted (to_be_bytes w32 reading.framed.at) (to_be_bytes w32 o.end) _ _ refl (sym reading.framed.foot ∙ is) in
-          same_number reading.framed.at o.end (omega (arith, to, size, small)) (omega (arith, within, small)) numbers.0
+          (number_split o.format reading.framed.at o.end _ _ (omega (arith, to, size, small)) (omega (arith, within, small)) (sym reading.framed.foot ∙ is)).0
 
       append-nil : (xs : List ℕ) → xs ++ [] ≡ xs
       append-nil [] = refl
       append-nil (x ∷ xs) = ap (λ (l : List ℕ). x ∷ l) (append-nil xs)
 
-      behind : drop (8 + length (body blocks)) image ≡ index 8 blocks ++ end
+      behind : drop (8 + length (body blocks)) image ≡ index o.format 8 blocks ++ end
       behind =
           let to = reading.framed.to in
-          let k = length image - 24 - reading.framed.at in
+          let k = length image - foot_len o.format - reading.framed.at in
           ap (λ (n : ℕ). drop n image) (sym (at ∙ opening.reached)) ∙ drop_part image reading.framed.at k
-          ∙ ap (λ (l : List ℕ). l ++ drop (reading.framed.at + k) image) (sym reading.framed.behind ∙ reading.read.rows ∙ append-nil (index 8 blocks))
-          ∙ ap (λ (n : ℕ). index 8 blocks ++ drop n image) (omega (arith, to)) ∙ ap (λ (l : List ℕ). index 8 blocks ++ l) (sym reading.framed.last)
+          ∙ ap (λ (l : List ℕ). l ++ drop (reading.framed.at + k) image) (sym reading.framed.behind ∙ reading.read.rows ∙ append-nil (index o.format 8 blocks))
+          ∙ ap (λ (n : ℕ). index o.format 8 blocks ++ drop n image) (omega (arith, to)) ∙ ap (λ (l : List ℕ). index o.format 8 blocks ++ l) (sym reading.framed.last)
 
-      bytes : image ≡ codes "TABLET01" ++ (body blocks ++ (index 8 blocks ++ end))
+      bytes : image ≡ head o.format ++ (body blocks ++ (index o.format 8 blocks ++ end))
       bytes =
-          sym (take-append-drop 8 image) ∙ ap (λ (l : List ℕ). l ++ drop 8 image) reading.framed.head
-          ∙ ap (λ (l : List ℕ). codes "TABLET01" ++ l) (reading.read.bytes ∙ ap (λ (l : List ℕ). body blocks ++ l) behind)
+          sym (take-append-drop 8 image) ∙ ap (λ (l : List ℕ). l ++ drop 8 image) reading.framed.named
+          ∙ ap (λ (l : List ℕ). head o.format ++ l) (reading.read.bytes ∙ ap (λ (l : List ℕ). body blocks ++ l) behind)
 
-      size_is : o.size ≡ 32 + length (body blocks) + length (index 8 blocks)
+      size_is : o.size ≡ 8 + foot_len o.format + length (body blocks) + length (index o.format 8 blocks)
       size_is =
           let size = reading.size in
-          let l = ap length bytes ∙ length-append (codes "TABLET01") (body blocks ++ (index 8 blocks ++ end)) ∙ ap (λ (n : ℕ). 8 + n) (length-append (body blocks) (index 8 blocks ++ end) ∙ ap (λ (n : ℕ). length (body blocks) + n) (length-append (index 8 blocks) end)) in
-          let e : length end ≡ 24 = ap length is in
-          omega (arith, size, l, e)
+          let l = ap length bytes ∙ length-append (head o.format) (body blocks ++ (index o.format 8 blocks ++ end)) in
+          let m = length-append (body blocks) (index o.format 8 blocks ++ end) in
+          let k = length-append (index o.format 8 blocks) end in
+          let h = head_length o.format in
+          let e : length end ≡ foot_len o.format = ap length is ∙ foot_length o.format _ _ _ _ in
+          omega (arith, size, l, m, k, h, e)
 
-      foot_is : end ≡ foot (8 + length (body blocks)) (length blocks) (length (entries_in blocks)) (32 + length (body blocks) + length (index 8 blocks))
+      foot_is : end ≡ foot o.format (8 + length (body blocks)) (length blocks) (length (entries_in blocks)) (8 + foot_len o.format + length (body blocks) + length (index o.format 8 blocks))
       foot_is =
-          is ∙ ap (λ (n : ℕ). foot n (length o.rows.items) (o.count) o.size) opening.reached
-          ∙ ap (λ (n : ℕ). foot (8 + length (body blocks)) n (o.count) o.size) count_rows
-          ∙ ap (λ (n : ℕ). foot (8 + length (body blocks)) (length blocks) n o.size) count_entries
-          ∙ ap (λ (n : ℕ). foot (8 + length (body blocks)) (length blocks) (length (entries_in blocks)) n) size_is
+          is ∙ ap (λ (n : ℕ). foot o.format n (length o.rows.items) (o.count) o.size) opening.reached
+          ∙ ap (λ (n : ℕ). foot o.format (8 + length (body blocks)) n (o.count) o.size) count_rows
+          ∙ ap (λ (n : ℕ). foot o.format (8 + length (body blocks)) (length blocks) n o.size) count_entries
+          ∙ ap (λ (n : ℕ). foot o.format (8 + length (body blocks)) (length blocks) (length (entries_in blocks)) n) size_is
 
       pub formed : IsFormed o image
       formed =
@@ -116,8 +127,9 @@ module _ (o : Opening) (opening : IsOpening o) where
             form = record {
               blocks = blocks;
               grammar = opening.grammar;
+              short = all_short (entries_in blocks) opening.list.each;
               whole = refl;
-              bytes = bytes ∙ ap (λ (l : List ℕ). codes "TABLET01" ++ (body blocks ++ (index 8 blocks ++ l))) foot_is;
+              bytes = bytes ∙ ap (λ (l : List ℕ). head o.format ++ (body blocks ++ (index o.format 8 blocks ++ l))) foot_is;
               small = omega (arith, size, small);
             };
             blocks = refl;
@@ -125,12 +137,12 @@ module _ (o : Opening) (opening : IsOpening o) where
 
     -- ---- the foot of each file
 
-    pub foot_there : (es : List Entry) → IsFile es image → end ≡ foot_of
+    pub foot_there : (es : List Entry) → IsFile o.format es image → end ≡ foot_of
     foot_there es f =
         let more = left o opening told image all end [] reading es f in
         go more.more more.list more.rows_are
       where
-        go : (more : List (List Entry)) → f.blocks ≡ blocks ++ more → [] ≡ index (8 + length (body blocks)) more ++ [] → end ≡ foot_of
+        go : (more : List (List Entry)) → f.blocks ≡ blocks ++ more → [] ≡ index o.format (8 + length (body blocks)) more ++ [] → end ≡ foot_of
         go [] l r =
             let size = reading.size in
             let same : f.blocks ≡ blocks = l ∙ none blocks in
@@ -138,33 +150,42 @@ module _ (o : Opening) (opening : IsOpening o) where
             let entries : length es ≡ o.count = ap length (sym f.whole ∙ ap entries_in same) ∙ sym count_entries in
             let reached : 8 + length (body f.blocks) ≡ o.end = ap (λ (b : List (List Entry)). 8 + length (body b)) same ∙ sym opening.reached in
             end_is o opening told image all end [] reading es f
-            ∙ ap (λ (n : ℕ). foot n (length f.blocks) (length es) (32 + length (body f.blocks) + length (index 8 f.blocks))) reached
-            ∙ ap (λ (n : ℕ). foot o.end n (length es) (32 + length (body f.blocks) + length (index 8 f.blocks))) (ap length same ∙ sym count_rows)
-            ∙ ap (λ (n : ℕ). foot o.end (length o.rows.items) n (32 + length (body f.blocks) + length (index 8 f.blocks))) entries
-            ∙ ap (λ (n : ℕ). foot o.end (length o.rows.items) (o.count) n) (omega (arith, long, size))
+            ∙ ap (λ (n : ℕ). foot o.format n (length f.blocks) (length es) (8 + foot_len o.format + length (body f.blocks) + length (index o.format 8 f.blocks))) reached
+            ∙ ap (λ (n : ℕ). foot o.format o.end n (length es) (8 + foot_len o.format + length (body f.blocks) + length (index o.format 8 f.blocks))) (ap length same ∙ sym count_rows)
+            ∙ ap (λ (n : ℕ). foot o.format o.end (length o.rows.items) n (8 + foot_len o.format + length (body f.blocks) + length (index o.format 8 f.blocks))) entries
+            ∙ ap (λ (n : ℕ). foot o.format o.end (length o.rows.items) (o.count) n) (omega (arith, long, size))
           where
             none : (xs : List (List Entry)) → xs ++ [] ≡ xs
             none [] = refl
             none (x ∷ xs) = ap (λ (l : List (List Entry)). x ∷ l) (none xs)
         go ([] ∷ more) l r = absurd (block_fits blocks [] more (subst AreBlocks l f.grammar))
-        go ((e ∷ es) ∷ more) l r = cc
+        go ((e ∷ es) ∷ more) l r =
+            let at = 8 + length (body blocks) in
+            let n = number_bytes o.format at in
+            let first = number_bytes o.format (length (block_bytes (e ∷ es))) ++ field e.0 in
+            let l1 = ap length r ∙ length-append (row o.format at (e ∷ es) ++ index o.format (at + length (block_bytes (e ∷ es))) more) [] in
+            let l2 = length-append (row o.format at (e ∷ es)) (index o.format (at + length (block_bytes (e ∷ es))) more) in
+            let l3 = length-append n first in
+            let k = number_length o.format at in
+            let s = some_number o.format in
+            absurd (omega (arith, l1, l2, l3, k, s))
 
 -- ---- nothing was read yet
 
-pub start_reading : (o : Opening) (told : Option Contents) (name : ℕ) (image all end : List ℕ) → o.name ≡ name → o.rows.items ≡ [] → Tells told name image → length image ≡ o.size → IsFramed image all end → IsReading told o image all end all
+pub start_reading : (o : Opening) (told : Option Contents) (name : ℕ) (image all end : List ℕ) → o.name ≡ name → o.rows.items ≡ [] → Tells told name image → length image ≡ o.size → IsFramed o.format image all end → IsReading told o image all end all
 start_reading o told name image all end named empty tells size framed =
     record {
       tells = subst (λ (n : ℕ). Tells told n image) (sym named) tells;
       size = size;
       framed = framed;
-      read = subst (λ (rows : List BlockRow). IsRead image all (blocks_of rows) all) (sym empty) (record { bytes = refl; rows = refl });
+      read = subst (λ (rows : List BlockRow). IsRead o.format image all (blocks_of rows) all) (sym empty) (record { bytes = refl; rows = refl });
     }
 
 -- ---- what files tell
 
 pub no_file : (told : Option Contents) (name : ℕ) → ((image : List ℕ) → Tells told name image → IsNoFile image) → IfSome told (λ m. ¬ HasFile m name)
 no_file None name f = tt
-no_file (Some m) name f = λ h. f h.image h.there h.entries h.list h.form
+no_file (Some m) name f = λ h. f h.image h.there h.format h.entries h.list h.form
 
 pub whole_file : (told : Option Contents) (name : ℕ) (o : Opening) → IfSome told (λ m. IsSome (map.get m name)) → ((image : List ℕ) → Tells told name image → IsFormed o image) → IfSome told (λ m. IsWhole m name o)
 whole_file None name o there f = tt

@@ -1,18 +1,18 @@
 -- The blocks of a file: their bytes, and the rows of an index that is kept.
-use Rattle.std.specs.Prelude.{◌≡◌, ◌≢◌, ⊤, zero, suc, None, ℕ, ◌+◌, ◌-◌, ◌≤◌, ◌<◌, ◌^◌, List, [], ◌∷◌, ◌++◌, length, take, drop, map, flat_map, codes, Option, Some, IsSomeAnd}
+use Rattle.std.specs.Prelude.{◌≡◌, ◌≢◌, ⊤, zero, suc, None, ℕ, ◌+◌, ◌-◌, ◌≤◌, ◌<◌, List, [], ◌∷◌, ◌++◌, length, take, drop, map, flat_map, Option, Some, IsSomeAnd}
 use Rattle.std.specs.FinMap as map
 use Rattle.std.specs.List.{AllByRecursion}
 use Rattle.std.specs.declared.cmp.Ordering.TheVariants.{Less}
-use Rattle.std.specs.Int.{w32, to_be_bytes}
 use Rattle.cell_key.specs.Keys.{byte_cmp}
 use Rattle.cell_key.specs.Entries.{Entry, IsEntryList, IsRising, field}
 use Rattle.file_store.specs.Store.{Contents, part}
 use Rattle.sorted_file.specs.Building.{IsFirstText}
-use Rattle.sorted_file.specs.Grammar.{block_bytes, body, Fits, IsFullBlock, AreBlocks, IsFile, index}
+use Rattle.sorted_file.specs.Grammar.{block_bytes, body, foot_len, head, index, most, number_bytes, Fits, IsFullBlock, AreBlocks, IsFile}
 use Rattle.sorted_file.specs.Kept.{kept}
 use Rattle.sorted_file.specs.Spans.{IsSpanned}
 use Rattle.sorted_file.specs.declared.blocks.BlockRow.{BlockRow}
 use Rattle.sorted_file.specs.declared.blocks.RowRef.{RowRef}
+use Rattle.sorted_file.specs.declared.formats.Format.{Format}
 use Rattle.sorted_file.specs.declared.opening.Opening.{Opening}
 
 -- the bytes are a block: those of an entry list that fits into one
@@ -22,9 +22,9 @@ pub record IsBlock (es : List Entry) (bytes : List ℕ) : Type 0 where
   pub spelled : bytes ≡ block_bytes es
 
 -- the bytes of a row of the index
-abbrev pub row_bytes : RowRef → List ℕ
-row_bytes row =
-    to_be_bytes w32 row.offset ++ (to_be_bytes w32 row.length ++ field row.first.now)
+abbrev pub row_bytes : Format → RowRef → List ℕ
+row_bytes format row =
+    number_bytes format row.offset ++ (number_bytes format row.length ++ field row.first.now)
 
 -- the entries of a row's block, as they were when the file was opened
 abbrev pub block_of : BlockRow → List Entry
@@ -97,25 +97,27 @@ pub record AreBlocksIn (m : Contents) (name : ℕ) (rows : List BlockRow) : Type
 abbrev pub Tells : Option Contents → ℕ → List ℕ → Type 0
 Tells told name image = IsSomeAnd told (λ m. map.get m name ≡ Some image)
 
--- the bytes are the file of no entry list
+-- the bytes are the file of no entry list, in neither format
 abbrev pub IsNoFile : List ℕ → Type 0
-IsNoFile image = (es : List Entry) → IsEntryList es → ¬ IsFile es image
+IsNoFile image = (format : Format) (es : List Entry) → IsEntryList es → ¬ IsFile format es image
 
--- The head is there, these are the foot and the index that it tells the place of.
-pub record IsFramed (image rows end : List ℕ) : Type 0 where
+-- The head of a format is there, these are the foot and the index that it tells the place of.
+pub record IsFramed (format : Format) (image rows end : List ℕ) : Type 0 where
   pub at : ℕ
   pub numbers : List ℕ
-  pub head : take 8 image ≡ codes "TABLET01"
-  pub last : end ≡ drop (length image - 24) image
-  pub foot : end ≡ to_be_bytes w32 at ++ numbers
+  pub named : take 8 image ≡ head format
+  pub last : end ≡ drop (length image - foot_len format) image
+  pub foot : end ≡ number_bytes format at ++ numbers
   pub from : 8 ≤ at
-  pub to : at + 24 ≤ length image
-  pub behind : rows ≡ part image at (length image - 24 - at)
+  pub to : at + foot_len format ≤ length image
+  pub behind : rows ≡ part image at (length image - foot_len format - at)
 
 -- these blocks were read from an image, and their rows from its index, of which this is left
-pub record IsRead (image all : List ℕ) (blocks : List (List Entry)) (rest : List ℕ) : Type 0 where
+pub record IsRead
+    (format : Format) (image all : List ℕ) (blocks : List (List Entry)) (rest : List ℕ)
+    : Type 0 where
   pub bytes : drop 8 image ≡ body blocks ++ drop (8 + length (body blocks)) image
-  pub rows : all ≡ index 8 blocks ++ rest
+  pub rows : all ≡ index format 8 blocks ++ rest
 
 -- the entries are those of the last block, or there is no block
 abbrev pub IsLastOf : List (List Entry) → List Entry → Type 0
@@ -135,15 +137,15 @@ pub record IsOpening (o : Opening) : Type 0 where
   pub last : IsLastOf (blocks_of o.rows.items) (kept o.last.items)
   pub reached : o.end ≡ 8 + length (body (blocks_of o.rows.items))
   pub within : o.end ≤ o.size
-  pub small : o.size < 2 ^ 32
+  pub small : o.size < most o.format
 
 -- what was read is the beginning of this image, of whose index this is left
 pub record IsReading
     (told : Option Contents) (o : Opening) (image all end rest : List ℕ) : Type 0 where
   pub tells : Tells told o.name image
   pub size : length image ≡ o.size
-  pub framed : IsFramed image all end
-  pub read : IsRead image all (blocks_of o.rows.items) rest
+  pub framed : IsFramed o.format image all end
+  pub read : IsRead o.format image all (blocks_of o.rows.items) rest
 
 -- a block can be the next one, and this row names it
 pub record IsNext (o : Opening) (row : RowRef) (block : List Entry) : Type 0 where
@@ -156,5 +158,5 @@ pub record IsNext (o : Opening) (row : RowRef) (block : List Entry) : Type 0 whe
 pub record IsWhole (m : Contents) (name : ℕ) (o : Opening) : Type 0 where
   pub image : List ℕ
   pub there : map.get m name ≡ Some image
-  pub form : IsFile (entries_in (blocks_of o.rows.items)) image
+  pub form : IsFile o.format (entries_in (blocks_of o.rows.items)) image
   pub blocks : form.blocks ≡ blocks_of o.rows.items

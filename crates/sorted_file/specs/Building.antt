@@ -1,9 +1,10 @@
 -- A file that is being built.
-use Rattle.std.specs.Prelude.{◌≡◌, ℕ, ◌+◌, ◌-◌, ◌≤◌, ◌<◌, ◌^◌, List, [], ◌∷◌, ◌++◌, length, flat_map, codes, ◌≢◌, ◌⊎◌}
-use Rattle.std.specs.Int.{w32, to_be_bytes}
+use Rattle.std.specs.Prelude.{◌≡◌, ℕ, ◌+◌, ◌-◌, ◌≤◌, ◌<◌, ◌^◌, List, [], ◌∷◌, ◌++◌, length, flat_map, ◌≢◌, ◌⊎◌}
+use Rattle.std.specs.List.{AllByRecursion}
 use Rattle.cell_key.specs.Entries.{Entry, spelled, field}
-use Rattle.sorted_file.specs.Grammar.{AreBlocks, body, index, foot}
+use Rattle.sorted_file.specs.Grammar.{AreBlocks, IsShortEntry, body, foot, head, index, number_bytes}
 use Rattle.sorted_file.specs.declared.building.FileBuilder.{FileBuilder}
+use Rattle.sorted_file.specs.declared.formats.Format.TheVariants.{Two}
 
 -- what is kept of a file so far: its head and entries, the rows of the blocks that are closed, and
 -- of the block that is open its first text and where it begins
@@ -28,9 +29,9 @@ state_of b =
       entries = b.entries;
     }
 
--- the numbers fit their four bytes
+-- the numbers fit their eight bytes, and the length of the first text its four
 pub record IsSound (s : State) : Type 0 where
-  pub limited : s.limit < 2 ^ 32
+  pub limited : s.limit < 2 ^ 64
   pub within : length s.out ≤ s.limit
   pub started : s.start ≤ length s.out
   pub counted : s.entries < length s.out
@@ -54,8 +55,8 @@ closed s =
     record {
       limit = s.limit;
       out = s.out;
-      rows = s.rows ++ (to_be_bytes w32 s.start
-          ++ (to_be_bytes w32 (length s.out - s.start) ++ field s.first));
+      rows = s.rows ++ (number_bytes Two s.start
+          ++ (number_bytes Two (length s.out - s.start) ++ field s.first));
       first = s.first;
       start = s.start;
       blocks = s.blocks + 1;
@@ -91,8 +92,9 @@ pub record IsBuilt (s : State) (es : List Entry) : Type 0 where
   pub whole : flat_map (λ block. block) (with_open before current) ≡ es
   pub grammar : AreBlocks (with_open before current)
   pub alone : current ≡ [] → before ≡ []
-  pub bytes : s.out ≡ codes "TABLET01" ++ body (with_open before current)
-  pub places : s.rows ≡ index 8 before
+  pub short : AllByRecursion IsShortEntry es
+  pub bytes : s.out ≡ head Two ++ body (with_open before current)
+  pub places : s.rows ≡ index Two 8 before
   pub from : s.start ≡ 8 + length (body before)
   pub named : IsFirstText s.first current
   pub count : s.blocks ≡ length before
@@ -108,18 +110,19 @@ HasMadeRoom old e new =
 
 -- how long the file of what is closed is, and its bytes
 abbrev pub image_len : State → ℕ
-image_len s = length s.out + length s.rows + 24
+image_len s = length s.out + length s.rows + 40
 
 abbrev pub image_from : State → List ℕ
-image_from s = s.out ++ (s.rows ++ foot (length s.out) s.blocks s.entries (image_len s))
+image_from s = s.out ++ (s.rows ++ foot Two (length s.out) s.blocks s.entries (image_len s))
 
 -- all blocks are closed, and what is kept is that of these entries
 pub record IsClosed (s : State) (es : List Entry) : Type 0 where
   pub all : List (List Entry)
   pub whole : flat_map (λ block. block) all ≡ es
   pub grammar : AreBlocks all
-  pub bytes : s.out ≡ codes "TABLET01" ++ body all
-  pub places : s.rows ≡ index 8 all
+  pub short : AllByRecursion IsShortEntry es
+  pub bytes : s.out ≡ head Two ++ body all
+  pub places : s.rows ≡ index Two 8 all
   pub count : s.blocks ≡ length all
   pub total : s.entries ≡ length es
 

@@ -10,7 +10,7 @@ use Rattle.sorted_file.specs.Grammar.{block_bytes}
 use Rattle.sorted_file.specs.Placing.{entry_at}
 use Rattle.sorted_file.specs.Sources.{pending}
 
--- the entries at the end of a block that have no more than so many bytes
+-- the entries at the end of a block that have no more than this many bytes
 abbrev pub last_within : ℕ → List Entry → List Entry
 last_within bytes [] = []
 last_within bytes (e ∷ es) =

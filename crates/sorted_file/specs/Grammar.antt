@@ -1,7 +1,36 @@
--- The bytes of a file of entries, format 1.
+-- The bytes of a file of entries, in both formats.
 use Rattle.std.specs.Prelude.{◌≡◌, ℕ, ◌+◌, ◌≤◌, ◌<◌, ◌^◌, List, [], ◌∷◌, ◌++◌, length, flat_map, codes}
-use Rattle.std.specs.Int.{w32, to_be_bytes}
+use Rattle.std.specs.List.{AllByRecursion}
+use Rattle.std.specs.Int.{w32, w64, to_be_bytes}
 use Rattle.cell_key.specs.Entries.{Entry, spelled, field}
+use Rattle.sorted_file.specs.declared.formats.Format.{Format}
+use Rattle.sorted_file.specs.declared.formats.Format.TheVariants.{One, Two}
+
+-- ---- what tells the formats apart
+
+abbrev pub head : Format → List ℕ
+head One = codes "TABLET01"
+head Two = codes "TABLET02"
+
+-- a number of an index or of a foot: how many bytes it has, which they are, and what it is below
+abbrev pub number_len : Format → ℕ
+number_len One = 4
+number_len Two = 8
+
+abbrev pub number_bytes : Format → ℕ → List ℕ
+number_bytes One n = to_be_bytes w32 n
+number_bytes Two n = to_be_bytes w64 n
+
+abbrev pub most : Format → ℕ
+most One = 2 ^ 32
+most Two = 2 ^ 64
+
+-- how many bytes a foot has
+abbrev pub foot_len : Format → ℕ
+foot_len One = 24
+foot_len Two = 40
+
+-- ---- what is common to both
 
 -- the bytes of a block: its entries, one after the other
 abbrev pub block_bytes : List Entry → List ℕ
@@ -25,50 +54,61 @@ AreBlocks [] = Unit {0}
 AreBlocks (es ∷ blocks) = Fits es × IsFullBlock es blocks × AreBlocks blocks
 
 -- the row of a block that begins at this place: the place, the block's length and its first key
-abbrev pub row : ℕ → List Entry → List ℕ
-row at [] = []
-row at (e ∷ es) =
-    to_be_bytes w32 at ++ (to_be_bytes w32 (length (block_bytes (e ∷ es))) ++ field e.0)
+abbrev pub row : Format → ℕ → List Entry → List ℕ
+row format at [] = []
+row format at (e ∷ es) =
+    number_bytes format at
+    ++ (number_bytes format (length (block_bytes (e ∷ es))) ++ field e.0)
 
 -- a row for each block, the first of which begins at this place
-abbrev pub index : ℕ → List (List Entry) → List ℕ
-index at [] = []
-index at (es ∷ blocks) = row at es ++ index (at + length (block_bytes es)) blocks
+abbrev pub index : Format → ℕ → List (List Entry) → List ℕ
+index format at [] = []
+index format at (es ∷ blocks) =
+    row format at es ++ index format (at + length (block_bytes es)) blocks
 
 abbrev pub body : List (List Entry) → List ℕ
 body blocks = flat_map block_bytes blocks
 
 -- where the index begins, how many blocks and entries there are, and how long the file is
-abbrev pub foot : ℕ → ℕ → ℕ → ℕ → List ℕ
-foot index_at blocks entries size =
-    to_be_bytes w32 index_at ++ (to_be_bytes w32 blocks
-    ++ (to_be_bytes w32 entries ++ (to_be_bytes w32 size ++ codes "TABLETZZ")))
+abbrev pub foot : Format → ℕ → ℕ → ℕ → ℕ → List ℕ
+foot format index_at blocks entries size =
+    number_bytes format index_at ++ (number_bytes format blocks
+    ++ (number_bytes format entries ++ (number_bytes format size ++ codes "TABLETZZ")))
 
 -- head, blocks, index and foot
-abbrev pub image_of : List (List Entry) → ℕ → List ℕ
-image_of blocks entries =
-    let rows = index 8 blocks in
-    codes "TABLET01" ++ (body blocks ++ (rows ++ foot (8 + length (body blocks))
-    (length blocks) entries (32 + length (body blocks) + length rows)))
+abbrev pub image_of : Format → List (List Entry) → ℕ → List ℕ
+image_of format blocks entries =
+    let rows = index format 8 blocks in
+    head format ++ (body blocks ++ (rows ++ foot format (8 + length (body blocks))
+    (length blocks) entries (8 + foot_len format + length (body blocks) + length rows)))
 
--- the bytes are the file of these entries
-pub record IsFile (entries : List Entry) (image : List ℕ) : Type 0 where
+-- the lengths of an entry fit their four bytes
+abbrev pub IsShortEntry : Entry → Type 0
+IsShortEntry e = length (spelled e) < 2 ^ 32
+
+-- the bytes are the file of these entries, in this format
+pub record IsFile (format : Format) (entries : List Entry) (image : List ℕ) : Type 0 where
   pub blocks : List (List Entry)
   pub grammar : AreBlocks blocks
+  pub short : AllByRecursion IsShortEntry entries
   pub whole : flat_map (λ es. es) blocks ≡ entries
-  pub bytes : image ≡ image_of blocks (length entries)
-  pub small : length image < 2 ^ 32
+  pub bytes : image ≡ image_of format blocks (length entries)
+  pub small : length image < most format
 
--- one list of entries has one image
+-- one list of entries has one image a format
 abbrev pub OneImage : Type 0
-OneImage = (entries : List Entry) (x y : List ℕ) → IsFile entries x → IsFile entries y → x ≡ y
+OneImage =
+    (format : Format) (entries : List Entry) (x y : List ℕ) → IsFile format entries x
+    → IsFile format entries y → x ≡ y
 
--- an image is that of one list of entries
+-- an image is that of one list of entries, in one format
 abbrev pub OneList : Type 0
-OneList = (es fs : List Entry) (image : List ℕ) → IsFile es image → IsFile fs image → es ≡ fs
+OneList =
+    (f g : Format) (es fs : List Entry) (image : List ℕ) → IsFile f es image → IsFile g fs image
+    → (f ≡ g) × (es ≡ fs)
 
--- a file of these entries has at most this many bytes
+-- a file of these entries that is written now has at most this many bytes
 pub record FitsIn (limit : ℕ) (entries : List Entry) : Type 0 where
   pub image : List ℕ
-  pub form : IsFile entries image
+  pub form : IsFile Two entries image
   pub within : length image ≤ limit

@@ -16,7 +16,8 @@ at_stamp key stamp = version key.row key.family key.qualifier stamp
 abbrev pub HasNoneAt : List Entry → CellKey → Type 0
 HasNoneAt es key = IsStored key → value_of (entry_of_key es (text key)) ≡ None
 
--- found is the greatest stamp, from lo up to that of the key, at which entries have a value of the key's column
+-- found is the greatest stamp, from lo up to that of the key, at which entries have a value of the
+-- key's column
 abbrev pub IsNewestStamp : List Entry → CellKey → ℕ → Option ℕ → Type 0
 IsNewestStamp es key lo None = (s : ℕ) → lo ≤ s → s ≤ key.stamp → HasNoneAt es (at_stamp key s)
 IsNewestStamp es key lo (Some found) =
@@ -44,8 +45,8 @@ abbrev pub skips : List Entry → List ℕ
 skips [] = []
 skips (e ∷ es) = erased_first (e ∷ es) ∷ skips es
 
--- A part of entries has what they have of a column from the one stamp to the other, and this is the text of its first
--- value at a text that isn't below the key's.
+-- A part of entries has what they have of a column from the one stamp to the other, and this is the
+-- text of its first value at a text that isn't below the key's.
 pub record IsFirstIn (es : List Entry) (key : CellKey) (lo : ℕ) (found : Option (List ℕ))
     : Type 0 where
   pub part : List Entry

@@ -13,19 +13,21 @@ use Rattle.sorted_file.specs.Newest.{skips}
 use Rattle.sorted_file.specs.Parsed.{BeginsWith, IsParsed}
 use Rattle.sorted_file.specs.Spans.{IsSpanned}
 use Rattle.sorted_file.specs.declared.blocks.BlockRow.{BlockRow}
+use Rattle.sorted_file.specs.declared.formats.Format.{Format}
 use Rattle.sorted_file.specs.declared.opened.SortedFile.{SortedFile}
 use Rattle.sorted_file.specs.declared.parsed.Block.{Block}
 
 abbrev pub name_of : SortedFile → ℕ
 name_of file = file.name
 
--- under this name there is the file of an entry list
+-- under this name there is the file of an entry list, in either format
 pub record HasFile (m : Contents) (name : ℕ) : Type 0 where
+  pub format : Format
   pub entries : List Entry
   pub image : List ℕ
   pub list : IsEntryList entries
   pub there : map.get m name ≡ Some image
-  pub form : IsFile entries image
+  pub form : IsFile format entries image
 
 -- the entries that an open file stands for over these files
 abbrev pub listed : Contents → SortedFile → List Entry
@@ -40,15 +42,16 @@ pub record IsOpen (m : Contents) (file : SortedFile) : Type 0 where
   pub heads : kept file.heads.items ≡ map row_head file.rows.items
   pub skips : file.skips.items ≡ skips (kept file.heads.items)
   pub counted : file.count ≡ length (listed m file)
+  pub format : Format
   pub image : List ℕ
   pub there : map.get m (name_of file) ≡ Some image
-  pub form : IsFile (listed m file) image
+  pub form : IsFile format (listed m file) image
   pub rows : AreRows 8 file.rows.items
   pub blocks : form.blocks ≡ blocks_of file.rows.items
   pub cached : AreCached file.rows.items file.cache.entries
 
--- The block of a row was read from these bytes: they have, where the row says, those of an entry list that begins
--- with the row's text.
+-- The block of a row was read from these bytes: they have, where the row says, those of an entry list
+-- that begins with the row's text.
 pub record IsReadFrom (image : List ℕ) (row : BlockRow) (es : List Entry) : Type 0 where
   pub list : IsEntryList es
   pub first : BeginsWith row.first.items es
@@ -79,8 +82,9 @@ KeepsWhatItRead told old new =
     (e : ℕ × Block) → Contains new.cache.entries e
     → Contains old.cache.entries e ⊎ WasRead told old e
 
--- What was found at a text in a block that wasn't kept is what stands under the name of an opened file now: whatever that
--- is, it has an entry list where the row says, and the entry of that list at the text is this one.
+-- What was found at a text in a block that wasn't kept is what stands under the name of an opened file
+-- now: whatever that is, it has an entry list where the row says, and the entry of that list at the
+-- text is this one.
 abbrev pub IsFoundNow : Option Contents → SortedFile → List ℕ → Option (Option (List ℕ)) → Type 0
 IsFoundNow told file name found =
     (m : Contents) → IsOpen m file → (number : ℕ) (row : BlockRow) (image : List ℕ)
@@ -116,11 +120,13 @@ OpenIsThere = (m : Contents) (file : SortedFile) → IsOpen m file → HasFile m
 -- a file of an entry list that is there can be opened
 abbrev pub WrittenIsThere : Type 0
 WrittenIsThere =
-    (m : Contents) (name : ℕ) (entries : List Entry) (image : List ℕ) → IsEntryList entries
-    → IsFile entries image → map.get m name ≡ Some image → HasFile m name
+    (m : Contents) (name : ℕ) (format : Format) (entries : List Entry) (image : List ℕ)
+    → IsEntryList entries → IsFile format entries image → map.get m name ≡ Some image
+    → HasFile m name
 
 -- what is opened of it stands for those entries
 abbrev pub WrittenIsListed : Type 0
 WrittenIsListed =
-    (m : Contents) (file : SortedFile) (entries : List Entry) (image : List ℕ) → IsOpen m file
-    → IsFile entries image → map.get m (name_of file) ≡ Some image → listed m file ≡ entries
+    (m : Contents) (file : SortedFile) (format : Format) (entries : List Entry) (image : List ℕ)
+    → IsOpen m file → IsFile format entries image → map.get m (name_of file) ≡ Some image
+    → listed m file ≡ entries

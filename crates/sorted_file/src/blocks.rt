@@ -1,15 +1,15 @@
 //! Blocks of entries, and the rows of the index that name them.
 
 ghost use Rattle.std.specs.Prelude.{◌≡◌, ◌≢◌, ◌<◌, ◌^◌, ◌++◌, ◌↔◌, ◌≤◌, ℕ, List, length, map, IfOk, IfErr, IfSome, IfNone, IsTrue};
-ghost use Rattle.std.specs.Int.{w32, to_be_bytes};
 ghost use Rattle.cell_key.specs.Entries.{Entry, IsRising, field};
 ghost use Rattle.sorted_file.specs.Blocks.{first_of, row_bytes, IsBlock, IsRowPlace};
-ghost use Rattle.sorted_file.specs.Grammar.{block_bytes, Fits};
+ghost use Rattle.sorted_file.specs.Grammar.{block_bytes, most, number_bytes, Fits};
 ghost use Rattle.sorted_file.specs.Kept.{kept};
 
 use crate::building::BLOCK_LIMIT;
 use crate::decoding::{read_entries, read_field, read_number};
 use crate::entries::{FileEntry, is_rising};
+use crate::formats::Format;
 use crate::spans::Spans;
 use cell_key::Refusal;
 use std::alloc::Global;
@@ -18,7 +18,7 @@ use std::snapshot::Snapshot;
 /// What is kept of a block: where it begins, how many bytes it has, and its first text.
 #[derive(Drop)]
 pub(crate) struct BlockRow {
-    pub(crate) offset: u32,
+    pub(crate) offset: u64,
     pub(crate) length: u32,
     pub(crate) first: Vec<u8>,
     /// Where its values are.
@@ -30,21 +30,23 @@ pub(crate) struct BlockRow {
 /// A row of the index, lent.
 #[derive(Clone, Copy)]
 pub(crate) struct RowRef<'a> {
-    pub(crate) offset: u32,
-    pub(crate) length: u32,
+    pub(crate) offset: u64,
+    pub(crate) length: u64,
     pub(crate) first: &'a [u8],
 }
 
 /// The row at the front, and what follows.
-pub(crate) fn read_row(bytes: &[u8]) -> Option<(RowRef<'_>, &[u8])>
-    ensures found { IfSome result (λ p. bytes.now ≡ row_bytes p.0 ++ p.1.now) }
-    ensures offset { IfSome result (λ p. p.0.offset < 2 ^ 32) }
-    ensures length { IfSome result (λ p. p.0.length < 2 ^ 32) }
+pub(crate) fn read_row(format: Format, bytes: &[u8]) -> Option<(RowRef<'_>, &[u8])>
+    ensures found { IfSome result (λ p. bytes.now ≡ row_bytes format p.0 ++ p.1.now) }
+    ensures offset { IfSome result (λ p. p.0.offset < most format) }
+    ensures length { IfSome result (λ p. p.0.length < most format) }
+    ensures first { IfSome result (λ p. length p.0.first.now < 2 ^ 32) }
     ensures none { IfNone result ((offset len : ℕ) (first rest : List ℕ) → length first < 2 ^ 32
-        → bytes.now ≢ to_be_bytes w32 offset ++ (to_be_bytes w32 len ++ (field first ++ rest))) }
+        → bytes.now ≢ number_bytes format offset
+        ++ (number_bytes format len ++ (field first ++ rest))) }
 {
-    let (offset, after_offset) = read_number(bytes)?;
-    let (length, after_length) = read_number(after_offset)?;
+    let (offset, after_offset) = read_number(format, bytes)?;
+    let (length, after_length) = read_number(format, after_offset)?;
     let (first, rest) = read_field(after_length)?;
     let row = RowRef {
         offset,
@@ -54,7 +56,7 @@ pub(crate) fn read_row(bytes: &[u8]) -> Option<(RowRef<'_>, &[u8])>
     Some((row, rest))
 }
 
-/// Whether entries of so many bytes fit into a block.
+/// Whether entries that have `len` bytes together fit into a block.
 fn fits(entries: &[FileEntry], len: usize) -> bool
     ensures { len ≡ length (block_bytes (kept entries.now))
         → IsTrue result ↔ Fits (kept entries.now) }

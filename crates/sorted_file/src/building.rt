@@ -3,9 +3,10 @@
 ghost use Rattle.std.specs.Prelude.{◌≡◌, ◌≢◌, ◌≤◌, ◌<◌, ◌+◌, ◌-◌, ◌^◌, ◌++◌, ◌∷◌, [], ℕ, List, length, IfOk, IfErr, OnOk, OnErr, IsErrOf, IsOkUnless, ◌⊎◌, IsTrue, ◌↔◌};
 ghost use Rattle.std.specs.Int.{w32, to_be_bytes};
 ghost use Rattle.cell_key.specs.Entries.{Entry, lent_entry, spelled, entry_len, field};
-ghost use Rattle.sorted_file.specs.Grammar.{IsFile, FitsIn, foot};
+ghost use Rattle.sorted_file.specs.Grammar.{IsFile, FitsIn, foot, most, number_bytes};
 ghost use Rattle.sorted_file.specs.Building.{IsSound, IsBuilt, IsClosed, HasMadeRoom, state_of, opened, closed, image_from, image_len};
 
+use crate::formats::Format;
 use cell_key::{EntryRef, Refusal};
 use std::alloc::Global;
 
@@ -24,12 +25,27 @@ pub(crate) fn spelled_len(entry: EntryRef<'_>) -> u128
 }
 
 /// Appends a number of four bytes.
-fn push_number(out: &mut Vec<u8>, number: u32) -> Result<(), Refusal>
+fn push_short(out: &mut Vec<u8>, number: u32) -> Result<(), Refusal>
     ensures ok { OnOk result (out.new.items ≡ out.old.items ++ to_be_bytes w32 number) }
     ensures memory { IsOkUnless result Refusal.NoMemory }
 {
     out.extend_from_slice(&number.to_be_bytes())?;
     Ok(())
+}
+
+/// Appends a number of an index or of a foot.
+fn push_number(out: &mut Vec<u8>, format: Format, number: u64) -> Result<(), Refusal>
+    requires { number < most format }
+    ensures ok { OnOk result (out.new.items ≡ out.old.items ++ number_bytes format number) }
+    ensures memory { IsOkUnless result Refusal.NoMemory }
+{
+    match format {
+        Format::One => push_short(out, number as u32),
+        Format::Two => {
+            out.extend_from_slice(&number.to_be_bytes())?;
+            Ok(())
+        }
+    }
 }
 
 /// Appends a length and that many bytes.
@@ -38,7 +54,7 @@ fn push_field(out: &mut Vec<u8>, bytes: &[u8]) -> Result<(), Refusal>
     ensures ok { OnOk result (out.new.items ≡ out.old.items ++ field bytes.now) }
     ensures memory { IsOkUnless result Refusal.NoMemory }
 {
-    push_number(out, bytes.len() as u32)?;
+    push_short(out, bytes.len() as u32)?;
     out.extend_from_slice(bytes)?;
     Ok(())
 }
@@ -63,26 +79,32 @@ fn push_entry(out: &mut Vec<u8>, entry: EntryRef<'_>) -> Result<(), Refusal>
 /// Appends the foot.
 pub(crate) fn push_foot(
     out: &mut Vec<u8>,
-    index_at: u32,
-    blocks: u32,
-    entries: u32,
-    size: u32,
+    format: Format,
+    index_at: u64,
+    blocks: u64,
+    entries: u64,
+    size: u64,
 ) -> Result<(), Refusal>
-    ensures ok { OnOk result (out.new.items ≡ out.old.items ++ foot index_at blocks entries size) }
+    requires index_at { index_at < most format }
+    requires blocks { blocks < most format }
+    requires entries { entries < most format }
+    requires size { size < most format }
+    ensures ok { OnOk result (out.new.items
+        ≡ out.old.items ++ foot format index_at blocks entries size) }
     ensures memory { IsOkUnless result Refusal.NoMemory }
 {
-    push_number(out, index_at)?;
-    push_number(out, blocks)?;
-    push_number(out, entries)?;
-    push_number(out, size)?;
+    push_number(out, format, index_at)?;
+    push_number(out, format, blocks)?;
+    push_number(out, format, entries)?;
+    push_number(out, format, size)?;
     out.extend_from_slice(b"TABLETZZ")?;
     Ok(())
 }
 
-/// The bytes of a file so far. After an `Err` it is given up.
+/// The bytes of a file of format 2 so far. After an `Err` it is given up.
 #[derive(Drop)]
 pub(crate) struct FileBuilder {
-    limit: u32,
+    limit: u64,
     /// The head and the entries.
     out: Vec<u8>,
     /// The index rows of the blocks that are closed.
@@ -90,21 +112,21 @@ pub(crate) struct FileBuilder {
     /// The first text of the open block.
     first: Vec<u8>,
     /// Where the open block begins.
-    start: u32,
-    blocks: u32,
-    entries: u32,
+    start: u64,
+    blocks: u64,
+    entries: u64,
 }
 
 impl FileBuilder {
     /// A file of no entries so far, which may have at most `limit` bytes.
-    pub(crate) fn new(alloc: Global, limit: u32) -> Result<FileBuilder, Refusal>
+    pub(crate) fn new(alloc: Global, limit: u64) -> Result<FileBuilder, Refusal>
         requires { 8 ≤ limit }
         ensures sound { IfOk result (λ builder. IsSound (state_of builder)) }
         ensures limit { IfOk result (λ builder. builder.limit ≡ limit) }
         ensures built { IfOk result (λ builder. IsBuilt (state_of builder) []) }
         ensures memory { IsOkUnless result Refusal.NoMemory }
     {
-        let out = Vec::from_slice(alloc, b"TABLET01")?;
+        let out = Vec::from_slice(alloc, b"TABLET02")?;
         Ok(FileBuilder {
             limit,
             out,
@@ -118,26 +140,25 @@ impl FileBuilder {
 
     /// Begins a block with an entry of this text.
     fn open_block(&mut self, text: &[u8]) -> Result<(), Refusal>
-        requires { length self.old.out.items < 2 ^ 32 }
         ensures ok { OnOk result (state_of self.new ≡ opened (state_of self.old) text.now) }
         ensures memory { IsOkUnless result Refusal.NoMemory }
     {
         self.first.clear();
         self.first.extend_from_slice(text)?;
-        self.start = self.out.len() as u32;
+        self.start = self.out.len() as u64;
         Ok(())
     }
 
     /// Ends the open block.
     fn close_block(&mut self) -> Result<(), Refusal>
         requires sound { IsSound (state_of self.old) }
-        requires counted { self.old.blocks < 2 ^ 32 - 1 }
+        requires counted { self.old.blocks < 2 ^ 64 - 1 }
         ensures ok { OnOk result (state_of self.new ≡ closed (state_of self.old)) }
         ensures memory { IsOkUnless result Refusal.NoMemory }
     {
-        let len = self.out.len() as u32 - self.start;
-        push_number(&mut self.rows, self.start)?;
-        push_number(&mut self.rows, len)?;
+        let len = self.out.len() as u64 - self.start;
+        push_number(&mut self.rows, Format::Two, self.start)?;
+        push_number(&mut self.rows, Format::Two, len)?;
         push_field(&mut self.rows, &self.first)?;
         self.blocks += 1;
         Ok(())
@@ -157,6 +178,7 @@ impl FileBuilder {
     fn make_room(&mut self, entry: EntryRef<'_>) -> Result<(), Refusal>
         requires sound { IsSound (state_of self.old) }
         requires small { length self.old.out.items + entry_len (lent_entry entry) ≤ self.old.limit }
+        requires short { entry_len (lent_entry entry) < 2 ^ 32 }
         ensures room { OnOk result (HasMadeRoom
             (state_of self.old) (lent_entry entry.entry) (state_of self.new)) }
         ensures memory { IsOkUnless result Refusal.NoMemory }
@@ -171,7 +193,8 @@ impl FileBuilder {
         self.open_block(entry.key)
     }
 
-    /// Adds an entry. Refused FileTooLarge where the bytes so far have no room for it, and NoMemory.
+    /// Adds an entry. Refused FileTooLarge if it doesn't fit behind the bytes so far, or its lengths don't fit four
+    /// bytes, and NoMemory.
     pub(crate) fn push(&mut self, entry: EntryRef<'_>) -> Result<(), Refusal>
         requires { IsSound (state_of self.old) }
         ensures sound { OnOk result (IsSound (state_of self.new)) }
@@ -179,11 +202,13 @@ impl FileBuilder {
         ensures built { OnOk result ((es : List Entry) → IsBuilt (state_of self.old) es
             → IsBuilt (state_of self.new) (es ++ lent_entry entry.entry ∷ [])) }
         ensures large { IsErrOf result Refusal.FileTooLarge
-            → self.old.limit < length self.old.out.items + entry_len (lent_entry entry.entry) }
+            → (self.old.limit < length self.old.out.items + entry_len (lent_entry entry.entry))
+            ⊎ (2 ^ 32 ≤ entry_len (lent_entry entry.entry)) }
         ensures refusal { IfErr result (λ refusal. (refusal ≡ Refusal.FileTooLarge)
             ⊎ (refusal ≡ Refusal.NoMemory)) }
     {
-        if self.out.len() as u128 + spelled_len(entry) > self.limit as u128 {
+        let len = spelled_len(entry);
+        if self.out.len() as u128 + len > self.limit as u128 || len > u32::MAX as u128 {
             return Err(Refusal::FileTooLarge);
         }
         self.make_room(entry)?;
@@ -211,7 +236,7 @@ impl FileBuilder {
     pub(crate) fn finish(mut self) -> Result<Vec<u8>, Refusal>
         requires { IsSound (state_of self) }
         ensures file { IfOk result (λ image. (es : List Entry) → IsBuilt (state_of self) es
-            → IsFile es image.items) }
+            → IsFile Format.Two es image.items) }
         ensures within { IfOk result (λ image. length image.items ≤ self.limit) }
         ensures large { IsErrOf result Refusal.FileTooLarge
             → (es : List Entry) → IsBuilt (state_of self) es → ¬ FitsIn self.limit es }
@@ -241,13 +266,22 @@ impl FileBuilder {
             blocks,
             entries,
         } = self;
-        let size = out.len() as u128 + rows.len() as u128 + 24;
+        let foot_len = Format::Two.foot_len();
+        let size = out.len() as u128 + rows.len() as u128 + foot_len as u128;
         if size > limit as u128 {
             return Err(Refusal::FileTooLarge);
         }
-        let index_at = out.len() as u32;
+        let index_at = out.len() as u64;
+        out.reserve_exact(rows.len() + foot_len as usize)?;
         out.extend_from_slice(&rows)?;
-        push_foot(&mut out, index_at, blocks, entries, size as u32)?;
+        push_foot(
+            &mut out,
+            Format::Two,
+            index_at,
+            blocks,
+            entries,
+            size as u64,
+        )?;
         Ok(out)
     }
 }

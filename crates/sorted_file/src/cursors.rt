@@ -83,7 +83,7 @@ impl<'a> FileCursor<'a> {
         ensures same { F.contents files.new ≡ F.contents files.old }
         ensures reason { HasReason (F.faults files.old) (F.faults files.new) result }
     {
-        let block = read_part(self.alloc, self.name, row.offset, row.length, files)?;
+        let block = read_part(self.alloc, self.name, row.offset, row.length as u64, files)?;
         let Some(rest) = bytes_from(&block, self.from) else {
             return Err(Refusal::Damaged);
         };

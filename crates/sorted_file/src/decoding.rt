@@ -2,16 +2,18 @@
 
 ghost use Rattle.std.specs.Prelude.{◌≡◌, ◌≢◌, ◌≤◌, ◌<◌, ◌+◌, ◌^◌, ◌++◌, ℕ, List, length, take, flat_map, IfOk, IfErr, IfSome, IfNone, IsTrue, ◌↔◌};
 ghost use Rattle.std.specs.List.{AllByRecursion};
-ghost use Rattle.std.specs.Int.{w32, to_be_bytes};
+ghost use Rattle.std.specs.Int.{w32, w64, to_be_bytes};
 ghost use Rattle.cell_key.specs.Entries.{Entry, IsEntry, lent_entry, spelled, field};
+ghost use Rattle.sorted_file.specs.Grammar.{most, number_bytes, number_len};
 ghost use Rattle.sorted_file.specs.Kept.{kept};
 
 use crate::entries::{FileEntry, checked};
+use crate::formats::Format;
 use cell_key::{EntryRef, Refusal};
 use std::alloc::Global;
 
 /// The number of four bytes at the front, and what follows.
-pub(crate) fn read_number(bytes: &[u8]) -> Option<(u32, &[u8])>
+fn read_short(bytes: &[u8]) -> Option<(u32, &[u8])>
     ensures found { IfSome result (λ p. bytes.now ≡ to_be_bytes w32 p.0 ++ p.1.now) }
     ensures fits { IfSome result (λ p. p.0 < 2 ^ 32) }
     ensures none { IfNone result (length bytes.now < 4) }
@@ -26,13 +28,47 @@ pub(crate) fn read_number(bytes: &[u8]) -> Option<(u32, &[u8])>
     ))
 }
 
+/// The number of eight bytes at the front, and what follows.
+fn read_long(bytes: &[u8]) -> Option<(u64, &[u8])>
+    ensures found { IfSome result (λ p. bytes.now ≡ to_be_bytes w64 p.0 ++ p.1.now) }
+    ensures fits { IfSome result (λ p. p.0 < 2 ^ 64) }
+    ensures none { IfNone result (length bytes.now < 8) }
+{
+    if bytes.len() < 8 {
+        return None;
+    }
+    let (number, rest) = bytes.split_at(8);
+    Some((
+        u64::from_be_bytes([
+            number[0], number[1], number[2], number[3], number[4], number[5], number[6], number[7],
+        ]),
+        rest,
+    ))
+}
+
+/// The number of an index or of a foot at the front, and what follows.
+pub(crate) fn read_number(format: Format, bytes: &[u8]) -> Option<(u64, &[u8])>
+    ensures found { IfSome result (λ p. bytes.now ≡ number_bytes format p.0 ++ p.1.now) }
+    ensures fits { IfSome result (λ p. p.0 < most format) }
+    ensures none { IfNone result (length bytes.now < number_len format) }
+{
+    match format {
+        Format::One => match read_short(bytes) {
+            Some((number, rest)) => Some((number as u64, rest)),
+            None => None,
+        },
+        Format::Two => read_long(bytes),
+    }
+}
+
 /// The length and as many bytes at the front, and what follows.
 pub(crate) fn read_field(bytes: &[u8]) -> Option<(&[u8], &[u8])>
     ensures found { IfSome result (λ p. bytes.now ≡ field p.0.now ++ p.1.now) }
+    ensures short { IfSome result (λ p. length p.0.now < 2 ^ 32) }
     ensures none { IfNone result ((part rest : List ℕ) → length part < 2 ^ 32
         → bytes.now ≢ field part ++ rest) }
 {
-    let (len, rest) = read_number(bytes)?;
+    let (len, rest) = read_short(bytes)?;
     if rest.len() < len as usize {
         return None;
     }

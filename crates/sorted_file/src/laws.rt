@@ -1,15 +1,15 @@
-//! Laws of the form of files, of files that are open, and of sources. Each is the contract of a function that does nothing.
+//! Laws of the form of files, of open files, and of sources. Each is the contract of a function that does nothing.
 
 ghost use Rattle.sorted_file.specs.Grammar.{OneImage, OneList};
 ghost use Rattle.sorted_file.specs.Sources.{RestIsList};
 ghost use Rattle.sorted_file.specs.Opened.{StaysOpen, OneListing, OpenIsThere, WrittenIsThere, WrittenIsListed};
 
-/// One list of entries has one image.
+/// One list of entries has one image a format.
 pub fn one_image()
     ensures { OneImage }
 {}
 
-/// An image is that of one list of entries.
+/// An image is that of one list of entries, in one format.
 pub fn one_list()
     ensures { OneList }
 {}

@@ -7,6 +7,7 @@ mod cache;
 mod cursors;
 mod decoding;
 mod entries;
+mod formats;
 mod laws;
 mod newest;
 mod opened;

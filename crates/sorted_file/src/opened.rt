@@ -40,14 +40,14 @@ pub struct SortedFile {
     /// How many blocks have no value before the next one that has, from each block on.
     skips: Vec<usize>,
     /// How many entries there are.
-    count: u32,
+    count: u64,
     spans: Spans,
     /// The blocks that were looked into last, by their numbers.
     cache: LruCache<usize, Block>,
 }
 
-/// What a block has at a text: a value, `Some(None)` where it is an erasure, `None` where it has no entry. Refused NoMemory,
-/// and Damaged where the value is too long.
+/// What a block has at a text: a value, `Some(None)` if it is an erasure, `None` if it has no entry. Refused NoMemory,
+/// and Damaged if the value is too long.
 fn value_at(alloc: Global, block: &Block, text: &[u8]) -> Result<Option<Option<Vec<u8>>>, Refusal>
     ensures found { IfOk result (λ found. (es : List Entry) → IsParsed es block.now
         → option_map value_bytes found ≡ entry_of_key es text.now) }
@@ -227,7 +227,7 @@ impl SortedFile {
         ensures reason { HasReason (F.faults files.old) (F.faults files.new) result }
     {
         let row = &self.rows[number];
-        let bytes = read_part(self.alloc, self.name, row.offset, row.length, files)?;
+        let bytes = read_part(self.alloc, self.name, row.offset, row.length as u64, files)?;
         let Some(block) = Block::parse(self.alloc, bytes)? else {
             return Err(Refusal::Damaged);
         };
@@ -283,7 +283,7 @@ impl SortedFile {
         Ok(Some(stamp))
     }
 
-    /// The text of the first value of a block at a text that isn't below this one. Refused Damaged where the block isn't
+    /// The text of the first value of a block at a text that isn't below this one. Refused Damaged if the block isn't
     /// there, Device and NoMemory.
     fn text_in<F: Files>(
         &mut self,
@@ -365,7 +365,7 @@ impl SortedFile {
         }
     }
 
-    /// Whether there is a block before a place, and it may have a value of the key's column from the stamp up to the key's.
+    /// Whether there is a block before a place that may have a value of the key's column from the stamp up to the key's.
     fn may_have_before(&self, place: usize, key: &CellKey, lo: Stamp) -> bool
         requires { place ≤ length self.now.rows.items }
         ensures there { result ≡ true → 0 < place }

@@ -5,7 +5,7 @@ ghost use Rattle.file_store.specs.Store.{part};
 ghost use Rattle.cell_key.specs.Entries.{Entry, IsEntryList, IsRising};
 ghost use Rattle.cell_key.specs.Faults.{HasReason};
 ghost use Rattle.sorted_file.specs.Blocks.{blocks_of, entries_in, head_in, AreRows, IsBlock, IsFollowed, IsNext, IsNoFile, IsOpening, IsReading, IsWhole, Tells};
-ghost use Rattle.sorted_file.specs.Grammar.{block_bytes, Fits, foot};
+ghost use Rattle.sorted_file.specs.Grammar.{block_bytes, foot, foot_len, most, Fits};
 ghost use Rattle.sorted_file.specs.Kept.{file_entry, kept};
 ghost use Rattle.sorted_file.specs.Opened.{HasFile};
 ghost use Rattle.sorted_file.specs.Sources.{IsReadRefusal};
@@ -14,30 +14,35 @@ use crate::blocks::{BlockRow, RowRef, read_block, read_row};
 use crate::building::{BLOCK_LIMIT, push_foot, spelled_len};
 use crate::decoding::is_same;
 use crate::entries::{FileEntry, is_below};
-use crate::parts::{HEAD, file_size, read_frame, read_part};
+use crate::formats::Format;
+use crate::parts::{HEAD, file_size, read_format, read_frame, read_part};
 use crate::spans::{Spans, spans_of};
 use cell_key::Refusal;
 use file_store::Files;
 use std::alloc::Global;
 use std::snapshot::Snapshot;
 
+/// The most bytes of a block: those of an entry whose text and value are the longest.
+const LONGEST_BLOCK: u64 = 73_628;
+
 /// A file that is being opened: the blocks that were read so far.
 #[derive(Drop)]
 pub(crate) struct Opening {
     alloc: Global,
     name: u64,
-    size: u32,
+    format: Format,
+    size: u64,
     pub(crate) rows: Vec<BlockRow>,
     /// The text of the first value of each block, or an erasure for one that has none.
     pub(crate) heads: Vec<FileEntry>,
     /// Where the values are.
     pub(crate) spans: Spans,
     /// How many entries there are.
-    pub(crate) count: u32,
+    pub(crate) count: u64,
     /// The entries of the last block.
     last: Vec<FileEntry>,
     /// Where the next block begins.
-    end: u32,
+    end: u64,
 }
 
 /// The text of the first value of a block, or an erasure at its first text where it has none.
@@ -88,17 +93,20 @@ fn is_followed(rows: &[BlockRow], block: &[FileEntry]) -> bool
 }
 
 impl Opening {
-    /// No block of a file yet, which has so many bytes.
-    fn new(alloc: Global, name: u64, size: u32) -> Opening
-        requires { 32 ≤ size }
+    /// A file of this format and size, no block of which was read yet.
+    fn new(alloc: Global, name: u64, format: Format, size: u64) -> Opening
+        requires least { 8 + foot_len format ≤ size }
+        requires most { size < most format }
         ensures opening { IsOpening result }
         ensures name { result.name ≡ name }
+        ensures format { result.format ≡ format }
         ensures size { result.size ≡ size }
         ensures rows { result.rows.items ≡ [] }
     {
         Opening {
             alloc,
             name,
+            format,
             size,
             rows: Vec::new(alloc),
             heads: Vec::new(alloc),
@@ -133,7 +141,7 @@ impl Opening {
         ensures same { F.contents files.new ≡ F.contents files.old }
         ensures reason { HasReason (F.faults files.old) (F.faults files.new) result }
     {
-        if row.length > self.size - self.end {
+        if row.length > self.size - self.end || row.length > LONGEST_BLOCK {
             return Err(Refusal::Damaged);
         }
         let bytes = read_part(self.alloc, self.name, self.end, row.length, files)?;
@@ -179,6 +187,7 @@ impl Opening {
         requires within { self.old.end + row.length ≤ self.old.size }
         ensures opening { OnOk result (IsOpening self.new) }
         ensures name { self.new.name ≡ self.old.name }
+        ensures format { self.new.format ≡ self.old.format }
         ensures size { self.new.size ≡ self.old.size }
         ensures rows { OnOk result (blocks_of self.new.rows.items
             ≡ blocks_of self.old.rows.items ++ kept block.items ∷ []) }
@@ -190,14 +199,14 @@ impl Opening {
         let was = Snapshot::of(&block);
         self.rows.push(BlockRow {
             offset: row.offset,
-            length: row.length,
+            length: row.length as u32,
             first,
             spans,
             was,
         })?;
         self.heads.push(head)?;
         self.spans = self.spans.joined(spans);
-        self.count += block.len() as u32;
+        self.count += block.len() as u64;
         self.last = block;
         self.end += row.length;
         Ok(())
@@ -223,7 +232,7 @@ impl Opening {
         ensures same { F.contents files.new ≡ F.contents files.old }
         ensures reason { HasReason (F.faults files.old) (F.faults files.new) result }
     {
-        let Some((row, rest)) = read_row(left) else {
+        let Some((row, rest)) = read_row(self.format, left) else {
             return Err(Refusal::Damaged);
         };
         let block = self.next_block(row, files)?;
@@ -259,15 +268,16 @@ impl Opening {
     /// Whether the foot is that of a file of these blocks. Refused NoMemory.
     fn has_foot(&self, end: &[u8]) -> Result<bool, Refusal>
         requires { IsOpening self.now }
-        ensures exact { IfOk result (λ is. IsTrue is ↔ (end.now ≡ foot self.now.end
+        ensures exact { IfOk result (λ is. IsTrue is ↔ (end.now ≡ foot self.now.format self.now.end
             (length self.now.rows.items) self.now.count self.now.size)) }
         ensures refusal { IfErr result (λ refusal. refusal ≡ Refusal.NoMemory) }
     {
         let mut foot = Vec::new(self.alloc);
         push_foot(
             &mut foot,
+            self.format,
             self.end,
-            self.rows.len() as u32,
+            self.rows.len() as u64,
             self.count,
             self.size,
         )?;
@@ -291,8 +301,9 @@ pub(crate) fn read_file<F: Files>(
     ensures reason { HasReason (F.faults files.old) (F.faults files.new) result }
 {
     let size = file_size(name, files)?;
-    let (index, end) = read_frame(alloc, name, size, files)?;
-    let mut opening = Opening::new(alloc, name, size);
+    let format = read_format(alloc, name, size, files)?;
+    let (index, end) = read_frame(alloc, name, format, size, files)?;
+    let mut opening = Opening::new(alloc, name, format, size);
     opening.read_blocks(&index, files)?;
     if !opening.has_foot(&end)? {
         return Err(Refusal::Damaged);

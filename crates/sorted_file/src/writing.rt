@@ -7,6 +7,7 @@ ghost use Rattle.sorted_file.specs.Sources.{IsWriteRefusal};
 ghost use Rattle.cell_key.specs.Faults.{HasReason};
 
 use crate::building::FileBuilder;
+use crate::formats::Format;
 use crate::sources::{Source, refusal_of};
 use cell_key::Refusal;
 use file_store::Files;
@@ -16,12 +17,12 @@ use std::alloc::Global;
 fn image_of_rest<F: Files, S: Source<F>>(
     alloc: Global,
     source: &mut S,
-    limit: u32,
+    limit: u64,
     files: &mut F,
 ) -> Result<Vec<u8>, Refusal>
     requires { 8 ≤ limit }
     ensures file { IfOk result (λ image. S.holds (F.contents files.old) source.old
-        → IsFile (S.remaining (F.contents files.old) source.old) image.items) }
+        → IsFile Format.Two (S.remaining (F.contents files.old) source.old) image.items) }
     ensures within { IfOk result (λ image. length image.items ≤ limit) }
     ensures large { IsErrOf result Refusal.FileTooLarge → S.holds (F.contents files.old) source.old
         → ¬ FitsIn limit (S.remaining (F.contents files.old) source.old) }
@@ -40,21 +41,21 @@ fn image_of_rest<F: Files, S: Source<F>>(
 }
 
 /// Makes or replaces a file.
-fn put<F: Files>(files: &mut F, name: u64, bytes: &[u8]) -> Result<(), Refusal>
+fn put<F: Files>(files: &mut F, name: u64, bytes: Vec<u8>) -> Result<(), Refusal>
     ensures ok { OnOk result (F.contents files.new
-        ≡ with_file name bytes.now (F.contents files.old)) }
+        ≡ with_file name bytes.items (F.contents files.old)) }
     ensures err { OnErr result (KeepsOthers name (F.contents files.old) (F.contents files.new)) }
     ensures refusal { IfErr result (λ refusal. (refusal ≡ Refusal.Device)
         ⊎ (refusal ≡ Refusal.NoMemory)) }
     ensures reason { HasReason (F.faults files.old) (F.faults files.new) result }
 {
-    match files.put(name, bytes) {
+    match files.put_owned(name, bytes) {
         Ok(()) => Ok(()),
         Err(fault) => Err(refusal_of(fault)),
     }
 }
 
-/// Writes the entries that remain in a source as a file (Bigtable, the SSTable), which replaces a file of
+/// Writes the entries that remain in a source as a file of format 2 (Bigtable, the SSTable), which replaces a file of
 /// this name. Refused FileTooLarge where the file would have more than `file_limit` bytes, Damaged where
 /// the source is, and Device and NoMemory. Until the whole file is in memory no file is changed; after an
 /// `Err` of the write itself the bytes under this name are open. All other files stay as they are.
@@ -65,12 +66,12 @@ pub fn write_file<F: Files, S: Source<F>>(
     file_limit: u64,
     files: &mut F,
 ) -> Result<(), Refusal>
-    requires least { 32 ≤ file_limit }
-    requires most { file_limit ≤ 1_073_741_824 }
+    requires least { 48 ≤ file_limit }
+    requires most { file_limit ≤ 68_719_476_736 }
     ensures written { OnOk result ((image : List ℕ)
         × ((F.contents files.new ≡ with_file name image (F.contents files.old))
         × (length image ≤ file_limit) × (S.holds (F.contents files.old) source.old
-        → IsFile (S.remaining (F.contents files.old) source.old) image))) }
+        → IsFile Format.Two (S.remaining (F.contents files.old) source.old) image))) }
     ensures large { IsErrOf result Refusal.FileTooLarge → S.holds (F.contents files.old) source.old
         → ¬ FitsIn file_limit (S.remaining (F.contents files.old) source.old) }
     ensures damaged { IsErrOf result Refusal.Damaged → ¬ S.holds (F.contents files.old) source.old }
@@ -82,6 +83,6 @@ pub fn write_file<F: Files, S: Source<F>>(
     ensures refusal { IfErr result IsWriteRefusal }
     ensures reason { HasReason (F.faults files.old) (F.faults files.new) result }
 {
-    let image = image_of_rest(alloc, source, file_limit as u32, files)?;
-    put(files, name, &image)
+    let image = image_of_rest(alloc, source, file_limit, files)?;
+    put(files, name, image)
 }

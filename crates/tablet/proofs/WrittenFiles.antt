@@ -10,6 +10,7 @@ use Rattle.cell_key.specs.Entries.{Entry, IsEntryList}
 use Rattle.cell_key.specs.declared.refusals.Refusal.{Refusal}
 use Rattle.file_store.specs.Store.{Contents, KeepsOthers, with_file}
 use Rattle.sorted_file.specs.Grammar.{FitsIn, IsFile}
+use Rattle.sorted_file.specs.declared.formats.Format.TheVariants.{Two}
 use Rattle.sorted_file.specs.Opened.{HasFile, IsOpen, WrittenIsListed, WrittenIsThere, listed, name_of}
 use Rattle.sorted_file.specs.Sources.{pending}
 use Rattle.sorted_file.specs.declared.opened.SortedFile.{SortedFile}
@@ -46,12 +47,12 @@ others_kept (Some m) new name image e = subst (λ (o : Option Contents). KeepsOt
 
 -- what was written of sources, where they stand for their lists
 abbrev pub IsWritten : Option Contents → Option Contents → ℕ → ℕ → (Option Contents → Type 0) → (Option Contents → List Entry) → Type 0
-IsWritten old new name limit at_start es = (image : List ℕ) × ((new ≡ with_file name image old) × (length image ≤ limit) × (at_start old → IsFile (es old) image))
+IsWritten old new name limit at_start es = (image : List ℕ) × ((new ≡ with_file name image old) × (length image ≤ limit) × (at_start old → IsFile Two (es old) image))
 
-opens_it : WrittenIsListed → (m : Contents) (name : ℕ) (image : List ℕ) (es : List Entry) (file : SortedFile) → IsFile es image → name_of file ≡ name → IsOpen (insert m name image) file → IsNewFile (insert m name image) file es
+opens_it : WrittenIsListed → (m : Contents) (name : ℕ) (image : List ℕ) (es : List Entry) (file : SortedFile) → IsFile Two es image → name_of file ≡ name → IsOpen (insert m name image) file → IsNewFile (insert m name image) file es
 opens_it law m name image es file form named read = record {
   opened = read;
-  lists = law (insert m name image) file es image read form (ap (get (insert m name image)) named ∙ get_own m name image);
+  lists = law (insert m name image) file Two es image read form (ap (get (insert m name image)) named ∙ get_own m name image);
 }
 
 pub opened_as_written : WrittenIsListed → (r : Result SortedFile Refusal) (old mid new : Option Contents) (name limit : ℕ) (at_start : Option Contents → Type 0) (es : Option Contents → List Entry) → IsWritten old mid name limit at_start es → new ≡ mid
@@ -73,7 +74,7 @@ pub not_missing : WrittenIsThere → (old mid : Option Contents) (name limit : �
 not_missing law None mid name limit at_start es list w missing = tt
 not_missing law (Some m) mid name limit at_start es list w missing =
     λ start. subst (λ (o : Option Contents). IfSome o (λ n. ¬ (HasFile n name))) w.1.0 missing
-    (law (insert m name w.0) name (es (Some m)) w.0 (list (Some m) start) (w.1.2 start) (get_own m name w.0))
+    (law (insert m name w.0) name Two (es (Some m)) w.0 (list (Some m) start) (w.1.2 start) (get_own m name w.0))
 
 -- sources at their start stand for entry lists
 start_lists : {S : Type 0} (lent : S → Option Entry) (holds : S → Type 0) (remaining : S → List Entry) → ((s : S) → holds s → IsEntryList (pending (lent s) (remaining s))) → (ss : List S) → AreAtStart lent holds ss → AllByRecursion IsEntryList (map remaining ss)

@@ -76,8 +76,8 @@ fn write_new<F: Files, S: Source<F> + Drop>(
     next_name: &mut u64,
     files: &mut F,
 ) -> Result<SortedFile, Refusal>
-    requires least { 32 ≤ file_limit }
-    requires most { file_limit ≤ 1_073_741_824 }
+    requires least { 48 ≤ file_limit }
+    requires most { file_limit ≤ 68_719_476_736 }
     ensures named { IfOk result (λ file. name_of file ≡ next_name.old) }
     ensures made { IfOk result (λ file. IfSome (F.contents files.old) (λ m.
         AreAtStart S.lent (S.holds (Some m)) sources.items → IsSomeAnd (F.contents files.new) (λ n.
@@ -158,8 +158,8 @@ impl Tablet {
         next_name: &mut u64,
         files: &mut F,
     ) -> Result<SortedFile, Refusal>
-        requires least { 32 ≤ file_limit }
-        requires most { file_limit ≤ 1_073_741_824 }
+        requires least { 48 ≤ file_limit }
+        requires most { file_limit ≤ 68_719_476_736 }
         requires within { HasAsMany compaction (length (files_of self.now)) }
         ensures named { IfOk result (λ file. name_of file ≡ next_name.old) }
         ensures made { IfOk result (λ file. IfSome (F.contents files.old) (λ m. Holds m self.now
@@ -214,8 +214,8 @@ impl Tablet {
         next_name: &mut u64,
         files: &mut F,
     ) -> Result<(), Refusal>
-        requires least { 32 ≤ file_limit }
-        requires most { file_limit ≤ 1_073_741_824 }
+        requires least { 48 ≤ file_limit }
+        requires most { file_limit ≤ 68_719_476_736 }
         ensures names { OnOk result (names_of self.new
             ≡ with_name next_name.old (memory_of self.old) (names_of self.old)) }
         ensures memory { OnOk result (memory_of self.new ≡ []) }
@@ -282,8 +282,8 @@ impl Tablet {
         next_name: &mut u64,
         files: &mut F,
     ) -> Result<(), Refusal>
-        requires least { 32 ≤ file_limit }
-        requires most { file_limit ≤ 1_073_741_824 }
+        requires least { 48 ≤ file_limit }
+        requires most { file_limit ≤ 68_719_476_736 }
         ensures names { OnOk result (names_of self.new
             ≡ next_name.old ∷ drop count (names_of self.old)) }
         ensures memory { memory_of self.new ≡ memory_of self.old }
@@ -340,8 +340,8 @@ impl Tablet {
         next_name: &mut u64,
         files: &mut F,
     ) -> Result<(), Refusal>
-        requires least { 32 ≤ file_limit }
-        requires most { file_limit ≤ 1_073_741_824 }
+        requires least { 48 ≤ file_limit }
+        requires most { file_limit ≤ 68_719_476_736 }
         ensures names { OnOk result (names_of self.new ≡ next_name.old ∷ []) }
         ensures memory { OnOk result (memory_of self.new ≡ []) }
         ensures lists { OnOk result (Compacts

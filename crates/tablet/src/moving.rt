@@ -93,8 +93,8 @@ impl Tablet {
         next_name: &mut u64,
         files: &mut F,
     ) -> Result<Vec<u64>, Refusal>
-        requires least { 32 ≤ file_limit }
-        requires most { file_limit ≤ 1_073_741_824 }
+        requires least { 48 ≤ file_limit }
+        requires most { file_limit ≤ 68_719_476_736 }
         ensures listed { IfOk result (λ names. names.items ≡ names_of self.new) }
         ensures names { OnOk result (names_of self.new
             ≡ with_name next_name.old (memory_of self.old) (names_of self.old)) }
@@ -199,8 +199,8 @@ impl Tablet {
         next_name: &mut u64,
         files: &mut F,
     ) -> Result<Tablet, Refusal>
-        requires least { 32 ≤ file_limit }
-        requires most { file_limit ≤ 1_073_741_824 }
+        requires least { 48 ≤ file_limit }
+        requires most { file_limit ≤ 68_719_476_736 }
         ensures left_range { IfOk result (λ left.
             range_of left ≡ record { after = (range_of self.old).after; end = Some row.now }) }
         ensures right_range { OnOk result (range_of self.new

@@ -31,7 +31,7 @@ const NO_MEMORY_LINE: &str = "tabletd: no memory";
 const WAITING: usize = 65_536;
 
 /// The most bytes of a sorted file.
-const FILE_LIMIT: u64 = 1_073_741_824;
+const FILE_LIMIT: u64 = 68_719_476_736;
 
 /// Why the command line can't be read.
 #[derive(Drop)]

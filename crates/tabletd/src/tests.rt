@@ -7,6 +7,7 @@ mod cleaning;
 mod clusters;
 mod collecting;
 mod compactions;
+mod deleting;
 mod edits;
 mod files;
 mod folders;
@@ -16,6 +17,7 @@ mod memory;
 mod memtables;
 mod places;
 mod rows;
+mod script;
 mod slow;
 mod sorted_files;
 mod stamps;
@@ -48,7 +50,7 @@ fn new_server(alloc: Global, file_limit: u64) -> Result<MemServer, Refusal> {
 
 /// The same, whose memtables are compacted at so many entries.
 fn flushing_server(alloc: Global, flush: u32, file_limit: u64) -> Result<MemServer, Refusal> {
-    if flush == 0 || flush > 100_000 || file_limit < 32 || file_limit > FILE_LIMIT {
+    if flush == 0 || flush > 100_000 || file_limit < 48 || file_limit > FILE_LIMIT {
         return Err(Refusal::FileTooLarge);
     }
     let config = Config { flush, file_limit };
@@ -157,6 +159,17 @@ fn cleaners(rt: HostRuntime) -> Result<(), Fail> {
 #[test]
 fn collectors(rt: HostRuntime) -> Result<(), Fail> {
     assert!(rt; are_met(rt.alloc(), &collecting::ROWS)?);
+    Ok(())
+}
+
+/// Rows of deletions: with memtables that stay, and with memtables that are compacted after each reply and files that are
+/// merged at two.
+#[test]
+fn deletions(rt: HostRuntime) -> Result<(), Fail> {
+    for row in deleting::ROWS {
+        assert!(rt; flushing(rt.alloc(), 10_000, None, &row)?);
+        assert!(rt; flushing(rt.alloc(), 1, Some(2), &row)?);
+    }
     Ok(())
 }
 
@@ -312,10 +325,12 @@ fn flushing(alloc: Global, flush: u32, merge: Option<u32>, row: &Row) -> Result<
 }
 
 /// At how many entries memtables are compacted, at how many files these are merged, and the row.
-const COMPACTIONS: [(u32, Option<u32>, Row); 5] = [
+const COMPACTIONS: [(u32, Option<u32>, Row); 7] = [
     (2, None, upkeep::COMPACTED),
     (2, Some(3), upkeep::COMPACTED),
     (2, Some(2), upkeep::MERGED_AT_TWO),
+    (2, None, upkeep::BOTH_COMPACTED),
+    (2, Some(2), upkeep::BOTH_MERGED_AT_TWO),
     (3, Some(2), upkeep::NOT_COMPACTED),
     (10_000, None, upkeep::NOT_COMPACTED),
 ];

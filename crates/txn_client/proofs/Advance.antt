@@ -1,11 +1,11 @@
 -- The machine's steps of a session, where the cell map shows its state.
-use Rattle.std.proofs.Common.{◌≡◌, ℕ, ◌+◌, ◌<◌, ◌≤◌, ◌⊎◌, inl, inr, ◌∷◌, length, None, refl, sym, ap, subst, ◌∙◌, arith}
+use Rattle.std.proofs.Common.{◌≡◌, ℕ, ◌+◌, ◌<◌, ◌≤◌, ◌⊎◌, inl, inr, ◌∷◌, length, None, refl, sym, subst, ◌∙◌, arith}
 use Rattle.std.specs.FinMap.{insert, remove}
 use Rattle.std.proofs.lemmas.Option.{none-some, slice_get_within}
 use Rattle.cell_key.specs.Cells.{Cells}
 use Rattle.cell_key.specs.declared.keys.Qualifier.TheVariants.{Lock}
 use Rattle.si_model.specs.Sets.{◌∈◌, here, there, IsWithout}
-use Rattle.si_model.specs.Machine.{State, Value, Writes, Phase, Open, Holding, Stamped, Finishing, Commit, IsReached, Request, Reply, Advance, Begin, Get, Held, Conflict, Drawn, Committed, Lost, Finished, Begun, Answered, Pending, InPhase, Wrote, Puts, Gives, Names, Marked, IsDead, IsCommitted, CommittedAt, Clashes, HasHeld, IsSnapshot, IsAcceptable, finishing, end_of_stamps}
+use Rattle.si_model.specs.Machine.{State, Change, Writes, Phase, Open, Holding, Stamped, Finishing, Commit, IsReached, Request, Reply, Advance, Begin, Get, Held, Conflict, Drawn, Committed, Lost, Finished, Begun, Answered, Pending, InPhase, Wrote, Puts, Gives, Names, Marked, IsDead, IsCommitted, CommittedAt, Clashes, HasHeld, IsSnapshot, IsAcceptable, finishing, end_of_stamps}
 use Rattle.si_model.specs.declared.replies.Cell.{Cell}
 use Rattle.si_model.specs.Machine as step
 use Rattle.si_model.specs.Machine.{Step, accepts}
@@ -19,11 +19,11 @@ use Rattle.si_model.proofs.Snapshots.{same_commit}
 use Rattle.si_model.proofs.Bounds.{reached_bounds}
 use Rattle.si_model.proofs.Goes.{goes}
 use Rattle.si_model.proofs.Acceptable.{advance_ok}
-use Rattle.si_model.specs.ShowsCells.{at, IsThere, ShowsCells, held_cells, recorded_cells}
-use Rattle.si_model.proofs.ShownKept.{shows_beside, shows_held, shows_recorded}
+use Rattle.si_model.specs.ShowsCells.{at, kind_of_change, HasData, IsThere, ShowsCells, held_cells, recorded_cells}
+use Rattle.si_model.proofs.ShownKept.{mark_data, shows_beside, shows_held, shows_recorded}
 use Rattle.txn_client.specs.Reads.{IsTaken, IsFree}
 
-some_write : (ws : Writes) (k : ℕ) (x : Cell) (v : Value) → Puts ws k x v → 1 ≤ length ws
+some_write : (ws : Writes) (k : ℕ) (x : Cell) (v : Change) → Puts ws k x v → 1 ≤ length ws
 some_write ws k x v puts = let low = slice_get_within ws k (x, v) puts in omega arith
 
 module _ (cells : Cells) (st : State) (reached : IsReached st) (shown : ShowsCells cells st) where
@@ -37,7 +37,7 @@ module _ (cells : Cells) (st : State) (reached : IsReached st) (shown : ShowsCel
       let k = shown.records x c r.0 r.1 in
       let apart = ((reached_sound reached).fair k.commit k.is_in).no_start t ws w in
       let e = k.stamp in
-      inr (k.commit, k.is_in, k.writes, omega arith)
+      inr (k.commit, k.is_in, (k.change, k.gives), omega arith)
 
   unmarked : (x : Cell) (t : ℕ) → IsFree cells x t → (u : ℕ) → ¬ Marked st x u
   unmarked x t free u m =
@@ -49,12 +49,15 @@ module _ (cells : Cells) (st : State) (reached : IsReached st) (shown : ShowsCel
   pub free_open : (x : Cell) (t : ℕ) (p : Phase) → InPhase st t p → IsFree cells x t → ¬ Clashes st x t
   free_open x t p h free (inl m) = unmarked x t free m.0 m.1
   free_open x t p h free (inr (a, i, names, later)) = elim (shown.commits a i x names (unmarked x t free a.start)) [
-    | inl e ↦ let low = ((reached_sound reached).fair a i).low in let top = (reached_bounds reached).top in none-some _ (sym (free.1 a.stamp (omega arith) (omega arith)) ∙ e)
-    | inr (b, j, named, le, cleared) ↦ let floor = (reached_floors reached).above t p h in let below = cleared.0 in absurd (omega arith)
+    | inl old ↦ let low = ((reached_sound reached).fair a i).low in let top = (reached_bounds reached).top in none-some _ (sym (free.1 a.stamp (omega arith) (omega arith)) ∙ old.1)
+    | inr lack ↦ let floor = (reached_floors reached).above t p h in elim lack [
+      | inl (b, j, named, le, cleared) ↦ let below = cleared.0 in absurd (omega arith)
+      | inr f ↦ let below = f.cleared.0 in absurd (omega arith)
+    ]
   ]
 
   -- the clash test holds: the session ends
-  pub conflicts_at : (x : Cell) (v : Value) (t k : ℕ) (ws : Writes) → HasHeld st t k → Wrote st t ws → Puts ws k x v → IsTaken cells x t
+  pub conflicts_at : (x : Cell) (v : Change) (t k : ℕ) (ws : Writes) → HasHeld st t k → Wrote st t ws → Puts ws k x v → IsTaken cells x t
       → Step st (Advance t) (Conflict (k + 1)) (record st { active = remove st.active t }) × ShowsCells cells (record st { active = remove st.active t })
   conflicts_at x v t k ws held w puts taken =
       let hp = held_phase st t k held in
@@ -62,7 +65,7 @@ module _ (cells : Cells) (st : State) (reached : IsReached st) (shown : ShowsCel
       (s, shows_beside cells st (record st { active = remove st.active t }) (goes reached s) shown (λ y u m. m) (λ y u m. m) refl)
 
   -- the cell is free: it is held
-  pub holds_at : (x : Cell) (v : Value) (first : Cell) (w0 : Value) (t k : ℕ) (ws : Writes) → HasHeld st t k → Wrote st t ws → Puts ws k x v → Puts ws 0 first w0 → IsFree cells x t
+  pub holds_at : (x : Cell) (v : Change) (first : Cell) (w0 : Change) (t k : ℕ) (ws : Writes) → HasHeld st t k → Wrote st t ws → Puts ws k x v → Puts ws 0 first w0 → IsFree cells x t
       → Step st (Advance t) (Held (k + 1) (length ws)) (record st { marks = (x, t) ∷ st.marks; active = insert st.active t (Holding (k + 1)) })
       × ShowsCells (held_cells cells x t v first) (record st { marks = (x, t) ∷ st.marks; active = insert st.active t (Holding (k + 1)) })
   holds_at x v first w0 t k ws held w puts puts0 free =
@@ -84,7 +87,7 @@ module _ (cells : Cells) (st : State) (reached : IsReached st) (shown : ShowsCel
       let s = accepts (advance_ok (Holding (length ws)) ws h w fit.0) (step.draws h w (new, limit)) in
       (s, shows_beside cells st (record st { top = c; active = insert st.active t (Stamped c) }) (goes reached s) shown (λ y u m. m) (λ y u m. m) refl)
 
-  module _ (t c : ℕ) (ws : Writes) (x : Cell) (v : Value) (w : Wrote st t ws) (puts : Puts ws 0 x v) (h : InPhase st t (Stamped c)) where
+  module _ (t c : ℕ) (ws : Writes) (x : Cell) (v : Change) (w : Wrote st t ws) (puts : Puts ws 0 x v) (h : InPhase st t (Stamped c)) where
     able : IsAcceptable st (Advance t)
     able = advance_ok (Stamped c) ws h w (some_write ws 0 x v puts)
 
@@ -108,9 +111,9 @@ module _ (cells : Cells) (st : State) (reached : IsReached st) (shown : ShowsCel
     after_commit = record st { commits = commit_of ∷ st.commits; marks = (without st.marks (x, t)).0; active = finishing st.active t c 1 (length ws) }
 
     -- the primary's lock stands: the session commits
-    pub commits_at : IsThere cells x Lock t → (next : State) × Step st (Advance t) (Committed c) next × ShowsCells (recorded_cells cells x t c) next
+    pub commits_at : IsThere cells x Lock t → (next : State) × Step st (Advance t) (Committed c) next × ShowsCells (recorded_cells cells x t c (kind_of_change v)) next
         × (next.begun ≡ st.begun) × (next.active ≡ finishing st.active t c 1 (length ws)) × (next.top ≡ st.top)
-    commits_at lock = (after_commit, s, shows_recorded cells st after_commit (goes reached s) shown x t commit_of marked less here refl (v, (0, puts)) (λ b i. there i) (λ b i. either b i) one_stamp one_start joined, refl, refl, refl)
+    commits_at lock = (after_commit, s, shows_recorded cells st after_commit (goes reached s) shown x t commit_of v marked less here refl later (0, puts) value (λ b i. there i) (λ b i. either b i) one_start joined, refl, refl, refl)
       where
         marked : Marked st x t
         marked = shown.locks x t lock.0 lock.1
@@ -124,11 +127,11 @@ module _ (cells : Cells) (st : State) (reached : IsReached st) (shown : ShowsCel
         either : (b : Commit) → b ∈ (commit_of ∷ st.commits) → (b ∈ st.commits) ⊎ (b ≡ commit_of)
         either b i = each_cons (λ (b : Commit). (b ∈ st.commits) ⊎ (b ≡ commit_of)) (inr refl) (λ b j. inl j) b i
 
-        one_stamp : (b : Commit) → b ∈ (commit_of ∷ st.commits) → b.stamp ≡ c → b.start ≡ t
-        one_stamp b i e = elim (either b i) [
-          | inl j ↦ absurd (((reached_sound reached).drawn t (Stamped c) h c refl).no_commit b j e)
-          | inr f ↦ ap (λ (b : Commit). b.start) f
-        ]
+        later : t < c
+        later = ((reached_sound reached).drawn t (Stamped c) h c refl).later
+
+        value : HasData cells x t v
+        value = mark_data cells st (reached_sound reached) x t (shown.marks x t marked) v (ws, w, (0, puts))
 
         one_start : (b : Commit) → b ∈ (commit_of ∷ st.commits) → b.start ≡ t → b ≡ commit_of
         one_start b i e = elim (either b i) [
@@ -142,7 +145,7 @@ module _ (cells : Cells) (st : State) (reached : IsReached st) (shown : ShowsCel
           | inr f ↦ absurd (left (f names.1.0 y names.0 names.1.1 tt))
         ]
 
-  module _ (t c k : ℕ) (ws : Writes) (x : Cell) (v : Value) (w : Wrote st t ws) (puts : Puts ws k x v) (h : InPhase st t (Finishing c k)) where
+  module _ (t c k : ℕ) (ws : Writes) (x : Cell) (v : Change) (w : Wrote st t ws) (puts : Puts ws k x v) (h : InPhase st t (Finishing c k)) where
     able_on : IsAcceptable st (Advance t)
     able_on = advance_ok (Finishing c k) ws h w (some_write ws k x v puts)
 
@@ -173,9 +176,9 @@ module _ (cells : Cells) (st : State) (reached : IsReached st) (shown : ShowsCel
         s = accepts able_on (step.finishes h w puts less)
 
     -- the cell's lock stands: its record takes its place
-    pub finishes_at : IsThere cells x Lock t → (next : State) × Step st (Advance t) (Finished (k + 1) (length ws)) next × ShowsCells (recorded_cells cells x t c) next
+    pub finishes_at : IsThere cells x Lock t → (next : State) × Step st (Advance t) (Finished (k + 1) (length ws)) next × ShowsCells (recorded_cells cells x t c (kind_of_change v)) next
         × (next.begun ≡ st.begun) × (next.active ≡ finishing st.active t c (k + 1) (length ws)) × (next.top ≡ st.top)
-    finishes_at lock = (after_finish, s, shows_recorded cells st after_finish (goes reached s) shown x t made_of marked (without st.marks (x, t)).1 is_in refl names (λ b i. i) (λ b i. inl i) one_stamp one_start (λ y names left. is_in), refl, refl, refl)
+    finishes_at lock = (after_finish, s, shows_recorded cells st after_finish (goes reached s) shown x t made_of v marked (without st.marks (x, t)).1 is_in refl later gives value (λ b i. i) (λ b i. inl i) one_start (λ y names left. is_in), refl, refl, refl)
       where
         marked : Marked st x t
         marked = shown.locks x t lock.0 lock.1
@@ -186,14 +189,17 @@ module _ (cells : Cells) (st : State) (reached : IsReached st) (shown : ShowsCel
         same : ws ≡ committed.0
         same = same_entry st.begun t ws committed.0 w ((reached_sound reached).fair made_of is_in).wrote
 
-        names : Names committed.0 x
-        names = subst (λ (ws : Writes). Names ws x) same (v, (k, puts))
+        gives : Gives committed.0 x v
+        gives = subst (λ (ws : Writes). Gives ws x v) same (k, puts)
+
+        later : t < c
+        later = made made_of is_in
+
+        value : HasData cells x t v
+        value = mark_data cells st (reached_sound reached) x t (shown.marks x t marked) v (ws, w, (k, puts))
 
         s : Step st (Advance t) (Finished (k + 1) (length ws)) after_finish
         s = accepts able_on (step.finishes h w puts (without st.marks (x, t)).1)
-
-        one_stamp : (b : Commit) → b ∈ st.commits → b.stamp ≡ c → b.start ≡ t
-        one_stamp b i e = (reached_sound reached).stamps_differ b made_of i is_in e
 
         one_start : (b : Commit) → b ∈ st.commits → b.start ≡ t → b ≡ made_of
         one_start b i e = same_commit st.commits (reached_sound reached).starts_differ b made_of i is_in e

@@ -1,5 +1,5 @@
 -- What a step does to the rows, as session and state show it.
-use Rattle.std.proofs.Common.{◌≡◌, ◌∙◌, ℕ, List, [], ◌∷◌, length, Some, refl, inl, inr, sym, subst}
+use Rattle.std.proofs.Common.{◌≡◌, ◌∙◌, ℕ, List, [], ◌∷◌, length, Some, None, refl, inl, inr, sym, subst}
 use Rattle.std.specs.Ordering.{nat_cmp}
 use Rattle.std.specs.BTreeMap as btree
 use Rattle.cell_key.specs.Cells.{Cells, after_edits}
@@ -9,8 +9,8 @@ use Rattle.row_atomic.specs.Clusters.{Storage}
 use Rattle.row_atomic.specs.Room.{HasNoRoom, TakesRoomOf}
 use Rattle.row_atomic.proofs.Calls.{applies_keep, reads_keep, reads_none, such_so}
 use Rattle.si_model.specs.Machine as machine
-use Rattle.si_model.specs.Machine.{State, Value, InPhase, IsReached}
-use Rattle.si_model.specs.ShowsCells.{ShowsCells, Touches, TouchesOneRow, held_cells}
+use Rattle.si_model.specs.Machine.{State, Change, InPhase, IsReached}
+use Rattle.si_model.specs.ShowsCells.{kind_of_change, ShowsCells, Touches, TouchesOneRow, held_cells}
 use Rattle.si_model.specs.declared.replies.Cell.{Cell}
 use Rattle.si_model.specs.declared.replies.Progress.{Progress}
 use Rattle.si_model.specs.declared.replies.Progress.TheVariants as progress
@@ -30,11 +30,14 @@ use Rattle.txn_client.proofs.Table.{shown_some}
 
 -- ---- what the edits of a row transaction make of the cells
 
-pub holding_makes : (cells : Cells) (x first : Cell) (t : ℕ) (v : Value) (edits : List Edit) → IsHolding x t v first edits → after_edits cells edits ≡ held_cells cells x t v first
-holding_makes cells x first t v [] is = absurd is
-holding_makes cells x first t v (a ∷ []) is = absurd is
-holding_makes cells x first t v (a ∷ b ∷ []) (value, lock) = put_so cells a (b ∷ []) _ _ value ∙ put_so _ b [] _ _ lock
-holding_makes cells x first t v (a ∷ b ∷ c ∷ es) is = absurd is
+pub holding_makes : (cells : Cells) (x first : Cell) (t : ℕ) (v : Change) (edits : List Edit) → IsHolding x t v first edits → after_edits cells edits ≡ held_cells cells x t v first
+holding_makes cells x first t (Some v) [] is = absurd is
+holding_makes cells x first t (Some v) (a ∷ []) is = absurd is
+holding_makes cells x first t (Some v) (a ∷ b ∷ []) (value, lock) = put_so cells a (b ∷ []) _ _ value ∙ put_so _ b [] _ _ lock
+holding_makes cells x first t (Some v) (a ∷ b ∷ c ∷ es) is = absurd is
+holding_makes cells x first t None [] is = absurd is
+holding_makes cells x first t None (a ∷ []) lock = put_so cells a [] _ _ lock
+holding_makes cells x first t None (a ∷ b ∷ es) is = absurd is
 
 -- ---- what a step does
 
@@ -124,7 +127,7 @@ module _ (Holds : Type 0) (cells : Cells) (session : Session) where
 
   recording_touches : (k : ℕ) (new : Cells) (row : List ℕ) (edits : List Edit) → RecordsAt Holds cells session k row edits → new ≡ after_edits cells edits → TouchesOneRow cells new session.start session.commit
   recording_touches k new row edits (w, e, at) after =
-      (w.cell.row, subst (λ (cs : Cells). Touches cells cs w.cell.row session.start session.commit) (sym (after ∙ (make_cells cells w.cell session.start edits).recorded session.commit at.2)) (touches_recorded cells w.cell session.start session.commit))
+      (w.cell.row, subst (λ (cs : Cells). Touches cells cs w.cell.row session.start session.commit) (sym (after ∙ (make_cells cells w.cell session.start edits).recorded session.commit (kind_of_change w.value) at.2)) (touches_recorded cells w.cell session.start session.commit (kind_of_change w.value)))
 
   pub edits_touch : (phase : Phase) (new : Cells) (row : List ℕ) (edits : List Edit) → EditsIn phase Holds cells session row edits → new ≡ after_edits cells edits → TouchesBy phase cells new session.start session.commit
   edits_touch Open new = holding_touches 0 new

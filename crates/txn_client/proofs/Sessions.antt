@@ -13,7 +13,7 @@ use Rattle.cell_key.specs.declared.keys.Qualifier.TheVariants.{Lock}
 use Rattle.si_model.specs.Machine as machine
 use Rattle.si_model.specs.Machine.{State, Writes, IsReached, Step, Wrote, Puts, InPhase, HasHeld}
 use Rattle.si_model.specs.declared.replies.Cell.{Cell}
-use Rattle.si_model.specs.ShowsCells.{at, IsThere, ShowsCells, held_cells, recorded_cells}
+use Rattle.si_model.specs.ShowsCells.{at, kind_of_change, IsThere, ShowsCells, held_cells, recorded_cells}
 use Rattle.txn_client.specs.Reads.{IsTaken, IsFree}
 use Rattle.txn_client.specs.Writes.{write_of}
 use Rattle.txn_client.specs.Shows.{phase_of, writes_of, ShowsSession, Advances, HasHeldSo}
@@ -78,7 +78,7 @@ module _ (cells : Cells) (session : Session) (last : ℕ) where
 
   pub advance_committed : (w : Write) (ended : Bool) → session.phase ≡ Stamped → slice_get session.writes 0 ≡ Some w → IsThere cells w.cell Lock session.start
       → ended ≡ nat_eq 1 (length session.writes)
-      → (cells' : Cells) → cells' ≡ recorded_cells cells w.cell session.start session.commit
+      → (cells' : Cells) → cells' ≡ recorded_cells cells w.cell session.start session.commit (kind_of_change w.value)
       → Advances cells session last (record { progress = progress.Committed session.commit; ended = ended }) cells' (record session { phase = Finishing 1 }) last
   advance_committed w ended is e lock end cells' same st reached shown mine low =
       let phase = subst (λ (p : Phase). InPhase st session.start (phase_of p session.commit)) is mine.phase in
@@ -92,7 +92,7 @@ module _ (cells : Cells) (session : Session) (last : ℕ) where
 
   pub advance_finished : (k n : ℕ) (w : Write) (ended : Bool) → session.phase ≡ Finishing k → slice_get session.writes k ≡ Some w
       → n ≡ length session.writes → ended ≡ nat_eq (k + 1) n
-      → (cells' : Cells) → (IsThere cells w.cell Lock session.start × (cells' ≡ recorded_cells cells w.cell session.start session.commit)) ⊎ ((at cells w.cell Lock session.start ≡ None) × (cells' ≡ cells))
+      → (cells' : Cells) → (IsThere cells w.cell Lock session.start × (cells' ≡ recorded_cells cells w.cell session.start session.commit (kind_of_change w.value))) ⊎ ((at cells w.cell Lock session.start ≡ None) × (cells' ≡ cells))
       → Advances cells session last (record { progress = progress.Finished (k + 1) n; ended = ended }) cells' (record session { phase = Finishing (k + 1) }) last
   advance_finished k n w ended is e count end cells' found st reached shown mine low = elim found [
     | inl (lock, same) ↦

@@ -19,15 +19,15 @@ use Rattle.cell_key.specs.declared.refusals.Refusal.TheVariants.{UnknownSession,
 use Rattle.row_atomic.specs.Refusals.{IsReadRefusal}
 use Rattle.si_model.specs.Laws.{FitsPhase}
 use Rattle.si_model.specs.Machine as machine
-use Rattle.si_model.specs.Machine.{State, Request, Step, accepts, refuses, IsReached, IsStorageRefusal, InPhase, Wrote, Names, Sets, Refused}
+use Rattle.si_model.specs.Machine.{State, Change, Reply, Request, Step, accepts, refuses, IsReached, IsStorageRefusal, InPhase, Wrote, Names, Sets, Refused}
 use Rattle.si_model.specs.Replies.{found_reply, progress_reply, result_reply}
 use Rattle.si_model.specs.ShowsCells.{ShowsCells, TouchesOneRow}
 use Rattle.si_model.specs.declared.replies.Cell.{Cell}
 use Rattle.si_model.specs.declared.replies.Found.{Found}
 use Rattle.si_model.specs.declared.replies.Found.TheVariants.{Value, Nothing, Pending}
-use Rattle.si_model.proofs.Acceptable.{begin_ok, set_ok, stop_ok}
+use Rattle.si_model.proofs.Acceptable.{begin_ok, set_ok, delete_ok, stop_ok}
 use Rattle.si_model.proofs.Bounds.{reached_bounds}
-use Rattle.si_model.proofs.FirstRefusals.{begin_full_first, get_unknown_first, get_late_first, get_row_first, get_family_first, set_unknown_first, set_late_first, set_row_first, set_family_first, set_long_first, set_full_first, advance_unknown_first, advance_empty_first, stop_unknown_first}
+use Rattle.si_model.proofs.FirstRefusals.{begin_full_first, get_unknown_first, get_late_first, get_row_first, get_family_first, set_unknown_first, set_late_first, set_row_first, set_family_first, set_long_first, set_full_first, delete_unknown_first, delete_late_first, delete_row_first, delete_family_first, delete_full_first, advance_unknown_first, advance_empty_first, stop_unknown_first}
 use Rattle.si_model.proofs.Goes.{goes}
 use Rattle.si_model.proofs.ShownKept.{shows_beside}
 use Rattle.si_model.proofs.Steps.{reached_sound}
@@ -41,7 +41,7 @@ use Rattle.txn_client.specs.declared.session.Outcome.{Outcome}
 use Rattle.txn_client.specs.declared.session.Phase.{Phase}
 use Rattle.txn_client.specs.declared.session.Phase.TheVariants.{Open, Holding, Stamped, Finishing}
 use Rattle.txn_client.specs.declared.session.Session.{Session}
-use Rattle.txn_client.proofs.ShownReads.{after_read, waits_at, reads_nothing, reads_value, undamaged}
+use Rattle.txn_client.proofs.ShownReads.{after_read, waits_at, reads_nothing, reads_deletion, reads_value, undamaged}
 use Rattle.txn_client.proofs.Refused.{refused_storage, read_storage, advance_storage}
 
 -- what a map holds after one key has changed
@@ -288,7 +288,10 @@ reads_at cells clients last t session x r was is_open row family ok refused st r
 
     by : (r : Result Found Refusal) → IfOk r (IsFound cells x t) → IfErr r IsReadRefusal → (next : State) × Step st (machine.Get t x) (result_reply found_reply r) next × Shows cells clients last next
     by (Ok (Pending u)) found e = (st, waits_at cells st reached shown.store x t u row family phase found.0 found.1, shown)
-    by (Ok Nothing) found e = after None (reads_nothing cells st reached shown.store x t row family phase found.0 found.1)
+    by (Ok Nothing) found e = after None (elim found.1 [
+      | inl none ↦ reads_nothing cells st reached shown.store x t row family phase found.0 none
+      | inr deleted ↦ reads_deletion cells st reached shown.store x t row family phase found.0 deleted
+    ])
     by (Ok (Value v)) found e = after (Some v.items) (reads_value cells st reached shown.store x t v.items row family phase found)
     by (Err f) found e = (st, refused_storage (read_storage f e), shown)
 
@@ -334,6 +337,18 @@ set_refused clients t x v st shown _ u = absurd u.1
 
 pub set_refused_at : (cells : Cells) (clients : Clients) (last t : ℕ) (x : Cell) (v : List ℕ) (e : Refusal) → IsCellRefusal clients t x e → Steps cells clients last (machine.Set t x v) (Refused e) cells clients last
 set_refused_at cells clients last t x v e u = stays cells clients last (machine.Set t x v) e (λ st reached shown. set_refused clients t x v st shown.sessions e u)
+
+-- a Delete is refused before it is buffered
+delete_refused : (clients : Clients) (t : ℕ) (x : Cell) (st : State) → ShowsClients clients st → (e : Refusal) → IsCellRefusal clients t x e → Step st (machine.Delete t x) (Refused e) st
+delete_refused clients t x st shown UnknownSession u = refuses (delete_unknown_first (shown_none clients t st shown u))
+delete_refused clients t x st shown WrongPhase u = refuses (delete_late_first (phase_of u.0.phase u.0.commit) (shown_some clients t st u.0 shown u.1).phase (late_phase u.0.phase u.0.commit u.2))
+delete_refused clients t x st shown BadRow u = refuses (delete_row_first (open_phase clients t st shown u.0) u.1)
+delete_refused clients t x st shown BadColumn u = refuses (delete_family_first (open_phase clients t st shown u.0) u.1.0 u.1.1)
+delete_refused clients t x st shown NoMemory u = refused_storage tt
+delete_refused clients t x st shown _ u = absurd u.1
+
+pub delete_refused_at : (cells : Cells) (clients : Clients) (last t : ℕ) (x : Cell) (e : Refusal) → IsCellRefusal clients t x e → Steps cells clients last (machine.Delete t x) (Refused e) cells clients last
+delete_refused_at cells clients last t x e u = stays cells clients last (machine.Delete t x) e (λ st reached shown. delete_refused clients t x st shown.sessions e u)
 
 -- a Set is refused for its value
 pub set_value_at : (cells : Cells) (clients : Clients) (last t : ℕ) (x : Cell) (v : List ℕ) (e : Refusal) → IsOpenSession clients t → IsRow x.row → IsFamily x.family
@@ -506,10 +521,10 @@ never_draws clients t st none shown (ws, w, h) = none-some _ (sym (shown_none cl
 abbrev given_at : State → ℕ → Session → State
 given_at st t session = record st { begun = finmap.insert st.begun t (writes_of session) }
 
--- a Set: the writes of an open session change
-module _ (cells : Cells) (old new : Clients) (last t : ℕ) (session session' : Session) (x : Cell) (v : List ℕ) (was : btree.get nat_cmp old.sessions t ≡ Some session) (is_open : session.phase ≡ Open)
+-- a Set or a Delete: the writes of an open session change
+module _ (cells : Cells) (old new : Clients) (last t : ℕ) (session session' : Session) (x : Cell) (was : btree.get nat_cmp old.sessions t ≡ Some session) (is_open : session.phase ≡ Open)
     (start : session'.start ≡ session.start) (commit : session'.commit ≡ session.commit) (phase : session'.phase ≡ session.phase)
-    (row : IsRow x.row) (family : IsFamily x.family) (short : length v ≤ 65536) (top : new.top ≡ old.top)
+    (row : IsRow x.row) (family : IsFamily x.family) (top : new.top ≡ old.top)
     (at : (q : ℕ) → btree.get nat_cmp new.sessions q ≡ cond (is_eq (nat_cmp t q)) (Some session') (btree.get nat_cmp old.sessions q))
     (len : btree.btree_map_len new.sessions ≡ btree.btree_map_len old.sessions) where
   open_now : (st : State) → ShowsClients old st → InPhase st t machine.Open
@@ -518,12 +533,13 @@ module _ (cells : Cells) (old new : Clients) (last t : ℕ) (session session' : 
   counts : length (writes_of session) ≡ length session.writes
   counts = length-map session.writes write_of
 
-  sets_ok : Sets x v (writes_of session) (writes_of session') → Names (writes_of session) x ⊎ (length session.writes < 256) → Steps cells old last (machine.Set t x v) machine.SetDone cells new last
-  sets_ok by room st reached shown = (
+  -- the machine takes such a step
+  buffers : (q : Request) (r : Reply) → ((st : State) → Shows cells old last st → Step st q r (given_at st t session')) → Steps cells old last q r cells new last
+  buffers q r steps st reached shown = (
     given_at st t session',
-    s,
+    steps st shown,
     record {
-      store = shows_beside cells st (given_at st t session') (goes reached s) shown.store (λ y u m. m) (λ y u m. m) refl;
+      store = shows_beside cells st (given_at st t session') (goes reached (steps st shown)) shown.store (λ y u m. m) (λ y u m. m) refl;
       sessions = record {
         top = top ∙ shown.sessions.top;
         sessions = shows_changed st (given_at st t session') (btree.get nat_cmp old.sessions) (btree.get nat_cmp new.sessions) t (Some session') at (λ u ne. refl) (λ u ne. get_other st.begun t (writes_of session') u ne) shown.sessions.sessions
@@ -537,20 +553,11 @@ module _ (cells : Cells) (old new : Clients) (last t : ℕ) (session session' : 
       mine : ShowsSession session t st
       mine = shown_some old t st session shown.sessions was
 
-      few : Names (writes_of session) x ⊎ (length (writes_of session) < 256)
-      few = elim room [ inl named ↦ inl named | inr less ↦ inr (omega (arith, counts)) ]
-
-      s : Step st (machine.Set t x v) machine.SetDone (given_at st t session')
-      s = accepts (set_ok (writes_of session) (open_now st shown.sessions) row family short mine.writes few) (machine.sets (open_now st shown.sessions) mine.writes by)
-
-  sets_refused : session'.writes ≡ session.writes → (e : Refusal) → (e ≡ TooManyWrites) ⊎ (e ≡ NoMemory) → (e ≡ TooManyWrites → (256 ≤ length session.writes) × ¬ Names (writes_of session) x)
-      → Steps cells old last (machine.Set t x v) (Refused e) cells new last
-  sets_refused same e which full st reached shown = (
+  -- a refusal leaves the writes
+  keeps : (q : Request) (e : Refusal) → session'.writes ≡ session.writes → ((st : State) → Shows cells old last st → Step st q (Refused e) st) → Steps cells old last q (Refused e) cells new last
+  keeps q e same steps st reached shown = (
     st,
-    elim which [
-      | inl is ↦ let f = full is in subst (λ (g : Refusal). Step st (machine.Set t x v) (Refused g) st) (sym is) (refuses (set_full_first (open_now st shown.sessions) row family short (writes_of session) mine.writes f.1 (let n = f.0 in omega (arith, counts))))
-      | inr is ↦ subst (λ (g : Refusal). Step st (machine.Set t x v) (Refused g) st) (sym is) (refused_storage tt)
-    ],
+    steps st shown,
     record {
       store = shown.store;
       sessions = record {
@@ -566,8 +573,38 @@ module _ (cells : Cells) (old new : Clients) (last t : ℕ) (session session' : 
       mine : ShowsSession session t st
       mine = shown_some old t st session shown.sessions was
 
-  pub sets_at : (r : Result (Unit {0}) Refusal) → OnOk r (Sets x v (writes_of session) (writes_of session')) → OnOk r (Names (writes_of session) x ⊎ (length session.writes < 256)) → OnErr r (session'.writes ≡ session.writes)
+  mine_at : (st : State) → Shows cells old last st → ShowsSession session t st
+  mine_at st shown = shown_some old t st session shown.sessions was
+
+  few : Names (writes_of session) x ⊎ (length session.writes < 256) → Names (writes_of session) x ⊎ (length (writes_of session) < 256)
+  few room = elim room [ inl named ↦ inl named | inr less ↦ inr (omega (arith, counts)) ]
+
+  -- what the call of `set` tells
+  abbrev Told : Change → Result (Unit {0}) Refusal → Type 0
+  Told v r = OnOk r (Sets x v (writes_of session) (writes_of session'))
+
+  pub sets_at : (v : List ℕ) → length v ≤ 65536 → (r : Result (Unit {0}) Refusal) → Told (Some v) r → OnOk r (Names (writes_of session) x ⊎ (length session.writes < 256)) → OnErr r (session'.writes ≡ session.writes)
       → IfErr r (λ e. (e ≡ TooManyWrites) ⊎ (e ≡ NoMemory)) → (IsErrOf r TooManyWrites → (256 ≤ length session.writes) × ¬ Names (writes_of session) x)
       → Steps cells old last (machine.Set t x v) (result_reply (λ _. machine.SetDone) r) cells new last
-  sets_at (Ok u) by room same which full = sets_ok by room
-  sets_at (Err e) by room same which full = sets_refused same e which (λ is. full (ap Err is))
+  sets_at v short (Ok u) by room same which full = buffers (machine.Set t x v) machine.SetDone (λ st shown.
+      let w = (mine_at st shown).writes in
+      accepts (set_ok (writes_of session) (open_now st shown.sessions) row family short w (few room)) (machine.sets (open_now st shown.sessions) w by))
+  sets_at v short (Err e) by room same which full = keeps (machine.Set t x v) e same (λ st shown. elim which [
+    | inl is ↦ let f = full (ap Err is) in
+        subst (λ (g : Refusal). Step st (machine.Set t x v) (Refused g) st) (sym is)
+        (refuses (set_full_first (open_now st shown.sessions) row family short (writes_of session) (mine_at st shown).writes f.1 (let n = f.0 in omega (arith, counts))))
+    | inr is ↦ subst (λ (g : Refusal). Step st (machine.Set t x v) (Refused g) st) (sym is) (refused_storage tt)
+  ])
+
+  pub deletes_at : (r : Result (Unit {0}) Refusal) → Told None r → OnOk r (Names (writes_of session) x ⊎ (length session.writes < 256)) → OnErr r (session'.writes ≡ session.writes)
+      → IfErr r (λ e. (e ≡ TooManyWrites) ⊎ (e ≡ NoMemory)) → (IsErrOf r TooManyWrites → (256 ≤ length session.writes) × ¬ Names (writes_of session) x)
+      → Steps cells old last (machine.Delete t x) (result_reply (λ _. machine.DeleteDone) r) cells new last
+  deletes_at (Ok u) by room same which full = buffers (machine.Delete t x) machine.DeleteDone (λ st shown.
+      let w = (mine_at st shown).writes in
+      accepts (delete_ok (writes_of session) (open_now st shown.sessions) row family w (few room)) (machine.deletes (open_now st shown.sessions) w by))
+  deletes_at (Err e) by room same which full = keeps (machine.Delete t x) e same (λ st shown. elim which [
+    | inl is ↦ let f = full (ap Err is) in
+        subst (λ (g : Refusal). Step st (machine.Delete t x) (Refused g) st) (sym is)
+        (refuses (delete_full_first (open_now st shown.sessions) row family (writes_of session) (mine_at st shown).writes f.1 (let n = f.0 in omega (arith, counts))))
+    | inr is ↦ subst (λ (g : Refusal). Step st (machine.Delete t x) (Refused g) st) (sym is) (refused_storage tt)
+  ])

@@ -5,7 +5,7 @@ use Rattle.std.specs.Option.{option_map}
 use Rattle.std.proofs.lemmas.Bool.{cases_eq}
 use Rattle.std.proofs.lemmas.Option.{none-some, same_Some, slice_get-map, slice_get_within}
 use Rattle.si_model.specs.declared.replies.Cell.{Cell}
-use Rattle.si_model.specs.Machine.{Value, Names, Sets, appends, replaces, passes}
+use Rattle.si_model.specs.Machine.{Change, Names, Sets, appends, replaces, passes}
 use Rattle.txn_client.specs.Writes.{write_of, IsPlaceOf}
 use Rattle.txn_client.specs.declared.writes.Write.{Write}
 
@@ -44,5 +44,5 @@ named_there ws k x (found, before) =
 
 pub unnamed : (ws : List Write) (x : Cell) → IsPlaceOf ws x None → ¬ Names (map write_of ws) x
 unnamed [] x none (v, (k, puts)) = none-some (x, v) puts
-unnamed (u ∷ ws) x none (v, (zero, puts)) = none 0 u refl (ap (λ (p : Cell × Value). p.0) (same_Some (write_of u) (x, v) puts))
+unnamed (u ∷ ws) x none (v, (zero, puts)) = none 0 u refl (ap (λ (p : Cell × Change). p.0) (same_Some (write_of u) (x, v) puts))
 unnamed (u ∷ ws) x none (v, (suc k, puts)) = unnamed ws x (λ j. none (suc j)) (v, (k, puts))

@@ -1,33 +1,45 @@
 -- What a read and a test of a cell find in the cell map.
-use Rattle.std.specs.Prelude.{◌≡◌, ◌≢◌, ⊤, ℕ, ◌≤◌, ◌^◌, ◌-◌, ◌⊎◌, List, length, Some, None}
-use Rattle.byteorder.specs.Endian.{big_number}
+use Rattle.std.specs.Prelude.{◌≡◌, ⊤, ℕ, ◌≤◌, ◌^◌, ◌-◌, ◌⊎◌, List, length, Some, None}
 use Rattle.cell_key.specs.Cells.{Cells}
 use Rattle.cell_key.specs.declared.keys.Qualifier.TheVariants.{Data, Lock, Write}
 use Rattle.si_model.specs.Reads.{IsClear, IsLast}
-use Rattle.si_model.specs.ShowsCells.{at, IsThere}
+use Rattle.si_model.specs.ShowsCells.{NamesWrite, at, IsThere}
+use Rattle.si_model.specs.declared.cells.WriteKind.{WriteKind}
+use Rattle.si_model.specs.declared.cells.WriteKind.TheVariants as write
 use Rattle.si_model.specs.declared.replies.Cell.{Cell}
 use Rattle.si_model.specs.declared.replies.Found.{Found}
 use Rattle.si_model.specs.declared.replies.Found.TheVariants.{Value, Nothing, Pending}
 
--- what a session that began at s finds of x (Percolator, Get)
+-- what a session that began at s finds of x (Percolator, Get): the last record is a set's
 pub record ReadsValue (cells : Cells) (x : Cell) (s : ℕ) (value : List ℕ) : Type 0 where
   pub unlocked : IsClear cells x Lock 0 s
   pub stamp : ℕ
   pub text : List ℕ
   pub is_last : IsLast cells x s stamp text
-  pub eight : length text ≡ 8
-  pub named : at cells x Data (big_number 8 text) ≡ Some value
+  pub start : ℕ
+  pub names : NamesWrite text start write.Set
+  pub data_is : at cells x Data start ≡ Some value
+
+-- the last record is a deletion's
+pub record ReadsDeletion (cells : Cells) (x : Cell) (s : ℕ) : Type 0 where
+  pub stamp : ℕ
+  pub text : List ℕ
+  pub is_last : IsLast cells x s stamp text
+  pub start : ℕ
+  pub names : NamesWrite text start write.Delete
 
 abbrev pub IsFound : Cells → Cell → ℕ → Found → Type 0
 IsFound cells x s (Pending t) = (t ≤ s) × IsThere cells x Lock t
-IsFound cells x s Nothing = IsClear cells x Lock 0 s × IsClear cells x Write 0 s
+IsFound cells x s Nothing =
+    IsClear cells x Lock 0 s × (IsClear cells x Write 0 s ⊎ ReadsDeletion cells x s)
 IsFound cells x s (Value value) = ReadsValue cells x s value.items
 
--- a write record that isn't one, or whose data is missing
+-- a write record that isn't one, or a set's whose data is missing
 abbrev pub IsDamaged : Cells → Cell → ℕ → Type 0
 IsDamaged cells x s =
     (c : ℕ) × (text : List ℕ) × IsLast cells x s c text
-    × ((length text ≢ 8) ⊎ (at cells x Data (big_number 8 text) ≡ None))
+    × (((t : ℕ) (kind : WriteKind) → ¬ NamesWrite text t kind)
+    ⊎ ((t : ℕ) × NamesWrite text t write.Set × (at cells x Data t ≡ None)))
 
 -- a lock of x stands, or a write record at s or later (Percolator, Prewrite)
 abbrev pub IsTaken : Cells → Cell → ℕ → Type 0

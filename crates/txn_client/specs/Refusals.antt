@@ -31,6 +31,15 @@ IsSetRefusal TooManyWrites = ⊤
 IsSetRefusal NoMemory = ⊤
 IsSetRefusal _ = ⊥
 
+abbrev pub IsDeleteRefusal : Refusal → Type 0
+IsDeleteRefusal UnknownSession = ⊤
+IsDeleteRefusal WrongPhase = ⊤
+IsDeleteRefusal BadRow = ⊤
+IsDeleteRefusal BadColumn = ⊤
+IsDeleteRefusal TooManyWrites = ⊤
+IsDeleteRefusal NoMemory = ⊤
+IsDeleteRefusal _ = ⊥
+
 abbrev pub IsStepRefusal : Refusal → Type 0
 IsStepRefusal UnknownSession = ⊤
 IsStepRefusal EmptyCommit = ⊤

@@ -1,5 +1,5 @@
 -- What a step of a session changes in the rows, and what the cells and the room in memory are then.
-use Rattle.std.specs.Prelude.{◌≡◌, ◌⊎◌, ℕ, List, [], ◌∷◌, Some, slice_get, ⊤}
+use Rattle.std.specs.Prelude.{◌≡◌, ◌⊎◌, ℕ, List, [], ◌∷◌, Some, None, slice_get, ⊤}
 use Rattle.std.specs.Ordering.{nat_cmp}
 use Rattle.std.specs.BTreeMap as btree
 use Rattle.cell_key.specs.Cells.{Cells}
@@ -9,9 +9,9 @@ use Rattle.row_atomic.specs.Calls.{AppliesSuch, OnlyReads}
 use Rattle.row_atomic.specs.Clusters.{Storage}
 use Rattle.row_atomic.specs.Room.{AreAfter, TakesNoRoom, TakesRoomOf}
 use Rattle.si_model.specs.Machine as machine
-use Rattle.si_model.specs.Machine.{State, Value, Writes, InPhase, Wrote, Puts, Marked, Clashes}
+use Rattle.si_model.specs.Machine.{State, Change, Writes, InPhase, Wrote, Puts, Marked, Clashes}
 use Rattle.si_model.specs.Edits.{IsPut, IsRecording, RecordsCell}
-use Rattle.si_model.specs.ShowsCells.{key_of, lock_text}
+use Rattle.si_model.specs.ShowsCells.{key_of, kind_of_change, lock_text}
 use Rattle.si_model.specs.declared.replies.Cell.{Cell}
 use Rattle.si_model.specs.declared.replies.Progress.{Progress}
 use Rattle.si_model.specs.declared.replies.Progress.TheVariants as progress
@@ -22,14 +22,19 @@ use Rattle.txn_client.specs.declared.session.Phase.TheVariants.{Open, Holding, S
 use Rattle.txn_client.specs.declared.session.Session.{Session}
 use Rattle.txn_client.specs.declared.writes.Write.{Write as Writing}
 
--- the two edits that hold x for t: its data, and its lock, which names the place of the first cell
-abbrev pub IsHolding : Cell → ℕ → Value → Cell → List Edit → Type 0
-IsHolding x t v first (value ∷ lock ∷ []) =
-    IsPut value (key_of x Data t) v × IsPut lock (key_of x Lock t) (lock_text first)
+-- the lock of t on x, which names the place of the first cell and the kind of the write
+abbrev pub IsLocking : Cell → ℕ → Change → Cell → Edit → Type 0
+IsLocking x t v first lock = IsPut lock (key_of x Lock t) (lock_text first (kind_of_change v))
+
+-- the edits that hold x for t: its data, if it is given a value, and its lock
+abbrev pub IsHolding : Cell → ℕ → Change → Cell → List Edit → Type 0
+IsHolding x t (Some v) first (value ∷ lock ∷ []) =
+    IsPut value (key_of x Data t) v × IsLocking x t (Some v) first lock
+IsHolding x t None first (lock ∷ []) = IsLocking x t None first lock
 IsHolding x t v first edits = ⊥
 
 -- the row and the edits by which t holds x
-abbrev pub HoldsCell : Cell → ℕ → Value → Cell → List ℕ → List Edit → Type 0
+abbrev pub HoldsCell : Cell → ℕ → Change → Cell → List ℕ → List Edit → Type 0
 HoldsCell x t v first row edits = (row ≡ x.row) × IsHolding x t v first edits
 
 -- ---- the edits of a session's next step, as its phase, its commit stamp and its writes name them
@@ -46,7 +51,8 @@ HoldsAt Holds cells session k row edits =
 abbrev pub RecordsAt : Type 0 → Cells → Session → ℕ → List ℕ → List Edit → Type 0
 RecordsAt Holds cells session k row edits =
     (write : Writing) × (slice_get session.writes k ≡ Some write)
-    × RecordsCell Holds cells write.cell session.start session.commit row edits
+    × RecordsCell Holds cells write.cell session.start session.commit
+    (kind_of_change write.value) row edits
 
 abbrev pub EditsIn : Phase → Type 0 → Cells → Session → List ℕ → List Edit → Type 0
 EditsIn Open Holds cells session row edits = HoldsAt Holds cells session 0 row edits
@@ -81,7 +87,7 @@ Does holds cells overfills storage Such p old new = OnlyReads holds cells overfi
 -- the row and the edits by which t holds its cell k, as it does where it may
 abbrev pub HoldsNext : State → Writes → ℕ → ℕ → List ℕ → List Edit → Type 0
 HoldsNext st ws k t row edits =
-    (x first : Cell) × (v u : Value) × Puts ws k x v
+    (x first : Cell) × (v u : Change) × Puts ws k x v
     × Puts ws 0 first u × (¬ Clashes st x t) × (row ≡ x.row) × IsHolding x t v first edits
 
 -- the row and the edits by which t puts the write record of its cell k,
@@ -89,7 +95,8 @@ HoldsNext st ws k t row edits =
 abbrev pub RecordsNext : State → Writes → ℕ → ℕ → ℕ → List ℕ → List Edit → Type 0
 RecordsNext st ws k t c row edits =
     (x : Cell)
-    × (v : Value) × Puts ws k x v × Marked st x t × (row ≡ x.row) × IsRecording x t c edits
+    × (v : Change) × Puts ws k x v × Marked st x t
+    × (row ≡ x.row) × IsRecording x t c (kind_of_change v) edits
 
 -- the row and the edits of the next step of t, in this phase and with these writes;
 -- a step that makes none has none

@@ -1,10 +1,10 @@
 -- The writes of a session, as the machine sees them.
 use Rattle.std.specs.Prelude.{◌≡◌, ◌≢◌, ℕ, ◌<◌, List, Option, Some, None, slice_get}
-use Rattle.si_model.specs.Machine.{Value}
+use Rattle.si_model.specs.Machine.{Change}
 use Rattle.si_model.specs.declared.replies.Cell.{Cell}
 use Rattle.txn_client.specs.declared.writes.Write.{Write}
 
-abbrev pub write_of : Write → Cell × Value
+abbrev pub write_of : Write → Cell × Change
 write_of w = (w.cell, w.value)
 
 -- the place is that of the first write to the cell, or no write is to it

@@ -1,6 +1,6 @@
 //! Reads of a cell, and row transactions on it.
 
-ghost use Rattle.std.specs.Prelude.{◌≡◌, ◌≢◌, ◌<◌, ◌≤◌, ◌^◌, [], ◌∷◌, ℕ, List, length, IfOk, OnOk, OnErr, IfErr, IsErrOf, IfSome, IfNone, OnSome};
+ghost use Rattle.std.specs.Prelude.{◌≡◌, ◌≢◌, ◌<◌, ◌≤◌, ◌^◌, [], ◌∷◌, ℕ, List, length, IfOk, OnOk, OnErr, IfErr, IsErrOf, IfSome, IfNone, OnSome, Some, None};
 ghost use Rattle.std.specs.Bool.{OnTrue, OnFalse};
 ghost use Rattle.std.specs.List.{AllByRecursion};
 ghost use Rattle.cell_key.specs.Cells.{IsEditOf};
@@ -11,6 +11,7 @@ ghost use Rattle.row_atomic.specs.Room.{HasNoRoom};
 ghost use Rattle.si_model.specs.Edits.{RecordsCell};
 ghost use Rattle.si_model.specs.Reads.{IsGone};
 ghost use Rattle.si_model.specs.ShowsCells.{lock_text};
+ghost use Rattle.si_model.specs.declared.cells.WriteKind.TheVariants as kind;
 ghost use Rattle.si_model.specs.declared.replies.Cell.{Cell as CellOf};
 ghost use Rattle.txn_client.specs.Reads.{IsFound, IsShort, IsDamaged, IsTaken, IsFree};
 ghost use Rattle.txn_client.specs.Refusals.{IsRowRefusal};
@@ -19,7 +20,7 @@ ghost use Rattle.txn_client.specs.Room.{HoldsCell, IsHolding};
 use crate::writes::Write;
 use cell_key::{Edit, Moment, Qualifier, Refusal, Stamp};
 use row_atomic::Rows;
-use si_model::{Cell, Found, key, named_start, recording};
+use si_model::{Cell, Found, WriteKind, key, named_write, recording};
 use std::alloc::Global;
 
 /// What a session that began at `start` reads of a cell (Percolator, Get).
@@ -40,12 +41,17 @@ pub(crate) fn read_cell<R: Rows>(rows: &mut R, cell: &Cell, start: Stamp) -> Res
     let Some((_, record)) = last else {
         return Ok(Found::Nothing);
     };
-    let Some(named) = named_start(&record) else {
+    let Some((named, kind)) = named_write(&record) else {
         return Err(Refusal::Damaged);
     };
-    match rows.newest(&cell.row, &cell.family, Qualifier::Data, named, named)? {
-        Some((_, value)) => Ok(Found::Value(value)),
-        None => Err(Refusal::Damaged),
+    match kind {
+        WriteKind::Delete => Ok(Found::Nothing),
+        WriteKind::Set => {
+            match rows.newest(&cell.row, &cell.family, Qualifier::Data, named, named)? {
+                Some((_, value)) => Ok(Found::Value(value)),
+                None => Err(Refusal::Damaged),
+            }
+        }
     }
 }
 
@@ -67,32 +73,81 @@ pub(crate) fn is_taken<R: Rows>(rows: &mut R, cell: &Cell, start: Stamp) -> Resu
     Ok(later.is_some())
 }
 
-/// The two edits that hold a cell.
-fn holding(
+/// The value of a lock: the place of its session's first cell, and the kind of the write.
+fn lock_value(alloc: Global, first: &Cell, kind: WriteKind) -> Result<Vec<u8>, Refusal>
+    ensures text { IfOk result (λ text. text.items ≡ lock_text first.now kind) }
+    ensures short { IfOk result (λ text. length text.items ≤ 65536) }
+    ensures refusal { IfErr result (λ refusal. refusal ≡ Refusal.NoMemory) }
+{
+    let mut text = cell_key::place(alloc, &first.row, &first.family)?;
+    text.push(kind.byte())?;
+    Ok(text)
+}
+
+/// The two edits that hold a cell which is given a value.
+fn setting(
     alloc: Global,
     cell: &Cell,
     start: Stamp,
     value: Vec<u8>,
-    place: Vec<u8>,
+    lock: Vec<u8>,
 ) -> Result<Vec<Edit>, Refusal>
     requires from { 1 ≤ start }
     requires to { start < 2 ^ 63 }
     requires value { length value.items ≤ 65536 }
-    requires place { length place.items ≤ 65536 }
-    ensures holding { IfOk result (λ edits. (first : CellOf) → place.items ≡ lock_text first
-        → IsHolding cell.now start value.items first edits.items) }
+    requires lock { length lock.items ≤ 65536 }
+    ensures holding { IfOk result (λ edits. (first : CellOf)
+        → lock.items ≡ lock_text first kind.Set
+        → IsHolding cell.now start (Some value.items) first edits.items) }
     ensures under { IfOk result (λ edits. AllByRecursion (IsEditOf cell.now.row) edits.items) }
     ensures refusal { IfErr result (λ refusal. refusal ≡ Refusal.NoMemory) }
 {
     let mut edits = Vec::new(alloc);
-    let data = key(cell, Qualifier::Data, start)?;
-    let lock = key(cell, Qualifier::Lock, start)?;
-    edits.push(Edit::Put(data, value))?;
-    edits.push(Edit::Put(lock, place))?;
+    let data_key = key(cell, Qualifier::Data, start)?;
+    let lock_key = key(cell, Qualifier::Lock, start)?;
+    edits.push(Edit::Put(data_key, value))?;
+    edits.push(Edit::Put(lock_key, lock))?;
     Ok(edits)
 }
 
-/// Puts the data and the lock of a cell; the lock names the place of the first cell.
+/// The edit that holds a cell which is deleted: there is no data.
+fn deleting(alloc: Global, cell: &Cell, start: Stamp, lock: Vec<u8>) -> Result<Vec<Edit>, Refusal>
+    requires from { 1 ≤ start }
+    requires to { start < 2 ^ 63 }
+    requires lock { length lock.items ≤ 65536 }
+    ensures holding { IfOk result (λ edits. (first : CellOf)
+        → lock.items ≡ lock_text first kind.Delete
+        → IsHolding cell.now start None first edits.items) }
+    ensures under { IfOk result (λ edits. AllByRecursion (IsEditOf cell.now.row) edits.items) }
+    ensures refusal { IfErr result (λ refusal. refusal ≡ Refusal.NoMemory) }
+{
+    let mut edits = Vec::new(alloc);
+    let lock_key = key(cell, Qualifier::Lock, start)?;
+    edits.push(Edit::Put(lock_key, lock))?;
+    Ok(edits)
+}
+
+/// The edits that hold a cell for a write: its data, if it is given a value, and its lock.
+fn holding(alloc: Global, write: &Write, start: Moment, first: &Cell) -> Result<Vec<Edit>, Refusal>
+    ensures holding { IfOk result (λ edits.
+        IsHolding write.now.cell start write.now.value first.now edits.items) }
+    ensures under { IfOk result (λ edits.
+        AllByRecursion (IsEditOf write.now.cell.row) edits.items) }
+    ensures refusal { IfErr result (λ refusal. refusal ≡ Refusal.NoMemory) }
+{
+    let start = start.stamp();
+    let lock = lock_value(alloc, first, write.kind())?;
+    match &write.value {
+        Some(value) => {
+            let value = value.to_vec()?;
+            setting(alloc, &write.cell, start, value, lock)
+        }
+        None => deleting(alloc, &write.cell, start, lock),
+    }
+}
+
+/// Puts the data and the lock of a cell; the lock names the place of the first cell and the kind of
+/// the write. A cell that is deleted gets no data.
 pub(crate) fn hold<R: Rows>(
     alloc: Global,
     rows: &mut R,
@@ -108,10 +163,7 @@ pub(crate) fn hold<R: Rows>(
         R.overfills rows.old (HoldsCell write.now.cell start write.now.value first.now.cell) }
     ensures untouched { R.faults rows.new ≡ R.faults rows.old }
 {
-    let start = start.stamp();
-    let value = write.value.to_vec()?;
-    let place = cell_key::place(alloc, &first.cell.row, &first.cell.family)?;
-    let edits = holding(alloc, &write.cell, start, value, place)?;
+    let edits = holding(alloc, write, start, &first.cell)?;
     rows.apply(&write.cell.row, edits)?;
     Ok(())
 }
@@ -123,10 +175,11 @@ pub(crate) fn record<R: Rows>(
     cell: &Cell,
     start: Moment,
     commit: Moment,
+    kind: WriteKind,
 ) -> Result<bool, Refusal>
     ensures made { IfOk result (λ stood.
         OnTrue stood (AppliesSuch R.holds R.cells R.overfills R.storage (RecordsCell
-        (R.holds rows.old) (R.cells rows.old) cell.now start commit) rows.old rows.new)) }
+        (R.holds rows.old) (R.cells rows.old) cell.now start commit kind) rows.old rows.new)) }
     ensures gone { R.holds rows.old
         → IfOk result (λ stood. OnFalse stood (IsGone (R.cells rows.old) cell.now start)) }
     ensures left { IfOk result (λ stood.
@@ -135,7 +188,7 @@ pub(crate) fn record<R: Rows>(
     ensures refusal { IfErr result (IsRowRefusal (R.holds rows.old)) }
     ensures full { IsErrOf result Refusal.MemtableFull
         → HasNoRoom R.overfills rows.old
-        (RecordsCell (R.holds rows.old) (R.cells rows.old) cell.now start commit) }
+        (RecordsCell (R.holds rows.old) (R.cells rows.old) cell.now start commit kind) }
     ensures reason { HasReason (R.faults rows.old) (R.faults rows.new) result }
 {
     let stamp = start.stamp();
@@ -143,7 +196,7 @@ pub(crate) fn record<R: Rows>(
     if lock.is_none() {
         return Ok(false);
     }
-    let edits = recording(alloc, cell, start, commit)?;
+    let edits = recording(alloc, cell, start, commit, kind)?;
     rows.apply(&cell.row, edits)?;
     Ok(true)
 }

@@ -17,7 +17,7 @@ ghost use Rattle.si_model.specs.Replies.{found_reply, progress_reply, result_rep
 ghost use Rattle.si_model.specs.ShowsCells.{ShowsCells};
 ghost use Rattle.si_model.specs.Reads.{cell_of};
 ghost use Rattle.txn_client.specs.Reads.{IsShort};
-ghost use Rattle.txn_client.specs.Refusals.{HasOneReason, IsBeginRefusal, IsGetRefusal, IsSetRefusal, IsStepRefusal};
+ghost use Rattle.txn_client.specs.Refusals.{HasOneReason, IsBeginRefusal, IsDeleteRefusal, IsGetRefusal, IsSetRefusal, IsStepRefusal};
 ghost use Rattle.row_atomic.specs.Calls.{KeepsBelow, OnlyReads};
 ghost use Rattle.row_atomic.specs.Room.{HasNoRoom};
 ghost use Rattle.txn_client.specs.Room.{ChangesNext, Does, EditsOfStep, Makes, TakesRoom};
@@ -114,7 +114,7 @@ impl Clients {
             → IsErrOf result Refusal.TooManySessions }
         ensures undrawn { IsErrOf result Refusal.TooManySessions
             ⊎ (IsErrOf result Refusal.Exhausted ⊎ IsErrOf result Refusal.NoMemory)
-            → oracle.new ≡ oracle.old }
+            → (oracle.new ≡ oracle.old) × SameClients self.old self.new }
         ensures exhausted { IsErrOf result Refusal.Exhausted → oracle.old.last ≡ MOST_STAMP }
         ensures reason { HasReason (M.faults oracle.old.marks) (M.faults oracle.new.marks) result }
     {
@@ -248,7 +248,31 @@ impl Clients {
         let cell = self.open_cell(start, row, family)?;
         let value = Value::new(self.alloc, value)?;
         let session = self.sessions.get_mut(&start).unwrap();
-        session.writes.set(Write { cell, value })
+        session.writes.set(Write {
+            cell,
+            value: Some(value),
+        })
+    }
+
+    /// Buffers the deletion of a cell, as `set` buffers a write: one of the same cell keeps its place
+    /// and becomes the deletion.
+    ///
+    /// # Errors
+    ///
+    /// In this order: `UnknownSession`, `WrongPhase` after the session's first step, `BadRow`,
+    /// `BadColumn`, `TooManyWrites` at a 257th cell; `NoMemory`.
+    pub fn delete(&mut self, start: Stamp, row: &[u8], family: &[u8]) -> Result<(), Refusal>
+        ensures step { (cells : Cells) (last : ℕ)
+            → Steps cells self.old last (machine.Delete start (cell_of row.now family.now))
+            (result_reply (λ _. machine.DeleteDone) result) cells self.new last }
+        ensures refusal { IfErr result IsDeleteRefusal }
+        ensures err { OnErr result (SameClients self.old self.new) }
+        ensures unknown { (st : State) → ShowsClients self.old st → IsInactive st start
+            → IsErrOf result Refusal.UnknownSession }
+    {
+        let cell = self.open_cell(start, row, family)?;
+        let session = self.sessions.get_mut(&start).unwrap();
+        session.writes.set(Write { cell, value: None })
     }
 
     /// Takes the next step of a session's commit (Percolator, Prewrite and Commit): it holds the

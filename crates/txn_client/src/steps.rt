@@ -121,7 +121,8 @@ impl Session {
         let Some(first) = self.writes.get(0) else {
             return Err(Refusal::EmptyCommit);
         };
-        if !cells::record(alloc, rows, &first.cell, self.start, self.commit)? {
+        let kind = first.kind();
+        if !cells::record(alloc, rows, &first.cell, self.start, self.commit, kind)? {
             return Ok(Outcome {
                 progress: Progress::Lost,
                 ended: true,
@@ -163,7 +164,8 @@ impl Session {
         let Some(write) = self.writes.get(k) else {
             return Err(Refusal::EmptyCommit);
         };
-        let _stood = cells::record(alloc, rows, &write.cell, self.start, self.commit)?;
+        let kind = write.kind();
+        let _stood = cells::record(alloc, rows, &write.cell, self.start, self.commit, kind)?;
         self.phase = Phase::Finishing(k + 1);
         Ok(Outcome {
             progress: Progress::Finished(k + 1, self.writes.len()),

@@ -2,22 +2,35 @@
 
 ghost use Rattle.std.specs.Prelude.{◌≡◌, ◌↔◌, ◌⊎◌, ◌≤◌, ◌<◌, ℕ, [], map, length, slice_get, Some, IsTrue, IfOk, IfErr, OnOk, OnErr, IsErrOf, IfSome, IfNone, OnSome};
 ghost use Rattle.si_model.specs.Machine.{Names, Sets};
+ghost use Rattle.si_model.specs.ShowsCells.{kind_of_change};
 ghost use Rattle.txn_client.specs.Writes.{IsPlaceOf, write_of};
 
 use crate::limits::Value;
 use cell_key::Refusal;
-use si_model::Cell;
+use si_model::{Cell, WriteKind};
 use std::alloc::Global;
 use std::marker::Model;
 
-/// A value that a session writes to a cell.
+/// What a session writes to a cell: a value, or none where it deletes the cell.
 #[derive(Drop)]
 pub(crate) struct Write {
     pub(crate) cell: Cell,
-    pub(crate) value: Value,
+    pub(crate) value: Option<Value>,
 }
 
-/// The writes of a session, in the order in which their cells were first set: at most 256.
+impl Write {
+    /// The kind of the write.
+    pub(crate) fn kind(&self) -> WriteKind
+        ensures { result ≡ kind_of_change self.now.value }
+    {
+        match self.value {
+            Some(_) => WriteKind::Set,
+            None => WriteKind::Delete,
+        }
+    }
+}
+
+/// The writes of a session, in the order in which their cells were first set or deleted: at most 256.
 #[derive(Drop)]
 pub(crate) struct Writes {
     entries: Vec<Write>,
@@ -83,7 +96,7 @@ impl Writes {
         None
     }
 
-    /// A cell that is there keeps its place and takes the new value; another one comes last.
+    /// A cell that is there keeps its place and takes the new value or deletion; another one comes last.
     pub(crate) fn set(&mut self, write: Write) -> Result<(), Refusal>
         ensures ok { OnOk result (Sets
             write.cell write.value (map write_of self.old) (map write_of self.new)) }

@@ -1,5 +1,5 @@
 -- The edits that erase what was found in a cell, and when nothing is left to erase.
-use Rattle.std.proofs.Common.{Bool, true, false, ◌==◌, IfOk, ◌≡◌, ◌≢◌, ◌∙◌, ◌⊎◌, inl, inr, ℕ, zero, suc, ◌+◌, ◌<◌, ◌≤◌, ◌^◌, List, [], ◌∷◌, ◌++◌, length, take, get_or, Option, Some, None, Result, Ok, Err, IfErr, IsErrOf, append_assoc, add-one, refl, sym, ap, subst, arith}
+use Rattle.std.proofs.Common.{Bool, true, false, ◌==◌, IfOk, ◌≡◌, ◌≢◌, ◌∙◌, ◌⊎◌, inl, inr, ℕ, zero, suc, ◌+◌, ◌<◌, ◌≤◌, ◌^◌, List, [], ◌∷◌, ◌++◌, length, take, get_or, Option, Some, None, Result, Ok, Err, IfErr, append_assoc, add-one, refl, sym, ap, subst, arith}
 use Rattle.std.proofs.Math.Seq.{take-suc}
 use Rattle.std.proofs.lemmas.Bool.{cases_lt, eqb-true}
 use Rattle.std.proofs.lemmas.Bool.Decides.{eqb_tells}
@@ -18,12 +18,16 @@ use Rattle.cell_key.specs.declared.refusals.Refusal.{Refusal}
 use Rattle.cell_key.specs.declared.refusals.Refusal.TheVariants.{Damaged, Device, MemtableFull, NoMemory}
 use Rattle.row_atomic.specs.Refusals.{IsApplyRefusal, IsRefusalOfRead}
 use Rattle.si_model.specs.Collection.{IsNamed, IsTidy}
-use Rattle.si_model.specs.ShowsCells.{NamesCommit, at, key_of, start_text}
+use Rattle.si_model.specs.ShowsCells.{IsRecordText, IsThere, NamesAt, NamesCommit, at, key_of, record_text, start_text}
+use Rattle.si_model.specs.declared.cells.WriteKind.{WriteKind}
+use Rattle.si_model.specs.declared.cells.WriteKind.TheVariants as write
 use Rattle.si_model.specs.declared.replies.Cell.{Cell}
 use Rattle.si_model.proofs.Bounds.{reached_bounds}
-use Rattle.version_collector.specs.Erasing.{ErasesData, ErasesOrIsTidy, ErasesRecords, data_erasures, record_erasures}
+use Rattle.version_collector.specs.Erasing.{Erases, ErasesOrIsTidy, data_erasures, deletion_erasures, record_erasures}
 use Rattle.version_collector.specs.Refusals.{IsVisitRefusal}
-use Rattle.version_collector.specs.Versions.{AreFound, AreShown, AreUnnamed, HasOneRecord}
+use Rattle.version_collector.specs.Versions.{AreFound, AreNear, AreShown, AreUnnamed, HasOneRecord, IsLastDeletion}
+use Rattle.version_collector.specs.declared.versions.NearStarts.{NearStarts}
+use Rattle.version_collector.proofs.Starts.{lone_deletion}
 
 -- ---- edits one after another
 
@@ -80,38 +84,61 @@ same_or_not (x ∷ xs) (y ∷ ys) = elim (eqb_tells x y) [
   | inr other ↦ inr (λ e. other.1 cc)
 ]
 
-is_or_not : (o : Option (List ℕ)) (b : List ℕ) → (o ≡ Some b) ⊎ (o ≢ Some b)
-is_or_not None b = inr (λ e. none-some b e)
-is_or_not (Some a) b = elim (same_or_not a b) [
-  | inl same ↦ inl (ap (λ (bs : List ℕ). Some bs) same)
-  | inr other ↦ inr (λ e. other (same_Some a b e))
+-- a text has the start t, or it hasn't
+names_or_not : (t : ℕ) (b : List ℕ) → ((kind : WriteKind) × IsRecordText t kind b) ⊎ ((kind : WriteKind) → ¬ IsRecordText t kind b)
+names_or_not t b = elim (same_or_not b (record_text t write.Set)) [
+  | inl set ↦ inl (write.Set, inl set)
+  | inr not_set ↦ elim (same_or_not b (record_text t write.Delete)) [
+    | inl deletion ↦ inl (write.Delete, inl deletion)
+    | inr not_deletion ↦ elim (same_or_not b (start_text t)) [
+      | inl older ↦ inl (write.Set, inr (refl, older))
+      | inr not_older ↦ inr (names_not not_set not_deletion not_older)
+    ]
+  ]
+]
+  where
+    names_not : b ≢ record_text t write.Set → b ≢ record_text t write.Delete → b ≢ start_text t → (kind : WriteKind) → ¬ IsRecordText t kind b
+    names_not not_set not_deletion not_older write.Set (inl e) = not_set e
+    names_not not_set not_deletion not_older write.Delete (inl e) = not_deletion e
+    names_not not_set not_deletion not_older kind (inr (is, e)) = not_older e
+
+stands_or_not : (o : Option (List ℕ)) (t : ℕ) → ((b : List ℕ) × (kind : WriteKind) × (o ≡ Some b) × IsRecordText t kind b) ⊎ ((b : List ℕ) (kind : WriteKind) → o ≡ Some b → ¬ IsRecordText t kind b)
+stands_or_not None t = inr (λ b kind e is. none-some b e)
+stands_or_not (Some a) t = elim (names_or_not t a) [
+  | inl named ↦ inl (a, named.0, refl, named.1)
+  | inr not ↦ inr (λ b kind e is. not kind (subst (λ (bs : List ℕ). IsRecordText t kind bs) (sym (same_Some a b e)) is))
 ]
 
 -- a record below a stamp names t, or none does
-named_below : (cells : Cells) (x : Cell) (t n : ℕ) → IsNamed cells x t ⊎ ((c : ℕ) → c < n → at cells x Write c ≢ Some (start_text t))
+named_below : (cells : Cells) (x : Cell) (t n : ℕ) → IsNamed cells x t ⊎ ((c : ℕ) → c < n → ¬ NamesAt cells x c t)
 named_below cells x t zero = inr (λ c less. absurd (omega (arith, less)))
 named_below cells x t (suc n) = elim (named_below cells x t n) [
   | inl found ↦ inl found
-  | inr none ↦ elim (is_or_not (at cells x Write n) (start_text t)) [
+  | inr none ↦ elim (stands_or_not (at cells x Write n) t) [
     | inl is ↦ inl (n, is)
     | inr other ↦ inr (λ c less. elim (cases_lt c n) [
       | inl below ↦ none c below
-      | inr most ↦ let same : n ≡ c = omega (arith, less, most) in subst (λ (k : ℕ). at cells x Write k ≢ Some (start_text t)) same other
+      | inr most ↦ let same : n ≡ c = omega (arith, less, most) in subst (λ (k : ℕ). ¬ NamesAt cells x k t) same (λ named. other named.0 named.1 named.2 named.3)
     ])
   ]
 ]
 
-tidy_below : (cells : Cells) (x : Cell) (floor top : ℕ) → ((c : ℕ) (b : List ℕ) → at cells x Write c ≡ Some b → c < top) → AreUnnamed cells x floor [] → IsTidy cells x floor
-tidy_below cells x floor top low none = record {
+tidy_below : (cells : Cells) (x : Cell) (floor top : ℕ) → ((c : ℕ) (b : List ℕ) → at cells x Write c ≡ Some b → c < top) → AreUnnamed cells x floor [] → IsLastDeletion cells x floor None
+    → IsTidy cells x floor
+tidy_below cells x floor top low none not_deleted = record {
   one = none.one;
   named = λ t less stands. elim (named_below cells x t top) [
     | inl found ↦ found
-    | inr other ↦ absurd (elim (none.starts.rest t (less, stands, λ n. other n.0 (low n.0 (start_text t) n.1) n.1)) [
+    | inr other ↦ absurd (elim (none.starts.rest t (less, stands, λ n. other n.0 (low n.0 n.1.0 n.1.2) n.1)) [
       | inl i ↦ elim i [ ]
       | inr full ↦ let e = full.0 in omega arith
     ])
   ];
+  lasting = λ c t less e. not_deleted c t (record { there = (record_text t write.Delete, e); low = less; last = at_most c t less e }) e;
 }
+  where
+    at_most : (c t : ℕ) → c ≤ floor → at cells x Write c ≡ Some (record_text t write.Delete) → (d : ℕ) → d ≤ floor → IsThere cells x Write d → d ≤ c
+    at_most c t less e d most stands = let same = none.one d c most less stands (record_text t write.Delete, e) in omega arith
 
 shown_low : (cells : Cells) → AreShown cells → (x : Cell) (c : ℕ) (b : List ℕ) → at cells x Write c ≡ Some b → c < 2 ^ 63
 shown_low cells (st, reached, shown) x c b stands =
@@ -120,8 +147,8 @@ shown_low cells (st, reached, shown) x c b stands =
     let same = k.stamp in
     omega arith
 
-tidy_where_none : (cells : Cells) → AreShown cells → (x : Cell) (floor : ℕ) → AreUnnamed cells x floor [] → IsTidy cells x floor
-tidy_where_none cells shown x floor none = tidy_below cells x floor (2 ^ 63) (shown_low cells shown x) none
+tidy_where_none : (cells : Cells) → AreShown cells → (x : Cell) (floor : ℕ) → AreUnnamed cells x floor [] → IsLastDeletion cells x floor None → IsTidy cells x floor
+tidy_where_none cells shown x floor none not_deleted = tidy_below cells x floor (2 ^ 63) (shown_low cells shown x) none not_deleted
 
 -- ---- what the edits erase
 
@@ -130,19 +157,29 @@ pub erases_records : (Holds : Type 0) (cells : Cells) (x : Cell) (floor : ℕ) (
 erases_records Holds cells x floor [] edits some are few found = absurd (some refl)
 erases_records Holds cells x floor (v ∷ vs) edits some are few found = subst (ErasesOrIsTidy Holds cells x floor) (sym are) (inl (record { vs = v ∷ vs; are = refl; some = some; few = few; old = found }))
 
-erases_data_of : (Holds : Type 0) (cells : Cells) (x : Cell) (floor : ℕ) (ts : List ℕ) → length ts ≤ 256
-    → (Holds → AreShown cells → AreUnnamed cells x floor ts) → ErasesOrIsTidy Holds cells x floor (data_erasures x ts)
-erases_data_of Holds cells x floor [] few found = λ held shown. tidy_where_none cells shown x floor (found held shown)
-erases_data_of Holds cells x floor (t ∷ ts) few found = inr (record { ts = t ∷ ts; are = refl; some = λ e. cc; few = few; unnamed = found })
+-- data that no record names, where there are no old records
+pub unnamed_where_none : (Holds : Type 0) (cells : Cells) (x : Cell) (floor : ℕ) (vs : List (ℕ × ℕ)) (ts : List ℕ) → vs ≡ [] → (Holds → AreShown cells → AreFound cells x floor vs)
+    → (Holds → AreShown cells → HasOneRecord cells x floor → AreUnnamed cells x floor ts) → Holds → AreShown cells → AreUnnamed cells x floor ts
+unnamed_where_none Holds cells x floor vs ts none first then held shown = then held shown (subst (AreFound cells x floor) none (first held shown))
 
-pub erases_data : (Holds : Type 0) (cells : Cells) (x : Cell) (floor : ℕ) (vs : List (ℕ × ℕ)) (ts : List ℕ) (edits : List Edit) → vs ≡ [] → edits ≡ data_erasures x ts → length ts ≤ 256
-    → (Holds → AreShown cells → AreFound cells x floor vs) → (Holds → AreShown cells → HasOneRecord cells x floor → AreUnnamed cells x floor ts) → ErasesOrIsTidy Holds cells x floor edits
-erases_data Holds cells x floor vs ts edits none are few first then =
+pub erases_data : (Holds : Type 0) (cells : Cells) (x : Cell) (floor : ℕ) (ts : List ℕ) (edits : List Edit) → ts ≢ [] → edits ≡ data_erasures x ts → length ts ≤ 256
+    → (Holds → AreShown cells → AreUnnamed cells x floor ts) → ErasesOrIsTidy Holds cells x floor edits
+erases_data Holds cells x floor [] edits some are few found = absurd (some refl)
+erases_data Holds cells x floor (t ∷ ts) edits some are few found =
+    subst (ErasesOrIsTidy Holds cells x floor) (sym are) (inr (inl (record { ts = t ∷ ts; are = refl; some = some; few = few; unnamed = found })))
+
+erases_deletion_of : (Holds : Type 0) (cells : Cells) (x : Cell) (floor : ℕ) (deletion : Option ℕ) → (Holds → AreShown cells → AreUnnamed cells x floor [])
+    → (Holds → AreShown cells → IsLastDeletion cells x floor deletion) → ErasesOrIsTidy Holds cells x floor (deletion_erasures x deletion)
+erases_deletion_of Holds cells x floor None none found = λ held shown. tidy_where_none cells shown x floor (none held shown) (found held shown)
+erases_deletion_of Holds cells x floor (Some c) none found = inr (inr (record { c = c; are = refl; lone = λ held shown. lone_deletion cells x floor c (none held shown) (found held shown) }))
+
+pub erases_deletion : (Holds : Type 0) (cells : Cells) (x : Cell) (floor : ℕ) (ts : List ℕ) (deletion : Option ℕ) (edits : List Edit) → ts ≡ [] → edits ≡ deletion_erasures x deletion
+    → (Holds → AreShown cells → AreUnnamed cells x floor ts) → (Holds → AreShown cells → IsLastDeletion cells x floor deletion) → ErasesOrIsTidy Holds cells x floor edits
+erases_deletion Holds cells x floor ts deletion edits none are first found =
     subst (ErasesOrIsTidy Holds cells x floor) (sym are)
-    (erases_data_of Holds cells x floor ts few (λ held shown. then held shown (subst (AreFound cells x floor) none (first held shown))))
+    (erases_deletion_of Holds cells x floor deletion (λ held shown. subst (AreUnnamed cells x floor) none (first held shown)) found)
 
-pub erases_some : (Holds : Type 0) (cells : Cells) (x : Cell) (floor : ℕ) (edits : List Edit) → edits ≢ [] → ErasesOrIsTidy Holds cells x floor edits
-    → ErasesRecords Holds cells x floor edits ⊎ ErasesData Holds cells x floor edits
+pub erases_some : (Holds : Type 0) (cells : Cells) (x : Cell) (floor : ℕ) (edits : List Edit) → edits ≢ [] → ErasesOrIsTidy Holds cells x floor edits → Erases Holds cells x floor edits
 erases_some Holds cells x floor [] some erases = absurd (some refl)
 erases_some Holds cells x floor (e ∷ es) some erases = erases
 
@@ -167,18 +204,29 @@ pub records_answered : {Z : Type 0} (Holds : Type 0) (cells : Cells) (x : Cell) 
 records_answered Holds cells x floor vs lent (Err e) some same are few found = tt
 records_answered Holds cells x floor vs lent (Ok edits) some same are few found = erases_records Holds cells x floor vs edits.items some (are ∙ ap (record_erasures x) same) few found
 
-pub data_answered : {Z : Type 0} (Holds : Type 0) (cells : Cells) (x : Cell) (floor : ℕ) (vs : List (ℕ × ℕ)) (ts lent : List ℕ) (r : Result (Vec Edit Z) Refusal) → vs ≡ [] → lent ≡ ts
-    → IfOk r (λ edits. edits.items ≡ data_erasures x lent) → length ts ≤ 256 → (Holds → AreShown cells → AreFound cells x floor vs)
-    → (Holds → AreShown cells → HasOneRecord cells x floor → AreUnnamed cells x floor ts) → IfOk r (λ edits. ErasesOrIsTidy Holds cells x floor edits.items)
-data_answered Holds cells x floor vs ts lent (Err e) none same are few first then = tt
-data_answered Holds cells x floor vs ts lent (Ok edits) none same are few first then = erases_data Holds cells x floor vs ts edits.items none (are ∙ ap (data_erasures x) same) few first then
+pub data_answered : {Z : Type 0} (Holds : Type 0) (cells : Cells) (x : Cell) (floor : ℕ) (ts lent : List ℕ) (r : Result (Vec Edit Z) Refusal) → ts ≢ [] → lent ≡ ts
+    → IfOk r (λ edits. edits.items ≡ data_erasures x lent) → length ts ≤ 256 → (Holds → AreShown cells → AreUnnamed cells x floor ts) → IfOk r (λ edits. ErasesOrIsTidy Holds cells x floor edits.items)
+data_answered Holds cells x floor ts lent (Err e) some same are few found = tt
+data_answered Holds cells x floor ts lent (Ok edits) some same are few found = erases_data Holds cells x floor ts edits.items some (are ∙ ap (data_erasures x) same) few found
 
--- what was found after a read that left the cells as they were
-pub found_after : (Before Now : Type 0) (old new : Cells) (x : Cell) (floor : ℕ) (ts : List ℕ) → (Before → Now) → (Before → new ≡ old)
-    → (Now → AreShown new → HasOneRecord new x floor → AreUnnamed new x floor ts) → Before → AreShown old → HasOneRecord old x floor → AreUnnamed old x floor ts
-found_after Before Now old new x floor ts still kept found held shown one =
+pub deletion_answered : {Z : Type 0} (Holds : Type 0) (cells : Cells) (x : Cell) (floor : ℕ) (ts : List ℕ) (deletion : Option ℕ) (r : Result (Vec Edit Z) Refusal) → ts ≡ []
+    → IfOk r (λ edits. edits.items ≡ deletion_erasures x deletion) → (Holds → AreShown cells → AreUnnamed cells x floor ts) → (Holds → AreShown cells → IsLastDeletion cells x floor deletion)
+    → IfOk r (λ edits. ErasesOrIsTidy Holds cells x floor edits.items)
+deletion_answered Holds cells x floor ts deletion (Err e) none are first found = tt
+deletion_answered Holds cells x floor ts deletion (Ok edits) none are first found = erases_deletion Holds cells x floor ts deletion edits.items none are first found
+
+-- what was found after reads that left the cells as they were
+pub last_after : (Before Now : Type 0) (old new : Cells) (x : Cell) (floor : ℕ) (deletion : Option ℕ) → (Before → Now) → (Before → new ≡ old)
+    → (Now → AreShown new → IsLastDeletion new x floor deletion) → Before → AreShown old → IsLastDeletion old x floor deletion
+last_after Before Now old new x floor deletion still kept found held shown =
+    subst (λ (cs : Cells). IsLastDeletion cs x floor deletion) (kept held) (found (still held) (subst AreShown (sym (kept held)) shown))
+
+pub found_after : (Before Now : Type 0) (old new : Cells) (x : Cell) (floor : ℕ) (near : NearStarts) (ts : List ℕ) → (Before → Now) → (Before → new ≡ old) → (Before → AreNear old x floor near)
+    → (Now → AreShown new → HasOneRecord new x floor → AreNear new x floor near → AreUnnamed new x floor ts) → Before → AreShown old → HasOneRecord old x floor → AreUnnamed old x floor ts
+found_after Before Now old new x floor near ts still kept are found held shown one =
     subst (λ (cs : Cells). AreUnnamed cs x floor ts) (kept held)
-    (found (still held) (subst AreShown (sym (kept held)) shown) (subst (λ (cs : Cells). HasOneRecord cs x floor) (sym (kept held)) one))
+    (found (still held) (subst AreShown (sym (kept held)) shown) (subst (λ (cs : Cells). HasOneRecord cs x floor) (sym (kept held)) one)
+    (subst (λ (cs : Cells). AreNear cs x floor near) (sym (kept held)) (are held)))
 
 -- ---- refusals
 

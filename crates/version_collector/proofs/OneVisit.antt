@@ -5,14 +5,14 @@ use Rattle.cell_key.specs.Cells.{Cells, after_edits}
 use Rattle.cell_key.specs.Places.{IsNextCell}
 use Rattle.cell_key.specs.declared.edits.Edit.{Edit}
 use Rattle.cell_key.specs.declared.keys.Qualifier.TheVariants.{Data, Write}
-use Rattle.si_model.specs.Collection.{IsTidy, SecondPass, collected_cells, dropped_cells, place_at}
+use Rattle.si_model.specs.Collection.{IsTidy, SecondPass, collected_cells, dropped_cells, forgotten_cells, place_at}
 use Rattle.si_model.specs.ShowsCells.{key_of}
 use Rattle.si_model.specs.declared.replies.Cell.{Cell}
 use Rattle.si_model.specs.declared.replies.CollectReply.TheVariants.{More, Blocked, Collected}
 use Rattle.version_collector.specs.Erasing.{CollectsCell, data_erasures, record_erasures}
 use Rattle.version_collector.specs.Locks.{IsLowLock}
 use Rattle.version_collector.specs.Versions.{AreShown}
-use Rattle.version_collector.specs.Visits.{IsVisit, Visits, ends, erases_data, erases_records, passes, pass_of, position_of, stops, tidies, turns}
+use Rattle.version_collector.specs.Visits.{IsVisit, Visits, ends, erases_data, erases_deletion, erases_records, passes, pass_of, position_of, stops, tidies, turns}
 use Rattle.version_collector.specs.declared.collector.Collector.{Collector}
 use Rattle.version_collector.specs.declared.collector.Pass.{Pass}
 use Rattle.version_collector.specs.declared.collector.Pass.TheVariants.{First, Second}
@@ -67,9 +67,11 @@ module _ (cells : Cells) (c : Collector) where
         after_records : (vs : List (ℕ × ℕ)) (cs : Cells) → after_edits cs (record_erasures x vs) ≡ collected_cells cs x vs
         after_records [] cs = refl
         after_records (v ∷ vs) cs = after_records vs (remove (remove cs (key_of x Write v.0)) (key_of x Data v.1))
-    collect_erased Holds row edits cells' held shown (under, inr r) made =
+    collect_erased Holds row edits cells' held shown (under, inr (inl r)) made =
         subst (λ (m : Cells). Visits cells c More m c) (sym (made ∙ (ap (after_edits cells) r.are ∙ after_data r.ts cells))) (collect_by (dropped_cells cells x r.ts) (erases_data next (r.unnamed held shown) r.some))
       where
         after_data : (ts : List ℕ) (cs : Cells) → after_edits cs (data_erasures x ts) ≡ dropped_cells cs x ts
         after_data [] cs = refl
         after_data (t ∷ ts) cs = after_data ts (remove cs (key_of x Data t))
+    collect_erased Holds row edits cells' held shown (under, inr (inr r)) made =
+        subst (λ (m : Cells). Visits cells c More m c) (sym (made ∙ ap (after_edits cells) r.are)) (collect_by (forgotten_cells cells x r.c) (erases_deletion next (r.lone held shown)))

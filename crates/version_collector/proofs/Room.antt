@@ -1,5 +1,5 @@
 -- The room that visits take.
-use Rattle.std.proofs.Common.{◌≡◌, ℕ, ◌+◌, ◌*◌, ◌≤◌, List, [], ◌∷◌, ◌++◌, length, ◌⊎◌, inl, inr, refl, sym, ap, subst, arith}
+use Rattle.std.proofs.Common.{◌≡◌, ℕ, ◌+◌, ◌*◌, ◌≤◌, List, [], ◌∷◌, ◌++◌, length, Some, ◌⊎◌, inl, inr, refl, sym, ap, subst, arith}
 use Rattle.cell_key.specs.Cells.{Cells}
 use Rattle.cell_key.specs.declared.edits.Edit.{Edit}
 use Rattle.row_atomic.specs.Calls.{AppliesSuch}
@@ -7,7 +7,7 @@ use Rattle.row_atomic.specs.Clusters.{Storage}
 use Rattle.row_atomic.specs.Room.{HasNoRoom, TakesNoRoom}
 use Rattle.si_model.specs.Sets.{◌∈◌, here, there}
 use Rattle.si_model.specs.declared.replies.Cell.{Cell}
-use Rattle.version_collector.specs.Erasing.{CollectsCell, data_erasures, record_erasures}
+use Rattle.version_collector.specs.Erasing.{CollectsCell, data_erasures, deletion_erasures, record_erasures}
 use Rattle.version_collector.specs.Room.{AreOfVisits, AreOfVisitsIn, ErasesVersion, TakesRoomOfVisits}
 use Rattle.version_collector.proofs.VisitedCells.{together_length}
 
@@ -75,11 +75,17 @@ data_each x [] e i = elim i [ ]
 data_each x (t ∷ ts) _ here = (x, t, inr refl)
 data_each x (t ∷ ts) e (there i) = data_each x ts e i
 
+deletion_each : (x : Cell) (c : ℕ) (e : Edit) → e ∈ deletion_erasures x (Some c) → ErasesVersion e
+deletion_each x c _ here = (x, c, inl refl)
+deletion_each x c e (there i) = elim i [ ]
+
 pub of_one_visit : (Holds : Type 0) (cells : Cells) (x : Cell) (floor : ℕ) (row : List ℕ) (edits : List Edit) → CollectsCell Holds cells x floor row edits → AreOfVisits 1 edits
 of_one_visit Holds cells x floor row edits (under, inl r) = subst (λ (es : List Edit). AreOfVisits 1 es) (sym r.are)
     (record { few = let n = record_count x r.vs in let few = r.few in omega arith; each = record_each x r.vs })
-of_one_visit Holds cells x floor row edits (under, inr r) = subst (λ (es : List Edit). AreOfVisits 1 es) (sym r.are)
+of_one_visit Holds cells x floor row edits (under, inr (inl r)) = subst (λ (es : List Edit). AreOfVisits 1 es) (sym r.are)
     (record { few = let n = data_count x r.ts in let few = r.few in omega arith; each = data_each x r.ts })
+of_one_visit Holds cells x floor row edits (under, inr (inr r)) = subst (λ (es : List Edit). AreOfVisits 1 es) (sym r.are)
+    (record { few = omega arith; each = deletion_each x r.c })
 
 module _ {R : Type 0} (holds : R → Type 0) (cells : R → Cells) (overfills : R → List ℕ → List Edit → Type 0) (storage : R → Storage) where
   pub room_applied : (Holds : Type 0) (x : Cell) (floor : ℕ) (a b : R) → AppliesSuch holds cells overfills storage (CollectsCell Holds (cells a) x floor) a b → TakesRoomOfVisits overfills 1 a b

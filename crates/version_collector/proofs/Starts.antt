@@ -1,43 +1,44 @@
 -- The records and the data of a cell, where a reached state is shown: what its records name, and what a search from above finds.
-use Rattle.std.proofs.Common.{◌≡◌, ℕ, suc, ◌+◌, ◌-◌, ◌<◌, ◌≤◌, ◌^◌, inl, inr, List, [], ◌∷◌, ◌++◌, length, map, Option, Some, None, refl, sym, ap, subst, ◌∙◌, arith}
+use Rattle.std.proofs.Common.{◌≡◌, ◌≢◌, ℕ, suc, ◌+◌, ◌-◌, ◌<◌, ◌≤◌, ◌^◌, inl, inr, List, [], ◌∷◌, ◌++◌, length, map, Option, Some, None, Result, Ok, Err, IfErr, refl, sym, ap, subst, ◌∙◌, arith}
 use Rattle.std.proofs.lemmas.Bool.{cases_lt}
-use Rattle.std.proofs.lemmas.List.{append-nil, map-append}
+use Rattle.std.proofs.lemmas.List.{map-append}
 use Rattle.std.proofs.lemmas.Option.{none-some, same_Some}
-use Rattle.std.specs.Prelude.{IfSome, option_map}
+use Rattle.std.specs.Prelude.{IfNone, IfSome, option_map}
 use Rattle.std.specs.declared.vec.Vec.{Vec}
-use Rattle.byteorder.specs.Endian.{big_number, big_from}
-use Rattle.byteorder.specs.Numbers.{big_number-reads_back, length-bytes_high_first}
 use Rattle.cell_key.specs.Cells.{Cells, IsNewest}
 use Rattle.cell_key.specs.declared.keys.Qualifier.TheVariants.{Data, Write}
 use Rattle.cell_key.specs.Moments.{IsMoment}
 use Rattle.cell_key.specs.Versions.{stamped}
 use Rattle.cell_key.specs.declared.edits.Edit.{Edit}
 use Rattle.cell_key.specs.declared.keys.Qualifier.{Qualifier}
+use Rattle.cell_key.specs.declared.refusals.Refusal.{Refusal}
 use Rattle.row_atomic.specs.Calls.{OnlyReads}
 use Rattle.row_atomic.specs.Clusters.{Storage}
 use Rattle.row_atomic.specs.Oldest.{IsOldest}
 use Rattle.row_atomic.proofs.Halves.{at_none, at_some}
 use Rattle.si_model.specs.Collection.{IsNamed, IsOld}
 use Rattle.si_model.specs.Sets.{◌∈◌}
-use Rattle.si_model.specs.ShowsCells.{IsThere, NamesCommit, at, key_of, start_text, NamesStart}
+use Rattle.si_model.specs.ShowsCells.{IsRecordText, IsThere, NamesAt, NamesCommit, NamesStart, NamesWrite, at, key_of, kind_of_change, record_text}
+use Rattle.si_model.specs.declared.cells.WriteKind.{WriteKind}
+use Rattle.si_model.specs.declared.cells.WriteKind.TheVariants as write
 use Rattle.si_model.specs.declared.replies.Cell.{Cell}
 use Rattle.si_model.proofs.Bounds.{reached_bounds}
 use Rattle.si_model.proofs.CleanerFates.{names_nearest}
+use Rattle.si_model.proofs.RecordTexts.{names_of, one_write, same_write}
 use Rattle.si_model.proofs.Steps.{reached_sound}
-use Rattle.version_collector.specs.Versions.{AreFound, AreGreatest, AreShown, AreUnnamed, HasOneRecord, IsAmong, IsLastRecord, IsLatestBelow, IsNamedBy, IsUnnamed, NamesLast, NamesNext, NamesNone}
+use Rattle.version_collector.specs.Versions.{AreFound, AreGreatest, AreNear, AreShown, AreUnnamed, HasOneRecord, IsAmong, IsLastDeletion, IsLastRecord, IsLatestBelow, IsLoneDeletion, IsNamedBy, IsUnnamed, NamesLast, NamesNext, NamesNone}
+use Rattle.version_collector.specs.declared.versions.NearStarts.{NearStarts}
 use Rattle.version_collector.proofs.Greatest.{AreAll, all_more, all_none, all_past, greatest_all, greatest_full, in_last}
-
-start_back : (t : ℕ) → t < 2 ^ 64 → big_number 8 (start_text t) ≡ t
-start_back t h = ap (λ xs. big_from 0 8 xs) (sym (append-nil (start_text t))) ∙ big_number-reads_back 8 t [] h
 
 -- ---- what records name
 
 -- the start that a record's text has, and the record's stamp, are within the limits of stamps
 record IsRecord (c : ℕ) (b : List ℕ) : Type 0 where
   start : ℕ
+  kind : WriteKind
   from : 1 ≤ start
   to : start < 2 ^ 63
-  text : b ≡ start_text start
+  text : IsRecordText start kind b
   stamp : c < 2 ^ 63
 
 shown_record : (cells : Cells) → AreShown cells → (x : Cell) (c : ℕ) (b : List ℕ) → at cells x Write c ≡ Some b → IsRecord c b
@@ -48,28 +49,32 @@ shown_record cells (st, reached, shown) x c b there =
     let to = (reached_bounds reached).start_to k.commit.start k.commit.writes wrote in
     let last = (reached_bounds reached).commit_to k.commit k.is_in in
     let same = k.stamp in
-    record { start = k.commit.start; from = from; to = to; text = k.text; stamp = omega arith }
+    record { start = k.commit.start; kind = kind_of_change k.change; from = from; to = to; text = k.is_text; stamp = omega arith }
 
-names_text : (b : List ℕ) (t u : ℕ) → b ≡ start_text t → t < 2 ^ 63 → NamesStart b u → t ≡ u
-names_text b t u e low names = sym (start_back t (omega arith)) ∙ (ap (big_number 8) (sym e) ∙ names.1)
+-- a record's text is read as it is
+text_read : (b : List ℕ) (t : ℕ) (kind : WriteKind) → IsRecordText t kind b → t < 2 ^ 63 → NamesWrite b t kind
+text_read b t kind is low = names_of t kind b (omega arith) is
 
-text_names : (b : List ℕ) (t : ℕ) → b ≡ start_text t → t < 2 ^ 63 → NamesStart b t
-text_names b t e low = (ap (λ (bs : List ℕ). length bs) e ∙ length-bytes_high_first 8 t, ap (big_number 8) e ∙ start_back t (omega arith))
+-- and has one start, and one kind
+read_text : (b : List ℕ) (t u : ℕ) (kind read : WriteKind) → IsRecordText t kind b → t < 2 ^ 63 → NamesWrite b u read → (t ≡ u) × (kind ≡ read)
+read_text b t u kind read is low names = one_write b t u kind read (text_read b t kind is low) names
 
 -- a record that names t has its text
-pub named_text : (cells : Cells) → AreShown cells → (x : Cell) (c t : ℕ) (b : List ℕ) → at cells x Write c ≡ Some b → NamesStart b t
-    → (at cells x Write c ≡ Some (start_text t)) × (t < 2 ^ 63)
-named_text cells shown x c t b there names =
+pub named_text : (cells : Cells) → AreShown cells → (x : Cell) (c t : ℕ) (b : List ℕ) → at cells x Write c ≡ Some b → NamesStart b t → NamesAt cells x c t × (t < 2 ^ 63)
+named_text cells shown x c t b there (read, names) =
     let r : IsRecord c b = shown_record cells shown x c b there in
     let low = r.to in
-    let same : r.start ≡ t = names_text b r.start t r.text r.to names in
-    (there ∙ ap (λ (bs : List ℕ). Some bs) (r.text ∙ ap start_text same), omega arith)
+    let same : r.start ≡ t = (read_text b r.start t r.kind read r.text r.to names).0 in
+    ((b, r.kind, there, subst (λ (u : ℕ). IsRecordText u r.kind b) same r.text), omega arith)
+
+pub one_start : (b : List ℕ) (t u : ℕ) (kind : WriteKind) → NamesWrite b t kind → NamesStart b u → t ≡ u
+one_start b t u kind first second = (one_write b t u kind second.0 first second.1).0
 
 -- so none that is shown names no start
 pub not_damaged : (cells : Cells) (x : Cell) (c : ℕ) (b : List ℕ) → at cells x Write c ≡ Some b → ((t : ℕ) → 1 ≤ t → t < 2 ^ 63 → ¬ NamesStart b t) → ¬ AreShown cells
 not_damaged cells x c b there none shown =
     let r : IsRecord c b = shown_record cells shown x c b there in
-    none r.start r.from r.to (text_names b r.start r.text r.to)
+    none r.start r.from r.to (r.kind, text_read b r.start r.kind r.text r.to)
 
 -- ---- old records
 
@@ -117,7 +122,7 @@ old_more cells shown x floor below c t b vs old (less, there, last) names = reco
     older : c < old.w
     older = let low = old.low in omega arith
 
-    text : (at cells x Write c ≡ Some (start_text t)) × (t < 2 ^ 63)
+    text : NamesAt cells x c t × (t < 2 ^ 63)
     text = named_text cells shown x c t b there names
 
 one_record : (cells : Cells) (x : Cell) (floor w : ℕ) → IsLastRecord cells x floor w → ((c : ℕ) → IsThere cells x Write c → c < w → ⊥) → HasOneRecord cells x floor
@@ -161,13 +166,13 @@ module _ (cells : Cells) (shown : AreShown cells) (x : Cell) (floor : ℕ) (one 
   named_one None None t by e = absurd (none-some t e)
   named_one (Some (c, b)) None t by e = absurd by
   named_one None (Some s) t by e = absurd by
-  named_one (Some (c, b)) (Some s) t by e = (c, b, refl, (by.0, by.1 ∙ same_Some s t e))
+  named_one (Some (c, b)) (Some s) t by e = (c, b, refl, subst (λ (u : ℕ). NamesStart b u) (same_Some s t e) by)
 
-  names_it : (c t : ℕ) (b : List ℕ) (start : Option ℕ) → IsNamedBy (Some (c, b)) start → at cells x Write c ≡ Some b → at cells x Write c ≡ Some (start_text t) → t < 2 ^ 63 → start ≡ Some t
+  names_it : (c t : ℕ) (b : List ℕ) (start : Option ℕ) → IsNamedBy (Some (c, b)) start → at cells x Write c ≡ Some b → NamesAt cells x c t → t < 2 ^ 63 → start ≡ Some t
   names_it c t b None by there named low = absurd by
-  names_it c t b (Some s) by there named low =
-      let e : b ≡ start_text t = same_Some b (start_text t) (sym there ∙ named) in
-      ap (λ (n : ℕ). Some n) (sym (names_text b t s e low by))
+  names_it c t b (Some s) by there (text, kind, named, is) low =
+      let e : text ≡ b = same_Some text b (sym named ∙ there) in
+      ap (λ (n : ℕ). Some n) (sym (read_text b t s kind by.0 (subst (λ (bs : List ℕ). IsRecordText t kind bs) e is) low by.1).0)
 
   -- what either names is named
   last_named : (start : Option ℕ) (t : ℕ) → NamesLast cells x floor start → start ≡ Some t → IsNamed cells x t
@@ -184,36 +189,36 @@ module _ (cells : Cells) (shown : AreShown cells) (x : Cell) (floor : ℕ) (one 
 
   -- and no other start below the floor is
   last_names : (last : Option (ℕ × List ℕ)) (start : Option ℕ) (t c : ℕ) → IsNewest cells (key_of x Write) 0 floor last → IsNamedBy last start
-      → c ≤ floor → at cells x Write c ≡ Some (start_text t) → t < 2 ^ 63 → start ≡ Some t
-  last_names None start t c none by most named low = absurd (none-some (start_text t) (sym (none c (omega arith) most) ∙ named))
+      → c ≤ floor → NamesAt cells x c t → t < 2 ^ 63 → start ≡ Some t
+  last_names None start t c none by most named low = absurd (none-some named.0 (sym (none c (omega arith) most) ∙ named.2))
   last_names (Some (w, b)) start t c (from, to, is, last) by most named low =
-      let same : c ≡ w = one c w most to (start_text t, named) (b, is) in
-      names_it w t b start by is (subst (λ (n : ℕ). at cells x Write n ≡ Some (start_text t)) same named) low
+      let same : c ≡ w = one c w most to (named.0, named.2) (b, is) in
+      names_it w t b start by is (subst (λ (n : ℕ). NamesAt cells x n t) same named) low
 
   next_names : (next : Option (ℕ × List ℕ)) (start : Option ℕ) (t c : ℕ) → IsOldest cells (key_of x Write) (floor + 1) (2 ^ 64 - 1) next → IsNamedBy next start
-      → t < floor → floor < c → at cells x Write c ≡ Some (start_text t) → c < 2 ^ 63 → t < 2 ^ 63 → start ≡ Some t
-  next_names None start t c none by below above named top low = absurd (none-some (start_text t) (sym (none c (omega arith) (omega arith)) ∙ named))
-  next_names (Some (d, b)) start t c (from, to, is, before) by below above named top low = names_it d t b start by is (subst (λ (n : ℕ). at cells x Write n ≡ Some (start_text t)) same named) low
+      → t < floor → floor < c → NamesAt cells x c t → c < 2 ^ 63 → t < 2 ^ 63 → start ≡ Some t
+  next_names None start t c none by below above named top low = absurd (none-some named.0 (sym (none c (omega arith) (omega arith)) ∙ named.2))
+  next_names (Some (d, b)) start t c (from, to, is, before) by below above named top low = names_it d t b start by is (subst (λ (n : ℕ). NamesAt cells x n t) same named) low
     where
       least : c ≤ d
       least = names_nearest cells shown.0 shown.1 shown.2 x t c d (omega arith) named (omega arith) (b, is)
 
       same : c ≡ d
       same = elim (cases_lt c d) [
-        | inl less ↦ absurd (none-some (start_text t) (sym (before c (omega arith) less) ∙ named))
+        | inl less ↦ absurd (none-some named.0 (sym (before c (omega arith) less) ∙ named.2))
         | inr most ↦ omega (arith, least)
       ]
 
-  pub among_named : (near : Option ℕ × Option ℕ) (t : ℕ) → NamesLast cells x floor near.0 → NamesNext cells x floor near.1 → IsAmong t near → IsNamed cells x t
-  among_named near t last next is = elim is [
-    | inl e ↦ last_named near.0 t last e
-    | inr e ↦ next_named near.1 t next e
+  pub among_named : (near : NearStarts) (t : ℕ) → AreNear cells x floor near → IsAmong t near → IsNamed cells x t
+  among_named near t are is = elim is [
+    | inl e ↦ last_named near.last t are.last e
+    | inr e ↦ next_named near.next t are.next e
   ]
 
-  pub named_among : (near : Option ℕ × Option ℕ) (t : ℕ) → NamesLast cells x floor near.0 → NamesNext cells x floor near.1 → t < floor → t < 2 ^ 63 → IsNamed cells x t → IsAmong t near
-  named_among near t last next below low (c, named) = elim (cases_lt floor c) [
-    | inl above ↦ inr (next_names next.0 near.1 t c next.1 next.2 below above named (shown_record cells shown x c (start_text t) named).stamp low)
-    | inr most ↦ inl (last_names last.0 near.0 t c last.1 last.2 most named low)
+  pub named_among : (near : NearStarts) (t : ℕ) → AreNear cells x floor near → t < floor → t < 2 ^ 63 → IsNamed cells x t → IsAmong t near
+  named_among near t are below low (c, named) = elim (cases_lt floor c) [
+    | inl above ↦ inr (next_names are.next.0 near.next t c are.next.1 are.next.2 below above named (shown_record cells shown x c named.0 named.2).stamp low)
+    | inr most ↦ inl (last_names are.last.0 near.last t c are.last.1 are.last.2 most named low)
   ]
 
 -- data from below on that no record names
@@ -247,6 +252,70 @@ pub data_full : (cells : Cells) (x : Cell) (floor below : ℕ) (ts : List ℕ) �
     → AreUnnamed cells x floor ts
 data_full cells x floor below ts one all full = record { one = one; starts = greatest_full 256 (IsUnnamed cells x floor) below ts all full }
 
+-- the records nearest to the floor, as they are read
+pub near_read : (cells : Cells) (x : Cell) (floor w t : ℕ) (b : List ℕ) (kind : WriteKind) (next : Option ℕ) → IsNewest cells (key_of x Write) 0 floor (Some (w, b)) → NamesWrite b t kind → NamesNext cells x floor next
+    → AreNear cells x floor (record { last = Some t; next = next })
+near_read cells x floor w t b kind next newest names after = record { last = (Some (w, b), newest, (kind, names)); next = after }
+
+-- ---- a deletion that is the last record
+
+not_set : write.Set ≡ write.Delete → ⊥
+not_set e = cc
+
+-- a record that is read as a deletion's, or as a set's, is one
+pub deletes : (cells : Cells) → AreShown cells → (x : Cell) (c t : ℕ) (b : List ℕ) → at cells x Write c ≡ Some b → NamesWrite b t write.Delete
+    → (u : ℕ) × (at cells x Write c ≡ Some (record_text u write.Delete))
+deletes cells shown x c t b there names = (r.start, there ∙ ap (λ (bs : List ℕ). Some bs) (newer r.kind kind r.text))
+  where
+    r : IsRecord c b
+    r = shown_record cells shown x c b there
+
+    kind : r.kind ≡ write.Delete
+    kind = (read_text b r.start t r.kind write.Delete r.text r.to names).1
+
+    newer : (k : WriteKind) → k ≡ write.Delete → IsRecordText r.start k b → b ≡ record_text r.start write.Delete
+    newer k is (inl text) = text ∙ ap (record_text r.start) is
+    newer k is (inr older) = absurd (not_set (sym older.0 ∙ is))
+
+pub sets : (cells : Cells) → AreShown cells → (x : Cell) (c t u : ℕ) (b : List ℕ) → at cells x Write c ≡ Some b → NamesWrite b t write.Set → at cells x Write c ≢ Some (record_text u write.Delete)
+sets cells shown x c t u b there names deleted =
+    let r : IsRecord c b = shown_record cells shown x c b there in
+    let kind = (read_text b r.start t r.kind write.Set r.text r.to names).1 in
+    let text : b ≡ record_text u write.Delete = same_Some b (record_text u write.Delete) (sym there ∙ deleted) in
+    not_set (sym kind ∙ same_write r.start u r.kind write.Delete b r.text (inl text))
+
+same_last : (cells : Cells) (x : Cell) (floor v w : ℕ) → IsLastRecord cells x floor v → IsLastRecord cells x floor w → v ≡ w
+same_last cells x floor v w first second =
+    let up = first.last w second.low second.there in
+    let down = second.last v first.low first.there in
+    omega arith
+
+pub deletion_none : (cells : Cells) (x : Cell) (floor : ℕ) → IsNewest cells (key_of x Write) 0 floor None → IsLastDeletion cells x floor None
+deletion_none cells x floor none = λ w t last e. none-some last.there.0 (sym (none w (omega arith) last.low) ∙ last.there.1)
+
+pub deletion_at : (cells : Cells) → AreShown cells → (x : Cell) (floor w t : ℕ) (b : List ℕ) (kind : WriteKind) (deletion : Option ℕ) → IsNewest cells (key_of x Write) 0 floor (Some (w, b)) → NamesWrite b t kind
+    → IfSome deletion (λ c. (c ≡ w) × (kind ≡ write.Delete)) → IfNone deletion (kind ≡ write.Set) → IsLastDeletion cells x floor deletion
+deletion_at cells shown x floor w t b kind None newest names some none = λ v u last. subst (λ (c : ℕ). at cells x Write c ≢ Some (record_text u write.Delete))
+    (same_last cells x floor w v (last_record cells x floor w b newest) last) (sets cells shown x w t u b newest.2 (subst (λ (k : WriteKind). NamesWrite b t k) none names))
+deletion_at cells shown x floor w t b kind (Some c) newest names some none =
+    let d = deletes cells shown x w t b newest.2 (subst (λ (k : WriteKind). NamesWrite b t k) some.1 names) in
+    subst (λ (n : ℕ). IsLastDeletion cells x floor (Some n)) (sym some.0) (last_record cells x floor w b newest, d.0, d.1)
+
+-- where no old records stand, it is the oldest
+pub lone_deletion : (cells : Cells) (x : Cell) (floor c : ℕ) → AreUnnamed cells x floor [] → IsLastDeletion cells x floor (Some c) → IsLoneDeletion cells x floor c
+lone_deletion cells x floor c none (last, start, there) = record {
+  none = none;
+  low = last.low;
+  deletion = record { start = start; there = there; oldest = λ d less. stands_none (at cells x Write d) (λ b is. (let e = none.one d c (below d less) last.low (b, is) last.there in omega arith)) };
+}
+  where
+    below : (d : ℕ) → d < c → d ≤ floor
+    below d less = let low = last.low in omega arith
+
+    stands_none : (o : Option (List ℕ)) → ((b : List ℕ) → o ≡ Some b → ⊥) → o ≡ None
+    stands_none None not = refl
+    stands_none (Some b) not = absurd (not b refl)
+
 -- ---- what a read found is there
 
 pub newest_there : (cells : Cells) (x : Cell) (lo hi : ℕ) (found : Option (ℕ × List ℕ)) → IsNewest cells (key_of x Write) lo hi found
@@ -260,6 +329,12 @@ oldest_there cells x lo hi found oldest v e = (subst (IsOldest cells (key_of x W
 pub none_named : (cells : Cells) (x : Cell) (found : Option (ℕ × List ℕ)) → ((v : ℕ × List ℕ) → found ≡ Some v → at cells x Write v.0 ≡ Some v.1) → NamesNone found → ¬ AreShown cells
 none_named cells x None is none = absurd none
 none_named cells x (Some (c, b)) is none = not_damaged cells x c b (is (c, b) refl) none
+
+pub passed_none : {B Z : Type 0} (found : Option (ℕ × Vec ℕ Z)) (v : ℕ × Vec ℕ Z) (b : List ℕ) → found ≡ Some v → b ≡ v.1.items → ((t : ℕ) → 1 ≤ t → t < 2 ^ 63 → ¬ NamesStart b t)
+    → (r : Result B Refusal) → IfErr r (λ refusal. NamesNone (option_map stamped found))
+passed_none found v b is same none (Ok y) = tt
+passed_none {Z = Z} found v b is same none (Err e) =
+    subst (λ (f : Option (ℕ × Vec ℕ Z)). NamesNone (option_map stamped f)) (sym is) (λ t from to names. none t from to (subst (λ (bs : List ℕ). NamesStart bs t) (sym same) names))
 
 -- ---- a read after others that changed nothing
 

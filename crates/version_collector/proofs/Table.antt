@@ -214,7 +214,7 @@ unused cells collectors st reached shown = by (kept_at collectors st.next_collec
     by None e = e
     by (Some c) e = absurd (none-some _ (sym (fresh st reached) ∙ (shown_some cells collectors st.next_collector st c shown e).kept))
 
-module _ (old new : Collectors) (floor : ℕ) (room : btree.btree_map_len old.collectors < 1024) (low : old.next ≤ 9223372036854775807)
+module _ (old new : Collectors) (floor : ℕ) (room : btree.btree_map_len old.collectors < 64) (low : old.next ≤ 9223372036854775807)
     (next : new.next ≡ old.next + 1) (greatest : new.greatest_floor ≡ max old.greatest_floor floor)
     (at : (q : ℕ) → kept_at new q ≡ cond (is_eq (nat_cmp old.next q)) (Some (record { floor = floor; pass = First; after = None })) (kept_at old q))
     (len : btree.btree_map_len new.collectors ≡ btree.btree_map_len old.collectors + (if is_some (kept_at old old.next) then 0 else 1)) where
@@ -260,7 +260,7 @@ pub begin_refused : (old new : Collectors) (e : Refusal) → SameCollectors old 
     → (cells : Cells) (st : State) → ShowsCells cells st → ShowsCollectors cells old st → Begins cells new (Refused e) st
 begin_refused old new e same u cells st store shown = (st, refused_storage u, store, shows_same cells old new st same shown)
 
-pub begin_full : (old : Collectors) → 1024 ≤ btree.btree_map_len old.collectors
+pub begin_full : (old : Collectors) → 64 ≤ btree.btree_map_len old.collectors
     → (cells : Cells) (st : State) → ShowsCells cells st → ShowsCollectors cells old st → Begins cells old (Refused TooManySessions) st
 begin_full old full cells st store shown = (st, refuses (collect_full_first (let n = shown.count in omega arith)), store, shown)
 
@@ -284,10 +284,10 @@ shows_new collectors cells st next none floor empty = record {
 pub same_itself : (collectors : Collectors) → SameCollectors collectors collectors
 same_itself collectors = record { next = refl; floor = refl; each = λ i. refl; count = refl }
 
-pub is_full : (n m : ℕ) → n ≡ m → 1024 ≤ n → 1024 ≤ m
+pub is_full : (n m : ℕ) → n ≡ m → 64 ≤ n → 64 ≤ m
 is_full n m same many = omega arith
 
-pub is_room : (n m : ℕ) → n ≡ m → n < 1024 → m < 1024
+pub is_room : (n m : ℕ) → n ≡ m → n < 64 → m < 64
 is_room n m same few = omega arith
 
 -- ---- a request, as its collector is lent and given back

@@ -10,10 +10,10 @@ use Rattle.cell_key.specs.declared.keys.Qualifier.{Qualifier}
 use Rattle.cell_key.specs.declared.keys.Qualifier.TheVariants.{Data, Lock, Write}
 use Rattle.cell_key.specs.declared.refusals.Refusal.{Refusal}
 use Rattle.si_model.specs.Collection as model
-use Rattle.si_model.specs.Collection.{Collects, FirstPass, GoesFurther, HasCome, IsTidy, IsUnmarkedBelow, SecondPass, collected_cells, dropped_cells, left_of, place_at}
-use Rattle.si_model.specs.Machine.{State, IsReached}
+use Rattle.si_model.specs.Collection.{Collects, FirstPass, GoesFurther, HasCome, IsTidy, IsUnmarkedBelow, SecondPass, collected_cells, dropped_cells, forgotten_cells, left_of, place_at}
+use Rattle.si_model.specs.Machine.{State, Commit, IsReached}
 use Rattle.si_model.specs.Sets.{◌∈◌, here, there}
-use Rattle.si_model.specs.ShowsCells.{at, key_of, IsThere, ShowsCells, start_text}
+use Rattle.si_model.specs.ShowsCells.{at, key_of, IsThere, MayLack, NamesAt, ShowsCells}
 use Rattle.si_model.specs.declared.replies.Cell.{Cell}
 use Rattle.si_model.specs.declared.replies.CollectReply.{CollectReply}
 use Rattle.si_model.specs.declared.replies.CollectReply.TheVariants.{More, Blocked, Collected}
@@ -21,8 +21,8 @@ use Rattle.si_model.proofs.Collected.{come_collected, may_erase, no_new_key, sho
 use Rattle.si_model.proofs.CollectorProgress.{comes_further}
 use Rattle.si_model.proofs.Left.{left_falls}
 use Rattle.si_model.proofs.ShownAt.{cases_key, erased_at, erased_off}
-use Rattle.version_collector.specs.Versions.{AreOld, AreShown, AreUnnamed}
-use Rattle.version_collector.specs.Visits.{AreVisits, Comes, EndsWith, HasVisited, IsTold, IsVisit, VisitsLeave, Thins, Visits, ends, erases_data, erases_records, none, passes, pass_of, position_of, left_by, stops, then, tidies, turns}
+use Rattle.version_collector.specs.Versions.{AreOld, AreShown, AreUnnamed, IsLoneDeletion}
+use Rattle.version_collector.specs.Visits.{AreVisits, Comes, EndsWith, HasVisited, IsTold, IsVisit, VisitsLeave, Thins, Visits, ends, erases_data, erases_deletion, erases_records, none, passes, pass_of, position_of, left_by, stops, then, tidies, turns}
 use Rattle.version_collector.specs.declared.collector.Collector.{Collector}
 
 -- ---- keys that stand, and keys that are gone, where versions of x are erased
@@ -69,7 +69,7 @@ collects_none cells st = record {
   locks = λ x t. refl;
   records = λ x c. inl refl;
   values = λ x t. inl refl;
-  together = λ x c t was names gone. absurd (none-some (start_text t) (sym gone ∙ names));
+  together = λ x c t was names gone. absurd (none-some names.0 (sym gone ∙ names.2));
 }
 
 module _ (a b c : Cells) (st : State) (first : Collects a b st) (second : Collects b c st) where
@@ -79,15 +79,26 @@ module _ (a b c : Cells) (st : State) (first : Collects a b st) (second : Collec
   record_none : (x : Cell) (s : ℕ) → at b x Write s ≡ None → at c x Write s ≡ None
   record_none x s e = elim (second.records x s) [ inl same ↦ same ∙ e | inr left ↦ left.0 ]
 
-  unnamed_still : (x : Cell) (t : ℕ) → ((s : ℕ) → at b x Write s ≢ Some (start_text t)) → (s : ℕ) → at c x Write s ≢ Some (start_text t)
-  unnamed_still x t unnamed s h = elim (second.records x s) [ inl same ↦ unnamed s (sym same ∙ h) | inr left ↦ none-some (start_text t) (sym left.0 ∙ h) ]
+  unnamed_still : (x : Cell) (t : ℕ) → ((s : ℕ) → ¬ NamesAt b x s t) → (s : ℕ) → ¬ NamesAt c x s t
+  unnamed_still x t unnamed s h = elim (second.records x s) [
+    | inl same ↦ unnamed s (h.0, h.1, sym same ∙ h.2, h.3)
+    | inr left ↦ none-some h.0 (sym left.0 ∙ h.2)
+  ]
+
+  lacks_still : (x : Cell) (d : Commit) → MayLack b st x d → MayLack c st x d
+  lacks_still x d (inl replaced) = inl replaced
+  lacks_still x d (inr forgotten) = inr (record {
+    deletes = forgotten.deletes;
+    cleared = forgotten.cleared;
+    oldest = λ s less. record_none x s (forgotten.oldest s less);
+  })
 
   pub collects_then : Collects a c st
   collects_then = record {
     locks = λ x t. second.locks x t ∙ first.locks x t;
     records = λ x s. elim (first.records x s) [
       | inl same ↦ elim (second.records x s) [ inl again ↦ inl (again ∙ same) | inr left ↦ inr left ]
-      | inr left ↦ inr (record_none x s left.0, left.1)
+      | inr left ↦ inr (record_none x s left.0, λ d i names is. lacks_still x d (left.1 d i names is))
     ];
     values = λ x t. elim (first.values x t) [
       | inl same ↦ elim (second.values x t) [ inl again ↦ inl (again ∙ same) | inr left ↦ inr left ]
@@ -95,7 +106,7 @@ module _ (a b c : Cells) (st : State) (first : Collects a b st) (second : Collec
     ];
     together = λ x s t was names gone. elim (first.records x s) [
       | inl same ↦ elim (first.values x t) [
-        | inl stood ↦ second.together x s t (was.0, stood ∙ was.1) (same ∙ names) gone
+        | inl stood ↦ second.together x s t (was.0, stood ∙ was.1) (names.0, names.1, same ∙ names.2, names.3) gone
         | inr left ↦ still_none x t left.0
       ]
       | inr left ↦ still_none x t (first.together x s t was names left.0)
@@ -185,7 +196,7 @@ module _ (cells : Cells) (st : State) (reached : IsReached st) (shown : ShowsCel
   leaves_records after x (v ∷ vs) old some come =
       leaves_fewer after x (collected_cells cells x (v ∷ vs)) (key_of x Write v.0)
       ((may_erase cells st reached shown floor low come.0).old x old.w (v ∷ vs) old.kept.there old.kept.low old.named)
-      (collected_off x (v ∷ vs) cells) (ap is_some (old.named v here).there) (first_collected x v vs cells) come
+      (collected_off x (v ∷ vs) cells) (ap is_some (old.named v here).there.2) (first_collected x v vs cells) come
 
   leaves_data : (after : Option Place) (x : Cell) (ts : List ℕ) → AreUnnamed cells x floor ts → ts ≢ [] → HasCome cells st floor SecondPass after
       → LeavesAt cells (dropped_cells cells x ts) st floor SecondPass after More SecondPass after
@@ -195,6 +206,12 @@ module _ (cells : Cells) (st : State) (reached : IsReached st) (shown : ShowsCel
       ((may_erase cells st reached shown floor low come.0).unnamed x (t ∷ ts) (λ u i. let is = old.starts.each u i in (is.0, is.2)))
       (dropped_off x (t ∷ ts) cells) (ap is_some (old.starts.each t here).1.1) (first_dropped x t ts cells) come
 
+  leaves_deletion : (after : Option Place) (x : Cell) (s : ℕ) → IsLoneDeletion cells x floor s → HasCome cells st floor SecondPass after
+      → LeavesAt cells (forgotten_cells cells x s) st floor SecondPass after More SecondPass after
+  leaves_deletion after x s lone come =
+      leaves_fewer after x (forgotten_cells cells x s) (key_of x Write s) ((may_erase cells st reached shown floor low come.0).deletion x s lone.low lone.deletion)
+      (λ k ne. erased_off cells (key_of x Write s) k (other_row k x Write s ne)) (ap is_some lone.deletion.there) (erased_at cells (key_of x Write s)) come
+
   visit_leaves : (pass : model.Pass) (after : Option Place) (reply : CollectReply) (cells' : Cells) (pass' : model.Pass) (after' : Option Place)
       → HasCome cells st floor pass after → IsVisit cells floor pass after reply cells' pass' after' → LeavesAt cells cells' st floor pass after reply pass' after'
   visit_leaves _ _ _ _ _ _ come (stops {after} {x} {t} next stands below) = leaves_cells FirstPass after (Blocked x t) FirstPass after come (stands, below)
@@ -203,6 +220,7 @@ module _ (cells : Cells) (st : State) (reached : IsReached st) (shown : ShowsCel
   visit_leaves _ _ _ _ _ _ come (turns {after} next) = leaves_cells FirstPass after More SecondPass None ((further after).turned next come) ((left_falls cells).turned after)
   visit_leaves _ _ _ _ _ _ come (erases_records {after} {x} {vs} next old some) = leaves_records after x vs old some come
   visit_leaves _ _ _ _ _ _ come (erases_data {after} {x} {ts} next old some) = leaves_data after x ts old some come
+  visit_leaves _ _ _ _ _ _ come (erases_deletion {after} {x} {c} next lone) = leaves_deletion after x c lone come
   visit_leaves _ _ _ _ _ _ come (tidies {after} {x} next tidy) = leaves_cells SecondPass after More SecondPass (Some (place_at x))
       ((further after).tidied x next tidy come) ((left_falls cells).moved SecondPass after (place_at x) next.0 next.1)
   visit_leaves _ _ _ _ _ _ come (ends {after} next) = leaves_cells SecondPass after Collected SecondPass after come (come.0, (further after).ended next come)

@@ -1,5 +1,5 @@
 -- The edits of a row by which a second pass erases what it found in a cell.
-use Rattle.std.specs.Prelude.{◌≡◌, ◌≢◌, ◌≤◌, ◌⊎◌, ℕ, List, [], ◌∷◌, length}
+use Rattle.std.specs.Prelude.{◌≡◌, ◌≢◌, ◌≤◌, ◌⊎◌, ℕ, List, [], ◌∷◌, length, Option, Some, None}
 use Rattle.cell_key.specs.Cells.{Cells}
 use Rattle.cell_key.specs.declared.edits.Edit.{Edit}
 use Rattle.cell_key.specs.declared.edits.Edit.TheVariants.{Erase}
@@ -7,7 +7,7 @@ use Rattle.cell_key.specs.declared.keys.Qualifier.TheVariants.{Data, Write}
 use Rattle.si_model.specs.Collection.{IsTidy}
 use Rattle.si_model.specs.ShowsCells.{key_of}
 use Rattle.si_model.specs.declared.replies.Cell.{Cell}
-use Rattle.version_collector.specs.Versions.{AreOld, AreShown, AreUnnamed}
+use Rattle.version_collector.specs.Versions.{AreOld, AreShown, AreUnnamed, IsLoneDeletion}
 
 -- each record is erased with the data that it names
 abbrev pub record_erasures : Cell → List (ℕ × ℕ) → List Edit
@@ -18,6 +18,10 @@ record_erasures x (v ∷ vs) =
 abbrev pub data_erasures : Cell → List ℕ → List Edit
 data_erasures x [] = []
 data_erasures x (t ∷ ts) = Erase (key_of x Data t) ∷ data_erasures x ts
+
+abbrev pub deletion_erasures : Cell → Option ℕ → List Edit
+deletion_erasures x None = []
+deletion_erasures x (Some c) = Erase (key_of x Write c) ∷ []
 
 -- The edits erase records, each with the data that it names. Where the rows hold and show a reached
 -- state, these are the old ones.
@@ -39,14 +43,25 @@ pub record ErasesData (Holds : Type 0) (cells : Cells) (x : Cell) (floor : ℕ) 
   pub few : length ts ≤ 256
   pub unnamed : Holds → AreShown cells → AreUnnamed cells x floor ts
 
+-- They erase one record. Where the rows hold and show a reached state, it is that of a deletion, and
+-- nothing else of the cell is to be erased.
+pub record ErasesDeletion (Holds : Type 0) (cells : Cells) (x : Cell) (floor : ℕ)
+    (edits : List Edit) : Type 0 where
+  pub c : ℕ
+  pub are : edits ≡ deletion_erasures x (Some c)
+  pub lone : Holds → AreShown cells → IsLoneDeletion cells x floor c
+
+-- they erase something of the cell
+abbrev pub Erases : Type 0 → Cells → Cell → ℕ → List Edit → Type 0
+Erases Holds cells x floor edits = ErasesRecords Holds cells x floor edits
+    ⊎ (ErasesData Holds cells x floor edits ⊎ ErasesDeletion Holds cells x floor edits)
+
 -- the row and such edits
 abbrev pub CollectsCell : Type 0 → Cells → Cell → ℕ → List ℕ → List Edit → Type 0
-CollectsCell Holds cells x floor row edits =
-    (row ≡ x.row) × (ErasesRecords Holds cells x floor edits ⊎ ErasesData Holds cells x floor edits)
+CollectsCell Holds cells x floor row edits = (row ≡ x.row) × Erases Holds cells x floor edits
 
--- the edits erase old records or data, or there are none: where the rows hold and show a reached
--- state, the cell is tidy then
+-- the edits erase something, or there are none: where the rows hold and show a reached state, the
+-- cell is tidy then
 abbrev pub ErasesOrIsTidy : Type 0 → Cells → Cell → ℕ → List Edit → Type 0
 ErasesOrIsTidy Holds cells x floor [] = Holds → AreShown cells → IsTidy cells x floor
-ErasesOrIsTidy Holds cells x floor (edit ∷ edits) =
-    ErasesRecords Holds cells x floor (edit ∷ edits) ⊎ ErasesData Holds cells x floor (edit ∷ edits)
+ErasesOrIsTidy Holds cells x floor (edit ∷ edits) = Erases Holds cells x floor (edit ∷ edits)

@@ -1,14 +1,17 @@
--- What a second pass finds in a cell: records that are old, or data that no record names.
-use Rattle.std.specs.Prelude.{◌≡◌, ◌⊎◌, ⊤, ℕ, ◌+◌, ◌-◌, ◌<◌, ◌≤◌, ◌^◌, List, [], ◌∷◌, length, map, Option, Some, None, slice_get}
+-- What a second pass finds in a cell: records that are old, data that no record names, or the record
+-- of a deletion.
+use Rattle.std.specs.Prelude.{◌≡◌, ◌≢◌, ◌⊎◌, ⊤, ℕ, ◌+◌, ◌-◌, ◌<◌, ◌≤◌, ◌^◌, List, [], ◌∷◌, length, map, Option, Some, None, slice_get}
 use Rattle.cell_key.specs.Cells.{Cells, IsNewest}
 use Rattle.cell_key.specs.declared.keys.Qualifier.{Qualifier}
 use Rattle.cell_key.specs.declared.keys.Qualifier.TheVariants.{Data, Write}
 use Rattle.row_atomic.specs.Oldest.{IsOldest}
-use Rattle.si_model.specs.Collection.{IsNamed, IsOld}
+use Rattle.si_model.specs.Collection.{IsNamed, IsOld, IsOldestDeletion}
 use Rattle.si_model.specs.Machine.{State, IsReached}
 use Rattle.si_model.specs.Sets.{◌∈◌}
-use Rattle.si_model.specs.ShowsCells.{NamesStart, IsThere, ShowsCells, at, key_of}
+use Rattle.si_model.specs.ShowsCells.{NamesStart, IsThere, ShowsCells, at, key_of, record_text}
+use Rattle.si_model.specs.declared.cells.WriteKind.TheVariants as write
 use Rattle.si_model.specs.declared.replies.Cell.{Cell}
+use Rattle.version_collector.specs.declared.versions.NearStarts.{NearStarts}
 
 -- a reached state is shown
 abbrev pub AreShown : Cells → Type 0
@@ -28,7 +31,15 @@ pub record IsLastRecord (cells : Cells) (x : Cell) (floor w : ℕ) : Type 0 wher
   pub low : w ≤ floor
   pub last : (c : ℕ) → c ≤ floor → IsThere cells x Write c → c ≤ w
 
--- the newest 128 records older than that one, each with the start that it names
+-- the stamp of the newest record at or below the floor where that is a deletion's, or it is none's
+abbrev pub IsLastDeletion : Cells → Cell → ℕ → Option ℕ → Type 0
+IsLastDeletion cells x floor None =
+    (w t : ℕ) → IsLastRecord cells x floor w → at cells x Write w ≢ Some (record_text t write.Delete)
+IsLastDeletion cells x floor (Some w) = IsLastRecord cells x floor w
+    × (t : ℕ) × (at cells x Write w ≡ Some (record_text t write.Delete))
+
+-- the newest 128 records older than the newest one at or below the floor, each with the start that it
+-- names
 pub record AreOld (cells : Cells) (x : Cell) (floor : ℕ) (vs : List (ℕ × ℕ)) : Type 0 where
   pub w : ℕ
   pub kept : IsLastRecord cells x floor w
@@ -54,8 +65,8 @@ AreFound cells x floor [] = HasOneRecord cells x floor
 AreFound cells x floor (v ∷ vs) = AreOld cells x floor (v ∷ vs)
 
 -- the start is one of the two
-abbrev pub IsAmong : ℕ → Option ℕ × Option ℕ → Type 0
-IsAmong t near = (near.0 ≡ Some t) ⊎ (near.1 ≡ Some t)
+abbrev pub IsAmong : ℕ → NearStarts → Type 0
+IsAmong t near = (near.last ≡ Some t) ⊎ (near.next ≡ Some t)
 
 -- the start that a record names, if there is one
 abbrev pub IsNamedBy : Option (ℕ × List ℕ) → Option ℕ → Type 0
@@ -80,6 +91,11 @@ NamesNext cells x floor start =
     (next : Option (ℕ × List ℕ)) × IsOldest cells (key_of x Write) (floor + 1) (2 ^ 64 - 1) next
     × IsNamedBy next start
 
+-- the starts that the records nearest to the floor name
+pub record AreNear (cells : Cells) (x : Cell) (floor : ℕ) (near : NearStarts) : Type 0 where
+  pub last : NamesLast cells x floor near.last
+  pub next : NamesNext cells x floor near.next
+
 -- data below the floor that no record names
 abbrev pub IsUnnamed : Cells → Cell → ℕ → ℕ → Type 0
 IsUnnamed cells x floor t = (t < floor) × IsThere cells x Data t × (¬ IsNamed cells x t)
@@ -88,3 +104,10 @@ IsUnnamed cells x floor t = (t < floor) × IsThere cells x Data t × (¬ IsNamed
 pub record AreUnnamed (cells : Cells) (x : Cell) (floor : ℕ) (ts : List ℕ) : Type 0 where
   pub one : HasOneRecord cells x floor
   pub starts : AreGreatest 256 (IsUnnamed cells x floor) ts
+
+-- A cell has no old records and no such data, and its record at or below the floor, at c, is that of
+-- a deletion.
+pub record IsLoneDeletion (cells : Cells) (x : Cell) (floor c : ℕ) : Type 0 where
+  pub none : AreUnnamed cells x floor []
+  pub low : c ≤ floor
+  pub deletion : IsOldestDeletion cells x c

@@ -8,14 +8,14 @@ use Rattle.cell_key.specs.declared.keys.CellKey.{CellKey}
 use Rattle.cell_key.specs.declared.keys.Qualifier.TheVariants as column
 use Rattle.cell_key.specs.declared.refusals.Refusal.{Refusal}
 use Rattle.si_model.specs.Collection as model
-use Rattle.si_model.specs.Collection.{Collects, HasCome, IsTidy, IsUnmarkedBelow, FirstPass, SecondPass, collected_cells, dropped_cells, left_of, place_at}
+use Rattle.si_model.specs.Collection.{Collects, HasCome, IsTidy, IsUnmarkedBelow, FirstPass, SecondPass, collected_cells, dropped_cells, forgotten_cells, left_of, place_at}
 use Rattle.si_model.specs.Machine.{State, IsReached}
 use Rattle.si_model.specs.Sets.{◌∈◌}
 use Rattle.si_model.specs.ShowsCells.{at, IsThere, ShowsCells}
 use Rattle.si_model.specs.declared.replies.Cell.{Cell}
 use Rattle.si_model.specs.declared.replies.CollectReply.{CollectReply}
 use Rattle.si_model.specs.declared.replies.CollectReply.TheVariants.{More, Blocked, Collected}
-use Rattle.version_collector.specs.Versions.{AreOld, AreUnnamed}
+use Rattle.version_collector.specs.Versions.{AreOld, AreUnnamed, IsLoneDeletion}
 use Rattle.version_collector.specs.declared.collector.Collector.{Collector}
 use Rattle.version_collector.specs.declared.collector.Pass.{Pass}
 use Rattle.version_collector.specs.declared.collector.Pass.TheVariants.{First, Second}
@@ -34,14 +34,17 @@ pub data IsVisit (cells : Cells) (floor : ℕ) : model.Pass → Option Place →
   -- with no next cell the second pass begins
   turns : {after : Option Place} → IsNextCell cells after None
       → IsVisit cells floor FirstPass after More cells SecondPass None
-  -- Second pass. Old records are erased with their data, or else data that no record names, and the
-  -- position stays.
+  -- Second pass. Old records are erased with their data, or else data that no record names, or else
+  -- the record of a deletion, and the position stays.
   erases_records : {after : Option Place} {x : Cell} {vs : List (ℕ × ℕ)}
       → IsNextCell cells after (Some (place_at x)) → AreOld cells x floor vs → vs ≢ []
       → IsVisit cells floor SecondPass after More (collected_cells cells x vs) SecondPass after
   erases_data : {after : Option Place} {x : Cell} {ts : List ℕ}
       → IsNextCell cells after (Some (place_at x)) → AreUnnamed cells x floor ts → ts ≢ []
       → IsVisit cells floor SecondPass after More (dropped_cells cells x ts) SecondPass after
+  erases_deletion : {after : Option Place} {x : Cell} {c : ℕ}
+      → IsNextCell cells after (Some (place_at x)) → IsLoneDeletion cells x floor c
+      → IsVisit cells floor SecondPass after More (forgotten_cells cells x c) SecondPass after
   -- past a tidy cell it moves
   tidies : {after : Option Place} {x : Cell} → IsNextCell cells after (Some (place_at x))
       → IsTidy cells x floor

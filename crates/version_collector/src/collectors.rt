@@ -24,7 +24,7 @@ use std::alloc::Global;
 use std::collections::BTreeMap;
 
 /// The most collectors that are open at once.
-const MOST_COLLECTORS: usize = 1_024;
+const MOST_COLLECTORS: usize = 64;
 
 /// The greatest number of a collector.
 const MOST_NUMBER: u64 = 9_223_372_036_854_775_807;
@@ -84,7 +84,7 @@ impl Collectors {
     ///
     /// # Errors
     ///
-    /// `TooManySessions` when 1,024 collectors are open; then `Exhausted` after the greatest number, or
+    /// `TooManySessions` when 64 collectors are open; then `Exhausted` after the greatest number, or
     /// `NoMemory`. There is room for the collector before its number is drawn.
     pub fn begin(&mut self, floor: Stamp) -> Result<u64, Refusal>
         ensures step { (cells : Cells) (st : State)

@@ -9,11 +9,11 @@ ghost use Rattle.row_atomic.specs.Calls.{AppliesSuch, OnlyReads};
 ghost use Rattle.row_atomic.specs.Refusals.{IsRefusalOfRead};
 ghost use Rattle.row_atomic.specs.Room.{HasNoRoom};
 ghost use Rattle.si_model.specs.Collection.{IsTidy};
-ghost use Rattle.version_collector.specs.Erasing.{CollectsCell, ErasesOrIsTidy, data_erasures, record_erasures};
+ghost use Rattle.version_collector.specs.Erasing.{CollectsCell, ErasesOrIsTidy, data_erasures, deletion_erasures, record_erasures};
 ghost use Rattle.version_collector.specs.Refusals.{IsVisitRefusal};
 ghost use Rattle.version_collector.specs.Versions.{AreShown};
 
-use crate::versions::{old_records, unnamed_data};
+use crate::versions::{near_records, old_records, unnamed_data};
 use cell_key::{Edit, Moment, Qualifier, Refusal, Stamp};
 use row_atomic::Rows;
 use si_model::{Cell, key};
@@ -54,6 +54,25 @@ fn data_edits(alloc: Global, cell: &Cell, starts: &[Moment]) -> Result<Vec<Edit>
     Ok(edits)
 }
 
+/// The edit that erases the record of a deletion; none where there is no such record. Refused NoMemory
+/// where there is no room for it.
+fn deletion_edits(
+    alloc: Global,
+    cell: &Cell,
+    deletion: Option<Moment>,
+) -> Result<Vec<Edit>, Refusal>
+    ensures edits { IfOk result (λ edits. edits.items ≡ deletion_erasures cell.now deletion) }
+    ensures under { IfOk result (λ edits. AllByRecursion (IsEditOf cell.now.row) edits.items) }
+    ensures refusal { IfErr result (λ refusal. refusal ≡ Refusal.NoMemory) }
+{
+    let mut edits = Vec::new(alloc);
+    if let Some(commit) = deletion {
+        let record = key(cell, Qualifier::Write, commit.stamp())?;
+        edits.push(Edit::Erase(record))?;
+    }
+    Ok(edits)
+}
+
 /// The edits that erase old versions of a cell; none where the cell is tidy.
 ///
 /// # Errors
@@ -77,14 +96,19 @@ fn old_edits<R: Rows>(
     if !records.is_empty() {
         return record_edits(alloc, cell, &records);
     }
-    let starts = unnamed_data(alloc, rows, cell, floor)?;
-    data_edits(alloc, cell, &starts)
+    let (near, deletion) = near_records(rows, cell, floor)?;
+    let starts = unnamed_data(alloc, rows, cell, floor, near)?;
+    if !starts.is_empty() {
+        return data_edits(alloc, cell, &starts);
+    }
+    deletion_edits(alloc, cell, deletion)
 }
 
 /// Erases old versions of a cell in one row transaction, and says whether there were any: the
 /// newest 128 records older than the newest one at or below the floor, with the data that they name;
-/// or, where there are none, the newest 256 data below the floor that no record names. Where there
-/// are neither, the cell is tidy.
+/// where there are none, the newest 256 data below the floor that no record names; where there are
+/// none of those either, the record at or below the floor if it is a deletion's. Where there is
+/// nothing of these, the cell is tidy.
 ///
 /// # Errors
 ///

@@ -1,17 +1,18 @@
-//! What a second pass finds in a cell: records that are old, or data that no record names.
+//! What a second pass finds in a cell: records that are old, data that no record names, or the record of a deletion.
 
-ghost use Rattle.std.specs.Prelude.{◌≡◌, ◌↔◌, ◌⊎◌, ℕ, ◌<◌, ◌≤◌, ◌^◌, Some, length, IfErr, IfOk, IfSome, IsTrue, option_map};
+ghost use Rattle.std.specs.Prelude.{◌≡◌, ◌↔◌, ◌⊎◌, ℕ, ◌<◌, ◌≤◌, ◌^◌, Some, length, IfErr, IfNone, IfOk, IfSome, IsTrue, option_map};
 ghost use Rattle.cell_key.specs.Faults.{HasReason};
 ghost use Rattle.cell_key.specs.Moments.{IsMoment};
 ghost use Rattle.cell_key.specs.Versions.{stamped};
 ghost use Rattle.row_atomic.specs.Calls.{OnlyReads};
 ghost use Rattle.row_atomic.specs.Refusals.{IsRefusalOfRead};
-ghost use Rattle.si_model.specs.ShowsCells.{NamesStart};
-ghost use Rattle.version_collector.specs.Versions.{AreFound, AreShown, AreUnnamed, HasOneRecord, IsAmong, IsLatestBelow, IsNamedBy, NamesLast, NamesNext, NamesNone};
+ghost use Rattle.si_model.specs.ShowsCells.{NamesStart, NamesWrite};
+ghost use Rattle.si_model.specs.declared.cells.WriteKind.TheVariants as Kind;
+ghost use Rattle.version_collector.specs.Versions.{AreFound, AreNear, AreShown, AreUnnamed, HasOneRecord, IsAmong, IsLastDeletion, IsLatestBelow, IsNamedBy, NamesNext, NamesNone};
 
 use cell_key::{MOST_STAMP, Moment, Qualifier, Refusal, Stamp};
 use row_atomic::{Rows, oldest};
-use si_model::{Cell, named_start};
+use si_model::{Cell, WriteKind, named_write};
 use std::alloc::Global;
 
 /// The most records that are erased at once, each with the data that it names.
@@ -46,15 +47,17 @@ fn latest_below<R: Rows>(
     Ok(Some((stamp, value)))
 }
 
-/// The start that a record's text names. `Damaged` where it names none.
-fn start_of(text: &[u8]) -> Result<Moment, Refusal>
-    ensures named { IfOk result (NamesStart text.now) }
+/// The start that a record's text names, and the kind of its write. `Damaged` where it names none.
+fn write_of(text: &[u8]) -> Result<(Moment, WriteKind), Refusal>
+    ensures named { IfOk result (λ write. NamesWrite text.now write.0 write.1) }
     ensures refusal { IfErr result (λ refusal. refusal ≡ Refusal.Damaged) }
     ensures damaged { IfErr result (λ refusal.
         (t : ℕ) → 1 ≤ t → t < 2 ^ 63 → ¬ NamesStart text.now t) }
 {
-    match named_start(text) {
-        Some(start) if 1 <= start && start <= MOST_STAMP => Ok(Moment::new(start)),
+    match named_write(text) {
+        Some((start, kind)) if 1 <= start && start <= MOST_STAMP => {
+            Ok((Moment::new(start), kind))
+        }
         _ => Err(Refusal::Damaged),
     }
 }
@@ -91,18 +94,27 @@ pub(crate) fn old_records<R: Rows>(
         let Some((commit, text)) = next else {
             return Ok(found);
         };
-        let start = start_of(&text)?;
+        let (start, _) = write_of(&text)?;
         found.push((Moment::new(commit), start))?;
         below = commit;
     }
     Ok(found)
 }
 
+/// The starts that the records nearest to a floor name.
+#[derive(Clone, Copy, Drop)]
+pub(crate) struct NearStarts {
+    /// That of the newest record at or below the floor, if there is one.
+    last: Option<Stamp>,
+    /// That of the oldest record above the floor, if there is one.
+    next: Option<Stamp>,
+}
+
 /// Whether a start is one of the two.
-fn is_among(start: Stamp, near: (Option<Stamp>, Option<Stamp>)) -> bool
+fn is_among(start: Stamp, near: NearStarts) -> bool
     ensures { IsTrue result ↔ IsAmong start near }
 {
-    near.0 == Some(start) || near.1 == Some(start)
+    near.last == Some(start) || near.next == Some(start)
 }
 
 /// The start that a record names, if there is one. `Damaged` where it names none.
@@ -112,7 +124,7 @@ fn named_by(found: Option<(Stamp, Vec<u8>)>) -> Result<Option<Stamp>, Refusal>
     ensures damaged { IfErr result (λ refusal. NamesNone (option_map stamped found)) }
 {
     match found {
-        Some((_, text)) => Ok(Some(start_of(&text)?.stamp())),
+        Some((_, text)) => Ok(Some(write_of(&text)?.0.stamp())),
         None => Ok(None),
     }
 }
@@ -139,55 +151,75 @@ fn next_start<R: Rows>(rows: &mut R, cell: &Cell, floor: Stamp) -> Result<Option
     named_by(next)
 }
 
-/// The starts that the newest record at or below the floor and the oldest one above it name.
+/// The stamp of a record where its write is a deletion.
+fn deletion_at(commit: Moment, kind: WriteKind) -> Option<Moment>
+    ensures some { IfSome result (λ at. (at ≡ commit) × (kind ≡ Kind.Delete)) }
+    ensures none { IfNone result (kind ≡ Kind.Set) }
+{
+    match kind {
+        WriteKind::Set => None,
+        WriteKind::Delete => Some(commit),
+    }
+}
+
+/// The starts that the records nearest to the floor name, and the stamp of the newest record at or
+/// below the floor where that is a deletion's.
 ///
 /// # Errors
 ///
 /// As for `old_records`.
-fn near_starts<R: Rows>(
+pub(crate) fn near_records<R: Rows>(
     rows: &mut R,
     cell: &Cell,
     floor: Stamp,
-) -> Result<(Option<Stamp>, Option<Stamp>), Refusal>
-    ensures named { R.holds rows.old → IfOk result (λ near.
-        NamesLast (R.cells rows.old) cell.now floor near.0) }
-    ensures above { R.holds rows.old → IfOk result (λ near.
-        NamesNext (R.cells rows.old) cell.now floor near.1) }
+) -> Result<(NearStarts, Option<Moment>), Refusal>
+    ensures named { R.holds rows.old
+        → IfOk result (λ found. AreNear (R.cells rows.old) cell.now floor found.0) }
+    ensures deletion { R.holds rows.old
+        → AreShown (R.cells rows.old)
+        → IfOk result (λ found. IsLastDeletion (R.cells rows.old) cell.now floor found.1) }
     ensures reads { OnlyReads R.holds R.cells R.overfills R.storage rows.old rows.new }
     ensures refusal { IfErr result (IsRefusalOfRead
         (R.holds rows.old × AreShown (R.cells rows.old))) }
     ensures reason { HasReason (R.faults rows.old) (R.faults rows.new) result }
 {
     let last = rows.newest(&cell.row, &cell.family, Qualifier::Write, 0, floor)?;
-    let last = named_by(last)?;
+    let Some((commit, text)) = last else {
+        let next = next_start(rows, cell, floor)?;
+        return Ok((NearStarts { last: None, next }, None));
+    };
+    let (start, kind) = write_of(&text)?;
+    let deletion = deletion_at(Moment::new(commit), kind);
+    let last = Some(start.stamp());
     let next = next_start(rows, cell, floor)?;
-    Ok((last, next))
+    Ok((NearStarts { last, next }, deletion))
 }
 
 /// The newest 256 data below the floor that no record names, newest first; all of them, if they are
-/// fewer. The cell has at most one record at or below the floor.
+/// fewer. The cell has at most one record at or below the floor, and `near` has the starts that the
+/// records nearest to the floor name.
 ///
 /// # Errors
 ///
-/// As for `old_records`.
+/// `Device`, `NoMemory` or `Damaged`, as for every read.
 pub(crate) fn unnamed_data<R: Rows>(
     alloc: Global,
     rows: &mut R,
     cell: &Cell,
     floor: Stamp,
+    near: NearStarts,
 ) -> Result<Vec<Moment>, Refusal>
     ensures found { R.holds rows.old
         → AreShown (R.cells rows.old)
         → HasOneRecord (R.cells rows.old) cell.now floor
+        → AreNear (R.cells rows.old) cell.now floor near
         → IfOk result (λ found. AreUnnamed (R.cells rows.old) cell.now floor found.items) }
     ensures few { IfOk result (λ found. length found.items ≤ 256) }
     ensures reads { OnlyReads R.holds R.cells R.overfills R.storage rows.old rows.new }
-    ensures refusal { IfErr result (IsRefusalOfRead
-        (R.holds rows.old × AreShown (R.cells rows.old))) }
+    ensures refusal { IfErr result (IsRefusalOfRead (R.holds rows.old)) }
     ensures reason { HasReason (R.faults rows.old) (R.faults rows.new) result }
 {
     let mut found = Vec::with_capacity(alloc, MOST_DATA)?;
-    let near = near_starts(rows, cell, floor)?;
     let mut below = floor;
     while found.len() < MOST_DATA {
         let next = latest_below(rows, cell, Qualifier::Data, below)?;

@@ -14,7 +14,7 @@ const RAW: &[u8] = b"\x11\0\0\0\x01m\0\0\0\x01c\x02\0\0\0\0\0\0\0\0\0\0\0\0\0\0\
 const RAW_FOUND: &[u8] = b"\x91\x01\0\0\0\0\0\0\0\x01\0\0\0\x06m\0\0c\0\0";
 
 /// A request of each kind.
-const REQUESTS: [&[u8]; 18] = [
+const REQUESTS: [&[u8]; 19] = [
     b"\x01",
     GET,
     SET,
@@ -33,13 +33,15 @@ const REQUESTS: [&[u8]; 18] = [
     b"\x10",
     RAW,
     b"\x12",
+    b"\x13\0\0\0\0\0\0\0\x01\0\0\0\x01r\0\0\0\x01c",
 ];
 
 /// Bodies outside the grammar of requests.
-const NO_REQUESTS: [&[u8]; 22] = [
+const NO_REQUESTS: [&[u8]; 25] = [
     b"",
     b"\0",
     b"\x13",
+    b"\x14",
     b"\x01\0",
     b"\x02\0\0\0\0\0\0\0\x01\0\0\0\x01a\0\0\0\x03bal\0",
     b"\x02\0\0\0\0\0\0\0\x01\0\0\0\x01a\0\0\0\x03ba",
@@ -56,6 +58,8 @@ const NO_REQUESTS: [&[u8]; 22] = [
     b"\x0E\0\0\0\x02\0\x03",
     b"\x0F\0",
     b"\x12\0",
+    b"\x13\0\0\0\0\0\0\0\x01\0\0\0\x01r\0\0\0\x01c\0",
+    b"\x13\0\0\0\0\0\0\0\x01\0\0\0\x01r",
     b"\x11\0\0\0\x01m\0\0\0\x01c\x04\0\0\0\0\0\0\0\0\0\0\0\0\0\0\0\x09",
     b"\x11\0\0\0\x01m\0\0\0\x01c\0\0\0\0\0\0\0\0\0\0\0\0\0\0\0\0\x09",
     b"\x11\0\0\0\x01m\0\0\0\x01c\x02\0\0\0\0\0\0\0\0\0\0\0\0\0\0\0",
@@ -83,7 +87,7 @@ fn bodies_of_requests(rt: HostRuntime) -> Result<(), Fail> {
 }
 
 /// A reply of each kind.
-const REPLIES: [&[u8]; 33] = [
+const REPLIES: [&[u8]; 34] = [
     b"\x81\0\0\0\0\0\0\0\x01",
     b"\x82\0",
     b"\x82\x01\0\0\0\x0210",
@@ -116,11 +120,12 @@ const REPLIES: [&[u8]; 33] = [
     b"\x91\0",
     RAW_FOUND,
     b"\x92",
+    b"\x93",
     b"\xFF\x16",
 ];
 
 /// Bodies outside the grammar of replies.
-const NO_REPLIES: [&[u8]; 23] = [
+const NO_REPLIES: [&[u8]; 24] = [
     b"",
     b"\x01",
     b"\x82",
@@ -141,6 +146,7 @@ const NO_REPLIES: [&[u8]; 23] = [
     b"\x91\x01\0\0\0\0\0\0\0\x01\0\0\0\x06m\0\0c\0",
     b"\x91\x02",
     b"\x92\0",
+    b"\x93\0",
     b"\xFF\0",
     b"\xFF\x18",
     b"\xFF\x16\0",

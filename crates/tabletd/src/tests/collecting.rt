@@ -24,10 +24,10 @@ const COLLECTED: [Exchange; 2] = [
 
 /// The old versions are gone.
 const OLD_GONE: [Exchange; 3] = [
-    // Raw Joe bal write 0..9: stamp 4, start 3
+    // Raw Joe bal write 0..9: stamp 4, start 3, set
     (
         b"\x11\0\0\0\x03Joe\0\0\0\x03bal\x03\0\0\0\0\0\0\0\0\0\0\0\0\0\0\0\x09",
-        b"\x91\x01\0\0\0\0\0\0\0\x04\0\0\0\x08\0\0\0\0\0\0\0\x03",
+        b"\x91\x01\0\0\0\0\0\0\0\x04\0\0\0\x09\0\0\0\0\0\0\0\x03S",
     ),
     // Raw Joe bal write 0..3: nothing
     (
@@ -138,10 +138,10 @@ const OLD_READER: [Exchange; 22] = [
         b"\x02\0\0\0\0\0\0\0\x06\0\0\0\x01x\0\0\0\x01c",
         b"\x82\x01\0\0\0\x012",
     ),
-    // Raw x c write 0..4: stamp 3, start 2
+    // Raw x c write 0..4: stamp 3, start 2, set
     (
         b"\x11\0\0\0\x01x\0\0\0\x01c\x03\0\0\0\0\0\0\0\0\0\0\0\0\0\0\0\x04",
-        b"\x91\x01\0\0\0\0\0\0\0\x03\0\0\0\x08\0\0\0\0\0\0\0\x02",
+        b"\x91\x01\0\0\0\0\0\0\0\x03\0\0\0\x09\0\0\0\0\0\0\0\x02S",
     ),
     // Stop 1: done
     (b"\x05\0\0\0\0\0\0\0\x01", b"\x85"),

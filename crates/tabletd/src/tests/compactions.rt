@@ -10,19 +10,19 @@ use std::alloc::Global;
 use std::test::Fail;
 
 /// The file of 3 at the stamp 3, an erasure at 2, and 7 at 1.
-const ERASURE_KEPT: &[u8] = b"TABLET01\
+const ERASURE_KEPT: &[u8] = b"TABLET02\
     \0\0\0\x16a\0\0bal\0\0data\0\0\xFF\xFF\xFF\xFF\xFF\xFF\xFF\xFC\x01\0\0\0\x013\
     \0\0\0\x16a\0\0bal\0\0data\0\0\xFF\xFF\xFF\xFF\xFF\xFF\xFF\xFD\0\
     \0\0\0\x16a\0\0bal\0\0data\0\0\xFF\xFF\xFF\xFF\xFF\xFF\xFF\xFE\x01\0\0\0\x017\
-    \0\0\0\x08\0\0\0\x5B\0\0\0\x16a\0\0bal\0\0data\0\0\xFF\xFF\xFF\xFF\xFF\xFF\xFF\xFC\
-    \0\0\0\x63\0\0\0\x01\0\0\0\x03\0\0\0\x9DTABLETZZ";
+    \0\0\0\0\0\0\0\x08\0\0\0\0\0\0\0\x5B\0\0\0\x16a\0\0bal\0\0data\0\0\xFF\xFF\xFF\xFF\xFF\xFF\xFF\xFC\
+    \0\0\0\0\0\0\0\x63\0\0\0\0\0\0\0\x01\0\0\0\0\0\0\0\x03\0\0\0\0\0\0\0\xB5TABLETZZ";
 
 /// The same without the erasure.
-const ERASURE_DROPPED: &[u8] = b"TABLET01\
+const ERASURE_DROPPED: &[u8] = b"TABLET02\
     \0\0\0\x16a\0\0bal\0\0data\0\0\xFF\xFF\xFF\xFF\xFF\xFF\xFF\xFC\x01\0\0\0\x013\
     \0\0\0\x16a\0\0bal\0\0data\0\0\xFF\xFF\xFF\xFF\xFF\xFF\xFF\xFE\x01\0\0\0\x017\
-    \0\0\0\x08\0\0\0\x40\0\0\0\x16a\0\0bal\0\0data\0\0\xFF\xFF\xFF\xFF\xFF\xFF\xFF\xFC\
-    \0\0\0\x48\0\0\0\x01\0\0\0\x02\0\0\0\x82TABLETZZ";
+    \0\0\0\0\0\0\0\x08\0\0\0\0\0\0\0\x40\0\0\0\x16a\0\0bal\0\0data\0\0\xFF\xFF\xFF\xFF\xFF\xFF\xFF\xFC\
+    \0\0\0\0\0\0\0\x48\0\0\0\0\0\0\0\x01\0\0\0\0\0\0\0\x02\0\0\0\0\0\0\0\x9ATABLETZZ";
 
 /// What an older file holds at stamps of (`a`, `bal`, data), and what a newer memtable does.
 const OLDER: [(Stamp, Option<&[u8]>); 3] = [(3, Some(b"3")), (2, Some(b"2")), (1, Some(b"1"))];

@@ -3,6 +3,7 @@
 use cell_key::MOST_STAMP;
 use file_store::{DirFiles, FileFault, Files};
 use oracle::{DirMark, MarkStore};
+use std::os::unix::fs::symlink;
 use std::test::Fail;
 use std::{fs, io, process};
 
@@ -140,5 +141,39 @@ fn a_folder_is_removed(rt: HostRuntime) -> Result<(), Fail> {
     assert!(rt; mark.store(5).is_err());
     assert!(rt; matches!(DirFiles::open(rt, path), Err(FileFault::Device)));
     assert!(rt; DirMark::open(rt, path).is_err());
+    Ok(())
+}
+
+/// A file that can't be put in its place, where a folder stands, leaves nothing beside it, and is put there later.
+#[test]
+fn a_failed_put_leaves_nothing(rt: HostRuntime) -> Result<(), Fail> {
+    let folder = new_folder(&rt, "taken")?;
+    let path = folder.as_str();
+    let place = format!(in rt.alloc(); "{path}/t0000000000000005.tab")?;
+    let beside = format!(in rt.alloc(); "{path}/t0000000000000005.new")?;
+    let mut files = DirFiles::open(rt, path)?;
+    fs::create_dir(&rt, place.as_str())?;
+    assert!(rt; files.put(5, b"five") == Err(FileFault::Device));
+    assert!(rt; !fs::exists(&rt, beside.as_str())? && files.faults() == 1);
+    fs::remove_dir(&rt, place.as_str())?;
+    files.put(5, b"five")?;
+    assert!(rt; files.size(5)? == Some(4) && files.faults() == 1);
+    fs::remove_dir_all(&rt, path)?;
+    Ok(())
+}
+
+/// A file is never written where it stands: what its place linked to is as before.
+#[test]
+fn files_are_put_in_place_whole(rt: HostRuntime) -> Result<(), Fail> {
+    let folder = new_folder(&rt, "links")?;
+    let path = folder.as_str();
+    let old = format!(in rt.alloc(); "{path}/old")?;
+    let place = format!(in rt.alloc(); "{path}/t0000000000000005.tab")?;
+    fs::write(&rt, old.as_str(), "old")?;
+    symlink(&rt, old.as_str(), place.as_str())?;
+    DirFiles::open(rt, path)?.put(5, b"five")?;
+    assert!(rt; fs::read(&rt, old.as_str())?.as_slice() == b"old".as_slice());
+    assert!(rt; fs::read(&rt, place.as_str())?.as_slice() == b"five".as_slice());
+    fs::remove_dir_all(&rt, path)?;
     Ok(())
 }

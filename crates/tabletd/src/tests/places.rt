@@ -53,8 +53,11 @@ fn places_of_rows(rt: HostRuntime) -> Result<(), Fail> {
     Ok(())
 }
 
-/// The root of a new store.
+/// The root of a new store, and that of format 1.
 pub const NEW_ROOT: &[u8] =
+    b"TABROOT2\0\0\0\0\0\0\0\0\0\0\0\0\0\0\0\0\0\0\0\0\0\0\0\x01\0\0\0\x02\0\0\0\x01\0\0\0\x01\x01\0\0\0\0\0TABROOTZ";
+
+const OLD_ROOT: &[u8] =
     b"TABROOT1\0\0\0\0\0\0\0\0\0\0\0\0\0\0\0\0\0\0\0\0\0\0\0\x01\0\0\0\x02\0\0\0\x01\0\0\0\x01\x01\0\0\0\0\0TABROOTZ";
 
 /// Whether the bytes are a root, and that of a new store.
@@ -81,11 +84,52 @@ fn is_no_root(alloc: Global, bytes: &[u8]) -> Result<bool, Refusal> {
 #[test]
 fn root_of_a_new_store(rt: HostRuntime) -> Result<(), Fail> {
     let mut out = Vec::new(rt.alloc());
-    MetadataTable::new(rt.alloc())?.write_root(0, 0, 1, &mut out)?;
+    MetadataTable::new(rt.alloc())?.write_root(0, 0, 1, &[], &mut out)?;
     assert!(rt; out.len() == 58 && out.as_slice() == NEW_ROOT);
-    assert!(rt; is_root(rt.alloc(), &out)?);
+    assert!(rt; is_root(rt.alloc(), &out)? && is_root(rt.alloc(), OLD_ROOT)?);
     out.push(0)?;
     assert!(rt; is_no_root(rt.alloc(), &out)?);
     assert!(rt; is_no_root(rt.alloc(), &out[..57])?);
+    Ok(())
+}
+
+/// Roots of a store with the file 2, of 398 bytes, and the lengths that are read: in format 2, in format 1, which names
+/// none, and each with the head of the other.
+const ROOTS_OF_A_FILE: [(&[u8], Option<&[u64]>); 4] = [
+    (
+        b"TABROOT2\0\0\0\0\0\0\x03\xE9\0\0\0\0\0\0\0\0\0\0\0\0\0\0\0\x03\
+        \0\0\0\x02\0\0\0\x01\0\0\0\x01\x01\0\0\0\0\x01\0\0\0\0\0\0\0\x02\0\0\0\0\0\0\x01\x8ETABROOTZ",
+        Some(&[398]),
+    ),
+    (
+        b"TABROOT1\0\0\0\0\0\0\x03\xE9\0\0\0\0\0\0\0\0\0\0\0\0\0\0\0\x03\
+        \0\0\0\x02\0\0\0\x01\0\0\0\x01\x01\0\0\0\0\x01\0\0\0\0\0\0\0\x02TABROOTZ",
+        Some(&[]),
+    ),
+    (
+        b"TABROOT1\0\0\0\0\0\0\x03\xE9\0\0\0\0\0\0\0\0\0\0\0\0\0\0\0\x03\
+        \0\0\0\x02\0\0\0\x01\0\0\0\x01\x01\0\0\0\0\x01\0\0\0\0\0\0\0\x02\0\0\0\0\0\0\x01\x8ETABROOTZ",
+        None,
+    ),
+    (
+        b"TABROOT2\0\0\0\0\0\0\x03\xE9\0\0\0\0\0\0\0\0\0\0\0\0\0\0\0\x03\
+        \0\0\0\x02\0\0\0\x01\0\0\0\x01\x01\0\0\0\0\x01\0\0\0\0\0\0\0\x02TABROOTZ",
+        None,
+    ),
+];
+
+/// Whether these lengths are read of a root, or it is none.
+fn has_lengths(alloc: Global, bytes: &[u8], lengths: Option<&[u64]>) -> Result<bool, Refusal> {
+    match MetadataTable::read_root(alloc, bytes)? {
+        Some(root) => Ok(lengths == Some(root.lengths.as_slice())),
+        None => Ok(lengths.is_none()),
+    }
+}
+
+#[test]
+fn roots_of_a_file(rt: HostRuntime) -> Result<(), Fail> {
+    for (bytes, lengths) in ROOTS_OF_A_FILE {
+        assert!(rt; has_lengths(rt.alloc(), bytes, lengths)?);
+    }
     Ok(())
 }

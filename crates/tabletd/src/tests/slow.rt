@@ -3,20 +3,28 @@
 use cell_key::{CellKey, Refusal};
 use std::alloc::Global;
 
-/// The number of four bytes at a place, the highest first.
-fn number_at(bytes: &[u8], at: usize) -> Option<usize> {
-    let (_, rest) = bytes.split_at_checked(at)?;
-    let (four, _) = rest.split_at_checked(4)?;
-    let mut number = 0u64;
-    for byte in four {
-        number = (number % 0x0100_0000) * 256 + u64::from(*byte);
+/// How many bytes a number of index and foot has, and how many the foot has, as the head of a file says.
+fn widths(bytes: &[u8]) -> Option<(usize, usize)> {
+    if bytes.starts_with(b"TABLET01") {
+        return Some((4, 24));
     }
-    usize::try_from(number).ok()
+    bytes.starts_with(b"TABLET02").then_some((8, 40))
+}
+
+/// The number that `width` bytes at a place make, the highest first.
+fn number_at(bytes: &[u8], at: usize, width: usize) -> Option<usize> {
+    let (_, rest) = bytes.split_at_checked(at)?;
+    let (number, _) = rest.split_at_checked(width)?;
+    let mut sum = 0u64;
+    for byte in number {
+        sum = (sum % 0x0100_0000_0000_0000) * 256 + u64::from(*byte);
+    }
+    usize::try_from(sum).ok()
 }
 
 /// The field of bytes at a place, and the place after it.
 fn field_at(bytes: &[u8], at: usize) -> Option<(&[u8], usize)> {
-    let len = number_at(bytes, at)?;
+    let len = number_at(bytes, at, 4)?;
     let from = at.checked_add(4)?;
     let (_, rest) = bytes.split_at_checked(from)?;
     let (field, _) = rest.split_at_checked(len)?;
@@ -68,53 +76,62 @@ fn entries_up_to(
 }
 
 /// Whether the row of the one block stands at the index, and ends where the foot begins.
-fn is_row(bytes: &[u8], index_at: usize, foot_at: usize, first: &[u8]) -> Option<bool> {
-    let field_from = index_at.checked_add(8)?;
+fn is_row(
+    bytes: &[u8],
+    index_at: usize,
+    foot_at: usize,
+    width: usize,
+    first: &[u8],
+) -> Option<bool> {
+    let length_at = index_at.checked_add(width)?;
+    let field_from = length_at.checked_add(width)?;
     let (key, end) = field_at(bytes, field_from)?;
-    let length_at = index_at.checked_add(4)?;
-    let is_place = number_at(bytes, index_at)? == 8;
-    let is_length = number_at(bytes, length_at)?.checked_add(8)? == index_at;
+    let is_place = number_at(bytes, index_at, width)? == 8;
+    let is_length = number_at(bytes, length_at, width)?.checked_add(8)? == index_at;
     Some(is_place && is_length && key == first && end == foot_at)
 }
 
-/// Whether the bytes are a file, if all its entries fit in one block.
+/// Whether the numbers of the foot are these, one after the other.
+fn are_numbers(bytes: &[u8], foot_at: usize, width: usize, numbers: &[usize]) -> bool {
+    let mut at = foot_at;
+    for number in numbers {
+        if number_at(bytes, at, width) != Some(*number) {
+            return false;
+        }
+        at = at.saturating_add(width);
+    }
+    true
+}
+
+/// Whether the bytes are a file of either format, if all its entries fit in one block.
 pub fn is_file(alloc: Global, bytes: &[u8]) -> Result<bool, Refusal> {
-    let Some(foot_at) = bytes.len().checked_sub(24) else {
+    let Some((width, foot_len)) = widths(bytes) else {
         return Ok(false);
     };
-    if !bytes.starts_with(b"TABLET01") || !bytes.ends_with(b"TABLETZZ") {
+    let Some(foot_at) = bytes.len().checked_sub(foot_len) else {
         return Ok(false);
-    }
-    let numbers = [
-        foot_at,
-        foot_at.saturating_add(4),
-        foot_at.saturating_add(8),
-        foot_at.saturating_add(12),
-    ];
-    let Some(index_at) = number_at(bytes, numbers[0]) else {
+    };
+    let Some(index_at) = number_at(bytes, foot_at, width) else {
         return Ok(false);
     };
     let Some((count, first)) = entries_up_to(alloc, bytes, index_at)? else {
         return Ok(false);
     };
-    let blocks = if count == 0 { 0 } else { 1 };
-    let row = if count == 0 {
-        index_at == foot_at
-    } else {
-        is_row(bytes, index_at, foot_at, first).unwrap_or(false)
+    let is_index = match count {
+        0 => index_at == foot_at,
+        _ => is_row(bytes, index_at, foot_at, width, first).unwrap_or(false),
     };
-    Ok(
-        row && number_at(bytes, numbers[1]) == Some(blocks)
-            && number_at(bytes, numbers[2]) == Some(count)
-            && number_at(bytes, numbers[3]) == Some(bytes.len()),
-    )
+    let numbers = [index_at, count.min(1), count, bytes.len()];
+    let is_foot = are_numbers(bytes, foot_at, width, &numbers) && bytes.ends_with(b"TABLETZZ");
+    Ok(is_index && is_foot)
 }
 
-/// What stands at a text among the entries of a file, from the place 8 up to the index: a value, `Some(None)` where it is
-/// an erasure, and `None` where there is no entry.
+/// What stands at a text among the entries of a file of either format, from the place 8 up to the index: a value, `Some(None)`
+/// where it is an erasure, and `None` where there is no entry.
 pub fn found_at<'a>(bytes: &'a [u8], text: &[u8]) -> Option<Option<&'a [u8]>> {
-    let foot_at = bytes.len().checked_sub(24)?;
-    let index_at = number_at(bytes, foot_at)?;
+    let (width, foot_len) = widths(bytes)?;
+    let foot_at = bytes.len().checked_sub(foot_len)?;
+    let index_at = number_at(bytes, foot_at, width)?;
     let mut at = 8;
     for _ in 0..bytes.len() {
         if at >= index_at {

@@ -28,7 +28,27 @@ const TWO: &[u8] = b"TABLET01\
     \0\0\0\x08\0\0\0\x42\0\0\0\x16a\0\0bal\0\0data\0\0\xFF\xFF\xFF\xFF\xFF\xFF\xFF\xFD\
     \0\0\0\x4A\0\0\0\x01\0\0\0\x02\0\0\0\x84TABLETZZ";
 
-/// The same entries in two blocks, where one would do.
+/// The same in format 2, in which files are written: a file of no entries.
+const EMPTY_NEW: &[u8] = b"TABLET02\
+    \0\0\0\0\0\0\0\x08\0\0\0\0\0\0\0\0\
+    \0\0\0\0\0\0\0\0\0\0\0\0\0\0\0\x30TABLETZZ";
+
+/// The one entry in format 2.
+const ONE_NEW: &[u8] = b"TABLET02\
+    \0\0\0\x16a\0\0bal\0\0data\0\0\xFF\xFF\xFF\xFF\xFF\xFF\xFF\xFE\x01\0\0\0\x0210\
+    \0\0\0\0\0\0\0\x08\0\0\0\0\0\0\0\x21\0\0\0\x16a\0\0bal\0\0data\0\0\xFF\xFF\xFF\xFF\xFF\xFF\xFF\xFE\
+    \0\0\0\0\0\0\0\x29\0\0\0\0\0\0\0\x01\
+    \0\0\0\0\0\0\0\x01\0\0\0\0\0\0\0\x7BTABLETZZ";
+
+/// The two entries in format 2.
+const TWO_NEW: &[u8] = b"TABLET02\
+    \0\0\0\x16a\0\0bal\0\0data\0\0\xFF\xFF\xFF\xFF\xFF\xFF\xFF\xFD\x01\0\0\0\x0210\
+    \0\0\0\x16a\0\0bal\0\0data\0\0\xFF\xFF\xFF\xFF\xFF\xFF\xFF\xFE\x01\0\0\0\x0210\
+    \0\0\0\0\0\0\0\x08\0\0\0\0\0\0\0\x42\0\0\0\x16a\0\0bal\0\0data\0\0\xFF\xFF\xFF\xFF\xFF\xFF\xFF\xFD\
+    \0\0\0\0\0\0\0\x4A\0\0\0\0\0\0\0\x01\
+    \0\0\0\0\0\0\0\x02\0\0\0\0\0\0\0\x9CTABLETZZ";
+
+/// The two entries in format 1 in two blocks, where one would do.
 const SPLIT_EARLY: &[u8] = b"TABLET01\
     \0\0\0\x16a\0\0bal\0\0data\0\0\xFF\xFF\xFF\xFF\xFF\xFF\xFF\xFD\x01\0\0\0\x0210\
     \0\0\0\x16a\0\0bal\0\0data\0\0\xFF\xFF\xFF\xFF\xFF\xFF\xFF\xFE\x01\0\0\0\x0210\
@@ -36,20 +56,42 @@ const SPLIT_EARLY: &[u8] = b"TABLET01\
     \0\0\0\x29\0\0\0\x21\0\0\0\x16a\0\0bal\0\0data\0\0\xFF\xFF\xFF\xFF\xFF\xFF\xFF\xFE\
     \0\0\0\x4A\0\0\0\x02\0\0\0\x02\0\0\0\xA6TABLETZZ";
 
+/// The same in format 2.
+const SPLIT_EARLY_NEW: &[u8] = b"TABLET02\
+    \0\0\0\x16a\0\0bal\0\0data\0\0\xFF\xFF\xFF\xFF\xFF\xFF\xFF\xFD\x01\0\0\0\x0210\
+    \0\0\0\x16a\0\0bal\0\0data\0\0\xFF\xFF\xFF\xFF\xFF\xFF\xFF\xFE\x01\0\0\0\x0210\
+    \0\0\0\0\0\0\0\x08\0\0\0\0\0\0\0\x21\0\0\0\x16a\0\0bal\0\0data\0\0\xFF\xFF\xFF\xFF\xFF\xFF\xFF\xFD\
+    \0\0\0\0\0\0\0\x29\0\0\0\0\0\0\0\x21\0\0\0\x16a\0\0bal\0\0data\0\0\xFF\xFF\xFF\xFF\xFF\xFF\xFF\xFE\
+    \0\0\0\0\0\0\0\x4A\0\0\0\0\0\0\0\x02\
+    \0\0\0\0\0\0\0\x02\0\0\0\0\0\0\0\xC6TABLETZZ";
+
+/// The one entry with the head of format 2 and the index and foot of format 1, and the other way.
+const ONE_MIXED: [&[u8]; 2] = [
+    b"TABLET02\
+    \0\0\0\x16a\0\0bal\0\0data\0\0\xFF\xFF\xFF\xFF\xFF\xFF\xFF\xFE\x01\0\0\0\x0210\
+    \0\0\0\x08\0\0\0\x21\0\0\0\x16a\0\0bal\0\0data\0\0\xFF\xFF\xFF\xFF\xFF\xFF\xFF\xFE\
+    \0\0\0\x29\0\0\0\x01\0\0\0\x01\0\0\0\x63TABLETZZ",
+    b"TABLET01\
+    \0\0\0\x16a\0\0bal\0\0data\0\0\xFF\xFF\xFF\xFF\xFF\xFF\xFF\xFE\x01\0\0\0\x0210\
+    \0\0\0\0\0\0\0\x08\0\0\0\0\0\0\0\x21\0\0\0\x16a\0\0bal\0\0data\0\0\xFF\xFF\xFF\xFF\xFF\xFF\xFF\xFE\
+    \0\0\0\0\0\0\0\x29\0\0\0\0\0\0\0\x01\
+    \0\0\0\0\0\0\0\x01\0\0\0\0\0\0\0\x7BTABLETZZ",
+];
+
 /// Opens a file of these bytes under the name 1.
 fn opened(alloc: Global, files: &mut MemFiles, bytes: &[u8]) -> Result<SortedFile, Refusal> {
     refused(files.put(1, bytes))?;
     SortedFile::open(alloc, 1, files)
 }
 
-/// Whether a file of these bytes is opened, and is written again with the same bytes.
-fn is_written_again(alloc: Global, bytes: &[u8]) -> Result<bool, Refusal> {
+/// Whether a file of these bytes is opened, and is written again with these other bytes.
+fn is_written_as(alloc: Global, bytes: &[u8], again: &[u8]) -> Result<bool, Refusal> {
     let mut files = MemFiles::new(alloc);
     let file = opened(alloc, &mut files, bytes)?;
     let mut cursor = file.cursor(b"");
     write_file(alloc, &mut cursor, 2, FILE_LIMIT, &mut files)?;
     match read_whole(alloc, &mut files, 2) {
-        Ok(Some(written)) => Ok(written.as_slice() == bytes),
+        Ok(Some(written)) => Ok(written.as_slice() == again),
         _ => Ok(false),
     }
 }
@@ -73,6 +115,22 @@ const AFTER_VALUES: &[u8] = b"\
     \0\0\x10\x08\0\0\x08\0\0\0\0\x16a\0\0bal\0\0data\0\0\xFF\xFF\xFF\xFF\xFF\xFF\xFF\xFE\
     \0\0\x18\x08\0\0\0\x02\0\0\0\x03\0\0\x18\x64TABLETZZ";
 
+/// What stands after them in format 2.
+const AFTER_VALUES_NEW: &[u8] = b"\
+    \0\0\0\0\0\0\0\x08\0\0\0\0\0\0\x10\0\0\0\0\x16a\0\0bal\0\0data\0\0\xFF\xFF\xFF\xFF\xFF\xFF\xFF\xFC\
+    \0\0\0\0\0\0\x10\x08\0\0\0\0\0\0\x08\0\0\0\0\x16a\0\0bal\0\0data\0\0\xFF\xFF\xFF\xFF\xFF\xFF\xFF\xFE\
+    \0\0\0\0\0\0\x18\x08\0\0\0\0\0\0\0\x02\
+    \0\0\0\0\0\0\0\x03\0\0\0\0\0\0\x18\x84TABLETZZ";
+
+/// The file of three entries in format 2.
+fn three_new(alloc: Global) -> Result<Vec<u8>, AllocError> {
+    let mut bytes = three(alloc)?;
+    bytes.truncate(6152);
+    put_at(&mut bytes, 7, b'2');
+    bytes.extend_from_slice(AFTER_VALUES_NEW)?;
+    Ok(bytes)
+}
+
 /// A file of three entries at the stamps 3, 2 and 1, with values of 2,017 bytes: two blocks.
 fn three(alloc: Global) -> Result<Vec<u8>, AllocError> {
     let value = vec![in alloc; b'v'; 2017]?;
@@ -85,12 +143,21 @@ fn three(alloc: Global) -> Result<Vec<u8>, AllocError> {
     Ok(bytes)
 }
 
+/// Files of either format are read, and written in format 2.
 #[test]
 fn files_of_literal_bytes(rt: HostRuntime) -> Result<(), Fail> {
     let three = three(rt.alloc())?;
-    for (bytes, len) in [(EMPTY, 32), (ONE, 99), (TWO, 132), (&three, 6244)] {
-        assert!(rt; bytes.len() == len);
-        assert!(rt; is_written_again(rt.alloc(), bytes)?);
+    let three_new = three_new(rt.alloc())?;
+    let pairs = [
+        (EMPTY, 32, EMPTY_NEW, 48),
+        (ONE, 99, ONE_NEW, 123),
+        (TWO, 132, TWO_NEW, 156),
+        (&three, 6244, &three_new, 6276),
+    ];
+    for (old, old_len, new, new_len) in pairs {
+        assert!(rt; old.len() == old_len && new.len() == new_len);
+        assert!(rt; is_written_as(rt.alloc(), old, new)?);
+        assert!(rt; is_written_as(rt.alloc(), new, new)?);
     }
     Ok(())
 }
@@ -119,10 +186,15 @@ const CHANGES: [(usize, u8, bool); 4] = [
 
 #[test]
 fn damaged_files(rt: HostRuntime) -> Result<(), Fail> {
-    assert!(rt; SPLIT_EARLY.len() == 166);
-    assert!(rt; is_damaged(rt.alloc(), SPLIT_EARLY));
+    assert!(rt; SPLIT_EARLY.len() == 166 && SPLIT_EARLY_NEW.len() == 198);
+    for bytes in [SPLIT_EARLY, SPLIT_EARLY_NEW, ONE_MIXED[0], ONE_MIXED[1]] {
+        assert!(rt; is_damaged(rt.alloc(), bytes));
+    }
     for len in 0..99 {
         assert!(rt; is_damaged(rt.alloc(), &ONE[..len]));
+    }
+    for len in 0..123 {
+        assert!(rt; is_damaged(rt.alloc(), &ONE_NEW[..len]));
     }
     for (at, byte, damaged) in CHANGES {
         assert!(rt; is_damaged_by(rt.alloc(), at, byte)? == damaged);
@@ -131,8 +203,8 @@ fn damaged_files(rt: HostRuntime) -> Result<(), Fail> {
 }
 
 /// Whether the slow reader and `open` agree on each change of the byte at a place.
-fn agree_at(alloc: Global, at: usize) -> Result<bool, Refusal> {
-    let mut bytes = Vec::from_slice(alloc, ONE)?;
+fn agree_at(alloc: Global, file: &[u8], at: usize) -> Result<bool, Refusal> {
+    let mut bytes = Vec::from_slice(alloc, file)?;
     for byte in 0..=255 {
         put_at(&mut bytes, at, byte);
         if is_file(alloc, &bytes)? == is_damaged(alloc, &bytes) {
@@ -144,10 +216,14 @@ fn agree_at(alloc: Global, at: usize) -> Result<bool, Refusal> {
 
 #[test]
 fn a_slow_reader_agrees(rt: HostRuntime) -> Result<(), Fail> {
-    assert!(rt; is_file(rt.alloc(), EMPTY)?);
-    assert!(rt; is_file(rt.alloc(), TWO)?);
+    for file in [EMPTY, TWO, EMPTY_NEW, TWO_NEW] {
+        assert!(rt; is_file(rt.alloc(), file)?);
+    }
     for at in 0..99 {
-        assert!(rt; agree_at(rt.alloc(), at)?);
+        assert!(rt; agree_at(rt.alloc(), ONE, at)?);
+    }
+    for at in 0..123 {
+        assert!(rt; agree_at(rt.alloc(), ONE_NEW, at)?);
     }
     Ok(())
 }
@@ -207,6 +283,59 @@ fn look_ups_read_one_block(rt: HostRuntime) -> Result<(), Fail> {
             file.drop_cache();
         }
         assert!(rt; is_found(rt.alloc(), &mut file, stamp, &mut files, reads, len)?);
+    }
+    Ok(())
+}
+
+/// A memtable of `a` at the stamps 1 to 9, with values of 4,000 bytes: a block each in a file.
+fn nine(alloc: Global) -> Result<Memtable, Refusal> {
+    let row = Row::new(alloc, b"a")?;
+    let value = vec![in alloc; b'v'; 4000]?;
+    let mut table = Memtable::new(alloc);
+    for stamp in 1..10 {
+        let edits = edits_of(alloc, &row, stamp, Some(&value), None)?;
+        table.apply(&row, edits)?;
+    }
+    Ok(table)
+}
+
+/// Stamps that are looked up one after the other in the file of nine blocks, and whether each look-up reads the file. The
+/// last eight blocks are kept.
+const NINE_LOOK_UPS: [(&[Stamp], bool); 4] = [
+    (&[1, 2, 3, 4, 5, 6, 7, 8], true),
+    (&[1, 2, 3, 4, 5, 6, 7, 8], false),
+    (&[9, 1, 2], true),
+    (&[4, 5, 6, 7, 8, 9, 1, 2], false),
+];
+
+/// Whether the look-ups at these stamps find values of 4,000 bytes, and each of them reads the file, or none does.
+fn are_read(
+    alloc: Global,
+    file: &mut SortedFile,
+    files: &mut Recorder,
+    stamps: &[Stamp],
+    is_read: bool,
+) -> Result<bool, Refusal> {
+    for stamp in stamps {
+        files.reads.clear();
+        let len = value_len(alloc, file, *stamp, files)?;
+        if len != Some(4000) || files.reads.is_empty() == is_read {
+            return Ok(false);
+        }
+    }
+    Ok(true)
+}
+
+#[test]
+fn eight_blocks_are_kept(rt: HostRuntime) -> Result<(), Fail> {
+    let mut memory = MemFiles::new(rt.alloc());
+    merge(rt.alloc(), &nine(rt.alloc())?, None, true, 1, &mut memory)?;
+    let bytes = read_whole(rt.alloc(), &mut memory, 1)?.ok_or("no file")?;
+    let mut files = Recorder::new(rt.alloc());
+    files.put(1, &bytes)?;
+    let mut file = SortedFile::open(rt.alloc(), 1, &mut files)?;
+    for (stamps, is_read) in NINE_LOOK_UPS {
+        assert!(rt; are_read(rt.alloc(), &mut file, &mut files, stamps, is_read)?);
     }
     Ok(())
 }
@@ -289,7 +418,8 @@ fn agree_on(
     })
 }
 
-/// Each key of a file of more than five blocks, and keys before, between and behind them.
+/// Each key of a file of more than five blocks, and keys before, between and behind them; and the file of three entries in
+/// format 1.
 #[test]
 fn a_slow_look_up_agrees(rt: HostRuntime) -> Result<(), Fail> {
     let mut files = MemFiles::new(rt.alloc());
@@ -298,6 +428,11 @@ fn a_slow_look_up_agrees(rt: HostRuntime) -> Result<(), Fail> {
     let mut file = SortedFile::open(rt.alloc(), 1, &mut files)?;
     for stamp in 0..31 {
         assert!(rt; agree_on(rt.alloc(), &mut file, stamp, &bytes, &mut files)?);
+    }
+    let old = three(rt.alloc())?;
+    let mut file = opened(rt.alloc(), &mut files, &old)?;
+    for stamp in 0..5 {
+        assert!(rt; agree_on(rt.alloc(), &mut file, stamp, &old, &mut files)?);
     }
     Ok(())
 }

@@ -50,6 +50,20 @@ impl Read for Pieces {
     }
 }
 
+/// A reader that gives all that is asked for, and records how many bytes each read asks for.
+#[derive(Drop)]
+pub struct Recording<'a> {
+    pub rest: &'a [u8],
+    pub asked: Vec<usize>,
+}
+
+impl Read for Recording<'_> {
+    fn read(&mut self, buf: &mut [u8]) -> io::Result<usize> {
+        self.asked.push(buf.len())?;
+        self.rest.read(buf)
+    }
+}
+
 /// A writer that takes a byte a call, and after so many calls fails, or takes nothing more.
 #[derive(Drop)]
 pub struct Narrow {

@@ -25,10 +25,10 @@ const TABLETS: [Exchange; 16] = [
     ),
     // Step 1: Held 1 1
     (b"\x04\0\0\0\0\0\0\0\x01", b"\x84\x01\0\x01\0\x01"),
-    // Raw m c lock 0..9: stamp 1, 6D 00 00 63 00 00
+    // Raw m c lock 0..9: stamp 1, 6D 00 00 63 00 00 53
     (
         b"\x11\0\0\0\x01m\0\0\0\x01c\x02\0\0\0\0\0\0\0\0\0\0\0\0\0\0\0\x09",
-        b"\x91\x01\0\0\0\0\0\0\0\x01\0\0\0\x06m\0\0c\0\0",
+        b"\x91\x01\0\0\0\0\0\0\0\x01\0\0\0\x07m\0\0c\0\0S",
     ),
     // Raw m c lock 9..0: nothing
     (
@@ -42,10 +42,10 @@ const TABLETS: [Exchange; 16] = [
     ),
     // Major 2: done
     (b"\x0C\0\0\0\x02", b"\x8C"),
-    // Raw m c lock 0..9: stamp 1, 6D 00 00 63 00 00
+    // Raw m c lock 0..9: stamp 1, 6D 00 00 63 00 00 53
     (
         b"\x11\0\0\0\x01m\0\0\0\x01c\x02\0\0\0\0\0\0\0\0\0\0\0\0\0\0\0\x09",
-        b"\x91\x01\0\0\0\0\0\0\0\x01\0\0\0\x06m\0\0c\0\0",
+        b"\x91\x01\0\0\0\0\0\0\0\x01\0\0\0\x07m\0\0c\0\0S",
     ),
     // Merge 2 2: refused 14
     (b"\x0B\0\0\0\x02\0\0\0\x02", b"\xFF\x0E"),
@@ -118,15 +118,15 @@ const ERASURES: [Exchange; 24] = [
         b"\x11\0\0\0\x01r\0\0\0\x01c\x02\0\0\0\0\0\0\0\0\0\0\0\0\0\0\0\x09",
         b"\x91\0",
     ),
-    // Raw q c lock 0..9: stamp 3, 71 00 00 63 00 00
+    // Raw q c lock 0..9: stamp 3, 71 00 00 63 00 00 53
     (
         b"\x11\0\0\0\x01q\0\0\0\x01c\x02\0\0\0\0\0\0\0\0\0\0\0\0\0\0\0\x09",
-        b"\x91\x01\0\0\0\0\0\0\0\x03\0\0\0\x06q\0\0c\0\0",
+        b"\x91\x01\0\0\0\0\0\0\0\x03\0\0\0\x07q\0\0c\0\0S",
     ),
-    // Raw r c write 0..9: stamp 2, 00 00 00 00 00 00 00 01
+    // Raw r c write 0..9: stamp 2, 00 00 00 00 00 00 00 01 53
     (
         b"\x11\0\0\0\x01r\0\0\0\x01c\x03\0\0\0\0\0\0\0\0\0\0\0\0\0\0\0\x09",
-        b"\x91\x01\0\0\0\0\0\0\0\x02\0\0\0\x08\0\0\0\0\0\0\0\x01",
+        b"\x91\x01\0\0\0\0\0\0\0\x02\0\0\0\x09\0\0\0\0\0\0\0\x01S",
     ),
     // Sweep: 3
     (b"\x0F", b"\x8F\0\0\0\0\0\0\0\x03"),
@@ -211,25 +211,25 @@ const SHARED_FILES: [Exchange; 36] = [
     (b"\x0B\0\0\0\x01\0\0\0\x02", b"\x8B"),
     // Sweep: 1
     (b"\x0F", b"\x8F\0\0\0\0\0\0\0\x01"),
-    // Raw Joe bal lock 0..9: stamp 3, 42 6F 62 00 00 62 61 6C 00 00
+    // Raw Joe bal lock 0..9: stamp 3, 42 6F 62 00 00 62 61 6C 00 00 53
     (
         b"\x11\0\0\0\x03Joe\0\0\0\x03bal\x02\0\0\0\0\0\0\0\0\0\0\0\0\0\0\0\x09",
-        b"\x91\x01\0\0\0\0\0\0\0\x03\0\0\0\x0ABob\0\0bal\0\0",
+        b"\x91\x01\0\0\0\0\0\0\0\x03\0\0\0\x0BBob\0\0bal\0\0S",
     ),
     // Raw Bob bal lock 0..9: nothing
     (
         b"\x11\0\0\0\x03Bob\0\0\0\x03bal\x02\0\0\0\0\0\0\0\0\0\0\0\0\0\0\0\x09",
         b"\x91\0",
     ),
-    // Raw Bob bal write 0..9: stamp 4, 00 00 00 00 00 00 00 03
+    // Raw Bob bal write 0..9: stamp 4, 00 00 00 00 00 00 00 03 53
     (
         b"\x11\0\0\0\x03Bob\0\0\0\x03bal\x03\0\0\0\0\0\0\0\0\0\0\0\0\0\0\0\x09",
-        b"\x91\x01\0\0\0\0\0\0\0\x04\0\0\0\x08\0\0\0\0\0\0\0\x03",
+        b"\x91\x01\0\0\0\0\0\0\0\x04\0\0\0\x09\0\0\0\0\0\0\0\x03S",
     ),
-    // Raw Bob bal write 0..3: stamp 2, 00 00 00 00 00 00 00 01
+    // Raw Bob bal write 0..3: stamp 2, 00 00 00 00 00 00 00 01 53
     (
         b"\x11\0\0\0\x03Bob\0\0\0\x03bal\x03\0\0\0\0\0\0\0\0\0\0\0\0\0\0\0\x03",
-        b"\x91\x01\0\0\0\0\0\0\0\x02\0\0\0\x08\0\0\0\0\0\0\0\x01",
+        b"\x91\x01\0\0\0\0\0\0\0\x02\0\0\0\x09\0\0\0\0\0\0\0\x01S",
     ),
     // Raw Bob bal data 2..2: nothing
     (
@@ -408,10 +408,10 @@ const REFUSALS: [Exchange; 50] = [
         b"\x11\0\0\0\x01r\0\0\0\x01c\x02\0\0\0\0\0\0\0\0\0\0\0\0\0\0\0\x09",
         b"\x91\0",
     ),
-    // Raw r c write 0..9: stamp 2, 00 00 00 00 00 00 00 01
+    // Raw r c write 0..9: stamp 2, 00 00 00 00 00 00 00 01 53
     (
         b"\x11\0\0\0\x01r\0\0\0\x01c\x03\0\0\0\0\0\0\0\0\0\0\0\0\0\0\0\x09",
-        b"\x91\x01\0\0\0\0\0\0\0\x02\0\0\0\x08\0\0\0\0\0\0\0\x01",
+        b"\x91\x01\0\0\0\0\0\0\0\x02\0\0\0\x09\0\0\0\0\0\0\0\x01S",
     ),
     // Sweep: 3
     (b"\x0F", b"\x8F\0\0\0\0\0\0\0\x03"),
@@ -492,10 +492,10 @@ const SPLIT_AND_COMPACT: [Exchange; 8] = [
         b"\x11\0\0\0\x03Bob\0\0\0\x03bal\x02\0\0\0\0\0\0\0\0\0\0\0\0\0\0\0\x09",
         b"\x91\0",
     ),
-    // Raw Joe bal write 0..9: stamp 2, 00 00 00 00 00 00 00 01
+    // Raw Joe bal write 0..9: stamp 2, 00 00 00 00 00 00 00 01 53
     (
         b"\x11\0\0\0\x03Joe\0\0\0\x03bal\x03\0\0\0\0\0\0\0\0\0\0\0\0\0\0\0\x09",
-        b"\x91\x01\0\0\0\0\0\0\0\x02\0\0\0\x08\0\0\0\0\0\0\0\x01",
+        b"\x91\x01\0\0\0\0\0\0\0\x02\0\0\0\x09\0\0\0\0\0\0\0\x01S",
     ),
     // Begin: 3
     (b"\x01", b"\x81\0\0\0\0\0\0\0\x03"),
@@ -579,3 +579,57 @@ pub const NOT_COMPACTED: Row = (
         &NONE_SWEPT,
     ],
 );
+
+/// A tablet is split, and a session commits a cell on each side.
+const BOTH_HALVES: [Exchange; 9] = [
+    // Split m: 2
+    (b"\x0D\0\0\0\x01m", b"\x8D\0\0\0\x02"),
+    // Begin: 1
+    (b"\x01", b"\x81\0\0\0\0\0\0\0\x01"),
+    // Set 1 a c v: done
+    (
+        b"\x03\0\0\0\0\0\0\0\x01\0\0\0\x01a\0\0\0\x01c\0\0\0\x01v",
+        b"\x83",
+    ),
+    // Set 1 r c v: done
+    (
+        b"\x03\0\0\0\0\0\0\0\x01\0\0\0\x01r\0\0\0\x01c\0\0\0\x01v",
+        b"\x83",
+    ),
+    // Step 1: Held 1 2
+    (b"\x04\0\0\0\0\0\0\0\x01", b"\x84\x01\0\x01\0\x02"),
+    // Step 1: Held 2 2
+    (b"\x04\0\0\0\0\0\0\0\x01", b"\x84\x01\0\x02\0\x02"),
+    // Step 1: Stamped 2
+    (b"\x04\0\0\0\0\0\0\0\x01", b"\x84\x03\0\0\0\0\0\0\0\x02"),
+    // Step 1: Committed 2
+    (b"\x04\0\0\0\0\0\0\0\x01", b"\x84\x04\0\0\0\0\0\0\0\x02"),
+    // Step 1: Finished 2 2
+    (b"\x04\0\0\0\0\0\0\0\x01", b"\x84\x06\0\x02\0\x02"),
+];
+
+/// Each of both tablets has two files.
+const BOTH_MERGED: [Exchange; 3] = [
+    // Merge 2 2: done
+    (b"\x0B\0\0\0\x02\0\0\0\x02", b"\x8B"),
+    // Merge 1 2: done
+    (b"\x0B\0\0\0\x01\0\0\0\x02", b"\x8B"),
+    // Sweep: 4
+    (b"\x0F", b"\x8F\0\0\0\0\0\0\0\x04"),
+];
+
+/// Neither has two files any more.
+const NEITHER_MERGED: [Exchange; 3] = [
+    // Merge 2 2: refused 14
+    (b"\x0B\0\0\0\x02\0\0\0\x02", b"\xFF\x0E"),
+    // Merge 1 2: refused 14
+    (b"\x0B\0\0\0\x01\0\0\0\x02", b"\xFF\x0E"),
+    // Sweep: 4
+    (b"\x0F", b"\x8F\0\0\0\0\0\0\0\x04"),
+];
+
+/// A commit of a cell in each of two tablets, whose memtables of two entries are compacted after the replies.
+pub const BOTH_COMPACTED: Row = (0, &[&BOTH_HALVES, &BOTH_MERGED]);
+
+/// The same where two files are merged after it.
+pub const BOTH_MERGED_AT_TWO: Row = (0, &[&BOTH_HALVES, &NEITHER_MERGED]);

@@ -1,8 +1,12 @@
-use Rattle.std.proofs.Common.{◌≡◌, ◌-◌}
-use Rattle.metadata_table.specs.Places.{views}
-use Rattle.metadata_table.specs.RootReading.{place_at, places_at}
+use Rattle.std.proofs.Common.{◌≡◌, ◌-◌, ℕ, List}
+use Rattle.metadata_table.specs.Places.{PlaceView, views}
+use Rattle.metadata_table.specs.RootReading.{each_place_at, place_at, placed}
 use Rattle.metadata_table.proofs.RootLoops.{with_front}
 use Rattle.metadata_table.proofs.root_reading.read_places.Given as goal
 
 abbrev pub invariant-loop : goal.invariant-loop
-invariant-loop l = with_front place_at (views l.places.items) (places_at (l.count - l.counter) l.rest) ≡ places_at l.count l.bytes
+invariant-loop l = record {
+  front : List (PlaceView × List ℕ);
+  told : placed front ≡ (views l.places.items, l.lengths.items);
+  read : with_front (place_at l.format) front (each_place_at l.format (l.count - l.counter) l.rest) ≡ each_place_at l.format l.count l.bytes;
+}

@@ -1,27 +1,24 @@
-use Rattle.std.proofs.Common.{refl, sym, subst, ◌∙◌, arith, Option}
-use Rattle.file_store.specs.Store.{Contents}
-use Rattle.sorted_file.specs.Blocks.{Tells}
+use Rattle.std.proofs.Common.{ℕ, ◌-◌, length, drop, refl, sym, ap, ◌∙◌, arith}
 use Rattle.sorted_file.proofs.Framing.{part_end}
 use Rattle.sorted_file.proofs.parts.read_foot.Goals as goal
 
 pub returns-in_default-clause-damaged : goal.returns-in_default-clause-damaged
-returns-in_default-clause-damaged g c = λ is image tells e.
-    let still = subst (λ (told : Option Contents). Tells told c.args.name image) (sym c.in_ok-head.ensures.same) tells in
-    c.in_default.ensures.none image e (c.deref-2.ensures.value ∙ c.in_ok-foot.ensures.part image still ∙ part_end image c.args.size 24 e (omega (arith, c.requires)))
+returns-in_default-clause-damaged g c = λ is image tells e h.
+    c.in_default.ensures.none image e h (c.deref.ensures.value ∙ c.in_ok-foot.ensures.part image tells ∙ part_end image c.args.size c.foot_len-len.result e (omega (arith, c.requires, c.foot_len-len.ensures))
+    ∙ ap (λ (n : ℕ). drop (length image - n) image) c.foot_len-len.ensures)
 
 pub returns-clause-framed : goal.returns-clause-framed
-returns-clause-framed g c = λ image tells e.
-    let still = subst (λ (told : Option Contents). Tells told c.args.name image) (sym c.in_ok-head.ensures.same) tells in
-    let foot = c.in_ok-foot.ensures.part image still ∙ part_end image c.args.size 24 e (omega (arith, c.requires)) in
-    let head = c.is_same.ensures.0 c.if-not-is_same.false in
+returns-clause-framed g c = λ image tells e h.
+    let foot = c.in_ok-foot.ensures.part image tells ∙ part_end image c.args.size c.foot_len-len.result e (omega (arith, c.requires, c.foot_len-len.ensures))
+    ∙ ap (λ (n : ℕ). drop (length image - n) image) c.foot_len-len.ensures in
     let named = c.in-Some.ensures.named in
     let to = c.in-Some.ensures.to in
     record {
       at = c.in-Some.at;
       numbers = named.0;
-      head = sym (c.in_ok-head.ensures.part image tells) ∙ sym c.deref.ensures.value ∙ head;
+      named = h;
       last = foot;
-      foot = sym c.deref-2.ensures.value ∙ named.1;
+      foot = sym c.deref.ensures.value ∙ named.1;
       from = c.in-Some.ensures.from;
       to = omega (arith, to, e);
       behind = refl;

@@ -1,6 +1,6 @@
-use Rattle.std.proofs.Common.{rules, ℕ, Option, sym, subst, ap, ◌∙◌, arith}
+use Rattle.std.proofs.Common.{rules, ℕ, ◌≤◌, ◌<◌, ◌+◌, ◌^◌, ◌⊎◌, length, Option, sym, subst, ap, ◌∙◌}
 use Rattle.std.specs.Prelude.{option_map}
-use Rattle.cell_key.specs.Entries.{Takes, lent_entry}
+use Rattle.cell_key.specs.Entries.{Takes, entry_len, lent_entry}
 use Rattle.file_store.specs.Store.{Contents}
 use Rattle.sorted_file.specs.Building.{state_of}
 use Rattle.sorted_file.specs.Grammar.{FitsIn}
@@ -35,7 +35,7 @@ returns-in_err-push-clause-large g c = λ err hold fits.
     let large = c.in_err-push.ensures.large (search rules) in
     let takes = subst (λ (told : Option Contents). g.S.Source.holds told s → Takes (g.S.Source.lent t) (g.S.Source.remaining told s) (g.S.Source.remaining told t)) i.contents c.in_ok-advance.ensures.takes in
     let now = i.told hold in
-    too_large (state_of c.entries.builder) _ _ _ (lent_entry c.in-Some.entry) c.args.limit (takes_some _ _ _ _ lent (takes now.0)) now.1 (omega (arith, large, limit)) fits
+    too_large (state_of c.entries.builder) _ _ _ (lent_entry c.in-Some.entry) c.args.limit (takes_some _ _ _ _ lent (takes now.0)) now.1 (subst (λ (l : ℕ). (l < length c.entries.builder.out.items + entry_len (lent_entry c.in-Some.entry)) ⊎ (2 ^ 32 ≤ entry_len (lent_entry c.in-Some.entry))) limit large) fits
 
 pub returns-clause-large : goal.returns-clause-large
 returns-clause-large g c = λ err hold fits.

@@ -1,4 +1,4 @@
-use Rattle.std.proofs.Common.{List, ℕ, ap, ◌∙◌}
+use Rattle.std.proofs.Common.{ap, ◌∙◌}
 use Rattle.file_store.specs.Store.{with_file}
 use Rattle.sorted_file.proofs.Results.{on_ok}
 use Rattle.sorted_file.proofs.writing.write_file.Goals as goal
@@ -10,7 +10,7 @@ returns-clause-written g c =
     (λ put. (
       image,
       (
-        put ∙ ap (λ (bytes : List ℕ). with_file c.args.name bytes (g.F.Files.contents c.image_of_rest.new.files)) c.deref.ensures.value ∙ ap (with_file c.args.name image) c.in_ok-image.ensures.same,
+        put ∙ ap (with_file c.args.name image) c.in_ok-image.ensures.same,
         c.in_ok-image.ensures.within,
         c.in_ok-image.ensures.file,
       ),

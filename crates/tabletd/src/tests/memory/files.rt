@@ -26,7 +26,7 @@ pub struct Stored {
 }
 
 /// What is read are how many names there are, and the first four bytes of the files 1 to 3.
-const FILE_CALLS: [Call; 5] = [
+const FILE_CALLS: [Call; 6] = [
     // put of a new file
     (b"", b"\x01one-two-6789"),
     // put in place of a file
@@ -37,6 +37,8 @@ const FILE_CALLS: [Call; 5] = [
     (b"two", b"\x01one-two-----"),
     // remove
     (b"", b"\x01----two-----"),
+    // put_owned in place of a file
+    (b"", b"\x01six-two-----"),
 ];
 
 pub const STORED: Table = (b"\x01one-two-----", &FILE_CALLS);
@@ -61,7 +63,8 @@ impl Subject for Stored {
                     None => Ok(false),
                 };
             }
-            _ => refused(self.files.remove(1))?,
+            4 => refused(self.files.remove(1))?,
+            _ => refused(self.files.put_owned(1, b"six".to_vec(alloc)?))?,
         }
         Ok(wanted.is_empty())
     }
@@ -89,19 +92,19 @@ pub struct Sorted {
 /// erasure, and those of the sorted file at 9 and 1.
 const SORTED_CALLS: [Call; 7] = [
     // write_file
-    (b"", b"\x7D\x7D-x2x1"),
+    (b"", b"\x95\x95-x2x1"),
     // SortedFile::open
-    (b"x", b"\x7D--x2x1"),
+    (b"x", b"\x95--x2x1"),
     // SortedFile::lookup
-    (b"1", b"\x7D--x2x1"),
+    (b"1", b"\x95--x2x1"),
     // merge_into
-    (b"", b"\x7D\x9D-x2x1"),
+    (b"", b"\x95\xB5-x2x1"),
     // Memtable::apply to other cells of the row
-    (b"", b"\x7D--x32x1"),
+    (b"", b"\x95--x32x1"),
     // Memtable::apply to the same cell
-    (b"", b"\x7D--x3x1"),
+    (b"", b"\x95--x3x1"),
     // Memtable::apply to another row
-    (b"", b"\x7D--x2x3x1"),
+    (b"", b"\x95--x2x3x1"),
 ];
 
 /// Writes a value of one byte into a row, and an erasure at the stamp 9.
@@ -171,7 +174,7 @@ fn write_again(alloc: Global, file: &SortedFile, files: &mut MemFiles) -> Result
     write_file(alloc, &mut cursor, 2, FILE_LIMIT, files)
 }
 
-pub const SORTED: Table = (b"\x7D--x2x1", &SORTED_CALLS);
+pub const SORTED: Table = (b"\x95--x2x1", &SORTED_CALLS);
 
 impl Subject for Sorted {
     fn set_up(alloc: Global) -> Result<Sorted, Refusal> {

@@ -118,7 +118,7 @@ const READS: [&[u8]; 8] = [
 ];
 
 /// The requests that are made with allocations refused.
-const REQUESTS: [&[u8]; 27] = [
+const REQUESTS: [&[u8]; 28] = [
     // Begin: 13
     b"\x01",
     // Get 12 a c: 3
@@ -131,6 +131,8 @@ const REQUESTS: [&[u8]; 27] = [
     b"\x03\0\0\0\0\0\0\0\x0C\0\0\0\x01a\0\0\0\x01c\0\0\0\x017",
     // Set 10 n c 8
     b"\x03\0\0\0\0\0\0\0\x0A\0\0\0\x01n\0\0\0\x01c\0\0\0\x018",
+    // Delete 12 a c
+    b"\x13\0\0\0\0\0\0\0\x0C\0\0\0\x01a\0\0\0\x01c",
     // Step 10: Held
     b"\x04\0\0\0\0\0\0\0\x0A",
     // Step 11: Conflict
@@ -181,7 +183,7 @@ const STILL: &[u8] = b"\
     \0\0\0\x0A\x82\x02\0\0\0\0\0\0\0\x09\
     \0\0\0\x0A\x82\x02\0\0\0\0\0\0\0\x05\
     \0\0\0\x0F\x91\x01\0\0\0\0\0\0\0\x01\0\0\0\x012\
-    \0\0\0\x14\x91\x01\0\0\0\0\0\0\0\x05\0\0\0\x06p\0\0c\0\0\
+    \0\0\0\x15\x91\x01\0\0\0\0\0\0\0\x05\0\0\0\x07p\0\0c\0\0S\
     \0\0\0\x02\x91\0\
     \0\0\0\x02\xFF\x0E\
     \0\0\0\x02\xFF\x0B";
@@ -192,7 +194,7 @@ const HELD: &[u8] = b"\
     \0\0\0\x0A\x82\x02\0\0\0\0\0\0\0\x09\
     \0\0\0\x0A\x82\x02\0\0\0\0\0\0\0\x05\
     \0\0\0\x0F\x91\x01\0\0\0\0\0\0\0\x0A\0\0\0\x010\
-    \0\0\0\x14\x91\x01\0\0\0\0\0\0\0\x05\0\0\0\x06p\0\0c\0\0\
+    \0\0\0\x15\x91\x01\0\0\0\0\0\0\0\x05\0\0\0\x07p\0\0c\0\0S\
     \0\0\0\x02\x91\0\
     \0\0\0\x02\xFF\x0E\
     \0\0\0\x02\xFF\x0B";
@@ -214,8 +216,8 @@ const FINISHED: &[u8] = b"\
     \0\0\0\x0A\x82\x02\0\0\0\0\0\0\0\x09\
     \0\0\0\x0A\x82\x02\0\0\0\0\0\0\0\x05\
     \0\0\0\x0F\x91\x01\0\0\0\0\0\0\0\x01\0\0\0\x012\
-    \0\0\0\x14\x91\x01\0\0\0\0\0\0\0\x05\0\0\0\x06p\0\0c\0\0\
-    \0\0\0\x16\x91\x01\0\0\0\0\0\0\0\x08\0\0\0\x08\0\0\0\0\0\0\0\x07\
+    \0\0\0\x15\x91\x01\0\0\0\0\0\0\0\x05\0\0\0\x07p\0\0c\0\0S\
+    \0\0\0\x17\x91\x01\0\0\0\0\0\0\0\x08\0\0\0\x09\0\0\0\0\0\0\0\x07S\
     \0\0\0\x02\xFF\x0E\
     \0\0\0\x02\xFF\x0B";
 
@@ -236,7 +238,7 @@ const SPLIT: &[u8] = b"\
     \0\0\0\x0A\x82\x02\0\0\0\0\0\0\0\x09\
     \0\0\0\x0A\x82\x02\0\0\0\0\0\0\0\x05\
     \0\0\0\x0F\x91\x01\0\0\0\0\0\0\0\x01\0\0\0\x012\
-    \0\0\0\x14\x91\x01\0\0\0\0\0\0\0\x05\0\0\0\x06p\0\0c\0\0\
+    \0\0\0\x15\x91\x01\0\0\0\0\0\0\0\x05\0\0\0\x07p\0\0c\0\0S\
     \0\0\0\x02\x91\0\
     \0\0\0\x02\xFF\x0E\
     \0\0\0\x02\xFF\x0E";
@@ -246,7 +248,7 @@ const NO_MEMORY: &[u8] = b"\0\0\0\x02\xFF\x14";
 
 /// The calls: each request by itself, with the number of its refusal or 0, a new server, and then each request as a
 /// frame, with the frame of its reply.
-const CALLS: [Call; 55] = [
+const CALLS: [Call; 57] = [
     // Begin: 13
     (b"\0", STILL),
     // Get 12 a c: 3
@@ -258,6 +260,8 @@ const CALLS: [Call; 55] = [
     // Set 12 a c 7: done
     (b"\0", STILL),
     // Set 10 n c 8: done
+    (b"\0", STILL),
+    // Delete 12 a c: done
     (b"\0", STILL),
     // Step 10: Held 1 1
     (b"\0", HELD),
@@ -297,7 +301,7 @@ const CALLS: [Call; 55] = [
     (b"\0", STILL),
     // Raw n c data: stamp 1, 2
     (b"\0", STILL),
-    // Raw p c lock: stamp 5, 70 00 00 63 00 00
+    // Raw p c lock: stamp 5, 70 00 00 63 00 00 53
     (b"\0", STILL),
     // Checkpoint: done
     (b"\0", STILL),
@@ -315,6 +319,8 @@ const CALLS: [Call; 55] = [
     (b"\0\0\0\x01\x83", STILL),
     // Set 10 n c 8: done
     (b"\0\0\0\x01\x83", STILL),
+    // Delete 12 a c: done
+    (b"\0\0\0\x01\x93", STILL),
     // Step 10: Held 1 1
     (b"\0\0\0\x06\x84\x01\0\x01\0\x01", HELD),
     // Step 11: Conflict 1
@@ -356,9 +362,9 @@ const CALLS: [Call; 55] = [
     (b"\0\0\0\x01\x90", STILL),
     // Raw n c data: stamp 1, 2
     (b"\0\0\0\x0F\x91\x01\0\0\0\0\0\0\0\x01\0\0\0\x012", STILL),
-    // Raw p c lock: stamp 5, 70 00 00 63 00 00
+    // Raw p c lock: stamp 5, 70 00 00 63 00 00 53
     (
-        b"\0\0\0\x14\x91\x01\0\0\0\0\0\0\0\x05\0\0\0\x06p\0\0c\0\0",
+        b"\0\0\0\x15\x91\x01\0\0\0\0\0\0\0\x05\0\0\0\x07p\0\0c\0\0S",
         STILL,
     ),
     // Checkpoint: done

@@ -19,7 +19,7 @@ pub struct Sessions {
 }
 
 /// What is read are `a` and `b` by session 6, the newest data of `a`, `b` and `n`, and the top.
-const CALLS: [Call; 9] = [
+const CALLS: [Call; 11] = [
     // begin
     (b"\x07", b"1L162\x07"),
     // get of a value
@@ -37,6 +37,10 @@ const CALLS: [Call; 9] = [
     // step that meets a lock
     (b"\x02\x01", b"1L162\x06"),
     // stop
+    (b"", b"1L162\x06"),
+    // delete of a further cell
+    (b"", b"1L162\x06"),
+    // delete of the same cell
     (b"", b"1L162\x06"),
 ];
 
@@ -126,6 +130,14 @@ impl Subject for Sessions {
             }
             4 => {
                 self.clients.set(4, b"n", b"bal", b"7")?;
+                return Ok(wanted.is_empty());
+            }
+            9 => {
+                self.clients.delete(4, b"a", b"bal")?;
+                return Ok(wanted.is_empty());
+            }
+            10 => {
+                self.clients.delete(4, b"n", b"bal")?;
                 return Ok(wanted.is_empty());
             }
             8 => {

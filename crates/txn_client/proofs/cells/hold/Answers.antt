@@ -1,50 +1,18 @@
-use Rattle.std.proofs.Common.{◌≡◌, ℕ, List, refl, sym, subst}
-use Rattle.cell_key.specs.declared.edits.Edit.{Edit}
+use Rattle.std.proofs.Common.{refl, sym, subst}
 use Rattle.cell_key.proofs.Reasons.{not_refused}
 use Rattle.row_atomic.specs.Refusals.{IsApplyRefusal}
 use Rattle.row_atomic.proofs.Calls.{reads_none}
-use Rattle.si_model.specs.declared.replies.Cell.{Cell}
-use Rattle.txn_client.specs.Room.{HoldsCell, IsHolding}
 use Rattle.txn_client.proofs.Passed.{passed_on, passed_err, passed_kept, passed_kept_not, no_memory_only, full_not}
 use Rattle.txn_client.proofs.cells.hold.Goals as goal
-
-holding_at : (x first : Cell) (edits : List Edit) (s s' : ℕ) (value v : List ℕ) → s ≡ s' → value ≡ v → IsHolding x s value first edits → HoldsCell x s' v first x.row edits
-holding_at x first edits s s' value v start bytes is = (refl, subst (λ n. IsHolding x n v first edits) start (subst (λ b. IsHolding x s b first edits) bytes is))
 
 pub apply-requires : goal.apply-requires
 apply-requires g c = c.in_ok-edits.ensures.under
 
-pub returns-in_err-value : goal.returns-in_err-value
-returns-in_err-value g c =
-    let r = c.from_residual.result in
-    let e = c.in_err-value.field-0.0 in
-    let by = c.from_residual.ensures.1 in
-    record {
-      ok = passed_kept_not r e _ by;
-      err = passed_kept r _ reads_none;
-      refusal = passed_err r e _ by (subst IsApplyRefusal (sym c.in_err-value.ensures.refusal) tt);
-      full = λ is. absurd (no_memory_only r e _ full_not by c.in_err-value.ensures.refusal is);
-      untouched = refl;
-    }
-
-pub returns-in_err-place : goal.returns-in_err-place
-returns-in_err-place g c =
-    let r = c.from_residual-in_err-place.result in
-    let e = c.in_err-place.field-0.0 in
-    let by = c.from_residual-in_err-place.ensures.1 in
-    record {
-      ok = passed_kept_not r e _ by;
-      err = passed_kept r _ reads_none;
-      refusal = passed_err r e _ by (subst IsApplyRefusal (sym c.in_err-place.ensures.refusal) tt);
-      full = λ is. absurd (no_memory_only r e _ full_not by c.in_err-place.ensures.refusal is);
-      untouched = refl;
-    }
-
 pub returns-in_err-edits : goal.returns-in_err-edits
 returns-in_err-edits g c =
-    let r = c.from_residual-in_err-edits.result in
+    let r = c.from_residual.result in
     let e = c.in_err-edits.field-0.0 in
-    let by = c.from_residual-in_err-edits.ensures.1 in
+    let by = c.from_residual.ensures.1 in
     record {
       ok = passed_kept_not r e _ by;
       err = passed_kept r _ reads_none;
@@ -66,7 +34,7 @@ returns-in_err-apply g c =
       full = λ is. (
         c.args.write.now.cell.row,
         c.in_ok-edits.edits.items,
-        holding_at c.args.write.now.cell c.args.first.now.cell c.in_ok-edits.edits.items _ c.args.start _ c.args.write.now.value c.stamp-start.ensures.stamp c.in_ok-value.ensures.bytes (c.in_ok-edits.ensures.holding c.args.first.now.cell c.in_ok-place.ensures.text),
+        (refl, c.in_ok-edits.ensures.holding),
         at.full (passed_on r _ e _ by refl is),
       );
       untouched = at.untouched;
@@ -77,7 +45,7 @@ returns g c = record {
   ok = record {
     row = c.args.write.now.cell.row;
     edits = c.in_ok-edits.edits.items;
-    such = holding_at c.args.write.now.cell c.args.first.now.cell c.in_ok-edits.edits.items _ c.args.start _ c.args.write.now.value c.stamp-start.ensures.stamp c.in_ok-value.ensures.bytes (c.in_ok-edits.ensures.holding c.args.first.now.cell c.in_ok-place.ensures.text);
+    such = (refl, c.in_ok-edits.ensures.holding);
     applied = c.in_ok-apply.ensures.ok;
   };
   err = tt;

@@ -1,17 +1,18 @@
 use Rattle.std.proofs.Common.{◌≡◌, ℕ, ◌≤◌, List, Option, Some, None, inl, inr, length, arith, sym, subst, ap, ◌∙◌}
 use Rattle.std.specs.Prelude.{option_map}
 use Rattle.std.specs.FinMap.{get}
-use Rattle.byteorder.specs.Endian.{big_number}
 use Rattle.std.specs.declared.vec.Vec.{Vec}
 use Rattle.std.specs.Option.{IfSome}
 use Rattle.cell_key.specs.Cells.{Cells, IsNewest}
 use Rattle.cell_key.specs.declared.keys.CellKey.{CellKey}
 use Rattle.cell_key.specs.declared.keys.Qualifier.TheVariants.{Data, Lock, Write}
 use Rattle.cell_key.specs.Versions.{stamped, IsVersionIn}
-use Rattle.si_model.specs.ShowsCells.{key_of, IsThere}
+use Rattle.si_model.specs.declared.cells.WriteKind.{WriteKind}
+use Rattle.si_model.specs.declared.cells.WriteKind.TheVariants as write
+use Rattle.si_model.specs.ShowsCells.{key_of, IsThere, NamesWrite}
 use Rattle.si_model.specs.declared.replies.Cell.{Cell}
 use Rattle.si_model.specs.Reads.{IsLast}
-use Rattle.txn_client.specs.Reads.{ReadsValue, IsDamaged}
+use Rattle.txn_client.specs.Reads.{ReadsValue, ReadsDeletion, IsDamaged}
 use Rattle.cell_key.proofs.Reasons.{not_refused, reason_kept, reason_passed, reason_then}
 use Rattle.row_atomic.proofs.Calls.{is_read_refusal, read_undamaged, reads_then}
 use Rattle.txn_client.proofs.Passed.{passed_err, passed_none, damaged_no_device}
@@ -20,20 +21,36 @@ use Rattle.txn_client.proofs.cells.read_cell.Goals as goal
 nothing : {Z : Type 0} (cells : Cells) (at : ℕ → CellKey) (lo hi : ℕ) (found : Option (ℕ × Vec ℕ Z)) → found ≡ None → IsNewest cells at lo hi (option_map stamped found) → (s : ℕ) → lo ≤ s → s ≤ hi → get cells (at s) ≡ None
 nothing cells at lo hi found e is = subst (λ (f : Option (ℕ × Vec ℕ _)). IsNewest cells at lo hi (option_map stamped f)) e is
 
-value_found : {Z : Type 0} (cells cells2 cells3 : Cells) (x : Cell) (s : ℕ) (lock last value : Option (ℕ × Vec ℕ Z)) (c n m : ℕ) (text v : Vec ℕ Z) → cells2 ≡ cells → cells3 ≡ cells → lock ≡ None → last ≡ Some (c, text) → value ≡ Some (m, v)
-    → n ≡ big_number 8 text.items → length text.items ≡ 8 → IsNewest cells (key_of x Lock) 0 s (option_map stamped lock) → IsNewest cells2 (key_of x Write) 0 s (option_map stamped last) → IsNewest cells3 (key_of x Data) n n (option_map stamped value)
+last_written : {Z : Type 0} (cells cells2 : Cells) (x : Cell) (s c : ℕ) (last : Option (ℕ × Vec ℕ Z)) (text : Vec ℕ Z) → cells2 ≡ cells → last ≡ Some (c, text) → IsNewest cells2 (key_of x Write) 0 s (option_map stamped last)
+    → IsLast cells x s c text.items
+last_written {Z} cells cells2 x s c last text same is found =
+    let written : IsNewest cells (key_of x Write) 0 s (Some (c, text.items)) = subst (λ (f : Option (ℕ × Vec ℕ Z)). IsNewest cells (key_of x Write) 0 s (option_map stamped f)) is (subst (λ (cs : Cells). IsNewest cs (key_of x Write) 0 s (option_map stamped last)) same found) in
+    record { low = written.1; there = written.2; last = written.3 }
+
+deletion_found : {Z : Type 0} (cells cells2 : Cells) (x : Cell) (s c n : ℕ) (kind : WriteKind) (last : Option (ℕ × Vec ℕ Z)) (text : Vec ℕ Z) → cells2 ≡ cells → last ≡ Some (c, text) → IsNewest cells2 (key_of x Write) 0 s (option_map stamped last)
+    → NamesWrite text.items n kind → kind ≡ write.Delete → ReadsDeletion cells x s
+deletion_found cells cells2 x s c n kind last text same is found names deletes = record {
+  stamp = c;
+  text = text.items;
+  is_last = last_written cells cells2 x s c last text same is found;
+  start = n;
+  names = subst (λ (k : WriteKind). NamesWrite text.items n k) deletes names;
+}
+
+value_found : {Z : Type 0} (cells cells2 cells3 : Cells) (x : Cell) (s : ℕ) (lock last value : Option (ℕ × Vec ℕ Z)) (c n m : ℕ) (kind : WriteKind) (text v : Vec ℕ Z) → cells2 ≡ cells → cells3 ≡ cells → lock ≡ None → last ≡ Some (c, text) → value ≡ Some (m, v)
+    → NamesWrite text.items n kind → kind ≡ write.Set → IsNewest cells (key_of x Lock) 0 s (option_map stamped lock) → IsNewest cells2 (key_of x Write) 0 s (option_map stamped last) → IsNewest cells3 (key_of x Data) n n (option_map stamped value)
     → ReadsValue cells x s v.items
-value_found {Z} cells cells2 cells3 x s lock last value c n m text v same2 same3 unlocked is_last is_value named eight found found2 found3 =
-    let written : IsNewest cells (key_of x Write) 0 s (Some (c, text.items)) = subst (λ (f : Option (ℕ × Vec ℕ Z)). IsNewest cells (key_of x Write) 0 s (option_map stamped f)) is_last (subst (λ (cs : Cells). IsNewest cs (key_of x Write) 0 s (option_map stamped last)) same2 found2) in
+value_found {Z} cells cells2 cells3 x s lock last value c n m kind text v same2 same3 unlocked is_last is_value names kept found found2 found3 =
     let named_there : IsNewest cells (key_of x Data) n n (Some (m, v.items)) = subst (λ (f : Option (ℕ × Vec ℕ Z)). IsNewest cells (key_of x Data) n n (option_map stamped f)) is_value (subst (λ (cs : Cells). IsNewest cs (key_of x Data) n n (option_map stamped value)) same3 found3) in
     let at : m ≡ n = omega (arith, named_there.0, named_there.1) in
     record {
       unlocked = nothing cells (key_of x Lock) 0 s lock unlocked found;
       stamp = c;
       text = text.items;
-      is_last = record { low = written.1; there = written.2; last = written.3 };
-      eight = eight;
-      named = subst (λ (k : ℕ). get cells (key_of x Data k) ≡ Some v.items) (at ∙ named) named_there.2;
+      is_last = last_written cells cells2 x s c last text same2 is_last found2;
+      start = n;
+      names = subst (λ (k : WriteKind). NamesWrite text.items n k) kept names;
+      data_is = subst (λ (k : ℕ). get cells (key_of x Data k) ≡ Some v.items) at named_there.2;
     }
 
 locked : {Z : Type 0} (cells : Cells) (x : Cell) (s p : ℕ) (lock : Option (ℕ × Vec ℕ Z)) (text : Vec ℕ Z) → lock ≡ Some (p, text) → IsNewest cells (key_of x Lock) 0 s (option_map stamped lock) → (p ≤ s) × IsThere cells x Lock p
@@ -41,20 +58,14 @@ locked {Z} cells x s p lock text is found =
     let there : IsNewest cells (key_of x Lock) 0 s (Some (p, text.items)) = subst (λ (f : Option (ℕ × Vec ℕ Z)). IsNewest cells (key_of x Lock) 0 s (option_map stamped f)) is found in
     (there.1, (text.items, there.2))
 
-last_written : {Z : Type 0} (cells cells2 : Cells) (x : Cell) (s c : ℕ) (last : Option (ℕ × Vec ℕ Z)) (text : Vec ℕ Z) → cells2 ≡ cells → last ≡ Some (c, text) → IsNewest cells2 (key_of x Write) 0 s (option_map stamped last)
-    → IsLast cells x s c text.items
-last_written {Z} cells cells2 x s c last text same is found =
-    let written : IsNewest cells (key_of x Write) 0 s (Some (c, text.items)) = subst (λ (f : Option (ℕ × Vec ℕ Z)). IsNewest cells (key_of x Write) 0 s (option_map stamped f)) is (subst (λ (cs : Cells). IsNewest cs (key_of x Write) 0 s (option_map stamped last)) same found) in
-    record { low = written.1; there = written.2; last = written.3 }
-
 at_itself : (n : ℕ) → n ≤ n
 at_itself n = omega arith
 
-no_data : {Z : Type 0} (cells cells3 : Cells) (x : Cell) (s c n : ℕ) (value : Option (ℕ × Vec ℕ Z)) (text : List ℕ) → cells3 ≡ cells → value ≡ None → n ≡ big_number 8 text → IsNewest cells3 (key_of x Data) n n (option_map stamped value)
-    → IsLast cells x s c text → IsDamaged cells x s
-no_data cells cells3 x s c n value text same is named found last =
+no_data : {Z : Type 0} (cells cells3 : Cells) (x : Cell) (s c n : ℕ) (kind : WriteKind) (value : Option (ℕ × Vec ℕ Z)) (text : List ℕ) → cells3 ≡ cells → value ≡ None → NamesWrite text n kind → kind ≡ write.Set
+    → IsNewest cells3 (key_of x Data) n n (option_map stamped value) → IsLast cells x s c text → IsDamaged cells x s
+no_data cells cells3 x s c n kind value text same is names kept found last =
     let gone = nothing cells (key_of x Data) n n value is (subst (λ (cs : Cells). IsNewest cs (key_of x Data) n n (option_map stamped value)) same found) in
-    (c, text, last, inr (subst (λ (k : ℕ). get cells (key_of x Data k) ≡ None) named (gone n (at_itself n) (at_itself n))))
+    (c, text, last, inr (n, subst (λ (k : WriteKind). NamesWrite text n k) kept names, gone n (at_itself n) (at_itself n)))
 
 short_value : {Z : Type 0} (lo hi n : ℕ) (value : Option (ℕ × Vec ℕ Z)) (text : Vec ℕ Z) → value ≡ Some (n, text) → IfSome (option_map stamped value) (IsVersionIn lo hi) → length text.items ≤ 65536
 short_value {Z} lo hi n value text is limits =
@@ -108,7 +119,7 @@ returns-in_default-last g c =
     record {
       found = λ held. (
         nothing (g.R.Rows.cells c.args.rows.now) _ 0 _ c.in_ok-lock.lock c.in_default.is (first.found held),
-        λ s lo hi. ap (λ (cs : Cells). get cs (key_of c.args.cell.now Write s)) (sym (first.reads.kept held)) ∙ nothing (g.R.Rows.cells c.newest.new.self) _ 0 _ c.in_ok-last.last c.in_default-last.is (last.found (first.reads.still held)) s lo hi,
+        inl (λ s lo hi. ap (λ (cs : Cells). get cs (key_of c.args.cell.now Write s)) (sym (first.reads.kept held)) ∙ nothing (g.R.Rows.cells c.newest.new.self) _ 0 _ c.in_ok-last.last c.in_default-last.is (last.found (first.reads.still held)) s lo hi),
       );
       short = tt;
       reads = reads_then first.reads last.reads;
@@ -117,8 +128,8 @@ returns-in_default-last g c =
       reason = reason_then _ _ _ _ _ first.reason (reason_kept _ _ _ _ (not_refused _ _) last.reason);
     }
 
-pub returns-in_default-named_start : goal.returns-in_default-named_start
-returns-in_default-named_start g c =
+pub returns-in_default-named_write : goal.returns-in_default-named_write
+returns-in_default-named_write g c =
     let first = c.in_ok-lock.ensures in
     let last = c.in_ok-last.ensures in
     record {
@@ -130,17 +141,34 @@ returns-in_default-named_start g c =
         c.in-Some-last.field-0-0,
         c.in-Some-last.record.items,
         last_written (g.R.Rows.cells c.args.rows.now) (g.R.Rows.cells c.newest.new.self) c.args.cell.now c.args.start c.in-Some-last.field-0-0 c.in_ok-last.last c.in-Some-last.record (first.reads.kept held) c.in-Some-last.is (last.found (first.reads.still held)),
-        inl (λ eight. c.in_default-named_start.ensures.none (ap (λ (bytes : List ℕ). length bytes) c.deref.ensures.value ∙ eight)),
+        inl (λ t kind names. c.in_default-named_write.ensures.none t kind (subst (λ (bytes : List ℕ). NamesWrite bytes t kind) (sym c.deref.ensures.value) names)),
       );
       reason = reason_then _ _ _ _ _ first.reason (reason_kept _ _ _ _ damaged_no_device last.reason);
     }
 
-pub returns-in_err-value : goal.returns-in_err-value
-returns-in_err-value g c =
-    let r = c.from_residual-in_err-value.result in
-    let e = c.in_err-value.field-0.0 in
-    let by = c.from_residual-in_err-value.ensures.1 in
-    let at = c.in_err-value.ensures in
+pub returns-in-Delete : goal.returns-in-Delete
+returns-in-Delete g c =
+    let first = c.in_ok-lock.ensures in
+    let last = c.in_ok-last.ensures in
+    record {
+      found = λ held. (
+        nothing (g.R.Rows.cells c.args.rows.now) _ 0 _ c.in_ok-lock.lock c.in_default.is (first.found held),
+        inr (deletion_found (g.R.Rows.cells c.args.rows.now) (g.R.Rows.cells c.newest.new.self) c.args.cell.now c.args.start c.in-Some-last.field-0-0 c.in-Some-named_write.named c.in-Some-named_write.kind c.in_ok-last.last c.in-Some-last.record
+            (first.reads.kept held) c.in-Some-last.is (last.found (first.reads.still held)) (subst (λ (bytes : List ℕ). NamesWrite bytes c.in-Some-named_write.named c.in-Some-named_write.kind) c.deref.ensures.value c.in-Some-named_write.ensures.named) c.in-Delete.is),
+      );
+      short = tt;
+      reads = reads_then first.reads last.reads;
+      refusal = tt;
+      damaged = λ held. tt;
+      reason = reason_then _ _ _ _ _ first.reason (reason_kept _ _ _ _ (not_refused _ _) last.reason);
+    }
+
+pub returns-in_err-value-in-Set : goal.returns-in_err-value-in-Set
+returns-in_err-value-in-Set g c =
+    let r = c.from_residual-in_err-value-in-Set.result in
+    let e = c.in_err-value-in-Set.field-0.0 in
+    let by = c.from_residual-in_err-value-in-Set.ensures.1 in
+    let at = c.in_err-value-in-Set.ensures in
     record {
       found = λ held. passed_none r e _ by;
       short = passed_none r e _ by;
@@ -154,13 +182,13 @@ pub returns-in-Some-2 : goal.returns-in-Some-2
 returns-in-Some-2 g c =
     let first = c.in_ok-lock.ensures in
     let last = c.in_ok-last.ensures in
-    let third = c.in_ok-value.ensures in
+    let third = c.in_ok-value-in-Set.ensures in
     record {
       found = λ held.
           let still = first.reads.still held in
-          value_found (g.R.Rows.cells c.args.rows.now) (g.R.Rows.cells c.newest.new.self) (g.R.Rows.cells c.newest-2.new.self) c.args.cell.now c.args.start c.in_ok-lock.lock c.in_ok-last.last c.in_ok-value.field-0 c.in-Some-last.field-0-0 c.in-Some-named_start.named c.in-Some-2.field-0-0 c.in-Some-last.record c.in-Some-2.value
-          (first.reads.kept held) (last.reads.kept still ∙ first.reads.kept held) c.in_default.is c.in-Some-last.is c.in-Some-2.is (c.in-Some-named_start.ensures.named ∙ ap (big_number 8) c.deref.ensures.value) (ap (λ (bytes : List ℕ). length bytes) (sym c.deref.ensures.value) ∙ c.in-Some-named_start.ensures.length) (first.found held) (last.found still) (third.found (last.reads.still still));
-      short = short_value _ _ _ c.in_ok-value.field-0 c.in-Some-2.value c.in-Some-2.is third.limits;
+          value_found (g.R.Rows.cells c.args.rows.now) (g.R.Rows.cells c.newest.new.self) (g.R.Rows.cells c.newest-2.new.self) c.args.cell.now c.args.start c.in_ok-lock.lock c.in_ok-last.last c.in_ok-value-in-Set.field-0 c.in-Some-last.field-0-0 c.in-Some-named_write.named c.in-Some-2.field-0-0 c.in-Some-named_write.kind c.in-Some-last.record c.in-Some-2.value
+          (first.reads.kept held) (last.reads.kept still ∙ first.reads.kept held) c.in_default.is c.in-Some-last.is c.in-Some-2.is (subst (λ (bytes : List ℕ). NamesWrite bytes c.in-Some-named_write.named c.in-Some-named_write.kind) c.deref.ensures.value c.in-Some-named_write.ensures.named) c.in-Set.is (first.found held) (last.found still) (third.found (last.reads.still still));
+      short = short_value _ _ _ c.in_ok-value-in-Set.field-0 c.in-Some-2.value c.in-Some-2.is third.limits;
       reads = reads_then first.reads (reads_then last.reads third.reads);
       refusal = tt;
       damaged = λ held. tt;
@@ -171,7 +199,7 @@ pub returns : goal.returns
 returns g c =
     let first = c.in_ok-lock.ensures in
     let last = c.in_ok-last.ensures in
-    let third = c.in_ok-value.ensures in
+    let third = c.in_ok-value-in-Set.ensures in
     record {
       found = λ held. tt;
       short = tt;
@@ -180,8 +208,8 @@ returns g c =
       damaged = λ held _.
           let cells = g.R.Rows.cells c.args.rows.now in
           let still = first.reads.still held in
-          no_data cells (g.R.Rows.cells c.newest-2.new.self) c.args.cell.now c.args.start c.in-Some-last.field-0-0 c.in-Some-named_start.named c.in_ok-value.field-0 c.in-Some-last.record.items (last.reads.kept still ∙ first.reads.kept held) c.in-None.is
-          (c.in-Some-named_start.ensures.named ∙ ap (big_number 8) c.deref.ensures.value) (third.found (last.reads.still still))
+          no_data cells (g.R.Rows.cells c.newest-2.new.self) c.args.cell.now c.args.start c.in-Some-last.field-0-0 c.in-Some-named_write.named c.in-Some-named_write.kind c.in_ok-value-in-Set.field-0 c.in-Some-last.record.items (last.reads.kept still ∙ first.reads.kept held) c.in-None.is
+          (subst (λ (bytes : List ℕ). NamesWrite bytes c.in-Some-named_write.named c.in-Some-named_write.kind) c.deref.ensures.value c.in-Some-named_write.ensures.named) c.in-Set.is (third.found (last.reads.still still))
           (last_written cells (g.R.Rows.cells c.newest.new.self) c.args.cell.now c.args.start c.in-Some-last.field-0-0 c.in_ok-last.last c.in-Some-last.record (first.reads.kept held) c.in-Some-last.is (last.found still));
       reason = reason_then _ _ _ _ _ first.reason (reason_then _ _ _ _ _ last.reason (reason_kept _ _ _ _ damaged_no_device third.reason));
     }

@@ -71,7 +71,7 @@ loop-rows-preserved g c =
       old = λ held shown. subst (AreOldFrom cells x c.args.floor c.in-Some-next.commit) (sym items)
           (old_more cells shown x c.args.floor c.loop-rows.below c.in-Some-next.commit c.in_ok-start.start c.in-Some-next.text.items c.loop-rows.found.items (before.old held shown)
           (latest_some before.reads held x Write c.loop-rows.below c.in_ok-next.next (c.in-Some-next.commit, c.in-Some-next.text) c.in-Some-next.is c.in_ok-next.ensures.found)
-          (subst (λ (b : List ℕ). NamesStart b c.in_ok-start.start) same c.in_ok-start.ensures.named));
+          (subst (λ (b : List ℕ). NamesStart b c.in_ok-start.start) same (c.in_ok-start.field-0-1, c.in_ok-start.ensures.named)));
     }
 
 pub returns-clause-found : goal.returns-clause-found

@@ -1,8 +1,8 @@
-use Rattle.std.proofs.Common.{◌≡◌, ◌<◌, ◌∙◌, ◌+◌, ◌^◌, ℕ, List, [], ◌∷◌, ◌++◌, length, vec_len, sym, ap, subst, arith}
+use Rattle.std.proofs.Common.{◌≡◌, ◌<◌, ◌∙◌, ◌+◌, ◌^◌, ℕ, List, [], ◌∷◌, ◌++◌, length, vec_len, refl, sym, ap, subst, arith}
 use Rattle.cell_key.specs.declared.keys.Qualifier.TheVariants.{Data}
 use Rattle.cell_key.specs.declared.refusals.Refusal.TheVariants.{Device}
 use Rattle.cell_key.proofs.Reasons.{not_refused}
-use Rattle.row_atomic.proofs.Calls.{reads_then}
+use Rattle.row_atomic.proofs.Calls.{reads_none, reads_then}
 use Rattle.version_collector.specs.Versions.{IsUnnamed}
 use Rattle.version_collector.proofs.Greatest.{AreAll, length-last}
 use Rattle.version_collector.proofs.Starts.{among_named, data_all, data_begin, data_full, data_more, data_past, latest_none, latest_some, lower_some, moment_some, named_among}
@@ -12,19 +12,19 @@ pub loop-near-init : goal.loop-near-init
 loop-near-init g c =
     let none : length c.in_ok-found.found.items ≡ 0 = ap (λ (ts : List ℕ). length ts) c.in_ok-found.ensures.items in
     record {
-      reads = c.in_ok-near.ensures.reads;
-      faults = c.in_ok-near.ensures.reason.told (not_refused _ Device);
+      reads = reads_none;
+      faults = refl;
       len = c.in_ok-found.ensures.len ∙ sym none;
       few = omega (arith, none);
       low = omega arith;
-      all = λ held shown one. subst (AreAll (IsUnnamed (g.R.Rows.cells c.args.rows.now) c.args.cell.now c.args.floor) c.args.floor) (sym c.in_ok-found.ensures.items)
+      all = λ held shown one near. subst (AreAll (IsUnnamed (g.R.Rows.cells c.args.rows.now) c.args.cell.now c.args.floor) c.args.floor) (sym c.in_ok-found.ensures.items)
           (data_begin (g.R.Rows.cells c.args.rows.now) c.args.cell.now c.args.floor);
     }
 
 pub returns-in_default-clause-found : goal.returns-in_default-clause-found
-returns-in_default-clause-found g c = λ held shown one.
+returns-in_default-clause-found g c = λ held shown one near.
     let before = c.loop-near.invariant in
-    data_all (g.R.Rows.cells c.args.rows.now) c.args.cell.now c.args.floor c.loop-near.below c.loop-near.found.items one (before.all held shown one) before.few
+    data_all (g.R.Rows.cells c.args.rows.now) c.args.cell.now c.args.floor c.loop-near.below c.loop-near.found.items one (before.all held shown one near) before.few
     (latest_none before.reads held c.args.cell.now Data c.loop-near.below c.in_ok-next.next c.in_default.is c.in_ok-next.ensures.found)
 
 -- the data is named
@@ -42,10 +42,9 @@ loop-near-preserved-then-is_among g c =
       len = before.len;
       few = before.few;
       low = omega (arith, less, under);
-      all = λ held shown one. data_past cells x c.args.floor c.loop-near.below t c.in-Some._value.items c.loop-near.found.items (before.all held shown one)
+      all = λ held shown one near. data_past cells x c.args.floor c.loop-near.below t c.in-Some._value.items c.loop-near.found.items (before.all held shown one near)
           (latest_some before.reads held x Data c.loop-near.below c.in_ok-next.next (c.in-Some.start, c.in-Some._value) c.in-Some.is c.in_ok-next.ensures.found)
-          (among_named cells shown x c.args.floor one c.in_ok-near.near t (c.in_ok-near.ensures.named held) (c.in_ok-near.ensures.above held)
-          (c.is_among.ensures.0 c.if-is_among.true));
+          (among_named cells shown x c.args.floor one c.args.near t near (c.is_among.ensures.0 c.if-is_among.true));
     }
 
 -- no record names it
@@ -70,17 +69,17 @@ loop-near-preserved g c =
       len = omega (arith, len, longer, pushed);
       few = omega (arith, len, longer, room, counted);
       low = omega (arith, less, under);
-      all = λ held shown one. subst (AreAll (IsUnnamed cells x c.args.floor) t) (sym items)
-          (data_more cells x c.args.floor c.loop-near.below t c.in-Some._value.items c.loop-near.found.items (before.all held shown one) under
+      all = λ held shown one near. subst (AreAll (IsUnnamed cells x c.args.floor) t) (sym items)
+          (data_more cells x c.args.floor c.loop-near.below t c.in-Some._value.items c.loop-near.found.items (before.all held shown one near) under
           (latest_some before.reads held x Data c.loop-near.below c.in_ok-next.next (c.in-Some.start, c.in-Some._value) c.in-Some.is c.in_ok-next.ensures.found)
-          (λ named. cc (c.is_among.ensures.1 (named_among cells shown x c.args.floor one c.in_ok-near.near t (c.in_ok-near.ensures.named held) (c.in_ok-near.ensures.above held) (omega (arith, less, under)) top named), c.if-is_among.false)));
+          (λ named. cc (c.is_among.ensures.1 (named_among cells shown x c.args.floor one c.args.near t near (omega (arith, less, under)) top named), c.if-is_among.false)));
     }
 
 pub returns-clause-found : goal.returns-clause-found
-returns-clause-found g c = λ held shown one.
+returns-clause-found g c = λ held shown one near.
     let before = c.loop-near.invariant in
     let full = c.loop-near-test.false in
     let counted = c.len.ensures in
     let few = before.few in
     let len = before.len in
-    data_full (g.R.Rows.cells c.args.rows.now) c.args.cell.now c.args.floor c.loop-near.below c.loop-near.found.items one (before.all held shown one) (omega (arith, full, counted, few, len))
+    data_full (g.R.Rows.cells c.args.rows.now) c.args.cell.now c.args.floor c.loop-near.below c.loop-near.found.items one (before.all held shown one near) (omega (arith, full, counted, few, len))

@@ -1,6 +1,6 @@
 use Rattle.std.proofs.Common.{◌≡◌, ◌≤◌, length, vec_len}
 use Rattle.row_atomic.specs.Calls.{OnlyReads}
-use Rattle.version_collector.specs.Versions.{AreShown, HasOneRecord, IsUnnamed}
+use Rattle.version_collector.specs.Versions.{AreNear, AreShown, HasOneRecord, IsUnnamed}
 use Rattle.version_collector.proofs.Greatest.{AreAll}
 use Rattle.version_collector.proofs.versions.unnamed_data.Given as goal
 
@@ -13,7 +13,7 @@ invariant-loop-near g l = record {
   few : length l.found.items ≤ 256;
   low : l.below ≤ l.floor;
   all : g.R.Rows.holds l.fn.rows → AreShown (g.R.Rows.cells l.fn.rows) → HasOneRecord (g.R.Rows.cells l.fn.rows) l.cell l.floor
-      → AreAll (IsUnnamed (g.R.Rows.cells l.fn.rows) l.cell l.floor) l.below l.found.items;
+      → AreNear (g.R.Rows.cells l.fn.rows) l.cell l.floor l.near → AreAll (IsUnnamed (g.R.Rows.cells l.fn.rows) l.cell l.floor) l.below l.found.items;
 }
 
 abbrev pub decreases-loop-near : goal.decreases-loop-near

@@ -28,7 +28,7 @@ returns-in_err-reply-clause-step g c = λ held.
 
 pub returns-in_err-reply-clause-undamaged : goal.returns-in_err-reply-clause-undamaged
 returns-in_err-reply-clause-undamaged g c = λ held st reached store shown is.
-    no_bad_record (g.R.Rows.cells c.args.rows.now) st store c.in-Some.cleaner.now.lock.first (c.in_err-reply.ensures.damaged held (same_refusal c.from_residual.result c.in_err-reply.field-0.0 Damaged c.from_residual.ensures.1 is))
+    no_bad_record (g.R.Rows.cells c.args.rows.now) st reached store c.in-Some.cleaner.now.lock.first (c.in_err-reply.ensures.damaged held (same_refusal c.from_residual.result c.in_err-reply.field-0.0 Damaged c.from_residual.ensures.1 is))
 
 pub returns-in_err-reply-clause-full_shown : goal.returns-in_err-reply-clause-full_shown
 returns-in_err-reply-clause-full_shown g c = λ held is st reached store shown.

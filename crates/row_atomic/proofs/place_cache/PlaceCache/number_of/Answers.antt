@@ -1,5 +1,5 @@
 -- What is found comes first.
-use Rattle.std.proofs.Common.{List, ℕ, Some, sym, ap, subst, ◌∙◌, is_some, option_map, slice_get}
+use Rattle.std.proofs.Common.{List, ℕ, sym, ap, ◌∙◌, option_map, slice_get}
 use Rattle.row_atomic.specs.PlaceCaches.{is_key_of, number_kept}
 use Rattle.row_atomic.proofs.PlaceCaches.{first_number, first_promoted, first_stays}
 use Rattle.row_atomic.proofs.place_cache.PlaceCache.number_of.Goals as goal

@@ -9,6 +9,9 @@ returns-in-Get g c = rw c.in-Get.is c.get.ensures
 pub returns-in-Set : goal.returns-in-Set
 returns-in-Set g c = rw c.in-Set.is c.set.ensures
 
+pub returns-in-Delete : goal.returns-in-Delete
+returns-in-Delete g c = rw c.in-Delete.is c.delete.ensures
+
 pub returns-in-Step : goal.returns-in-Step
 returns-in-Step g c = rw c.in-Step.is c.step.ensures
 

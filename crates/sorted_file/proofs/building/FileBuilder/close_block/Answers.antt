@@ -1,5 +1,6 @@
 use Rattle.std.proofs.Common.{◌≡◌, ◌-◌, ◌++◌, ℕ, List, length, ap, ◌∙◌}
-use Rattle.std.specs.Int.{w32, to_be_bytes}
+use Rattle.sorted_file.specs.Grammar.{number_bytes}
+use Rattle.sorted_file.specs.declared.formats.Format.TheVariants.{Two}
 use Rattle.cell_key.specs.Entries.{field}
 use Rattle.sorted_file.specs.Building.{state_of}
 use Rattle.sorted_file.proofs.Growth.{three, closed_from}
@@ -11,5 +12,5 @@ returns-clause-ok c =
     closed_from (state_of c.args.self.now) c.push_field.new.out.items
     (three c.args.self.now.rows.items _ _ _ c.push_number.new.out.items c.push_number-2.new.out.items c.push_field.new.out.items
     c.in_ok-push_number.ensures.ok
-    (c.in_ok-push_number-2.ensures.ok ∙ ap (λ (k : ℕ). c.push_number.new.out.items ++ to_be_bytes w32 k) n)
+    (c.in_ok-push_number-2.ensures.ok ∙ ap (λ (k : ℕ). c.push_number.new.out.items ++ number_bytes Two k) n)
     (c.in_ok-push_field.ensures.ok ∙ ap (λ (l : List ℕ). c.push_number-2.new.out.items ++ field l) c.deref.ensures.value))

@@ -1,5 +1,6 @@
 use Rattle.std.proofs.Common.{◌≡◌, ◌≤◌, ◌<◌, ◌^◌, sym, subst, arith}
 use Rattle.sorted_file.specs.Grammar.{IsFile}
+use Rattle.sorted_file.specs.declared.formats.Format.TheVariants.{Two}
 use Rattle.sorted_file.specs.Building.{state_of, image_from, image_len}
 use Rattle.sorted_file.proofs.Growth.{is_file, fits_not}
 use Rattle.sorted_file.proofs.Results.{if_ok, if_both}
@@ -10,8 +11,8 @@ returns-clause-file c =
     let s = state_of c.close_last.new.self in
     if_ok c.into_image.result (λ image. (image.items ≡ image_from s) × (image_len s ≤ s.limit)) _
     (λ image h es b. let l = c.in_ok-close_last.ensures.limit in let k = c.requires.limited in let w = h.1 in
-    let small : image_len s < 2 ^ 32 = omega (arith, l, k, w) in
-    subst (IsFile es) (sym h.0) (is_file s es (c.in_ok-close_last.ensures.closed es b) small))
+    let small : image_len s < 2 ^ 64 = omega (arith, l, k, w) in
+    subst (IsFile Two es) (sym h.0) (is_file s es (c.in_ok-close_last.ensures.closed es b) small))
     (if_both c.into_image.result _ _ c.into_image.ensures.file c.into_image.ensures.within)
 
 pub returns-clause-large : goal.returns-clause-large

@@ -17,6 +17,7 @@ returns-clause-opened g c =
       heads = o.heads;
       skips = c.in_ok-skips.ensures.skips ∙ ap (λ (l : List FileEntry). skips (kept l)) c.deref.ensures.value;
       counted = o.counted;
+      format = _;
       image = w.image;
       there = w.there;
       form = w.form;

@@ -14,16 +14,14 @@ use Rattle.sorted_file.proofs.NextBlocks.{is_added}
 use Rattle.sorted_file.proofs.Spanned.{covered_all}
 use Rattle.sorted_file.proofs.Spelling.{body-whole}
 use Rattle.sorted_file.proofs.WholeFiles.{few_entries}
+use Rattle.sorted_file.proofs.Widths.{block_small}
 use Rattle.sorted_file.proofs.opening.Opening.add.Goals as goal
 
-pub overflow_cast-self : goal.overflow_cast-self
-overflow_cast-self c =
-    let few = few_entries (kept c.args.block.items) in
-    let many = length-map c.args.block.items file_entry in
+pub overflow_cast-row : goal.overflow_cast-row
+overflow_cast-row c =
+    let small = block_small (kept c.args.block.items) c.requires.list.each c.requires.fits in
     let size = c.requires.length in
-    let within = c.requires.within in
-    let small = c.requires.opening.small in
-    omega (arith, few, many, size, within, small)
+    omega (arith, small, size)
 
 pub overflow_add-self : goal.overflow_add-self
 overflow_add-self c =

@@ -7,12 +7,13 @@ use Rattle.std.specs.Result.{IsErrOf}
 use Rattle.std.specs.declared.result.Result.TheVariants.{Ok, Err}
 use Rattle.oracle.specs.Ranges.{IsDrawRefusal}
 use Rattle.txn_client.specs.Refusals.{IsBeginRefusal}
-use Rattle.txn_client.specs.Shows.{Steps}
+use Rattle.txn_client.specs.Shows.{SameClients, Steps}
+use Rattle.txn_client.specs.declared.clients.Clients.{Clients}
 use Rattle.txn_client.proofs.Exact.{not_crowded}
 use Rattle.cell_key.proofs.Reasons.{not_refused, reason_none}
 use Rattle.txn_client.proofs.Passed.{as_err, at_most_itself, passed_err, passed_none, passed_kept, no_memory_only, device_not, refused_not}
 use Rattle.txn_client.proofs.Refused.{draw_begin, draw_storage}
-use Rattle.txn_client.proofs.Table.{begins_at, begin_full_at, begin_storage_at, begin_undone_key}
+use Rattle.txn_client.proofs.Table.{begins_at, begin_full_at, begin_storage_at, begin_undone_key, entries_each}
 use Rattle.txn_client.proofs.clients.Clients.begin.Goals as goal
 
 too_many_not_exhausted : {A : Type 0} → IsErrOf {T = A} (Err TooManySessions) Exhausted → ⊥
@@ -20,6 +21,9 @@ too_many_not_exhausted is = cc
 
 too_many_no_device : {A : Type 0} → IsErrOf {T = A} (Err TooManySessions) Device → ⊥
 too_many_no_device is = cc
+
+same_itself : (clients : Clients) → SameClients clients clients
+same_itself clients = record { top = refl; each = λ start. refl }
 
 not_undrawn : {A : Type 0} (x : A) (m n o : Refusal) → IsErrOf (Ok x) m ⊎ (IsErrOf (Ok x) n ⊎ IsErrOf (Ok x) o) → ⊥
 not_undrawn x m n o (inl is) = not_refused x m is
@@ -97,7 +101,7 @@ pub returns-in_err-start-clause-refusal : goal.returns-in_err-start-clause-refus
 returns-in_err-start-clause-refusal g c = passed_err c.from_residual.result c.in_err-start.field-0.0 _ c.from_residual.ensures.1 (subst IsBeginRefusal (sym c.in_err-start.ensures.refusal.0) tt)
 
 pub returns-in_err-start-clause-undrawn : goal.returns-in_err-start-clause-undrawn
-returns-in_err-start-clause-undrawn g c = λ is. refl
+returns-in_err-start-clause-undrawn g c = λ is. (refl, same_itself c.args.self.now)
 
 pub returns-in_err-start-clause-exhausted : goal.returns-in_err-start-clause-exhausted
 returns-in_err-start-clause-exhausted g c = λ is. sym c.last.ensures.last ∙ c.in_err-start.ensures.refusal.1
@@ -112,7 +116,7 @@ pub returns-in_err-make_session-clause-refusal : goal.returns-in_err-make_sessio
 returns-in_err-make_session-clause-refusal g c = passed_err c.from_residual-in_err-make_session.result c.in_err-make_session.field-0.0 _ c.from_residual-in_err-make_session.ensures.1 (subst IsBeginRefusal (sym c.in_err-make_session.ensures.refusal) tt)
 
 pub returns-in_err-make_session-clause-undrawn : goal.returns-in_err-make_session-clause-undrawn
-returns-in_err-make_session-clause-undrawn g c = λ is. refl
+returns-in_err-make_session-clause-undrawn g c = λ is. (refl, record { top = c.in_err-make_session.ensures.top; each = entries_each c.args.self.now c.make_session.new.self c.in_err-make_session.ensures.err })
 
 pub returns-in_err-make_session-clause-exhausted : goal.returns-in_err-make_session-clause-exhausted
 returns-in_err-make_session-clause-exhausted g c = λ is. absurd (no_memory_only c.from_residual-in_err-make_session.result c.in_err-make_session.field-0.0 _ no_memory_not_exhausted c.from_residual-in_err-make_session.ensures.1 c.in_err-make_session.ensures.refusal is)
@@ -145,7 +149,7 @@ pub returns-then-len-ge-MOST_SESSIONS-clause-crowded : goal.returns-then-len-ge-
 returns-then-len-ge-MOST_SESSIONS-clause-crowded g c = λ st shown many. refl
 
 pub returns-then-len-ge-MOST_SESSIONS-clause-undrawn : goal.returns-then-len-ge-MOST_SESSIONS-clause-undrawn
-returns-then-len-ge-MOST_SESSIONS-clause-undrawn g c = λ is. refl
+returns-then-len-ge-MOST_SESSIONS-clause-undrawn g c = λ is. (refl, same_itself c.args.self.now)
 
 pub returns-then-len-ge-MOST_SESSIONS-clause-exhausted : goal.returns-then-len-ge-MOST_SESSIONS-clause-exhausted
 returns-then-len-ge-MOST_SESSIONS-clause-exhausted g c = λ is. absurd (too_many_not_exhausted is)
@@ -163,7 +167,13 @@ pub returns-in-Err-clause-next : goal.returns-in-Err-clause-next
 returns-in-Err-clause-next g c = tt
 
 pub returns-in-Err-clause-undrawn : goal.returns-in-Err-clause-undrawn
-returns-in-Err-clause-undrawn g c = undrawn_at c.in-Err.refusal _ c.in-Err.ensures.refusals c.in-Err.ensures.unchanged
+returns-in-Err-clause-undrawn g c = undrawn_at {A = ℕ} c.in-Err.refusal _ c.in-Err.ensures.refusals (λ is.
+    -- a stamp is left, so the oracle isn't exhausted
+    let full = c.in-Err.ensures.exhausted.0 is in
+    let next = c.in_ok-start.ensures.next in
+    let last = c.last.ensures.last in
+    let to = c.stamp.ensures.to in
+    absurd (omega arith))
 
 pub returns-then-len-ge-MOST_SESSIONS-clause-reason : goal.returns-then-len-ge-MOST_SESSIONS-clause-reason
 returns-then-len-ge-MOST_SESSIONS-clause-reason g c = reason_none _ _ too_many_no_device

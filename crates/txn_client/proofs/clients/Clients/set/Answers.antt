@@ -39,9 +39,10 @@ returns-clause-step c = λ cells last.
     let same = c.in_ok-cell.ensures.ok in
     let bytes = c.in_ok-value.ensures.ok in
     subst (λ (p : Cell × List ℕ). Steps cells c.args.self.now last (machine.Set c.args.start p.0 p.1) (result_reply (λ _. machine.SetDone) c.set.result) cells (record c.args.self.now { sessions = c.get_mut.follows.lender w }) last) (λ i. (same i, bytes i))
-    (sets_at cells c.args.self.now (record c.args.self.now { sessions = c.get_mut.follows.lender w }) last c.args.start session w c.in_ok-cell.cell c.in_ok-value.value was (open_same c.args.self.now c.args.start session was c.in_ok-cell.ensures.open)
+    (sets_at cells c.args.self.now (record c.args.self.now { sessions = c.get_mut.follows.lender w }) last c.args.start session w c.in_ok-cell.cell was (open_same c.args.self.now c.args.start session was c.in_ok-cell.ensures.open)
     refl refl refl (subst (λ (x : Cell). IsRow x.row) (sym same) c.in_ok-cell.ensures.row) (subst (λ (x : Cell). IsFamily x.family) (sym same) c.in_ok-cell.ensures.family)
-    (subst (λ (bs : List ℕ). length bs ≤ 65536) (sym bytes) c.in_ok-value.ensures.valid) refl (lent.3 there).0 lent.2
+    refl (lent.3 there).0 lent.2
+    c.in_ok-value.value (subst (λ (bs : List ℕ). length bs ≤ 65536) (sym bytes) c.in_ok-value.ensures.valid)
     c.set.result c.set.ensures.ok c.set.ensures.room c.set.ensures.err c.set.ensures.refusal c.set.ensures.full)
 
 pub returns-in_err-cell-clause-unknown : goal.returns-in_err-cell-clause-unknown

@@ -6,6 +6,7 @@ use Rattle.txn_client.specs.declared.writes.Write.{Write}
 use Rattle.txn_client.proofs.WritePlaces.{sets_last, sets_there, named_there, unnamed}
 use Rattle.cell_key.proofs.Reasons.{not_refused}
 use Rattle.txn_client.proofs.writes.Writes.set.Goals as goal
+use Rattle.txn_client.proofs.writes.Writes.set.Goals.{in-Some-2, in-None-2}
 
 pub returns-then-len-ge-MOST-clause-full : goal.returns-then-len-ge-MOST-clause-full
 returns-then-len-ge-MOST-clause-full c = λ e.
@@ -14,8 +15,9 @@ returns-then-len-ge-MOST-clause-full c = λ e.
 
 pub returns-in-Some-clause-ok : goal.returns-in-Some-clause-ok
 returns-in-Some-clause-ok c =
-    subst (λ (ws : List Write). Sets c.args.write.cell c.args.write.value (map write_of c.args.self.now) (map write_of (slice_set ws c.in-Some.place c.args.write))) (sym c.self.view_is)
-    (sets_there c.args.self.now c.in-Some.place c.args.write c.in-Some.ensures)
+    let there = subst (λ (ws : List Write). Sets c.args.write.cell c.args.write.value (map write_of c.args.self.now) (map write_of (slice_set ws c.in-Some.place c.args.write))) (sym c.self.view_is)
+    (sets_there c.args.self.now c.in-Some.place c.args.write c.in-Some.ensures) in
+    elim c.match-index_mut-write.branch [ in-Some-2 w ↦ rw w.self-is there | in-None-2 w ↦ rw w.self-is there ]
 
 pub returns-in-Some-clause-room : goal.returns-in-Some-clause-room
 returns-in-Some-clause-room c = inl (named_there c.args.self.now c.in-Some.place c.args.write.cell c.in-Some.ensures)

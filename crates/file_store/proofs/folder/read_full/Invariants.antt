@@ -1,5 +1,5 @@
 use Rattle.std.proofs.Common.{length, ◌-◌, ◌≤◌, ◌≡◌}
-use Rattle.file_store.proofs.folder.read_part.Given as goal
+use Rattle.file_store.proofs.folder.read_full.Given as goal
 
 -- the buffer keeps its length, and what was read fits into it
 abbrev pub invariant-loop-at : goal.invariant-loop-at

@@ -1,0 +1,335 @@
+//! A script of requests that goes through every part of the store: sessions, a cleaner, a collector, compactions, a split, a move
+//! and a restart. `scripts/refuse_allocations` runs it with one allocation refused at a time.
+
+use crate::FILE_LIMIT;
+use crate::tests::cleaning::{ROLLED_FORWARD, SESSION_STOPPED};
+use crate::tests::rows::{COMMITTED, Exchange, TRANSFER};
+use crate::tests::{MemServer, push_frame};
+use cell_key::Refusal;
+use file_store::MemFiles;
+use oracle::MemMark;
+use server_loop::{Config, ServeFault, Server};
+use std::alloc::{AllocError, Global};
+use std::cell::Cell;
+use std::io;
+use std::io::{Read, Write};
+use std::test::Fail;
+
+/// What is in the memtable is written to a file.
+const FLUSHED: [Exchange; 1] = [
+    // Minor 1: done
+    (b"\x0A\0\0\0\x01", b"\x8A"),
+];
+
+/// The two cells get a tablet each, and a session begins.
+const SPLIT: [Exchange; 3] = [
+    // Split Bob: 2
+    (b"\x0D\0\0\0\x03Bob", b"\x8D\0\0\0\x02"),
+    // Move 2 3: done
+    (b"\x0E\0\0\0\x02\x03", b"\x8E"),
+    // Begin: 5
+    (b"\x01", b"\x81\0\0\0\0\0\0\0\x05"),
+];
+
+/// Files are merged, old versions collected, and both cells read, before and after the oracle restarts.
+const TIDIED: [Exchange; 8] = [
+    // Minor 1: done
+    (b"\x0A\0\0\0\x01", b"\x8A"),
+    // Merge 1 2: done
+    (b"\x0B\0\0\0\x01\0\0\0\x02", b"\x8B"),
+    // CollectBegin: 1, floor 5
+    (b"\x08", b"\x88\0\0\0\0\0\0\0\x01\0\0\0\0\0\0\0\x05"),
+    // CollectStep 1 1000: Collected
+    (b"\x09\0\0\0\0\0\0\0\x01\0\0\x03\xE8", b"\x89\x03"),
+    // Major 2: done
+    (b"\x0C\0\0\0\x02", b"\x8C"),
+    // Get 5 Bob bal: 3
+    (
+        b"\x02\0\0\0\0\0\0\0\x05\0\0\0\x03Bob\0\0\0\x03bal",
+        b"\x82\x01\0\0\0\x013",
+    ),
+    // Get 5 Joe bal: 9
+    (
+        b"\x02\0\0\0\0\0\0\0\x05\0\0\0\x03Joe\0\0\0\x03bal",
+        b"\x82\x01\0\0\0\x019",
+    ),
+    // OracleRestart: restarted
+    (b"\x10", b"\x90"),
+];
+
+/// A session begins after the restart, and files that no tablet has are removed.
+const SWEPT: [Exchange; 2] = [
+    // Begin: 1001
+    (b"\x01", b"\x81\0\0\0\0\0\0\x03\xE9"),
+    // Sweep: 2
+    (b"\x0F", b"\x8F\0\0\0\0\0\0\0\x02"),
+];
+
+/// What both cells hold in their three columns.
+const COLUMNS: [Exchange; 6] = [
+    // Raw Bob bal data 0..9: stamp 3, 3
+    (
+        b"\x11\0\0\0\x03Bob\0\0\0\x03bal\x01\0\0\0\0\0\0\0\0\0\0\0\0\0\0\0\x09",
+        b"\x91\x01\0\0\0\0\0\0\0\x03\0\0\0\x013",
+    ),
+    // Raw Bob bal lock 0..9: nothing
+    (
+        b"\x11\0\0\0\x03Bob\0\0\0\x03bal\x02\0\0\0\0\0\0\0\0\0\0\0\0\0\0\0\x09",
+        b"\x91\0",
+    ),
+    // Raw Bob bal write 0..9: stamp 4, start 3, set
+    (
+        b"\x11\0\0\0\x03Bob\0\0\0\x03bal\x03\0\0\0\0\0\0\0\0\0\0\0\0\0\0\0\x09",
+        b"\x91\x01\0\0\0\0\0\0\0\x04\0\0\0\x09\0\0\0\0\0\0\0\x03S",
+    ),
+    // Raw Joe bal data 0..9: stamp 3, 9
+    (
+        b"\x11\0\0\0\x03Joe\0\0\0\x03bal\x01\0\0\0\0\0\0\0\0\0\0\0\0\0\0\0\x09",
+        b"\x91\x01\0\0\0\0\0\0\0\x03\0\0\0\x019",
+    ),
+    // Raw Joe bal lock 0..9: nothing
+    (
+        b"\x11\0\0\0\x03Joe\0\0\0\x03bal\x02\0\0\0\0\0\0\0\0\0\0\0\0\0\0\0\x09",
+        b"\x91\0",
+    ),
+    // Raw Joe bal write 0..9: stamp 4, start 3, set
+    (
+        b"\x11\0\0\0\x03Joe\0\0\0\x03bal\x03\0\0\0\0\0\0\0\0\0\0\0\0\0\0\0\x09",
+        b"\x91\x01\0\0\0\0\0\0\0\x04\0\0\0\x09\0\0\0\0\0\0\0\x03S",
+    ),
+];
+
+/// The script, after the transfer's beginning.
+const SCRIPT: [&[Exchange]; 6] = [
+    &FLUSHED,
+    &SESSION_STOPPED,
+    &SPLIT,
+    &ROLLED_FORWARD,
+    &TIDIED,
+    &SWEPT,
+];
+
+/// The limits of the server.
+const CONFIG: Config = Config {
+    flush: 10_000,
+    file_limit: FILE_LIMIT,
+};
+
+/// The frame of the refusal NoMemory.
+const NO_MEMORY: &[u8] = b"\0\0\0\x02\xFF\x14";
+
+/// How many bytes at the end of a Sweep's reply tell how many files were removed. A refused request may have left more of them.
+const COUNT_LENGTH: usize = 8;
+
+/// What came of the script.
+#[derive(Clone, Copy, Debug)]
+pub enum Came {
+    /// Each request was answered as it must be, at once.
+    Answered,
+    /// So it was, and one of them, a serve or the new server, was refused NoMemory first.
+    AnsweredLater,
+    /// Something else was answered.
+    WrongAnswer,
+}
+
+/// A reader of frames of fewer than 256 bytes, of which a read gives one. It ends where the last one was refused for memory.
+#[derive(Drop)]
+struct Frames<'a> {
+    last: &'a [u8],
+    rest: &'a [u8],
+    is_refused: &'a Cell<bool>,
+}
+
+impl Read for Frames<'_> {
+    fn read(&mut self, buf: &mut [u8]) -> io::Result<usize> {
+        let Some(length) = self.rest.get(3) else {
+            return Ok(0);
+        };
+        if self.is_refused.get() {
+            return Ok(0);
+        }
+        let count = (4 + usize::from(*length))
+            .min(buf.len())
+            .min(self.rest.len());
+        buf[..count].copy_from_slice(&self.rest[..count]);
+        self.last = self.rest;
+        self.rest = &self.rest[count..];
+        Ok(count)
+    }
+}
+
+/// A writer that has room for all replies, and sees where one is the refusal NoMemory.
+#[derive(Drop)]
+struct Replies<'a> {
+    written: Vec<u8>,
+    is_refused: &'a Cell<bool>,
+}
+
+impl Write for Replies<'_> {
+    fn write(&mut self, buf: &[u8]) -> io::Result<usize> {
+        self.written.extend_from_slice(buf)?;
+        self.is_refused.set(self.written.ends_with(NO_MEMORY));
+        Ok(buf.len())
+    }
+
+    fn flush(&mut self) -> io::Result<()> {
+        Ok(())
+    }
+}
+
+/// Serves frames, and writes the replies behind what is there. It answers how many bytes of frames are left where one was refused
+/// for memory, from that one on: its reply is then not kept.
+fn served(server: &mut MemServer, frames: &[u8], written: Vec<u8>) -> (Vec<u8>, usize) {
+    let is_refused = Cell::new(false);
+    let mut reader = Frames {
+        last: frames,
+        rest: frames,
+        is_refused: &is_refused,
+    };
+    let mut writer = Replies {
+        written,
+        is_refused: &is_refused,
+    };
+    let ended = server.serve(&mut reader, &mut writer, u64::MAX);
+    let left = reader.last.len();
+    let mut written = writer.written;
+    if matches!(ended, Err(ServeFault::NoMemory)) {
+        return (written, frames.len());
+    }
+    if !is_refused.get() {
+        return (written, 0);
+    }
+    written.truncate(written.len().saturating_sub(NO_MEMORY.len()));
+    (written, left)
+}
+
+/// The frames of requests, those of their replies, and how many bytes at the end of these may be others where something was refused.
+#[derive(Drop)]
+struct Streams {
+    requests: Vec<u8>,
+    replies: Vec<u8>,
+    free: usize,
+}
+
+impl Streams {
+    fn new(alloc: Global, free: usize) -> Streams {
+        Streams {
+            requests: Vec::new(alloc),
+            replies: Vec::new(alloc),
+            free,
+        }
+    }
+
+    fn push_all(&mut self, exchanges: &[Exchange]) -> Result<(), AllocError> {
+        for (request, reply) in exchanges {
+            push_frame(&mut self.requests, request)?;
+            push_frame(&mut self.replies, reply)?;
+        }
+        Ok(())
+    }
+
+    /// Whether these are the replies.
+    fn are_met(&self, written: &[u8], is_disturbed: bool) -> bool {
+        let free = if is_disturbed { self.free } else { 0 };
+        let count = self.replies.len().saturating_sub(free);
+        written.len() == self.replies.len() && written.get(..count) == self.replies.get(..count)
+    }
+}
+
+/// The script, what is read of both cells after it, and room for what is written. All of it is made before the script is run.
+#[derive(Drop)]
+pub struct Room {
+    script: Streams,
+    columns: Streams,
+    written: Vec<u8>,
+}
+
+impl Room {
+    pub fn new(alloc: Global) -> Result<Room, Refusal> {
+        let mut script = Streams::new(alloc, COUNT_LENGTH);
+        script.push_all(&TRANSFER[..COMMITTED])?;
+        for part in SCRIPT {
+            script.push_all(part)?;
+        }
+        let mut columns = Streams::new(alloc, 0);
+        columns.push_all(&COLUMNS)?;
+        Ok(Room {
+            script,
+            columns,
+            written: Vec::with_capacity(alloc, 1024)?,
+        })
+    }
+}
+
+/// A server with what came of the script.
+#[derive(Drop)]
+struct Play {
+    server: MemServer,
+    came: Came,
+}
+
+impl Play {
+    /// A new server, which is made once more where it was refused for memory.
+    fn new(alloc: Global) -> Result<Play, Refusal> {
+        let (files, marks) = match Server::new(
+            alloc,
+            MemFiles::new(alloc),
+            MemMark::new(),
+            CONFIG,
+        ) {
+            Ok(server) => {
+                let came = Came::Answered;
+                return Ok(Play { server, came });
+            }
+            Err((Refusal::NoMemory, files, marks)) => (files, marks),
+            Err((refusal, _, _)) => return Err(refusal),
+        };
+        match Server::new(alloc, files, marks, CONFIG) {
+            Ok(server) => {
+                let came = Came::AnsweredLater;
+                Ok(Play { server, came })
+            }
+            Err((refusal, _, _)) => Err(refusal),
+        }
+    }
+
+    /// Serves a stream, and what is left of it once more where a request was refused for memory and nothing was before. It gives
+    /// back the room for the replies.
+    fn ask(&mut self, streams: &Streams, room: Vec<u8>) -> Vec<u8> {
+        let frames = streams.requests.as_slice();
+        let (mut written, mut left) = served(&mut self.server, frames, room);
+        if left > 0 && matches!(self.came, Came::Answered) {
+            self.came = Came::AnsweredLater;
+            let (_, rest) = frames.split_at(frames.len().saturating_sub(left));
+            (written, left) = served(&mut self.server, rest, written);
+        }
+        let is_disturbed = !matches!(self.came, Came::Answered);
+        if left > 0 || !streams.are_met(&written, is_disturbed) {
+            self.came = Came::WrongAnswer;
+        }
+        written.clear();
+        written
+    }
+}
+
+/// What comes of the script, on a server of its own.
+pub fn played(alloc: Global, room: Room) -> Result<Came, Refusal> {
+    let Room {
+        script,
+        columns,
+        written,
+    } = room;
+    let mut play = Play::new(alloc)?;
+    let written = play.ask(&script, written);
+    if !matches!(play.came, Came::WrongAnswer) {
+        play.ask(&columns, written);
+    }
+    Ok(play.came)
+}
+
+#[test]
+fn script(rt: HostRuntime) -> Result<(), Fail> {
+    let came = played(rt.alloc(), Room::new(rt.alloc())?)?;
+    assert!(rt; matches!(came, Came::Answered), "{came:?}");
+    Ok(())
+}
