@@ -35,7 +35,10 @@ from duqishom.answers import (
     Value,
     Version,
 )
+from duqishom.columns import BadForm, Kind, Lock, Record, read_lock, read_record
+from duqishom.connection import RequestTimedOut
 from duqishom.fields import MalformedReply
+from duqishom.folders import FolderDamaged, NotOpened
 from duqishom.program import ProgramEnded
 from duqishom.refusals import (
     BadColumn,
@@ -63,7 +66,8 @@ from duqishom.refusals import (
     UnknownTablet,
     WrongPhase,
 )
-from duqishom.store import Store
+from duqishom.remote import ConnectionLost, Fate
+from duqishom.store import ForkedStore, Store
 from duqishom.tablets import Tablet
 from duqishom.transactions import (
     Cell,
@@ -74,10 +78,14 @@ from duqishom.transactions import (
     TransactionFailed,
     TransactionLost,
 )
+from duqishom.version import VERSION
+
+__version__ = VERSION
 
 __all__ = [
     "BadColumn",
     "BadCount",
+    "BadForm",
     "BadRequest",
     "BadRow",
     "BadSplit",
@@ -91,29 +99,38 @@ __all__ = [
     "Collector",
     "Committed",
     "Conflict",
+    "ConnectionLost",
     "Damaged",
     "Decided",
     "Device",
     "EmptyCommit",
     "Exhausted",
+    "Fate",
     "FileTooLarge",
     "Finished",
+    "FolderDamaged",
+    "ForkedStore",
     "Found",
     "FrameTooLarge",
     "Gone",
     "Held",
+    "Kind",
+    "Lock",
     "Lost",
     "MalformedReply",
     "MemtableFull",
     "More",
     "NoMemory",
+    "NotOpened",
     "Nothing",
     "Patience",
     "Pending",
     "ProgramEnded",
     "Progress",
     "Qualifier",
+    "Record",
     "Refused",
+    "RequestTimedOut",
     "RolledBack",
     "RolledForward",
     "Stamped",
@@ -135,4 +152,7 @@ __all__ = [
     "Value",
     "Version",
     "WrongPhase",
+    "__version__",
+    "read_lock",
+    "read_record",
 ]

@@ -1,21 +1,33 @@
-"""`python3 -m duqishom [--program PROGRAM] [--dir DIR]`: asks a store in words, from a terminal or a pipe."""
+"""`python3 -m duqishom`: asks a store in words, from a terminal, a pipe or the command line; or looks into a folder."""
 
 from __future__ import annotations
 
 import argparse
 import sys
-from collections.abc import Iterator
+from collections.abc import Iterator, Sequence
+from contextlib import suppress
 
+from duqishom import inspection, statistics
+from duqishom.gateway import command as gateway
 from duqishom.program import ProgramEnded
+from duqishom.refusals import Refused
 from duqishom.store import Store
+from duqishom.version import VERSION
 from duqishom.words import Words, answer_all
 
 PROMPT = "> "
+GREETING = "duqishom {version}: {store}. The line help shows all lines; quit or the end of the input ends it."
+
+# The first words that stand for commands of their own, each with what runs it on the words behind.
+COMMANDS = {"inspect": inspection.main, "serve": gateway.main, "stats": statistics.main}
 
 
 def lines() -> Iterator[str]:
-    """The lines of the input, with a prompt before each at a terminal."""
+    """The lines of the input; at a terminal with a prompt before each, with editing and a history."""
     is_terminal = sys.stdin.isatty()
+    if is_terminal:
+        with suppress(ImportError):
+            import readline  # noqa: F401
     while True:
         try:
             yield input(PROMPT if is_terminal else "")
@@ -23,21 +35,72 @@ def lines() -> Iterator[str]:
             if is_terminal:
                 print()
             return
+        except KeyboardInterrupt:
+            if not is_terminal:
+                raise
+            print("^C (quit ends it)")
 
 
-def main() -> int:
+def parser() -> argparse.ArgumentParser:
+    """The parser of the command line."""
+    made = argparse.ArgumentParser(
+        prog="duqishom",
+        description="Asks a store in words: in those of the command line, or a line for each request from the input. The word help"
+        " shows all lines. `inspect FOLDER` looks into a folder without a program, `serve` serves a store at a socket, and"
+        " `stats` says what such a gateway counts.",
+    )
+    made.add_argument("--program", help="the tabletd to start: that of TABLETD, PATH or the repository where none is named")
+    place = made.add_mutually_exclusive_group()
+    place.add_argument("--dir", help="the folder of the store: a new store in memory where none is named")
+    place.add_argument("--socket", metavar="PATH", help="ask the store that a gateway serves there; no program is started")
+    made.add_argument("--flush", metavar="N", help="given to the program: how many entries a memtable has before it is compacted")
+    made.add_argument("--merge", metavar="M", help="given to the program: how many files a tablet has before some are merged")
+    made.add_argument("--no-checkpoint", action="store_true", help="make no checkpoint of a folder at the end")
+    made.add_argument("--version", action="version", version=VERSION)
+    made.add_argument("words", nargs=argparse.REMAINDER, help="one line to be done")
+    return made
+
+
+def place_of(options: argparse.Namespace) -> str:
+    """Which store is asked, in words."""
+    if options.socket:
+        return f"the store that is served at {options.socket}"
+    return f"the store of {options.dir}" if options.dir else "a new store in memory, which ends with this command"
+
+
+def main(given: Sequence[str]) -> int:
     """Runs the command. The status is 0 where each line was done, 1 where one was not, and 2 where the program failed."""
-    parser = argparse.ArgumentParser(prog="duqishom", description="Asks a store in words. The line help shows them all.")
-    parser.add_argument("--program", help="the tabletd to start: scripts/tabletd where none is named")
-    parser.add_argument("--dir", help="the folder of the store: a new store in memory where none is named")
-    options = parser.parse_args()
+    if given[:1] and given[0] in COMMANDS:
+        return COMMANDS[given[0]](given[1:])
+    options = parser().parse_args(given)
+    words = [word for name in ("flush", "merge") if (value := getattr(options, name)) for word in (f"--{name}", value)]
     try:
-        with Store(options.program, folder=options.dir) as store:
-            return 0 if answer_all(Words(store), lines()) else 1
-    except (OSError, ProgramEnded) as failure:
+        with Store(
+            options.program,
+            folder=options.dir,
+            words=words,
+            checkpoint_at_close=not options.no_checkpoint,
+            socket=options.socket,
+        ) as store:
+            asked = Words(store)
+            if options.words:
+                is_done, answer = asked.answer_words(options.words)
+                print(answer)
+                return 0 if is_done else 1
+            if sys.stdin.isatty():
+                print(GREETING.format(version=VERSION, store=place_of(options)))
+            return 0 if answer_all(asked, lines()) else 1
+    except (OSError, ProgramEnded, Refused) as failure:
         print(f"duqishom: {failure}", file=sys.stderr)
         return 2
+    except KeyboardInterrupt:
+        return 130
+
+
+def run() -> int:
+    """Runs the command on the words of the command line."""
+    return main(sys.argv[1:])
 
 
 if __name__ == "__main__":
-    sys.exit(main())
+    sys.exit(run())

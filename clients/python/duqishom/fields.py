@@ -17,6 +17,20 @@ def counted(text: bytes) -> bytes:
     return number(4, len(text)) + text
 
 
+def bytes_argument(name: str, given: bytes) -> bytes:
+    """What was given for this argument, as bytes. TypeError, with its name, where it is something else."""
+    if isinstance(given, bytes):
+        return given
+    if isinstance(given, (bytearray, memoryview)):
+        return bytes(given)
+    raise TypeError(f"{name} must be bytes, and not {type(given).__name__}: {given!r}")
+
+
+def counted_argument(name: str, given: bytes) -> bytes:
+    """What was given for this argument, behind its length."""
+    return counted(bytes_argument(name, given))
+
+
 class FieldReader:
     """Takes the fields of a body from its front."""
 
@@ -34,7 +48,10 @@ class FieldReader:
 
     def number(self, width: int) -> int:
         """The next number, which has so many bytes."""
-        return int.from_bytes(self.bytes_of(width), "big")
+        at, self._at = self._at, self._at + width
+        if self._at > len(self._body):
+            raise MalformedReply(f"the body ends inside a field: {self._body.hex(' ')}")
+        return int.from_bytes(self._body[at : self._at], "big")
 
     def counted(self) -> bytes:
         """The next bytes that stand behind their length."""

@@ -1,7 +1,8 @@
-"""The eighteen operations: how each is asked, and how its answer is read."""
+"""The nineteen operations: how each is asked, and how its answer is read."""
 
 from __future__ import annotations
 
+from collections.abc import Sequence
 from dataclasses import dataclass
 from typing import ClassVar, Protocol, TypeVar
 
@@ -21,8 +22,8 @@ from duqishom.answers import (
     read_progress,
     read_version,
 )
-from duqishom.fields import FieldReader, MalformedReply, counted, number
-from duqishom.refusals import BY_NUMBER
+from duqishom.fields import FieldReader, MalformedReply, counted_argument, number
+from duqishom.refusals import BY_NUMBER, Refused
 
 REFUSED = 0xFF
 
@@ -71,7 +72,7 @@ class Get:
     code: ClassVar[int] = 0x02
 
     def fields(self) -> bytes:
-        return number(8, self.start) + counted(self.row) + counted(self.family)
+        return number(8, self.start) + counted_argument("row", self.row) + counted_argument("family", self.family)
 
     def read(self, fields: FieldReader) -> Found:
         return read_found(fields)
@@ -88,7 +89,8 @@ class Set(WithoutAnswer):
     code: ClassVar[int] = 0x03
 
     def fields(self) -> bytes:
-        return number(8, self.start) + counted(self.row) + counted(self.family) + counted(self.value)
+        cell = counted_argument("row", self.row) + counted_argument("family", self.family)
+        return number(8, self.start) + cell + counted_argument("value", self.value)
 
 
 @dataclass(frozen=True)
@@ -125,7 +127,7 @@ class CleanBegin:
     code: ClassVar[int] = 0x06
 
     def fields(self) -> bytes:
-        return counted(self.row) + counted(self.family)
+        return counted_argument("row", self.row) + counted_argument("family", self.family)
 
     def read(self, fields: FieldReader) -> Cleaner | None:
         return read_cleaner(fields)
@@ -215,7 +217,7 @@ class Split:
     code: ClassVar[int] = 0x0D
 
     def fields(self) -> bytes:
-        return counted(self.row)
+        return counted_argument("row", self.row)
 
     def read(self, fields: FieldReader) -> int:
         return fields.number(4)
@@ -269,7 +271,7 @@ class Raw:
 
     def fields(self) -> bytes:
         bounds = number(8, self.lo) + number(8, self.hi)
-        return counted(self.row) + counted(self.family) + number(1, self.qualifier) + bounds
+        return counted_argument("row", self.row) + counted_argument("family", self.family) + number(1, self.qualifier) + bounds
 
     def read(self, fields: FieldReader) -> Version | None:
         return read_version(fields)
@@ -285,13 +287,36 @@ class Checkpoint(WithoutAnswer):
         return b""
 
 
+@dataclass(frozen=True)
+class Delete(WithoutAnswer):
+    """Buffers the deletion of a cell in the session."""
+
+    start: int
+    row: bytes
+    family: bytes
+    code: ClassVar[int] = 0x13
+
+    def fields(self) -> bytes:
+        return number(8, self.start) + counted_argument("row", self.row) + counted_argument("family", self.family)
+
+
 def request_body(operation: Operation[Answer]) -> bytes:
     """The body that asks for an operation."""
     return number(1, operation.code) + operation.fields()
 
 
-def read_reply(operation: Operation[Answer], body: bytes) -> Answer:
-    """The answer in the reply to an operation. Raises the refusal where it was refused."""
+def request_bodies(operations: Sequence[Operation[Answer]]) -> list[bytes]:
+    """The bodies that ask for operations. One that stands several times in a row is made once."""
+    bodies: list[bytes] = []
+    last: Operation[Answer] | None = None
+    for operation in operations:
+        bodies.append(bodies[-1] if operation is last else request_body(operation))
+        last = operation
+    return bodies
+
+
+def answer_or_refusal(operation: Operation[Answer], body: bytes) -> Answer | Refused:
+    """The answer in the reply to an operation, or the refusal. MalformedReply where it is none."""
     fields = FieldReader(body)
     code = fields.number(1)
     if code == REFUSED:
@@ -299,9 +324,32 @@ def read_reply(operation: Operation[Answer], body: bytes) -> Answer:
         fields.end()
         if refusal is None:
             raise MalformedReply(f"no refusal has this number: {body.hex(' ')}")
-        raise refusal()
+        return refusal(spoken_of(refusal, operation))
     if code != operation.code | 0x80:
         raise MalformedReply(f"this is no reply to {operation}: {body.hex(' ')}")
     answer = operation.read(fields)
     fields.end()
     return answer
+
+
+def spoken_of(refusal: type[Refused], operation: object) -> str:
+    """What of a request its refusal speaks of, with its name: nothing where that isn't in the request."""
+    for field in refusal.speaks_of:
+        given = getattr(operation, field, None)
+        if given is not None:
+            return named(SESSION if field == "start" else field, given)
+    return ""
+
+
+# What a start stands for.
+SESSION = "session"
+
+# So many bytes of a row, a family or a value stand in a text.
+SHOWN = 32
+
+
+def named(name: str, given: object) -> str:
+    """Something that was given, with its name. Of long bytes the first ones stand for all."""
+    if isinstance(given, bytes) and len(given) > SHOWN:
+        return f"{name} {given[:SHOWN]!r}.. of {len(given):,} bytes"
+    return f"{name} {given!r}"

@@ -2,13 +2,15 @@
 
 from __future__ import annotations
 
+import os
+import shutil
+import signal
 import subprocess
 from collections.abc import Sequence
 from pathlib import Path
 
+from duqishom.connection import LONGEST_BODY, Frames, StreamEnded
 from duqishom.refusals import FrameTooLarge
-
-LONGEST_BODY = 1_048_576
 
 # How many seconds a program may take to end once its input has ended.
 PATIENCE = 300
@@ -26,64 +28,54 @@ ENDS = {
 
 
 class ProgramEnded(Exception):
-    """The program has ended, and what it kept in memory is lost. The status is its exit status."""
+    """The program has ended, and what it kept in memory is lost. The status is its exit status: below 0 where a signal ended it."""
 
-    def __init__(self, status: int) -> None:
+    def __init__(self, status: int, lost: str = "") -> None:
         why = f": {ENDS[status]}" if status in ENDS else ""
-        super().__init__(f"the program has ended with status {status}{why}")
+        what = f"; {lost}" if lost else ""
+        super().__init__(f"the program has ended with status {status}{why}{what}")
         self.status = status
 
 
 def default_program() -> str:
-    """The program that is started where none is named: scripts/tabletd of the repository, which builds it where need be."""
-    return str(Path(__file__).resolve().parents[3] / "scripts" / "tabletd")
+    """The program that is started where none is named: that of the environment's TABLETD, then the tabletd on PATH, then the
+    scripts/tabletd of the repository in which this package stands, which builds it where need be."""
+    repository = Path(__file__).resolve().parents[3] / "scripts" / "tabletd"
+    return os.environ.get("TABLETD") or shutil.which("tabletd") or str(repository)
 
 
 class Program:
-    """A running `tabletd`. Its standard error is the caller's."""
+    """A running `tabletd`. Its standard error is the caller's, and a Ctrl-C at the terminal doesn't reach it."""
 
     def __init__(self, program: str | None = None, words: Sequence[str] = ()) -> None:
-        """Starts the program with these words. OSError where it can't be started."""
+        """Starts the program with these words, in a process group of its own. OSError where it can't be started."""
         command = [program or default_program(), *words]
-        self._child = subprocess.Popen(command, stdin=subprocess.PIPE, stdout=subprocess.PIPE)
+        pipe = subprocess.PIPE
+        self._child = subprocess.Popen(command, stdin=pipe, stdout=pipe, bufsize=0, process_group=0)
+        assert self._child.stdin is not None and self._child.stdout is not None
+        self._frames = Frames(self._child.stdout, self._child.stdin)
 
-    def ask(self, body: bytes) -> bytes:
-        """Sends a body in a frame, and gives the body of the reply.
+    def ask(self, bodies: Sequence[bytes], timeout: float | None = None) -> list[bytes]:
+        """Sends these bodies in frames, and gives the bodies of the replies.
 
-        FrameTooLarge where the body is too long: then nothing is sent, for the program would end at it.
-        ProgramEnded where the program ends in place of a reply.
+        FrameTooLarge where a body is too long: then nothing is sent, for the program would end at it. RequestTimedOut where
+        so many seconds pass. ProgramEnded where the program ends in place of a reply.
         """
-        if len(body) > LONGEST_BODY:
+        if any(len(body) > LONGEST_BODY for body in bodies):
             raise FrameTooLarge()
-        if self._child.stdin is None or self._child.stdin.closed:
-            raise ProgramEnded(self.close())
         try:
-            self._child.stdin.write(len(body).to_bytes(4, "big") + body)
-            self._child.stdin.flush()
-        except BrokenPipeError:
+            return self._frames.ask(bodies, timeout)
+        except StreamEnded:
             raise ProgramEnded(self.close()) from None
-        length = int.from_bytes(self._read(4), "big")
-        return self._read(length)
-
-    def _read(self, count: int) -> bytes:
-        assert self._child.stdout is not None
-        taken = self._child.stdout.read(count)
-        if len(taken) < count:
-            raise ProgramEnded(self.close())
-        return taken
 
     def kill(self) -> None:
         """Ends the program at once, whatever it is at."""
-        self._child.kill()
+        if self._child.poll() is None:
+            os.killpg(self._child.pid, signal.SIGKILL)
 
     def close(self) -> int:
         """Ends the input, waits for the program's end, and gives its exit status. It may be called again."""
-        for pipe in (self._child.stdin, self._child.stdout):
-            try:
-                if pipe is not None:
-                    pipe.close()
-            except BrokenPipeError:
-                pass
+        self._frames.close()
         try:
             return self._child.wait(PATIENCE)
         except subprocess.TimeoutExpired:

@@ -9,12 +9,19 @@ from typing import ClassVar
 
 
 class Refused(Exception):
-    """The store refused a request."""
+    """The store refused a request, or the client did in its place. `what` is what was given, and `limit` what is allowed."""
 
     number: ClassVar[int] = 0
+    limit: ClassVar[str] = ""
+    speaks_of: ClassVar[tuple[str, ...]] = ()
+
+    def __init__(self, what: str = "") -> None:
+        super().__init__(what)
+        self.what = what
 
     def __str__(self) -> str:
-        return f"refused {self.number}: {self.name}"
+        parts = (f"refused {self.number}: {self.name}", self.what, self.limit)
+        return ": ".join(part for part in parts if part)
 
     @property
     def name(self) -> str:
@@ -26,84 +33,111 @@ class UnknownSession(Refused):
     """No session with this start is active: it has ended, or never began."""
 
     number = 1
+    limit = "it has ended, or never began"
+    speaks_of = ("start",)
 
 
 class WrongPhase(Refused):
-    """A Get or a Set after the session's first Step."""
+    """A Get, a Set or a Delete after the session's first Step."""
 
     number = 2
+    limit = "nothing is read or written after the first Step"
+    speaks_of = ("start",)
 
 
 class BadRow(Refused):
     """A row has 1 to 4,000 bytes."""
 
     number = 3
+    limit = "1 to 4,000 bytes"
+    speaks_of = ("row",)
 
 
 class BadColumn(Refused):
     """A family has 1 to 64 bytes, each 21 to 7E hexadecimal and not a colon."""
 
     number = 4
+    limit = "1 to 64 bytes of 21 to 7E without ':'"
+    speaks_of = ("family",)
 
 
 class BadValue(Refused):
     """A value has at most 65,536 bytes."""
 
     number = 5
+    limit = "at most 65,536 bytes"
+    speaks_of = ("value",)
 
 
 class TooManyWrites(Refused):
     """A session writes at most 256 cells."""
 
     number = 6
+    limit = "a session writes at most 256 cells"
+    speaks_of = ("row",)
 
 
 class TooManySessions(Refused):
-    """1,024 sessions are active; or, of a cleaner or a collector that is to open, 1,024 of these are open."""
+    """1,024 sessions are active; or, of a cleaner that is to open, 1,024 of these are open, and of a collector 64."""
 
     number = 7
+    limit = "1,024 sessions, 1,024 cleaners and 64 collectors are the most"
 
 
 class EmptyCommit(Refused):
-    """A Step of a session that has set nothing."""
+    """A Step of a session that has written nothing."""
 
     number = 8
+    limit = "it has written nothing"
+    speaks_of = ("start",)
 
 
 class UnknownCleaner(Refused):
     """No cleaner with this number is open: it has done both its steps, or never opened."""
 
     number = 9
+    limit = "it has done both its steps, or never opened"
+    speaks_of = ("cleaner",)
 
 
 class UnknownCollector(Refused):
     """No collector with this number is open: it has collected all, or never opened."""
 
     number = 10
+    limit = "it has collected all, or never opened"
+    speaks_of = ("collector",)
 
 
 class UnknownTablet(Refused):
     """No tablet has this number."""
 
     number = 11
+    limit = "tablets have the numbers from 1 to as many as there are"
+    speaks_of = ("tablet",)
 
 
 class BadSplit(Refused):
     """The row ends its tablet already, or there are 1,024 tablets."""
 
     number = 12
+    limit = "it ends its tablet already, or there are 1,024 tablets"
+    speaks_of = ("row",)
 
 
 class UnknownServer(Refused):
     """Servers have the numbers 0 to 15."""
 
     number = 13
+    limit = "0 to 15"
+    speaks_of = ("server",)
 
 
 class BadCount(Refused):
     """A Merge takes at least two files, and no more than the tablet has. A CollectStep makes 1 to 1,000 visits."""
 
     number = 14
+    limit = "a Merge takes 2 files or more, and as many as the tablet has; a CollectStep makes 1 to 1,000 visits"
+    speaks_of = ("count", "visits")
 
 
 class MemtableFull(Refused):
@@ -113,18 +147,23 @@ class MemtableFull(Refused):
     """
 
     number = 15
+    limit = "a Minor makes room"
 
 
 class TooManyFiles(Refused):
     """The tablet has 64 files. A Merge or a Major of the tablet leaves fewer."""
 
     number = 16
+    limit = "64 files are the most; a Merge or a Major leaves fewer"
+    speaks_of = ("tablet",)
 
 
 class FileTooLarge(Refused):
-    """The file would have more than 1,073,741,824 bytes."""
+    """The file would have more than 68,719,476,736 bytes."""
 
     number = 17
+    limit = "at most 68,719,476,736 bytes"
+    speaks_of = ("tablet",)
 
 
 class Exhausted(Refused):
@@ -134,9 +173,10 @@ class Exhausted(Refused):
 
 
 class Device(Refused):
-    """A device failed. A store in memory has none."""
+    """The disk failed in this request, or was full. A store in memory has none."""
 
     number = 19
+    limit = "the disk failed, or is full"
 
 
 class NoMemory(Refused):
@@ -149,6 +189,7 @@ class Damaged(Refused):
     """Bytes that were read are outside their form. A store in memory has none such."""
 
     number = 21
+    limit = "something else has changed the folder; `inspect` says which byte"
 
 
 class BadRequest(Refused):
@@ -161,6 +202,7 @@ class FrameTooLarge(Refused):
     """A frame has a body of at most 1,048,576 bytes. The client sends none that is longer."""
 
     number = 23
+    limit = "at most 1,048,576 bytes"
 
 
 BY_NUMBER: dict[int, type[Refused]] = {refusal.number: refusal for refusal in Refused.__subclasses__()}

@@ -2,10 +2,16 @@
 
 from __future__ import annotations
 
+import atexit
+import os
+import sys
 import threading
 import time
+import warnings
+import weakref
 from collections.abc import Callable, Sequence
 from contextlib import AbstractContextManager
+from os import PathLike, fspath
 from types import TracebackType
 from typing import TypeVar
 
@@ -22,6 +28,9 @@ from duqishom.answers import (
     Qualifier,
     Version,
 )
+from duqishom.columns import read_lock
+from duqishom.connection import Connection
+from duqishom.folders import Unsaved, copy_checkpoint, started
 from duqishom.operations import (
     Begin,
     Checkpoint,
@@ -29,6 +38,7 @@ from duqishom.operations import (
     CleanStep,
     CollectBegin,
     CollectStep,
+    Delete,
     Get,
     Major,
     Merge,
@@ -42,14 +52,21 @@ from duqishom.operations import (
     Step,
     Stop,
     Sweep,
-    read_reply,
-    request_body,
+    answer_or_refusal,
+    request_bodies,
 )
-from duqishom.program import Program
-from duqishom.refusals import MemtableFull, TooManyFiles
+from duqishom.program import ProgramEnded
+from duqishom.refusals import MemtableFull, Refused, TooManyFiles
+from duqishom.remote import ConnectionLost, Fate, Gateway, fate, write_all
 from duqishom.tablets import NEW_STORE, Tablet, TabletMap, tablets_of
-from duqishom.texts import first_row
-from duqishom.transactions import MOST_STAMP, Patience, StillPending, Transaction, TransactionConflict
+from duqishom.transactions import (
+    MOST_STAMP,
+    Patience,
+    StillPending,
+    Transaction,
+    TransactionConflict,
+    TransactionLost,
+)
 
 MOST_VISITS = 1000
 
@@ -57,12 +74,17 @@ Answer = TypeVar("Answer")
 Result = TypeVar("Result")
 
 
+class ForkedStore(Exception):
+    """The store was opened by a parent process. Each process opens one of its own."""
+
+
 class Store:
     """A store in a child process that ends with it: a new one in memory, which is lost then, or that of a folder, which lasts
-    as its last checkpoint left it.
+    as its last checkpoint left it: `close` makes one.
 
-    Several threads may use one store, each with transactions of its own. Each method that asks the store raises a
-    `Refused` where it refuses, and `ProgramEnded` where the program has ended.
+    Several threads may use one store, each with transactions of its own; a process that is forked may not. Each method that asks
+    the store raises a `Refused` where it refuses, `ProgramEnded` where the program has ended, and `RequestTimedOut` where a
+    timeout was asked for.
     """
 
     def __init__(
@@ -70,27 +92,67 @@ class Store:
         program: str | None = None,
         patience: Patience = Patience(),
         words: Sequence[str] = (),
-        folder: str | None = None,
+        folder: str | PathLike[str] | None = None,
+        checkpoint_at_close: bool = True,
+        timeout: float | None = None,
+        socket: str | PathLike[str] | None = None,
     ) -> None:
-        """Starts the program, scripts/tabletd of the repository where no other is named, with these words of its command line.
+        """Starts the program, that of TABLETD, PATH or the repository where no other is named, with these words of its command
+        line.
 
         With a folder, which must be there, the store is opened of it, or is new where the folder is empty. One program has a
-        folder at a time.
+        folder at a time. At the end a checkpoint is made, unless `checkpoint_at_close` is false. With a timeout, no request is
+        waited for longer than so many seconds. NotOpened, with the reason, where the store isn't there to be asked.
+
+        With a socket, no program is started: the store is the one that a gateway serves there, beside other clients. What of it
+        is open when this client ends, the gateway ends. OSError where nobody serves there, and ConnectionLost where the gateway
+        ends.
         """
-        placed = () if folder is None else ("--dir", folder)
-        tablets = NEW_STORE if folder is None else tablets_of(folder)
-        self._program = Program(program, (*placed, *words))
-        self._patience = patience
+        self._owner = os.getpid()
         self._turn = threading.RLock()
-        self._tablets = TabletMap(tablets)
+        self._patience = patience
+        self._timeout = timeout
+        self.folder = None if folder is None else fspath(folder)
+        self._checkpoint_at_close = checkpoint_at_close and folder is not None
+        self._unsaved = Unsaved(folder is not None)
+        self._is_closed = True
+        self._is_remote = socket is not None
+        if self._is_remote and (program is not None or words or folder is not None):
+            raise ValueError("a store at a socket has its program and folder already")
+        self._connection: Connection = started(program, self.folder, words) if socket is None else Gateway(fspath(socket))
+        self._is_closed = False
+        self._tablets = TabletMap(NEW_STORE if self.folder is None else tablets_of(self.folder))
+        OPEN.add(self)
 
     def ask(self, operation: Operation[Answer]) -> Answer:
         """Asks for an operation, and gives the answer."""
-        with self._turn:
-            return read_reply(operation, self._program.ask(request_body(operation)))
+        [answer] = self.ask_each([operation])
+        if isinstance(answer, Refused):
+            raise answer
+        return answer
+
+    def ask_each(self, operations: Sequence[Operation[Answer]]) -> list[Answer | Refused]:
+        """Asks for several operations in one trip, and gives the answer to each, or its refusal. All are sent before a reply is
+        looked at, so each is done whatever becomes of those before it."""
+        bodies = request_bodies(operations)
+        with self.alone():
+            self._unsaved.note_asked(operations)
+            try:
+                replies = self._connection.ask(bodies, self._timeout)
+            except ConnectionLost:
+                raise
+            except ProgramEnded as ended:
+                lost = self._unsaved.lost()
+                self._unsaved.forget()
+                raise ProgramEnded(ended.status, lost) from None
+            answers = [answer_or_refusal(operation, reply) for operation, reply in zip(operations, replies)]
+            self._unsaved.note_answered(operations, answers)
+            return answers
 
     def alone(self) -> AbstractContextManager[object]:
-        """In a `with`, no other thread asks this store anything."""
+        """In a `with`, no other thread asks this store anything. ForkedStore in a process that was forked from the store's."""
+        if self._owner != os.getpid():
+            raise ForkedStore(f"process {self._owner} has opened this store, and not its child {os.getpid()}")
         return self._turn
 
     def begin(self) -> int:
@@ -104,6 +166,10 @@ class Store:
     def set(self, start: int, row: bytes, family: bytes, value: bytes) -> None:
         """Buffers a write in the session."""
         self.ask(Set(start, row, family, value))
+
+    def delete(self, start: int, row: bytes, family: bytes) -> None:
+        """Buffers the deletion of a cell in the session."""
+        self.ask(Delete(start, row, family))
 
     def step(self, start: int) -> Progress:
         """Takes the session's next step towards its end."""
@@ -126,7 +192,7 @@ class Store:
 
         A session that hasn't committed is rolled back by this: its next step that matters answers Conflict or Lost.
         """
-        with self._turn:
+        with self.alone():
             cleaner = self.clean_begin(row, family)
             if cleaner is None:
                 return None
@@ -143,8 +209,18 @@ class Store:
             lock = self.raw(row, family, Qualifier.LOCK)
             self.make_room(row)
             if lock is not None:
-                self.make_room(first_row(lock.value))
+                self.make_room(read_lock(lock.value).row)
             return self.clean_step(cleaner)
+
+    def free(self, row: bytes, family: bytes, patience: Patience) -> None:
+        """Waits for the lock of a cell to go, as long as the patience says, and then cleans it."""
+        first = lock = self.raw(row, family, Qualifier.LOCK)
+        for _ in range(patience.tries):
+            if lock is None or first is None or lock.stamp != first.stamp:
+                return
+            time.sleep(patience.pause)
+            lock = self.raw(row, family, Qualifier.LOCK)
+        self.clean(row, family)
 
     def collect_begin(self) -> Collector:
         """Opens a collector of old versions. Its floor is the least start of an active session."""
@@ -174,8 +250,7 @@ class Store:
             try:
                 return self.collect_step(collector, visits)
             except MemtableFull:
-                for tablet in self.tablets():
-                    self._write(tablet.number)
+                self._write_all()
 
     def minor(self, tablet: int) -> None:
         """Writes the memtable of a tablet as a new file."""
@@ -191,7 +266,7 @@ class Store:
 
     def split(self, row: bytes) -> int:
         """Cuts the tablet that holds a row behind that row: the number of the left part."""
-        with self._turn:
+        with self.alone():
             left = self.ask(Split(row))
             self._tablets.split(row, left)
             return left
@@ -211,12 +286,11 @@ class Store:
     def checkpoint(self) -> None:
         """Writes all that the store keeps into its files: what was committed, and each lock. A folder is opened as its last
         checkpoint left it, with no session. Where a tablet has too many files, all of its files become one first."""
-        with self._turn:
+        with self.alone():
             try:
                 self.ask(Checkpoint())
             except TooManyFiles:
-                for tablet in self.tablets():
-                    self._write(tablet.number)
+                self._write_all()
                 self.ask(Checkpoint())
 
     def restart_oracle(self) -> None:
@@ -230,51 +304,107 @@ class Store:
         return self.ask(Raw(row, family, qualifier, lo, hi))
 
     def tablets(self) -> tuple[Tablet, ...]:
-        """The tablets, in the order of their rows."""
-        with self._turn:
+        """The tablets, in the order of their rows. ValueError where a gateway serves the store, for others may have split them."""
+        if self._is_remote:
+            raise ValueError("other clients may have split the tablets of a gateway's store")
+        with self.alone():
             return self._tablets.all()
 
     def make_room(self, row: bytes) -> None:
         """Makes room in the memtable of the tablet that holds a row. Where that has too many files, all become one."""
-        with self._turn:
-            self._write(self._tablets.holder(row).number)
+        with self.alone():
+            if self._is_remote:
+                write_all(self)
+            else:
+                self._write(self._tablets.holder(row).number)
+
+    def _write_all(self) -> None:
+        """Writes the memtable of each tablet to a file."""
+        if self._is_remote:
+            write_all(self)
+        else:
+            for tablet in self.tablets():
+                self._write(tablet.number)
 
     def _write(self, tablet: int) -> None:
         """Writes the memtable of a tablet to a file. Where the tablet has too many files, all become one."""
-        with self._turn:
+        with self.alone():
             try:
                 self.minor(tablet)
             except TooManyFiles:
                 self.major(tablet)
+
+    def fate(self, start: int, row: bytes, family: bytes) -> Fate:
+        """What became of a commit whose answer was lost: of the session of this start, by its first cell. Committed with its
+        stamp, or Lost.
+
+        To be asked when the session has ended, as it has where its connection is lost, and before its versions are collected. A
+        lock of it is waited for, and then cleaned; where the patience says otherwise, the answer is Pending.
+        """
+        with self.alone():
+            return fate(self, start, row, family, self._patience)
 
     def transaction(self) -> Transaction:
         """Begins a transaction. In a `with` it commits at the end, and stops where an exception leaves."""
         return Transaction(self, self.begin(), self._patience)
 
     def run(self, work: Callable[[Transaction], Result], attempts: int = 10) -> Result:
-        """Does work in a transaction, and once more in a new one where it conflicts or stays pending.
+        """Does work in a transaction, and once more in a new one where it conflicts, is lost or stays pending.
 
-        After the last attempt that failure is raised.
+        Behind each attempt there is a pause, by chance, up to a time that doubles: first the patience's pause, and at most a
+        second. After the last attempt that failure is raised.
         """
         attempt = 1
         while True:
             try:
                 with self.transaction() as transaction:
                     return work(transaction)
-            except (TransactionConflict, StillPending):
+            except (TransactionConflict, TransactionLost, StillPending):
                 if attempt >= attempts:
                     raise
+            time.sleep(self._patience.between(attempt - 1))
             attempt += 1
-            time.sleep(self._patience.pause)
+
+    def backup(self, path: str | PathLike[str]) -> None:
+        """Makes a copy of the store's folder at a path, which must be an empty folder or nothing yet: that of a checkpoint that
+        is made now. Other threads wait meanwhile. ValueError where the store is in memory, or the path has files."""
+        if self.folder is None:
+            raise ValueError("a store in memory has no folder to copy")
+        with self.alone():
+            self.checkpoint()
+            copy_checkpoint(self.folder, fspath(path))
 
     def kill(self) -> None:
-        """Ends the program at once, whatever it is at. A folder then has what it has."""
-        self._program.kill()
+        """Ends the program at once, whatever it is at. A folder then has what its last checkpoint left."""
+        self._connection.kill()
+        self._unsaved.lost()
+        self._unsaved.forget()
 
-    def close(self) -> int:
-        """Ends the program, and gives its exit status."""
-        with self._turn:
-            return self._program.close()
+    def close(self, checkpoint: bool | None = None) -> int:
+        """Ends the program, and gives its exit status. A store in a folder makes a checkpoint first, where anything was done since
+        the last one, unless it was opened to make none; `checkpoint` says it for this end alone. It may be called again.
+
+        A Refused where that checkpoint is refused: the store stays open. ProgramEnded where the program has ended before. Both
+        texts say what isn't in the folder.
+        """
+        with self.alone():
+            wanted = self._checkpoint_at_close if checkpoint is None else checkpoint
+            if not self._is_closed and wanted and self._unsaved.is_changed:
+                self._save()
+            self._is_closed = True
+            return self._connection.close()
+
+    def _save(self) -> None:
+        """Makes the checkpoint of the end, however long it takes."""
+        self._timeout = None
+        try:
+            self.checkpoint()
+        except Refused as refusal:
+            refusal.what = self._unsaved.unkept()
+            raise
+        except ProgramEnded:
+            self._is_closed = True
+            raise
 
     def __enter__(self) -> Store:
         return self
@@ -283,3 +413,22 @@ class Store:
         self, kind: type[BaseException] | None, error: BaseException | None, trace: TracebackType | None
     ) -> None:
         self.close()
+
+    def __del__(self) -> None:
+        if not self.__dict__.get("_is_closed", True) and self._owner == os.getpid():
+            warnings.warn(f"{self!r} wasn't closed", ResourceWarning, stacklevel=2)
+            self.close()
+
+
+OPEN: weakref.WeakSet[Store] = weakref.WeakSet()
+
+
+@atexit.register
+def close_all() -> None:
+    """Closes the stores that are still open at the end, so that folders have their checkpoints."""
+    for store in list(OPEN):
+        if store._owner == os.getpid():
+            try:
+                store.close()
+            except (ProgramEnded, Refused) as failure:
+                print(f"duqishom: {failure}", file=sys.stderr)

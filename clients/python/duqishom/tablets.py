@@ -7,12 +7,7 @@ from bisect import bisect_left
 from dataclasses import dataclass
 from pathlib import Path
 
-from duqishom.fields import FieldReader, MalformedReply
-
-ROOT_FILE = "t0000000000000000.tab"
-
-# What stands in a root file before its tablets: a head, two stamps, the next file's name, the next tablet's number.
-ROOT_HEAD = 8 + 3 * 8 + 4
+from duqishom.folders import FolderDamaged, read_root
 
 
 @dataclass(frozen=True)
@@ -29,25 +24,10 @@ NEW_STORE = (Tablet(1, None),)
 def tablets_of(folder: str) -> tuple[Tablet, ...]:
     """The tablets that the root file of a folder tells. Without one they are those of a new store; where it is out of its form, the
     program tells."""
-    root = Path(folder) / ROOT_FILE
-    if not root.exists():
-        return NEW_STORE
-    fields = FieldReader(root.read_bytes())
     try:
-        fields.bytes_of(ROOT_HEAD)
-        return tuple(read_tablet(fields) for _ in range(fields.number(4)))
-    except MalformedReply:
+        return tuple(Tablet(tablet.number, tablet.end) for tablet in read_root(Path(folder)).tablets)
+    except FolderDamaged:
         return NEW_STORE
-
-
-def read_tablet(fields: FieldReader) -> Tablet:
-    """A tablet of a root file: its number, its end, its server and its files."""
-    number = fields.number(4)
-    end = fields.counted() if fields.number(1) == 0 else None
-    fields.number(1)
-    for _ in range(fields.number(4)):
-        fields.number(8)
-    return Tablet(number, end)
 
 
 class TabletMap:

@@ -18,12 +18,6 @@ def text_of(given: bytes) -> str:
     return "".join(letter if letter.isprintable() and letter not in " \\" else escaped(letter) for letter in text)
 
 
-def first_row(place: bytes) -> bytes:
-    """The row in a place, which is what a lock has for a value: each byte 00 is followed by FF there, and 00 00 ends the row."""
-    row, _, _ = place.partition(b"\x00\x00")
-    return row.replace(b"\x00\xff", b"\x00")
-
-
 def escaped(letter: str) -> str:
     """The bytes of a letter, each as an escape."""
     return "".join(f"\\x{byte:02x}" for byte in letter.encode("utf-8", "surrogateescape"))

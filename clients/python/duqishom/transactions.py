@@ -2,11 +2,14 @@
 
 from __future__ import annotations
 
+import random
+import re
 import time
+from collections.abc import Sequence
 from contextlib import suppress
 from dataclasses import dataclass
 from types import TracebackType
-from typing import TYPE_CHECKING
+from typing import TYPE_CHECKING, NamedTuple
 
 from duqishom.answers import (
     Committed,
@@ -17,22 +20,39 @@ from duqishom.answers import (
     Nothing,
     Pending,
     Progress,
-    Qualifier,
     Stamped,
     Value,
 )
+from duqishom.connection import RequestTimedOut
+from duqishom.fields import bytes_argument
+from duqishom.operations import Delete, Set, Step, named
 from duqishom.program import ProgramEnded
-from duqishom.refusals import MemtableFull, UnknownSession
+from duqishom.refusals import (
+    BadColumn,
+    BadRow,
+    BadValue,
+    MemtableFull,
+    Refused,
+    TooManyWrites,
+    UnknownSession,
+    WrongPhase,
+)
 from duqishom.texts import text_of
 
 if TYPE_CHECKING:
     from duqishom.store import Store
 
 MOST_STAMP = 9_223_372_036_854_775_807
+MOST_WRITES = 256
+LONGEST_ROW = 4000
+LONGEST_VALUE = 65_536
+FAMILY = re.compile(rb"[!-9;-~]{1,64}")
+
+# The longest pause between two attempts, in seconds.
+LONGEST_PAUSE = 1.0
 
 
-@dataclass(frozen=True)
-class Cell:
+class Cell(NamedTuple):
     """A row and a family."""
 
     row: bytes
@@ -67,7 +87,7 @@ class TransactionConflict(TransactionFailed):
 
 
 class TransactionLost(TransactionFailed):
-    """A cleaner rolled the transaction back before it committed."""
+    """A cleaner rolled the transaction back before it committed. What the transaction held is free again."""
 
 
 @dataclass(frozen=True)
@@ -79,9 +99,13 @@ class Patience:
     pause: float = 0.01
     cleans: bool = True
 
+    def between(self, attempt: int) -> float:
+        """How many seconds to wait behind so many attempts: by chance, up to a time that doubles, and is at most a second."""
+        return random.uniform(0, min(LONGEST_PAUSE, self.pause * 2.0 ** min(attempt, 30)))
+
 
 class Transaction:
-    """One session, from its begin to its end.
+    """One session, from its begin to its end. Its writes are kept here, and sent when it commits.
 
     In a `with` it commits at the end. Where an exception leaves, it stops, unless it has taken a step: then its cells are
     locked, and another `commit` or a cleaner frees them.
@@ -90,19 +114,24 @@ class Transaction:
     def __init__(self, store: Store, start: int, patience: Patience) -> None:
         self._store = store
         self._patience = patience
-        self._cells: list[Cell] = []
-        self._next = 0
+        self._writes: dict[Cell, bytes | None] = {}
+        self._sent: list[Cell] = []
+        self._steps = 0
         self._has_stepped = False
         self.start = start
         self.is_active = True
         self.commit_stamp: int | None = None
 
-    def get(self, row: bytes, family: bytes) -> bytes | None:
-        """The value that was committed last by the start, and None where nothing was.
+    def get(self, row: bytes, family: bytes, own: bool = True) -> bytes | None:
+        """What the transaction has written to the cell; otherwise the value that was committed last by the start. None where
+        the cell is deleted, or nothing was committed.
 
-        The transaction's own writes are not looked at. A lock that still stands after some tries is cleaned, unless the
-        patience says otherwise: then StillPending is raised.
+        With `own=False` the transaction's own writes are not looked at. A lock that still stands after some tries is cleaned,
+        unless the patience says otherwise: then StillPending is raised.
         """
+        cell = Cell(row, family)
+        if own and cell in self._writes:
+            return self._writes[cell]
         tries = 0
         while True:
             match self._store.get(self.start, row, family):
@@ -112,7 +141,7 @@ class Transaction:
                     return value
                 case Pending(start):
                     tries += 1
-                    self._wait(Cell(row, family), start, tries)
+                    self._wait(cell, start, tries)
 
     def _wait(self, cell: Cell, start: int, tries: int) -> None:
         """Waits for a lock to go, and after so many tries cleans it, or gives up."""
@@ -124,11 +153,34 @@ class Transaction:
             raise StillPending(cell, start)
 
     def set(self, row: bytes, family: bytes, value: bytes) -> None:
-        """Buffers a write. The first cell that is set is the primary."""
-        self._store.set(self.start, row, family, value)
+        """Writes a value to a cell, when the transaction commits. The first cell that is written is the primary.
+
+        UnknownSession, WrongPhase, BadRow, BadColumn, BadValue or TooManyWrites at once, as the store would refuse it.
+        """
+        value = bytes_argument("value", value)
+        self._write(row, family, value)
+
+    def delete(self, row: bytes, family: bytes) -> None:
+        """Deletes a cell, when the transaction commits: a write like any other. Refused as `set` is."""
+        self._write(row, family, None)
+
+    def _write(self, row: bytes, family: bytes, value: bytes | None) -> None:
+        """Keeps a write, in the place of one of the same cell."""
+        row, family = bytes_argument("row", row), bytes_argument("family", family)
+        if not self.is_active:
+            raise UnknownSession(named("session", self.start))
+        if self._has_stepped:
+            raise WrongPhase(named("session", self.start))
+        if not 1 <= len(row) <= LONGEST_ROW:
+            raise BadRow(named("row", row))
+        if not FAMILY.fullmatch(family):
+            raise BadColumn(named("family", family))
+        if value is not None and len(value) > LONGEST_VALUE:
+            raise BadValue(named("value", value))
         cell = Cell(row, family)
-        if cell not in self._cells:
-            self._cells.append(cell)
+        if len(self._writes) == MOST_WRITES and cell not in self._writes:
+            raise TooManyWrites(named("row", row))
+        self._writes[cell] = value
 
     def stop(self) -> None:
         """Ends the session where it stands. Before its first step nothing of it stays."""
@@ -137,66 +189,133 @@ class Transaction:
             self._store.stop(self.start)
 
     def commit(self) -> int | None:
-        """Takes all steps, and gives the commit stamp: None where nothing was set.
+        """Commits all writes at once, and gives the commit stamp: None where nothing was written.
 
-        TransactionConflict where a cell is taken. The client looks before it holds the first cell, and holds them
-        all before anyone else of this store has a turn; so nothing is held in vain. Where a step is refused otherwise,
-        the session goes on, and `commit` may be called again.
+        TransactionConflict where a cell is taken, and TransactionLost where a cleaner was faster: what was held is free again, and
+        a lock of another session is waited for, and then cleaned. Where a step is refused, the session goes on, and `commit` may
+        be called again. Where a request is interrupted or times out, it isn't known whether all is committed or nothing.
         """
         if not self.is_active:
-            raise UnknownSession()
-        if not self._cells:
+            raise UnknownSession(named("session", self.start))
+        if not self._writes:
             self.stop()
             return None
         with self._store.alone():
-            if not self._has_stepped:
-                self._look()
-            while self.is_active:
-                self._take(self._step())
+            failure = self._commit()
+        if failure is not None:
+            if isinstance(failure, TransactionConflict) and self._patience.cleans:
+                self._store.free(failure.cell.row, failure.cell.family, self._patience)
+            raise failure
         return self.commit_stamp
 
-    def _look(self) -> None:
-        """Stops the session where one of its cells is taken, as a step would find it to be. A lock is cleaned first, unless
-        the patience says otherwise."""
-        for cell in self._cells:
-            row, family = cell.row, cell.family
-            if self._patience.cleans:
-                self._store.clean(row, family)
-            lock = self._store.raw(row, family, Qualifier.LOCK, 0, MOST_STAMP)
-            record = self._store.raw(row, family, Qualifier.WRITE, self.start, MOST_STAMP)
-            if lock is not None or record is not None:
-                self.stop()
-                raise TransactionConflict(cell)
+    def _commit(self) -> TransactionFailed | None:
+        """Sends the writes and takes the steps: why it came to nothing, where it did."""
+        operations = [self._request(cell) for cell in self._unsent()]
+        if len(self._writes) == 1:
+            # One that is refused leaves the session without a write, and its steps are refused
+            failure, rest = self._ask([*operations, *self._steps_left()], len(operations))
+        else:
+            # Steps beside a refused one would commit the others, so they wait for the replies
+            if operations:
+                self._ask(operations, len(operations))
+            failure, rest = self._ask(self._steps_left(), 0)
+        while self.is_active:
+            before = self._steps
+            if isinstance(rest, MemtableFull):
+                self._store.make_room(self._sent[self._place()].row)
+            elif rest is not None:
+                raise rest
+            failure, rest = self._ask(self._steps_left(), 0)
+            if rest is not None and self._steps == before:
+                raise rest
+        return failure
 
-    def _step(self) -> Progress:
-        """The next step. A full memtable is written to a file, and the step is asked again."""
+    def _unsent(self) -> list[Cell]:
+        """The cells whose writes are to be sent: all, and none once all were."""
+        return [] if len(self._sent) == len(self._writes) else list(self._writes)
+
+    def _request(self, cell: Cell) -> Set | Delete:
+        """The request for a write."""
+        value = self._writes[cell]
+        return Delete(self.start, *cell) if value is None else Set(self.start, *cell, value)
+
+    def _steps_left(self) -> list[Step]:
+        """The steps that are to be taken: each cell is held, the stamp is drawn, the first cell commits, each other is finished."""
+        return [Step(self.start)] * (2 * len(self._writes) + 1 - self._steps)
+
+    def _place(self) -> int:
+        """The place of the cell whose turn it is."""
+        count = len(self._writes)
+        return self._steps if self._steps < count else max(0, self._steps - count - 1)
+
+    def _ask(
+        self, operations: Sequence[Set | Delete | Step], writes: int
+    ) -> tuple[TransactionFailed | None, Refused | None]:
+        """Asks for writes and steps in one trip: why the transaction came to nothing, where it did, and the refusal of the last
+        step, where it was refused. A write that is refused raises its refusal."""
+        self._has_stepped = self._has_stepped or len(operations) > writes
         try:
-            return self._store.step(self.start)
-        except MemtableFull:
-            self._store.make_room(self._cells[self._next].row)
-            return self._store.step(self.start)
+            answers = self._store.ask_each(operations)
+        except (ProgramEnded, RequestTimedOut, KeyboardInterrupt):
+            self.is_active = not self._has_stepped
+            raise
+        return self._take_answers(operations, answers, writes)
 
-    def _take(self, progress: Progress) -> None:
-        """Notes what a step did."""
-        self._has_stepped = True
+    def _take_answers(
+        self,
+        operations: Sequence[Set | Delete | Step],
+        answers: Sequence[Progress | Refused | None],
+        writes: int,
+    ) -> tuple[TransactionFailed | None, Refused | None]:
+        """Notes the answers to writes and to steps behind them."""
+        for operation, answer in zip(operations[:writes], answers):
+            if isinstance(answer, Refused):
+                self._has_stepped = self._steps > 0
+                raise answer
+            assert not isinstance(operation, Step)
+            cell = Cell(operation.row, operation.family)
+            if cell not in self._sent:
+                self._sent.append(cell)
+        return self._take_all(answers[writes:])
+
+    def _take_all(
+        self, answers: Sequence[Progress | Refused | None]
+    ) -> tuple[TransactionFailed | None, Refused | None]:
+        """Notes what steps did. Behind the session's end the others are refused, which says nothing."""
+        rest: Refused | None = None
+        for answer in answers:
+            if isinstance(answer, Refused):
+                rest = answer
+            elif answer is not None:
+                rest = None
+                failure = self._take(answer)
+                if failure is not None or not self.is_active:
+                    return failure, None
+        return None, rest
+
+    def _take(self, progress: Progress) -> TransactionFailed | None:
+        """Notes what a step did: why the transaction came to nothing, where it did."""
+        self._steps += 1
         match progress:
-            case Held(place, _) | Finished(place, _):
-                self._next = place
-            case Stamped(_):
-                self._next = 0
+            case Held(_, _) | Stamped(_):
+                return None
             case Committed(commit):
                 self.commit_stamp = commit
-                self._next = 1
+                self.is_active = len(self._sent) > 1
+            case Finished(place, count):
+                self.is_active = place < count
             case Conflict(place):
-                self.is_active = False
-                for held in self._cells[: place - 1]:
-                    self._store.clean(held.row, held.family)
-                raise TransactionConflict(self._cells[place - 1])
+                return self._given_up(place - 1, TransactionConflict(self._sent[place - 1]))
             case Lost():
-                self.is_active = False
-                raise TransactionLost("a cleaner has rolled it back")
-        if self.commit_stamp is not None and self._next == len(self._cells):
-            self.is_active = False
+                return self._given_up(len(self._sent), TransactionLost("a cleaner has rolled it back"))
+        return None
+
+    def _given_up(self, count: int, failure: TransactionFailed) -> TransactionFailed:
+        """Frees the first so many cells, which the session held to its end."""
+        self.is_active = False
+        for held in self._sent[:count]:
+            self._store.clean(held.row, held.family)
+        return failure
 
     def __enter__(self) -> Transaction:
         return self
@@ -204,10 +323,10 @@ class Transaction:
     def __exit__(
         self, kind: type[BaseException] | None, error: BaseException | None, trace: TracebackType | None
     ) -> None:
-        if kind is None:
-            if self.is_active:
+        try:
+            if kind is None and self.is_active:
                 self.commit()
-            return
-        if not self._has_stepped:
-            with suppress(UnknownSession, ProgramEnded):
-                self.stop()
+        finally:
+            if not self._has_stepped:
+                with suppress(UnknownSession, ProgramEnded, RequestTimedOut):
+                    self.stop()

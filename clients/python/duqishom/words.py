@@ -2,8 +2,11 @@
 
 from __future__ import annotations
 
+import shlex
 from collections.abc import Callable, Iterable
+from contextlib import suppress
 from dataclasses import dataclass
+from pathlib import Path
 
 from duqishom.answers import (
     Cleaned,
@@ -25,6 +28,9 @@ from duqishom.answers import (
     Value,
     Version,
 )
+from duqishom.columns import BadForm, Kind, read_lock, read_record
+from duqishom.files import file_name
+from duqishom.folders import read_root
 from duqishom.refusals import Refused
 from duqishom.store import Store
 from duqishom.texts import bytes_of, text_of
@@ -33,6 +39,10 @@ from duqishom.transactions import MOST_STAMP, Transaction, TransactionFailed
 
 class Misspelled(Exception):
     """A line is none of the command's."""
+
+
+class Quit(Exception):
+    """A line ends the command."""
 
 
 class NotDone(Exception):
@@ -106,12 +116,40 @@ def text_of_cleaned(cleaned: Cleaned) -> str:
 
 
 def text_of_version(version: Version | None, qualifier: Qualifier) -> str:
-    """What a raw read found, in words. A write record names a start."""
+    """What a raw read found, in words: a record names a start, and a lock the first cell of its session."""
     if version is None:
         return "nothing"
-    if qualifier is Qualifier.WRITE and len(version.value) == 8:
-        return f"{version.stamp}: start {int.from_bytes(version.value, 'big')}"
+    with suppress(BadForm):
+        if qualifier is Qualifier.WRITE:
+            record = read_record(version.value)
+            return f"{version.stamp}: start {record.start}{text_of_kind(record.kind)}"
+        if qualifier is Qualifier.LOCK:
+            lock = read_lock(version.value)
+            first = f"{text_of(lock.row)} {text_of(lock.family)}"
+            return f"{version.stamp}: first cell {first}{text_of_kind(lock.kind)}"
     return f"{version.stamp}: {text_of(version.value)}"
+
+
+def text_of_kind(kind: Kind) -> str:
+    """What a lock or a record adds where it is that of a deletion."""
+    return ", a deletion" if kind is Kind.DELETE else ""
+
+
+def split_words(text: str) -> list[str]:
+    """The words of a line. Between quotes blanks belong to a word; a backslash is nothing special, for escapes begin with it."""
+    parts = shlex.shlex(text, posix=True)
+    parts.whitespace_split = True
+    parts.commenters = ""
+    parts.escape = ""
+    return list(parts)
+
+
+def size_of(folder: str | None, name: int) -> int:
+    """The size of a file of a folder: 0 where it is gone."""
+    try:
+        return (Path(folder or "") / file_name(name)).stat().st_size
+    except FileNotFoundError:
+        return 0
 
 
 def text_of_end(end: bytes | None) -> str:
@@ -146,16 +184,18 @@ class Words:
         self.lines = (
             Line("set ROW FAMILY VALUE", "sets a cell, in a transaction", self.set),
             Line("get ROW FAMILY", "reads a cell, in a transaction", self.get),
+            Line("delete ROW FAMILY", "deletes a cell, in a transaction", self.delete),
             Line("transfer ROW ROW FAMILY AMOUNT", "moves an amount from one row to the other", self.transfer),
             Line("begin", "begins a session, and names its start", self.begin),
             Line("in START set ROW FAMILY VALUE", "buffers a write in the session", self.session_set),
+            Line("in START delete ROW FAMILY", "buffers a deletion in the session", self.session_delete),
             Line("in START get ROW FAMILY", "reads a cell as of the start", self.session_get),
             Line("in START step", "takes the session's next step", self.session_step),
             Line("in START stop", "ends the session where it stands", self.session_stop),
             Line("clean ROW FAMILY", "clears the lock of a cell", self.clean),
             Line("collect", "erases the versions that no session reads", self.collect),
             Line("raw ROW FAMILY COLUMN LO HI", "the newest version in data, lock or write; HI may be last", self.raw),
-            Line("tablets", "the tablets, in the order of their rows", self.tablets),
+            Line("tablets", "the tablets, in the order of their rows; of a folder, what the last checkpoint has", self.tablets),
             Line("split ROW", "cuts the tablet that holds the row behind it", self.split),
             Line("move TABLET SERVER", "puts a tablet on a server", self.move),
             Line("compact TABLET minor", "writes the tablet's memtable as a file", self.minor),
@@ -163,20 +203,33 @@ class Words:
             Line("compact TABLET major", "makes one file of all that the tablet has", self.major),
             Line("sweep", "removes the files that no tablet names", self.sweep),
             Line("checkpoint", "writes all into files, from which a folder is opened", self.checkpoint),
+            Line("backup PATH", "copies the folder, as of now, to an empty folder or a new one", self.backup),
             Line("restart", "has the oracle go on from its mark", self.restart),
             Line("help", "these lines", self.help),
+            Line("quit", "ends the command; so does exit", self.quit),
+            Line("exit", "", self.quit),
         )
 
     def answer(self, text: str) -> tuple[bool, str]:
-        """Whether a line was done, and what there is to say of it: nothing of an empty line."""
-        words = text.split()
+        """Whether a line was done, and what there is to say of it: nothing of an empty line. Quotes make one word of several, and
+        of none. Quit where the line ends the command."""
         try:
-            return True, self._do(words) if words else ""
+            words = split_words(text)
+        except ValueError as why:
+            return False, f"not done: {why}".lower()
+        return self.answer_words(words) if words else (True, "")
+
+    def answer_words(self, words: list[str]) -> tuple[bool, str]:
+        """Whether a line of these words was done, and what there is to say of it."""
+        try:
+            return True, self._do(words)
         except Refused as refusal:
             return False, str(refusal)
         except TransactionFailed as failure:
             return False, f"not committed: {failure}"
         except (Misspelled, NotDone) as why:
+            return False, f"not done: {why}"
+        except (OSError, ValueError) as why:
             return False, f"not done: {why}"
         except OverflowError:
             return False, "not done: a number is too large"
@@ -185,11 +238,18 @@ class Words:
         for line in self.lines:
             if line.fits(words):
                 return line.do(*line.arguments(words))
-        raise Misspelled("this is none of the lines that help shows")
+        meant = [line.usage for line in self.lines if line.usage.split()[0] == words[0]]
+        if not meant:
+            raise Misspelled(f"no line begins with {words[0]}; help shows all")
+        raise Misspelled("the line is " + ", or ".join(meant))
 
     def help(self) -> str:
         """All lines that there are."""
-        return "\n".join(f"{line.usage:31}{line.help}" for line in self.lines)
+        return "\n".join(f"{line.usage:31}{line.help}" for line in self.lines if line.help)
+
+    def quit(self) -> str:
+        """Ends the command."""
+        raise Quit()
 
     def set(self, row: str, family: str, value: str) -> str:
         """Sets a cell, in a transaction."""
@@ -204,6 +264,15 @@ class Words:
         """Reads a cell, in a transaction."""
         value = self._store.run(lambda transaction: transaction.get(bytes_of(row), bytes_of(family)))
         return "nothing" if value is None else text_of(value)
+
+    def delete(self, row: str, family: str) -> str:
+        """Deletes a cell, in a transaction."""
+
+        def work(transaction: Transaction) -> Transaction:
+            transaction.delete(bytes_of(row), bytes_of(family))
+            return transaction
+
+        return f"committed at {self._store.run(work).commit_stamp}"
 
     def transfer(self, giver: str, taker: str, family: str, amount: str) -> str:
         """Moves an amount from one row to the other, in a transaction."""
@@ -231,6 +300,11 @@ class Words:
         """Buffers a write in a session."""
         self._store.set(number_of(start), bytes_of(row), bytes_of(family), bytes_of(value))
         return "set"
+
+    def session_delete(self, start: str, row: str, family: str) -> str:
+        """Buffers a deletion in a session."""
+        self._store.delete(number_of(start), bytes_of(row), bytes_of(family))
+        return "set to be deleted"
 
     def session_get(self, start: str, row: str, family: str) -> str:
         """Reads a cell as of a session's start."""
@@ -262,8 +336,17 @@ class Words:
         return text_of_version(version, qualifier)
 
     def tablets(self) -> str:
-        """The tablets, in the order of their rows."""
-        return "\n".join(f"{tablet.number} up to {text_of_end(tablet.end)}" for tablet in self._store.tablets())
+        """The tablets, in the order of their rows. Those of a folder with their servers and files at the last checkpoint."""
+        folder = self._store.folder
+        kept = {} if folder is None else {tablet.number: tablet for tablet in read_root(Path(folder)).tablets}
+        said = []
+        for tablet in self._store.tablets():
+            text = f"{tablet.number} up to {text_of_end(tablet.end)}"
+            if (place := kept.get(tablet.number)) is not None:
+                sizes = [size_of(folder, name) for name, _ in place.files]
+                text += f": server {place.server}, {len(sizes)} files, {sum(sizes):,} bytes"
+            said.append(text)
+        return "\n".join(said)
 
     def split(self, row: str) -> str:
         """Cuts the tablet that holds a row behind it."""
@@ -298,6 +381,11 @@ class Words:
         self._store.checkpoint()
         return "written"
 
+    def backup(self, path: str) -> str:
+        """Copies the folder."""
+        self._store.backup(path)
+        return f"copied to {path}"
+
     def restart(self) -> str:
         """Has the oracle go on from its mark."""
         self._store.restart_oracle()
@@ -305,10 +393,13 @@ class Words:
 
 
 def answer_all(words: Words, texts: Iterable[str]) -> bool:
-    """Prints the answer to each line, and tells whether all were done."""
+    """Prints the answer to each line, up to the one that ends the command, and tells whether all were done."""
     is_well = True
     for text in texts:
-        is_done, answer = words.answer(text)
+        try:
+            is_done, answer = words.answer(text)
+        except Quit:
+            break
         is_well = is_well and is_done
         if answer:
             print(answer, flush=True)

@@ -75,7 +75,7 @@ def line_of_frames(line: str) -> Sent | Got | Ends:
         status, _, told = rest.partition(" ")
         return Ends(int(status), told)
     frame = bytes.fromhex(rest.partition("#")[0])
-    return {">": Sent, "<": Got}[mark](frame)
+    return Sent(frame) if mark == ">" else Got(frame)
 
 
 def exchanges(page: str) -> list[Exchange]:

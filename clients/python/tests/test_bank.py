@@ -7,7 +7,7 @@ import random
 import threading
 import unittest
 from collections import Counter
-from collections.abc import Generator, Iterator
+from collections.abc import Callable, Generator, Iterator
 
 from duqishom import (
     BadCount,
@@ -22,6 +22,8 @@ from duqishom import (
     Store,
     Transaction,
     Value,
+    read_lock,
+    read_record,
 )
 
 # How many transfers commit, and how many each of four threads makes. A tabletd that is built with checks is slow, and has
@@ -30,7 +32,6 @@ TRANSACTIONS = int(os.environ.get("BANK_TRANSACTIONS", "10000"))
 OF_A_THREAD = TRANSACTIONS // 40
 BALANCE = b"balance"
 FIRST = 100
-PLACE_END = b"\x00\x00"
 
 
 def amount(value: bytes | None) -> int:
@@ -66,18 +67,17 @@ class Bank:
         """
         lock = self.store.raw(account, BALANCE, Qualifier.LOCK)
         if lock is not None:
-            first, _, _ = lock.value.partition(PLACE_END)
-            if self.has_record(first, lock.stamp):
+            if self.has_record(read_lock(lock.value).row, lock.stamp):
                 return lock.stamp
         record = self.store.raw(account, BALANCE, Qualifier.WRITE)
         assert record is not None
-        return int.from_bytes(record.value, "big")
+        return read_record(record.value).start
 
     def has_record(self, account: bytes, start: int) -> bool:
         """Whether a record of the account names this start. All records of it are above the start."""
         record = self.store.raw(account, BALANCE, Qualifier.WRITE, start)
         while record is not None:
-            if int.from_bytes(record.value, "big") == start:
+            if read_record(record.value).start == start:
                 return True
             record = self.store.raw(account, BALANCE, Qualifier.WRITE, start, record.stamp - 1)
         return False
@@ -198,7 +198,7 @@ class Bank:
     def keep_house(self) -> None:
         """One request of upkeep, whichever."""
         tablet = self.random.choice(self.store.tablets()).number
-        requests = (
+        requests: tuple[Callable[[], object], ...] = (
             lambda: self.store.minor(tablet),
             lambda: self.store.merge(tablet, 2),
             lambda: self.store.major(tablet),

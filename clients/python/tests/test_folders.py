@@ -4,18 +4,44 @@ from __future__ import annotations
 
 import os
 import random
-import tempfile
+import resource
+import shutil
+import subprocess
+import sys
 import threading
 import unittest
+import warnings
+from collections.abc import Callable
 from pathlib import Path
 
-from duqishom import Pending, ProgramEnded, Store, Tablet, UnknownSession
+from duqishom import (
+    BadCount,
+    Device,
+    NoMemory,
+    NotOpened,
+    Pending,
+    ProgramEnded,
+    Qualifier,
+    Store,
+    Tablet,
+    Transaction,
+    UnknownSession,
+    Version,
+)
+from duqishom.folders import read_root
+from duqishom.inspection import Folder, cells, locks
+from duqishom.operations import Checkpoint
+from duqishom.program import default_program
+from tests.folders import FolderTest
+from tests.pages import TOP
+from tests.poor import Poor
 
 # How many cells are kept, and how many times the program is killed. A tabletd that is built with checks is slow, and has fewer.
 CELLS = int(os.environ.get("FOLDER_CELLS", "1000"))
 KILLS = int(os.environ.get("FOLDER_KILLS", "50"))
 OF_A_TRANSACTION = 100
 ROW, OTHER, FAMILY = b"counter", b"other", b"c"
+ROOT, FILE = "t0000000000000000.tab", "t0000000000000001.tab"
 
 
 def kill(store: Store) -> None:
@@ -23,17 +49,107 @@ def kill(store: Store) -> None:
     store.kill()
 
 
-class Folders(unittest.TestCase):
+class Folders(FolderTest):
     """What a folder keeps."""
 
-    def setUp(self) -> None:
-        folder = tempfile.TemporaryDirectory()
-        self.addCleanup(folder.cleanup)
-        self.folder = folder.name
-
     def opened(self, *words: str) -> Store:
-        """The store of the folder."""
-        return Store(folder=self.folder, words=words)
+        """The store of the folder. Its end makes no checkpoint."""
+        return Store(folder=self.folder, words=words, checkpoint_at_close=False)
+
+    def counter(self) -> bytes | None:
+        """What the folder has in one cell."""
+        with self.opened() as store:
+            return store.run(lambda transaction: transaction.get(ROW, FAMILY))
+
+    def test_the_end_makes_a_checkpoint(self) -> None:
+        ways: tuple[Callable[[Store], object], ...] = (Store.close, Store.__del__)
+        for number, ends in enumerate(ways, start=1):
+            store = Store(folder=self.folder)
+            store.run(lambda transaction: transaction.set(ROW, FAMILY, b"%d" % number))
+            with warnings.catch_warnings(record=True):
+                warnings.simplefilter("always")
+                ends(store)
+            self.assertEqual(self.counter(), b"%d" % number)
+        code = "from duqishom import Store; s = Store(folder=%r); s.run(lambda t: t.set(b'counter', b'c', b'7'))"
+        command = [sys.executable, "-c", code % self.folder]
+        self.assertEqual(subprocess.run(command, cwd=TOP / "clients" / "python").returncode, 0)
+        self.assertEqual(self.counter(), b"7")
+        root = self.path / "t0000000000000000.tab"
+        was = root.stat().st_ino
+        Store(folder=self.folder).close()
+        self.assertEqual(root.stat().st_ino, was)
+
+    def test_a_disk_that_was_full_has_room_again(self) -> None:
+        """A limit of the size of files stands for the disk's end: what passes it can't be written whole."""
+        number, program, folder = self.path / "number", self.path / "program", self.path / "store"
+        program.write_text(f"""#!/bin/sh\ntrap '' XFSZ\necho $$ >{number}\nexec {default_program()} "$@"\n""")
+        program.chmod(0o755)
+        folder.mkdir()
+        cells = {b"row%d" % row: b"v" * 100 for row in range(20)}
+
+        def write(transaction: Transaction) -> None:
+            for row, value in cells.items():
+                transaction.set(row, FAMILY, value)
+
+        def read(transaction: Transaction) -> list[bytes | None]:
+            return [transaction.get(row, FAMILY) for row in cells]
+
+        with Store(program=str(program), folder=folder) as store:
+            store.run(write)
+            process = int(number.read_text())
+            resource.prlimit(process, resource.RLIMIT_FSIZE, (1_000, resource.RLIM_INFINITY))
+            for _ in range(3):
+                self.assertRaises(Device, store.minor, 1)
+                self.assertEqual(sorted(path.name for path in folder.glob("t*")), [])
+            resource.prlimit(process, resource.RLIMIT_FSIZE, (resource.RLIM_INFINITY, resource.RLIM_INFINITY))
+            store.minor(1)
+            self.assertEqual(len(list(folder.glob("t*"))), 1)
+            self.assertEqual(store.sweep(), 0)
+        with Store(folder=folder) as store:
+            self.assertEqual(store.run(read), list(cells.values()))
+
+    def test_what_is_lost_is_said(self) -> None:
+        store = Store(folder=self.folder)
+        store.run(lambda transaction: transaction.set(ROW, FAMILY, b"1"))
+        store.checkpoint()
+        for value in (b"2", b"3"):
+            store.run(lambda transaction: transaction.set(ROW, FAMILY, value))
+        store._connection.kill()
+        with self.assertRaisesRegex(ProgramEnded, "status -9; what was done since .*, 2 commits, is not in the folder"):
+            store.close()
+        self.assertEqual(self.counter(), b"1")
+
+    def test_a_refused_end_may_be_tried_again(self) -> None:
+        store = Store(folder=self.folder)
+        store.run(lambda transaction: transaction.set(ROW, FAMILY, b"1"))
+        store._connection = Poor(store._connection, Checkpoint.code, 1)
+        with self.assertRaisesRegex(NoMemory, "NoMemory: what was done since .*, 1 commits, is not in the folder"):
+            store.close()
+        self.assertEqual(store.close(), 0)
+        self.assertEqual(self.counter(), b"1")
+        store = Store(folder=self.folder)
+        store.run(lambda transaction: transaction.set(ROW, FAMILY, b"2"))
+        self.assertEqual(store.close(checkpoint=False), 0)
+        for _ in range(2):
+            with self.assertRaisesRegex(ProgramEnded, "1 commits, is not in the folder"):
+                store.begin()
+        self.assertEqual(self.counter(), b"1")
+
+    def test_backups(self) -> None:
+        copy = self.path / "copy"
+        with self.opened("--flush", "7") as store:
+            for number in range(10):
+                store.run(lambda transaction: transaction.set(b"%d" % number, FAMILY, b"1"))
+            store.split(b"5")
+            store.backup(copy)
+            with self.assertRaises(ValueError):
+                store.backup(copy)
+            store.run(lambda transaction: transaction.set(b"3", FAMILY, b"2"))
+        with Store(folder=copy) as store:
+            self.assertEqual({store.run(lambda t: t.get(b"%d" % number, FAMILY)) for number in range(10)}, {b"1"})
+            self.assertEqual(store.tablets(), (Tablet(2, b"5"), Tablet(1, None)))
+        with Store() as store, self.assertRaises(ValueError):
+            store.backup(copy)
 
     def test_cells_last_behind_a_checkpoint(self) -> None:
         rows = [b"row %d" % number for number in range(CELLS)]
@@ -78,30 +194,104 @@ class Folders(unittest.TestCase):
         with self.opened() as store:
             store.run(lambda transaction: transaction.set(ROW, FAMILY, b"1"))
             store.checkpoint()
-            self.assert_ends_with(4)
-        for name, kept, status in (
-            ("t0000000000000001.tab", None, 5),
-            ("t0000000000000001.tab", b"TABLET01", 5),
-            ("t0000000000000000.tab", b"TABROOT1", 5),
-            ("oracle.mark", None, 5),
-            ("oracle.mark", b"7 bytes", 4),
+            self.assert_ends_with(4, f"{self.folder} is in use by process [0-9]+ .* has started$")
+        for name, kept, status, why in (
+            (FILE, None, 5, "the root names this file, and it isn't there"),
+            (FILE, b"TABLET02", 5, "the root says [0-9]+ bytes, and it has 8"),
+            (ROOT, b"TABROOT2", 5, "the root ends inside a field, at byte 8"),
+            ("oracle.mark", None, 5, "the mark 0 is below the root's greatest stamp 2"),
+            ("oracle.mark", b"7 bytes", 4, "is no mark: it has 7 bytes"),
         ):
             file = Path(self.folder) / name
             whole = file.read_bytes()
             file.unlink()
             if kept is not None:
                 file.write_bytes(kept)
-            self.assert_ends_with(status)
+            self.assert_ends_with(status, why)
             file.write_bytes(whole)
         with self.opened() as store:
             self.assertEqual(store.run(lambda transaction: transaction.get(ROW, FAMILY)), b"1")
         self.folder += "/none"
-        self.assert_ends_with(4)
+        self.assert_ends_with(4, "there is no folder")
+        self.folder = str(file)
+        self.assert_ends_with(4, "is a file, and no folder")
 
-    def assert_ends_with(self, status: int) -> None:
-        with self.opened() as store, self.assertRaises(ProgramEnded) as caught:
-            store.begin()
+    def assert_ends_with(self, status: int, why: str) -> None:
+        with self.assertRaisesRegex(NotOpened, why) as caught:
+            self.opened()
         self.assertEqual(caught.exception.status, status)
+
+    def test_a_folder_of_the_first_format(self) -> None:
+        """What the program wrote before format 2, stopped right behind the commit of Bob's and Joe's second values."""
+        shutil.copytree(Path(__file__).parent / "data" / "format1", self.folder, dirs_exist_ok=True)
+        folder = Folder(self.path)
+        folder.check()
+        self.assertEqual((folder.root.format, [file.format for file in folder.files.values()]), (1, [1]))
+        self.assertEqual(list(locks(folder)), ["Joe bal: session 3 sets it; its first cell is Bob bal"])
+        self.assertEqual(list(cells(folder)), ["Bob\tbal\t3", "Joe\tbal\t9"])
+        with Store(folder=self.folder) as store:
+            self.assertEqual(store.raw(b"Joe", b"bal", Qualifier.LOCK), Version(3, b"Bob\x00\x00bal\x00\x00"))
+            self.assertEqual(store.raw(b"Bob", b"bal", Qualifier.WRITE), Version(4, b"\x00" * 7 + b"\x03"))
+            values = store.run(lambda transaction: [transaction.get(row, b"bal") for row in (b"Bob", b"Joe")])
+            self.assertEqual(values, [b"3", b"9"])
+            store.major(1)
+            store.sweep()
+        folder = Folder(self.path)
+        folder.check()
+        self.assertEqual((folder.root.format, [file.format for file in folder.files.values()]), (2, [2]))
+        self.assertEqual(list(cells(folder)), ["Bob\tbal\t3", "Joe\tbal\t9"])
+
+    def test_links_to_themselves(self) -> None:
+        with Store(folder=self.folder) as store:
+            store.run(lambda transaction: transaction.set(ROW, FAMILY, b"1"))
+        for name in (FILE, ROOT, "oracle.mark"):
+            file = self.path / name
+            whole = file.read_bytes()
+            file.unlink()
+            file.symlink_to(name)
+            self.assert_ends_with(4, "symbolic links")
+            file.unlink()
+            file.write_bytes(whole)
+        self.assertEqual(self.counter(), b"1")
+
+    def test_what_a_stop_left_is_removed(self) -> None:
+        with Store(folder=self.folder) as store:
+            store.run(lambda transaction: transaction.set(ROW, FAMILY, b"1"))
+        for name in ("t0000000000000000.new", "t0000000000000001.new", "oracle.new"):
+            (self.path / name).write_bytes(b"garbage")
+        self.assertEqual(self.counter(), b"1")
+        self.assert_nothing_is_left()
+
+    def assert_nothing_is_left(self) -> None:
+        """No file that was being written stands in the folder. A mark that was is written anew."""
+        self.assertEqual([file.name for file in self.path.glob("t*.new")], [])
+
+    def test_options_act_in_a_folder(self) -> None:
+        with self.opened("--flush", "2") as store:
+            for number in range(6):
+                store.run(lambda transaction: transaction.set(b"%d" % number, FAMILY, b"1"))
+        self.assertGreaterEqual(len(list(self.path.glob("t*.tab"))), 6)
+        with self.opened("--flush", "2", "--merge", "3") as store:
+            for number in range(20):
+                store.run(lambda transaction: transaction.set(b"%d" % number, FAMILY, b"1"))
+            with self.assertRaises(BadCount):
+                store.merge(1, 3)
+            store.checkpoint()
+        self.assertLess(len(read_root(self.path).tablets[0].files), 4)
+
+    def test_automatic_compactions_on_both_sides_of_a_split(self) -> None:
+        with self.opened("--flush", "3", "--merge", "4") as store:
+            store.split(b"m")
+            for number in range(30):
+                for side in (b"a", b"z"):
+                    store.run(lambda transaction: transaction.set(side + b"%d" % number, FAMILY, side))
+            for tablet in (1, 2):
+                with self.assertRaises(BadCount):
+                    store.merge(tablet, 4)
+            self.assertEqual({store.run(lambda t: t.get(b"z%d" % number, FAMILY)) for number in range(30)}, {b"z"})
+            store.checkpoint()
+        sides = {tablet.number: tablet.files for tablet in read_root(self.path).tablets}
+        self.assertTrue(sides[1] and sides[2] and not {name for name, _ in sides[1]} & {name for name, _ in sides[2]})
 
     def test_killed_at_any_moment(self) -> None:
         chance = random.Random(29)
@@ -112,9 +302,9 @@ class Folders(unittest.TestCase):
                 timer = threading.Timer(chance.uniform(0.01, 0.2), kill, [store])
                 timer.start()
                 count.until_killed(store)
-            with self.opened() as store:
-                kept = int(store.run(lambda transaction: transaction.get(ROW, FAMILY)) or b"0")
-                self.assertIn(kept, count.may_be_kept)
+            kept = int(self.counter() or b"0")
+            self.assertIn(kept, count.may_be_kept)
+            self.assert_nothing_is_left()
 
 
 class Counting:

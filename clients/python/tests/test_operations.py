@@ -3,6 +3,9 @@
 from __future__ import annotations
 
 import unittest
+from collections.abc import Callable
+from functools import partial
+from typing import Any
 from unittest.mock import patch
 
 from duqishom import (
@@ -23,13 +26,16 @@ from duqishom import (
     FrameTooLarge,
     Gone,
     Held,
+    Kind,
     Lost,
     MemtableFull,
     More,
+    NotOpened,
     Nothing,
     Pending,
     ProgramEnded,
     Qualifier,
+    Record,
     Refused,
     RolledBack,
     RolledForward,
@@ -46,6 +52,7 @@ from duqishom import (
     Value,
     Version,
     WrongPhase,
+    read_record,
 )
 from duqishom.refusals import BY_NUMBER
 
@@ -171,11 +178,16 @@ class Operations(StoreTest):
         self.assertEqual(store.collect_step(1, 1), Collected())
         with self.assertRaises(UnknownCollector):
             store.collect_step(1, 1)
-        record = Version(4, (3).to_bytes(8, "big"))
-        self.assertEqual(store.raw(JOE, BAL, Qualifier.WRITE), record)
+        self.assert_record(JOE, 4, Record(3, Kind.SET))
         self.assertIsNone(store.raw(JOE, BAL, Qualifier.WRITE, 0, 3))
         self.assertIsNone(store.raw(JOE, BAL, Qualifier.DATA, 0, 2))
         self.assertEqual(store.get(store.begin(), JOE, BAL), Value(b"9"))
+
+    def assert_record(self, row: bytes, stamp: int, record: Record) -> None:
+        """The newest record of a row."""
+        found = self.store.raw(row, BAL, Qualifier.WRITE)
+        assert found is not None
+        self.assertEqual((found.stamp, read_record(found.value)), (stamp, record))
 
     def test_collect(self) -> None:
         self.transfer()
@@ -209,12 +221,15 @@ class Operations(StoreTest):
     def test_raw(self) -> None:
         commit = self.commit(BOB, b"10")
         start = commit - 1
-        record = Version(commit, start.to_bytes(8, "big"))
+        record = Version(commit, start.to_bytes(8, "big") + b"S")
         self.assertEqual(self.store.raw(BOB, BAL, Qualifier.DATA), Version(start, b"10"))
         self.assertEqual(self.store.raw(BOB, BAL, Qualifier.WRITE), record)
         self.assertEqual(self.store.raw(BOB, BAL, Qualifier.WRITE, commit, commit), record)
         self.assertIsNone(self.store.raw(BOB, BAL, Qualifier.WRITE, 0, start))
         self.assertIsNone(self.store.raw(BOB, BAL, Qualifier.LOCK))
+        self.hold(BOB, JOE)
+        for row in (BOB, JOE):
+            self.assertEqual(self.store.raw(row, BAL, Qualifier.LOCK), Version(3, b"Bob\x00\x00bal\x00\x00S"))
 
     def test_compactions_and_sweep(self) -> None:
         for value in (b"1", b"2", b"3"):
@@ -251,12 +266,135 @@ class Operations(StoreTest):
         self.assertEqual(self.store.get(self.store.begin(), BOB, BAL), Value(b"10"))
 
 
+class Deletions(StoreTest):
+    """A session deletes cells, and what others see of it."""
+
+    def delete(self, *rows: bytes) -> int:
+        """A session that holds the deletion of a cell in each of these rows: its start."""
+        start = self.store.begin()
+        for row in rows:
+            self.store.delete(start, row, BAL)
+        for place in range(len(rows)):
+            self.assertEqual(self.store.step(start), Held(place + 1, len(rows)))
+        return start
+
+    def finish(self, start: int) -> int:
+        """Commits a session of one cell: its commit stamp."""
+        self.store.step(start)
+        committed = self.store.step(start)
+        assert isinstance(committed, Committed)
+        return committed.commit
+
+    def test_readers_below_and_above(self) -> None:
+        self.commit(BOB, b"10")
+        below = self.store.begin()
+        start = self.delete(BOB)
+        self.assertEqual(self.store.raw(BOB, BAL, Qualifier.LOCK), Version(start, b"Bob\x00\x00bal\x00\x00D"))
+        self.assertIsNone(self.store.raw(BOB, BAL, Qualifier.DATA, start, start))
+        self.assertEqual(self.store.get(self.store.begin(), BOB, BAL), Pending(start))
+        stamp = self.finish(start)
+        record = Version(stamp, start.to_bytes(8, "big") + b"D")
+        self.assertEqual(self.store.raw(BOB, BAL, Qualifier.WRITE), record)
+        self.assertEqual(self.store.get(below, BOB, BAL), Value(b"10"))
+        self.assertEqual(self.store.get(self.store.begin(), BOB, BAL), Nothing())
+        self.commit(BOB, b"11")
+        self.assertEqual(self.store.get(self.store.begin(), BOB, BAL), Value(b"11"))
+
+    def test_replaces_and_is_replaced(self) -> None:
+        start = self.store.begin()
+        self.store.set(start, BOB, BAL, b"1")
+        self.store.delete(start, JOE, BAL)
+        self.store.delete(start, BOB, BAL)
+        self.store.set(start, JOE, BAL, b"2")
+        self.assertEqual(self.store.step(start), Held(1, 2))
+        for _ in range(4):
+            self.store.step(start)
+        reader = self.store.begin()
+        self.assertEqual(self.store.get(reader, BOB, BAL), Nothing())
+        self.assertEqual(self.store.get(reader, JOE, BAL), Value(b"2"))
+
+    def test_conflicts_like_a_write(self) -> None:
+        late = self.store.begin()
+        self.store.set(late, BOB, BAL, b"1")
+        start = self.delete(BOB)
+        other = self.store.begin()
+        self.store.delete(other, BOB, BAL)
+        self.assertEqual(self.store.step(other), Conflict(1))
+        self.finish(start)
+        self.assertEqual(self.store.step(late), Conflict(1))
+
+    def test_cleaned(self) -> None:
+        for steps, cleaned, left in ((2, RolledBack(), Value(b"1")), (4, RolledForward(0), Nothing())):
+            for row in (BOB, JOE):
+                self.commit(row, b"1")
+            start = self.delete(BOB, JOE)
+            for _ in range(steps - 2):
+                self.store.step(start)
+            self.store.stop(start)
+            self.assertIsInstance(self.store.clean(JOE, BAL), type(cleaned))
+            self.store.clean(BOB, BAL)
+            reader = self.store.begin()
+            for row in (BOB, JOE):
+                self.assertEqual(self.store.get(reader, row, BAL), left)
+            self.store.stop(reader)
+
+    def test_lost(self) -> None:
+        self.commit(BOB, b"1")
+        start = self.delete(BOB)
+        self.store.clean(BOB, BAL)
+        self.assertIsInstance(self.store.step(start), Stamped)
+        self.assertEqual(self.store.step(start), Lost())
+        self.assertEqual(self.store.get(self.store.begin(), BOB, BAL), Value(b"1"))
+
+    def test_collected(self) -> None:
+        self.commit(BOB, b"1")
+        reader = self.store.begin()
+        self.finish(self.delete(BOB))
+        self.finish(self.delete(JOE))
+        self.store.collect()
+        self.assertEqual(self.store.get(reader, BOB, BAL), Value(b"1"))
+        self.store.stop(reader)
+        self.store.collect()
+        for row in (BOB, JOE):
+            for column in Qualifier:
+                self.assertIsNone(self.store.raw(row, BAL, column))
+        self.assertEqual(self.store.get(self.store.begin(), BOB, BAL), Nothing())
+
+    def test_256_deletions(self) -> None:
+        rows = [b"%d" % number for number in range(256)]
+        for place in (0, 128):
+            with self.store.transaction() as transaction:
+                for row in rows[place : place + 128]:
+                    transaction.set(row, BAL, row)
+        with self.store.transaction() as transaction:
+            for row in rows:
+                transaction.delete(row, BAL)
+        reader = self.store.begin()
+        self.assertEqual({self.store.get(reader, row, BAL) for row in rows}, {Nothing()})
+
+    def test_refused(self) -> None:
+        start = self.store.begin()
+        for row, family, refusal in ((b"", BAL, BadRow), (b"r" * 4001, BAL, BadRow), (BOB, b"a:b", BadColumn)):
+            with self.assertRaises(refusal):
+                self.store.delete(start, row, family)
+        with self.assertRaises(UnknownSession):
+            self.store.delete(start + 1, b"", BAL)
+        for number in range(256):
+            self.store.delete(start, b"%d" % number, BAL)
+        with self.assertRaises(TooManyWrites):
+            self.store.delete(start, b"256", BAL)
+        self.store.step(start)
+        with self.assertRaises(WrongPhase):
+            self.store.delete(start, BOB, BAL)
+
+
 class Refusals(StoreTest):
     """The refusals that a client can bring about, and the limits that they tell of."""
 
     def test_names(self) -> None:
         self.assertEqual(list(BY_NUMBER), list(range(1, 24)))
-        self.assertEqual(str(BadSplit()), "refused 12: BadSplit")
+        limit = "it ends its tablet already, or there are 1,024 tablets"
+        self.assertEqual(str(BadSplit("row b'a'")), f"refused 12: BadSplit: row b'a': {limit}")
         self.assertEqual((BadSplit().number, BadSplit().name), (12, "BadSplit"))
         self.assertTrue(all(issubclass(refusal, Refused) for refusal in BY_NUMBER.values()))
 
@@ -282,6 +420,31 @@ class Refusals(StoreTest):
                 self.store.get(start, BOB, family)
         with self.assertRaises(BadValue):
             self.store.set(start, BOB, BAL, b"v" * 65_537)
+
+    def test_texts(self) -> None:
+        start = self.store.begin()
+        long = "value b'vvvvvvvvvvvvvvvvvvvvvvvvvvvvvvvv'.. of 65,537 bytes"
+        wrong: tuple[tuple[Callable[[], object], str], ...] = (
+            (lambda: self.store.set(start, BOB, b"a:b", b""), "family b'a:b': 1 to 64 bytes of 21 to 7E without ':'"),
+            (lambda: self.store.set(start, BOB, BAL, b"v" * 65_537), f"{long}: at most 65,536 bytes"),
+            (lambda: self.store.stop(9), "session 9: it has ended, or never began"),
+            (lambda: self.store.minor(7), "tablet 7: tablets have the numbers from 1 to as many as there are"),
+        )
+        for ask, text in wrong:
+            with self.assertRaises(Refused) as caught:
+                ask()
+            self.assertEqual(str(caught.exception).partition(": ")[2].partition(": ")[2], text)
+
+    def test_text_in_the_place_of_bytes(self) -> None:
+        start = self.store.begin()
+        text: Any = "text"
+        sets: tuple[Callable[..., None], ...] = (partial(self.store.set, start), self.store.transaction().set)
+        for arguments, name in (((text, BAL, b""), "row"), ((BOB, text, b""), "family"), ((BOB, BAL, text), "value")):
+            for set_it in sets:
+                with self.assertRaisesRegex(TypeError, f"{name} must be bytes, and not str: 'text'"):
+                    set_it(*arguments)
+        self.store.set(start, bytearray(BOB), memoryview(BAL), b"10")
+        self.assertEqual(self.store.step(start), Held(1, 1))
 
     def test_256_writes(self) -> None:
         start = self.store.begin()
@@ -311,16 +474,16 @@ class Refusals(StoreTest):
         with self.assertRaises(UnknownCleaner):
             self.store.clean_step(1025)
 
-    def test_1024_collectors(self) -> None:
-        for number in range(1, 1025):
+    def test_64_collectors(self) -> None:
+        for number in range(1, 65):
             self.assertEqual(self.store.collect_begin(), Collector(number, 1))
         with self.assertRaises(TooManySessions):
             self.store.collect_begin()
         with self.assertRaises(UnknownCollector):
-            self.store.collect_step(1025)
-        self.assertEqual(self.store.collect_step(1024, 1), More())
-        self.assertEqual(self.store.collect_step(1024, 1), Collected())
-        self.assertEqual(self.store.collect_begin(), Collector(1025, 1))
+            self.store.collect_step(65)
+        self.assertEqual(self.store.collect_step(64, 1), More())
+        self.assertEqual(self.store.collect_step(64, 1), Collected())
+        self.assertEqual(self.store.collect_begin(), Collector(65, 1))
 
     def test_1000_visits(self) -> None:
         self.store.collect_begin()
@@ -426,9 +589,11 @@ class Ends(unittest.TestCase):
         self.assertEqual(caught.exception.status, 0)
 
     def test_program_that_ends_at_once(self) -> None:
-        with Store("true") as store:
-            with self.assertRaises(ProgramEnded):
-                store.begin()
+        with self.assertRaises(NotOpened) as caught:
+            Store("true")
+        self.assertEqual(caught.exception.status, 0)
+        with self.assertRaisesRegex(NotOpened, "the command line is refused"):
+            Store(words=("--flush", "0"))
 
     def test_no_program(self) -> None:
         with self.assertRaises(OSError):

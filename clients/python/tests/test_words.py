@@ -4,6 +4,7 @@ from __future__ import annotations
 
 import subprocess
 import sys
+import tempfile
 import unittest
 from pathlib import Path
 
@@ -46,7 +47,7 @@ class Words(unittest.TestCase):
             ("in 1 set Joe bal 2", "set"),
             ("in 1 get Bob bal", "nothing"),
             ("in 1 step", "held 1 of 2"),
-            ("raw Bob bal lock 0 9", "1: Bob\\x00\\x00bal\\x00\\x00"),
+            ("raw Bob bal lock 0 9", "1: first cell Bob bal"),
             ("in 1 step", "held 2 of 2"),
             ("in 1 step", "stamped 2"),
             ("in 1 step", "committed at 2"),
@@ -84,16 +85,22 @@ class Words(unittest.TestCase):
 
     def test_what_is_not_done(self) -> None:
         table = [
-            ("foo", "not done: this is none of the lines that help shows"),
-            ("set Bob", "not done: this is none of the lines that help shows"),
-            ("set Bob b:l 1", "refused 4: BadColumn"),
+            ("foo", "not done: no line begins with foo; help shows all"),
+            ("set Bob", "not done: the line is set ROW FAMILY VALUE"),
+            ("move 1", "not done: the line is move TABLET SERVER"),
+            ("set 'Bob", "not done: no closing quotation"),
+            ("set Bob b:l 1", "refused 4: BadColumn: family b'b:l': 1 to 64 bytes of 21 to 7E without ':'"),
             ("transfer Bob Joe bal 7", "not done: Bob has 0"),
             ("transfer Bob Bob bal 7", "not done: the two rows are one"),
             ("transfer Bob Joe bal -7", "not done: -7 is no number"),
             ("raw Bob bal row 0 9", "not done: row is none of data, lock and write"),
             ("compact 99999999999 minor", "not done: a number is too large"),
-            ("compact 2 minor", "refused 11: UnknownTablet"),
-            ("in 9 step", "refused 1: UnknownSession"),
+            (
+                "compact 2 minor",
+                "refused 11: UnknownTablet: tablet 2: tablets have the numbers from 1 to as many as there are",
+            ),
+            ("in 9 step", "refused 1: UnknownSession: session 9: it has ended, or never began"),
+            ("backup /tmp", "not done: a store in memory has no folder to copy"),
         ]
         self.assert_answered(table, 1)
 
@@ -119,16 +126,47 @@ class Words(unittest.TestCase):
         table = [
             ("set B\\x00b bal two\\x20words\\x5c", "committed at 2"),
             ("get B\\x00b bal", "two\\x20words\\x5c"),
-            ("set Bob bal é\\xff", "committed at 5"),
+            ("set 'Bob' \"bal\" é\\xff", "committed at 5"),
             ("get Bob bal", "é\\xff"),
         ]
-        self.assert_answered(table, 0)
+        table += [("set 'two words' bal ''", "committed at 8"), ('get "two words" bal', '')]
+        self.assertEqual(answers("\n".join(line for line, _ in table))[0], 0)
         for given in (b"", b"\\x00", b"a b", bytes(range(256)), "é".encode()):
             self.assertEqual(bytes_of(text_of(given)), given)
 
     def test_help(self) -> None:
-        status, lines = answers("help\n")
-        self.assertEqual((status, len(lines)), (0, 21))
+        status, lines = answers("help\nquit\nfoo\n")
+        self.assertEqual((status, len(lines)), (0, 25))
+
+    def test_deletions(self) -> None:
+        table = [
+            ("set Bob bal 10", "committed at 2"),
+            ("delete Bob bal", "committed at 4"),
+            ("get Bob bal", "nothing"),
+            ("raw Bob bal write 0 9", "4: start 3, a deletion"),
+            ("begin", "session 6"),
+            ("in 6 delete Joe bal", "set to be deleted"),
+            ("in 6 step", "held 1 of 1"),
+            ("raw Joe bal lock 0 9", "6: first cell Joe bal, a deletion"),
+        ]
+        self.assert_answered(table, 0)
+
+    def test_one_shot(self) -> None:
+        with tempfile.TemporaryDirectory() as folder:
+            for words, status, told in (
+                (("set", "Bob", "bal", "two words"), 0, "committed at 2"),
+                (("get", "Bob", "bal"), 0, "two\\x20words"),
+                (("get", "Bob"), 1, "not done: the line is get ROW FAMILY"),
+                (("--no-checkpoint", "set", "Bob", "bal", "3"), 0, "committed at 2002"),
+                (("get", "Bob", "bal"), 0, "two\\x20words"),
+            ):
+                options = [words[0]] if words[0].startswith("--") else []
+                self.assertEqual(answers("", "--dir", folder, *words), (status, [told]), options)
+
+    def test_no_folder(self) -> None:
+        status, told = answers("", "--dir", "no/such/folder", "begin")
+        self.assertEqual(status, 2)
+        self.assertEqual(told, ["duqishom: the store isn't opened (status 4): there is no folder no/such/folder"])
 
     def test_another_program(self) -> None:
         self.assertEqual(answers("begin\n", "--program", "true")[0], 2)

@@ -1,0 +1,446 @@
+"""The client over a gateway's socket for `asyncio`: the names of `Store` and `Transaction`, to be awaited.
+
+    from duqishom.aio import Store
+
+    async with Store(socket=PATH) as store:
+        async with store.transaction() as t:
+            t.set(b"Bob", b"bal", b"10")
+        print(await store.run(read_bob))
+
+Many tasks share one store and its connection, each with transactions of its own.
+"""
+
+from __future__ import annotations
+
+import asyncio
+from collections.abc import Awaitable, Callable, Sequence
+from contextlib import suppress
+from os import PathLike, fspath
+from types import TracebackType
+from typing import TYPE_CHECKING, TypeVar, cast
+
+from duqishom import transactions
+from duqishom.answers import (
+    Blocked,
+    Cleaned,
+    Cleaner,
+    Collected,
+    Collection,
+    Collector,
+    Committed,
+    Decided,
+    Found,
+    Lost,
+    Nothing,
+    Pending,
+    Progress,
+    Qualifier,
+    Value,
+    Version,
+)
+from duqishom.columns import read_record
+from duqishom.operations import (
+    Begin,
+    Checkpoint,
+    CleanBegin,
+    CleanStep,
+    CollectBegin,
+    CollectStep,
+    Delete,
+    Get,
+    Major,
+    Merge,
+    Minor,
+    Move,
+    Operation,
+    OracleRestart,
+    Raw,
+    Set,
+    Split,
+    Step,
+    Stop,
+    Sweep,
+    answer_or_refusal,
+    named,
+    request_body,
+)
+from duqishom.program import ProgramEnded
+from duqishom.refusals import BadRequest, MemtableFull, Refused, TooManyFiles, UnknownSession, UnknownTablet
+from duqishom.remote import MOST_TABLETS, Fate
+from duqishom.streams import FrameStream
+from duqishom.transactions import (
+    MOST_STAMP,
+    Cell,
+    Patience,
+    StillPending,
+    TransactionConflict,
+    TransactionFailed,
+    TransactionLost,
+)
+
+if TYPE_CHECKING:
+    from duqishom import store
+
+MOST_VISITS = 1000
+
+Answer = TypeVar("Answer")
+Result = TypeVar("Result")
+
+
+class Store:
+    """The store that a gateway serves at a socket. Each method that asks raises a `Refused` where the store refuses,
+    `ConnectionLost` where the gateway has closed the connection, and `TimeoutError` where a timeout was given and has
+    passed."""
+
+    def __init__(
+        self, socket: str | PathLike[str], patience: Patience = Patience(), timeout: float | None = None
+    ) -> None:
+        """A store that isn't connected yet: `open` connects it, and so does `async with`."""
+        self._path = fspath(socket)
+        self._patience = patience
+        self._timeout = timeout
+
+    async def open(self) -> None:
+        """Connects. OSError where nobody serves there."""
+        self._stream = await FrameStream.open(self._path)
+
+    async def ask(self, operation: Operation[Answer]) -> Answer:
+        """Asks for an operation, and gives the answer."""
+        [answer] = await self.ask_each([operation])
+        if isinstance(answer, Refused):
+            raise answer
+        return answer
+
+    async def ask_each(self, operations: Sequence[Operation[Answer]]) -> list[Answer | Refused]:
+        """Asks for several operations in one trip, and gives the answer to each, or its refusal."""
+        bodies = [request_body(operation) for operation in operations]
+        async with asyncio.timeout(self._timeout):
+            replies = await self._stream.ask(bodies)
+        return [answer_or_refusal(operation, reply) for operation, reply in zip(operations, replies)]
+
+    async def begin(self) -> int:
+        """Begins a session: its start."""
+        return await self.ask(Begin())
+
+    async def get(self, start: int, row: bytes, family: bytes) -> Found:
+        """Reads a cell as of the session's start."""
+        return await self.ask(Get(start, row, family))
+
+    async def set(self, start: int, row: bytes, family: bytes, value: bytes) -> None:
+        """Buffers a write in the session."""
+        await self.ask(Set(start, row, family, value))
+
+    async def delete(self, start: int, row: bytes, family: bytes) -> None:
+        """Buffers the deletion of a cell in the session."""
+        await self.ask(Delete(start, row, family))
+
+    async def step(self, start: int) -> Progress:
+        """Takes the session's next step towards its end."""
+        return await self.ask(Step(start))
+
+    async def stop(self, start: int) -> None:
+        """Ends the session where it stands. The cells that it holds stay locked until they are cleaned."""
+        await self.ask(Stop(start))
+
+    async def clean_begin(self, row: bytes, family: bytes) -> Cleaner | None:
+        """Opens a cleaner at the lock of a cell, and None where no lock stands."""
+        return await self.ask(CleanBegin(row, family))
+
+    async def clean_step(self, cleaner: int) -> Cleaned:
+        """Takes the cleaner's next step: the first decides, the second clears the cell."""
+        return await self.ask(CleanStep(cleaner))
+
+    async def clean(self, row: bytes, family: bytes) -> Cleaned | None:
+        """Clears the lock of a cell, whether its session runs or has stopped: what became of it, and None where none stood."""
+        cleaner = await self.clean_begin(row, family)
+        if cleaner is None:
+            return None
+        cleaned = await self._clean_step(cleaner.number)
+        while cleaned == Decided():
+            cleaned = await self._clean_step(cleaner.number)
+        return cleaned
+
+    async def _clean_step(self, cleaner: int) -> Cleaned:
+        try:
+            return await self.clean_step(cleaner)
+        except MemtableFull:
+            await self.make_room()
+            return await self.clean_step(cleaner)
+
+    async def free(self, row: bytes, family: bytes, patience: Patience) -> None:
+        """Waits for the lock of a cell to go, as long as the patience says, and then cleans it."""
+        first = await self.raw(row, family, Qualifier.LOCK)
+        for _ in range(patience.tries):
+            lock = await self.raw(row, family, Qualifier.LOCK)
+            if lock is None or first is None or lock.stamp != first.stamp:
+                return
+            await asyncio.sleep(patience.pause)
+        await self.clean(row, family)
+
+    async def collect_begin(self) -> Collector:
+        """Opens a collector of old versions. Its floor is the least start of an active session."""
+        return await self.ask(CollectBegin())
+
+    async def collect_step(self, collector: int, visits: int = MOST_VISITS) -> Collection:
+        """Has a collector make so many visits, 1 to 1,000."""
+        return await self.ask(CollectStep(collector, visits))
+
+    async def collect(self, visits: int = MOST_VISITS) -> int:
+        """Erases the versions that no active session reads, and none that begins later: the floor up to which that was done."""
+        collector = await self.collect_begin()
+        while (done := await self._collect_step(collector.number, visits)) != Collected():
+            if isinstance(done, Blocked):
+                await self.clean(done.row, done.family)
+        return collector.floor
+
+    async def _collect_step(self, collector: int, visits: int) -> Collection:
+        while True:
+            try:
+                return await self.collect_step(collector, visits)
+            except MemtableFull:
+                await self.make_room()
+
+    async def minor(self, tablet: int) -> None:
+        """Writes the memtable of a tablet as a new file."""
+        await self.ask(Minor(tablet))
+
+    async def merge(self, tablet: int, count: int) -> None:
+        """Writes so many of a tablet's newest files as one."""
+        await self.ask(Merge(tablet, count))
+
+    async def major(self, tablet: int) -> None:
+        """Writes the memtable and all files of a tablet as one file."""
+        await self.ask(Major(tablet))
+
+    async def split(self, row: bytes) -> int:
+        """Cuts the tablet that holds a row behind that row: the number of the left part."""
+        return await self.ask(Split(row))
+
+    async def move(self, tablet: int, server: int) -> None:
+        """Puts a tablet on a server."""
+        await self.ask(Move(tablet, server))
+
+    async def sweep(self) -> int:
+        """Removes the files that no tablet names: how many these were. In a folder, the gateway makes a checkpoint right behind
+        it."""
+        return await self.ask(Sweep())
+
+    async def checkpoint(self) -> None:
+        """Writes all that the store keeps into its files. Where a tablet has too many files, all of its files become one first."""
+        try:
+            await self.ask(Checkpoint())
+        except TooManyFiles:
+            await self.make_room()
+            await self.ask(Checkpoint())
+
+    async def restart_oracle(self) -> None:
+        """Has the oracle of stamps go on from its stored mark."""
+        await self.ask(OracleRestart())
+
+    async def raw(
+        self, row: bytes, family: bytes, qualifier: Qualifier, lo: int = 0, hi: int = MOST_STAMP
+    ) -> Version | None:
+        """The newest version of a cell's column in a range of stamps, both bounds included, and None where none is."""
+        return await self.ask(Raw(row, family, qualifier, lo, hi))
+
+    async def make_room(self) -> None:
+        """Writes the memtable of each tablet to a file. A gateway whose administrator has a socket refuses that, and has done
+        it itself."""
+        with suppress(UnknownTablet, BadRequest):
+            for tablet in range(1, MOST_TABLETS + 1):
+                try:
+                    await self.minor(tablet)
+                except TooManyFiles:
+                    await self.major(tablet)
+
+    async def fate(self, start: int, row: bytes, family: bytes) -> Fate:
+        """What became of a commit whose answer was lost: of the session of this start, by its first cell."""
+        lock = await self.raw(row, family, Qualifier.LOCK, start, start)
+        if lock is not None and self._patience.cleans:
+            await self.free(row, family, self._patience)
+        elif lock is not None:
+            return Pending(start)
+        record = await self.raw(row, family, Qualifier.WRITE, start)
+        while record is not None:
+            if read_record(record.value).start == start:
+                return Committed(record.stamp)
+            record = await self.raw(row, family, Qualifier.WRITE, start, record.stamp - 1)
+        return Lost()
+
+    def transaction(self) -> Transaction:
+        """A transaction, that `async with` begins. It commits at the end, and stops where an exception leaves."""
+        return Transaction(self, self._patience)
+
+    async def run(self, work: Callable[[Transaction], Awaitable[Result]], attempts: int = 10) -> Result:
+        """Does work in a transaction, and once more in a new one where it conflicts, is lost or stays pending, as `Store.run`
+        does."""
+        attempt = 1
+        while True:
+            try:
+                async with self.transaction() as transaction:
+                    return await work(transaction)
+            except (TransactionConflict, TransactionLost, StillPending):
+                if attempt >= attempts:
+                    raise
+            await asyncio.sleep(self._patience.between(attempt - 1))
+            attempt += 1
+
+    async def close(self) -> int:
+        """Leaves the gateway, which ends what is open."""
+        self._stream.close()
+        return 0
+
+    async def __aenter__(self) -> Store:
+        await self.open()
+        return self
+
+    async def __aexit__(
+        self, kind: type[BaseException] | None, error: BaseException | None, trace: TracebackType | None
+    ) -> None:
+        await self.close()
+
+
+class Cleanings:
+    """The store of a transaction's plan: it notes the cells that are to be cleaned."""
+
+    def __init__(self) -> None:
+        self.cells: list[Cell] = []
+
+    def clean(self, row: bytes, family: bytes) -> None:
+        """Notes a cell."""
+        self.cells.append(Cell(row, family))
+
+
+class Transaction:
+    """One session, from its begin to its end. Its writes are kept here, and sent when it commits.
+
+    What it has written, and what its steps have done, a transaction without a store keeps.
+    """
+
+    def __init__(self, asked: Store, patience: Patience) -> None:
+        self._store = asked
+        self._patience = patience
+        self._cleanings = Cleanings()
+
+    async def begin(self) -> None:
+        """Begins the session."""
+        start = await self._store.begin()
+        self._plan = transactions.Transaction(cast("store.Store", self._cleanings), start, self._patience)
+
+    @property
+    def start(self) -> int:
+        """The session's start."""
+        return self._plan.start
+
+    @property
+    def is_active(self) -> bool:
+        """Whether the session hasn't ended."""
+        return self._plan.is_active
+
+    @property
+    def commit_stamp(self) -> int | None:
+        """The stamp at which it has committed, and None where it hasn't."""
+        return self._plan.commit_stamp
+
+    async def get(self, row: bytes, family: bytes, own: bool = True) -> bytes | None:
+        """What the transaction has written to the cell; otherwise the value that was committed last by the start."""
+        cell = Cell(row, family)
+        if own and cell in self._plan._writes:
+            return self._plan._writes[cell]
+        tries = 0
+        while True:
+            match await self._store.get(self.start, row, family):
+                case Nothing():
+                    return None
+                case Value(value):
+                    return value
+                case Pending(start):
+                    tries += 1
+                    await self._wait(cell, start, tries)
+
+    async def _wait(self, cell: Cell, start: int, tries: int) -> None:
+        if tries < self._patience.tries:
+            await asyncio.sleep(self._patience.pause)
+        elif self._patience.cleans:
+            await self._store.clean(cell.row, cell.family)
+        else:
+            raise StillPending(cell, start)
+
+    def set(self, row: bytes, family: bytes, value: bytes) -> None:
+        """Writes a value to a cell, when the transaction commits. The first cell that is written is the primary."""
+        self._plan.set(row, family, value)
+
+    def delete(self, row: bytes, family: bytes) -> None:
+        """Deletes a cell, when the transaction commits."""
+        self._plan.delete(row, family)
+
+    async def stop(self) -> None:
+        """Ends the session where it stands. Before its first step nothing of it stays."""
+        if self._plan.is_active:
+            self._plan.is_active = False
+            await self._store.stop(self.start)
+
+    async def commit(self) -> int | None:
+        """Commits all writes at once, and gives the commit stamp: None where nothing was written. It raises what `commit` of
+        the other twin does."""
+        if not self._plan.is_active:
+            raise UnknownSession(named("session", self.start))
+        if not self._plan._writes:
+            await self.stop()
+            return None
+        failure = await self._commit()
+        for cell in self._cleanings.cells:
+            await self._store.clean(cell.row, cell.family)
+        if failure is not None:
+            if isinstance(failure, TransactionConflict) and self._patience.cleans:
+                await self._store.free(failure.cell.row, failure.cell.family, self._patience)
+            raise failure
+        return self.commit_stamp
+
+    async def _commit(self) -> TransactionFailed | None:
+        """Sends the writes and takes the steps: why it came to nothing, where it did."""
+        plan = self._plan
+        operations = [plan._request(cell) for cell in plan._unsent()]
+        if len(plan._writes) == 1:
+            failure, rest = await self._ask([*operations, *plan._steps_left()], len(operations))
+        else:
+            await self._ask(operations, len(operations))
+            failure, rest = await self._ask(plan._steps_left(), 0)
+        while plan.is_active:
+            before = plan._steps
+            if isinstance(rest, MemtableFull):
+                await self._store.make_room()
+            elif rest is not None:
+                raise rest
+            failure, rest = await self._ask(plan._steps_left(), 0)
+            if rest is not None and plan._steps == before:
+                raise rest
+        return failure
+
+    async def _ask(
+        self, operations: Sequence[Set | Delete | Step], writes: int
+    ) -> tuple[TransactionFailed | None, Refused | None]:
+        """Asks for writes and steps in one trip, and has the plan take the answers."""
+        plan = self._plan
+        plan._has_stepped = plan._has_stepped or len(operations) > writes
+        try:
+            answers = await self._store.ask_each(operations)
+        except (ProgramEnded, TimeoutError, asyncio.CancelledError):
+            plan.is_active = not plan._has_stepped
+            raise
+        return plan._take_answers(operations, answers, writes)
+
+    async def __aenter__(self) -> Transaction:
+        await self.begin()
+        return self
+
+    async def __aexit__(
+        self, kind: type[BaseException] | None, error: BaseException | None, trace: TracebackType | None
+    ) -> None:
+        try:
+            if kind is None and self.is_active:
+                await self.commit()
+        finally:
+            if not self._plan._has_stepped:
+                with suppress(UnknownSession, ProgramEnded, TimeoutError):
+                    await self.stop()

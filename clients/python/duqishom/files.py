@@ -1,0 +1,300 @@
+"""The forms of the files of a folder: sorted files, the root, the mark. `docs/FORMATS.md` has them in words.
+
+Each is read as the program reads it, and what stands outside its form is named by its first wrong byte.
+"""
+
+from __future__ import annotations
+
+import re
+import struct
+from collections.abc import Iterator
+from dataclasses import dataclass
+from mmap import mmap
+from typing import NamedTuple
+
+from duqishom.answers import Qualifier
+from duqishom.columns import BadForm
+
+MOST_STAMP = 2**63 - 1
+MOST_NAME = 2**63
+MOST_TABLETS = 1024
+MOST_FILES = 64
+MOST_SERVER = 15
+LONGEST_ROW = 4000
+LONGEST_VALUE = 65_536
+LONGEST_BLOCK = 4096
+FILE_FOOT = b"TABLETZZ"
+ROOT_FOOT = b"TABROOTZ"
+MARK_FILE = "oracle.mark"
+LOCK_FILE = "lock"
+FAMILY = re.compile(rb"[!-9;-~]{1,64}")
+COLUMNS = {b"data": Qualifier.DATA, b"lock": Qualifier.LOCK, b"write": Qualifier.WRITE}
+
+Bytes = bytes | mmap
+
+
+def file_name(name: int) -> str:
+    """How the file of a name is called in its folder. That of 0 is the root."""
+    return f"t{name:016x}.tab"
+
+
+ROOT_FILE = file_name(0)
+
+
+class Key(NamedTuple):
+    """A version of a column of a cell."""
+
+    row: bytes
+    family: bytes
+    column: Qualifier
+    stamp: int
+
+
+class Entry(NamedTuple):
+    """An entry of a sorted file: a version with its value, or its erasure where there is none."""
+
+    text: bytes
+    value: bytes | None
+
+
+@dataclass(frozen=True)
+class Form:
+    """A format of sorted files: the numbers of its foot and of a row of its index."""
+
+    foot: struct.Struct
+    place: struct.Struct
+
+
+FORMS = {
+    b"TABLET01": Form(struct.Struct(">IIII"), struct.Struct(">III")),
+    b"TABLET02": Form(struct.Struct(">QQQQ"), struct.Struct(">QQI")),
+}
+ROOT_HEADS = {b"TABROOT1": 1, b"TABROOT2": 2}
+NUMBER = struct.Struct(">I")
+
+
+def first_difference(got: bytes, wanted: bytes) -> int:
+    """The offset of the first byte that two texts don't share."""
+    for at, (one, other) in enumerate(zip(got, wanted)):
+        if one != other:
+            return at
+    return min(len(got), len(wanted))
+
+
+def key_of(text: bytes) -> Key:
+    """The key that a text spells: row, family, column and stamp. BadForm where it spells none."""
+    zero, at = text.find(b"\x00"), 0
+    while zero >= 0 and text[zero + 1 : zero + 2] == b"\xff":
+        at = zero + 2
+        zero = text.find(b"\x00", at)
+    if zero < 0 or text[zero + 1 : zero + 2] != b"\x00":
+        raise BadForm("the row has no end", len(text) if zero < 0 else zero + 1)
+    row, at = text[:zero].replace(b"\x00\xff", b"\x00"), zero + 2
+    if not 1 <= len(row) <= LONGEST_ROW:
+        raise BadForm("a row has 1 to 4,000 bytes", 0)
+    end = text.find(b"\x00\x00", at)
+    family = text[at : max(end, at)]
+    if end < 0 or not FAMILY.fullmatch(family):
+        raise BadForm("this is no family with its end", at)
+    at, end = end + 2, text.find(b"\x00\x00", end + 2)
+    column = COLUMNS.get(text[at : max(end, at)])
+    if column is None:
+        raise BadForm("the column is none of data, lock and write", at)
+    at = end + 2
+    stamp = 2**64 - 1 - int.from_bytes(text[at:], "big")
+    if len(text) != at + 8 or not 1 <= stamp <= MOST_STAMP:
+        raise BadForm("this is no stamp of 8 bytes", at)
+    return Key(row, family, column, stamp)
+
+
+class SortedFile:
+    """The bytes of a sorted file: its head and foot are read at once, and its entries when they are asked for."""
+
+    def __init__(self, data: Bytes) -> None:
+        self._data = data
+        head = bytes(data[:8])
+        if head not in FORMS:
+            raise BadForm("the head is neither TABLET01 nor TABLET02", first_difference(head, b"TABLET01"))
+        self.form = FORMS[head]
+        self.format = int(head[-1:])
+        self.size = len(data)
+        self._foot = len(data) - self.form.foot.size - len(FILE_FOOT)
+        if self._foot < 8:
+            raise BadForm("the file ends before its foot", len(data))
+        foot = bytes(data[-len(FILE_FOOT) :])
+        if foot != FILE_FOOT:
+            raise BadForm("the foot isn't TABLETZZ", len(data) - 8 + first_difference(foot, FILE_FOOT))
+        self.index, self.blocks, self.count, self.length = self.form.foot.unpack_from(data, self._foot)
+        if not 8 <= self.index <= self._foot:
+            raise BadForm("the index isn't where the foot says", self._foot)
+
+    def entries(self) -> Iterator[Entry]:
+        """The entries, in order, with no more looked at than where each of them ends."""
+        data, at = self._data, 8
+        while at < self.index:
+            key, kind = self._counted(at, "a key")
+            value, at = (self._counted(kind + 1, "a value")) if data[kind] == 1 else (None, kind + 1)
+            yield Entry(key, value)
+
+    def _counted(self, at: int, what: str) -> tuple[bytes, int]:
+        """Bytes behind their length, and where they end."""
+        data, text = self._data, at + 4
+        if text > self.index:
+            raise BadForm(f"the entries end inside {what}", at)
+        end = text + NUMBER.unpack_from(data, at)[0]
+        if end > self.index or (what == "a key" and end == self.index):
+            raise BadForm(f"{what} is longer than the entries", at)
+        return bytes(data[text:end]), end
+
+    def check(self) -> None:
+        """Reads all of it. BadForm at the first byte that is wrong."""
+        index, count = self._check_entries()
+        found = bytes(self._data[self.index : self._foot])
+        wanted = b"".join(self.form.place.pack(at, length, len(key)) + key for at, length, key in index)
+        if found != wanted:
+            raise BadForm("the index isn't that of the blocks", self.index + first_difference(found, wanted))
+        numbers = self.form.foot.pack(self.index, len(index), count, len(self._data))
+        said = bytes(self._data[self._foot : self._foot + len(numbers)])
+        if said != numbers:
+            raise BadForm("the foot's numbers aren't those of the file", self._foot + first_difference(said, numbers))
+
+    def _check_entries(self) -> tuple[list[tuple[int, int, bytes]], int]:
+        """The blocks that the entries make, each with its offset, its length and its first key, and how many entries there are."""
+        blocks: list[tuple[int, int, bytes]] = []
+        at, count, last = 8, 0, b""
+        for text, value in self.entries():
+            length = 5 + len(text) + (4 + len(value) if value is not None else 0)
+            try:
+                key_of(text)
+            except BadForm as bad:
+                raise BadForm(bad.what, at + 4 + bad.at) from None
+            if text <= last:
+                raise BadForm("the keys don't rise", at + 4)
+            if value is None and self._data[at + 4 + len(text)] != 0:
+                raise BadForm("this is no kind of an entry", at + 4 + len(text))
+            if value is not None and len(value) > LONGEST_VALUE:
+                raise BadForm("a value has more than 65,536 bytes", at + 5 + len(text))
+            if blocks and blocks[-1][1] + length <= LONGEST_BLOCK:
+                blocks[-1] = (blocks[-1][0], blocks[-1][1] + length, blocks[-1][2])
+            else:
+                blocks.append((at, length, text))
+            at, count, last = at + length, count + 1, text
+        return blocks, count
+
+
+class FileRef(NamedTuple):
+    """A file that a root names: its length too, in a root of format 2."""
+
+    name: int
+    length: int | None
+
+
+class RootTablet(NamedTuple):
+    """A tablet of a root: the last has no end. The newest of its files stands first."""
+
+    number: int
+    end: bytes | None
+    server: int
+    files: tuple[FileRef, ...]
+
+
+class Root(NamedTuple):
+    """What a root says: of a new store, where there is none."""
+
+    format: int
+    top: int
+    floor: int
+    next_name: int
+    tablets: tuple[RootTablet, ...]
+
+
+NEW_ROOT = Root(0, 0, 0, 1, (RootTablet(1, None, 0, ()),))
+
+
+class RootReader:
+    """Takes the parts of a root from its front. BadForm at the byte where one isn't as it must be."""
+
+    def __init__(self, data: bytes) -> None:
+        self.data = data
+        self.at = 0
+
+    def take(self, count: int) -> bytes:
+        """The next so many bytes."""
+        taken = self.data[self.at : self.at + count]
+        if len(taken) < count:
+            raise BadForm("the root ends inside a field", len(self.data))
+        self.at += count
+        return taken
+
+    def number(self, width: int, least: int, most: int, what: str) -> int:
+        """The next number, which has so many bytes and lies within these bounds."""
+        at, found = self.at, int.from_bytes(self.take(width), "big")
+        if not least <= found <= most:
+            raise BadForm(f"{what} is {found}, and not {least} to {most}", at)
+        return found
+
+    def end(self, is_last: bool) -> bytes | None:
+        """The end of a tablet."""
+        at = self.at
+        if self.number(1, 0, 1, "the kind of a tablet's end"):
+            if not is_last:
+                raise BadForm("a tablet without an end isn't the last", at)
+            return None
+        if is_last:
+            raise BadForm("the last tablet has an end", at)
+        return self.take(self.number(4, 1, LONGEST_ROW, "the length of a row"))
+
+
+def root_of(data: bytes) -> Root:
+    """The root that these bytes spell."""
+    fields = RootReader(data)
+    head = fields.take(8)
+    if head not in ROOT_HEADS:
+        raise BadForm("the head is neither TABROOT1 nor TABROOT2", first_difference(head, b"TABROOT1"))
+    top = fields.number(8, 0, MOST_STAMP, "the greatest stamp")
+    floor = fields.number(8, 0, MOST_STAMP + 1, "the floor")
+    next_name = fields.number(8, 1, MOST_NAME, "the next file name")
+    at = fields.at
+    next_tablet = fields.number(4, 2, MOST_TABLETS + 1, "the next tablet number")
+    count = fields.number(4, 1, MOST_TABLETS, "the tablet count")
+    if next_tablet != count + 1:
+        raise BadForm("the next tablet number isn't the count plus 1", at)
+    tablets: list[RootTablet] = []
+    for place in range(count):
+        tablets.append(read_root_tablet(fields, ROOT_HEADS[head], next_name, count, tablets))
+    at, foot = fields.at, fields.take(8)
+    if foot != ROOT_FOOT:
+        raise BadForm("the foot isn't TABROOTZ", at + first_difference(foot, ROOT_FOOT))
+    if fields.at < len(data):
+        raise BadForm("the root goes on behind its foot", fields.at)
+    return Root(ROOT_HEADS[head], top, floor, next_name, tuple(tablets))
+
+
+def read_root_tablet(
+    fields: RootReader, form: int, next_name: int, count: int, before: list[RootTablet]
+) -> RootTablet:
+    """The next tablet of a root, of so many, behind those before it."""
+    at, number = fields.at, fields.number(4, 1, count, "the number of a tablet")
+    if any(number == other.number for other in before):
+        raise BadForm("two tablets have this number", at)
+    at, end = fields.at, fields.end(len(before) + 1 == count)
+    if end is not None and before and end <= (before[-1].end or b""):
+        raise BadForm("the ends don't rise", at)
+    server = fields.number(1, 0, MOST_SERVER, "a server")
+    files: list[FileRef] = []
+    for _ in range(fields.number(4, 0, MOST_FILES, "the count of a tablet's files")):
+        at, name = fields.at, fields.number(8, 1, next_name - 1, "the name of a file")
+        if any(name == other.name for other in files):
+            raise BadForm("a tablet has this file twice", at)
+        files.append(FileRef(name, fields.number(8, 0, 2**64 - 1, "a length") if form == 2 else None))
+    return RootTablet(number, end, server, tuple(files))
+
+
+def mark_of(data: bytes) -> int:
+    """The mark that these bytes spell: the stamp above which the next ones go on."""
+    if len(data) != 8:
+        raise BadForm("a mark has 8 bytes", min(len(data), 8))
+    mark = int.from_bytes(data, "big")
+    if mark > MOST_STAMP:
+        raise BadForm("a mark is no more than the greatest stamp", 0)
+    return mark

@@ -1,0 +1,259 @@
+"""Folders of stores: what the client looks at beside its program, what of a store isn't kept yet, and copies."""
+
+from __future__ import annotations
+
+import os
+import re
+import shutil
+from collections.abc import Sequence
+from contextlib import suppress
+from datetime import datetime
+from pathlib import Path
+
+from duqishom.answers import Committed
+from duqishom.columns import BadForm
+from duqishom.connection import Connection
+from duqishom.files import (
+    LOCK_FILE,
+    MARK_FILE,
+    NEW_ROOT,
+    ROOT_FILE,
+    Root,
+    SortedFile,
+    file_name,
+    mark_of,
+    root_of,
+)
+from duqishom.operations import (
+    Checkpoint,
+    CleanStep,
+    CollectStep,
+    Major,
+    Merge,
+    Minor,
+    Move,
+    Split,
+    Step,
+    Sweep,
+)
+from duqishom.program import ENDS, Program, ProgramEnded
+from duqishom.refusals import Refused
+
+# The operations behind which a folder lacks something until the next checkpoint.
+CHANGING = {
+    Step.code,
+    CleanStep.code,
+    CollectStep.code,
+    Minor.code,
+    Merge.code,
+    Major.code,
+    Split.code,
+    Move.code,
+    Sweep.code,
+}
+
+
+class NotOpened(ProgramEnded):
+    """The store can't be opened: the text says why."""
+
+    def __init__(self, status: int, why: str) -> None:
+        super().__init__(status)
+        self.why = why
+
+    def __str__(self) -> str:
+        return f"the store isn't opened (status {self.status}): {self.why}"
+
+
+class FolderDamaged(Exception):
+    """A file of a folder is outside its form: the text names it, and its first wrong byte."""
+
+    def __init__(self, file: Path, what: str, at: int | None = None) -> None:
+        super().__init__(f"{file}: {what}" + ("" if at is None else f", at byte {at}"))
+
+
+class Unsaved:
+    """What was done to a store since its last checkpoint."""
+
+    def __init__(self, is_kept: bool) -> None:
+        self._is_kept = is_kept
+        self._lost: str | None = None
+        self.forget()
+
+    def forget(self) -> None:
+        """Begins anew: all is kept, or nothing more can be."""
+        self.is_changed = False
+        self._commits = 0
+        self._since = datetime.now()
+
+    def note_asked(self, operations: Sequence[object]) -> None:
+        """Notes requests before they are sent."""
+        if not self.is_changed:
+            self.is_changed = any(getattr(operation, "code") in CHANGING for operation in operations)
+
+    def note_answered(self, operations: Sequence[object], answers: Sequence[object]) -> None:
+        """Notes the answers to requests."""
+        self._commits += sum(isinstance(answer, Committed) for answer in answers)
+        if isinstance(operations[-1], Checkpoint) and not isinstance(answers[-1], Refused):
+            self.forget()
+
+    def lost(self) -> str:
+        """What is lost where the program has ended. It is said once for all: what is asked later finds the same."""
+        if self._lost is None:
+            self._lost = self.unkept() if self._is_kept else "what was in memory is lost"
+        return self._lost
+
+    def unkept(self) -> str:
+        """What isn't in the folder now."""
+        if not self.is_changed:
+            return "the folder has all that was committed"
+        since = f"since {self._since:%Y-%m-%d %H:%M:%S}"
+        return f"what was done {since}, {self._commits:,} commits, is not in the folder"
+
+
+def started(program: str | None, folder: str | None, words: Sequence[str]) -> Connection:
+    """A program that has opened its store. NotOpened where it can't."""
+    if folder is not None and (why := why_no_folder(folder)):
+        raise NotOpened(4, why)
+    placed = () if folder is None else ("--dir", folder)
+    running = Program(program, (*placed, *words))
+    try:
+        # An empty body is refused, and changes nothing
+        running.ask([b""])
+    except ProgramEnded as ended:
+        why = ENDS.get(ended.status, "it has ended before its first reply")
+        raise NotOpened(ended.status, why_not_opened(folder, ended.status) or why) from None
+    except BaseException:
+        running.kill()
+        running.close()
+        raise
+    return running
+
+
+def why_no_folder(folder: str) -> str:
+    """Why a path is no folder: nothing where it is one."""
+    if os.path.isdir(folder):
+        return ""
+    return f"{folder} is a file, and no folder" if os.path.exists(folder) else f"there is no folder {folder}"
+
+
+def why_not_opened(folder: str | None, status: int) -> str:
+    """Why a program ended with this status at a folder, as far as the folder tells."""
+    if folder is None or status not in (4, 5):
+        return ""
+    holder = holder_of(folder)
+    if status == 4 and holder is not None:
+        return f"{folder} is in use by {holder}"
+    for name in (LOCK_FILE, MARK_FILE, ROOT_FILE):
+        file = Path(folder) / name
+        try:
+            data = file.read_bytes()
+        except FileNotFoundError:
+            continue
+        except OSError as failure:
+            return f"{file} can't be opened: {failure.strerror}"
+        if name == MARK_FILE:
+            with suppress(BadForm):
+                mark_of(data)
+                continue
+            return f"{file} is no mark: it has {len(data)} bytes, {data[:8].hex(' ')}"
+    if not os.access(folder, os.W_OK | os.X_OK):
+        return f"{folder} can't be written to"
+    try:
+        check_folder(Path(folder))
+    except (FolderDamaged, OSError) as failure:
+        return str(failure)
+    return ""
+
+
+def holder_of(folder: str) -> str | None:
+    """The process that has a folder, in words: None where none has it, or the system doesn't tell. It locks nothing."""
+    try:
+        lock = os.stat(os.path.join(folder, LOCK_FILE))
+        held = Path("/proc/locks").read_text()
+    except OSError:
+        return None
+    wanted = f"{os.major(lock.st_dev):02x}:{os.minor(lock.st_dev):02x}:{lock.st_ino}"
+    for found in re.finditer(r"^\d+: FLOCK +\S+ +\S+ (-?\d+) (\S+) ", held, re.MULTILINE):
+        if found[2] == wanted:
+            return process_named(int(found[1]))
+    return None
+
+
+def process_named(process: int) -> str:
+    """A process in words: its number, its command line, and the number of the process that has started it."""
+    text = f"process {process}"
+    with suppress(OSError, IndexError):
+        words = Path(f"/proc/{process}/cmdline").read_bytes().rstrip(b"\x00").split(b"\x00")
+        parent = Path(f"/proc/{process}/stat").read_text().rpartition(")")[2].split()[1]
+        command = " ".join(word.decode(errors="replace") for word in words)
+        text += f" ({command}), which process {parent} has started"
+    return text
+
+
+def read_root(folder: Path) -> Root:
+    """The root of a folder: that of a new store, where there is none."""
+    file = folder / ROOT_FILE
+    try:
+        data = file.read_bytes()
+    except FileNotFoundError:
+        return NEW_ROOT
+    try:
+        return root_of(data)
+    except BadForm as bad:
+        raise FolderDamaged(file, bad.what, bad.at) from None
+
+
+def read_mark(folder: Path) -> int:
+    """The mark of a folder: 0 where there is none."""
+    file = folder / MARK_FILE
+    try:
+        return mark_of(file.read_bytes())
+    except FileNotFoundError:
+        return 0
+    except BadForm as bad:
+        raise FolderDamaged(file, bad.what, bad.at) from None
+
+
+def check_folder(folder: Path) -> Root:
+    """Reads all that a program reads when it opens a folder: the root. FolderDamaged where something is outside its form."""
+    root, mark = read_root(folder), read_mark(folder)
+    if mark < root.top:
+        raise FolderDamaged(folder / MARK_FILE, f"the mark {mark} is below the root's greatest stamp {root.top}")
+    for reference in sorted({reference for tablet in root.tablets for reference in tablet.files}):
+        file = folder / file_name(reference.name)
+        try:
+            data = file.read_bytes()
+        except FileNotFoundError:
+            raise FolderDamaged(file, "the root names this file, and it isn't there") from None
+        if reference.length is not None and reference.length != len(data):
+            raise FolderDamaged(file, f"the root says {reference.length} bytes, and it has {len(data)}")
+        try:
+            SortedFile(data).check()
+        except BadForm as bad:
+            raise FolderDamaged(file, bad.what, bad.at) from None
+    return root
+
+
+def copy_checkpoint(source: str, target: str) -> None:
+    """Copies the last checkpoint of a folder into another, which is made where there is none. The mark is first and the root last:
+    so a copy that was cut short is none. ValueError where the other one has files. Nobody may write to the source meanwhile."""
+    place, copy = Path(source), Path(target)
+    copy.mkdir(exist_ok=True)
+    if any(copy.iterdir()):
+        raise ValueError(f"{target} is not empty")
+    names = {file_name(reference.name) for tablet in read_root(place).tablets for reference in tablet.files}
+    for name in (MARK_FILE, *sorted(names), ROOT_FILE):
+        with (place / name).open("rb") as one, (copy / name).open("xb") as other:
+            shutil.copyfileobj(one, other)
+            other.flush()
+            os.fsync(other.fileno())
+        synced(copy)
+
+
+def synced(folder: Path) -> None:
+    """Forces the names of a folder to the disk."""
+    descriptor = os.open(folder, os.O_RDONLY)
+    try:
+        os.fsync(descriptor)
+    finally:
+        os.close(descriptor)

@@ -1,0 +1,10 @@
+"""A gateway: one `tabletd` for many clients, over sockets, with the program's own frames.
+
+    python3 -m duqishom serve --socket PATH [--admin PATH] [--tcp PORT] [--dir DIR] ..
+
+`docs/GATEWAY.md` says what it does. The parts: `passages` knows of each operation what the gateway must know to pass it on,
+`things` the sessions, cleaners and collectors that are open, and whose they are; a `client` is a connection, and the
+`household` asks what the gateway asks for itself; `verdicts` says what the gateway answers itself, `turns` gives turns, and the
+`upstream` is the program. `heirs` ends what a dead client had open, the `keeper` holds replies back until a checkpoint, and
+`service` starts and ends it all.
+"""

@@ -1,0 +1,90 @@
+"""`python3 -m duqishom serve`: the words of its command line."""
+
+from __future__ import annotations
+
+import argparse
+import sys
+from collections.abc import Sequence
+
+from duqishom.gateway.bounds import Bounds
+from duqishom.gateway.exchange import Rules
+from duqishom.gateway.service import Places, Service
+from duqishom.gateway.sockets import NoSocket
+from duqishom.program import default_program
+
+# The status where the words are refused, which is the parser's own, or where the gateway can't begin.
+REFUSED = 2
+
+PORTS = 65_536
+
+DESCRIPTION = "Serves one store to many clients, with the frames of tabletd."
+
+
+def octal(text: str) -> int:
+    """A number in octal digits, as a mode is written."""
+    return int(text, 8)
+
+
+def port(text: str) -> int:
+    """A number of a port."""
+    number = int(text)
+    if not 0 < number < PORTS:
+        raise ValueError
+    return number
+
+
+def parser() -> argparse.ArgumentParser:
+    """The parser of the command line."""
+    words = argparse.ArgumentParser(prog="duqishom serve", description=DESCRIPTION)
+    words.add_argument("--socket", metavar="PATH", help="the Unix socket for clients")
+    words.add_argument("--mode", type=octal, default=0o600, help="the mode of the sockets' files (600)")
+    words.add_argument("--admin", metavar="PATH", help="a socket that compactions, splits and the like are for alone")
+    words.add_argument("--tcp", metavar="PORT", type=port, help="a port of 127.0.0.1, which every user of the machine may open")
+    words.add_argument("--program", help="the tabletd to start")
+    words.add_argument("--dir", help="the folder of the store: a new store in memory where none is named")
+    words.add_argument("--flush", metavar="N", help="entries of a memtable before it is compacted")
+    words.add_argument("--merge", metavar="M", help="files of a tablet before newest ones are merged")
+    words.add_argument("--durable", action="store_true", help="answer a commit once a checkpoint has it (with --dir)")
+    words.add_argument("--checkpoint", metavar="SECONDS", type=float, default=0, help="the time between two checkpoints (none)")
+    words.add_argument("--leave", action="store_true", help="leave what a dead client had open as it is")
+    words.add_argument("--shared", action="store_true", help="let clients use each other's sessions, cleaners and collectors")
+    words.add_argument("--clients", metavar="N", type=int, default=1000, help="connections at a time (1000)")
+    words.add_argument("--sessions", metavar="N", type=int, default=64, help="active sessions of a connection (64)")
+    words.add_argument("--cleaners", metavar="N", type=int, default=64, help="open cleaners of a connection (64)")
+    words.add_argument("--collectors", metavar="N", type=int, default=4, help="open collectors of a connection (4)")
+    words.add_argument("--grace", metavar="SECONDS", type=float, default=5, help="time for last replies at the end (5)")
+    return words
+
+
+def service_of(options: argparse.Namespace) -> Service:
+    """The gateway that the words ask for."""
+    command = [options.program or default_program()]
+    for word in ("dir", "flush", "merge"):
+        given = getattr(options, word)
+        command += [] if given is None else [f"--{word}", given]
+    rules = Rules(
+        has_folder=options.dir is not None,
+        is_durable=options.durable,
+        leaves=options.leave,
+        is_shared=options.shared,
+        has_admin=options.admin is not None,
+    )
+    places = Places(options.socket, options.mode, options.admin, options.tcp)
+    bounds = Bounds(options.clients, (options.sessions, options.cleaners, options.collectors))
+    checkpoint = options.checkpoint if options.dir is not None else 0
+    return Service(command, places, rules, bounds, checkpoint, options.grace)
+
+
+def main(words: Sequence[str]) -> int:
+    """Serves. The status is 0 where a signal has ended the gateway and all is kept, 1 where the last checkpoint was refused, 2
+    where the words are refused, the socket can't be taken or the program can't be started, and the program's where that has
+    ended."""
+    parsing = parser()
+    options = parsing.parse_args(words)
+    if options.durable and options.dir is None:
+        parsing.error("--durable needs --dir")
+    try:
+        return service_of(options).run()
+    except (OSError, NoSocket) as failure:
+        print(f"duqishom: {failure}", file=sys.stderr)
+        return REFUSED

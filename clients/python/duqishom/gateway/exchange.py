@@ -1,0 +1,182 @@
+"""The gateway's middle: the clients, the program, and what goes between them."""
+
+from __future__ import annotations
+
+import asyncio
+from collections.abc import Callable, Sequence
+from contextlib import suppress
+from dataclasses import dataclass
+
+from duqishom.gateway.bounds import REQUESTS_OF_ALL, Bounds
+from duqishom.gateway.client import Client
+from duqishom.gateway.counts import Counts
+from duqishom.gateway.heirs import Heirs
+from duqishom.gateway.household import Household
+from duqishom.gateway.keeper import Keeper
+from duqishom.gateway.passages import CHECKPOINT, MEMTABLE_FULL, SWEEP, passages
+from duqishom.gateway.things import Things
+from duqishom.gateway.turns import Turns
+from duqishom.gateway.upstream import Run, Upstream
+from duqishom.program import ProgramEnded
+
+
+@dataclass(frozen=True)
+class Rules:
+    """How clients are served: whether the store is in a folder, whether replies wait for checkpoints, whether what a dead
+    client had open is left, whether clients may use each other's, and whether the administrator has a socket."""
+
+    has_folder: bool = False
+    is_durable: bool = False
+    leaves: bool = False
+    is_shared: bool = False
+    has_admin: bool = False
+
+
+class Exchange:
+    """All clients of one program. `ended` is called with the program's status when it has ended."""
+
+    def __init__(self, rules: Rules, bounds: Bounds, ended: Callable[[int], None]) -> None:
+        self.rules, self.bounds = rules, bounds
+        self.clients: set[Client] = set()
+        self.outs: list[Client] = []
+        self.counts = Counts()
+        self.things = Things()
+        self.table = passages(notes_reads=rules.is_durable)
+        self.is_closing = False
+        self.upstream = Upstream(self._taken, self._fail, self._eased)
+        self.turns = Turns(self.upstream, self._flush)
+        self.household = Household(self.upstream, self.turns, self.things, self.table)
+        self.heirs = Heirs(self.household, self.things)
+        self.keeper = Keeper(self.household, rules.is_durable)
+        self._ended = ended
+        self.gone: asyncio.Future[int] = asyncio.get_running_loop().create_future()
+        self._idle = asyncio.Event()
+        self._relief: asyncio.Task[None] | None = None
+        self.need_room: set[Client] = set()
+
+    async def start(self, command: Sequence[str]) -> None:
+        """Starts the program, and waits until it has answered. OSError where it can't be started, ProgramEnded where it ends first.
+
+        What it answers is an empty body, which is no request and changes nothing.
+        """
+        await self.upstream.start(command)
+        await self.household.ask(b"")
+
+    # What clients do.
+
+    def admit(self, client: Client) -> bool:
+        """Takes a client in, where there is a place for it."""
+        if self.is_closing or len(self.clients) >= self.bounds.clients:
+            self.counts.turned_away += 1
+            return False
+        self.clients.add(client)
+        self.counts.connections += 1
+        return True
+
+    def came(self, client: Client, count: int) -> None:
+        """Notes so many bytes that came from a client. Where all have too many waiting, the one with the most is closed."""
+        self.counts.bytes_in += count
+        self.bounds.requests += count
+        if self.bounds.requests > REQUESTS_OF_ALL:
+            self.counts.cut += 1
+            max(self.clients, key=lambda each: len(each.waiting)).cut()
+        self.turns.add(client)
+
+    def send(self, frames: bytes, runs: Sequence[Run]) -> None:
+        """Sends frames on. In a folder, a checkpoint goes right behind a sweep, for the root names what the sweep removes."""
+        self.upstream.send(frames, runs)
+        if self.rules.has_folder and runs[-1].passage.code == SWEEP:
+            self.household.send_next(bytes((CHECKPOINT,)))
+
+    def note(self, client: Client, run: Run, reply: bytes) -> None:
+        """Notes what a reply says, before the client has it."""
+        self.things.note(run.passage, run.name, reply, client)
+        self.keeper.note(client, run, reply)
+        if reply == MEMTABLE_FULL and self.rules.has_admin and not client.is_admin:
+            self.need_room.add(client)
+            self._relief = self._relief or asyncio.get_running_loop().create_task(self._make_room())
+
+    async def _make_room(self) -> None:
+        """Writes memtables, which clients can't where the administrator has a socket. Those that need room have no turn
+        meanwhile."""
+        with suppress(ProgramEnded):
+            await self.household.make_room()
+        self._relief = None
+        need, self.need_room = self.need_room, set()
+        for client in need:
+            self.turns.add(client)
+
+    def lost(self, client: Client) -> None:
+        """Lets a client go."""
+        self.clients.discard(client)
+
+    def bequeath(self, client: Client) -> None:
+        """Has the heirs end what a client that is gone had open, unless that is left."""
+        if self.upstream.status is None:
+            self.heirs.take(client, self.rules.leaves)
+
+    # What the program does.
+
+    def _taken(self) -> None:
+        self._flush()
+        self.turns.go_on()
+        if not self.upstream.runs:
+            self._idle.set()
+
+    def _flush(self) -> None:
+        """Writes what was gathered: for the program, and for each client."""
+        self.upstream.flush()
+        outs, self.outs = self.outs, []
+        for client in outs:
+            client.write()
+
+    def _eased(self) -> None:
+        self.turns.call()
+
+    def _fail(self, status: int) -> None:
+        """The program has ended: all connections close."""
+        self._idle.set()
+        self.household.fail(status)
+        for client in list(self.clients):
+            client.transport.close()
+        self.gone.set_result(status)
+        self._ended(status)
+
+    # The end.
+
+    async def shut(self, grace: float) -> bool:
+        """Takes no new frame, lets all replies out, ends what is open, makes a checkpoint in a folder, and ends the program's
+        input.
+
+        Gives whether the store is as it should be: a refused last checkpoint is told. No client holds this up for longer than
+        the seconds of grace.
+        """
+        self.is_closing = True
+        for client in list(self.clients):
+            client.stop_reading()
+        await self._drain()
+        kept = not self.rules.is_durable or await self.keeper.checkpoint()
+        for client in list(self.clients):
+            client.transport.close()
+        await self.leave(grace)
+        await self.heirs.settle(grace)
+        if self.rules.has_folder:
+            kept = await self.keeper.checkpoint()
+        self.upstream.close_input()
+        return kept
+
+    async def _drain(self) -> None:
+        """Waits until the program has answered all that was sent."""
+        if self.upstream.runs and self.upstream.status is None:
+            self._idle.clear()
+            await self._idle.wait()
+
+    async def leave(self, grace: float) -> None:
+        """Waits until all clients have taken their replies, so many seconds at most."""
+        loop = asyncio.get_running_loop()
+        end = loop.time() + grace
+        while self.clients and loop.time() < end:
+            await asyncio.sleep(0.01)
+        for client in list(self.clients):
+            client.cut()
+        await asyncio.sleep(0)

@@ -1,0 +1,94 @@
+"""What becomes of the sessions, cleaners and collectors of a client that is gone."""
+
+from __future__ import annotations
+
+import asyncio
+from contextlib import suppress
+
+from duqishom.fields import FieldReader, counted, number
+from duqishom.gateway.household import Household, body_of
+from duqishom.gateway.passages import CLEAN_BEGIN, CLEAN_STEP, COLLECT_STEP, MEMTABLE_FULL, STEP, STOP, Kind
+from duqishom.gateway.things import Owner, Thing, Things
+from duqishom.program import ProgramEnded
+
+# How many visits a collector makes in one request for nobody: few, so that nobody waits long.
+VISITS = 100
+
+# How often a request that is refused is asked again, and the seconds between.
+TRIES = 5
+PAUSE = 0.2
+
+BLOCKED = b"\x89\x02"
+
+
+class Heirs:
+    """Takes what dead clients had open to its end: a session that has committed is finished, any other is stopped; a cleaner and a
+    collector, which no request gives up, take their steps."""
+
+    def __init__(self, household: Household, things: Things) -> None:
+        self._household = household
+        self._things = things
+        self._works: dict[asyncio.Task[None], Kind] = {}
+
+    def take(self, owner: Owner, leaves: bool) -> None:
+        """Takes over all that an owner has open, to end it or to leave it as it is."""
+        for thing in list(owner.things):
+            self._things.give(thing, self._household)
+            if not leaves:
+                work = asyncio.get_running_loop().create_task(self._end(thing))
+                self._works[work] = thing.kind
+                work.add_done_callback(self._works.pop)
+
+    async def settle(self, seconds: float) -> None:
+        """Waits until all is ended, so many seconds at most. Collectors are not waited for: they end with the program."""
+        works = [work for work, kind in self._works.items() if kind != Kind.COLLECTOR]
+        if works:
+            await asyncio.wait(works, timeout=seconds)
+        for work in list(self._works):
+            work.cancel()
+
+    def is_open(self, thing: Thing) -> bool:
+        """Whether a thing that was taken over is still open."""
+        return thing in self._household.things
+
+    async def _end(self, thing: Thing) -> None:
+        """Asks for a thing's steps until it has ended. One that is refused too often in a row is left."""
+        tries = 0
+        with suppress(ProgramEnded):
+            while self.is_open(thing) and tries < TRIES:
+                reply = body_of(await self._household.ask(next_step(thing)))
+                if reply[0] != 0xFF:
+                    tries = 0
+                    await self._unblock(reply)
+                elif self.is_open(thing):
+                    tries += 1
+                    await self._cure(reply)
+
+    async def _cure(self, reply: bytes) -> None:
+        """Does what can be done about a refusal: makes room, or waits a little."""
+        if reply == body_of(MEMTABLE_FULL):
+            await self._household.make_room()
+        else:
+            await asyncio.sleep(PAUSE)
+
+    async def _unblock(self, reply: bytes) -> None:
+        """Where a collector is blocked, opens a cleaner at the lock and takes its steps."""
+        if reply[:2] != BLOCKED:
+            return
+        fields = FieldReader(reply[2:])
+        row, family = fields.counted(), fields.counted()
+        opened = body_of(await self._household.ask(number(1, CLEAN_BEGIN) + counted(row) + counted(family)))
+        cleaner = self._things.by_name[Kind.CLEANER].get(opened[2:10])
+        if cleaner is not None:
+            await self._end(cleaner)
+
+
+def next_step(thing: Thing) -> bytes:
+    """The body of the request that takes a thing towards its end."""
+    match thing.kind:
+        case Kind.SESSION:
+            return bytes((STEP if thing.has_committed else STOP,)) + thing.name
+        case Kind.CLEANER:
+            return bytes((CLEAN_STEP,)) + thing.name
+        case _:
+            return bytes((COLLECT_STEP,)) + thing.name + number(4, VISITS)

@@ -1,0 +1,109 @@
+"""What the gateway asks for itself, in turn with its clients."""
+
+from __future__ import annotations
+
+import asyncio
+from collections import deque
+from collections.abc import Callable
+
+from duqishom.gateway.passages import HEAD, MAJOR, MINOR, NAME_END, TOO_MANY_FILES, TURN_WEIGHT, UNKNOWN_TABLET, Passage, frame
+from duqishom.gateway.things import Thing, Things
+from duqishom.gateway.turns import Turns
+from duqishom.gateway.upstream import Run, Upstream
+from duqishom.program import ProgramEnded
+
+# As many tablets as a store may have. They have the numbers from 1 on.
+MOST_TABLETS = 1024
+
+
+class Household:
+    """An asker whose requests are awaited. What dead clients had open is its own."""
+
+    def __init__(self, upstream: Upstream, turns: Turns, things: Things, table: tuple[Passage, ...]) -> None:
+        self.is_queued = self.needs_idle = False
+        self.things: set[Thing] = set()
+        self.counts = [0, 0, 0]
+        self.sees: Callable[[bytes], None] = lambda reply: None
+        self._upstream, self._turns, self._all, self._table = upstream, turns, things, table
+        self._waiting: deque[tuple[bytes, bytes | None, asyncio.Future[bytes]]] = deque()
+        self._asked: deque[asyncio.Future[bytes]] = deque()
+        self._room_lock = asyncio.Lock()
+
+    async def ask(self, body: bytes, then: bytes | None = None) -> bytes:
+        """Asks, and gives the frame of the reply. ProgramEnded where the program ends in place of it.
+
+        Where another body is given, that request goes right behind, whatever comes of it.
+        """
+        if self._upstream.status is not None:
+            raise ProgramEnded(self._upstream.status)
+        reply: asyncio.Future[bytes] = asyncio.get_running_loop().create_future()
+        self._waiting.append((body, then, reply))
+        self._turns.add(self)
+        return await reply
+
+    def take_turn(self) -> bool:
+        if self._waiting:
+            body, then, reply = self._waiting[0]
+            weight = self._table[body[0] if body else 0].weight_of(body)
+            self.needs_idle = weight > TURN_WEIGHT and self._upstream.weight > 0
+            if not self.needs_idle:
+                self._waiting.popleft()
+                self._send(body, reply)
+                if then is not None:
+                    self.send_next(then)
+        return bool(self._waiting)
+
+    def send_next(self, body: bytes) -> None:
+        """Sends a request right behind what was sent last, whatever comes of it."""
+        self._send(body, asyncio.get_running_loop().create_future())
+
+    def _send(self, body: bytes, reply: asyncio.Future[bytes]) -> None:
+        passage = self._table[body[0] if body else 0]
+        self._asked.append(reply)
+        if passage.opens is not None:
+            self.counts[passage.opens] += 1
+        name = body[1:NAME_END]
+        self._upstream.send(frame(body), [Run(self, passage, name, 1, passage.weight_of(body), 0)])
+
+    def receive(self, run: Run, frames: bytes, count: int) -> None:
+        self._all.note(run.passage, run.name, frames, self)
+        self.sees(frames)
+        reply = self._asked.popleft()
+        if not reply.done():
+            reply.set_result(frames)
+
+    def fail(self, status: int) -> None:
+        """Ends all waiting, for the program has ended."""
+        for reply in (*self._asked, *(reply for _, _, reply in self._waiting)):
+            if not reply.done():
+                reply.set_exception(ProgramEnded(status))
+                reply.exception()
+        self._asked.clear()
+        self._waiting.clear()
+
+    async def make_room(self) -> None:
+        """Writes the memtable of each tablet to a file. Where a tablet has too many files, all of them become one."""
+        async with self._room_lock:
+            for tablet in range(1, MOST_TABLETS + 1):
+                reply = await self.ask(of_tablet(MINOR, tablet))
+                if reply == TOO_MANY_FILES:
+                    await self.ask(of_tablet(MAJOR, tablet))
+                elif reply == UNKNOWN_TABLET:
+                    return
+
+    async def join_files(self) -> None:
+        """Makes all files of each tablet one."""
+        async with self._room_lock:
+            for tablet in range(1, MOST_TABLETS + 1):
+                if await self.ask(of_tablet(MAJOR, tablet)) == UNKNOWN_TABLET:
+                    return
+
+
+def of_tablet(code: int, tablet: int) -> bytes:
+    """The body of a request that names a tablet alone."""
+    return bytes((code,)) + tablet.to_bytes(4, "big")
+
+
+def body_of(reply: bytes) -> bytes:
+    """The body in a reply's frame."""
+    return reply[HEAD:]

@@ -1,0 +1,108 @@
+"""Holds replies back until a checkpoint has kept what they show, and makes checkpoints."""
+
+from __future__ import annotations
+
+import asyncio
+import sys
+from contextlib import suppress
+from typing import TYPE_CHECKING
+
+from duqishom.gateway.household import Household, body_of
+from duqishom.gateway.passages import CHECKPOINT, GET, RAW, SWEEP, TOO_MANY_FILES, frame
+from duqishom.gateway.things import CODE, COMMITTED, CONFLICT, FIELDS, FINISHED, TAG
+from duqishom.gateway.upstream import Run
+from duqishom.program import ProgramEnded
+
+if TYPE_CHECKING:
+    from duqishom.gateway.client import Client
+
+CHECKPOINT_MADE = frame(b"\x92")
+STEP_REPLY, CLEANER_REPLIES = 0x84, (0x86, 0x87)
+
+# The seconds before a refused checkpoint is asked again.
+PAUSE = 1.0
+
+
+class Keeper:
+    """With durable answers, each reply that shows a commit waits until a checkpoint has kept that commit.
+
+    The program does one request after the other, so a checkpoint keeps all commits that were answered before it. From an
+    answered commit on to the next answered checkpoint there are commits that aren't kept: the first of them is at `unkept`.
+    Meanwhile these replies wait, and all that come behind them for the same client: of a commit and its steps after it, of a
+    Conflict, of a cleaner, of a raw read, and of a Get in a session that began after the first commit that isn't kept.
+    """
+
+    def __init__(self, household: Household, is_durable: bool) -> None:
+        self._household = household
+        self._is_durable = is_durable
+        self._holding: list[Client] = []
+        self._work: asyncio.Task[None] | None = None
+        self.unkept: bytes | None = None
+        self.count = 0
+        household.sees = self._see
+
+    def note(self, client: Client, run: Run, reply: bytes) -> None:
+        """Notes a reply, and has the client's replies wait from this one on, where it shows what isn't kept."""
+        self._see(reply)
+        if self._is_durable and self._shows(run, reply) and client.hold():
+            self._holding.append(client)
+            if self._work is None:
+                self._work = asyncio.get_running_loop().create_task(self._keep())
+
+    def _see(self, reply: bytes) -> None:
+        """Notes commits and checkpoints."""
+        if reply == CHECKPOINT_MADE:
+            self.count += 1
+            self.unkept = None
+            holding, self._holding = self._holding, []
+            for client in holding:
+                client.release()
+        elif self.unkept is None and reply[CODE] == STEP_REPLY and reply[TAG] == COMMITTED:
+            self.unkept = reply[FIELDS:]
+
+    def _shows(self, run: Run, reply: bytes) -> bool:
+        """Whether a reply shows a commit that isn't kept, or may."""
+        if self.unkept is None:
+            return False
+        if run.passage.code == GET:
+            return run.name > self.unkept
+        if reply[CODE] == STEP_REPLY:
+            return reply[TAG] in (COMMITTED, FINISHED, CONFLICT)
+        return reply[CODE] in CLEANER_REPLIES or run.passage.code == RAW
+
+    async def _keep(self) -> None:
+        """Makes checkpoints as long as replies wait. Where one is refused, clients aren't told what may be lost: those that
+        wait are closed."""
+        try:
+            with suppress(ProgramEnded):
+                while self._holding:
+                    if not await self.checkpoint():
+                        self._cut()
+                        await asyncio.sleep(PAUSE)
+        finally:
+            self._work = None
+
+    def _cut(self) -> None:
+        holding, self._holding = self._holding, []
+        for client in holding:
+            client.cut()
+
+    async def checkpoint(self) -> bool:
+        """Makes a checkpoint, and gives whether it was made. Where a tablet has too many files, all of each tablet's become one
+        first, and those that nothing names any more are removed. A refusal is told on the standard error."""
+        reply = await self._ask(CHECKPOINT)
+        if reply == TOO_MANY_FILES:
+            await self._household.join_files()
+            await self._ask(CHECKPOINT)
+            await self._sweep()
+            reply = await self._ask(CHECKPOINT)
+        if reply != CHECKPOINT_MADE:
+            print(f"duqishom: a checkpoint was refused: {body_of(reply)[1]}", file=sys.stderr, flush=True)
+        return reply == CHECKPOINT_MADE
+
+    async def _sweep(self) -> None:
+        """Removes files, with a checkpoint right behind."""
+        await self._household.ask(bytes((SWEEP,)), then=bytes((CHECKPOINT,)))
+
+    async def _ask(self, code: int) -> bytes:
+        return await self._household.ask(bytes((code,)))

@@ -1,0 +1,147 @@
+"""The gateway's life: it starts the program, listens, serves until a signal or the program's end, and ends what it began."""
+
+from __future__ import annotations
+
+import asyncio
+import os
+import resource
+import signal
+import socket
+import sys
+from collections.abc import Sequence
+from contextlib import ExitStack
+from dataclasses import dataclass
+
+from duqishom.gateway.bounds import Bounds
+from duqishom.gateway.client import Client
+from duqishom.gateway.exchange import Exchange, Rules
+from duqishom.gateway.sockets import BACKLOG, NoSocket, SocketFile, inherited, notify, tcp_socket, unix_socket
+from duqishom.program import ProgramEnded
+
+# Files that the gateway needs beside a connection for each client.
+FILES_BESIDE = 64
+
+# The status of a program that a signal has ended is that signal's number and this, as a shell has it.
+BY_SIGNAL = 128
+
+
+@dataclass(frozen=True)
+class Places:
+    """Where the gateway listens."""
+
+    socket: str | None = None
+    mode: int = 0o600
+    admin: str | None = None
+    tcp: int | None = None
+
+
+@dataclass(frozen=True)
+class Service:
+    """A gateway as it is asked for: the program's command, where it listens, how it serves, and the seconds between two
+    checkpoints (0 for none) and those that a client may take for its last replies."""
+
+    command: Sequence[str]
+    places: Places
+    rules: Rules
+    bounds: Bounds
+    checkpoint: float = 0
+    grace: float = 5
+
+    def run(self) -> int:
+        """Serves until the end, and gives the exit status."""
+        raise_file_limit(self.bounds.clients + FILES_BESIDE)
+        return asyncio.run(self._serve())
+
+    async def _serve(self) -> int:
+        stack = ExitStack()
+        try:
+            return await self._serve_at(self._listen(stack))
+        finally:
+            stack.close()
+
+    async def _serve_at(self, listening: Sequence[tuple[socket.socket, bool]]) -> int:
+        """Serves at these sockets."""
+        loop = asyncio.get_running_loop()
+        stopped: asyncio.Future[int | None] = loop.create_future()
+        exchange = Exchange(self.rules, self.bounds, lambda status: resolve(stopped, status))
+        for number in (signal.SIGTERM, signal.SIGINT):
+            loop.add_signal_handler(number, resolve, stopped, None)
+        try:
+            await exchange.start(self.command)
+        except ProgramEnded as ended:
+            return told(ended)
+        servers = [await accept(exchange, each, is_admin) for each, is_admin in listening]
+        print("duqishom: ready", file=sys.stderr, flush=True)
+        notify(os.environ, "READY=1")
+        status = await self._until(exchange, stopped)
+        notify(os.environ, "STOPPING=1")
+        for server in servers:
+            server.close()
+        return await self._end(exchange, status)
+
+    def _listen(self, stack: ExitStack) -> list[tuple[socket.socket, bool]]:
+        """The listening sockets, each with whether it is the administrator's. Those that are made here go with the stack."""
+        listening = inherited(os.environ)
+        for path, is_admin in ((self.places.socket, False), (self.places.admin, True)):
+            if path is not None:
+                listening.append((stack.enter_context(unix_socket(path, self.places.mode)), is_admin))
+                stack.callback(SocketFile(path).remove)
+        if self.places.tcp is not None:
+            listening.append((stack.enter_context(tcp_socket(self.places.tcp)), False))
+        if not listening:
+            raise NoSocket("there is nowhere to listen: name a --socket or a --tcp")
+        return listening
+
+    async def _until(self, exchange: Exchange, stopped: asyncio.Future[int | None]) -> int | None:
+        """Waits for a signal, or for the program's end: its status. Meanwhile checkpoints are made where they are asked for."""
+        while not stopped.done():
+            await asyncio.wait({stopped}, timeout=self.checkpoint or None)
+            if not stopped.done():
+                try:
+                    await exchange.keeper.checkpoint()
+                except ProgramEnded:
+                    await stopped
+        return stopped.result()
+
+    async def _end(self, exchange: Exchange, status: int | None) -> int:
+        """Ends the gateway: with the program's status where that has ended, and else with 0 where all is kept."""
+        if status is not None:
+            await exchange.leave(self.grace)
+            return told(ProgramEnded(status))
+        try:
+            is_kept = await exchange.shut(self.grace)
+        except ProgramEnded as ended:
+            return told(ended)
+        status = await exchange.gone
+        return told(ProgramEnded(status)) if status != 0 else int(not is_kept)
+
+
+def resolve(future: asyncio.Future[int | None], result: int | None) -> None:
+    """Gives a future its result, where it has none yet."""
+    if not future.done():
+        future.set_result(result)
+
+
+def told(ended: ProgramEnded) -> int:
+    """Tells of the program's end, and gives the status with which the gateway ends for it."""
+    print(f"duqishom: {ended}", file=sys.stderr, flush=True)
+    return ended.status if ended.status >= 0 else BY_SIGNAL - ended.status
+
+
+async def accept(exchange: Exchange, listening: socket.socket, is_admin: bool) -> asyncio.Server:
+    """Takes connections from a socket."""
+    loop = asyncio.get_running_loop()
+
+    def client() -> Client:
+        return Client(exchange, is_admin)
+
+    if listening.family == socket.AF_UNIX:
+        return await loop.create_unix_server(client, sock=listening, backlog=BACKLOG)
+    return await loop.create_server(client, sock=listening, backlog=BACKLOG)
+
+
+def raise_file_limit(wanted: int) -> None:
+    """Lets this process have so many files open, where the system lets it."""
+    soft, hard = resource.getrlimit(resource.RLIMIT_NOFILE)
+    if soft < wanted:
+        resource.setrlimit(resource.RLIMIT_NOFILE, (min(wanted, hard), hard))

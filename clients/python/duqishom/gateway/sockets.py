@@ -1,0 +1,98 @@
+"""The sockets that the gateway listens at: those it makes, and those that a service manager hands over."""
+
+from __future__ import annotations
+
+import os
+import socket
+import stat
+from collections.abc import Mapping, MutableMapping
+from contextlib import suppress
+
+# How many connections may wait to be accepted.
+BACKLOG = 512
+
+# The first socket that a service manager hands over, and the name of that of the administrator.
+FIRST_INHERITED = 3
+ADMIN_NAME = "admin"
+
+
+class NoSocket(Exception):
+    """There is no socket to listen at: another gateway serves at its path, something stands there that is no socket, or none is
+    named."""
+
+
+def unix_socket(path: str, mode: int) -> socket.socket:
+    """A listening socket at a path, which nobody may open whom the mode doesn't let, at no moment. One that nobody answers at
+    is replaced."""
+    remove_stale(path)
+    listening = socket.socket(socket.AF_UNIX)
+    before = os.umask(0o777 & ~mode)
+    try:
+        listening.bind(path)
+    except OSError:
+        listening.close()
+        raise
+    finally:
+        os.umask(before)
+    listening.listen(BACKLOG)
+    return listening
+
+
+def remove_stale(path: str) -> None:
+    """Removes a socket at which nobody answers. NoSocket where somebody does, or where it is no socket."""
+    try:
+        if not stat.S_ISSOCK(os.lstat(path).st_mode):
+            raise NoSocket(f"{path} is there, and is no socket")
+    except FileNotFoundError:
+        return
+    with socket.socket(socket.AF_UNIX) as probe:
+        try:
+            probe.connect(path)
+        except ConnectionRefusedError:
+            with suppress(FileNotFoundError):
+                os.unlink(path)
+            return
+    raise NoSocket(f"another gateway serves {path}")
+
+
+def tcp_socket(port: int) -> socket.socket:
+    """A listening socket at a port of this machine, for its own users alone."""
+    return socket.create_server(("127.0.0.1", port), backlog=BACKLOG)
+
+
+class SocketFile:
+    """A socket's file, which is removed with its gateway, and with no other."""
+
+    def __init__(self, path: str) -> None:
+        self._path = path
+        self._is = os.lstat(path).st_ino
+
+    def remove(self) -> None:
+        """Removes the file, where it is still this one."""
+        with suppress(FileNotFoundError):
+            if os.lstat(self._path).st_ino == self._is:
+                os.unlink(self._path)
+
+
+def inherited(environment: MutableMapping[str, str]) -> list[tuple[socket.socket, bool]]:
+    """The sockets that a service manager has handed over, each with whether it is the administrator's. What says so is taken
+    out of the environment, for the program isn't meant."""
+    process = environment.pop("LISTEN_PID", "")
+    count = environment.pop("LISTEN_FDS", "0")
+    names = environment.pop("LISTEN_FDNAMES", "").split(":")
+    if process != str(os.getpid()):
+        return []
+    sockets = [socket.socket(fileno=FIRST_INHERITED + place) for place in range(int(count))]
+    for each in sockets:
+        each.set_inheritable(False)
+    names += [""] * (len(sockets) - len(names))
+    return [(each, name == ADMIN_NAME) for each, name in zip(sockets, names)]
+
+
+def notify(environment: Mapping[str, str], state: str) -> None:
+    """Says a state to the service manager, where there is one."""
+    path = environment.get("NOTIFY_SOCKET", "")
+    if path:
+        address = "\0" + path[1:] if path.startswith("@") else path
+        with socket.socket(socket.AF_UNIX, socket.SOCK_DGRAM) as manager, suppress(OSError):
+            manager.sendto(state.encode(), address)

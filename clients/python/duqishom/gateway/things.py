@@ -1,0 +1,106 @@
+"""Sessions, cleaners and collectors that are open, and whose they are, by what the program's replies say of them."""
+
+from __future__ import annotations
+
+from typing import Protocol
+
+from duqishom.gateway.passages import HEAD, NAME, PLACES, STOP, Kind, Passage
+
+# Where the first byte of a reply's body stands in its frame, its tag or refusal, and the fields behind that.
+CODE, TAG, FIELDS = HEAD, HEAD + 1, HEAD + 2
+REFUSED = 0xFF
+HELD, CONFLICT, COMMITTED, LOST, FINISHED = 1, 2, 4, 5, 6
+DECIDED, COLLECTED = 1, 3
+OPENED_CLEANER = 1
+NUMBERS_OF_UNKNOWN = (1, 9, 10)
+
+
+class Owner(Protocol):
+    """Who has things open: these, and how many of each kind are open or being opened."""
+
+    things: set[Thing]
+    counts: list[int]
+
+
+class Thing:
+    """An open session, cleaner or collector. Of a session: how many cells it writes, once one is held, and whether it has
+    committed."""
+
+    __slots__ = ("kind", "name", "owner", "cells", "has_committed")
+
+    def __init__(self, kind: Kind, name: bytes, owner: Owner) -> None:
+        self.kind = kind
+        self.name = name
+        self.owner = owner
+        self.cells = 0
+        self.has_committed = False
+
+
+class Things:
+    """All that is open in the program."""
+
+    def __init__(self) -> None:
+        self.by_name: tuple[dict[bytes, Thing], ...] = ({}, {}, {})
+
+    def give(self, thing: Thing, heir: Owner) -> None:
+        """Makes a thing another owner's."""
+        thing.owner.things.discard(thing)
+        thing.owner.counts[thing.kind] -= 1
+        thing.owner = heir
+        heir.things.add(thing)
+        heir.counts[thing.kind] += 1
+
+    def note(self, passage: Passage, name: bytes, reply: bytes, asker: Owner) -> None:
+        """Notes what a reply says of a thing: that it has opened, goes on, or has ended."""
+        if passage.opens is not None:
+            self._note_opening(passage.opens, reply, asker)
+        elif passage.names is not None:
+            thing = self.by_name[passage.names].get(name)
+            if thing is not None and self._has_ended(thing, passage, reply):
+                self._close(thing)
+
+    def _note_opening(self, kind: Kind, reply: bytes, asker: Owner) -> None:
+        name = opened(kind, reply)
+        if name is None:
+            asker.counts[kind] -= 1
+            return
+        thing = Thing(kind, name, asker)
+        self.by_name[kind][name] = thing
+        asker.things.add(thing)
+
+    def _close(self, thing: Thing) -> None:
+        del self.by_name[thing.kind][thing.name]
+        thing.owner.things.discard(thing)
+        thing.owner.counts[thing.kind] -= 1
+
+    def _has_ended(self, thing: Thing, passage: Passage, reply: bytes) -> bool:
+        if reply[CODE] == REFUSED:
+            return reply[TAG] == NUMBERS_OF_UNKNOWN[thing.kind]
+        if thing.kind == Kind.CLEANER:
+            return reply[TAG] != DECIDED
+        if thing.kind == Kind.COLLECTOR:
+            return reply[TAG] == COLLECTED
+        return passage.code == STOP or has_ended_by_step(thing, reply)
+
+
+def opened(kind: Kind, reply: bytes) -> bytes | None:
+    """The name of what has opened, and None where nothing has."""
+    if reply[CODE] == REFUSED:
+        return None
+    if kind != Kind.CLEANER:
+        return reply[TAG : TAG + NAME]
+    return reply[FIELDS : FIELDS + NAME] if reply[TAG] == OPENED_CLEANER else None
+
+
+def has_ended_by_step(session: Thing, reply: bytes) -> bool:
+    """Whether a session has ended with this answer to its step."""
+    tag = reply[TAG]
+    if tag == HELD:
+        session.cells = PLACES.unpack_from(reply, FIELDS)[1]
+    elif tag == COMMITTED:
+        session.has_committed = True
+        return session.cells == 1
+    elif tag == FINISHED:
+        place, count = PLACES.unpack_from(reply, FIELDS)
+        return bool(place == count)
+    return tag in (CONFLICT, LOST)

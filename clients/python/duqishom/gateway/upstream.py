@@ -1,0 +1,136 @@
+"""The program behind the gateway: frames go to it, gathered, and each of its replies goes to whoever asked."""
+
+from __future__ import annotations
+
+import asyncio
+from collections import deque
+from collections.abc import Callable, Sequence
+from typing import Protocol, cast
+
+from duqishom.gateway.passages import HEAD, LENGTH, Passage
+
+# The bytes that the program may leave untaken. Beyond them nothing is sent to it.
+MOST_UNTAKEN = 1 << 20
+
+
+class Asker(Protocol):
+    """Whoever asks the program: it gets turns, and the replies to what it sent.
+
+    It needs the program idle where its next request is heavy: what is light would wait in the program for the heavy one behind
+    it, for replies to what the program reads in one piece leave together.
+    """
+
+    is_queued: bool
+    needs_idle: bool
+
+    def take_turn(self) -> bool:
+        """Sends some of what waits. Gives whether more of it may go on at once."""
+
+    def receive(self, run: Run, frames: bytes, count: int) -> None:
+        """Takes so many replies to the requests of a run, each in its frame."""
+
+
+class Run:
+    """Requests of one asker, one behind the other, whose replies go back in one piece: how many are without a reply yet, and
+    what they weigh and may take all together. A request whose reply is looked at is a run of its own, with the name that stands
+    in it."""
+
+    __slots__ = ("asker", "passage", "name", "left", "weight", "room")
+
+    def __init__(self, asker: Asker, passage: Passage, name: bytes, left: int, weight: int, room: int) -> None:
+        self.asker = asker
+        self.passage = passage
+        self.name = name
+        self.left = left
+        self.weight = weight
+        self.room = room
+
+    def add(self, passage: Passage) -> None:
+        """Adds one more request."""
+        self.left += 1
+        self.weight += passage.weight
+        self.room += passage.room
+
+
+class Upstream(asyncio.SubprocessProtocol):
+    """A running program. Its standard error is the gateway's, and a Ctrl-C at the terminal isn't for it.
+
+    `taken` is called when all replies of one read have gone to their askers, `ended` with the status when the program has
+    ended, and `eased` when the program takes frames again.
+    """
+
+    def __init__(self, taken: Callable[[], None], ended: Callable[[int], None], eased: Callable[[], None]) -> None:
+        self.runs: deque[Run] = deque()
+        self.weight = 0
+        self.is_full = False
+        self.status: int | None = None
+        self._taken, self._ended, self._eased = taken, ended, eased
+        self._gathered: list[bytes] = []
+        self._came = b""
+
+    async def start(self, command: Sequence[str]) -> None:
+        """Starts the program. OSError where it can't be started."""
+        loop = asyncio.get_running_loop()
+        transport, _ = await loop.subprocess_exec(lambda: self, *command, stderr=None, process_group=0)
+        self._child = transport
+        self._input = cast(asyncio.WriteTransport, self._child.get_pipe_transport(0))
+        self._input.set_write_buffer_limits(MOST_UNTAKEN)
+        self.process = self._child.get_pid()
+
+    def send(self, frames: bytes, runs: Sequence[Run]) -> None:
+        """Takes frames to be written with the next flush, and the runs that they are."""
+        self._gathered.append(frames)
+        self.runs.extend(runs)
+        self.weight += sum(run.weight for run in runs)
+
+    def flush(self) -> None:
+        """Writes what was gathered, in one piece."""
+        if self._gathered:
+            self._input.write(b"".join(self._gathered))
+            self._gathered.clear()
+
+    def pipe_data_received(self, descriptor: int, data: bytes) -> None:
+        came = self._came + data if self._came else data
+        begun = at = count = 0
+        size, runs = len(came), self.runs
+        while size - at >= HEAD and (end := at + HEAD + LENGTH.unpack_from(came, at)[0]) <= size:
+            at = end
+            count += 1
+            run = runs[0]
+            run.left -= 1
+            if run.left == 0:
+                self._hand(came[begun:at], count)
+                begun, count = at, 0
+        if count > 0:
+            self._hand(came[begun:at], count)
+        self._came = came[at:]
+        self._taken()
+
+    def _hand(self, frames: bytes, count: int) -> None:
+        """Hands so many replies of the first run to its asker."""
+        run = self.runs[0]
+        if run.left == 0:
+            self.runs.popleft()
+            self.weight -= run.weight
+        run.asker.receive(run, frames, count)
+
+    def pause_writing(self) -> None:
+        self.is_full = True
+
+    def resume_writing(self) -> None:
+        self.is_full = False
+        self._eased()
+
+    def close_input(self) -> None:
+        """Ends the program's input, behind what was sent."""
+        self._input.close()
+
+    def kill(self) -> None:
+        """Ends the program at once."""
+        if self.status is None:
+            self._child.kill()
+
+    def connection_lost(self, error: Exception | None) -> None:
+        returned = self._child.get_returncode()
+        self.status = 0 if returned is None else returned
+        self._ended(self.status)

@@ -1,0 +1,38 @@
+"""Which requests the gateway answers itself, and what."""
+
+from __future__ import annotations
+
+from typing import TYPE_CHECKING
+
+from duqishom.gateway.counts import statistics
+from duqishom.gateway.passages import BAD_REQUEST, HEAD, NAME, NAME_END, STATISTICS, TOO_MANY, UNKNOWN, Kind, Passage, frame
+
+if TYPE_CHECKING:
+    from duqishom.gateway.client import Client
+
+# It waits for no turn where nothing of its client is before it: it is answered while the program is at something long, too.
+STATISTICS_FRAME = frame(bytes((STATISTICS,)))
+
+
+def verdict_on(client: Client, passage: Passage, at: int, end: int) -> bytes | None:
+    """What the gateway answers to a request of a client, by where its frame begins and ends, and None where the program answers it.
+
+    A body that isn't in its form is the program's to answer: BadRequest comes before what is unknown or too many.
+    """
+    exchange = client.exchange
+    if passage.names is not None:
+        is_theirs = end - at >= HEAD + NAME_END and not exchange.rules.is_shared and not owns(client, passage.names, at)
+        return UNKNOWN[passage.names] if is_theirs and passage.has_form(client.body(at, end)) else None
+    if passage.opens is not None:
+        is_full = client.counts[passage.opens] >= exchange.bounds.open[passage.opens]
+        return TOO_MANY if is_full and passage.has_form(client.body(at, end)) else None
+    if passage.is_for_admin:
+        return BAD_REQUEST if exchange.rules.has_admin and not client.is_admin else None
+    return statistics(exchange) if end - at == len(STATISTICS_FRAME) else None
+
+
+def owns(client: Client, kind: Kind, at: int) -> bool:
+    """Whether a client has the thing that a request names, by where its frame begins."""
+    name_at = at + HEAD + NAME_END - NAME
+    thing = client.exchange.things.by_name[kind].get(bytes(client.waiting[name_at : name_at + NAME]))
+    return thing is not None and thing.owner is client

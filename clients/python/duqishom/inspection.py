@@ -1,0 +1,288 @@
+"""`python3 -m duqishom inspect FOLDER [stats | files | tablets | locks | cells [PREFIX]]`: what a folder has, from its files alone.
+
+It is the store as of its last checkpoint, also while a program has the folder. Nothing is written and nothing is locked.
+"""
+
+from __future__ import annotations
+
+import argparse
+import mmap
+import os
+import sys
+from collections import Counter, defaultdict
+from collections.abc import Callable, Iterator, Sequence
+from contextlib import suppress
+from heapq import merge
+from itertools import groupby
+from pathlib import Path
+from typing import NamedTuple, TypeVar
+
+from duqishom.answers import Qualifier
+from duqishom.columns import BadForm, Kind, Record, read_lock, read_record
+from duqishom.files import (
+    ROOT_FILE,
+    Bytes,
+    Key,
+    Root,
+    RootTablet,
+    SortedFile,
+    file_name,
+    key_of,
+)
+from duqishom.folders import FolderDamaged, holder_of, read_mark, read_root
+from duqishom.texts import bytes_of, text_of
+from duqishom.transactions import Cell
+
+WORDS = ("stats", "files", "tablets", "locks", "cells")
+
+# How often files are looked for anew, where a program removes them between the root and them.
+TRIES = 10
+
+
+Read = TypeVar("Read")
+
+
+class Found(NamedTuple):
+    """A version that counts, with its value, and the tablet that it is in."""
+
+    tablet: int
+    key: Key
+    value: bytes
+
+
+class Folder:
+    """The last checkpoint of a folder: its root and the files that the root names, all open."""
+
+    def __init__(self, path: Path) -> None:
+        """Opens a folder. OSError or FolderDamaged where that can't be done."""
+        self.path = path
+        self.mark = read_mark(path)
+        for _ in range(TRIES):
+            self.root = read_root(path)
+            with suppress(FileNotFoundError):
+                self.files = {name: self._opened(name) for name in named_by(self.root)}
+                break
+        else:
+            self.files = {name: self._opened(name) for name in named_by(self.root)}
+
+    def _opened(self, name: int) -> SortedFile:
+        """A file, with its head and its foot."""
+        with (self.path / file_name(name)).open("rb") as file:
+            size = os.fstat(file.fileno()).st_size
+            data: Bytes = mmap.mmap(file.fileno(), 0, access=mmap.ACCESS_READ) if size else b""
+        return self._checked(name, lambda: SortedFile(data))
+
+    def _checked(self, name: int, read: Callable[[], Read]) -> Read:
+        """What is read of a file. FolderDamaged where it is outside its form."""
+        try:
+            return read()
+        except BadForm as bad:
+            raise FolderDamaged(self.path / file_name(name), bad.what, bad.at) from None
+
+    def check(self) -> None:
+        """Reads all of it, as a program does that opens the folder, and each value of a lock or a record too."""
+        if self.mark < self.root.top:
+            why = f"the mark {self.mark} is below the root's greatest stamp {self.root.top}"
+            raise FolderDamaged(self.path / "oracle.mark", why)
+        for tablet in self.root.tablets:
+            for name, length in tablet.files:
+                size = self.files[name].size
+                if length is not None and length != size:
+                    raise FolderDamaged(self.path / file_name(name), f"the root says {length} bytes, and it has {size}")
+        for name, file in self.files.items():
+            self._checked(name, file.check)
+
+    def unnamed(self) -> list[int]:
+        """The files that are there and that the root doesn't name."""
+        names = {int(path.name[1:17], 16) for path in self.path.glob("t????????????????.tab")}
+        return sorted(names - set(self.files) - {0})
+
+    def may_have_locks(self) -> bool:
+        """Whether a file has a lock, be it erased in a newer one."""
+        return any(text[-14:-8] == b"lock\x00\x00" for file in self.files.values() for text, _ in file.entries())
+
+    def versions(self) -> Iterator[Found]:
+        """What counts of all tablets, in the order of keys: of a key, the entry of the newest file, where it is no erasure."""
+        low = b""
+        for tablet in self.root.tablets:
+            for key, value in self._live(tablet):
+                if key.row > low and (tablet.end is None or key.row <= tablet.end):
+                    yield Found(tablet.number, key, value)
+            low = tablet.end or b""
+
+    def _live(self, tablet: RootTablet) -> Iterator[tuple[Key, bytes]]:
+        """The entries of a tablet's files that count, whatever their rows."""
+        aged = (self._aged(name, age) for age, (name, _) in enumerate(tablet.files))
+        for text, same in groupby(merge(*aged), key=lambda entry: entry[0]):
+            _, _, value = next(same)
+            if value is not None:
+                yield key_of(text), value
+
+    def _aged(self, name: int, age: int) -> Iterator[tuple[bytes, int, bytes | None]]:
+        """The entries of a file, with its age among those of its tablet."""
+        return ((text, age, value) for text, value in self.files[name].entries())
+
+
+def named_by(root: Root) -> list[int]:
+    """The names of the files that a root names."""
+    return sorted({name for tablet in root.tablets for name, _ in tablet.files})
+
+
+def end_of(tablet: RootTablet) -> str:
+    """Where a tablet ends, in words."""
+    return "the last row" if tablet.end is None else text_of(tablet.end)
+
+
+def stats(folder: Folder) -> Iterator[str]:
+    """Counts of all that there is."""
+    root, unnamed = folder.root, folder.unnamed()
+    size = sum(file.size for file in folder.files.values())
+    numbers = f"greatest stamp {root.top}, floor {root.floor}, mark {folder.mark}, next file {root.next_name:x}"
+    yield f"{numbers}, root of format {root.format}"
+    sizes = f"{len(root.tablets)} tablets, {len(folder.files)} files, {size:,} bytes"
+    yield f"{sizes}; {len(unnamed)} more files that the root doesn't name"
+    counts: defaultdict[int, Counter[str]] = defaultdict(Counter)
+    for (tablet, (_, _, column, _), value), is_newest in with_newest(folder.versions()):
+        count = counts[tablet]
+        count[column.name] += 1
+        if column is Qualifier.WRITE and is_newest:
+            count["cells"] += read_record(value).kind is Kind.SET
+    for place in root.tablets:
+        count = counts[place.number]
+        yield (
+            f"tablet {place.number} up to {end_of(place)}: {count['cells']:,} cells, {count['WRITE']:,} records, "
+            f"{count['DATA']:,} data, {count['LOCK']:,} locks"
+        )
+
+
+def with_newest(versions: Iterator[Found]) -> Iterator[tuple[Found, bool]]:
+    """Versions, each with whether it is the newest of its column."""
+    last: tuple[bytes, bytes, Qualifier] | None = None
+    for found in versions:
+        place = found.key[:3]
+        yield found, place != last
+        last = place
+
+
+def files(folder: Folder) -> Iterator[str]:
+    """The files, with their sizes and who has them."""
+    owners: defaultdict[int, list[str]] = defaultdict(list)
+    for tablet in folder.root.tablets:
+        for name, _ in tablet.files:
+            owners[name].append(str(tablet.number))
+    for name, file in folder.files.items():
+        sizes = f"{file.size:>14,} bytes {file.count:>12,} entries {file.blocks:>9,} blocks"
+        yield f"{file_name(name)} {sizes}  format {file.format}  tablets {' '.join(owners[name])}"
+    for name in folder.unnamed():
+        with suppress(FileNotFoundError):
+            size = (folder.path / file_name(name)).stat().st_size
+            yield f"{file_name(name)} {size:>14,} bytes  not named by the root"
+
+
+def tablets(folder: Folder) -> Iterator[str]:
+    """The tablets, in the order of their rows."""
+    for tablet in folder.root.tablets:
+        size = sum(folder.files[name].size for name, _ in tablet.files)
+        counts = f"server {tablet.server}, {len(tablet.files)} files, {size:,} bytes"
+        yield f"{tablet.number} up to {end_of(tablet)}: {counts}"
+
+
+def locks(folder: Folder) -> Iterator[str]:
+    """The locks, with the session and the first cell of each."""
+    for _, key, value in folder.versions():
+        if key.column is Qualifier.LOCK:
+            lock = read_lock(value)
+            does = "deletes" if lock.kind is Kind.DELETE else "sets"
+            first = f"{text_of(lock.row)} {text_of(lock.family)}"
+            yield f"{text_of(key.row)} {text_of(key.family)}: session {key.stamp} {does} it; its first cell is {first}"
+
+
+def finished(folder: Folder) -> dict[Cell, Record]:
+    """The cells that are locked by sessions that have committed, as their first cells tell, with the records that cleaners put."""
+    if not folder.may_have_locks():
+        return {}
+    standing = [(found.key, read_lock(found.value)) for found in folder.versions() if found.key.column is Qualifier.LOCK]
+    first = {Cell(lock.row, lock.family) for _, lock in standing}
+    records = {
+        (Cell(*key[:2]), read_record(value).start)
+        for _, key, value in folder.versions()
+        if key.column is Qualifier.WRITE and key[:2] in first
+    }
+    return {
+        Cell(*key[:2]): Record(key.stamp, lock.kind)
+        for key, lock in standing
+        if (Cell(lock.row, lock.family), key.stamp) in records
+    }
+
+
+def cells(folder: Folder, prefix: bytes = b"") -> Iterator[str]:
+    """The cells whose rows begin so, each with the value that was committed last: row, family and value, with tabs between."""
+    locked = finished(folder)
+    for (row, family), group in groupby(folder.versions(), key=lambda found: found.key[:2]):
+        if not row.startswith(prefix):
+            continue
+        data: dict[int, bytes] = {}
+        last = locked.get(Cell(row, family))
+        for _, (_, _, column, stamp), value in group:
+            if column is Qualifier.DATA:
+                data[stamp] = value
+            elif column is Qualifier.WRITE and last is None:
+                last = read_record(value)
+        if last is not None and last.kind is Kind.SET:
+            yield f"{text_of(row)}\t{text_of(family)}\t{text_of(data[last.start])}"
+
+
+def looked_at(folder: Folder, what: str, prefix: str) -> Iterator[str]:
+    """The lines that a word asks for."""
+    match what:
+        case "stats":
+            return stats(folder)
+        case "files":
+            return files(folder)
+        case "tablets":
+            return tablets(folder)
+        case "locks":
+            return locks(folder)
+        case _:
+            return cells(folder, bytes_of(prefix))
+
+
+def main(words: Sequence[str]) -> int:
+    """Runs the command. The status is 0, 1 where something is outside its form, and 2 where the folder can't be read."""
+    parser = argparse.ArgumentParser(
+        prog="duqishom inspect",
+        description="Shows what the last checkpoint of a folder has, from its files alone. It writes nothing. Each file that it"
+        " reads is checked first; the first wrong byte is named.",
+    )
+    parser.add_argument("folder", metavar="FOLDER")
+    parser.add_argument("what", choices=WORDS, nargs="?", default="stats", help="stats where none is named")
+    parser.add_argument("prefix", metavar="PREFIX", nargs="?", default="", help="of cells, those whose rows begin so")
+    options = parser.parse_args(words)
+    if options.prefix and options.what != "cells":
+        parser.error("only cells takes a prefix")
+    path = Path(options.folder)
+    try:
+        if not path.is_dir():
+            print(f"inspect: there is no folder {path}", file=sys.stderr)
+            return 2
+        if not (path / ROOT_FILE).exists():
+            print(f"inspect: {path} has no checkpoint", file=sys.stderr)
+        holder = holder_of(options.folder)
+        if holder is not None:
+            print(f"inspect: {path} is in use by {holder}; this is its last checkpoint", file=sys.stderr)
+        folder = Folder(path)
+        folder.check()
+        for line in looked_at(folder, options.what, options.prefix):
+            print(line)
+    except FolderDamaged as damage:
+        print(f"inspect: {damage}", file=sys.stderr)
+        return 1
+    except BadForm as bad:
+        print(f"inspect: a lock or a record is outside its form: {bad}", file=sys.stderr)
+        return 1
+    except BrokenPipeError:
+        os.dup2(os.open(os.devnull, os.O_WRONLY), sys.stdout.fileno())
+    except OSError as failure:
+        print(f"inspect: {failure}", file=sys.stderr)
+        return 2
+    return 0

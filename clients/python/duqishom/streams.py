@@ -1,0 +1,87 @@
+"""Frames over a socket for `asyncio`: many tasks ask at once, and each gets its replies."""
+
+from __future__ import annotations
+
+import asyncio
+from collections import deque
+from collections.abc import Sequence
+from typing import cast
+
+from duqishom.connection import LONGEST_BODY, whole_frames
+from duqishom.refusals import FrameTooLarge
+from duqishom.remote import ConnectionLost
+
+
+class Trip:
+    """Requests on their way: how many, and the bodies of their replies."""
+
+    def __init__(self, count: int) -> None:
+        self.count = count
+        self.replies: list[bytes] = []
+        self.done: asyncio.Future[list[bytes]] = asyncio.get_running_loop().create_future()
+
+
+class FrameStream(asyncio.Protocol):
+    """A connection to a gateway. Replies come in the order of the requests, so those of a trip whose task was cancelled are
+    passed by."""
+
+    def __init__(self) -> None:
+        self._trips: deque[Trip] = deque()
+        self._rest = b""
+        self._has_room = asyncio.Event()
+        self._has_room.set()
+        self.is_open = True
+
+    @classmethod
+    async def open(cls, path: str) -> FrameStream:
+        """Connects to a gateway's socket. OSError where none serves there."""
+        _, stream = await asyncio.get_running_loop().create_unix_connection(cls, path)
+        return stream
+
+    async def ask(self, bodies: Sequence[bytes]) -> list[bytes]:
+        """Sends these bodies, each in a frame, in one piece, and gives the bodies of the replies.
+
+        FrameTooLarge where a body is too long: then nothing is sent. ConnectionLost where the connection ends in place of a reply.
+        """
+        if any(len(body) > LONGEST_BODY for body in bodies):
+            raise FrameTooLarge()
+        await self._has_room.wait()
+        if not self.is_open:
+            raise ConnectionLost()
+        trip = Trip(len(bodies))
+        self._trips.append(trip)
+        self._transport.write(b"".join(len(body).to_bytes(4, "big") + body for body in bodies))
+        return await trip.done
+
+    def connection_made(self, transport: asyncio.BaseTransport) -> None:
+        self._transport = cast(asyncio.Transport, transport)
+
+    def data_received(self, data: bytes) -> None:
+        replies: list[bytes] = []
+        rest = self._rest + data
+        self._rest = rest[whole_frames(rest, replies) :]
+        for reply in replies:
+            trip = self._trips[0]
+            trip.replies.append(reply)
+            if len(trip.replies) == trip.count:
+                self._trips.popleft()
+                if not trip.done.done():
+                    trip.done.set_result(trip.replies)
+
+    def connection_lost(self, error: Exception | None) -> None:
+        self.is_open = False
+        self._has_room.set()
+        for trip in self._trips:
+            if not trip.done.done():
+                trip.done.set_exception(ConnectionLost())
+        self._trips.clear()
+
+    def pause_writing(self) -> None:
+        self._has_room.clear()
+
+    def resume_writing(self) -> None:
+        self._has_room.set()
+
+    def close(self) -> None:
+        """Leaves. It may be called again."""
+        self._transport.close()

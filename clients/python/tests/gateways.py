@@ -1,0 +1,228 @@
+"""A gateway under test, and connections that send it frames."""
+
+from __future__ import annotations
+
+import json
+import os
+import signal
+import socket
+import subprocess
+import sys
+import tempfile
+import time
+import unittest
+from collections.abc import Callable, Sequence
+from pathlib import Path
+from typing import Any
+
+from duqishom.fields import counted, number
+
+# No wait of a test is longer than so many seconds.
+PATIENCE = 60
+PACKAGE = Path(__file__).resolve().parents[1]
+COLUMN = b"c"
+
+
+def frame(body: bytes) -> bytes:
+    return counted(body)
+
+
+def set_(start: bytes, row: bytes, value: bytes) -> bytes:
+    return frame(b"\x03" + start + counted(row) + counted(COLUMN) + counted(value))
+
+
+def get(start: bytes, row: bytes) -> bytes:
+    return frame(b"\x02" + start + counted(row) + counted(COLUMN))
+
+
+def raw(row: bytes, column: int) -> bytes:
+    return frame(b"\x11" + counted(row) + counted(COLUMN) + number(1, column) + number(8, 0) + number(8, (1 << 63) - 1))
+
+
+def step(start: bytes) -> bytes:
+    return frame(b"\x04" + start)
+
+
+def stop(start: bytes) -> bytes:
+    return frame(b"\x05" + start)
+
+
+def clean_begin(row: bytes) -> bytes:
+    return frame(b"\x06" + counted(row) + counted(COLUMN))
+
+
+def clean_step(cleaner: bytes) -> bytes:
+    return frame(b"\x07" + cleaner)
+
+
+def collect_step(collector: bytes, visits: int) -> bytes:
+    return frame(b"\x09" + collector + number(4, visits))
+
+
+def of_tablet(code: int, tablet: int) -> bytes:
+    return frame(number(1, code) + number(4, tablet))
+
+
+BEGIN, COLLECT_BEGIN, SWEEP, CHECKPOINT = frame(b"\x01"), frame(b"\x08"), frame(b"\x0f"), frame(b"\x12")
+STATISTICS = frame(b"\x70")
+
+
+class Wire:
+    """A connection to a gateway."""
+
+    def __init__(self, path: str) -> None:
+        self.socket = socket.socket(socket.AF_UNIX)
+        self.socket.connect(path)
+        self.socket.settimeout(PATIENCE)
+        self._came = b""
+
+    def send(self, frames: bytes) -> None:
+        self.socket.sendall(frames)
+
+    def reply(self) -> bytes:
+        """The body of the next reply. EOFError where the connection ends in place of it."""
+        length = int.from_bytes(self._take(4), "big")
+        return self._take(length)
+
+    def _take(self, count: int) -> bytes:
+        while len(self._came) < count:
+            piece = self.socket.recv(1 << 16)
+            if not piece:
+                raise EOFError
+            self._came += piece
+        taken, self._came = self._came[:count], self._came[count:]
+        return taken
+
+    def ask(self, frames: bytes) -> bytes:
+        self.send(frames)
+        return self.reply()
+
+    def begin(self) -> bytes:
+        """Begins a session, and gives the eight bytes of its start."""
+        reply = self.ask(BEGIN)
+        assert reply[0] == 0x81, reply
+        return reply[1:]
+
+    def commit(self, row: bytes, value: bytes) -> bytes:
+        """Writes a cell in a session of its own, and gives the answer to its last step."""
+        start = self.begin()
+        self.send(set_(start, row, value) + 3 * step(start))
+        return [self.reply() for _ in range(4)][3]
+
+    def read(self, row: bytes) -> bytes:
+        """What a session that begins now reads of a cell."""
+        start = self.begin()
+        self.send(get(start, row) + stop(start))
+        return [self.reply() for _ in range(2)][0]
+
+    def close(self) -> None:
+        self.socket.close()
+
+
+class Gateway:
+    """A gateway in a process of its own, at a socket in a folder of its own."""
+
+    def __init__(self, case: unittest.TestCase, words: Sequence[str] = (), path: str | None = None) -> None:
+        folder = tempfile.TemporaryDirectory()
+        case.addCleanup(folder.cleanup)
+        self.path = path or f"{folder.name}/socket"
+        self.admin = f"{folder.name}/admin"
+        self._case = case
+        self.process = subprocess.Popen(
+            [*command_of(self.path), *(word.replace("ADMIN", self.admin) for word in words)],
+            cwd=PACKAGE,
+            stderr=subprocess.PIPE,
+            stdout=subprocess.DEVNULL,
+            text=True,
+        )
+        case.addCleanup(self.end)
+        self.first = self.line()
+
+    def line(self) -> str:
+        """The next line of the standard error."""
+        assert self.process.stderr is not None
+        return self.process.stderr.readline().rstrip("\n")
+
+    def wire(self, path: str | None = None) -> Wire:
+        wire = Wire(path or self.path)
+        self._case.addCleanup(wire.close)
+        return wire
+
+    def statistics(self) -> dict[str, Any]:
+        wire = self.wire()
+        reply = wire.ask(STATISTICS)
+        wire.close()
+        told: dict[str, Any] = json.loads(reply[1:])
+        return told
+
+    def program(self) -> int:
+        """The process of the program."""
+        return int(self.statistics()["program"]["process"])
+
+    def memory(self) -> int:
+        """The bytes of memory that the gateway has."""
+        return int(Path(f"/proc/{self.process.pid}/statm").read_text().split()[1]) * os.sysconf("SC_PAGE_SIZE")
+
+    def stop(self) -> int:
+        """Asks for the gateway's end, and gives its status."""
+        self.process.send_signal(signal.SIGTERM)
+        return self.process.wait(PATIENCE)
+
+    def kill(self) -> None:
+        self.process.kill()
+        self.process.wait(PATIENCE)
+
+    def end(self) -> None:
+        if self.process.poll() is None:
+            self.process.kill()
+            self.process.wait(PATIENCE)
+        assert self.process.stderr is not None
+        self.process.stderr.close()
+
+
+def command_of(path: str) -> list[str]:
+    """The command of a gateway at a path."""
+    return [sys.executable, "-m", "duqishom", "serve", "--socket", path]
+
+
+def folder_of(case: unittest.TestCase) -> str:
+    """A folder that is there for one test."""
+    folder = tempfile.TemporaryDirectory()
+    case.addCleanup(folder.cleanup)
+    return folder.name
+
+
+def until(holds: Callable[[], object]) -> bool:
+    """Waits until something holds. Gives whether it came to hold in time."""
+    end = time.monotonic() + PATIENCE
+    while not holds():
+        if time.monotonic() > end:
+            return False
+        time.sleep(0.01)
+    return True
+
+
+STAND_IN = """#!{python}
+import sys, time
+asked = []
+def plain(body):
+    rest = {{1: len(asked).to_bytes(8, "big"), 4: bytes((3,)) + bytes(8), 8: bytes(16)}}.get(body[0], b"")
+    return bytes((body[0] | 128,)) + rest
+def answer(body):
+    {answer}
+while head := sys.stdin.buffer.read(4):
+    body = sys.stdin.buffer.read(int.from_bytes(head, "big")) or bytes(1)
+    asked.append(body[0])
+    reply = answer(body)
+    sys.stdout.buffer.write(len(reply).to_bytes(4, "big") + reply)
+    sys.stdout.buffer.flush()
+"""
+
+
+def stand_in(case: unittest.TestCase, answer: str) -> str:
+    """A program that answers each body by this line of Python. `asked` has the operations up to now, and `plain` an accepting
+    reply."""
+    place = Path(folder_of(case), "stand_in")
+    place.write_text(STAND_IN.format(python=sys.executable, answer=answer))
+    place.chmod(0o755)
+    return str(place)

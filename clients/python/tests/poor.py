@@ -1,0 +1,37 @@
+"""A store that is short of memory in some requests."""
+
+from __future__ import annotations
+
+from collections.abc import Sequence
+
+from duqishom.connection import Connection
+
+NO_MEMORY = b"\xff\x14"
+
+
+class Poor:
+    """A connection to a store that refuses some requests of one operation NoMemory: the first of them, and how many, from the
+    place in which they are asked."""
+
+    def __init__(self, connection: Connection, code: int, first: int, count: int = 1) -> None:
+        self._connection = connection
+        self._code = code
+        self._refused = range(first, first + count)
+        self._asked = 0
+
+    def ask(self, bodies: Sequence[bytes], timeout: float | None = None) -> list[bytes]:
+        refused = []
+        for place, body in enumerate(bodies):
+            self._asked += body[:1] == bytes([self._code])
+            if body[:1] == bytes([self._code]) and self._asked in self._refused:
+                refused.append(place)
+        replies = self._connection.ask([body for place, body in enumerate(bodies) if place not in refused], timeout)
+        for place in refused:
+            replies.insert(place, NO_MEMORY)
+        return replies
+
+    def kill(self) -> None:
+        self._connection.kill()
+
+    def close(self) -> int:
+        return self._connection.close()

@@ -1,0 +1,165 @@
+"""The forms of files: each example of docs/FORMATS.md is what the client reads, and what is outside a form is named by its byte."""
+
+from __future__ import annotations
+
+import io
+import random
+import unittest
+from collections.abc import Callable
+from contextlib import redirect_stderr, redirect_stdout
+
+from duqishom import BadForm, Kind, Lock, Patience, Qualifier, Record, Store, read_lock, read_record
+from duqishom.files import FileRef, Key, Root, RootTablet, SortedFile, key_of, mark_of, root_of
+from duqishom.inspection import main
+from duqishom.texts import bytes_of
+from tests.folders import FolderTest
+from tests.pages import Fenced, fenced
+
+PAGE = "docs/FORMATS.md"
+COLUMNS = {"data": Qualifier.DATA, "lock": Qualifier.LOCK, "write": Qualifier.WRITE}
+KINDS = {"set": Kind.SET, "delete": Kind.DELETE}
+
+
+def bytes_in(block: Fenced) -> bytes:
+    """The bytes of an example."""
+    return b"".join(bytes.fromhex(line.partition("#")[0]) for line in block.lines())
+
+
+def tablet_of(word: str, form: int) -> RootTablet:
+    """A tablet of a root in a word: number, end, server, files."""
+    number, end, server, named = word.split(":")
+    files = [file.split("/") for file in named.split(",")] if named else []
+    references = tuple(FileRef(int(name), int(length) if form == 2 else None) for name, length in files)
+    return RootTablet(int(number), end.encode() or None, int(server), references)
+
+
+class Examples(unittest.TestCase):
+    """The examples of the page."""
+
+    def test_examples(self) -> None:
+        blocks = fenced(PAGE, "form")
+        self.assertEqual(len(blocks), 13)
+        for block in blocks:
+            kind, *words = block.more.split()
+            with self.subTest(block.more):
+                getattr(self, f"is_{kind.replace('-', '_')}")(bytes_in(block), *words)
+
+    def is_key(self, data: bytes, row: str, family: str, column: str, stamp: str) -> None:
+        self.assertEqual(key_of(data), Key(bytes_of(row), family.encode(), COLUMNS[column], int(stamp)))
+
+    def is_lock(self, data: bytes, row: str, family: str, kind: str) -> None:
+        self.assertEqual(read_lock(data), Lock(row.encode(), family.encode(), KINDS[kind]))
+
+    is_old_lock = is_lock
+
+    def is_record(self, data: bytes, start: str, kind: str) -> None:
+        self.assertEqual(read_record(data), Record(int(start), KINDS[kind]))
+
+    is_old_record = is_record
+
+    def is_file(self, data: bytes, form: str, *words: str) -> None:
+        file = SortedFile(data)
+        file.check()
+        found = [(key_of(text), value) for text, value in file.entries()]
+        row, family, column, stamp, value = words or ("",) * 5
+        key = [(Key(row.encode(), family.encode(), COLUMNS[column], int(stamp)), value.encode())] if words else []
+        self.assertEqual((file.format, found), (int(form), key))
+
+    def is_root(self, data: bytes, form: str, top: str, floor: str, next_name: str, *tablets: str) -> None:
+        wanted = tuple(tablet_of(word, int(form)) for word in tablets or ("1::0:",))
+        self.assertEqual(root_of(data), Root(int(form), int(top), int(floor), int(next_name), wanted))
+
+    def is_mark(self, data: bytes, mark: str) -> None:
+        self.assertEqual(mark_of(data), int(mark))
+
+
+class OutsideTheForm(unittest.TestCase):
+    """Bytes outside their forms."""
+
+    def test_cut_short_and_going_on(self) -> None:
+        """No file and no root that is cut short is in its form, and nothing that goes on."""
+        readers: dict[str, Callable[[bytes], object]] = {
+            "file": lambda data: SortedFile(data).check(),
+            "root": root_of,
+            "lock": read_lock,
+            "record": read_record,
+        }
+        for block in fenced(PAGE, "form"):
+            read = readers.get(block.more.split()[0])
+            if read is None:
+                continue
+            data = bytes_in(block)
+            for cut in range(len(data)):
+                with self.subTest(block.more, cut=cut):
+                    if block.more.split()[0] in ("file", "root"):
+                        self.assertRaises(BadForm, read, data[:cut])
+            self.assertRaises(BadForm, read, data + b"\x00")
+
+    def test_first_wrong_byte(self) -> None:
+        [_, one, _] = [bytes_in(block) for block in fenced(PAGE, "form") if block.more.startswith("file")]
+        for at, wrong in ((0, 0), (11, 0), (14, 1), (15, 0x3A), (34, 2), (41, 1), (57, 1), (80, 1), (90, 1), (122, 0)):
+            data = one[:at] + bytes([wrong]) + one[at + 1 :]
+            with self.subTest(at=at), self.assertRaises(BadForm) as caught:
+                SortedFile(data).check()
+            self.assertLessEqual(abs(caught.exception.at - at), 8, caught.exception.what)
+
+
+class Inspection(FolderTest):
+    """What `inspect` tells of a folder is what the program answers."""
+
+    def inspected(self, *words: str) -> tuple[int, list[str], str]:
+        """The status of the command, and what it writes on both streams."""
+        written, told = io.StringIO(), io.StringIO()
+        with redirect_stdout(written), redirect_stderr(told):
+            status = main([self.folder, *words])
+        return status, written.getvalue().splitlines(), told.getvalue()
+
+    def test_agrees_with_the_program(self) -> None:
+        chance = random.Random(46)
+        rows = [bytes_of(f"r{number}\\x00") if number % 3 == 0 else b"r%d" % number for number in range(30)]
+        kept: dict[bytes, bytes] = {}
+        with Store(folder=self.folder, words=("--flush", "9", "--merge", "6"), patience=Patience(pause=0)) as store:
+            for number in range(150):
+                row = chance.choice(rows)
+                with store.transaction() as transaction:
+                    if chance.random() < 0.2:
+                        transaction.delete(row, b"c")
+                        kept.pop(row, None)
+                    else:
+                        transaction.set(row, b"c", b"%d" % number)
+                        kept[row] = b"%d" % number
+                if number in (50, 100):
+                    store.split(rows[number // 10])
+                if number == 120:
+                    store.collect()
+            left = store.begin()
+            store.set(left, b"left", b"c", b"")
+            store.step(left)
+            store.checkpoint()
+            status, lines, told = self.inspected("cells")
+            self.assertIn("is in use by process", told)
+            found = [line.split("\t") for line in lines]
+            self.assertEqual([(bytes_of(row), bytes_of(value)) for row, _, value in found], sorted(kept.items()))
+            store.sweep()
+            store.checkpoint()
+        self.assertEqual(self.inspected("locks"), (0, [f"left c: session {left} sets it; its first cell is left c"], ""))
+        self.assertEqual(self.inspected("cells", "r1")[1], [line for line in lines if line.startswith("r1")])
+        self.assertEqual([line.split()[0] for line in self.inspected("tablets")[1]], [str(t.number) for t in store.tablets()])
+        for what in ("stats", "files"):
+            self.assertEqual(self.inspected(what)[0], 0)
+        self.assertIn("3 tablets", self.inspected("stats")[1][1])
+
+    def test_damage_is_named(self) -> None:
+        with Store(folder=self.folder) as store:
+            store.run(lambda transaction: transaction.set(b"r", b"c", b"v"))
+        file = self.path / "t0000000000000001.tab"
+        whole = file.read_bytes()
+        file.write_bytes(whole[:9] + b"\x01" + whole[10:])
+        status, _, told = self.inspected()
+        self.assertEqual((status, told), (1, f"inspect: {file}: a key is longer than the entries, at byte 8\n"))
+        self.folder += "/none"
+        self.assertEqual(self.inspected()[0], 2)
+
+
+if __name__ == "__main__":
+    unittest.main()

@@ -1,0 +1,106 @@
+"""The client for asyncio, over a gateway's socket."""
+
+from __future__ import annotations
+
+import asyncio
+import unittest
+from collections.abc import Awaitable, Callable
+
+from duqishom import Committed, ConnectionLost, Lost, Patience, Pending, StillPending, TransactionConflict
+from duqishom import Store as PlainStore
+from duqishom.aio import Store, Transaction
+from tests.gateways import Gateway
+
+ROW, OTHER, FAMILY = b"r", b"s", b"c"
+TASKS, EACH = 10, 10
+
+
+async def add_one(t: Transaction) -> None:
+    """Counts one more in a cell."""
+    t.set(ROW, FAMILY, b"%d" % (int(await t.get(ROW, FAMILY) or b"0") + 1))
+
+
+async def read(t: Transaction) -> bytes | None:
+    return await t.get(ROW, FAMILY)
+
+
+class Aio(unittest.TestCase):
+    """Many tasks over one connection."""
+
+    def with_store(self, work: Callable[[Store], Awaitable[None]], patience: Patience = Patience()) -> Gateway:
+        """Does work with the store of a new gateway."""
+        gateway = Gateway(self)
+
+        async def main() -> None:
+            async with Store(socket=gateway.path, patience=patience) as store:
+                await work(store)
+
+        asyncio.run(main())
+        return gateway
+
+    def test_names_are_those_of_the_other_twin(self) -> None:
+        ours, theirs = ({name for name in vars(store) if not name.startswith("_")} for store in (Store, PlainStore))
+        self.assertLessEqual(theirs - {"alone", "backup", "kill", "tablets"}, ours)
+
+    def test_tasks_count(self) -> None:
+        async def work(store: Store) -> None:
+            async def count() -> None:
+                for _ in range(EACH):
+                    await store.run(add_one, attempts=1000)
+
+            await asyncio.gather(*(count() for _ in range(TASKS)))
+            self.assertEqual(await store.run(read), b"%d" % (TASKS * EACH))
+
+        self.with_store(work)
+
+    def test_many_cells_deletions_and_conflicts(self) -> None:
+        async def work(store: Store) -> None:
+            async with store.transaction() as t:
+                for number in range(100):
+                    t.set(b"%d" % number, FAMILY, b"v")
+                t.delete(b"7", FAMILY)
+                self.assertIsNone(await t.get(b"7", FAMILY))
+            self.assertIsNotNone(t.commit_stamp)
+            self.assertEqual(await store.collect(), await store.begin())
+            with self.assertRaises(TransactionConflict):
+                async with store.transaction() as late:
+                    await store.run(add_one)
+                    late.set(OTHER, FAMILY, b"1")
+                    late.set(ROW, FAMILY, b"1")
+            self.assertIsNone(await store.clean(OTHER, FAMILY))
+
+        self.with_store(work)
+
+    def test_locks_and_fates(self) -> None:
+        async def work(store: Store) -> None:
+            start = await store.begin()
+            await store.set(start, ROW, FAMILY, b"1")
+            await store.step(start)
+            self.assertEqual(await store.fate(start, ROW, FAMILY), Pending(start))
+            with self.assertRaises(StillPending):
+                await store.run(read, attempts=1)
+            await store.step(start)
+            self.assertEqual(await store.step(start), Committed(start + 2))
+            self.assertEqual(await store.fate(start, ROW, FAMILY), Committed(start + 2))
+            self.assertEqual(await store.fate(start, OTHER, FAMILY), Lost())
+
+        self.with_store(work, Patience(tries=2, cleans=False))
+
+    def test_a_task_that_is_cancelled_and_the_end_of_the_gateway(self) -> None:
+        gateway = Gateway(self)
+
+        async def main() -> None:
+            async with Store(socket=gateway.path) as store:
+                asked = asyncio.create_task(store.begin())
+                await asyncio.sleep(0)
+                asked.cancel()
+                self.assertIsNone(await store.run(read))
+                gateway.kill()
+                with self.assertRaises(ConnectionLost):
+                    await store.begin()
+
+        asyncio.run(main())
+
+
+if __name__ == "__main__":
+    unittest.main()

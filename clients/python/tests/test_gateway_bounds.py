@@ -1,0 +1,166 @@
+"""Bounds of the gateway: its memory whatever clients do, and how long one client may hold up another."""
+
+from __future__ import annotations
+
+import resource
+import socket
+import threading
+import time
+import unittest
+from contextlib import suppress
+
+from tests.gateways import COLLECT_BEGIN, STATISTICS, Gateway, Wire, collect_step, frame, get, raw, set_, stand_in, step, until
+
+# What docs/GATEWAY.md says: the gateway has at most so many bytes of memory, whatever its clients do.
+MOST_MEMORY = 512 << 20
+VALUE = b"v" * 65_536
+CLIENTS = 1000
+
+
+class Bounds(unittest.TestCase):
+    """What clients can't make the gateway do."""
+
+    def setUp(self) -> None:
+        soft, hard = resource.getrlimit(resource.RLIMIT_NOFILE)
+        resource.setrlimit(resource.RLIMIT_NOFILE, (min(hard, 4096), hard))
+        self.addCleanup(resource.setrlimit, resource.RLIMIT_NOFILE, (soft, hard))
+
+    def clients(self, gateway: Gateway, count: int) -> list[Wire]:
+        """So many connections that don't wait for room to send."""
+        wires = [gateway.wire() for _ in range(count)]
+        for wire in wires:
+            wire.socket.setblocking(False)
+        return wires
+
+    def send_to_all(self, wires: list[Wire], data: bytes, seconds: float) -> int:
+        """Sends as much of the data as each connection takes: how many bytes all took."""
+        end, sent = time.monotonic() + seconds, [0] * len(wires)
+        while time.monotonic() < end:
+            for place, wire in enumerate(wires):
+                try:
+                    sent[place] += wire.socket.send(data[sent[place] : sent[place] + 65_536])
+                except (BlockingIOError, ConnectionError):
+                    pass
+        return sum(sent)
+
+    def answers_soon(self, wire: Wire) -> None:
+        """Asks a hundred things, and wants all answered within seconds."""
+        began = time.monotonic()
+        for _ in range(100):
+            self.assertEqual(wire.ask(raw(b"other", 1)), b"\x91\x00")
+        self.assertLess(time.monotonic() - began, 20)
+
+    def test_a_thousand_that_read_nothing(self) -> None:
+        value = "bytes((0x91, 1)) + bytes(9) + bytes((1, 0, 0)) + bytes(65536)"
+        program = stand_in(self, f"return {value} if len(body) == 28 else plain(body)")
+        gateway = Gateway(self, ["--clients", str(CLIENTS + 10), "--program", program])
+        other = gateway.wire()
+        wires = self.clients(gateway, CLIENTS)
+        self.send_to_all(wires, raw(b"r", 1) * 2000, 2)
+        self.assertLess(gateway.memory(), MOST_MEMORY)
+        self.assertTrue(until(lambda: gateway.statistics()["held"]["replies"] > 64 << 20))
+        began = time.monotonic()
+        for _ in range(100):
+            self.assertEqual(other.ask(raw(b"other", 1))[0], 0x91)
+        self.assertLess(time.monotonic() - began, 20)
+        for wire in wires:
+            wire.close()
+        self.assertTrue(until(lambda: gateway.statistics()["held"]["replies"] == 0))
+
+    def test_a_thousand_that_send_half_of_the_longest_frame(self) -> None:
+        gateway = Gateway(self, ["--clients", str(CLIENTS + 10)])
+        other = gateway.wire()
+        wires = self.clients(gateway, CLIENTS)
+        sent = self.send_to_all(wires, frame(b"\x01" * 1_048_576)[:-1], 2)
+        self.assertLess(gateway.memory(), MOST_MEMORY)
+        self.answers_soon(other)
+        if sent > 300 << 20:
+            self.assertGreater(gateway.statistics()["clients"]["closed_for_memory"], 0)
+
+    def test_many_that_ask_for_statistics_and_read_nothing(self) -> None:
+        gateway = Gateway(self)
+        other = gateway.wire()
+        wires = self.clients(gateway, 100)
+        self.send_to_all(wires, STATISTICS * 100_000, 1)
+        self.answers_soon(other)
+        self.assertLess(gateway.memory(), MOST_MEMORY)
+
+    def test_one_that_reads_late_gets_all(self) -> None:
+        gateway = Gateway(self)
+        other, late = gateway.wire(), gateway.wire()
+        other.commit(b"r", VALUE)
+        start, count = late.begin(), 300
+        late.socket.settimeout(30)
+        late.send(get(start, b"r") * count)
+        self.answers_soon(other)
+        self.assertLess(gateway.statistics()["held"]["replies"], 6 << 20)
+        self.assertEqual({len(late.reply()) for _ in range(count)}, {len(VALUE) + 6})
+
+    def test_so_many_clients(self) -> None:
+        gateway = Gateway(self, ["--clients", "2"])
+        wires = [gateway.wire() for _ in range(3)]
+        self.assertEqual([wire.ask(raw(b"r", 1)) for wire in wires[:2]], 2 * [b"\x91\x00"])
+        self.assertRaises((EOFError, ConnectionError), wires[2].ask, raw(b"r", 1))
+
+
+class Fairness(unittest.TestCase):
+    """One client's heavy requests don't hold up another's light ones."""
+
+    def test_a_get_waits_for_a_few_of_a_thousand_collections(self) -> None:
+        gateway = Gateway(self)
+        heavy, light = gateway.wire(), gateway.wire()
+        self.fill(light, 3, 200)
+        collectors = [heavy.ask(COLLECT_BEGIN)[1:9] for _ in range(4)]
+        heavy.send(b"".join(collect_step(each, 1000) for each in collectors) * 250)
+        came: list[float] = []
+        taking = threading.Thread(target=self.take, args=(heavy, came))
+        taking.start()
+        asked = [self.times(light) for _ in range(2)]
+        heavy.socket.shutdown(socket.SHUT_RDWR)
+        taking.join()
+        for began, ended in asked:
+            self.assertLess(sum(began < time_of < ended for time_of in came), 4)
+
+    def take(self, wire: Wire, came: list[float]) -> None:
+        """Notes when each reply comes, up to the connection's end."""
+        with suppress(EOFError, OSError):
+            while wire.reply()[0] == 0x89:
+                came.append(time.monotonic())
+
+    def times(self, wire: Wire) -> tuple[float, float]:
+        """When a light request was sent, and when its reply came."""
+        began = time.monotonic()
+        self.assertEqual(wire.ask(raw(b"none", 1)), b"\x91\x00")
+        return began, time.monotonic()
+
+    def fill(self, wire: Wire, sessions: int, cells: int) -> None:
+        """Commits so many cells in each of so many sessions."""
+        for session in range(sessions):
+            start = wire.begin()
+            sets = [set_(start, b"%d %d" % (session, cell), b"v") for cell in range(cells)]
+            wire.send(b"".join(sets) + step(start) * (2 * cells + 1))
+            for _ in range(3 * cells + 1):
+                wire.reply()
+
+    def test_a_burst_of_one_and_single_requests_of_many(self) -> None:
+        gateway = Gateway(self)
+        burst, singles = gateway.wire(), [gateway.wire() for _ in range(8)]
+        burst.socket.setblocking(False)
+        sent, data = 0, raw(b"r", 1) * 100_000
+        try:
+            while sent < len(data):
+                sent += burst.socket.send(data[sent : sent + 65_536])
+        except BlockingIOError:
+            pass
+        began = time.monotonic()
+        for wire in singles * 3:
+            self.assertEqual(wire.ask(raw(b"r", 1)), b"\x91\x00")
+        self.assertLess(time.monotonic() - began, 20)
+        burst.socket.setblocking(True)
+        burst.socket.shutdown(socket.SHUT_WR)
+        for _ in range(sent // len(raw(b"r", 1))):
+            self.assertEqual(burst.reply(), b"\x91\x00")
+
+
+if __name__ == "__main__":
+    unittest.main()

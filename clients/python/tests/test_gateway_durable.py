@@ -1,0 +1,111 @@
+"""Durable answers: what was answered is in the folder, whoever is killed, and nobody reads what isn't."""
+
+from __future__ import annotations
+
+import itertools
+import os
+import signal
+import threading
+import time
+import unittest
+from contextlib import suppress
+
+from tests.gateways import Gateway, Wire, folder_of, get, stand_in, step, until
+
+CLIENTS = 8
+SECONDS = 1.5
+COMMITTED, VALUE = b"\x84\x04", b"\x82\x01"
+
+
+class Durable(unittest.TestCase):
+    """With --durable."""
+
+    def test_no_answered_commit_is_lost_to_a_kill(self) -> None:
+        folder, told, seen = folder_of(self), list[bytes](), list[bytes]()
+        gateway = Gateway(self, ["--dir", folder, "--durable"])
+        program = gateway.program()
+        works = [threading.Thread(target=self.write, args=(gateway.wire(), client, told)) for client in range(CLIENTS)]
+        works.append(threading.Thread(target=self.read, args=(gateway.wire(), seen)))
+        for work in works:
+            work.start()
+        time.sleep(SECONDS)
+        os.kill(program, signal.SIGKILL)
+        for work in works:
+            work.join()
+        self.assertGreater(len(told), CLIENTS)
+        self.assertGreater(len(seen), 0)
+        wire = Gateway(self, ["--dir", folder]).wire()
+        start = wire.begin()
+        lost = [row for row in told + seen if wire.ask(get(start, row))[:2] != VALUE]
+        self.assertEqual(lost, [])
+
+    def write(self, wire: Wire, client: int, told: list[bytes]) -> None:
+        """Commits row after row, and notes each whose commit was answered, up to the connection's end."""
+        with suppress(EOFError, OSError):
+            for number in itertools.count():
+                row = b"%d %d" % (client, number)
+                if wire.commit(row, b"v")[:2] == COMMITTED:
+                    told.append(row)
+
+    def read(self, wire: Wire, seen: list[bytes]) -> None:
+        """Reads the rows that are written, in order, and notes each that has a value, up to the connection's end."""
+        number = 0
+        with suppress(EOFError, OSError):
+            while True:
+                row = b"%d %d" % (number % CLIENTS, number // CLIENTS)
+                if wire.read(row)[:2] == VALUE:
+                    seen.append(row)
+                    number += 1
+
+    def test_who_waits_for_what(self) -> None:
+        program = stand_in(
+            self,
+            "return (time.sleep(2) or b'\\x92') if body[0] == 18 else bytes((0x82, 0)) if body[0] == 2 else"
+            " bytes((0x84, 4 if asked.count(4) == 1 else 1)) + (9).to_bytes(8, 'big')[: 8 if asked.count(4) == 1 else 4]"
+            " if body[0] == 4 else plain(body)",
+        )
+        gateway = Gateway(self, ["--program", program, "--dir", folder_of(self), "--durable"])
+        writer, reader, late = gateway.wire(), gateway.wire(), gateway.wire()
+        early = reader.begin()
+        starts = [late.begin() for _ in range(9)]
+        start = writer.begin()
+        self.assertLess(early, (9).to_bytes(8, "big"))
+        self.assertGreater(starts[-1], (9).to_bytes(8, "big"))
+        writer.send(step(start))
+        self.assertTrue(until(lambda: gateway.statistics()["held"]["asked"] > 0))
+        reader.send(get(early, b"r") + step(early))
+        late.send(get(starts[-1], b"r"))
+        self.assertEqual(late.reply(), b"\x82\x00")
+        self.assertEqual(gateway.statistics()["checkpoints"], 1)
+        self.assertEqual(writer.reply()[:2], COMMITTED)
+        self.assertEqual(reader.reply(), b"\x82\x00")
+
+    def test_a_refused_checkpoint_is_no_answer(self) -> None:
+        program = stand_in(
+            self,
+            "return bytes((0xFF, 0x13)) if body[0] == 18 else bytes((0x84, 4)) + bytes(7) + bytes((9,)) if body[0] == 4"
+            " else plain(body)",
+        )
+        gateway = Gateway(self, ["--program", program, "--dir", folder_of(self), "--durable"])
+        writer, other = gateway.wire(), gateway.wire()
+        start = writer.begin()
+        writer.send(step(start))
+        self.assertRaises((EOFError, ConnectionError), writer.reply)
+        self.assertEqual(gateway.line(), "duqishom: a checkpoint was refused: 19")
+        self.assertEqual(other.begin()[:1], b"\0")
+
+    def test_more_checkpoints_than_files(self) -> None:
+        folder = folder_of(self)
+        gateway = Gateway(self, ["--dir", folder, "--durable"])
+        wire = gateway.wire()
+        for number in range(70):
+            self.assertEqual(wire.commit(b"%d" % number, b"v")[:2], COMMITTED)
+        gateway.kill()
+        again = Gateway(self, ["--dir", folder])
+        reader = again.wire()
+        self.assertEqual({reader.read(b"%d" % number)[:2] for number in range(70)}, {VALUE})
+        self.assertLess(len([name for name in os.listdir(folder) if name.endswith(".tab")]), 70)
+
+
+if __name__ == "__main__":
+    unittest.main()

@@ -1,0 +1,211 @@
+"""How a gateway begins and ends: signals, kills, stale sockets, a service manager."""
+
+from __future__ import annotations
+
+import os
+import signal
+import socket
+import subprocess
+import unittest
+
+from duqishom.program import default_program
+from tests.gateways import (
+    BEGIN,
+    CHECKPOINT,
+    PACKAGE,
+    SWEEP,
+    Gateway,
+    Wire,
+    command_of,
+    folder_of,
+    frame,
+    of_tablet,
+    raw,
+    set_,
+    stand_in,
+    step,
+    until,
+)
+
+VALUE, NOTHING = b"\x82\x01\0\0\0\x01v", b"\x82\x00"
+
+
+def run_program(folder: str) -> int:
+    """The status with which a program ends that opens a folder and is asked nothing."""
+    quiet = subprocess.DEVNULL
+    return subprocess.run([default_program(), "--dir", folder], stdin=quiet, stderr=quiet, timeout=60).returncode
+
+
+def run_again(path: str) -> subprocess.CompletedProcess[str]:
+    """A gateway that can't begin."""
+    return subprocess.run(command_of(path), cwd=PACKAGE, capture_output=True, text=True, timeout=60)
+
+
+class Ends(unittest.TestCase):
+    """What is left when it ends."""
+
+    def test_a_signal_keeps_a_folder(self) -> None:
+        folder = folder_of(self)
+        for number, found in ((signal.SIGTERM, NOTHING), (signal.SIGINT, VALUE), (signal.SIGTERM, VALUE)):
+            gateway = Gateway(self, ["--dir", folder])
+            wire = gateway.wire()
+            self.assertEqual(wire.read(b"r"), found)
+            self.assertEqual(wire.commit(b"r", b"v")[:2], b"\x84\x04")
+            gateway.process.send_signal(number)
+            self.assertEqual(gateway.process.wait(60), 0)
+            self.assertRaises((EOFError, ConnectionError), wire.reply)
+            self.assertFalse(os.path.exists(gateway.path))
+
+    def test_all_replies_are_out_before_the_end(self) -> None:
+        gateway = Gateway(self, ["--program", stand_in(self, "return time.sleep(0.5) or plain(body)")])
+        wire = gateway.wire()
+        wire.send(3 * frame(b"\x10"))
+        self.assertEqual(wire.reply(), b"\x90")
+        self.assertTrue(until(lambda: gateway.statistics()["held"]["asked"] == 1))
+        gateway.process.send_signal(signal.SIGTERM)
+        self.assertEqual(wire.reply(), b"\x90")
+        self.assertRaises((EOFError, ConnectionError), wire.reply)
+        self.assertEqual(gateway.process.wait(60), 0)
+
+    def test_what_is_open_at_the_end_is_finished(self) -> None:
+        folder = folder_of(self)
+        gateway = Gateway(self, ["--dir", folder])
+        wire = gateway.wire()
+        start = wire.begin()
+        wire.send(set_(start, b"x", b"v") + set_(start, b"y", b"v") + 4 * step(start))
+        self.assertEqual([wire.reply() for _ in range(6)][-1][:2], b"\x84\x04")
+        self.assertEqual(gateway.stop(), 0)
+        wire = Gateway(self, ["--dir", folder]).wire()
+        self.assertEqual([wire.ask(raw(row, 2)) for row in (b"x", b"y")], 2 * [b"\x91\x00"])
+        self.assertEqual(wire.read(b"y"), VALUE)
+
+    def test_a_client_that_reads_nothing_does_not_hold_up_the_end(self) -> None:
+        program = stand_in(self, "return bytes((0x91, 1)) + bytes(9) + bytes((1, 0, 0)) + bytes(65536)")
+        gateway = Gateway(self, ["--program", program, "--grace", "0.5"])
+        wire = gateway.wire()
+        wire.send(60 * raw(b"r", 1))
+        self.assertTrue(until(lambda: gateway.statistics()["held"]["replies"] > 1 << 20))
+        self.assertEqual(gateway.stop(), 0)
+
+    def test_a_refused_last_checkpoint(self) -> None:
+        program = stand_in(self, "return bytes((0xFF, 0x13)) if body[0] == 18 else plain(body)")
+        gateway = Gateway(self, ["--program", program, "--dir", folder_of(self)])
+        self.assertEqual(gateway.stop(), 1)
+        self.assertEqual(gateway.line(), "duqishom: a checkpoint was refused: 19")
+
+    def test_checkpoints_now_and_then(self) -> None:
+        folder = folder_of(self)
+        gateway = Gateway(self, ["--dir", folder, "--checkpoint", "0.1"])
+        self.assertEqual(gateway.wire().commit(b"r", b"v")[:2], b"\x84\x04")
+        made = gateway.statistics()["checkpoints"]
+        self.assertTrue(until(lambda: bool(gateway.statistics()["checkpoints"] > made)))
+        gateway.kill()
+        self.assertEqual(Gateway(self, ["--dir", folder]).wire().read(b"r"), VALUE)
+
+    def test_a_checkpoint_goes_right_behind_a_sweep(self) -> None:
+        folder = folder_of(self)
+        gateway = Gateway(self, ["--dir", folder])
+        wire = gateway.wire()
+        for row in (b"a", b"b"):
+            self.assertEqual(wire.commit(row, b"v")[:2], b"\x84\x04")
+            self.assertEqual(wire.ask(CHECKPOINT), b"\x92")
+        self.assertEqual(wire.ask(of_tablet(0x0C, 1)), b"\x8c")
+        self.assertEqual(wire.ask(SWEEP)[0], 0x8F)
+        self.assertEqual(wire.ask(BEGIN)[0], 0x81)
+        gateway.kill()
+        self.assertTrue(until(lambda: run_program(folder) == 0))
+
+
+class Kills(unittest.TestCase):
+    """`kill -9` of either."""
+
+    def test_of_the_gateway(self) -> None:
+        folder = folder_of(self)
+        gateway = Gateway(self, ["--dir", folder])
+        wire = gateway.wire()
+        self.assertEqual(wire.commit(b"r", b"v")[:2], b"\x84\x04")
+        self.assertEqual(wire.ask(CHECKPOINT), b"\x92")
+        gateway.kill()
+        self.assertRaises((EOFError, ConnectionError), wire.reply)
+        self.assertTrue(until(lambda: run_program(folder) == 0))
+        self.assertTrue(os.path.exists(gateway.path))
+        again = Gateway(self, ["--dir", folder], path=gateway.path)
+        self.assertEqual(again.wire().read(b"r"), VALUE)
+
+    def test_of_the_program(self) -> None:
+        gateway = Gateway(self)
+        wires = [gateway.wire() for _ in range(3)]
+        self.assertEqual(wires[0].ask(BEGIN)[0], 0x81)
+        os.kill(gateway.program(), signal.SIGKILL)
+        for wire in wires:
+            self.assertRaises((EOFError, ConnectionError), wire.reply)
+        self.assertEqual(gateway.process.wait(60), 128 + 9)
+        self.assertEqual(gateway.line(), "duqishom: the program has ended with status -9")
+        self.assertFalse(os.path.exists(gateway.path))
+
+    def test_of_a_program_that_ends_by_itself(self) -> None:
+        program = stand_in(self, "return sys.exit(6) if body[0] == 5 else plain(body)")
+        gateway = Gateway(self, ["--program", program])
+        wire = gateway.wire()
+        self.assertRaises((EOFError, ConnectionError), wire.ask, b"\0\0\0\x09\x05" + wire.begin())
+        self.assertEqual(gateway.process.wait(60), 6)
+        self.assertEqual(gateway.line(), "duqishom: the program has ended with status 6: a read or a write failed")
+
+
+class Begins(unittest.TestCase):
+    """Where it can listen."""
+
+    def test_beside_another_gateway(self) -> None:
+        gateway = Gateway(self)
+        again = run_again(gateway.path)
+        self.assertEqual((again.returncode, again.stderr), (2, f"duqishom: another gateway serves {gateway.path}\n"))
+        self.assertEqual(gateway.wire().ask(BEGIN)[0], 0x81)
+
+    def test_at_what_is_no_socket(self) -> None:
+        path = folder_of(self) + "/file"
+        open(path, "w").close()
+        again = run_again(path)
+        self.assertEqual((again.returncode, again.stderr), (2, f"duqishom: {path} is there, and is no socket\n"))
+
+    def test_over_a_folder_that_is_not_there(self) -> None:
+        gateway = Gateway(self, ["--dir", "/no/such/folder"])
+        self.assertEqual(gateway.first, "tabletd: device failed at open")
+        self.assertEqual(gateway.process.wait(60), 4)
+        self.assertEqual(gateway.line(), "duqishom: the program has ended with status 4: a device failed at open")
+        self.assertFalse(os.path.exists(gateway.path))
+
+    def test_nowhere(self) -> None:
+        ran = subprocess.run(command_of("")[:-2], cwd=PACKAGE, capture_output=True, text=True, timeout=60)
+        self.assertEqual(ran.returncode, 2)
+        self.assertEqual(ran.stderr, "duqishom: there is nowhere to listen: name a --socket or a --tcp\n")
+
+    def test_durable_without_a_folder(self) -> None:
+        gateway = Gateway(self, ["--durable"])
+        self.assertEqual(gateway.process.wait(60), 2)
+
+    def test_by_a_service_manager(self) -> None:
+        folder = folder_of(self)
+        path, notices = folder + "/socket", folder + "/notices"
+        with socket.socket(socket.AF_UNIX) as listening, socket.socket(socket.AF_UNIX, socket.SOCK_DGRAM) as manager:
+            listening.bind(path)
+            listening.listen(5)
+            manager.bind(notices)
+            manager.settimeout(60)
+            early = Wire(path)
+            early.send(BEGIN)
+            script = f'exec 3<&{listening.fileno()}; LISTEN_PID=$$ LISTEN_FDS=1 exec "$@"'
+            command = ["sh", "-c", script, "sh", *command_of(path)[:-2]]
+            place = {**os.environ, "NOTIFY_SOCKET": notices}
+            files = [listening.fileno()]
+            with subprocess.Popen(command, cwd=PACKAGE, env=place, pass_fds=files, stderr=subprocess.DEVNULL) as process:
+                self.assertEqual(manager.recv(100), b"READY=1")
+                self.assertEqual(early.reply()[0], 0x81)
+                process.terminate()
+                self.assertEqual(manager.recv(100), b"STOPPING=1")
+                self.assertEqual(process.wait(60), 0)
+            early.close()
+        self.assertTrue(os.path.exists(path))
+
+
+if __name__ == "__main__":
+    unittest.main()

@@ -1,0 +1,125 @@
+"""A store over a gateway's socket: several clients, processes and threads, and what became of commits whose answers were lost."""
+
+from __future__ import annotations
+
+import subprocess
+import sys
+import threading
+import unittest
+
+from duqishom import Committed, ConnectionLost, Lost, Nothing, Patience, Pending, Store, TransactionConflict, UnknownSession
+from tests.gateways import PACKAGE, Gateway, folder_of, stand_in
+
+ROW, OTHER, FAMILY = b"r", b"s", b"c"
+
+
+def number_of(value: bytes | None) -> int:
+    return int(value or b"0")
+
+
+class Stores(unittest.TestCase):
+    """Stores that share a gateway."""
+
+    def store(self, gateway: Gateway, patience: Patience = Patience()) -> Store:
+        store = Store(socket=gateway.path, patience=patience)
+        self.addCleanup(store.close)
+        return store
+
+    def test_two_see_one_store(self) -> None:
+        gateway = Gateway(self)
+        one, two = self.store(gateway), self.store(gateway)
+        one.run(lambda t: t.set(ROW, FAMILY, b"1"))
+        self.assertEqual(two.run(lambda t: t.get(ROW, FAMILY)), b"1")
+        two.run(lambda t: t.set(ROW, FAMILY, b"2"))
+        with self.assertRaises(TransactionConflict), one.transaction() as late:
+            two.run(lambda t: t.set(ROW, FAMILY, b"3"))
+            late.set(ROW, FAMILY, b"4")
+        self.assertRaises(UnknownSession, two.step, one.begin())
+        self.assertEqual(one.collect(), one.begin() - 1)
+        self.assertEqual(one.split(b"m"), 2)
+        two.make_room(ROW)
+        self.assertRaises(ValueError, two.tablets)
+
+    def test_threads_and_processes_count(self) -> None:
+        gateway, each = Gateway(self), 20
+        shared = self.store(gateway)
+        script = (
+            "import sys; from duqishom import Store, Patience\n"
+            "with Store(socket=sys.argv[1], patience=Patience(tries=10)) as store:\n"
+            f"    for _ in range({each}):\n"
+            "        store.run(lambda t: t.set(b'r', b'c', b'%d' % (int(t.get(b'r', b'c') or b'0') + 1)), attempts=1000)\n"
+        )
+        processes = [subprocess.Popen([sys.executable, "-c", script, gateway.path], cwd=PACKAGE) for _ in range(3)]
+
+        def count(store: Store) -> None:
+            for _ in range(each):
+                store.run(lambda t: t.set(ROW, FAMILY, b"%d" % (number_of(t.get(ROW, FAMILY)) + 1)), attempts=1000)
+
+        threads = [threading.Thread(target=count, args=(shared,)) for _ in range(2)]
+        for thread in threads:
+            thread.start()
+        for thread in threads:
+            thread.join()
+        self.assertEqual([process.wait(60) for process in processes], [0, 0, 0])
+        self.assertEqual(shared.run(lambda t: t.get(ROW, FAMILY)), b"%d" % (5 * each))
+
+    def test_the_end_of_the_gateway(self) -> None:
+        gateway = Gateway(self)
+        store = self.store(gateway)
+        start = store.begin()
+        gateway.kill()
+        self.assertRaises(ConnectionLost, store.get, start, ROW, FAMILY)
+        self.assertRaises(OSError, Store, socket=gateway.path)
+
+    def test_room_where_the_administrator_has_a_socket(self) -> None:
+        program = stand_in(
+            self,
+            "return b'\\xff\\x0f' if body[0] == 7 and 10 not in asked else b'\\x87\\x03' if body[0] == 7"
+            " else b'\\x86\\1' + bytes(16) if body[0] == 6 else b'\\xff\\x0b' if body[:1] == b'\\x0a' and body[4] > 2"
+            " else b'\\x91\\0' if body[0] == 17 else plain(body)",
+        )
+        gateway = Gateway(self, ["--admin", "ADMIN", "--program", program])
+        self.assertEqual(repr(self.store(gateway).clean(ROW, FAMILY)), "RolledBack()")
+
+
+class Fates(unittest.TestCase):
+    """What became of a commit, asked by another client than the one that made it."""
+
+    def setUp(self) -> None:
+        gateway = Gateway(self, ["--leave"])
+        self.lost, self.asks = Store(socket=gateway.path), Store(socket=gateway.path, patience=Patience(tries=1))
+        self.waits = Store(socket=gateway.path, patience=Patience(cleans=False))
+        for store in (self.lost, self.asks, self.waits):
+            self.addCleanup(store.close)
+
+    def begun(self, steps: int) -> int:
+        """A session over two cells whose client is lost behind so many steps."""
+        start = self.lost.begin()
+        for row in (ROW, OTHER):
+            self.lost.set(start, row, FAMILY, b"%d" % start)
+        for _ in range(steps):
+            self.lost.step(start)
+        return start
+
+    def test_by_how_far_it_came(self) -> None:
+        for steps, committed in ((0, False), (1, False), (2, False), (3, False), (4, True), (5, True)):
+            with self.subTest(steps=steps):
+                start = self.begun(steps)
+                if 0 < steps < 4:
+                    self.assertEqual(self.waits.fate(start, ROW, FAMILY), Pending(start))
+                self.asks.run(lambda t: t.get(b"something", FAMILY))
+                fate = self.asks.fate(start, ROW, FAMILY)
+                self.assertEqual(fate, Committed(start + 1) if committed else Lost())
+                for row in (ROW, OTHER):
+                    self.asks.clean(row, FAMILY)
+                if committed:
+                    self.asks.run(lambda t: t.set(ROW, FAMILY, b"later"))
+                    self.assertEqual(self.asks.fate(start, ROW, FAMILY), fate)
+
+    def test_of_nothing(self) -> None:
+        self.assertEqual(self.asks.fate(self.lost.begin(), ROW, FAMILY), Lost())
+        self.assertEqual(self.asks.get(self.asks.begin(), ROW, FAMILY), Nothing())
+
+
+if __name__ == "__main__":
+    unittest.main()

@@ -1,0 +1,75 @@
+"""Makes the wheel of this package, for pip: without any other package, so that it needs no network."""
+
+from __future__ import annotations
+
+import base64
+import hashlib
+import runpy
+import tarfile
+import tomllib
+from pathlib import Path
+from zipfile import ZIP_DEFLATED, ZipFile
+
+HERE = Path(__file__).resolve().parent
+WHEEL = "Wheel-Version: 1.0\nGenerator: wheel_of\nRoot-Is-Purelib: true\nTag: py3-none-any\n"
+
+
+def described() -> tuple[str, str, dict[str, str]]:
+    """The name of the package with its version, its metadata, and the commands that it installs."""
+    project = tomllib.loads((HERE / "pyproject.toml").read_text(encoding="utf-8"))["project"]
+    version = runpy.run_path(str(HERE / "duqishom" / "version.py"))["VERSION"]
+    metadata = (
+        f"Metadata-Version: 2.1\nName: {project['name']}\nVersion: {version}\nSummary: {project['description']}\n"
+        f"Requires-Python: {project['requires-python']}\n"
+    )
+    return f"{project['name']}-{version}", metadata, project["scripts"]
+
+
+def sources() -> dict[str, bytes]:
+    """The files of the package."""
+    files = sorted(HERE.glob("duqishom/**/*.py")) + [HERE / "duqishom" / "py.typed"]
+    return {str(file.relative_to(HERE)): file.read_bytes() for file in files}
+
+
+def build_wheel(wheel_directory: str, config_settings: object = None, metadata_directory: object = None) -> str:
+    """Writes the wheel into a folder: its name."""
+    return write_wheel(wheel_directory, sources())
+
+
+def build_editable(wheel_directory: str, config_settings: object = None, metadata_directory: object = None) -> str:
+    """Writes a wheel that points to the sources here into a folder: its name."""
+    return write_wheel(wheel_directory, {"duqishom.pth": f"{HERE}\n".encode()})
+
+
+def write_wheel(folder: str, files: dict[str, bytes]) -> str:
+    """Writes a wheel of these files: its name."""
+    name, metadata, commands = described()
+    info = f"{name}.dist-info"
+    entries = "".join(f"{command} = {target}\n" for command, target in commands.items())
+    files = {
+        **files,
+        f"{info}/METADATA": metadata.encode(),
+        f"{info}/WHEEL": WHEEL.encode(),
+        f"{info}/entry_points.txt": f"[console_scripts]\n{entries}".encode(),
+    }
+    record = "".join(f"{file},sha256={digest(data)},{len(data)}\n" for file, data in files.items())
+    wheel = f"{name}-py3-none-any.whl"
+    with ZipFile(Path(folder) / wheel, "w", ZIP_DEFLATED) as made:
+        for file, data in files.items():
+            made.writestr(file, data)
+        made.writestr(f"{info}/RECORD", f"{record}{info}/RECORD,,\n")
+    return wheel
+
+
+def digest(data: bytes) -> str:
+    """The checksum of a file, as a wheel has it."""
+    return base64.urlsafe_b64encode(hashlib.sha256(data).digest()).rstrip(b"=").decode()
+
+
+def build_sdist(sdist_directory: str, config_settings: object = None) -> str:
+    """Writes the sources as an archive into a folder: its name."""
+    name = described()[0]
+    with tarfile.open(Path(sdist_directory) / f"{name}.tar.gz", "w:gz") as made:
+        for file in ("pyproject.toml", "wheel_of.py", *sources()):
+            made.add(HERE / file, f"{name}/{file}")
+    return f"{name}.tar.gz"
