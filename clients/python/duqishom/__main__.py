@@ -56,6 +56,7 @@ def parser() -> argparse.ArgumentParser:
     made.add_argument("--flush", metavar="N", help="given to the program: how many entries a memtable has before it is compacted")
     made.add_argument("--merge", metavar="M", help="given to the program: how many files a tablet has before some are merged")
     made.add_argument("--no-checkpoint", action="store_true", help="make no checkpoint of a folder at the end")
+    made.add_argument("--record", metavar="FOLDER", help="keep all frames there, for tablet_audit")
     made.add_argument("--version", action="version", version=VERSION)
     made.add_argument("words", nargs=argparse.REMAINDER, help="one line to be done")
     return made
@@ -81,6 +82,7 @@ def main(given: Sequence[str]) -> int:
             words=words,
             checkpoint_at_close=not options.no_checkpoint,
             socket=options.socket,
+            record=options.record,
         ) as store:
             asked = Words(store)
             if options.words:

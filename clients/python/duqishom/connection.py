@@ -39,6 +39,13 @@ class Descriptor(Protocol):
     def close(self) -> None: ...
 
 
+class Recorder(Protocol):
+    """Whoever keeps the frames that go in and those that come out."""
+
+    def note_requests(self, frames: bytes) -> None: ...
+    def note_replies(self, frames: bytes) -> None: ...
+
+
 class StreamEnded(Exception):
     """The other side has closed the stream."""
 
@@ -68,9 +75,10 @@ class Trip:
 class Frames:
     """A stream of frames each way, over two descriptors or one."""
 
-    def __init__(self, reads: Descriptor, writes: Descriptor) -> None:
-        """Takes over both. The one that is written to no longer blocks."""
+    def __init__(self, reads: Descriptor, writes: Descriptor, recorder: Recorder | None = None) -> None:
+        """Takes over both. The one that is written to no longer blocks. Each trip that comes to its end is recorded."""
         self._reads, self._writes = reads, writes
+        self._recorder = recorder
         self._trip: Trip | None = None
         os.set_blocking(writes.fileno(), False)
         OPEN.add(self)
@@ -97,6 +105,9 @@ class Frames:
             taken = len(trip.pieces)
             rest = rest[whole_frames(rest, replies) :]
         self._trip = None
+        if self._recorder is not None:
+            self._recorder.note_requests(trip.data)
+            self._recorder.note_replies(b"".join(trip.pieces))
         return replies
 
     def _move(self, trip: Trip, deadline: float | None) -> None:

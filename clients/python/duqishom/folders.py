@@ -37,6 +37,7 @@ from duqishom.operations import (
     Sweep,
 )
 from duqishom.program import ENDS, Program, ProgramEnded
+from duqishom.recording import Recording
 from duqishom.refusals import Refused
 
 # The operations behind which a folder lacks something until the next checkpoint.
@@ -110,12 +111,12 @@ class Unsaved:
         return f"what was done {since}, {self._commits:,} commits, is not in the folder"
 
 
-def started(program: str | None, folder: str | None, words: Sequence[str]) -> Connection:
-    """A program that has opened its store. NotOpened where it can't."""
+def started(program: str | None, folder: str | None, words: Sequence[str], recording: Recording | None = None) -> Connection:
+    """A program that has opened its store, and records its frames. NotOpened where it can't."""
     if folder is not None and (why := why_no_folder(folder)):
         raise NotOpened(4, why)
     placed = () if folder is None else ("--dir", folder)
-    running = Program(program, (*placed, *words))
+    running = Program(program, (*placed, *words), recording)
     try:
         # An empty body is refused, and changes nothing
         running.ask([b""])

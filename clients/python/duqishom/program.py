@@ -10,6 +10,7 @@ from collections.abc import Sequence
 from pathlib import Path
 
 from duqishom.connection import LONGEST_BODY, Frames, StreamEnded
+from duqishom.recording import Recording
 from duqishom.refusals import FrameTooLarge
 
 # How many seconds a program may take to end once its input has ended.
@@ -47,13 +48,15 @@ def default_program() -> str:
 class Program:
     """A running `tabletd`. Its standard error is the caller's, and a Ctrl-C at the terminal doesn't reach it."""
 
-    def __init__(self, program: str | None = None, words: Sequence[str] = ()) -> None:
-        """Starts the program with these words, in a process group of its own. OSError where it can't be started."""
+    def __init__(self, program: str | None = None, words: Sequence[str] = (), recording: Recording | None = None) -> None:
+        """Starts the program with these words, in a process group of its own, and takes over the recording of its frames. OSError
+        where it can't be started."""
         command = [program or default_program(), *words]
         pipe = subprocess.PIPE
         self._child = subprocess.Popen(command, stdin=pipe, stdout=pipe, bufsize=0, process_group=0)
         assert self._child.stdin is not None and self._child.stdout is not None
-        self._frames = Frames(self._child.stdout, self._child.stdin)
+        self._recording = recording
+        self._frames = Frames(self._child.stdout, self._child.stdin, recording)
 
     def ask(self, bodies: Sequence[bytes], timeout: float | None = None) -> list[bytes]:
         """Sends these bodies in frames, and gives the bodies of the replies.
@@ -76,6 +79,8 @@ class Program:
     def close(self) -> int:
         """Ends the input, waits for the program's end, and gives its exit status. It may be called again."""
         self._frames.close()
+        if self._recording is not None:
+            self._recording.close()
         try:
             return self._child.wait(PATIENCE)
         except subprocess.TimeoutExpired:

@@ -56,6 +56,7 @@ from duqishom.operations import (
     request_bodies,
 )
 from duqishom.program import ProgramEnded
+from duqishom.recording import Recording
 from duqishom.refusals import MemtableFull, Refused, TooManyFiles
 from duqishom.remote import ConnectionLost, Fate, Gateway, fate, write_all
 from duqishom.tablets import NEW_STORE, Tablet, TabletMap, tablets_of
@@ -96,6 +97,7 @@ class Store:
         checkpoint_at_close: bool = True,
         timeout: float | None = None,
         socket: str | PathLike[str] | None = None,
+        record: str | PathLike[str] | None = None,
     ) -> None:
         """Starts the program, that of TABLETD, PATH or the repository where no other is named, with these words of its command
         line.
@@ -107,6 +109,8 @@ class Store:
         With a socket, no program is started: the store is the one that a gateway serves there, beside other clients. What of it
         is open when this client ends, the gateway ends. OSError where nobody serves there, and ConnectionLost where the gateway
         ends.
+
+        With `record`, a folder, the frames that go in and come out are kept there for `tablet_audit`: see `Recording`.
         """
         self._owner = os.getpid()
         self._turn = threading.RLock()
@@ -117,9 +121,11 @@ class Store:
         self._unsaved = Unsaved(folder is not None)
         self._is_closed = True
         self._is_remote = socket is not None
-        if self._is_remote and (program is not None or words or folder is not None):
-            raise ValueError("a store at a socket has its program and folder already")
-        self._connection: Connection = started(program, self.folder, words) if socket is None else Gateway(fspath(socket))
+        if self._is_remote and (program is not None or words or folder is not None or record is not None):
+            raise ValueError("a store at a socket has its program and folder already, and is recorded by its gateway")
+        self._connection: Connection = Gateway(fspath(socket)) if socket is not None else started(
+            program, self.folder, words, None if record is None else Recording(record)
+        )
         self._is_closed = False
         self._tablets = TabletMap(NEW_STORE if self.folder is None else tablets_of(self.folder))
         OPEN.add(self)

@@ -7,6 +7,7 @@ import signal
 import socket
 import subprocess
 import unittest
+from pathlib import Path
 
 from duqishom.program import default_program
 from tests.gateways import (
@@ -99,7 +100,10 @@ class Ends(unittest.TestCase):
         self.assertEqual(gateway.wire().commit(b"r", b"v")[:2], b"\x84\x04")
         made = gateway.statistics()["checkpoints"]
         self.assertTrue(until(lambda: bool(gateway.statistics()["checkpoints"] > made)))
+        program = Path(f"/proc/{gateway.program()}")
         gateway.kill()
+        # The program has the folder until it has ended too
+        self.assertTrue(until(lambda: not program.exists()))
         self.assertEqual(Gateway(self, ["--dir", folder]).wire().read(b"r"), VALUE)
 
     def test_a_checkpoint_goes_right_behind_a_sweep(self) -> None:

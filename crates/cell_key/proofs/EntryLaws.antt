@@ -11,12 +11,13 @@ use Rattle.std.specs.FinMap.{entries_sorted, get, get-entries, get-empty, get-in
 use Rattle.std.specs.FinMap.Entries.{find}
 use Rattle.std.proofs.lemmas.Bool.Decides.{nat_tests}
 use Rattle.cell_key.specs.Texts.{escaped_byte, escaped, ended, stamp_text, IsPlain}
-use Rattle.cell_key.specs.Keys.{byte_cmp, key_cmp, key_cmp_total, text, qualifier_name, exact_keys, IsKey, IsStored}
+use Rattle.cell_key.specs.Keys.{byte_cmp, key_cmp, key_cmp_total, text, qualifier_name, IsKey, IsStored}
 use Rattle.cell_key.specs.Entries.{Entry, IsEntry, IsRising, meaning, merged, entry_of_key, or_else, first_naming, MergesLists, first_part, with_byte, qualifier_named, key_of_text, cells_of, value_of, HasCells}
 use Rattle.cell_key.specs.declared.keys.CellKey.{CellKey}
 use Rattle.cell_key.specs.declared.keys.Qualifier.{Qualifier}
 use Rattle.cell_key.specs.declared.keys.Qualifier.TheVariants.{Data, Lock, Write}
 use Rattle.cell_key.proofs.Order.{text_order, plain_family, plain_name}
+use Rattle.cell_key.proofs.KeyLaws.{exact_keys}
 
 -- ---- several lists
 

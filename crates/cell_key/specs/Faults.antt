@@ -7,7 +7,7 @@ use Rattle.cell_key.specs.declared.refusals.Refusal.TheVariants as refused
 abbrev pub HasRisen : ℕ → ℕ → Type 0
 HasRisen before now = min (before + 1) (2 ^ 64 - 1) ≤ now
 
--- A count never falls. A device's fault is told where it has risen, and nowhere else.
+-- A count never falls. A device's fault is answered if it has risen, and only then.
 pub record HasReason {T : Type 0} (before now : ℕ) (result : Result T Refusal) : Type 0 where
   pub later : before ≤ now
   pub device : IsErrOf result refused.Device → HasRisen before now

@@ -31,7 +31,7 @@ pub record IsPlaceText (bytes : List ℕ) : Type 0 where
   pub is_family : IsFamily family
   pub is : bytes ≡ place_text row family
 
--- the texts of two places are equal only where the places are
+-- the texts of two places are equal only if the places are
 abbrev pub OnePlaceAText : Type 0
 OnePlaceAText =
     (row family row' family' : List ℕ) → IsFamily family → IsFamily family'

@@ -1,6 +1,6 @@
 //! Entries that a memtable or a file lends.
 
-/// A lent entry of a memtable or a file: the text of its key, and its value or, where there is none, an erasure.
+/// A lent entry of a memtable or a file: the text of its key, and its value or, if there is none, an erasure.
 #[derive(Clone, Copy, Debug)]
 pub struct EntryRef<'a> {
     /// The text of the key.

@@ -4,17 +4,17 @@ use Rattle.std.specs.FinMap as finmap
 use Rattle.std.proofs.lemmas.Bool.{cases_lt}
 use Rattle.std.proofs.lemmas.Option.{none-some, same_Some}
 use Rattle.cell_key.specs.Cells.{Cells}
-use Rattle.cell_key.specs.declared.edits.Edit.{Edit}
 use Rattle.cell_key.specs.declared.keys.Qualifier.TheVariants as column
-use Rattle.row_atomic.specs.Calls.{AppliesSuch, OnlyReads}
-use Rattle.row_atomic.specs.Clusters.{Storage}
+use Rattle.cell_key.specs.Columns.{NamesStart, IsRecordText}
+use Rattle.cell_key.proofs.RecordTexts.{names_of, one_write}
+use Rattle.cell_key.specs.declared.columns.WriteKind.{WriteKind}
+use Rattle.row_atomic.specs.Calls.{AppliesSuch, OnlyReads, View}
 use Rattle.si_model.specs.Deciding.{IsRight, TellsFirst}
 use Rattle.si_model.specs.Sets.{◌∈◌, here, IsWithout}
 use Rattle.si_model.specs.Machine as machine
 use Rattle.si_model.specs.Machine.{State, Commit, Step, accepts, IsAcceptable, IsReached, Gives, Marked, IsDead, IsCommitted, CommittedAt}
 use Rattle.si_model.specs.Replies.{clean_reply}
-use Rattle.si_model.specs.ShowsCells.{NamesAt, NamesCommit, NamesStart, IsRecordText, ShowsCells, ShowsMark, IsThere, at, erased_cells, kind_of_change, recorded_cells}
-use Rattle.si_model.specs.declared.cells.WriteKind.{WriteKind}
+use Rattle.si_model.specs.ShowsCells.{NamesAt, NamesCommit, ShowsCells, ShowsMark, IsThere, at, erased_cells, kind_of_change, recorded_cells}
 use Rattle.si_model.specs.declared.replies.Cell.{Cell}
 use Rattle.si_model.specs.declared.replies.CleanReply.{CleanReply}
 use Rattle.si_model.specs.declared.replies.CleanReply.TheVariants as clean
@@ -24,7 +24,6 @@ use Rattle.si_model.proofs.CleanerFates.{first_tells, names_nearest}
 use Rattle.si_model.proofs.EditedCells.{make_cells}
 use Rattle.si_model.proofs.Goes.{goes}
 use Rattle.si_model.proofs.Invariant.{IsFair}
-use Rattle.si_model.proofs.RecordTexts.{names_of, one_write}
 use Rattle.si_model.proofs.ShownKept.{shows_beside, shows_erased, shows_recorded}
 use Rattle.si_model.proofs.Snapshots.{same_commit}
 use Rattle.si_model.proofs.Steps.{reached_sound}
@@ -218,27 +217,27 @@ module _ (cells : Cells) (cleaner : Cleaner) (st : State) (i : ℕ) (reached : I
 
 -- ---- what the rows do
 
-module _ {R : Type 0} (holds : R → Type 0) (cells : R → Cells) (overfills : R → List ℕ → List Edit → Type 0) (storage : R → Storage) (old new : R) (cleaner : Cleaner) (held : holds old) where
-  pub decides_so : (f : Fate) → cleaner.fate ≡ Open → Decides holds cells overfills storage cleaner.lock f old new → Advances (cells old) cleaner clean.Decided (cells new) (record { cell = cleaner.cell; lock = cleaner.lock; fate = f })
+module _ {R : Type 0} (seen : View R) (old new : R) (cleaner : Cleaner) (held : seen.holds old) where
+  pub decides_so : (f : Fate) → cleaner.fate ≡ Open → Decides seen cleaner.lock f old new → Advances (seen.cells old) cleaner clean.Decided (seen.cells new) (record { cell = cleaner.cell; lock = cleaner.lock; fate = f })
   decides_so f is (inl (made, back)) st i reached store mine =
-      let after = made.applied.made held ∙ (make_cells (cells old) cleaner.lock.first cleaner.lock.start made.edits).erased made.such.2 in
+      let after = made.applied.made held ∙ (make_cells (seen.cells old) cleaner.lock.first cleaner.lock.start made.edits).erased made.such.2 in
       subst (λ (p : Cells × Fate). Takes st i p.0 (record { cell = cleaner.cell; lock = cleaner.lock; fate = p.1 }) clean.Decided) (λ j. (sym after j, sym back j))
-      (kills_at (cells old) cleaner st i reached store mine is (made.such.1 held))
+      (kills_at (seen.cells old) cleaner st i reached store mine is (made.such.1 held))
   decides_so f is (inr (reads, told)) st i reached store mine =
       let now = told held in
-      subst (λ (cs : Cells). Takes st i cs (record { cell = cleaner.cell; lock = cleaner.lock; fate = f }) clean.Decided) (sym (reads.kept held)) (told_at (cells old) cleaner st i reached store mine f is now.0 now.1)
+      subst (λ (cs : Cells). Takes st i cs (record { cell = cleaner.cell; lock = cleaner.lock; fate = f }) clean.Decided) (sym (reads.kept held)) (told_at (seen.cells old) cleaner st i reached store mine f is now.0 now.1)
 
-  pub gone_so : (f : Fate) → cleaner.fate ≡ f → is_decided f ≡ true → at (cells old) cleaner.cell column.Lock cleaner.lock.start ≡ None → OnlyReads holds cells overfills storage old new → Advances (cells old) cleaner clean.Gone (cells new) cleaner
+  pub gone_so : (f : Fate) → cleaner.fate ≡ f → is_decided f ≡ true → at (seen.cells old) cleaner.cell column.Lock cleaner.lock.start ≡ None → OnlyReads seen old new → Advances (seen.cells old) cleaner clean.Gone (seen.cells new) cleaner
   gone_so f is decided gone reads st i reached store mine =
-      subst (λ (cs : Cells). Takes st i cs cleaner clean.Gone) (sym (reads.kept held)) (gone_at (cells old) cleaner st i reached store mine f is decided gone)
+      subst (λ (cs : Cells). Takes st i cs cleaner clean.Gone) (sym (reads.kept held)) (gone_at (seen.cells old) cleaner st i reached store mine f is decided gone)
 
-  pub back_so : cleaner.fate ≡ Back → AppliesSuch holds cells overfills storage (ClearsCell (holds old) (cells old) cleaner.cell cleaner.lock.start None) old new → Advances (cells old) cleaner clean.RolledBack (cells new) cleaner
+  pub back_so : cleaner.fate ≡ Back → AppliesSuch seen (ClearsCell (seen.holds old) (seen.cells old) cleaner.cell cleaner.lock.start None) old new → Advances (seen.cells old) cleaner clean.RolledBack (seen.cells new) cleaner
   back_so is made st i reached store mine =
-      let after = made.applied.made held ∙ (make_cells (cells old) cleaner.cell cleaner.lock.start made.edits).erased made.such.2 in
-      subst (λ (cs : Cells). Takes st i cs cleaner clean.RolledBack) (sym after) (back_at (cells old) cleaner st i reached store mine is (made.such.1 held))
+      let after = made.applied.made held ∙ (make_cells (seen.cells old) cleaner.cell cleaner.lock.start made.edits).erased made.such.2 in
+      subst (λ (cs : Cells). Takes st i cs cleaner clean.RolledBack) (sym after) (back_at (seen.cells old) cleaner st i reached store mine is (made.such.1 held))
 
-  pub forward_so : (c : ℕ) → cleaner.fate ≡ Forward c → AppliesSuch holds cells overfills storage (ClearsCell (holds old) (cells old) cleaner.cell cleaner.lock.start (Some c)) old new → Advances (cells old) cleaner (clean.RolledForward c) (cells new) cleaner
+  pub forward_so : (c : ℕ) → cleaner.fate ≡ Forward c → AppliesSuch seen (ClearsCell (seen.holds old) (seen.cells old) cleaner.cell cleaner.lock.start (Some c)) old new → Advances (seen.cells old) cleaner (clean.RolledForward c) (seen.cells new) cleaner
   forward_so c is made st i reached store mine =
       let kind = made.such.0 in
-      let after = made.applied.made held ∙ (make_cells (cells old) cleaner.cell cleaner.lock.start made.edits).recorded c kind made.such.2.2 in
-      subst (λ (cs : Cells). Takes st i cs cleaner (clean.RolledForward c)) (sym after) (forward_at (cells old) cleaner st i reached store mine c kind is (made.such.2.1 held) (made.such.1 held))
+      let after = made.applied.made held ∙ (make_cells (seen.cells old) cleaner.cell cleaner.lock.start made.edits).recorded c kind made.such.2.2 in
+      subst (λ (cs : Cells). Takes st i cs cleaner (clean.RolledForward c)) (sym after) (forward_at (seen.cells old) cleaner st i reached store mine c kind is (made.such.2.1 held) (made.such.1 held))

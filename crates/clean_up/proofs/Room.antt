@@ -5,21 +5,21 @@ use Rattle.std.specs.BTreeMap as btree
 use Rattle.cell_key.specs.Cells.{Cells, after_edits}
 use Rattle.cell_key.specs.declared.edits.Edit.{Edit}
 use Rattle.cell_key.specs.declared.keys.Qualifier.TheVariants as column
-use Rattle.row_atomic.specs.Calls.{AppliesSuch}
-use Rattle.row_atomic.specs.Clusters.{Storage}
+use Rattle.cell_key.specs.LockEdits.{IsRecording}
+use Rattle.cell_key.proofs.RecordTexts.{names_of}
+use Rattle.cell_key.specs.declared.columns.WriteKind.{WriteKind}
+use Rattle.row_atomic.specs.Calls.{AppliesSuch, View}
 use Rattle.row_atomic.specs.Room.{HasNoRoom, TakesRoomOf}
 use Rattle.row_atomic.proofs.Calls.{such_so}
 use Rattle.si_model.specs.Deciding.{IsRight}
-use Rattle.si_model.specs.Edits.{ErasesCell, IsRecording}
+use Rattle.si_model.specs.Edits.{ErasesCell}
 use Rattle.si_model.specs.Machine.{State, IsReached, Marked}
 use Rattle.si_model.specs.ShowsCells.{NamesCommit, ShowsCells, ShowsMark, IsThere, Touches, kind_of_change}
-use Rattle.si_model.specs.declared.cells.WriteKind.{WriteKind}
 use Rattle.si_model.specs.declared.replies.CleanReply.{CleanReply}
 use Rattle.si_model.specs.declared.replies.CleanReply.TheVariants as clean
 use Rattle.si_model.specs.declared.replies.Cell.{Cell}
 use Rattle.si_model.proofs.Bounds.{reached_bounds}
 use Rattle.si_model.proofs.EditedCells.{make_cells}
-use Rattle.si_model.proofs.RecordTexts.{names_of}
 use Rattle.si_model.proofs.ShownTouched.{touches_erased, touches_recorded}
 use Rattle.si_model.proofs.Steps.{reached_sound}
 use Rattle.clean_up.specs.Fates.{HasBadRecord, verdict_of}
@@ -49,19 +49,19 @@ no_bad_record cells st reached store x (c, b, there, lacks) = lacks k.commit.sta
 pub no_room_so : {R : Type 0} (overfills : R → List ℕ → List Edit → Type 0) (rows : R) {P Q : List ℕ → List Edit → Type 0} → ((row : List ℕ) (edits : List Edit) → P row edits → Q row edits) → HasNoRoom overfills rows P → HasNoRoom overfills rows Q
 no_room_so overfills rows so (row, edits, changes, full) = (row, edits, so row edits changes, full)
 
-module _ {R : Type 0} (holds : R → Type 0) (cells : R → Cells) (overfills : R → List ℕ → List Edit → Type 0) (storage : R → Storage) (old new : R) where
+module _ {R : Type 0} (seen : View R) (old new : R) where
   abbrev Made : (List ℕ → List Edit → Type 0) → Type 0
-  Made P = AppliesSuch holds cells overfills storage P old new
+  Made P = AppliesSuch seen P old new
 
-  pub does_so : {P Q : List ℕ → List Edit → Type 0} (p : CleanReply) → ((row : List ℕ) (edits : List Edit) → P row edits → Q row edits) → Does holds cells overfills storage P p old new → Does holds cells overfills storage Q p old new
+  pub does_so : {P Q : List ℕ → List Edit → Type 0} (p : CleanReply) → ((row : List ℕ) (edits : List Edit) → P row edits → Q row edits) → Does seen P p old new → Does seen Q p old new
   does_so clean.Decided so (inl made) = inl (such_so so made)
   does_so clean.Decided so (inr reads) = inr reads
   does_so (clean.RolledForward c) so made = such_so so made
   does_so clean.RolledBack so made = such_so so made
   does_so clean.Gone so reads = reads
 
-  module _ (held : holds old) where
-    pub does_make : (P : List ℕ → List Edit → Type 0) (p : CleanReply) → Does holds cells overfills storage P p old new → Makes P p (cells old) (cells new)
+  module _ (held : seen.holds old) where
+    pub does_make : (P : List ℕ → List Edit → Type 0) (p : CleanReply) → Does seen P p old new → Makes P p (seen.cells old) (seen.cells new)
     does_make P clean.Decided (inl made) = inl (made.row, made.edits, made.such, made.applied.made held)
     does_make P clean.Decided (inr reads) = inr (reads.kept held)
     does_make P (clean.RolledForward c) made = (made.row, made.edits, made.such, made.applied.made held)
@@ -69,20 +69,20 @@ module _ {R : Type 0} (holds : R → Type 0) (cells : R → Cells) (overfills : 
     does_make P clean.Gone reads = reads.kept held
 
     -- what joins or goes stands where edits such as these touch it
-    pub does_touch : (P : List ℕ → List Edit → Type 0) (p : CleanReply) (T : Type 0) → ((row : List ℕ) (edits : List Edit) → P row edits → cells new ≡ after_edits (cells old) edits → T) → (cells new ≡ cells old → T) → Does holds cells overfills storage P p old new → T
+    pub does_touch : (P : List ℕ → List Edit → Type 0) (p : CleanReply) (T : Type 0) → ((row : List ℕ) (edits : List Edit) → P row edits → seen.cells new ≡ after_edits (seen.cells old) edits → T) → (seen.cells new ≡ seen.cells old → T) → Does seen P p old new → T
     does_touch P clean.Decided T changed kept (inl made) = changed made.row made.edits made.such (made.applied.made held)
     does_touch P clean.Decided T changed kept (inr reads) = kept (reads.kept held)
     does_touch P (clean.RolledForward c) T changed kept made = changed made.row made.edits made.such (made.applied.made held)
     does_touch P clean.RolledBack T changed kept made = changed made.row made.edits made.such (made.applied.made held)
     does_touch P clean.Gone T changed kept reads = kept (reads.kept held)
 
-  made_takes : (P : List ℕ → List Edit → Type 0) → Made P → TakesRoomOf overfills P old new
+  made_takes : (P : List ℕ → List Edit → Type 0) → Made P → TakesRoomOf seen.overfills P old new
   made_takes P made row later full = elim (made.applied.room row later full) [
     | inl before ↦ inl before
     | inr after ↦ inr (made.row, made.edits, made.such, after)
   ]
 
-  pub does_take : (P : List ℕ → List Edit → Type 0) (p : CleanReply) → Does holds cells overfills storage P p old new → TakesRoom overfills P p old new
+  pub does_take : (P : List ℕ → List Edit → Type 0) (p : CleanReply) → Does seen P p old new → TakesRoom seen.overfills P p old new
   does_take P clean.Decided (inl made) = made_takes P made
   does_take P clean.Decided (inr reads) = λ row later full. inl (reads.room row later full)
   does_take P (clean.RolledForward c) made = made_takes P made
@@ -105,7 +105,7 @@ module _ (Holds : Type 0) (cells : Cells) (i : ℕ) (cleaner : Cleaner) (held : 
       let stands = at.2.1 held in
       let mark : ShowsMark cells st cleaner.cell cleaner.lock.start = store.marks cleaner.cell cleaner.lock.start (marked stands) in
       let kind = told_kind cells st cleaner.cell cleaner.lock.start at.0 mark (at.1 held) in
-      (marked stands, at.2.0, inl (c, mark.change, right (Forward c) is stands, mark.is_change, subst (λ (k : WriteKind). IsRecording cleaner.cell cleaner.lock.start c k edits) kind at.2.2))
+      (marked stands, at.2.0, inl (c, mark.change, right (Forward c) is stands, mark.is_change, subst (λ (k : WriteKind). IsRecording cleaner.cell.row cleaner.cell.family cleaner.lock.start c k edits) kind at.2.2))
   changes_in Back is row edits at = let stands = at.1 held in (marked stands, at.0, inr (right Back is stands, at.2))
 
   erasing_touches : (x : Cell) (new : Cells) (row : List ℕ) (edits : List Edit) → ErasesCell Holds cells x cleaner.lock.start row edits → new ≡ after_edits cells edits → TouchesFor st i cells new

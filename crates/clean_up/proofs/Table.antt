@@ -14,6 +14,8 @@ use Rattle.cell_key.specs.declared.keys.Qualifier.TheVariants as column
 use Rattle.cell_key.specs.declared.refusals.Refusal.{Refusal}
 use Rattle.cell_key.specs.declared.refusals.Refusal.TheVariants.{BadRow, BadColumn, TooManySessions, UnknownCleaner, MemtableFull, Device, NoMemory, Damaged}
 use Rattle.cell_key.specs.Texts.{place_text}
+use Rattle.cell_key.specs.Columns.{IsLockText}
+use Rattle.cell_key.proofs.LockTexts.{one_first}
 use Rattle.cell_key.proofs.Order.{one_place_a_text}
 use Rattle.row_atomic.specs.Refusals.{IsReadRefusal}
 use Rattle.si_model.specs.Deciding.{CleanersKnow}
@@ -23,7 +25,7 @@ use Rattle.si_model.specs.Machine.{State, Request, Step, accepts, refuses, tells
 use Rattle.si_model.specs.Reads.{IsNameRefusal, IsClear}
 use Rattle.si_model.specs.Refusing.Refuses.{gives_up}
 use Rattle.si_model.specs.Replies.{clean_reply}
-use Rattle.si_model.specs.ShowsCells.{ShowsCells, ShowsMark, IsFirstCell, IsLockText, kind_of_change}
+use Rattle.si_model.specs.ShowsCells.{ShowsCells, ShowsMark, IsFirstCell, kind_of_change}
 use Rattle.si_model.specs.declared.replies.Cell.{Cell}
 use Rattle.si_model.specs.declared.replies.CleanReply.{CleanReply}
 use Rattle.si_model.proofs.Acceptable.{clean_begin_ok}
@@ -44,7 +46,6 @@ use Rattle.clean_up.specs.declared.cleaner.Cleaner.{Cleaner}
 use Rattle.clean_up.specs.declared.cleaners.Cleaners.{Cleaners}
 use Rattle.clean_up.specs.declared.fates.Fate.TheVariants.{Open}
 use Rattle.clean_up.specs.declared.locks.Lock.{Lock}
-use Rattle.clean_up.proofs.LockTexts.{one_first}
 
 -- what a map holds after one key has changed
 upd_at : (old new : ℕ → Option Cleaner) (k : ℕ) (w : Option Cleaner) → ((q : ℕ) → new q ≡ cond (is_eq (nat_cmp k q)) w (old q)) → new k ≡ w
@@ -231,7 +232,7 @@ stands_first cells st reached store x lock stands = subst (λ (y : Cell). IsFirs
     family = (writes_within_limits st reached lock.start m.is_first.0 m.is_first.2 m.first m.is_first.1 (0, m.is_first.3)).family
 
     text : place_text m.first.row m.first.family ≡ place_text lock.first.row lock.first.family
-    text = one_first m.first lock.first (kind_of_change m.change) stands.kind stands.text (subst (IsLockText m.first (kind_of_change m.change)) (same_Some m.text stands.text (sym m.lock ∙ stands.there)) m.is_text) stands.is_text
+    text = one_first m.first.row m.first.family lock.first.row lock.first.family (kind_of_change m.change) stands.kind stands.text (subst (IsLockText m.first.row m.first.family (kind_of_change m.change)) (same_Some m.text stands.text (sym m.lock ∙ stands.there)) m.is_text) stands.is_text
 
     same : m.first ≡ lock.first
     same = let e = one_place_a_text m.first.row m.first.family lock.first.row lock.first.family family stands.family text in λ i. record { row = e.0 i; family = e.1 i }
@@ -315,7 +316,7 @@ standing_some cells x o lock some found = subst (λ (p : Option Lock). IsStandin
 
 -- the lock of a mark names a cell
 pub no_lacking : (cells : Cells) (st : State) → IsReached st → ShowsCells cells st → (x : Cell) → ¬ LacksPlace cells x
-no_lacking cells st reached store x (t, b, there, lacks) = lacks m.first (kind_of_change m.change) limits.row limits.family (subst (IsLockText m.first (kind_of_change m.change)) (same_Some m.text b (sym m.lock ∙ there)) m.is_text)
+no_lacking cells st reached store x (t, b, there, lacks) = lacks m.first (kind_of_change m.change) limits.row limits.family (subst (IsLockText m.first.row m.first.family (kind_of_change m.change)) (same_Some m.text b (sym m.lock ∙ there)) m.is_text)
   where
     m : ShowsMark cells st x t
     m = store.marks x t (store.locks x t b there)

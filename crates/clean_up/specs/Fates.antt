@@ -1,16 +1,15 @@
--- The fate of a start, as the records of its first cell tell it.
+-- The fate of a start, as the records of its first cell show it.
 use Rattle.std.specs.Prelude.{◌≡◌, ◌⊎◌, ℕ, ◌+◌, ◌-◌, ◌^◌, List, Option, Some}
 use Rattle.cell_key.specs.Cells.{Cells}
-use Rattle.cell_key.specs.declared.edits.Edit.{Edit}
 use Rattle.cell_key.specs.declared.keys.Qualifier.TheVariants.{Write}
-use Rattle.row_atomic.specs.Calls.{AppliesSuch, OnlyReads}
-use Rattle.row_atomic.specs.Clusters.{Storage}
+use Rattle.cell_key.specs.Columns.{NamesStart}
+use Rattle.row_atomic.specs.Calls.{AppliesSuch, OnlyReads, View}
 use Rattle.row_atomic.specs.Oldest.{IsOldest}
 use Rattle.si_model.specs.Deciding as deciding
 use Rattle.si_model.specs.Deciding.{Verdict}
 use Rattle.si_model.specs.Edits.{ErasesCell}
 use Rattle.si_model.specs.Reads.{IsGone}
-use Rattle.si_model.specs.ShowsCells.{NamesStart, at, key_of}
+use Rattle.si_model.specs.ShowsCells.{at, key_of}
 use Rattle.si_model.specs.declared.replies.Cell.{Cell}
 use Rattle.clean_up.specs.declared.fates.Fate.{Fate}
 use Rattle.clean_up.specs.declared.fates.Fate.TheVariants.{Open, Forward, Back}
@@ -26,7 +25,7 @@ verdict_of Back = deciding.Back
 abbrev pub IsNextRecord : Cells → Cell → ℕ → Option (ℕ × List ℕ) → Type 0
 IsNextRecord cells x t found = IsOldest cells (key_of x Write) (t + 1) (2 ^ 64 - 1) found
 
--- What the records of its first cell tell of t: one names it, or the first one above it,
+-- What the records of its first cell show of t: one names it, or the first one above it,
 -- if there is one, doesn't.
 abbrev pub IsToldBy : Cells → Cell → ℕ → Fate → Type 0
 IsToldBy cells x t Open = ⊥
@@ -41,12 +40,11 @@ HasBadRecord cells x =
     (c : ℕ) × (b : List ℕ) × (at cells x Write c ≡ Some b) × ((t : ℕ) → ¬ NamesStart b t)
 
 -- The lock stood at its start's first cell and was erased: the start is rolled back.
--- Or it is gone there, and the records tell.
-abbrev pub Decides : {R : Type 0} → (R → Type 0)
-    → (R → Cells) → (R → List ℕ → List Edit → Type 0) → (R → Storage) → Lock → Fate → R → R → Type 0
-Decides holds cells overfills storage lock fate old new =
-    (AppliesSuch holds cells overfills storage
-    (ErasesCell (holds old) (cells old) lock.first lock.start) old new × (fate ≡ Back))
-    ⊎ (OnlyReads holds cells overfills storage old new
-    × (holds old → IsGone (cells old) lock.first lock.start
-    × IsToldBy (cells old) lock.first lock.start fate))
+-- Or it is gone there, and the records show its fate.
+abbrev pub Decides : {R : Type 0} → View R → Lock → Fate → R → R → Type 0
+Decides seen lock fate old new =
+    (AppliesSuch seen
+    (ErasesCell (seen.holds old) (seen.cells old) lock.first lock.start) old new × (fate ≡ Back))
+    ⊎ (OnlyReads seen old new
+    × (seen.holds old → IsGone (seen.cells old) lock.first lock.start
+    × IsToldBy (seen.cells old) lock.first lock.start fate))

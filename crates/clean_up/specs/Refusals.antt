@@ -25,7 +25,7 @@ abbrev pub IsStepRefusal : Refusal → Type 0
 IsStepRefusal UnknownCleaner = ⊤
 IsStepRefusal refusal = IsAdvanceRefusal refusal
 
--- A row transaction is refused by the rows: damage is told only where they don't hold.
+-- A row transaction is refused by the rows: damage is answered only if they don't hold.
 abbrev pub IsRowRefusal : Type 0 → Refusal → Type 0
 IsRowRefusal Holds MemtableFull = ⊤
 IsRowRefusal Holds Device = ⊤

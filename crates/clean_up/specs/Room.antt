@@ -5,14 +5,14 @@ use Rattle.std.specs.Ordering.{nat_cmp}
 use Rattle.std.specs.BTreeMap as btree
 use Rattle.cell_key.specs.Cells.{Cells}
 use Rattle.cell_key.specs.declared.edits.Edit.{Edit}
-use Rattle.row_atomic.specs.Calls.{AppliesSuch, OnlyReads}
-use Rattle.row_atomic.specs.Clusters.{Storage}
+use Rattle.cell_key.specs.LockEdits.{IsErasing, IsRecording}
+use Rattle.cell_key.specs.declared.columns.WriteKind.{WriteKind}
+use Rattle.row_atomic.specs.Calls.{AppliesSuch, OnlyReads, View}
 use Rattle.row_atomic.specs.Room.{AreAfter, TakesNoRoom, TakesRoomOf}
-use Rattle.si_model.specs.Edits.{ErasesCell, IsErasing, IsRecording, RecordsCell}
+use Rattle.si_model.specs.Edits.{ErasesCell, RecordsCell}
 use Rattle.si_model.specs.Machine as machine
 use Rattle.si_model.specs.Machine.{State, Change, Marked, IsDead, CommittedAt}
 use Rattle.si_model.specs.ShowsCells.{IsChange, IsFirstCell, kind_of_change}
-use Rattle.si_model.specs.declared.cells.WriteKind.{WriteKind}
 use Rattle.si_model.specs.declared.replies.Cell.{Cell}
 use Rattle.si_model.specs.declared.replies.CleanReply.{CleanReply}
 use Rattle.si_model.specs.declared.replies.CleanReply.TheVariants as clean
@@ -25,10 +25,10 @@ use Rattle.clean_up.specs.declared.fates.Fate.TheVariants.{Open, Forward, Back}
 -- The edits by which the lock of t on x goes: the record of a commit takes its place,
 -- or nothing does.
 abbrev pub IsClearing : Cell → ℕ → Option ℕ → WriteKind → List Edit → Type 0
-IsClearing x t None kind edits = IsErasing x t edits
-IsClearing x t (Some c) kind edits = IsRecording x t c kind edits
+IsClearing x t None kind edits = IsErasing x.row x.family t edits
+IsClearing x t (Some c) kind edits = IsRecording x.row x.family t c kind edits
 
--- The row and such edits. Where the rows hold, the lock of x stands, and the record has its kind.
+-- The row and such edits. If the rows hold, the lock of x stands, and the record has its kind.
 abbrev pub ClearsCell : Type 0 → Cells → Cell → ℕ → Option ℕ → List ℕ → List Edit → Type 0
 ClearsCell Holds cells x t None row edits = ErasesCell Holds cells x t row edits
 ClearsCell Holds cells x t (Some c) row edits =
@@ -47,7 +47,7 @@ EditsIn Back Holds cells cleaner row edits =
 abbrev pub EditsOf : Type 0 → Cells → Cleaner → List ℕ → List Edit → Type 0
 EditsOf Holds cells cleaner row edits = EditsIn cleaner.fate Holds cells cleaner row edits
 
--- those of the cleaner that is kept at this number
+-- those of the cleaner that is stored at this number
 abbrev pub EditsOfStep : Type 0 → Cells → Cleaners → ℕ → List ℕ → List Edit → Type 0
 EditsOfStep Holds cells cleaners i row edits =
     (cleaner : Cleaner) × (btree.get nat_cmp cleaners.cleaners i ≡ Some cleaner)
@@ -55,17 +55,12 @@ EditsOfStep Holds cells cleaners i row edits =
 
 -- A step that decides makes such edits or none, and one that takes a lock away makes them.
 -- No other changes a cell or takes room.
-abbrev pub Does : {R : Type 0} → (R → Type 0) → (R → Cells) → (R → List ℕ → List Edit → Type 0)
-    → (R → Storage) → (List ℕ → List Edit → Type 0) → CleanReply → R → R → Type 0
-Does holds cells overfills storage Such clean.Decided old new =
-    AppliesSuch holds cells overfills storage Such old new
-    ⊎ OnlyReads holds cells overfills storage old new
-Does holds cells overfills storage Such (clean.RolledForward c) old new =
-    AppliesSuch holds cells overfills storage Such old new
-Does holds cells overfills storage Such clean.RolledBack old new =
-    AppliesSuch holds cells overfills storage Such old new
-Does holds cells overfills storage Such clean.Gone old new =
-    OnlyReads holds cells overfills storage old new
+abbrev pub Does : {R : Type 0} → View R → (List ℕ → List Edit → Type 0) → CleanReply → R → R
+    → Type 0
+Does seen Such clean.Decided old new = AppliesSuch seen Such old new ⊎ OnlyReads seen old new
+Does seen Such (clean.RolledForward c) old new = AppliesSuch seen Such old new
+Does seen Such clean.RolledBack old new = AppliesSuch seen Such old new
+Does seen Such clean.Gone old new = OnlyReads seen old new
 
 -- ---- as a state of the machine shows them
 
@@ -74,14 +69,14 @@ abbrev pub ChangesOf : State → machine.Cleaner → Bool → List ℕ → List 
 -- the mark of its start goes from that start's first cell
 ChangesOf st k false row edits =
     (first : Cell) × IsFirstCell st k.start first
-    × Marked st first k.start × (row ≡ first.row) × IsErasing first k.start edits
+    × Marked st first k.start × (row ≡ first.row) × IsErasing first.row first.family k.start edits
 -- it goes from the cleaner's cell, and the record of the commit takes its place, with the kind of the
 -- start's write, or nothing does
 ChangesOf st k true row edits =
     Marked st k.cell k.start × (row ≡ k.cell.row)
     × (((c : ℕ) × (v : Change) × CommittedAt st k.start c × IsChange st k.start k.cell v
-    × IsRecording k.cell k.start c (kind_of_change v) edits)
-    ⊎ (IsDead st k.start × IsErasing k.cell k.start edits))
+    × IsRecording k.cell.row k.cell.family k.start c (kind_of_change v) edits)
+    ⊎ (IsDead st k.start × IsErasing k.cell.row k.cell.family k.start edits))
 
 abbrev pub ChangesNext : State → ℕ → List ℕ → List Edit → Type 0
 ChangesNext st i row edits =

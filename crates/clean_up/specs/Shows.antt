@@ -40,12 +40,12 @@ pub record ShowsCleaner (cleaner : Cleaner) (i : ℕ) (st : State) : Type 0 wher
   pub kept : finmap.get st.cleaners i ≡ Some (cleaner_of cleaner)
   pub knows : KnowsItsLock st cleaner
 
--- what is kept at a number is the cleaner that has it, if one is open
+-- what is stored at a number is the cleaner that has it, if one is open
 abbrev pub ShowsAt : Option Cleaner → ℕ → State → Type 0
 ShowsAt None i st = finmap.get st.cleaners i ≡ None
 ShowsAt (Some cleaner) i st = ShowsCleaner cleaner i st
 
--- the cleaners that are kept are those that are open, and the next number is the machine's
+-- the cleaners that are stored are those that are open, and the next number is the machine's
 pub record ShowsCleaners (cleaners : Cleaners) (st : State) : Type 0 where
   pub next : cleaners.next ≡ st.next_cleaner
   pub each : (i : ℕ) → ShowsAt (btree.get nat_cmp cleaners.cleaners i) i st

@@ -32,18 +32,19 @@ impl Cleaner {
         alloc: Global,
         rows: &mut R,
     ) -> Result<CleanReply, Refusal>
-        ensures step { R.holds rows.old → IfOk result (λ reply.
-            Advances (R.cells rows.old) self.old reply (R.cells rows.new) self.new) }
-        ensures does { IfOk result (λ reply. Does R.holds R.cells R.overfills R.storage
-            (EditsOf (R.holds rows.old) (R.cells rows.old) self.old) reply rows.old rows.new) }
+        ensures step { R.seen.holds rows.old → IfOk result (λ reply.
+            Advances (R.seen.cells rows.old) self.old reply (R.seen.cells rows.new) self.new) }
+        ensures does { IfOk result (λ reply. Does R.seen
+            (EditsOf (R.seen.holds rows.old) (R.seen.cells rows.old) self.old)
+            reply rows.old rows.new) }
         ensures err { OnErr result (self.new ≡ self.old) }
-        ensures same { OnErr result (OnlyReads
-            R.holds R.cells R.overfills R.storage rows.old rows.new) }
+        ensures same { OnErr result (OnlyReads R.seen rows.old rows.new) }
         ensures refusal { IfErr result IsAdvanceRefusal }
-        ensures damaged { R.holds rows.old → IfErr result (λ refusal. refusal ≡ Refusal.Damaged
-            → HasBadRecord (R.cells rows.old) self.old.lock.first) }
+        ensures damaged { R.seen.holds rows.old → IfErr result (λ refusal. refusal ≡ Refusal.Damaged
+            → HasBadRecord (R.seen.cells rows.old) self.old.lock.first) }
         ensures full { IsErrOf result Refusal.MemtableFull → HasNoRoom
-            R.overfills rows.old (EditsOf (R.holds rows.old) (R.cells rows.old) self.old) }
+            R.seen.overfills rows.old
+            (EditsOf (R.seen.holds rows.old) (R.seen.cells rows.old) self.old) }
         ensures reason { HasReason (R.faults rows.old) (R.faults rows.new) result }
     {
         let fate = self.fate;

@@ -18,7 +18,7 @@ use crate::fates::Fate;
 use crate::locks;
 use cell_key::Refusal;
 use row_atomic::Rows;
-use si_model::{CleanReply, CleanStart, cell_named};
+use si_model::{Cell, CleanReply, CleanStart};
 use std::alloc::Global;
 use std::collections::BTreeMap;
 
@@ -31,7 +31,7 @@ const MOST_NUMBER: u64 = 9_223_372_036_854_775_807;
 /// The open cleaners by their numbers, and the number of the next one (Percolator, clean-up of
 /// locks).
 ///
-/// Each call is a step of the snapshot machine: where cells and cleaners show one of its states, the
+/// Each call is a step of the snapshot machine: if cells and cleaners show one of its states, the
 /// answer is one that the machine may give there, and they show its next state after. A refusal
 /// leaves all as it was, and the same call may be made again.
 #[derive(Drop)]
@@ -62,13 +62,13 @@ impl Cleaners {
     }
 
     /// Opens a cleaner for the lock of a cell, whoever holds it: the cleaner's number, from 1 on, and
-    /// the start of the lock's session. `NoLock` where no lock stands.
+    /// the start of the lock's session. `NoLock` if no lock stands.
     ///
     /// # Errors
     ///
-    /// In this order: `BadRow`, `BadColumn`, and where a lock stands `TooManySessions` when 1,024
+    /// In this order: `BadRow`, `BadColumn`, and, if a lock stands, `TooManySessions` when 1,024
     /// cleaners are open; then `Exhausted` after the greatest number, `Device`, `NoMemory`, or
-    /// `Damaged` where bytes that were read are outside their form. There is room for the cleaner
+    /// `Damaged` if bytes that were read are outside their form. There is room for the cleaner
     /// before its number is drawn.
     pub fn begin<R: Rows>(
         &mut self,
@@ -76,20 +76,22 @@ impl Cleaners {
         row: &[u8],
         family: &[u8],
     ) -> Result<CleanStart, Refusal>
-        ensures step { R.holds rows.old
-            → Steps (R.cells rows.old) self.old (machine.CleanBegin (cell_of row.now family.now))
-            (result_reply clean_start_reply result) (R.cells rows.new) self.new }
-        ensures reads { OnlyReads R.holds R.cells R.overfills R.storage rows.old rows.new }
+        ensures step { R.seen.holds rows.old
+            → Steps (R.seen.cells rows.old) self.old
+            (machine.CleanBegin (cell_of row.now family.now))
+            (result_reply clean_start_reply result) (R.seen.cells rows.new) self.new }
+        ensures reads { OnlyReads R.seen rows.old rows.new }
         // What is shown is never answered as damaged.
-        ensures undamaged { R.holds rows.old
-            → InEachShown (R.cells rows.old) self.old (λ st. ¬ IsErrOf result Refusal.Damaged) }
+        ensures undamaged { R.seen.holds rows.old
+            → InEachShown (R.seen.cells rows.old) self.old (λ st.
+            ¬ IsErrOf result Refusal.Damaged) }
         ensures refusal { IfErr result IsBeginRefusal }
         ensures err { OnErr result (SameCleaners self.old self.new) }
         ensures exhausted { IsErrOf result Refusal.Exhausted
             → (st : State) → ShowsCleaners self.old st → IsUsedUp st }
         ensures reason { HasReason (R.faults rows.old) (R.faults rows.new) result }
     {
-        let cell = cell_named(self.alloc, row, family)?;
+        let cell = Cell::new(self.alloc, row, family)?;
         let Some(lock) = locks::standing(self.alloc, rows, &cell)? else {
             return Ok(CleanStart::NoLock);
         };
@@ -108,51 +110,52 @@ impl Cleaners {
     }
 
     /// Takes the next step of a cleaner. The first one goes to the first cell of the lock's session
-    /// and decides there: where its lock stands, that is erased, and the session is rolled back;
+    /// and decides there: if its lock stands, that is erased, and the session is rolled back;
     /// otherwise it was committed if a write record there names it, and else rolled back. The second
     /// one goes to the cleaner's cell: the lock gives way to the record of the commit, or is erased,
     /// or is gone already. The cleaner closes with it. Each step changes one row at most.
     ///
     /// # Errors
     ///
-    /// `UnknownCleaner` where none is open with this number; then `MemtableFull` where the step has
-    /// edits to make and the rows have no room for them, `Device`, `NoMemory`, or `Damaged` where
+    /// `UnknownCleaner` if none is open with this number; then `MemtableFull` if the step has
+    /// edits to make and the rows have no room for them, `Device`, `NoMemory`, or `Damaged` if
     /// bytes that were read are outside their form.
     pub fn step<R: Rows>(&mut self, rows: &mut R, number: u64) -> Result<CleanReply, Refusal>
-        ensures step { R.holds rows.old
-            → Steps (R.cells rows.old) self.old (machine.CleanStep number)
-            (result_reply clean_reply result) (R.cells rows.new) self.new }
+        ensures step { R.seen.holds rows.old
+            → Steps (R.seen.cells rows.old) self.old (machine.CleanStep number)
+            (result_reply clean_reply result) (R.seen.cells rows.new) self.new }
         // The edits that the cleaner names are made, or nothing is changed.
-        ensures does { IfOk result (λ reply. Does R.holds R.cells R.overfills R.storage (EditsOfStep
-            (R.holds rows.old) (R.cells rows.old) self.old number) reply rows.old rows.new) }
-        ensures same { OnErr result (OnlyReads
-            R.holds R.cells R.overfills R.storage rows.old rows.new) }
-        ensures below { KeepsBelow R.holds R.storage rows.old rows.new }
+        ensures does { IfOk result (λ reply. Does R.seen (EditsOfStep
+            (R.seen.holds rows.old) (R.seen.cells rows.old) self.old number)
+            reply rows.old rows.new) }
+        ensures same { OnErr result (OnlyReads R.seen rows.old rows.new) }
+        ensures below { KeepsBelow R.seen rows.old rows.new }
         // One row changes, and what joins stands at the stamp of the commit whose mark goes.
-        ensures touched { R.holds rows.old
-            → InEachShown (R.cells rows.old) self.old (λ st.
-            TouchesFor st number (R.cells rows.old) (R.cells rows.new)) }
+        ensures touched { R.seen.holds rows.old
+            → InEachShown (R.seen.cells rows.old) self.old (λ st.
+            TouchesFor st number (R.seen.cells rows.old) (R.seen.cells rows.new)) }
         // What changes are the edits of the cleaner's next step, and nothing else.
-        ensures made { R.holds rows.old
-            → IfOk result (λ reply. InEachShown (R.cells rows.old) self.old (λ st.
-            Makes (ChangesNext st number) reply (R.cells rows.old) (R.cells rows.new))) }
+        ensures made { R.seen.holds rows.old
+            → IfOk result (λ reply. InEachShown (R.seen.cells rows.old) self.old (λ st.
+            Makes (ChangesNext st number) reply (R.seen.cells rows.old) (R.seen.cells rows.new))) }
         // What is shown is never answered as damaged.
-        ensures undamaged { R.holds rows.old
-            → InEachShown (R.cells rows.old) self.old (λ st. ¬ IsErrOf result Refusal.Damaged) }
+        ensures undamaged { R.seen.holds rows.old
+            → InEachShown (R.seen.cells rows.old) self.old (λ st.
+            ¬ IsErrOf result Refusal.Damaged) }
         ensures refusal { IfErr result IsStepRefusal }
         ensures err { OnErr result (SameCleaners self.old self.new) }
         ensures unknown { (st : State) → ShowsCleaners self.old st → IsUnopened st number
             → IsErrOf result Refusal.UnknownCleaner }
-        // A step is refused MemtableFull where the rows have no room for the edits that its cleaner names.
-        ensures full { IsErrOf result Refusal.MemtableFull → HasNoRoom R.overfills
-            rows.old (EditsOfStep (R.holds rows.old) (R.cells rows.old) self.old number) }
-        ensures full_shown { R.holds rows.old → IsErrOf result Refusal.MemtableFull
-            → InEachShown (R.cells rows.old) self.old (λ st.
-            HasNoRoom R.overfills rows.old (ChangesNext st number)) }
+        // A step is refused MemtableFull if the rows have no room for the edits that its cleaner names.
+        ensures full { IsErrOf result Refusal.MemtableFull → HasNoRoom R.seen.overfills
+            rows.old (EditsOfStep (R.seen.holds rows.old) (R.seen.cells rows.old) self.old number) }
+        ensures full_shown { R.seen.holds rows.old → IsErrOf result Refusal.MemtableFull
+            → InEachShown (R.seen.cells rows.old) self.old (λ st.
+            HasNoRoom R.seen.overfills rows.old (ChangesNext st number)) }
         // A step that makes edits takes their room, and no other takes any.
-        ensures room { R.holds rows.old
-            → IfOk result (λ reply. InEachShown (R.cells rows.old) self.old (λ st.
-            TakesRoom R.overfills (ChangesNext st number) reply rows.old rows.new)) }
+        ensures room { R.seen.holds rows.old
+            → IfOk result (λ reply. InEachShown (R.seen.cells rows.old) self.old (λ st.
+            TakesRoom R.seen.overfills (ChangesNext st number) reply rows.old rows.new)) }
         ensures reason { HasReason (R.faults rows.old) (R.faults rows.new) result }
     {
         let Some(cleaner) = self.cleaners.get_mut(&number) else {

@@ -11,14 +11,13 @@ ghost use Rattle.si_model.specs.Reads.{IsGone};
 ghost use Rattle.clean_up.specs.Refusals.{IsRowRefusal};
 ghost use Rattle.clean_up.specs.Room.{ClearsCell, IsClearing};
 
-use crate::locks::parted;
-use cell_key::{Edit, Moment, Qualifier, Refusal};
+use cell_key::{Edit, Lock, Moment, Qualifier, Refusal, WriteKind, erase_lock, record_lock};
 use row_atomic::Rows;
-use si_model::{Cell, WriteKind, erasing, recording};
+use si_model::Cell;
 use std::alloc::Global;
 
 /// The edits that put the record of a commit, with the kind of its write, in the place of a lock or,
-/// where there is no commit, erase the lock.
+/// if there is no commit, erase the lock.
 fn clearing(
     alloc: Global,
     cell: &Cell,
@@ -31,13 +30,13 @@ fn clearing(
     ensures refusal { IfErr result (λ refusal. refusal ≡ Refusal.NoMemory) }
 {
     match commit {
-        Some(commit) => recording(alloc, cell, start, commit, kind),
-        None => erasing(alloc, cell, start),
+        Some(commit) => record_lock(alloc, &cell.row, &cell.family, start, commit, kind),
+        None => erase_lock(alloc, &cell.row, &cell.family, start),
     }
 }
 
 /// Takes the lock of a start off a cell, if it stands, and says whether it did. The record of a
-/// commit takes its place, with the kind that the lock has; where there is no commit, nothing does.
+/// commit takes its place, with the kind that the lock has; if there is no commit, nothing does.
 pub(crate) fn clear<R: Rows>(
     alloc: Global,
     rows: &mut R,
@@ -46,17 +45,16 @@ pub(crate) fn clear<R: Rows>(
     commit: Option<Moment>,
 ) -> Result<bool, Refusal>
     ensures made { IfOk result (λ stood.
-        OnTrue stood (AppliesSuch R.holds R.cells R.overfills R.storage (ClearsCell
-        (R.holds rows.old) (R.cells rows.old) cell.now start commit) rows.old rows.new)) }
-    ensures gone { R.holds rows.old
-        → IfOk result (λ stood. OnFalse stood (IsGone (R.cells rows.old) cell.now start)) }
-    ensures left { IfOk result (λ stood.
-        OnFalse stood (OnlyReads R.holds R.cells R.overfills R.storage rows.old rows.new)) }
-    ensures err { OnErr result (OnlyReads R.holds R.cells R.overfills R.storage rows.old rows.new) }
-    ensures refusal { IfErr result (IsRowRefusal (R.holds rows.old)) }
+        OnTrue stood (AppliesSuch R.seen (ClearsCell
+        (R.seen.holds rows.old) (R.seen.cells rows.old) cell.now start commit) rows.old rows.new)) }
+    ensures gone { R.seen.holds rows.old
+        → IfOk result (λ stood. OnFalse stood (IsGone (R.seen.cells rows.old) cell.now start)) }
+    ensures left { IfOk result (λ stood. OnFalse stood (OnlyReads R.seen rows.old rows.new)) }
+    ensures err { OnErr result (OnlyReads R.seen rows.old rows.new) }
+    ensures refusal { IfErr result (IsRowRefusal (R.seen.holds rows.old)) }
     ensures full { IsErrOf result Refusal.MemtableFull
-        → HasNoRoom R.overfills rows.old
-        (ClearsCell (R.holds rows.old) (R.cells rows.old) cell.now start commit) }
+        → HasNoRoom R.seen.overfills rows.old
+        (ClearsCell (R.seen.holds rows.old) (R.seen.cells rows.old) cell.now start commit) }
     ensures reason { HasReason (R.faults rows.old) (R.faults rows.new) result }
 {
     let stamp = start.stamp();
@@ -64,7 +62,7 @@ pub(crate) fn clear<R: Rows>(
     let Some((_, text)) = lock else {
         return Ok(false);
     };
-    let (_, kind) = parted(&text);
+    let kind = Lock::kind_of(&text);
     let edits = clearing(alloc, cell, start, commit, kind)?;
     rows.apply(&cell.row, edits)?;
     Ok(true)

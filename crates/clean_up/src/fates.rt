@@ -1,4 +1,4 @@
-//! The fate of a start, as its first cell tells it.
+//! The fate of a start, as its first cell shows it.
 
 ghost use Rattle.std.specs.Prelude.{◌≡◌, IfErr, IfOk, IsErrOf, OnErr};
 ghost use Rattle.cell_key.specs.Faults.{HasReason};
@@ -11,9 +11,9 @@ ghost use Rattle.clean_up.specs.Refusals.{IsAdvanceRefusal};
 
 use crate::clearing;
 use crate::locks::Lock;
-use cell_key::{Moment, Qualifier, Refusal};
+use cell_key::{Moment, Qualifier, Record, Refusal};
 use row_atomic::{Rows, oldest};
-use si_model::{Cell, named_write};
+use si_model::Cell;
 use std::alloc::Global;
 
 /// What a cleaner has found of the fate of its lock's start.
@@ -27,14 +27,15 @@ pub(crate) enum Fate {
     Back,
 }
 
-/// What the write records of its first cell tell of a start whose lock is gone there: the first one
-/// above a start names it, or none does. `Damaged` where that record names no start.
+/// What the write records of its first cell show of a start whose lock is gone there: the first one
+/// above a start names it, or none does. `Damaged` if that record names no start.
 fn recorded<R: Rows>(rows: &mut R, first: &Cell, start: Moment) -> Result<Fate, Refusal>
-    ensures found { R.holds rows.old → IfOk result (IsToldBy (R.cells rows.old) first.now start) }
-    ensures reads { OnlyReads R.holds R.cells R.overfills R.storage rows.old rows.new }
+    ensures found { R.seen.holds rows.old
+        → IfOk result (IsToldBy (R.seen.cells rows.old) first.now start) }
+    ensures reads { OnlyReads R.seen rows.old rows.new }
     ensures refusal { IfErr result IsReadRefusal }
-    ensures damaged { R.holds rows.old → IfErr result (λ refusal. refusal ≡ Refusal.Damaged
-        → HasBadRecord (R.cells rows.old) first.now) }
+    ensures damaged { R.seen.holds rows.old → IfErr result (λ refusal. refusal ≡ Refusal.Damaged
+        → HasBadRecord (R.seen.cells rows.old) first.now) }
     ensures reason { HasReason (R.faults rows.old) (R.faults rows.new) result }
 {
     let start = start.stamp();
@@ -46,31 +47,30 @@ fn recorded<R: Rows>(rows: &mut R, first: &Cell, start: Moment) -> Result<Fate, 
         start + 1,
         u64::MAX,
     )?;
-    let Some((commit, record)) = next else {
+    let Some((commit, text)) = next else {
         return Ok(Fate::Back);
     };
-    let Some((named, _)) = named_write(&record) else {
+    let Some(record) = Record::decode(&text) else {
         return Err(Refusal::Damaged);
     };
-    if named == start {
+    if record.start == start {
         Ok(Fate::Forward(Moment::new(commit)))
     } else {
         Ok(Fate::Back)
     }
 }
 
-/// Decides the fate of a lock's start at its first cell. Where its lock stands there, that is
-/// erased, and the start is rolled back. Otherwise the cell's records tell its fate.
+/// Decides the fate of a lock's start at its first cell. If its lock stands there, that is
+/// erased, and the start is rolled back. Otherwise the cell's records show its fate.
 pub(crate) fn decide<R: Rows>(alloc: Global, rows: &mut R, lock: &Lock) -> Result<Fate, Refusal>
-    ensures decided { IfOk result (λ fate.
-        Decides R.holds R.cells R.overfills R.storage lock.now fate rows.old rows.new) }
-    ensures err { OnErr result (OnlyReads R.holds R.cells R.overfills R.storage rows.old rows.new) }
+    ensures decided { IfOk result (λ fate. Decides R.seen lock.now fate rows.old rows.new) }
+    ensures err { OnErr result (OnlyReads R.seen rows.old rows.new) }
     ensures refusal { IfErr result IsAdvanceRefusal }
-    ensures damaged { R.holds rows.old → IfErr result (λ refusal. refusal ≡ Refusal.Damaged
-        → HasBadRecord (R.cells rows.old) lock.now.first) }
+    ensures damaged { R.seen.holds rows.old → IfErr result (λ refusal. refusal ≡ Refusal.Damaged
+        → HasBadRecord (R.seen.cells rows.old) lock.now.first) }
     ensures full { IsErrOf result Refusal.MemtableFull
-        → HasNoRoom R.overfills rows.old
-        (ErasesCell (R.holds rows.old) (R.cells rows.old) lock.now.first lock.now.start) }
+        → HasNoRoom R.seen.overfills rows.old
+        (ErasesCell (R.seen.holds rows.old) (R.seen.cells rows.old) lock.now.first lock.now.start) }
     ensures reason { HasReason (R.faults rows.old) (R.faults rows.new) result }
 {
     if clearing::clear(alloc, rows, &lock.first, lock.start, None)? {

@@ -16,7 +16,7 @@ use Rattle.compaction.specs.Least.{IsAbove, IsNotBelow, IsLeast, entry_at}
 use Rattle.compaction.specs.Ties.{comes_first}
 use Rattle.cell_key.proofs.EntryLists.{total}
 use Rattle.cell_key.proofs.TextPlaces.{one_text as same_key}
-use Rattle.compaction.specs.Heads.{not_below, none_lent}
+use Rattle.compaction.specs.LeastLaw.{not_below, none_lent}
 
 le_trans : (x y z : List ℕ) → T (is_le (byte_cmp x y)) → T (is_le (byte_cmp y z)) → T (is_le (byte_cmp x z))
 le_trans x y z p q =

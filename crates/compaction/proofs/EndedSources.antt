@@ -7,7 +7,7 @@ use Rattle.std.specs.Ordering.{is_lt}
 use Rattle.std.specs.FinMap.Entries.{below_all}
 use Rattle.cell_key.specs.Keys.{byte_cmp}
 use Rattle.cell_key.specs.Entries.{Entry, IsEntryList, Takes}
-use Rattle.sorted_file.specs.Sources.{pending}
+use Rattle.sorted_file.specs.Source.{pending}
 use Rattle.cell_key.proofs.TextPlaces.{first, second, less}
 use Rattle.cell_key.proofs.EntryLists.{total}
 use Rattle.compaction.specs.Ends.{is_below, entries_until, lent_until, is_at_end}

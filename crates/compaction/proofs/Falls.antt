@@ -9,7 +9,7 @@ use Rattle.std.proofs.lemmas.List.Sums.{sum_by-append}
 use Rattle.cell_key.specs.Entries.{Entry}
 use Rattle.compaction.specs.Least.{IsLeast}
 use Rattle.compaction.specs.Merging.{lent_at, one, MergeHolds, StepsTo}
-use Rattle.compaction.specs.Heads.{none_lent}
+use Rattle.compaction.specs.LeastLaw.{none_lent}
 
 ltb_suc : (a b : ℕ) → nat_lt (suc a) (suc b) ≡ nat_lt a b
 ltb_suc a b = grind (arith, nat_tests)

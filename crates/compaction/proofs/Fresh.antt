@@ -3,7 +3,7 @@ use Rattle.std.proofs.Common.{◌≡◌, ℕ, List, [], ◌∷◌, map, length, 
 use Rattle.std.specs.Prelude.{Option, None, OnSome}
 use Rattle.std.specs.List.{AllByRecursion}
 use Rattle.cell_key.specs.Entries.{Entry, merged}
-use Rattle.sorted_file.specs.Sources.{pending}
+use Rattle.sorted_file.specs.Source.{pending}
 use Rattle.compaction.specs.Least.{IsLeast, IsAbove, entry_at}
 use Rattle.compaction.specs.Merging.{AreAtStart, waiting, HasStarted, past_lent, merge_remaining, MergeHolds}
 

@@ -2,7 +2,6 @@ pub mod Best
 pub mod EndedSources
 pub mod Falls
 pub mod Fresh
-pub mod KeptSources
 pub mod Ranges
 pub mod Tied
 pub mod Turns

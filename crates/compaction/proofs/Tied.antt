@@ -9,7 +9,7 @@ use Rattle.compaction.specs.Least.{IsAbove, IsLeast, entry_at}
 use Rattle.compaction.specs.Ties.{ties}
 use Rattle.compaction.specs.Merging.{lent_at, HasStarted, MergeHolds, StepsTo}
 use Rattle.cell_key.proofs.EntryLists.{ties_itself}
-use Rattle.compaction.specs.MergeSteps.{step_tie, step_same}
+use Rattle.compaction.specs.MergeLaw.{step_tie, step_same}
 
 tie_self : (o : Option Entry) (P : Entry → Type 0) → IsSomeAnd o P → ties o o ≡ true
 tie_self None P h = absurd h

@@ -7,14 +7,14 @@ use Rattle.cell_key.specs.Keys.{byte_cmp}
 use Rattle.cell_key.specs.Entries.{Entry, IsRising, merged, entry_of_key, or_else, value_of, MergesLists}
 use Rattle.cell_key.proofs.EntryLists.{filter-list, total, merged_list}
 use Rattle.cell_key.proofs.TextPlaces.{first, second, equal, one_text as same_key, find_below}
-use Rattle.compaction.specs.Writing.{is_kept, kept, WritesEntryLists, KeepsOneList, NamesFirst}
+use Rattle.compaction.specs.Writing.{is_written, only_written, WritesEntryLists, KeepsOneList, NamesFirst}
 
 pub writes_entry_lists : WritesEntryLists
-writes_entry_lists keep lists h = filter-list (is_kept keep) (merged lists) (merged_list lists h)
+writes_entry_lists keep lists h = filter-list (is_written keep) (merged lists) (merged_list lists h)
 
-pub all_kept : (es : List Entry) → kept true es ≡ es
-all_kept [] = refl
-all_kept (e ∷ es) = ap (λ l. e ∷ l) (all_kept es)
+pub all_written : (es : List Entry) → only_written true es ≡ es
+all_written [] = refl
+all_written (e ∷ es) = ap (λ l. e ∷ l) (all_written es)
 
 or_none : (o : Option (Option (List ℕ))) → or_else o None ≡ o
 or_none None = refl
@@ -22,7 +22,7 @@ or_none (Some x) = refl
 
 pub keeps_one_list : MergesLists → KeepsOneList
 keeps_one_list merges es h =
-    all_kept (merged (es ∷ []))
+    all_written (merged (es ∷ []))
     ∙ same_entries byte_cmp total same_key (merged (es ∷ [])) es (merges (es ∷ [])).0 h.rising (λ q. (merges (es ∷ [])).1 q ∙ or_none (entry_of_key es q))
 
 value_at : (name : List ℕ) (e : Entry) (es : List Entry) (b : Bool) → value_of (cond b (Some e.1) (entry_of_key es name)) ≡ cond b e.1 (value_of (entry_of_key es name))
@@ -34,10 +34,10 @@ erasure_out : (name : List ℕ) (e : Entry) (es : List Entry) → T (below_all b
 erasure_out name e es h n true t = ap (λ k. value_of (entry_of_key es k)) (same_key name e.0 (equal _ t)) ∙ ap value_of (find_below e.0 es h) ∙ sym n
 erasure_out name e es h n false t = refl
 
-kept_one : (keep : Bool) (name : List ℕ) (e : Entry) (es : List Entry) → T (below_all byte_cmp e.0 es) → value_of (entry_of_key (kept keep es) name) ≡ value_of (entry_of_key es name) → (b : Bool) → is_kept keep e ≡ b
-    → value_of (entry_of_key (cond b (e ∷ kept keep es) (kept keep es)) name) ≡ value_of (entry_of_key (e ∷ es) name)
-kept_one keep name e es h same true k = value_at name e (kept keep es) (eq_by_cmp byte_cmp name e.0) ∙ ap (cond (eq_by_cmp byte_cmp name e.0) e.1) same ∙ sym (value_at name e es (eq_by_cmp byte_cmp name e.0))
-kept_one keep name e es h same false k = same ∙ erasure_out name e es h (is_erasure keep e.1 k) _ refl
+written_one : (keep : Bool) (name : List ℕ) (e : Entry) (es : List Entry) → T (below_all byte_cmp e.0 es) → value_of (entry_of_key (only_written keep es) name) ≡ value_of (entry_of_key es name) → (b : Bool) → is_written keep e ≡ b
+    → value_of (entry_of_key (cond b (e ∷ only_written keep es) (only_written keep es)) name) ≡ value_of (entry_of_key (e ∷ es) name)
+written_one keep name e es h same true k = value_at name e (only_written keep es) (eq_by_cmp byte_cmp name e.0) ∙ ap (cond (eq_by_cmp byte_cmp name e.0) e.1) same ∙ sym (value_at name e es (eq_by_cmp byte_cmp name e.0))
+written_one keep name e es h same false k = same ∙ erasure_out name e es h (is_erasure keep e.1 k) _ refl
   where
     is_erasure : (keep : Bool) (o : Option (List ℕ)) → (keep || is_some o) ≡ false → o ≡ None
     is_erasure true o k = cc
@@ -45,12 +45,12 @@ kept_one keep name e es h same false k = same ∙ erasure_out name e es h (is_er
     is_erasure false (Some x) k = cc
 
 -- entries that are left out change no value
-pub value-kept : (keep : Bool) (name : List ℕ) (es : List Entry) → IsRising es → value_of (entry_of_key (kept keep es) name) ≡ value_of (entry_of_key es name)
-value-kept keep name [] r = refl
-value-kept keep name (e ∷ es) r = kept_one keep name e es (first _ _ r) (value-kept keep name es (second _ _ r)) (is_kept keep e) refl
+pub value-written : (keep : Bool) (name : List ℕ) (es : List Entry) → IsRising es → value_of (entry_of_key (only_written keep es) name) ≡ value_of (entry_of_key es name)
+value-written keep name [] r = refl
+value-written keep name (e ∷ es) r = written_one keep name e es (first _ _ r) (value-written keep name es (second _ _ r)) (is_written keep e) refl
 
 pub names_first : MergesLists → NamesFirst
 names_first merges lists name = (
-  ap (λ es. entry_of_key es name) (all_kept (merged lists)) ∙ (merges lists).1 name,
-  λ keep. value-kept keep name (merged lists) (merges lists).0 ∙ ap value_of ((merges lists).1 name),
+  ap (λ es. entry_of_key es name) (all_written (merged lists)) ∙ (merges lists).1 name,
+  λ keep. value-written keep name (merged lists) (merges lists).0 ∙ ap value_of ((merges lists).1 name),
 )

@@ -1,19 +1,17 @@
 -- The entries of a source up to an end.
-use Rattle.std.proofs.Common.{◌≡◌, Bool, true, false, cond, refl, subst}
+use Rattle.std.proofs.Common.{◌≡◌, Bool, true, false, cond}
 use Rattle.std.specs.Prelude.{ℕ, List, ◌∷◌, filter, map, Option, Some, None, not}
 use Rattle.std.specs.Option.{option_copied}
 use Rattle.std.specs.Ordering.{is_lt}
 use Rattle.cell_key.specs.Keys.{byte_cmp}
-use Rattle.cell_key.specs.Entries.{Entry, IsEntryList, entries_from, merged}
-use Rattle.sorted_file.specs.Sources.{pending}
-use Rattle.compaction.specs.declared.until.Until.{Until}
-use Rattle.cell_key.proofs.EntryLists.{filter-list, rest-list}
+use Rattle.cell_key.specs.Entries.{Entry, entries_from, merged}
+use Rattle.compaction.specs.declared.bounded.Bounded.{Bounded}
 
 -- the source that a prefix is of, and the text that it ends before
-abbrev pub source_of : {S : Type 0} → Until S → S
+abbrev pub source_of : {S : Type 0} → Bounded S → S
 source_of s = s.source
 
-abbrev pub end_of : {S : Type 0} → Until S → Option (List ℕ)
+abbrev pub end_of : {S : Type 0} → Bounded S → Option (List ℕ)
 end_of s = option_copied s.end
 
 -- whether a text is below an end, if there is one
@@ -40,17 +38,3 @@ lent_until end (Some entry) = cond (is_below end entry.0) (Some entry) None
 abbrev pub is_at_end : Option (List ℕ) → Option Entry → Bool
 is_at_end end None = false
 is_at_end end (Some entry) = not (is_below end entry.0)
-
-pub until_list : (end : Option (List ℕ)) (lent : Option Entry) (es : List Entry)
-    → IsEntryList (pending lent es)
-    → IsEntryList (pending (lent_until end lent) (entries_until end es))
-until_list end None es h = filter-list (λ entry. is_below end entry.0) es h
-until_list end (Some entry) es h =
-    let below = λ (e : Entry). is_below end e.0 in
-    elim (is_below end entry.0) as (λ b. is_below end entry.0 ≡ b
-    → IsEntryList (pending (cond b (Some entry) None) (entries_until end es))) [
-      | true ↦ λ is. subst
-          (λ b. IsEntryList (cond b (entry ∷ entries_until end es) (entries_until end es)))
-          is (filter-list below (entry ∷ es) h)
-      | false ↦ λ _. filter-list below es (rest-list entry es h)
-    ] refl

@@ -2,9 +2,9 @@
 use Rattle.std.specs.Prelude.{ℕ, List, Option, length}
 use Rattle.cell_key.specs.Entries.{Entry, IsEntryList}
 use Rattle.file_store.specs.Store.{Contents}
-use Rattle.sorted_file.specs.Sources.{pending}
-use Rattle.sorted_file.specs.Cursors.{cursor_lent, cursor_list, cursor_remaining, CursorHolds}
-use Rattle.sorted_file.specs.declared.cursors.FileCursor.{FileCursor}
+use Rattle.sorted_file.specs.Source.{pending}
+use Rattle.sorted_file.specs.Cursor.{cursor_lent, cursor_remaining, CursorHolds}
+use Rattle.sorted_file.specs.declared.cursor.FileCursor.{FileCursor}
 use Rattle.compaction.specs.declared.input.Input.{Input}
 use Rattle.compaction.specs.declared.input.Input.TheVariants.{Memtable, File}
 
@@ -16,7 +16,7 @@ abbrev pub input_remaining : Option Contents → Input → List Entry
 input_remaining told (Memtable s) = s.1
 input_remaining told (File s) = cursor_remaining told s
 
--- its entries are an entry list: those of a memtable whatever the files tell
+-- its entries are an entry list: those of a memtable whatever the files hold
 abbrev pub InputHolds : Option Contents → Input → Type 0
 InputHolds told (Memtable s) = IsEntryList (pending s.0 s.1)
 InputHolds told (File s) = CursorHolds told s
@@ -25,8 +25,3 @@ InputHolds told (File s) = CursorHolds told s
 abbrev pub input_left : (FileCursor → ℕ) → Input → ℕ
 input_left left (Memtable s) = length s.1
 input_left left (File s) = left s
-
-pub input_list : (told : Option Contents) (s : Input) → InputHolds told s
-    → IsEntryList (pending (input_lent s) (input_remaining told s))
-input_list told (Memtable s) h = h
-input_list told (File s) h = cursor_list told s h

@@ -6,13 +6,13 @@ use Rattle.std.specs.declared.cmp.Ordering.TheVariants.{Less}
 use Rattle.cell_key.specs.Keys.{byte_cmp}
 use Rattle.cell_key.specs.Entries.{Entry}
 
--- the second key is above the first, where there is a second
+-- the second key is above the first, if there is a second
 abbrev pub IsAbove : Option Entry → Option Entry → Type 0
 IsAbove best None = Unit {0}
 IsAbove None (Some f) = ⊥
 IsAbove (Some e) (Some f) = byte_cmp e.0 f.0 ≡ Less
 
--- the second key isn't below the first, where there is a second
+-- the second key isn't below the first, if there is a second
 abbrev pub IsNotBelow : Entry → Option Entry → Type 0
 IsNotBelow e None = Unit {0}
 IsNotBelow e (Some f) = T (is_le (byte_cmp e.0 f.0))
@@ -20,7 +20,7 @@ IsNotBelow e (Some f) = T (is_le (byte_cmp e.0 f.0))
 abbrev pub entry_at : List (Option Entry) → ℕ → Option Entry
 entry_at lents at = slice_index_or lents at None
 
--- the place of the first entry of the least key, or the length where there is no entry
+-- the place of the first entry of the least key, or the length if there is no entry
 abbrev pub IsLeast : List (Option Entry) → ℕ → Type 0
 IsLeast [] at = at ≡ 0
 IsLeast (o ∷ os) zero = IsSomeAnd o (λ e. AllByRecursion (IsNotBelow e) os)

@@ -1,12 +1,13 @@
 pub mod Inputs
 pub mod Ends
 pub mod Least
+pub mod ListLaws
 pub mod Merging
-pub mod Past
-pub mod Heads
-pub mod MergeSteps
+pub mod PastLaw
+pub mod LeastLaw
+pub mod MergeLaw
 pub mod Ties
 pub mod Writing
 pub use Rattle.cell_key.specs.Entries
 pub use Rattle.file_store.specs.Store
-pub use Rattle.sorted_file.specs.Sources
+pub use Rattle.sorted_file.specs.Source

@@ -4,7 +4,7 @@ use Rattle.std.specs.List.{AllByRecursion}
 use Rattle.std.specs.Ordering.{is_eq}
 use Rattle.cell_key.specs.Keys.{byte_cmp}
 use Rattle.cell_key.specs.Entries.{Entry, merged}
-use Rattle.sorted_file.specs.Sources.{pending}
+use Rattle.sorted_file.specs.Source.{pending}
 use Rattle.compaction.specs.Least.{IsLeast, entry_at}
 
 -- what is left of entries without a first one of this key

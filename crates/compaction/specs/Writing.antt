@@ -3,24 +3,22 @@ use Rattle.std.proofs.Common.{◌≡◌, Bool, true, false}
 use Rattle.std.specs.Prelude.{ℕ, List, [], ◌∷◌, filter, Option, Some, None, is_some, ◌||◌}
 use Rattle.std.specs.List.{AllByRecursion}
 use Rattle.cell_key.specs.Entries.{Entry, IsEntryList, merged, entry_of_key, first_naming, value_of}
-use Rattle.sorted_file.specs.Sources.{pending}
-use Rattle.cell_key.proofs.EntryLists.{filter-list, front-list}
 
--- whether an entry is kept: a value always, and an erasure where erasures are kept
-abbrev pub is_kept : Bool → Entry → Bool
-is_kept keep_erasures entry = keep_erasures || is_some entry.1
+-- whether an entry is written: a value always, and an erasure if erasures are kept
+abbrev pub is_written : Bool → Entry → Bool
+is_written keep_erasures entry = keep_erasures || is_some entry.1
 
--- the entries that are kept
-abbrev pub kept : Bool → List Entry → List Entry
-kept keep_erasures es = filter (is_kept keep_erasures) es
+-- the entries that are written
+abbrev pub only_written : Bool → List Entry → List Entry
+only_written keep_erasures es = filter (is_written keep_erasures) es
 
-abbrev pub is_kept_lent : Bool → Option Entry → Bool
-is_kept_lent keep_erasures None = false
-is_kept_lent keep_erasures (Some entry) = is_kept keep_erasures entry
+abbrev pub is_written_lent : Bool → Option Entry → Bool
+is_written_lent keep_erasures None = false
+is_written_lent keep_erasures (Some entry) = is_written keep_erasures entry
 
 -- what is written of lists, the newest first
 abbrev pub written : Bool → List (List Entry) → List Entry
-written keep_erasures lists = kept keep_erasures (merged lists)
+written keep_erasures lists = only_written keep_erasures (merged lists)
 
 -- what is written of entry lists is an entry list
 abbrev pub WritesEntryLists : Type 0
@@ -28,20 +26,15 @@ WritesEntryLists =
     (keep_erasures : Bool) (lists : List (List Entry)) → AllByRecursion IsEntryList lists
     → IsEntryList (written keep_erasures lists)
 
--- one entry list is written as it is, where erasures are kept
+-- one entry list is written as it is, if erasures are kept
 abbrev pub KeepsOneList : Type 0
 KeepsOneList = (es : List Entry) → IsEntryList es → written true (es ∷ []) ≡ es
 
 -- At each text there is the value of the first list that names it,
--- and its erasure too where they are kept.
+-- and its erasure too if they are kept.
 abbrev pub NamesFirst : Type 0
 NamesFirst =
     (lists : List (List Entry)) (name : List ℕ)
     → (entry_of_key (written true lists) name ≡ first_naming lists name)
     × ((keep_erasures : Bool) → value_of (entry_of_key (written keep_erasures lists) name)
     ≡ value_of (first_naming lists name))
-
-pub kept_list : (keep_erasures : Bool) (lent : Option Entry) (es : List Entry)
-    → IsEntryList (pending lent es) → IsEntryList (pending lent (kept keep_erasures es))
-kept_list keep_erasures None es h = filter-list (is_kept keep_erasures) es h
-kept_list keep_erasures (Some entry) es h = front-list (is_kept keep_erasures) entry es h

@@ -14,7 +14,8 @@ pub enum Input<'a> {
 }
 
 impl<F: Files> Source<F> for Input<'_> {
-    ghost use Rattle.compaction.specs.Inputs.{input_remaining, input_lent, input_left, InputHolds, input_list};
+    ghost use Rattle.compaction.specs.Inputs.{input_remaining, input_lent, input_left, InputHolds};
+    ghost use Rattle.compaction.specs.ListLaws.{input_list};
 
     ghost holds = { InputHolds };
 

@@ -11,14 +11,14 @@ pub fn writes_entry_lists()
     ensures { WritesEntryLists }
 {}
 
-/// One entry list is written as it is, where erasures are kept.
+/// One entry list is written as it is, if erasures are kept.
 pub fn keeps_one_list()
     ensures { KeepsOneList }
 {
     merges_lists();
 }
 
-/// What is written has at each text the value of the first list that names it, and where erasures are kept
+/// What is written has at each text the value of the first list that names it, and, if erasures are kept,
 /// its erasure too.
 pub fn names_first()
     ensures { NamesFirst }

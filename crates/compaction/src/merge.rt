@@ -4,7 +4,7 @@ ghost use Rattle.std.specs.Prelude.{ℕ, ◌≡◌, ◌≤◌, ◌+◌, None, le
 ghost use Rattle.std.specs.List.{AllByRecursion, AllZip};
 ghost use Rattle.file_store.specs.Store.{Contents};
 ghost use Rattle.cell_key.specs.Entries.{merged};
-ghost use Rattle.sorted_file.specs.Sources.{IsReadRefusal};
+ghost use Rattle.sorted_file.specs.Source.{IsReadRefusal};
 ghost use Rattle.cell_key.specs.Faults.{HasReason};
 ghost use Rattle.compaction.specs.Least.{IsLeast};
 ghost use Rattle.compaction.specs.Merging.{AreAtStart, lent_at, StepsTo, MergeHolds, HasStarted, cost, one};
@@ -19,7 +19,7 @@ use sorted_file::Source;
 #[derive(Drop)]
 pub struct Merge<S> {
     sources: Vec<S>,
-    /// The place of the source whose entry is lent, or the length where none is.
+    /// The place of the source whose entry is lent, or the length if none is.
     at: usize,
 }
 
@@ -49,7 +49,7 @@ fn is_first<F: Files, S: Source<F>>(a: &S, b: Option<&S>) -> bool
     }
 }
 
-/// The place of the first of the least entries, or the length where no source is at one.
+/// The place of the first of the least entries, or the length if no source is at one.
 fn least<F: Files, S: Source<F>>(sources: &[S]) -> usize
     ensures { IsLeast (map S.lent sources.now) result }
 {
@@ -189,7 +189,7 @@ impl<S> Merge<S> {
 impl<F: Files, S: Source<F>> Source<F> for Merge<S> {
     ghost use Rattle.std.specs.Prelude.{sum_by};
     ghost use Rattle.compaction.specs.Merging.{lent_at, merge_remaining, MergeHolds, cost};
-    ghost use Rattle.compaction.specs.MergeSteps.{merge_list};
+    ghost use Rattle.compaction.specs.MergeLaw.{merge_list};
 
     ghost holds = { λ told s.
         MergeHolds S.lent (S.remaining told) (S.holds told) s.sources.items s.at };

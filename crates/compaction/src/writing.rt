@@ -3,14 +3,15 @@
 ghost use Rattle.std.specs.Prelude.{◌≡◌, ◌≤◌, ℕ, List, length, map, IfErr, OnOk, OnErr, IsErrOf};
 ghost use Rattle.file_store.specs.Store.{KeepsOthers, with_file};
 ghost use Rattle.sorted_file.specs.Grammar.{IsFile, FitsIn};
-ghost use Rattle.sorted_file.specs.Sources.{IsWriteRefusal};
-ghost use Rattle.sorted_file.specs.declared.formats.Format.TheVariants.{Two};
+ghost use Rattle.sorted_file.specs.Limits.{IsFileLimit};
+ghost use Rattle.sorted_file.specs.Source.{IsWriteRefusal};
+ghost use Rattle.sorted_file.specs.declared.format.Format.TheVariants.{Two};
 ghost use Rattle.cell_key.specs.Faults.{HasReason};
 ghost use Rattle.compaction.specs.Merging.{AreAtStart};
 ghost use Rattle.compaction.specs.Writing.{written};
 
-use crate::kept::Kept;
 use crate::merge::Merge;
+use crate::values::Values;
 use cell_key::Refusal;
 use file_store::Files;
 use sorted_file::{Source, write_file};
@@ -23,9 +24,9 @@ use std::alloc::Global;
 ///
 /// # Errors
 ///
-/// `FileTooLarge` where the file would have more than `file_limit` bytes, `Damaged` where a source is, and
-/// `Device` and `NoMemory`. Until the whole file is in memory no file is changed. After an `Err` of the
-/// write itself the bytes under this name are open. All other files stay as they are.
+/// `FileTooLarge` if the file would have more than `file_limit` bytes, `Damaged` if a source is damaged,
+/// and `Device` and `NoMemory`. Until the whole file is in memory no file is changed. After an `Err` of
+/// the write itself the bytes under this name are open. All other files stay as they are.
 pub fn merge_into<F: Files, S: Source<F> + Drop>(
     alloc: Global,
     sources: Vec<S>,
@@ -34,8 +35,7 @@ pub fn merge_into<F: Files, S: Source<F> + Drop>(
     file_limit: u64,
     files: &mut F,
 ) -> Result<(), Refusal>
-    requires least { 48 ≤ file_limit }
-    requires most { file_limit ≤ 68_719_476_736 }
+    requires limit { IsFileLimit file_limit }
     ensures written { OnOk result ((image : List ℕ)
         × ((F.contents files.new ≡ with_file name image (F.contents files.old))
         × (length image ≤ file_limit)
@@ -55,6 +55,6 @@ pub fn merge_into<F: Files, S: Source<F> + Drop>(
     ensures reason { HasReason (F.faults files.old) (F.faults files.new) result }
 {
     let merge = Merge::new::<F>(sources);
-    let mut kept = Kept::new(merge, keep_erasures);
-    write_file(alloc, &mut kept, name, file_limit, files)
+    let mut values = Values::new(merge, keep_erasures);
+    write_file(alloc, &mut values, name, file_limit, files)
 }

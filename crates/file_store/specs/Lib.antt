@@ -1,3 +1,4 @@
+pub mod Fails
 pub mod Faults
 pub mod Store
 pub mod View

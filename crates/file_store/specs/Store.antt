@@ -1,4 +1,4 @@
--- What files tell, and what their calls may do.
+-- What files contain, and what their calls may do.
 use Rattle.std.specs.Prelude.{Option, Some, None, option_map, ◌≡◌, ◌≢◌, ℕ, ◌+◌, ◌-◌, ◌≤◌, ◌^◌, ◌⊎◌, min, List, [], ◌++◌, take, drop, length, Result, IsErrOf, IsNone, IsSomeAnd, unwrap_or}
 use Rattle.std.specs.Ordering.{nat_cmp}
 use Rattle.std.specs.FinMap as map
@@ -14,19 +14,19 @@ Contents = FinMap nat_cmp (List ℕ)
 abbrev pub HasRisen : ℕ → ℕ → Type 0
 HasRisen before now = min (before + 1) (2 ^ 64 - 1) ≤ now
 
--- A count never falls. A device's fault is told where it has risen, and nowhere else.
+-- A count never falls. A device's fault is answered exactly if it has risen.
 pub record HasFaultCause {T : Type 0} (before now : ℕ) (result : Result T FileFault) : Type 0 where
   pub later : before ≤ now
   pub device : IsErrOf result Device → HasRisen before now
   pub told : ¬ IsErrOf result Device → now ≡ before
 
--- all files but this one are as before, where they are told, and are told still
+-- all files but this one are as before, if the files say what they contain, and they still say it
 abbrev pub KeepsOthers : ℕ → Option Contents → Option Contents → Type 0
 KeepsOthers name None new = IsNone new
 KeepsOthers name (Some old) new =
     IsSomeAnd new (λ now. (other : ℕ) → other ≢ name → map.get now other ≡ map.get old other)
 
--- the contents after a file was made or replaced, and after one was removed, where they are told
+-- the contents after a file was made or replaced, and after one was removed, if they are known
 abbrev pub with_file : ℕ → List ℕ → Option Contents → Option Contents
 with_file name bytes = option_map (λ m. map.insert m name bytes)
 

@@ -1,4 +1,4 @@
--- The contents of files that are kept as vectors.
+-- The contents of files that are held as vectors.
 use Rattle.std.specs.Prelude.{ℕ, List, map}
 use Rattle.std.specs.Global.{Vec}
 use Rattle.std.specs.FinMap.{from_entries}

@@ -50,7 +50,7 @@ impl<T: Drop> From<AllocFailed<T>> for FileFault {
 
 /// Files under numbers, which are their names. Nobody else writes them.
 pub trait Files {
-    /// The bytes of each file, or none where the files do not tell them, as on a real disk.
+    /// The bytes of each file, or none if the files do not say, as on a real disk.
     ghost contents: { Self → Option Contents };
 
     /// How often a device has failed, up to the greatest number.

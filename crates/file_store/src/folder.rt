@@ -54,7 +54,7 @@ fn name_of(file: &str, ending: &str) -> Option<u64> {
     u64::from_str_radix(digits, 16).ok()
 }
 
-/// Locks a folder's file `lock`, which is made where there is none. It fails where another has locked it.
+/// Locks a folder's file `lock`, which is made if there is none. It fails if another has locked it.
 fn lock_folder<R: Folders<File = File>>(rt: &R, alloc: Global, folder: &str) -> io::Result<File> {
     let path = format!(in alloc; "{folder}/lock")?;
     let file = File::create(rt, path.as_str())?;
@@ -171,10 +171,8 @@ fn read_from<R: Folders>(
 /// How many bytes a file has, if it is there.
 fn size_of<R: Folders>(rt: &R, alloc: Global, folder: &str, name: u64) -> io::Result<Option<u64>> {
     let path = path_of(alloc, folder, name, "tab")?;
-    match if_there(fs::metadata(rt, path.as_str()))? {
-        Some(metadata) => Ok(Some(metadata.len())),
-        None => Ok(None),
-    }
+    let metadata = if_there(fs::metadata(rt, path.as_str()))?;
+    Ok(metadata.map(|metadata| metadata.len()))
 }
 
 /// Removes a file, if it is there.
@@ -247,20 +245,17 @@ impl<R: Folders<File = File> + AllocGlobal + Clone + Drop> DirFiles<R> {
     ///
     /// # Errors
     ///
-    /// `Device` where there is no such folder, another program has it, or it can't be read; `Memory`.
+    /// `Device` if there is no such folder, another program has it, or it can't be read; `Memory`.
     pub fn open(rt: R, folder: &str) -> Result<DirFiles<R>, FileFault>
         ensures { IfOk result (λ files. files.faults ≡ 0) }
     {
-        match open_folder(rt, folder) {
-            Ok(files) => Ok(files),
-            Err(error) => Err(fault_of(error)),
-        }
+        open_folder(rt, folder).map_err(fault_of)
     }
 }
 
 impl<R: Folders + AllocGlobal + Clone + Drop> DirFiles<R> {
     /// What a call answered, or its fault, which is counted if it is a device's.
-    fn told<T: Drop>(&mut self, called: io::Result<T>) -> Result<T, FileFault>
+    fn count_fault<T: Drop>(&mut self, called: io::Result<T>) -> Result<T, FileFault>
         ensures cause { HasFaultCause self.old.faults self.new.faults result }
         ensures same { IfOk result (λ value. called ≡ Ok value) }
         ensures memory { IfErr called (λ error.
@@ -306,12 +301,12 @@ impl<R: Folders + AllocGlobal + Clone + Drop> Files for DirFiles<R> {
 
     fn put(&mut self, name: u64, bytes: &[u8]) -> Result<(), FileFault> {
         let called = write_file(&self.rt, self.alloc, self.folder.as_str(), name, bytes);
-        self.told(called)
+        self.count_fault(called)
     }
 
     fn size(&mut self, name: u64) -> Result<Option<u64>, FileFault> {
         let called = size_of(&self.rt, self.alloc, self.folder.as_str(), name);
-        self.told(called)
+        self.count_fault(called)
     }
 
     fn read_at(&mut self, name: u64, offset: u64, out: &mut [u8]) -> Result<usize, FileFault> {
@@ -323,19 +318,19 @@ impl<R: Folders + AllocGlobal + Clone + Drop> Files for DirFiles<R> {
             offset,
             out,
         );
-        self.told(called)
+        self.count_fault(called)
     }
 
     fn list(&mut self, names: &mut Vec<u64>) -> Result<(), FileFault> {
         let called = names_in(&self.rt, self.folder.as_str(), "tab");
-        let found = self.told(called)?;
+        let found = self.count_fault(called)?;
         names.extend_from_slice(&found)?;
         Ok(())
     }
 
     fn remove(&mut self, name: u64) -> Result<(), FileFault> {
         let called = remove_file(&self.rt, self.alloc, self.folder.as_str(), name);
-        self.told(called)
+        self.count_fault(called)
     }
 
     fn faults(&self) -> u64 {

@@ -1,11 +1,13 @@
 //! Files as numbers with bytes, and files in memory.
 #![tactic(auto)]
 
+mod fail;
 mod files;
 mod folder;
 mod memory;
 mod whole;
 
+pub use fail::{Fail, FailAt};
 pub use files::{FileFault, Files};
 pub use folder::DirFiles;
 pub use memory::MemFiles;

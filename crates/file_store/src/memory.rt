@@ -1,6 +1,6 @@
 //! Files in memory.
 
-ghost use Rattle.std.specs.Prelude.{◌≡◌, ◌≤◌, ◌<◌, ◌+◌, ◌++◌, ◌∷◌, [], Some, Ok, length, option_map, vec_len, vec_capacity, IfErr, OnErr, OnOk, IsOk, IfOk};
+ghost use Rattle.std.specs.Prelude.{◌≡◌, ◌≤◌, Some, Ok, length, option_map, IfErr, OnErr, OnOk, IsOk, IfOk};
 ghost use Rattle.std.specs.FinMap as map;
 ghost use Rattle.file_store.specs.Store.{Reads, bytes_of, part, with_front};
 
@@ -9,7 +9,7 @@ use std::alloc::Global;
 use std::collections::BTreeMap;
 use std::marker::Model;
 
-/// Files in memory. They tell their bytes, and no device of theirs fails.
+/// Files in memory. Their bytes are known, and no device of theirs fails.
 #[derive(Drop)]
 pub struct MemFiles {
     alloc: Global,
@@ -40,16 +40,6 @@ impl MemFiles {
             files: BTreeMap::new(alloc),
         }
     }
-}
-
-/// Appends a name.
-fn push_name(names: &mut Vec<u64>, name: u64)
-    requires { vec_len names.old < vec_capacity names.old }
-    ensures items { names.new.items ≡ names.old.items ++ name ∷ [] }
-    ensures len { vec_len names.new ≡ vec_len names.old + 1 }
-    ensures room { vec_capacity names.old ≤ vec_capacity names.new }
-{
-    names.push(name).unwrap();
 }
 
 impl Files for MemFiles {
@@ -102,7 +92,7 @@ impl Files for MemFiles {
     fn list(&mut self, names: &mut Vec<u64>) -> Result<(), FileFault> {
         names.reserve(self.files.len())?;
         for name in self.files.keys() {
-            push_name(names, *name);
+            names.push_reserved(*name);
         }
         Ok(())
     }

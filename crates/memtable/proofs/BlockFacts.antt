@@ -9,7 +9,7 @@ use Rattle.cell_key.specs.Keys.{byte_cmp}
 use Rattle.cell_key.specs.Entries.{Entry, IsRising, entry_of_key}
 use Rattle.memtable.specs.declared.blocks.Block.{Block}
 use Rattle.memtable.specs.Slots.{slot_entry}
-use Rattle.memtable.specs.Blocks.{ends_below, list_of, lists_of, block_entries, IsBlockPlace, IsCounted, IsEntryBlock, IsFullAt}
+use Rattle.memtable.specs.Blocks.{ends_below, list_of, lists_of, block_entries, IsBlockIndex, IsCounted, IsEntryBlock, IsFullAt}
 use Rattle.memtable.proofs.BlockLists.{all_set, found_in, found_last, put_in, put_last}
 
 -- a block has entries
@@ -55,25 +55,25 @@ full_at blocks i block lt full counted all =
     }
 
 -- an entry put into the block at its place, or into the last one where that is behind all
-pub put_chosen : (name : List ℕ) (v : Option (List ℕ)) (old new : Block) → list_of new ≡ put byte_cmp name v (list_of old) → (blocks : List Block) (place at : ℕ) → IsRising (block_entries blocks) → AllByRecursion IsEntryBlock blocks → IsBlockPlace name (lists_of blocks) place → at < length blocks → (at ≢ place → (at + 1 ≡ length blocks) × (length blocks ≤ place)) → old ≡ get_or blocks at old → block_entries (set blocks at new) ≡ put byte_cmp name v (block_entries blocks)
+pub put_chosen : (name : List ℕ) (v : Option (List ℕ)) (old new : Block) → list_of new ≡ put byte_cmp name v (list_of old) → (blocks : List Block) (place at : ℕ) → IsRising (block_entries blocks) → AllByRecursion IsEntryBlock blocks → IsBlockIndex name (lists_of blocks) place → at < length blocks → (at ≢ place → (at + 1 ≡ length blocks) × (length blocks ≤ place)) → old ≡ get_or blocks at old → block_entries (set blocks at new) ≡ put byte_cmp name v (block_entries blocks)
 put_chosen name v old new made blocks place at r all p lt last g = go (nat_eq at place) refl
   where
     go : (b : Bool) → nat_eq at place ≡ b → block_entries (set blocks at new) ≡ put byte_cmp name v (block_entries blocks)
     go true e =
         let same : at ≡ place = grind (arith, nat_tests) in
-        put_in list_of name v old new made blocks at r (blocks_some blocks all) (subst (IsBlockPlace name (lists_of blocks)) (sym same) p) lt g
+        put_in list_of name v old new made blocks at r (blocks_some blocks all) (subst (IsBlockIndex name (lists_of blocks)) (sym same) p) lt g
     go false e =
         let other = last (λ same. grind (arith, nat_tests)) in
         put_last list_of name v old new made blocks at place r p other.1 other.0 g
 
 -- what stands at the text in the chosen block stands there in all
-pub found_chosen : (name : List ℕ) (old : Block) (blocks : List Block) (place at : ℕ) → IsRising (block_entries blocks) → AllByRecursion IsEntryBlock blocks → IsBlockPlace name (lists_of blocks) place → at < length blocks → (at ≢ place → (at + 1 ≡ length blocks) × (length blocks ≤ place)) → old ≡ get_or blocks at old → entry_of_key (block_entries blocks) name ≡ entry_of_key (list_of old) name
+pub found_chosen : (name : List ℕ) (old : Block) (blocks : List Block) (place at : ℕ) → IsRising (block_entries blocks) → AllByRecursion IsEntryBlock blocks → IsBlockIndex name (lists_of blocks) place → at < length blocks → (at ≢ place → (at + 1 ≡ length blocks) × (length blocks ≤ place)) → old ≡ get_or blocks at old → entry_of_key (block_entries blocks) name ≡ entry_of_key (list_of old) name
 found_chosen name old blocks place at r all p lt last g = go (nat_eq at place) refl
   where
     go : (b : Bool) → nat_eq at place ≡ b → entry_of_key (block_entries blocks) name ≡ entry_of_key (list_of old) name
     go true e =
         let same : at ≡ place = grind (arith, nat_tests) in
-        found_in list_of name blocks at old r (blocks_some blocks all) (subst (IsBlockPlace name (lists_of blocks)) (sym same) p) lt g
+        found_in list_of name blocks at old r (blocks_some blocks all) (subst (IsBlockIndex name (lists_of blocks)) (sym same) p) lt g
     go false e =
         let other = last (λ same. grind (arith, nat_tests)) in
         found_last list_of name blocks at place old r p other.1 other.0 g

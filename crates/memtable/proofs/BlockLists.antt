@@ -9,7 +9,7 @@ use Rattle.std.specs.FinMap.Entries.{put, find, below_all}
 use Rattle.cell_key.specs.Keys.{byte_cmp}
 use Rattle.cell_key.specs.Entries.{Entry, IsRising, entry_of_key, entries_from}
 use Rattle.cell_key.proofs.TextPlaces.{first, second, less, clash, find_lower, from_place}
-use Rattle.memtable.specs.Blocks.{ends_below, IsBlockPlace}
+use Rattle.memtable.specs.Blocks.{ends_below, IsBlockIndex}
 
 both : (a b : Bool) → T a → T b → T (a && b)
 both true b p q = q
@@ -191,7 +191,7 @@ module _ {X : Type 0} (f : X → List Entry) where
     parted_blocks (x ∷ xs) r some (suc i) zero d le lt t = absurd (omega arith)
     parted_blocks (x ∷ xs) r some (suc i) (suc j) d le lt t = parted_blocks xs (rising_back (f x) (flat_map f xs) r) some.1 i j d (omega arith) (omega arith) t
 
-    pub block_point : (xs : List X) (i : ℕ) → i ≤ length xs → ((k : ℕ) (d : X) → 0 ≤ k → k < i → is_passed (get_or xs k d) ≡ true) → ((k : ℕ) (d : X) → i ≤ k → k < length xs → is_passed (get_or xs k d) ≡ false) → IsBlockPlace name (map f xs) i
+    pub block_point : (xs : List X) (i : ℕ) → i ≤ length xs → ((k : ℕ) (d : X) → 0 ≤ k → k < i → is_passed (get_or xs k d) ≡ true) → ((k : ℕ) (d : X) → i ≤ k → k < length xs → is_passed (get_or xs k d) ≡ false) → IsBlockIndex name (map f xs) i
     block_point [] zero le p q = tt
     block_point [] (suc i) le p q = absurd (omega arith)
     block_point (x ∷ xs) zero le p q = q 0 x (omega arith) (omega arith)
@@ -201,14 +201,14 @@ module _ {X : Type 0} (f : X → List Entry) where
     )
 
     -- what the block at the place has, all have
-    pub found_in : (xs : List X) (i : ℕ) (x : X) → IsRising (flat_map f xs) → AreSome xs → IsBlockPlace name (map f xs) i → i < length xs → x ≡ get_or xs i x → entry_of_key (flat_map f xs) name ≡ entry_of_key (f x) name
+    pub found_in : (xs : List X) (i : ℕ) (x : X) → IsRising (flat_map f xs) → AreSome xs → IsBlockIndex name (map f xs) i → i < length xs → x ≡ get_or xs i x → entry_of_key (flat_map f xs) name ≡ entry_of_key (f x) name
     found_in [] i x r some p lt g = absurd (omega arith)
     found_in (y ∷ xs) zero x r some p lt g = find_within name (f y) (flat_map f xs) r some.0 p ∙ ap (λ (z : X). entry_of_key (f z) name) (sym g)
     found_in (y ∷ xs) (suc i) x r some p lt g =
         find_past name (f y) (flat_map f xs) (rising_front (f y) (flat_map f xs) r) p.0
         ∙ found_in xs i x (rising_back (f y) (flat_map f xs) r) some.1 p.1 (omega arith) g
 
-    pub found_nowhere : (xs : List X) (i : ℕ) → IsRising (flat_map f xs) → IsBlockPlace name (map f xs) i → length xs ≤ i → entry_of_key (flat_map f xs) name ≡ None
+    pub found_nowhere : (xs : List X) (i : ℕ) → IsRising (flat_map f xs) → IsBlockIndex name (map f xs) i → length xs ≤ i → entry_of_key (flat_map f xs) name ≡ None
     found_nowhere [] i r p le = refl
     found_nowhere (y ∷ xs) zero r p le = absurd (omega arith)
     found_nowhere (y ∷ xs) (suc i) r p le =
@@ -216,7 +216,7 @@ module _ {X : Type 0} (f : X → List Entry) where
         ∙ found_nowhere xs i (rising_back (f y) (flat_map f xs) r) p.1 (omega arith)
 
     -- where the last block is behind none, what it has all have
-    pub found_last : (xs : List X) (i j : ℕ) (x : X) → IsRising (flat_map f xs) → IsBlockPlace name (map f xs) j → length xs ≤ j → i + 1 ≡ length xs → x ≡ get_or xs i x → entry_of_key (flat_map f xs) name ≡ entry_of_key (f x) name
+    pub found_last : (xs : List X) (i j : ℕ) (x : X) → IsRising (flat_map f xs) → IsBlockIndex name (map f xs) j → length xs ≤ j → i + 1 ≡ length xs → x ≡ get_or xs i x → entry_of_key (flat_map f xs) name ≡ entry_of_key (f x) name
     found_last [] i j x r p le last g = absurd (omega (arith, last))
     found_last (z ∷ xs) i zero x r p le last g = absurd (omega arith)
     found_last (z ∷ []) zero (suc j) x r p le last g = ap (λ (es : List Entry). entry_of_key es name) (append-nil (f z)) ∙ ap (λ (w : X). entry_of_key (f w) name) (sym g)
@@ -231,7 +231,7 @@ module _ {X : Type 0} (f : X → List Entry) where
     from_first (x ∷ xs) = entries_from name (f x) ++ flat_map f xs
 
     -- what is left from a text on: a part of the block at the place, and the later blocks
-    pub from_block : (xs : List X) (i : ℕ) → IsRising (flat_map f xs) → AreSome xs → IsBlockPlace name (map f xs) i → entries_from name (flat_map f xs) ≡ from_first (drop i xs)
+    pub from_block : (xs : List X) (i : ℕ) → IsRising (flat_map f xs) → AreSome xs → IsBlockIndex name (map f xs) i → entries_from name (flat_map f xs) ≡ from_first (drop i xs)
     from_block [] zero r some p = refl
     from_block [] (suc i) r some p = absurd p
     from_block (y ∷ xs) zero r some p = from_within name (f y) (flat_map f xs) r some.0 p
@@ -241,7 +241,7 @@ module _ {X : Type 0} (f : X → List Entry) where
 
     module _ (v : Option (List ℕ)) (x y : X) (made : f y ≡ put byte_cmp name v (f x)) where
       -- an entry put into the block at its place, or behind all entries into the last block
-      pub put_in : (xs : List X) (i : ℕ) → IsRising (flat_map f xs) → AreSome xs → IsBlockPlace name (map f xs) i → i < length xs → x ≡ get_or xs i x → flat_map f (set xs i y) ≡ put byte_cmp name v (flat_map f xs)
+      pub put_in : (xs : List X) (i : ℕ) → IsRising (flat_map f xs) → AreSome xs → IsBlockIndex name (map f xs) i → i < length xs → x ≡ get_or xs i x → flat_map f (set xs i y) ≡ put byte_cmp name v (flat_map f xs)
       put_in [] i r some p lt g = absurd (omega arith)
       put_in (z ∷ xs) zero r some p lt g =
           ap (λ (es : List Entry). es ++ flat_map f xs) (made ∙ ap (λ (w : X). put byte_cmp name v (f w)) g)
@@ -250,7 +250,7 @@ module _ {X : Type 0} (f : X → List Entry) where
           ap (λ (es : List Entry). f z ++ es) (put_in xs i (rising_back (f z) (flat_map f xs) r) some.1 p.1 (omega arith) g)
           ∙ sym (put_past name v (f z) (flat_map f xs) (rising_front (f z) (flat_map f xs) r) p.0)
 
-      pub put_last : (xs : List X) (i j : ℕ) → IsRising (flat_map f xs) → IsBlockPlace name (map f xs) j → length xs ≤ j → i + 1 ≡ length xs → x ≡ get_or xs i x → flat_map f (set xs i y) ≡ put byte_cmp name v (flat_map f xs)
+      pub put_last : (xs : List X) (i j : ℕ) → IsRising (flat_map f xs) → IsBlockIndex name (map f xs) j → length xs ≤ j → i + 1 ≡ length xs → x ≡ get_or xs i x → flat_map f (set xs i y) ≡ put byte_cmp name v (flat_map f xs)
       put_last [] i j r p le last g = absurd (omega (arith, last))
       put_last (z ∷ xs) i zero r p le last g = absurd (omega arith)
       put_last (z ∷ []) zero (suc j) r p le last g =

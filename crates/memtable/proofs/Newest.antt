@@ -11,7 +11,7 @@ use Rattle.std.specs.Cmp.Lexicographic.{nat_list_cmp_total}
 use Rattle.std.specs.FinMap.{get}
 use Rattle.std.specs.FinMap.Entries.{find}
 use Rattle.cell_key.specs.Names.{IsRow, IsFamily}
-use Rattle.cell_key.specs.Keys.{byte_cmp, key_cmp, text, exact_qualifiers, same_key, qualifier_name, IsKey, IsStored}
+use Rattle.cell_key.specs.Keys.{byte_cmp, key_cmp, text, qualifier_name, IsKey, IsStored}
 use Rattle.cell_key.specs.Cells.{IsNewest, version}
 use Rattle.cell_key.specs.Versions.{IsVersion}
 use Rattle.cell_key.specs.Entries.{Entry, IsEntry, IsEntryList, IsRising, cells_of, entries_from, entry_of_key, value_of}
@@ -20,6 +20,7 @@ use Rattle.cell_key.specs.declared.keys.Qualifier.{Qualifier}
 use Rattle.cell_key.proofs.Order.{text_order, text_exact, plain_key}
 use Rattle.cell_key.proofs.EntryLaws.{get-cells_of, no_cell, stored_key}
 use Rattle.cell_key.proofs.TextPlaces.{equal, find_below, find_lower, first, one_text, second}
+use Rattle.cell_key.proofs.KeyLaws.{exact_qualifiers, same_key}
 use Rattle.memtable.specs.Slots.{first_value}
 
 -- ---- the first value from a text on

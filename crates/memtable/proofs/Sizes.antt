@@ -61,7 +61,7 @@ stood_some : (name : List ℕ) (o : Option (Option (List ℕ))) → is_some (sto
 stood_some name None = refl
 stood_some name (Some v) = refl
 
--- an entry in the place of one of so many bytes
+-- an entry in the place of one of this many bytes
 module _ (es : List Entry) (name : List ℕ) (replaced : Option ℕ) (found : replaced ≡ stood_bytes name (entry_of_key es name)) where
   stood : or_zero replaced ≡ stood_len name (entry_of_key es name)
   stood = ap or_zero found ∙ stood_as_len name (entry_of_key es name)

@@ -10,7 +10,7 @@ use Rattle.cell_key.specs.Keys.{byte_cmp, qualifier_name, text}
 use Rattle.cell_key.specs.Texts.{escaped, ended, stamp_text}
 use Rattle.cell_key.proofs.TextPlaces.{one_text}
 use Rattle.memtable.specs.Order.{ComparesAs, ComparesTo, at_stamp, column_text, key_of}
-use Rattle.memtable.specs.declared.order.Version.{Version}
+use Rattle.memtable.specs.declared.sought.Version.{Version}
 
 module _ (v : Version) (bytes : List ℕ) where
   abbrev front : List ℕ

@@ -6,7 +6,7 @@ use Rattle.std.specs.Ordering.{is_gt}
 use Rattle.std.specs.List.{AllByRecursion, flat_map}
 use Rattle.cell_key.specs.Keys.{byte_cmp}
 use Rattle.cell_key.specs.Entries.{Entry, IsEntryList}
-use Rattle.memtable.specs.declared.slots.Slot.{Slot}
+use Rattle.memtable.specs.declared.entries.Slot.{Slot}
 use Rattle.memtable.specs.declared.blocks.Block.{Block}
 use Rattle.memtable.specs.declared.blocks.Blocks.{Blocks}
 use Rattle.memtable.specs.Slots.{slot_entries, value_count}
@@ -18,12 +18,12 @@ ends_below name [] = false
 ends_below name (e ∷ []) = is_gt (byte_cmp name e.0)
 ends_below name (e ∷ f ∷ es) = ends_below name (f ∷ es)
 
--- the lists before the place end below this text, and that at the place doesn't
-abbrev pub IsBlockPlace : List ℕ → List (List Entry) → ℕ → Type 0
-IsBlockPlace name [] zero = ⊤
-IsBlockPlace name [] (suc i) = ⊥
-IsBlockPlace name (es ∷ lists) zero = ends_below name es ≡ false
-IsBlockPlace name (es ∷ lists) (suc i) = (ends_below name es ≡ true) × IsBlockPlace name lists i
+-- the lists before the index end below this text, and that at the index doesn't
+abbrev pub IsBlockIndex : List ℕ → List (List Entry) → ℕ → Type 0
+IsBlockIndex name [] zero = ⊤
+IsBlockIndex name [] (suc i) = ⊥
+IsBlockIndex name (es ∷ lists) zero = ends_below name es ≡ false
+IsBlockIndex name (es ∷ lists) (suc i) = (ends_below name es ≡ true) × IsBlockIndex name lists i
 
 -- the entries of a block
 abbrev pub list_of : Block → List Entry
@@ -53,7 +53,7 @@ pub record IsSpare {A Z : Type 0} (spare : Vec (Box Slot A) Z) : Type 0 where
   pub empty : spare.items ≡ []
   pub room : 128 ≤ vec_capacity spare
 
--- the block at the place is full, and all others have room
+-- the block at the index is full, and all others have room
 pub record IsFullAt (blocks : List Block) (at : ℕ) : Type 0 where
   pub within : at < length blocks
   pub full : (d : Block) → vec_len (get_or blocks at d).slots ≡ 128
@@ -66,7 +66,7 @@ pub record AreEntryBlocks (blocks : Blocks) : Type 0 where
   pub filled : AllByRecursion IsEntryBlock blocks.filled.items
   pub spare : AllByRecursion IsSpare blocks.spare.items
 
--- so many entries more can be put without memory: each of them fills no more than one block
+-- this many entries more can be put without memory: each of them fills no more than one block
 pub record HasRoom (count : ℕ) (blocks : Blocks) : Type 0 where
   pub filled : vec_len blocks.filled + count ≤ vec_capacity blocks.filled
   pub spare : count ≤ vec_len blocks.spare

@@ -1,4 +1,4 @@
--- What the front of some bytes tells of their order, and the texts of the versions of a column.
+-- What the front of some bytes shows of their order, and the texts of the versions of a column.
 use Rattle.std.specs.Prelude.{◌≡◌, ◌≤◌, ◌<◌, ℕ, List, ◌++◌, length, get_or}
 use Rattle.byteorder.specs.Endian.{big_number}
 use Rattle.std.specs.declared.cmp.Ordering.{Ordering}
@@ -6,7 +6,7 @@ use Rattle.cell_key.specs.Keys.{byte_cmp, qualifier_name}
 use Rattle.cell_key.specs.Cells.{version}
 use Rattle.cell_key.specs.Texts.{escaped, ended, stamp_text}
 use Rattle.cell_key.specs.declared.keys.CellKey.{CellKey}
-use Rattle.memtable.specs.declared.order.Version.{Version}
+use Rattle.memtable.specs.declared.sought.Version.{Version}
 
 -- what follows the part compares with the rest as the whole with the bytes
 abbrev pub ComparesAs : List ℕ → List ℕ → List ℕ → Type 0

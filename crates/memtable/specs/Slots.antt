@@ -6,7 +6,7 @@ use Rattle.std.specs.FinMap.Entries.{put}
 use Rattle.cell_key.specs.Keys.{byte_cmp}
 use Rattle.cell_key.specs.Entries.{Entry}
 use Rattle.std.specs.Borrow.{Bor}
-use Rattle.memtable.specs.declared.slots.Slot.{Slot}
+use Rattle.memtable.specs.declared.entries.Slot.{Slot}
 
 abbrev pub slot_entry : Slot → Entry
 slot_entry slot = (slot.text, option_map (λ value. value.items) slot.value)

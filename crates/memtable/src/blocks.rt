@@ -1,4 +1,4 @@
-//! Entries in blocks, in the byte order of their texts. To make place, pointers to some entries of one block
+//! Entries in blocks, in the byte order of their texts. To make room, pointers to some entries of one block
 //! are moved, and at times those to the blocks.
 
 ghost use Rattle.std.specs.Prelude.{◌≡◌, ℕ, ◌+◌, ◌≤◌, ◌<◌, ◌^◌, [], ◌∷◌, ◌++◌, IfSome, OnOk, option_map, length, vec_len, vec_capacity};
@@ -9,12 +9,12 @@ ghost use Rattle.cell_key.specs.Entries.{IsEntry, IsRising, entries_from, entry_
 ghost use Rattle.memtable.specs.Slots.{slot_entry, slot_entries, first_value, over};
 ghost use Rattle.memtable.specs.Order.{key_of};
 ghost use Rattle.memtable.specs.Sizes.{IsSizeOf, stood_bytes};
-ghost use Rattle.memtable.specs.Blocks.{block_entries, lists_of, list_of, ends_below, IsBlockPlace, IsCounted, IsEntryBlock, IsSpare, IsFullAt, AreEntryBlocks, HasRoom};
+ghost use Rattle.memtable.specs.Blocks.{block_entries, lists_of, list_of, ends_below, IsBlockIndex, IsCounted, IsEntryBlock, IsSpare, IsFullAt, AreEntryBlocks, HasRoom};
 
-use crate::order::{Sought, Version};
+use crate::entries::{self, Slot};
+use crate::key_text::ShortText;
 use crate::size::Size;
-use crate::slots::{self, Slot};
-use crate::texts::ShortText;
+use crate::sought::{Sought, Version};
 use std::alloc::{AllocError, Global};
 
 /// How many entries a block has room for. It has at least one, and fewer than these.
@@ -24,7 +24,7 @@ const BLOCK_ROOM: usize = 128;
 #[derive(Drop)]
 pub(crate) struct Block {
     pub(crate) slots: Vec<Box<Slot>>,
-    /// How many of the entries have a value. Where none has, a search for values passes them all at once.
+    /// How many of the entries have a value. If none has, a search for values passes them all at once.
     pub(crate) values: usize,
 }
 
@@ -45,12 +45,12 @@ fn ends_below<S: Sought>(block: &Block, sought: S) -> bool
     }
 }
 
-/// The place of the first block that doesn't end below what is sought.
-pub(crate) fn place<S: Sought>(blocks: &[Block], sought: S) -> usize
+/// The index of the first block that doesn't end below what is sought.
+pub(crate) fn index_of<S: Sought>(blocks: &[Block], sought: S) -> usize
     requires rising { IsRising (block_entries blocks.now) }
     requires blocks { AllByRecursion IsEntryBlock blocks.now }
     ensures bound { result ≤ length blocks.now }
-    ensures place { IsBlockPlace (S.name sought) (lists_of blocks.now) result }
+    ensures index { IsBlockIndex (S.name sought) (lists_of blocks.now) result }
 {
     blocks.partition_point(|block| ends_below(block, sought))
 }
@@ -63,8 +63,8 @@ pub(crate) fn find<S: Sought>(blocks: &[Block], sought: S) -> Option<&Slot>
         ≡ entry_of_key (block_entries blocks.now) (S.name sought) }
     ensures named { IfSome result (λ slot. slot.now.text ≡ S.name sought) }
 {
-    let block = blocks.get(place(blocks, sought))?;
-    slots::find(&block.slots, sought)
+    let block = blocks.get(index_of(blocks, sought))?;
+    entries::find(&block.slots, sought)
 }
 
 /// How many bytes the entry of a text has, if there is one.
@@ -87,10 +87,10 @@ pub(crate) fn rest_from<S: Sought>(blocks: &[Block], sought: S) -> (&[Box<Slot>]
         ≡ entries_from (S.name sought) (block_entries blocks.now) }
     ensures blocks { AllByRecursion IsEntryBlock result.1.now }
 {
-    let at = place(blocks, sought);
+    let at = index_of(blocks, sought);
     match blocks.split_at(at).1.split_first() {
         Some((block, later)) => {
-            let at = slots::first_from(&block.slots, sought);
+            let at = entries::first_from(&block.slots, sought);
             (block.slots.split_at(at).1, later)
         }
         None => (&[], &[]),
@@ -105,7 +105,7 @@ fn first_value_in(block: &Block) -> Option<&Slot>
     if block.values == 0 {
         return None;
     }
-    slots::first_value(&block.slots)
+    entries::first_value(&block.slots)
 }
 
 /// The first entry of some blocks that has a value.
@@ -132,7 +132,7 @@ pub(crate) fn first_value_from<S: Sought>(blocks: &[Block], sought: S) -> Option
         ≡ first_value (entries_from (S.name sought) (block_entries blocks.now)) }
 {
     let (rest, later) = rest_from(blocks, sought);
-    match slots::first_value(rest) {
+    match entries::first_value(rest) {
         Some(slot) => Some(slot),
         None => first_value(later),
     }
@@ -201,7 +201,7 @@ fn cut(block: &mut Block, spare: Vec<Box<Slot>>) -> Block
 {
     let mut upper = spare;
     halve(&mut block.slots, &mut upper);
-    let values = slots::value_count(&upper);
+    let values = entries::value_count(&upper);
     block.values -= values;
     Block {
         slots: upper,
@@ -209,7 +209,7 @@ fn cut(block: &mut Block, spare: Vec<Box<Slot>>) -> Block
     }
 }
 
-/// Cuts the block at a place, which is full, in two.
+/// Cuts the block at an index, which is full, in two.
 fn split(blocks: &mut Blocks, at: usize)
     requires room { HasRoom 1 blocks.old }
     requires spare { AllByRecursion IsSpare blocks.old.spare.items }
@@ -223,7 +223,7 @@ fn split(blocks: &mut Blocks, at: usize)
     blocks.filled.insert(at + 1, upper).unwrap();
 }
 
-/// Makes an entry the first block, where there is none.
+/// Makes an entry the first block. There is none yet.
 fn open(blocks: &mut Blocks, slot: Box<Slot>)
     requires empty { blocks.old.filled.items ≡ [] }
     requires blocks { AreEntryBlocks blocks.old }
@@ -238,7 +238,7 @@ fn open(blocks: &mut Blocks, slot: Box<Slot>)
     blocks.filled.push(Block { slots, values }).unwrap();
 }
 
-/// Puts an entry at its place in a block, where there is room for one more. An entry of the same text goes: how many
+/// Puts an entry at its place in a block that has room for one more. An entry of the same text goes: how many
 /// bytes it had.
 fn put_in(block: &mut Block, slot: Box<Slot>) -> Option<u128>
     requires rising { IsRising (list_of block.old) }
@@ -256,7 +256,7 @@ fn put_in(block: &mut Block, slot: Box<Slot>) -> Option<u128>
     ensures counted { IsCounted block.new }
 {
     block.values += slot.value_count();
-    match slots::put(&mut block.slots, slot) {
+    match entries::put(&mut block.slots, slot) {
         Some(old) => {
             block.values -= old.value_count();
             Some(old.len())
@@ -265,7 +265,7 @@ fn put_in(block: &mut Block, slot: Box<Slot>) -> Option<u128>
     }
 }
 
-/// Puts an entry at its place, where there is room for one more. An entry of the same text goes: how many bytes it had.
+/// Puts an entry at its place. There is room for one more. An entry of the same text goes: how many bytes it had.
 pub(crate) fn put(blocks: &mut Blocks, slot: Box<Slot>) -> Option<u128>
     requires rising { IsRising (block_entries blocks.old.filled.items) }
     requires blocks { AreEntryBlocks blocks.old }
@@ -283,7 +283,7 @@ pub(crate) fn put(blocks: &mut Blocks, slot: Box<Slot>) -> Option<u128>
         open(blocks, slot);
         return None;
     }
-    let at = place(&blocks.filled, &slot.text).min(count - 1);
+    let at = index_of(&blocks.filled, &slot.text).min(count - 1);
     let replaced = put_in(&mut blocks.filled[at], slot);
     if blocks.filled[at].slots.len() == BLOCK_ROOM {
         split(blocks, at);
@@ -291,7 +291,7 @@ pub(crate) fn put(blocks: &mut Blocks, slot: Box<Slot>) -> Option<u128>
     replaced
 }
 
-/// Puts entries over others, where there is room for all of them. Returns the size of all.
+/// Puts entries over others. There is room for all of them. Returns the size of all.
 pub(crate) fn put_all(blocks: &mut Blocks, mut staged: Vec<Box<Slot>>, before: Size) -> Size
     requires rising { IsRising (block_entries blocks.old.filled.items) }
     requires blocks { AreEntryBlocks blocks.old }

@@ -7,7 +7,7 @@ ghost use Rattle.memtable.specs.Slots.{slot_entry, slot_entries};
 ghost use Rattle.memtable.specs.Blocks.{block_entries, IsEntryBlock};
 
 use crate::blocks::Block;
-use crate::slots::Slot;
+use crate::entries::Slot;
 use cell_key::EntryRef;
 use std::marker::Model;
 

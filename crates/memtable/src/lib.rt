@@ -3,12 +3,12 @@
 
 mod blocks;
 mod cursor;
-mod order;
+mod entries;
+mod key_text;
 mod size;
-mod slots;
+mod sought;
 mod staging;
 mod table;
-mod texts;
 
 pub use cursor::Cursor;
 pub use table::Memtable;

@@ -13,32 +13,32 @@ ghost use Rattle.memtable.specs.Blocks.{block_entries, IsEntryBlock};
 ghost use Rattle.memtable.specs.Edits.{edit_entry, with_edits, HasStoredKey};
 
 use crate::blocks::{self, Block};
-use crate::order::version_of;
+use crate::entries::{self, Slot};
+use crate::key_text::EntryText;
 use crate::size::Size;
-use crate::slots::{self, Slot};
-use crate::texts::KeptText;
+use crate::sought::version_of;
 use cell_key::{CellKey, Edit, Refusal, Row};
 use smallvec::SmallVec;
 use std::alloc::Global;
 
 /// The text of a key.
-fn text_of(alloc: Global, key: &CellKey) -> Result<KeptText, Refusal>
+fn text_of(alloc: Global, key: &CellKey) -> Result<EntryText, Refusal>
     ensures text { IfOk result (λ made. made ≡ text key.now) }
     ensures short { AllByRecursion IsPlain key.now.row → length (text key.now) ≤ 48 → IsOk result }
     ensures row { IsRow key.now.row }
     ensures family { IsFamily key.now.family }
     ensures refusal { IfErr result (λ refusal. refusal ≡ Refusal.NoMemory) }
 {
-    // These calls tell that row and family are within their limits.
+    // These calls show that row and family are within their limits.
     let _row = key.row.as_bytes();
     let _family = key.family.as_bytes();
     if let Some(short) = version_of(key).short_text() {
         let bytes = SmallVec::from_slice(alloc, short.as_slice())?;
-        return Ok(KeptText::new(bytes));
+        return Ok(EntryText::new(bytes));
     }
     let mut bytes = Vec::new(alloc);
     key.encode(&mut bytes)?;
-    Ok(KeptText::new(SmallVec::from(bytes)))
+    Ok(EntryText::new(SmallVec::from(bytes)))
 }
 
 /// An edit as an entry.
@@ -75,7 +75,7 @@ pub(crate) fn stage(alloc: Global, row: &Row, edits: Vec<Edit>) -> Result<Vec<Bo
     let mut staged = Vec::with_capacity(alloc, edits.len())?;
     for edit in edits {
         let slot = slot_of(alloc, row, edit)?;
-        drop(slots::put(&mut staged, slot));
+        drop(entries::put(&mut staged, slot));
     }
     Ok(staged)
 }

@@ -13,9 +13,9 @@ ghost use Rattle.memtable.specs.Edits.{with_edits, bytes_of, IsWithinLimits, Has
 
 use crate::blocks::{self, Block, Blocks};
 use crate::cursor::Cursor;
-use crate::order::Version;
+use crate::entries::Slot;
 use crate::size::{self, Size};
-use crate::slots::Slot;
+use crate::sought::Version;
 use crate::staging;
 use cell_key::{CellKey, Edit, EntryRef, Family, Qualifier, Refusal, Row, Stamp};
 use std::alloc::Global;
@@ -43,7 +43,7 @@ impl Model for Memtable {
     ghost invariant = { λ table. IsKept table.blocks table.len table.bytes };
 }
 
-/// Whether a table is within the limits once entries are put over it. Where there is room for them whatever they
+/// Whether a table is within the limits once entries are put over it. If there is room for them whatever they
 /// replace, they aren't looked up.
 fn fit(table: &[Block], before: Size, staged: &[Box<Slot>]) -> bool
     requires rising { IsRising (block_entries table.now) }
@@ -144,7 +144,7 @@ impl Memtable {
         ensures limits { IfSome result (λ found. IsVersion found.0 found.1.now) }
         ensures list { IsEntryList self.now }
     {
-        // These calls tell that row and family are within their limits.
+        // These calls show that row and family are within their limits.
         let _row = row.as_bytes();
         let _family = family.as_bytes();
         let sought = Version {
@@ -170,8 +170,8 @@ impl Memtable {
     ///
     /// # Errors
     ///
-    /// `MemtableFull` where the table with all edits made would have more than 100,000 entries or more than
-    /// 67,108,864 bytes of entries, and `NoMemory` where a growth was refused. The table is then as before.
+    /// `MemtableFull` if the table with all edits made would have more than 100,000 entries or more than
+    /// 67,108,864 bytes of entries, and `NoMemory` if a growth was refused. The table is then as before.
     pub fn apply(&mut self, row: &Row, edits: Vec<Edit>) -> Result<(), Refusal>
         requires { AllByRecursion (IsEditOf row.now) edits.items }
         ensures ok { OnOk result (self.new ≡ with_edits self.old edits.items) }

@@ -9,7 +9,7 @@ use Rattle.std.specs.FinMap.{slice_cmp-IsAntisymmetric, nat_cmp-IsAntisymmetric}
 use Rattle.cell_key.specs.Keys.{byte_cmp}
 use Rattle.metadata_table.specs.Places.{PlaceView, EndsBefore, IsLower, IsRowAfter}
 use Rattle.metadata_table.specs.Table.{EndsRise}
-use Rattle.metadata_table.specs.Positions.{ends_before}
+use Rattle.metadata_table.specs.Search.{ends_before}
 
 pub one_row : (x y : List ℕ) → byte_cmp x y ≡ Equal → x ≡ y
 one_row = slice_cmp-IsAntisymmetric nat_cmp-IsAntisymmetric

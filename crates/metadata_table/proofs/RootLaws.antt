@@ -13,9 +13,9 @@ use Rattle.metadata_table.specs.Places.{PlaceView}
 use Rattle.metadata_table.specs.Table.{IsNumbered}
 use Rattle.metadata_table.proofs.Members.{all_implied}
 use Rattle.metadata_table.specs.Roots.{RootView, AreFiles, HasLengths, IsSoundRoot, IsRootIn, IsRootWith, IsNoRoot, OneMeasure, OneRoot, end_bytes, file_names, files_bytes, numbers_of, place_bytes, places_bytes, root_bytes, root_head, with_lengths}
-use Rattle.metadata_table.specs.declared.root_formats.RootFormat.{RootFormat}
-use Rattle.metadata_table.specs.declared.root_formats.RootFormat.TheVariants.{One, Two}
-use Rattle.metadata_table.specs.RootReading.{number_at, field_at, row_at, end_at, each_at, every_second, files_at, format_of, lengths_in, names_in, numbers_each, place_at, placed, places_at, root_at}
+use Rattle.metadata_table.specs.declared.root.format.RootFormat.{RootFormat}
+use Rattle.metadata_table.specs.declared.root.format.RootFormat.TheVariants.{One, Two}
+use Rattle.metadata_table.specs.RootReader.{number_at, field_at, row_at, end_at, each_at, every_second, files_at, format_of, lengths_in, names_in, numbers_each, place_at, placed, places_at, root_at}
 
 record IsWide (w : Width) (limit : ℕ) : Type 0 where
   len : (n : ℕ) → length (to_be_bytes w n) ≡ byte_len w

@@ -1,13 +1,13 @@
 -- Reading items one after the other, as a loop does.
 use Rattle.std.proofs.Common.{◌≡◌, ℕ, suc, ◌-◌, ◌+◌, ◌≤◌, ◌<◌, List, [], ◌∷◌, ◌++◌, Option, Some, None, refl, sym, ap, ◌∙◌, append_assoc, arith}
 use Rattle.std.proofs.lemmas.List.{append-nil}
-use Rattle.metadata_table.specs.declared.root_reading.ReadFault.{ReadFault}
-use Rattle.metadata_table.specs.declared.root_reading.ReadFault.TheVariants as fault
+use Rattle.metadata_table.specs.declared.root.reader.ReadFault.{ReadFault}
+use Rattle.metadata_table.specs.declared.root.reader.ReadFault.TheVariants as fault
 use Rattle.std.specs.Prelude.{map, flat_map}
 use Rattle.std.proofs.lemmas.List.Concat.{flat_map-append}
 use Rattle.std.proofs.lemmas.List.{map_push}
 use Rattle.metadata_table.specs.Places.{PlaceView}
-use Rattle.metadata_table.specs.RootReading.{◌>>=◌, Fails, each_at, placed}
+use Rattle.metadata_table.specs.RootReader.{◌>>=◌, Fails, each_at, placed}
 
 module _ {X : Type 0} (item : List ℕ → Option (X × List ℕ)) where
   -- what was read before, and what is still read

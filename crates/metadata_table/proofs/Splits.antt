@@ -8,7 +8,7 @@ use Rattle.cell_key.specs.declared.refusals.Refusal.{Refusal}
 use Rattle.metadata_table.specs.declared.places.Place.{Place}
 use Rattle.metadata_table.specs.Places.{PlaceView, view_of, views, EndsBefore, IsLower}
 use Rattle.metadata_table.specs.Table.{EndsRise, IsHolder, HasTablet, IsEnd, IsListed, Cuts, cuts_last, cuts, cuts_later, left_part}
-use Rattle.metadata_table.specs.Positions.{ends_before, HoldsRowAt, IsTabletAt}
+use Rattle.metadata_table.specs.Search.{ends_before, HoldsRowAt, IsTabletAt}
 use Rattle.metadata_table.proofs.Ends.{not_self, above, true_before, false_before, before_true, lower_before, lower_all, lower_some, is_last}
 use Rattle.metadata_table.proofs.Members.{contains_first, contains_later, contains_none, contains_cases, contains_middle, contains_parts, each_member}
 

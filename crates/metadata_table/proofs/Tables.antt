@@ -6,7 +6,7 @@ use Rattle.std.specs.List.{AllByRecursion, AllPairs, insert}
 use Rattle.metadata_table.specs.declared.places.Place.{Place}
 use Rattle.metadata_table.specs.Places.{PlaceView, view_of, views, EndsBefore, IsLower}
 use Rattle.metadata_table.specs.Table.{EndsRise, IsNumbered, IsTable, BarsSplit, Cuts, cuts_last, cuts, cuts_later, left_part, on_server, naming, moved, with_files, first_place, most_servers, most_tablets}
-use Rattle.metadata_table.specs.Positions.{HoldsRowAt, IsTabletAt}
+use Rattle.metadata_table.specs.Search.{HoldsRowAt, IsTabletAt}
 use Rattle.metadata_table.proofs.Ends.{some_lower}
 use Rattle.metadata_table.proofs.Members.{each_member, pairs_first, pairs_rest, pairs_none, pairs_more, all_implied}
 use Rattle.metadata_table.proofs.Splits.{tablet_there, cut_at}

@@ -1,7 +1,7 @@
 pub mod Places
-pub mod Positions
 pub mod Ranges
-pub mod RootReading
+pub mod RootReader
 pub mod Roots
+pub mod Search
 pub mod Table
 pub use Rattle.cell_key.specs.Keys

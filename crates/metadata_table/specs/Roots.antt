@@ -6,12 +6,12 @@ use Rattle.cell_key.specs.Entries.{field}
 use Rattle.cell_key.specs.Names.{IsRow}
 use Rattle.metadata_table.specs.Places.{PlaceView}
 use Rattle.metadata_table.specs.Table.{IsTable}
-use Rattle.metadata_table.specs.declared.roots.Root.{Root}
-use Rattle.metadata_table.specs.declared.root_formats.RootFormat.{RootFormat}
-use Rattle.metadata_table.specs.declared.root_formats.RootFormat.TheVariants.{One, Two}
+use Rattle.metadata_table.specs.declared.root.Root.{Root}
+use Rattle.metadata_table.specs.declared.root.format.RootFormat.{RootFormat}
+use Rattle.metadata_table.specs.declared.root.format.RootFormat.TheVariants.{One, Two}
 
--- what a root tells, beside the lengths of files: two stamps, the next file's name, and the places of
--- all tablets
+-- what a root says, beside the lengths of files: two stamps, the next file's name, and the places
+-- of all tablets
 pub record RootView : Type 0 where
   pub top : ℕ
   pub floor : ℕ
@@ -30,7 +30,7 @@ lengths_of root = root.lengths.items
 abbrev pub file_names : List PlaceView → List ℕ
 file_names ps = flat_map (λ p. p.files) ps
 
--- ---- what a root may tell
+-- ---- what a root may say
 
 -- at most 64 files, each once, with names from 1 on and below the next file's
 pub record AreFiles (next_name : ℕ) (names : List ℕ) : Type 0 where
@@ -107,7 +107,7 @@ root_bytes format root lengths =
     ++ (to_be_bytes w64 root.next_name
     ++ (places_bytes root.places lengths ++ codes "TABROOTZ"))))
 
--- the bytes are the root of this format that tells this, with these lengths
+-- the bytes are the root of this format that says this, with these lengths
 pub record IsRootIn
     (format : RootFormat) (root : RootView) (lengths bytes : List ℕ) : Type 0 where
   pub sound : IsSoundRoot root
@@ -115,12 +115,12 @@ pub record IsRootIn
   pub fit : AllByRecursion (λ n. n < 2 ^ 64) lengths
   pub whole : bytes ≡ root_bytes format root lengths
 
--- the bytes are the root that tells this, with these lengths
+-- the bytes are the root that says this, with these lengths
 pub record IsRootWith (root : RootView) (lengths bytes : List ℕ) : Type 0 where
   pub format : RootFormat
   pub form : IsRootIn format root lengths bytes
 
--- the bytes are the root that tells this
+-- the bytes are the root that says this
 pub record IsRoot (root : RootView) (bytes : List ℕ) : Type 0 where
   pub lengths : List ℕ
   pub told : IsRootWith root lengths bytes

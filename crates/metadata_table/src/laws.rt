@@ -18,7 +18,7 @@ pub fn one_range()
     ensures { OneRange }
 {}
 
-/// Where a tablet is cut at a row, its range, which has the row, gives way to the two parts. All others stay.
+/// When a tablet is cut at a row, its range, which has the row, gives way to the two parts. All others stay.
 pub fn cut_ranges()
     ensures { CutRanges }
 {}

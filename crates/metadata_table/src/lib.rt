@@ -4,17 +4,13 @@
 
 mod laws;
 mod places;
-mod positions;
-mod root_checks;
-mod root_formats;
-mod root_reading;
-mod root_writing;
-mod roots;
+mod root;
+mod search;
 mod table;
 
 pub use laws::{
     cut_ranges, cut_rows, holder_range, one_holder, one_measure, one_range, one_root, same_ranges,
 };
 pub use places::Place;
-pub use roots::Root;
+pub use root::Root;
 pub use table::MetadataTable;

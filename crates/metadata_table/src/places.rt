@@ -3,7 +3,7 @@
 ghost use Rattle.std.specs.Prelude.{◌≡◌, ◌↔◌, IsTrue, IfOk, Some};
 ghost use Rattle.metadata_table.specs.Places.{view_of, IsLower};
 ghost use Rattle.metadata_table.specs.Table.{left_part};
-ghost use Rattle.metadata_table.specs.Positions.{ends_before};
+ghost use Rattle.metadata_table.specs.Search.{ends_before};
 
 use cell_key::Row;
 use std::alloc::AllocError;

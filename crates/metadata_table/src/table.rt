@@ -4,10 +4,10 @@ ghost use Rattle.std.specs.Prelude.{◌≡◌, ◌+◌, ◌<◌, ◌≤◌, ◌�
 ghost use Rattle.std.specs.List.{Contains};
 ghost use Rattle.metadata_table.specs.Places.{view_of, views};
 ghost use Rattle.metadata_table.specs.Table.{IsTable, IsHolder, HasTablet, IsListed, BarsSplit, Cuts, moved, with_files, first_place, most_servers};
-ghost use Rattle.metadata_table.specs.Positions.{IsTabletAt};
+ghost use Rattle.metadata_table.specs.Search.{IsTabletAt};
 
 use crate::places::Place;
-use crate::positions;
+use crate::search;
 use cell_key::{Refusal, Row};
 use std::alloc::{AllocError, Global};
 use std::marker::Model;
@@ -42,7 +42,7 @@ impl MetadataTable {
     ///
     /// # Errors
     ///
-    /// `NoMemory` where a growth was refused.
+    /// `NoMemory` if a growth was refused.
     pub fn new(alloc: Global) -> Result<MetadataTable, Refusal>
         ensures ok { IfOk result (λ table. table ≡ first_place ∷ []) }
         ensures refusal { IfErr result (λ refusal. refusal ≡ Refusal.NoMemory) }
@@ -86,7 +86,7 @@ impl MetadataTable {
         ensures holder { IsHolder row.now self.now (view_of result.now) }
         ensures table { IsTable self.now }
     {
-        let position = positions::of_row(&self.places, row);
+        let position = search::by_row(&self.places, row);
         &self.places[position]
     }
 
@@ -94,7 +94,7 @@ impl MetadataTable {
     ///
     /// # Errors
     ///
-    /// `UnknownTablet` where no tablet has the number.
+    /// `UnknownTablet` if no tablet has the number.
     pub fn place(&self, tablet: u32) -> Result<&Place, Refusal>
         ensures found { IfOk result (λ place. Contains self.now (view_of place.now)) }
         ensures named { IfOk result (λ place. place.now.tablet ≡ tablet) }
@@ -102,7 +102,7 @@ impl MetadataTable {
             × ¬ (HasTablet tablet self.now)) }
         ensures table { IsTable self.now }
     {
-        let position = positions::of_tablet(&self.places, tablet)?;
+        let position = search::by_tablet(&self.places, tablet)?;
         Ok(&self.places[position])
     }
 
@@ -112,14 +112,14 @@ impl MetadataTable {
         ensures bound { result < length self.now }
         ensures there { IsTabletAt tablet self.now result }
     {
-        positions::of_tablet(&self.places, tablet).unwrap()
+        search::by_tablet(&self.places, tablet).unwrap()
     }
 
     /// Whether the tablet that holds a row can be cut there. Takes no memory.
     ///
     /// # Errors
     ///
-    /// `BadSplit` where the row is already the end of its tablet, or there are 1,024 tablets.
+    /// `BadSplit` if the row is already the end of its tablet, or there are 1,024 tablets.
     pub fn check_split(&self, row: &Row) -> Result<(), Refusal>
         ensures split { MatchResult result (λ _. ¬ (BarsSplit row.now self.now)) (λ refusal.
             (refusal ≡ Refusal.BadSplit) × BarsSplit row.now self.now) }
@@ -136,8 +136,8 @@ impl MetadataTable {
     ///
     /// # Errors
     ///
-    /// `BadSplit` where the row is already the end of its tablet, or there are 1,024 tablets, and then
-    /// `NoMemory` where a growth was refused. The table is then as before.
+    /// `BadSplit` if the row is already the end of its tablet, or there are 1,024 tablets, and then
+    /// `NoMemory` if a growth was refused. The table is then as before.
     pub fn split_at(&mut self, row: &Row) -> Result<u32, Refusal>
         ensures number { IfOk result (λ left. left ≡ length self.old + 1) }
         ensures cut { IfOk result (λ left. Cuts row.now left self.old self.new) }
@@ -163,7 +163,7 @@ impl MetadataTable {
         ensures err { OnErr result (self.new ≡ self.old) }
     {
         let left = self.len() as u32 + 1;
-        let position = positions::of_row(&self.places, row);
+        let position = search::by_row(&self.places, row);
         let part = self.places[position].left_part(row, left)?;
         self.places.insert(position, part)?;
         Ok(left)
@@ -173,7 +173,7 @@ impl MetadataTable {
     ///
     /// # Errors
     ///
-    /// `UnknownTablet` where no tablet has the number, and then `UnknownServer` where the server's number is
+    /// `UnknownTablet` if no tablet has the number, and then `UnknownServer` if the server's number is
     /// above 15. The table is then as before.
     pub fn assign(&mut self, tablet: u32, server: u8) -> Result<(), Refusal>
         ensures ok { OnOk result (self.new ≡ moved tablet server self.old) }
@@ -185,7 +185,7 @@ impl MetadataTable {
             ⊎ (refusal ≡ Refusal.UnknownServer)) }
         ensures err { OnErr result (self.new ≡ self.old) }
     {
-        let position = positions::of_tablet(&self.places, tablet)?;
+        let position = search::by_tablet(&self.places, tablet)?;
         if server >= MetadataTable::SERVERS {
             return Err(Refusal::UnknownServer);
         }
@@ -197,7 +197,7 @@ impl MetadataTable {
     ///
     /// # Errors
     ///
-    /// `UnknownTablet` where no tablet has the number. The table is then as before.
+    /// `UnknownTablet` if no tablet has the number. The table is then as before.
     pub fn set_files(&mut self, tablet: u32, names: Vec<u64>) -> Result<(), Refusal>
         ensures ok { OnOk result (self.new ≡ with_files tablet names.items self.old) }
         ensures known { OnOk result (HasTablet tablet self.old) }
@@ -205,7 +205,7 @@ impl MetadataTable {
             × ¬ (HasTablet tablet self.old)) }
         ensures err { OnErr result (self.new ≡ self.old) }
     {
-        let position = positions::of_tablet(&self.places, tablet)?;
+        let position = search::by_tablet(&self.places, tablet)?;
         self.places[position].files = names;
         Ok(())
     }
@@ -214,7 +214,7 @@ impl MetadataTable {
     pub fn listed(&self, name: u64) -> bool
         ensures { IsTrue result ↔ IsListed name self.now }
     {
-        positions::is_listed(&self.places, name)
+        search::has_file(&self.places, name)
     }
 }
 

@@ -1,2 +1,3 @@
+pub mod Fails
 pub mod Marks
 pub mod Ranges

@@ -72,10 +72,7 @@ fn read_mark<F: Read + Drop>(opened: io::Result<F>) -> io::Result<Stamp>
     };
     let mut bytes = [0u8; MARK_BYTES + 1];
     let count = fill(&mut file, &mut bytes)?;
-    match number_of(&bytes[..count]) {
-        Some(number) => Ok(number),
-        None => Err(io::Error::from(ErrorKind::InvalidData)),
-    }
+    number_of(&bytes[..count]).ok_or(io::Error::from(ErrorKind::InvalidData))
 }
 
 /// Writes bytes behind those of a file, and forces it to the disk.
@@ -115,18 +112,15 @@ impl<R: Folders + AllocGlobal + Drop> DirMark<R> {
     ///
     /// # Errors
     ///
-    /// A device's fault where there is no such folder, or where memory was refused.
+    /// A device's fault if there is no such folder, or memory was refused.
     pub fn open(rt: R, folder: &str) -> Result<DirMark<R>, MarkFault>
         ensures { IfOk result (λ mark. mark.faults ≡ 0) }
     {
-        match open_folder(rt, folder) {
-            Ok(mark) => Ok(mark),
-            Err(_) => Err(MarkFault),
-        }
+        open_folder(rt, folder).map_err(|_| MarkFault)
     }
 
     /// What a call answered, or its fault, which is counted.
-    fn told<T: Drop>(&mut self, called: io::Result<T>) -> Result<T, MarkFault>
+    fn count_fault<T: Drop>(&mut self, called: io::Result<T>) -> Result<T, MarkFault>
         ensures later { self.old.faults ≤ self.new.faults }
         ensures device { OnErr result (HasRisen self.old.faults self.new.faults) }
         ensures told { OnOk result (self.new.faults ≡ self.old.faults) }
@@ -170,7 +164,7 @@ impl<R: Folders + AllocGlobal + Drop> MarkStore for DirMark<R> {
 
     fn load(&mut self) -> Result<Stamp, MarkFault> {
         let called = read_mark(File::open(&self.rt, self.path.as_str()));
-        self.told(called)
+        self.count_fault(called)
     }
 
     fn store(&mut self, number: Stamp) -> Result<(), MarkFault> {
@@ -181,7 +175,7 @@ impl<R: Folders + AllocGlobal + Drop> MarkStore for DirMark<R> {
             self.beside.as_str(),
             number,
         );
-        self.told(called)
+        self.count_fault(called)
     }
 
     fn faults(&self) -> u64 {

@@ -1,11 +1,13 @@
 //! Stamps that rise strictly, from ranges whose highest number is stored first.
 #![tactic(auto)]
 
+mod fail;
 mod folder;
 mod marks;
 mod memory;
 mod stamps;
 
+pub use fail::{Fail, FailMarkAt};
 pub use folder::DirMark;
 pub use marks::{MarkFault, MarkStore};
 pub use memory::MemMark;

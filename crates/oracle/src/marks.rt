@@ -35,13 +35,13 @@ impl From<MarkFault> for Refusal {
 
 /// A place that keeps one number, the mark, while an oracle is closed.
 pub trait MarkStore {
-    /// The number that is stored, where the store tells it.
+    /// The number that is stored, if the store says it.
     ghost mark: { Self → Option ℕ };
 
     /// How often a device has failed, up to the greatest number.
     ghost faults: { Self → ℕ };
 
-    /// The number that is stored, and 0 where none was. It is never past the greatest stamp.
+    /// The number that is stored, and 0 if none was. It is never past the greatest stamp.
     fn load(&mut self) -> Result<Stamp, MarkFault>
         ensures limit { IfOk result (λ number. number < 2 ^ 63) }
         ensures stored { IfOk result (λ number.

@@ -6,7 +6,7 @@ use crate::marks::{MarkFault, MarkStore};
 use cell_key::Stamp;
 use std::marker::Model;
 
-/// A mark in memory, which is told and never fails.
+/// A mark in memory, which is known and never fails.
 #[derive(Debug, Drop)]
 pub struct MemMark {
     number: Stamp,

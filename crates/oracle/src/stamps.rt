@@ -14,7 +14,7 @@ const RANGE: Stamp = 1000;
 
 /// A source of stamps that rise by one (Percolator, the timestamp oracle). A range of them is
 /// served once its highest number was stored as the mark, so that a stamp is not served again after
-/// a restart, where the mark store gives back what was stored.
+/// a restart, if the mark store gives back what was stored.
 #[derive(Drop)]
 pub struct Oracle<M: MarkStore> {
     marks: M,
@@ -73,7 +73,7 @@ impl<M: MarkStore> Oracle<M> {
     }
 
     /// The next stamp. It is refused with Exhausted once the greatest stamp was served, and with
-    /// Device where the next range was needed and its end could not be stored.
+    /// Device if the next range was needed and its end could not be stored.
     pub fn draw(&mut self) -> Result<Stamp, Refusal>
         ensures next { IfOk result (λ stamp. stamp ≡ self.old.last + 1) }
         ensures last { IfOk result (λ stamp. self.new.last ≡ stamp) }
@@ -81,15 +81,13 @@ impl<M: MarkStore> Oracle<M> {
 
         // Within a range nothing is stored and nothing is refused.
         ensures served { self.old.last < self.old.range_end → IsOk result }
-        ensures unstored { self.old.last < self.old.range_end → self.new.marks ≡ self.old.marks }
-        ensures same_range { self.old.last < self.old.range_end
-            → self.new.range_end ≡ self.old.range_end }
+        ensures unstored { self.old.last < self.old.range_end
+            → (self.new.marks ≡ self.old.marks) × (self.new.range_end ≡ self.old.range_end) }
 
         // At its end the next range is taken, and its end is the mark before its first stamp is served.
-        ensures next_range { self.old.range_end ≤ self.old.last
-            → OnOk result (self.new.range_end ≡ next_range_end self.old.range_end) }
-        ensures stored { self.old.range_end ≤ self.old.last → OnOk result (M.mark self.new.marks
-            ≡ mark_after self.new.range_end (M.mark self.old.marks)) }
+        ensures stored { self.old.range_end ≤ self.old.last → OnOk result
+            ((self.new.range_end ≡ next_range_end self.old.range_end) × (M.mark self.new.marks
+            ≡ mark_after self.new.range_end (M.mark self.old.marks))) }
 
         ensures refusals { IfErr result IsDrawRefusal }
         ensures exhausted { IsErrOf result Refusal.Exhausted ↔ (self.old.last ≡ MOST_STAMP) }
@@ -138,7 +136,7 @@ impl<M: MarkStore> Oracle<M> {
         Ok(())
     }
 
-    /// The last stamp, or the mark where none was drawn since the oracle was opened or restarted.
+    /// The last stamp, or the mark if none was drawn since the oracle was opened or restarted.
     pub fn last(&self) -> Stamp
         ensures last { result ≡ self.now.last }
         ensures limit { result < 2 ^ 63 }

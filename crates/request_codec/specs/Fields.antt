@@ -5,7 +5,7 @@ use Rattle.cell_key.specs.declared.keys.Qualifier.{Qualifier}
 use Rattle.cell_key.specs.declared.keys.Qualifier.TheVariants.{Data, Lock, Write}
 use Rattle.si_model.specs.declared.replies.Cell.{Cell}
 
--- a number in so many bytes, the highest byte first
+-- a number in this many bytes, the highest byte first
 unfoldable pub number : ℕ → ℕ → List ℕ
 number len n = big_bytes len n
 

@@ -22,7 +22,7 @@ HandsOut More bytes left = IsPartial bytes × (left ≡ bytes)
 HandsOut (Frame body) bytes left = IsBody body.now × (bytes ≡ frame body.now ++ left)
 HandsOut TooLarge bytes left = IsTooLong bytes × (left ≡ bytes)
 
--- the same, where the body is the front of a buffer
+-- the same, if the body is the front of a buffer
 abbrev pub IsAtFirst : First → List ℕ → List ℕ → List ℕ → Type 0
 IsAtFirst first.Part buffer bytes left = IsPartial bytes × (left ≡ bytes)
 IsAtFirst (first.Whole len) buffer bytes left =

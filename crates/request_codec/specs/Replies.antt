@@ -96,7 +96,7 @@ ReplyNumbersFit (Swept count) = count < 2 ^ 64
 ReplyNumbersFit (RawFound (Some found)) = found.0 < 2 ^ 64
 ReplyNumbersFit other = Unit {0}
 
--- each field of bytes has a length that fits; where a lock blocks a collector,
+-- each field of bytes has a length that fits; if a lock blocks a collector,
 -- the row and the family are within their limits
 abbrev pub ReplyBytesFit : Reply → Type 0
 ReplyBytesFit (Answered (Some value)) = FitsField value

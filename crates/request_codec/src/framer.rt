@@ -29,7 +29,7 @@ pub enum Next<'a> {
     TooLarge,
 }
 
-/// What stands first among the bytes of a framer: a part of a frame, a whole one with a body of so many bytes, or
+/// What stands first among the bytes of a framer: a part of a frame, a whole one with the length of its body, or
 /// a length above the limit.
 #[derive(Clone, Copy)]
 pub(crate) enum First {
@@ -38,7 +38,7 @@ pub(crate) enum First {
     TooLarge,
 }
 
-/// So many zeros. The size is a parameter, so that no proof computes a list of a million.
+/// A vector of zeros. The size is a parameter, so that no proof computes a list of a million.
 fn zeros(alloc: Global, size: usize) -> Result<Vec<u8>, AllocError>
     ensures { IfOk result (λ v. length v.items ≡ size) }
 {
@@ -144,7 +144,7 @@ impl Framer {
     ///
     /// # Errors
     ///
-    /// `NoMemory` where a growth was refused.
+    /// `NoMemory` if a growth was refused.
     pub fn new(alloc: Global) -> Result<Framer, Refusal>
         ensures empty { IfOk result (λ framer. framer ≡ []) }
         ensures refusal { IfErr result (λ refusal. refusal ≡ Refusal.NoMemory) }
@@ -155,7 +155,7 @@ impl Framer {
     }
 
     /// Takes as many bytes from the front of a piece as there is room for, and answers how many. It takes none only of
-    /// an empty piece, or where `next` has something to give.
+    /// an empty piece, or if `next` has something to give.
     pub fn feed(&mut self, piece: &[u8]) -> usize
         ensures count { result ≡ min (length piece.now) (longest_frame - length self.old) }
         ensures bytes { self.new ≡ self.old ++ take result piece.now }

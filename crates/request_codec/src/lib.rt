@@ -1,19 +1,23 @@
 //! The bodies of requests and replies, both ways, and the cut of a stream into them.
 #![tactic(auto)]
 
+mod decode_replies;
+mod encode_replies;
 mod framer;
 mod laws;
-mod pushing;
 mod qualifiers;
+mod read_bodies;
+mod read_fields;
 mod replies;
 mod requests;
-mod taking;
-mod whole;
+mod write_fields;
 
+pub use decode_replies::decode_reply;
+pub use encode_replies::{encode_reply, reply_length};
 pub use framer::{Framer, LONGEST_BODY, Next};
 pub use laws::{
     cut_goes_on, has_cut, limits, no_frame_begins_another, one_cut, one_reply_a_body,
     one_request_a_body, raw_is_longest, replies_fit,
 };
-pub use replies::{LONGEST_REPLY, Reply, decode_reply, encode_reply, reply_length};
+pub use replies::{LONGEST_REPLY, Reply};
 pub use requests::{Request, decode_request, encode_request};

@@ -4,12 +4,12 @@ ghost use Rattle.request_codec.specs.Requests.{asked, request_body, BytesFit, Is
 ghost use Rattle.request_codec.specs.Fields.{number, cell_fields, FitsField};
 ghost use Rattle.si_model.specs.Messages.{CleanBegin, Set, Split, Raw};
 
-use crate::pushing::{
-    push_byte, push_cell, push_field, push_qualifier, push_u8, push_u32, push_u64,
-};
-use crate::whole::{
+use crate::read_bodies::{
     whole_bytes, whole_cell, whole_move, whole_raw, whole_read, whole_u32, whole_u32_pair,
     whole_u64, whole_visits, whole_write,
+};
+use crate::write_fields::{
+    push_byte, push_cell, push_field, push_qualifier, push_u8, push_u32, push_u64,
 };
 use cell_key::{Qualifier, Refusal, Stamp};
 
@@ -57,7 +57,7 @@ pub enum Request<'a> {
     },
     /// Opens a collector of old versions.
     CollectBegin,
-    /// Lets the collector visit so many cells at the most.
+    /// Lets the collector visit at most this many cells.
     CollectStep {
         collector: u64,
         visits: u32,
@@ -66,7 +66,7 @@ pub enum Request<'a> {
     Minor {
         tablet: u32,
     },
-    /// Merges so many of a tablet's newest files.
+    /// Merges this many of a tablet's newest files.
     Merge {
         tablet: u32,
         count: u32,
@@ -139,7 +139,7 @@ const CHECKPOINT: u8 = 0x12;
 const DELETE: u8 = 0x13;
 
 /// The request of a body that begins with this operation's number, a session's, a cleaner's or a
-/// collector's, and none where it is the body of no request.
+/// collector's, and none if it is the body of no request.
 fn decode_client(operation: u8, fields: &[u8]) -> Option<Request<'_>>
     requires { (operation < 0x0A) ⊎ (operation ≡ 0x13) }
     ensures found { IfSome result (λ request. IsRequest (asked request) (operation ∷ fields.now)) }
@@ -189,7 +189,7 @@ fn decode_client(operation: u8, fields: &[u8]) -> Option<Request<'_>>
     }
 }
 
-/// The request of a body that begins with this operation's number, no client's, and none where it is the body of
+/// The request of a body that begins with this operation's number, no client's, and none if it is the body of
 /// no request.
 fn decode_upkeep(operation: u8, fields: &[u8]) -> Option<Request<'_>>
     requires later { 0x0A ≤ operation }
@@ -226,7 +226,7 @@ fn decode_upkeep(operation: u8, fields: &[u8]) -> Option<Request<'_>>
     }
 }
 
-/// A raw read, from its fields, and none where they are not those of one.
+/// A raw read, from its fields, and none if they are not those of one.
 fn decode_raw(fields: &[u8]) -> Option<Request<'_>>
     ensures found { IfSome result (λ request. IsRequest (asked request) (0x11 ∷ fields.now)) }
     ensures malformed { IfNone result (IsMalformed (0x11 ∷ fields.now)) }
@@ -241,7 +241,7 @@ fn decode_raw(fields: &[u8]) -> Option<Request<'_>>
     })
 }
 
-/// The request whose body this is, and none where it is the body of no request. Its fields are lent by the body.
+/// The request whose body this is, and none if it is the body of no request. Its fields are lent by the body.
 pub fn decode_request(body: &[u8]) -> Option<Request<'_>>
     ensures found { IfSome result (λ request. IsRequest (asked request) body.now) }
     ensures malformed { IfNone result (IsMalformed body.now) }
@@ -487,13 +487,13 @@ fn push_request(request: &Request<'_>, out: &mut Vec<u8>)
 }
 
 /// Appends the body of a request, none of whose rows, families and values has more than 4,294,967,295 bytes.
-/// Refused NoMemory where there is no room for it, and then `out` is as it was.
+/// Answers `NoMemory` if there is no room for it, and then `out` is as it was.
 pub fn encode_request(request: &Request<'_>, out: &mut Vec<u8>) -> Result<(), Refusal>
     requires { BytesFit (asked request.now) }
     ensures ok { OnOk result (out.new.items ≡ out.old.items ++ request_body (asked request.now)) }
     ensures err { OnErr result (out.new.items ≡ out.old.items) }
     ensures refusal { IfErr result (λ refusal. refusal ≡ Refusal.NoMemory) }
-    // Where there is room it succeeds.
+    // If there is room it succeeds.
     ensures room { vec_len out.old
         + length (request_body (asked request.now)) ≤ vec_capacity out.old → IsOk result }
     ensures capacity { vec_capacity out.old ≤ vec_capacity out.new }

@@ -6,27 +6,27 @@ use Rattle.cell_key.specs.declared.edits.Edit.{Edit}
 use Rattle.cell_key.specs.declared.refusals.Refusal.{Refusal}
 use Rattle.cell_key.specs.declared.refusals.Refusal.TheVariants.{Damaged, Device, NoMemory}
 use Rattle.file_store.specs.Store.{Contents}
-use Rattle.sorted_file.specs.Sources as sources
+use Rattle.sorted_file.specs.Source as sources
 use Rattle.tablet.specs.Views.{IsSameTablet}
 use Rattle.tablet.specs.declared.tablet.Tablet.{Tablet}
-use Rattle.row_atomic.specs.Calls.{Applies, AppliesSuch, KeepsBelow, OnlyReads}
-use Rattle.row_atomic.specs.Clusters.{ClusterState, InOrder, Overfills, Storage, cells_in, storage_of}
+use Rattle.row_atomic.specs.Calls.{Applies, AppliesSuch, KeepsBelow, OnlyReads, View}
+use Rattle.row_atomic.specs.Clusters.{ClusterState, InOrder, Overfills, cells_in, storage_of}
 use Rattle.row_atomic.specs.Refusals.{IsReadRefusal, IsRefusalOfRead}
 use Rattle.row_atomic.proofs.RowAnswers.{read_kept, read_still}
 use Rattle.row_atomic.proofs.CompactionRoom.{room_same}
 use Rattle.row_atomic.proofs.PlacedTablets.{set_same}
 
-module _ {R : Type 0} {holds : R → Type 0} {storage : R → Storage} where
-  pub keeps_then : {a b c : R} → KeepsBelow holds storage a b → KeepsBelow holds storage b c → KeepsBelow holds storage a c
+module _ {R : Type 0} {seen : View R} where
+  pub keeps_then : {a b c : R} → KeepsBelow seen a b → KeepsBelow seen b c → KeepsBelow seen a c
   keeps_then first second = record { still = λ held. second.still (first.still held); stays = second.stays ∙ first.stays }
 
-module _ {R : Type 0} {holds : R → Type 0} {cells : R → Cells} {overfills : R → List ℕ → List Edit → Type 0} {storage : R → Storage} where
+module _ {R : Type 0} {seen : View R} where
   -- nothing is changed where nothing is called
-  pub reads_none : {rows : R} → OnlyReads holds cells overfills storage rows rows
+  pub reads_none : {rows : R} → OnlyReads seen rows rows
   reads_none = record { still = λ held. held; kept = λ held. refl; room = λ row later full. full; stays = refl }
 
   -- nor by a read after a read
-  pub reads_then : {a b c : R} → OnlyReads holds cells overfills storage a b → OnlyReads holds cells overfills storage b c → OnlyReads holds cells overfills storage a c
+  pub reads_then : {a b c : R} → OnlyReads seen a b → OnlyReads seen b c → OnlyReads seen a c
   reads_then first second = record {
     still = λ held. second.still (first.still held);
     kept = λ held. second.kept (first.still held) ∙ first.kept held;
@@ -35,14 +35,14 @@ module _ {R : Type 0} {holds : R → Type 0} {cells : R → Cells} {overfills : 
   }
 
   -- what reads or applies keeps what lies below
-  pub reads_keep : {a b : R} → OnlyReads holds cells overfills storage a b → KeepsBelow holds storage a b
+  pub reads_keep : {a b : R} → OnlyReads seen a b → KeepsBelow seen a b
   reads_keep reads = record { still = reads.still; stays = reads.stays }
 
-  pub applies_keep : {edits : List Edit} {a b : R} → Applies holds cells overfills storage edits a b → KeepsBelow holds storage a b
+  pub applies_keep : {edits : List Edit} {a b : R} → Applies seen edits a b → KeepsBelow seen a b
   applies_keep applies = record { still = applies.still; stays = applies.stays }
 
   -- edits are made after a read
-  pub applies_after : {edits : List Edit} {a b c : R} → OnlyReads holds cells overfills storage a b → Applies holds cells overfills storage edits b c → Applies holds cells overfills storage edits a c
+  pub applies_after : {edits : List Edit} {a b c : R} → OnlyReads seen a b → Applies seen edits b c → Applies seen edits a c
   applies_after {edits} reads applies = record {
     still = λ held. applies.still (reads.still held);
     made = λ held. applies.made (reads.still held) ∙ ap (λ (cs : Cells). after_edits cs edits) (reads.kept held);
@@ -54,10 +54,10 @@ module _ {R : Type 0} {holds : R → Type 0} {cells : R → Cells} {overfills : 
   }
 
   -- what edits such as these are said to be
-  pub such_so : {P Q : List ℕ → List Edit → Type 0} {a b : R} → ((row : List ℕ) (edits : List Edit) → P row edits → Q row edits) → AppliesSuch holds cells overfills storage P a b → AppliesSuch holds cells overfills storage Q a b
+  pub such_so : {P Q : List ℕ → List Edit → Type 0} {a b : R} → ((row : List ℕ) (edits : List Edit) → P row edits → Q row edits) → AppliesSuch seen P a b → AppliesSuch seen Q a b
   such_so so made = record { row = made.row; edits = made.edits; such = so made.row made.edits made.such; applied = made.applied }
 
-  pub such_after : {P : List ℕ → List Edit → Type 0} {a b c : R} → OnlyReads holds cells overfills storage a b → AppliesSuch holds cells overfills storage P b c → AppliesSuch holds cells overfills storage P a c
+  pub such_after : {P : List ℕ → List Edit → Type 0} {a b c : R} → OnlyReads seen a b → AppliesSuch seen P b c → AppliesSuch seen P a c
   such_after reads made = record { row = made.row; edits = made.edits; such = made.such; applied = applies_after reads made.applied }
 
 -- what is so whether edits were made or refused
@@ -101,16 +101,19 @@ module _ {F : Type 0} (contents : F → Option Contents) (state : ClusterState F
   abbrev IsOver : ClusterState F → List ℕ → List Edit → Type 0
   IsOver cluster row edits = Overfills cluster.places cluster.tablets row edits
 
+  abbrev shown : View (ClusterState F)
+  shown = record { holds = IsOrdered; cells = cells_shown; overfills = IsOver; storage = storage_of contents }
+
   abbrev with_tablet : ℕ → Tablet → ClusterState F
   with_tablet i u = record state { tablets = set state.tablets i u }
 
   -- a tablet that is as it was
-  pub same_tablet : (i : ℕ) (t u : Tablet) → slice_get state.tablets i ≡ Some t → u ≡ t → OnlyReads IsOrdered cells_shown IsOver (storage_of contents) state (with_tablet i u)
-  same_tablet i t u there same = subst (λ (ts : List Tablet). OnlyReads IsOrdered cells_shown IsOver (storage_of contents) state (record state { tablets = ts })) (sym (ap (set state.tablets i) same ∙ set_same state.tablets i t there)) reads_none
+  pub same_tablet : (i : ℕ) (t u : Tablet) → slice_get state.tablets i ≡ Some t → u ≡ t → OnlyReads shown state (with_tablet i u)
+  same_tablet i t u there same = subst (λ (ts : List Tablet). OnlyReads shown state (record state { tablets = ts })) (sym (ap (set state.tablets i) same ∙ set_same state.tablets i t there)) reads_none
 
   -- a read of a tablet that leaves it what it was, and what the files tell
   pub tablet_read : (i : ℕ) (t u : Tablet) (files : F) → slice_get state.tablets i ≡ Some t → IsSameTablet (contents state.files) t u → contents files ≡ contents state.files
-      → OnlyReads IsOrdered cells_shown IsOver (storage_of contents) state (record state { files = files; tablets = set state.tablets i u })
+      → OnlyReads shown state (record state { files = files; tablets = set state.tablets i u })
   tablet_read i t u files there stays same = record {
     still = λ order. read_still (contents state.files) (contents files) state.next_name state.tablets i t u there stays same order;
     kept = λ order. read_kept (contents state.files) (contents files) state.next_name state.tablets i t u there stays same order;
@@ -122,7 +125,7 @@ module _ {F : Type 0} (contents : F → Option Contents) (state : ClusterState F
   pub applied_in : (i : ℕ) (u : Tablet) (edits : List Edit) {A : Type 0} (r : Result A Refusal) → (IsOrdered state → IsOrdered (with_tablet i u))
       → (IsOrdered state → OnOk r (cells_shown (with_tablet i u) ≡ after_edits (cells_shown state) edits))
       → OnOk r ((row : List ℕ) (later : List Edit) → IsOver (with_tablet i u) row later → IsOver state row later ⊎ IsOver state row (edits ++ later))
-      → OnOk r (Applies IsOrdered cells_shown IsOver (storage_of contents) edits state (with_tablet i u))
+      → OnOk r (Applies shown edits state (with_tablet i u))
   applied_in i u edits (Err e) still made room = tt
   applied_in i u edits (Ok x) still made room = record { still = still; made = made; room = room; stays = refl }
 

@@ -5,10 +5,10 @@ use Rattle.std.proofs.lemmas.List.{length-map, length-set}
 use Rattle.std.specs.List.{AllByRecursion, Contains}
 use Rattle.cell_key.specs.Entries.{Entry, merged}
 use Rattle.cell_key.specs.declared.refusals.Refusal.{Refusal}
-use Rattle.compaction.specs.Writing.{kept, written}
+use Rattle.compaction.specs.Writing.{only_written, written}
 use Rattle.file_store.specs.Store.{Contents}
-use Rattle.sorted_file.specs.Opened.{listed, name_of}
-use Rattle.sorted_file.specs.declared.opened.SortedFile.{SortedFile}
+use Rattle.sorted_file.specs.File.{listed, name_of}
+use Rattle.sorted_file.specs.declared.file.SortedFile.{SortedFile}
 use Rattle.metadata_table.specs.Places.{PlaceView}
 use Rattle.metadata_table.specs.Table.{HasTablet, with_files, naming}
 use Rattle.tablet.specs.Ranges.{seen}
@@ -106,8 +106,7 @@ from_next old new before after (inr h) from = let e = h.0 in omega arith
 
 pub matched_next : (limit : ℕ) (old new : Option Contents) (before after : ℕ) (places : List PlaceView) (ts : List Tablet) → UsesName old before new after → (before ≤ 2 ^ 63 → after ≤ 2 ^ 63) → IsMatched limit before places ts → IsMatched limit after places ts
 matched_next limit old new before after places ts uses to matched = record {
-  least = matched.least;
-  most = matched.most;
+  limit = matched.limit;
   named_from = from_next old new before after uses matched.named_from;
   named_to = to matched.named_to;
   placed = matched.placed;
@@ -126,8 +125,7 @@ matched_listed limit old new before after places places' ts n i t u e there uses
     let number : n ≡ suc i = omega arith in
     let is : places' ≡ with_files (suc i) (names_of u) places = listed ∙ ap (λ (k : ℕ). with_files k (names_of u) places) number in
     record {
-      least = matched.least;
-      most = matched.most;
+      limit = matched.limit;
       named_from = from_next old new before after uses matched.named_from;
       named_to = to matched.named_to;
       placed = subst (λ (ps : List PlaceView). ArePlaced (set ts i u) None ps) (sym is) (placed_files ts i t u there range None places matched.placed);
@@ -163,7 +161,7 @@ has_room ts i t u x y capacity there x_is y_is room few =
 
 -- ---- no erasures
 
-kept_valued : (es : List Entry) → AllByRecursion HasValue (kept false es)
+kept_valued : (es : List Entry) → AllByRecursion HasValue (only_written false es)
 kept_valued [] = tt
 kept_valued ((text, None) ∷ es) = kept_valued es
 kept_valued ((text, Some value) ∷ es) = (refl, kept_valued es)

@@ -11,14 +11,15 @@ use Rattle.memtable.specs.Edits.{IsWithinLimits, with_edit, with_edits}
 use Rattle.metadata_table.specs.Places.{PlaceView}
 use Rattle.metadata_table.specs.Table.{IsHolder}
 use Rattle.sorted_file.specs.Grammar.{FitsIn, image_of}
-use Rattle.sorted_file.specs.declared.formats.Format.TheVariants.{Two}
+use Rattle.sorted_file.specs.declared.format.Format.TheVariants.{Two}
 use Rattle.tablet.specs.Ranges.{has_row, seen}
 use Rattle.tablet.specs.Views.{UsesName, memory_of, names_of, range_of}
 use Rattle.tablet.specs.declared.ranges.RowRange.{RowRange}
 use Rattle.tablet.specs.declared.tablet.Tablet.{Tablet}
-use Rattle.row_atomic.specs.Clusters.{HasTabletAt, Overfills, edits_in, tablet_numbered}
+use Rattle.row_atomic.specs.Clusters.{Overfills, edits_in, tablet_numbered}
 use Rattle.row_atomic.specs.Changes.{ComesOfWriting, IsFullTablet, Numbered, OfHolder}
 use Rattle.row_atomic.proofs.ChangedTablets.{numbered_at}
+use Rattle.row_atomic.proofs.RowAnswers.{HasTabletAt}
 use Rattle.row_atomic.proofs.SplitClusters.{one_holder}
 
 -- a file of no entries is a head and a foot

@@ -31,13 +31,13 @@ pushed_there (z ∷ xs) zero x y = at_end xs y
 pushed_there (z ∷ xs) (suc i) x y = pushed_there xs i x y
 
 -- the holder of a row is the first place whose end isn't below the row
-holder_first : (row : List ℕ) (p h : PlaceView) (ps before after : List PlaceView) → ¬ EndsBefore p.end row → p ∷ ps ≡ before ++ h ∷ after → AllByRecursion (λ q. EndsBefore q.end row) before → h ≡ p
+pub holder_first : (row : List ℕ) (p h : PlaceView) (ps before after : List PlaceView) → ¬ EndsBefore p.end row → p ∷ ps ≡ before ++ h ∷ after → AllByRecursion (λ q. EndsBefore q.end row) before → h ≡ p
 holder_first row p h ps [] after not parts past = cc
 holder_first row p h ps (q ∷ before) after not parts past =
     let same : p ≡ q = cc in
     absurd (not (subst (λ (r : PlaceView). EndsBefore r.end row) (sym same) past.0))
 
-holder_later : (row : List ℕ) (p h : PlaceView) (ps before after : List PlaceView) → EndsBefore p.end row → p ∷ ps ≡ before ++ h ∷ after → AllByRecursion (λ q. EndsBefore q.end row) before → ¬ EndsBefore h.end row → IsHolder row ps h
+pub holder_later : (row : List ℕ) (p h : PlaceView) (ps before after : List PlaceView) → EndsBefore p.end row → p ∷ ps ≡ before ++ h ∷ after → AllByRecursion (λ q. EndsBefore q.end row) before → ¬ EndsBefore h.end row → IsHolder row ps h
 holder_later row p h ps [] after ends parts past within =
     let same : p ≡ h = cc in
     absurd (within (subst (λ (r : PlaceView). EndsBefore r.end row) same ends))
@@ -49,7 +49,7 @@ in_parts : (P : PlaceView → Type 0) (before : List PlaceView) (h : PlaceView) 
 in_parts P [] h after all = all.0
 in_parts P (q ∷ before) h after all = in_parts P before h after all.1
 
-not_below : (end : Option (List ℕ)) (row e : List ℕ) → end ≡ Some e → byte_cmp row e ≡ Less → ¬ EndsBefore end row
+pub not_below : (end : Option (List ℕ)) (row e : List ℕ) → end ≡ Some e → byte_cmp row e ≡ Less → ¬ EndsBefore end row
 not_below None row e is less ends = ends
 not_below (Some d) row e is less ends =
     let same : d ≡ e = same_Some d e is in
@@ -60,7 +60,7 @@ not_below (Some d) row e is less ends =
     clash : (o : Ordering) → o ≡ Less → o ≡ Greater → ⊥
     clash o e g = cc
 
-not_below_none : (end : Option (List ℕ)) (row : List ℕ) → end ≡ None → ¬ EndsBefore end row
+pub not_below_none : (end : Option (List ℕ)) (row : List ℕ) → end ≡ None → ¬ EndsBefore end row
 not_below_none None row is ends = ends
 not_below_none (Some d) row is ends = cc
 

@@ -101,8 +101,7 @@ module _ (o : Option Contents) where
 
   pub matched_still : (limit next : ℕ) (places : List PlaceView) (ts us : List Tablet) → AllZip (IsSameTablet o) ts us → IsMatched limit next places ts → IsMatched limit next places us
   matched_still limit next places ts us all matched = record {
-    least = matched.least;
-    most = matched.most;
+    limit = matched.limit;
     named_from = matched.named_from;
     named_to = matched.named_to;
     placed = placed_still ts us all None places matched.placed;

@@ -8,8 +8,8 @@ use Rattle.std.specs.BTreeMap.{BTreeMap}
 use Rattle.std.specs.BTreeMap.Range.{IsInRange, IsRangeOf}
 use Rattle.cell_key.specs.Keys.{key_cmp, key_cmp_total}
 use Rattle.cell_key.specs.declared.keys.CellKey.{CellKey}
-use Rattle.row_atomic.specs.Slots.{slot_cells, content, slot_at, IsFirstKey}
-use Rattle.row_atomic.proofs.SlotLemmas.{get_cells, clash}
+use Rattle.row_atomic.specs.Slots.{slot_cells, slot_at, IsFirstKey}
+use Rattle.row_atomic.proofs.SlotLemmas.{content, get_cells, clash}
 
 module _ {Z : Type 0} (m : BTreeMap CellKey (Option (Vec ℕ Z))) (lo hi : Bound CellKey) where
   pub first_none : IsRangeOf key_cmp lo hi m [] → IsFirstKey (slot_cells m.entries) lo hi None

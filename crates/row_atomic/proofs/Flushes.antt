@@ -8,7 +8,7 @@ use Rattle.file_store.specs.Store.{Contents}
 use Rattle.metadata_table.specs.Places.{PlaceView, view_of, views}
 use Rattle.metadata_table.specs.declared.places.Place.{Place}
 use Rattle.metadata_table.specs.Table.{HasTablet, IsTable}
-use Rattle.sorted_file.specs.declared.opened.SortedFile.{SortedFile}
+use Rattle.sorted_file.specs.declared.file.SortedFile.{SortedFile}
 use Rattle.cell_key.specs.Entries.{Entry}
 use Rattle.tablet.specs.declared.ranges.RowRange.{RowRange}
 use Rattle.tablet.specs.declared.tablet.Tablet.{Tablet}

@@ -1,5 +1,5 @@
 -- A new cluster.
-use Rattle.std.proofs.Common.{◌≡◌, ◌≤◌, ◌<◌, ℕ, List, [], ◌∷◌, ◌++◌, map, length, Option, Some, None, IsSome, refl, sym, ap, ◌∙◌, subst, arith, lit≤}
+use Rattle.std.proofs.Common.{◌≡◌, ◌<◌, ℕ, List, [], ◌∷◌, ◌++◌, map, length, Option, Some, None, IsSome, refl, sym, ap, ◌∙◌, subst, arith, lit≤}
 use Rattle.std.specs.List.{AllByRecursion}
 use Rattle.std.specs.FinMap.{empty, entries, from_entries, len-empty, len-entries}
 use Rattle.cell_key.specs.Keys.{byte_cmp, key_cmp}
@@ -7,10 +7,11 @@ use Rattle.cell_key.specs.Cells.{Cells}
 use Rattle.cell_key.specs.Entries.{Entry, IsEntryList, cells_of, merged}
 use Rattle.file_store.specs.Store.{Contents}
 use Rattle.metadata_table.specs.Table.{first_place}
-use Rattle.sorted_file.specs.Opened.{IsOpen, listed, name_of}
+use Rattle.sorted_file.specs.File.{IsOpen, listed, name_of}
 use Rattle.tablet.specs.Ranges.{seen}
 use Rattle.tablet.specs.Views.{Holds, IsBelow, range_of, memory_of, files_of, lists_of, view_of, cells_at}
 use Rattle.tablet.specs.declared.tablet.Tablet.{Tablet}
+use Rattle.sorted_file.specs.Limits.{IsFileLimit}
 use Rattle.row_atomic.specs.Clusters.{InOrder, IsMatched, cells_in, joined}
 use Rattle.row_atomic.proofs.FileNames.{no_files}
 
@@ -48,10 +49,9 @@ module _ (t : Tablet) (memory : memory_of t ≡ []) (files : files_of t ≡ []) 
   new_in_order None next h = cc
   new_in_order (Some m) next h = record { contents = m; are_told = refl; each_open = (holds m, tt); each_below = (below next, tt) }
 
-  pub new_matched : (limit : ℕ) → 48 ≤ limit → limit ≤ 68_719_476_736 → range_of t ≡ record { after = None; end = None } → IsMatched limit 1 (first_place ∷ []) (t ∷ [])
-  new_matched limit least most range = record {
-    least = least;
-    most = most;
+  pub new_matched : (limit : ℕ) → IsFileLimit limit → range_of t ≡ record { after = None; end = None } → IsMatched limit 1 (first_place ∷ []) (t ∷ [])
+  new_matched limit fits range = record {
+    limit = fits;
     named_from = omega arith;
     named_to = lit≤ tt;
     placed = (record { tablet = t; numbered = refl; range = range; names = ap (map name_of) files }, tt);

@@ -5,8 +5,8 @@ use Rattle.cell_key.specs.Entries.{Entry}
 use Rattle.cell_key.specs.declared.refusals.Refusal.{Refusal}
 use Rattle.metadata_table.specs.Places.{PlaceView}
 use Rattle.metadata_table.specs.Table.{Cuts, IsHolder, naming, with_files}
-use Rattle.sorted_file.specs.Opened.{name_of}
-use Rattle.sorted_file.specs.declared.opened.SortedFile.{SortedFile}
+use Rattle.sorted_file.specs.File.{name_of}
+use Rattle.sorted_file.specs.declared.file.SortedFile.{SortedFile}
 use Rattle.tablet.specs.Views.{IsUnchanged, names_of, with_name}
 use Rattle.tablet.specs.declared.tablet.Tablet.{Tablet}
 use Rattle.row_atomic.specs.Clusters.{tablet_numbered}
@@ -24,7 +24,7 @@ pushed_elsewhere [] (suc j) y other = refl
 pushed_elsewhere (x ∷ xs) zero y other = refl
 pushed_elsewhere (x ∷ xs) (suc j) y other = pushed_elsewhere xs j y (λ e. other (ap suc e))
 
-same_numbered : (o : Option Tablet) (t v : Tablet) → o ≡ Some t → o ≡ Some v → t ≡ v
+pub same_numbered : (o : Option Tablet) (t v : Tablet) → o ≡ Some t → o ≡ Some v → t ≡ v
 same_numbered o t v e h = cc
 
 -- a tablet stands as two parts in its place and at the end

@@ -7,9 +7,9 @@ use Rattle.std.proofs.lemmas.List.Concat.{flat_map-append}
 use Rattle.file_store.specs.Store.{Contents}
 use Rattle.metadata_table.specs.Places.{PlaceView}
 use Rattle.metadata_table.specs.Roots.{file_names}
-use Rattle.sorted_file.specs.Opened.{HasFile}
+use Rattle.sorted_file.specs.File.{HasFile}
 use Rattle.row_atomic.specs.Roots.{AreMeasured}
-use Rattle.row_atomic.specs.RootsOpened.{AreCounted, LacksFile}
+use Rattle.row_atomic.specs.Open.{AreCounted, LacksFile}
 
 -- ---- names that are joined
 

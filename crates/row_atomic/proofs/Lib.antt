@@ -15,6 +15,7 @@ pub mod KeptRoots
 pub mod LeftTablets
 pub mod Lengths
 pub mod Limits
+pub mod ListRoom
 pub mod ListedFiles
 pub mod LoadedTablets
 pub mod MovedTablets

@@ -23,7 +23,7 @@ stored_lists contents old new same = same_lists old.places new.places (ap (λ s.
 
 -- ---- files of a place that changes
 
-contains_map : {A B : Type 0} (f : A → B) (xs : List A) (x : A) → Contains xs x → Contains (map f xs) (f x)
+pub contains_map : {A B : Type 0} (f : A → B) (xs : List A) (x : A) → Contains xs x → Contains (map f xs) (f x)
 contains_map f [] x c = absurd (omega (arith, c.1))
 contains_map f (y ∷ xs) x (zero, below, is) = (0, omega arith, ap f is)
 contains_map f (y ∷ xs) x (suc k, below, is) = let rest = contains_map f xs x (k, omega (arith, below), is) in (suc rest.0, omega (arith, rest.1), rest.2)

@@ -5,16 +5,16 @@ use Rattle.std.specs.List.{AllByRecursion}
 use Rattle.cell_key.specs.declared.refusals.Refusal.{Refusal}
 use Rattle.file_store.specs.Store.{Contents}
 use Rattle.metadata_table.specs.Places.{PlaceView, view_of, views}
-use Rattle.metadata_table.specs.Positions.{IsTabletAt}
+use Rattle.metadata_table.specs.Search.{IsTabletAt}
 use Rattle.metadata_table.specs.Table.{HasTablet, IsNumbered, IsTable}
 use Rattle.metadata_table.specs.declared.places.Place.{Place}
-use Rattle.sorted_file.specs.Opened.{HasFile}
+use Rattle.sorted_file.specs.File.{HasFile}
 use Rattle.tablet.specs.Views.{Holds as HoldsAt, names_of, range_of}
 use Rattle.tablet.specs.declared.ranges.RowRange.{RowRange}
 use Rattle.tablet.specs.declared.tablet.Tablet.{Tablet}
 use Rattle.row_atomic.specs.Changes.{IsEmptied}
 use Rattle.row_atomic.specs.Clusters.{ArePlaced, tablet_numbered}
-use Rattle.row_atomic.specs.RootsOpened.{AreLoaded, FitsAt, FitsPlace, LacksFile}
+use Rattle.row_atomic.specs.Open.{AreLoaded, FitsAt, FitsPlace, LacksFile}
 use Rattle.row_atomic.proofs.Numbers.{AreOthers, Differ, HasNumber, differ_of}
 
 -- ---- one place

@@ -3,7 +3,7 @@ use Rattle.std.proofs.Common.{◌≡◌, ◌≢◌, ◌<◌, IsTrue, ℕ, zero, 
 use Rattle.std.specs.List.{AllByRecursion, Contains}
 use borrow.Author.Tests.{eqb-true, eqb-false}
 use Rattle.file_store.specs.Store.{Contents}
-use Rattle.sorted_file.specs.Opened.{HasFile}
+use Rattle.sorted_file.specs.File.{HasFile}
 use Rattle.tablet.specs.Views.{Holds, IsBelow, cells_at, memory_of, names_of, range_of}
 use Rattle.tablet.specs.Laws.{FilesAreThere, SameCells}
 use Rattle.tablet.specs.declared.tablet.Tablet.{Tablet}
@@ -59,8 +59,7 @@ pub matched_moved : (limit next n to : ℕ) (places places' : List PlaceView) (t
 matched_moved limit next n to places places' ts e matched =
     subst (λ (ps : List PlaceView). IsMatched limit next ps ts) (sym e)
     (record {
-      least = matched.least;
-      most = matched.most;
+      limit = matched.limit;
       named_from = matched.named_from;
       named_to = matched.named_to;
       placed = placed_moved ts n to None places matched.placed;

@@ -8,14 +8,14 @@ use Rattle.file_store.specs.Store.{Contents}
 use Rattle.metadata_table.specs.Places.{PlaceView}
 use Rattle.metadata_table.specs.Roots.{AreFiles, IsNoRoot, IsRoot, IsRootWith, IsSoundRoot, OneMeasure, OneRoot, RootView, file_names}
 use Rattle.metadata_table.specs.Table.{IsTable}
-use Rattle.sorted_file.specs.Opened.{HasFile}
+use Rattle.sorted_file.specs.File.{HasFile}
 use Rattle.tablet.specs.Laws.{FilesAreThere, SameCells}
 use Rattle.tablet.specs.Views.{Holds as HoldsAt, IsBelow, cells_at}
 use Rattle.tablet.specs.declared.tablet.Tablet.{Tablet}
 use Rattle.row_atomic.specs.Changes.{Holds, IsEmptied}
 use Rattle.row_atomic.specs.Clusters.{ArePlaced, ClusterState, cells_in, joined, tablet_numbered}
 use Rattle.row_atomic.specs.Roots.{AreMeasured, AreOpened, KeepsCells, root_at, root_name}
-use Rattle.row_atomic.specs.RootsOpened.{AreLoaded, FindsRoot, IsDamaged, IsStore, LacksFile, Reopens, no_file, no_length, no_root}
+use Rattle.row_atomic.specs.Open.{AreLoaded, FindsRoot, IsDamaged, IsStore, LacksFile, Reopens, no_file, no_length, no_root}
 use Rattle.row_atomic.proofs.ListedFiles.{same_lists}
 use Rattle.row_atomic.proofs.Owners.{each_placed}
 use Rattle.row_atomic.proofs.Shares.{each_at, each_map}

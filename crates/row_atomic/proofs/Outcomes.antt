@@ -10,7 +10,7 @@ use Rattle.cell_key.specs.declared.refusals.Refusal.TheVariants.{BadCount, BadSp
 use Rattle.file_store.specs.Store.{Contents}
 use Rattle.metadata_table.specs.Places.{PlaceView}
 use Rattle.metadata_table.specs.Table.{BarsSplit, HasTablet, IsHolder, IsNumbered, IsTable, most_servers}
-use Rattle.sorted_file.specs.Sources.{IsReadRefusal as IsFileRefusal}
+use Rattle.sorted_file.specs.Source.{IsReadRefusal as IsFileRefusal}
 use Rattle.tablet.specs.Views.{UsesName}
 use Rattle.tablet.specs.declared.tablet.Tablet.{Tablet}
 use Rattle.row_atomic.specs.Changes.{Holds, IsAsBefore, IsCompacted, IsCut, IsEmptied, IsFlushed, IsFullTablet, IsHalved, IsMoveRefusal, IsMoved, IsNumberedRefusal, IsOn, IsRefusalOf, IsSplitRefusal, IsUndone, KeepsMap, ListsAll, MayBeFlushed, MayHolderBeFlushed, MeetsBadCount, MeetsFull, Numbered, OfHolder, Remakes, WritesNone}
@@ -310,6 +310,23 @@ module _ {F : Type 0} (contents : F → Option Contents) (count : F → ℕ) (ro
       undone = λ _. none_done contents state;
     };
     faults = no_fault count (Refused BadSplit) state (λ is. cc);
+  }
+
+  -- there is no room for the cut
+  pub unroomed : (state : ClusterState F) → ¬ BarsSplit row state.places → IsOutcome contents count (command.Split row) (Refused NoMemory) state state
+  unroomed state free = record {
+    still = λ order. order;
+    answers = λ order. ((λ is. cc), refl);
+    upholds = (tt, (refl, λ place holder. inl refl));
+    files = record { name = inl (refl, refl); limit = refl; none = λ _. (refl, refl) };
+    lists = λ _ name l. l;
+    room = tt;
+    cause = record {
+      due = record { bad = ((λ is. cc), λ bars. absurd (free bars)); full = λ is. cc; unfilled = λ of. absurd of; exhausted = λ is. cc; large = λ is. cc };
+      barred = λ is. cc;
+      undone = λ _. none_done contents state;
+    };
+    faults = no_fault count (Refused NoMemory) state (λ is. cc);
   }
 
   module _ (p : PlaceView) (old mid : ClusterState F) (holder : IsHolder row old.places p) (free : ¬ BarsSplit row old.places) where

@@ -8,10 +8,11 @@ use Rattle.std.specs.Ordering.{is_lt, is_le, ordering_reverse}
 use Rattle.std.specs.declared.cmp.Ordering.{Ordering}
 use Rattle.std.specs.declared.cmp.Ordering.TheVariants.{Less, Equal, Greater}
 use borrow.Author.Tests.{eqb-true, eqb-false}
-use Rattle.cell_key.specs.Keys.{byte_cmp, key_cmp_total, exact_keys}
+use Rattle.cell_key.specs.Keys.{byte_cmp, key_cmp_total}
 use Rattle.cell_key.specs.Cells.{Cells}
 use Rattle.cell_key.specs.Entries.{or_else}
 use Rattle.cell_key.specs.declared.keys.CellKey.{CellKey}
+use Rattle.cell_key.proofs.KeyLaws.{exact_keys}
 use Rattle.file_store.specs.Store.{Contents}
 use Rattle.metadata_table.specs.Places.{PlaceView, EndsBefore}
 use Rattle.metadata_table.specs.Table.{EndsRise, IsTable, IsHolder}

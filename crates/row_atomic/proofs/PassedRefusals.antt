@@ -9,7 +9,7 @@ pub use Rattle.cell_key.proofs.Reasons.{not_refused, reason_none as no_fault, re
 pub use Rattle.cell_key.proofs.Passed.{passed, passed_err as refused_so, passed_none as none_answered}
 use Rattle.cell_key.proofs.Passed.{passed_kind}
 use Rattle.metadata_table.specs.Places.{PlaceView}
-use Rattle.sorted_file.specs.Sources.{IsReadRefusal}
+use Rattle.sorted_file.specs.Source.{IsReadRefusal}
 use Rattle.cell_key.specs.Faults.{HasReason}
 use Rattle.row_atomic.specs.Changes.{ComesOfWriting, IsMoveRefusal, IsRefusalOf, IsSplitRefusal}
 use Rattle.row_atomic.specs.Clusters.{spot_of}

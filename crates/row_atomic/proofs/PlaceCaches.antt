@@ -10,9 +10,9 @@ use Rattle.lru.proofs.CallerLemmas.{Contains-lookup, Contains-promoted, Contains
 use Rattle.metadata_table.specs.Places.{PlaceView}
 use Rattle.metadata_table.specs.Table.{IsNumbered, IsTable, naming, with_files}
 use Rattle.tablet.specs.declared.tablet.Tablet.{Tablet}
-use Rattle.row_atomic.specs.Clusters.{ArePlaced, HasTabletAt}
+use Rattle.row_atomic.specs.Clusters.{ArePlaced}
 use Rattle.row_atomic.specs.PlaceCaches.{AddsOnly, AreHeld, IsLocatedLast, IsHeldBy, is_key_of, number_kept}
-use Rattle.row_atomic.proofs.RowAnswers.{holder_index}
+use Rattle.row_atomic.proofs.RowAnswers.{HasTabletAt, holder_index}
 use Rattle.row_atomic.proofs.Parts.{at_parts}
 use Rattle.row_atomic.proofs.SplitClusters.{holder_listed, same_tablet}
 

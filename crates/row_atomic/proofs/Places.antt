@@ -8,12 +8,13 @@ use Rattle.std.specs.Cmp.{IsTotalOrder, ranks, then_total, on_total}
 use Rattle.std.specs.Cmp.Lexicographic.{nat_list_cmp_total}
 use Rattle.std.specs.FinMap.{get, slice_cmp-IsAntisymmetric, nat_cmp-IsAntisymmetric}
 use Rattle.std.specs.BTreeMap.Range.{IsFromStart}
-use Rattle.cell_key.specs.Keys.{byte_cmp, key_cmp, both_Equal, qualifier_name}
+use Rattle.cell_key.specs.Keys.{byte_cmp, key_cmp, qualifier_name}
 use Rattle.cell_key.specs.Cells.{Cells}
 use Rattle.cell_key.specs.declared.keys.CellKey.{CellKey}
 use Rattle.cell_key.specs.declared.keys.Qualifier.{Qualifier}
 use Rattle.cell_key.specs.declared.keys.Qualifier.TheVariants.{Data, Lock, Write}
 use Rattle.cell_key.specs.Places.{Place, place_of, place_cmp, IsAfter, IsNextCell}
+use Rattle.cell_key.proofs.KeyLaws.{both_Equal}
 use Rattle.row_atomic.specs.Slots.{IsFirstKey, past}
 
 place_cmp_total : IsTotalOrder place_cmp

@@ -12,7 +12,7 @@ use Rattle.cell_key.specs.declared.refusals.Refusal.{Refusal}
 use Rattle.file_store.specs.Store.{Contents, KeepsOthers, with_file}
 use Rattle.metadata_table.specs.Places.{PlaceView}
 use Rattle.metadata_table.specs.Roots.{AreFiles, IsRoot, IsRootIn, IsSoundRoot, RootView, file_names, root_bytes}
-use Rattle.metadata_table.specs.declared.root_formats.RootFormat.TheVariants.{Two}
+use Rattle.metadata_table.specs.declared.root.format.RootFormat.TheVariants.{Two}
 use Rattle.metadata_table.specs.Table.{IsTable}
 use Rattle.tablet.specs.Laws.{UnnamedMayGo}
 use Rattle.tablet.specs.Views.{Holds as HoldsAt, cells_at, names_of}

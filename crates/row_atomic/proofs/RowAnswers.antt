@@ -12,16 +12,24 @@ use Rattle.file_store.specs.Store.{Contents}
 use Rattle.memtable.specs.Edits.{IsWithinLimits, with_edits}
 use Rattle.metadata_table.specs.Places.{PlaceView}
 use Rattle.metadata_table.specs.Table.{IsTable, IsHolder}
-use Rattle.sorted_file.specs.Opened.{name_of}
+use Rattle.sorted_file.specs.File.{name_of}
 use Rattle.tablet.specs.Ranges.{has_row, seen}
 use Rattle.tablet.specs.Views.{Holds, IsBelow, IsSameTablet, cells_at, lists_of, range_of, files_of, names_of, memory_of}
 use Rattle.tablet.specs.Laws.{StaysInRange}
 use Rattle.tablet.specs.declared.tablet.Tablet.{Tablet}
-use Rattle.row_atomic.specs.Clusters.{tablet_numbered, cells_in, joined, edits_in, InOrder, ArePlaced, IsMatched, HasTabletAt, Overfills}
+use Rattle.row_atomic.specs.Clusters.{tablet_numbered, cells_in, joined, edits_in, InOrder, ArePlaced, IsMatched, Overfills}
 use Rattle.row_atomic.proofs.Owners.{OwnsRow, index_of, holder_owns}
 use Rattle.row_atomic.proofs.Shares.{each_at, each_set, at_told, cells_told, newest_of_row, applied}
 use Rattle.row_atomic.proofs.PlacedTablets.{is_placed, placed_set}
 use Rattle.row_atomic.proofs.Parts.{IsNumbered, at_parts}
+
+-- the tablet of the place that holds a row stands at the index
+pub record HasTabletAt (places : List PlaceView) (tablets : List Tablet) (row : List ℕ) (index : ℕ) : Type 0 where
+  pub place : PlaceView
+  pub holder : IsHolder row places place
+  pub number : place.tablet ≡ index + 1
+  pub tablet : Tablet
+  pub there : slice_get tablets index ≡ Some tablet
 
 -- what stands at an index of a list
 pub slice_get_at : {A : Type 0} (xs : List A) (i : ℕ) (d : A) → i < length xs → slice_get xs i ≡ Some (slice_index_or xs i d)
@@ -163,8 +171,7 @@ module _ (o now : Option Contents) (next : ℕ) (ts : List Tablet) (i : ℕ) (t 
 -- a tablet of the same range and the same files comes in the place of another
 pub matched_set : (limit next : ℕ) (places : List PlaceView) (ts : List Tablet) (i : ℕ) (t u : Tablet) → slice_get ts i ≡ Some t → range_of u ≡ range_of t → names_of u ≡ names_of t → IsMatched limit next places ts → IsMatched limit next places (set ts i u)
 matched_set limit next places ts i t u there same_range same_names matched = record {
-  least = matched.least;
-  most = matched.most;
+  limit = matched.limit;
   named_from = matched.named_from;
   named_to = matched.named_to;
   placed = placed_set ts i t u there same_range same_names None places matched.placed;

@@ -5,11 +5,12 @@ use Rattle.std.specs.FinMap.{get, same_map}
 use Rattle.std.specs.List.{AllByRecursion}
 use Rattle.std.specs.declared.cmp.Ordering.{Ordering}
 use Rattle.std.specs.declared.cmp.Ordering.TheVariants.{Less, Equal, Greater}
-use Rattle.cell_key.specs.Keys.{byte_cmp, key_cmp_total, exact_keys}
+use Rattle.cell_key.specs.Keys.{byte_cmp, key_cmp_total}
 use Rattle.cell_key.specs.Cells.{Cells, IsEditOf, IsNewest, after_edits, version}
 use Rattle.cell_key.specs.declared.keys.CellKey.{CellKey}
 use Rattle.cell_key.specs.declared.keys.Qualifier.{Qualifier}
 use Rattle.cell_key.specs.declared.edits.Edit.{Edit}
+use Rattle.cell_key.proofs.KeyLaws.{exact_keys}
 use Rattle.file_store.specs.Store.{Contents}
 use Rattle.tablet.specs.Ranges.{has_row}
 use Rattle.tablet.specs.Views.{Holds, IsBelow, UsesName, Keeps, cells_at, range_of}

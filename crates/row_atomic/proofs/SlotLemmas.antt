@@ -7,11 +7,18 @@ use Rattle.std.specs.Ordering.{is_eq, eq_by_cmp}
 use Rattle.std.specs.Cmp.{eq_by_cmp_equiv, tied_itself}
 use Rattle.std.specs.FinMap.{empty, get, insert, remove, get-empty, get-insert, get-remove, same_map}
 use Rattle.std.specs.List.{All, AllByRecursion}
-use Rattle.cell_key.specs.Keys.{key_cmp, key_cmp_total, exact_keys}
+use Rattle.cell_key.specs.Keys.{key_cmp, key_cmp_total}
 use Rattle.cell_key.specs.Cells.{Cells, edited_key}
 use Rattle.cell_key.specs.declared.keys.CellKey.{CellKey}
 use Rattle.cell_key.specs.declared.edits.Edit.{Edit}
-use Rattle.row_atomic.specs.Slots.{slot_cells, content, slot_at, HasSlot, HasEdited, KeepsSlots, EmptiesNone, AreFilled, IsFullBut}
+use Rattle.cell_key.proofs.KeyLaws.{exact_keys}
+use Rattle.row_atomic.specs.Slots.{slot_cells, slot_at, HasSlot, HasEdited, KeepsSlots, EmptiesNone, AreFilled, IsFullBut}
+
+-- what a slot holds
+abbrev pub content : {Z : Type 0} → Option (Option (Vec ℕ Z)) → Option (List ℕ)
+content None = None
+content (Some None) = None
+content (Some (Some value)) = Some value.items
 
 content-cond : {Z : Type 0} (b : Bool) (w r : Option (Option (Vec ℕ Z))) → content (cond b w r) ≡ cond b (content w) (content r)
 content-cond true w r = refl

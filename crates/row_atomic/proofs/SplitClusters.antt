@@ -66,8 +66,7 @@ module _ (places : List PlaceView) (ts : List Tablet) (i : ℕ) (t left right : 
       let count : n ≡ suc (length ts) = omega arith in
       let index : p.tablet ≡ suc i = omega arith in
       record {
-        least = next.least;
-        most = next.most;
+        limit = next.limit;
         named_from = next.named_from;
         named_to = next.named_to;
         placed = cut_placed ts i t left right row there left_range right_range left_names right_names None p places places' index (differ_of places table.distinct) holder matched.placed (subst (λ (k : ℕ). Cuts row k places places') count cut);
@@ -154,7 +153,7 @@ module _ (n : ℕ) (names : List ℕ) where
   tablet_stays true p = refl
   tablet_stays false p = refl
 
-  same_end : (p : PlaceView) → (naming n names p).end ≡ p.end
+  pub same_end : (p : PlaceView) → (naming n names p).end ≡ p.end
   same_end p = end_stays (nat_eq p.tablet n) p
 
   pub same_tablet : (p : PlaceView) → (naming n names p).tablet ≡ p.tablet
@@ -191,7 +190,7 @@ module _ (n : ℕ) (names : List ℕ) where
       let there = rest.there.1 in
       record { place = rest.place; there = (suc rest.there.0, omega arith, rest.there.2); same = rest.same }
 
-  length_listed : (ps : List PlaceView) → length (map (naming n names) ps) ≡ length ps
+  pub length_listed : (ps : List PlaceView) → length (map (naming n names) ps) ≡ length ps
   length_listed [] = refl
   length_listed (p ∷ ps) = ap suc (length_listed ps)
 

@@ -8,10 +8,11 @@ use Rattle.std.specs.Cmp.{ranks, nat_cmp_is, tied_itself}
 use Rattle.std.specs.Cmp.Lexicographic.{nat_list_cmp_total}
 use Rattle.std.specs.FinMap.{get, slice_cmp-IsAntisymmetric, nat_cmp-IsAntisymmetric}
 use Rattle.std.specs.BTreeMap.Range.{IsLeBy, IsInRange}
-use Rattle.cell_key.specs.Keys.{byte_cmp, key_cmp, exact_qualifiers, same_key, qualifier_name}
+use Rattle.cell_key.specs.Keys.{byte_cmp, key_cmp, qualifier_name}
 use Rattle.cell_key.specs.Cells.{Cells, IsNewest, version}
 use Rattle.cell_key.specs.declared.keys.CellKey.{CellKey}
 use Rattle.cell_key.specs.declared.keys.Qualifier.{Qualifier}
+use Rattle.cell_key.proofs.KeyLaws.{exact_qualifiers, same_key}
 use Rattle.row_atomic.specs.Slots.{IsFirstKey}
 
 -- what is neither above the first nor below the second, where both begin with the same part

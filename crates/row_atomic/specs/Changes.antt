@@ -1,19 +1,19 @@
--- What the calls of a cluster do to its tablets and their places.
-use Rattle.std.specs.Prelude.{◌≡◌, ◌≢◌, ◌≤◌, ◌+◌, ◌⊎◌, ℕ, false, nat_lt, List, [], ◌∷◌, length, map, take, drop, Option, Some, IsSome, IsSomeAnd, IfSome, ⊤}
+-- What the calls of a cluster do to its tablets and their places. Begin with `IsOutcome` at the end
+-- of Commands.antt, which cites these words: `IsCompacted`, `IsHalved` and `ComesTo` are what a
+-- compaction, a split and a move do, and `IsAsBefore` what a refused one leaves.
+use Rattle.std.specs.Prelude.{◌≡◌, ◌≢◌, ◌≤◌, ◌+◌, ◌^◌, ◌⊎◌, ℕ, List, [], ◌∷◌, length, map, drop, Option, Some, IsSome, IsSomeAnd, IfSome, ⊤}
 use Rattle.std.specs.List.{AllByRecursion, AllZip, Contains, slice_get}
 use Rattle.cell_key.specs.Entries.{Entry}
 use Rattle.cell_key.specs.declared.refusals.Refusal.{Refusal}
 use Rattle.cell_key.specs.declared.refusals.Refusal.TheVariants as refused
 use Rattle.file_store.specs.Store.{Contents}
 use Rattle.sorted_file.specs.Grammar.{FitsIn}
-use Rattle.sorted_file.specs.Opened.{listed}
-use Rattle.sorted_file.specs.declared.opened.SortedFile.{SortedFile}
-use Rattle.compaction.specs.Writing.{written}
+use Rattle.sorted_file.specs.declared.file.SortedFile.{SortedFile}
 use Rattle.metadata_table.specs.Places.{PlaceView}
 use Rattle.metadata_table.specs.Table.{Cuts, IsHolder, IsListed, moved, with_files}
 use Rattle.tablet.specs.Ranges.{seen}
-use Rattle.tablet.specs.Views.{Holds as HoldsAt, IsSameTablet, range_of, memory_of, files_of, names_of, lists_of, with_name}
-use Rattle.tablet.specs.Compactions.{Compacts, IsCompactionRefusal}
+use Rattle.tablet.specs.Views.{Holds as HoldsAt, IsBelow, IsSameTablet, range_of, memory_of, files_of, names_of, lists_of, with_name}
+use Rattle.tablet.specs.Compactions.{Compacts, IsCompactionRefusal, compacted_of}
 use Rattle.tablet.specs.declared.compactions.Compaction.{Compaction}
 use Rattle.tablet.specs.declared.compactions.Compaction.TheVariants.{Minor, Merge, Major}
 use Rattle.tablet.specs.declared.ranges.RowRange.{RowRange}
@@ -26,7 +26,7 @@ use Rattle.row_atomic.specs.Clusters.{ClusterState, InOrder, cells_in, tablet_nu
 abbrev pub Holds : {F : Type 0} → (F → Option Contents) → ClusterState F → Type 0
 Holds contents state = InOrder (contents state.files) state.next_name state.tablets
 
--- Where the tablets were in order they are, and the cells are as before.
+-- If the tablets were in order, they still are, and the cells are as before.
 abbrev pub KeepsMap : {F : Type 0} → (F → Option Contents) → ClusterState F → ClusterState F
     → Type 0
 KeepsMap contents old new =
@@ -128,14 +128,10 @@ pub record IsCompacted {F : Type 0} (contents : F → Option Contents) (compacti
 -- the entries that a compaction writes
 abbrev pub written_by : Compaction → Contents → Tablet → List Entry
 written_by Minor m t = seen (range_of t) (memory_of t)
-written_by (Merge count) m t =
-    written (nat_lt count (length (names_of t)))
-    (map (seen (range_of t)) (take count (map (listed m) (files_of t))))
-written_by Major m t =
-    written false (map (seen (range_of t)) (memory_of t ∷ map (listed m) (files_of t)))
+written_by compaction m t = compacted_of compaction m t
 
 -- Their file would have more bytes than a file may have.
--- Those of a merging or a major one are told where the tablet's files are open.
+-- That of a merging or a major one is known if the tablet's files are open.
 abbrev pub IsTooLarge : ℕ → Option Contents → Compaction → Tablet → Type 0
 IsTooLarge limit told Minor t = ¬ FitsIn limit (seen (range_of t) (memory_of t))
 IsTooLarge limit told compaction t =
@@ -164,7 +160,7 @@ abbrev pub MeetsFull : Compaction → Tablet → Type 0
 MeetsFull Minor t = IsFullTablet t
 MeetsFull _ t = ⊥
 
--- a refusal that comes of writing a file: a full tablet is told that it is full instead
+-- a refusal that comes of writing a file: if the tablet is full, that is answered instead
 abbrev pub ComesOfWriting : Refusal → Type 0
 ComesOfWriting refused.Exhausted = ⊤
 ComesOfWriting refused.FileTooLarge = ⊤
@@ -193,6 +189,29 @@ IsRefusalOf Major refusal = IsCompactionRefusal refusal
 abbrev pub IsNumberedRefusal : Compaction → Refusal → Type 0
 IsNumberedRefusal compaction refused.UnknownTablet = ⊤
 IsNumberedRefusal compaction refusal = IsRefusalOf compaction refusal
+
+-- A compaction of a tablet was done. Over the files before and after it, and their next names, it
+-- made the tablet another one: it may be done, and it used the next name if it wrote.
+pub record HasCompacted (compaction : Compaction) (limit : ℕ) (told : Option Contents) (next : ℕ)
+    (later : Option Contents) (after : ℕ) (t u : Tablet) : Type 0 where
+  pub made : IsMade compaction next t u
+  pub lists : Compacts compaction told next later t u
+  pub cleaned : IfSome told (λ m. HoldsAt m t → IsBelow next t → IsCleaned compaction later u)
+  pub room : ¬ MeetsFull compaction t
+  pub named : 2 ^ 63 ≤ next → WritesNone compaction t
+  pub fits : FitsLimit limit told compaction t
+  pub used : ¬ WritesNone compaction t → after ≡ next + 1
+
+-- It was refused so: the refusal has a cause, and a full tablet is refused before anything is written.
+pub record HasRefused (compaction : Compaction) (limit : ℕ) (told : Option Contents) (next : ℕ)
+    (later : Option Contents) (after : ℕ) (t : Tablet) (refusal : Refusal) : Type 0 where
+  pub count : refusal ≡ refused.BadCount → MeetsBadCount compaction t
+  pub full : refusal ≡ refused.TooManyFiles → IsFullTablet t
+  pub unfilled : ComesOfWriting refusal → ¬ MeetsFull compaction t
+  pub exhausted : refusal ≡ refused.Exhausted → (2 ^ 63 ≤ next) × (¬ WritesNone compaction t)
+  pub large : refusal ≡ refused.FileTooLarge → IsTooLarge limit told compaction t
+  pub damaged : refusal ≡ refused.Damaged → IfSome told (λ m. ¬ HoldsAt m t)
+  pub undone : refusal ≡ refused.TooManyFiles → (after ≡ next) × (later ≡ told)
 
 -- ---- splits and moves
 

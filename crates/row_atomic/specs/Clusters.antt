@@ -1,5 +1,5 @@
 -- What a cluster of tablets holds and shows.
-use Rattle.std.specs.Prelude.{◌≡◌, ◌≤◌, ◌^◌, ◌+◌, ℕ, zero, suc, List, [], ◌∷◌, length, map, filter, flat_map, Option, None, Some, ⊤}
+use Rattle.std.specs.Prelude.{◌≡◌, ◌≤◌, ◌^◌, ℕ, zero, suc, List, [], ◌∷◌, length, map, filter, flat_map, Option, None, Some, ⊤}
 use Rattle.std.specs.List.{AllByRecursion, slice_get}
 use Rattle.std.specs.FinMap.{empty, from_entries, entries, get}
 use Rattle.cell_key.specs.Cells.{Cells, edited_key}
@@ -11,6 +11,7 @@ use Rattle.cell_key.specs.Places.{Place}
 use Rattle.metadata_table.specs.Places.{PlaceView, EndsBefore}
 use Rattle.metadata_table.specs.Roots.{AreFiles}
 use Rattle.metadata_table.specs.Table.{IsHolder, IsTable}
+use Rattle.sorted_file.specs.Limits.{IsFileLimit}
 use Rattle.tablet.specs.Ranges.{has_row}
 use Rattle.tablet.specs.Views.{Holds, IsBelow, cells_at, files_of, memory_of, names_of, range_of}
 use Rattle.tablet.specs.declared.ranges.RowRange.{RowRange}
@@ -36,12 +37,12 @@ tablet_numbered (suc i) tablets = slice_get tablets i
 abbrev pub joined : List Cells → Cells
 joined maps = from_entries (flat_map entries maps)
 
--- the cells of tablets over files that are told: all cells of all of them
+-- the cells of tablets over files whose bytes are known: all cells of all of them
 abbrev pub cells_in : Option Contents → List Tablet → Cells
 cells_in None tablets = empty
 cells_in (Some m) tablets = joined (map (cells_at m) tablets)
 
--- Over files that are told the files of each tablet are open,
+-- Over files whose bytes are known the files of each tablet are open,
 -- and their names come before the next one.
 pub record InOrder (told : Option Contents) (next : ℕ) (tablets : List Tablet) : Type 0 where
   pub contents : Contents
@@ -56,8 +57,8 @@ Spot = Option (List ℕ) × (ℕ × ℕ)
 abbrev pub spot_of : PlaceView → Spot
 spot_of p = (p.end, (p.tablet, p.server))
 
--- What lies below the memtables: the bytes of the files, as far as they are told, the most bytes of
--- a sorted file, the next file's name, and the places of the tablets with their files.
+-- What lies below the memtables: the bytes of the files, as far as they are known, the most bytes
+-- of a sorted file, the next file's name, and the places of the tablets with their files.
 pub record Storage : Type 0 where
   pub told : Option Contents
   pub file_limit : ℕ
@@ -73,7 +74,7 @@ storage_of contents state =
       places = state.places;
     }
 
--- rows that are kept in memory alone
+-- rows that are held in memory alone
 abbrev pub no_storage : Storage
 no_storage = record { told = None; file_limit = 0; next_name = 0; places = [] }
 
@@ -115,22 +116,12 @@ ArePlaced tablets before (p ∷ ps) = IsPlaced tablets before p × ArePlaced tab
 -- each once, with names from 1 on and below the next one.
 pub record IsMatched (file_limit next_name : ℕ) (places : List PlaceView)
     (tablets : List Tablet) : Type 0 where
-  pub least : 48 ≤ file_limit
-  pub most : file_limit ≤ 68_719_476_736
+  pub limit : IsFileLimit file_limit
   pub named_from : 1 ≤ next_name
   pub named_to : next_name ≤ 2 ^ 63
   pub placed : ArePlaced tablets None places
   pub as_many : length tablets ≡ length places
   pub files : AllByRecursion (λ p. AreFiles next_name p.files) places
-
--- the tablet of the place that holds a row stands at the index
-pub record HasTabletAt (places : List PlaceView) (tablets : List Tablet) (row : List ℕ)
-    (index : ℕ) : Type 0 where
-  pub place : PlaceView
-  pub holder : IsHolder row places place
-  pub number : place.tablet ≡ index + 1
-  pub tablet : Tablet
-  pub there : slice_get tablets index ≡ Some tablet
 
 -- all rows of a place come before that of the cell after which a scan goes on
 abbrev pub PrecedesCell : PlaceView → Option Place → Type 0

@@ -1,5 +1,6 @@
 -- What a command answers, and what it leaves of the one cell map, of tablets and files,
--- and of the room in memory.
+-- and of the room in memory. Begin at the end, with `IsOutcome`: each of its fields is said under a
+-- heading of this file, in the same order.
 use Rattle.std.specs.Prelude.{◌≡◌, ◌≢◌, ◌<◌, ◌≤◌, ◌+◌, ◌^◌, ◌↔◌, ◌⊎◌, ℕ, List, [], ◌∷◌, Option, Result, Ok, Err, length, option_map, ⊤}
 use Rattle.std.specs.List.{AllByRecursion}
 use Rattle.cell_key.specs.Cells.{Cells, IsEditOf, IsNewest, after_edits, version}
@@ -148,7 +149,7 @@ pub record WritesOne {F : Type 0} (contents : F → Option Contents) (command : 
       → (new.next_name ≡ old.next_name) × (contents new.files ≡ contents old.files)
 
 -- What a command that may write a file does to files and names, and where it leaves the tablets,
--- also where it is refused.
+-- even if it is refused.
 -- Splits and moves that are done say where these are.
 abbrev pub UsesFiles : {F : Type 0}
     → (F → Option Contents) → Command → ClusterState F → ClusterState F → Type 0
@@ -163,7 +164,7 @@ UsesFiles contents (command.Move tablet server) old new =
     WritesOne contents (command.Move tablet server) old new
 UsesFiles contents _ old new = ⊤
 
--- a merging or a major compaction: where it is done a tablet has its new file in place of others
+-- a merging or a major compaction: if it is done a tablet has its new file in place of others
 abbrev pub IsMerging : Command → Type 0
 IsMerging (command.Merge tablet count) = ⊤
 IsMerging (command.Major tablet) = ⊤
@@ -246,7 +247,7 @@ IsDue contents _ refusal old = ⊤
 -- ---- what may be done
 
 -- A compaction of the tablet of a number may be done: there is such a tablet, it has as many files
--- as are to be merged, it may have one more file where one comes, a name is left where one is used,
+-- as are to be merged, it may have one more file if one comes, a name is left if one is used,
 -- and the file may have its bytes.
 pub record MayCompact {F : Type 0} (contents : F → Option Contents) (compaction : Compaction)
     (tablet : ℕ) (old : ClusterState F) : Type 0 where
@@ -296,7 +297,7 @@ IsBarred (command.Move tablet server) refusal =
     (refusal ≡ refused.UnknownTablet) ⊎ (refusal ≡ refused.UnknownServer)
 IsBarred _ refusal = ⊥
 
--- A refusal is due. Nothing is done where the command is barred,
+-- A refusal is due. Nothing is done if the command is barred,
 -- or would give the tablet too many files.
 pub record IsRefused {F : Type 0} (contents : F → Option Contents) (command : Command)
     (refusal : Refusal) (old new : ClusterState F) : Type 0 where
@@ -311,7 +312,7 @@ HasCause contents command (outcome.Refused refusal) old new =
     IsRefused contents command refusal old new
 HasCause contents command _ old new = MayBeDone contents command old
 
--- A device has failed where an outcome says so, and else none has.
+-- A device has failed if an outcome says so, and else none has.
 pub record TellsFaults {F : Type 0} (faults : F → ℕ) (result : Outcome)
     (old new : ClusterState F) : Type 0 where
   pub later : faults old.files ≤ faults new.files
@@ -340,7 +341,7 @@ pub record IsOutcome {F : Type 0} (contents : F → Option Contents) (count : F 
   pub room : LeavesRoom command result old new
   -- nothing stood against it, or its refusal has a cause
   pub cause : HasCause contents command result old new
-  -- a device's fault is told, and no other
+  -- a device's fault is answered, and no other
   pub faults : TellsFaults count result old new
 
 -- ---- a list of commands

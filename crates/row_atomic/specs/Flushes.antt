@@ -11,6 +11,11 @@ use Rattle.row_atomic.specs.Commands.{AnswersAll, IsOutcome}
 use Rattle.row_atomic.specs.declared.commands.Command.TheVariants as command
 use Rattle.row_atomic.specs.declared.commands.Outcome.{Outcome}
 
+-- a number of entries at which a memtable may be compacted: no memtable has more than 100,000
+pub record IsFlushNumber (flush : ℕ) : Type 0 where
+  pub from : 1 ≤ flush
+  pub to : flush ≤ 100000
+
 -- whether there is a tablet, and its memtable has this many entries or more
 abbrev pub has_entries : ℕ → Option Tablet → Bool
 has_entries flush None = false
@@ -26,7 +31,7 @@ numbers_with flush state =
     filter (λ n. has_entries flush (tablet_numbered n state.tablets)) (numbers_of state.places)
 
 -- Minor compactions of these tablets, and of no other, were done one after the other, or refused.
--- Their outcomes are not told.
+-- Their outcomes are not reported.
 abbrev pub CompactsFull : {F : Type 0}
     → (F → Option Contents) → (F → ℕ) → ℕ → ClusterState F → ClusterState F → Type 0
 CompactsFull contents faults flush old new =
@@ -51,7 +56,7 @@ pub record LeavesFew (most count : ℕ) (t : Tablet) : Type 0 where
   pub enough : length (names_of t) + 2 ≤ most + count
 
 -- Newest files of each of these tablets were merged, one tablet after the other, or the merge was
--- refused. The outcomes are not told.
+-- refused. The outcomes are not reported.
 abbrev pub MergesEach : {F : Type 0}
     → (F → Option Contents) → (F → ℕ) → ℕ → ClusterState F → List ℕ → ClusterState F → Type 0
 MergesEach contents faults most old [] new = new ≡ old

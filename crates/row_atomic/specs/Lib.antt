@@ -5,12 +5,13 @@ pub mod Commands
 pub mod Compactions
 pub mod Flushes
 pub mod Laws
+pub mod ListRoom
 pub mod Oldest
+pub mod Open
 pub mod PlaceCaches
 pub mod Refusals
-pub mod Roots
-pub mod RootsOpened
 pub mod Room
+pub mod Roots
 pub mod Slots
 pub mod Sweeps
 pub use Rattle.cell_key.specs.Cells

@@ -9,13 +9,13 @@ abbrev pub AreAfter : (List ℕ → List Edit → Type 0) → Cells → Cells �
 AreAfter Changes old new =
     (row : List ℕ) × (edits : List Edit) × Changes row edits × (new ≡ after_edits old edits)
 
--- such edits of a row would pass a limit of what is kept in memory
+-- such edits of a row would pass a limit of what is held in memory
 abbrev pub HasNoRoom : {R : Type 0}
     → (R → List ℕ → List Edit → Type 0) → R → (List ℕ → List Edit → Type 0) → Type 0
 HasNoRoom overfills rows Changes =
     (row : List ℕ) × (edits : List Edit) × Changes row edits × overfills rows row edits
 
--- what is kept in memory has the room that it had:
+-- what is held in memory has the room that it had:
 -- edits that would pass a limit now would have done so before
 abbrev pub TakesNoRoom : {R : Type 0} → (R → List ℕ → List Edit → Type 0) → R → R → Type 0
 TakesNoRoom overfills old new =

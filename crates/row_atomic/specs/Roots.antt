@@ -8,7 +8,7 @@ use Rattle.cell_key.specs.declared.refusals.Refusal.TheVariants as refused
 use Rattle.file_store.specs.Store.{Contents, KeepsOthers, with_file}
 use Rattle.metadata_table.specs.Places.{PlaceView}
 use Rattle.metadata_table.specs.Roots.{IsRoot, IsRootIn, RootView, file_names}
-use Rattle.metadata_table.specs.declared.root_formats.RootFormat.TheVariants.{Two}
+use Rattle.metadata_table.specs.declared.root.format.RootFormat.TheVariants.{Two}
 use Rattle.tablet.specs.Views.{Holds as HoldsAt}
 use Rattle.tablet.specs.declared.tablet.Tablet.{Tablet}
 use Rattle.row_atomic.specs.Changes.{Holds, IsEmptied, ListsAll, Numbered}
@@ -24,7 +24,7 @@ use Rattle.row_atomic.specs.declared.commands.Outcome.TheVariants as outcome
 abbrev pub root_name : ℕ
 root_name = 0
 
--- what a cluster's root tells: two stamps, the next file's name and the places
+-- what a cluster's root says: two stamps, the next file's name and the places
 abbrev pub root_at : {F : Type 0} → ℕ → ℕ → ClusterState F → RootView
 root_at top floor state =
     record { top = top; floor = floor; next_name = state.next_name; places = state.places }
@@ -47,8 +47,8 @@ AreMeasured m (name ∷ names) [] = Unit {0}
 AreMeasured m (name ∷ names) (n ∷ lengths) =
     IfSome (get m name) (λ image. length image ≡ n) × AreMeasured m names lengths
 
--- The root file is there and tells this, its lengths are those of the files, and the tablets that are
--- opened of it show these cells.
+-- The root file is there and says this, its lengths are those of the files, and the tablets that
+-- are opened of it show these cells.
 pub record KeepsCells (m : Contents) (root : RootView) (cells : Cells) : Type 0 where
   pub image : List ℕ
   pub there : get m root_name ≡ Some image
@@ -72,7 +72,7 @@ pub data FlushesEach {F : Type 0} (contents : F → Option Contents) (faults : F
       → IsOutcome contents faults (command.Minor n) (outcome.Refused refusal) old new
       → FlushesEach contents faults old (n ∷ ns) (outcome.Refused refusal) new
 
--- The root file that tells of these stamps was put, in format 2. Or a device failed or memory was
+-- The root file that names these stamps was put, in format 2. Or a device failed or memory was
 -- refused: its bytes are then open, and all other files are as before. Nothing else changed.
 abbrev pub PutsRoot : {F : Type 0} → (F → Option Contents) → ℕ → ℕ → ClusterState F → Outcome
     → F → Type 0
@@ -104,7 +104,8 @@ AreFlushed state =
 
 -- ---- what stays in the files
 
--- The files are told, and keep a root and cells. Files to come have other names than the root's.
+-- The files' bytes are known, and keep a root and cells. Files to come have other names than the
+-- root's.
 pub record HasRoot {F : Type 0} (contents : F → Option Contents) (root : RootView) (cells : Cells)
     (state : ClusterState F) : Type 0 where
   pub kept : Contents
@@ -118,7 +119,7 @@ pub record KeepsRoot {F : Type 0} (contents : F → Option Contents) (root : Roo
   pub has : HasRoot contents root cells state
   pub lists : ListsAll root.places state.places
 
--- Its files keep the cells that the cluster showed, and tell of these stamps.
+-- Its files keep the cells that the cluster showed, and name these stamps.
 abbrev pub Rests : {F : Type 0} → (F → Option Contents) → ℕ → ℕ → ClusterState F → ClusterState F
     → Type 0
 Rests contents top floor old new =
@@ -126,8 +127,8 @@ Rests contents top floor old new =
 
 -- ---- how long it stays
 
--- A command leaves a root and its cells in the files, whatever its outcome. A sweep does so where
--- the tablets have every file that the root lists. They have them still, unless files were taken.
+-- A command leaves a root and its cells in the files, whatever its outcome. A sweep does so if the
+-- tablets have every file that the root lists. They have them still, unless files were taken.
 abbrev pub RootStays : {F : Type 0} → (F → Option Contents) → (F → ℕ) → Type 0
 RootStays {F} contents faults =
     (request : Command) (result : Outcome) (root : RootView) (cells : Cells)

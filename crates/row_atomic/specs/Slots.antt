@@ -1,4 +1,4 @@
--- A cell map that is kept as slots, some of which may be empty.
+-- A cell map that is held as slots, some of which may be empty.
 use Rattle.std.specs.Prelude.{◌≡◌, ◌≢◌, ℕ, List, [], ◌∷◌, Option, Some, None, IsSome}
 use Rattle.std.specs.List.{AllByRecursion}
 use Rattle.std.specs.declared.vec.Vec.{Vec}
@@ -23,12 +23,6 @@ abbrev pub slot_cells : {Z : Type 0} → List (CellKey × Option (Vec ℕ Z)) �
 slot_cells [] = empty
 slot_cells ((key, None) ∷ slots) = remove (slot_cells slots) key
 slot_cells ((key, Some value) ∷ slots) = insert (slot_cells slots) key value.items
-
--- what a slot holds
-abbrev pub content : {Z : Type 0} → Option (Option (Vec ℕ Z)) → Option (List ℕ)
-content None = None
-content (Some None) = None
-content (Some (Some value)) = Some value.items
 
 -- what stands at a key
 abbrev pub slot_at : {X : Type 0} → List (CellKey × X) → CellKey → Option X

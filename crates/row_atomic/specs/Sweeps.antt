@@ -28,7 +28,8 @@ without_files (name ∷ names) told = without_files names (without_file name tol
 abbrev pub count_swept : List PlaceView → Contents → ℕ
 count_swept places m = length (unkept places (keys m))
 
--- Files that are told are told still, and each is as it was, or it is gone and didn't have to stay.
+-- Files whose bytes were known are known still, and each is as it was, or it is gone and didn't
+-- have to stay.
 abbrev pub MayLackUnkept : List PlaceView → Option Contents → Option Contents → Type 0
 MayLackUnkept places None new = IsNone new
 MayLackUnkept places (Some m) new =

@@ -1,9 +1,21 @@
-//! A cluster of tablets over one store of files.
+//! A cluster of tablets over one store of files. What it does lies in the files of `cluster/`.
 
 ghost use Rattle.std.specs.Prelude.{◌≡◌, ◌≤◌, ◌∷◌, [], IfErr, IfOk, IsSome};
 ghost use Rattle.std.specs.FinMap.{empty};
-ghost use Rattle.metadata_table.specs.Table.{first_place};
+ghost use Rattle.metadata_table.specs.Table.{HasTablet, first_place};
+ghost use Rattle.sorted_file.specs.Limits.{IsFileLimit};
+ghost use Rattle.row_atomic.specs.Changes.{IsAt};
 ghost use Rattle.row_atomic.specs.Clusters.{InOrder, IsFirstTablet, cells_in};
+
+mod caches;
+mod checkpoint;
+mod compact;
+pub(crate) mod laws;
+mod open;
+mod rows;
+mod split;
+mod sweep;
+mod upkeep;
 
 use crate::place_cache::PlaceCache;
 use cell_key::Refusal;
@@ -15,6 +27,10 @@ use tablet::Tablet;
 
 /// Tablets that together have all rows, over one store of files (Bigtable: a table is a set of tablets, each of which has
 /// the data of a range of rows).
+///
+/// A compaction changes a tablet's file list, its memtable and its place in the table last and together. Room for them
+/// is made before its file is put, and none of them grows after the first change. A split and a move begin with a minor
+/// compaction: what they change then has its room before that compaction, but for the files that they open.
 #[derive(Drop)]
 pub struct Cluster<F> {
     pub(crate) alloc: Global,
@@ -65,10 +81,9 @@ impl<F: Files> Cluster<F> {
     ///
     /// # Errors
     ///
-    /// `NoMemory` where a growth was refused. The files come back.
+    /// `NoMemory` if a growth was refused. The files come back.
     pub fn new(alloc: Global, files: F, file_limit: u64) -> Result<Cluster<F>, (Refusal, F)>
-        requires least { 48 ≤ file_limit }
-        requires most { file_limit ≤ 68_719_476_736 }
+        requires limit { IsFileLimit file_limit }
         ensures files { IfOk result (λ cluster. cluster.files ≡ files) }
         ensures limit { IfOk result (λ cluster. cluster.file_limit ≡ file_limit) }
         ensures name { IfOk result (λ cluster. cluster.next_name ≡ 1) }
@@ -97,6 +112,15 @@ impl<F: Files> Cluster<F> {
             }),
             Err(refusal) => Err((refusal, files)),
         }
+    }
+
+    /// The index of the tablet of a number.
+    pub(crate) fn position(&self, tablet: u32) -> usize
+        requires known { HasTablet tablet self.now.places }
+        ensures { IsAt tablet self.now.tablets result }
+    {
+        let _ = &self.tablets;
+        tablet as usize - 1
     }
 
     /// The files, as they are.

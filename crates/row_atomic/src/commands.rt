@@ -1,6 +1,6 @@
-//! A list of commands on a cluster, one after the other.
+//! The contract of the tablet store as one call, `Cluster::run`: a list of commands, done one after the other.
 
-ghost use Rattle.std.specs.Prelude.{◌≡◌, ◌<◌, ◌≤◌, ◌++◌, ◌+◌, ◌∷◌, [], IfErr, IfOk, OnErr, option_map, vec_capacity, vec_len};
+ghost use Rattle.std.specs.Prelude.{◌≡◌, IfErr, IfOk, OnErr, option_map};
 ghost use Rattle.std.specs.List.{AllByRecursion};
 ghost use Rattle.cell_key.specs.Places.{place_named};
 ghost use Rattle.row_atomic.specs.Changes.{Holds};
@@ -76,16 +76,6 @@ pub enum Outcome {
     Refused(Refusal),
 }
 
-/// Appends an outcome.
-fn push_outcome(outcomes: &mut Vec<Outcome>, outcome: Outcome)
-    requires { vec_len outcomes.old < vec_capacity outcomes.old }
-    ensures items { outcomes.new.items ≡ outcomes.old.items ++ outcome ∷ [] }
-    ensures len { vec_len outcomes.new ≡ vec_len outcomes.old + 1 }
-    ensures room { vec_capacity outcomes.old ≤ vec_capacity outcomes.new }
-{
-    outcomes.push(outcome).unwrap();
-}
-
 /// The outcome of a call that answers nothing.
 fn done(call: Result<(), Refusal>) -> Outcome
     ensures { result ≡ done_of call }
@@ -154,7 +144,7 @@ impl<F: Files> Cluster<F> {
     ///
     /// # Errors
     ///
-    /// `NoMemory` where the room for the outcomes was refused. Nothing is done then.
+    /// `NoMemory` if the room for the outcomes was refused. Nothing is done then.
     pub fn run(&mut self, commands: Vec<Command>) -> Result<Vec<Outcome>, Refusal>
         requires { AllByRecursion IsUnderRow commands.items }
         ensures still { Holds F.contents self.old → Holds F.contents self.new }
@@ -167,7 +157,7 @@ impl<F: Files> Cluster<F> {
         outcomes.reserve(commands.len())?;
         for command in commands {
             let outcome = self.answer(command);
-            push_outcome(&mut outcomes, outcome);
+            outcomes.push_reserved(outcome);
         }
         Ok(outcomes)
     }

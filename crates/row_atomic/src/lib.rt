@@ -1,18 +1,8 @@
-//! Rows of cells, each of which is read and changed alone: a plain map of them in memory, and a cluster of tablets.
+//! The cluster of tablets: rows of cells, each of which is read and changed alone, over one store of files. A plain map of
+//! rows in memory is its measure in tests.
 #![tactic(auto)]
 
 mod cluster;
-mod cluster_caches;
-mod cluster_compactions;
-mod cluster_full;
-mod cluster_laws;
-mod cluster_lengths;
-mod cluster_moving;
-mod cluster_open;
-mod cluster_roots;
-mod cluster_rows;
-mod cluster_sweep;
-mod cluster_tiers;
 mod commands;
 mod laws;
 mod oldest_version;
@@ -22,7 +12,7 @@ mod rows;
 mod slots;
 
 pub use cluster::Cluster;
-pub use cluster_laws::{
+pub use cluster::laws::{
     cells_by_tablet, root_is_stored, root_outlasts_flushes, root_outlasts_merges, root_stays,
 };
 pub use commands::{Command, Outcome};

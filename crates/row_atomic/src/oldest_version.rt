@@ -11,9 +11,9 @@ ghost use Rattle.row_atomic.specs.Refusals.{IsRefusalOfRead};
 use crate::rows::Rows;
 use cell_key::{Family, Qualifier, Refusal, Row, Stamp};
 
-/// The version of a cell's column with the least stamp in `lo..=hi`: its stamp and its value. `None` where there is
+/// The version of a cell's column with the least stamp in `lo..=hi`: its stamp and its value. `None` if there is
 /// none. Each read halves the range that is left, so it takes 65 reads of `Rows::newest` at the most, however many
-/// versions there are, and one where there is none.
+/// versions there are, and one if there is none.
 ///
 /// # Errors
 ///
@@ -26,11 +26,11 @@ pub fn oldest<R: Rows>(
     lo: Stamp,
     hi: Stamp,
 ) -> Result<Option<(Stamp, Vec<u8>)>, Refusal>
-    ensures found { R.holds rows.old → IfOk result (λ found. IsOldest (R.cells rows.old)
+    ensures found { R.seen.holds rows.old → IfOk result (λ found. IsOldest (R.seen.cells rows.old)
         (version row.now family.now qualifier) lo hi (option_map stamped found)) }
-    ensures reads { OnlyReads R.holds R.cells R.overfills R.storage rows.old rows.new }
+    ensures reads { OnlyReads R.seen rows.old rows.new }
     ensures limits { IfOk result (λ found. IfSome (option_map stamped found) (IsVersionIn lo hi)) }
-    ensures refusal { IfErr result (IsRefusalOfRead (R.holds rows.old)) }
+    ensures refusal { IfErr result (IsRefusalOfRead (R.seen.holds rows.old)) }
     ensures reason { HasReason (R.faults rows.old) (R.faults rows.new) result }
 {
     let Some(mut found) = rows.newest(row, family, qualifier, lo, hi)? else {

@@ -11,7 +11,7 @@ use metadata_table::MetadataTable;
 use std::alloc::Global;
 use std::num::NonZeroUsize;
 
-/// How many rows are kept.
+/// How many rows are stored.
 const ROWS: usize = 128;
 
 /// The numbers of the tablets that hold the rows that were located last. A compaction changes the files of a tablet,
@@ -24,7 +24,7 @@ pub(crate) struct PlaceCache {
 }
 
 impl PlaceCache {
-    /// A cache of no rows, without a hit. Refused NoMemory.
+    /// A cache of no rows, without a hit. Answers `NoMemory` if there is no memory.
     pub(crate) fn new(alloc: Global) -> Result<PlaceCache, Refusal>
         ensures none { IfOk result (λ cache. cache.numbers.entries ≡ []) }
         ensures rows { IfOk result (λ cache. cache.numbers.cap ≡ 128) }
@@ -56,7 +56,7 @@ impl PlaceCache {
         self.numbers.clear();
     }
 
-    /// The number that is kept with the row that was located last.
+    /// The number that is stored with the row that was located last.
     fn first(&self) -> Option<u32>
         ensures { result ≡ option_map (λ entry. entry.1) (slice_get self.now.numbers.entries 0) }
     {
@@ -64,7 +64,7 @@ impl PlaceCache {
         Some(*number)
     }
 
-    /// The number that is kept with a row, if the row is the one that was located last.
+    /// The number that is stored with a row, if the row is the one that was located last.
     fn last(&self, row: &Row) -> Option<u32>
         ensures { IfSome result (IsLocatedLast row.now self.now.numbers.entries) }
     {
@@ -76,7 +76,7 @@ impl PlaceCache {
         }
     }
 
-    /// The number that is kept with a row. The row is then the one that was located last.
+    /// The number that is stored with a row. The row is then the one that was located last.
     fn number_of(&mut self, row: &Row) -> Option<u32>
         ensures found { result ≡ number_kept row.now self.old.numbers.entries }
         ensures first { self.new.numbers.entries
@@ -94,7 +94,7 @@ impl PlaceCache {
         }
     }
 
-    /// The number that is kept with a row, which is a hit. The row is then the one that was located last.
+    /// The number that is stored with a row, which is a hit. The row is then the one that was located last.
     fn find(&mut self, row: &Row) -> Option<u32>
         ensures found { result ≡ number_kept row.now self.old.numbers.entries }
         ensures first { self.new.numbers.entries
@@ -108,7 +108,7 @@ impl PlaceCache {
     }
 
     /// Keeps a number with a row, in place of the row that was located the longest ago if there are 128. If there is no
-    /// memory for it nothing is kept.
+    /// memory for it nothing is stored.
     fn keep(&mut self, row: &Row, number: u32)
         ensures adds { AddsOnly row.now number self.old.numbers.entries self.new.numbers.entries }
         ensures rows { self.new.numbers.cap ≡ self.old.numbers.cap }
@@ -120,7 +120,7 @@ impl PlaceCache {
     }
 }
 
-/// The index of the tablet that holds a row, from what is kept, or else from the table. It is kept then.
+/// The index of the tablet that holds a row, from the cache, or else from the table. It is then stored in the cache.
 pub(crate) fn index_of(table: &MetadataTable, cache: &mut PlaceCache, row: &Row) -> usize
     requires { AreHeld table.now cache.old.numbers.entries }
     ensures holder { IsHeldBy table.now row.now (result + 1) }

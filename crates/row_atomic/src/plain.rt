@@ -1,4 +1,4 @@
-//! Rows in one ordered map in memory.
+//! A measure for tests, which the store doesn't use: rows in one ordered map in memory.
 
 ghost use Rattle.std.specs.Prelude.{◌≡◌, ⊤};
 ghost use Rattle.row_atomic.specs.Clusters.{no_storage};
@@ -46,15 +46,14 @@ impl PlainRows {
 }
 
 impl Rows for PlainRows {
-    ghost cells = { λ rows. rows };
-
-    ghost holds = { λ _. ⊤ };
+    ghost seen = { record {
+      holds = λ _. ⊤;
+      cells = λ rows. rows;
+      overfills = λ _ _ _. ⊥;
+      storage = λ _. no_storage;
+    } };
 
     ghost faults = { λ _. 0 };
-
-    ghost overfills = { λ _ _ _. ⊥ };
-
-    ghost storage = { λ _. no_storage };
 
     fn newest(
         &mut self,

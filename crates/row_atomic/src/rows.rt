@@ -1,14 +1,12 @@
 //! Rows of cells: what each kind of them can do, and what each call leaves.
 
-ghost use Rattle.std.specs.Prelude.{◌≡◌, ℕ, List, IfOk, OnOk, OnErr, IfErr, IsErrOf, IfSome, option_map};
+ghost use Rattle.std.specs.Prelude.{◌≡◌, ℕ, IfOk, OnOk, OnErr, IfErr, IsErrOf, IfSome, option_map};
 ghost use Rattle.std.specs.List.{AllByRecursion};
-ghost use Rattle.cell_key.specs.Cells.{Cells, IsNewest, IsEditOf, version};
-ghost use Rattle.cell_key.specs.declared.edits.Edit.{Edit as RowEdit};
+ghost use Rattle.cell_key.specs.Cells.{IsNewest, IsEditOf, version};
 ghost use Rattle.cell_key.specs.Faults.{HasReason};
 ghost use Rattle.cell_key.specs.Places.{IsNextCell, place_named};
 ghost use Rattle.cell_key.specs.Versions.{IsVersionIn, stamped};
-ghost use Rattle.row_atomic.specs.Calls.{Applies, OnlyReads};
-ghost use Rattle.row_atomic.specs.Clusters.{Storage};
+ghost use Rattle.row_atomic.specs.Calls.{Applies, OnlyReads, View};
 ghost use Rattle.row_atomic.specs.Refusals.{IsApplyRefusal, IsRefusalOfRead};
 
 use cell_key::{Edit, Family, Qualifier, Refusal, Row, Stamp};
@@ -16,29 +14,19 @@ use cell_key::{Edit, Family, Qualifier, Refusal, Row, Stamp};
 /// Rows of cells. What is read or changed under one row is read or changed at once
 /// (Bigtable: reads and writes under a single row are atomic).
 ///
-/// A read changes no cell, also where it is refused. Its refusals are `Device` where a device
-/// failed during the call, `NoMemory` where a growth was refused, and `Damaged` where bytes that
+/// A read changes no cell, even if it is refused. Its refusals are `Device` if a device
+/// failed during the call, `NoMemory` if a growth was refused, and `Damaged` if bytes that
 /// were read are outside their form.
 pub trait Rows {
-    /// What they hold, however it is kept.
-    ghost cells: { Self → Cells };
-
-    /// The premise under which answers have a meaning, as that each file that is named is there
-    /// and in its form. Each call keeps it.
-    ghost holds: { Self → Type 0 };
+    /// What is seen of them. Each call keeps the premise under which answers have a meaning. A read changes neither
+    /// the cells nor the room for edits, and no call changes what lies below the rows that are in memory.
+    ghost seen: { View Self };
 
     /// How often a device has failed, up to the greatest number of eight bytes.
     ghost faults: { Self → ℕ };
 
-    /// Whether edits would pass a limit of the memory that keeps a row. Edits of rows that are kept elsewhere count for
-    /// nothing. A read doesn't change it.
-    ghost overfills: { Self → List ℕ → List RowEdit → Type 0 };
-
-    /// What lies below the rows that are in memory: files, names and the places of tablets. No call changes it.
-    ghost storage: { Self → Storage };
-
     /// The version of a cell's column with the greatest stamp in `lo..=hi`: its stamp, from 1 to
-    /// 2^63 - 1, and its value of at most 65,536 bytes. `None` where there is none.
+    /// 2^63 - 1, and its value of at most 65,536 bytes. `None` if there is none.
     ///
     /// # Errors
     ///
@@ -51,16 +39,16 @@ pub trait Rows {
         lo: Stamp,
         hi: Stamp,
     ) -> Result<Option<(Stamp, Vec<u8>)>, Refusal>
-        ensures found { holds self.old → IfOk result (λ found. IsNewest (cells self.old)
+        ensures found { seen.holds self.old → IfOk result (λ found. IsNewest (seen.cells self.old)
             (version row.now family.now qualifier) lo hi (option_map stamped found)) }
-        ensures reads { OnlyReads holds cells overfills storage self.old self.new }
+        ensures reads { OnlyReads seen self.old self.new }
         ensures limits { IfOk result (λ found.
             IfSome (option_map stamped found) (IsVersionIn lo hi)) }
-        ensures refusal { IfErr result (IsRefusalOfRead (holds self.old)) }
+        ensures refusal { IfErr result (IsRefusalOfRead (seen.holds self.old)) }
         ensures reason { HasReason (faults self.old) (faults self.new) result };
 
     /// The next cell that has any key, in the order of rows and then of families, after the cell
-    /// of `after`, or from the start where that is `None`. `None` where no cell is left.
+    /// of `after`, or from the start if that is `None`. `None` if no cell is left.
     ///
     /// # Errors
     ///
@@ -69,10 +57,10 @@ pub trait Rows {
         &mut self,
         after: Option<(&Row, &Family)>,
     ) -> Result<Option<(Row, Family)>, Refusal>
-        ensures found { holds self.old
-            → IfOk result (IsNextCell (cells self.old) (option_map place_named after.entry)) }
-        ensures reads { OnlyReads holds cells overfills storage self.old self.new }
-        ensures refusal { IfErr result (IsRefusalOfRead (holds self.old)) }
+        ensures found { seen.holds self.old
+            → IfOk result (IsNextCell (seen.cells self.old) (option_map place_named after.entry)) }
+        ensures reads { OnlyReads seen self.old self.new }
+        ensures refusal { IfErr result (IsRefusalOfRead (seen.holds self.old)) }
         ensures reason { HasReason (faults self.old) (faults self.new) result };
 
     /// Makes edits under one row in order, all of them or none. No device is touched, and nothing below the rows in
@@ -80,17 +68,16 @@ pub trait Rows {
     ///
     /// # Errors
     ///
-    /// `MemtableFull` where a limit of what is kept in memory would be passed, and `NoMemory` where a
-    /// growth was refused. The cells are then as before, and edits would pass a limit only where they did before.
+    /// `MemtableFull` if a limit of what is held in memory would be passed, and `NoMemory` if a
+    /// growth was refused. The cells are then as before, and edits would pass a limit only if they did before.
     fn apply(&mut self, row: &Row, edits: Vec<Edit>) -> Result<(), Refusal>
         requires { AllByRecursion (IsEditOf row.now) edits.items }
-        ensures ok { OnOk result (Applies
-            holds cells overfills storage edits.items self.old self.new) }
-        ensures err { OnErr result (OnlyReads holds cells overfills storage self.old self.new) }
+        ensures ok { OnOk result (Applies seen edits.items self.old self.new) }
+        ensures err { OnErr result (OnlyReads seen self.old self.new) }
         ensures refusal { IfErr result IsApplyRefusal }
         ensures full { IsErrOf result Refusal.MemtableFull
-            → overfills self.old row.now edits.items }
-        ensures within { OnOk result (¬ overfills self.old row.now edits.items) }
+            → seen.overfills self.old row.now edits.items }
+        ensures within { OnOk result (¬ seen.overfills self.old row.now edits.items) }
         ensures untouched { faults self.new ≡ faults self.old };
 
     /// How often a device has failed. A count of 2^64 - 1 stays.

@@ -1,4 +1,5 @@
-//! Slots of cells. A slot is empty only within `apply`, which makes room before it changes a cell.
+//! The slots of `PlainRows`, the measure for tests. A slot is empty only within `apply`, which makes room before it changes a
+//! cell.
 
 ghost use Rattle.std.specs.Prelude.{◌≡◌, ◌≢◌, ◌≤◌, ℕ, IsSome, OnOk, OnErr, IfOk, option_map, map, List, ◌∷◌, Some, None};
 ghost use Rattle.std.specs.List.{All, AllByRecursion};
@@ -123,7 +124,7 @@ fn keys_of(alloc: Global, edits: &[Edit]) -> Result<Vec<CellKey>, AllocError>
     Ok(keys)
 }
 
-/// Makes a slot for the key, an empty one where it has none.
+/// Makes a slot for the key, an empty one if it has none.
 fn make_slot(slots: &mut Slots, key: &CellKey) -> Result<(), AllocError>
     ensures same { slot_cells slots.new.entries ≡ slot_cells slots.old.entries }
     ensures kept { KeepsSlots slots.old.entries slots.new.entries }

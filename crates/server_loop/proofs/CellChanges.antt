@@ -2,12 +2,12 @@
 use Rattle.std.proofs.Common.{◌≡◌, ◌∙◌, ℕ, List, inl, inr, Bool, true, false, refl, sym, subst}
 use Rattle.cell_key.specs.Cells.{Cells, after_edits}
 use Rattle.cell_key.specs.declared.edits.Edit.{Edit}
+use Rattle.cell_key.specs.LockEdits.{IsErasing, IsRecording}
+use Rattle.cell_key.specs.declared.columns.WriteKind.{WriteKind}
 use Rattle.row_atomic.specs.Room.{AreAfter}
 use Rattle.si_model.specs.Collection.{ChangesCells, unchanged, locks_cell, records_commit, erases_lock}
-use Rattle.si_model.specs.Edits.{IsErasing, IsRecording}
 use Rattle.si_model.specs.Machine.{State, Phase, Open, Holding, Stamped, Finishing, Writes, Cleaner, InPhase, CommittedAt, IsReached}
 use Rattle.si_model.specs.ShowsCells.{kind_of_change, recorded_cells}
-use Rattle.si_model.specs.declared.cells.WriteKind.{WriteKind}
 use Rattle.si_model.specs.declared.replies.Cell.{Cell}
 use Rattle.si_model.specs.declared.replies.CleanReply.{CleanReply}
 use Rattle.si_model.specs.declared.replies.CleanReply.TheVariants as cleans
@@ -30,10 +30,10 @@ module _ (cells cells' : Cells) (st : State) where
   held t k p ws row edits phase next is =
       subst (ChangesCells cells st) (sym (is ∙ holding_makes cells next.0 next.1 t next.2 edits next.8)) (locks_cell next.0 t p next.2 next.1 phase)
 
-  recorded : (x : Cell) (t c : ℕ) (kind : WriteKind) (edits : List Edit) → ChangesCells cells st (recorded_cells cells x t c kind) → IsRecording x t c kind edits → cells' ≡ after_edits cells edits → ChangesCells cells st cells'
+  recorded : (x : Cell) (t c : ℕ) (kind : WriteKind) (edits : List Edit) → ChangesCells cells st (recorded_cells cells x t c kind) → IsRecording x.row x.family t c kind edits → cells' ≡ after_edits cells edits → ChangesCells cells st cells'
   recorded x t c kind edits changes recording is = subst (ChangesCells cells st) (sym (is ∙ (make_cells cells x t edits).recorded c kind recording)) changes
 
-  erased : (x : Cell) (t : ℕ) (edits : List Edit) → IsErasing x t edits → cells' ≡ after_edits cells edits → ChangesCells cells st cells'
+  erased : (x : Cell) (t : ℕ) (edits : List Edit) → IsErasing x.row x.family t edits → cells' ≡ after_edits cells edits → ChangesCells cells st cells'
   erased x t edits erasing is = subst (ChangesCells cells st) (sym (is ∙ (make_cells cells x t edits).erased erasing)) (erases_lock x t)
 
   next_changes : (t : ℕ) (p : Phase) (ws : Writes) (row : List ℕ) (edits : List Edit) → IsReached st → InPhase st t p → sessions.ChangesIn st p ws t row edits

@@ -12,7 +12,7 @@ use Rattle.si_model.specs.ShowsCells.{ShowsCells}
 use Rattle.si_model.specs.declared.replies.CollectReply.{CollectReply}
 use Rattle.si_model.specs.declared.replies.CollectReply.TheVariants as collects
 use Rattle.si_model.proofs.ChangedParts.{leaves_others}
-use Rattle.request_codec.specs.declared.replies.Reply.TheVariants as kept
+use Rattle.request_codec.specs.declared.replies.Reply.TheVariants as codec
 use Rattle.version_collector.specs.Shows.{ShowsCollectors}
 use Rattle.server_loop.specs.declared.server.Server.{Server}
 use Rattle.server_loop.specs.Server.{Shows, server_cells}
@@ -81,7 +81,7 @@ never_bad done a b (inl is) = ok_not done a is
 never_bad done a b (inr is) = ok_not done b is
 
 pub bad_told : {A : Type 0} (result : Result A Refusal) (refusal : Refusal) {a b : Refusal} → result ≡ Err refusal → IsErrOf result a ⊎ IsErrOf result b
-    → (kept.Refused refusal ≡ kept.Refused a) ⊎ (kept.Refused refusal ≡ kept.Refused b)
+    → (codec.Refused refusal ≡ codec.Refused a) ⊎ (codec.Refused refusal ≡ codec.Refused b)
 bad_told result refusal {a = a} {b = b} is (inl err) = inl (as_refused result refusal a is err)
 bad_told result refusal {a = a} {b = b} is (inr err) = inr (as_refused result refusal b is err)
 

@@ -10,7 +10,7 @@ use Rattle.si_model.specs.declared.replies.Progress.TheVariants as steps
 use Rattle.request_codec.specs.Fields.{number, field, cell_fields}
 use Rattle.request_codec.specs.Replies.{replied, reply_body, ReplyBytesFit}
 use Rattle.request_codec.specs.declared.replies.Reply.{Reply}
-use Rattle.request_codec.specs.declared.replies.Reply.TheVariants as kept
+use Rattle.request_codec.specs.declared.replies.Reply.TheVariants as codec
 use Rattle.server_loop.specs.Runs.{KeepsToLimits}
 
 length-number : (k n : ℕ) → length (number k n) ≡ k
@@ -30,40 +30,40 @@ pub record FitsFrame (reply : Reply) : Type 0 where
   pub bytes : ReplyBytesFit (replied reply)
 
 pub fits_frame : (reply : Reply) → KeepsToLimits reply → FitsFrame reply
-fits_frame (kept.Begin s) h = record { short = omega (arith, length-number 8 s); bytes = tt }
-fits_frame (kept.Get (founds.Value value)) h = record { short = omega (arith, length-field value.items, h); bytes = omega (arith, h) }
-fits_frame (kept.Get founds.Nothing) h = record { short = omega arith; bytes = tt }
-fits_frame (kept.Get (founds.Pending s)) h = record { short = omega (arith, length-number 8 s); bytes = tt }
-fits_frame kept.Set h = record { short = omega arith; bytes = tt }
-fits_frame kept.Delete h = record { short = omega arith; bytes = tt }
-fits_frame (kept.Step (steps.Held k n)) h = record { short = omega (arith, length-append (number 2 k) (number 2 n), length-number 2 k, length-number 2 n); bytes = tt }
-fits_frame (kept.Step (steps.Conflict k)) h = record { short = omega (arith, length-number 2 k); bytes = tt }
-fits_frame (kept.Step (steps.Stamped s)) h = record { short = omega (arith, length-number 8 s); bytes = tt }
-fits_frame (kept.Step (steps.Committed s)) h = record { short = omega (arith, length-number 8 s); bytes = tt }
-fits_frame (kept.Step steps.Lost) h = record { short = omega arith; bytes = tt }
-fits_frame (kept.Step (steps.Finished k n)) h = record { short = omega (arith, length-append (number 2 k) (number 2 n), length-number 2 k, length-number 2 n); bytes = tt }
-fits_frame kept.Stop h = record { short = omega arith; bytes = tt }
-fits_frame (kept.CleanBegin starts.NoLock) h = record { short = omega arith; bytes = tt }
-fits_frame (kept.CleanBegin (starts.Cleaner i t)) h = record { short = omega (arith, length-append (number 8 i) (number 8 t), length-number 8 i, length-number 8 t); bytes = tt }
-fits_frame (kept.CleanStep cleans.Decided) h = record { short = omega arith; bytes = tt }
-fits_frame (kept.CleanStep (cleans.RolledForward c)) h = record { short = omega (arith, length-number 8 c); bytes = tt }
-fits_frame (kept.CleanStep cleans.RolledBack) h = record { short = omega arith; bytes = tt }
-fits_frame (kept.CleanStep cleans.Gone) h = record { short = omega arith; bytes = tt }
-fits_frame (kept.CollectBegin i f) h = record { short = omega (arith, length-append (number 8 i) (number 8 f), length-number 8 i, length-number 8 f); bytes = tt }
-fits_frame (kept.CollectStep collects.More) h = record { short = omega arith; bytes = tt }
-fits_frame (kept.CollectStep (collects.Blocked cell s)) h = record {
+fits_frame (codec.Begin s) h = record { short = omega (arith, length-number 8 s); bytes = tt }
+fits_frame (codec.Get (founds.Value value)) h = record { short = omega (arith, length-field value.items, h); bytes = omega (arith, h) }
+fits_frame (codec.Get founds.Nothing) h = record { short = omega arith; bytes = tt }
+fits_frame (codec.Get (founds.Pending s)) h = record { short = omega (arith, length-number 8 s); bytes = tt }
+fits_frame codec.Set h = record { short = omega arith; bytes = tt }
+fits_frame codec.Delete h = record { short = omega arith; bytes = tt }
+fits_frame (codec.Step (steps.Held k n)) h = record { short = omega (arith, length-append (number 2 k) (number 2 n), length-number 2 k, length-number 2 n); bytes = tt }
+fits_frame (codec.Step (steps.Conflict k)) h = record { short = omega (arith, length-number 2 k); bytes = tt }
+fits_frame (codec.Step (steps.Stamped s)) h = record { short = omega (arith, length-number 8 s); bytes = tt }
+fits_frame (codec.Step (steps.Committed s)) h = record { short = omega (arith, length-number 8 s); bytes = tt }
+fits_frame (codec.Step steps.Lost) h = record { short = omega arith; bytes = tt }
+fits_frame (codec.Step (steps.Finished k n)) h = record { short = omega (arith, length-append (number 2 k) (number 2 n), length-number 2 k, length-number 2 n); bytes = tt }
+fits_frame codec.Stop h = record { short = omega arith; bytes = tt }
+fits_frame (codec.CleanBegin starts.NoLock) h = record { short = omega arith; bytes = tt }
+fits_frame (codec.CleanBegin (starts.Cleaner i t)) h = record { short = omega (arith, length-append (number 8 i) (number 8 t), length-number 8 i, length-number 8 t); bytes = tt }
+fits_frame (codec.CleanStep cleans.Decided) h = record { short = omega arith; bytes = tt }
+fits_frame (codec.CleanStep (cleans.RolledForward c)) h = record { short = omega (arith, length-number 8 c); bytes = tt }
+fits_frame (codec.CleanStep cleans.RolledBack) h = record { short = omega arith; bytes = tt }
+fits_frame (codec.CleanStep cleans.Gone) h = record { short = omega arith; bytes = tt }
+fits_frame (codec.CollectBegin i f) h = record { short = omega (arith, length-append (number 8 i) (number 8 f), length-number 8 i, length-number 8 f); bytes = tt }
+fits_frame (codec.CollectStep collects.More) h = record { short = omega arith; bytes = tt }
+fits_frame (codec.CollectStep (collects.Blocked cell s)) h = record {
   short = omega (arith, length-append (cell_fields cell) (number 8 s), length-cell cell, length-number 8 s, h.0.few, h.1.few);
   bytes = h;
 }
-fits_frame (kept.CollectStep collects.Collected) h = record { short = omega arith; bytes = tt }
-fits_frame kept.Minor h = record { short = omega arith; bytes = tt }
-fits_frame kept.Merge h = record { short = omega arith; bytes = tt }
-fits_frame kept.Major h = record { short = omega arith; bytes = tt }
-fits_frame (kept.Split tablet) h = record { short = omega (arith, length-number 4 tablet); bytes = tt }
-fits_frame kept.Move h = record { short = omega arith; bytes = tt }
-fits_frame (kept.Sweep count) h = record { short = omega (arith, length-number 8 count); bytes = tt }
-fits_frame (kept.Raw (Some found)) h = record { short = omega (arith, length-append (number 8 found.0) (field found.1.items), length-number 8 found.0, length-field found.1.items, h); bytes = omega (arith, h) }
-fits_frame (kept.Raw None) h = record { short = omega arith; bytes = tt }
-fits_frame kept.Checkpoint h = record { short = omega arith; bytes = tt }
-fits_frame kept.OracleRestart h = record { short = omega arith; bytes = tt }
-fits_frame (kept.Refused refusal) h = record { short = omega arith; bytes = tt }
+fits_frame (codec.CollectStep collects.Collected) h = record { short = omega arith; bytes = tt }
+fits_frame codec.Minor h = record { short = omega arith; bytes = tt }
+fits_frame codec.Merge h = record { short = omega arith; bytes = tt }
+fits_frame codec.Major h = record { short = omega arith; bytes = tt }
+fits_frame (codec.Split tablet) h = record { short = omega (arith, length-number 4 tablet); bytes = tt }
+fits_frame codec.Move h = record { short = omega arith; bytes = tt }
+fits_frame (codec.Sweep count) h = record { short = omega (arith, length-number 8 count); bytes = tt }
+fits_frame (codec.Raw (Some found)) h = record { short = omega (arith, length-append (number 8 found.0) (field found.1.items), length-number 8 found.0, length-field found.1.items, h); bytes = omega (arith, h) }
+fits_frame (codec.Raw None) h = record { short = omega arith; bytes = tt }
+fits_frame codec.Checkpoint h = record { short = omega arith; bytes = tt }
+fits_frame codec.OracleRestart h = record { short = omega arith; bytes = tt }
+fits_frame (codec.Refused refusal) h = record { short = omega arith; bytes = tt }

@@ -6,7 +6,7 @@ use Rattle.file_store.specs.Store.{Contents}
 use Rattle.metadata_table.specs.Roots.{OneRoot, RootView}
 use Rattle.row_atomic.specs.Clusters.{ClusterState}
 use Rattle.row_atomic.specs.Roots.{root_at, root_name}
-use Rattle.row_atomic.specs.RootsOpened.{IsDamaged, IsNewStore, IsStore}
+use Rattle.row_atomic.specs.Open.{IsDamaged, IsNewStore, IsStore}
 use Rattle.server_loop.specs.Opening.{IsLost, LacksRoot, below, damaged}
 
 -- the mark that an oracle went on from

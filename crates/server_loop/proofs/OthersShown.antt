@@ -7,7 +7,7 @@ use Rattle.si_model.specs.Machine.{State, Request, Reply, IsReached, Step}
 use Rattle.si_model.specs.ShowsCells.{ShowsCells}
 use Rattle.si_model.proofs.ChangedParts.{leaves_others}
 use Rattle.txn_client.specs.Shows.{ShowsClients}
-use Rattle.txn_client.specs.declared.clients.Clients.{Clients}
+use Rattle.txn_client.specs.declared.sessions.Clients.{Clients}
 use Rattle.txn_client.proofs.Table.{shows_along}
 use Rattle.clean_up.specs.Shows.{ShowsCleaners}
 use Rattle.clean_up.specs.declared.cleaners.Cleaners.{Cleaners}

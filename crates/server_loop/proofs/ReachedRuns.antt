@@ -3,7 +3,7 @@ use Rattle.std.proofs.Common.{List, [], ◌∷◌, ◌++◌, subst}
 use Rattle.si_model.specs.Machine.{State, Request, Reply, Step, rests, goes_on, IsReached, runs}
 use Rattle.si_model.proofs.Steps.{reached_sound}
 use Rattle.si_model.proofs.Gone.{fates}
-use Rattle.request_codec.specs.declared.replies.Reply.{Reply as Kept}
+use Rattle.request_codec.specs.declared.replies.Reply.{Reply as CodecReply}
 use Rattle.request_codec.specs.declared.requests.Request.{Request as Lent}
 use Rattle.server_loop.specs.Runs.{Taken, RunOver, SaysAll, ObeysLaws}
 
@@ -13,7 +13,7 @@ RunOver-append a m e (t ∷ ts) us (r ∷ rs) qs p q = (p.0, p.1, RunOver-append
 RunOver-append a m e [] us (r ∷ rs) qs p q = absurd p
 RunOver-append a m e (t ∷ ts) us [] qs p q = absurd p
 
-module _ {S : Type 0} (says : S → Lent → Kept → S → Type 0) (between : S → S → Type 0) where
+module _ {S : Type 0} (says : S → Lent → CodecReply → S → Type 0) (between : S → S → Type 0) where
   pub SaysAll-append : (a m e : S) (ts us : List Taken) (rs qs : List Reply) → SaysAll says between a ts rs m → SaysAll says between m us qs e → SaysAll says between a (ts ++ us) (rs ++ qs) e
   SaysAll-append a m e [] us [] qs p q = subst (λ (s : S). SaysAll says between s us qs e) p q
   SaysAll-append a m e (t ∷ ts) us (r ∷ rs) qs p q = (p.0, p.1, p.2, p.3, SaysAll-append p.1 m e ts us rs qs p.4 q)

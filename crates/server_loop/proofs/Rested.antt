@@ -3,13 +3,14 @@ use Rattle.std.proofs.Common.{◌≡◌, ◌≢◌, ◌≤◌, ◌⊎◌, inl, i
 use Rattle.std.specs.Prelude.{IsSome, IsSomeAnd}
 use Rattle.cell_key.specs.Cells.{Cells}
 use Rattle.cell_key.specs.declared.refusals.Refusal.{Refusal}
-use Rattle.file_store.specs.Store.{Contents}
+use Rattle.file_store.specs.declared.files.Files.{Ghosts as Files}
+use Rattle.oracle.specs.declared.marks.MarkStore.{Ghosts as MarkStore}
 use Rattle.metadata_table.specs.Roots.{RootView}
 use Rattle.oracle.specs.Marks.{IsWithinMark, MayHold}
 use Rattle.oracle.specs.Ranges.{OracleState}
 use Rattle.request_codec.specs.Requests.{asked}
-use Rattle.request_codec.specs.declared.replies.Reply.{Reply as Kept}
-use Rattle.request_codec.specs.declared.replies.Reply.TheVariants as kept
+use Rattle.request_codec.specs.declared.replies.Reply.{Reply as CodecReply}
+use Rattle.request_codec.specs.declared.replies.Reply.TheVariants as codec
 use Rattle.request_codec.specs.declared.requests.Request.{Request as Lent}
 use Rattle.request_codec.specs.declared.requests.Request.TheVariants as lent
 use Rattle.row_atomic.specs.Clusters.{ClusterState}
@@ -66,50 +67,50 @@ marked_now : (told : Option ℕ) (top last : ℕ) → IsSome told → IsWithinMa
 marked_now None top last is within low = cc
 marked_now (Some m) top last is within low = omega (arith, within, low)
 
-module _ {F M : Type 0} (contents : F → Option Contents) (faults : F → ℕ) (mark : M → Option ℕ) (mark_faults : M → ℕ) where
-  told_mark : (request : Lent) (e : Refusal) (old new : Server F M) → KeepsOracle contents mark request (kept.Refused e) old new → IsSome (mark (marks_of old)) → IsSome (mark (marks_of new))
+module _ {F M : Type 0} (files : Files F) (store : MarkStore M) where
+  told_mark : (request : Lent) (e : Refusal) (old new : Server F M) → KeepsOracle files.contents store.mark request (codec.Refused e) old new → IsSome (store.mark (marks_of old)) → IsSome (store.mark (marks_of new))
   told_mark lent.Begin e old new keeps told = may_told _ _ _ keeps told
   told_mark (lent.Step start) e old new keeps told = may_told _ _ _ keeps.1 told
   told_mark lent.OracleRestart e old new keeps told = subst (λ (o : Option ℕ). IsSome o) (sym keeps) told
-  told_mark request e old new keeps told = subst (λ (o : OracleState M). IsSome (mark o.marks)) (sym keeps) told
+  told_mark request e old new keeps told = subst (λ (o : OracleState M). IsSome (store.mark o.marks)) (sym keeps) told
 
-  told_spared : (request : Lent) (reply : Kept) (old new : Server F M) → IsSparing request → KeepsOracle contents mark request reply old new → IsSome (mark (marks_of old)) → IsSome (mark (marks_of new))
-  told_spared (lent.Minor t) reply old new is keeps told = subst (λ (o : OracleState M). IsSome (mark o.marks)) (sym keeps) told
-  told_spared lent.Sweep reply old new is keeps told = subst (λ (o : OracleState M). IsSome (mark o.marks)) (sym keeps) told
+  told_spared : (request : Lent) (reply : CodecReply) (old new : Server F M) → IsSparing request → KeepsOracle files.contents store.mark request reply old new → IsSome (store.mark (marks_of old)) → IsSome (store.mark (marks_of new))
+  told_spared (lent.Minor t) reply old new is keeps told = subst (λ (o : OracleState M). IsSome (store.mark o.marks)) (sym keeps) told
+  told_spared lent.Sweep reply old new is keeps told = subst (λ (o : OracleState M). IsSome (store.mark o.marks)) (sym keeps) told
   told_spared lent.OracleRestart reply old new is keeps told = subst (λ (o : Option ℕ). IsSome o) (sym keeps) told
-  told_spared (lent.Raw row family qualifier lo hi) reply old new is keeps told = subst (λ (o : OracleState M). IsSome (mark o.marks)) (sym keeps) told
+  told_spared (lent.Raw row family qualifier lo hi) reply old new is keeps told = subst (λ (o : OracleState M). IsSome (store.mark o.marks)) (sym keeps) told
   told_spared request reply old new is keeps told = absurd is
 
   -- ---- the files keep the root
 
-  module _ (stored : RootIsStored contents) (stays : RootStays contents faults) (root : RootView) (cells : Cells) where
+  module _ (stored : RootIsStored files.contents) (stays : RootStays files.contents files.faults) (root : RootView) (cells : Cells) where
     not_done : (e : Refusal) → outcome.Refused e ≢ outcome.Done
     not_done e same = cc
 
-    by_command : (command : Option Command) (request : Lent) (e : Refusal) (old new : ClusterState F) → HasOutcome contents faults command request (kept.Refused e) old new → KeepsRoot contents root cells old → KeepsRoot contents root cells new
+    by_command : (command : Option Command) (request : Lent) (e : Refusal) (old new : ClusterState F) → HasOutcome files.contents files.faults command request (codec.Refused e) old new → KeepsRoot files.contents root cells old → KeepsRoot files.contents root cells new
     by_command None request e old new same keeps = (stored root cells old new same).1 keeps
     by_command (Some command) request e old new (inl is) keeps = (stays command (outcome.Refused e) root cells old new is).1 (λ takes. not_done e takes.1) keeps
-    by_command (Some command) request e old new (inr none) keeps = subst (λ (state : ClusterState F). KeepsRoot contents root cells state) (sym none.1) keeps
+    by_command (Some command) request e old new (inr none) keeps = subst (λ (state : ClusterState F). KeepsRoot files.contents root cells state) (sym none.1) keeps
 
-    tends_root : (request : Lent) (e : Refusal) (old new : Server F M) → request ≢ lent.Checkpoint → TendsTablets contents faults request (kept.Refused e) old new
-        → KeepsRoot contents root cells (cluster_of old) → KeepsRoot contents root cells (cluster_of new)
+    tends_root : (request : Lent) (e : Refusal) (old new : Server F M) → request ≢ lent.Checkpoint → TendsTablets files.contents files.faults request (codec.Refused e) old new
+        → KeepsRoot files.contents root cells (cluster_of old) → KeepsRoot files.contents root cells (cluster_of new)
     tends_root lent.Checkpoint e old new other tends keeps = absurd (other refl)
     tends_root request e old new other tends keeps = by_command (command_of request) request e (cluster_of old) (cluster_of new) tends keeps
 
-    spared_root : (request : Lent) (reply : Kept) (old new : Server F M) → IsSparing request → TendsTablets contents faults request reply old new
-        → KeepsRoot contents root cells (cluster_of old) → KeepsRoot contents root cells (cluster_of new)
+    spared_root : (request : Lent) (reply : CodecReply) (old new : Server F M) → IsSparing request → TendsTablets files.contents files.faults request reply old new
+        → KeepsRoot files.contents root cells (cluster_of old) → KeepsRoot files.contents root cells (cluster_of new)
     spared_root (lent.Minor t) reply old new is (inl made) keeps = (stays _ _ root cells (cluster_of old) (cluster_of new) made).1 (λ takes. takes.0) keeps
     spared_root (lent.Minor t) reply old new is (inr none) keeps = absurd none.0
     spared_root lent.Sweep reply old new is (inl made) keeps = (stays _ _ root cells (cluster_of old) (cluster_of new) made).1 (λ takes. takes.0) keeps
     spared_root lent.Sweep reply old new is (inr none) keeps = absurd none.0
     spared_root lent.OracleRestart reply old new is same keeps = (stored root cells (cluster_of old) (cluster_of new) same).1 keeps
     spared_root (lent.Raw row family qualifier lo hi) reply old new is (inl made) keeps = (stays _ _ root cells (cluster_of old) (cluster_of new) made).1 (λ takes. takes.0) keeps
-    spared_root (lent.Raw row family qualifier lo hi) reply old new is (inr none) keeps = subst (λ (state : ClusterState F). KeepsRoot contents root cells state) (sym none.1) keeps
+    spared_root (lent.Raw row family qualifier lo hi) reply old new is (inr none) keeps = subst (λ (state : ClusterState F). KeepsRoot files.contents root cells state) (sym none.1) keeps
     spared_root request reply old new is tends keeps = absurd is
 
-  module _ (reopens : (cells : Cells) (st : State) → ShowsCells cells st → ShowsCells cells (reopened st)) (stored : RootIsStored contents) (stays : RootStays contents faults) (old new : Server F M) (within : IsWithinMark (last_of new) (mark (marks_of new))) where
+  module _ (reopens : (cells : Cells) (st : State) → ShowsCells cells st → ShowsCells cells (reopened st)) (stored : RootIsStored files.contents) (stays : RootStays files.contents files.faults) (old new : Server F M) (within : IsWithinMark (last_of new) (store.mark (marks_of new))) where
     -- it rests at the same root
-    rests_on : (st : State) → Shows contents new st → (rests : RestsAt contents mark old st) → KeepsRoot contents rests.root rests.cells (cluster_of new) → IsSome (mark (marks_of new)) → RestsAt contents mark new st
+    rests_on : (st : State) → Shows files.contents new st → (rests : RestsAt files.contents store.mark old st) → KeepsRoot files.contents rests.root rests.cells (cluster_of new) → IsSome (store.mark (marks_of new)) → RestsAt files.contents store.mark new st
     rests_on st shown rests keeps told = record {
       shows = shown;
       root = rests.root;
@@ -125,22 +126,22 @@ module _ {F M : Type 0} (contents : F → Option Contents) (faults : F → ℕ) 
       };
     }
 
-    rests_refused : (request : Lent) (e : Refusal) → request ≢ lent.Checkpoint → IsPlainAnswer contents faults mark mark_faults old request (kept.Refused e) new → (st : State) → IsReached st → RestsAt contents mark old st → RestsAt contents mark new st
+    rests_refused : (request : Lent) (e : Refusal) → request ≢ lent.Checkpoint → IsPlainAnswer files store old request (codec.Refused e) new → (st : State) → IsReached st → RestsAt files.contents store.mark old st → RestsAt files.contents store.mark new st
     rests_refused request e other plain st reached rests =
         let (next, step, after, whole) = plain.step.step st reached rests.shows in
-        let shown : Shows contents new st = subst (λ (s : State). Shows contents new s) (refused_same _ _ _ _ step) after in
+        let shown : Shows files.contents new st = subst (λ (s : State). Shows files.contents new s) (refused_same _ _ _ _ step) after in
         rests_on st shown rests (tends_root stored stays rests.root rests.cells request e old new other plain.tablets rests.keeps) (told_mark request e old new plain.sessions.oracle (some_told _ _ rests.tells.marked))
 
-    rests_spared : (request : Lent) (reply : Kept) → IsSparing request → IsPlainAnswer contents faults mark mark_faults old request reply new → (st : State) → IsReached st → RestsAt contents mark old st → RestsAt contents mark new st
+    rests_spared : (request : Lent) (reply : CodecReply) → IsSparing request → IsPlainAnswer files store old request reply new → (st : State) → IsReached st → RestsAt files.contents store.mark old st → RestsAt files.contents store.mark new st
     rests_spared request reply is plain st reached rests =
         let (next, step, after, whole) = plain.step.step st reached rests.shows in
-        let shown : Shows contents new st = subst (λ (s : State). Shows contents new s) (spared_same _ _ request _ is step) after in
+        let shown : Shows files.contents new st = subst (λ (s : State). Shows files.contents new s) (spared_same _ _ request _ is step) after in
         rests_on st shown rests (spared_root stored stays rests.root rests.cells request reply old new is plain.tablets rests.keeps) (told_spared request reply old new is plain.sessions.oracle (some_told _ _ rests.tells.marked))
 
-    rests_done : IsPlainAnswer contents faults mark mark_faults old lent.Checkpoint kept.Checkpoint new → (st : State) → IsReached st → Shows contents old st → IsSome (mark (marks_of old)) → RestsAt contents mark new st
+    rests_done : IsPlainAnswer files store old lent.Checkpoint codec.Checkpoint new → (st : State) → IsReached st → Shows files.contents old st → IsSome (store.mark (marks_of old)) → RestsAt files.contents store.mark new st
     rests_done plain st reached shown told =
         let (next, step, after, whole) = plain.step.step st reached shown in
-        let shows : Shows contents new st = subst (λ (s : State). Shows contents new s) (checkpoint_same _ _ step) after in
+        let shows : Shows files.contents new st = subst (λ (s : State). Shows files.contents new s) (checkpoint_same _ _ step) after in
         record {
           shows = shows;
           root = _;
@@ -151,37 +152,37 @@ module _ {F M : Type 0} (contents : F → Option Contents) (faults : F → ℕ) 
             floor = shown.collectors.floor;
             places = shows.places;
             next = shows.next;
-            marked = marked_now _ _ _ (subst (λ (o : OracleState M). IsSome (mark o.marks)) (sym plain.sessions.oracle) told) within shows.shows.top;
+            marked = marked_now _ _ _ (subst (λ (o : OracleState M). IsSome (store.mark o.marks)) (sym plain.sessions.oracle) told) within shows.shows.top;
             shows = reopens _ st shown.shows.store;
           };
         }
 
-    pub keeps_resting : (request : Lent) (reply : Kept) → IsPlainAnswer contents faults mark mark_faults old request reply new → KeepsResting contents mark request reply old new
+    pub keeps_resting : (request : Lent) (reply : CodecReply) → IsPlainAnswer files store old request reply new → KeepsResting files.contents store.mark request reply old new
     keeps_resting request reply plain = record {
-      done = λ is told. rests_done (subst (λ (q : Lent). IsPlainAnswer contents faults mark mark_faults old q kept.Checkpoint new) is (subst (λ (r : Kept). IsPlainAnswer contents faults mark mark_faults old request r new) told plain));
-      refused = λ other e told. rests_refused request e other (subst (λ (r : Kept). IsPlainAnswer contents faults mark mark_faults old request r new) told plain);
+      done = λ is told. rests_done (subst (λ (q : Lent). IsPlainAnswer files store old q codec.Checkpoint new) is (subst (λ (r : CodecReply). IsPlainAnswer files store old request r new) told plain));
+      refused = λ other e told. rests_refused request e other (subst (λ (r : CodecReply). IsPlainAnswer files store old request r new) told plain);
       spared = λ is. rests_spared request reply is plain;
     }
 
   -- ---- between two requests
 
-  merged_none : (b : Bool) (merge : Option ℕ) (old new : ClusterState F) → (merge ≡ None) ⊎ (b ≡ false) → MergesWhere b contents faults merge old new → new ≡ old
+  merged_none : (b : Bool) (merge : Option ℕ) (old new : ClusterState F) → (merge ≡ None) ⊎ (b ≡ false) → MergesWhere b files.contents files.faults merge old new → new ≡ old
   merged_none false merge old new none merges = merges
   merged_none true None old new none merges = merges
   merged_none true (Some most) old new (inl none) merges = cc
   merged_none true (Some most) old new (inr none) merges = cc
 
-  pub rests_between : RootOutlastsFlushes contents faults → RestsBetween contents faults mark
+  pub rests_between : RootOutlastsFlushes files.contents files.faults → RestsBetween files.contents files.faults store.mark
   rests_between outlasts old new st tended none rests = record {
-    shows = still_shown contents faults old new st tended.keeps tended.sessions tended.cleaners tended.collectors (ap (λ (o : OracleState M). o.last) tended.oracle) rests.shows;
+    shows = still_shown files.contents files.faults old new st tended.keeps tended.sessions tended.cleaners tended.collectors (ap (λ (o : OracleState M). o.last) tended.oracle) rests.shows;
     root = rests.root;
     cells = rests.cells;
-    keeps = subst (λ (state : ClusterState F). KeepsRoot contents rests.root rests.cells state) (sym (merged_none _ _ _ _ none tended.merges))
+    keeps = subst (λ (state : ClusterState F). KeepsRoot files.contents rests.root rests.cells state) (sym (merged_none _ _ _ _ none tended.merges))
         (((outlasts rests.root rests.cells (cluster_of old) tended.compacted).0 _ tended.compacts).1 rests.keeps);
-    tells = subst (λ (o : OracleState M). TellsState rests.root rests.cells (mark o.marks) st) (sym tended.oracle) rests.tells;
+    tells = subst (λ (o : OracleState M). TellsState rests.root rests.cells (store.mark o.marks) st) (sym tended.oracle) rests.tells;
   }
 
-  pub resting_is_kept : RestingIsKept contents mark
+  pub resting_is_kept : RestingIsKept files.contents store.mark
   resting_is_kept server st rests = record {
     kept = rests.keeps.has.kept;
     are_told = rests.keeps.has.are_told;

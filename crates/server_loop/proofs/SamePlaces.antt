@@ -9,7 +9,7 @@ use Rattle.cell_key.specs.Cells.{Cells}
 use Rattle.cell_key.specs.declared.keys.Qualifier.TheVariants.{Write}
 use Rattle.txn_client.specs.Shows as clients
 use Rattle.txn_client.specs.Shows.{ShowsAt, ShowsClients}
-use Rattle.txn_client.specs.declared.clients.Clients.{Clients}
+use Rattle.txn_client.specs.declared.sessions.Clients.{Clients}
 use Rattle.txn_client.specs.declared.session.Session.{Session}
 
 -- ---- steps that keep the tablets' places

@@ -8,7 +8,7 @@ use Rattle.std.proofs.lemmas.Bool.Decides.{nat_tests}
 use Rattle.cell_key.specs.declared.refusals.Refusal.TheVariants.{FrameTooLarge}
 use Rattle.si_model.specs.Machine.{State, Reply, Refused}
 use Rattle.request_codec.specs.Replies.{reply_body}
-use Rattle.request_codec.specs.declared.replies.Reply.{Reply as Kept}
+use Rattle.request_codec.specs.declared.replies.Reply.{Reply as CodecReply}
 use Rattle.request_codec.specs.declared.requests.Request.{Request as Lent}
 use Rattle.server_loop.specs.Runs.{Taken, Body, Oversize, AnswersAs, RunsAs, SaysOf}
 use Rattle.server_loop.proofs.ReachedRuns.{RunOver-append, SaysAll-append, laws_of}
@@ -16,10 +16,10 @@ use Rattle.server_loop.proofs.FrameHeads.{IsTooLong-more}
 use Rattle.request_codec.specs.Framing.{longest_frame}
 use Rattle.request_codec.specs.Stream.{frame, frames, IsTooLong, IsPartial, BeginsNoFrame, IsBody}
 use Rattle.server_loop.specs.Serve.{taken_of, written_of, Answered, Delivers, Handles, HandlesFirst, HandlesTo, IsCutShort, IsRest, TakesBodies, WritesReplies}
-use Rattle.server_loop.specs.declared.ends.End.{End}
-use Rattle.server_loop.specs.declared.ends.End.TheVariants as ends
-use Rattle.server_loop.specs.declared.ends.ServeFault.{ServeFault}
-use Rattle.server_loop.specs.declared.ends.ServeFault.TheVariants as faults
+use Rattle.server_loop.specs.declared.statuses.End.{End}
+use Rattle.server_loop.specs.declared.statuses.End.TheVariants as ends
+use Rattle.server_loop.specs.declared.statuses.ServeFault.{ServeFault}
+use Rattle.server_loop.specs.declared.statuses.ServeFault.TheVariants as faults
 use Rattle.server_loop.specs.declared.serving.Rest.{Rest}
 use Rattle.server_loop.specs.declared.serving.Rest.TheVariants as rests
 
@@ -112,7 +112,7 @@ module _ {S : Type 0} (shows : S → State → Type 0) where
   RunsAs-oversize : (a : S) → RunsAs shows a a (Oversize ∷ []) (Refused FrameTooLarge ∷ [])
   RunsAs-oversize a = λ before reached shown. record { after = before; run = (before, (refl, refl), refl); reached = reached; laws = laws_of before reached; shows = shown }
 
-module _ {S : Type 0} (shows : S → State → Type 0) (says : S → Lent → Kept → S → Type 0) (between : S → S → Type 0) where
+module _ {S : Type 0} (shows : S → State → Type 0) (says : S → Lent → CodecReply → S → Type 0) (between : S → S → Type 0) where
   pub AnswersAs-none : (a : S) → AnswersAs shows says between a a [] []
   AnswersAs-none a = record { run = RunsAs-none shows a; said = refl }
 

@@ -24,8 +24,8 @@ use Rattle.txn_client.specs.Refusals.{HasOneReason}
 use Rattle.txn_client.specs.Shows as clients
 use Rattle.txn_client.specs.Shows.{DrawsNext, top_after}
 use Rattle.request_codec.specs.Replies.{replied}
-use Rattle.request_codec.specs.declared.replies.Reply.{Reply as Kept}
-use Rattle.request_codec.specs.declared.replies.Reply.TheVariants as kept
+use Rattle.request_codec.specs.declared.replies.Reply.{Reply as CodecReply}
+use Rattle.request_codec.specs.declared.replies.Reply.TheVariants as codec
 use Rattle.server_loop.specs.declared.server.Server.{Server}
 use Rattle.server_loop.specs.Server.{Shows, server_cells}
 use Rattle.server_loop.specs.Runs.{KeepsToLimits, StampsGoOn, StepsAs, IfRefused}
@@ -76,19 +76,19 @@ name_undamaged refusal none same = none (subst (IfRefused (λ (r : Refusal). ref
 pub err_undamaged : {A : Type 0} (result : Result A Refusal) (refusal : Refusal) → result ≡ Err refusal → (IsErrOf result Damaged → ⊥) → Refused refusal ≡ Refused Damaged → ⊥
 err_undamaged result refusal is none same = none (is ∙ ap (λ (r : Refusal). Err r) (subst (IfRefused (λ (r : Refusal). refusal ≡ r)) same refl))
 
-abbrev pub IfTold : (Refusal → Type 0) → Kept → Type 0
-IfTold P (kept.Refused refusal) = P refusal
+abbrev pub IfTold : (Refusal → Type 0) → CodecReply → Type 0
+IfTold P (codec.Refused refusal) = P refusal
 IfTold P reply = ⊤
 
 -- what is told of a call's refusal is told of the reply, and the other way round
-pub as_err : {A : Type 0} (result : Result A Refusal) (refusal other : Refusal) → result ≡ Err refusal → kept.Refused refusal ≡ kept.Refused other → IsErrOf result other
+pub as_err : {A : Type 0} (result : Result A Refusal) (refusal other : Refusal) → result ≡ Err refusal → codec.Refused refusal ≡ codec.Refused other → IsErrOf result other
 as_err result refusal other is same = subst (IfTold (λ (r : Refusal). IsErrOf result r)) same is
 
-abbrev reply_of : {A : Type 0} → Result A Refusal → Kept
-reply_of (Ok value) = kept.Set
-reply_of (Err refusal) = kept.Refused refusal
+abbrev reply_of : {A : Type 0} → Result A Refusal → CodecReply
+reply_of (Ok value) = codec.Set
+reply_of (Err refusal) = codec.Refused refusal
 
-pub as_refused : {A : Type 0} (result : Result A Refusal) (refusal other : Refusal) → result ≡ Err refusal → IsErrOf result other → kept.Refused refusal ≡ kept.Refused other
+pub as_refused : {A : Type 0} (result : Result A Refusal) (refusal other : Refusal) → result ≡ Err refusal → IsErrOf result other → codec.Refused refusal ≡ codec.Refused other
 as_refused result refusal other is err = ap reply_of (sym is ∙ err)
 
 pub found_undamaged : (found : Found) → found_reply found ≡ Refused Damaged → ⊥
@@ -128,8 +128,8 @@ module _ {F M : Type 0} (contents : F → Option Contents) (old new : Server F M
   )
 
 -- a reply is no refusal that the request can't have
-pub never : (P : Refusal → Type 0) (reply : Kept) (refusal : Refusal) → IfRefused P (replied reply) → (P refusal → ⊥) → reply ≡ kept.Refused refusal → ⊥
-never P reply refusal told none is = none (subst (λ (r : Kept). IfRefused P (replied r)) is told)
+pub never : (P : Refusal → Type 0) (reply : CodecReply) (refusal : Refusal) → IfRefused P (replied reply) → (P refusal → ⊥) → reply ≡ codec.Refused refusal → ⊥
+never P reply refusal told none is = none (subst (λ (r : CodecReply). IfRefused P (replied r)) is told)
 
 -- a step's stamp is the oracle's next one
 pub progress_goes : (progress : Progress) (old new : ℕ) → DrawsNext old progress → new ≡ top_after old progress → StampsGoOn (progress_reply progress) old new
@@ -152,17 +152,17 @@ found_stays founds.Nothing last = refl
 found_stays (founds.Pending start) last = refl
 
 -- a value that is found is short
-pub short_found : (found : Found) → IsShort found → KeepsToLimits (kept.Get found)
+pub short_found : (found : Found) → IsShort found → KeepsToLimits (codec.Get found)
 short_found (founds.Value value) short = short
 short_found founds.Nothing short = tt
 short_found (founds.Pending start) short = tt
 
 -- a reply is no refusal
-abbrev pub IsDone : Kept → Type 0
-IsDone (kept.Refused refusal) = ⊥
+abbrev pub IsDone : CodecReply → Type 0
+IsDone (codec.Refused refusal) = ⊥
 IsDone reply = ⊤
 
-pub not_done : (reply : Kept) (refusal : Refusal) → IsDone reply → reply ≡ kept.Refused refusal → ⊥
+pub not_done : (reply : CodecReply) (refusal : Refusal) → IsDone reply → reply ≡ codec.Refused refusal → ⊥
 not_done reply refusal done same = subst IsDone same done
 
 pub ok_not : {A E : Type 0} (value : A) (fault : E) → ¬ (Ok value ≡ Err fault)
@@ -170,7 +170,7 @@ ok_not value fault e = cc
 
 -- a name is refused for two reasons alone
 pub named_not : {bad memory : Refusal} (refusal other : Refusal) → (bad ≡ other → ⊥) → (memory ≡ other → ⊥) → (refusal ≡ bad) ⊎ (refusal ≡ memory)
-    → kept.Refused refusal ≡ kept.Refused other → ⊥
+    → codec.Refused refusal ≡ codec.Refused other → ⊥
 named_not refusal other bad memory which same =
     let is : refusal ≡ other = subst (IfTold (λ (r : Refusal). refusal ≡ r)) same refl in
     elim which [
@@ -179,10 +179,10 @@ named_not refusal other bad memory which same =
     ]
 
 -- a refusal is one of two
-pub refused_either : (e a b : Refusal) → (e ≡ a) ⊎ (e ≡ b) → (kept.Refused e ≡ kept.Refused a) ⊎ (kept.Refused e ≡ kept.Refused b)
+pub refused_either : (e a b : Refusal) → (e ≡ a) ⊎ (e ≡ b) → (codec.Refused e ≡ codec.Refused a) ⊎ (codec.Refused e ≡ codec.Refused b)
 refused_either e a b which = elim which [
-  | inl is ↦ inl (ap (λ (r : Refusal). kept.Refused r) is)
-  | inr is ↦ inr (ap (λ (r : Refusal). kept.Refused r) is)
+  | inl is ↦ inl (ap (λ (r : Refusal). codec.Refused r) is)
+  | inr is ↦ inr (ap (λ (r : Refusal). codec.Refused r) is)
 ]
 
 -- one of two counts tells a device's fault, and the other stays

@@ -4,15 +4,15 @@ use Rattle.std.specs.Io.KnownBytes.{Consumes, Appends, IsAtEnd, Keeps}
 use Rattle.std.proofs.KnownBytes.{Consumes-trans, Consumes-nil, Appends-kept}
 use Rattle.std.proofs.lemmas.Bool.Decides.{nat_tests}
 use Rattle.si_model.specs.Machine.{State}
-use Rattle.request_codec.specs.declared.replies.Reply.{Reply as Kept}
+use Rattle.request_codec.specs.declared.replies.Reply.{Reply as CodecReply}
 use Rattle.request_codec.specs.declared.requests.Request.{Request as Lent}
 use Rattle.request_codec.specs.Stream.{IsPartial}
 use Rattle.server_loop.specs.Runs.{Taken, Body}
 use Rattle.server_loop.specs.Serve.{taken_of, Answered, EndsBy, Handles, HandlesTo, IsRest, ReadsOn, Served, ServesOn, TakesBodies, WritesReplies}
-use Rattle.server_loop.specs.declared.ends.End.{End}
-use Rattle.server_loop.specs.declared.ends.End.TheVariants as ends
-use Rattle.server_loop.specs.declared.ends.ServeFault.{ServeFault}
-use Rattle.server_loop.specs.declared.ends.ServeFault.TheVariants as faults
+use Rattle.server_loop.specs.declared.statuses.End.{End}
+use Rattle.server_loop.specs.declared.statuses.End.TheVariants as ends
+use Rattle.server_loop.specs.declared.statuses.ServeFault.{ServeFault}
+use Rattle.server_loop.specs.declared.statuses.ServeFault.TheVariants as faults
 use Rattle.server_loop.specs.declared.serving.Rest.TheVariants as rests
 use Rattle.server_loop.proofs.ServingLemmas.{AnswersAs-none, Answered-more, Answered-none, Answered-then, Handles-after, BeginsNoFrame-from_large, BeginsNoFrame-from_partial, IsPartial-nil, taken-large, taken-partial}
 
@@ -59,7 +59,7 @@ nothing_taken (Err faults.Read) rest p = taken-partial [] rest p
 nothing_taken (Err faults.Write) rest p = inl refl
 nothing_taken (Err faults.NoMemory) rest p = taken-partial [] rest p
 
-module _ {S : Type 0} (shows : S → State → Type 0) (says : S → Lent → Kept → S → Type 0) (between : S → S → Type 0) where
+module _ {S : Type 0} (shows : S → State → Type 0) (says : S → Lent → CodecReply → S → Type 0) (between : S → S → Type 0) where
   nothing_written : (result : Result End ServeFault) (a : S) → WritesReplies says between result a a [] [] []
   nothing_written (Ok end) a = (refl, refl)
   nothing_written (Err faults.Read) a = (refl, refl)

@@ -6,7 +6,7 @@ use Rattle.row_atomic.specs.Clusters.{ClusterState, Spot}
 use Rattle.row_atomic.specs.Flushes.{KeepsShown}
 use Rattle.si_model.specs.Machine.{State}
 use Rattle.txn_client.specs.Shows as clients
-use Rattle.txn_client.specs.declared.clients.Clients.{Clients}
+use Rattle.txn_client.specs.declared.sessions.Clients.{Clients}
 use Rattle.clean_up.specs.Shows.{ShowsCleaners}
 use Rattle.clean_up.specs.declared.cleaners.Cleaners.{Cleaners}
 use Rattle.version_collector.specs.Shows.{ShowsCollectors}

@@ -2,10 +2,12 @@
 use Rattle.std.specs.Prelude.{◌≡◌, ℕ, Option, IfSome, ⊤}
 use Rattle.cell_key.specs.declared.refusals.Refusal.TheVariants.{Device, Exhausted, MemtableFull}
 use Rattle.file_store.specs.Store.{Contents}
+use Rattle.file_store.specs.declared.files.Files.{Ghosts as Files}
+use Rattle.oracle.specs.declared.marks.MarkStore.{Ghosts as MarkStore}
 use Rattle.request_codec.specs.Replies.{replied}
 use Rattle.request_codec.specs.Requests.{asked}
 use Rattle.request_codec.specs.declared.replies.Reply.{Reply}
-use Rattle.request_codec.specs.declared.replies.Reply.TheVariants as kept
+use Rattle.request_codec.specs.declared.replies.Reply.TheVariants as codec
 use Rattle.request_codec.specs.declared.requests.Request.{Request}
 use Rattle.request_codec.specs.declared.requests.Request.TheVariants.{Begin, Step, CleanBegin, CleanStep, CollectBegin, CollectStep, Checkpoint}
 use Rattle.row_atomic.specs.Changes.{Holds}
@@ -39,9 +41,9 @@ pub record IsMachineStep {F M : Type 0} (contents : F → Option Contents) (requ
 
 -- ---- stamps
 
--- the oracle that was restarted goes on from its mark, where that is told
+-- the oracle that was restarted goes on from its mark, if that is known
 abbrev pub FollowsMark : {F M : Type 0} → (M → Option ℕ) → Reply → Server F M → Server F M → Type 0
-FollowsMark mark kept.OracleRestart old new = IfSome (mark (marks_of old)) (λ n. last_of new ≡ n)
+FollowsMark mark codec.OracleRestart old new = IfSome (mark (marks_of old)) (λ n. last_of new ≡ n)
 FollowsMark mark reply old new = ⊤
 
 -- What Exhausted means: no stamp is left, for a Begin and for a Step that comes to draw one; no
@@ -61,7 +63,7 @@ pub record DrawsStamps {F M : Type 0} (contents : F → Option Contents) (mark :
     (request : Request) (reply : Reply) (old new : Server F M) : Type 0 where
   pub last : StampsGoOn (replied reply) (last_of old) (last_of new)
   pub restarted : FollowsMark mark reply old new
-  pub exhausted : reply ≡ kept.Refused Exhausted → LacksStamp contents request old
+  pub exhausted : reply ≡ codec.Refused Exhausted → LacksStamp contents request old
 
 -- ---- cells and room
 
@@ -75,7 +77,7 @@ pub record MakesEdits {F M : Type 0} (contents : F → Option Contents) (request
 
 -- ---- sessions
 
--- What is always told where a state is shown, and what a request leaves of the sessions, of the
+-- What is always answered if a state is shown, and what a request leaves of the sessions, of the
 -- cleaners, of the collectors and of the oracle.
 pub record ServesSessions {F M : Type 0} (contents : F → Option Contents) (mark : M → Option ℕ)
     (request : Request) (reply : Reply) (old new : Server F M) : Type 0 where
@@ -87,14 +89,14 @@ pub record ServesSessions {F M : Type 0} (contents : F → Option Contents) (mar
 
 -- ---- tablets and files
 
--- What a request did to tablets and files. A checkpoint tells of the sessions' top and of the
+-- What a request did to tablets and files. A checkpoint writes the sessions' top and the
 -- collectors' greatest floor, and once it is done the files keep what the tablets show.
 abbrev pub TendsTablets : {F M : Type 0} → (F → Option Contents) → (F → ℕ) → Request → Reply
     → Server F M → Server F M → Type 0
 TendsTablets contents faults Checkpoint reply old new =
     Checkpoints contents faults (top_of old) (floor_of old)
     (cluster_of old) (outcome_of reply) (cluster_of new)
-    × (reply ≡ kept.Checkpoint
+    × (reply ≡ codec.Checkpoint
     → Rests contents (top_of old) (floor_of old) (cluster_of old) (cluster_of new))
 TendsTablets contents faults request reply old new =
     HasOutcome contents faults (command_of request) request reply (cluster_of old) (cluster_of new)
@@ -102,7 +104,7 @@ TendsTablets contents faults request reply old new =
 -- ---- faults and causes
 
 -- A step comes to make the edits that its session or its cleaner names, and the memtable of their
--- row's tablet has no room for them. Where a state is shown they are those of the next step there.
+-- row's tablet has no room for them. If a state is shown, they are those of the next step there.
 -- A collector's step comes to make edits of its visits.
 abbrev pub LacksRoom : {F M : Type 0} → (F → Option Contents) → Request → Server F M → Type 0
 LacksRoom contents (Step start) old =
@@ -120,33 +122,31 @@ LacksRoom contents (CollectStep collector n) old =
     HasNoRoom OverfillsCluster (cluster_of old) (AreOfVisitsIn n)
 LacksRoom contents request old = ⊤
 
--- A device's fault is told where a count of them rose, and nowhere else. Of a command the outcome
+-- A device's fault is answered if a count of them rose, and only then. Of a command the outcome
 -- says why it is refused.
 pub record TellsCauses {F M : Type 0} (contents : F → Option Contents) (file_faults : F → ℕ)
     (mark_faults : M → ℕ) (request : Request) (reply : Reply) (old new : Server F M) : Type 0 where
-  pub device : reply ≡ kept.Refused Device → IsFaultSeen file_faults mark_faults old new
-  pub told : ¬ (reply ≡ kept.Refused Device) → SeesNoFault file_faults mark_faults old new
-  pub full : reply ≡ kept.Refused MemtableFull → LacksRoom contents request old
+  pub device : reply ≡ codec.Refused Device → IsFaultSeen file_faults mark_faults old new
+  pub told : ¬ (reply ≡ codec.Refused Device) → SeesNoFault file_faults mark_faults old new
+  pub full : reply ≡ codec.Refused MemtableFull → LacksRoom contents request old
 
 -- ---- all of them
 
--- What is said of an answer, but for what the server rests at: over the files' bytes, the counts of
--- faults and the mark, as far as they are told.
-pub record IsPlainAnswer {F M : Type 0} (contents : F → Option Contents) (file_faults : F → ℕ)
-    (mark : M → Option ℕ) (mark_faults : M → ℕ)
+-- What is said of an answer, but for what the server rests at: by what its files and its mark store
+-- show, which are the files' bytes, the mark and the counts of faults of both.
+pub record IsPlainAnswer {F M : Type 0} (files : Files F) (marks : MarkStore M)
     (old : Server F M) (request : Request) (reply : Reply) (new : Server F M) : Type 0 where
-  pub step : IsMachineStep contents request reply old new
-  pub stamps : DrawsStamps contents mark request reply old new
-  pub edits : MakesEdits contents request reply old new
-  pub sessions : ServesSessions contents mark request reply old new
-  pub tablets : TendsTablets contents file_faults request reply old new
-  pub causes : TellsCauses contents file_faults mark_faults request reply old new
+  pub step : IsMachineStep files.contents request reply old new
+  pub stamps : DrawsStamps files.contents marks.mark request reply old new
+  pub edits : MakesEdits files.contents request reply old new
+  pub sessions : ServesSessions files.contents marks.mark request reply old new
+  pub tablets : TendsTablets files.contents files.faults request reply old new
+  pub causes : TellsCauses files.contents files.faults marks.faults request reply old new
   -- no request changes when a server compacts and merges by itself
   pub tending : tending_of new ≡ tending_of old
 
 -- What is said of an answer.
-pub record IsAnswer {F M : Type 0} (contents : F → Option Contents) (file_faults : F → ℕ)
-    (mark : M → Option ℕ) (mark_faults : M → ℕ)
+pub record IsAnswer {F M : Type 0} (files : Files F) (marks : MarkStore M)
     (old : Server F M) (request : Request) (reply : Reply) (new : Server F M) : Type 0 where
-  pub plain : IsPlainAnswer contents file_faults mark mark_faults old request reply new
-  pub resting : KeepsResting contents mark request reply old new
+  pub plain : IsPlainAnswer files marks old request reply new
+  pub resting : KeepsResting files.contents marks.mark request reply old new

@@ -3,7 +3,7 @@ use Rattle.std.specs.Prelude.{◌≡◌, ◌⊎◌, ℕ, Option, None, Some}
 use Rattle.cell_key.specs.declared.refusals.Refusal.TheVariants.{BadRow, BadColumn, NoMemory}
 use Rattle.file_store.specs.Store.{Contents}
 use Rattle.request_codec.specs.declared.replies.Reply.{Reply}
-use Rattle.request_codec.specs.declared.replies.Reply.TheVariants as kept
+use Rattle.request_codec.specs.declared.replies.Reply.TheVariants as codec
 use Rattle.request_codec.specs.declared.requests.Request.{Request}
 use Rattle.request_codec.specs.declared.requests.Request.TheVariants.{Minor, Merge, Major, Split, Move, Sweep, Raw}
 use Rattle.row_atomic.specs.Clusters.{ClusterState, storage_of}
@@ -25,23 +25,23 @@ command_of (Raw row family qualifier lo hi) =
     Some (command.Newest row.now family.now qualifier lo hi)
 command_of request = None
 
--- the outcome of a command that a reply tells
+-- the outcome of a command that a reply gives
 abbrev pub outcome_of : Reply → Outcome
-outcome_of (kept.Split left) = outcome.Split left
-outcome_of (kept.Sweep count) = outcome.Swept count
-outcome_of (kept.Raw found) = outcome.Newest found
-outcome_of (kept.Refused refusal) = outcome.Refused refusal
+outcome_of (codec.Split left) = outcome.Split left
+outcome_of (codec.Sweep count) = outcome.Swept count
+outcome_of (codec.Raw found) = outcome.Newest found
+outcome_of (codec.Refused refusal) = outcome.Refused refusal
 outcome_of reply = outcome.Done
 
 -- a name in a request is none, or there is no memory to copy it
 abbrev pub RefusesName : Request → Reply → Type 0
-RefusesName (Split row) reply = (reply ≡ kept.Refused BadRow) ⊎ (reply ≡ kept.Refused NoMemory)
+RefusesName (Split row) reply = (reply ≡ codec.Refused BadRow) ⊎ (reply ≡ codec.Refused NoMemory)
 RefusesName (Raw row family qualifier lo hi) reply =
-    (reply ≡ kept.Refused BadRow)
-    ⊎ ((reply ≡ kept.Refused BadColumn) ⊎ (reply ≡ kept.Refused NoMemory))
+    (reply ≡ codec.Refused BadRow)
+    ⊎ ((reply ≡ codec.Refused BadColumn) ⊎ (reply ≡ codec.Refused NoMemory))
 RefusesName request reply = ⊥
 
--- A request that is a command has the outcome that its reply tells, or a name in it was refused and
+-- A request that is a command has the outcome that its reply gives, or a name in it was refused and
 -- nothing was done. Any other leaves what lies below the memtables.
 abbrev pub HasOutcome : {F : Type 0} → (F → Option Contents) → (F → ℕ) → Option Command → Request
     → Reply → ClusterState F → ClusterState F → Type 0

@@ -9,3 +9,6 @@ pub mod Resting
 pub mod Opening
 pub mod Answer
 pub mod Tending
+pub mod Audits
+pub mod AuditSteps
+pub mod AuditRefusals

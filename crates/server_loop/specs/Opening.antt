@@ -4,14 +4,14 @@ use Rattle.std.specs.FinMap.{get}
 use Rattle.file_store.specs.Store.{Contents}
 use Rattle.metadata_table.specs.Roots.{IsRoot, RootView}
 use Rattle.row_atomic.specs.Roots.{root_name}
-use Rattle.row_atomic.specs.RootsOpened.{IsDamaged}
+use Rattle.row_atomic.specs.Open.{IsDamaged}
 
--- files that are told have no root file
+-- files whose bytes are known have no root file
 abbrev pub LacksRoot : Option Contents → Type 0
 LacksRoot told = IsSomeAnd told (λ m. get m root_name ≡ None)
 
 -- The root file is out of form, or a file that it names is missing or out of form. Or the mark is
--- below the greatest stamp that the root tells.
+-- below the greatest stamp that the root names.
 pub data IsLost (m : Contents) (mark : ℕ) : Type 0 where
   damaged : IsDamaged m → IsLost m mark
   below : (image : List ℕ) (root : RootView) → get m root_name ≡ Some image → IsRoot root image

@@ -5,7 +5,7 @@ use Rattle.cell_key.specs.declared.refusals.Refusal.{Refusal}
 use Rattle.file_store.specs.Store.{Contents}
 use Rattle.metadata_table.specs.Roots.{RootView}
 use Rattle.request_codec.specs.declared.replies.Reply.{Reply}
-use Rattle.request_codec.specs.declared.replies.Reply.TheVariants as kept
+use Rattle.request_codec.specs.declared.replies.Reply.TheVariants as codec
 use Rattle.request_codec.specs.declared.requests.Request.{Request}
 use Rattle.request_codec.specs.declared.requests.Request.TheVariants.{Minor, Sweep, OracleRestart, Raw, Checkpoint}
 use Rattle.row_atomic.specs.Roots.{KeepsCells, KeepsRoot}
@@ -15,7 +15,7 @@ use Rattle.server_loop.specs.Server.{Shows, cluster_of, machine_places, marks_of
 use Rattle.server_loop.specs.Tending.{IsTended, has_full}
 use Rattle.server_loop.specs.declared.server.Server.{Server}
 
--- A root tells the greatest stamp of a state, its greatest floor and the places of its tablets, a
+-- A root names the greatest stamp of a state, its greatest floor and the places of its tablets, a
 -- mark isn't below that stamp, and cells show the state after a clean restart.
 pub record TellsState (root : RootView) (cells : Cells) (told : Option ℕ)
     (st : State) : Type 0 where
@@ -26,7 +26,7 @@ pub record TellsState (root : RootView) (cells : Cells) (told : Option ℕ)
   pub marked : IsSomeAnd told (λ mark. st.top ≤ mark)
   pub shows : ShowsCells cells (reopened st)
 
--- Files and a mark keep a state: the files keep cells under a root, and these tell the state.
+-- Files and a mark keep a state: the files keep cells under a root, and these show the state.
 pub record KeepsState {F M : Type 0} (contents : F → Option Contents) (mark : M → Option ℕ)
     (files : F) (marks : M) (st : State) : Type 0 where
   pub kept : Contents
@@ -57,12 +57,12 @@ IsSparing request = ⊥
 -- What a server rests at after an answer.
 pub record KeepsResting {F M : Type 0} (contents : F → Option Contents) (mark : M → Option ℕ)
     (request : Request) (reply : Reply) (old new : Server F M) : Type 0 where
-  -- An accepted checkpoint leaves a server that shows a reached state resting at it, where the mark
-  -- is told.
-  pub done : request ≡ Checkpoint → reply ≡ kept.Checkpoint → (st : State) → IsReached st
+  -- An accepted checkpoint leaves a server that shows a reached state resting at it, if the mark is
+  -- known.
+  pub done : request ≡ Checkpoint → reply ≡ codec.Checkpoint → (st : State) → IsReached st
       → Shows contents old st → IsSome (mark (marks_of old)) → RestsAt contents mark new st
   -- Any other request that is refused leaves it resting where it did, and so does a sparing one.
-  pub refused : request ≢ Checkpoint → (refusal : Refusal) → reply ≡ kept.Refused refusal
+  pub refused : request ≢ Checkpoint → (refusal : Refusal) → reply ≡ codec.Refused refusal
       → (st : State) → IsReached st → RestsAt contents mark old st → RestsAt contents mark new st
   pub spared : IsSparing request → (st : State) → IsReached st → RestsAt contents mark old st
       → RestsAt contents mark new st

@@ -11,8 +11,8 @@ use Rattle.request_codec.specs.declared.requests.Request.{Request as Lent}
 use Rattle.si_model.specs.Machine as machine
 use Rattle.si_model.specs.declared.replies.CollectReply.TheVariants.{Blocked}
 use Rattle.si_model.specs.declared.replies.Found.TheVariants.{Value}
-use Rattle.request_codec.specs.declared.replies.Reply.{Reply as Kept}
-use Rattle.request_codec.specs.declared.replies.Reply.TheVariants as kept
+use Rattle.request_codec.specs.declared.replies.Reply.{Reply as CodecReply}
+use Rattle.request_codec.specs.declared.replies.Reply.TheVariants as codec
 
 -- what the machine takes from a stream: a whole body, or a length past the limit
 pub data Taken : Type 0 where
@@ -64,14 +64,15 @@ RunsAs shows old new taken replies =
 
 -- A body in the grammar is answered as is said of its request. Any other, and a length past the
 -- limit, is refused and changes nothing.
-abbrev pub SaysOf : {S : Type 0} → (S → Lent → Kept → S → Type 0) → S → Taken → Reply → S → Type 0
+abbrev pub SaysOf : {S : Type 0} → (S → Lent → CodecReply → S → Type 0) → S → Taken → Reply → S
+    → Type 0
 SaysOf says old (Body body) reply new =
-    ((request : Lent) × (kept : Kept) × IsRequest (asked request) body × (reply ≡ replied kept)
-    × says old request kept new)
+    ((request : Lent) × (answer : CodecReply) × IsRequest (asked request) body
+    × (reply ≡ replied answer) × says old request answer new)
     ⊎ (IsMalformed body × (reply ≡ Refused BadRequest) × (new ≡ old))
 SaysOf says old Oversize reply new = (reply ≡ Refused FrameTooLarge) × (new ≡ old)
 
-module _ {S : Type 0} (says : S → Lent → Kept → S → Type 0) (between : S → S → Type 0) where
+module _ {S : Type 0} (says : S → Lent → CodecReply → S → Type 0) (between : S → S → Type 0) where
   -- One answer after the other. After each one comes what is between it and the next.
   abbrev pub SaysAll : S → List Taken → List Reply → S → Type 0
   SaysAll old [] [] new = new ≡ old
@@ -83,7 +84,8 @@ module _ {S : Type 0} (says : S → Lent → Kept → S → Type 0) (between : S
 
 -- These replies are those of a run of the machine. Each is what is said of one answer, from one
 -- server to the next, and after it comes what is between the two.
-pub record AnswersAs {S : Type 0} (shows : S → State → Type 0) (says : S → Lent → Kept → S → Type 0)
+pub record AnswersAs {S : Type 0} (shows : S → State → Type 0)
+    (says : S → Lent → CodecReply → S → Type 0)
     (between : S → S → Type 0) (old new : S) (taken : List Taken)
     (replies : List Reply) : Type 0 where
   pub run : RunsAs shows old new taken replies
@@ -98,10 +100,10 @@ StepsAs shows old new request reply = (before : State) → IsReached before → 
 
 -- A value that is answered has at most 65,536 bytes, and a cell that is named is within the limits
 -- of rows and families.
-abbrev pub KeepsToLimits : Kept → Type 0
-KeepsToLimits (kept.Get (Value value)) = length value.items ≤ 65536
-KeepsToLimits (kept.Raw (Some found)) = length found.1.items ≤ 65536
-KeepsToLimits (kept.CollectStep (Blocked cell start)) = IsRow cell.row × IsFamily cell.family
+abbrev pub KeepsToLimits : CodecReply → Type 0
+KeepsToLimits (codec.Get (Value value)) = length value.items ≤ 65536
+KeepsToLimits (codec.Raw (Some found)) = length found.1.items ≤ 65536
+KeepsToLimits (codec.CollectStep (Blocked cell start)) = IsRow cell.row × IsFamily cell.family
 KeepsToLimits other = ⊤
 
 -- what holds of a reply's refusal, if it is one

@@ -4,14 +4,14 @@ use Rattle.std.specs.List.{AllByRecursion}
 use Rattle.std.specs.Io.KnownBytes.{Consumes, Appends, IsAtEnd, Keeps}
 use Rattle.si_model.specs.Machine.{State, Reply}
 use Rattle.request_codec.specs.Replies.{reply_body}
-use Rattle.request_codec.specs.declared.replies.Reply.{Reply as Kept}
+use Rattle.request_codec.specs.declared.replies.Reply.{Reply as CodecReply}
 use Rattle.request_codec.specs.declared.requests.Request.{Request as Lent}
 use Rattle.request_codec.specs.Stream.{longest, frame, frames, announced, IsTooLong, IsPartial, BeginsNoFrame, CutsInto, IsBody}
 use Rattle.server_loop.specs.Runs.{Taken, Body, Oversize, AnswersAs, RunsAs, SaysAll, SaysOf}
-use Rattle.server_loop.specs.declared.ends.End.{End}
-use Rattle.server_loop.specs.declared.ends.End.TheVariants as ends
-use Rattle.server_loop.specs.declared.ends.ServeFault.{ServeFault}
-use Rattle.server_loop.specs.declared.ends.ServeFault.TheVariants as faults
+use Rattle.server_loop.specs.declared.statuses.End.{End}
+use Rattle.server_loop.specs.declared.statuses.End.TheVariants as ends
+use Rattle.server_loop.specs.declared.statuses.ServeFault.{ServeFault}
+use Rattle.server_loop.specs.declared.statuses.ServeFault.TheVariants as faults
 use Rattle.server_loop.specs.declared.serving.Rest.{Rest}
 use Rattle.server_loop.specs.declared.serving.Rest.TheVariants as rests
 
@@ -28,7 +28,7 @@ taken_of bodies rest = map Body bodies ++ (if is_too_large rest then Oversize �
 abbrev pub written_of : List Reply → List ℕ
 written_of replies = frames (map reply_body replies)
 
--- All of the bodies and of their rest was taken. Where a write failed, a length past the limit may
+-- All of the bodies and of their rest was taken. If a write failed, a length past the limit may
 -- not have been come to.
 abbrev pub TakesBodies : Result End ServeFault → List (List ℕ) → List ℕ → List Taken → Type 0
 TakesBodies (Err faults.Write) bodies rest taken =
@@ -37,7 +37,8 @@ TakesBodies result bodies rest taken = taken ≡ taken_of bodies rest
 
 -- The last reply was not written to its end, and nothing came after it: the server is as after the
 -- last request.
-pub record IsCutShort {S : Type 0} (says : S → Lent → Kept → S → Type 0) (between : S → S → Type 0)
+pub record IsCutShort {S : Type 0} (says : S → Lent → CodecReply → S → Type 0)
+    (between : S → S → Type 0)
     (old new : S) (taken : List Taken) (replies : List Reply) (written : List ℕ) : Type 0 where
   pub front : List Taken
   pub last : Taken
@@ -53,14 +54,14 @@ pub record IsCutShort {S : Type 0} (says : S → Lent → Kept → S → Type 0)
   pub wrote : written ≡ written_of earlier ++ take count (frame (reply_body reply))
 
 -- every reply was written to its end
-abbrev pub WritesAll : {S : Type 0} → (S → Lent → Kept → S → Type 0) → (S → S → Type 0) → S → S
-    → List Taken → List Reply → List ℕ → Type 0
+abbrev pub WritesAll : {S : Type 0} → (S → Lent → CodecReply → S → Type 0) → (S → S → Type 0) → S
+    → S → List Taken → List Reply → List ℕ → Type 0
 WritesAll says between old new taken replies written =
     SaysAll says between old taken replies new × (written ≡ written_of replies)
 
 -- What was written. Only a failed write cuts a reply short; after a failed flush all replies were
 -- written.
-abbrev pub WritesReplies : {S : Type 0} → (S → Lent → Kept → S → Type 0) → (S → S → Type 0)
+abbrev pub WritesReplies : {S : Type 0} → (S → Lent → CodecReply → S → Type 0) → (S → S → Type 0)
     → Result End ServeFault → S → S → List Taken → List Reply → List ℕ → Type 0
 WritesReplies says between (Err faults.Write) old new taken replies written =
     WritesAll says between old new taken replies written
@@ -88,8 +89,9 @@ EndsBy (Err faults.NoMemory) most_reads read rest left held held' = (read ≡ []
 
 -- Bytes are the frames of bodies and a rest. The replies are those of a run of the machine over
 -- what was taken of these, each is what is said of one answer, and what was written are the
--- replies' frames, the last one's in part where a write failed.
-pub record Handles {S : Type 0} (shows : S → State → Type 0) (says : S → Lent → Kept → S → Type 0)
+-- replies' frames, the last one's in part if a write failed.
+pub record Handles {S : Type 0} (shows : S → State → Type 0)
+    (says : S → Lent → CodecReply → S → Type 0)
     (between : S → S → Type 0) (result : Result End ServeFault) (old new : S) (bytes rest : List ℕ)
     (held held' : Option (List ℕ)) : Type 0 where
   pub bodies : List (List ℕ)
@@ -104,7 +106,8 @@ pub record Handles {S : Type 0} (shows : S → State → Type 0) (says : S → L
   pub appended : Appends held held' written
 
 -- Whole frames of bytes were answered, and all the replies written.
-pub record Answered {S : Type 0} (shows : S → State → Type 0) (says : S → Lent → Kept → S → Type 0)
+pub record Answered {S : Type 0} (shows : S → State → Type 0)
+    (says : S → Lent → CodecReply → S → Type 0)
     (between : S → S → Type 0) (old new : S) (bytes rest : List ℕ)
     (held held' : Option (List ℕ)) : Type 0 where
   pub bodies : List (List ℕ)
@@ -116,7 +119,7 @@ pub record Answered {S : Type 0} (shows : S → State → Type 0) (says : S → 
 
 -- What bytes were handled to: less than a frame is left of them, or a length past the limit, or a
 -- write failed.
-abbrev pub HandlesTo : {S : Type 0} → (S → State → Type 0) → (S → Lent → Kept → S → Type 0)
+abbrev pub HandlesTo : {S : Type 0} → (S → State → Type 0) → (S → Lent → CodecReply → S → Type 0)
     → (S → S → Type 0) → Result Rest ServeFault → S → S → List ℕ → List ℕ → Option (List ℕ)
     → Option (List ℕ) → Type 0
 HandlesTo shows says between (Ok rests.Partial) old new bytes rest held held' =
@@ -128,8 +131,8 @@ HandlesTo shows says between (Err faults.Write) old new bytes rest held held' =
 HandlesTo shows says between (Err faults.Read) old new bytes rest held held' = ⊥
 HandlesTo shows says between (Err faults.NoMemory) old new bytes rest held held' = ⊥
 
--- the same of the first frame alone: where it was whole, fewer bytes are left
-abbrev pub HandlesFirst : {S : Type 0} → (S → State → Type 0) → (S → Lent → Kept → S → Type 0)
+-- the same of the first frame alone: if it was whole, fewer bytes are left
+abbrev pub HandlesFirst : {S : Type 0} → (S → State → Type 0) → (S → Lent → CodecReply → S → Type 0)
     → (S → S → Type 0) → Result (Option Rest) ServeFault → S → S → List ℕ → List ℕ → Option (List ℕ)
     → Option (List ℕ) → Type 0
 HandlesFirst shows says between (Ok None) old new bytes rest held held' =
@@ -159,7 +162,8 @@ Delivers shows between (Err faults.NoMemory) body old new held held' = ⊥
 -- ---- a call
 
 -- Bytes were read after those at hand. What was read and at hand was handled, and so it ended.
-pub record ServesOn {S : Type 0} (shows : S → State → Type 0) (says : S → Lent → Kept → S → Type 0)
+pub record ServesOn {S : Type 0} (shows : S → State → Type 0)
+    (says : S → Lent → CodecReply → S → Type 0)
     (between : S → S → Type 0) (hand : List ℕ) (old new : S)
     (left left' held held' : Option (List ℕ)) (most_reads : ℕ)
     (result : Result End ServeFault) : Type 0 where
@@ -171,7 +175,7 @@ pub record ServesOn {S : Type 0} (shows : S → State → Type 0) (says : S → 
   pub ending : EndsBy result most_reads read rest left' held held'
 
 -- What a call of `serve` did, which has nothing at hand when it begins.
-abbrev pub Serves : {S : Type 0} → (S → State → Type 0) → (S → Lent → Kept → S → Type 0)
+abbrev pub Serves : {S : Type 0} → (S → State → Type 0) → (S → Lent → CodecReply → S → Type 0)
     → (S → S → Type 0) → S → S → Option (List ℕ) → Option (List ℕ) → Option (List ℕ)
     → Option (List ℕ) → ℕ → Result End ServeFault → Type 0
 Serves shows says between old new left left' held held' most_reads result =
@@ -186,7 +190,8 @@ RestIs ends.ReadsUsedUp rest = Unit {0}
 
 -- The whole of a stream was served: its bodies, and its rest as the end says.
 pub record ServesStream {S : Type 0} (shows : S → State → Type 0)
-    (says : S → Lent → Kept → S → Type 0) (between : S → S → Type 0) (old new : S) (stream : List ℕ)
+    (says : S → Lent → CodecReply → S → Type 0) (between : S → S → Type 0) (old new : S)
+    (stream : List ℕ)
     (held held' : Option (List ℕ)) (end : End) : Type 0 where
   pub bodies : List (List ℕ)
   pub rest : List ℕ
@@ -198,7 +203,8 @@ pub record ServesStream {S : Type 0} (shows : S → State → Type 0)
 
 -- Bytes were read after those at hand. All that is whole was answered, all the replies were
 -- written, and the rest is at hand.
-pub record Served {S : Type 0} (shows : S → State → Type 0) (says : S → Lent → Kept → S → Type 0)
+pub record Served {S : Type 0} (shows : S → State → Type 0)
+    (says : S → Lent → CodecReply → S → Type 0)
     (between : S → S → Type 0) (hand hand' : List ℕ) (old new : S)
     (left left' held held' : Option (List ℕ)) (reads reads' : ℕ) : Type 0 where
   pub read : List ℕ
@@ -208,7 +214,7 @@ pub record Served {S : Type 0} (shows : S → State → Type 0) (says : S → Le
   pub answered : Answered shows says between old new (hand ++ read) hand' held held'
 
 -- what one read came to: the input goes on, or it ended
-abbrev pub ReadsOn : {S : Type 0} → (S → State → Type 0) → (S → Lent → Kept → S → Type 0)
+abbrev pub ReadsOn : {S : Type 0} → (S → State → Type 0) → (S → Lent → CodecReply → S → Type 0)
     → (S → S → Type 0) → Result (Option End) ServeFault → List ℕ → List ℕ → S → S → Option (List ℕ)
     → Option (List ℕ) → Option (List ℕ) → Option (List ℕ) → ℕ → ℕ → Type 0
 ReadsOn shows says between (Ok None) hand hand' old new left left' held held' reads reads' =

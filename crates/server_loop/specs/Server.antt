@@ -7,14 +7,22 @@ use Rattle.file_store.specs.Store.{Contents}
 use Rattle.metadata_table.specs.Places.{PlaceView}
 use Rattle.row_atomic.specs.Clusters.{ClusterState, Spot, cells_in, spot_of}
 use Rattle.row_atomic.specs.Changes.{Holds}
+use Rattle.sorted_file.specs.Limits.{IsFileLimit}
 use Rattle.si_model.specs.Machine as machine
 use Rattle.si_model.specs.Machine.{State}
 use Rattle.si_model.specs.ShowsCells.{ShowsCells}
 use Rattle.txn_client.specs.Shows as clients
 use Rattle.clean_up.specs.Shows.{ShowsCleaners}
 use Rattle.version_collector.specs.Shows.{ShowsCollectors}
+use Rattle.server_loop.specs.declared.server.Config.{Config}
 use Rattle.server_loop.specs.declared.server.Server.{Server}
 use Rattle.server_loop.specs.declared.server.Tending.{Tending}
+
+-- limits that a store can have
+pub record IsConfig (config : Config) : Type 0 where
+  pub flush_least : 1 ≤ config.flush
+  pub flush_most : config.flush ≤ 100000
+  pub limit : IsFileLimit config.file_limit
 
 -- its cluster, the mark store of its oracle, and the oracle's last stamp
 abbrev pub cluster_of : {F M : Type 0} → Server F M → ClusterState F

@@ -1,5 +1,5 @@
 -- What a request does to the cells, to the room in memory, to sessions, cleaners and collectors and
--- to the oracle, and what it is always told.
+-- to the oracle, and what is always answered.
 use Rattle.std.specs.Prelude.{◌≡◌, ◌⊎◌, ℕ, Option, Result, Ok, Err, ⊤}
 use Rattle.cell_key.specs.declared.refusals.Refusal.{Refusal}
 use Rattle.cell_key.specs.declared.refusals.Refusal.TheVariants.{UnknownSession, UnknownCleaner, UnknownCollector, BadCount, EmptyCommit, TooManySessions}
@@ -13,14 +13,14 @@ use Rattle.oracle.specs.Marks.{MayHold}
 use Rattle.oracle.specs.Ranges.{IsDrawRefusal, next_range_end}
 use Rattle.request_codec.specs.Replies.{replied}
 use Rattle.request_codec.specs.declared.replies.Reply.{Reply}
-use Rattle.request_codec.specs.declared.replies.Reply.TheVariants as kept
+use Rattle.request_codec.specs.declared.replies.Reply.TheVariants as codec
 use Rattle.request_codec.specs.declared.requests.Request.{Request}
 use Rattle.request_codec.specs.declared.requests.Request.TheVariants.{Begin, Get, Set, Delete, Step, Stop, CleanBegin, CleanStep, CollectBegin, CollectStep, OracleRestart}
 use Rattle.server_loop.specs.Runs.{IfRefused}
 use Rattle.server_loop.specs.Server.{Shows, server_cells, cluster_of, marks_of}
 use Rattle.server_loop.specs.declared.server.Server.{Server}
 use Rattle.txn_client.specs.Room.{ChangesNext, Makes, TakesRoom}
-use Rattle.txn_client.specs.declared.clients.Clients.{Clients}
+use Rattle.txn_client.specs.declared.sessions.Clients.{Clients}
 use Rattle.txn_client.specs.Shows.{IsAboutToDraw, IsCrowded, IsInactive, IsUnwritten, SameClients, TouchesFor}
 use Rattle.clean_up.specs.Room as clean_up
 use Rattle.clean_up.specs.Shows as open_cleaners
@@ -44,29 +44,29 @@ pub record MakesVisits {F M : Type 0} (contents : F → Option Contents) (collec
   pub collects : Collects (server_cells contents old) (server_cells contents new) st
   pub thins : Thins n (server_cells contents old) (server_cells contents new)
 
--- A step that is done makes the edits of its session's next step, or of its cleaner's, or none
--- where it makes none: cells of one row at most, at the session's stamps. A collector's step makes
--- visits, and what it tells is so: where all is Collected each cell is tidy, where it is Blocked
--- the lock stands, and after More so much less is left. It alone may change cells and then be
+-- A step that is done makes the edits of its session's next step, or of its cleaner's, or none if
+-- that makes none: cells of one row at most, at the session's stamps. A collector's step makes
+-- visits, and what it answers is true: if all is Collected, each cell is tidy; if it is Blocked,
+-- the lock stands; and after More this much less is left. It alone may change cells and then be
 -- refused, by its later visits. All else changes none.
 abbrev pub ChangesCells : {F M : Type 0} → (F → Option Contents) → Request → Reply → Server F M
     → Server F M → Type 0
-ChangesCells contents (Step start) (kept.Step progress) old new =
+ChangesCells contents (Step start) (codec.Step progress) old new =
     (st : State) → Shows contents old st
     → TouchesFor st start (server_cells contents old) (server_cells contents new)
     × (IsReached st → Makes (ChangesNext st start) progress (server_cells contents old)
     (server_cells contents new))
-ChangesCells contents (CleanStep cleaner) (kept.CleanStep done) old new =
+ChangesCells contents (CleanStep cleaner) (codec.CleanStep done) old new =
     (st : State) → IsReached st → Shows contents old st
     → open_cleaners.TouchesFor st cleaner (server_cells contents old) (server_cells contents new)
     × clean_up.Makes (clean_up.ChangesNext st cleaner) done (server_cells contents old)
     (server_cells contents new)
-ChangesCells contents (CollectStep collector n) (kept.CollectStep done) old new =
+ChangesCells contents (CollectStep collector n) (codec.CollectStep done) old new =
     (st : State) → IsReached st → Shows contents old st
     → MakesVisits contents collector n (Ok done) old new st
     × TellsAt collector n done (server_cells contents old) old.collectors
     (server_cells contents new) new.collectors st
-ChangesCells contents (CollectStep collector n) (kept.Refused refusal) old new =
+ChangesCells contents (CollectStep collector n) (codec.Refused refusal) old new =
     ((st : State) → IsReached st → Shows contents old st
     → MakesVisits contents collector n (Err refusal) old new st)
     × (IsEarlyRefusal refusal → Holds contents (cluster_of old)
@@ -85,20 +85,20 @@ LeavesServerRoom contents (Set start row family value) reply old new =
     IsNoFuller (cluster_of old) (cluster_of new)
 LeavesServerRoom contents (Delete start row family) reply old new =
     IsNoFuller (cluster_of old) (cluster_of new)
-LeavesServerRoom contents (Step start) (kept.Step progress) old new =
+LeavesServerRoom contents (Step start) (codec.Step progress) old new =
     (st : State) → IsReached st → Shows contents old st
     → TakesRoom OverfillsCluster (ChangesNext st start) progress (cluster_of old)
     (cluster_of new)
-LeavesServerRoom contents (Step start) (kept.Refused refusal) old new =
+LeavesServerRoom contents (Step start) (codec.Refused refusal) old new =
     IsNoFuller (cluster_of old) (cluster_of new)
 LeavesServerRoom contents (Stop start) reply old new = IsNoFuller (cluster_of old) (cluster_of new)
 LeavesServerRoom contents (CleanBegin row family) reply old new =
     IsNoFuller (cluster_of old) (cluster_of new)
-LeavesServerRoom contents (CleanStep cleaner) (kept.CleanStep done) old new =
+LeavesServerRoom contents (CleanStep cleaner) (codec.CleanStep done) old new =
     (st : State) → IsReached st → Shows contents old st
     → clean_up.TakesRoom OverfillsCluster (clean_up.ChangesNext st cleaner) done (cluster_of old)
     (cluster_of new)
-LeavesServerRoom contents (CleanStep cleaner) (kept.Refused refusal) old new =
+LeavesServerRoom contents (CleanStep cleaner) (codec.Refused refusal) old new =
     IsNoFuller (cluster_of old) (cluster_of new)
 LeavesServerRoom contents CollectBegin reply old new = IsNoFuller (cluster_of old) (cluster_of new)
 LeavesServerRoom contents (CollectStep collector n) reply old new =
@@ -106,51 +106,51 @@ LeavesServerRoom contents (CollectStep collector n) reply old new =
 LeavesServerRoom contents OracleRestart reply old new = IsNoFuller (cluster_of old) (cluster_of new)
 LeavesServerRoom contents request reply old new = ⊤
 
--- What takes no memory is told exactly: that as many sessions are active as there may be, that one
--- isn't active, that a commit has no writes, why a step that draws is refused, that a cleaner or a
--- collector isn't open, and that a number of visits is bad.
+-- What takes no memory is answered exactly: that as many sessions are active as there may be, that
+-- one isn't active, that a commit has no writes, why a step that draws is refused, that a cleaner
+-- or a collector isn't open, and that a number of visits is bad.
 abbrev pub IsAlwaysTold : Request → Reply → State → Type 0
-IsAlwaysTold Begin reply st = IsCrowded st → reply ≡ kept.Refused TooManySessions
+IsAlwaysTold Begin reply st = IsCrowded st → reply ≡ codec.Refused TooManySessions
 IsAlwaysTold (Get start row family) reply st =
-    IsInactive st start → reply ≡ kept.Refused UnknownSession
+    IsInactive st start → reply ≡ codec.Refused UnknownSession
 IsAlwaysTold (Set start row family value) reply st =
-    IsInactive st start → reply ≡ kept.Refused UnknownSession
+    IsInactive st start → reply ≡ codec.Refused UnknownSession
 IsAlwaysTold (Delete start row family) reply st =
-    IsInactive st start → reply ≡ kept.Refused UnknownSession
+    IsInactive st start → reply ≡ codec.Refused UnknownSession
 IsAlwaysTold (Step start) reply st =
-    (IsInactive st start → reply ≡ kept.Refused UnknownSession)
-    × (IsUnwritten st start → reply ≡ kept.Refused EmptyCommit)
+    (IsInactive st start → reply ≡ codec.Refused UnknownSession)
+    × (IsUnwritten st start → reply ≡ codec.Refused EmptyCommit)
     × (IsAboutToDraw st start → IfRefused IsDrawRefusal (replied reply))
-IsAlwaysTold (Stop start) reply st = IsInactive st start → reply ≡ kept.Refused UnknownSession
+IsAlwaysTold (Stop start) reply st = IsInactive st start → reply ≡ codec.Refused UnknownSession
 IsAlwaysTold (CleanStep cleaner) reply st =
-    IsUnopened st cleaner → reply ≡ kept.Refused UnknownCleaner
+    IsUnopened st cleaner → reply ≡ codec.Refused UnknownCleaner
 IsAlwaysTold (CollectStep collector n) reply st =
-    (open_collectors.IsUnopened st collector → reply ≡ kept.Refused UnknownCollector)
-    × (¬ IsCount n → (reply ≡ kept.Refused UnknownCollector) ⊎ (reply ≡ kept.Refused BadCount))
+    (open_collectors.IsUnopened st collector → reply ≡ codec.Refused UnknownCollector)
+    × (¬ IsCount n → (reply ≡ codec.Refused UnknownCollector) ⊎ (reply ≡ codec.Refused BadCount))
 IsAlwaysTold request reply st = ⊤
 
--- A begin, and a write, a deletion, a step or an end that is done, change the sessions as the machine's step
--- says. All else leaves them.
+-- A begin, and a write, a deletion, a step or an end that is done, change the sessions as the
+-- machine's step says. All else leaves them.
 abbrev pub KeepsSessions : Request → Reply → Clients → Clients → Type 0
 KeepsSessions Begin reply old new = ⊤
-KeepsSessions (Set start row family value) kept.Set old new = ⊤
-KeepsSessions (Delete start row family) kept.Delete old new = ⊤
-KeepsSessions (Step start) (kept.Step progress) old new = ⊤
-KeepsSessions (Stop start) kept.Stop old new = ⊤
+KeepsSessions (Set start row family value) codec.Set old new = ⊤
+KeepsSessions (Delete start row family) codec.Delete old new = ⊤
+KeepsSessions (Step start) (codec.Step progress) old new = ⊤
+KeepsSessions (Stop start) codec.Stop old new = ⊤
 KeepsSessions request reply old new = SameClients old new
 
 -- A beginning, and a step that is done, change the cleaners as the machine's step says. All else
 -- leaves them.
 abbrev pub KeepsCleaners : Request → Reply → Cleaners → Cleaners → Type 0
-KeepsCleaners (CleanBegin row family) (kept.CleanBegin found) old new = ⊤
-KeepsCleaners (CleanStep cleaner) (kept.CleanStep reply) old new = ⊤
+KeepsCleaners (CleanBegin row family) (codec.CleanBegin found) old new = ⊤
+KeepsCleaners (CleanStep cleaner) (codec.CleanStep reply) old new = ⊤
 KeepsCleaners request reply old new = SameCleaners old new
 
 -- A beginning, and a step, change the collectors as the machine's step says, and a step its own
 -- collector alone. A refused step keeps the visits that it made. All else leaves the collectors,
 -- and so does a step for which no collector or no visit is found.
 abbrev pub KeepsCollectors : Request → Reply → Collectors → Collectors → Type 0
-KeepsCollectors CollectBegin (kept.CollectBegin collector floor) old new = ⊤
+KeepsCollectors CollectBegin (codec.CollectBegin collector floor) old new = ⊤
 KeepsCollectors (CollectStep collector n) reply old new =
     ChangesOne collector old new
     × IfRefused (λ refusal. IsEarlyRefusal refusal → SameCollectors old new) (replied reply)

@@ -2,10 +2,10 @@
 use Rattle.std.specs.Prelude.{ℕ, List, [], Result, Ok, Err, codes}
 use Rattle.cell_key.specs.declared.refusals.Refusal.{Refusal}
 use Rattle.cell_key.specs.declared.refusals.Refusal.TheVariants.{Device, Damaged}
-use Rattle.server_loop.specs.declared.ends.End.{End}
-use Rattle.server_loop.specs.declared.ends.End.TheVariants.{Clean, Truncated, TooLarge, ReadsUsedUp}
-use Rattle.server_loop.specs.declared.ends.ServeFault.{ServeFault}
-use Rattle.server_loop.specs.declared.ends.ServeFault.TheVariants.{Read, Write, NoMemory}
+use Rattle.server_loop.specs.declared.statuses.End.{End}
+use Rattle.server_loop.specs.declared.statuses.End.TheVariants.{Clean, Truncated, TooLarge, ReadsUsedUp}
+use Rattle.server_loop.specs.declared.statuses.ServeFault.{ServeFault}
+use Rattle.server_loop.specs.declared.statuses.ServeFault.TheVariants.{Read, Write, NoMemory}
 
 abbrev pub end_status_of : Result End ServeFault → ℕ
 end_status_of (Ok Clean) = 0

@@ -12,21 +12,21 @@ use Rattle.server_loop.specs.declared.server.Server.{Server}
 abbrev pub has_full : {F : Type 0} → ℕ → ClusterState F → Bool
 has_full flush state = list_any (λ t. nat_le flush (length (memory_of t))) state.tablets
 
--- Where a server is to merge files, newest ones of each tablet that had so many or more were
--- merged, or the merge was refused, and nothing else was done.
+-- If a server is to merge files, newest ones of each tablet that had this many or more were merged,
+-- or the merge was refused, and nothing else was done.
 abbrev pub Merges : {F : Type 0} → (F → Option Contents) → (F → ℕ) → Option ℕ → ClusterState F
     → ClusterState F → Type 0
 Merges contents faults None old new = new ≡ old
 Merges contents faults (Some most) old new = MergesMany contents faults most old new
 
--- so it was where a memtable was full, and else nothing was done
+-- so it was if a memtable was full, and else nothing was done
 abbrev pub MergesWhere : {F : Type 0} → Bool → (F → Option Contents) → (F → ℕ) → Option ℕ
     → ClusterState F → ClusterState F → Type 0
 MergesWhere true contents faults merge old new = Merges contents faults merge old new
 MergesWhere false contents faults merge old new = new ≡ old
 
 -- Minor compactions of the tablets whose memtables had as many entries as the server's flush number
--- or more, and of no other, were done one after the other, or refused; and then merges, where there
+-- or more, and of no other, were done one after the other, or refused; and then merges, if there
 -- was one. The cells are as before, and so are the tablets' places, the sessions, the cleaners, the
 -- collectors and the oracle. No fault of a device was forgotten.
 pub record IsTended {F M : Type 0} (contents : F → Option Contents) (faults : F → ℕ)

@@ -10,7 +10,7 @@ impl<F: Files + Drop, M: MarkStore + Drop> Server<F, M> {
     ghost use Rattle.server_loop.specs.Answer.{IsPlainAnswer};
 
     pub(crate) fn clean_begin(&mut self, row: &[u8], family: &[u8]) -> Reply
-        ensures { IsPlainAnswer F.contents F.faults M.mark M.faults self.old
+        ensures { IsPlainAnswer F.Files M.MarkStore self.old
             (Request.CleanBegin row.entry family.entry) result self.new }
     {
         match self.cleaners.begin(&mut self.cluster, row, family) {
@@ -20,7 +20,7 @@ impl<F: Files + Drop, M: MarkStore + Drop> Server<F, M> {
     }
 
     pub(crate) fn clean_step(&mut self, cleaner: u64) -> Reply
-        ensures { IsPlainAnswer F.contents F.faults M.mark M.faults self.old
+        ensures { IsPlainAnswer F.Files M.MarkStore self.old
             (Request.CleanStep cleaner) result self.new }
     {
         match self.cleaners.step(&mut self.cluster, cleaner) {

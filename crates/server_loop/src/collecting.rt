@@ -16,7 +16,7 @@ fn collected(done: CollectReply) -> Reply
     ensures limits { KeepsToLimits result }
 {
     if let CollectReply::Blocked(cell, _) = &done {
-        // These calls tell that row and family are within their limits.
+        // These calls show that row and family are within their limits.
         let _row = cell.row.as_bytes();
         let _family = cell.family.as_bytes();
     }
@@ -27,8 +27,7 @@ impl<F: Files + Drop, M: MarkStore + Drop> Server<F, M> {
     ghost use Rattle.server_loop.specs.Answer.{IsPlainAnswer};
 
     pub(crate) fn collect_begin(&mut self) -> Reply
-        ensures { IsPlainAnswer F.contents F.faults M.mark M.faults
-            self.old Request.CollectBegin result self.new }
+        ensures { IsPlainAnswer F.Files M.MarkStore self.old Request.CollectBegin result self.new }
     {
         let floor = self.clients.floor();
         match self.collectors.begin(floor) {
@@ -38,7 +37,7 @@ impl<F: Files + Drop, M: MarkStore + Drop> Server<F, M> {
     }
 
     pub(crate) fn collect_step(&mut self, collector: u64, visits: u32) -> Reply
-        ensures { IsPlainAnswer F.contents F.faults M.mark M.faults
+        ensures { IsPlainAnswer F.Files M.MarkStore
             self.old (Request.CollectStep collector visits) result self.new }
     {
         match self.collectors.step(&mut self.cluster, collector, visits) {

@@ -2,7 +2,7 @@
 
 ghost use Rattle.std.specs.Prelude.{◌≤◌, IfOk, IfSome};
 
-use crate::words::{DEFAULT_FLUSH, MOST_FLUSH, MOST_MERGE, Options};
+use crate::command_options::{DEFAULT_FLUSH, MOST_FLUSH, MOST_MERGE, Options};
 use clap::builder::ValueParser;
 use clap::{Arg, ArgAction, Command, Error};
 use std::alloc::Global;

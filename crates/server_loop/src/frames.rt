@@ -6,7 +6,7 @@ ghost use Rattle.request_codec.specs.Replies.{replied, reply_body};
 ghost use Rattle.request_codec.specs.Stream.{frame};
 ghost use Rattle.server_loop.specs.Runs.{KeepsToLimits};
 
-use crate::ends::{End, ServeFault};
+use crate::statuses::{End, ServeFault};
 use request_codec::{LONGEST_REPLY, Reply, encode_reply, reply_length};
 use std::io::Write;
 

@@ -1,21 +1,23 @@
 //! The server: a stream of framed requests is answered, reply by reply, as a run of the snapshot machine.
 #![tactic(auto)]
 
+mod audit;
 mod cleaning;
 mod collecting;
 mod command_line;
-mod ends;
+mod command_options;
 mod frames;
 mod laws;
 mod opening;
 mod server;
 mod serving;
 mod sessions;
+mod statuses;
 mod upkeep;
-mod words;
 
+pub use audit::Audit;
 pub use command_line::options;
-pub use ends::{End, ServeFault, end_status, open_status};
+pub use command_options::{DEFAULT_FLUSH, MOST_FLUSH, MOST_MERGE, Options};
 pub use laws::{resting_is_kept, rests_between};
 pub use server::{Config, Server};
-pub use words::{DEFAULT_FLUSH, MOST_FLUSH, MOST_MERGE, Options};
+pub use statuses::{End, ServeFault, end_status, open_status};

@@ -16,16 +16,16 @@ use std::alloc::Global;
 impl<F: Files + Drop, M: MarkStore + Drop> Server<F, M> {
     ghost use Rattle.server_loop.specs.Opening.{IsLost, LacksRoot};
     ghost use Rattle.server_loop.specs.Resting.{KeepsState, RestsAt};
-    ghost use Rattle.server_loop.specs.Server.{Shows, cluster_of, tending_of, last_of, marks_of};
+    ghost use Rattle.server_loop.specs.Server.{IsConfig, Shows, cluster_of, tending_of, last_of, marks_of};
 
     /// A server over what these files and this mark store keep. Without a root file it is a new
     /// store. Sessions, cleaners and collectors are forgotten, and nothing else.
     ///
     /// # Errors
     ///
-    /// `Damaged` where the root file is out of form, where a file that it names is missing or out of
-    /// form, or where the mark is below the greatest stamp that the root tells; `NoMemory` where a
-    /// growth was refused, and `Device` where the files or the mark cannot be read. The files and the
+    /// `Damaged` if the root file is out of form, if a file that it names is missing or out of
+    /// form, or if the mark is below the greatest stamp that the root names; `NoMemory` if a
+    /// growth was refused, and `Device` if the files or the mark cannot be read. The files and the
     /// mark store are given back.
     pub fn open(
         alloc: Global,
@@ -33,17 +33,14 @@ impl<F: Files + Drop, M: MarkStore + Drop> Server<F, M> {
         marks: M,
         config: Config,
     ) -> Result<Server<F, M>, (Refusal, F, M)>
-        requires flush_least { 1 ≤ config.flush }
-        requires flush_most { config.flush ≤ 100000 }
-        requires limit_least { 48 ≤ config.file_limit }
-        requires limit_most { config.file_limit ≤ 68_719_476_736 }
+        requires config { IsConfig config }
         // A state that they keep is shown, after a clean restart, and they keep it still.
         ensures kept { (st : State) → KeepsState F.contents M.mark files marks st
             → MatchResult result (λ server. RestsAt F.contents M.mark server (reopened st))
             (λ refused. refused.0 ≢ Refusal.Damaged) }
         ensures new { LacksRoot (F.contents files) → IfOk result (λ server.
             Shows F.contents server new_machine) }
-        // Damage is told where there is some, as far as the files and the mark tell it.
+        // `Damaged` is answered if there is damage, as far as the files and the mark are known.
         ensures whole { IfOk result (λ _. IfSome (F.contents files) (λ m.
             IfSome (M.mark marks) (λ mark. ¬ IsLost m mark))) }
         ensures damaged { IfErr result (λ refused. refused.0 ≡ Refusal.Damaged
@@ -51,13 +48,13 @@ impl<F: Files + Drop, M: MarkStore + Drop> Server<F, M> {
         ensures files { IfOk result (λ server.
             F.contents (cluster_of server).files ≡ F.contents files) }
         ensures limit { IfOk result (λ server. (cluster_of server).file_limit ≡ config.file_limit) }
-        // Where the mark is told, the oracle goes on from it.
+        // If the mark is known, the oracle goes on from it.
         ensures last { IfOk result (λ server.
             IfSome (M.mark marks) (λ mark. last_of server ≡ mark)) }
         ensures mark { IfOk result (λ server. M.mark (marks_of server) ≡ M.mark marks) }
         ensures tending { IfOk result (λ server.
             tending_of server ≡ record { flush = config.flush; merge = None }) }
-        // Where it is not refused with Device, both counts of faults are as before.
+        // If it is not refused with Device, both counts of faults are as before.
         ensures told { MatchResult result
             (λ server. (F.faults (cluster_of server).files ≡ F.faults files)
             × (M.faults (marks_of server) ≡ M.faults marks))
@@ -67,8 +64,8 @@ impl<F: Files + Drop, M: MarkStore + Drop> Server<F, M> {
         ensures device { IfErr result (λ refused. refused.0 ≡ Refusal.Device
             → HasRisen (F.faults files) (F.faults refused.1)
             ⊎ HasRisen (M.faults marks) (M.faults refused.2)) }
-        ensures returned { IfErr result (λ refused. F.contents refused.1 ≡ F.contents files) }
-        ensures marks { IfErr result (λ refused. M.mark refused.2 ≡ M.mark marks) }
+        ensures returned { IfErr result (λ refused.
+            (F.contents refused.1 ≡ F.contents files) × (M.mark refused.2 ≡ M.mark marks)) }
         ensures unread { IfErr result (λ refused.
             refused.0 ≡ Refusal.NoMemory → refused.2 ≡ marks) }
     {

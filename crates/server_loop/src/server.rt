@@ -6,8 +6,8 @@ ghost use Rattle.row_atomic.specs.Clusters.{IsFirstTablet};
 ghost use Rattle.server_loop.specs.Serve.{Serves, ServesStream};
 ghost use Rattle.si_model.specs.Machine.{State, new_machine};
 
-use crate::ends::{End, ServeFault};
 use crate::serving::{Answering, serve_all};
+use crate::statuses::{End, ServeFault};
 use cell_key::{MOST_STAMP, Refusal, Stamp};
 use clean_up::Cleaners;
 use file_store::Files;
@@ -57,7 +57,7 @@ pub struct Server<F, M: MarkStore> {
 
 impl<F: Files + Drop, M: MarkStore + Drop> Server<F, M> {
     ghost use Rattle.server_loop.specs.Answer.{DrawsStamps, IsAnswer, IsMachineStep, IsPlainAnswer, MakesEdits, ServesSessions, TellsCauses, TendsTablets};
-    ghost use Rattle.server_loop.specs.Server.{Shows, ShowsNoSession, cluster_of, tending_of, last_of, marks_of};
+    ghost use Rattle.server_loop.specs.Server.{IsConfig, Shows, ShowsNoSession, cluster_of, tending_of, last_of, marks_of};
     ghost use Rattle.row_atomic.specs.Flushes.{KeepsShown};
     ghost use Rattle.server_loop.specs.Resting.{KeepsResting};
     ghost use Rattle.server_loop.specs.Tending.{IsTended, Merges};
@@ -98,7 +98,7 @@ impl<F: Files + Drop, M: MarkStore + Drop> Server<F, M> {
     ///
     /// # Errors
     ///
-    /// `NoMemory` where a growth was refused, and `Device` where the mark cannot be read. The files and the mark store
+    /// `NoMemory` if a growth was refused, and `Device` if the mark cannot be read. The files and the mark store
     /// are given back.
     pub fn new(
         alloc: Global,
@@ -106,17 +106,14 @@ impl<F: Files + Drop, M: MarkStore + Drop> Server<F, M> {
         marks: M,
         config: Config,
     ) -> Result<Server<F, M>, (Refusal, F, M)>
-        requires flush_least { 1 ≤ config.flush }
-        requires flush_most { config.flush ≤ 100000 }
-        requires limit_least { 48 ≤ config.file_limit }
-        requires limit_most { config.file_limit ≤ 68_719_476_736 }
+        requires config { IsConfig config }
         ensures new { IsSome (F.contents files) → IfOk result (λ server.
             Shows F.contents server new_machine) }
         ensures kept { IfOk result (λ server. (cluster_of server).files ≡ files) }
         ensures name { IfOk result (λ server. (cluster_of server).next_name ≡ 1) }
         // One tablet, whose memtable is empty.
         ensures tablet { IfOk result (λ server. IsFirstTablet (cluster_of server).tablets) }
-        // Where the mark is told, the oracle goes on from it.
+        // If the mark is known, the oracle goes on from it.
         ensures last { IfOk result (λ server.
             IfSome (M.mark marks) (λ mark. last_of server ≡ mark)) }
         ensures mark { IfOk result (λ server. M.mark (marks_of server) ≡ M.mark marks) }
@@ -143,8 +140,8 @@ impl<F: Files + Drop, M: MarkStore + Drop> Server<F, M> {
         }
     }
 
-    /// From now on, after `serve` has compacted a tablet, newest files are merged of each tablet that has `most` files or
-    /// more, so that it has fewer. A refusal is not told. Without this call files are merged where that is asked for alone.
+    /// From now on, after `serve` has compacted a tablet, newest files are merged of each tablet that has `most` files
+    /// or more, so that it has fewer. A refusal is not reported. Without this call files are merged only on request.
     pub fn merge_at(&mut self, most: u32)
         ensures { self.new
             ≡ record self.old { tending = record (tending_of self.old) { merge = Some most } } }
@@ -152,7 +149,7 @@ impl<F: Files + Drop, M: MarkStore + Drop> Server<F, M> {
         self.tending.merge = Some(most);
     }
 
-    /// Merges newest files of the tablets that have many, where that is to be done.
+    /// Merges newest files of the tablets that have many, if that is to be done.
     fn merge_files(&mut self)
         ensures merges { Merges F.contents F.faults (tending_of self.old).merge
             (cluster_of self.old) (cluster_of self.new) }
@@ -166,8 +163,7 @@ impl<F: Files + Drop, M: MarkStore + Drop> Server<F, M> {
 
     /// Takes a request to the function that answers it.
     fn take(&mut self, request: Request<'_>) -> Reply
-        ensures { IsPlainAnswer F.contents F.faults M.mark M.faults
-            self.old request.entry result self.new }
+        ensures { IsPlainAnswer F.Files M.MarkStore self.old request.entry result self.new }
     {
         match request {
             Request::Begin => self.begin(),
@@ -239,14 +235,14 @@ impl<F: Files + Drop, M: MarkStore + Drop> Server<F, M> {
         writer: &mut O,
         most_reads: u64,
     ) -> Result<End, ServeFault>
-        ensures served { Serves (Shows F.contents) (IsAnswer F.contents F.faults M.mark M.faults)
+        ensures served { Serves (Shows F.contents) (IsAnswer F.Files M.MarkStore)
             (IsTended F.contents F.faults) self.old self.new (I.remaining reader.old)
             (I.remaining reader.new)
             (O.contents writer.old) (O.contents writer.new) most_reads result }
-        // Where the reader's bytes are known, the end is that of the whole stream.
+        // If the reader's bytes are known, the end is that of the whole stream.
         ensures whole { IfSome (I.remaining reader.old) (λ stream.
             IfOk result (λ end. end ≢ End.ReadsUsedUp
-            → ServesStream (Shows F.contents) (IsAnswer F.contents F.faults M.mark M.faults)
+            → ServesStream (Shows F.contents) (IsAnswer F.Files M.MarkStore)
             (IsTended F.contents F.faults) self.old self.new
             stream (O.contents writer.old) (O.contents writer.new) end)) }
     {
@@ -262,7 +258,7 @@ impl<F: Files + Drop, M: MarkStore + Drop> Answering for Server<F, M> {
 
     ghost shows = { Shows F.contents };
 
-    ghost says = { IsAnswer F.contents F.faults M.mark M.faults };
+    ghost says = { IsAnswer F.Files M.MarkStore };
 
     ghost between = { IsTended F.contents F.faults };
 
@@ -271,7 +267,7 @@ impl<F: Files + Drop, M: MarkStore + Drop> Answering for Server<F, M> {
         root_is_stored::<F>();
         root_stays::<F>();
         let reply = self.take(request);
-        // This call tells that the last stamp is within the mark.
+        // This call shows that the last stamp is within the mark.
         let _last = self.oracle.last();
         reply
     }

@@ -4,14 +4,14 @@ ghost use Rattle.std.specs.Prelude.{◌≡◌, ◌≤◌, ◌<◌, ◌++◌, ◌
 ghost use Rattle.si_model.specs.Machine.{State};
 ghost use Rattle.request_codec.specs.Replies.{replied, reply_body};
 ghost use Rattle.request_codec.specs.Stream.{IsPartial};
-ghost use Rattle.request_codec.specs.declared.replies.Reply.{Reply as Kept};
+ghost use Rattle.request_codec.specs.declared.replies.Reply.{Reply as CodecReply};
 ghost use Rattle.request_codec.specs.declared.requests.Request.{Request as Lent};
 ghost use Rattle.request_codec.specs.Requests.{asked};
 ghost use Rattle.server_loop.specs.Runs.{StepsAs, RunsAs, SaysOf, Body, KeepsToLimits};
 ghost use Rattle.server_loop.specs.Serve.{Serves, Delivers, HandlesFirst, HandlesTo, IsRest, ReadsOn};
 
-use crate::ends::{End, ServeFault};
 use crate::frames::{finish, flush, send};
+use crate::statuses::{End, ServeFault};
 use cell_key::Refusal;
 use request_codec::{Framer, LONGEST_REPLY, Next, Reply, Request, decode_request};
 use std::alloc::{AllocError, Global};
@@ -35,7 +35,7 @@ pub(crate) trait Answering {
     ghost shows: { Self → State → Type 0 };
 
     /// What is said of an answer, over what answers as it was and as it is.
-    ghost says: { Self → Lent → Kept → Self → Type 0 };
+    ghost says: { Self → Lent → CodecReply → Self → Type 0 };
 
     /// What comes between one answer and the next, over what answers as it was and as it is.
     ghost between: { Self → Self → Type 0 };
@@ -52,7 +52,7 @@ pub(crate) trait Answering {
         ensures shown { (st : State) → shows self.old st → shows self.new st };
 }
 
-/// So many zeros. The size is a parameter, so that no proof computes a list of a million.
+/// A vector of zeros. The size is a parameter, so that no proof computes a list of a million.
 fn zeros(alloc: Global, size: usize) -> Result<Vec<u8>, AllocError>
     ensures { IfOk result (λ v. length v.items ≡ size) }
 {
@@ -93,7 +93,7 @@ fn deliver<A: Answering, W: Write>(
     }
 }
 
-/// Answers what stands first among the bytes taken, and writes the reply to its end. `None` where that was a whole frame.
+/// Answers what stands first among the bytes taken, and writes the reply to its end. `None` if that was a whole frame.
 fn answer_first<A: Answering, W: Write>(
     server: &mut A,
     framer: &mut Framer,
@@ -165,7 +165,7 @@ fn serve_piece<A: Answering, W: Write>(
     Ok(Rest::Partial)
 }
 
-/// Reads once, after what was written has left the writer, and answers each whole frame. `None` where the input goes on.
+/// Reads once, after what was written has left the writer, and answers each whole frame. `None` if the input goes on.
 fn serve_read<A: Answering, R: Read, W: Write>(
     server: &mut A,
     framer: &mut Framer,
@@ -199,7 +199,7 @@ fn serve_read<A: Answering, R: Read, W: Write>(
     }
 }
 
-/// Serves requests in frames until the input ends, and at most so many reads of it. The buffers are taken first.
+/// Serves requests in frames until the input ends, and at most `most_reads` reads of it. The buffers are taken first.
 pub(crate) fn serve_all<A: Answering, R: Read, W: Write>(
     alloc: Global,
     server: &mut A,

@@ -10,8 +10,7 @@ impl<F: Files + Drop, M: MarkStore + Drop> Server<F, M> {
     ghost use Rattle.server_loop.specs.Answer.{IsPlainAnswer};
 
     pub(crate) fn begin(&mut self) -> Reply
-        ensures { IsPlainAnswer F.contents F.faults M.mark M.faults self.old
-            Request.Begin result self.new }
+        ensures { IsPlainAnswer F.Files M.MarkStore self.old Request.Begin result self.new }
     {
         match self.clients.begin(&mut self.oracle) {
             Ok(start) => Reply::Begin(start),
@@ -20,7 +19,7 @@ impl<F: Files + Drop, M: MarkStore + Drop> Server<F, M> {
     }
 
     pub(crate) fn get(&mut self, start: Stamp, row: &[u8], family: &[u8]) -> Reply
-        ensures { IsPlainAnswer F.contents F.faults M.mark M.faults self.old
+        ensures { IsPlainAnswer F.Files M.MarkStore self.old
             (Request.Get start row.entry family.entry) result self.new }
     {
         match self.clients.get(&mut self.cluster, start, row, family) {
@@ -30,7 +29,7 @@ impl<F: Files + Drop, M: MarkStore + Drop> Server<F, M> {
     }
 
     pub(crate) fn set(&mut self, start: Stamp, row: &[u8], family: &[u8], value: &[u8]) -> Reply
-        ensures { IsPlainAnswer F.contents F.faults M.mark M.faults self.old
+        ensures { IsPlainAnswer F.Files M.MarkStore self.old
             (Request.Set start row.entry family.entry value.entry) result self.new }
     {
         match self.clients.set(start, row, family, value) {
@@ -40,7 +39,7 @@ impl<F: Files + Drop, M: MarkStore + Drop> Server<F, M> {
     }
 
     pub(crate) fn delete(&mut self, start: Stamp, row: &[u8], family: &[u8]) -> Reply
-        ensures { IsPlainAnswer F.contents F.faults M.mark M.faults self.old
+        ensures { IsPlainAnswer F.Files M.MarkStore self.old
             (Request.Delete start row.entry family.entry) result self.new }
     {
         match self.clients.delete(start, row, family) {
@@ -50,8 +49,7 @@ impl<F: Files + Drop, M: MarkStore + Drop> Server<F, M> {
     }
 
     pub(crate) fn step(&mut self, start: Stamp) -> Reply
-        ensures { IsPlainAnswer F.contents F.faults M.mark M.faults self.old
-            (Request.Step start) result self.new }
+        ensures { IsPlainAnswer F.Files M.MarkStore self.old (Request.Step start) result self.new }
     {
         match self
             .clients
@@ -63,8 +61,7 @@ impl<F: Files + Drop, M: MarkStore + Drop> Server<F, M> {
     }
 
     pub(crate) fn stop(&mut self, start: Stamp) -> Reply
-        ensures { IsPlainAnswer F.contents F.faults M.mark M.faults self.old
-            (Request.Stop start) result self.new }
+        ensures { IsPlainAnswer F.Files M.MarkStore self.old (Request.Stop start) result self.new }
     {
         match self.clients.stop(start) {
             Ok(()) => Reply::Stop,
@@ -73,8 +70,7 @@ impl<F: Files + Drop, M: MarkStore + Drop> Server<F, M> {
     }
 
     pub(crate) fn restart(&mut self) -> Reply
-        ensures { IsPlainAnswer F.contents F.faults M.mark M.faults self.old
-            Request.OracleRestart result self.new }
+        ensures { IsPlainAnswer F.Files M.MarkStore self.old Request.OracleRestart result self.new }
     {
         match self.oracle.restart() {
             Ok(()) => Reply::OracleRestart,

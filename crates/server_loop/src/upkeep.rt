@@ -11,7 +11,7 @@ impl<F: Files + Drop, M: MarkStore + Drop> Server<F, M> {
     ghost use Rattle.server_loop.specs.Answer.{IsPlainAnswer};
 
     pub(crate) fn minor(&mut self, tablet: u32) -> Reply
-        ensures { IsPlainAnswer F.contents F.faults M.mark M.faults self.old
+        ensures { IsPlainAnswer F.Files M.MarkStore self.old
             (Request.Minor tablet) result self.new }
     {
         match self.cluster.minor(tablet) {
@@ -21,7 +21,7 @@ impl<F: Files + Drop, M: MarkStore + Drop> Server<F, M> {
     }
 
     pub(crate) fn merge(&mut self, tablet: u32, count: u32) -> Reply
-        ensures { IsPlainAnswer F.contents F.faults M.mark M.faults self.old
+        ensures { IsPlainAnswer F.Files M.MarkStore self.old
             (Request.Merge tablet count) result self.new }
     {
         match self.cluster.merge(tablet, count) {
@@ -31,7 +31,7 @@ impl<F: Files + Drop, M: MarkStore + Drop> Server<F, M> {
     }
 
     pub(crate) fn major(&mut self, tablet: u32) -> Reply
-        ensures { IsPlainAnswer F.contents F.faults M.mark M.faults self.old
+        ensures { IsPlainAnswer F.Files M.MarkStore self.old
             (Request.Major tablet) result self.new }
     {
         match self.cluster.major(tablet) {
@@ -41,7 +41,7 @@ impl<F: Files + Drop, M: MarkStore + Drop> Server<F, M> {
     }
 
     pub(crate) fn split(&mut self, row: &[u8]) -> Reply
-        ensures { IsPlainAnswer F.contents F.faults M.mark M.faults self.old
+        ensures { IsPlainAnswer F.Files M.MarkStore self.old
             (Request.Split row.entry) result self.new }
     {
         let row = match Row::new(self.alloc, row) {
@@ -55,7 +55,7 @@ impl<F: Files + Drop, M: MarkStore + Drop> Server<F, M> {
     }
 
     pub(crate) fn move_to(&mut self, tablet: u32, server: u8) -> Reply
-        ensures { IsPlainAnswer F.contents F.faults M.mark M.faults self.old
+        ensures { IsPlainAnswer F.Files M.MarkStore self.old
             (Request.Move tablet server) result self.new }
     {
         match self.cluster.move_to(tablet, server) {
@@ -65,8 +65,7 @@ impl<F: Files + Drop, M: MarkStore + Drop> Server<F, M> {
     }
 
     pub(crate) fn sweep(&mut self) -> Reply
-        ensures { IsPlainAnswer F.contents F.faults M.mark M.faults self.old
-            Request.Sweep result self.new }
+        ensures { IsPlainAnswer F.Files M.MarkStore self.old Request.Sweep result self.new }
     {
         match self.cluster.sweep() {
             Ok(count) => Reply::Sweep(count),
@@ -75,8 +74,7 @@ impl<F: Files + Drop, M: MarkStore + Drop> Server<F, M> {
     }
 
     pub(crate) fn checkpoint(&mut self) -> Reply
-        ensures { IsPlainAnswer F.contents F.faults M.mark M.faults self.old
-            Request.Checkpoint result self.new }
+        ensures { IsPlainAnswer F.Files M.MarkStore self.old Request.Checkpoint result self.new }
     {
         let top = self.clients.top();
         let floor = self.collectors.greatest_floor();
@@ -94,7 +92,7 @@ impl<F: Files + Drop, M: MarkStore + Drop> Server<F, M> {
         lo: Stamp,
         hi: Stamp,
     ) -> Reply
-        ensures { IsPlainAnswer F.contents F.faults M.mark M.faults self.old
+        ensures { IsPlainAnswer F.Files M.MarkStore self.old
             (Request.Raw row.entry family.entry qualifier lo hi) result self.new }
     {
         let row = match Row::new(self.alloc, row) {

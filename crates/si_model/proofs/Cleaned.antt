@@ -13,7 +13,7 @@ use Rattle.si_model.specs.Scripts.{bob, joe, RolledBackTransfer, CommitPoint, Lo
 use Rattle.si_model.proofs.Tools.{each_cons, get_other, each_remove}
 use Rattle.si_model.proofs.FirstRefusals.{collect_unknown_first}
 use Rattle.si_model.proofs.Acceptable.{get_ok, advance_ok, stop_ok, clean_begin_ok, clean_step_ok, collect_begin_ok, collect_step_ok}
-use Rattle.si_model.proofs.Scripts.{IsCell, bob_is, joe_is, joe_not_bob, begin_step, set_step, first_hold_step, get_step, commit_step, finish_step, ended_step, leaves_only, leaves_last, no_marks, other_mark, other_commit, run_append, newest}
+use Rattle.si_model.proofs.ScriptSteps.{IsCell, bob_is, joe_is, joe_not_bob, begin_step, set_step, first_hold_step, get_step, commit_step, finish_step, ended_step, leaves_only, leaves_last, no_marks, other_mark, other_commit, run_append, newest}
 use Rattle.si_model.proofs.Transfers.{before, stamped, fills, sees, moves, old_bob, old_joe}
 
 -- the writes of the transfer

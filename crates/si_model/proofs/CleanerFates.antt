@@ -4,11 +4,13 @@ use Rattle.std.proofs.lemmas.Bool.{cases_eq, cases_lt}
 use Rattle.std.proofs.lemmas.Option.{none-some}
 use Rattle.cell_key.specs.Cells.{Cells}
 use Rattle.cell_key.specs.declared.keys.Qualifier.TheVariants.{Lock, Write}
+use Rattle.cell_key.specs.Columns.{IsRecordText}
+use Rattle.cell_key.proofs.RecordTexts.{same_start}
 use Rattle.si_model.specs.Sets.{◌∈◌, here, there}
 use Rattle.si_model.specs.Laws.{Goes, FateOf}
 use Rattle.si_model.specs.Machine.{State, Commit, Names, Marked, IsCommitted, IsReached, Writes, Open, Puts, Request, Reply, Step}
 use Rattle.si_model.specs.declared.replies.Cell.{Cell}
-use Rattle.si_model.specs.ShowsCells.{at, IsThere, IsRecordText, NamesAt, ShowsCells, kind_of_change}
+use Rattle.si_model.specs.ShowsCells.{at, IsThere, NamesAt, ShowsCells, kind_of_change}
 use Rattle.si_model.specs.Enduring.{HaveTried, Endures}
 use Rattle.si_model.specs.Collection.{NamesNearest}
 use Rattle.si_model.specs.Deciding.{FirstTells, Verdict, NotYet, Forward, Back, IsRight, CleanersKnow}
@@ -19,7 +21,6 @@ use Rattle.si_model.proofs.Bounds.{reached_bounds}
 use Rattle.si_model.proofs.Fates.{fate_seen}
 use Rattle.si_model.proofs.Goes.{goes}
 use Rattle.si_model.proofs.LastingMarks.{have_tried, endures}
-use Rattle.si_model.proofs.RecordTexts.{same_start}
 
 -- a start has one commit
 pub one_commit : (cs : List Commit) → StartsDiffer cs → (a b : Commit) → a ∈ cs → b ∈ cs → a.start ≡ b.start → a ≡ b

@@ -8,18 +8,20 @@ use Rattle.cell_key.specs.Places.{Place}
 use Rattle.cell_key.specs.declared.keys.CellKey.{CellKey}
 use Rattle.cell_key.specs.declared.keys.Qualifier.{Qualifier}
 use Rattle.cell_key.specs.declared.keys.Qualifier.TheVariants.{Data, Lock, Write}
+use Rattle.cell_key.specs.Columns.{IsRecordText, record_text}
+use Rattle.cell_key.proofs.RecordTexts.{same_start, same_write}
+use Rattle.cell_key.specs.declared.columns.WriteKind.TheVariants as write
 use Rattle.si_model.specs.Sets.{◌∈◌, here, there}
 use Rattle.si_model.specs.Machine.{State, Change, Commit, Gives, Names, Wrote, Writes, Marked, IsReached}
-use Rattle.si_model.specs.declared.cells.WriteKind.TheVariants as write
 use Rattle.si_model.specs.declared.replies.Cell.{Cell}
-use Rattle.si_model.specs.ShowsCells.{at, key_of, IsThere, IsRecordText, IsReplaced, MayLack, NamesAt, ShowsCells, kind_of_change, record_text}
+use Rattle.si_model.specs.ShowsCells.{at, key_of, IsThere, IsReplaced, MayLack, NamesAt, ShowsCells, kind_of_change}
 use Rattle.si_model.specs.Collection.{Collects, IsNamed, IsTidy, IsUnmarkedBelow, Pass, FirstPass, SecondPass, HasCome, collected_cells, dropped_cells, forgotten_cells, IsOld, IsOldestDeletion, MayEraseBelow, HasNoNewKey, StaysShown}
 use Rattle.si_model.proofs.ShownAt.{cases_key, erased_at, erased_off, key_cell, key_stamp, no_lock_data, no_lock_write, no_data_write, no_write_data}
 use Rattle.si_model.proofs.Steps.{reached_sound}
 use Rattle.si_model.proofs.Bounds.{reached_bounds}
 use Rattle.si_model.proofs.CleanerFates.{one_commit}
-use Rattle.si_model.proofs.RecordTexts.{same_start, same_write, is_deletion}
 use Rattle.si_model.proofs.Tools.{one_change, same_entry}
+use Rattle.si_model.proofs.ChangeKinds.{is_deletion}
 
 module _ (cells cells' : Cells) (st : State) (shown : ShowsCells cells st) (gone : Collects cells cells' st) where
   record_was : (x : Cell) (c : ℕ) (b : List ℕ) → at cells' x Write c ≡ Some b → at cells x Write c ≡ Some b

@@ -12,10 +12,11 @@ use Rattle.cell_key.specs.Cells.{Cells}
 use Rattle.cell_key.specs.Places.{Place, place_cmp, HasCell, IsAfter, IsNextCell}
 use Rattle.cell_key.specs.declared.keys.Qualifier.{Qualifier}
 use Rattle.cell_key.specs.declared.keys.Qualifier.TheVariants.{Data, Lock, Write}
+use Rattle.cell_key.specs.Columns.{lock_text, record_text}
+use Rattle.cell_key.specs.declared.columns.WriteKind.{WriteKind}
 use Rattle.si_model.specs.Machine.{State, Change, Stamped, InPhase, Marked, CommittedAt, IsReached}
 use Rattle.si_model.specs.declared.replies.Cell.{Cell}
-use Rattle.si_model.specs.declared.cells.WriteKind.{WriteKind}
-use Rattle.si_model.specs.ShowsCells.{at, key_of, IsThere, ShowsCells, lock_text, record_text, kind_of_change, changed_cells, held_cells, recorded_cells, erased_cells}
+use Rattle.si_model.specs.ShowsCells.{at, key_of, IsThere, ShowsCells, kind_of_change, changed_cells, held_cells, recorded_cells, erased_cells}
 use Rattle.si_model.specs.Enduring.{Endures}
 use Rattle.si_model.specs.Collection.{IsUnmarkedBelow, IsTidy, place_at, Pass, FirstPass, SecondPass, HasCome, ComesFurther, ComeStays, ChangesCells, unchanged, locks_cell, records_commit, erases_lock, erases_versions}
 use Rattle.si_model.proofs.Left.{exact_places, place_cmp_total}
@@ -151,10 +152,10 @@ module _ (cells : Cells) (st st' : State) (floor : ℕ) (low : floor ≤ st.floo
   })
     where
       write_off : (x : Cell) (c : ℕ) → at (held_cells cells y t v first) x Write c ≡ at cells x Write c
-      write_off x c = put_off (changed_cells cells y t v) (key_of y Lock t) (lock_text first (kind_of_change v)) (key_of x Write c) (no_write_lock x y c t) ∙ changed_off cells y t v (key_of x Write c) (no_write_data x y c t)
+      write_off x c = put_off (changed_cells cells y t v) (key_of y Lock t) (lock_text first.row first.family (kind_of_change v)) (key_of x Write c) (no_write_lock x y c t) ∙ changed_off cells y t v (key_of x Write c) (no_write_data x y c t)
 
       data_off : (x : Cell) (u : ℕ) → key_of x Data u ≢ key_of y Data t → at (held_cells cells y t v first) x Data u ≡ at cells x Data u
-      data_off x u ne = put_off (changed_cells cells y t v) (key_of y Lock t) (lock_text first (kind_of_change v)) (key_of x Data u) (no_data_lock x y u t) ∙ changed_off cells y t v (key_of x Data u) ne
+      data_off x u ne = put_off (changed_cells cells y t v) (key_of y Lock t) (lock_text first.row first.family (kind_of_change v)) (key_of x Data u) (no_data_lock x y u t) ∙ changed_off cells y t v (key_of x Data u) ne
 
   -- a lock gives way to its record, which is younger
   come_recorded : (y : Cell) (t c : ℕ) (kind : WriteKind) → Marked st y t → t < c → at cells y Write c ≡ None → (pass : Pass) (after : Option Place) → HasCome cells st floor pass after → HasCome (recorded_cells cells y t c kind) st' floor pass after

@@ -6,7 +6,7 @@ use Rattle.si_model.specs.Machine.{Writes, Commit, Names, goes_on, rests, append
 use Rattle.si_model.specs.Scripts.{bob, DeletedCell}
 use Rattle.si_model.proofs.Tools.{each_cons}
 use Rattle.si_model.proofs.Acceptable.{get_ok}
-use Rattle.si_model.proofs.Scripts.{bob_is, begin_step, set_step, delete_step, get_step, first_hold_step, draw_step, commit_step, leaves_only, no_marks, newest}
+use Rattle.si_model.proofs.ScriptSteps.{bob_is, begin_step, set_step, delete_step, get_step, first_hold_step, draw_step, commit_step, leaves_only, no_marks, newest}
 
 abbrev given : Writes
 given = (bob, Some (codes "v")) ∷ []

@@ -10,10 +10,11 @@ use Rattle.std.specs.Prelude.{is_some}
 use Rattle.std.specs.FinMap.{entries, get, contains_key, contains_key-keys, get-from_entries, get-retain_keys, retain_keys}
 use Rattle.std.specs.FinMap.Entries.{is_some-find}
 use Rattle.std.specs.FinMap.{nat_cmp-IsAntisymmetric, slice_cmp-IsAntisymmetric}
-use Rattle.cell_key.specs.Keys.{byte_cmp, both_Equal, key_cmp, key_cmp_total, exact_keys}
+use Rattle.cell_key.specs.Keys.{byte_cmp, key_cmp, key_cmp_total}
 use Rattle.cell_key.specs.Cells.{Cells}
 use Rattle.cell_key.specs.Places.{Place, place_of, place_cmp, HasCell, IsAfter}
 use Rattle.cell_key.specs.declared.keys.CellKey.{CellKey}
+use Rattle.cell_key.proofs.KeyLaws.{both_Equal, exact_keys}
 use Rattle.si_model.specs.Collection.{Pass, FirstPass, SecondPass, places_of, comes_after, cells_after, left_of, LeftFalls}
 use Rattle.si_model.proofs.Fewer.{IsWithin, few, fewer}
 

@@ -1,11 +1,12 @@
 mod Cleaned
 mod Deletions
 mod Races
-mod Scripts
+mod ScriptSteps
 mod TabletScript
 mod Transfers
 pub mod Acceptable
 pub mod Bounds
+pub mod ChangeKinds
 pub mod ChangedParts
 pub mod CleanerFates
 pub mod Collected
@@ -24,7 +25,6 @@ pub mod LastingMarks
 pub mod Left
 pub mod Limits
 pub mod Numbers
-pub mod RecordTexts
 pub mod Refusals
 pub mod ShownAt
 pub mod ShownKept

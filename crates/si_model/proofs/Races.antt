@@ -6,7 +6,7 @@ use Rattle.si_model.specs.declared.replies.Cell.{Cell}
 use Rattle.si_model.specs.Machine.{Writes, goes_on, rests, appends}
 use Rattle.si_model.specs.Scripts.{bob, joe, WriteSkew, FirstHolder, YoungerFirst}
 use Rattle.si_model.proofs.Tools.{each_cons}
-use Rattle.si_model.proofs.Scripts.{bob_is, joe_is, bob_not_joe, joe_not_bob, begin_step, reads_both, set_step, first_hold_step, conflict_step, draw_step, commit_step, ended_step, leaves_only, leaves_last, no_marks, other_mark, run_append, newest, skips}
+use Rattle.si_model.proofs.ScriptSteps.{bob_is, joe_is, bob_not_joe, joe_not_bob, begin_step, reads_both, set_step, first_hold_step, conflict_step, draw_step, commit_step, ended_step, leaves_only, leaves_last, no_marks, other_mark, run_append, newest, skips}
 use Rattle.si_model.proofs.Transfers.{fills}
 
 abbrev one : Writes

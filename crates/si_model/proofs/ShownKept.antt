@@ -5,11 +5,12 @@ use Rattle.std.specs.FinMap.{get, insert, remove, get-empty}
 use Rattle.std.specs.Ordering.{nat_cmp}
 use Rattle.cell_key.specs.Cells.{Cells}
 use Rattle.cell_key.specs.declared.keys.Qualifier.TheVariants.{Data, Lock, Write}
+use Rattle.cell_key.specs.Columns.{lock_text, record_text, IsRecordText}
 use Rattle.si_model.specs.Sets.{◌∈◌, IsWithout}
 use Rattle.si_model.specs.Laws.{Goes, IsCleared}
 use Rattle.si_model.specs.Machine.{reopened, State, Change, Writes, Commit, Open, InPhase, Wrote, Gives, Names, Marked}
 use Rattle.si_model.specs.declared.replies.Cell.{Cell}
-use Rattle.si_model.specs.ShowsCells.{key_of, at, IsThere, lock_text, record_text, IsRecordText, kind_of_change, IsFirstCell, IsChange, HasData, ShowsMark, NamesCommit, MayLack, IsGiven, ShowsCells, changed_cells}
+use Rattle.si_model.specs.ShowsCells.{key_of, at, IsThere, kind_of_change, IsFirstCell, IsChange, HasData, ShowsMark, NamesCommit, MayLack, IsGiven, ShowsCells, changed_cells}
 use Rattle.si_model.proofs.Tools.{one_change, same_entry}
 use Rattle.si_model.proofs.Invariant.{Sound}
 use Rattle.si_model.proofs.ShownAt.{cases_key, put_at, put_off, erased_at, erased_off, changed_off, changed_at, changed_there, changed_was, key_cell, key_stamp, no_lock_data, no_lock_write, no_data_lock, no_data_write, no_write_lock, no_write_data}
@@ -79,19 +80,19 @@ module _ (cells : Cells) (st st' : State) (go : Goes st st') (shown : ShowsCells
     with_data = changed_cells cells x t v
 
     abbrev pub with_lock : Cells
-    with_lock = insert with_data (key_of x Lock t) (lock_text first (kind_of_change v))
+    with_lock = insert with_data (key_of x Lock t) (lock_text first.row first.family (kind_of_change v))
 
-    lock_new : at with_lock x Lock t ≡ Some (lock_text first (kind_of_change v))
-    lock_new = put_at with_data (key_of x Lock t) (lock_text first (kind_of_change v))
+    lock_new : at with_lock x Lock t ≡ Some (lock_text first.row first.family (kind_of_change v))
+    lock_new = put_at with_data (key_of x Lock t) (lock_text first.row first.family (kind_of_change v))
 
     lock_old : (y : Cell) (u : ℕ) → key_of y Lock u ≢ key_of x Lock t → at with_lock y Lock u ≡ at cells y Lock u
-    lock_old y u ne = put_off with_data (key_of x Lock t) (lock_text first (kind_of_change v)) (key_of y Lock u) ne ∙ changed_off cells x t v (key_of y Lock u) (no_lock_data y x u t)
+    lock_old y u ne = put_off with_data (key_of x Lock t) (lock_text first.row first.family (kind_of_change v)) (key_of y Lock u) ne ∙ changed_off cells x t v (key_of y Lock u) (no_lock_data y x u t)
 
     write_old : (y : Cell) (c : ℕ) → at with_lock y Write c ≡ at cells y Write c
-    write_old y c = put_off with_data (key_of x Lock t) (lock_text first (kind_of_change v)) (key_of y Write c) (no_write_lock y x c t) ∙ changed_off cells x t v (key_of y Write c) (no_write_data y x c t)
+    write_old y c = put_off with_data (key_of x Lock t) (lock_text first.row first.family (kind_of_change v)) (key_of y Write c) (no_write_lock y x c t) ∙ changed_off cells x t v (key_of y Write c) (no_write_data y x c t)
 
     data_off : (y : Cell) (u : ℕ) → at with_lock y Data u ≡ at with_data y Data u
-    data_off y u = put_off with_data (key_of x Lock t) (lock_text first (kind_of_change v)) (key_of y Data u) (no_data_lock y x u t)
+    data_off y u = put_off with_data (key_of x Lock t) (lock_text first.row first.family (kind_of_change v)) (key_of y Data u) (no_data_lock y x u t)
 
     data_new : HasData with_lock x t v
     data_new given e = (given, data_off x t ∙ changed_at cells x t v given e)
@@ -109,7 +110,7 @@ module _ (cells : Cells) (st st' : State) (go : Goes st st') (shown : ShowsCells
           is_first = is_first;
           change = v;
           is_change = (ws, wrote, gives);
-          text = lock_text first (kind_of_change v);
+          text = lock_text first.row first.family (kind_of_change v);
           lock = lock_new;
           is_text = inl refl;
           value = data_new;

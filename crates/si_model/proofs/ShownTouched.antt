@@ -5,10 +5,11 @@ use Rattle.std.proofs.lemmas.Option.{none-some}
 use Rattle.cell_key.specs.Cells.{Cells}
 use Rattle.cell_key.specs.declared.keys.CellKey.{CellKey}
 use Rattle.cell_key.specs.declared.keys.Qualifier.TheVariants.{Data, Lock, Write}
+use Rattle.cell_key.specs.Columns.{lock_text, record_text}
+use Rattle.cell_key.specs.declared.columns.WriteKind.{WriteKind}
 use Rattle.si_model.specs.Machine.{Change}
-use Rattle.si_model.specs.declared.cells.WriteKind.{WriteKind}
 use Rattle.si_model.specs.declared.replies.Cell.{Cell}
-use Rattle.si_model.specs.ShowsCells.{key_of, lock_text, record_text, kind_of_change, changed_cells, held_cells, recorded_cells, erased_cells, Touches}
+use Rattle.si_model.specs.ShowsCells.{key_of, kind_of_change, changed_cells, held_cells, recorded_cells, erased_cells, Touches}
 use Rattle.si_model.proofs.ShownAt.{cases_key, put_at, put_off, erased_off, changed_off, changed_there}
 
 module _ (cells : Cells) (x : Cell) (s c : ℕ) where
@@ -29,7 +30,7 @@ module _ (cells : Cells) (x : Cell) (s c : ℕ) where
   }
     where
       off : (q : CellKey) → q ≢ key_of x Lock s → get (held_cells cells x s v first) q ≡ get (changed_cells cells x s v) q
-      off q ne = put_off (changed_cells cells x s v) (key_of x Lock s) (lock_text first (kind_of_change v)) q ne
+      off q ne = put_off (changed_cells cells x s v) (key_of x Lock s) (lock_text first.row first.family (kind_of_change v)) q ne
 
   pub touches_recorded : (kind : WriteKind) → Touches cells (recorded_cells cells x s c kind) x.row s c
   touches_recorded kind = record {

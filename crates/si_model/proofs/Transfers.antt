@@ -4,7 +4,7 @@ use Rattle.std.specs.FinMap.{gets, insert}
 use Rattle.si_model.specs.Machine.{State, Value, IsSnapshot, most_value, Writes, Open, Run, rests, goes_on, appends, new_machine, Begin, Get, Set, Advance, Begun, Answered, SetDone, Held, Drawn, Committed, Finished}
 use Rattle.si_model.specs.Scripts.{bob, joe, FirstCell, Transfer}
 use Rattle.si_model.proofs.Tools.{each_cons}
-use Rattle.si_model.proofs.Scripts.{bob_is, joe_is, bob_not_joe, begin_step, reads_both, read_both, stamped_two, set_step, get_step, first_hold_step, draw_step, commit_step, ended_step, leaves_only, no_marks, run_append, holds_two, finishes_two, written_two, newest}
+use Rattle.si_model.proofs.ScriptSteps.{bob_is, joe_is, bob_not_joe, begin_step, reads_both, read_both, stamped_two, set_step, get_step, first_hold_step, draw_step, commit_step, ended_step, leaves_only, no_marks, run_append, holds_two, finishes_two, written_two, newest}
 
 abbrev one : Writes
 one = (bob, Some (codes "v")) ∷ []

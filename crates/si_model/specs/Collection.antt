@@ -6,13 +6,14 @@ use Rattle.cell_key.specs.Cells.{Cells}
 use Rattle.cell_key.specs.Places.{Place, place_of, place_cmp, IsAfter, IsNextCell, HasCell}
 use Rattle.cell_key.specs.declared.keys.CellKey.{CellKey}
 use Rattle.cell_key.specs.declared.keys.Qualifier.TheVariants.{Data, Lock, Write}
+use Rattle.cell_key.specs.Columns.{record_text}
+use Rattle.cell_key.specs.declared.columns.WriteKind.{WriteKind}
+use Rattle.cell_key.specs.declared.columns.WriteKind.TheVariants as write
 use Rattle.si_model.specs.Sets.{◌∈◌}
 use Rattle.si_model.specs.Machine.{Request, Reply, Step}
 use Rattle.si_model.specs.State.{State, Phase, Stamped, Change, Commit, InPhase, Names, Marked, CommittedAt}
-use Rattle.si_model.specs.declared.cells.WriteKind.{WriteKind}
-use Rattle.si_model.specs.declared.cells.WriteKind.TheVariants as write
 use Rattle.si_model.specs.declared.replies.Cell.{Cell}
-use Rattle.si_model.specs.ShowsCells.{at, key_of, IsThere, MayLack, NamesAt, ShowsCells, record_text, held_cells, recorded_cells, erased_cells}
+use Rattle.si_model.specs.ShowsCells.{at, key_of, IsThere, MayLack, NamesAt, ShowsCells, held_cells, recorded_cells, erased_cells}
 
 -- a record of the cell names t
 abbrev pub IsNamed : Cells → Cell → ℕ → Type 0
@@ -26,7 +27,7 @@ NamesNearest cells st =
 
 -- ---- what a collection leaves
 
--- Locks stay. A record stays, or goes where its commit may lack it. Data stays, or goes where no
+-- Locks stay. A record stays, or goes if its commit may lack it. Data stays, or goes if no
 -- mark and no record that stays names it; the data that a record names goes with the record.
 pub record Collects (cells cells' : Cells) (st : State) : Type 0 where
   pub locks : (x : Cell) (t : ℕ) → at cells' x Lock t ≡ at cells x Lock t
@@ -85,11 +86,11 @@ pub record MayErase (cells : Cells) (st : State) (floor : ℕ) : Type 0 where
   -- data below the floor that no record names
   pub unnamed : (x : Cell) (ts : List ℕ) → ((t : ℕ) → t ∈ ts → (t < floor) × (¬ IsNamed cells x t))
       → Collects cells (dropped_cells cells x ts) st
-  -- the record of a deletion at or below the floor, where no older one stands
+  -- the record of a deletion at or below the floor, if no older one stands
   pub deletion : (x : Cell) (c : ℕ) → c ≤ floor → IsOldestDeletion cells x c
       → Collects cells (forgotten_cells cells x c) st
 
--- below a floor that a collector began with, where no mark stands below it
+-- below a floor that a collector began with, if no mark stands below it
 abbrev pub MayEraseBelow : Cells → State → Type 0
 MayEraseBelow cells st =
     (floor : ℕ) → floor ≤ st.floor → IsUnmarkedBelow st floor → MayErase cells st floor

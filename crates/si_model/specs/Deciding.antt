@@ -1,4 +1,4 @@
--- What stands at the first cell of a start tells its fate, and what a cleaner keeps of it.
+-- What stands at the first cell of a start shows its fate, and what a cleaner keeps of it.
 use Rattle.std.specs.Prelude.{◌≡◌, ℕ, ◌<◌, ◌⊎◌, Some, None}
 use Rattle.std.specs.FinMap.{get}
 use Rattle.cell_key.specs.Cells.{Cells}
@@ -7,7 +7,7 @@ use Rattle.si_model.specs.State.{State, Cleaner, Marked, IsDead, CommittedAt, Is
 use Rattle.si_model.specs.declared.replies.Cell.{Cell}
 use Rattle.si_model.specs.ShowsCells.{at, IsThere, IsFirstCell, NamesAt}
 
--- What the first cell of a start tells. (Percolator, clean-up of locks: the primary.)
+-- What the first cell of a start shows. (Percolator, clean-up of locks: the primary.)
 pub record TellsFirst (cells : Cells) (st : State) (t : ℕ) (first : Cell) : Type 0 where
   -- its lock stands: it has no fate yet
   pub locked : IsThere cells first Lock t → (¬ IsCommitted st t) × (¬ IsDead st t)
@@ -18,7 +18,7 @@ pub record TellsFirst (cells : Cells) (st : State) (t : ℕ) (first : Cell) : Ty
   pub forward : (c : ℕ) → NamesAt cells first c t → CommittedAt st t c
   -- Its lock is gone and no record names it: it was rolled back, as long as any mark of it stands.
   -- Its record may have been collected instead, but then none does:
-  -- a record goes only where it, or a later one, lies at or below each mark.
+  -- a record goes only if it, or a later one, lies at or below each mark.
   pub back : at cells first Lock t ≡ None
       → ((c : ℕ) → t < c → ¬ NamesAt cells first c t)
       → (x : Cell) → Marked st x t → IsDead st t

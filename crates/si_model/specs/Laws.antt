@@ -70,7 +70,7 @@ ClearsItsFloor st =
     (i n f : ℕ) (next : State) → get st.collectors i ≡ Some f
     → Step st (CollectStep i n) Collected next → IsCleared next f
 
--- what is told of a start's fate is so, and after a cleaner's second step the mark is gone
+-- what replies say of a start's fate is true, and after a cleaner's second step the mark is gone
 pub record TellsFate (st : State) : Type 0 where
   pub committed : (t c : ℕ) (next : State) → Step st (Advance t) (Committed c) next
       → CommittedAt next t c
@@ -94,7 +94,7 @@ ClashesAt st t place =
     (ws : Writes) × (k : ℕ) × (x : Cell)
     × (v : Change) × Wrote st t ws × Puts ws k x v × (place ≡ k + 1) × Clashes st x t
 
--- what is told of marks is so, and a Conflict has its mark or its commit
+-- what replies say of marks is true, and a Conflict has its mark or its commit
 pub record TellsMarks (st : State) : Type 0 where
   pub pending : (s t : ℕ) (x : Cell) (next : State) → Step st (Get s x) (Pending t) next
       → Marked st x t × (t ≤ s)
@@ -107,7 +107,7 @@ pub record TellsMarks (st : State) : Type 0 where
   pub blocked : (i n t : ℕ) (x : Cell) (next : State) → Step st (CollectStep i n) (Blocked x t) next
       → (f : ℕ) × (get st.collectors i ≡ Some f) × Marked st x t × (t < f)
 
--- where a refusal is the first that applies, the reply is that one or one of the store,
+-- if a refusal is the first that applies, the reply is that one or one of the store,
 -- and the state stays
 abbrev pub RefusesFirst : State → Type 0
 RefusesFirst st =

@@ -18,7 +18,7 @@ abbrev pub Draws : State → ℕ → Type 0
 Draws st s = (st.top < s) × (s < end_of_stamps)
 
 -- The answer for x as of s: what the commit of greatest stamp at most s among those that write x
--- makes of it, its value or, where it deletes x, nothing; nothing if there is none.
+-- makes of it, its value or, if it deletes x, nothing; nothing if there is none.
 -- (Snapshot isolation.)
 abbrev pub IsSnapshot : List Commit → ℕ → Cell → Option Value → Type 0
 IsSnapshot commits s x answer =
@@ -201,7 +201,7 @@ pub data Acts (st : State) : Request → Reply → State → Type 0 where
 pub data Step (st : State) : Request → Reply → State → Type 0 where
   -- a refusal changes nothing
   refuses : {q : Request} {n : Refusal} → Refuses st q n → Step st q (Refused n) st
-  -- a request is accepted only where no refusal applies
+  -- a request is accepted only if no refusal applies
   accepts : {q : Request} {r : Reply} {st' : State} → IsAcceptable st q → Acts st q r st'
       → Step st q r st'
 

@@ -43,7 +43,7 @@ pub data Applies (st : State) : Request → Refusal → Type 0 where
   stop_unknown : {s : ℕ} → get st.active s ≡ None → Applies st (Stop s) UnknownSession
   clean_row : {x : Cell} → ¬ IsRow x.row → Applies st (CleanBegin x) BadRow
   clean_family : {x : Cell} → ¬ IsFamily x.family → Applies st (CleanBegin x) BadColumn
-  -- only where there is a mark to clear
+  -- only if there is a mark to clear
   clean_full : {x : Cell} {t : ℕ} → Marked st x t → most_cleaners ≤ len st.cleaners
       → Applies st (CleanBegin x) TooManySessions
   clean_unknown : {i : ℕ} → get st.cleaners i ≡ None → Applies st (CleanStep i) UnknownCleaner
@@ -89,7 +89,7 @@ IsStorageRefusal _ = ⊥
 
 -- the request is refused so
 pub data Refuses (st : State) : Request → Refusal → Type 0 where
-  -- a refusal that applies is answered where it is the first that does
+  -- a refusal that applies is answered if it is the first that does
   applies_first : {q : Request} {n : Refusal} → IsFirstRefusal st q n → Refuses st q n
   -- a refusal of the store may come at any time
   gives_up : {q : Request} {n : Refusal} → IsStorageRefusal n → Refuses st q n

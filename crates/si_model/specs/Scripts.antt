@@ -114,7 +114,7 @@ CommitPoint = CanAnswer
     ∷ Begun 5 ∷ Pending 3 ∷ Committed 4
     ∷ Answered (Some (codes "3")) ∷ Pending 3 ∷ Finished 2 2 ∷ Answered (Some (codes "9")) ∷ [])
 
--- A cleaner rolls the transfer back while it runs, and its next step tells it.
+-- A cleaner rolls the transfer back while it runs, and its next step answers that.
 abbrev pub LostTransfer : Type 0
 LostTransfer = CanAnswer
     (Begin ∷ Set 1 bob (codes "10")

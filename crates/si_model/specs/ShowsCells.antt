@@ -1,17 +1,16 @@
 -- What it means that a cell map shows the transactions of a state of the snapshot machine.
-use Rattle.std.specs.Prelude.{◌≡◌, ◌≢◌, ℕ, ◌<◌, ◌⊎◌, List, [], ◌∷◌, ◌++◌, length, slice_get, Option, Some, None}
+use Rattle.std.specs.Prelude.{◌≡◌, ◌≢◌, ℕ, ◌<◌, ◌⊎◌, List, Option, Some, None}
 use Rattle.std.specs.FinMap.{get, insert, remove}
-use Rattle.byteorder.specs.Endian.{big_bytes, big_number}
 use Rattle.cell_key.specs.Cells.{Cells, version}
-use Rattle.cell_key.specs.Texts.{place_text}
 use Rattle.cell_key.specs.declared.keys.CellKey.{CellKey}
 use Rattle.cell_key.specs.declared.keys.Qualifier.{Qualifier}
 use Rattle.cell_key.specs.declared.keys.Qualifier.TheVariants.{Data, Lock, Write}
+use Rattle.cell_key.specs.Columns.{IsLockText, IsRecordText, lock_text, record_text}
+use Rattle.cell_key.specs.declared.columns.WriteKind.{WriteKind}
+use Rattle.cell_key.specs.declared.columns.WriteKind.TheVariants as write
 use Rattle.si_model.specs.Sets.{◌∈◌}
 use Rattle.si_model.specs.Laws.{IsCleared}
 use Rattle.si_model.specs.Machine.{State, Value, Change, Writes, Commit, Open, InPhase, Wrote, Puts, Gives, Names, Marked, IsReached}
-use Rattle.si_model.specs.declared.cells.WriteKind.{WriteKind}
-use Rattle.si_model.specs.declared.cells.WriteKind.TheVariants as write
 use Rattle.si_model.specs.declared.replies.Cell.{Cell}
 
 abbrev pub key_of : Cell → Qualifier → ℕ → CellKey
@@ -29,42 +28,6 @@ abbrev pub kind_of_change : Change → WriteKind
 kind_of_change (Some value) = write.Set
 kind_of_change None = write.Delete
 
--- the byte of a kind: S or D
-abbrev pub kind_byte : WriteKind → ℕ
-kind_byte write.Set = 0x53
-kind_byte write.Delete = 0x44
-
--- A text ends with the byte of a kind. In an older form it ends before it, which means a set.
-abbrev pub HasKind : List ℕ → WriteKind → List ℕ → Type 0
-HasKind before kind text =
-    (text ≡ before ++ (kind_byte kind ∷ [])) ⊎ ((kind ≡ write.Set) × (text ≡ before))
-
--- the value of a lock: the place of its session's first cell, and the kind of the write
-abbrev pub lock_text : Cell → WriteKind → List ℕ
-lock_text x kind = place_text x.row x.family ++ (kind_byte kind ∷ [])
-
-abbrev pub IsLockText : Cell → WriteKind → List ℕ → Type 0
-IsLockText x kind text = HasKind (place_text x.row x.family) kind text
-
--- the value of a write record: its session's start, and the kind of the write
-abbrev pub start_text : ℕ → List ℕ
-start_text t = big_bytes 8 t
-
-abbrev pub record_text : ℕ → WriteKind → List ℕ
-record_text t kind = start_text t ++ (kind_byte kind ∷ [])
-
-abbrev pub IsRecordText : ℕ → WriteKind → List ℕ → Type 0
-IsRecordText t kind text = HasKind (start_text t) kind text
-
--- such a value, as it is read, names t and a kind
-pub record NamesWrite (text : List ℕ) (t : ℕ) (kind : WriteKind) : Type 0 where
-  pub start : big_number 8 text ≡ t
-  pub kind_is : ((length text ≡ 8) × (kind ≡ write.Set))
-      ⊎ ((length text ≡ 9) × (slice_get text 8 ≡ Some (kind_byte kind)))
-
-abbrev pub NamesStart : List ℕ → ℕ → Type 0
-NamesStart text t = (kind : WriteKind) × NamesWrite text t kind
-
 -- the record of x at c names t
 abbrev pub NamesAt : Cells → Cell → ℕ → ℕ → Type 0
 NamesAt cells x c t =
@@ -79,7 +42,7 @@ IsFirstCell st t x = (ws : Writes) × (v : Change) × Wrote st t ws × Puts ws 0
 abbrev pub IsChange : State → ℕ → Cell → Change → Type 0
 IsChange st t x v = (ws : Writes) × Wrote st t ws × Gives ws x v
 
--- where t gives x a value, there is data of it
+-- if t gives x a value, there is data of it
 abbrev pub HasData : Cells → Cell → ℕ → Change → Type 0
 HasData cells x t v = (given : Value) → v ≡ Some given → IsThere cells x Data t
 
@@ -92,7 +55,7 @@ pub record ShowsMark (cells : Cells) (st : State) (x : Cell) (t : ℕ) : Type 0 
   pub is_change : IsChange st t x change
   pub text : List ℕ
   pub lock : at cells x Lock t ≡ Some text
-  pub is_text : IsLockText first (kind_of_change change) text
+  pub is_text : IsLockText first.row first.family (kind_of_change change) text
   pub value : HasData cells x t change
 
 -- the write record of x at c names a commit that writes x and has no mark on it,
@@ -157,7 +120,7 @@ changed_cells cells x t None = cells
 -- the cells after t put data and lock of x
 abbrev pub held_cells : Cells → Cell → ℕ → Change → Cell → Cells
 held_cells cells x t v first =
-    insert (changed_cells cells x t v) (key_of x Lock t) (lock_text first (kind_of_change v))
+    insert (changed_cells cells x t v) (key_of x Lock t) (lock_text first.row first.family (kind_of_change v))
 
 -- the cells after t's lock of x gave way to its record at c
 abbrev pub recorded_cells : Cells → Cell → ℕ → ℕ → WriteKind → Cells

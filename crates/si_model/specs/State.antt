@@ -18,8 +18,8 @@ Change = Option Value
 abbrev pub Writes : Type 0
 Writes = List (Cell × Change)
 
--- how far a session is: it takes Sets and Deletes; it has marked so many of its cells; it has drawn its commit
--- stamp; it has committed, and so many of its cells are clear
+-- how far a session is: it takes Sets and Deletes; it has marked this many of its cells; it has
+-- drawn its commit stamp; it has committed, and this many of its cells are clear
 pub data Phase : Type 0 where
   Open : Phase
   Holding : (held : ℕ) → Phase

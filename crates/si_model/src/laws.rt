@@ -43,7 +43,7 @@ pub fn one_snapshot()
     ensures { (st : State) → IsReached st → OneSnapshot st }
 {}
 
-/// Where a refusal is the first that applies, the reply is that one or one of the store, and the state stays.
+/// If a refusal is the first that applies, the reply is that one or one of the store, and the state stays.
 pub fn refuses_first()
     ensures { (st : State) → RefusesFirst st }
 {}
@@ -78,13 +78,13 @@ pub fn goes_on()
     ensures { AtEachStep Goes }
 {}
 
-/// What is told of a start's fate is so, and after a cleaner's second step the mark is gone.
+/// What replies say of a start's fate is true, and after a cleaner's second step the mark is gone.
 pub fn tells_fate()
     ensures { (st : State) → IsReached st → TellsFate st }
 {}
 
-/// What is told of marks is so, in every state, reached or not: Pending, NoLock, Cleaning, Blocked, and a Conflict,
-/// whose cell has a mark or a later commit.
+/// What replies say of marks is true, in every state, reached or not: Pending, NoLock, Cleaning, Blocked, and a
+/// Conflict, whose cell has a mark or a later commit.
 pub fn tells_marks()
     ensures { (st : State) → TellsMarks st }
 {}
@@ -132,7 +132,7 @@ pub fn endures()
     ensures { AtEachStep Endures }
 {}
 
-/// What stands at the first cell of a start tells its fate.
+/// What stands at the first cell of a start shows its fate.
 pub fn first_tells()
     ensures { WhereShown FirstTells }
 {}
@@ -158,7 +158,7 @@ pub fn shows_reopened()
         → ShowsCells cells (reopened st) }
 {}
 
-/// Where no mark stands below a floor, a collector may erase the records older than one at or below it, with their data,
+/// If no mark stands below a floor, a collector may erase the records older than one at or below it, with their data,
 /// data below it that no record names, and the record of a deletion at or below it that is a cell's oldest.
 pub fn may_erase()
     ensures { WhereShown MayEraseBelow }

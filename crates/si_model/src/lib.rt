@@ -1,12 +1,10 @@
-//! The snapshot machine: its definitions, its laws over all that it can become, and edits of the cells that show it.
+//! The snapshot machine: its definitions, its laws over all that it can become, and what its calls answer.
 #![tactic(auto)]
 
-mod cells;
 mod laws;
 mod replies;
-mod runs;
+mod scripts;
 
-pub use cells::{WriteKind, cell_named, erasing, key, named_write, recording};
 pub use laws::{
     bounded, cleaners_know, clears_its_floor, come_stays, comes_further, commit_seen, endures,
     fate_seen, first_committer, first_tells, floor_stays_low, goes_on, gone_for_good, have_tried,
@@ -15,7 +13,7 @@ pub use laws::{
     stays_cleared, stays_shown, tells_fate, tells_marks, writes_within_limits,
 };
 pub use replies::{Cell, CleanReply, CleanStart, CollectReply, Found, Progress};
-pub use runs::{
+pub use scripts::{
     commit_point, deleted_cell, first_cell, first_holder, lost, mark_stays, rolled_back,
     split_tablet, stranded_mark, transfer, write_skew, younger_first,
 };

@@ -1,12 +1,32 @@
 //! Cells, and what sessions, cleaners and collectors answer.
 
-use cell_key::{Family, Row, Stamp};
+ghost use Rattle.std.specs.Prelude.{◌≡◌, IfErr, IfOk, OnOk};
+ghost use Rattle.cell_key.specs.Names.{IsFamily, IsRow};
+ghost use Rattle.si_model.specs.Reads.{IsNameRefusal, cell_of};
+
+use cell_key::{Family, Refusal, Row, Stamp};
+use std::alloc::Global;
 
 /// A cell: a row and a family of columns.
 #[derive(Debug, PartialEq, Eq, Drop)]
 pub struct Cell {
     pub row: Row,
     pub family: Family,
+}
+
+impl Cell {
+    /// The cell of a row and a family. Answers `BadRow` or `BadColumn` if a name is outside its
+    /// limits, and `NoMemory` if there is no memory for it.
+    pub fn new(alloc: Global, row: &[u8], family: &[u8]) -> Result<Cell, Refusal>
+        ensures ok { IfOk result (λ cell. cell ≡ cell_of row.now family.now) }
+        ensures row { OnOk result (IsRow row.now) }
+        ensures family { OnOk result (IsFamily family.now) }
+        ensures refusal { IfErr result (IsNameRefusal (cell_of row.now family.now)) }
+    {
+        let row = Row::new(alloc, row)?;
+        let family = Family::new(alloc, family)?;
+        Ok(Cell { row, family })
+    }
 }
 
 /// What a read of a cell finds (Percolator, Get).
@@ -23,7 +43,7 @@ pub enum Found {
 /// What a step of a session did (Percolator, Prewrite and Commit). Cells count from 1.
 #[derive(Clone, Copy, Debug, PartialEq, Eq)]
 pub enum Progress {
-    /// This cell of so many is held.
+    /// This cell, of this many, is held.
     Held(u16, u16),
     /// This cell is locked, or was written since the session began. The session has ended.
     Conflict(u16),
@@ -33,7 +53,7 @@ pub enum Progress {
     Committed(Stamp),
     /// A cleaner has rolled the session back. It has ended.
     Lost,
-    /// This cell of so many is clear. With the last the session has ended.
+    /// This cell, of this many, is clear. With the last one the session has ended.
     Finished(u16, u16),
 }
 

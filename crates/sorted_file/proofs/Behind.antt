@@ -9,18 +9,18 @@ use Rattle.cell_key.specs.Entries.{Entry, IsEntryList, IsRising, entries_from, e
 use Rattle.cell_key.specs.declared.keys.CellKey.{CellKey}
 use Rattle.cell_key.proofs.TextPlaces.{equal, find_below, first, one_text, second}
 use Rattle.file_store.specs.Store.{Contents}
-use Rattle.sorted_file.specs.Blocks.{block_of, blocks_of, entries_in, first_of, IsRowPlace, IsSpannedRow}
+use Rattle.sorted_file.specs.Index.{block_of, blocks_of, entries_in, first_of, IsRowPosition, IsBoundedRow}
 use Rattle.sorted_file.specs.Newest.{at_stamp, IsFirstIn, IsNewestStamp}
-use Rattle.sorted_file.specs.Opened.{IsOpen, listed}
-use Rattle.sorted_file.specs.Searching.{first_value}
-use Rattle.sorted_file.specs.Spans.{span_of, IsWithin}
-use Rattle.sorted_file.specs.declared.blocks.BlockRow.{BlockRow}
-use Rattle.sorted_file.specs.declared.opened.SortedFile.{SortedFile}
+use Rattle.sorted_file.specs.File.{IsOpen, listed}
+use Rattle.sorted_file.specs.Block.{first_value}
+use Rattle.sorted_file.specs.Bounds.{column_bounds, IsWithin}
+use Rattle.sorted_file.specs.declared.block.BlockRow.{BlockRow}
+use Rattle.sorted_file.specs.declared.file.SortedFile.{SortedFile}
 use Rattle.sorted_file.proofs.LookUps.{front_row, of_row}
 use Rattle.sorted_file.proofs.OpenBlocks.{list_behind, open_firsts, open_named, rows_behind, text_and, text_or}
 use Rattle.sorted_file.proofs.Rows.{all_above, below_back, from_in_row, in_row, none_before, IsNamed}
 use Rattle.sorted_file.proofs.Searched.{rising_from}
-use Rattle.sorted_file.proofs.Spanned.{no_value}
+use Rattle.sorted_file.proofs.Bounded.{no_value}
 use Rattle.sorted_file.proofs.Stamps.{within}
 
 -- from a text on entries have what they have at each text that isn't below it
@@ -113,12 +113,12 @@ module _ (key : CellKey) (is : IsKey key) (lo : ℕ) (all block part : List Entr
 
 -- ---- the first value of a file
 
-place_behind : (name : List ℕ) (rows : List BlockRow) (n : ℕ) → IsRowPlace name rows n → IsRowPlace name (drop n rows) 0
+place_behind : (name : List ℕ) (rows : List BlockRow) (n : ℕ) → IsRowPosition name rows n → IsRowPosition name (drop n rows) 0
 place_behind name rows zero p = p
 place_behind name [] (suc n) p = absurd p
 place_behind name (r ∷ rows) (suc n) p = place_behind name rows n p.1
 
-row_there : (name : List ℕ) (rows : List BlockRow) (k : ℕ) → IsRowPlace name rows (suc k) → (row : BlockRow) × (slice_get rows k ≡ Some row)
+row_there : (name : List ℕ) (rows : List BlockRow) (k : ℕ) → IsRowPosition name rows (suc k) → (row : BlockRow) × (slice_get rows k ≡ Some row)
 row_there name [] k p = absurd p
 row_there name (r ∷ rows) zero p = (r, refl)
 row_there name (r ∷ rows) (suc k) p = row_there name rows k p.1
@@ -139,14 +139,14 @@ module _ (m : Contents) (file : SortedFile) (o : IsOpen m file) (key : CellKey) 
   whole : (found : Option (List ℕ)) → found ≡ option_map text_of (first_value (entries_from (text key) (listed m file))) → IsFirstIn (listed m file) key lo found
   whole found e = record { part = listed m file; list = o.list; first = e; same = λ is stamp h. h }
 
-  cut : (k : ℕ) (row : BlockRow) → IsRowPlace (text key) all_rows (suc k) → slice_get all_rows k ≡ Some row → entries_from (text key) (listed m file) ≡ entries_from (text key) (block_of row) ++ after (suc k)
+  cut : (k : ℕ) (row : BlockRow) → IsRowPosition (text key) all_rows (suc k) → slice_get all_rows k ≡ Some row → entries_from (text key) (listed m file) ≡ entries_from (text key) (block_of row) ++ after (suc k)
   cut k row p at = from_in_row (text key) all_rows named o.list.rising (suc k) p (take k all_rows) row (front_row all_rows k row at)
 
-  above_after : (n : ℕ) → IsRowPlace (text key) all_rows n → entries_from (text key) (after n) ≡ after n
+  above_after : (n : ℕ) → IsRowPosition (text key) all_rows n → entries_from (text key) (after n) ≡ after n
   above_after n p = all_above (text key) (drop n all_rows) (rows_behind IsNamed n all_rows named) (list_behind n all_rows o.list).rising 0 (place_behind (text key) all_rows n p) refl
 
   -- the block before the place has no value of the column at these stamps
-  pub first_behind : (n : ℕ) → IsRowPlace (text key) all_rows n → ((row : BlockRow) → 0 < n → slice_get all_rows (n - 1) ≡ Some row → (s : ℕ) → lo ≤ s → s ≤ key.stamp → ¬ IsWithin (span_of row.spans key.qualifier) key.row s)
+  pub first_behind : (n : ℕ) → IsRowPosition (text key) all_rows n → ((row : BlockRow) → 0 < n → slice_get all_rows (n - 1) ≡ Some row → (s : ℕ) → lo ≤ s → s ≤ key.stamp → ¬ IsWithin (column_bounds row.bounds key.qualifier) key.row s)
       → (found : Option (List ℕ)) → found ≡ option_map text_of (first_value (after n)) → IsFirstIn (listed m file) key lo found
   first_behind zero p none found e = whole found (e ∙ ap (λ (l : List Entry). option_map text_of (first_value l)) (sym (all_above (text key) all_rows named o.list.rising 0 p refl)))
   first_behind (suc k) p none found e =
@@ -160,18 +160,18 @@ module _ (m : Contents) (file : SortedFile) (o : IsOpen m file) (key : CellKey) 
         same = λ is stamp h.
             newest_behind key is lo (listed m file) (block_of there.0) (after (suc k)) o.list (cut k there.0 p there.1)
             (λ s a b stored.
-            no_value there.0.spans (at_stamp key s) stored (none there.0 (omega arith) at s a b) (block_of there.0) (of_row IsSpannedRow all_rows k there.0 there.1 o.spanned)) stamp h;
+            no_value there.0.bounds (at_stamp key s) stored (none there.0 (omega arith) at s a b) (block_of there.0) (of_row IsBoundedRow all_rows k there.0 there.1 o.bounded)) stamp h;
       }
 
   -- the block before the place has it
-  pub first_in : (n : ℕ) (row : BlockRow) → IsRowPlace (text key) all_rows n → 0 < n → slice_get all_rows (n - 1) ≡ Some row → (t : List ℕ) → Some t ≡ option_map text_of (first_value (entries_from (text key) (block_of row))) → IsFirstIn (listed m file) key lo (Some t)
+  pub first_in : (n : ℕ) (row : BlockRow) → IsRowPosition (text key) all_rows n → 0 < n → slice_get all_rows (n - 1) ≡ Some row → (t : List ℕ) → Some t ≡ option_map text_of (first_value (entries_from (text key) (block_of row))) → IsFirstIn (listed m file) key lo (Some t)
   first_in zero row p some at t e = absurd (omega (arith, some))
   first_in (suc k) row p some at t e =
       let one : suc k - 1 ≡ k = omega arith in
       whole (Some t) (sym (ap (λ (l : List Entry). option_map text_of (first_value l)) (cut k row p (ap (slice_get all_rows) (sym one) ∙ at)) ∙ text_and (entries_from (text key) (block_of row)) (after (suc k)) t (sym e)))
 
   -- the block before the place has none, and those after it have it
-  pub first_past : (n : ℕ) (row : BlockRow) → IsRowPlace (text key) all_rows n → 0 < n → slice_get all_rows (n - 1) ≡ Some row → None ≡ option_map text_of (first_value (entries_from (text key) (block_of row)))
+  pub first_past : (n : ℕ) (row : BlockRow) → IsRowPosition (text key) all_rows n → 0 < n → slice_get all_rows (n - 1) ≡ Some row → None ≡ option_map text_of (first_value (entries_from (text key) (block_of row)))
       → (found : Option (List ℕ)) → found ≡ option_map text_of (first_value (after n)) → IsFirstIn (listed m file) key lo found
   first_past zero row p some at none found e = absurd (omega (arith, some))
   first_past (suc k) row p some at none found e =
@@ -179,12 +179,12 @@ module _ (m : Contents) (file : SortedFile) (o : IsOpen m file) (key : CellKey) 
       whole found (e ∙ sym (ap (λ (l : List Entry). option_map text_of (first_value l)) (cut k row p (ap (slice_get all_rows) (sym one) ∙ at)) ∙ text_or (entries_from (text key) (block_of row)) (after (suc k)) (sym none)))
 
 -- the place of a text among the rows of an open file, found through a slice of them
-pub place_in : (m : Contents) (file : SortedFile) (o : IsOpen m file) (name other : List ℕ) (slice : List BlockRow) (n : ℕ) → slice ≡ file.rows.items → name ≡ other → (IsRising (map first_of slice) → IsRowPlace name slice n) → IsRowPlace other file.rows.items n
+pub place_in : (m : Contents) (file : SortedFile) (o : IsOpen m file) (name other : List ℕ) (slice : List BlockRow) (n : ℕ) → slice ≡ file.rows.items → name ≡ other → (IsRising (map first_of slice) → IsRowPosition name slice n) → IsRowPosition other file.rows.items n
 place_in m file o name other slice n same is place =
-    subst (λ (t : List ℕ). IsRowPlace t file.rows.items n) is
-    (subst (λ (l : List BlockRow). IsRowPlace name l n) same (place (subst (λ (l : List BlockRow). IsRising (map first_of l)) (sym same) (open_firsts m file o))))
+    subst (λ (t : List ℕ). IsRowPosition t file.rows.items n) is
+    (subst (λ (l : List BlockRow). IsRowPosition name l n) same (place (subst (λ (l : List BlockRow). IsRising (map first_of l)) (sym same) (open_firsts m file o))))
 
-pub place_unique : (name : List ℕ) (rows : List BlockRow) (i j : ℕ) → IsRowPlace name rows i → IsRowPlace name rows j → i ≡ j
+pub place_unique : (name : List ℕ) (rows : List BlockRow) (i j : ℕ) → IsRowPosition name rows i → IsRowPosition name rows j → i ≡ j
 place_unique name [] zero zero p q = refl
 place_unique name [] zero (suc j) p q = absurd q
 place_unique name [] (suc i) j p q = absurd p
@@ -194,11 +194,11 @@ place_unique name (r ∷ rows) (suc i) zero p q = absurd (p.0 q)
 place_unique name (r ∷ rows) (suc i) (suc j) p q = ap suc (place_unique name rows i j p.1 q.1)
 
 -- what an open file has at a text stands in the block before the text's place
-pub in_block : (m : Contents) (file : SortedFile) (o : IsOpen m file) (name : List ℕ) (n : ℕ) (row : BlockRow) → IsRowPlace name file.rows.items n → 0 < n → slice_get file.rows.items (n - 1) ≡ Some row → entry_of_key (listed m file) name ≡ entry_of_key (block_of row) name
+pub in_block : (m : Contents) (file : SortedFile) (o : IsOpen m file) (name : List ℕ) (n : ℕ) (row : BlockRow) → IsRowPosition name file.rows.items n → 0 < n → slice_get file.rows.items (n - 1) ≡ Some row → entry_of_key (listed m file) name ≡ entry_of_key (block_of row) name
 in_block m file o name zero row p some at = absurd (omega (arith, some))
 in_block m file o name (suc k) row p some at =
     let one : suc k - 1 ≡ k = omega arith in
     in_row name file.rows.items (open_named m file o) o.list.rising (suc k) p (take k file.rows.items) row (front_row file.rows.items k row (ap (slice_get file.rows.items) (sym one) ∙ at))
 
-pub in_none : (m : Contents) (file : SortedFile) (o : IsOpen m file) (name : List ℕ) (n : ℕ) → IsRowPlace name file.rows.items n → n ≡ 0 → entry_of_key (listed m file) name ≡ None
+pub in_none : (m : Contents) (file : SortedFile) (o : IsOpen m file) (name : List ℕ) (n : ℕ) → IsRowPosition name file.rows.items n → n ≡ 0 → entry_of_key (listed m file) name ≡ None
 in_none m file o name n p z = none_before name file.rows.items (open_named m file o) o.list.rising n p z

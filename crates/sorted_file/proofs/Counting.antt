@@ -1,13 +1,11 @@
--- Counting erasures from the last entry on.
-use Rattle.std.proofs.Common.{◌≡◌, ◌≤◌, ℕ, List, ◌++◌, length, reverse}
-use Rattle.sorted_file.specs.Kept.{kept}
-use Rattle.sorted_file.specs.Newest.{erased_first, skips}
-use Rattle.sorted_file.specs.declared.entries.FileEntry.{FileEntry}
+-- Counting what is missing from the last on.
+use Rattle.std.proofs.Common.{◌≡◌, ◌≤◌, ℕ, List, ◌++◌, length, reverse, Option}
+use Rattle.sorted_file.specs.Index.{missing_first, skips}
 
--- the entries after those that are left were counted
-pub record IsCounted (entries rest : List FileEntry) (counts : List ℕ) (erased : ℕ) : Type 0 where
-  pub done : List FileEntry
-  pub parts : entries ≡ rest ++ done
-  pub counts_are : reverse counts ≡ skips (kept done)
-  pub next : erased ≡ erased_first (kept done)
-  pub few : erased ≤ length done
+-- those after the ones that are left were counted
+pub record IsCounted {A : Type 0} (xs rest : List (Option A)) (counts : List ℕ) (missing : ℕ) : Type 0 where
+  pub done : List (Option A)
+  pub parts : xs ≡ rest ++ done
+  pub counts_are : reverse counts ≡ skips done
+  pub next : missing ≡ missing_first done
+  pub few : missing ≤ length done

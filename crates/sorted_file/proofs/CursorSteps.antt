@@ -11,9 +11,9 @@ use Rattle.cell_key.specs.Keys.{byte_cmp}
 use Rattle.cell_key.specs.Entries.{Entry, IsRising, entries_from, spelled}
 use Rattle.cell_key.proofs.TextPlaces.{second}
 use Rattle.file_store.specs.Store.{Contents}
-use Rattle.sorted_file.specs.declared.blocks.BlockRow.{BlockRow}
-use Rattle.sorted_file.specs.Blocks.{block_of, blocks_of, entries_in, AreBlocksIn, IsBlockIn, Tells}
-use Rattle.sorted_file.specs.Cursors.{last_of, last_within}
+use Rattle.sorted_file.specs.declared.block.BlockRow.{BlockRow}
+use Rattle.sorted_file.specs.Index.{block_of, blocks_of, entries_in, AreBlocksIn, IsBlockIn, Tells}
+use Rattle.sorted_file.specs.Cursor.{last_of, last_within}
 use Rattle.sorted_file.specs.Grammar.{block_bytes}
 use Rattle.sorted_file.proofs.Seams.{drop_end}
 use Rattle.sorted_file.proofs.Searched.{all_from, front}

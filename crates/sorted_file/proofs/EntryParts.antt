@@ -3,9 +3,8 @@ use Rattle.std.proofs.Common.{◌≡◌, ℕ, ◌+◌, ◌-◌, ◌≤◌, ◌<�
 use Rattle.std.specs.Prelude.{flat_map}
 use Rattle.std.proofs.Math.Seq.{drop-append_seam, take-append_seam}
 use Rattle.cell_key.specs.Entries.{Entry, IsEntryList, spelled}
-use Rattle.sorted_file.specs.Grammar.{foot_len, head, most, number_bytes, IsFile, OneList}
-use Rattle.sorted_file.specs.Blocks.{IsNoFile}
-use Rattle.sorted_file.specs.declared.formats.Format.{Format}
+use Rattle.sorted_file.specs.Grammar.{foot_len, head, most, number_bytes, IsFile, OneList, IsNoFile}
+use Rattle.sorted_file.specs.declared.format.Format.{Format}
 use Rattle.sorted_file.proofs.Widths.{head_length, one_head}
 use Rattle.sorted_file.proofs.Spelling.{number_split, one_short, IsCut, is_cut}
 

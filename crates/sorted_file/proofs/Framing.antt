@@ -2,9 +2,8 @@
 use Rattle.std.proofs.Common.{◌≡◌, ℕ, ◌-◌, ◌≤◌, ◌+◌, ◌<◌, ◌⊎◌, inl, inr, List, ◌++◌, length, take, drop, sym, ap, ◌∙◌, arith, length-drop}
 use Rattle.std.proofs.lemmas.List.{take_all}
 use Rattle.file_store.specs.Store.{part}
-use Rattle.sorted_file.specs.Blocks.{IsNoFile}
-use Rattle.sorted_file.specs.Grammar.{foot_len, head, most, number_bytes}
-use Rattle.sorted_file.specs.declared.formats.Format.{Format}
+use Rattle.sorted_file.specs.Grammar.{IsNoFile, foot_len, head, most, number_bytes}
+use Rattle.sorted_file.specs.declared.format.Format.{Format}
 use Rattle.sorted_file.proofs.EntryParts.{no_file_in}
 use Rattle.sorted_file.proofs.Reading.{place_of}
 

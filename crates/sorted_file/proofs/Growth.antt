@@ -5,11 +5,25 @@ use Rattle.std.specs.List.{AllByRecursion}
 use Rattle.std.proofs.lemmas.List.Concat.{flat_map-append}
 use Rattle.cell_key.specs.Entries.{Entry, spelled, field}
 use Rattle.sorted_file.specs.Grammar.{block_bytes, head, number_bytes, Fits, IsFullBlock, AreBlocks, IsFile, IsShortEntry, FitsIn, image_of, row, index, body, foot}
-use Rattle.sorted_file.specs.declared.formats.Format.{Format}
-use Rattle.sorted_file.specs.declared.formats.Format.TheVariants.{Two}
+use Rattle.sorted_file.specs.declared.format.Format.{Format}
+use Rattle.sorted_file.specs.declared.format.Format.TheVariants.{Two}
 use Rattle.sorted_file.proofs.Joining.{all_joined}
-use Rattle.sorted_file.specs.Building.{State, HasMadeRoom, image_from, opened, closed, added, with_open, IsFirstText, IsBuilt, IsClosed}
+use Rattle.sorted_file.specs.Builder.{State, HasMadeRoom, image_from, opened, closed, with_open, IsBuilt, IsClosed}
+use Rattle.sorted_file.specs.Index.{IsFirstText}
 use Rattle.sorted_file.proofs.Splits.{one_split}
+
+-- a file so far, with an entry more
+abbrev pub added : State → Entry → State
+added s entry =
+    record {
+      limit = s.limit;
+      out = s.out ++ spelled entry;
+      rows = s.rows;
+      first = s.first;
+      start = s.start;
+      blocks = s.blocks;
+      entries = s.entries + 1;
+    }
 
 append-nil : {A : Type 0} (xs : List A) → xs ++ [] ≡ xs
 append-nil [] = refl
@@ -88,14 +102,14 @@ record Parts (s : State) (es : List Entry) (before : List (List Entry)) (current
   alone : current ≡ [] → before ≡ []
   short : AllByRecursion IsShortEntry es
   bytes : s.out ≡ head Two ++ body (with_open before current)
-  places : s.rows ≡ index Two 8 before
+  rows_are : s.rows ≡ index Two 8 before
   from : s.start ≡ 8 + length (body before)
   named : IsFirstText s.first current
   count : s.blocks ≡ length before
   total : s.entries ≡ length es
 
 parts : (s : State) (es : List Entry) (b : IsBuilt s es) (current : List Entry) → b.current ≡ current → Parts s es b.before current
-parts s es b current e = subst (Parts s es b.before) e (record { whole = b.whole; grammar = b.grammar; alone = b.alone; short = b.short; bytes = b.bytes; places = b.places; from = b.from; named = b.named; count = b.count; total = b.total })
+parts s es b current e = subst (Parts s es b.before) e (record { whole = b.whole; grammar = b.grammar; alone = b.alone; short = b.short; bytes = b.bytes; rows_are = b.rows_are; from = b.from; named = b.named; count = b.count; total = b.total })
 
 -- the length of the open block
 block_length : (s : State) (es : List Entry) (before : List (List Entry)) (o : Entry) (os : List Entry) → Parts s es before (o ∷ os) → length s.out - s.start ≡ length (block_bytes (o ∷ os))
@@ -131,7 +145,7 @@ start_parts s es e k p empty =
       alone = λ q. absurd (omega (arith, ap length q));
       short = all_joined IsShortEntry es (e ∷ []) p.short (k, tt);
       bytes = out-last s [] e b;
-      places = p.places;
+      rows_are = p.rows_are;
       from = f;
       named = refl;
       count = p.count;
@@ -160,7 +174,7 @@ join_parts s es e k before o os p h =
       alone = λ q. absurd (omega (arith, ap length q));
       short = all_joined IsShortEntry es (e ∷ []) p.short (k, tt);
       bytes = ap (λ (l : List ℕ). l ++ spelled e) p.bytes ∙ append_assoc (head Two) (body (before ++ (o ∷ os) ∷ [])) (spelled e) ∙ ap (λ (l : List ℕ). head Two ++ l) (sym all);
-      places = p.places;
+      rows_are = p.rows_are;
       from = p.from;
       named = p.named;
       count = p.count;
@@ -187,7 +201,7 @@ close_parts s es before o os p =
       grammar = p.grammar;
       short = p.short;
       bytes = p.bytes;
-      places = ap (λ (l : List ℕ). l ++ (number_bytes Two s.start ++ (number_bytes Two (length s.out - s.start) ++ field s.first))) p.places ∙ ap (λ (l : List ℕ). index Two 8 before ++ l) r ∙ sym (index-last Two 8 before (o ∷ os));
+      rows_are = ap (λ (l : List ℕ). l ++ (number_bytes Two s.start ++ (number_bytes Two (length s.out - s.start) ++ field s.first))) p.rows_are ∙ ap (λ (l : List ℕ). index Two 8 before ++ l) r ∙ sym (index-last Two 8 before (o ∷ os));
       count = ap (λ (n : ℕ). n + 1) p.count ∙ sym (length-last before (o ∷ os));
       total = p.total;
     }
@@ -212,7 +226,7 @@ open_parts s es e k before o os p h =
       alone = λ q. absurd (omega (arith, ap length q));
       short = all_joined IsShortEntry es (e ∷ []) p.short (k, tt);
       bytes = out-last s (before ++ (o ∷ os) ∷ []) e p.bytes;
-      places = c.places;
+      rows_are = c.rows_are;
       from = out_length s.out _ p.bytes;
       named = refl;
       count = c.count;
@@ -232,7 +246,7 @@ closed_image s es c =
     ap (λ (n : ℕ). s.out ++ (s.rows ++ foot Two (length s.out) n s.entries (length s.out + length s.rows + 40))) c.count
     ∙ ap (λ (n : ℕ). s.out ++ (s.rows ++ foot Two (length s.out) (length c.all) n (length s.out + length s.rows + 40))) c.total
     ∙ ap (λ (n : ℕ). s.out ++ (s.rows ++ foot Two n (length c.all) (length es) (n + length s.rows + 40))) l
-    ∙ ap (λ (r : List ℕ). s.out ++ (r ++ foot Two (8 + length (body c.all)) (length c.all) (length es) (8 + length (body c.all) + length r + 40))) c.places
+    ∙ ap (λ (r : List ℕ). s.out ++ (r ++ foot Two (8 + length (body c.all)) (length c.all) (length es) (8 + length (body c.all) + length r + 40))) c.rows_are
     ∙ ap (λ (n : ℕ). s.out ++ (index Two 8 c.all ++ foot Two (8 + length (body c.all)) (length c.all) (length es) n)) (omega arith)
     ∙ ap (λ (o : List ℕ). o ++ (index Two 8 c.all ++ foot Two (8 + length (body c.all)) (length c.all) (length es) (48 + length (body c.all) + length (index Two 8 c.all)))) c.bytes
     ∙ append_assoc (head Two) (body c.all) (index Two 8 c.all ++ foot Two (8 + length (body c.all)) (length c.all) (length es) (48 + length (body c.all) + length (index Two 8 c.all)))
@@ -256,7 +270,7 @@ fits_not s es limit c h f =
 
 -- an empty file
 pub nothing_built : (s : State) → s.out ≡ head Two → s.rows ≡ [] → s.start ≡ 8 → s.blocks ≡ 0 → s.entries ≡ 0 → IsBuilt s []
-nothing_built s o r f b e = record { before = []; current = []; whole = refl; grammar = tt; alone = λ _. refl; short = tt; bytes = o; places = r; from = f; named = tt; count = b; total = e }
+nothing_built s o r f b e = record { before = []; current = []; whole = refl; grammar = tt; alone = λ _. refl; short = tt; bytes = o; rows_are = r; from = f; named = tt; count = b; total = e }
 
 -- three pieces that are appended
 pub three : (out a b c x y z : List ℕ) → x ≡ out ++ a → y ≡ x ++ b → z ≡ y ++ c → z ≡ out ++ (a ++ (b ++ c))

@@ -8,7 +8,7 @@ use Rattle.std.specs.FinMap.Entries.{find, below_all}
 use Rattle.cell_key.specs.Keys.{byte_cmp}
 use Rattle.cell_key.specs.Entries.{Entry, IsRising, entries_from, entry_of_key}
 use Rattle.cell_key.proofs.TextPlaces.{find_lower, first, from_place, less, second}
-use Rattle.sorted_file.specs.Searching.{first_value}
+use Rattle.sorted_file.specs.Block.{first_value}
 use Rattle.sorted_file.proofs.Rows.{below_text}
 use Rattle.sorted_file.proofs.Searched.{find_from, head_from, lower, rising_from}
 

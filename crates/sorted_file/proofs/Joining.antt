@@ -10,8 +10,9 @@ use Rattle.cell_key.specs.Keys.{byte_cmp}
 use Rattle.cell_key.specs.Entries.{Entry, IsRising}
 use Rattle.cell_key.proofs.TextPlaces.{first, second, less}
 use Rattle.sorted_file.specs.Grammar.{block_bytes, body, Fits, IsFullBlock, AreBlocks}
-use Rattle.sorted_file.specs.Blocks.{block_of, blocks_of, entries_in, AreRows, IsFollowed, IsLastOf, IsRowAt}
-use Rattle.sorted_file.specs.declared.blocks.BlockRow.{BlockRow}
+use Rattle.sorted_file.specs.Index.{block_of, blocks_of, entries_in, AreRows, IsRowAt}
+use Rattle.sorted_file.specs.Check.{IsFollowed, IsLastOf}
+use Rattle.sorted_file.specs.declared.block.BlockRow.{BlockRow}
 
 pub both : (a b : Bool) → T a → T b → T (a && b)
 both true b p q = q

@@ -4,11 +4,11 @@ use Rattle.std.proofs.lemmas.Bool.{eqb-true}
 use Rattle.std.specs.Map.{lookup}
 use Rattle.lru.specs.LruCache.{LruCache, lru_cache, put_entries, promoted}
 use Rattle.lru.proofs.CallerLemmas.{Contains-put_entries, Contains-promoted, Contains-lookup}
-use Rattle.sorted_file.specs.Blocks.{block_of}
-use Rattle.sorted_file.specs.Cached.{AreCached, IsUncached}
-use Rattle.sorted_file.specs.Parsed.{IsParsed}
-use Rattle.sorted_file.specs.declared.blocks.BlockRow.{BlockRow}
-use Rattle.sorted_file.specs.declared.parsed.Block.{Block}
+use Rattle.sorted_file.specs.Index.{block_of}
+use Rattle.sorted_file.specs.File.{AreCached, IsUncached}
+use Rattle.sorted_file.specs.Block.{IsParsed}
+use Rattle.sorted_file.specs.declared.block.BlockRow.{BlockRow}
+use Rattle.sorted_file.specs.declared.block.Block.{Block}
 
 module _ (rows : List BlockRow) where
   still_put : (c : LruCache ℕ Block) (k : ℕ) (v : Block) → AreCached rows c.entries → ((row : BlockRow) → slice_get rows k ≡ Some row → IsParsed (block_of row) v) → AreCached rows (put_entries nat_eq c k v)

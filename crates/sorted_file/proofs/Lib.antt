@@ -19,7 +19,7 @@ mod Results
 mod Rows
 mod Searched
 mod Seams
-mod Spanned
+mod Bounded
 mod Spelling
 mod Splits
 mod Stamps

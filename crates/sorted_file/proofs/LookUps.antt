@@ -6,13 +6,12 @@ use Rattle.std.specs.List.{AllByRecursion}
 use Rattle.cell_key.specs.Entries.{Entry}
 use Rattle.file_store.specs.Store.{Contents}
 use Rattle.lru.specs.LruCache.{LruCache}
-use Rattle.sorted_file.specs.Blocks.{block_of, IsBlockIn}
-use Rattle.sorted_file.specs.Cached.{AreCached}
-use Rattle.sorted_file.specs.Opened.{name_of, IsOpen, IsReadNow, IsSameFile, WasRead}
-use Rattle.sorted_file.specs.Parsed.{BeginsWith, IsParsed}
-use Rattle.sorted_file.specs.declared.blocks.BlockRow.{BlockRow}
-use Rattle.sorted_file.specs.declared.opened.SortedFile.{SortedFile}
-use Rattle.sorted_file.specs.declared.parsed.Block.{Block}
+use Rattle.sorted_file.specs.Index.{block_of, IsBlockIn}
+use Rattle.sorted_file.specs.File.{AreCached, name_of, IsOpen, IsReadNow, IsSameFile, WasRead}
+use Rattle.sorted_file.specs.Block.{BeginsWith, IsParsed}
+use Rattle.sorted_file.specs.declared.block.BlockRow.{BlockRow}
+use Rattle.sorted_file.specs.declared.file.SortedFile.{SortedFile}
+use Rattle.sorted_file.specs.declared.block.Block.{Block}
 use Rattle.sorted_file.proofs.OpenBlocks.{open_in, open_named}
 use Rattle.sorted_file.proofs.Rows.{IsNamed}
 use Rattle.sorted_file.proofs.Starts.{parsed_as}
@@ -43,12 +42,12 @@ module _ (m : Contents) (file : SortedFile) (o : IsOpen m file) (n : ℕ) (row :
 
 -- with other blocks that are kept a file is the same
 pub same_file : (told : Option Contents) (file : SortedFile) (cache : LruCache ℕ Block) → IfSome told (λ m. IsOpen m file → AreCached file.rows.items cache.entries)
-    → IsSameFile told file (record { alloc = file.alloc; name = file.name; rows = file.rows; heads = file.heads; skips = file.skips; count = file.count; spans = file.spans; cache = cache })
+    → IsSameFile told file (record { alloc = file.alloc; name = file.name; rows = file.rows; heads = file.heads; skips = file.skips; count = file.count; bounds = file.bounds; cache = cache })
 same_file None file cache h = record { name = refl; still = tt }
 same_file (Some m) file cache h = record {
   name = refl;
   still = λ o. (
-    record { list = o.list; spans = o.spans; spanned = o.spanned; heads = o.heads; skips = o.skips; counted = o.counted; format = o.format; image = o.image; there = o.there; form = o.form; rows = o.rows; blocks = o.blocks; cached = h o },
+    record { list = o.list; bounds = o.bounds; bounded = o.bounded; heads = o.heads; skips = o.skips; counted = o.counted; format = o.format; image = o.image; there = o.there; form = o.form; rows = o.rows; blocks = o.blocks; cached = h o },
     refl,
   );
 }

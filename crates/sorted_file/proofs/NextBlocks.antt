@@ -7,13 +7,14 @@ use Rattle.std.specs.Prelude.{Option, flat_map}
 use Rattle.std.specs.List.{AllByRecursion}
 use Rattle.file_store.specs.Store.{Contents, part}
 use Rattle.cell_key.specs.Entries.{Entry, IsEntry, IsEntryList, IsRising, spelled, field}
-use Rattle.sorted_file.specs.Building.{IsFirstText}
+use Rattle.sorted_file.specs.Index.{IsFirstText, block_of, blocks_of, entries_in, row_bytes, AreRows}
 use Rattle.sorted_file.specs.Grammar.{block_bytes, body, foot_len, head, index, most, number_bytes, row, foot, Fits, AreBlocks, IsFile}
-use Rattle.sorted_file.specs.Blocks.{block_of, blocks_of, entries_in, row_bytes, AreRows, IsBlock, IsFollowed, IsNext, IsOpening, IsRead, IsReading}
-use Rattle.sorted_file.specs.declared.blocks.BlockRow.{BlockRow}
-use Rattle.sorted_file.specs.declared.blocks.RowRef.{RowRef}
-use Rattle.sorted_file.specs.declared.formats.Format.{Format}
-use Rattle.sorted_file.specs.declared.opening.Opening.{Opening}
+use Rattle.sorted_file.specs.Block.{IsBlock}
+use Rattle.sorted_file.specs.Check.{IsFollowed, IsNext, IsOpening, IsRead, IsReading}
+use Rattle.sorted_file.specs.declared.block.BlockRow.{BlockRow}
+use Rattle.sorted_file.specs.declared.format.RowRef.{RowRef}
+use Rattle.sorted_file.specs.declared.format.Format.{Format}
+use Rattle.sorted_file.specs.declared.check.Opening.{Opening}
 use Rattle.sorted_file.proofs.Growth.{index-last, body-last, flat-last}
 use Rattle.sorted_file.proofs.Joining.{all_back, all_front, all_joined, blocks_joined, map_joined, rows_joined, block_fits, block_follows, rising_back, rising_front}
 use Rattle.sorted_file.proofs.Reading.{place_of}
@@ -278,7 +279,7 @@ reads_on f image tail rest more blocks (e ∷ es) r was read offset size first f
 
 pub record IsAdded (rows new : List BlockRow) (es : List Entry) (end : ℕ) : Type 0 where
   pub blocks : blocks_of new ≡ blocks_of rows ++ es ∷ []
-  pub places : AreRows 8 new
+  pub rows_are : AreRows 8 new
   pub grammar : AreBlocks (blocks_of new)
   pub list : IsEntryList (entries_in (blocks_of new))
   pub whole : entries_in (blocks_of new) ≡ entries_in (blocks_of rows) ++ es
@@ -287,13 +288,13 @@ pub record IsAdded (rows new : List BlockRow) (es : List Entry) (end : ℕ) : Ty
 pub is_added : (rows new : List BlockRow) (row : BlockRow) (es : List Entry) (end : ℕ) → AreRows 8 rows → AreBlocks (blocks_of rows) → IsEntryList (entries_in (blocks_of rows)) → end ≡ 8 + length (body (blocks_of rows))
     → IsFollowed (blocks_of rows) es → IsRising (entries_in (blocks_of rows) ++ es) → IsEntryList es → Fits es → new ≡ rows ++ row ∷ [] → block_of row ≡ es → row.offset ≡ end → row.length ≡ length (block_bytes es) → IsFirstText row.first.items es
     → IsAdded rows new es (end + row.length)
-is_added rows new row es end places grammar list reached followed rising each fits made is offset size first =
+is_added rows new row es end rows_are grammar list reached followed rising each fits made is offset size first =
     let blocks = ap blocks_of made ∙ map_joined block_of rows row ∙ ap (λ (b : List Entry). blocks_of rows ++ b ∷ []) is in
     let flat = ap entries_in blocks ∙ flat-last (blocks_of rows) es in
     let l : length (body (blocks_of new)) ≡ length (body (blocks_of rows)) + length (block_bytes es) = ap (λ (b : List (List Entry)). length (body b)) blocks ∙ ap length (body-last (blocks_of rows) es) ∙ length-append (body (blocks_of rows)) (block_bytes es) in
     record {
       blocks = blocks;
-      places = subst (λ (r : List BlockRow). AreRows 8 r) (sym made) (rows_joined 8 rows row places (record { offset = offset ∙ reached; length = size ∙ ap (λ (b : List Entry). length (block_bytes b)) (sym is); first = subst (λ (b : List Entry). IsFirstText row.first.items b) (sym is) first }));
+      rows_are = subst (λ (r : List BlockRow). AreRows 8 r) (sym made) (rows_joined 8 rows row rows_are (record { offset = offset ∙ reached; length = size ∙ ap (λ (b : List Entry). length (block_bytes b)) (sym is); first = subst (λ (b : List Entry). IsFirstText row.first.items b) (sym is) first }));
       grammar = subst AreBlocks (sym blocks) (blocks_joined (blocks_of rows) es grammar fits followed);
       list = subst IsEntryList (sym flat) (record { rising = rising; each = all_joined IsEntry (entries_in (blocks_of rows)) es list.each each.each });
       whole = flat;

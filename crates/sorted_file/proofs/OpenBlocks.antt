@@ -1,17 +1,17 @@
 -- The blocks of an open file are in its image.
 use Rattle.std.proofs.Common.{◌≡◌, ◌+◌, ℕ, zero, suc, List, [], ◌∷◌, ◌++◌, length, map, take, drop, Option, Some, None, refl, sym, ap, subst, ◌∙◌, arith, append_assoc, length-append}
 use Rattle.std.proofs.Math.Seq.{take-append_seam, drop-append_seam}
+use Rattle.std.specs.Global.{Vec}
 use Rattle.std.specs.Prelude.{option_map}
-use Rattle.sorted_file.specs.Searching.{first_value}
+use Rattle.sorted_file.specs.Block.{first_value}
 use Rattle.std.specs.List.{AllByRecursion}
 use Rattle.cell_key.specs.Entries.{Entry, IsEntry, IsEntryList, IsRising}
 use Rattle.file_store.specs.Store.{Contents, part}
 use Rattle.sorted_file.specs.Grammar.{block_bytes, body, head, AreBlocks, image_of}
-use Rattle.sorted_file.specs.Blocks.{block_of, blocks_of, entries_in, first_of, head_in, row_head, AreRows, IsBlockIn}
-use Rattle.sorted_file.specs.Kept.{kept}
-use Rattle.sorted_file.specs.Opened.{IsOpen, listed}
-use Rattle.sorted_file.specs.declared.blocks.BlockRow.{BlockRow}
-use Rattle.sorted_file.specs.declared.opened.SortedFile.{SortedFile}
+use Rattle.sorted_file.specs.Index.{block_of, blocks_of, entries_in, first_of, row_head, texts_of, AreRows, IsBlockIn, first_some}
+use Rattle.sorted_file.specs.File.{IsOpen, listed}
+use Rattle.sorted_file.specs.declared.block.BlockRow.{BlockRow}
+use Rattle.sorted_file.specs.declared.file.SortedFile.{SortedFile}
 use Rattle.sorted_file.proofs.Joining.{all_back, all_front, rising_back, rising_front}
 use Rattle.sorted_file.proofs.Widths.{head_length}
 use Rattle.sorted_file.proofs.Rows.{all_named, firsts_rise, IsNamed}
@@ -77,25 +77,26 @@ value_and ((n, Some v) ∷ xs) ys x e = e
 abbrev pub text_of : Entry → List ℕ
 text_of e = e.0
 
-head_none : (name : List ℕ) (es rest : List Entry) → first_value es ≡ None → first_value (head_in name es ∷ rest) ≡ first_value rest
-head_none name [] rest e = refl
-head_none name ((n, None) ∷ es) rest e = head_none name es rest e
-head_none name ((n, Some v) ∷ es) rest e = cc
-
-head_some : (name : List ℕ) (es rest : List Entry) (x : Entry) → first_value es ≡ Some x → option_map text_of (first_value (head_in name es ∷ rest)) ≡ Some x.0
-head_some name [] rest x e = cc
-head_some name ((n, None) ∷ es) rest x e = head_some name es rest x e
-head_some name ((n, Some v) ∷ es) rest x e = ap (option_map text_of) e
-
--- the heads of blocks have the text of their first value
-pub heads_value : (rows : List BlockRow) → option_map text_of (first_value (map row_head rows)) ≡ option_map text_of (first_value (entries_in (blocks_of rows)))
+-- the first head that is there is the text of the first value
+pub heads_value : (rows : List BlockRow) → first_some (map row_head rows) ≡ option_map text_of (first_value (entries_in (blocks_of rows)))
 heads_value [] = refl
 heads_value (row ∷ rows) = go (first_value (block_of row)) refl (heads_value rows)
   where
-    go : (o : Option Entry) → first_value (block_of row) ≡ o → option_map text_of (first_value (map row_head rows)) ≡ option_map text_of (first_value (entries_in (blocks_of rows)))
-        → option_map text_of (first_value (row_head row ∷ map row_head rows)) ≡ option_map text_of (first_value (block_of row ++ entries_in (blocks_of rows)))
-    go None e more = ap (option_map text_of) (head_none row.first.items (block_of row) (map row_head rows) e) ∙ more ∙ sym (ap (option_map text_of) (value_or (block_of row) (entries_in (blocks_of rows)) e))
-    go (Some x) e more = head_some row.first.items (block_of row) (map row_head rows) x e ∙ sym (ap (option_map text_of) (value_and (block_of row) (entries_in (blocks_of rows)) x e))
+    go : (o : Option Entry) → first_value (block_of row) ≡ o → first_some (map row_head rows) ≡ option_map text_of (first_value (entries_in (blocks_of rows)))
+        → first_some (option_map text_of o ∷ map row_head rows) ≡ option_map text_of (first_value (block_of row ++ entries_in (blocks_of rows)))
+    go None e more = more ∙ sym (ap (option_map text_of) (value_or (block_of row) (entries_in (blocks_of rows)) e))
+    go (Some x) e more = sym (ap (option_map text_of) (value_and (block_of row) (entries_in (blocks_of rows)) x e))
+
+-- the bytes of the first text that is there
+first_text : (texts : List (Option (Vec ℕ))) → option_map (λ (v : Vec ℕ). v.items) (first_some texts) ≡ first_some (texts_of texts)
+first_text [] = refl
+first_text (None ∷ texts) = first_text texts
+first_text (Some v ∷ texts) = refl
+
+texts_behind : (n : ℕ) (texts : List (Option (Vec ℕ))) → texts_of (drop n texts) ≡ drop n (texts_of texts)
+texts_behind zero texts = refl
+texts_behind (suc n) [] = refl
+texts_behind (suc n) (x ∷ texts) = texts_behind n texts
 
 pub map_behind : (n : ℕ) (rows : List BlockRow) → drop n (map row_head rows) ≡ map row_head (drop n rows)
 map_behind zero rows = refl
@@ -131,7 +132,8 @@ list_behind zero rows h = h
 list_behind (suc n) [] h = h
 list_behind (suc n) (x ∷ rows) h = list_behind n rows (record { rising = rising_back (block_of x) (entries_in (blocks_of rows)) h.rising; each = all_back IsEntry (block_of x) (entries_in (blocks_of rows)) h.each })
 
-pub head_value : (m : Contents) (file : SortedFile) → IsOpen m file → (n : ℕ) → option_map text_of (first_value (drop n (kept file.heads.items))) ≡ option_map text_of (first_value (entries_in (blocks_of (drop n file.rows.items))))
+pub head_value : (m : Contents) (file : SortedFile) → IsOpen m file → (n : ℕ)
+    → option_map (λ (v : Vec ℕ). v.items) (first_some (drop n file.heads.items)) ≡ option_map text_of (first_value (entries_in (blocks_of (drop n file.rows.items))))
 head_value m file o n =
-    ap (λ (l : List Entry). option_map text_of (first_value (drop n l))) o.heads ∙ ap (λ (l : List Entry). option_map text_of (first_value l)) (map_behind n file.rows.items)
+    first_text (drop n file.heads.items) ∙ ap first_some (texts_behind n file.heads.items ∙ ap (drop n) o.heads ∙ map_behind n file.rows.items)
     ∙ heads_value (drop n file.rows.items)

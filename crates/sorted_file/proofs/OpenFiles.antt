@@ -3,11 +3,11 @@ use Rattle.std.proofs.Common.{◌≡◌, ℕ, Option, refl, sym, subst, ◌∙�
 use Rattle.std.specs.Prelude.{Some}
 use Rattle.std.specs.FinMap as map
 use Rattle.sorted_file.specs.Grammar.{IsFile}
-use Rattle.sorted_file.specs.Opened.{StaysOpen, OneListing, OpenIsThere, WrittenIsThere, WrittenIsListed}
+use Rattle.sorted_file.specs.File.{StaysOpen, OneListing, OpenIsThere, WrittenIsThere, WrittenIsListed}
 use Rattle.sorted_file.proofs.EntryParts.{one_list}
 
 pub stays_open : StaysOpen
-stays_open m n file o e = (record { list = o.list; spans = o.spans; spanned = o.spanned; heads = o.heads; skips = o.skips; counted = o.counted; format = o.format; image = o.image; there = e ∙ o.there; form = o.form; rows = o.rows; blocks = o.blocks; cached = o.cached }, refl)
+stays_open m n file o e = (record { list = o.list; bounds = o.bounds; bounded = o.bounded; heads = o.heads; skips = o.skips; counted = o.counted; format = o.format; image = o.image; there = e ∙ o.there; form = o.form; rows = o.rows; blocks = o.blocks; cached = o.cached }, refl)
 
 pub open_is_there : OpenIsThere
 open_is_there m file o = record { format = o.format; entries = _; image = o.image; list = o.list; there = o.there; form = o.form }

@@ -2,7 +2,7 @@
 use Rattle.std.proofs.Common.{◌≡◌, List, [], ◌∷◌, length, map, Option, Some, None, refl, arith}
 use Rattle.cell_key.specs.Entries.{Entry, IsEntryList}
 use Rattle.cell_key.proofs.TextPlaces.{second}
-use Rattle.sorted_file.specs.Sources.{pending}
+use Rattle.sorted_file.specs.Source.{pending}
 
 pub rest_list : (o : Option Entry) (es : List Entry) → IsEntryList (pending o es) → IsEntryList es
 rest_list None es h = h

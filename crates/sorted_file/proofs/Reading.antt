@@ -10,7 +10,7 @@ use Rattle.std.specs.FinMap.Entries.{below_all}
 use Rattle.cell_key.specs.Keys.{byte_cmp}
 use Rattle.cell_key.specs.Entries.{Entry, IsEntry, IsRising, spelled, spelled_value, field}
 use Rattle.sorted_file.specs.Grammar.{foot_len, most, number_bytes, IsFile}
-use Rattle.sorted_file.specs.declared.formats.Format.{Format}
+use Rattle.sorted_file.specs.declared.format.Format.{Format}
 use Rattle.sorted_file.proofs.Spelling.{one_spelling, field_split, field_length, spelled_split, spelled_length, short, goes_on, is_cut, number_split}
 use Rattle.sorted_file.proofs.EntryParts.{index_cut}
 

@@ -6,9 +6,15 @@ use Rattle.cell_key.specs.Entries.{Entry, spelled, entry_len, Takes}
 use Rattle.file_store.specs.Store.{Contents, KeepsOthers}
 use Rattle.std.specs.List.{AllByRecursion}
 use Rattle.sorted_file.specs.Grammar.{FitsIn, IsShortEntry, body, head}
-use Rattle.sorted_file.specs.declared.formats.Format.TheVariants.{Two}
-use Rattle.sorted_file.specs.Building.{State, IsBuilt, IsWriting, with_open}
+use Rattle.sorted_file.specs.declared.format.Format.TheVariants.{Two}
+use Rattle.sorted_file.specs.Builder.{State, IsBuilt, with_open}
 use Rattle.sorted_file.proofs.Spelling.{body-whole, is_cut}
+
+-- What was written is the front of the list that a source had, and it has the rest.
+pub record IsWriting (s : State) (all rest : List Entry) : Type 0 where
+  pub done : List Entry
+  pub built : IsBuilt s done
+  pub parts : done ++ rest ≡ all
 
 append-nil : {A : Type 0} (xs : List A) → xs ++ [] ≡ xs
 append-nil [] = refl

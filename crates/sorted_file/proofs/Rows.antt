@@ -9,10 +9,9 @@ use Rattle.std.specs.FinMap.Entries.{find, below_all}
 use Rattle.cell_key.specs.Keys.{byte_cmp}
 use Rattle.cell_key.specs.Entries.{Entry, IsRising, entries_from, entry_of_key}
 use Rattle.cell_key.proofs.TextPlaces.{first, second, less, find_lower, from_place, one_text}
-use Rattle.sorted_file.specs.Building.{IsFirstText}
+use Rattle.sorted_file.specs.Index.{IsFirstText, block_of, blocks_of, entries_in, AreRows, IsRowPosition, first_of}
 use Rattle.sorted_file.specs.Grammar.{block_bytes, Fits, AreBlocks}
-use Rattle.sorted_file.specs.Blocks.{block_of, blocks_of, entries_in, AreRows, IsRowPlace, first_of}
-use Rattle.sorted_file.specs.declared.blocks.BlockRow.{BlockRow}
+use Rattle.sorted_file.specs.declared.block.BlockRow.{BlockRow}
 use Rattle.sorted_file.proofs.CursorSteps.{from_both}
 use Rattle.sorted_file.proofs.Joining.{both, rising_back}
 
@@ -84,18 +83,18 @@ module _ (text : List ℕ) where
       before_below text (block_of row) is.entry (is.more ++ entries_in (blocks_of rows)) (subst (λ (l : List Entry). IsRising l) cut r)
       (subst (λ (t : List ℕ). byte_cmp text t ≢ Less) is.first n)
 
-  none_above : (rows : List BlockRow) → AllByRecursion IsNamed rows → IsRising (entries_in (blocks_of rows)) → IsRowPlace text rows 0 → entry_of_key (entries_in (blocks_of rows)) text ≡ None
+  none_above : (rows : List BlockRow) → AllByRecursion IsNamed rows → IsRising (entries_in (blocks_of rows)) → IsRowPosition text rows 0 → entry_of_key (entries_in (blocks_of rows)) text ≡ None
   none_above [] is r p = refl
   none_above (row ∷ rows) is r p =
       let cut : entries_in (blocks_of (row ∷ rows)) ≡ is.0.entry ∷ (is.0.more ++ entries_in (blocks_of rows)) = ap (λ (b : List Entry). b ++ entries_in (blocks_of rows)) is.0.block in
       ap (λ (l : List Entry). entry_of_key l text) cut
       ∙ find_lower text is.0.entry (is.0.more ++ entries_in (blocks_of rows)) (subst (λ (l : List Entry). IsRising l) cut r) (ap (byte_cmp text) (sym is.0.first) ∙ p)
 
-  pub none_before : (rows : List BlockRow) → AllByRecursion IsNamed rows → IsRising (entries_in (blocks_of rows)) → (n : ℕ) → IsRowPlace text rows n → n ≡ 0 → entry_of_key (entries_in (blocks_of rows)) text ≡ None
-  none_before rows is r n p z = none_above rows is r (subst (IsRowPlace text rows) z p)
+  pub none_before : (rows : List BlockRow) → AllByRecursion IsNamed rows → IsRising (entries_in (blocks_of rows)) → (n : ℕ) → IsRowPosition text rows n → n ≡ 0 → entry_of_key (entries_in (blocks_of rows)) text ≡ None
+  none_before rows is r n p z = none_above rows is r (subst (IsRowPosition text rows) z p)
 
   -- what a file has at a text its last block has whose first text isn't above it
-  pub in_row : (rows : List BlockRow) → AllByRecursion IsNamed rows → IsRising (entries_in (blocks_of rows)) → (n : ℕ) → IsRowPlace text rows n → (front : List BlockRow) (row : BlockRow) → take n rows ≡ front ++ row ∷ [] → entry_of_key (entries_in (blocks_of rows)) text ≡ entry_of_key (block_of row) text
+  pub in_row : (rows : List BlockRow) → AllByRecursion IsNamed rows → IsRising (entries_in (blocks_of rows)) → (n : ℕ) → IsRowPosition text rows n → (front : List BlockRow) (row : BlockRow) → take n rows ≡ front ++ row ∷ [] → entry_of_key (entries_in (blocks_of rows)) text ≡ entry_of_key (block_of row) text
   in_row rows is r zero p [] row t = cc
   in_row rows is r zero p (x ∷ front) row t = cc
   in_row [] is r (suc n) p front row t = absurd p
@@ -112,7 +111,7 @@ module _ (text : List ℕ) where
       ∙ in_row (y ∷ rows) is.1 (rising_back (block_of x) _ r) (suc n) p.1 front row rest
 
   -- blocks before that one have no entry from the text on
-  pub from_row : (rows : List BlockRow) → AllByRecursion IsNamed rows → IsRising (entries_in (blocks_of rows)) → (n : ℕ) → IsRowPlace text rows n → entries_from text (entries_in (blocks_of rows)) ≡ entries_from text (entries_in (blocks_of (drop (n - 1) rows)))
+  pub from_row : (rows : List BlockRow) → AllByRecursion IsNamed rows → IsRising (entries_in (blocks_of rows)) → (n : ℕ) → IsRowPosition text rows n → entries_from text (entries_in (blocks_of rows)) ≡ entries_from text (entries_in (blocks_of (drop (n - 1) rows)))
   from_row rows is r zero p = refl
   from_row rows is r (suc zero) p = refl
   from_row [] is r (suc (suc n)) p = absurd p
@@ -124,7 +123,7 @@ module _ (text : List ℕ) where
       ∙ (let two : suc n ≡ suc (suc n) - 1 = omega arith in ap (λ (k : ℕ). entries_from text (entries_in (blocks_of (drop k (x ∷ y ∷ rows))))) two)
 
   -- from the text on, that block has entries, and all blocks after it
-  above : (rows : List BlockRow) → AllByRecursion IsNamed rows → IsRising (entries_in (blocks_of rows)) → IsRowPlace text rows 0 → entries_from text (entries_in (blocks_of rows)) ≡ entries_in (blocks_of rows)
+  above : (rows : List BlockRow) → AllByRecursion IsNamed rows → IsRising (entries_in (blocks_of rows)) → IsRowPosition text rows 0 → entries_from text (entries_in (blocks_of rows)) ≡ entries_in (blocks_of rows)
   above [] is r p = refl
   above (row ∷ rows) is r p =
       let cut : entries_in (blocks_of (row ∷ rows)) ≡ is.0.entry ∷ (is.0.more ++ entries_in (blocks_of rows)) = ap (λ (b : List Entry). b ++ entries_in (blocks_of rows)) is.0.block in
@@ -133,10 +132,10 @@ module _ (text : List ℕ) where
       ∙ from_place text (is.0.entry ∷ (is.0.more ++ entries_in (blocks_of rows))) 0 (subst (λ (l : List Entry). IsRising l) cut r) (λ q. two_orders (byte_cmp text is.0.entry.0) low q)
       ∙ sym cut
 
-  pub all_above : (rows : List BlockRow) → AllByRecursion IsNamed rows → IsRising (entries_in (blocks_of rows)) → (n : ℕ) → IsRowPlace text rows n → n ≡ 0 → entries_from text (entries_in (blocks_of rows)) ≡ entries_in (blocks_of (drop n rows))
-  all_above rows is r n p z = above rows is r (subst (IsRowPlace text rows) z p) ∙ ap (λ (k : ℕ). entries_in (blocks_of (drop k rows))) (sym z)
+  pub all_above : (rows : List BlockRow) → AllByRecursion IsNamed rows → IsRising (entries_in (blocks_of rows)) → (n : ℕ) → IsRowPosition text rows n → n ≡ 0 → entries_from text (entries_in (blocks_of rows)) ≡ entries_in (blocks_of (drop n rows))
+  all_above rows is r n p z = above rows is r (subst (IsRowPosition text rows) z p) ∙ ap (λ (k : ℕ). entries_in (blocks_of (drop k rows))) (sym z)
 
-  pub from_in_row : (rows : List BlockRow) → AllByRecursion IsNamed rows → IsRising (entries_in (blocks_of rows)) → (n : ℕ) → IsRowPlace text rows n → (front : List BlockRow) (row : BlockRow) → take n rows ≡ front ++ row ∷ [] → entries_from text (entries_in (blocks_of rows)) ≡ entries_from text (block_of row) ++ entries_in (blocks_of (drop n rows))
+  pub from_in_row : (rows : List BlockRow) → AllByRecursion IsNamed rows → IsRising (entries_in (blocks_of rows)) → (n : ℕ) → IsRowPosition text rows n → (front : List BlockRow) (row : BlockRow) → take n rows ≡ front ++ row ∷ [] → entries_from text (entries_in (blocks_of rows)) ≡ entries_from text (block_of row) ++ entries_in (blocks_of (drop n rows))
   from_in_row rows is r zero p [] row t = cc
   from_in_row rows is r zero p (x ∷ front) row t = cc
   from_in_row [] is r (suc n) p front row t = absurd p
@@ -184,7 +183,7 @@ module _ (text : List ℕ) where
   parted (x ∷ xs) r (suc i) zero d le lt t = absurd (omega arith)
   parted (x ∷ xs) r (suc i) (suc j) d le lt t = parted xs (second _ _ r) i j d (omega arith) (omega arith) t
 
-  pub at_point : (xs : List BlockRow) (i : ℕ) → i ≤ length xs → ((k : ℕ) (d : BlockRow) → 0 ≤ k → k < i → is_to text (get_or xs k d) ≡ true) → ((k : ℕ) (d : BlockRow) → i ≤ k → k < length xs → is_to text (get_or xs k d) ≡ false) → IsRowPlace text xs i
+  pub at_point : (xs : List BlockRow) (i : ℕ) → i ≤ length xs → ((k : ℕ) (d : BlockRow) → 0 ≤ k → k < i → is_to text (get_or xs k d) ≡ true) → ((k : ℕ) (d : BlockRow) → i ≤ k → k < length xs → is_to text (get_or xs k d) ≡ false) → IsRowPosition text xs i
   at_point [] zero le p q = tt
   at_point [] (suc i) le p q = absurd (omega arith)
   at_point (x ∷ xs) zero le p q = less_only _ (q 0 x (omega arith) (omega arith))

@@ -12,7 +12,7 @@ use Rattle.cell_key.specs.Keys.{byte_cmp}
 use Rattle.cell_key.specs.Entries.{Entry, IsEntry, IsRising, entries_from, entry_of_key, spelled}
 use Rattle.cell_key.proofs.TextPlaces.{first, second, from_place, find_lower}
 use Rattle.sorted_file.specs.Grammar.{block_bytes}
-use Rattle.sorted_file.specs.Searching.{first_value}
+use Rattle.sorted_file.specs.Block.{first_value}
 use Rattle.sorted_file.proofs.Joining.{both}
 use Rattle.sorted_file.proofs.Spelling.{no_more, short, spelled_length, spelled_split}
 

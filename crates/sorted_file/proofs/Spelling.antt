@@ -6,8 +6,8 @@ use Rattle.std.specs.Int.{w32, to_be_bytes}
 use Rattle.std.proofs.lemmas.List.Concat.{flat_map-append}
 use Rattle.cell_key.specs.Entries.{Entry, spelled, spelled_value, field}
 use Rattle.sorted_file.specs.Grammar.{block_bytes, body, foot_len, head, index, most, number_bytes, IsFile, IsShortEntry}
-use Rattle.sorted_file.specs.declared.formats.Format.{Format}
-use Rattle.sorted_file.specs.declared.formats.Format.TheVariants.{One}
+use Rattle.sorted_file.specs.declared.format.Format.{Format}
+use Rattle.sorted_file.specs.declared.format.Format.TheVariants.{One}
 use Rattle.sorted_file.proofs.Widths.{foot_length, head_length, same_length, same_number}
 
 -- equal parts of equal lists

@@ -10,16 +10,28 @@ use Rattle.std.specs.Cmp.{ranks, nat_cmp_is, tied_itself}
 use Rattle.std.specs.Cmp.Lexicographic.{nat_list_cmp_total}
 use Rattle.std.specs.FinMap.Entries.{find}
 use Rattle.cell_key.specs.Names.{IsRow, IsFamily}
-use Rattle.cell_key.specs.Keys.{byte_cmp, key_cmp, text, exact_qualifiers, same_key, qualifier_name, IsKey}
+use Rattle.cell_key.specs.Keys.{byte_cmp, key_cmp, text, qualifier_name, IsKey}
 use Rattle.cell_key.specs.Entries.{Entry, IsEntry, IsEntryList, IsRising, entries_from, entry_of_key, value_of}
 use Rattle.cell_key.specs.declared.keys.CellKey.{CellKey}
 use Rattle.cell_key.proofs.Order.{text_order}
 use Rattle.cell_key.proofs.EntryLaws.{stored_key}
 use Rattle.cell_key.proofs.TextPlaces.{equal, find_below, find_lower, first, one_text, second}
-use Rattle.sorted_file.specs.Searching.{first_value}
-use Rattle.sorted_file.specs.Newest.{at_stamp, erased_first, skips, HasNoneAt, IsFirstValue, IsNewestStamp}
+use Rattle.cell_key.proofs.KeyLaws.{exact_qualifiers, same_key}
+use Rattle.sorted_file.specs.Block.{first_value}
+use Rattle.sorted_file.specs.Newest.{at_stamp, HasNoneAt, IsNewestStamp}
+use Rattle.sorted_file.specs.Index.{first_some, missing_first, skips}
 
 -- ---- the first value from a text on
+
+-- the first value of entries at a text that isn't below this one
+abbrev pub IsFirstValue : List ℕ → List Entry → Option Entry → Type 0
+IsFirstValue from es None =
+    (name : List ℕ) → is_le (byte_cmp from name) ≡ true → value_of (entry_of_key es name) ≡ None
+IsFirstValue from es (Some found) =
+    (is_le (byte_cmp from found.0) ≡ true) × (entry_of_key es found.0 ≡ Some found.1)
+    × IsSome found.1
+    × ((name : List ℕ) → is_le (byte_cmp from name) ≡ true → byte_cmp name found.0 ≡ Less
+    → value_of (entry_of_key es name) ≡ None)
 
 module _ (from : List ℕ) where
   module _ (n : List ℕ) (o : Option (List ℕ)) (es : List Entry) (r : IsRising ((n, o) ∷ es)) (pass : (k : List ℕ) → is_le (byte_cmp from k) ≡ true → value_of (entry_of_key es k) ≡ None → value_of (entry_of_key ((n, o) ∷ es) k) ≡ None) where
@@ -56,71 +68,53 @@ module _ (from : List ℕ) where
         λ k le less. ap value_of (find_lower k (n, Some v) es r less),
       )
 
--- ---- erasures that are passed by
+-- ---- what is missing is passed by
 
-counted : (es : List Entry) (i d : ℕ) → i < length es → get_or (skips es) i d ≡ erased_first (drop i es)
-counted [] i d lt = absurd (omega (arith, lt))
-counted (e ∷ es) zero d lt = refl
-counted (e ∷ es) (suc i) d lt = counted es i d (omega (arith, lt))
+module _ {A : Type 0} where
+  counted : (xs : List (Option A)) (i d : ℕ) → i < length xs → get_or (skips xs) i d ≡ missing_first (drop i xs)
+  counted [] i d lt = absurd (omega (arith, lt))
+  counted (x ∷ xs) zero d lt = refl
+  counted (x ∷ xs) (suc i) d lt = counted xs i d (omega (arith, lt))
 
-counts : (es : List Entry) → length (skips es) ≡ length es
-counts [] = refl
-counts (e ∷ es) = ap suc (counts es)
+  counts : (xs : List (Option A)) → length (skips xs) ≡ length xs
+  counts [] = refl
+  counts (x ∷ xs) = ap suc (counts xs)
 
-module _ {X : Type 0} (f : X → Entry) where
-  map-drop : (i : ℕ) (xs : List X) → map f (drop i xs) ≡ drop i (map f xs)
-  map-drop zero xs = refl
-  map-drop (suc i) [] = refl
-  map-drop (suc i) (x ∷ xs) = map-drop i xs
-
-  drop_short : (i : ℕ) (es : List Entry) → length es ≤ i → drop i es ≡ []
+  drop_short : (i : ℕ) (xs : List (Option A)) → length xs ≤ i → drop i xs ≡ []
   drop_short zero [] le = refl
   drop_short (suc i) [] le = refl
-  drop_short zero (e ∷ es) le = absurd (omega (arith, le))
-  drop_short (suc i) (e ∷ es) le = drop_short i es (omega (arith, le))
+  drop_short zero (x ∷ xs) le = absurd (omega (arith, le))
+  drop_short (suc i) (x ∷ xs) le = drop_short i xs (omega (arith, le))
 
-  length-map : (xs : List X) → length (map f xs) ≡ length xs
-  length-map [] = refl
-  length-map (x ∷ xs) = ap suc (length-map xs)
-
-  reached : (xs : List X) (n : ℕ) (x : X) → n ≡ erased_first (map f xs) → n < length xs → x ≡ get_or xs n x → first_value (map f xs) ≡ Some (f x)
+  reached : (xs : List (Option A)) (n : ℕ) (x : Option A) → n ≡ missing_first xs → n < length xs → x ≡ get_or xs n x → x ≡ first_some xs
   reached [] n x e lt g = absurd (omega (arith, lt))
-  reached (y ∷ xs) n x e lt g = go (λ m. reached xs m x) (f y) refl n e lt g
-    where
-      go : ((m : ℕ) → m ≡ erased_first (map f xs) → m < length xs → x ≡ get_or xs m x → first_value (map f xs) ≡ Some (f x)) → (o : Entry) → f y ≡ o → (n : ℕ) → n ≡ erased_first (o ∷ map f xs) → n < length (y ∷ xs) → x ≡ get_or (y ∷ xs) n x → first_value (o ∷ map f xs) ≡ Some (f x)
-      go more (name, None) same zero e lt g = absurd (omega (arith, e))
-      go more (name, None) same (suc n) e lt g = more n (omega (arith, e)) (omega (arith, lt)) g
-      go more (name, Some v) same zero e lt g = ap Some (sym same ∙ ap f (sym g))
-      go more (name, Some v) same (suc n) e lt g = absurd (omega (arith, e))
+  reached (None ∷ xs) zero x e lt g = absurd (omega (arith, e))
+  reached (None ∷ xs) (suc n) x e lt g = reached xs n x (omega (arith, e)) (omega (arith, lt)) g
+  reached (Some a ∷ xs) zero x e lt g = g
+  reached (Some a ∷ xs) (suc n) x e lt g = absurd (omega (arith, e))
 
-  ended : (xs : List X) (n : ℕ) → n ≡ erased_first (map f xs) → length xs ≤ n → first_value (map f xs) ≡ None
+  ended : (xs : List (Option A)) (n : ℕ) → n ≡ missing_first xs → length xs ≤ n → first_some xs ≡ None
   ended [] n e le = refl
-  ended (y ∷ xs) n e le = go (ended xs) (f y) n e le
-    where
-      go : ((m : ℕ) → m ≡ erased_first (map f xs) → length xs ≤ m → first_value (map f xs) ≡ None) → (o : Entry) (n : ℕ) → n ≡ erased_first (o ∷ map f xs) → length (y ∷ xs) ≤ n → first_value (o ∷ map f xs) ≡ None
-      go more (name, None) zero e le = absurd (omega (arith, e))
-      go more (name, None) (suc n) e le = more n (omega (arith, e)) (omega (arith, le))
-      go more (name, Some v) n e le = absurd (omega (arith, e, le))
+  ended (None ∷ xs) zero e le = absurd (omega (arith, e))
+  ended (None ∷ xs) (suc n) e le = ended xs n (omega (arith, e)) (omega (arith, le))
+  ended (Some a ∷ xs) n e le = absurd (omega (arith, e, le))
 
-  pub as_long : (xs : List X) (cs : List ℕ) → cs ≡ skips (map f xs) → length cs ≡ length xs
-  as_long xs cs is = ap length is ∙ counts (map f xs) ∙ length-map xs
+  pub as_long : (xs : List (Option A)) (cs : List ℕ) → cs ≡ skips xs → length cs ≡ length xs
+  as_long xs cs is = ap length is ∙ counts xs
 
-  module _ (xs : List X) (i : ℕ) where
-    pub none_after : (cs : List ℕ) → cs ≡ skips (map f xs) → length cs ≤ i → None ≡ first_value (drop i (map f xs))
-    none_after cs is le = sym (ap first_value (drop_short i (map f xs) (omega (arith, le, ap length is, counts (map f xs)))))
+  module _ (xs : List (Option A)) (i : ℕ) where
+    pub none_after : (cs : List ℕ) → cs ≡ skips xs → length cs ≤ i → None ≡ first_some (drop i xs)
+    none_after cs is le = sym (ap first_some (drop_short i xs (omega (arith, le, ap length is, counts xs))))
 
-    module _ (cs : List ℕ) (is : cs ≡ skips (map f xs)) (n : ℕ) (lt : i < length cs) (at : n ≡ get_or cs i n) (rest : List X) (back : rest ≡ drop i xs) where
-      left : map f rest ≡ drop i (map f xs)
-      left = ap (map f) back ∙ map-drop i xs
+    module _ (cs : List ℕ) (is : cs ≡ skips xs) (n : ℕ) (lt : i < length cs) (at : n ≡ get_or cs i n) (rest : List (Option A)) (back : rest ≡ drop i xs) where
+      skipped : n ≡ missing_first rest
+      skipped = at ∙ ap (λ (ns : List ℕ). get_or ns i n) is ∙ counted xs i n (omega (arith, lt, ap length is, counts xs)) ∙ ap missing_first (sym back)
 
-      skipped : n ≡ erased_first (map f rest)
-      skipped = at ∙ ap (λ (ns : List ℕ). get_or ns i n) is ∙ counted (map f xs) i n (omega (arith, lt, ap length is, counts (map f xs))) ∙ ap erased_first (sym left)
+      pub some_after : (x : Option A) → n < length rest → x ≡ get_or rest n x → x ≡ first_some (drop i xs)
+      some_after x below g = reached rest n x skipped below g ∙ ap first_some back
 
-      pub value_after : (x : X) → n < length rest → x ≡ get_or rest n x → Some (f x) ≡ first_value (drop i (map f xs))
-      value_after x below g = sym (ap first_value (sym left) ∙ reached rest n x skipped below g)
-
-      pub no_value_after : length rest ≤ n → None ≡ first_value (drop i (map f xs))
-      no_value_after le = sym (ap first_value (sym left) ∙ ended rest n skipped le)
+      pub none_left : length rest ≤ n → None ≡ first_some (drop i xs)
+      none_left le = sym (ap first_some (sym back) ∙ ended rest n skipped le)
 
 -- ---- the versions of a column
 

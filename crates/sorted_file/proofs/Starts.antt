@@ -11,8 +11,8 @@ use Rattle.cell_key.specs.Texts.{ended, escaped, stamp_text}
 use Rattle.cell_key.specs.Entries.{Entry, IsEntry, IsEntryList, IsRising, spelled}
 use Rattle.cell_key.proofs.TextPlaces.{first, less, second}
 use Rattle.sorted_file.specs.Grammar.{block_bytes}
-use Rattle.sorted_file.specs.Parsed.{starts_from, IsParsed}
-use Rattle.sorted_file.specs.declared.parsed.Block.{Block}
+use Rattle.sorted_file.specs.Block.{starts_from, IsParsed}
+use Rattle.sorted_file.specs.declared.block.Block.{Block}
 use Rattle.sorted_file.proofs.Joining.{all_joined, both}
 use Rattle.sorted_file.proofs.Spelling.{goes_on, one_spelling, short, spelled_length, spelled_split}
 

@@ -5,12 +5,13 @@ use Rattle.std.specs.Prelude.{Option, IfSome, IsSome, flat_map}
 use Rattle.std.specs.FinMap as map
 use Rattle.file_store.specs.Store.{Contents}
 use Rattle.cell_key.specs.Entries.{Entry, field, spelled}
-use Rattle.sorted_file.specs.Grammar.{block_bytes, body, foot_len, head, index, most, number_bytes, row, foot, AreBlocks, IsFile}
-use Rattle.sorted_file.specs.Blocks.{block_of, blocks_of, entries_in, IsFramed, IsNoFile, IsOpening, IsRead, IsReading, IsWhole, Tells}
-use Rattle.sorted_file.specs.Opened.{HasFile}
-use Rattle.sorted_file.specs.declared.blocks.BlockRow.{BlockRow}
-use Rattle.sorted_file.specs.declared.formats.Format.{Format}
-use Rattle.sorted_file.specs.declared.opening.Opening.{Opening}
+use Rattle.sorted_file.specs.Grammar.{block_bytes, body, foot_len, head, index, most, number_bytes, row, foot, AreBlocks, IsFile, IsNoFile}
+use Rattle.sorted_file.specs.Index.{block_of, blocks_of, entries_in, Tells}
+use Rattle.sorted_file.specs.Check.{IsFramed, IsOpening, IsRead, IsReading, IsWhole}
+use Rattle.sorted_file.specs.File.{HasFile}
+use Rattle.sorted_file.specs.declared.block.BlockRow.{BlockRow}
+use Rattle.sorted_file.specs.declared.format.Format.{Format}
+use Rattle.sorted_file.specs.declared.check.Opening.{Opening}
 use Rattle.sorted_file.proofs.Joining.{block_fits}
 use Rattle.sorted_file.proofs.NextBlocks.{drop_part, end_is, image_length, left}
 use Rattle.sorted_file.proofs.Spelling.{body-whole, number_split, spelled_length}

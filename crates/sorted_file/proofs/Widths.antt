@@ -12,9 +12,9 @@ use Rattle.cell_key.specs.declared.keys.CellKey.{CellKey}
 use Rattle.cell_key.specs.declared.keys.Qualifier.{Qualifier}
 use Rattle.cell_key.specs.declared.keys.Qualifier.TheVariants.{Data, Lock, Write}
 use Rattle.sorted_file.specs.Grammar.{block_bytes, foot, foot_len, head, most, number_bytes, number_len, Fits, AreBlocks, IsShortEntry}
-use Rattle.sorted_file.specs.Blocks.{entries_in}
-use Rattle.sorted_file.specs.declared.formats.Format.{Format}
-use Rattle.sorted_file.specs.declared.formats.Format.TheVariants.{One, Two}
+use Rattle.sorted_file.specs.Index.{entries_in}
+use Rattle.sorted_file.specs.declared.format.Format.{Format}
+use Rattle.sorted_file.specs.declared.format.Format.TheVariants.{One, Two}
 use Rattle.sorted_file.proofs.Joining.{all_front, all_back}
 
 -- ---- numbers, heads and feet

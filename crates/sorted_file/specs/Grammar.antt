@@ -2,11 +2,11 @@
 use Rattle.std.specs.Prelude.{◌≡◌, ℕ, ◌+◌, ◌≤◌, ◌<◌, ◌^◌, List, [], ◌∷◌, ◌++◌, length, flat_map, codes}
 use Rattle.std.specs.List.{AllByRecursion}
 use Rattle.std.specs.Int.{w32, w64, to_be_bytes}
-use Rattle.cell_key.specs.Entries.{Entry, spelled, field}
-use Rattle.sorted_file.specs.declared.formats.Format.{Format}
-use Rattle.sorted_file.specs.declared.formats.Format.TheVariants.{One, Two}
+use Rattle.cell_key.specs.Entries.{Entry, spelled, field, IsEntryList}
+use Rattle.sorted_file.specs.declared.format.Format.{Format}
+use Rattle.sorted_file.specs.declared.format.Format.TheVariants.{One, Two}
 
--- ---- what tells the formats apart
+-- ---- what differs between the formats
 
 abbrev pub head : Format → List ℕ
 head One = codes "TABLET01"
@@ -53,14 +53,14 @@ abbrev pub AreBlocks : List (List Entry) → Type 0
 AreBlocks [] = Unit {0}
 AreBlocks (es ∷ blocks) = Fits es × IsFullBlock es blocks × AreBlocks blocks
 
--- the row of a block that begins at this place: the place, the block's length and its first key
+-- the row of a block that begins at this offset: the offset, the block's length and its first key
 abbrev pub row : Format → ℕ → List Entry → List ℕ
 row format at [] = []
 row format at (e ∷ es) =
     number_bytes format at
     ++ (number_bytes format (length (block_bytes (e ∷ es))) ++ field e.0)
 
--- a row for each block, the first of which begins at this place
+-- a row for each block, the first of which begins at this offset
 abbrev pub index : Format → ℕ → List (List Entry) → List ℕ
 index format at [] = []
 index format at (es ∷ blocks) =
@@ -112,3 +112,7 @@ pub record FitsIn (limit : ℕ) (entries : List Entry) : Type 0 where
   pub image : List ℕ
   pub form : IsFile Two entries image
   pub within : length image ≤ limit
+
+-- the bytes are the file of no entry list, in neither format
+abbrev pub IsNoFile : List ℕ → Type 0
+IsNoFile image = (format : Format) (es : List Entry) → IsEntryList es → ¬ IsFile format es image

@@ -1,12 +1,10 @@
 -- The newest value of a column among entries.
-use Rattle.std.specs.Prelude.{◌≡◌, ◌≤◌, ◌<◌, ◌+◌, ℕ, List, [], ◌∷◌, Option, Some, None, IsSome, option_map, true}
-use Rattle.std.specs.Ordering.{is_le}
-use Rattle.std.specs.declared.cmp.Ordering.TheVariants.{Less}
-use Rattle.cell_key.specs.Keys.{byte_cmp, text, IsKey, IsStored}
+use Rattle.std.specs.Prelude.{◌≡◌, ◌≤◌, ◌<◌, ℕ, List, Option, Some, None, IsSome, option_map}
+use Rattle.cell_key.specs.Keys.{text, IsKey, IsStored}
 use Rattle.cell_key.specs.Cells.{version}
 use Rattle.cell_key.specs.Entries.{Entry, IsEntryList, entries_from, entry_of_key, value_of}
 use Rattle.cell_key.specs.declared.keys.CellKey.{CellKey}
-use Rattle.sorted_file.specs.Searching.{first_value}
+use Rattle.sorted_file.specs.Block.{first_value}
 
 -- the key of the same column at another stamp
 abbrev pub at_stamp : CellKey → ℕ → CellKey
@@ -24,26 +22,6 @@ IsNewestStamp es key lo (Some found) =
     (lo ≤ found) × (found ≤ key.stamp)
     × IsSome (value_of (entry_of_key es (text (at_stamp key found))))
     × ((s : ℕ) → found < s → s ≤ key.stamp → HasNoneAt es (at_stamp key s))
-
--- the first value of entries at a text that isn't below this one
-abbrev pub IsFirstValue : List ℕ → List Entry → Option Entry → Type 0
-IsFirstValue from es None =
-    (name : List ℕ) → is_le (byte_cmp from name) ≡ true → value_of (entry_of_key es name) ≡ None
-IsFirstValue from es (Some found) =
-    (is_le (byte_cmp from found.0) ≡ true) × (entry_of_key es found.0 ≡ Some found.1)
-    × IsSome found.1
-    × ((name : List ℕ) → is_le (byte_cmp from name) ≡ true → byte_cmp name found.0 ≡ Less
-    → value_of (entry_of_key es name) ≡ None)
-
--- how many erasures come before the first value, and for each entry how many from it on
-abbrev pub erased_first : List Entry → ℕ
-erased_first [] = 0
-erased_first ((name, None) ∷ es) = erased_first es + 1
-erased_first ((name, Some value) ∷ es) = 0
-
-abbrev pub skips : List Entry → List ℕ
-skips [] = []
-skips (e ∷ es) = erased_first (e ∷ es) ∷ skips es
 
 -- A part of entries has what they have of a column from the one stamp to the other, and this is the
 -- text of its first value at a text that isn't below the key's.

@@ -1,22 +1,22 @@
-//! The blocks of an open file that are kept in memory.
+//! The cache of an open file: the blocks that were looked into last.
 
-ghost use Rattle.std.specs.Prelude.{◌≡◌, ◌⊎◌, ℕ, [], List, slice_get, Contains, Some, IfOk, IfErr};
-ghost use Rattle.sorted_file.specs.Blocks.{block_of};
-ghost use Rattle.sorted_file.specs.Cached.{AreCached};
-ghost use Rattle.sorted_file.specs.Parsed.{IsParsed};
-ghost use Rattle.sorted_file.specs.declared.blocks.BlockRow.{BlockRow as Row};
-ghost use Rattle.sorted_file.specs.declared.parsed.Block.{Block as Kept};
+ghost use Rattle.std.specs.Prelude.{◌≡◌, [], IfOk, IfErr, ◌⊎◌, ℕ, List, slice_get, Contains, Some};
+ghost use Rattle.sorted_file.specs.Index.{block_of};
+ghost use Rattle.sorted_file.specs.File.{AreCached};
+ghost use Rattle.sorted_file.specs.Block.{IsParsed};
+ghost use Rattle.sorted_file.specs.declared.block.BlockRow.{BlockRow as Row};
+ghost use Rattle.sorted_file.specs.declared.block.Block.{Block as Cached};
 
-use crate::parsed::Block;
+use crate::block::Block;
 use cell_key::Refusal;
 use lru::LruCache;
 use std::alloc::Global;
 use std::num::NonZeroUsize;
 
-/// How many blocks a file keeps.
+/// How many blocks an open file caches.
 const MOST_BLOCKS: usize = 8;
 
-/// No block yet. Refused NoMemory.
+/// An empty cache. Answers `NoMemory` if there is no memory.
 pub(crate) fn no_blocks(alloc: Global) -> Result<LruCache<usize, Block>, Refusal>
     ensures none { IfOk result (λ cache. cache.entries ≡ []) }
     ensures refusal { IfErr result (λ refusal. refusal ≡ Refusal.NoMemory) }
@@ -25,23 +25,23 @@ pub(crate) fn no_blocks(alloc: Global) -> Result<LruCache<usize, Block>, Refusal
     Ok(LruCache::new(alloc, most)?)
 }
 
-/// Keeps a block as the one that was used last, in the place of the one whose use is longest ago. Where there is no
-/// memory for it, it isn't kept.
+/// Caches a block as the one that was used last, instead of the one whose use is longest ago. If there is no memory
+/// for it, it isn't cached.
 pub(crate) fn keep(cache: &mut LruCache<usize, Block>, number: usize, block: Block)
     ensures still { (rows : List Row) → AreCached rows cache.old.entries
         → ((row : Row) → slice_get rows number ≡ Some row → IsParsed (block_of row) block)
         → AreCached rows cache.new.entries }
-    ensures kept { (e : ℕ × Kept) → Contains cache.new.entries e
+    ensures kept { (e : ℕ × Cached) → Contains cache.new.entries e
         → Contains cache.old.entries e ⊎ (e ≡ (number, block)) }
 {
     let _told: Result<_, _> = cache.put(number, block);
 }
 
-/// Tells that a block was used.
+/// Marks a block as the one that was used last.
 pub(crate) fn promote(cache: &mut LruCache<usize, Block>, number: usize)
     ensures still { (rows : List Row) → AreCached rows cache.old.entries
         → AreCached rows cache.new.entries }
-    ensures kept { (e : ℕ × Kept) → Contains cache.new.entries e
+    ensures kept { (e : ℕ × Cached) → Contains cache.new.entries e
         → Contains cache.old.entries e }
 {
     let _ = cache.promote(&number);

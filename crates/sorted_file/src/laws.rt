@@ -1,8 +1,8 @@
 //! Laws of the form of files, of open files, and of sources. Each is the contract of a function that does nothing.
 
 ghost use Rattle.sorted_file.specs.Grammar.{OneImage, OneList};
-ghost use Rattle.sorted_file.specs.Sources.{RestIsList};
-ghost use Rattle.sorted_file.specs.Opened.{StaysOpen, OneListing, OpenIsThere, WrittenIsThere, WrittenIsListed};
+ghost use Rattle.sorted_file.specs.Source.{RestIsList};
+ghost use Rattle.sorted_file.specs.File.{StaysOpen, OneListing, OpenIsThere, WrittenIsThere, WrittenIsListed};
 
 /// One list of entries has one image a format.
 pub fn one_image()
@@ -29,7 +29,7 @@ pub fn open_is_there()
     ensures { OpenIsThere }
 {}
 
-/// Where the file of an entry list was written, there is one, so that `open` cannot find it damaged.
+/// If the file of an entry list was written, there is one, so that `open` cannot find it damaged.
 pub fn written_is_there()
     ensures { WrittenIsThere }
 {}

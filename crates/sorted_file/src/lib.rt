@@ -1,30 +1,24 @@
 //! Files of entries in the order of their keys, and the sources that entries come from (Bigtable, the SSTable).
 #![tactic(auto)]
 
-mod blocks;
-mod building;
+mod block;
+mod bounds;
+mod builder;
 mod cache;
-mod cursors;
-mod decoding;
-mod entries;
-mod formats;
+mod check;
+mod cursor;
+mod entry;
+mod file;
+mod format;
 mod laws;
-mod newest;
-mod opened;
-mod opening;
-mod parsed;
-mod parts;
-mod placing;
-mod searching;
-mod sources;
-mod spans;
-mod writing;
+mod source;
+mod writer;
 
-pub use cursors::FileCursor;
+pub use cursor::FileCursor;
+pub use file::SortedFile;
 pub use laws::{
     one_image, one_list, one_listing, open_is_there, rest_is_list, stays_open, written_is_listed,
     written_is_there,
 };
-pub use opened::SortedFile;
-pub use sources::{Source, refusal_of};
-pub use writing::write_file;
+pub use source::{Source, refusal_of};
+pub use writer::write_file;

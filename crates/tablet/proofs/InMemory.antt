@@ -13,9 +13,9 @@ use Rattle.cell_key.specs.declared.keys.CellKey.{CellKey}
 use Rattle.cell_key.specs.declared.keys.Qualifier.{Qualifier}
 use Rattle.cell_key.proofs.EntryLaws.{get-cells_of}
 use Rattle.file_store.specs.Store.{Contents}
-use Rattle.sorted_file.specs.Opened.{IsOpen, listed}
-use Rattle.sorted_file.specs.Spans.{HasNoValue}
-use Rattle.sorted_file.specs.declared.opened.SortedFile.{SortedFile}
+use Rattle.sorted_file.specs.File.{IsOpen, listed}
+use Rattle.sorted_file.specs.Bounds.{HasNoValue}
+use Rattle.sorted_file.specs.declared.file.SortedFile.{SortedFile}
 use Rattle.tablet.specs.Ranges.{has_row}
 use Rattle.tablet.specs.Reads.{IsAsked, IsLater}
 use Rattle.tablet.specs.Views.{range_of, memory_of, files_of, lists_of, cells_at, Holds}

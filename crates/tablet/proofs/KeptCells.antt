@@ -6,7 +6,7 @@ use Rattle.std.specs.Ordering.{is_eq, eq_by_cmp}
 use Rattle.std.specs.FinMap.{get, get-insert, get-remove, same_map}
 use Rattle.std.specs.declared.cmp.Ordering.TheVariants.{Less, Equal, Greater}
 use Rattle.std.specs.FinMap.Entries.{by_order, find-put, is_sorted-put, put}
-use Rattle.cell_key.specs.Keys.{byte_cmp, key_cmp, key_cmp_total, exact_keys, text, IsStored}
+use Rattle.cell_key.specs.Keys.{byte_cmp, key_cmp, key_cmp_total, text, IsStored}
 use Rattle.cell_key.specs.Cells.{Cells, IsEditOf, after_edit, after_edits, edited_key}
 use Rattle.cell_key.specs.Entries.{Entry, IsEntry, IsEntryList, cells_of, entry_of_key, first_naming, or_else, value_of}
 use Rattle.cell_key.specs.declared.keys.CellKey.{CellKey}
@@ -17,6 +17,7 @@ use Rattle.cell_key.proofs.Order.{text_order}
 use Rattle.memtable.specs.Edits.{HasStoredKey, edit_entry, with_edit, with_edits}
 use Rattle.cell_key.proofs.TextPlaces.{equal, one_text as same_key}
 use Rattle.cell_key.proofs.EntryLists.{total}
+use Rattle.cell_key.proofs.KeyLaws.{exact_keys}
 use Rattle.tablet.specs.Ranges.{has_row, seen}
 use Rattle.tablet.specs.declared.ranges.RowRange.{RowRange}
 use Rattle.tablet.proofs.Filters.{cond_same}

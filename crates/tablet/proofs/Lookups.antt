@@ -11,8 +11,8 @@ use Rattle.cell_key.specs.Places.{Place, place_of, IsNextCell}
 use Rattle.cell_key.specs.declared.keys.CellKey.{CellKey}
 use Rattle.cell_key.specs.declared.keys.Qualifier.{Qualifier}
 use Rattle.file_store.specs.Store.{Contents}
-use Rattle.sorted_file.specs.Opened.{IsOpen, listed}
-use Rattle.sorted_file.specs.declared.opened.SortedFile.{SortedFile}
+use Rattle.sorted_file.specs.File.{IsOpen, listed}
+use Rattle.sorted_file.specs.declared.file.SortedFile.{SortedFile}
 use Rattle.tablet.specs.Ranges.{has_row, upper_fence}
 use Rattle.tablet.specs.Reads.{first_value, start_of, IsPlaceOrNone}
 use Rattle.tablet.specs.Sources.{IsOpenIn, listed_in, part}

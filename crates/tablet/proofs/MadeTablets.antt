@@ -11,8 +11,8 @@ use Rattle.cell_key.specs.declared.edits.Edit.{Edit}
 use Rattle.cell_key.specs.declared.refusals.Refusal.{Refusal}
 use Rattle.file_store.specs.Store.{Contents, KeepsOthers}
 use Rattle.memtable.specs.Edits.{HasStoredKey, with_edits}
-use Rattle.sorted_file.specs.Opened.{HasFile, IsOpen, StaysOpen, listed, name_of}
-use Rattle.sorted_file.specs.declared.opened.SortedFile.{SortedFile}
+use Rattle.sorted_file.specs.File.{HasFile, IsOpen, StaysOpen, listed, name_of}
+use Rattle.sorted_file.specs.declared.file.SortedFile.{SortedFile}
 use Rattle.tablet.specs.Ranges.{has_row}
 use Rattle.tablet.specs.Compactions.{IsNewFile}
 use Rattle.tablet.specs.Views.{range_of, memory_of, files_of, names_of, lists_of, cells_at, Holds, IsBelow, IsUnchanged, UsesName, Keeps, MakesLists}

@@ -10,7 +10,7 @@ use Rattle.cell_key.specs.declared.keys.CellKey.{CellKey}
 use Rattle.cell_key.specs.declared.keys.Qualifier.{Qualifier}
 use Rattle.cell_key.proofs.EntryLaws.{get-cells_of}
 use Rattle.file_store.specs.Store.{Contents}
-use Rattle.sorted_file.specs.Opened.{listed}
+use Rattle.sorted_file.specs.File.{listed}
 use Rattle.tablet.specs.Ranges.{has_row, seen}
 use Rattle.tablet.specs.Reads.{HasNoLater, IsAfterStamp}
 use Rattle.tablet.specs.Views.{range_of, memory_of, files_of, lists_of, cells_at, Holds, IsSameTablet}

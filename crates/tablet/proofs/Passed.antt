@@ -1,17 +1,17 @@
 -- An error that is passed on.
-use Rattle.std.proofs.Common.{rules, ◌≡◌, ℕ, ◌<◌, ◌≤◌, Bool, false, List, [], map, length, ◌⊎◌, inl, inr, sym, subst, arith}
+use Rattle.std.proofs.Common.{rules, ap, ◌∙◌, ◌≡◌, ℕ, ◌<◌, ◌≤◌, Bool, false, List, [], map, length, ◌⊎◌, inl, inr, sym, subst, arith}
 use Rattle.std.proofs.lemmas.List.{length-map}
 use Rattle.std.specs.Prelude.{◌≢◌, ◌↔◌, IsTrue, Option, Some, None, IfSome, if◌then◌else◌}
-use Rattle.std.specs.Result.{IfErr, IsErrOf, is_ok}
+use Rattle.std.specs.Result.{IfErr, IsErrAnd, IsErrOf, is_ok}
 use Rattle.std.specs.declared.result.Result.{Result}
 use Rattle.std.specs.declared.result.Result.TheVariants.{Ok, Err}
 use Rattle.cell_key.specs.Entries.{Entry}
 use Rattle.cell_key.specs.declared.refusals.Refusal.{Refusal}
 use Rattle.cell_key.specs.declared.refusals.Refusal.TheVariants.{BadCount, Device, Exhausted, NoMemory, Damaged, TooManyFiles}
 use Rattle.file_store.specs.Store.{Contents}
-use Rattle.sorted_file.specs.Opened.{name_of}
-use Rattle.sorted_file.specs.Sources.{IsReadRefusal, IsWriteRefusal}
-use Rattle.sorted_file.specs.declared.opened.SortedFile.{SortedFile}
+use Rattle.sorted_file.specs.File.{name_of}
+use Rattle.sorted_file.specs.Source.{IsReadRefusal, IsWriteRefusal}
+use Rattle.sorted_file.specs.declared.file.SortedFile.{SortedFile}
 pub use Rattle.cell_key.proofs.Passed.{passed_err, passed_kept, passed_kind, passed_none, passed_on, passed_reason, reason_after, reason_of_ok}
 pub use Rattle.cell_key.proofs.Reasons.{not_refused as not_err, reason_none as quiet_reason}
 use Rattle.tablet.specs.Compactions.{IsCompactionRefusal, IsMergeRefusal, IsMinorRefusal}
@@ -22,6 +22,11 @@ minor_read Device read = tt
 minor_read NoMemory read = tt
 minor_read Damaged read = tt
 minor_read _ read = absurd read
+
+-- what a call was refused with, what calls it is refused with too
+pub passed_over : {A B : Type 0} (r : Result B Refusal) (e n : Refusal) → IsErrAnd r (λ f. f ≡ e) → IsErrOf {T = A} (Err e) n → IsErrOf r n
+passed_over (Ok x) e n by is = absurd by
+passed_over (Err f) e n by is = let same : e ≡ n = cc in ap (λ x. Err x) (by ∙ same)
 
 pub told_kind : {B : Type 0} (e n : Refusal) (P : Refusal → Type 0) → P e → IsErrOf {T = B} (Err e) n → P n
 told_kind e n P h is = let same : e ≡ n = cc in subst P same h

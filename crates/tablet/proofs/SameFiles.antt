@@ -7,8 +7,8 @@ use Rattle.cell_key.specs.Entries.{Entry, IsEntryList, first_naming, entry_of_ke
 use Rattle.cell_key.specs.declared.keys.CellKey.{CellKey}
 use Rattle.file_store.specs.Store.{Contents}
 use Rattle.sorted_file.specs.Newest.{at_stamp, IsNewestStamp}
-use Rattle.sorted_file.specs.Opened.{IsOpen, IsSameFile, listed, name_of}
-use Rattle.sorted_file.specs.declared.opened.SortedFile.{SortedFile}
+use Rattle.sorted_file.specs.File.{IsOpen, IsSameFile, listed, name_of}
+use Rattle.sorted_file.specs.declared.file.SortedFile.{SortedFile}
 use Rattle.tablet.specs.Reads.{HasNoLater, IsAfterStamp}
 use Rattle.tablet.specs.Views.{range_of, memory_of, files_of, lists_of, Holds, IsSameTablet}
 use Rattle.tablet.specs.declared.tablet.Tablet.{Tablet}

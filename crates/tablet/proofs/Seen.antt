@@ -7,12 +7,13 @@ use Rattle.std.specs.Ordering.{is_eq}
 use Rattle.std.specs.declared.cmp.Ordering.TheVariants.{Less, Equal, Greater}
 use Rattle.std.specs.FinMap.{get, same_map}
 use Rattle.std.specs.FinMap.Entries.{same_entries}
-use Rattle.cell_key.specs.Keys.{byte_cmp, key_cmp_total, exact_keys, text, IsStored}
+use Rattle.cell_key.specs.Keys.{byte_cmp, key_cmp_total, text, IsStored}
 use Rattle.cell_key.specs.Entries.{Entry, IsEntry, IsEntryList, cells_of, entry_of_key, first_naming, key_of_text, merged, or_else, value_of}
 use Rattle.cell_key.specs.declared.keys.CellKey.{CellKey}
 use Rattle.cell_key.proofs.EntryLaws.{get-cells_of, key_of_merged, key_of_text-text, merged_rising, no_cell}
 use Rattle.cell_key.proofs.EntryLists.{filter-list, merged_list, ties_itself, total}
 use Rattle.cell_key.proofs.TextPlaces.{one_text as same_key}
+use Rattle.cell_key.proofs.KeyLaws.{exact_keys}
 use Rattle.tablet.specs.Ranges.{has_row, seen}
 use Rattle.tablet.specs.declared.ranges.RowRange.{RowRange}
 use Rattle.tablet.proofs.Filters.{each_map, find-filter, first-map}

@@ -4,13 +4,14 @@ use Rattle.std.specs.Prelude.{IsSome}
 use Rattle.std.specs.List.{AllByRecursion}
 use Rattle.std.specs.Ordering.{is_le, eq_by_cmp}
 use Rattle.std.specs.FinMap.{get, get-empty, get-insert, get-remove}
-use Rattle.cell_key.specs.Keys.{byte_cmp, key_cmp, key_cmp_total, text, exact_keys, IsStored}
+use Rattle.cell_key.specs.Keys.{byte_cmp, key_cmp, key_cmp_total, text, IsStored}
 use Rattle.cell_key.specs.Entries.{Entry, IsEntry, IsEntryList, entries_from, merged, first_naming, entry_of_key, value_of, key_of_text, cells_of}
 use Rattle.cell_key.specs.declared.keys.CellKey.{CellKey}
 use Rattle.cell_key.proofs.EntryLaws.{key_of_merged, key_of_text-text}
 use Rattle.compaction.specs.Ends.{is_below}
 use Rattle.cell_key.proofs.EntryLists.{filter-list, merged_list}
 use Rattle.cell_key.proofs.TextPlaces.{equal}
+use Rattle.cell_key.proofs.KeyLaws.{exact_keys}
 use Rattle.tablet.specs.Ranges.{has_row, seen}
 use Rattle.tablet.specs.Sources.{entries_between, part}
 use Rattle.tablet.specs.declared.ranges.RowRange.{RowRange}

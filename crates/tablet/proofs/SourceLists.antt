@@ -8,19 +8,19 @@ use Rattle.std.specs.Option.{option_to_list}
 use Rattle.std.specs.List.{AllByRecursion}
 use Rattle.cell_key.specs.Entries.{Entry, IsEntryList, entries_from}
 use Rattle.file_store.specs.Store.{Contents}
-use Rattle.sorted_file.specs.Cursors.{CursorHolds, cursor_lent, cursor_remaining}
-use Rattle.sorted_file.specs.Opened.{IsOpen, listed}
-use Rattle.sorted_file.specs.declared.cursors.FileCursor.{FileCursor}
-use Rattle.sorted_file.specs.declared.opened.SortedFile.{SortedFile}
+use Rattle.sorted_file.specs.Cursor.{CursorHolds, cursor_lent, cursor_remaining}
+use Rattle.sorted_file.specs.File.{IsOpen, listed}
+use Rattle.sorted_file.specs.declared.cursor.FileCursor.{FileCursor}
+use Rattle.sorted_file.specs.declared.file.SortedFile.{SortedFile}
 use Rattle.compaction.specs.Ends.{entries_until, lent_until, source_of, end_of}
 use Rattle.compaction.specs.Inputs.{InputHolds, input_lent, input_remaining}
 use Rattle.compaction.specs.declared.input.Input.{Input}
 use Rattle.compaction.specs.declared.input.Input.TheVariants.{File}
-use Rattle.compaction.specs.declared.until.Until.{Until}
+use Rattle.compaction.specs.declared.bounded.Bounded.{Bounded}
 use Rattle.tablet.specs.Sources.{entries_between, listed_in, lists_over, IsAtStart, IsOpenIn, remaining_of}
 
 -- the sources are those of the memtable and of the first files
-pub record AreGathered (from : List ℕ) (end : Option (List ℕ)) (memtable : Option (List Entry)) (files : List SortedFile) (i : ℕ) (sources : List (Until Input)) : Type 0 where
+pub record AreGathered (from : List ℕ) (end : Option (List ℕ)) (memtable : Option (List Entry)) (files : List SortedFile) (i : ℕ) (sources : List (Bounded Input)) : Type 0 where
   pub start : (told : Option Contents) → AllByRecursion (IsOpenIn told) files → AllByRecursion (IsAtStart told) sources
   pub lists : (told : Option Contents) → AllByRecursion (IsOpenIn told) files → map (remaining_of told) sources ≡ map (entries_between from end) (lists_over told memtable (take i files))
 
@@ -40,13 +40,13 @@ one_more : {S : Type 0} (xs : List S) (i : ℕ) (s : S) → i < length xs → s 
 one_more xs i s l e = rw add-one (take-suc xs i s l ∙ ap (λ x. take i xs ++ x ∷ []) (sym e))
 
 module _ (from : List ℕ) (end : Option (List ℕ)) (memtable : Option (List Entry)) (files : List SortedFile) where
-  pub first_gathered : (sources : List (Until Input)) → ((told : Option Contents) → AllByRecursion (IsAtStart told) sources) → ((told : Option Contents) → map (remaining_of told) sources ≡ map (entries_between from end) (option_to_list memtable)) → AreGathered from end memtable files 0 sources
+  pub first_gathered : (sources : List (Bounded Input)) → ((told : Option Contents) → AllByRecursion (IsAtStart told) sources) → ((told : Option Contents) → map (remaining_of told) sources ≡ map (entries_between from end) (option_to_list memtable)) → AreGathered from end memtable files 0 sources
   first_gathered sources start lists = record {
     start = λ m all. start m;
     lists = λ m all. lists m ∙ ap (map (entries_between from end)) (sym (append-nil (option_to_list memtable)));
   }
 
-  pub all_gathered : (i : ℕ) (sources : List (Until Input)) → AreGathered from end memtable files i sources → length files ≤ i → (m : Option Contents) → AllByRecursion (IsOpenIn m) files → map (remaining_of m) sources ≡ map (entries_between from end) (lists_over m memtable files)
+  pub all_gathered : (i : ℕ) (sources : List (Bounded Input)) → AreGathered from end memtable files i sources → length files ≤ i → (m : Option Contents) → AllByRecursion (IsOpenIn m) files → map (remaining_of m) sources ≡ map (entries_between from end) (lists_over m memtable files)
   all_gathered i sources g h m all = g.lists m all ∙ ap (λ (xs : List SortedFile). map (entries_between from end) (lists_over m memtable xs)) (take_all i files h)
 
   lists_more : (m : Option Contents) (i : ℕ) (file : SortedFile) → i < length files → file ≡ get_or files i file → lists_over m memtable (take (i + 1) files) ≡ lists_over m memtable (take i files) ++ listed_in m file ∷ []
@@ -55,9 +55,9 @@ module _ (from : List ℕ) (end : Option (List ℕ)) (memtable : Option (List En
       ∙ ap (λ (xs : List (List Entry)). option_to_list memtable ++ xs) (map-push (listed_in m) (take i files) file)
       ∙ sym (append_assoc (option_to_list memtable) (map (listed_in m) (take i files)) (listed_in m file ∷ []))
 
-  pub one_gathered : (i : ℕ) (xs ys : List (Until Input)) (file : SortedFile) (s : Until Input) → AreGathered from end memtable files i xs → i < length files → file ≡ get_or files i file → ((m : Option Contents) → IsOpenIn m file → IsAtStart m s) → ((m : Option Contents) → IsOpenIn m file → remaining_of m s ≡ entries_between from end (listed_in m file)) → ys ≡ xs ++ s ∷ [] → AreGathered from end memtable files (i + 1) ys
+  pub one_gathered : (i : ℕ) (xs ys : List (Bounded Input)) (file : SortedFile) (s : Bounded Input) → AreGathered from end memtable files i xs → i < length files → file ≡ get_or files i file → ((m : Option Contents) → IsOpenIn m file → IsAtStart m s) → ((m : Option Contents) → IsOpenIn m file → remaining_of m s ≡ entries_between from end (listed_in m file)) → ys ≡ xs ++ s ∷ [] → AreGathered from end memtable files (i + 1) ys
   one_gathered i xs ys file s g l is start list pushed = record {
-    start = λ m all. subst (λ (zs : List (Until Input)). AllByRecursion (IsAtStart m) zs) (sym pushed) (each-push (IsAtStart m) xs s (g.start m all) (start m (opened m all)));
+    start = λ m all. subst (λ (zs : List (Bounded Input)). AllByRecursion (IsAtStart m) zs) (sym pushed) (each-push (IsAtStart m) xs s (g.start m all) (start m (opened m all)));
     lists =
         λ m all.
         ap (map (remaining_of m)) pushed
@@ -72,21 +72,21 @@ module _ (from : List ℕ) (end : Option (List ℕ)) (memtable : Option (List En
       opened m all = subst (IsOpenIn m) (sym is) (All-from_recursion (IsOpenIn m) files all i file l)
 
 -- a source of an input that has not begun
-pub source_start : (m : Option Contents) (s : Until Input) (x : Input) → source_of s ≡ x → InputHolds m x → input_lent x ≡ None → IsAtStart m s
+pub source_start : (m : Option Contents) (s : Bounded Input) (x : Input) → source_of s ≡ x → InputHolds m x → input_lent x ≡ None → IsAtStart m s
 source_start m s x e h l = (subst (λ (y : Input). InputHolds m y) (sym e) h, ap (λ (y : Input). lent_until (end_of s) (input_lent y)) e ∙ ap (lent_until (end_of s)) l)
 
-pub source_remaining : (m : Option Contents) (s : Until Input) (x : Input) (end : Option (List ℕ)) (es : List Entry) → source_of s ≡ x → end_of s ≡ end → input_remaining m x ≡ es → remaining_of m s ≡ entries_until end es
+pub source_remaining : (m : Option Contents) (s : Bounded Input) (x : Input) (end : Option (List ℕ)) (es : List Entry) → source_of s ≡ x → end_of s ≡ end → input_remaining m x ≡ es → remaining_of m s ≡ entries_until end es
 source_remaining m s x end es e f g =
     ap (λ (y : Input). entries_until (end_of s) (input_remaining m y)) e
     ∙ ap (λ (u : Option (List ℕ)). entries_until u (input_remaining m x)) f
     ∙ ap (entries_until end) g
 
 -- a source of a file's cursor that has not begun
-pub file_start : (told : Option Contents) (s : Until Input) (cursor : FileCursor) (file : SortedFile) → source_of s ≡ File cursor → cursor_lent cursor ≡ None → ((m : Contents) → IsOpen m file → CursorHolds (Some m) cursor) → IsOpenIn told file → IsAtStart told s
+pub file_start : (told : Option Contents) (s : Bounded Input) (cursor : FileCursor) (file : SortedFile) → source_of s ≡ File cursor → cursor_lent cursor ≡ None → ((m : Contents) → IsOpen m file → CursorHolds (Some m) cursor) → IsOpenIn told file → IsAtStart told s
 file_start None s cursor file e lent holds is = absurd is
 file_start (Some m) s cursor file e lent holds is = source_start (Some m) s (File cursor) e (holds m is) lent
 
-pub file_remaining : (told : Option Contents) (s : Until Input) (cursor : FileCursor) (file : SortedFile) (from : List ℕ) (end : Option (List ℕ)) → source_of s ≡ File cursor → end_of s ≡ end → ((m : Contents) → IsOpen m file → cursor_remaining (Some m) cursor ≡ entries_from from (listed m file)) → IsOpenIn told file
+pub file_remaining : (told : Option Contents) (s : Bounded Input) (cursor : FileCursor) (file : SortedFile) (from : List ℕ) (end : Option (List ℕ)) → source_of s ≡ File cursor → end_of s ≡ end → ((m : Contents) → IsOpen m file → cursor_remaining (Some m) cursor ≡ entries_from from (listed m file)) → IsOpenIn told file
     → remaining_of told s ≡ entries_between from end (listed_in told file)
 file_remaining None s cursor file from end e f list is = absurd is
 file_remaining (Some m) s cursor file from end e f list is = source_remaining (Some m) s (File cursor) end (entries_from from (listed m file)) e f (list m is)

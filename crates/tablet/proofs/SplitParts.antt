@@ -1,22 +1,27 @@
 -- The two parts of a tablet that is split.
-use Rattle.std.proofs.Common.{◌≡◌, ℕ, ◌<◌, Bool, true, false, cond, ◌&&◌, List, ◌∷◌, map, refl, sym, ap, subst, ◌∙◌, inl, inr}
+use Rattle.std.proofs.Common.{◌≡◌, ℕ, ◌<◌, Bool, true, false, cond, ◌&&◌, List, [], ◌∷◌, map, refl, sym, ap, subst, ◌∙◌, inl, inr}
 use Rattle.std.specs.Prelude.{◌⊎◌, Option, Some, None, IfSome, IsSomeAnd, IsTrue}
 use Rattle.std.specs.List.{AllByRecursion}
 use Rattle.std.specs.Ordering.{is_le, is_lt}
+use Rattle.std.specs.Result.{IfOk, OnErr, OnOk}
+use Rattle.std.specs.declared.result.Result.{Result}
+use Rattle.std.specs.declared.result.Result.TheVariants.{Ok, Err}
 use Rattle.std.specs.declared.cmp.Ordering.{Ordering}
 use Rattle.std.specs.declared.cmp.Ordering.TheVariants.{Less, Equal, Greater}
 use Rattle.std.specs.FinMap.{get}
 use Rattle.cell_key.specs.Keys.{byte_cmp}
 use Rattle.cell_key.specs.Cells.{Cells}
 use Rattle.cell_key.specs.Entries.{IsEntryList, cells_of}
+use Rattle.cell_key.specs.declared.refusals.Refusal.{Refusal}
 use Rattle.file_store.specs.Store.{Contents}
-use Rattle.sorted_file.specs.Opened.{HasFile, IsOpen, OneListing, OpenIsThere, listed, name_of}
-use Rattle.sorted_file.specs.declared.opened.SortedFile.{SortedFile}
+use Rattle.sorted_file.specs.File.{HasFile, IsOpen, OneListing, OpenIsThere, listed, name_of}
+use Rattle.sorted_file.specs.declared.file.SortedFile.{SortedFile}
 use Rattle.cell_key.proofs.TextPlaces.{one_text as same_key}
 use Rattle.cell_key.proofs.EntryLists.{total}
 use Rattle.tablet.specs.Ranges.{has_row, is_after, is_up_to}
-use Rattle.tablet.specs.Views.{AreParts, Holds, IsBelow, IsPart, Keeps, cells_at, files_of, lists_of, memory_of, names_of, range_of}
-use Rattle.tablet.specs.Splits.{MakesParts}
+use Rattle.tablet.specs.Compactions.{LeavesFlushed}
+use Rattle.tablet.specs.Views.{AreParts, Holds, IsBelow, IsPart, IsUnchanged, Keeps, cells_at, files_of, lists_of, memory_of, names_of, range_of, with_name}
+use Rattle.tablet.specs.Splits.{Cuts, MakesParts}
 use Rattle.tablet.specs.declared.ranges.RowRange.{RowRange}
 use Rattle.tablet.specs.declared.tablet.Tablet.{Tablet}
 use Rattle.tablet.proofs.Held.{held_lists}
@@ -147,3 +152,31 @@ pub not_open : (old mid : Option Contents) (next after : ℕ) (whole middle : Ta
 not_open None mid next after whole middle keeps closed = tt
 not_open (Some m) None next after whole middle keeps closed = λ h below. keeps h below
 not_open (Some m) (Some n) next after whole middle keeps closed = λ h below. closed (keeps h below).0
+
+-- the parts that a tablet was cut into after a minor compaction, by what it was before
+pub cut_after : (r : Result Tablet Refusal) (names row : List ℕ) (t mid right : Tablet) → range_of mid ≡ range_of t → names_of mid ≡ names
+    → IfOk r (λ left. range_of left ≡ record { after = (range_of mid).after; end = Some row }) → OnOk r (range_of right ≡ record { after = Some row; end = (range_of mid).end })
+    → IfOk r (λ left. names_of left ≡ names_of mid) → OnOk r (names_of right ≡ names_of mid) → IfOk r (λ left. memory_of left ≡ []) → memory_of right ≡ []
+    → IfOk r (λ left. Cuts names row t left right)
+cut_after (Err e) names row t mid right range same lr rr ln rn lm rm = tt
+cut_after (Ok left) names row t mid right range same lr rr ln rn lm rm =
+    let up_to : RowRange → RowRange = λ all. record { after = all.after; end = Some row } in
+    let past : RowRange → RowRange = λ all. record { after = Some row; end = all.end } in
+    record {
+      left_range = lr ∙ ap up_to range;
+      right_range = rr ∙ ap past range;
+      left_names = ln ∙ same;
+      right_names = rn ∙ same;
+      left_memory = lm;
+      right_memory = rm;
+    }
+
+-- what a cut that was refused after a minor compaction left
+pub left_after : (r : Result Tablet Refusal) (next : ℕ) (old mid new : Tablet) → range_of mid ≡ range_of old → (memory_of old ≡ [] → IsUnchanged old mid)
+    → memory_of mid ≡ [] → names_of mid ≡ with_name next (memory_of old) (names_of old) → OnErr r (IsUnchanged mid new) → OnErr r (LeavesFlushed next old new)
+left_after (Ok left) next old mid new range empty memory names same = tt
+left_after (Err e) next old mid new range empty memory names same = record {
+  range = same.range ∙ range;
+  empty = λ none. let was = empty none in record { range = same.range ∙ was.range; memory = same.memory ∙ was.memory; files = same.files ∙ was.files };
+  may = inr (same.memory ∙ memory, ap (map name_of) same.files ∙ names);
+}

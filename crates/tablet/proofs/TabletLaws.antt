@@ -7,8 +7,8 @@ use Rattle.cell_key.specs.Keys.{IsStored}
 use Rattle.cell_key.specs.Entries.{Entry, merged, cells_of}
 use Rattle.cell_key.specs.declared.keys.CellKey.{CellKey}
 use Rattle.file_store.specs.Store.{Contents}
-use Rattle.sorted_file.specs.Opened.{name_of, listed, IsOpen, HasFile, StaysOpen, OneListing, OpenIsThere}
-use Rattle.sorted_file.specs.declared.opened.SortedFile.{SortedFile}
+use Rattle.sorted_file.specs.File.{name_of, listed, IsOpen, HasFile, StaysOpen, OneListing, OpenIsThere}
+use Rattle.sorted_file.specs.declared.file.SortedFile.{SortedFile}
 use Rattle.tablet.specs.Ranges.{has_row, seen}
 use Rattle.tablet.specs.Views.{range_of, memory_of, files_of, names_of, lists_of, cells_at}
 use Rattle.tablet.specs.Laws.{StaysInRange, OthersStay, UnnamedMayGo, SameCells, FilesAreThere}

@@ -10,10 +10,10 @@ use Rattle.cell_key.specs.Entries.{Entry, IsEntryList}
 use Rattle.cell_key.specs.declared.refusals.Refusal.{Refusal}
 use Rattle.file_store.specs.Store.{Contents, KeepsOthers, with_file}
 use Rattle.sorted_file.specs.Grammar.{FitsIn, IsFile}
-use Rattle.sorted_file.specs.declared.formats.Format.TheVariants.{Two}
-use Rattle.sorted_file.specs.Opened.{HasFile, IsOpen, WrittenIsListed, WrittenIsThere, listed, name_of}
-use Rattle.sorted_file.specs.Sources.{pending}
-use Rattle.sorted_file.specs.declared.opened.SortedFile.{SortedFile}
+use Rattle.sorted_file.specs.declared.format.Format.TheVariants.{Two}
+use Rattle.sorted_file.specs.File.{HasFile, IsOpen, WrittenIsListed, WrittenIsThere, listed, name_of}
+use Rattle.sorted_file.specs.Source.{pending}
+use Rattle.sorted_file.specs.declared.file.SortedFile.{SortedFile}
 use Rattle.compaction.specs.Merging.{AreAtStart}
 use Rattle.cell_key.proofs.TextPlaces.{equal}
 use Rattle.compaction.specs.Writing.{WritesEntryLists, written}

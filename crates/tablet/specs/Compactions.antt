@@ -1,17 +1,18 @@
 -- What a compaction writes, and the file that it makes.
-use Rattle.std.specs.Prelude.{◌≡◌, ◌≤◌, ℕ, Bool, true, false, nat_lt, Option, List, [], ◌∷◌, map, take, drop, length}
+use Rattle.std.specs.Prelude.{◌≡◌, ◌≢◌, ◌≤◌, ◌<◌, ◌+◌, ◌^◌, ℕ, IfSome, Bool, true, false, nat_lt, Option, List, [], ◌∷◌, map, take, drop, length}
 use Rattle.std.specs.List.{AllByRecursion}
 use Rattle.cell_key.specs.Entries.{Entry}
 use Rattle.cell_key.specs.declared.refusals.Refusal.{Refusal}
 use Rattle.cell_key.specs.declared.refusals.Refusal.TheVariants as refused
 use Rattle.file_store.specs.Store.{Contents}
-use Rattle.sorted_file.specs.Opened.{IsOpen, listed}
-use Rattle.sorted_file.specs.Sources.{IsWriteRefusal}
-use Rattle.sorted_file.specs.declared.opened.SortedFile.{SortedFile}
+use Rattle.sorted_file.specs.Grammar.{FitsIn}
+use Rattle.sorted_file.specs.File.{IsOpen, listed}
+use Rattle.sorted_file.specs.Source.{IsWriteRefusal}
+use Rattle.sorted_file.specs.declared.file.SortedFile.{SortedFile}
 use Rattle.compaction.specs.Writing.{written}
 use Rattle.tablet.specs.Ranges.{seen}
 use Rattle.tablet.specs.Sources.{IsOpenIn}
-use Rattle.tablet.specs.Views.{files_of, MakesLists, flushed, range_of}
+use Rattle.tablet.specs.Views.{files_of, flushed, memory_of, names_of, range_of, with_name, Holds, IsUnchanged, MakesLists, MayBeFlushed, UsesName}
 use Rattle.tablet.specs.declared.tablet.Tablet.{Tablet}
 use Rattle.tablet.specs.declared.ranges.RowRange.{RowRange}
 use Rattle.tablet.specs.declared.compactions.Compaction.{Compaction}
@@ -23,7 +24,7 @@ inputs_of Minor memory lists = memory ∷ []
 inputs_of (Merge count) memory lists = take count lists
 inputs_of Major memory lists = memory ∷ lists
 
--- whether it keeps erasures: where files that it doesn't write may have what they erase
+-- whether it keeps erasures: if files that it doesn't write may have what they erase
 abbrev pub keeps_erasures : Compaction → ℕ → Bool
 keeps_erasures Minor files = true
 keeps_erasures (Merge count) files = nat_lt count files
@@ -35,7 +36,7 @@ HasAsMany Minor files = Unit {0}
 HasAsMany (Merge count) files = count ≤ files
 HasAsMany Major files = Unit {0}
 
--- the files that it may read are open over files that tell this: a minor one reads none
+-- the files that it may read are open over files that hold this: a minor one reads none
 abbrev pub ReadsOpen : Compaction → Option Contents → Tablet → Type 0
 ReadsOpen Minor told t = Unit {0}
 ReadsOpen (Merge count) told t = AllByRecursion (IsOpenIn told) (files_of t)
@@ -46,6 +47,11 @@ abbrev pub compacted : Compaction → RowRange → List Entry → List (List Ent
 compacted compaction range memory lists =
     written (keeps_erasures compaction (length lists))
     (map (seen range) (inputs_of compaction memory lists))
+
+-- what it writes of a tablet over these files
+abbrev pub compacted_of : Compaction → Contents → Tablet → List Entry
+compacted_of compaction m t =
+    compacted compaction (range_of t) (memory_of t) (map (listed m) (files_of t))
 
 -- the lists of a tablet after a compaction, its memtable's first, then those of its files,
 -- the newest first
@@ -64,6 +70,56 @@ Compacts compaction old before new t u =
 pub record IsNewFile (n : Contents) (file : SortedFile) (es : List Entry) : Type 0 where
   pub opened : IsOpen n file
   pub lists : listed n file ≡ es
+
+-- A call left the next name, and wrote nothing, or used it up. The next name stays at most 2 ^ 63,
+-- which is the first one that no file can have.
+pub record TakesName (old : Option Contents) (before : ℕ) (new : Option Contents)
+    (after : ℕ) : Type 0 where
+  pub uses : UsesName old before new after
+  pub within : before ≤ 2 ^ 63 → after ≤ 2 ^ 63
+
+-- the names of a tablet's files after a compaction that wrote a file of this name
+abbrev pub names_after : Compaction → ℕ → List ℕ → List ℕ
+names_after Minor name names = name ∷ names
+names_after (Merge count) name names = name ∷ drop count names
+names_after Major name names = name ∷ []
+
+-- the entries of its memtable
+abbrev pub memory_after : Compaction → List Entry → List Entry
+memory_after Minor memory = []
+memory_after (Merge count) memory = memory
+memory_after Major memory = []
+
+-- An accepted compaction of files took the next name for a file within the limit, which is now in
+-- the place of what it wrote.
+pub record Replaces (compaction : Compaction) (file_limit : ℕ) (told : Option Contents)
+    (before after : ℕ) (old new : Tablet) : Type 0 where
+  pub names : names_of new ≡ names_after compaction before (names_of old)
+  pub memory : memory_of new ≡ memory_after compaction (memory_of old)
+  pub left : before < 2 ^ 63
+  pub used : after ≡ before + 1
+  pub fits : IfSome told (λ m. Holds m old → FitsIn file_limit (compacted_of compaction m old))
+
+-- A minor compaction with entries to write had room for a file more, and took the next name for a
+-- file within the limit.
+pub record WritesMemory (file_limit before after : ℕ) (t : Tablet) : Type 0 where
+  pub room : length (names_of t) < 64
+  pub left : before < 2 ^ 63
+  pub used : after ≡ before + 1
+  pub fits : FitsIn file_limit (seen (range_of t) (memory_of t))
+
+-- An accepted minor compaction: the memtable is empty, and what it had is in one file more.
+pub record Flushes (file_limit before after : ℕ) (old new : Tablet) : Type 0 where
+  pub names : names_of new ≡ with_name before (memory_of old) (names_of old)
+  pub memory : memory_of new ≡ []
+  pub written : memory_of old ≢ [] → WritesMemory file_limit before after old
+
+-- A refused call that begins with a minor compaction left the tablet as it was, but that it may
+-- have done the compaction.
+pub record LeavesFlushed (before : ℕ) (old new : Tablet) : Type 0 where
+  pub range : range_of new ≡ range_of old
+  pub empty : memory_of old ≡ [] → IsUnchanged old new
+  pub may : MayBeFlushed before old new
 
 -- what writing a new file may be refused
 abbrev pub IsCompactionRefusal : Refusal → Type 0

@@ -6,7 +6,7 @@ use Rattle.cell_key.specs.Keys.{IsStored, text}
 use Rattle.cell_key.specs.Entries.{IsEntryList, first_naming, value_of}
 use Rattle.cell_key.specs.declared.keys.CellKey.{CellKey}
 use Rattle.file_store.specs.Store.{Contents}
-use Rattle.sorted_file.specs.Opened.{HasFile}
+use Rattle.sorted_file.specs.File.{HasFile}
 use Rattle.tablet.specs.Ranges.{has_row}
 use Rattle.tablet.specs.Views.{range_of, memory_of, names_of, lists_of, view_of, cells_at, Holds, IsBelow, UsesName}
 use Rattle.tablet.specs.declared.tablet.Tablet.{Tablet}

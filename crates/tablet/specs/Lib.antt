@@ -7,4 +7,5 @@ pub mod Splits
 pub mod Views
 pub use Rattle.cell_key.specs.Cells
 pub use Rattle.cell_key.specs.Entries
-pub use Rattle.sorted_file.specs.Opened
+pub use Rattle.sorted_file.specs.Limits
+pub use Rattle.sorted_file.specs.File

@@ -13,9 +13,9 @@ use Rattle.cell_key.specs.declared.keys.Qualifier.{Qualifier}
 use Rattle.cell_key.specs.declared.keys.Qualifier.TheVariants.{Write}
 use Rattle.file_store.specs.Store.{Contents}
 use Rattle.sorted_file.specs.Newest.{at_stamp}
-use Rattle.sorted_file.specs.Opened.{IsOpen, listed}
-use Rattle.sorted_file.specs.Spans.{HasNoValue}
-use Rattle.sorted_file.specs.declared.opened.SortedFile.{SortedFile}
+use Rattle.sorted_file.specs.File.{IsOpen, listed}
+use Rattle.sorted_file.specs.Bounds.{HasNoValue}
+use Rattle.sorted_file.specs.declared.file.SortedFile.{SortedFile}
 use Rattle.tablet.specs.Ranges.{lower_fence}
 use Rattle.tablet.specs.declared.ranges.RowRange.{RowRange}
 
@@ -53,12 +53,12 @@ pub record IsAsked (qualifier : Qualifier) (lo hi : ℕ)
   pub none : AllByRecursion
       (λ file. (m : Contents) → IsOpen m file → HasNoValue qualifier lo hi (listed m file)) rest
 
--- a stamp that comes after that of a version, or from the least one on where there is none
+-- a stamp that comes after that of a version, or from the least one on if there is none
 abbrev pub IsLater : ℕ → ℕ → Option (ℕ × List ℕ) → Type 0
 IsLater s lo None = lo ≤ s
 IsLater s lo (Some found) = found.0 < s
 
--- a stamp that comes after one that was found, or from the least one on where none was
+-- a stamp that comes after one that was found, or from the least one on if none was
 abbrev pub IsAfterStamp : ℕ → ℕ → Option ℕ → Type 0
 IsAfterStamp s lo None = lo ≤ s
 IsAfterStamp s lo (Some found) = found < s

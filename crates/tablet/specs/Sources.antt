@@ -3,18 +3,19 @@ use Rattle.std.specs.Prelude.{◌≡◌, ℕ, List, [], ◌++◌, map, Option, S
 use Rattle.std.specs.Option.{option_to_list}
 use Rattle.cell_key.specs.Entries.{Entry, entries_from, merged}
 use Rattle.file_store.specs.Store.{Contents}
-use Rattle.sorted_file.specs.Opened.{IsOpen, listed}
-use Rattle.sorted_file.specs.declared.opened.SortedFile.{SortedFile}
+use Rattle.sorted_file.specs.File.{IsOpen, listed}
+use Rattle.sorted_file.specs.declared.file.SortedFile.{SortedFile}
 use Rattle.compaction.specs.Ends.{entries_until, lent_until, source_of, end_of}
 use Rattle.compaction.specs.Inputs.{InputHolds, input_lent, input_remaining}
 use Rattle.compaction.specs.declared.input.Input.{Input}
-use Rattle.compaction.specs.declared.until.Until.{Until}
+use Rattle.compaction.specs.declared.bounded.Bounded.{Bounded}
 
 -- the entries from a text on, and below another one if there is one
 abbrev pub entries_between : List ℕ → Option (List ℕ) → List Entry → List Entry
 entries_between from end es = entries_until end (entries_from from es)
 
--- an open file over files that tell this, and its list: where nothing is told no file is open
+-- an open file over files that hold this, and its list: if nothing is known of them, no file is
+-- open
 abbrev pub IsOpenIn : Option Contents → SortedFile → Type 0
 IsOpenIn None file = ⊥
 IsOpenIn (Some m) file = IsOpen m file
@@ -32,10 +33,10 @@ abbrev pub part : List ℕ → Option (List ℕ) → List (List Entry) → List 
 part from end lists = merged (map (entries_between from end) lists)
 
 -- a source is before its first entry
-abbrev pub IsAtStart : Option Contents → Until Input → Type 0
+abbrev pub IsAtStart : Option Contents → Bounded Input → Type 0
 IsAtStart told s =
     InputHolds told (source_of s) × (lent_until (end_of s) (input_lent (source_of s)) ≡ None)
 
 -- the entries that it has
-abbrev pub remaining_of : Option Contents → Until Input → List Entry
+abbrev pub remaining_of : Option Contents → Bounded Input → List Entry
 remaining_of told s = entries_until (end_of s) (input_remaining told (source_of s))

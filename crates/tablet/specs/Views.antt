@@ -7,8 +7,8 @@ use Rattle.cell_key.specs.Cells.{Cells}
 use Rattle.cell_key.specs.Entries.{Entry, IsEntryList, cells_of, merged}
 use Rattle.cell_key.specs.declared.keys.CellKey.{CellKey}
 use Rattle.file_store.specs.Store.{Contents, KeepsOthers}
-use Rattle.sorted_file.specs.Opened.{IsOpen, listed, name_of}
-use Rattle.sorted_file.specs.declared.opened.SortedFile.{SortedFile}
+use Rattle.sorted_file.specs.File.{IsOpen, listed, name_of}
+use Rattle.sorted_file.specs.declared.file.SortedFile.{SortedFile}
 use Rattle.tablet.specs.Ranges.{has_row, seen}
 use Rattle.tablet.specs.declared.ranges.RowRange.{RowRange}
 use Rattle.tablet.specs.declared.tablet.Tablet.{Tablet}
@@ -54,7 +54,7 @@ pub record IsUnchanged (old new : Tablet) : Type 0 where
   pub files : files_of new ≡ files_of old
 
 -- Over these files a tablet is what it was: it has its range, its memtable's entries and the names
--- of its files, and where its files were open they are, and stand for the same lists.
+-- of its files, and if its files were open, they still are, and stand for the same lists.
 pub record IsSameTablet (told : Option Contents) (old new : Tablet) : Type 0 where
   pub range : range_of new ≡ range_of old
   pub memory : memory_of new ≡ memory_of old
@@ -67,7 +67,7 @@ abbrev pub UsesName : Option Contents → ℕ → Option Contents → ℕ → Ty
 UsesName old before new after =
     ((after ≡ before) × (new ≡ old)) ⊎ ((after ≡ before + 1) × KeepsOthers before old new)
 
--- Where its files were open they are open, and it has the cells that it had.
+-- If its files were open, they still are, and it has the cells that it had.
 abbrev pub Keeps : Option Contents → ℕ → Tablet → Option Contents → ℕ → Tablet → Type 0
 Keeps old before t new after u =
     IfSome old (λ m. Holds m t → IsBelow before t
@@ -95,7 +95,7 @@ pub record AreParts (m : Contents) (t : Tablet) (n : Contents) (after : ℕ)
   pub left_cells : IsPart (range_of left) (cells_at m t) (cells_at n left)
   pub right_cells : IsPart (range_of right) (cells_at m t) (cells_at n right)
 
--- the memtable as a file more, or nothing more where it is empty
+-- the memtable as a file more, or nothing more if it is empty
 abbrev pub flushed : RowRange → List Entry → List (List Entry) → List (List Entry)
 flushed range [] lists = lists
 flushed range (e ∷ es) lists = seen range (e ∷ es) ∷ lists

@@ -3,7 +3,7 @@
 ghost use Rattle.std.specs.Prelude.{Option};
 ghost use Rattle.std.specs.List.{AllZip};
 ghost use Rattle.file_store.specs.Store.{Contents};
-ghost use Rattle.sorted_file.specs.Opened.{IsSameFile};
+ghost use Rattle.sorted_file.specs.File.{IsSameFile};
 ghost use Rattle.tablet.specs.Views.{IsSameTablet};
 
 use crate::tablet::Tablet;

@@ -1,21 +1,23 @@
-//! Compactions (Bigtable, tablet serving): what stands in several places is written as one file. Room is made
-//! and the file is written and opened before the tablet changes. The calls of laws of lower crates, as
-//! `stays_open()`, do nothing: what is ensured here rests on them.
+//! Compactions (Bigtable, tablet serving): what stands in several places is written as one file. Room in the tablet's
+//! list of files is made before the file is written, and the file is opened before the tablet changes: once it is open
+//! nothing is refused. The calls of laws of lower crates, as `stays_open()`, do nothing: what is ensured here rests on
+//! them.
 
 ghost use Rattle.std.specs.Prelude.{◌≡◌, ◌≢◌, ◌≤◌, ◌<◌, ◌+◌, ◌^◌, ◌∷◌, ◌↔◌, [], Option, Some, length, map, drop, take, false, nat_lt, option_map, vec_len, IfOk, IfErr, OnOk, OnErr, IfSome, IsOk, IsSomeAnd, IsErrOf};
 ghost use Rattle.std.specs.Option.{option_copied};
 ghost use Rattle.std.specs.List.{AllByRecursion};
 ghost use Rattle.file_store.specs.Store.{Contents, KeepsOthers};
 ghost use Rattle.sorted_file.specs.Grammar.{FitsIn};
-ghost use Rattle.sorted_file.specs.Opened.{IsOpen, listed, name_of};
+ghost use Rattle.sorted_file.specs.Limits.{IsFileLimit};
+ghost use Rattle.sorted_file.specs.File.{listed, name_of};
 ghost use Rattle.cell_key.specs.Faults.{HasReason};
 ghost use Rattle.compaction.specs.Merging.{AreAtStart};
 ghost use Rattle.compaction.specs.Writing.{written};
 ghost use Rattle.tablet.specs.Ranges.{seen};
 ghost use Rattle.tablet.specs.Sources.{IsOpenIn, listed_in, lists_over};
-ghost use Rattle.tablet.specs.Views.{range_of, memory_of, files_of, names_of, Holds, IsUnchanged, UsesName, Keeps, with_name};
+ghost use Rattle.tablet.specs.Views.{range_of, memory_of, files_of, names_of, Holds, IsUnchanged, Keeps, UsesName};
 ghost use Rattle.tablet.specs.declared.compactions.Compaction.TheVariants.{Minor, Merge, Major};
-ghost use Rattle.tablet.specs.Compactions.{Compacts, IsNewFile, HasAsMany, IsCompactionRefusal, IsMinorRefusal, IsMergeRefusal, ReadsOpen, compacted, inputs_of, keeps_erasures};
+ghost use Rattle.tablet.specs.Compactions.{compacted, compacted_of, inputs_of, keeps_erasures, Compacts, Flushes, HasAsMany, IsCompactionRefusal, IsMergeRefusal, IsMinorRefusal, IsNewFile, ReadsOpen, Replaces, TakesName};
 
 use crate::sources::{fences, sources};
 use crate::tablet::Tablet;
@@ -57,16 +59,6 @@ fn take_name(next_name: &mut u64) -> Result<u64, Refusal>
     Ok(name)
 }
 
-/// The bytes that there may be, lent.
-fn lend(bytes: &Option<Vec<u8>>) -> Option<&[u8]>
-    ensures { option_copied result ≡ option_map (λ bytes. bytes.items) bytes.now }
-{
-    match bytes {
-        Some(bytes) => Some(bytes.as_slice()),
-        None => None,
-    }
-}
-
 /// Writes what sources mean together as a file of the next name, and opens it.
 fn write_new<F: Files, S: Source<F> + Drop>(
     alloc: Global,
@@ -76,8 +68,7 @@ fn write_new<F: Files, S: Source<F> + Drop>(
     next_name: &mut u64,
     files: &mut F,
 ) -> Result<SortedFile, Refusal>
-    requires least { 48 ≤ file_limit }
-    requires most { file_limit ≤ 68_719_476_736 }
+    requires limit { IsFileLimit file_limit }
     ensures named { IfOk result (λ file. name_of file ≡ next_name.old) }
     ensures made { IfOk result (λ file. IfSome (F.contents files.old) (λ m.
         AreAtStart S.lent (S.holds (Some m)) sources.items → IsSomeAnd (F.contents files.new) (λ n.
@@ -158,8 +149,7 @@ impl Tablet {
         next_name: &mut u64,
         files: &mut F,
     ) -> Result<SortedFile, Refusal>
-        requires least { 48 ≤ file_limit }
-        requires most { file_limit ≤ 68_719_476_736 }
+        requires limit { IsFileLimit file_limit }
         requires within { HasAsMany compaction (length (files_of self.now)) }
         ensures named { IfOk result (λ file. name_of file ≡ next_name.old) }
         ensures made { IfOk result (λ file. IfSome (F.contents files.old) (λ m. Holds m self.now
@@ -186,9 +176,8 @@ impl Tablet {
         ensures reason { HasReason (F.faults files.old) (F.faults files.new) result }
     {
         let (from, end) = fences(self.alloc, &self.range)?;
-        let end = lend(&end);
         let (memtable, old) = self.inputs(compaction);
-        let sources = sources::<F>(self.alloc, memtable, old, &from, end)?;
+        let sources = sources::<F>(self.alloc, memtable, old, &from, end.as_deref())?;
         let keep_erasures = self.keeps_erasures(compaction);
         write_new(
             self.alloc,
@@ -201,12 +190,12 @@ impl Tablet {
     }
 
     /// Writes the memtable as a new file (Bigtable, minor compaction), keys of the range alone, and empties it.
-    /// Where it is empty the call is accepted and does nothing.
+    /// If it is empty, the call is accepted and does nothing.
     ///
     /// # Errors
     ///
-    /// `TooManyFiles` where there are 64 files already, `FileTooLarge`, `Exhausted` where no name is left,
-    /// `Device`, `NoMemory`, and `Damaged` only where a file is no longer what was opened. The memtable then has
+    /// `TooManyFiles` if there are 64 files already, `FileTooLarge`, `Exhausted` if no name is left,
+    /// `Device`, `NoMemory`, and `Damaged` only if a file is no longer what was opened. The memtable then has
     /// entries, and the tablet is as before.
     pub fn minor<F: Files>(
         &mut self,
@@ -214,11 +203,9 @@ impl Tablet {
         next_name: &mut u64,
         files: &mut F,
     ) -> Result<(), Refusal>
-        requires least { 48 ≤ file_limit }
-        requires most { file_limit ≤ 68_719_476_736 }
-        ensures names { OnOk result (names_of self.new
-            ≡ with_name next_name.old (memory_of self.old) (names_of self.old)) }
-        ensures memory { OnOk result (memory_of self.new ≡ []) }
+        requires limit { IsFileLimit file_limit }
+        ensures flushed { OnOk result (Flushes
+            file_limit next_name.old next_name.new self.old self.new) }
         ensures lists { OnOk result (Compacts
             Minor (F.contents files.old) next_name.old (F.contents files.new) self.old self.new) }
         ensures keeps { Keeps (F.contents files.old)
@@ -227,29 +214,21 @@ impl Tablet {
             × ((next_name.new ≡ next_name.old) × (F.contents files.new ≡ F.contents files.old))) }
         ensures range { range_of self.new ≡ range_of self.old }
         ensures err { OnErr result (IsUnchanged self.old self.new) }
-        ensures name { UsesName
+        ensures name { TakesName
             (F.contents files.old) next_name.old (F.contents files.new) next_name.new }
-        ensures limit { next_name.old ≤ 2 ^ 63 → next_name.new ≤ 2 ^ 63 }
+        // If there are 64 files it is refused before a file is written, whatever else may fail.
         ensures full { IsErrOf result Refusal.TooManyFiles
-            → (memory_of self.old ≢ []) × (64 ≤ length (names_of self.old)) }
-        ensures room { OnOk result (memory_of self.old ≢ [] → length (names_of self.old) < 64) }
+            ↔ (memory_of self.old ≢ []) × (64 ≤ length (names_of self.old)) }
         ensures exhausted { IsErrOf result Refusal.Exhausted
             → (memory_of self.old ≢ []) × (2 ^ 63 ≤ next_name.old) }
-        ensures left { OnOk result (memory_of self.old ≢ [] → next_name.old < 2 ^ 63) }
         ensures large { IsErrOf result Refusal.FileTooLarge → (memory_of self.old ≢ [])
             × ¬ FitsIn file_limit (seen (range_of self.old) (memory_of self.old)) }
-        ensures fits { OnOk result (memory_of self.old ≢ []
-            → FitsIn file_limit (seen (range_of self.old) (memory_of self.old))) }
         ensures damaged { IsErrOf result Refusal.Damaged
             → IfSome (F.contents files.old) (λ m. ¬ Holds m self.old) }
         ensures refusal { IfErr result IsMinorRefusal }
         ensures reason { HasReason (F.faults files.old) (F.faults files.new) result }
-        // Where there are 64 files it is refused before a file is written, whatever else may fail.
-        ensures always_full { memory_of self.old ≢ [] → 64 ≤ length (names_of self.old)
-            → IsErrOf result Refusal.TooManyFiles }
         ensures unwritten { IsErrOf result Refusal.TooManyFiles
             → (next_name.new ≡ next_name.old) × (F.contents files.new ≡ F.contents files.old) }
-        ensures used { OnOk result (memory_of self.old ≢ [] → next_name.new ≡ next_name.old + 1) }
     {
         stays_open();
         keeps_one_list();
@@ -272,8 +251,8 @@ impl Tablet {
     ///
     /// # Errors
     ///
-    /// `BadCount` exactly where `count` is below 2 or above the number of files, `FileTooLarge`, `Exhausted`
-    /// where no name is left, `Device`, `NoMemory`, and `Damaged` only where a file is no longer what was
+    /// `BadCount` exactly if `count` is below 2 or above the number of files, `FileTooLarge`, `Exhausted`
+    /// if no name is left, `Device`, `NoMemory`, and `Damaged` only if a file is no longer what was
     /// opened. The tablet is then as before.
     pub fn merge<F: Files>(
         &mut self,
@@ -282,38 +261,29 @@ impl Tablet {
         next_name: &mut u64,
         files: &mut F,
     ) -> Result<(), Refusal>
-        requires least { 48 ≤ file_limit }
-        requires most { file_limit ≤ 68_719_476_736 }
-        ensures names { OnOk result (names_of self.new
-            ≡ next_name.old ∷ drop count (names_of self.old)) }
-        ensures memory { memory_of self.new ≡ memory_of self.old }
+        requires limit { IsFileLimit file_limit }
+        ensures made { OnOk result (Replaces (Merge count) file_limit
+            (F.contents files.old) next_name.old next_name.new self.old self.new) }
         ensures lists { OnOk result (Compacts (Merge count)
             (F.contents files.old) next_name.old (F.contents files.new) self.old self.new) }
         ensures keeps { Keeps (F.contents files.old)
             next_name.old self.old (F.contents files.new) next_name.new self.new }
         ensures range { range_of self.new ≡ range_of self.old }
         ensures err { OnErr result (IsUnchanged self.old self.new) }
-        ensures name { UsesName
+        ensures name { TakesName
             (F.contents files.old) next_name.old (F.contents files.new) next_name.new }
-        ensures limit { next_name.old ≤ 2 ^ 63 → next_name.new ≤ 2 ^ 63 }
         ensures count { IsErrOf result Refusal.BadCount
             ↔ ¬ ((2 ≤ count) × (count ≤ length (names_of self.old))) }
         ensures exhausted { IsErrOf result Refusal.Exhausted → 2 ^ 63 ≤ next_name.old }
-        ensures left { OnOk result (next_name.old < 2 ^ 63) }
         ensures large { IsErrOf result Refusal.FileTooLarge
             → IfSome (F.contents files.old) (λ m. Holds m self.old
-            → ¬ FitsIn file_limit (written (nat_lt count (length (names_of self.old)))
-            (map (seen (range_of self.old)) (take count (map (listed m) (files_of self.old)))))) }
-        ensures fits { OnOk result (IfSome (F.contents files.old) (λ m. Holds m self.old
-            → FitsIn file_limit (written (nat_lt count (length (names_of self.old)))
-            (map (seen (range_of self.old)) (take count (map (listed m) (files_of self.old))))))) }
+            → ¬ FitsIn file_limit (compacted_of (Merge count) m self.old)) }
         ensures damaged { IsErrOf result Refusal.Damaged
             → IfSome (F.contents files.old) (λ m. ¬ Holds m self.old) }
         ensures refusal { IfErr result IsMergeRefusal }
         ensures reason { HasReason (F.faults files.old) (F.faults files.new) result }
         ensures unwritten { IsErrOf result Refusal.BadCount
             → (next_name.new ≡ next_name.old) × (F.contents files.new ≡ F.contents files.old) }
-        ensures used { OnOk result (next_name.new ≡ next_name.old + 1) }
     {
         stays_open();
         names_first();
@@ -328,11 +298,11 @@ impl Tablet {
     }
 
     /// Writes the memtable and all files as exactly one file without erasures (Bigtable, major compaction), keys
-    /// of the range alone, also where there is nothing, and empties the memtable.
+    /// of the range alone, even if there is nothing, and empties the memtable.
     ///
     /// # Errors
     ///
-    /// `FileTooLarge`, `Exhausted` where no name is left, `Device`, `NoMemory`, and `Damaged` only where a file
+    /// `FileTooLarge`, `Exhausted` if no name is left, `Device`, `NoMemory`, and `Damaged` only if a file
     /// is no longer what was opened. The tablet is then as before.
     pub fn major<F: Files>(
         &mut self,
@@ -340,32 +310,25 @@ impl Tablet {
         next_name: &mut u64,
         files: &mut F,
     ) -> Result<(), Refusal>
-        requires least { 48 ≤ file_limit }
-        requires most { file_limit ≤ 68_719_476_736 }
-        ensures names { OnOk result (names_of self.new ≡ next_name.old ∷ []) }
-        ensures memory { OnOk result (memory_of self.new ≡ []) }
+        requires limit { IsFileLimit file_limit }
+        ensures made { OnOk result (Replaces Major file_limit
+            (F.contents files.old) next_name.old next_name.new self.old self.new) }
         ensures lists { OnOk result (Compacts
             Major (F.contents files.old) next_name.old (F.contents files.new) self.old self.new) }
         ensures keeps { Keeps (F.contents files.old)
             next_name.old self.old (F.contents files.new) next_name.new self.new }
         ensures range { range_of self.new ≡ range_of self.old }
         ensures err { OnErr result (IsUnchanged self.old self.new) }
-        ensures name { UsesName
+        ensures name { TakesName
             (F.contents files.old) next_name.old (F.contents files.new) next_name.new }
-        ensures limit { next_name.old ≤ 2 ^ 63 → next_name.new ≤ 2 ^ 63 }
         ensures exhausted { IsErrOf result Refusal.Exhausted → 2 ^ 63 ≤ next_name.old }
-        ensures left { OnOk result (next_name.old < 2 ^ 63) }
-        ensures large { IsErrOf result Refusal.FileTooLarge → IfSome (F.contents files.old) (λ m.
-            Holds m self.old → ¬ FitsIn file_limit (written false (map (seen (range_of self.old))
-            (memory_of self.old ∷ map (listed m) (files_of self.old))))) }
-        ensures fits { OnOk result (IfSome (F.contents files.old) (λ m. Holds m self.old
-            → FitsIn file_limit (written false (map (seen (range_of self.old))
-            (memory_of self.old ∷ map (listed m) (files_of self.old)))))) }
+        ensures large { IsErrOf result Refusal.FileTooLarge
+            → IfSome (F.contents files.old) (λ m. Holds m self.old
+            → ¬ FitsIn file_limit (compacted_of Major m self.old)) }
         ensures damaged { IsErrOf result Refusal.Damaged
             → IfSome (F.contents files.old) (λ m. ¬ Holds m self.old) }
         ensures refusal { IfErr result IsCompactionRefusal }
         ensures reason { HasReason (F.faults files.old) (F.faults files.new) result }
-        ensures used { OnOk result (next_name.new ≡ next_name.old + 1) }
     {
         stays_open();
         names_first();

@@ -10,7 +10,7 @@ pub fn stays_in_range()
 {}
 
 /// In its range a tablet shows a key's value in the first of its lists that names the key, or nothing
-/// where that is an erasure or no list names it. The memtable is the first list, and the newest file next.
+/// if that is an erasure or no list names it. The memtable is the first list, and the newest file next.
 pub fn shows_its_lists()
     ensures { ShowsItsLists }
 {}

@@ -5,13 +5,14 @@
 mod caches;
 mod compactions;
 mod laws;
-mod moving;
+mod lookup;
+mod merge_policy;
 mod ranges;
 mod reads;
-mod serving;
+mod scan;
 mod sources;
+mod split;
 mod tablet;
-mod tiers;
 
 pub use compactions::Compaction;
 pub use laws::{

@@ -1,301 +1,245 @@
-//! Reading the merged view of a memtable and files (Bigtable, tablet serving: read operations).
+//! What a tablet answers: the newest version of a column, and the next cell.
 
-ghost use Rattle.std.specs.Prelude.{◌≡◌, ℕ, ◌⊎◌, ◌≤◌, ◌<◌, ◌^◌, ◌∷◌, Some, option_map, map, length, IfOk, IfErr, IfSome, IsErrOf};
-ghost use Rattle.std.specs.Option.{option_copied};
-ghost use Rattle.std.specs.List.{AllByRecursion, AllZip};
-ghost use Rattle.cell_key.specs.Names.{IsRow, IsFamily};
-ghost use Rattle.cell_key.specs.Keys.{text, IsStored};
-ghost use Rattle.cell_key.specs.Cells.{version};
-ghost use Rattle.cell_key.specs.Entries.{IsEntry, lent_entry, first_naming, or_else, value_of};
-ghost use Rattle.sorted_file.specs.Opened.{IsOpen, IsSameFile, IsShortValue, listed, value_bytes};
-ghost use Rattle.sorted_file.specs.Sources.{IsReadRefusal};
+ghost use Rattle.std.specs.Prelude.{◌≡◌, ℕ, ◌≤◌, ◌<◌, ◌^◌, [], false, IsTrue, option_map, map, IfOk, IfErr, IfSome, IsErrOf};
+ghost use Rattle.cell_key.specs.Cells.{IsNewest, version};
+ghost use Rattle.cell_key.specs.Entries.{cells_of};
 ghost use Rattle.cell_key.specs.Faults.{HasReason};
-ghost use Rattle.tablet.specs.Sources.{part};
-ghost use Rattle.tablet.specs.Reads.{first_value, lent_value, texted, HasNoLater, IsAfterStamp, IsAsked, IsStoredValue, IsValue};
+ghost use Rattle.cell_key.specs.Places.{IsNextCell, place_named};
+ghost use Rattle.cell_key.specs.Versions.{IsVersion, IsVersionIn, stamped};
+ghost use Rattle.memtable.specs.Slots.{lent_version};
+ghost use Rattle.sorted_file.specs.File.{listed};
+ghost use Rattle.sorted_file.specs.Source.{IsReadRefusal};
+ghost use Rattle.tablet.specs.Ranges.{has_row};
+ghost use Rattle.tablet.specs.Reads.{HasNoLater, IsAsked, IsLater};
 
-use crate::sources::sources;
-use cell_key::{CellKey, EntryRef, Family, Qualifier, Refusal, Row, Stamp};
-use compaction::Merge;
+use crate::lookup::{asked, lookup, newest_stamp, version_key};
+use crate::scan::{first_value, later, past_place};
+use crate::sources::fences;
+use crate::tablet::Tablet;
+use cell_key::{Family, MOST_STAMP, Qualifier, Refusal, Row, Stamp};
 use file_store::Files;
-use memtable::Memtable;
-use sorted_file::{SortedFile, Source};
 use std::alloc::Global;
 
-/// The most bytes of a value.
-const MOST_VALUE: usize = 65_536;
-
-/// A copy of a value, if there is one. Refused Damaged where it is longer than a value is, and NoMemory.
-fn copied(alloc: Global, value: Option<&[u8]>) -> Result<Option<Vec<u8>>, Refusal>
-    ensures copy { IfOk result (λ copy.
-        option_map (λ bytes. bytes.items) copy ≡ option_copied value.entry) }
-    ensures short { IfOk result (λ copy. IfSome copy (λ bytes. length bytes.items ≤ 65536)) }
-    ensures damaged { IsErrOf result Refusal.Damaged
-        → ¬ IfSome (option_copied value.entry) IsValue }
-    ensures refusal { IfErr result (λ refusal.
-        (refusal ≡ Refusal.NoMemory) ⊎ (refusal ≡ Refusal.Damaged)) }
-{
-    let Some(value) = value else {
-        return Ok(None);
-    };
-    if value.len() > MOST_VALUE {
-        return Err(Refusal::Damaged);
-    }
-    let copy = Vec::from_slice(alloc, value)?;
-    Ok(Some(copy))
-}
-
-/// The key and the value of an entry, if it is no erasure. Refused Damaged where it isn't within the limits
-/// of entries, and NoMemory.
-fn keyed_value(alloc: Global, entry: EntryRef<'_>) -> Result<Option<(CellKey, Vec<u8>)>, Refusal>
-    ensures found { IfOk result (λ found.
-        option_map texted found ≡ lent_value (Some (lent_entry entry.entry))) }
-    ensures limits { IfOk result (λ found. IfSome found (λ p. IsStoredValue p.0 p.1.items)) }
-    ensures damaged { IsErrOf result Refusal.Damaged → ¬ IsEntry (lent_entry entry.entry) }
-    ensures refusal { IfErr result (λ refusal.
-        (refusal ≡ Refusal.NoMemory) ⊎ (refusal ≡ Refusal.Damaged)) }
-{
-    let Some(value) = copied(alloc, entry.value)? else {
-        return Ok(None);
-    };
-    match CellKey::decode(alloc, entry.key)? {
-        Some(key) => Ok(Some((key, value))),
-        None => Err(Refusal::Damaged),
-    }
-}
-
-/// The key and the value that a source is at, if it is at a value.
-fn value_at<F: Files, S: Source<F>>(
+/// A copy of a version that is lent, if there is one. Answers `NoMemory` if there is no memory.
+fn copy_version(
     alloc: Global,
-    source: &S,
-) -> Result<Option<(CellKey, Vec<u8>)>, Refusal>
-    ensures found { IfOk result (λ found.
-        option_map texted found ≡ lent_value (S.lent source.now)) }
-    ensures limits { IfOk result (λ found. IfSome found (λ p. IsStoredValue p.0 p.1.items)) }
-    ensures damaged { IsErrOf result Refusal.Damaged → ¬ IfSome (S.lent source.now) IsEntry }
-    ensures refusal { IfErr result (λ refusal.
-        (refusal ≡ Refusal.NoMemory) ⊎ (refusal ≡ Refusal.Damaged)) }
+    found: Option<(Stamp, &[u8])>,
+) -> Result<Option<(Stamp, Vec<u8>)>, Refusal>
+    ensures copy { IfOk result (λ copy.
+        option_map stamped copy ≡ option_map lent_version found.entry) }
+    ensures refusal { IfErr result (λ refusal. refusal ≡ Refusal.NoMemory) }
 {
-    match source.current() {
-        Some(entry) => keyed_value(alloc, entry),
+    match found {
+        Some((stamp, value)) => {
+            let copy = Vec::from_slice(alloc, value)?;
+            Ok(Some((stamp, copy)))
+        }
         None => Ok(None),
     }
 }
 
-/// The next value of a source, with its key. Reads up to it and not further.
-fn next_value<F: Files, S: Source<F>>(
-    alloc: Global,
-    source: &mut S,
-    store: &mut F,
-) -> Result<Option<(CellKey, Vec<u8>)>, Refusal>
-    ensures found { IfOk result (λ found. S.holds (F.contents store.old) source.old
-        → option_map texted found ≡ first_value (S.remaining (F.contents store.old) source.old)) }
-    ensures limits { IfOk result (λ found. IfSome found (λ p. IsStoredValue p.0 p.1.items)) }
-    ensures damaged { IsErrOf result Refusal.Damaged → ¬ S.holds (F.contents store.old) source.old }
-    ensures refusal { IfErr result IsReadRefusal }
-    ensures same { F.contents store.new ≡ F.contents store.old }
-    ensures reason { HasReason (F.faults store.old) (F.faults store.new) result }
-{
-    while source.advance(store)? {
-        if let Some(found) = value_at::<F, S>(alloc, source)? {
-            return Ok(Some(found));
-        }
-    }
-    Ok(None)
-}
-
-/// The first value of a memtable and files together, the newest first, whose text is `from` or comes after
-/// it, and is below `end` if there is one, with its key. Reads no more of the files than that range.
-pub(crate) fn first_value<F: Files>(
-    alloc: Global,
-    memtable: &Memtable,
-    files: &[SortedFile],
-    from: &[u8],
-    end: Option<&[u8]>,
-    store: &mut F,
-) -> Result<Option<(CellKey, Vec<u8>)>, Refusal>
-    ensures found { IfOk result (λ found.
-        IfSome (F.contents store.old) (λ m. AllByRecursion (IsOpen m) files.now
-        → option_map texted found
-        ≡ first_value (part from.now (option_copied end.entry)
-        (memtable.now ∷ map (listed m) files.now)))) }
-    ensures limits { IfOk result (λ found. IfSome found (λ p. IsStoredValue p.0 p.1.items)) }
-    ensures damaged { IsErrOf result Refusal.Damaged
-        → IfSome (F.contents store.old) (λ m. ¬ AllByRecursion (IsOpen m) files.now) }
-    ensures refusal { IfErr result IsReadRefusal }
-    ensures same { F.contents store.new ≡ F.contents store.old }
-    ensures reason { HasReason (F.faults store.old) (F.faults store.new) result }
-{
-    let sources = sources::<F>(alloc, Some(memtable), files, from, end)?;
-    let mut merge = Merge::new::<F>(sources);
-    next_value(alloc, &mut merge, store)
-}
-
-/// The newest of some files, up to the oldest one that may have a value of a column of this kind at a stamp in
-/// `lo..=hi`. What is older hides nothing, so those after it needn't be asked.
-pub(crate) fn asked(
-    files: &[SortedFile],
-    qualifier: Qualifier,
-    lo: Stamp,
-    hi: Stamp,
-) -> &[SortedFile]
-    ensures { IsAsked qualifier lo hi files.now result.now }
-{
-    let mut asked = files;
-    'newer: while let Some((oldest, newer)) = asked.split_last() {
-        if oldest.may_have(qualifier, lo, hi) {
-            return asked;
-        }
-        asked = newer;
-    }
-    asked
-}
-
-/// The first stamp after one that was found, or `lo` where none was.
-pub(crate) fn first_after(found: Option<Stamp>, lo: Stamp) -> Stamp
-    requires { IfSome found (λ stamp. stamp < 2 ^ 63) }
-    ensures after { IsAfterStamp result lo found }
-    ensures first { (s : ℕ) → IsAfterStamp s lo found → result ≤ s }
+/// The first stamp after that of a version that is lent, or `lo` if there is none.
+fn stamp_after(found: Option<(Stamp, &[u8])>, lo: Stamp) -> Stamp
+    requires { IfSome found (λ found. IsVersion found.0 found.1.now) }
+    ensures after { IsLater result lo (option_map lent_version found.entry) }
+    ensures first { (s : ℕ) → IsLater s lo (option_map lent_version found.entry) → result ≤ s }
 {
     match found {
-        Some(stamp) => stamp + 1,
+        Some((stamp, _)) => stamp + 1,
         None => lo,
     }
 }
 
-/// The first of two stamps, if there is one, and else the second.
-fn or_else(first: Option<Stamp>, second: Option<Stamp>) -> Option<Stamp>
-    ensures { result ≡ or_else first second }
-{
-    match first {
-        Some(stamp) => Some(stamp),
-        None => second,
-    }
-}
+impl Tablet {
+    ghost use Rattle.file_store.specs.Store.{Contents};
+    ghost use Rattle.tablet.specs.Views.{range_of, memory_of, files_of, cells_at, Holds, IsSameTablet};
 
-/// The greatest stamp, from `lo` up to that of the key, at which any of some files has a value of the key's
-/// column. The files stay what they were.
-pub(crate) fn newest_stamp<F: Files>(
-    files: &mut [SortedFile],
-    key: &CellKey,
-    lo: Stamp,
-    store: &mut F,
-) -> Result<Option<Stamp>, Refusal>
-    requires { key.now.stamp < 2 ^ 63 }
-    ensures found { IfOk result (λ found. IfSome (F.contents store.old) (λ m.
-        AllByRecursion (IsOpen m) files.old
-        → HasNoLater key.now lo found (map (listed m) files.old))) }
-    ensures within { IfOk result (λ found.
-        IfSome found (λ stamp. (lo ≤ stamp) × (stamp ≤ key.now.stamp))) }
-    ensures stay { AllZip (IsSameFile (F.contents store.old)) files.old files.new }
-    ensures damaged { IsErrOf result Refusal.Damaged → IfSome (F.contents store.old)
-        (λ m. ¬ AllByRecursion (IsOpen m) files.old) }
-    ensures refusal { IfErr result IsReadRefusal }
-    ensures same { F.contents store.new ≡ F.contents store.old }
-    ensures reason { HasReason (F.faults store.old) (F.faults store.new) result }
-{
-    let mut found = None;
-    for file in files.iter_mut() {
-        let from = first_after(found, lo);
-        let later = file.newest_stamp(key, from, store)?;
-        found = or_else(later, found);
+    /// Whether a file may have a value of a column of this kind at a stamp in `lo..=hi`. Takes no memory and reads no
+    /// file.
+    fn may_be_in_files(&self, qualifier: Qualifier, lo: Stamp, hi: Stamp) -> bool
+        ensures { result ≡ false → lo ≤ hi → IsAsked qualifier lo hi (files_of self.now) [] }
+    {
+        lo <= hi && !asked(&self.files, qualifier, lo, hi).is_empty()
     }
-    Ok(found)
-}
 
-/// What the first of some files that names a key has of it. The files stay what they were.
-fn find_in_files<F: Files>(
-    files: &mut [SortedFile],
-    key: &CellKey,
-    store: &mut F,
-) -> Result<Option<Option<Vec<u8>>>, Refusal>
-    ensures found { IfOk result (λ found.
-        IfSome (F.contents store.old) (λ m. AllByRecursion (IsOpen m) files.old
-        → option_map value_bytes found ≡ first_naming (map (listed m) files.old) (text key.now))) }
-    ensures short { IfOk result (λ found. IfSome found IsShortValue) }
-    ensures stay { AllZip (IsSameFile (F.contents store.old)) files.old files.new }
-    ensures damaged { IsErrOf result Refusal.Damaged
-        → IfSome (F.contents store.old) (λ m. ¬ AllByRecursion (IsOpen m) files.old) }
-    ensures refusal { IfErr result IsReadRefusal }
-    ensures same { F.contents store.new ≡ F.contents store.old }
-    ensures reason { HasReason (F.faults store.old) (F.faults store.new) result }
-{
-    for file in files.iter_mut() {
-        if let Some(value) = file.lookup(key, store)? {
-            return Ok(Some(value));
+    /// The value of a version, if the tablet has it, by lookups.
+    fn version_at<F: Files>(
+        &mut self,
+        row: &Row,
+        family: &Family,
+        qualifier: Qualifier,
+        stamp: Stamp,
+        files: &mut F,
+    ) -> Result<Option<(Stamp, Vec<u8>)>, Refusal>
+        requires from { 1 ≤ stamp }
+        requires to { stamp < 2 ^ 63 }
+        ensures found { IfOk result (λ found.
+            IfSome (F.contents files.old) (λ m. Holds m self.old
+            → IsTrue (has_row (range_of self.old) row.now)
+            → IsNewest (cells_at m self.old) (version row.now family.now qualifier) stamp stamp
+            (option_map stamped found))) }
+        ensures limits { IfOk result (λ found.
+            IfSome (option_map stamped found) (IsVersionIn stamp stamp)) }
+        ensures stays { IsSameTablet (F.contents files.old) self.old self.new }
+        ensures damaged { IsErrOf result Refusal.Damaged
+            → IfSome (F.contents files.old) (λ m. ¬ Holds m self.old) }
+        ensures refusal { IfErr result IsReadRefusal }
+        ensures same { F.contents files.new ≡ F.contents files.old }
+        ensures reason { HasReason (F.faults files.old) (F.faults files.new) result }
+    {
+        let key = version_key(row, family, qualifier, stamp)?;
+        match lookup(self.alloc, &self.memtable, &mut self.files, &key, files)? {
+            Some(value) => Ok(Some((stamp, value))),
+            None => Ok(None),
         }
     }
-    Ok(None)
-}
 
-/// The value of a key in a memtable, or else in the first of some files that names it. An erasure is no
-/// value. The files stay what they were.
-pub(crate) fn lookup<F: Files>(
-    alloc: Global,
-    memtable: &Memtable,
-    files: &mut [SortedFile],
-    key: &CellKey,
-    store: &mut F,
-) -> Result<Option<Vec<u8>>, Refusal>
-    ensures found { IfOk result (λ found.
-        IfSome (F.contents store.old) (λ m. AllByRecursion (IsOpen m) files.old
-        → option_map (λ bytes. bytes.items) found
-        ≡ value_of (first_naming (memtable.now ∷ map (listed m) files.old) (text key.now)))) }
-    ensures short { IfOk result (λ found. IfSome found (λ bytes. length bytes.items ≤ 65536)) }
-    ensures stay { AllZip (IsSameFile (F.contents store.old)) files.old files.new }
-    ensures damaged { IsErrOf result Refusal.Damaged
-        → IfSome (F.contents store.old) (λ m. ¬ AllByRecursion (IsOpen m) files.old) }
-    ensures refusal { IfErr result IsReadRefusal }
-    ensures same { F.contents store.new ≡ F.contents store.old }
-    ensures reason { HasReason (F.faults store.old) (F.faults store.new) result }
-{
-    if let Some(newest) = memtable.lookup(key) {
-        return copied(alloc, newest.value);
+    /// The version with the greatest stamp in `lo..=hi`, if the memtable has none there: by the newest stamps
+    /// of the files' values, unless one stamp is all of them. One that a newer erasure hides is passed by.
+    fn newest_in_files<F: Files>(
+        &mut self,
+        row: &Row,
+        family: &Family,
+        qualifier: Qualifier,
+        lo: Stamp,
+        hi: Stamp,
+        files: &mut F,
+    ) -> Result<Option<(Stamp, Vec<u8>)>, Refusal>
+        requires from { 1 ≤ lo }
+        requires to { hi < 2 ^ 63 }
+        ensures found { IfOk result (λ found. IfSome (F.contents files.old) (λ m. Holds m self.old
+            → IsTrue (has_row (range_of self.old) row.now)
+            → IsNewest (cells_of (memory_of self.old)) (version row.now family.now qualifier) lo hi
+            None
+            → IsNewest (cells_at m self.old) (version row.now family.now qualifier) lo hi
+            (option_map stamped found))) }
+        ensures limits { IfOk result (λ found.
+            IfSome (option_map stamped found) (IsVersionIn lo hi)) }
+        ensures stays { IsSameTablet (F.contents files.old) self.old self.new }
+        ensures damaged { IsErrOf result Refusal.Damaged → IfSome (F.contents files.old)
+            (λ m. ¬ Holds m self.old) }
+        ensures refusal { IfErr result IsReadRefusal }
+        ensures same { F.contents files.new ≡ F.contents files.old }
+        ensures reason { HasReason (F.faults files.old) (F.faults files.new) result }
+    {
+        if lo == hi {
+            return self.version_at(row, family, qualifier, hi, files);
+        }
+        let mut to = hi;
+        'hidden: while let Some(stamp) = self.newest_file_stamp(
+            row, family, qualifier, lo, to, files,
+        )? {
+            if let Some(found) = self.version_at(row, family, qualifier, stamp, files)? {
+                return Ok(Some(found));
+            }
+            to = stamp - 1;
+        }
+        Ok(None)
     }
-    match find_in_files(files, key, store)? {
-        Some(value) => Ok(value),
-        None => Ok(None),
+
+    /// The greatest stamp in `lo..=hi` at which a file has a value of a cell's column.
+    fn newest_file_stamp<F: Files>(
+        &mut self,
+        row: &Row,
+        family: &Family,
+        qualifier: Qualifier,
+        lo: Stamp,
+        hi: Stamp,
+        files: &mut F,
+    ) -> Result<Option<Stamp>, Refusal>
+        requires { hi < 2 ^ 63 }
+        ensures found { IfOk result (λ found. IfSome (F.contents files.old) (λ m. Holds m self.old
+            → HasNoLater (version row.now family.now qualifier hi) lo found
+            (map (listed m) (files_of self.old)))) }
+        ensures within { IfOk result (λ found.
+            IfSome found (λ stamp. (lo ≤ stamp) × (stamp ≤ hi))) }
+        ensures stays { IsSameTablet (F.contents files.old) self.old self.new }
+        ensures damaged { IsErrOf result Refusal.Damaged → IfSome (F.contents files.old)
+            (λ m. ¬ Holds m self.old) }
+        ensures refusal { IfErr result IsReadRefusal }
+        ensures same { F.contents files.new ≡ F.contents files.old }
+        ensures reason { HasReason (F.faults files.old) (F.faults files.new) result }
+    {
+        let key = version_key(row, family, qualifier, hi)?;
+        newest_stamp(&mut self.files, &key, lo, files)
     }
-}
 
-/// The key of a version. Refused NoMemory.
-pub(crate) fn version_key(
-    row: &Row,
-    family: &Family,
-    qualifier: Qualifier,
-    stamp: Stamp,
-) -> Result<CellKey, Refusal>
-    ensures key { IfOk result (λ key. key ≡ version row.now family.now qualifier stamp) }
-    ensures row { IsRow row.now }
-    ensures family { IsFamily family.now }
-    ensures refusal { IfErr result (λ refusal. refusal ≡ Refusal.NoMemory) }
-{
-    // These calls tell that row and family are within their limits.
-    let _row = row.as_bytes();
-    let _family = family.as_bytes();
-    Ok(CellKey {
-        row: row.clone()?,
-        family: family.clone()?,
-        qualifier,
-        stamp,
-    })
-}
+    /// The version of a cell's column with the greatest stamp in `lo..=hi` (Bigtable, timestamps), or
+    /// nothing. The memtable is searched first, and no file is asked if it decides: then only the value takes
+    /// memory. Else each file is asked for the stamp of its newest value that is later than the memtable's, and the
+    /// version there is looked up, or as many more as newer erasures hide. The tablet stays what it was, also after an
+    /// `Err`.
+    ///
+    /// # Errors
+    ///
+    /// `Damaged` only if a file is no longer what was opened, `Device` and `NoMemory`.
+    pub fn newest<F: Files>(
+        &mut self,
+        row: &Row,
+        family: &Family,
+        qualifier: Qualifier,
+        lo: Stamp,
+        hi: Stamp,
+        files: &mut F,
+    ) -> Result<Option<(Stamp, Vec<u8>)>, Refusal>
+        ensures found { IfOk result (λ found.
+            IfSome (F.contents files.old) (λ m. Holds m self.old
+            → IsTrue (has_row (range_of self.old) row.now)
+            → IsNewest (cells_at m self.old) (version row.now family.now qualifier) lo hi
+            (option_map stamped found))) }
+        ensures limits { IfOk result (λ found.
+            IfSome (option_map stamped found) (IsVersionIn lo hi)) }
+        ensures stays { IsSameTablet (F.contents files.old) self.old self.new }
+        ensures damaged { IsErrOf result Refusal.Damaged
+            → IfSome (F.contents files.old) (λ m. ¬ Holds m self.old) }
+        ensures refusal { IfErr result IsReadRefusal }
+        ensures same { F.contents files.new ≡ F.contents files.old }
+        ensures reason { HasReason (F.faults files.old) (F.faults files.new) result }
+    {
+        let found = self.memtable.newest(row, family, qualifier, lo, hi);
+        let from = stamp_after(found, lo).max(1);
+        let to = hi.min(MOST_STAMP);
+        let in_memory = copy_version(self.alloc, found)?;
+        if !self.may_be_in_files(qualifier, from, to) {
+            return Ok(in_memory);
+        }
+        let later = self.newest_in_files(row, family, qualifier, from, to, files)?;
+        Ok(later.or(in_memory))
+    }
 
-/// The text of the key of a version. Refused NoMemory.
-pub(crate) fn version_text(
-    alloc: Global,
-    row: &Row,
-    family: &Family,
-    qualifier: Qualifier,
-    stamp: Stamp,
-) -> Result<Vec<u8>, Refusal>
-    ensures text { IfOk result (λ bytes.
-        bytes.items ≡ text (version row.now family.now qualifier stamp)) }
-    ensures row { IsRow row.now }
-    ensures family { IsFamily family.now }
-    ensures refusal { IfErr result (λ refusal. refusal ≡ Refusal.NoMemory) }
-{
-    let key = version_key(row, family, qualifier, stamp)?;
-    let mut text = Vec::new(alloc);
-    key.encode(&mut text)?;
-    Ok(text)
+    /// The first cell of the tablet that has any version, after the cell of `after`, which may lie outside
+    /// the tablet's range, or from its start.
+    ///
+    /// # Errors
+    ///
+    /// `Damaged` only if a file is no longer what was opened, `Device` and `NoMemory`.
+    pub fn next_cell<F: Files>(
+        &self,
+        after: Option<(&Row, &Family)>,
+        files: &mut F,
+    ) -> Result<Option<(Row, Family)>, Refusal>
+        ensures found { IfOk result (λ found.
+            IfSome (F.contents files.old) (λ m. Holds m self.now
+            → IsNextCell (cells_at m self.now) (option_map place_named after.entry) found)) }
+        ensures damaged { IsErrOf result Refusal.Damaged
+            → IfSome (F.contents files.old) (λ m. ¬ Holds m self.now) }
+        ensures refusal { IfErr result IsReadRefusal }
+        ensures same { F.contents files.new ≡ F.contents files.old }
+        ensures reason { HasReason (F.faults files.old) (F.faults files.new) result }
+    {
+        let (fence, end) = fences(self.alloc, &self.range)?;
+        let past = past_place(self.alloc, after)?;
+        let from = later(&fence, &past);
+        match first_value(
+            self.alloc,
+            &self.memtable,
+            &self.files,
+            from,
+            end.as_deref(),
+            files,
+        )? {
+            Some((key, _value)) => Ok(Some((key.row, key.family))),
+            None => Ok(None),
+        }
+    }
 }

@@ -11,14 +11,14 @@ ghost use Rattle.tablet.specs.Sources.{entries_between, listed_in, lists_over, I
 
 use crate::ranges::RowRange;
 use cell_key::{Refusal, Row};
-use compaction::{Input, Until};
+use compaction::{Bounded, Input};
 use file_store::Files;
 use memtable::Memtable;
 use sorted_file::{SortedFile, Source};
 use std::alloc::Global;
 
 /// What comes before the texts of a range's rows and after those of all earlier rows, and what comes after
-/// those of its rows, if its end isn't infinite. Refused NoMemory.
+/// those of its rows, if its end isn't infinite. Answers `NoMemory` if there is no memory.
 pub(crate) fn fences(alloc: Global, range: &RowRange) -> Result<(Vec<u8>, Option<Vec<u8>>), Refusal>
     ensures from { IfOk result (λ fences. fences.0.items ≡ lower_fence range.now) }
     ensures end { IfOk result (λ fences.
@@ -41,13 +41,13 @@ fn memtable_source<'a>(
     memtable: &'a Memtable,
     from: &[u8],
     end: Option<&'a [u8]>,
-) -> Until<'a, Input<'a>>
+) -> Bounded<'a, Input<'a>>
     ensures start { (told : Option Contents) → IsAtStart told result }
     ensures list { (told : Option Contents) → remaining_of told result
         ≡ entries_between from.now (option_copied end.entry) memtable.now }
     ensures entries { IsEntryList memtable.now }
 {
-    Until::new(Input::Memtable(memtable.cursor(from)), end)
+    Bounded::new(Input::Memtable(memtable.cursor(from)), end)
 }
 
 /// The entries of a memtable, if there is one, from a text on and below another.
@@ -56,7 +56,7 @@ fn memtable_sources<'a>(
     memtable: Option<&'a Memtable>,
     from: &[u8],
     end: Option<&'a [u8]>,
-) -> Result<Vec<Until<'a, Input<'a>>>, Refusal>
+) -> Result<Vec<Bounded<'a, Input<'a>>>, Refusal>
     ensures start { IfOk result (λ sources. (told : Option Contents)
         → AllByRecursion (IsAtStart told) sources.items) }
     ensures lists { IfOk result (λ sources. (told : Option Contents)
@@ -79,30 +79,31 @@ fn file_source<'a>(
     file: &'a SortedFile,
     from: &'a [u8],
     end: Option<&'a [u8]>,
-) -> Until<'a, Input<'a>>
+) -> Bounded<'a, Input<'a>>
     ensures start { (told : Option Contents) → IsOpenIn told file.now → IsAtStart told result }
     ensures list { (told : Option Contents) → IsOpenIn told file.now → remaining_of told result
         ≡ entries_between from.now (option_copied end.entry) (listed_in told file.now) }
 {
-    Until::new(Input::File(file.cursor(from)), end)
+    Bounded::new(Input::File(file.cursor(from)), end)
 }
 
 /// The entries of a memtable, if there is one, and of files, from the text `from` on and below `end`, if
-/// there is one: a source of each, in this order, at its start. Refused NoMemory.
+/// there is one: a source of each, in this order, at its start. Answers `NoMemory` if there is no
+/// memory.
 pub(crate) fn sources<'a, F: Files>(
     alloc: Global,
     memtable: Option<&'a Memtable>,
     files: &'a [SortedFile],
     from: &'a [u8],
     end: Option<&'a [u8]>,
-) -> Result<Vec<Until<'a, Input<'a>>>, Refusal>
+) -> Result<Vec<Bounded<'a, Input<'a>>>, Refusal>
     ensures start { IfOk result (λ sources. (told : Option Contents)
         → AllByRecursion (IsOpenIn told) files.now
-        → AreAtStart ⟦<Until<'static, Input<'static>> as Source<F>>⟧.lent
-        (⟦<Until<'static, Input<'static>> as Source<F>>⟧.holds told) sources.items) }
+        → AreAtStart ⟦<Bounded<'static, Input<'static>> as Source<F>>⟧.lent
+        (⟦<Bounded<'static, Input<'static>> as Source<F>>⟧.holds told) sources.items) }
     ensures lists { IfOk result (λ sources. (told : Option Contents)
         → AllByRecursion (IsOpenIn told) files.now
-        → map (⟦<Until<'static, Input<'static>> as Source<F>>⟧.remaining told) sources.items
+        → map (⟦<Bounded<'static, Input<'static>> as Source<F>>⟧.remaining told) sources.items
         ≡ map (entries_between from.now (option_copied end.entry))
         (lists_over told (option_copied memtable.entry) files.now)) }
     ensures entries { IfOk result (λ sources. (told : Option Contents)

@@ -77,8 +77,8 @@ impl Tablet {
         self.files.len()
     }
 
-    /// Appends the names of the files, the newest first. Refused NoMemory, and never where `out` has the
-    /// room. An `Err` leaves `out` as it was.
+    /// Appends the names of the files, the newest first. Answers `NoMemory` if a growth is refused, and
+    /// never if `out` has the room. An `Err` leaves `out` as it was.
     pub fn push_names(&self, out: &mut Vec<u64>) -> Result<(), Refusal>
         ensures ok { OnOk result (out.new.items ≡ out.old.items ++ names_of self.now) }
         ensures err { OnErr result (out.new.items ≡ out.old.items) }
@@ -88,7 +88,7 @@ impl Tablet {
     {
         out.reserve(self.file_count())?;
         for file in &self.files {
-            push_name(out, file.name());
+            out.push_reserved(file.name());
         }
         Ok(())
     }
@@ -97,7 +97,7 @@ impl Tablet {
     ///
     /// # Errors
     ///
-    /// `MemtableFull` where a limit of the memtable would be passed, and `NoMemory`. The tablet is then as
+    /// `MemtableFull` if a limit of the memtable would be passed, and `NoMemory`. The tablet is then as
     /// before.
     pub fn apply(&mut self, row: &Row, edits: Vec<Edit>) -> Result<(), Refusal>
         requires { AllByRecursion (IsEditOf row.now) edits.items }
@@ -119,14 +119,4 @@ impl Tablet {
     {
         self.memtable.apply(row, edits)
     }
-}
-
-/// Appends a name, where there is room.
-fn push_name(names: &mut Vec<u64>, name: u64)
-    requires { vec_len names.old < vec_capacity names.old }
-    ensures items { names.new.items ≡ names.old.items ++ name ∷ [] }
-    ensures len { vec_len names.new ≡ vec_len names.old + 1 }
-    ensures room { vec_capacity names.old ≤ vec_capacity names.new }
-{
-    names.push(name).unwrap();
 }

@@ -19,10 +19,10 @@ use std::{env, io};
 #[cfg(test)]
 mod tests;
 
-/// The exit status where the command line is refused.
+/// The exit status if the command line is refused.
 const REFUSED: u8 = 1;
 
-/// The exit status where there is no memory, and its line on the standard error.
+/// The exit status if there is no memory, and its line on the standard error.
 const NO_MEMORY: u8 = 7;
 
 const NO_MEMORY_LINE: &str = "tabletd: no memory";
@@ -65,7 +65,7 @@ impl From<clap::Error> for LineError {
     }
 }
 
-/// What the program says where a folder's files can't be opened.
+/// What the program says if a folder's files can't be opened.
 fn folder_status(fault: &FileFault) -> (u8, &'static str) {
     match fault {
         FileFault::Device => open_status(&Refusal::Device),

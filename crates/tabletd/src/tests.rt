@@ -1,5 +1,6 @@
 //! The store as its users meet it: streams of requests with the replies that they get. Below it are the tests of each crate.
 
+mod audits;
 mod bodies;
 mod caches;
 mod checkpoints;
@@ -9,6 +10,7 @@ mod collecting;
 mod compactions;
 mod deleting;
 mod edits;
+mod faults;
 mod files;
 mod folders;
 mod keys;
@@ -16,6 +18,7 @@ mod limits;
 mod memory;
 mod memtables;
 mod places;
+mod recordings;
 mod rows;
 mod script;
 mod slow;
@@ -43,12 +46,12 @@ type MemServer = Server<MemFiles, MemMark>;
 /// How a server ended.
 type Ended = Result<End, ServeFault>;
 
-/// A server over files in memory, of so many bytes at most.
+/// A server over files in memory, each of `file_limit` bytes at most.
 fn new_server(alloc: Global, file_limit: u64) -> Result<MemServer, Refusal> {
     flushing_server(alloc, 10_000, file_limit)
 }
 
-/// The same, whose memtables are compacted at so many entries.
+/// The same, whose memtables are compacted at `flush` entries.
 fn flushing_server(alloc: Global, flush: u32, file_limit: u64) -> Result<MemServer, Refusal> {
     if flush == 0 || flush > 100_000 || file_limit < 48 || file_limit > FILE_LIMIT {
         return Err(Refusal::FileTooLarge);
@@ -60,7 +63,7 @@ fn flushing_server(alloc: Global, flush: u32, file_limit: u64) -> Result<MemServ
     }
 }
 
-/// How a new server ends, with so many reads at most.
+/// How a new server ends, with this many reads at most.
 fn served<I: Read, O: Write>(
     alloc: Global,
     reader: &mut I,
@@ -71,7 +74,7 @@ fn served<I: Read, O: Write>(
     Ok(server.serve(reader, writer, most_reads))
 }
 
-/// How a new server ends, with so many reads at most, and what it has written and flushed.
+/// How a new server ends, with this many reads at most, and what it has written and flushed.
 fn outcome(alloc: Global, reader: Pieces, most_reads: u64) -> Result<(Ended, Vec<u8>), Refusal> {
     let mut reader = reader;
     let mut writer = Holding::new(alloc);
@@ -112,7 +115,7 @@ fn streams_of(alloc: Global, row: &Row) -> Result<(Vec<u8>, Vec<u8>), AllocError
     Ok((requests, replies))
 }
 
-/// Whether a new server ends cleanly, and writes the row's replies: where each read gives a byte, and where the stream is
+/// Whether a new server ends cleanly, and writes the row's replies, both if each read gives a byte and if the stream is
 /// cut in two at each place.
 fn is_met(alloc: Global, row: &Row) -> Result<bool, Refusal> {
     let (requests, replies) = streams_of(alloc, row)?;
@@ -216,8 +219,8 @@ const ONE_REPLY: &[u8] = b"\0\0\0\x09\x81\0\0\0\0\0\0\0\x01";
 
 const TWO_REPLIES: &[u8] = b"\0\0\0\x09\x81\0\0\0\0\0\0\0\x01\0\0\0\x09\x81\0\0\0\0\0\0\0\x02";
 
-/// Whether a new server can't read what is behind a place of these bytes, of which a read gives so many at most, and has
-/// written these replies.
+/// Whether a new server can't read what is behind a place of these bytes, of which a read gives this many at most, and
+/// has written these replies.
 fn is_read_to(
     alloc: Global,
     bytes: &[u8],
@@ -232,7 +235,7 @@ fn is_read_to(
     Ok(matches!(ended, Err(ServeFault::Read)) && written.as_slice() == replies)
 }
 
-/// Whether a new server ends after so many reads of a byte of two requests, and has written these replies.
+/// Whether a new server ends after this many reads of a byte of two requests, and has written these replies.
 fn is_used_up(alloc: Global, most_reads: u64, replies: &[u8]) -> Result<bool, Refusal> {
     let mut reader = Pieces::new(alloc, TWO_BEGINS)?;
     reader.most = 1;
@@ -240,8 +243,8 @@ fn is_used_up(alloc: Global, most_reads: u64, replies: &[u8]) -> Result<bool, Re
     Ok(matches!(ended, Ok(End::ReadsUsedUp)) && written.as_slice() == replies)
 }
 
-/// A reader that fails at each place of two requests, which it gives byte by byte or all at once: the requests before it are
-/// answered. So it is where the reads are used up there.
+/// A reader that fails at each place of two requests, which it gives byte by byte or all at once: the requests before
+/// it are answered. So it is if the reads are used up there.
 #[test]
 fn a_read_fails_at_each_place(rt: HostRuntime) -> Result<(), Fail> {
     for place in 0..10 {
@@ -254,7 +257,7 @@ fn a_read_fails_at_each_place(rt: HostRuntime) -> Result<(), Fail> {
     Ok(())
 }
 
-/// Whether a writer that gives up after so many calls got just as many bytes of the first cell's replies.
+/// Whether a writer that gives up after this many calls got just as many bytes of the first cell's replies.
 fn is_cut_short(alloc: Global, calls_left: usize, stalls: bool) -> Result<bool, Refusal> {
     let (requests, replies) = streams_of(alloc, &rows::FIRST_CELL)?;
     let mut reader = Pieces::new(alloc, &requests)?;
@@ -311,7 +314,8 @@ fn a_flush_fails(rt: HostRuntime) -> Result<(), Fail> {
     Ok(())
 }
 
-/// Whether a server that compacts memtables at so many entries, and merges at so many files, writes a row's replies.
+/// Whether a server that compacts memtables at this many entries, and merges at this many files, writes a row's
+/// replies.
 fn flushing(alloc: Global, flush: u32, merge: Option<u32>, row: &Row) -> Result<bool, Refusal> {
     let (requests, replies) = streams_of(alloc, row)?;
     let mut server = flushing_server(alloc, flush, FILE_LIMIT)?;

@@ -14,7 +14,7 @@ use Rattle.si_model.specs.Machine.{State, Writes}
 use Rattle.si_model.specs.declared.replies.Cell.{Cell}
 use Rattle.txn_client.specs.Shows.{IsCellRefusal, IsCrowded, IsInactive, IsOpenSession, IsUnwritten, ShowsAt, ShowsClients, ShowsSession, phase_of, writes_of}
 use Rattle.txn_client.specs.Writes.{write_of}
-use Rattle.txn_client.specs.declared.clients.Clients.{Clients}
+use Rattle.txn_client.specs.declared.sessions.Clients.{Clients}
 use Rattle.txn_client.specs.declared.session.Phase.{Phase}
 use Rattle.txn_client.specs.declared.session.Phase.TheVariants.{Open, Holding, Stamped, Finishing}
 use Rattle.txn_client.specs.declared.session.Session.{Session}

@@ -4,6 +4,6 @@ pub mod Passed
 pub mod ShownReads
 pub mod Refused
 pub mod Room
-pub mod Sessions
+pub mod SessionSteps
 pub mod Table
-pub mod WritePlaces
+pub mod WriteIndexes

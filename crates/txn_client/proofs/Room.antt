@@ -4,8 +4,7 @@ use Rattle.std.specs.Ordering.{nat_cmp}
 use Rattle.std.specs.BTreeMap as btree
 use Rattle.cell_key.specs.Cells.{Cells, after_edits}
 use Rattle.cell_key.specs.declared.edits.Edit.{Edit}
-use Rattle.row_atomic.specs.Calls.{AppliesSuch, KeepsBelow}
-use Rattle.row_atomic.specs.Clusters.{Storage}
+use Rattle.row_atomic.specs.Calls.{AppliesSuch, KeepsBelow, View}
 use Rattle.row_atomic.specs.Room.{HasNoRoom, TakesRoomOf}
 use Rattle.row_atomic.proofs.Calls.{applies_keep, reads_keep, reads_none, such_so}
 use Rattle.si_model.specs.Machine as machine
@@ -19,13 +18,13 @@ use Rattle.si_model.proofs.Kept.{held_phase}
 use Rattle.si_model.proofs.ShownTouched.{touches_held, touches_recorded}
 use Rattle.txn_client.specs.Room.{ChangesIn, ChangesNext, Does, EditsIn, EditsOf, EditsOfStep, HoldsAt, HoldsNext, IsHolding, IsStamped, Makes, RecordsAt, RecordsNext, TakesRoom}
 use Rattle.txn_client.specs.Shows.{phase_of, writes_of, HasHeldSo, ShowsClients, ShowsSession, IsAboutToDraw, TouchesBy}
-use Rattle.txn_client.specs.declared.clients.Clients.{Clients}
+use Rattle.txn_client.specs.declared.sessions.Clients.{Clients}
 use Rattle.txn_client.specs.declared.session.Phase.{Phase}
 use Rattle.txn_client.specs.declared.session.Phase.TheVariants.{Open, Holding, Stamped, Finishing}
 use Rattle.txn_client.specs.declared.session.Session.{Session}
 use Rattle.txn_client.proofs.Advance.{free_open}
 use Rattle.txn_client.proofs.Passed.{touches_kept}
-use Rattle.txn_client.proofs.Sessions.{held_of, puts_of, count_of}
+use Rattle.txn_client.proofs.SessionSteps.{held_of, puts_of, count_of}
 use Rattle.txn_client.proofs.Table.{shown_some}
 
 -- ---- what the edits of a row transaction make of the cells
@@ -45,12 +44,12 @@ holding_makes cells x first t None (a ∷ b ∷ es) is = absurd is
 pub no_room_so : {R : Type 0} (overfills : R → List ℕ → List Edit → Type 0) (rows : R) {P Q : List ℕ → List Edit → Type 0} → ((row : List ℕ) (edits : List Edit) → P row edits → Q row edits) → HasNoRoom overfills rows P → HasNoRoom overfills rows Q
 no_room_so overfills rows so (row, edits, changes, full) = (row, edits, so row edits changes, full)
 
-module _ {R : Type 0} (holds : R → Type 0) (cells : R → Cells) (overfills : R → List ℕ → List Edit → Type 0) (storage : R → Storage) (old new : R) where
+module _ {R : Type 0} (seen : View R) (old new : R) where
   abbrev Made : (List ℕ → List Edit → Type 0) → Type 0
-  Made P = AppliesSuch holds cells overfills storage P old new
+  Made P = AppliesSuch seen P old new
 
   -- edits that are of one kind are of another
-  pub does_so : {P Q : List ℕ → List Edit → Type 0} (p : Progress) → ((row : List ℕ) (edits : List Edit) → P row edits → Q row edits) → Does holds cells overfills storage P p old new → Does holds cells overfills storage Q p old new
+  pub does_so : {P Q : List ℕ → List Edit → Type 0} (p : Progress) → ((row : List ℕ) (edits : List Edit) → P row edits → Q row edits) → Does seen P p old new → Does seen Q p old new
   does_so (progress.Held k n) so made = such_so so made
   does_so (progress.Committed c) so made = such_so so made
   does_so (progress.Finished k n) so (inl made) = inl (such_so so made)
@@ -59,10 +58,10 @@ module _ {R : Type 0} (holds : R → Type 0) (cells : R → Cells) (overfills : 
   does_so (progress.Stamped c) so reads = reads
   does_so progress.Lost so reads = reads
 
-  made_below : {P : List ℕ → List Edit → Type 0} → Made P → KeepsBelow holds storage old new
+  made_below : {P : List ℕ → List Edit → Type 0} → Made P → KeepsBelow seen old new
   made_below made = applies_keep made.applied
 
-  pub does_below : (P : List ℕ → List Edit → Type 0) (p : Progress) → Does holds cells overfills storage P p old new → KeepsBelow holds storage old new
+  pub does_below : (P : List ℕ → List Edit → Type 0) (p : Progress) → Does seen P p old new → KeepsBelow seen old new
   does_below P (progress.Held k n) made = made_below made
   does_below P (progress.Committed c) made = made_below made
   does_below P (progress.Finished k n) (inl made) = made_below made
@@ -71,8 +70,8 @@ module _ {R : Type 0} (holds : R → Type 0) (cells : R → Cells) (overfills : 
   does_below P (progress.Stamped c) reads = reads_keep reads
   does_below P progress.Lost reads = reads_keep reads
 
-  module _ (held : holds old) where
-    pub does_make : (P : List ℕ → List Edit → Type 0) (p : Progress) → Does holds cells overfills storage P p old new → Makes P p (cells old) (cells new)
+  module _ (held : seen.holds old) where
+    pub does_make : (P : List ℕ → List Edit → Type 0) (p : Progress) → Does seen P p old new → Makes P p (seen.cells old) (seen.cells new)
     does_make P (progress.Held k n) made = (made.row, made.edits, made.such, made.applied.made held)
     does_make P (progress.Committed c) made = (made.row, made.edits, made.such, made.applied.made held)
     does_make P (progress.Finished k n) (inl made) = inl (made.row, made.edits, made.such, made.applied.made held)
@@ -82,7 +81,7 @@ module _ {R : Type 0} (holds : R → Type 0) (cells : R → Cells) (overfills : 
     does_make P progress.Lost reads = reads.kept held
 
     -- what joins or goes stands where edits such as these touch it
-    pub does_touch : (P : List ℕ → List Edit → Type 0) (p : Progress) (T : Type 0) → ((row : List ℕ) (edits : List Edit) → P row edits → cells new ≡ after_edits (cells old) edits → T) → (cells new ≡ cells old → T) → Does holds cells overfills storage P p old new → T
+    pub does_touch : (P : List ℕ → List Edit → Type 0) (p : Progress) (T : Type 0) → ((row : List ℕ) (edits : List Edit) → P row edits → seen.cells new ≡ after_edits (seen.cells old) edits → T) → (seen.cells new ≡ seen.cells old → T) → Does seen P p old new → T
     does_touch P (progress.Held k n) T changed kept made = changed made.row made.edits made.such (made.applied.made held)
     does_touch P (progress.Committed c) T changed kept made = changed made.row made.edits made.such (made.applied.made held)
     does_touch P (progress.Finished k n) T changed kept (inl made) = changed made.row made.edits made.such (made.applied.made held)
@@ -91,13 +90,13 @@ module _ {R : Type 0} (holds : R → Type 0) (cells : R → Cells) (overfills : 
     does_touch P (progress.Stamped c) T changed kept reads = kept (reads.kept held)
     does_touch P progress.Lost T changed kept reads = kept (reads.kept held)
 
-  made_takes : (P : List ℕ → List Edit → Type 0) → Made P → TakesRoomOf overfills P old new
+  made_takes : (P : List ℕ → List Edit → Type 0) → Made P → TakesRoomOf seen.overfills P old new
   made_takes P made row later full = elim (made.applied.room row later full) [
     | inl before ↦ inl before
     | inr after ↦ inr (made.row, made.edits, made.such, after)
   ]
 
-  pub does_take : (P : List ℕ → List Edit → Type 0) (p : Progress) → Does holds cells overfills storage P p old new → TakesRoom overfills P p old new
+  pub does_take : (P : List ℕ → List Edit → Type 0) (p : Progress) → Does seen P p old new → TakesRoom seen.overfills P p old new
   does_take P (progress.Held k n) made = made_takes P made
   does_take P (progress.Committed c) made = made_takes P made
   does_take P (progress.Finished k n) (inl made) = made_takes P made
@@ -107,13 +106,13 @@ module _ {R : Type 0} (holds : R → Type 0) (cells : R → Cells) (overfills : 
   does_take P progress.Lost reads = reads.room
 
 -- a step that draws a stamp only reads
-pub stamped_does : {R : Type 0} (holds : R → Type 0) (cells : R → Cells) (overfills : R → List ℕ → List Edit → Type 0) (storage : R → Storage) (rows : R) (P : List ℕ → List Edit → Type 0) (p : Progress) → IsStamped p → Does holds cells overfills storage P p rows rows
-stamped_does holds cells overfills storage rows P (progress.Stamped c) is = reads_none
-stamped_does holds cells overfills storage rows P (progress.Held k n) is = absurd is
-stamped_does holds cells overfills storage rows P (progress.Conflict k) is = absurd is
-stamped_does holds cells overfills storage rows P (progress.Committed c) is = absurd is
-stamped_does holds cells overfills storage rows P progress.Lost is = absurd is
-stamped_does holds cells overfills storage rows P (progress.Finished k n) is = absurd is
+pub stamped_does : {R : Type 0} (seen : View R) (rows : R) (P : List ℕ → List Edit → Type 0) (p : Progress) → IsStamped p → Does seen P p rows rows
+stamped_does seen rows P (progress.Stamped c) is = reads_none
+stamped_does seen rows P (progress.Held k n) is = absurd is
+stamped_does seen rows P (progress.Conflict k) is = absurd is
+stamped_does seen rows P (progress.Committed c) is = absurd is
+stamped_does seen rows P progress.Lost is = absurd is
+stamped_does seen rows P (progress.Finished k n) is = absurd is
 
 module _ (Holds : Type 0) (cells : Cells) (session : Session) where
   -- the edits of a phase that is known

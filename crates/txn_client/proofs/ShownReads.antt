@@ -4,6 +4,9 @@ use Rattle.std.proofs.lemmas.Option.{none-some}
 use Rattle.cell_key.specs.Names.{IsRow, IsFamily}
 use Rattle.cell_key.specs.Cells.{Cells}
 use Rattle.cell_key.specs.declared.keys.Qualifier.TheVariants.{Data, Lock, Write}
+use Rattle.cell_key.specs.Columns.{NamesWrite}
+use Rattle.cell_key.proofs.RecordTexts.{names_of, one_write}
+use Rattle.cell_key.specs.declared.columns.WriteKind.TheVariants as write
 use Rattle.si_model.specs.Sets.{◌∈◌}
 use Rattle.si_model.specs.Machine as step
 use Rattle.si_model.specs.Machine.{State, Value, Change, Writes, Open, Commit, IsReached, Step, accepts, tells, Get, Answered, Pending, InPhase, Gives, Names, Marked, IsSnapshot}
@@ -14,12 +17,11 @@ use Rattle.si_model.proofs.Floors.{reached_floors}
 use Rattle.si_model.proofs.Bounds.{reached_bounds}
 use Rattle.si_model.proofs.Goes.{goes}
 use Rattle.si_model.proofs.Acceptable.{get_ok}
-use Rattle.si_model.specs.declared.cells.WriteKind.TheVariants as write
-use Rattle.si_model.specs.ShowsCells.{at, kind_of_change, IsForgotten, IsThere, NamesCommit, NamesWrite, ShowsCells}
+use Rattle.si_model.specs.ShowsCells.{at, kind_of_change, IsForgotten, IsThere, NamesCommit, ShowsCells}
 use Rattle.si_model.proofs.Decided.{snapshot_of}
-use Rattle.si_model.proofs.RecordTexts.{is_deletion, is_set, names_of, one_write}
 use Rattle.si_model.proofs.ShownKept.{shows_beside}
 use Rattle.si_model.specs.Reads.{IsClear, IsLast}
+use Rattle.si_model.proofs.ChangeKinds.{is_deletion, is_set}
 use Rattle.txn_client.specs.Reads.{ReadsValue, ReadsDeletion, IsDamaged}
 
 not_above : (m n : ℕ) → ¬ (n < m) → m ≤ n

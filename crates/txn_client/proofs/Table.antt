@@ -36,7 +36,7 @@ use Rattle.txn_client.specs.Reads.{IsFound, IsDamaged}
 use Rattle.txn_client.specs.Refusals.{IsAdvanceRefusal}
 use Rattle.txn_client.specs.Shows.{phase_of, writes_of, top_after, Follows, Advances, HasNoNext, TouchesBy, TouchesFor, IsAboutToDraw, IsOpenSession, IsCellRefusal, open_session, ShowsSession, ShowsAt, ShowsClients, Shows, Steps}
 use Rattle.txn_client.specs.Writes.{write_of}
-use Rattle.txn_client.specs.declared.clients.Clients.{Clients}
+use Rattle.txn_client.specs.declared.sessions.Clients.{Clients}
 use Rattle.txn_client.specs.declared.session.Outcome.{Outcome}
 use Rattle.txn_client.specs.declared.session.Phase.{Phase}
 use Rattle.txn_client.specs.declared.session.Phase.TheVariants.{Open, Holding, Stamped, Finishing}

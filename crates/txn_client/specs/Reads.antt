@@ -2,10 +2,11 @@
 use Rattle.std.specs.Prelude.{◌≡◌, ⊤, ℕ, ◌≤◌, ◌^◌, ◌-◌, ◌⊎◌, List, length, Some, None}
 use Rattle.cell_key.specs.Cells.{Cells}
 use Rattle.cell_key.specs.declared.keys.Qualifier.TheVariants.{Data, Lock, Write}
+use Rattle.cell_key.specs.Columns.{NamesWrite}
+use Rattle.cell_key.specs.declared.columns.WriteKind.{WriteKind}
+use Rattle.cell_key.specs.declared.columns.WriteKind.TheVariants as write
 use Rattle.si_model.specs.Reads.{IsClear, IsLast}
-use Rattle.si_model.specs.ShowsCells.{NamesWrite, at, IsThere}
-use Rattle.si_model.specs.declared.cells.WriteKind.{WriteKind}
-use Rattle.si_model.specs.declared.cells.WriteKind.TheVariants as write
+use Rattle.si_model.specs.ShowsCells.{at, IsThere}
 use Rattle.si_model.specs.declared.replies.Cell.{Cell}
 use Rattle.si_model.specs.declared.replies.Found.{Found}
 use Rattle.si_model.specs.declared.replies.Found.TheVariants.{Value, Nothing, Pending}

@@ -1,8 +1,13 @@
--- Which refusals a call answers.
-use Rattle.std.specs.Prelude.{◌≡◌, ◌⊎◌, ⊤, ℕ, Result}
+-- Which refusals a call answers, why a step of a session is refused, and what it leaves then.
+use Rattle.std.specs.Prelude.{◌≡◌, ◌⊎◌, ◌^◌, ◌-◌, ⊤, ℕ, IfErr, IsErrOf, Option, Result}
 use Rattle.cell_key.specs.Faults.{HasReason}
 use Rattle.cell_key.specs.declared.refusals.Refusal.{Refusal}
 use Rattle.cell_key.specs.declared.refusals.Refusal.TheVariants.{UnknownSession, WrongPhase, BadRow, BadColumn, BadValue, TooManyWrites, TooManySessions, EmptyCommit, MemtableFull, Exhausted, Device, NoMemory, Damaged}
+use Rattle.oracle.specs.Marks.{MayHold}
+use Rattle.oracle.specs.Ranges.{IsDrawRefusal, OracleState, next_range_end}
+use Rattle.row_atomic.specs.Calls.{OnlyReads, View}
+use Rattle.si_model.specs.Machine.{State}
+use Rattle.txn_client.specs.Shows.{IsAboutToDraw, IsInactive, IsUnwritten}
 
 abbrev pub IsBeginRefusal : Refusal → Type 0
 IsBeginRefusal TooManySessions = ⊤
@@ -50,7 +55,7 @@ IsStepRefusal NoMemory = ⊤
 IsStepRefusal Damaged = ⊤
 IsStepRefusal _ = ⊥
 
--- A row transaction is refused by the rows: damage is told only where they don't hold.
+-- A row transaction is refused by the rows: damage is answered only if they don't hold.
 abbrev pub IsRowRefusal : Type 0 → Refusal → Type 0
 IsRowRefusal Holds MemtableFull = ⊤
 IsRowRefusal Holds Device = ⊤
@@ -68,8 +73,32 @@ abbrev pub IsAdvanceRefusal : Type 0 → Type 0 → Refusal → Type 0
 IsAdvanceRefusal Holds HasNone Exhausted = ⊤
 IsAdvanceRefusal Holds HasNone refusal = IsCellStepRefusal Holds HasNone refusal
 
--- A device's fault is told where one of two counts has risen. The other count stays.
+-- A device's fault is answered if one of two counts has risen. The other count stays.
 abbrev pub HasOneReason : {T : Type 0} → ℕ → ℕ → ℕ → ℕ → Result T Refusal → Type 0
 HasOneReason before now before' now' result =
     (HasReason before now result × (now' ≡ before'))
     ⊎ (HasReason before' now' result × (now ≡ before))
+
+-- ---- a refused step of a session
+
+-- It leaves the rows as they were, and the last stamp. The mark stays too, or it is the end of the
+-- next range.
+pub record StepLeaves {R M : Type 0} (seen : View R) (mark_of : M → Option ℕ) (old new : R)
+    (oracle oracle' : OracleState M) : Type 0 where
+  pub same : OnlyReads seen old new
+  pub stays : oracle'.last ≡ oracle.last
+  pub mark : MayHold (next_range_end oracle.range_end) (mark_of oracle.marks) (mark_of oracle'.marks)
+
+-- Why a step of t is refused in this state: no session that began at t is active, or it has no
+-- writes. A step that draws the commit stamp takes no memory.
+pub record StepCauses {T : Type 0} (st : State) (t : ℕ) (result : Result T Refusal) : Type 0 where
+  pub unknown : IsInactive st t → IsErrOf result UnknownSession
+  pub empty : IsUnwritten st t → IsErrOf result EmptyCommit
+  pub drawing : IsAboutToDraw st t → IfErr result IsDrawRefusal
+
+-- The greatest stamp was drawn before. Only a step that draws comes to this, and it leaves the
+-- oracle as it is.
+pub record HasNoStamp {M : Type 0} (Draws : Type 0) (oracle oracle' : OracleState M) : Type 0 where
+  pub exhausted : oracle.last ≡ 2 ^ 63 - 1
+  pub draw_only : Draws
+  pub undrawn : oracle' ≡ oracle

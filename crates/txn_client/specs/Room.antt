@@ -5,18 +5,20 @@ use Rattle.std.specs.BTreeMap as btree
 use Rattle.cell_key.specs.Cells.{Cells}
 use Rattle.cell_key.specs.declared.edits.Edit.{Edit}
 use Rattle.cell_key.specs.declared.keys.Qualifier.TheVariants.{Data, Lock}
-use Rattle.row_atomic.specs.Calls.{AppliesSuch, OnlyReads}
-use Rattle.row_atomic.specs.Clusters.{Storage}
+use Rattle.cell_key.specs.Columns.{lock_text}
+use Rattle.cell_key.specs.LockEdits.{IsPut, IsRecording}
+use Rattle.row_atomic.specs.Calls.{AppliesSuch, OnlyReads, View}
 use Rattle.row_atomic.specs.Room.{AreAfter, TakesNoRoom, TakesRoomOf}
 use Rattle.si_model.specs.Machine as machine
 use Rattle.si_model.specs.Machine.{State, Change, Writes, InPhase, Wrote, Puts, Marked, Clashes}
-use Rattle.si_model.specs.Edits.{IsPut, IsRecording, RecordsCell}
-use Rattle.si_model.specs.ShowsCells.{key_of, kind_of_change, lock_text}
+use Rattle.si_model.specs.Edits.{RecordsCell}
+use Rattle.si_model.specs.ShowsCells.{key_of, kind_of_change}
 use Rattle.si_model.specs.declared.replies.Cell.{Cell}
 use Rattle.si_model.specs.declared.replies.Progress.{Progress}
 use Rattle.si_model.specs.declared.replies.Progress.TheVariants as progress
 use Rattle.txn_client.specs.Reads.{IsFree}
-use Rattle.txn_client.specs.declared.clients.Clients.{Clients}
+use Rattle.txn_client.specs.Shows.{DrawsNext, InEachShown, top_after}
+use Rattle.txn_client.specs.declared.sessions.Clients.{Clients}
 use Rattle.txn_client.specs.declared.session.Phase.{Phase}
 use Rattle.txn_client.specs.declared.session.Phase.TheVariants.{Open, Holding, Stamped, Finishing}
 use Rattle.txn_client.specs.declared.session.Session.{Session}
@@ -24,7 +26,7 @@ use Rattle.txn_client.specs.declared.writes.Write.{Write as Writing}
 
 -- the lock of t on x, which names the place of the first cell and the kind of the write
 abbrev pub IsLocking : Cell → ℕ → Change → Cell → Edit → Type 0
-IsLocking x t v first lock = IsPut lock (key_of x Lock t) (lock_text first (kind_of_change v))
+IsLocking x t v first lock = IsPut lock (key_of x Lock t) (lock_text first.row first.family (kind_of_change v))
 
 -- the edits that hold x for t: its data, if it is given a value, and its lock
 abbrev pub IsHolding : Cell → ℕ → Change → Cell → List Edit → Type 0
@@ -39,7 +41,7 @@ HoldsCell x t v first row edits = (row ≡ x.row) × IsHolding x t v first edits
 
 -- ---- the edits of a session's next step, as its phase, its commit stamp and its writes name them
 
--- the row and the edits by which a session holds its cell k; where the rows hold, the cell is free
+-- the row and the edits by which a session holds its cell k; if the rows hold, the cell is free
 abbrev pub HoldsAt : Type 0 → Cells → Session → ℕ → List ℕ → List Edit → Type 0
 HoldsAt Holds cells session k row edits =
     (write first : Writing)
@@ -63,7 +65,7 @@ EditsIn (Finishing k) Holds cells session row edits = RecordsAt Holds cells sess
 abbrev pub EditsOf : Type 0 → Cells → Session → List ℕ → List Edit → Type 0
 EditsOf Holds cells session row edits = EditsIn session.phase Holds cells session row edits
 
--- those of the session that is kept at t
+-- those of the session that is stored at t
 abbrev pub EditsOfStep : Type 0 → Cells → Clients → ℕ → List ℕ → List Edit → Type 0
 EditsOfStep Holds cells clients t row edits =
     (session : Session) × (btree.get nat_cmp clients.sessions t ≡ Some session)
@@ -71,32 +73,28 @@ EditsOfStep Holds cells clients t row edits =
 
 -- A step that holds a cell or commits makes such edits, and one that finishes a cell makes them or
 -- none. No other changes a cell or takes room.
-abbrev pub Does : {R : Type 0} → (R → Type 0) → (R → Cells) → (R → List ℕ → List Edit → Type 0)
-    → (R → Storage) → (List ℕ → List Edit → Type 0) → Progress → R → R → Type 0
-Does holds cells overfills storage Such (progress.Held k n) old new =
-    AppliesSuch holds cells overfills storage Such old new
-Does holds cells overfills storage Such (progress.Committed c) old new =
-    AppliesSuch holds cells overfills storage Such old new
-Does holds cells overfills storage Such (progress.Finished k n) old new =
-    AppliesSuch holds cells overfills storage Such old new
-    ⊎ OnlyReads holds cells overfills storage old new
-Does holds cells overfills storage Such p old new = OnlyReads holds cells overfills storage old new
+abbrev pub Does : {R : Type 0} → View R → (List ℕ → List Edit → Type 0) → Progress → R → R → Type 0
+Does seen Such (progress.Held k n) old new = AppliesSuch seen Such old new
+Does seen Such (progress.Committed c) old new = AppliesSuch seen Such old new
+Does seen Such (progress.Finished k n) old new =
+    AppliesSuch seen Such old new ⊎ OnlyReads seen old new
+Does seen Such p old new = OnlyReads seen old new
 
 -- ---- as a state of the machine shows them
 
--- the row and the edits by which t holds its cell k, as it does where it may
+-- the row and the edits by which t holds its cell k, as it does if it may
 abbrev pub HoldsNext : State → Writes → ℕ → ℕ → List ℕ → List Edit → Type 0
 HoldsNext st ws k t row edits =
     (x first : Cell) × (v u : Change) × Puts ws k x v
     × Puts ws 0 first u × (¬ Clashes st x t) × (row ≡ x.row) × IsHolding x t v first edits
 
 -- the row and the edits by which t puts the write record of its cell k,
--- as it does where its mark stands
+-- as it does if its mark stands
 abbrev pub RecordsNext : State → Writes → ℕ → ℕ → ℕ → List ℕ → List Edit → Type 0
 RecordsNext st ws k t c row edits =
     (x : Cell)
     × (v : Change) × Puts ws k x v × Marked st x t
-    × (row ≡ x.row) × IsRecording x t c (kind_of_change v) edits
+    × (row ≡ x.row) × IsRecording x.row x.family t c (kind_of_change v) edits
 
 -- the row and the edits of the next step of t, in this phase and with these writes;
 -- a step that makes none has none
@@ -131,3 +129,18 @@ TakesRoom overfills Changes (progress.Held k n) old new = TakesRoomOf overfills 
 TakesRoom overfills Changes (progress.Committed c) old new = TakesRoomOf overfills Changes old new
 TakesRoom overfills Changes (progress.Finished k n) old new = TakesRoomOf overfills Changes old new
 TakesRoom overfills Changes p old new = TakesNoRoom overfills old new
+
+-- ---- all that an accepted step makes
+
+-- It makes the edits that the session names, or changes nothing. In each state that is shown these
+-- are the edits of the session's next step, and it takes their room and no other. A stamp that it
+-- draws is the next one, and is the last one from then on.
+pub record StepMakes {R : Type 0} (seen : View R) (clients : Clients) (t : ℕ) (progress : Progress)
+    (old new : R) (before now : ℕ) : Type 0 where
+  pub does : Does seen (EditsOfStep (seen.holds old) (seen.cells old) clients t) progress old new
+  pub made : seen.holds old → InEachShown (seen.cells old) clients (λ st.
+      Makes (ChangesNext st t) progress (seen.cells old) (seen.cells new))
+  pub room : seen.holds old → InEachShown (seen.cells old) clients (λ st.
+      TakesRoom seen.overfills (ChangesNext st t) progress old new)
+  pub draws : DrawsNext before progress
+  pub last : now ≡ top_after before progress

@@ -15,7 +15,7 @@ use Rattle.si_model.specs.declared.replies.Cell.{Cell}
 use Rattle.si_model.specs.declared.replies.Progress.{Progress}
 use Rattle.si_model.specs.declared.replies.Progress.TheVariants as progress
 use Rattle.txn_client.specs.Writes.{write_of}
-use Rattle.txn_client.specs.declared.clients.Clients.{Clients}
+use Rattle.txn_client.specs.declared.sessions.Clients.{Clients}
 use Rattle.txn_client.specs.declared.session.Session.{Session}
 use Rattle.txn_client.specs.declared.session.Phase.{Phase}
 use Rattle.txn_client.specs.declared.session.Phase.TheVariants.{Open, Holding, Stamped, Finishing}
@@ -37,7 +37,7 @@ pub record ShowsSession (session : Session) (t : ℕ) (st : State) : Type 0 wher
   pub phase : InPhase st t (phase_of session.phase session.commit)
   pub writes : Wrote st t (writes_of session)
 
--- what is kept at t is the session that began at t, if one is active
+-- what is stored at t is the session that began at t, if one is active
 abbrev pub ShowsAt : Option Session → ℕ → State → Type 0
 ShowsAt None t st = finmap.get st.active t ≡ None
 ShowsAt (Some session) t st = ShowsSession session t st
@@ -46,7 +46,7 @@ ShowsAt (Some session) t st = ShowsSession session t st
 abbrev pub open_session : ℕ → Session
 open_session start = record { start = start; commit = start; phase = Open; writes = [] }
 
--- the sessions that are kept are those that are active,
+-- the sessions that are stored are those that are active,
 -- and the top is the greatest stamp that was answered
 pub record ShowsClients (clients : Clients) (st : State) : Type 0 where
   pub top : clients.top ≡ st.top
@@ -114,13 +114,13 @@ IsUnwritten st t = InPhase st t machine.Open × Wrote st t []
 abbrev pub IsAboutToDraw : State → ℕ → Type 0
 IsAboutToDraw st t = (ws : Writes) × Wrote st t ws × InPhase st t (machine.Holding (length ws))
 
--- a session that is kept, and takes reads and writes
+-- a session that is stored, and takes reads and writes
 abbrev pub IsOpenSession : Clients → ℕ → Type 0
 IsOpenSession clients t =
     (session : Session)
     × (btree.get nat_cmp clients.sessions t ≡ Some session) × (session.phase ≡ Open)
 
--- a session that is kept, and takes none
+-- a session that is stored, and takes none
 abbrev pub IsLate : Clients → ℕ → Type 0
 IsLate clients t =
     (session : Session)

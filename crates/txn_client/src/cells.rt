@@ -5,32 +5,35 @@ ghost use Rattle.std.specs.Bool.{OnTrue, OnFalse};
 ghost use Rattle.std.specs.List.{AllByRecursion};
 ghost use Rattle.cell_key.specs.Cells.{IsEditOf};
 ghost use Rattle.cell_key.specs.Faults.{HasReason};
+ghost use Rattle.cell_key.specs.Columns.{lock_text};
+ghost use Rattle.cell_key.specs.declared.columns.WriteKind.TheVariants as kind;
 ghost use Rattle.row_atomic.specs.Calls.{AppliesSuch, OnlyReads};
 ghost use Rattle.row_atomic.specs.Refusals.{IsApplyRefusal, IsReadRefusal, IsRefusalOfRead};
 ghost use Rattle.row_atomic.specs.Room.{HasNoRoom};
 ghost use Rattle.si_model.specs.Edits.{RecordsCell};
 ghost use Rattle.si_model.specs.Reads.{IsGone};
-ghost use Rattle.si_model.specs.ShowsCells.{lock_text};
-ghost use Rattle.si_model.specs.declared.cells.WriteKind.TheVariants as kind;
 ghost use Rattle.si_model.specs.declared.replies.Cell.{Cell as CellOf};
 ghost use Rattle.txn_client.specs.Reads.{IsFound, IsShort, IsDamaged, IsTaken, IsFree};
 ghost use Rattle.txn_client.specs.Refusals.{IsRowRefusal};
 ghost use Rattle.txn_client.specs.Room.{HoldsCell, IsHolding};
 
 use crate::writes::Write;
-use cell_key::{Edit, Moment, Qualifier, Refusal, Stamp};
+use cell_key::{
+    CellKey, Edit, Lock, Moment, Qualifier, Record, Refusal, Stamp, WriteKind, record_lock,
+};
 use row_atomic::Rows;
-use si_model::{Cell, Found, WriteKind, key, named_write, recording};
+use si_model::{Cell, Found};
 use std::alloc::Global;
 
 /// What a session that began at `start` reads of a cell (Percolator, Get).
 pub(crate) fn read_cell<R: Rows>(rows: &mut R, cell: &Cell, start: Stamp) -> Result<Found, Refusal>
-    ensures found { R.holds rows.old → IfOk result (IsFound (R.cells rows.old) cell.now start) }
+    ensures found { R.seen.holds rows.old
+        → IfOk result (IsFound (R.seen.cells rows.old) cell.now start) }
     ensures short { IfOk result IsShort }
-    ensures reads { OnlyReads R.holds R.cells R.overfills R.storage rows.old rows.new }
+    ensures reads { OnlyReads R.seen rows.old rows.new }
     ensures refusal { IfErr result IsReadRefusal }
-    ensures damaged { R.holds rows.old → IfErr result (λ refusal. refusal ≡ Refusal.Damaged
-        → IsDamaged (R.cells rows.old) cell.now start) }
+    ensures damaged { R.seen.holds rows.old → IfErr result (λ refusal. refusal ≡ Refusal.Damaged
+        → IsDamaged (R.seen.cells rows.old) cell.now start) }
     ensures reason { HasReason (R.faults rows.old) (R.faults rows.new) result }
 {
     let lock = rows.newest(&cell.row, &cell.family, Qualifier::Lock, 0, start)?;
@@ -38,13 +41,14 @@ pub(crate) fn read_cell<R: Rows>(rows: &mut R, cell: &Cell, start: Stamp) -> Res
         return Ok(Found::Pending(pending));
     }
     let last = rows.newest(&cell.row, &cell.family, Qualifier::Write, 0, start)?;
-    let Some((_, record)) = last else {
+    let Some((_, text)) = last else {
         return Ok(Found::Nothing);
     };
-    let Some((named, kind)) = named_write(&record) else {
+    let Some(record) = Record::decode(&text) else {
         return Err(Refusal::Damaged);
     };
-    match kind {
+    let named = record.start;
+    match record.kind {
         WriteKind::Delete => Ok(Found::Nothing),
         WriteKind::Set => {
             match rows.newest(&cell.row, &cell.family, Qualifier::Data, named, named)? {
@@ -57,12 +61,12 @@ pub(crate) fn read_cell<R: Rows>(rows: &mut R, cell: &Cell, start: Stamp) -> Res
 
 /// Whether a session that began at `start` may not hold the cell (Percolator, Prewrite).
 pub(crate) fn is_taken<R: Rows>(rows: &mut R, cell: &Cell, start: Stamp) -> Result<bool, Refusal>
-    ensures taken { R.holds rows.old
-        → IfOk result (λ taken. OnTrue taken (IsTaken (R.cells rows.old) cell.now start)) }
-    ensures free { R.holds rows.old
-        → IfOk result (λ taken. OnFalse taken (IsFree (R.cells rows.old) cell.now start)) }
-    ensures reads { OnlyReads R.holds R.cells R.overfills R.storage rows.old rows.new }
-    ensures refusal { IfErr result (IsRefusalOfRead (R.holds rows.old)) }
+    ensures taken { R.seen.holds rows.old
+        → IfOk result (λ taken. OnTrue taken (IsTaken (R.seen.cells rows.old) cell.now start)) }
+    ensures free { R.seen.holds rows.old
+        → IfOk result (λ taken. OnFalse taken (IsFree (R.seen.cells rows.old) cell.now start)) }
+    ensures reads { OnlyReads R.seen rows.old rows.new }
+    ensures refusal { IfErr result (IsRefusalOfRead (R.seen.holds rows.old)) }
     ensures reason { HasReason (R.faults rows.old) (R.faults rows.new) result }
 {
     let lock = rows.newest(&cell.row, &cell.family, Qualifier::Lock, 0, u64::MAX)?;
@@ -71,17 +75,6 @@ pub(crate) fn is_taken<R: Rows>(rows: &mut R, cell: &Cell, start: Stamp) -> Resu
     }
     let later = rows.newest(&cell.row, &cell.family, Qualifier::Write, start, u64::MAX)?;
     Ok(later.is_some())
-}
-
-/// The value of a lock: the place of its session's first cell, and the kind of the write.
-fn lock_value(alloc: Global, first: &Cell, kind: WriteKind) -> Result<Vec<u8>, Refusal>
-    ensures text { IfOk result (λ text. text.items ≡ lock_text first.now kind) }
-    ensures short { IfOk result (λ text. length text.items ≤ 65536) }
-    ensures refusal { IfErr result (λ refusal. refusal ≡ Refusal.NoMemory) }
-{
-    let mut text = cell_key::place(alloc, &first.row, &first.family)?;
-    text.push(kind.byte())?;
-    Ok(text)
 }
 
 /// The two edits that hold a cell which is given a value.
@@ -97,14 +90,14 @@ fn setting(
     requires value { length value.items ≤ 65536 }
     requires lock { length lock.items ≤ 65536 }
     ensures holding { IfOk result (λ edits. (first : CellOf)
-        → lock.items ≡ lock_text first kind.Set
+        → lock.items ≡ lock_text first.row first.family kind.Set
         → IsHolding cell.now start (Some value.items) first edits.items) }
     ensures under { IfOk result (λ edits. AllByRecursion (IsEditOf cell.now.row) edits.items) }
     ensures refusal { IfErr result (λ refusal. refusal ≡ Refusal.NoMemory) }
 {
     let mut edits = Vec::new(alloc);
-    let data_key = key(cell, Qualifier::Data, start)?;
-    let lock_key = key(cell, Qualifier::Lock, start)?;
+    let data_key = CellKey::new(&cell.row, &cell.family, Qualifier::Data, start)?;
+    let lock_key = CellKey::new(&cell.row, &cell.family, Qualifier::Lock, start)?;
     edits.push(Edit::Put(data_key, value))?;
     edits.push(Edit::Put(lock_key, lock))?;
     Ok(edits)
@@ -116,13 +109,13 @@ fn deleting(alloc: Global, cell: &Cell, start: Stamp, lock: Vec<u8>) -> Result<V
     requires to { start < 2 ^ 63 }
     requires lock { length lock.items ≤ 65536 }
     ensures holding { IfOk result (λ edits. (first : CellOf)
-        → lock.items ≡ lock_text first kind.Delete
+        → lock.items ≡ lock_text first.row first.family kind.Delete
         → IsHolding cell.now start None first edits.items) }
     ensures under { IfOk result (λ edits. AllByRecursion (IsEditOf cell.now.row) edits.items) }
     ensures refusal { IfErr result (λ refusal. refusal ≡ Refusal.NoMemory) }
 {
     let mut edits = Vec::new(alloc);
-    let lock_key = key(cell, Qualifier::Lock, start)?;
+    let lock_key = CellKey::new(&cell.row, &cell.family, Qualifier::Lock, start)?;
     edits.push(Edit::Put(lock_key, lock))?;
     Ok(edits)
 }
@@ -136,7 +129,7 @@ fn holding(alloc: Global, write: &Write, start: Moment, first: &Cell) -> Result<
     ensures refusal { IfErr result (λ refusal. refusal ≡ Refusal.NoMemory) }
 {
     let start = start.stamp();
-    let lock = lock_value(alloc, first, write.kind())?;
+    let lock = Lock::encode(alloc, &first.row, &first.family, write.kind())?;
     match &write.value {
         Some(value) => {
             let value = value.to_vec()?;
@@ -155,12 +148,12 @@ pub(crate) fn hold<R: Rows>(
     start: Moment,
     first: &Write,
 ) -> Result<(), Refusal>
-    ensures ok { OnOk result (AppliesSuch R.holds R.cells R.overfills R.storage
+    ensures ok { OnOk result (AppliesSuch R.seen
         (HoldsCell write.now.cell start write.now.value first.now.cell) rows.old rows.new) }
-    ensures err { OnErr result (OnlyReads R.holds R.cells R.overfills R.storage rows.old rows.new) }
+    ensures err { OnErr result (OnlyReads R.seen rows.old rows.new) }
     ensures refusal { IfErr result IsApplyRefusal }
     ensures full { IsErrOf result Refusal.MemtableFull → HasNoRoom
-        R.overfills rows.old (HoldsCell write.now.cell start write.now.value first.now.cell) }
+        R.seen.overfills rows.old (HoldsCell write.now.cell start write.now.value first.now.cell) }
     ensures untouched { R.faults rows.new ≡ R.faults rows.old }
 {
     let edits = holding(alloc, write, start, &first.cell)?;
@@ -178,17 +171,17 @@ pub(crate) fn record<R: Rows>(
     kind: WriteKind,
 ) -> Result<bool, Refusal>
     ensures made { IfOk result (λ stood.
-        OnTrue stood (AppliesSuch R.holds R.cells R.overfills R.storage (RecordsCell
-        (R.holds rows.old) (R.cells rows.old) cell.now start commit kind) rows.old rows.new)) }
-    ensures gone { R.holds rows.old
-        → IfOk result (λ stood. OnFalse stood (IsGone (R.cells rows.old) cell.now start)) }
-    ensures left { IfOk result (λ stood.
-        OnFalse stood (OnlyReads R.holds R.cells R.overfills R.storage rows.old rows.new)) }
-    ensures err { OnErr result (OnlyReads R.holds R.cells R.overfills R.storage rows.old rows.new) }
-    ensures refusal { IfErr result (IsRowRefusal (R.holds rows.old)) }
+        OnTrue stood (AppliesSuch R.seen (RecordsCell
+        (R.seen.holds rows.old) (R.seen.cells rows.old) cell.now start commit kind)
+        rows.old rows.new)) }
+    ensures gone { R.seen.holds rows.old
+        → IfOk result (λ stood. OnFalse stood (IsGone (R.seen.cells rows.old) cell.now start)) }
+    ensures left { IfOk result (λ stood. OnFalse stood (OnlyReads R.seen rows.old rows.new)) }
+    ensures err { OnErr result (OnlyReads R.seen rows.old rows.new) }
+    ensures refusal { IfErr result (IsRowRefusal (R.seen.holds rows.old)) }
     ensures full { IsErrOf result Refusal.MemtableFull
-        → HasNoRoom R.overfills rows.old
-        (RecordsCell (R.holds rows.old) (R.cells rows.old) cell.now start commit kind) }
+        → HasNoRoom R.seen.overfills rows.old
+        (RecordsCell (R.seen.holds rows.old) (R.seen.cells rows.old) cell.now start commit kind) }
     ensures reason { HasReason (R.faults rows.old) (R.faults rows.new) result }
 {
     let stamp = start.stamp();
@@ -196,7 +189,7 @@ pub(crate) fn record<R: Rows>(
     if lock.is_none() {
         return Ok(false);
     }
-    let edits = recording(alloc, cell, start, commit, kind)?;
+    let edits = record_lock(alloc, &cell.row, &cell.family, start, commit, kind)?;
     rows.apply(&cell.row, edits)?;
     Ok(true)
 }

@@ -3,7 +3,7 @@
 ghost use Rattle.std.specs.Prelude.{◌≡◌};
 ghost use Rattle.si_model.specs.Machine.{State};
 ghost use Rattle.txn_client.specs.Shows.{ShowsClients};
-ghost use Rattle.txn_client.specs.declared.clients.Clients.{Clients};
+ghost use Rattle.txn_client.specs.declared.sessions.Clients.{Clients};
 
 /// Sessions that show a state show each one with the same top, the same starts and the same active sessions.
 pub fn shows_on()

@@ -2,12 +2,12 @@
 #![tactic(auto)]
 
 mod cells;
-mod clients;
 mod laws;
-mod limits;
 mod session;
+mod sessions;
 mod steps;
+mod value;
 mod writes;
 
-pub use clients::Clients;
 pub use laws::shows_on;
+pub use sessions::Clients;

@@ -9,7 +9,7 @@ ghost use Rattle.row_atomic.specs.Calls.{OnlyReads};
 ghost use Rattle.row_atomic.specs.Room.{HasNoRoom};
 ghost use Rattle.txn_client.specs.Shows.{Advances, DrawsNext, HasHeldSo, HasNoNext, top_after};
 ghost use Rattle.txn_client.specs.Room.{Does, EditsOf, HoldsAt, IsStamped, RecordsAt};
-ghost use Rattle.txn_client.specs.Refusals.{HasOneReason, IsAdvanceRefusal, IsCellStepRefusal};
+ghost use Rattle.txn_client.specs.Refusals.{HasNoStamp, HasOneReason, IsAdvanceRefusal, IsCellStepRefusal, StepLeaves};
 ghost use Rattle.txn_client.specs.declared.session.Phase.TheVariants as phase;
 
 use crate::cells;
@@ -29,23 +29,25 @@ impl Session {
         k: u16,
     ) -> Result<Outcome, Refusal>
         requires { HasHeldSo self.old.phase k }
-        ensures step { R.holds rows.old
+        ensures step { R.seen.holds rows.old
             → IfOk result (λ outcome. (last : ℕ)
-            → Advances (R.cells rows.old) self.old last outcome (R.cells rows.new) self.new last) }
+            → Advances (R.seen.cells rows.old) self.old last outcome (R.seen.cells rows.new)
+            self.new last) }
         ensures draws { IfOk result (λ outcome. (last : ℕ)
             → (DrawsNext last outcome.progress) × (last ≡ top_after last outcome.progress)) }
         ensures start { self.new.start ≡ self.old.start }
         ensures writes { self.new.writes ≡ self.old.writes }
         ensures err { OnErr result (self.new ≡ self.old) }
-        ensures does { IfOk result (λ outcome. Does R.holds R.cells R.overfills R.storage (HoldsAt
-            (R.holds rows.old) (R.cells rows.old) self.old k) outcome.progress rows.old rows.new) }
-        ensures same { OnErr result (OnlyReads
-            R.holds R.cells R.overfills R.storage rows.old rows.new) }
+        ensures does { IfOk result (λ outcome. Does R.seen (HoldsAt
+            (R.seen.holds rows.old) (R.seen.cells rows.old) self.old k)
+            outcome.progress rows.old rows.new) }
+        ensures same { OnErr result (OnlyReads R.seen rows.old rows.new) }
         ensures refusal { IfErr result (IsCellStepRefusal
-            (R.holds rows.old) (length self.old.writes ≤ k)) }
+            (R.seen.holds rows.old) (length self.old.writes ≤ k)) }
         ensures empty { length self.old.writes ≤ k → IsErrOf result Refusal.EmptyCommit }
         ensures full { IsErrOf result Refusal.MemtableFull → HasNoRoom
-            R.overfills rows.old (HoldsAt (R.holds rows.old) (R.cells rows.old) self.old k) }
+            R.seen.overfills rows.old
+            (HoldsAt (R.seen.holds rows.old) (R.seen.cells rows.old) self.old k) }
         ensures reason { HasReason (R.faults rows.old) (R.faults rows.new) result }
     {
         let Some(write) = self.writes.get(k) else {
@@ -100,22 +102,24 @@ impl Session {
     /// Puts the write record of the first cell in the place of its lock: the commit.
     fn commit_first<R: Rows>(&mut self, alloc: Global, rows: &mut R) -> Result<Outcome, Refusal>
         requires { self.old.phase ≡ phase.Stamped }
-        ensures step { R.holds rows.old
+        ensures step { R.seen.holds rows.old
             → IfOk result (λ outcome. (last : ℕ)
-            → Advances (R.cells rows.old) self.old last outcome (R.cells rows.new) self.new last) }
+            → Advances (R.seen.cells rows.old) self.old last outcome (R.seen.cells rows.new)
+            self.new last) }
         ensures draws { IfOk result (λ outcome. (last : ℕ)
             → (DrawsNext last outcome.progress) × (last ≡ top_after last outcome.progress)) }
         ensures start { self.new.start ≡ self.old.start }
         ensures writes { self.new.writes ≡ self.old.writes }
         ensures err { OnErr result (self.new ≡ self.old) }
-        ensures does { IfOk result (λ outcome. Does R.holds R.cells R.overfills R.storage (RecordsAt
-            (R.holds rows.old) (R.cells rows.old) self.old 0) outcome.progress rows.old rows.new) }
-        ensures same { OnErr result (OnlyReads
-            R.holds R.cells R.overfills R.storage rows.old rows.new) }
+        ensures does { IfOk result (λ outcome. Does R.seen (RecordsAt
+            (R.seen.holds rows.old) (R.seen.cells rows.old) self.old 0)
+            outcome.progress rows.old rows.new) }
+        ensures same { OnErr result (OnlyReads R.seen rows.old rows.new) }
         ensures refusal { IfErr result (IsCellStepRefusal
-            (R.holds rows.old) (length self.old.writes ≤ 0)) }
+            (R.seen.holds rows.old) (length self.old.writes ≤ 0)) }
         ensures full { IsErrOf result Refusal.MemtableFull → HasNoRoom
-            R.overfills rows.old (RecordsAt (R.holds rows.old) (R.cells rows.old) self.old 0) }
+            R.seen.overfills rows.old
+            (RecordsAt (R.seen.holds rows.old) (R.seen.cells rows.old) self.old 0) }
         ensures reason { HasReason (R.faults rows.old) (R.faults rows.new) result }
     {
         let Some(first) = self.writes.get(0) else {
@@ -143,22 +147,24 @@ impl Session {
         k: u16,
     ) -> Result<Outcome, Refusal>
         requires { self.old.phase ≡ phase.Finishing k }
-        ensures step { R.holds rows.old
+        ensures step { R.seen.holds rows.old
             → IfOk result (λ outcome. (last : ℕ)
-            → Advances (R.cells rows.old) self.old last outcome (R.cells rows.new) self.new last) }
+            → Advances (R.seen.cells rows.old) self.old last outcome (R.seen.cells rows.new)
+            self.new last) }
         ensures draws { IfOk result (λ outcome. (last : ℕ)
             → (DrawsNext last outcome.progress) × (last ≡ top_after last outcome.progress)) }
         ensures start { self.new.start ≡ self.old.start }
         ensures writes { self.new.writes ≡ self.old.writes }
         ensures err { OnErr result (self.new ≡ self.old) }
-        ensures does { IfOk result (λ outcome. Does R.holds R.cells R.overfills R.storage (RecordsAt
-            (R.holds rows.old) (R.cells rows.old) self.old k) outcome.progress rows.old rows.new) }
-        ensures same { OnErr result (OnlyReads
-            R.holds R.cells R.overfills R.storage rows.old rows.new) }
+        ensures does { IfOk result (λ outcome. Does R.seen (RecordsAt
+            (R.seen.holds rows.old) (R.seen.cells rows.old) self.old k)
+            outcome.progress rows.old rows.new) }
+        ensures same { OnErr result (OnlyReads R.seen rows.old rows.new) }
         ensures refusal { IfErr result (IsCellStepRefusal
-            (R.holds rows.old) (length self.old.writes ≤ k)) }
+            (R.seen.holds rows.old) (length self.old.writes ≤ k)) }
         ensures full { IsErrOf result Refusal.MemtableFull → HasNoRoom
-            R.overfills rows.old (RecordsAt (R.holds rows.old) (R.cells rows.old) self.old k) }
+            R.seen.overfills rows.old
+            (RecordsAt (R.seen.holds rows.old) (R.seen.cells rows.old) self.old k) }
         ensures reason { HasReason (R.faults rows.old) (R.faults rows.new) result }
     {
         let Some(write) = self.writes.get(k) else {
@@ -180,34 +186,33 @@ impl Session {
         rows: &mut R,
         oracle: &mut Oracle<M>,
     ) -> Result<Outcome, Refusal>
-        ensures step { R.holds rows.old → IfOk result (λ outcome. Advances (R.cells rows.old)
-            self.old oracle.old.last outcome (R.cells rows.new) self.new oracle.new.last) }
+        ensures step { R.seen.holds rows.old
+            → IfOk result (λ outcome. Advances (R.seen.cells rows.old)
+            self.old oracle.old.last outcome (R.seen.cells rows.new) self.new oracle.new.last) }
         ensures draws { IfOk result (λ outcome. (DrawsNext oracle.old.last outcome.progress)
             × (oracle.new.last ≡ top_after oracle.old.last outcome.progress)) }
         ensures start { self.new.start ≡ self.old.start }
         ensures writes { self.new.writes ≡ self.old.writes }
         ensures err { OnErr result (self.new ≡ self.old) }
-        ensures stays { OnErr result (oracle.new.last ≡ oracle.old.last) }
-        ensures mark { OnErr result (MayHold (next_range_end oracle.old.range_end)
-            (M.mark oracle.old.marks) (M.mark oracle.new.marks)) }
-        ensures does { IfOk result (λ outcome. Does R.holds R.cells R.overfills R.storage (EditsOf
-            (R.holds rows.old) (R.cells rows.old) self.old) outcome.progress rows.old rows.new) }
-        ensures same { OnErr result (OnlyReads
-            R.holds R.cells R.overfills R.storage rows.old rows.new) }
+        ensures refused { OnErr result (StepLeaves R.seen M.mark
+            rows.old rows.new oracle.old oracle.new) }
+        ensures does { IfOk result (λ outcome. Does R.seen (EditsOf
+            (R.seen.holds rows.old) (R.seen.cells rows.old) self.old)
+            outcome.progress rows.old rows.new) }
         ensures refusal { IfErr result (IsAdvanceRefusal
-            (R.holds rows.old) (HasNoNext self.old.phase (length self.old.writes))) }
+            (R.seen.holds rows.old) (HasNoNext self.old.phase (length self.old.writes))) }
         ensures empty { self.old.phase ≡ phase.Open → length self.old.writes ≤ 0
             → IsErrOf result Refusal.EmptyCommit }
         ensures drawing { self.old.phase ≡ phase.Holding (length self.old.writes)
             → IfErr result IsDrawRefusal }
         ensures full { IsErrOf result Refusal.MemtableFull → HasNoRoom
-            R.overfills rows.old (EditsOf (R.holds rows.old) (R.cells rows.old) self.old) }
-        ensures exhausted { IsErrOf result Refusal.Exhausted → oracle.old.last ≡ MOST_STAMP }
-        ensures draw_only { IsErrOf result Refusal.Exhausted
-            → self.old.phase ≡ phase.Holding (length self.old.writes) }
+            R.seen.overfills rows.old
+            (EditsOf (R.seen.holds rows.old) (R.seen.cells rows.old) self.old) }
+        ensures no_stamp { IsErrOf result Refusal.Exhausted
+            → HasNoStamp (self.old.phase ≡ phase.Holding (length self.old.writes))
+            oracle.old oracle.new }
         ensures aside { self.old.phase ≢ phase.Holding (length self.old.writes)
             → oracle.new ≡ oracle.old }
-        ensures undrawn { IsErrOf result Refusal.Exhausted → oracle.new ≡ oracle.old }
         ensures reason { HasOneReason (R.faults rows.old) (R.faults rows.new)
             (M.faults oracle.old.marks) (M.faults oracle.new.marks) result }
     {

@@ -3,15 +3,15 @@
 ghost use Rattle.std.specs.Prelude.{◌≡◌, ◌↔◌, ◌⊎◌, ◌≤◌, ◌<◌, ℕ, [], map, length, slice_get, Some, IsTrue, IfOk, IfErr, OnOk, OnErr, IsErrOf, IfSome, IfNone, OnSome};
 ghost use Rattle.si_model.specs.Machine.{Names, Sets};
 ghost use Rattle.si_model.specs.ShowsCells.{kind_of_change};
-ghost use Rattle.txn_client.specs.Writes.{IsPlaceOf, write_of};
+ghost use Rattle.txn_client.specs.Writes.{IsIndexOf, write_of};
 
-use crate::limits::Value;
-use cell_key::Refusal;
-use si_model::{Cell, WriteKind};
+use crate::value::Value;
+use cell_key::{Refusal, WriteKind};
+use si_model::Cell;
 use std::alloc::Global;
 use std::marker::Model;
 
-/// What a session writes to a cell: a value, or none where it deletes the cell.
+/// What a session writes to a cell: a value, or none if it deletes the cell.
 #[derive(Drop)]
 pub(crate) struct Write {
     pub(crate) cell: Cell,
@@ -74,23 +74,23 @@ impl Writes {
         self.entries.len() as u16
     }
 
-    /// The write at a place, from 0 on.
-    pub(crate) fn get(&self, place: u16) -> Option<&Write>
-        ensures found { IfSome result (λ write. slice_get self.now place ≡ Some write.now) }
-        ensures few { OnSome result (place < 256) }
-        ensures some { OnSome result (place < length self.now) }
-        ensures none { IfNone result (length self.now ≤ place) }
+    /// The write at an index, from 0 on.
+    pub(crate) fn get(&self, index: u16) -> Option<&Write>
+        ensures found { IfSome result (λ write. slice_get self.now index ≡ Some write.now) }
+        ensures few { OnSome result (index < 256) }
+        ensures some { OnSome result (index < length self.now) }
+        ensures none { IfNone result (length self.now ≤ index) }
     {
-        self.entries.get(usize::from(place))
+        self.entries.get(usize::from(index))
     }
 
-    /// Where the cell's write is.
-    fn place_of(&self, cell: &Cell) -> Option<usize>
-        ensures { IsPlaceOf self.now cell.now result }
+    /// The index of the cell's write.
+    fn index_of(&self, cell: &Cell) -> Option<usize>
+        ensures { IsIndexOf self.now cell.now result }
     {
-        for (place, write) in self.entries.iter().enumerate() {
+        for (index, write) in self.entries.iter().enumerate() {
             if is_same(&write.cell, cell) {
-                return Some(place);
+                return Some(index);
             }
         }
         None
@@ -108,9 +108,9 @@ impl Writes {
         ensures refusal { IfErr result (λ refusal. (refusal ≡ Refusal.TooManyWrites)
             ⊎ (refusal ≡ Refusal.NoMemory)) }
     {
-        match self.place_of(&write.cell) {
-            Some(place) => {
-                self.entries[place] = write;
+        match self.index_of(&write.cell) {
+            Some(index) => {
+                self.entries[index] = write;
             }
             None => {
                 if self.entries.len() >= Writes::MOST {

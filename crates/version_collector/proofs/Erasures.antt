@@ -16,11 +16,12 @@ use Rattle.cell_key.specs.declared.keys.Qualifier.{Qualifier}
 use Rattle.cell_key.specs.declared.keys.Qualifier.TheVariants.{Data, Write}
 use Rattle.cell_key.specs.declared.refusals.Refusal.{Refusal}
 use Rattle.cell_key.specs.declared.refusals.Refusal.TheVariants.{Damaged, Device, MemtableFull, NoMemory}
+use Rattle.cell_key.specs.Columns.{IsRecordText, record_text, start_text}
+use Rattle.cell_key.specs.declared.columns.WriteKind.{WriteKind}
+use Rattle.cell_key.specs.declared.columns.WriteKind.TheVariants as write
 use Rattle.row_atomic.specs.Refusals.{IsApplyRefusal, IsRefusalOfRead}
 use Rattle.si_model.specs.Collection.{IsNamed, IsTidy}
-use Rattle.si_model.specs.ShowsCells.{IsRecordText, IsThere, NamesAt, NamesCommit, at, key_of, record_text, start_text}
-use Rattle.si_model.specs.declared.cells.WriteKind.{WriteKind}
-use Rattle.si_model.specs.declared.cells.WriteKind.TheVariants as write
+use Rattle.si_model.specs.ShowsCells.{IsThere, NamesAt, NamesCommit, at, key_of}
 use Rattle.si_model.specs.declared.replies.Cell.{Cell}
 use Rattle.si_model.proofs.Bounds.{reached_bounds}
 use Rattle.version_collector.specs.Erasing.{Erases, ErasesOrIsTidy, data_erasures, deletion_erasures, record_erasures}

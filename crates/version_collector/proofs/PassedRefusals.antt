@@ -1,12 +1,9 @@
 -- Refusals that are passed on, after reads that changed nothing.
-use Rattle.std.proofs.Common.{◌≡◌, ◌≢◌, ◌∙◌, ℕ, List, Result, Ok, Err, IfErr, sym, subst}
+use Rattle.std.proofs.Common.{◌≡◌, ◌≢◌, ◌∙◌, Result, Ok, Err, IfErr, sym, subst}
 use Rattle.std.specs.Result.{IsErrAnd}
 use Rattle.cell_key.specs.declared.refusals.Refusal.{Refusal}
 use Rattle.cell_key.specs.declared.refusals.Refusal.TheVariants.{Damaged, Device}
-use Rattle.cell_key.specs.Cells.{Cells}
-use Rattle.cell_key.specs.declared.edits.Edit.{Edit}
-use Rattle.row_atomic.specs.Calls.{OnlyReads}
-use Rattle.row_atomic.specs.Clusters.{Storage}
+use Rattle.row_atomic.specs.Calls.{OnlyReads, View}
 use Rattle.row_atomic.specs.Refusals.{IsRefusalOfRead}
 use Rattle.version_collector.specs.Versions.{AreShown}
 
@@ -23,6 +20,6 @@ refused_named Holds None (Ok x) is none so = tt
 refused_named Holds None (Err f) is none so = subst (IsRefusalOfRead Holds) (sym is) (so none)
 
 -- what is held and shown before a read is held and shown after it
-pub shown_later : {R : Type 0} {holds : R → Type 0} {cells : R → Cells} {overfills : R → List ℕ → List Edit → Type 0} {storage : R → Storage} {a b : R}
-    → OnlyReads holds cells overfills storage a b → holds a × AreShown (cells a) → holds b × AreShown (cells b)
+pub shown_later : {R : Type 0} {seen : View R} {a b : R}
+    → OnlyReads seen a b → seen.holds a × AreShown (seen.cells a) → seen.holds b × AreShown (seen.cells b)
 shown_later reads was = (reads.still was.0, subst AreShown (sym (reads.kept was.0)) was.1)

@@ -2,8 +2,7 @@
 use Rattle.std.proofs.Common.{◌≡◌, ℕ, ◌+◌, ◌*◌, ◌≤◌, List, [], ◌∷◌, ◌++◌, length, Some, ◌⊎◌, inl, inr, refl, sym, ap, subst, arith}
 use Rattle.cell_key.specs.Cells.{Cells}
 use Rattle.cell_key.specs.declared.edits.Edit.{Edit}
-use Rattle.row_atomic.specs.Calls.{AppliesSuch}
-use Rattle.row_atomic.specs.Clusters.{Storage}
+use Rattle.row_atomic.specs.Calls.{AppliesSuch, View}
 use Rattle.row_atomic.specs.Room.{HasNoRoom, TakesNoRoom}
 use Rattle.si_model.specs.Sets.{◌∈◌, here, there}
 use Rattle.si_model.specs.declared.replies.Cell.{Cell}
@@ -87,12 +86,12 @@ of_one_visit Holds cells x floor row edits (under, inr (inl r)) = subst (λ (es 
 of_one_visit Holds cells x floor row edits (under, inr (inr r)) = subst (λ (es : List Edit). AreOfVisits 1 es) (sym r.are)
     (record { few = omega arith; each = deletion_each x r.c })
 
-module _ {R : Type 0} (holds : R → Type 0) (cells : R → Cells) (overfills : R → List ℕ → List Edit → Type 0) (storage : R → Storage) where
-  pub room_applied : (Holds : Type 0) (x : Cell) (floor : ℕ) (a b : R) → AppliesSuch holds cells overfills storage (CollectsCell Holds (cells a) x floor) a b → TakesRoomOfVisits overfills 1 a b
+module _ {R : Type 0} (seen : View R) where
+  pub room_applied : (Holds : Type 0) (x : Cell) (floor : ℕ) (a b : R) → AppliesSuch seen (CollectsCell Holds (seen.cells a) x floor) a b → TakesRoomOfVisits seen.overfills 1 a b
   room_applied Holds x floor a b made row later full = elim (made.applied.room row later full) [
     | inl before ↦ ([], of_none 1, before)
-    | inr after ↦ (made.edits, of_one_visit Holds (cells a) x floor made.row made.edits made.such, after)
+    | inr after ↦ (made.edits, of_one_visit Holds (seen.cells a) x floor made.row made.edits made.such, after)
   ]
 
-  pub no_room_of : (Holds : Type 0) (x : Cell) (floor : ℕ) (a : R) → HasNoRoom overfills a (CollectsCell Holds (cells a) x floor) → HasNoRoom overfills a (AreOfVisitsIn 1)
-  no_room_of Holds x floor a (row, edits, such, full) = (row, edits, of_one_visit Holds (cells a) x floor row edits such, full)
+  pub no_room_of : (Holds : Type 0) (x : Cell) (floor : ℕ) (a : R) → HasNoRoom seen.overfills a (CollectsCell Holds (seen.cells a) x floor) → HasNoRoom seen.overfills a (AreOfVisitsIn 1)
+  no_room_of Holds x floor a (row, edits, such, full) = (row, edits, of_one_visit Holds (seen.cells a) x floor row edits such, full)

@@ -9,22 +9,21 @@ use Rattle.cell_key.specs.Cells.{Cells, IsNewest}
 use Rattle.cell_key.specs.declared.keys.Qualifier.TheVariants.{Data, Write}
 use Rattle.cell_key.specs.Moments.{IsMoment}
 use Rattle.cell_key.specs.Versions.{stamped}
-use Rattle.cell_key.specs.declared.edits.Edit.{Edit}
 use Rattle.cell_key.specs.declared.keys.Qualifier.{Qualifier}
 use Rattle.cell_key.specs.declared.refusals.Refusal.{Refusal}
-use Rattle.row_atomic.specs.Calls.{OnlyReads}
-use Rattle.row_atomic.specs.Clusters.{Storage}
+use Rattle.cell_key.specs.Columns.{IsRecordText, NamesStart, NamesWrite, record_text}
+use Rattle.cell_key.proofs.RecordTexts.{names_of, one_write, same_write}
+use Rattle.cell_key.specs.declared.columns.WriteKind.{WriteKind}
+use Rattle.cell_key.specs.declared.columns.WriteKind.TheVariants as write
+use Rattle.row_atomic.specs.Calls.{OnlyReads, View}
 use Rattle.row_atomic.specs.Oldest.{IsOldest}
 use Rattle.row_atomic.proofs.Halves.{at_none, at_some}
 use Rattle.si_model.specs.Collection.{IsNamed, IsOld}
 use Rattle.si_model.specs.Sets.{◌∈◌}
-use Rattle.si_model.specs.ShowsCells.{IsRecordText, IsThere, NamesAt, NamesCommit, NamesStart, NamesWrite, at, key_of, kind_of_change, record_text}
-use Rattle.si_model.specs.declared.cells.WriteKind.{WriteKind}
-use Rattle.si_model.specs.declared.cells.WriteKind.TheVariants as write
+use Rattle.si_model.specs.ShowsCells.{IsThere, NamesAt, NamesCommit, at, key_of, kind_of_change}
 use Rattle.si_model.specs.declared.replies.Cell.{Cell}
 use Rattle.si_model.proofs.Bounds.{reached_bounds}
 use Rattle.si_model.proofs.CleanerFates.{names_nearest}
-use Rattle.si_model.proofs.RecordTexts.{names_of, one_write, same_write}
 use Rattle.si_model.proofs.Steps.{reached_sound}
 use Rattle.version_collector.specs.Versions.{AreFound, AreGreatest, AreNear, AreShown, AreUnnamed, HasOneRecord, IsAmong, IsLastDeletion, IsLastRecord, IsLatestBelow, IsLoneDeletion, IsNamedBy, IsUnnamed, NamesLast, NamesNext, NamesNone}
 use Rattle.version_collector.specs.declared.versions.NearStarts.{NearStarts}
@@ -338,17 +337,17 @@ passed_none {Z = Z} found v b is same none (Err e) =
 
 -- ---- a read after others that changed nothing
 
-pub latest_some : {R : Type 0} {holds : R → Type 0} {cells : R → Cells} {overfills : R → List ℕ → List Edit → Type 0} {storage : R → Storage} {Z : Type 0} {a b : R}
-    → OnlyReads holds cells overfills storage a b → holds a → (x : Cell) (q : Qualifier) (below : ℕ) (found : Option (ℕ × Vec ℕ Z)) (v : ℕ × Vec ℕ Z) → found ≡ Some v
-    → (holds b → IsLatestBelow (cells b) x q below (option_map stamped found)) → IsLatestBelow (cells a) x q below (Some (v.0, v.1.items))
-latest_some {cells = cells} {b = b} reads held x q below found v is so =
-    subst (λ (cs : Cells). IsLatestBelow cs x q below (Some (v.0, v.1.items))) (reads.kept held) (at_some (IsLatestBelow (cells b) x q below) found v is (so (reads.still held)))
+pub latest_some : {R : Type 0} {seen : View R} {Z : Type 0} {a b : R}
+    → OnlyReads seen a b → seen.holds a → (x : Cell) (q : Qualifier) (below : ℕ) (found : Option (ℕ × Vec ℕ Z)) (v : ℕ × Vec ℕ Z) → found ≡ Some v
+    → (seen.holds b → IsLatestBelow (seen.cells b) x q below (option_map stamped found)) → IsLatestBelow (seen.cells a) x q below (Some (v.0, v.1.items))
+latest_some {seen = seen} {b = b} reads held x q below found v is so =
+    subst (λ (cs : Cells). IsLatestBelow cs x q below (Some (v.0, v.1.items))) (reads.kept held) (at_some (IsLatestBelow (seen.cells b) x q below) found v is (so (reads.still held)))
 
-pub latest_none : {R : Type 0} {holds : R → Type 0} {cells : R → Cells} {overfills : R → List ℕ → List Edit → Type 0} {storage : R → Storage} {Z : Type 0} {a b : R}
-    → OnlyReads holds cells overfills storage a b → holds a → (x : Cell) (q : Qualifier) (below : ℕ) (found : Option (ℕ × Vec ℕ Z)) → found ≡ None
-    → (holds b → IsLatestBelow (cells b) x q below (option_map stamped found)) → IsLatestBelow (cells a) x q below None
-latest_none {cells = cells} {b = b} reads held x q below found is so =
-    subst (λ (cs : Cells). IsLatestBelow cs x q below None) (reads.kept held) (at_none (IsLatestBelow (cells b) x q below) found is (so (reads.still held)))
+pub latest_none : {R : Type 0} {seen : View R} {Z : Type 0} {a b : R}
+    → OnlyReads seen a b → seen.holds a → (x : Cell) (q : Qualifier) (below : ℕ) (found : Option (ℕ × Vec ℕ Z)) → found ≡ None
+    → (seen.holds b → IsLatestBelow (seen.cells b) x q below (option_map stamped found)) → IsLatestBelow (seen.cells a) x q below None
+latest_none {seen = seen} {b = b} reads held x q below found is so =
+    subst (λ (cs : Cells). IsLatestBelow cs x q below None) (reads.kept held) (at_none (IsLatestBelow (seen.cells b) x q below) found is (so (reads.still held)))
 
 pub lower_some : {Z : Type 0} (found : Option (ℕ × Vec ℕ Z)) (v : ℕ × Vec ℕ Z) (below : ℕ) → found ≡ Some v → IfSome found (λ w. w.0 < below) → v.0 < below
 lower_some {Z} found v below is less = subst (λ (f : Option (ℕ × Vec ℕ Z)). IfSome f (λ w. w.0 < below)) is less

@@ -34,11 +34,11 @@ use Rattle.si_model.proofs.ShownKept.{shows_beside}
 use Rattle.si_model.proofs.Tools.{eq_test, ne_test, get_same, get_other, get_removed, get_remains}
 use Rattle.version_collector.specs.Refusals.{IsVisitRefusal}
 use Rattle.version_collector.specs.Shows.{AreShownOn, Begins, ChangesOne, IsCount, SameCollectors, ShowsAt, ShowsCollector, ShowsCollectors, Steps, TellsAt, VisitsAt, is_last, kept_after, kept_at}
-use Rattle.version_collector.specs.Visits.{HasVisited, IsTold, VisitsLeave, WhereCome, pass_of, position_of}
+use Rattle.version_collector.specs.Visits.{HasVisited, IsTold, WhereCome, pass_of, position_of}
 use Rattle.version_collector.specs.declared.collector.Collector.{Collector}
 use Rattle.version_collector.specs.declared.collector.Pass.TheVariants.{First}
 use Rattle.version_collector.specs.declared.collectors.Collectors.{Collectors}
-use Rattle.version_collector.proofs.VisitedCells.{request_is}
+use Rattle.version_collector.proofs.VisitedCells.{VisitsLeave, request_is}
 
 -- what a map holds after one key has changed
 upd_at : (old new : ℕ → Option Collector) (k : ℕ) (w : Option Collector) → ((q : ℕ) → new q ≡ cond (is_eq (nat_cmp k q)) w (old q)) → new k ≡ w

@@ -22,8 +22,17 @@ use Rattle.si_model.proofs.CollectorProgress.{comes_further}
 use Rattle.si_model.proofs.Left.{left_falls}
 use Rattle.si_model.proofs.ShownAt.{cases_key, erased_at, erased_off}
 use Rattle.version_collector.specs.Versions.{AreOld, AreShown, AreUnnamed, IsLoneDeletion}
-use Rattle.version_collector.specs.Visits.{AreVisits, Comes, EndsWith, HasVisited, IsTold, IsVisit, VisitsLeave, Thins, Visits, ends, erases_data, erases_deletion, erases_records, none, passes, pass_of, position_of, left_by, stops, then, tidies, turns}
+use Rattle.version_collector.specs.Visits.{AreVisits, Comes, EndsWith, HasVisited, IsTold, IsVisit, Thins, Visits, ends, erases_data, erases_deletion, erases_records, none, passes, pass_of, position_of, left_by, stops, then, tidies, turns}
 use Rattle.version_collector.specs.declared.collector.Collector.{Collector}
+
+-- What n visits at the most leave: what sessions read is kept, keys of at most n rows are gone, and
+-- the collector has come so far.
+pub record VisitsLeave (n : ℕ) (cells : Cells) (c : Collector) (cells' : Cells) (c' : Collector)
+    (st : State) : Type 0 where
+  pub collects : Collects cells cells' st
+  pub thins : Thins n cells cells'
+  pub floor : c'.floor ≡ c.floor
+  pub come : Comes cells' st c'
 
 -- ---- keys that stand, and keys that are gone, where versions of x are erased
 

@@ -23,7 +23,7 @@ abbrev pub deletion_erasures : Cell → Option ℕ → List Edit
 deletion_erasures x None = []
 deletion_erasures x (Some c) = Erase (key_of x Write c) ∷ []
 
--- The edits erase records, each with the data that it names. Where the rows hold and show a reached
+-- The edits erase records, each with the data that it names. If the rows hold and show a reached
 -- state, these are the old ones.
 pub record ErasesRecords (Holds : Type 0) (cells : Cells) (x : Cell) (floor : ℕ) (edits : List Edit)
     : Type 0 where
@@ -33,7 +33,7 @@ pub record ErasesRecords (Holds : Type 0) (cells : Cells) (x : Cell) (floor : �
   pub few : length vs ≤ 128
   pub old : Holds → AreShown cells → AreOld cells x floor vs
 
--- They erase data. Where the rows hold and show a reached state, this is data that no record names,
+-- They erase data. If the rows hold and show a reached state, this is data that no record names,
 -- and there are no old records.
 pub record ErasesData (Holds : Type 0) (cells : Cells) (x : Cell) (floor : ℕ) (edits : List Edit)
     : Type 0 where
@@ -43,7 +43,7 @@ pub record ErasesData (Holds : Type 0) (cells : Cells) (x : Cell) (floor : ℕ) 
   pub few : length ts ≤ 256
   pub unnamed : Holds → AreShown cells → AreUnnamed cells x floor ts
 
--- They erase one record. Where the rows hold and show a reached state, it is that of a deletion, and
+-- They erase one record. If the rows hold and show a reached state, it is that of a deletion, and
 -- nothing else of the cell is to be erased.
 pub record ErasesDeletion (Holds : Type 0) (cells : Cells) (x : Cell) (floor : ℕ)
     (edits : List Edit) : Type 0 where
@@ -60,7 +60,7 @@ Erases Holds cells x floor edits = ErasesRecords Holds cells x floor edits
 abbrev pub CollectsCell : Type 0 → Cells → Cell → ℕ → List ℕ → List Edit → Type 0
 CollectsCell Holds cells x floor row edits = (row ≡ x.row) × Erases Holds cells x floor edits
 
--- the edits erase something, or there are none: where the rows hold and show a reached state, the
+-- the edits erase something, or there are none: if the rows hold and show a reached state, the
 -- cell is tidy then
 abbrev pub ErasesOrIsTidy : Type 0 → Cells → Cell → ℕ → List Edit → Type 0
 ErasesOrIsTidy Holds cells x floor [] = Holds → AreShown cells → IsTidy cells x floor

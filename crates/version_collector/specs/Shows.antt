@@ -21,13 +21,13 @@ pub record ShowsCollector (cells : Cells) (c : Collector) (i : ℕ) (st : State)
   pub kept : finmap.get st.collectors i ≡ Some c.floor
   pub come : Comes cells st c
 
--- what is kept at a number is the collector that has it, if one is open
+-- what is stored at a number is the collector that has it, if one is open
 abbrev pub ShowsAt : Cells → Option Collector → ℕ → State → Type 0
 ShowsAt cells None i st = finmap.get st.collectors i ≡ None
 ShowsAt cells (Some c) i st = ShowsCollector cells c i st
 
--- the collectors that are kept are those that are open, and the next number and the greatest floor
--- are the machine's
+-- the collectors that are stored are those that are open, and the next number and the greatest
+-- floor are the machine's
 pub record ShowsCollectors (cells : Cells) (collectors : Collectors) (st : State) : Type 0 where
   pub next : collectors.next ≡ st.next_collector
   pub floor : collectors.greatest_floor ≡ st.floor
@@ -55,23 +55,23 @@ Begins cells collectors' reply st =
     (next : State) × Step st CollectBegin reply next × ShowsCells cells next
     × ShowsCollectors cells collectors' next
 
--- the collector that is kept at this number
+-- the collector that is stored at this number
 abbrev pub kept_at : Collectors → ℕ → Option Collector
 kept_at collectors i = btree.get nat_cmp collectors.collectors i
 
--- what is kept of a collector after a step: it is closed where all is collected
+-- what is stored of a collector after a step: it is closed if all is collected
 abbrev pub kept_after : Result CollectReply Refusal → Collector → Option Collector
 kept_after (Ok Collected) c = None
 kept_after result c = Some c
 
--- The collector with this number has made visits for a request of n, and is kept as they left it.
+-- The collector with this number has made visits for a request of n, and is stored as they left it.
 abbrev pub VisitsAt : ℕ → ℕ → Result CollectReply Refusal → Cells → Collectors → Cells → Collectors
     → Type 0
 VisitsAt i n result cells old cells' new = (c : Collector) → kept_at old i ≡ Some c
     → (c' : Collector) × HasVisited n result cells c cells' c'
     × (kept_at new i ≡ kept_after result c')
 
--- and what it told is so
+-- and what it answered is true
 abbrev pub TellsAt : ℕ → ℕ → CollectReply → Cells → Collectors → Cells → Collectors → State → Type 0
 TellsAt i n reply cells old cells' new st =
     (c c' : Collector) → kept_at old i ≡ Some c → kept_at new i ≡ kept_after (Ok reply) c'

@@ -4,12 +4,13 @@ use Rattle.std.specs.Prelude.{◌≡◌, ◌≢◌, ◌⊎◌, ⊤, ℕ, ◌+◌
 use Rattle.cell_key.specs.Cells.{Cells, IsNewest}
 use Rattle.cell_key.specs.declared.keys.Qualifier.{Qualifier}
 use Rattle.cell_key.specs.declared.keys.Qualifier.TheVariants.{Data, Write}
+use Rattle.cell_key.specs.Columns.{NamesStart, record_text}
+use Rattle.cell_key.specs.declared.columns.WriteKind.TheVariants as write
 use Rattle.row_atomic.specs.Oldest.{IsOldest}
 use Rattle.si_model.specs.Collection.{IsNamed, IsOld, IsOldestDeletion}
 use Rattle.si_model.specs.Machine.{State, IsReached}
 use Rattle.si_model.specs.Sets.{◌∈◌}
-use Rattle.si_model.specs.ShowsCells.{NamesStart, IsThere, ShowsCells, at, key_of, record_text}
-use Rattle.si_model.specs.declared.cells.WriteKind.TheVariants as write
+use Rattle.si_model.specs.ShowsCells.{IsThere, ShowsCells, at, key_of}
 use Rattle.si_model.specs.declared.replies.Cell.{Cell}
 use Rattle.version_collector.specs.declared.versions.NearStarts.{NearStarts}
 
@@ -31,7 +32,7 @@ pub record IsLastRecord (cells : Cells) (x : Cell) (floor w : ℕ) : Type 0 wher
   pub low : w ≤ floor
   pub last : (c : ℕ) → c ≤ floor → IsThere cells x Write c → c ≤ w
 
--- the stamp of the newest record at or below the floor where that is a deletion's, or it is none's
+-- the stamp of the newest record at or below the floor if that is a deletion's, or it is none's
 abbrev pub IsLastDeletion : Cells → Cell → ℕ → Option ℕ → Type 0
 IsLastDeletion cells x floor None =
     (w t : ℕ) → IsLastRecord cells x floor w → at cells x Write w ≢ Some (record_text t write.Delete)
@@ -58,7 +59,7 @@ abbrev pub HasOneRecord : Cells → Cell → ℕ → Type 0
 HasOneRecord cells x floor =
     (c d : ℕ) → c ≤ floor → d ≤ floor → IsThere cells x Write c → IsThere cells x Write d → c ≡ d
 
--- what a search for old records finds: old ones, or none where at most one stands at or below the
+-- what a search for old records finds: old ones, or none if at most one stands at or below the
 -- floor
 abbrev pub AreFound : Cells → Cell → ℕ → List (ℕ × ℕ) → Type 0
 AreFound cells x floor [] = HasOneRecord cells x floor

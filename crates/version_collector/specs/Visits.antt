@@ -68,7 +68,7 @@ pub record Visits (cells : Cells) (c : Collector) (reply : CollectReply) (cells'
   pub visit : IsVisit cells c.floor (pass_of c.pass) (position_of c.after) reply cells'
       (pass_of c'.pass) (position_of c'.after)
 
--- so many visits, each answered More
+-- this many visits, each answered More
 pub data AreVisits (cells : Cells) (c : Collector) : ℕ → Cells → Collector → Type 0 where
   none : AreVisits cells c 0 cells c
   then : {k : ℕ} {mid cells' : Cells} {d c' : Collector} → AreVisits cells c k mid d
@@ -103,7 +103,7 @@ HasVisited n (Err refusal) cells c cells' c' = AreFewVisits n cells c cells' c'
 abbrev pub Comes : Cells → State → Collector → Type 0
 Comes cells st c = HasCome cells st c.floor (pass_of c.pass) (position_of c.after)
 
--- so it is where a reached state is shown, in which this collector has come so far
+-- so it is if a reached state is shown, in which this collector has come so far
 abbrev pub WhereCome : State → Cells → Collector → Type 0 → Type 0
 WhereCome st cells c IsSo =
     IsReached st → ShowsCells cells st → c.floor ≤ st.floor → Comes cells st c → IsSo
@@ -117,15 +117,6 @@ pub record Thins (n : ℕ) (cells cells' : Cells) : Type 0 where
   pub few : length rows ≤ n
   pub others : (k : CellKey) → ¬ (k.row ∈ rows) → get cells' k ≡ get cells k
   pub fewer : (k : CellKey) → (get cells' k ≡ get cells k) ⊎ (get cells' k ≡ None)
-
--- What n visits at the most leave: what sessions read is kept, keys of at most n rows are gone, and
--- the collector has come so far.
-pub record VisitsLeave (n : ℕ) (cells : Cells) (c : Collector) (cells' : Cells) (c' : Collector)
-    (st : State) : Type 0 where
-  pub collects : Collects cells cells' st
-  pub thins : Thins n cells cells'
-  pub floor : c'.floor ≡ c.floor
-  pub come : Comes cells' st c'
 
 -- What is told is so. After More at least n less is left. Where it is Blocked a lock below the
 -- floor stands on the cell. Where all is Collected no mark stands below the floor, and each cell is

@@ -39,9 +39,10 @@ pub(crate) struct Collector {
 
 /// The start of a lock of the cell below the floor, if one stands.
 fn low_lock<R: Rows>(rows: &mut R, cell: &Cell, floor: Stamp) -> Result<Option<Stamp>, Refusal>
-    ensures found { R.holds rows.old → IfOk result (IsLowLock (R.cells rows.old) cell.now floor) }
-    ensures reads { OnlyReads R.holds R.cells R.overfills R.storage rows.old rows.new }
-    ensures refusal { IfErr result (IsRefusalOfRead (R.holds rows.old)) }
+    ensures found { R.seen.holds rows.old
+        → IfOk result (IsLowLock (R.seen.cells rows.old) cell.now floor) }
+    ensures reads { OnlyReads R.seen rows.old rows.new }
+    ensures refusal { IfErr result (IsRefusalOfRead (R.seen.holds rows.old)) }
     ensures reason { HasReason (R.faults rows.old) (R.faults rows.new) result }
 {
     if floor == 0 {
@@ -64,11 +65,11 @@ fn cell_at(place: Option<(Row, Family)>) -> Option<Cell>
 impl Collector {
     /// The next cell after the position that has any key.
     fn next_cell<R: Rows>(&self, rows: &mut R) -> Result<Option<Cell>, Refusal>
-        ensures found { R.holds rows.old
+        ensures found { R.seen.holds rows.old
             → IfOk result (λ found.
-            IsNextCell (R.cells rows.old) (position_of self.now.after) (position_of found)) }
-        ensures reads { OnlyReads R.holds R.cells R.overfills R.storage rows.old rows.new }
-        ensures refusal { IfErr result (IsRefusalOfRead (R.holds rows.old)) }
+            IsNextCell (R.seen.cells rows.old) (position_of self.now.after) (position_of found)) }
+        ensures reads { OnlyReads R.seen rows.old rows.new }
+        ensures refusal { IfErr result (IsRefusalOfRead (R.seen.holds rows.old)) }
         ensures reason { HasReason (R.faults rows.old) (R.faults rows.new) result }
     {
         match &self.after {
@@ -95,14 +96,14 @@ impl Collector {
 
     /// Visits the next cell in the first pass: looks for a lock below the floor.
     fn look<R: Rows>(&mut self, rows: &mut R, cell: Cell) -> Result<CollectReply, Refusal>
-        ensures visit { R.holds rows.old
+        ensures visit { R.seen.holds rows.old
             → self.old.pass ≡ Pass.First
-            → IsNextCell (R.cells rows.old) (position_of self.old.after) (Some (place_at cell))
+            → IsNextCell (R.seen.cells rows.old) (position_of self.old.after) (Some (place_at cell))
             → IfOk result (λ reply.
-            Visits (R.cells rows.old) self.old reply (R.cells rows.old) self.new) }
-        ensures reads { OnlyReads R.holds R.cells R.overfills R.storage rows.old rows.new }
+            Visits (R.seen.cells rows.old) self.old reply (R.seen.cells rows.old) self.new) }
+        ensures reads { OnlyReads R.seen rows.old rows.new }
         ensures err { OnErr result (self.new ≡ self.old) }
-        ensures refusal { IfErr result (IsRefusalOfRead (R.holds rows.old)) }
+        ensures refusal { IfErr result (IsRefusalOfRead (R.seen.holds rows.old)) }
         ensures reason { HasReason (R.faults rows.old) (R.faults rows.new) result }
     {
         if let Some(start) = low_lock(rows, &cell, self.floor)? {
@@ -119,21 +120,20 @@ impl Collector {
         rows: &mut R,
         cell: Cell,
     ) -> Result<CollectReply, Refusal>
-        ensures visit { R.holds rows.old
-            → AreShown (R.cells rows.old) → self.old.pass ≡ Pass.Second
-            → IsNextCell (R.cells rows.old) (position_of self.old.after) (Some (place_at cell))
+        ensures visit { R.seen.holds rows.old
+            → AreShown (R.seen.cells rows.old) → self.old.pass ≡ Pass.Second
+            → IsNextCell (R.seen.cells rows.old) (position_of self.old.after) (Some (place_at cell))
             → IfOk result (λ reply.
-            Visits (R.cells rows.old) self.old reply (R.cells rows.new) self.new) }
-        ensures below { KeepsBelow R.holds R.storage rows.old rows.new }
-        ensures room { TakesRoomOfVisits R.overfills 1 rows.old rows.new }
+            Visits (R.seen.cells rows.old) self.old reply (R.seen.cells rows.new) self.new) }
+        ensures below { KeepsBelow R.seen rows.old rows.new }
+        ensures room { TakesRoomOfVisits R.seen.overfills 1 rows.old rows.new }
         ensures err { OnErr result (self.new ≡ self.old) }
-        ensures same { OnErr result
-            (OnlyReads R.holds R.cells R.overfills R.storage rows.old rows.new) }
+        ensures same { OnErr result (OnlyReads R.seen rows.old rows.new) }
         ensures refusal { IfErr result IsVisitRefusal }
-        ensures undamaged { R.holds rows.old → AreShown (R.cells rows.old)
+        ensures undamaged { R.seen.holds rows.old → AreShown (R.seen.cells rows.old)
             → ¬ IsErrOf result Refusal.Damaged }
         ensures full { IsErrOf result Refusal.MemtableFull
-            → HasNoRoom R.overfills rows.old (AreOfVisitsIn 1) }
+            → HasNoRoom R.seen.overfills rows.old (AreOfVisitsIn 1) }
         ensures reason { HasReason (R.faults rows.old) (R.faults rows.new) result }
     {
         let erased = erase_old(alloc, rows, &cell, self.floor)?;
@@ -148,28 +148,27 @@ impl Collector {
     ///
     /// # Errors
     ///
-    /// `MemtableFull` where the rows have no room for its edits, `Device`, `NoMemory`, or `Damaged`
-    /// where bytes that were read are outside their form. The collector and all cells are then as before.
+    /// `MemtableFull` if the rows have no room for its edits, `Device`, `NoMemory`, or `Damaged`
+    /// if bytes that were read are outside their form. The collector and all cells are then as before.
     pub(crate) fn visit<R: Rows>(
         &mut self,
         alloc: Global,
         rows: &mut R,
     ) -> Result<CollectReply, Refusal>
-        ensures visit { R.holds rows.old
-            → AreShown (R.cells rows.old)
+        ensures visit { R.seen.holds rows.old
+            → AreShown (R.seen.cells rows.old)
             → IfOk result (λ reply.
-            Visits (R.cells rows.old) self.old reply (R.cells rows.new) self.new) }
-        ensures below { KeepsBelow R.holds R.storage rows.old rows.new }
-        ensures room { TakesRoomOfVisits R.overfills 1 rows.old rows.new }
+            Visits (R.seen.cells rows.old) self.old reply (R.seen.cells rows.new) self.new) }
+        ensures below { KeepsBelow R.seen rows.old rows.new }
+        ensures room { TakesRoomOfVisits R.seen.overfills 1 rows.old rows.new }
         ensures err { OnErr result (self.new ≡ self.old) }
-        ensures same { OnErr result
-            (OnlyReads R.holds R.cells R.overfills R.storage rows.old rows.new) }
+        ensures same { OnErr result (OnlyReads R.seen rows.old rows.new) }
         ensures refusal { IfErr result IsVisitRefusal }
         // What is shown is never answered as damaged.
-        ensures undamaged { R.holds rows.old → AreShown (R.cells rows.old)
+        ensures undamaged { R.seen.holds rows.old → AreShown (R.seen.cells rows.old)
             → ¬ IsErrOf result Refusal.Damaged }
         ensures full { IsErrOf result Refusal.MemtableFull
-            → HasNoRoom R.overfills rows.old (AreOfVisitsIn 1) }
+            → HasNoRoom R.seen.overfills rows.old (AreOfVisitsIn 1) }
         ensures reason { HasReason (R.faults rows.old) (R.faults rows.new) result }
     {
         let Some(cell) = self.next_cell(rows)? else {
@@ -181,7 +180,7 @@ impl Collector {
         }
     }
 
-    /// Makes visits until one is answered otherwise than `More`, or is refused, or so many are made.
+    /// Makes visits until one is answered otherwise than `More`, or is refused, or this many are made.
     ///
     /// # Errors
     ///
@@ -192,17 +191,18 @@ impl Collector {
         rows: &mut R,
         visits: u32,
     ) -> Result<CollectReply, Refusal>
-        ensures visited { R.holds rows.old
-            → (st : State) → WhereCome st (R.cells rows.old) self.old
-            (HasVisited visits result (R.cells rows.old) self.old (R.cells rows.new) self.new) }
-        ensures below { KeepsBelow R.holds R.storage rows.old rows.new }
-        ensures room { TakesRoomOfVisits R.overfills visits rows.old rows.new }
+        ensures visited { R.seen.holds rows.old
+            → (st : State) → WhereCome st (R.seen.cells rows.old) self.old
+            (HasVisited visits result (R.seen.cells rows.old) self.old (R.seen.cells rows.new)
+            self.new) }
+        ensures below { KeepsBelow R.seen rows.old rows.new }
+        ensures room { TakesRoomOfVisits R.seen.overfills visits rows.old rows.new }
         ensures refusal { IfErr result IsVisitRefusal }
-        ensures undamaged { R.holds rows.old
-            → (st : State) → WhereCome st (R.cells rows.old) self.old
+        ensures undamaged { R.seen.holds rows.old
+            → (st : State) → WhereCome st (R.seen.cells rows.old) self.old
             (¬ IsErrOf result Refusal.Damaged) }
         ensures full { IsErrOf result Refusal.MemtableFull
-            → HasNoRoom R.overfills rows.old (AreOfVisitsIn visits) }
+            → HasNoRoom R.seen.overfills rows.old (AreOfVisitsIn visits) }
         ensures reason { HasReason (R.faults rows.old) (R.faults rows.new) result }
     {
         for _ in 0..visits {

@@ -35,7 +35,7 @@ const MOST_VISITS: u32 = 1000;
 /// The open collectors by their numbers, the number of the next one, and the greatest floor that one
 /// began with.
 ///
-/// Each call is a step of the snapshot machine: where cells and collectors show one of its states, the
+/// Each call is a step of the snapshot machine: if cells and collectors show one of its states, the
 /// answer is one that the machine may give there, and they show its next state after. A refused step
 /// leaves that state as it was, and keeps the visits that it made before.
 #[derive(Drop)]
@@ -116,13 +116,13 @@ impl Collectors {
     }
 
     /// Makes visits until a lock below the floor is met (`Blocked`), all is collected (`Collected`; the
-    /// collector is then closed), a visit is refused, or so many visits are made (`More`).
+    /// collector is then closed), a visit is refused, or this many visits are made (`More`).
     ///
     /// # Errors
     ///
-    /// `UnknownCollector` where none is open with this number, then `BadCount` for a number of visits
-    /// outside 1 to 1,000; then `MemtableFull` where the rows have no room for the edits of a visit,
-    /// `Device`, `NoMemory`, or `Damaged` where bytes that were read are outside their form. The
+    /// `UnknownCollector` if none is open with this number, then `BadCount` for a number of visits
+    /// outside 1 to 1,000; then `MemtableFull` if the rows have no room for the edits of a visit,
+    /// `Device`, `NoMemory`, or `Damaged` if bytes that were read are outside their form. The
     /// visits that were made before stay: the cells and the position are those after them.
     pub fn step<R: Rows>(
         &mut self,
@@ -130,42 +130,45 @@ impl Collectors {
         number: u64,
         visits: u32,
     ) -> Result<CollectReply, Refusal>
-        ensures step { R.holds rows.old
-            → Steps (R.cells rows.old) self.old (machine.CollectStep number visits)
-            (result_reply collect_reply result) (R.cells rows.new) self.new }
+        ensures step { R.seen.holds rows.old
+            → Steps (R.seen.cells rows.old) self.old (machine.CollectStep number visits)
+            (result_reply collect_reply result) (R.seen.cells rows.new) self.new }
         // What is done are visits, by the rules of collection.
-        ensures visited { R.holds rows.old
+        ensures visited { R.seen.holds rows.old
             → IsCount visits
-            → InEachShown (R.cells rows.old) self.old (λ st.
-            VisitsAt number visits result (R.cells rows.old) self.old (R.cells rows.new) self.new) }
-        // All that sessions read, each lock and each fate stays. Keys of so many rows go at the most, and none is added.
-        ensures leaves { R.holds rows.old
-            → InEachShown (R.cells rows.old) self.old (λ st.
-            Collects (R.cells rows.old) (R.cells rows.new) st
-            × Thins visits (R.cells rows.old) (R.cells rows.new)) }
+            → InEachShown (R.seen.cells rows.old) self.old (λ st.
+            VisitsAt number visits result (R.seen.cells rows.old) self.old (R.seen.cells rows.new)
+            self.new) }
+        // All that sessions read, each lock and each fate stays. Keys of at most this many rows go, and none is added.
+        ensures leaves { R.seen.holds rows.old
+            → InEachShown (R.seen.cells rows.old) self.old (λ st.
+            Collects (R.seen.cells rows.old) (R.seen.cells rows.new) st
+            × Thins visits (R.seen.cells rows.old) (R.seen.cells rows.new)) }
         // Collected: each cell is tidy. More: so much less is left. Blocked: a lock below the floor stands there.
-        ensures told { R.holds rows.old
-            → IfOk result (λ reply. InEachShown (R.cells rows.old) self.old (λ st.
-            TellsAt number visits reply (R.cells rows.old) self.old (R.cells rows.new) self.new
+        ensures told { R.seen.holds rows.old
+            → IfOk result (λ reply. InEachShown (R.seen.cells rows.old) self.old (λ st.
+            TellsAt number visits reply (R.seen.cells rows.old) self.old (R.seen.cells rows.new)
+            self.new
             st)) }
         ensures one { ChangesOne number self.old self.new }
-        // Nothing is read or changed where no collector has this number, or the number of visits is bad.
+        // Nothing is read or changed if no collector has this number, or the number of visits is bad.
         ensures early { IfErr result (λ refusal. IsEarlyRefusal refusal
             → SameCollectors self.old self.new × (rows.new ≡ rows.old)) }
-        ensures below { KeepsBelow R.holds R.storage rows.old rows.new }
-        ensures room { TakesRoomOfVisits R.overfills visits rows.old rows.new }
+        ensures below { KeepsBelow R.seen rows.old rows.new }
+        ensures room { TakesRoomOfVisits R.seen.overfills visits rows.old rows.new }
         // What is shown is never answered as damaged.
-        ensures undamaged { R.holds rows.old
-            → InEachShown (R.cells rows.old) self.old (λ st. ¬ IsErrOf result Refusal.Damaged) }
+        ensures undamaged { R.seen.holds rows.old
+            → InEachShown (R.seen.cells rows.old) self.old (λ st.
+            ¬ IsErrOf result Refusal.Damaged) }
         ensures refusal { IfErr result IsStepRefusal }
         ensures unknown { (cells : Cells) (st : State)
             → ShowsCollectors cells self.old st → IsUnopened st number
             → IsErrOf result Refusal.UnknownCollector }
         ensures count { ¬ IsCount visits
             → IsErrOf result Refusal.UnknownCollector ⊎ IsErrOf result Refusal.BadCount }
-        // A step is refused MemtableFull where the rows have no room for edits of such visits.
+        // A step is refused MemtableFull if the rows have no room for edits of such visits.
         ensures full { IsErrOf result Refusal.MemtableFull
-            → HasNoRoom R.overfills rows.old (AreOfVisitsIn visits) }
+            → HasNoRoom R.seen.overfills rows.old (AreOfVisitsIn visits) }
         ensures reason { HasReason (R.faults rows.old) (R.faults rows.new) result }
     {
         let Some(collector) = self.collectors.get_mut(&number) else {

@@ -14,12 +14,12 @@ ghost use Rattle.version_collector.specs.Refusals.{IsVisitRefusal};
 ghost use Rattle.version_collector.specs.Versions.{AreShown};
 
 use crate::versions::{near_records, old_records, unnamed_data};
-use cell_key::{Edit, Moment, Qualifier, Refusal, Stamp};
+use cell_key::{CellKey, Edit, Moment, Qualifier, Refusal, Stamp};
 use row_atomic::Rows;
-use si_model::{Cell, key};
+use si_model::Cell;
 use std::alloc::Global;
 
-/// The edits that erase records, each with the data that it names. Refused NoMemory where there is no
+/// The edits that erase records, each with the data that it names. Answers `NoMemory` if there is no
 /// room for them.
 fn record_edits(
     alloc: Global,
@@ -32,15 +32,15 @@ fn record_edits(
 {
     let mut edits = Vec::new(alloc);
     for (commit, start) in records {
-        let record = key(cell, Qualifier::Write, commit.stamp())?;
-        let data = key(cell, Qualifier::Data, start.stamp())?;
+        let record = CellKey::new(&cell.row, &cell.family, Qualifier::Write, commit.stamp())?;
+        let data = CellKey::new(&cell.row, &cell.family, Qualifier::Data, start.stamp())?;
         edits.push(Edit::Erase(record))?;
         edits.push(Edit::Erase(data))?;
     }
     Ok(edits)
 }
 
-/// The edits that erase data. Refused NoMemory where there is no room for them.
+/// The edits that erase data. Answers `NoMemory` if there is no room for them.
 fn data_edits(alloc: Global, cell: &Cell, starts: &[Moment]) -> Result<Vec<Edit>, Refusal>
     ensures edits { IfOk result (λ edits. edits.items ≡ data_erasures cell.now starts.now) }
     ensures under { IfOk result (λ edits. AllByRecursion (IsEditOf cell.now.row) edits.items) }
@@ -48,14 +48,14 @@ fn data_edits(alloc: Global, cell: &Cell, starts: &[Moment]) -> Result<Vec<Edit>
 {
     let mut edits = Vec::new(alloc);
     for start in starts {
-        let data = key(cell, Qualifier::Data, start.stamp())?;
+        let data = CellKey::new(&cell.row, &cell.family, Qualifier::Data, start.stamp())?;
         edits.push(Edit::Erase(data))?;
     }
     Ok(edits)
 }
 
-/// The edit that erases the record of a deletion; none where there is no such record. Refused NoMemory
-/// where there is no room for it.
+/// The edit that erases the record of a deletion; none if there is no such record. Answers `NoMemory`
+/// if there is no room for it.
 fn deletion_edits(
     alloc: Global,
     cell: &Cell,
@@ -67,17 +67,17 @@ fn deletion_edits(
 {
     let mut edits = Vec::new(alloc);
     if let Some(commit) = deletion {
-        let record = key(cell, Qualifier::Write, commit.stamp())?;
+        let record = CellKey::new(&cell.row, &cell.family, Qualifier::Write, commit.stamp())?;
         edits.push(Edit::Erase(record))?;
     }
     Ok(edits)
 }
 
-/// The edits that erase old versions of a cell; none where the cell is tidy.
+/// The edits that erase old versions of a cell; none if the cell is tidy.
 ///
 /// # Errors
 ///
-/// `Device`, `NoMemory` or `Damaged`, as for every read, and `Damaged` where a record names no start.
+/// `Device`, `NoMemory` or `Damaged`, as for every read, and `Damaged` if a record names no start.
 fn old_edits<R: Rows>(
     alloc: Global,
     rows: &mut R,
@@ -85,11 +85,11 @@ fn old_edits<R: Rows>(
     floor: Stamp,
 ) -> Result<Vec<Edit>, Refusal>
     ensures old { IfOk result (λ edits.
-        ErasesOrIsTidy (R.holds rows.old) (R.cells rows.old) cell.now floor edits.items) }
+        ErasesOrIsTidy (R.seen.holds rows.old) (R.seen.cells rows.old) cell.now floor edits.items) }
     ensures under { IfOk result (λ edits. AllByRecursion (IsEditOf cell.now.row) edits.items) }
-    ensures reads { OnlyReads R.holds R.cells R.overfills R.storage rows.old rows.new }
+    ensures reads { OnlyReads R.seen rows.old rows.new }
     ensures refusal { IfErr result (IsRefusalOfRead
-        (R.holds rows.old × AreShown (R.cells rows.old))) }
+        (R.seen.holds rows.old × AreShown (R.seen.cells rows.old))) }
     ensures reason { HasReason (R.faults rows.old) (R.faults rows.new) result }
 {
     let records = old_records(alloc, rows, cell, floor)?;
@@ -106,13 +106,13 @@ fn old_edits<R: Rows>(
 
 /// Erases old versions of a cell in one row transaction, and says whether there were any: the
 /// newest 128 records older than the newest one at or below the floor, with the data that they name;
-/// where there are none, the newest 256 data below the floor that no record names; where there are
-/// none of those either, the record at or below the floor if it is a deletion's. Where there is
+/// if there are none, the newest 256 data below the floor that no record names; if there are
+/// none of those either, the record at or below the floor if it is a deletion's. If there is
 /// nothing of these, the cell is tidy.
 ///
 /// # Errors
 ///
-/// `MemtableFull` where the rows have no room for the edits, `Device`, `NoMemory`, or `Damaged` where
+/// `MemtableFull` if the rows have no room for the edits, `Device`, `NoMemory`, or `Damaged` if
 /// bytes that were read are outside their form.
 pub(crate) fn erase_old<R: Rows>(
     alloc: Global,
@@ -121,21 +121,21 @@ pub(crate) fn erase_old<R: Rows>(
     floor: Stamp,
 ) -> Result<bool, Refusal>
     ensures erased { IfOk result (λ erased.
-        OnTrue erased (AppliesSuch R.holds R.cells R.overfills R.storage
-        (CollectsCell (R.holds rows.old) (R.cells rows.old) cell.now floor) rows.old rows.new)) }
-    ensures left { IfOk result (λ erased.
-        OnFalse erased (OnlyReads R.holds R.cells R.overfills R.storage rows.old rows.new)) }
-    ensures tidy { R.holds rows.old
-        → AreShown (R.cells rows.old)
-        → IfOk result (λ erased. OnFalse erased (IsTidy (R.cells rows.old) cell.now floor)) }
-    ensures err { OnErr result (OnlyReads R.holds R.cells R.overfills R.storage rows.old rows.new) }
+        OnTrue erased (AppliesSuch R.seen
+        (CollectsCell (R.seen.holds rows.old) (R.seen.cells rows.old) cell.now floor)
+        rows.old rows.new)) }
+    ensures left { IfOk result (λ erased. OnFalse erased (OnlyReads R.seen rows.old rows.new)) }
+    ensures tidy { R.seen.holds rows.old
+        → AreShown (R.seen.cells rows.old)
+        → IfOk result (λ erased. OnFalse erased (IsTidy (R.seen.cells rows.old) cell.now floor)) }
+    ensures err { OnErr result (OnlyReads R.seen rows.old rows.new) }
     ensures refusal { IfErr result IsVisitRefusal }
     // What is shown is never answered as damaged.
-    ensures undamaged { R.holds rows.old → AreShown (R.cells rows.old)
+    ensures undamaged { R.seen.holds rows.old → AreShown (R.seen.cells rows.old)
         → ¬ IsErrOf result Refusal.Damaged }
     ensures full { IsErrOf result Refusal.MemtableFull
-        → HasNoRoom R.overfills rows.old
-        (CollectsCell (R.holds rows.old) (R.cells rows.old) cell.now floor) }
+        → HasNoRoom R.seen.overfills rows.old
+        (CollectsCell (R.seen.holds rows.old) (R.seen.cells rows.old) cell.now floor) }
     ensures reason { HasReason (R.faults rows.old) (R.faults rows.new) result }
 {
     let edits = old_edits(alloc, rows, cell, floor)?;

@@ -4,37 +4,37 @@ ghost use Rattle.std.specs.Prelude.{◌≡◌, ◌↔◌, ◌⊎◌, ℕ, ◌<�
 ghost use Rattle.cell_key.specs.Faults.{HasReason};
 ghost use Rattle.cell_key.specs.Moments.{IsMoment};
 ghost use Rattle.cell_key.specs.Versions.{stamped};
+ghost use Rattle.cell_key.specs.Columns.{NamesStart, NamesWrite};
+ghost use Rattle.cell_key.specs.declared.columns.WriteKind.TheVariants as Kind;
 ghost use Rattle.row_atomic.specs.Calls.{OnlyReads};
 ghost use Rattle.row_atomic.specs.Refusals.{IsRefusalOfRead};
-ghost use Rattle.si_model.specs.ShowsCells.{NamesStart, NamesWrite};
-ghost use Rattle.si_model.specs.declared.cells.WriteKind.TheVariants as Kind;
 ghost use Rattle.version_collector.specs.Versions.{AreFound, AreNear, AreShown, AreUnnamed, HasOneRecord, IsAmong, IsLastDeletion, IsLatestBelow, IsNamedBy, NamesNext, NamesNone};
 
-use cell_key::{MOST_STAMP, Moment, Qualifier, Refusal, Stamp};
+use cell_key::{MOST_STAMP, Moment, Qualifier, Record, Refusal, Stamp, WriteKind};
 use row_atomic::{Rows, oldest};
-use si_model::{Cell, WriteKind, named_write};
+use si_model::Cell;
 use std::alloc::Global;
 
 /// The most records that are erased at once, each with the data that it names.
 const MOST_RECORDS: usize = 128;
 
-/// The most data that is erased at once where no record names it.
+/// The most data that is erased at once if no record names it.
 const MOST_DATA: usize = 256;
 
-/// The version of a cell's column with the greatest stamp below this one. `None` where there is none.
+/// The version of a cell's column with the greatest stamp below this one. `None` if there is none.
 fn latest_below<R: Rows>(
     rows: &mut R,
     cell: &Cell,
     column: Qualifier,
     below: Stamp,
 ) -> Result<Option<(Stamp, Vec<u8>)>, Refusal>
-    ensures found { R.holds rows.old
+    ensures found { R.seen.holds rows.old
         → IfOk result (λ found.
-        IsLatestBelow (R.cells rows.old) cell.now column below (option_map stamped found)) }
+        IsLatestBelow (R.seen.cells rows.old) cell.now column below (option_map stamped found)) }
     ensures lower { IfOk result (λ found. IfSome found (λ version. version.0 < below)) }
     ensures limits { IfOk result (λ found. IfSome found (λ version. IsMoment version.0)) }
-    ensures reads { OnlyReads R.holds R.cells R.overfills R.storage rows.old rows.new }
-    ensures refusal { IfErr result (IsRefusalOfRead (R.holds rows.old)) }
+    ensures reads { OnlyReads R.seen rows.old rows.new }
+    ensures refusal { IfErr result (IsRefusalOfRead (R.seen.holds rows.old)) }
     ensures reason { HasReason (R.faults rows.old) (R.faults rows.new) result }
 {
     if below == 0 {
@@ -47,16 +47,16 @@ fn latest_below<R: Rows>(
     Ok(Some((stamp, value)))
 }
 
-/// The start that a record's text names, and the kind of its write. `Damaged` where it names none.
+/// The start that a record's text names, and the kind of its write. `Damaged` if it names none.
 fn write_of(text: &[u8]) -> Result<(Moment, WriteKind), Refusal>
     ensures named { IfOk result (λ write. NamesWrite text.now write.0 write.1) }
     ensures refusal { IfErr result (λ refusal. refusal ≡ Refusal.Damaged) }
     ensures damaged { IfErr result (λ refusal.
         (t : ℕ) → 1 ≤ t → t < 2 ^ 63 → ¬ NamesStart text.now t) }
 {
-    match named_write(text) {
-        Some((start, kind)) if 1 <= start && start <= MOST_STAMP => {
-            Ok((Moment::new(start), kind))
+    match Record::decode(text) {
+        Some(record) if 1 <= record.start && record.start <= MOST_STAMP => {
+            Ok((Moment::new(record.start), record.kind))
         }
         _ => Err(Refusal::Damaged),
     }
@@ -67,20 +67,20 @@ fn write_of(text: &[u8]) -> Result<(Moment, WriteKind), Refusal>
 ///
 /// # Errors
 ///
-/// `Device`, `NoMemory` or `Damaged`, as for every read, and `Damaged` where a record names no start.
+/// `Device`, `NoMemory` or `Damaged`, as for every read, and `Damaged` if a record names no start.
 pub(crate) fn old_records<R: Rows>(
     alloc: Global,
     rows: &mut R,
     cell: &Cell,
     floor: Stamp,
 ) -> Result<Vec<(Moment, Moment)>, Refusal>
-    ensures found { R.holds rows.old
-        → AreShown (R.cells rows.old)
-        → IfOk result (λ found. AreFound (R.cells rows.old) cell.now floor found.items) }
+    ensures found { R.seen.holds rows.old
+        → AreShown (R.seen.cells rows.old)
+        → IfOk result (λ found. AreFound (R.seen.cells rows.old) cell.now floor found.items) }
     ensures few { IfOk result (λ found. length found.items ≤ 128) }
-    ensures reads { OnlyReads R.holds R.cells R.overfills R.storage rows.old rows.new }
+    ensures reads { OnlyReads R.seen rows.old rows.new }
     ensures refusal { IfErr result (IsRefusalOfRead
-        (R.holds rows.old × AreShown (R.cells rows.old))) }
+        (R.seen.holds rows.old × AreShown (R.seen.cells rows.old))) }
     ensures reason { HasReason (R.faults rows.old) (R.faults rows.new) result }
 {
     let mut found = Vec::with_capacity(alloc, MOST_RECORDS)?;
@@ -117,7 +117,7 @@ fn is_among(start: Stamp, near: NearStarts) -> bool
     near.last == Some(start) || near.next == Some(start)
 }
 
-/// The start that a record names, if there is one. `Damaged` where it names none.
+/// The start that a record names, if there is one. `Damaged` if it names none.
 fn named_by(found: Option<(Stamp, Vec<u8>)>) -> Result<Option<Stamp>, Refusal>
     ensures named { IfOk result (IsNamedBy (option_map stamped found)) }
     ensures refusal { IfErr result (λ refusal. refusal ≡ Refusal.Damaged) }
@@ -131,10 +131,11 @@ fn named_by(found: Option<(Stamp, Vec<u8>)>) -> Result<Option<Stamp>, Refusal>
 
 /// The start that the oldest record above a stamp names, if there is one.
 fn next_start<R: Rows>(rows: &mut R, cell: &Cell, floor: Stamp) -> Result<Option<Stamp>, Refusal>
-    ensures named { R.holds rows.old → IfOk result (NamesNext (R.cells rows.old) cell.now floor) }
-    ensures reads { OnlyReads R.holds R.cells R.overfills R.storage rows.old rows.new }
+    ensures named { R.seen.holds rows.old
+        → IfOk result (NamesNext (R.seen.cells rows.old) cell.now floor) }
+    ensures reads { OnlyReads R.seen rows.old rows.new }
     ensures refusal { IfErr result (IsRefusalOfRead
-        (R.holds rows.old × AreShown (R.cells rows.old))) }
+        (R.seen.holds rows.old × AreShown (R.seen.cells rows.old))) }
     ensures reason { HasReason (R.faults rows.old) (R.faults rows.new) result }
 {
     if floor == Stamp::MAX {
@@ -151,7 +152,7 @@ fn next_start<R: Rows>(rows: &mut R, cell: &Cell, floor: Stamp) -> Result<Option
     named_by(next)
 }
 
-/// The stamp of a record where its write is a deletion.
+/// The stamp of a record if its write is a deletion.
 fn deletion_at(commit: Moment, kind: WriteKind) -> Option<Moment>
     ensures some { IfSome result (λ at. (at ≡ commit) × (kind ≡ Kind.Delete)) }
     ensures none { IfNone result (kind ≡ Kind.Set) }
@@ -163,7 +164,7 @@ fn deletion_at(commit: Moment, kind: WriteKind) -> Option<Moment>
 }
 
 /// The starts that the records nearest to the floor name, and the stamp of the newest record at or
-/// below the floor where that is a deletion's.
+/// below the floor if that is a deletion's.
 ///
 /// # Errors
 ///
@@ -173,14 +174,14 @@ pub(crate) fn near_records<R: Rows>(
     cell: &Cell,
     floor: Stamp,
 ) -> Result<(NearStarts, Option<Moment>), Refusal>
-    ensures named { R.holds rows.old
-        → IfOk result (λ found. AreNear (R.cells rows.old) cell.now floor found.0) }
-    ensures deletion { R.holds rows.old
-        → AreShown (R.cells rows.old)
-        → IfOk result (λ found. IsLastDeletion (R.cells rows.old) cell.now floor found.1) }
-    ensures reads { OnlyReads R.holds R.cells R.overfills R.storage rows.old rows.new }
+    ensures named { R.seen.holds rows.old
+        → IfOk result (λ found. AreNear (R.seen.cells rows.old) cell.now floor found.0) }
+    ensures deletion { R.seen.holds rows.old
+        → AreShown (R.seen.cells rows.old)
+        → IfOk result (λ found. IsLastDeletion (R.seen.cells rows.old) cell.now floor found.1) }
+    ensures reads { OnlyReads R.seen rows.old rows.new }
     ensures refusal { IfErr result (IsRefusalOfRead
-        (R.holds rows.old × AreShown (R.cells rows.old))) }
+        (R.seen.holds rows.old × AreShown (R.seen.cells rows.old))) }
     ensures reason { HasReason (R.faults rows.old) (R.faults rows.new) result }
 {
     let last = rows.newest(&cell.row, &cell.family, Qualifier::Write, 0, floor)?;
@@ -209,14 +210,14 @@ pub(crate) fn unnamed_data<R: Rows>(
     floor: Stamp,
     near: NearStarts,
 ) -> Result<Vec<Moment>, Refusal>
-    ensures found { R.holds rows.old
-        → AreShown (R.cells rows.old)
-        → HasOneRecord (R.cells rows.old) cell.now floor
-        → AreNear (R.cells rows.old) cell.now floor near
-        → IfOk result (λ found. AreUnnamed (R.cells rows.old) cell.now floor found.items) }
+    ensures found { R.seen.holds rows.old
+        → AreShown (R.seen.cells rows.old)
+        → HasOneRecord (R.seen.cells rows.old) cell.now floor
+        → AreNear (R.seen.cells rows.old) cell.now floor near
+        → IfOk result (λ found. AreUnnamed (R.seen.cells rows.old) cell.now floor found.items) }
     ensures few { IfOk result (λ found. length found.items ≤ 256) }
-    ensures reads { OnlyReads R.holds R.cells R.overfills R.storage rows.old rows.new }
-    ensures refusal { IfErr result (IsRefusalOfRead (R.holds rows.old)) }
+    ensures reads { OnlyReads R.seen rows.old rows.new }
+    ensures refusal { IfErr result (IsRefusalOfRead (R.seen.holds rows.old)) }
     ensures reason { HasReason (R.faults rows.old) (R.faults rows.new) result }
 {
     let mut found = Vec::with_capacity(alloc, MOST_DATA)?;

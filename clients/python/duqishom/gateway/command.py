@@ -52,6 +52,7 @@ def parser() -> argparse.ArgumentParser:
     words.add_argument("--sessions", metavar="N", type=int, default=64, help="active sessions of a connection (64)")
     words.add_argument("--cleaners", metavar="N", type=int, default=64, help="open cleaners of a connection (64)")
     words.add_argument("--collectors", metavar="N", type=int, default=4, help="open collectors of a connection (4)")
+    words.add_argument("--record", metavar="FOLDER", help="keep all frames there for tablet_audit")
     words.add_argument("--grace", metavar="SECONDS", type=float, default=5, help="time for last replies at the end (5)")
     return words
 
@@ -72,7 +73,7 @@ def service_of(options: argparse.Namespace) -> Service:
     places = Places(options.socket, options.mode, options.admin, options.tcp)
     bounds = Bounds(options.clients, (options.sessions, options.cleaners, options.collectors))
     checkpoint = options.checkpoint if options.dir is not None else 0
-    return Service(command, places, rules, bounds, checkpoint, options.grace)
+    return Service(command, places, rules, bounds, checkpoint, options.grace, options.record)
 
 
 def main(words: Sequence[str]) -> int:

@@ -18,6 +18,7 @@ from duqishom.gateway.things import Things
 from duqishom.gateway.turns import Turns
 from duqishom.gateway.upstream import Run, Upstream
 from duqishom.program import ProgramEnded
+from duqishom.recording import Recording
 
 
 @dataclass(frozen=True)
@@ -35,7 +36,9 @@ class Rules:
 class Exchange:
     """All clients of one program. `ended` is called with the program's status when it has ended."""
 
-    def __init__(self, rules: Rules, bounds: Bounds, ended: Callable[[int], None]) -> None:
+    def __init__(
+        self, rules: Rules, bounds: Bounds, ended: Callable[[int], None], recording: Recording | None = None
+    ) -> None:
         self.rules, self.bounds = rules, bounds
         self.clients: set[Client] = set()
         self.outs: list[Client] = []
@@ -43,7 +46,7 @@ class Exchange:
         self.things = Things()
         self.table = passages(notes_reads=rules.is_durable)
         self.is_closing = False
-        self.upstream = Upstream(self._taken, self._fail, self._eased)
+        self.upstream = Upstream(self._taken, self._fail, self._eased, recording)
         self.turns = Turns(self.upstream, self._flush)
         self.household = Household(self.upstream, self.turns, self.things, self.table)
         self.heirs = Heirs(self.household, self.things)

@@ -17,6 +17,7 @@ from duqishom.gateway.client import Client
 from duqishom.gateway.exchange import Exchange, Rules
 from duqishom.gateway.sockets import BACKLOG, NoSocket, SocketFile, inherited, notify, tcp_socket, unix_socket
 from duqishom.program import ProgramEnded
+from duqishom.recording import Recording
 
 # Files that the gateway needs beside a connection for each client.
 FILES_BESIDE = 64
@@ -37,8 +38,8 @@ class Places:
 
 @dataclass(frozen=True)
 class Service:
-    """A gateway as it is asked for: the program's command, where it listens, how it serves, and the seconds between two
-    checkpoints (0 for none) and those that a client may take for its last replies."""
+    """A gateway as it is asked for: the program's command, where it listens, how it serves, the seconds between two
+    checkpoints (0 for none) and those that a client may take for its last replies, and the folder of a recording."""
 
     command: Sequence[str]
     places: Places
@@ -46,6 +47,7 @@ class Service:
     bounds: Bounds
     checkpoint: float = 0
     grace: float = 5
+    record: str | None = None
 
     def run(self) -> int:
         """Serves until the end, and gives the exit status."""
@@ -63,7 +65,8 @@ class Service:
         """Serves at these sockets."""
         loop = asyncio.get_running_loop()
         stopped: asyncio.Future[int | None] = loop.create_future()
-        exchange = Exchange(self.rules, self.bounds, lambda status: resolve(stopped, status))
+        recording = None if self.record is None else Recording(self.record)
+        exchange = Exchange(self.rules, self.bounds, lambda status: resolve(stopped, status), recording)
         for number in (signal.SIGTERM, signal.SIGINT):
             loop.add_signal_handler(number, resolve, stopped, None)
         try:

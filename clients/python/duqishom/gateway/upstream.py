@@ -8,6 +8,7 @@ from collections.abc import Callable, Sequence
 from typing import Protocol, cast
 
 from duqishom.gateway.passages import HEAD, LENGTH, Passage
+from duqishom.recording import Recording
 
 # The bytes that the program may leave untaken. Beyond them nothing is sent to it.
 MOST_UNTAKEN = 1 << 20
@@ -56,15 +57,22 @@ class Upstream(asyncio.SubprocessProtocol):
     """A running program. Its standard error is the gateway's, and a Ctrl-C at the terminal isn't for it.
 
     `taken` is called when all replies of one read have gone to their askers, `ended` with the status when the program has
-    ended, and `eased` when the program takes frames again.
+    ended, and `eased` when the program takes frames again. What goes in and comes out is recorded where that is asked for.
     """
 
-    def __init__(self, taken: Callable[[], None], ended: Callable[[int], None], eased: Callable[[], None]) -> None:
+    def __init__(
+        self,
+        taken: Callable[[], None],
+        ended: Callable[[int], None],
+        eased: Callable[[], None],
+        recording: Recording | None = None,
+    ) -> None:
         self.runs: deque[Run] = deque()
         self.weight = 0
         self.is_full = False
         self.status: int | None = None
         self._taken, self._ended, self._eased = taken, ended, eased
+        self._recording = recording
         self._gathered: list[bytes] = []
         self._came = b""
 
@@ -86,10 +94,15 @@ class Upstream(asyncio.SubprocessProtocol):
     def flush(self) -> None:
         """Writes what was gathered, in one piece."""
         if self._gathered:
-            self._input.write(b"".join(self._gathered))
+            frames = b"".join(self._gathered)
+            self._input.write(frames)
             self._gathered.clear()
+            if self._recording is not None:
+                self._recording.note_requests(frames)
 
     def pipe_data_received(self, descriptor: int, data: bytes) -> None:
+        if self._recording is not None:
+            self._recording.note_replies(data)
         came = self._came + data if self._came else data
         begun = at = count = 0
         size, runs = len(came), self.runs
@@ -133,4 +146,6 @@ class Upstream(asyncio.SubprocessProtocol):
     def connection_lost(self, error: Exception | None) -> None:
         returned = self._child.get_returncode()
         self.status = 0 if returned is None else returned
+        if self._recording is not None:
+            self._recording.close()
         self._ended(self.status)

@@ -116,7 +116,7 @@ fn is_answered(
     Ok(is_outcome(cluster.run(commands)?.get(0), wanted))
 }
 
-/// Whether a cluster answers all as it is wanted, where its caches are emptied before each request or never.
+/// Whether a cluster answers all as it is wanted, with its caches emptied before each request or never.
 fn answers(alloc: Global, drops: bool) -> Result<bool, Refusal> {
     let mut cluster = new_cluster(alloc)?;
     for (ask, wanted) in ASKED {

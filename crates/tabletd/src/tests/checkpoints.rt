@@ -373,7 +373,7 @@ fn bytes_of(rt: &HostRuntime, path: &str, file: &str) -> Result<Vec<u8>, Fail> {
     Ok(fs::read(rt, place.as_str())?)
 }
 
-/// Raises the last byte of the length that a folder's root tells of its last file.
+/// Raises the last byte of the length that a folder's root has for its last file.
 fn raise_length(rt: &HostRuntime, path: &str) -> Result<(), Fail> {
     let root = path_of(rt, path, "t0000000000000000.tab")?;
     let mut bytes = fs::read(rt, root.as_str())?;
@@ -385,8 +385,8 @@ fn raise_length(rt: &HostRuntime, path: &str) -> Result<(), Fail> {
     Ok(())
 }
 
-/// A folder of format 1 is opened, and is of format 2 after a major compaction, a checkpoint and a sweep. A root that tells
-/// another length than its file has is damage.
+/// A folder of format 1 is opened, and is of format 2 after a major compaction, a checkpoint and a sweep. A root that
+/// names another length than its file has is damage.
 #[test]
 fn a_folder_is_migrated(rt: HostRuntime) -> Result<(), Fail> {
     let folder = old_folder(&rt, "old")?;

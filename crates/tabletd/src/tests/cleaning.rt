@@ -132,7 +132,7 @@ const CLEANED_WHILE_HOLDING: [Exchange; 16] = [
     (b"\x02\0\0\0\0\0\0\0\x03\0\0\0\x01b\0\0\0\x01c", b"\x82\0"),
 ];
 
-/// No cleaner begins where there is no lock.
+/// No cleaner begins if there is no lock.
 const NO_LOCK: [Exchange; 1] = [
     // CleanBegin Bob bal: NoLock
     (b"\x06\0\0\0\x03Bob\0\0\0\x03bal", b"\x86\0"),

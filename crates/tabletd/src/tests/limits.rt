@@ -10,7 +10,7 @@ use si_model::Found;
 use std::alloc::{AllocError, Global};
 use std::test::Fail;
 
-/// The number of the refusal that a request is answered, and 0 where it is done.
+/// The number of the refusal that a request is answered, and 0 if it is done.
 fn refused(server: &mut MemServer, request: Request<'_>) -> u8 {
     match server.answer(request) {
         Reply::Refused(refusal) => refusal.number(),
@@ -254,7 +254,7 @@ fn are_rolled_back(server: &mut MemServer) -> bool {
     true
 }
 
-/// The greatest stamp that a column of the cell has up to this one, and 0 where it has none.
+/// The greatest stamp that a column of the cell has up to this one, and 0 if it has none.
 fn newest(server: &mut MemServer, qualifier: Qualifier, hi: Stamp) -> Stamp {
     let raw = Request::Raw {
         row: b"r",
@@ -386,7 +386,7 @@ const STEP: &[u8] = b"\x04\0\0\0\0\0\0\0\x01";
 
 const RAW: &[u8] = b"\x11\0\0\0\x01r\0\0\0\x01c\x01\0\0\0\0\0\0\0\x01\0\0\0\0\0\0\0\x01";
 
-/// Lengths of values, and the replies, whose last one ends with the value where it is accepted.
+/// Lengths of values, and the replies, whose last one ends with the value if it is accepted.
 const LONGEST: [(u32, &[u8], bool); 2] = [
     (
         65_536,
@@ -408,7 +408,7 @@ fn stream_of_set(alloc: Global, value: &[u8]) -> Result<Vec<u8>, AllocError> {
     stream_of(alloc, &[b"\x01", &set, STEP, RAW])
 }
 
-/// Whether a new server that sets a value of so many bytes writes these replies, with the value behind them where it is
+/// Whether a new server that sets a value of this many bytes writes these replies, with the value behind them if it is
 /// accepted.
 fn is_answered(
     alloc: Global,

@@ -1,4 +1,4 @@
-//! Each public call that takes memory: what it answers, and what is read before and after it. Where an allocation was
+//! Each public call that takes memory: what it answers, and what is read before and after it. If an allocation was
 //! refused, what is read is as before, and the call is then made again. `scripts/refuse_allocations` refuses them.
 
 pub mod files;
@@ -47,7 +47,7 @@ pub enum Came {
     WrongAfter,
 }
 
-/// What comes of a call, on a subject of its own. It is made once more where it was refused for memory.
+/// What comes of a call, on a subject of its own. It is made once more if it was refused for memory.
 pub fn tried<S: Subject>(alloc: Global, table: Table, number: usize) -> Result<Came, Refusal> {
     let Some((answer, after)) = table.1.get(number) else {
         return Ok(Came::WrongAnswer);

@@ -6,7 +6,7 @@ use memtable::Memtable;
 use std::alloc::Global;
 use std::test::Fail;
 
-/// Puts so many zeros at a stamp of `a`.
+/// Puts this many zeros at a stamp of `a`.
 fn put(alloc: Global, table: &mut Memtable, stamp: Stamp, len: usize) -> Result<(), Refusal> {
     let value = vec![in alloc; 0; len]?;
     let row = Row::new(alloc, b"a")?;

@@ -6,7 +6,7 @@ use metadata_table::MetadataTable;
 use std::alloc::Global;
 use std::test::Fail;
 
-/// Rows, and the tablets that hold them where the ends are a, m and z.
+/// Rows, and the tablets that hold them when the ends are a, m and z.
 const HOLDERS: [(&[u8], u32); 6] = [
     (b"a", 3),
     (b"a\0", 2),
@@ -37,7 +37,7 @@ fn holder(alloc: Global, table: &MetadataTable, row: &[u8]) -> Result<u32, Refus
     Ok(table.locate(&Row::new(alloc, row)?).tablet)
 }
 
-/// A row is in the first tablet that doesn't end before it. An unknown tablet is told before an unknown server.
+/// A row is in the first tablet that doesn't end before it. An unknown tablet is refused before an unknown server.
 #[test]
 fn places_of_rows(rt: HostRuntime) -> Result<(), Fail> {
     let mut table = three_splits(rt.alloc())?;

@@ -3,11 +3,11 @@
 
 use crate::FILE_LIMIT;
 use crate::tests::cleaning::{ROLLED_FORWARD, SESSION_STOPPED};
+use crate::tests::push_frame;
 use crate::tests::rows::{COMMITTED, Exchange, TRANSFER};
-use crate::tests::{MemServer, push_frame};
 use cell_key::Refusal;
-use file_store::MemFiles;
-use oracle::MemMark;
+use file_store::{Files, MemFiles};
+use oracle::{MarkStore, MemMark};
 use server_loop::{Config, ServeFault, Server};
 use std::alloc::{AllocError, Global};
 use std::cell::Cell;
@@ -115,10 +115,16 @@ const CONFIG: Config = Config {
     file_limit: FILE_LIMIT,
 };
 
-/// The frame of the refusal NoMemory.
-const NO_MEMORY: &[u8] = b"\0\0\0\x02\xFF\x14";
+/// How many bytes the frame of a refusal has.
+const REFUSAL_LENGTH: usize = 6;
 
-/// How many bytes at the end of a Sweep's reply tell how many files were removed. A refused request may have left more of them.
+/// The frame of a refusal.
+fn frame_of(refusal: Refusal) -> [u8; REFUSAL_LENGTH] {
+    [0, 0, 0, 2, 0xFF, refusal.number()]
+}
+
+/// How many bytes at the end of a Sweep's reply say how many files were removed. A refused request may have left more
+/// of them.
 const COUNT_LENGTH: usize = 8;
 
 /// What came of the script.
@@ -126,13 +132,13 @@ const COUNT_LENGTH: usize = 8;
 pub enum Came {
     /// Each request was answered as it must be, at once.
     Answered,
-    /// So it was, and one of them, a serve or the new server, was refused NoMemory first.
+    /// So it was, and one of them, a serve or the new server, was refused first, in the one way that may come.
     AnsweredLater,
     /// Something else was answered.
     WrongAnswer,
 }
 
-/// A reader of frames of fewer than 256 bytes, of which a read gives one. It ends where the last one was refused for memory.
+/// A reader of frames of fewer than 256 bytes, of which a read gives one. It ends where the last one was refused.
 #[derive(Drop)]
 struct Frames<'a> {
     last: &'a [u8],
@@ -158,17 +164,19 @@ impl Read for Frames<'_> {
     }
 }
 
-/// A writer that has room for all replies, and sees where one is the refusal NoMemory.
+/// A writer that has room for all replies, and sees where one is the refusal that may come.
 #[derive(Drop)]
 struct Replies<'a> {
     written: Vec<u8>,
+    refusal: Refusal,
     is_refused: &'a Cell<bool>,
 }
 
 impl Write for Replies<'_> {
     fn write(&mut self, buf: &[u8]) -> io::Result<usize> {
         self.written.extend_from_slice(buf)?;
-        self.is_refused.set(self.written.ends_with(NO_MEMORY));
+        let refused = frame_of(self.refusal);
+        self.is_refused.set(self.written.ends_with(&refused));
         Ok(buf.len())
     }
 
@@ -178,8 +186,13 @@ impl Write for Replies<'_> {
 }
 
 /// Serves frames, and writes the replies behind what is there. It answers how many bytes of frames are left where one was refused
-/// for memory, from that one on: its reply is then not kept.
-fn served(server: &mut MemServer, frames: &[u8], written: Vec<u8>) -> (Vec<u8>, usize) {
+/// so, from that one on: its reply is then not kept.
+fn served<F: Files + Drop, M: MarkStore + Drop>(
+    server: &mut Server<F, M>,
+    refusal: Refusal,
+    frames: &[u8],
+    written: Vec<u8>,
+) -> (Vec<u8>, usize) {
     let is_refused = Cell::new(false);
     let mut reader = Frames {
         last: frames,
@@ -188,6 +201,7 @@ fn served(server: &mut MemServer, frames: &[u8], written: Vec<u8>) -> (Vec<u8>, 
     };
     let mut writer = Replies {
         written,
+        refusal,
         is_refused: &is_refused,
     };
     let ended = server.serve(&mut reader, &mut writer, u64::MAX);
@@ -199,11 +213,12 @@ fn served(server: &mut MemServer, frames: &[u8], written: Vec<u8>) -> (Vec<u8>, 
     if !is_refused.get() {
         return (written, 0);
     }
-    written.truncate(written.len().saturating_sub(NO_MEMORY.len()));
+    written.truncate(written.len().saturating_sub(REFUSAL_LENGTH));
     (written, left)
 }
 
-/// The frames of requests, those of their replies, and how many bytes at the end of these may be others where something was refused.
+/// The frames of requests, those of their replies, and how many bytes at the end of these may be others if something
+/// was refused.
 #[derive(Drop)]
 struct Streams {
     requests: Vec<u8>,
@@ -261,47 +276,51 @@ impl Room {
     }
 }
 
-/// A server with what came of the script.
+/// A server with the refusal that may come once, and what came of the script.
 #[derive(Drop)]
-struct Play {
-    server: MemServer,
+struct Play<F, M: MarkStore> {
+    server: Server<F, M>,
+    refusal: Refusal,
     came: Came,
 }
 
-impl Play {
-    /// A new server, which is made once more where it was refused for memory.
-    fn new(alloc: Global) -> Result<Play, Refusal> {
-        let (files, marks) = match Server::new(
-            alloc,
-            MemFiles::new(alloc),
-            MemMark::new(),
-            CONFIG,
-        ) {
+impl<F: Files + Drop, M: MarkStore + Drop> Play<F, M> {
+    /// A new server, which is made once more of what it gave back where it was refused so.
+    fn new(alloc: Global, files: F, marks: M, refusal: Refusal) -> Result<Play<F, M>, Refusal> {
+        let (files, marks) = match Server::new(alloc, files, marks, CONFIG) {
             Ok(server) => {
                 let came = Came::Answered;
-                return Ok(Play { server, came });
+                return Ok(Play {
+                    server,
+                    refusal,
+                    came,
+                });
             }
-            Err((Refusal::NoMemory, files, marks)) => (files, marks),
-            Err((refusal, _, _)) => return Err(refusal),
+            Err((told, files, marks)) if told == refusal => (files, marks),
+            Err((told, _, _)) => return Err(told),
         };
         match Server::new(alloc, files, marks, CONFIG) {
             Ok(server) => {
                 let came = Came::AnsweredLater;
-                Ok(Play { server, came })
+                Ok(Play {
+                    server,
+                    refusal,
+                    came,
+                })
             }
-            Err((refusal, _, _)) => Err(refusal),
+            Err((told, _, _)) => Err(told),
         }
     }
 
-    /// Serves a stream, and what is left of it once more where a request was refused for memory and nothing was before. It gives
-    /// back the room for the replies.
+    /// Serves a stream, and what is left of it once more where a request was refused so and nothing was before. It gives back
+    /// the room for the replies.
     fn ask(&mut self, streams: &Streams, room: Vec<u8>) -> Vec<u8> {
         let frames = streams.requests.as_slice();
-        let (mut written, mut left) = served(&mut self.server, frames, room);
+        let (mut written, mut left) = served(&mut self.server, self.refusal, frames, room);
         if left > 0 && matches!(self.came, Came::Answered) {
             self.came = Came::AnsweredLater;
             let (_, rest) = frames.split_at(frames.len().saturating_sub(left));
-            (written, left) = served(&mut self.server, rest, written);
+            (written, left) = served(&mut self.server, self.refusal, rest, written);
         }
         let is_disturbed = !matches!(self.came, Came::Answered);
         if left > 0 || !streams.are_met(&written, is_disturbed) {
@@ -312,14 +331,26 @@ impl Play {
     }
 }
 
-/// What comes of the script, on a server of its own.
+/// What comes of the script in memory, of which an allocation may be refused.
 pub fn played(alloc: Global, room: Room) -> Result<Came, Refusal> {
+    let files = MemFiles::new(alloc);
+    played_over(alloc, files, MemMark::new(), Refusal::NoMemory, room)
+}
+
+/// What comes of the script, over these files and this mark store, where this refusal may come once.
+pub fn played_over<F: Files + Drop, M: MarkStore + Drop>(
+    alloc: Global,
+    files: F,
+    marks: M,
+    refusal: Refusal,
+    room: Room,
+) -> Result<Came, Refusal> {
     let Room {
         script,
         columns,
         written,
     } = room;
-    let mut play = Play::new(alloc)?;
+    let mut play = Play::new(alloc, files, marks, refusal)?;
     let written = play.ask(&script, written);
     if !matches!(play.came, Came::WrongAnswer) {
         play.ask(&columns, written);

@@ -31,7 +31,7 @@ fn field_at(bytes: &[u8], at: usize) -> Option<(&[u8], usize)> {
     Some((field, from.checked_add(len)?))
 }
 
-/// The key and the value of the entry at a place, no value where it is an erasure, and the place after the entry.
+/// The key and the value of the entry at a place, no value if it is an erasure, and the place after the entry.
 fn entry_at(bytes: &[u8], at: usize) -> Option<(&[u8], Option<&[u8]>, usize)> {
     let (key, after) = field_at(bytes, at)?;
     let value_at = after.checked_add(1)?;
@@ -45,7 +45,7 @@ fn entry_at(bytes: &[u8], at: usize) -> Option<(&[u8], Option<&[u8]>, usize)> {
     }
 }
 
-/// How many entries stand from the place 8 up to the index, and the first key. `None` where it is no list of entries.
+/// How many entries stand from the place 8 up to the index, and the first key. `None` if it is no list of entries.
 fn entries_up_to(
     alloc: Global,
     bytes: &[u8],
@@ -126,8 +126,8 @@ pub fn is_file(alloc: Global, bytes: &[u8]) -> Result<bool, Refusal> {
     Ok(is_index && is_foot)
 }
 
-/// What stands at a text among the entries of a file of either format, from the place 8 up to the index: a value, `Some(None)`
-/// where it is an erasure, and `None` where there is no entry.
+/// What stands at a text among the entries of a file of either format, from the place 8 up to the index: a value,
+/// `Some(None)` if it is an erasure, and `None` if there is no entry.
 pub fn found_at<'a>(bytes: &'a [u8], text: &[u8]) -> Option<Option<&'a [u8]>> {
     let (width, foot_len) = widths(bytes)?;
     let foot_at = bytes.len().checked_sub(foot_len)?;

@@ -48,7 +48,7 @@ const TWO_NEW: &[u8] = b"TABLET02\
     \0\0\0\0\0\0\0\x4A\0\0\0\0\0\0\0\x01\
     \0\0\0\0\0\0\0\x02\0\0\0\0\0\0\0\x9CTABLETZZ";
 
-/// The two entries in format 1 in two blocks, where one would do.
+/// The two entries in format 1 in two blocks, though one would do.
 const SPLIT_EARLY: &[u8] = b"TABLET01\
     \0\0\0\x16a\0\0bal\0\0data\0\0\xFF\xFF\xFF\xFF\xFF\xFF\xFF\xFD\x01\0\0\0\x0210\
     \0\0\0\x16a\0\0bal\0\0data\0\0\xFF\xFF\xFF\xFF\xFF\xFF\xFF\xFE\x01\0\0\0\x0210\
@@ -169,7 +169,7 @@ fn put_at(bytes: &mut [u8], at: usize, byte: u8) {
     }
 }
 
-/// Whether the file of one entry is damaged where this byte is put at a place.
+/// Whether the file of one entry is damaged if this byte is put at a place.
 fn is_damaged_by(alloc: Global, at: usize, byte: u8) -> Result<bool, AllocError> {
     let mut bytes = Vec::from_slice(alloc, ONE)?;
     put_at(&mut bytes, at, byte);
@@ -247,8 +247,8 @@ fn value_len(
     }
 }
 
-/// What is looked up in the file of three entries, one after the other: whether the kept blocks are forgotten first, the stamp, what
-/// is read of the file 1 (an offset and a number of bytes), and the length of the value.
+/// What is looked up in the file of three entries, one after the other: whether the blocks in memory are forgotten
+/// first, the stamp, what is read of the file 1 (an offset and a number of bytes), and the length of the value.
 const LOOK_UPS: [(bool, Stamp, &[(u64, u64, usize)], Option<usize>); 7] = [
     (true, 3, &[(1, 8, 4096)], Some(2017)),
     (true, 2, &[(1, 8, 4096)], Some(2017)),
@@ -259,7 +259,7 @@ const LOOK_UPS: [(bool, Stamp, &[(u64, u64, usize)], Option<usize>); 7] = [
     (false, 2, &[], Some(2017)),
 ];
 
-/// Whether a look-up at a stamp reads this, and finds a value of so many bytes.
+/// Whether a look-up at a stamp reads this, and finds a value of this many bytes.
 fn is_found(
     alloc: Global,
     file: &mut SortedFile,
@@ -299,8 +299,8 @@ fn nine(alloc: Global) -> Result<Memtable, Refusal> {
     Ok(table)
 }
 
-/// Stamps that are looked up one after the other in the file of nine blocks, and whether each look-up reads the file. The
-/// last eight blocks are kept.
+/// Stamps that are looked up one after the other in the file of nine blocks, and whether each look-up reads the file.
+/// The last eight blocks are held in memory.
 const NINE_LOOK_UPS: [(&[Stamp], bool); 4] = [
     (&[1, 2, 3, 4, 5, 6, 7, 8], true),
     (&[1, 2, 3, 4, 5, 6, 7, 8], false),
@@ -356,7 +356,8 @@ fn put_changed(alloc: Global, files: &mut Recorder, at: usize, byte: u8) -> Resu
     refused(files.put(1, &bytes))
 }
 
-/// Whether a block that was kept is still found when its bytes have changed so, and is no block when it is read anew.
+/// Whether a block that was held in memory is still found when its bytes have changed so, and is no block when it is
+/// read anew.
 fn is_kept(alloc: Global, at: usize, byte: u8) -> Result<bool, Refusal> {
     let mut files = Recorder::new(alloc);
     refused(files.put(1, &three(alloc)?))?;
@@ -386,7 +387,8 @@ fn garbled_blocks_are_not_kept(rt: HostRuntime) -> Result<(), Fail> {
     Ok(())
 }
 
-/// A memtable of `a` at the even stamps from 2 to 28: erasures where 3 divides them, and else values of 500 to 4,000 bytes.
+/// A memtable of `a` at the even stamps from 2 to 28: erasures if 3 divides them, and else values of 500 to 4,000
+/// bytes.
 fn many(alloc: Global) -> Result<Memtable, Refusal> {
     let row = Row::new(alloc, b"a")?;
     let mut table = Memtable::new(alloc);

@@ -35,7 +35,7 @@ fn statuses(rt: HostRuntime) -> Result<(), Fail> {
     Ok(())
 }
 
-/// Words of the command line, and the folder and the two numbers that they say, where they are taken.
+/// Words of the command line, and the folder and the two numbers that they say, if they are taken.
 type Line = (
     &'static [&'static str],
     Option<(Option<&'static str>, u32, Option<u32>)>,

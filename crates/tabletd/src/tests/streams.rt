@@ -64,7 +64,7 @@ impl Read for Recording<'_> {
     }
 }
 
-/// A writer that takes a byte a call, and after so many calls fails, or takes nothing more.
+/// A writer that takes a byte a call, and after this many calls fails, or takes nothing more.
 #[derive(Drop)]
 pub struct Narrow {
     pub written: Vec<u8>,
@@ -132,7 +132,7 @@ impl Write for Telling<'_> {
     }
 }
 
-/// A writer that keeps bytes back until it is flushed, and fails after so many flushes.
+/// A writer that keeps bytes back until it is flushed, and fails after this many flushes.
 #[derive(Drop)]
 pub struct Holding {
     pub held: Vec<u8>,

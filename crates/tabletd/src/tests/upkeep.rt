@@ -541,7 +541,7 @@ const TWO_SWEPT: [Exchange; 1] = [
     (b"\x0F", b"\x8F\0\0\0\0\0\0\0\x02"),
 ];
 
-/// A commit of one cell, where a memtable of two entries is compacted after the reply.
+/// A commit of one cell, when a memtable of two entries is compacted after the reply.
 pub const COMPACTED: Row = (
     0,
     &[
@@ -554,7 +554,7 @@ pub const COMPACTED: Row = (
     ],
 );
 
-/// The same where two files are merged after it.
+/// The same when two files are merged after it.
 pub const MERGED_AT_TWO: Row = (
     0,
     &[
@@ -567,7 +567,7 @@ pub const MERGED_AT_TWO: Row = (
     ],
 );
 
-/// The same where it takes more entries.
+/// The same if it takes more entries.
 pub const NOT_COMPACTED: Row = (
     0,
     &[
@@ -631,5 +631,5 @@ const NEITHER_MERGED: [Exchange; 3] = [
 /// A commit of a cell in each of two tablets, whose memtables of two entries are compacted after the replies.
 pub const BOTH_COMPACTED: Row = (0, &[&BOTH_HALVES, &BOTH_MERGED]);
 
-/// The same where two files are merged after it.
+/// The same when two files are merged after it.
 pub const BOTH_MERGED_AT_TWO: Row = (0, &[&BOTH_HALVES, &NEITHER_MERGED]);

@@ -5,12 +5,12 @@ use Rattle.cell_key.specs.Cells.{Cells, IsNewest}
 use Rattle.cell_key.specs.Versions.{stamped}
 use Rattle.cell_key.specs.declared.edits.Edit.{Edit}
 use Rattle.cell_key.specs.declared.keys.Qualifier.TheVariants.{Lock}
+use Rattle.cell_key.specs.Columns.{IsParted}
+use Rattle.cell_key.specs.declared.columns.WriteKind.{WriteKind}
 use Rattle.cell_key.proofs.Passed.{passed_on}
 use Rattle.row_atomic.proofs.Calls.{applies_after}
 use Rattle.si_model.specs.ShowsCells.{at, key_of}
-use Rattle.si_model.specs.declared.cells.WriteKind.{WriteKind}
 use Rattle.si_model.specs.declared.replies.Cell.{Cell}
-use Rattle.clean_up.specs.Locks.{IsParted}
 use Rattle.clean_up.specs.Room.{ClearsCell, IsClearing}
 use Rattle.clean_up.proofs.clearing.clear.Goals as goal
 
@@ -33,8 +33,8 @@ pub returns-clause-made : goal.returns-clause-made
 returns-clause-made g c = record {
   row = c.args.cell.now.row;
   edits = c.in_ok-edits.edits.items;
-  such = clears (g.R.Rows.cells c.args.rows.now) c.args.cell.now c.stamp-stamp.result c.args.start c.in-Some.field-0-0 c.in_ok-lock.lock c.in-Some.text c.deref.result.now c.parted-kind.result.0.now c.parted-kind.result.1
-      c.in-Some.is c.stamp-stamp.ensures.stamp c.deref.ensures.value c.parted-kind.ensures (g.R.Rows.holds c.args.rows.now) c.args.commit c.in_ok-edits.edits.items c.in_ok-lock.ensures.found c.in_ok-edits.ensures.clearing;
+  such = clears (g.R.Rows.seen.cells c.args.rows.now) c.args.cell.now c.stamp-stamp.result c.args.start c.in-Some.field-0-0 c.in_ok-lock.lock c.in-Some.text c.deref.result.now c.kind_of-kind.ensures.0 c.kind_of-kind.result
+      c.in-Some.is c.stamp-stamp.ensures.stamp c.deref.ensures.value c.kind_of-kind.ensures.1 (g.R.Rows.seen.holds c.args.rows.now) c.args.commit c.in_ok-edits.edits.items c.in_ok-lock.ensures.found c.in_ok-edits.ensures.clearing;
   applied = applies_after c.in_ok-lock.ensures.reads c.in_ok-apply.ensures.ok;
 }
 
@@ -42,7 +42,7 @@ pub returns-in_err-apply-clause-full : goal.returns-in_err-apply-clause-full
 returns-in_err-apply-clause-full g c = λ is. (
   c.args.cell.now.row,
   c.in_ok-edits.edits.items,
-  clears (g.R.Rows.cells c.args.rows.now) c.args.cell.now c.stamp-stamp.result c.args.start c.in-Some.field-0-0 c.in_ok-lock.lock c.in-Some.text c.deref.result.now c.parted-kind.result.0.now c.parted-kind.result.1
-      c.in-Some.is c.stamp-stamp.ensures.stamp c.deref.ensures.value c.parted-kind.ensures (g.R.Rows.holds c.args.rows.now) c.args.commit c.in_ok-edits.edits.items c.in_ok-lock.ensures.found c.in_ok-edits.ensures.clearing,
+  clears (g.R.Rows.seen.cells c.args.rows.now) c.args.cell.now c.stamp-stamp.result c.args.start c.in-Some.field-0-0 c.in_ok-lock.lock c.in-Some.text c.deref.result.now c.kind_of-kind.ensures.0 c.kind_of-kind.result
+      c.in-Some.is c.stamp-stamp.ensures.stamp c.deref.ensures.value c.kind_of-kind.ensures.1 (g.R.Rows.seen.holds c.args.rows.now) c.args.commit c.in_ok-edits.edits.items c.in_ok-lock.ensures.found c.in_ok-edits.ensures.clearing,
   c.in_ok-lock.ensures.reads.room _ _ (c.in_err-apply.ensures.full (passed_on c.from_residual-in_err-apply.result _ c.in_err-apply.field-0.0 _ c.from_residual-in_err-apply.ensures.1 refl is)),
 )

@@ -5,9 +5,9 @@ use Rattle.std.specs.declared.vec.Vec.{Vec}
 use Rattle.byteorder.specs.Endian.{big_number}
 use Rattle.cell_key.specs.Versions.{stamped}
 use Rattle.cell_key.specs.Cells.{Cells}
+use Rattle.cell_key.specs.Columns.{NamesStart, NamesWrite}
+use Rattle.cell_key.specs.declared.columns.WriteKind.{WriteKind}
 use Rattle.si_model.specs.declared.replies.Cell.{Cell}
-use Rattle.si_model.specs.ShowsCells.{NamesStart, NamesWrite}
-use Rattle.si_model.specs.declared.cells.WriteKind.{WriteKind}
 use Rattle.clean_up.specs.Fates.{HasBadRecord, IsNextRecord, IsToldBy}
 use Rattle.clean_up.specs.declared.fates.Fate.TheVariants.{Forward, Back}
 use Rattle.clean_up.proofs.fates.recorded.Goals as goal
@@ -29,11 +29,11 @@ bad {Z} cells x s c found text now is value none next =
     let at = subst (λ (f : Option (ℕ × Vec ℕ Z)). IsNextRecord cells x s (option_map stamped f)) is next in
     (c, text.items, at.2, λ t (kind, names). none t kind (subst (λ (l : List ℕ). NamesWrite l t kind) (sym value) names))
 
-pub returns-in_default-named_write-clause-damaged : goal.returns-in_default-named_write-clause-damaged
-returns-in_default-named_write-clause-damaged g c = λ held is.
-    bad (g.R.Rows.cells c.args.rows.now) c.args.first.now c.stamp-start.result c.in-Some.commit c.in_ok-next.next c.in-Some.record c.deref.result.now c.in-Some.is c.deref.ensures.value c.in_default-named_write.ensures.none (c.in_ok-next.ensures.found held)
+pub returns-in_default-decode-clause-damaged : goal.returns-in_default-decode-clause-damaged
+returns-in_default-decode-clause-damaged g c = λ held is.
+    bad (g.R.Rows.seen.cells c.args.rows.now) c.args.first.now c.stamp-start.result c.in-Some.commit c.in_ok-next.next c.in-Some.text c.deref.result.now c.in-Some.is c.deref.ensures.value c.in_default-decode.ensures.none (c.in_ok-next.ensures.found held)
 
 pub returns-clause-found : goal.returns-clause-found
 returns-clause-found g c = λ held.
-    back (g.R.Rows.cells c.args.rows.now) c.args.first.now c.stamp-start.result c.args.start c.in-Some.commit c.in-Some-named_write.named c.in-Some-named_write.field-0-1 c.in_ok-next.next c.in-Some.record c.stamp-start.ensures.stamp c.in-Some.is
-    (subst (λ (l : List ℕ). NamesWrite l c.in-Some-named_write.named c.in-Some-named_write.field-0-1) c.deref.ensures.value c.in-Some-named_write.ensures.named) c.if-named-start.false (c.in_ok-next.ensures.found held)
+    back (g.R.Rows.seen.cells c.args.rows.now) c.args.first.now c.stamp-start.result c.args.start c.in-Some.commit c.in-Some-decode.record.start c.in-Some-decode.record.kind c.in_ok-next.next c.in-Some.text c.stamp-start.ensures.stamp c.in-Some.is
+    (subst (λ (l : List ℕ). NamesWrite l c.in-Some-decode.record.start c.in-Some-decode.record.kind) c.deref.ensures.value c.in-Some-decode.ensures.named) c.if-record-start.false (c.in_ok-next.ensures.found held)

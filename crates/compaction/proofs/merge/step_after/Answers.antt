@@ -5,7 +5,7 @@ use Rattle.cell_key.specs.Entries.{Takes}
 use Rattle.compaction.specs.Ties.{ties}
 use Rattle.compaction.specs.Merging.{cost, StepsTo}
 use Rattle.compaction.proofs.Turns.{first_within, go_on, front_set, rest_set, cost_falls, not_each, paid_whole, steps_whole}
-use Rattle.compaction.specs.MergeSteps.{step_tie, step_same}
+use Rattle.compaction.specs.MergeLaw.{step_tie, step_same}
 use Rattle.cell_key.specs.declared.refusals.Refusal.TheVariants.{Device}
 use Rattle.cell_key.proofs.Passed.{passed_err, passed_none, passed_on, passed_reason, reason_after}
 use Rattle.cell_key.proofs.Reasons.{not_refused as not_err, reason_none as quiet_reason}

@@ -1,15 +1,15 @@
 use Rattle.std.proofs.Common.{map, subst}
 use Rattle.cell_key.specs.Entries.{merged}
 use Rattle.sorted_file.specs.Grammar.{IsFile}
-use Rattle.sorted_file.specs.declared.formats.Format.TheVariants.{Two}
+use Rattle.sorted_file.specs.declared.format.Format.TheVariants.{Two}
 use Rattle.compaction.specs.Merging.{MergeHolds, merge_remaining}
-use Rattle.compaction.specs.Writing.{kept}
+use Rattle.compaction.specs.Writing.{only_written}
 use Rattle.compaction.proofs.Falls.{on_ok}
 use Rattle.compaction.proofs.writing.merge_into.Goals as goal
 
 pub returns-clause-written : goal.returns-clause-written
 returns-clause-written g c =
-    let keep = c.new-kept.result.keep_erasures in
+    let keep = c.new-values.result.keep_erasures in
     on_ok c.write_file.result _ _ c.write_file.ensures.written (λ w. (
       w.0,
       (
@@ -17,8 +17,8 @@ returns-clause-written g c =
         w.1.1,
         (λ h.
             let m = g.F.Files.contents c.args.files.now in
-            let of_merge = subst (λ s. MergeHolds g.S.Source.lent (g.S.Source.remaining m) (g.S.Source.holds m) s.sources.items s.at → IsFile Two (kept keep (merge_remaining g.S.Source.lent (g.S.Source.remaining m) s.sources.items s.at)) w.0) c.new-kept.ensures.source w.1.2 in
-            let of_lists = subst (λ es. IsFile Two (kept keep es) w.0) (c.new-merge.ensures.remaining m h) (of_merge (c.new-merge.ensures.holds m h)) in
-            subst (λ k. IsFile Two (kept k (merged (map (g.S.Source.remaining m) c.args.sources.items))) w.0) c.new-kept.ensures.keep of_lists),
+            let of_merge = subst (λ s. MergeHolds g.S.Source.lent (g.S.Source.remaining m) (g.S.Source.holds m) s.sources.items s.at → IsFile Two (only_written keep (merge_remaining g.S.Source.lent (g.S.Source.remaining m) s.sources.items s.at)) w.0) c.new-values.ensures.source w.1.2 in
+            let of_lists = subst (λ es. IsFile Two (only_written keep es) w.0) (c.new-merge.ensures.remaining m h) (of_merge (c.new-merge.ensures.holds m h)) in
+            subst (λ k. IsFile Two (only_written k (merged (map (g.S.Source.remaining m) c.args.sources.items))) w.0) c.new-values.ensures.keep of_lists),
       ),
     ))

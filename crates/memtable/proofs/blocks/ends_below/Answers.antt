@@ -1,7 +1,7 @@
 use Rattle.std.proofs.Common.{ap, ◌∙◌, arith, length, ◌-◌}
 use Rattle.std.specs.Ordering.{is_gt}
 use Rattle.cell_key.specs.Keys.{byte_cmp}
-use Rattle.memtable.specs.declared.slots.Slot.{Slot}
+use Rattle.memtable.specs.declared.entries.Slot.{Slot}
 use Rattle.memtable.specs.Slots.{slot_entry, slot_entries}
 use Rattle.memtable.specs.Blocks.{ends_below}
 use Rattle.memtable.proofs.BlockFacts.{by_last}

@@ -7,7 +7,7 @@ use Rattle.cell_key.specs.Entries.{Entry, IsEntry, IsRising, entry_len}
 use Rattle.memtable.specs.Slots.{slot_entry, slot_entries, over}
 use Rattle.memtable.specs.Blocks.{block_entries, HasRoom}
 use Rattle.memtable.specs.Sizes.{IsSizeOf}
-use Rattle.memtable.specs.declared.slots.Slot.{Slot}
+use Rattle.memtable.specs.declared.entries.Slot.{Slot}
 use Rattle.memtable.proofs.EntryLists.{all_pushed, over-push}
 use Rattle.memtable.proofs.Sizes.{entry_small, few_more, replaced_within, size_step, small_more}
 use Rattle.std.specs.List.{AllByRecursion}

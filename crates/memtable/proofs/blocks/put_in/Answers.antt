@@ -1,6 +1,6 @@
 use Rattle.std.proofs.Common.{Some, List, ℕ, ap, ◌∙◌, arith}
 use Rattle.std.proofs.lemmas.List.{length-map}
-use Rattle.memtable.specs.declared.slots.Slot.{Slot}
+use Rattle.memtable.specs.declared.entries.Slot.{Slot}
 use Rattle.memtable.specs.Slots.{slot_entry, slot_entries, one_value}
 use Rattle.memtable.specs.Blocks.{list_of}
 use Rattle.memtable.specs.Sizes.{stood_bytes}

@@ -21,8 +21,8 @@ loop-low-init g c =
       limits = limits;
       from = omega arith;
       to = limits.low;
-      rest = λ held. rest_at_first (g.R.Rows.cells c.args.rows.now) at c.args.lo c.args.hi (stamped c.in-Some.found)
-          (at_some (IsNewest (g.R.Rows.cells c.args.rows.now) at c.args.lo c.args.hi) c.in_ok-found.field-0 c.in-Some.found c.in-Some.is (c.in_ok-found.ensures.found held));
+      rest = λ held. rest_at_first (g.R.Rows.seen.cells c.args.rows.now) at c.args.lo c.args.hi (stamped c.in-Some.found)
+          (at_some (IsNewest (g.R.Rows.seen.cells c.args.rows.now) at c.args.lo c.args.hi) c.in_ok-found.field-0 c.in-Some.found c.in-Some.is (c.in_ok-found.ensures.found held));
     }
 
 pub returns-in_err-older-clause-reads : goal.returns-in_err-older-clause-reads
@@ -30,7 +30,7 @@ returns-in_err-older-clause-reads g c = reads_then c.loop-low.invariant.reads c.
 
 pub returns-in_err-older-clause-refusal : goal.returns-in_err-older-clause-refusal
 returns-in_err-older-clause-refusal g c =
-    refused_later (g.R.Rows.holds c.args.rows.now) (g.R.Rows.holds c.loop-low.rows) c.from_residual-in_err-older.result c.in_err-older.field-0.0
+    refused_later (g.R.Rows.seen.holds c.args.rows.now) (g.R.Rows.seen.holds c.loop-low.rows) c.from_residual-in_err-older.result c.in_err-older.field-0.0
     c.loop-low.invariant.reads.still c.from_residual-in_err-older.ensures.1 c.in_err-older.ensures.refusal
 
 pub returns-in_err-older-clause-reason : goal.returns-in_err-older-clause-reason
@@ -61,8 +61,8 @@ loop-low-preserved-in-Some-2 g c =
       from = before.from;
       to = older.low;
       rest = λ held.
-          let is = at_some (IsNewest (g.R.Rows.cells c.loop-low.rows) at low middle) c.in_ok-older.field-0 c.in-Some-2.older c.in-Some-2.is (c.in_ok-older.ensures.found (before.reads.still held)) in
-          rest_with_older (g.R.Rows.cells c.args.rows.now) at c.args.lo low middle (stamped c.loop-low.found) (stamped c.in-Some-2.older) (before.rest held)
+          let is = at_some (IsNewest (g.R.Rows.seen.cells c.loop-low.rows) at low middle) c.in_ok-older.field-0 c.in-Some-2.older c.in-Some-2.is (c.in_ok-older.ensures.found (before.reads.still held)) in
+          rest_with_older (g.R.Rows.seen.cells c.args.rows.now) at c.args.lo low middle (stamped c.loop-low.found) (stamped c.in-Some-2.older) (before.rest held)
           (subst (λ (cells : Cells). IsNewest cells at low middle (Some (stamped c.in-Some-2.older))) (before.reads.kept held) is);
     }
 
@@ -83,15 +83,15 @@ loop-low-preserved g c =
       from = omega (arith, before.from);
       to = omega (arith, below);
       rest = λ held.
-          let is = at_none (IsNewest (g.R.Rows.cells c.loop-low.rows) at low middle) c.in_ok-older.field-0 c.in-None.is (c.in_ok-older.ensures.found (before.reads.still held)) in
-          rest_above (g.R.Rows.cells c.args.rows.now) at c.args.lo low middle (stamped c.loop-low.found) (before.rest held)
+          let is = at_none (IsNewest (g.R.Rows.seen.cells c.loop-low.rows) at low middle) c.in_ok-older.field-0 c.in-None.is (c.in_ok-older.ensures.found (before.reads.still held)) in
+          rest_above (g.R.Rows.seen.cells c.args.rows.now) at c.args.lo low middle (stamped c.loop-low.found) (before.rest held)
           (subst (λ (cells : Cells). IsNewest cells at low middle None) (before.reads.kept held) is);
     }
 
 pub returns-clause-found : goal.returns-clause-found
 returns-clause-found g c = λ held.
     let last = c.loop-low.invariant in
-    oldest_is (g.R.Rows.cells c.args.rows.now) (version c.args.row.now c.args.family.now c.args.qualifier) c.args.lo c.args.hi c.loop-low.low (stamped c.loop-low.found)
+    oldest_is (g.R.Rows.seen.cells c.args.rows.now) (version c.args.row.now c.args.family.now c.args.qualifier) c.args.lo c.args.hi c.loop-low.low (stamped c.loop-low.found)
     last.from last.to c.loop-low-test.false last.limits.high (last.rest held)
 
 pub returns-clause-reads : goal.returns-clause-reads

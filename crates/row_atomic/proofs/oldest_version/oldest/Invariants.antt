@@ -8,12 +8,12 @@ use Rattle.row_atomic.proofs.oldest_version.oldest.Given as goal
 -- what was found is a version, and the oldest one stands between low and it
 abbrev pub invariant-loop-low : goal.invariant-loop-low
 invariant-loop-low g l = record {
-  reads : OnlyReads g.R.Rows.holds g.R.Rows.cells g.R.Rows.overfills g.R.Rows.storage l.fn.rows l.rows;
+  reads : OnlyReads g.R.Rows.seen l.fn.rows l.rows;
   faults : g.R.Rows.faults l.rows ≡ g.R.Rows.faults l.fn.rows;
   limits : IsVersionIn l.lo l.hi (stamped l.found);
   from : l.lo ≤ l.low;
   to : l.low ≤ l.found.0;
-  rest : g.R.Rows.holds l.fn.rows → IsRest (g.R.Rows.cells l.fn.rows) (version l.row l.family l.qualifier) l.lo l.low (stamped l.found);
+  rest : g.R.Rows.seen.holds l.fn.rows → IsRest (g.R.Rows.seen.cells l.fn.rows) (version l.row l.family l.qualifier) l.lo l.low (stamped l.found);
 }
 
 abbrev pub decreases-loop-low : goal.decreases-loop-low

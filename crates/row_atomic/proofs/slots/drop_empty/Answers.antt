@@ -1,6 +1,6 @@
 use Rattle.std.proofs.Common.{◌≡◌, Some, None, refl, ap, rules}
-use Rattle.row_atomic.specs.Slots.{slot_at, content}
-use Rattle.row_atomic.proofs.SlotLemmas.{cells_same, full_without}
+use Rattle.row_atomic.specs.Slots.{slot_at}
+use Rattle.row_atomic.proofs.SlotLemmas.{content, cells_same, full_without}
 use Rattle.row_atomic.proofs.slots.drop_empty.Goals as goal
 
 pub returns-then-is_empty-clause-same : goal.returns-then-is_empty-clause-same

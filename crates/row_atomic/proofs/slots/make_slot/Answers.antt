@@ -1,9 +1,9 @@
 use Rattle.std.proofs.Common.{◌≡◌, ◌≢◌, Some, None, refl, sym, ap, subst, ◌∙◌, is_some, false}
 use Rattle.std.proofs.lemmas.Result.{IfOk-from_err}
-use Rattle.cell_key.specs.Keys.{same_key}
 use Rattle.cell_key.specs.declared.keys.CellKey.{CellKey}
-use Rattle.row_atomic.specs.Slots.{HasSlot, slot_at, content}
-use Rattle.row_atomic.proofs.SlotLemmas.{cells_same, absent_none, elsewhere, set_has, set_keeps}
+use Rattle.cell_key.proofs.KeyLaws.{same_key}
+use Rattle.row_atomic.specs.Slots.{HasSlot, slot_at}
+use Rattle.row_atomic.proofs.SlotLemmas.{content, cells_same, absent_none, elsewhere, set_has, set_keeps}
 use Rattle.row_atomic.proofs.slots.make_slot.Goals as goal
 
 -- an empty slot is no cell

@@ -1,8 +1,8 @@
 use Rattle.std.proofs.Common.{◌≡◌, [], length, length-append, length-drop, length-take, Err, Ok, ap, ◌∙◌, arith, refl, rules}
 use Rattle.std.proofs.KnownBytes.{Consumes-nil, Keeps-refl}
 use Rattle.std.proofs.lemmas.Result.{err_from_is_err_and}
-use Rattle.server_loop.specs.declared.ends.End.TheVariants as ends
-use Rattle.server_loop.specs.declared.ends.ServeFault.TheVariants as faults
+use Rattle.server_loop.specs.declared.statuses.End.TheVariants as ends
+use Rattle.server_loop.specs.declared.statuses.ServeFault.TheVariants as faults
 use Rattle.server_loop.proofs.StreamReads.{finished, none_served, Served-ends, Served-then, ServesOn-none, stops, used_up}
 use Rattle.server_loop.proofs.ServingLemmas.{IsPartial-nil}
 use Rattle.server_loop.proofs.serving.serve_all.Goals as goal

@@ -1,8 +1,8 @@
 use Rattle.std.proofs.Common.{◌≡◌, Err, Ok, ap, ◌∙◌, arith}
 use Rattle.std.proofs.lemmas.Bool.Decides.{nat_tests}
 use Rattle.std.proofs.lemmas.Result.{err_from_is_err_and}
-use Rattle.server_loop.specs.declared.ends.End.TheVariants as ends
-use Rattle.server_loop.specs.declared.ends.ServeFault.TheVariants as faults
+use Rattle.server_loop.specs.declared.statuses.End.TheVariants as ends
+use Rattle.server_loop.specs.declared.statuses.ServeFault.TheVariants as faults
 use Rattle.server_loop.proofs.StreamReads.{at_its_end, flush_fails, none_held, read_fails, read_large, read_on, reads_none, ServesOn-none, some_held}
 use Rattle.server_loop.proofs.serving.serve_read.Goals as goal
 

@@ -1,7 +1,7 @@
 use Rattle.std.proofs.Common.{ℕ, nat_eq, Contains, subst}
 use Rattle.lru.specs.LruCache.{LruCache}
 use Rattle.lru.proofs.CallerLemmas.{Contains-promoted}
-use Rattle.sorted_file.specs.declared.parsed.Block.{Block}
+use Rattle.sorted_file.specs.declared.block.Block.{Block}
 use Rattle.sorted_file.proofs.Keeping.{still_promoted}
 use Rattle.sorted_file.proofs.cache.promote.Goals as goal
 

@@ -3,8 +3,8 @@ use Rattle.std.specs.Result.{IfOk}
 use Rattle.cell_key.specs.declared.refusals.Refusal.{Refusal}
 use Rattle.cell_key.specs.declared.refusals.Refusal.TheVariants.{Device, Exhausted, NoMemory, Damaged}
 use Rattle.file_store.specs.Store.{KeepsOthers}
-use Rattle.sorted_file.specs.Opened.{name_of}
-use Rattle.sorted_file.specs.Sources.{IsReadRefusal, IsWriteRefusal}
+use Rattle.sorted_file.specs.File.{name_of}
+use Rattle.sorted_file.specs.Source.{IsReadRefusal, IsWriteRefusal}
 use Rattle.compaction.specs.Merging.{AreAtStart}
 use Rattle.compaction.specs.Writing.{written}
 use Rattle.tablet.specs.Compactions.{IsCompactionRefusal}

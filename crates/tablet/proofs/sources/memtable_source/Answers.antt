@@ -3,7 +3,7 @@ use Rattle.std.specs.Option.{option_copied}
 use Rattle.std.specs.Ordering.{is_le}
 use Rattle.cell_key.specs.Keys.{byte_cmp}
 use Rattle.cell_key.specs.Entries.{Entry, IsEntryList, entries_from}
-use Rattle.sorted_file.specs.Sources.{pending}
+use Rattle.sorted_file.specs.Source.{pending}
 use Rattle.cell_key.proofs.EntryLists.{filter-list}
 use Rattle.compaction.specs.declared.input.Input.TheVariants.{Memtable}
 use Rattle.tablet.proofs.SourceLists.{source_start, source_remaining}

@@ -1,7 +1,7 @@
 //! Keys, and the bodies of requests and replies.
 
 use crate::tests::memory::{Call, Subject, Table};
-use cell_key::{CellKey, Family, Qualifier, Refusal, Row, place};
+use cell_key::{CellKey, Family, Lock, Qualifier, Refusal, Row, WriteKind};
 use request_codec::{Reply, decode_reply, decode_request, encode_reply, encode_request};
 use std::alloc::Global;
 
@@ -32,8 +32,8 @@ const CALLS: [Call; 11] = [
     (b"a\0b", b"text"),
     // Row::fence
     (b"a\0\xFFb\0\0\xFF", b"text"),
-    // place
-    (b"a\0\xFFb\0\0bal\0\0", b"text"),
+    // Lock::encode
+    (b"a\0\xFFb\0\0bal\0\0S", b"text"),
     // CellKey::encode
     (
         b"",
@@ -67,7 +67,10 @@ impl Keys {
             1 => Ok(Family::new(alloc, LONG_FAMILY)?.as_bytes() == wanted),
             2 => Ok(self.key.clone()?.row.as_bytes() == wanted),
             3 => Ok(self.key.row.fence(alloc)?.as_slice() == wanted),
-            4 => Ok(place(alloc, &self.key.row, &self.key.family)?.as_slice() == wanted),
+            4 => {
+                let (row, family) = (&self.key.row, &self.key.family);
+                Ok(Lock::encode(alloc, row, family, WriteKind::Set)?.as_slice() == wanted)
+            }
             _ => match decode_reply(alloc, RAW)? {
                 Some(Reply::Raw(Some((_, value)))) => Ok(value.as_slice() == wanted),
                 _ => Ok(false),

@@ -100,7 +100,7 @@ pub struct Clustered {
     cluster: Cluster<MemFiles>,
 }
 
-/// The refusals tell whether there is a second tablet.
+/// The refusals show whether there is a second tablet.
 const CLUSTER_CALLS: [Call; 10] = [
     // newest
     (b"5", b"54\x0E\x0B"),
@@ -154,7 +154,8 @@ fn is_first(
     }
 }
 
-/// The writes of a new cluster, each followed by so many minor compactions, and by a merge of two files where it is two.
+/// The writes of a new cluster, each followed by this many minor compactions, and by a merge of two files if there are
+/// two of them.
 const WRITES: [(u8, Stamp, u8, u8); 5] = [
     (b'a', 1, b'1', 0),
     (b'n', 1, b'2', 1),

@@ -371,7 +371,7 @@ const CALLS: [Call; 57] = [
     (b"\0\0\0\x01\x92", STILL),
 ];
 
-/// The number of the refusal of a request, or 0, where memory was not refused.
+/// The number of the refusal of a request, or 0, unless memory was refused.
 fn number_of(server: &mut MemServer, body: &[u8]) -> Result<u8, Refusal> {
     let Some(request) = decode_request(body) else {
         return Err(Refusal::BadRequest);

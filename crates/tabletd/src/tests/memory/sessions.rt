@@ -84,7 +84,7 @@ const SETS: [(Stamp, &[u8], &[u8]); 5] = [
 ];
 
 impl Sessions {
-    /// Begins so many sessions, makes their sets, and steps of one.
+    /// Begins this many sessions, makes their sets, and steps of one.
     fn begin(&mut self, count: u8, starts: (Stamp, Stamp), steps: u8) -> Result<(), Refusal> {
         for _ in 0..count {
             self.clients.begin(&mut self.oracle)?;

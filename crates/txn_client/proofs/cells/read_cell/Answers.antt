@@ -7,12 +7,13 @@ use Rattle.cell_key.specs.Cells.{Cells, IsNewest}
 use Rattle.cell_key.specs.declared.keys.CellKey.{CellKey}
 use Rattle.cell_key.specs.declared.keys.Qualifier.TheVariants.{Data, Lock, Write}
 use Rattle.cell_key.specs.Versions.{stamped, IsVersionIn}
-use Rattle.si_model.specs.declared.cells.WriteKind.{WriteKind}
-use Rattle.si_model.specs.declared.cells.WriteKind.TheVariants as write
-use Rattle.si_model.specs.ShowsCells.{key_of, IsThere, NamesWrite}
+use Rattle.si_model.specs.ShowsCells.{key_of, IsThere}
 use Rattle.si_model.specs.declared.replies.Cell.{Cell}
 use Rattle.si_model.specs.Reads.{IsLast}
 use Rattle.txn_client.specs.Reads.{ReadsValue, ReadsDeletion, IsDamaged}
+use Rattle.cell_key.specs.declared.columns.WriteKind.{WriteKind}
+use Rattle.cell_key.specs.declared.columns.WriteKind.TheVariants as write
+use Rattle.cell_key.specs.Columns.{NamesWrite}
 use Rattle.cell_key.proofs.Reasons.{not_refused, reason_kept, reason_passed, reason_then}
 use Rattle.row_atomic.proofs.Calls.{is_read_refusal, read_undamaged, reads_then}
 use Rattle.txn_client.proofs.Passed.{passed_err, passed_none, damaged_no_device}
@@ -89,7 +90,7 @@ returns-in_err-lock g c =
 
 pub returns-in-Some : goal.returns-in-Some
 returns-in-Some g c = record {
-  found = λ held. locked (g.R.Rows.cells c.args.rows.now) c.args.cell.now c.args.start c.in-Some.pending c.in_ok-lock.lock c.in-Some.field-0-1 c.in-Some.is (c.in_ok-lock.ensures.found held);
+  found = λ held. locked (g.R.Rows.seen.cells c.args.rows.now) c.args.cell.now c.args.start c.in-Some.pending c.in_ok-lock.lock c.in-Some.field-0-1 c.in-Some.is (c.in_ok-lock.ensures.found held);
   short = tt;
   reads = c.in_ok-lock.ensures.reads;
   refusal = tt;
@@ -118,8 +119,8 @@ returns-in_default-last g c =
     let last = c.in_ok-last.ensures in
     record {
       found = λ held. (
-        nothing (g.R.Rows.cells c.args.rows.now) _ 0 _ c.in_ok-lock.lock c.in_default.is (first.found held),
-        inl (λ s lo hi. ap (λ (cs : Cells). get cs (key_of c.args.cell.now Write s)) (sym (first.reads.kept held)) ∙ nothing (g.R.Rows.cells c.newest.new.self) _ 0 _ c.in_ok-last.last c.in_default-last.is (last.found (first.reads.still held)) s lo hi),
+        nothing (g.R.Rows.seen.cells c.args.rows.now) _ 0 _ c.in_ok-lock.lock c.in_default.is (first.found held),
+        inl (λ s lo hi. ap (λ (cs : Cells). get cs (key_of c.args.cell.now Write s)) (sym (first.reads.kept held)) ∙ nothing (g.R.Rows.seen.cells c.newest.new.self) _ 0 _ c.in_ok-last.last c.in_default-last.is (last.found (first.reads.still held)) s lo hi),
       );
       short = tt;
       reads = reads_then first.reads last.reads;
@@ -128,8 +129,8 @@ returns-in_default-last g c =
       reason = reason_then _ _ _ _ _ first.reason (reason_kept _ _ _ _ (not_refused _ _) last.reason);
     }
 
-pub returns-in_default-named_write : goal.returns-in_default-named_write
-returns-in_default-named_write g c =
+pub returns-in_default-decode : goal.returns-in_default-decode
+returns-in_default-decode g c =
     let first = c.in_ok-lock.ensures in
     let last = c.in_ok-last.ensures in
     record {
@@ -139,9 +140,9 @@ returns-in_default-named_write g c =
       refusal = tt;
       damaged = λ held _. (
         c.in-Some-last.field-0-0,
-        c.in-Some-last.record.items,
-        last_written (g.R.Rows.cells c.args.rows.now) (g.R.Rows.cells c.newest.new.self) c.args.cell.now c.args.start c.in-Some-last.field-0-0 c.in_ok-last.last c.in-Some-last.record (first.reads.kept held) c.in-Some-last.is (last.found (first.reads.still held)),
-        inl (λ t kind names. c.in_default-named_write.ensures.none t kind (subst (λ (bytes : List ℕ). NamesWrite bytes t kind) (sym c.deref.ensures.value) names)),
+        c.in-Some-last.text.items,
+        last_written (g.R.Rows.seen.cells c.args.rows.now) (g.R.Rows.seen.cells c.newest.new.self) c.args.cell.now c.args.start c.in-Some-last.field-0-0 c.in_ok-last.last c.in-Some-last.text (first.reads.kept held) c.in-Some-last.is (last.found (first.reads.still held)),
+        inl (λ t kind names. c.in_default-decode.ensures.none t kind (subst (λ (bytes : List ℕ). NamesWrite bytes t kind) (sym c.deref.ensures.value) names)),
       );
       reason = reason_then _ _ _ _ _ first.reason (reason_kept _ _ _ _ damaged_no_device last.reason);
     }
@@ -152,9 +153,9 @@ returns-in-Delete g c =
     let last = c.in_ok-last.ensures in
     record {
       found = λ held. (
-        nothing (g.R.Rows.cells c.args.rows.now) _ 0 _ c.in_ok-lock.lock c.in_default.is (first.found held),
-        inr (deletion_found (g.R.Rows.cells c.args.rows.now) (g.R.Rows.cells c.newest.new.self) c.args.cell.now c.args.start c.in-Some-last.field-0-0 c.in-Some-named_write.named c.in-Some-named_write.kind c.in_ok-last.last c.in-Some-last.record
-            (first.reads.kept held) c.in-Some-last.is (last.found (first.reads.still held)) (subst (λ (bytes : List ℕ). NamesWrite bytes c.in-Some-named_write.named c.in-Some-named_write.kind) c.deref.ensures.value c.in-Some-named_write.ensures.named) c.in-Delete.is),
+        nothing (g.R.Rows.seen.cells c.args.rows.now) _ 0 _ c.in_ok-lock.lock c.in_default.is (first.found held),
+        inr (deletion_found (g.R.Rows.seen.cells c.args.rows.now) (g.R.Rows.seen.cells c.newest.new.self) c.args.cell.now c.args.start c.in-Some-last.field-0-0 c.in-Some-decode.record.start c.in-Some-decode.record.kind c.in_ok-last.last c.in-Some-last.text
+            (first.reads.kept held) c.in-Some-last.is (last.found (first.reads.still held)) (subst (λ (bytes : List ℕ). NamesWrite bytes c.in-Some-decode.record.start c.in-Some-decode.record.kind) c.deref.ensures.value c.in-Some-decode.ensures.named) c.in-Delete.is),
       );
       short = tt;
       reads = reads_then first.reads last.reads;
@@ -186,8 +187,8 @@ returns-in-Some-2 g c =
     record {
       found = λ held.
           let still = first.reads.still held in
-          value_found (g.R.Rows.cells c.args.rows.now) (g.R.Rows.cells c.newest.new.self) (g.R.Rows.cells c.newest-2.new.self) c.args.cell.now c.args.start c.in_ok-lock.lock c.in_ok-last.last c.in_ok-value-in-Set.field-0 c.in-Some-last.field-0-0 c.in-Some-named_write.named c.in-Some-2.field-0-0 c.in-Some-named_write.kind c.in-Some-last.record c.in-Some-2.value
-          (first.reads.kept held) (last.reads.kept still ∙ first.reads.kept held) c.in_default.is c.in-Some-last.is c.in-Some-2.is (subst (λ (bytes : List ℕ). NamesWrite bytes c.in-Some-named_write.named c.in-Some-named_write.kind) c.deref.ensures.value c.in-Some-named_write.ensures.named) c.in-Set.is (first.found held) (last.found still) (third.found (last.reads.still still));
+          value_found (g.R.Rows.seen.cells c.args.rows.now) (g.R.Rows.seen.cells c.newest.new.self) (g.R.Rows.seen.cells c.newest-2.new.self) c.args.cell.now c.args.start c.in_ok-lock.lock c.in_ok-last.last c.in_ok-value-in-Set.field-0 c.in-Some-last.field-0-0 c.in-Some-decode.record.start c.in-Some-2.field-0-0 c.in-Some-decode.record.kind c.in-Some-last.text c.in-Some-2.value
+          (first.reads.kept held) (last.reads.kept still ∙ first.reads.kept held) c.in_default.is c.in-Some-last.is c.in-Some-2.is (subst (λ (bytes : List ℕ). NamesWrite bytes c.in-Some-decode.record.start c.in-Some-decode.record.kind) c.deref.ensures.value c.in-Some-decode.ensures.named) c.in-Set.is (first.found held) (last.found still) (third.found (last.reads.still still));
       short = short_value _ _ _ c.in_ok-value-in-Set.field-0 c.in-Some-2.value c.in-Some-2.is third.limits;
       reads = reads_then first.reads (reads_then last.reads third.reads);
       refusal = tt;
@@ -206,10 +207,10 @@ returns g c =
       reads = reads_then first.reads (reads_then last.reads third.reads);
       refusal = tt;
       damaged = λ held _.
-          let cells = g.R.Rows.cells c.args.rows.now in
+          let cells = g.R.Rows.seen.cells c.args.rows.now in
           let still = first.reads.still held in
-          no_data cells (g.R.Rows.cells c.newest-2.new.self) c.args.cell.now c.args.start c.in-Some-last.field-0-0 c.in-Some-named_write.named c.in-Some-named_write.kind c.in_ok-value-in-Set.field-0 c.in-Some-last.record.items (last.reads.kept still ∙ first.reads.kept held) c.in-None.is
-          (subst (λ (bytes : List ℕ). NamesWrite bytes c.in-Some-named_write.named c.in-Some-named_write.kind) c.deref.ensures.value c.in-Some-named_write.ensures.named) c.in-Set.is (third.found (last.reads.still still))
-          (last_written cells (g.R.Rows.cells c.newest.new.self) c.args.cell.now c.args.start c.in-Some-last.field-0-0 c.in_ok-last.last c.in-Some-last.record (first.reads.kept held) c.in-Some-last.is (last.found still));
+          no_data cells (g.R.Rows.seen.cells c.newest-2.new.self) c.args.cell.now c.args.start c.in-Some-last.field-0-0 c.in-Some-decode.record.start c.in-Some-decode.record.kind c.in_ok-value-in-Set.field-0 c.in-Some-last.text.items (last.reads.kept still ∙ first.reads.kept held) c.in-None.is
+          (subst (λ (bytes : List ℕ). NamesWrite bytes c.in-Some-decode.record.start c.in-Some-decode.record.kind) c.deref.ensures.value c.in-Some-decode.ensures.named) c.in-Set.is (third.found (last.reads.still still))
+          (last_written cells (g.R.Rows.seen.cells c.newest.new.self) c.args.cell.now c.args.start c.in-Some-last.field-0-0 c.in_ok-last.last c.in-Some-last.text (first.reads.kept held) c.in-Some-last.is (last.found still));
       reason = reason_then _ _ _ _ _ first.reason (reason_then _ _ _ _ _ last.reason (reason_kept _ _ _ _ damaged_no_device third.reason));
     }

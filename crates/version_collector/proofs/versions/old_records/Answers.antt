@@ -2,10 +2,11 @@ use Rattle.std.proofs.Common.{◌≡◌, ◌∙◌, ◌+◌, ℕ, List, [], ◌�
 use Rattle.cell_key.specs.Cells.{IsNewest}
 use Rattle.cell_key.specs.declared.keys.Qualifier.TheVariants.{Write}
 use Rattle.cell_key.specs.declared.refusals.Refusal.TheVariants.{Device}
+use Rattle.cell_key.specs.Columns.{NamesStart}
 use Rattle.cell_key.proofs.Reasons.{not_refused}
 use Rattle.row_atomic.proofs.Calls.{reads_then}
 use Rattle.row_atomic.proofs.Halves.{at_none, at_some}
-use Rattle.si_model.specs.ShowsCells.{key_of, NamesStart}
+use Rattle.si_model.specs.ShowsCells.{key_of}
 use Rattle.version_collector.specs.Versions.{AreFound, AreShown}
 use Rattle.version_collector.proofs.Greatest.{length-last}
 use Rattle.version_collector.proofs.PassedRefusals.{refused_damaged}
@@ -14,14 +15,14 @@ use Rattle.version_collector.proofs.versions.old_records.Goals as goal
 
 pub returns-in_default-clause-found : goal.returns-in_default-clause-found
 returns-in_default-clause-found g c = λ held shown.
-    let cells = g.R.Rows.cells c.args.rows.now in
+    let cells = g.R.Rows.seen.cells c.args.rows.now in
     let x = c.args.cell.now in
     subst (λ (vs : List (ℕ × ℕ)). AreFound cells x c.args.floor vs) (sym c.in_ok-found.ensures.items)
     (found_none cells x c.args.floor (at_none (IsNewest cells (key_of x Write) 0 c.args.floor) c.in_ok-last.last c.in_default.is (c.in_ok-last.ensures.found held)))
 
 pub loop-rows-init : goal.loop-rows-init
 loop-rows-init g c =
-    let cells = g.R.Rows.cells c.args.rows.now in
+    let cells = g.R.Rows.seen.cells c.args.rows.now in
     let x = c.args.cell.now in
     let none : length c.in_ok-found.found.items ≡ 0 = ap (λ (vs : List (ℕ × ℕ)). length vs) c.in_ok-found.ensures.items in
     record {
@@ -37,22 +38,22 @@ loop-rows-init g c =
 pub returns-in_default-next-clause-found : goal.returns-in_default-next-clause-found
 returns-in_default-next-clause-found g c = λ held shown.
     let before = c.loop-rows.invariant in
-    old_all (g.R.Rows.cells c.args.rows.now) c.args.cell.now c.args.floor c.loop-rows.below c.loop-rows.found.items (before.old held shown) before.few
+    old_all (g.R.Rows.seen.cells c.args.rows.now) c.args.cell.now c.args.floor c.loop-rows.below c.loop-rows.found.items (before.old held shown) before.few
     (latest_none before.reads held c.args.cell.now Write c.loop-rows.below c.in_ok-next.next c.in_default-next.is c.in_ok-next.ensures.found)
 
 pub returns-in_err-start-clause-refusal : goal.returns-in_err-start-clause-refusal
 returns-in_err-start-clause-refusal g c =
-    let cells = g.R.Rows.cells c.args.rows.now in
+    let cells = g.R.Rows.seen.cells c.args.rows.now in
     let before = c.loop-rows.invariant in
     let same : c.deref.result.now ≡ c.in-Some-next.text.items = c.deref.ensures.value in
-    refused_damaged (g.R.Rows.holds c.args.rows.now × AreShown cells) c.from_residual-in_err-start.result c.in_err-start.field-0.0 c.from_residual-in_err-start.ensures.1 c.in_err-start.ensures.refusal
+    refused_damaged (g.R.Rows.seen.holds c.args.rows.now × AreShown cells) c.from_residual-in_err-start.result c.in_err-start.field-0.0 c.from_residual-in_err-start.ensures.1 c.in_err-start.ensures.refusal
     (λ was. not_damaged cells c.args.cell.now c.in-Some-next.commit c.in-Some-next.text.items
     (latest_some before.reads was.0 c.args.cell.now Write c.loop-rows.below c.in_ok-next.next (c.in-Some-next.commit, c.in-Some-next.text) c.in-Some-next.is c.in_ok-next.ensures.found).1
     (λ t from to names. c.in_err-start.ensures.damaged t from to (subst (λ (b : List ℕ). NamesStart b t) (sym same) names)) was.1)
 
 pub loop-rows-preserved : goal.loop-rows-preserved
 loop-rows-preserved g c =
-    let cells = g.R.Rows.cells c.args.rows.now in
+    let cells = g.R.Rows.seen.cells c.args.rows.now in
     let x = c.args.cell.now in
     let before = c.loop-rows.invariant in
     let len : vec_len c.loop-rows.found ≡ length c.loop-rows.found.items = before.len in
@@ -81,4 +82,4 @@ returns-clause-found g c = λ held shown.
     let counted = c.len.ensures in
     let few = before.few in
     let len = before.len in
-    old_full (g.R.Rows.cells c.args.rows.now) c.args.cell.now c.args.floor c.loop-rows.below c.loop-rows.found.items (before.old held shown) (omega (arith, full, counted, few, len))
+    old_full (g.R.Rows.seen.cells c.args.rows.now) c.args.cell.now c.args.floor c.loop-rows.below c.loop-rows.found.items (before.old held shown) (omega (arith, full, counted, few, len))

@@ -7,11 +7,11 @@ use Rattle.version_collector.proofs.versions.old_records.Given as goal
 -- what was found are all old records from below on
 abbrev pub invariant-loop-rows : goal.invariant-loop-rows
 invariant-loop-rows g l = record {
-  reads : OnlyReads g.R.Rows.holds g.R.Rows.cells g.R.Rows.overfills g.R.Rows.storage l.fn.rows l.rows;
+  reads : OnlyReads g.R.Rows.seen l.fn.rows l.rows;
   faults : g.R.Rows.faults l.rows ≡ g.R.Rows.faults l.fn.rows;
   len : vec_len l.found ≡ length l.found.items;
   few : length l.found.items ≤ 128;
-  old : g.R.Rows.holds l.fn.rows → AreShown (g.R.Rows.cells l.fn.rows) → AreOldFrom (g.R.Rows.cells l.fn.rows) l.cell l.floor l.below l.found.items;
+  old : g.R.Rows.seen.holds l.fn.rows → AreShown (g.R.Rows.seen.cells l.fn.rows) → AreOldFrom (g.R.Rows.seen.cells l.fn.rows) l.cell l.floor l.below l.found.items;
 }
 
 abbrev pub decreases-loop-rows : goal.decreases-loop-rows

@@ -17,20 +17,20 @@ loop-near-init g c =
       len = c.in_ok-found.ensures.len ∙ sym none;
       few = omega (arith, none);
       low = omega arith;
-      all = λ held shown one near. subst (AreAll (IsUnnamed (g.R.Rows.cells c.args.rows.now) c.args.cell.now c.args.floor) c.args.floor) (sym c.in_ok-found.ensures.items)
-          (data_begin (g.R.Rows.cells c.args.rows.now) c.args.cell.now c.args.floor);
+      all = λ held shown one near. subst (AreAll (IsUnnamed (g.R.Rows.seen.cells c.args.rows.now) c.args.cell.now c.args.floor) c.args.floor) (sym c.in_ok-found.ensures.items)
+          (data_begin (g.R.Rows.seen.cells c.args.rows.now) c.args.cell.now c.args.floor);
     }
 
 pub returns-in_default-clause-found : goal.returns-in_default-clause-found
 returns-in_default-clause-found g c = λ held shown one near.
     let before = c.loop-near.invariant in
-    data_all (g.R.Rows.cells c.args.rows.now) c.args.cell.now c.args.floor c.loop-near.below c.loop-near.found.items one (before.all held shown one near) before.few
+    data_all (g.R.Rows.seen.cells c.args.rows.now) c.args.cell.now c.args.floor c.loop-near.below c.loop-near.found.items one (before.all held shown one near) before.few
     (latest_none before.reads held c.args.cell.now Data c.loop-near.below c.in_ok-next.next c.in_default.is c.in_ok-next.ensures.found)
 
 -- the data is named
 pub loop-near-preserved-then-is_among : goal.loop-near-preserved-then-is_among
 loop-near-preserved-then-is_among g c =
-    let cells = g.R.Rows.cells c.args.rows.now in
+    let cells = g.R.Rows.seen.cells c.args.rows.now in
     let x = c.args.cell.now in
     let t : ℕ = c.in-Some.start in
     let before = c.loop-near.invariant in
@@ -50,7 +50,7 @@ loop-near-preserved-then-is_among g c =
 -- no record names it
 pub loop-near-preserved : goal.loop-near-preserved
 loop-near-preserved g c =
-    let cells = g.R.Rows.cells c.args.rows.now in
+    let cells = g.R.Rows.seen.cells c.args.rows.now in
     let x = c.args.cell.now in
     let t : ℕ = c.in-Some.start in
     let before = c.loop-near.invariant in
@@ -82,4 +82,4 @@ returns-clause-found g c = λ held shown one near.
     let counted = c.len.ensures in
     let few = before.few in
     let len = before.len in
-    data_full (g.R.Rows.cells c.args.rows.now) c.args.cell.now c.args.floor c.loop-near.below c.loop-near.found.items one (before.all held shown one near) (omega (arith, full, counted, few, len))
+    data_full (g.R.Rows.seen.cells c.args.rows.now) c.args.cell.now c.args.floor c.loop-near.below c.loop-near.found.items one (before.all held shown one near) (omega (arith, full, counted, few, len))

@@ -7,13 +7,13 @@ use Rattle.version_collector.proofs.versions.unnamed_data.Given as goal
 -- what was found is all such data from below on
 abbrev pub invariant-loop-near : goal.invariant-loop-near
 invariant-loop-near g l = record {
-  reads : OnlyReads g.R.Rows.holds g.R.Rows.cells g.R.Rows.overfills g.R.Rows.storage l.fn.rows l.rows;
+  reads : OnlyReads g.R.Rows.seen l.fn.rows l.rows;
   faults : g.R.Rows.faults l.rows ≡ g.R.Rows.faults l.fn.rows;
   len : vec_len l.found ≡ length l.found.items;
   few : length l.found.items ≤ 256;
   low : l.below ≤ l.floor;
-  all : g.R.Rows.holds l.fn.rows → AreShown (g.R.Rows.cells l.fn.rows) → HasOneRecord (g.R.Rows.cells l.fn.rows) l.cell l.floor
-      → AreNear (g.R.Rows.cells l.fn.rows) l.cell l.floor l.near → AreAll (IsUnnamed (g.R.Rows.cells l.fn.rows) l.cell l.floor) l.below l.found.items;
+  all : g.R.Rows.seen.holds l.fn.rows → AreShown (g.R.Rows.seen.cells l.fn.rows) → HasOneRecord (g.R.Rows.seen.cells l.fn.rows) l.cell l.floor
+      → AreNear (g.R.Rows.seen.cells l.fn.rows) l.cell l.floor l.near → AreAll (IsUnnamed (g.R.Rows.seen.cells l.fn.rows) l.cell l.floor) l.below l.found.items;
 }
 
 abbrev pub decreases-loop-near : goal.decreases-loop-near

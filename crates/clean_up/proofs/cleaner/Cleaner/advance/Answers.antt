@@ -6,23 +6,23 @@ use Rattle.clean_up.proofs.cleaner.Cleaner.advance.Goals as goal
 
 pub returns-in_ok-self-in-Open-clause-step : goal.returns-in_ok-self-in-Open-clause-step
 returns-in_ok-self-in-Open-clause-step g c = λ held.
-    decides_so g.R.Rows.holds g.R.Rows.cells g.R.Rows.overfills g.R.Rows.storage c.args.rows.now c.decide.new.rows c.args.self.now held c.in_ok-self-in-Open.field-0 c.in-Open.is c.in_ok-self-in-Open.ensures.decided
+    decides_so g.R.Rows.seen c.args.rows.now c.decide.new.rows c.args.self.now held c.in_ok-self-in-Open.field-0 c.in-Open.is c.in_ok-self-in-Open.ensures.decided
 
 pub returns-then-branch-clause-step : goal.returns-then-branch-clause-step
 returns-then-branch-clause-step g c = λ held.
-    rw c.stamp.ensures.stamp (forward_so g.R.Rows.holds g.R.Rows.cells g.R.Rows.overfills g.R.Rows.storage c.args.rows.now c.clear.new.rows c.args.self.now held c.in-Forward.commit c.in-Forward.is
+    rw c.stamp.ensures.stamp (forward_so g.R.Rows.seen c.args.rows.now c.clear.new.rows c.args.self.now held c.in-Forward.commit c.in-Forward.is
     (OnTrue_at c.if-branch.true c.in_ok-clear-in-Forward.ensures.made))
 
 pub returns-else-branch-clause-step : goal.returns-else-branch-clause-step
 returns-else-branch-clause-step g c = λ held.
-    gone_so g.R.Rows.holds g.R.Rows.cells g.R.Rows.overfills g.R.Rows.storage c.args.rows.now c.clear.new.rows c.args.self.now held (Forward c.in-Forward.commit) c.in-Forward.is refl
+    gone_so g.R.Rows.seen c.args.rows.now c.clear.new.rows c.args.self.now held (Forward c.in-Forward.commit) c.in-Forward.is refl
     (OnFalse_at c.if-branch.false (c.in_ok-clear-in-Forward.ensures.gone held)) (OnFalse_at c.if-branch.false c.in_ok-clear-in-Forward.ensures.left)
 
 pub returns-then-branch-2-clause-step : goal.returns-then-branch-2-clause-step
 returns-then-branch-2-clause-step g c = λ held.
-    back_so g.R.Rows.holds g.R.Rows.cells g.R.Rows.overfills g.R.Rows.storage c.args.rows.now c.clear-in-Back.new.rows c.args.self.now held c.in-Back.is (OnTrue_at c.if-branch-2.true c.in_ok-clear-in-Back.ensures.made)
+    back_so g.R.Rows.seen c.args.rows.now c.clear-in-Back.new.rows c.args.self.now held c.in-Back.is (OnTrue_at c.if-branch-2.true c.in_ok-clear-in-Back.ensures.made)
 
 pub returns-else-branch-2-clause-step : goal.returns-else-branch-2-clause-step
 returns-else-branch-2-clause-step g c = λ held.
-    gone_so g.R.Rows.holds g.R.Rows.cells g.R.Rows.overfills g.R.Rows.storage c.args.rows.now c.clear-in-Back.new.rows c.args.self.now held Back c.in-Back.is refl
+    gone_so g.R.Rows.seen c.args.rows.now c.clear-in-Back.new.rows c.args.self.now held Back c.in-Back.is refl
     (OnFalse_at c.if-branch-2.false (c.in_ok-clear-in-Back.ensures.gone held)) (OnFalse_at c.if-branch-2.false c.in_ok-clear-in-Back.ensures.left)

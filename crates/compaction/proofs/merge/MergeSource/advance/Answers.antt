@@ -2,7 +2,7 @@ use Rattle.std.proofs.Common.{◌≡◌, ◌∙◌, ap, sym, ◌++◌, map, take
 use Rattle.std.specs.Prelude.{nat_lt}
 use Rattle.compaction.specs.Least.{IsLeast}
 use Rattle.compaction.proofs.Falls.{merge_falls, back_whole, least_within}
-use Rattle.compaction.specs.MergeSteps.{merge_takes, merge_holds}
+use Rattle.compaction.specs.MergeLaw.{merge_takes, merge_holds}
 use Rattle.compaction.proofs.merge.MergeSource.advance.Goals as goal
 use Rattle.compaction.proofs.merge.MergeSource.advance.Goals.{After-len}
 use Rattle.compaction.proofs.merge.MergeSource.advance.Given.{Over}

@@ -1,7 +1,7 @@
 use Rattle.std.proofs.Common.{Some, option_map, sym, ap, ◌∙◌}
 use Rattle.std.specs.Borrow.{Bor}
 use Rattle.cell_key.specs.Entries.{lent_entry}
-use Rattle.memtable.specs.declared.slots.Slot.{Slot}
+use Rattle.memtable.specs.declared.entries.Slot.{Slot}
 use Rattle.memtable.specs.Slots.{slot_entry}
 use Rattle.memtable.proofs.cursor.Cursor.current.Goals as goal
 

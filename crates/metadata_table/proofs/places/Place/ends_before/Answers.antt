@@ -1,6 +1,6 @@
 use Rattle.std.proofs.Common.{sym, ap, ◌∙◌}
 use Rattle.std.specs.Ordering.{is_lt}
-use Rattle.metadata_table.specs.Positions.{ends_before}
+use Rattle.metadata_table.specs.Search.{ends_before}
 use Rattle.metadata_table.proofs.places.Place.ends_before.Goals as goal
 
 pub returns-in-Some : goal.returns-in-Some

@@ -8,5 +8,5 @@ pub returns-clause-holder : goal.returns-clause-holder
 returns-clause-holder c =
     let xs = c.self.inside.places.items in
     let row = c.args.row.now in
-    let at = rw c.deref.ensures.value at c.of_row-position.ensures.holder in
-    subst (λ (qs : List PlaceView). IsHolder row qs (view_of c.index.result.now)) c.self.view_is (holder_at row xs c.of_row-position.result c.index.result.now at c.index.ensures)
+    let at = rw c.deref.ensures.value at c.by_row-position.ensures.holder in
+    subst (λ (qs : List PlaceView). IsHolder row qs (view_of c.index.result.now)) c.self.view_is (holder_at row xs c.by_row-position.result c.index.result.now at c.index.ensures)

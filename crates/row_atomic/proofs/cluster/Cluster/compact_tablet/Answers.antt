@@ -2,10 +2,10 @@
 use Rattle.std.proofs.Common.{None, ◌≡◌, rules, refl, ap, ◌∙◌, List, map, sym, subst}
 use Rattle.std.proofs.lemmas.Option.{slice_get_within}
 use Rattle.std.specs.Vec.{vec_capacity}
-use Rattle.cell_key.specs.declared.refusals.Refusal.TheVariants.{BadCount, Damaged, Exhausted, FileTooLarge, NoMemory, TooManyFiles}
+use Rattle.cell_key.specs.declared.refusals.Refusal.TheVariants.{BadCount, NoMemory}
 use Rattle.metadata_table.specs.Places.{PlaceView}
 use Rattle.metadata_table.specs.Table.{with_files}
-use Rattle.tablet.specs.Views.{names_of}
+use Rattle.tablet.specs.Views.{names_of, range_of}
 use Rattle.row_atomic.specs.Clusters.{spot_of}
 use Rattle.row_atomic.specs.PlaceCaches.{AreHeld}
 use Rattle.row_atomic.specs.Changes.{FitsLimit, IsCleaned, IsFullTablet, IsMade, IsTooLarge, MeetsBadCount, MeetsFull, WritesNone}
@@ -16,7 +16,7 @@ use Rattle.row_atomic.proofs.FileNames.{compacted_files, no_less, placed_names}
 use Rattle.row_atomic.proofs.ChangedTablets.{numbered_at, has_room, in_order, is_set, matched_unchanged, matched_listed, numbered_new, numbered_old, parts_stay, remade, same_spots, stays}
 use Rattle.tablet.specs.declared.compactions.Compaction.{Compaction}
 use Rattle.row_atomic.specs.declared.commands.Outcome.TheVariants.{Done}
-use Rattle.row_atomic.proofs.Outcomes.{compacted, err_of, full_meets, known_refusal, refused_done, tells_done, tells_refused, uncompacted, unstarted}
+use Rattle.row_atomic.proofs.Outcomes.{compacted, full_meets, known_refusal, refused_done, tells_done, tells_refused, uncompacted, unstarted}
 use Rattle.row_atomic.proofs.PassedRefusals.{none_answered}
 use Rattle.row_atomic.proofs.CompactionRoom.{numbered_not, numbered_that}
 use Rattle.row_atomic.proofs.PlaceCaches.{held_listed}
@@ -26,7 +26,7 @@ pub invariant_of-self : goal.invariant_of-self
 invariant_of-self g c =
     let at = rw (← c.self.view_is) at c.position-index.ensures in
     let there = found_there c.self.inside.tablets.items c.position-index.result at.tablet c.index_mut.result.now at.there c.index_mut.ensures.value in
-    (matched_unchanged c.self.inside.file_limit (g.F.Files.contents c.self.inside.files) (g.F.Files.contents c.compact.new.files) c.self.inside.next_name c.compact.new.next_name c.self.inside.table c.self.inside.tablets.items c.position-index.result c.index_mut.result.now c.compact.new.tablet there c.compact.ensures.name c.compact.ensures.limit c.in_err-compact.ensures.err c.self.invariant.0, c.self.invariant.1)
+    (matched_unchanged c.self.inside.file_limit (g.F.Files.contents c.self.inside.files) (g.F.Files.contents c.compact.new.files) c.self.inside.next_name c.compact.new.next_name c.self.inside.table c.self.inside.tablets.items c.position-index.result c.index_mut.result.now c.compact.new.tablet there c.compact.ensures.name c.compact.ensures.named_to c.in_err-compact.ensures.err c.self.invariant.0, c.self.invariant.1)
 
 pub index-requires-2 : goal.index-requires-2
 index-requires-2 g c =
@@ -46,10 +46,10 @@ invariant_of-self-2 g c =
     let at = rw (← c.self.view_is) at c.position-index.ensures in
     let there = found_there c.self.inside.tablets.items c.position-index.result at.tablet c.index_mut.result.now at.there c.index_mut.ensures.value in
     let listed = c.list_files.ensures ∙ ap (λ t. with_files c.args.tablet (names_of t) c.self.inside.table) (is_set c.self.inside.tablets.items c.position-index.result c.index_mut.result.now c.compact.new.tablet c.index-2.result.now there c.index-2.ensures) in (
-      matched_listed c.self.inside.file_limit (g.F.Files.contents c.self.inside.files) (g.F.Files.contents c.compact.new.files) c.self.inside.next_name c.compact.new.next_name c.self.inside.table c.list_files.new.table c.self.inside.tablets.items c.args.tablet c.position-index.result c.index_mut.result.now c.compact.new.tablet at.number there c.compact.ensures.name c.compact.ensures.limit c.compact.ensures.range listed
-          (compacted_files c.args.compaction c.index_mut.result.now c.compact.new.tablet c.self.inside.next_name c.compact.new.next_name c.in_ok-compact.ensures.made c.in_ok-compact.ensures.room
+      matched_listed c.self.inside.file_limit (g.F.Files.contents c.self.inside.files) (g.F.Files.contents c.compact.new.files) c.self.inside.next_name c.compact.new.next_name c.self.inside.table c.list_files.new.table c.self.inside.tablets.items c.args.tablet c.position-index.result c.index_mut.result.now c.compact.new.tablet at.number there c.compact.ensures.name c.compact.ensures.named_to c.compact.ensures.range listed
+          (compacted_files c.args.compaction c.index_mut.result.now c.compact.new.tablet c.self.inside.next_name c.compact.new.next_name c.in_ok-compact.ensures.done.made c.in_ok-compact.ensures.done.room
           (λ bad. (rw (← c.self.view_is) at c.requires.counted) (numbered_old c.self.inside.tablets.items c.position-index.result c.index_mut.result.now c.compact.new.tablet there (MeetsBadCount c.args.compaction) c.args.tablet at.number bad))
-          c.in_ok-compact.ensures.used c.self.invariant.0.named_from (no_less (g.F.Files.contents c.self.inside.files) (g.F.Files.contents c.compact.new.files) c.self.inside.next_name c.compact.new.next_name c.compact.ensures.name)
+          c.in_ok-compact.ensures.done.used c.self.invariant.0.named_from (no_less (g.F.Files.contents c.self.inside.files) (g.F.Files.contents c.compact.new.files) c.self.inside.next_name c.compact.new.next_name c.compact.ensures.name)
           (placed_names c.self.inside.next_name c.self.inside.tablets.items c.args.tablet c.index_mut.result.now (numbered_at c.self.inside.tablets.items c.args.tablet c.position-index.result c.index_mut.result.now at.number there) None c.self.inside.table c.self.invariant.0.placed c.self.invariant.0.files (rw (← c.self.view_is) at c.requires.known)))
           c.self.invariant.0,
       subst (λ (ps : List PlaceView). AreHeld ps c.self.inside.place_cache.numbers.entries) (sym listed) (held_listed c.self.inside.table c.args.tablet (names_of c.compact.new.tablet) c.self.inside.place_cache.numbers.entries c.self.invariant.1),
@@ -60,6 +60,18 @@ returns-clause-listed g c =
     let at = rw (← c.self.view_is) at c.position-index.ensures in
     let there = found_there c.self.inside.tablets.items c.position-index.result at.tablet c.index_mut.result.now at.there c.index_mut.ensures.value in
     rw (← c.self.view_is) (numbered_new c.self.inside.tablets.items c.position-index.result c.index_mut.result.now c.compact.new.tablet there _ c.args.tablet at.number (c.list_files.ensures ∙ ap (λ t. with_files c.args.tablet (names_of t) c.self.inside.table) (is_set c.self.inside.tablets.items c.position-index.result c.index_mut.result.now c.compact.new.tablet c.index-2.result.now there c.index-2.ensures)))
+
+pub returns-clause-ranges : goal.returns-clause-ranges
+returns-clause-ranges g c =
+    let at = rw (← c.self.view_is) at c.position-index.ensures in
+    let there = found_there c.self.inside.tablets.items c.position-index.result at.tablet c.index_mut.result.now at.there c.index_mut.ensures.value in
+    rw (← c.self.view_is) (remade c.self.inside.tablets.items c.position-index.result c.index_mut.result.now c.compact.new.tablet there (λ t u. range_of u ≡ range_of t) c.args.tablet at.number c.compact.ensures.range)
+
+pub returns-in_err-names-clause-ranges : goal.returns-in_err-names-clause-ranges
+returns-in_err-names-clause-ranges g c = none_answered c.from_residual.result c.in_err-names.field-0.0 _ c.from_residual.ensures.1
+
+pub returns-in_err-compact-clause-ranges : goal.returns-in_err-compact-clause-ranges
+returns-in_err-compact-clause-ranges g c = none_answered c.from_residual-in_err-compact.result c.in_err-compact.field-0.0 _ c.from_residual-in_err-compact.ensures.1
 
 pub returns-in_err-names-clause-listed : goal.returns-in_err-names-clause-listed
 returns-in_err-names-clause-listed g c = none_answered c.from_residual.result c.in_err-names.field-0.0 _ c.from_residual.ensures.1
@@ -80,24 +92,24 @@ returns-in_err-compact-clause-outcome g c =
     let refused = c.in_err-compact.ensures in
     let known = rw (← c.self.view_is) at c.requires.known in
     let counted = rw (← c.self.view_is) at c.requires.counted in
-    let within : ¬ (e ≡ BadCount) = λ is. counted (numbered_old c.self.inside.tablets.items c.position-index.result c.index_mut.result.now c.compact.new.tablet there (MeetsBadCount c.args.compaction) c.args.tablet at.number (refused.count (err_of e BadCount is))) in
+    let within : ¬ (e ≡ BadCount) = λ is. counted (numbered_old c.self.inside.tablets.items c.position-index.result c.index_mut.result.now c.compact.new.tablet there (MeetsBadCount c.args.compaction) c.args.tablet at.number (refused.refused.count is)) in
     rw (← c.self.view_is) (refused_done g.F.Files.contents g.F.Files.faults _ c.from_residual-in_err-compact.result e e _ _ c.from_residual-in_err-compact.ensures.1 refl
     (uncompacted g.F.Files.contents g.F.Files.faults c.args.tablet _ _ c.args.compaction e
     (λ order. stays c.self.inside.tablets.items c.position-index.result c.index_mut.result.now c.compact.new.tablet there c.others_stay.ensures (g.F.Files.contents c.self.inside.files) (g.F.Files.contents c.compact.new.files) c.self.inside.next_name c.compact.new.next_name c.compact.ensures.name c.compact.ensures.keeps order)
-    (λ order is. undamaged (g.F.Files.contents c.self.inside.files) c.self.inside.next_name c.self.inside.tablets.items order c.position-index.result c.index_mut.result.now _ there refused.damaged (err_of e Damaged is))
+    (λ order is. undamaged (g.F.Files.contents c.self.inside.files) c.self.inside.next_name c.self.inside.tablets.items order c.position-index.result c.index_mut.result.now _ there refused.refused.damaged is)
     refused.refusal
     (record { places = refl; tablets = parts_stay c.self.inside.tablets.items c.position-index.result c.index_mut.result.now c.compact.new.tablet there refused.err })
     (record { name = c.compact.ensures.name; limit = refl; none = λ none. (c.compact.ensures.empty (numbered_that c.self.inside.tablets.items c.position-index.result c.index_mut.result.now there (WritesNone c.args.compaction) c.args.tablet at.number none)).1; spots = refl })
     (record {
       unknown = ((λ is. absurd (known_refusal c.args.compaction e refused.refusal is)), λ not. absurd (not known));
       count = ((λ is. absurd (within is)), λ bad. absurd (counted bad.1));
-      full = full_meets c.args.compaction e refused.refusal (λ is. numbered_old c.self.inside.tablets.items c.position-index.result c.index_mut.result.now c.compact.new.tablet there (IsFullTablet) c.args.tablet at.number (refused.full (err_of e TooManyFiles is)));
-      unfilled = λ of. numbered_not c.self.inside.tablets.items c.position-index.result c.index_mut.result.now there (MeetsFull c.args.compaction) c.args.tablet at.number (refused.unfilled of);
-      exhausted = λ is. (refused.exhausted (err_of e Exhausted is), numbered_not c.self.inside.tablets.items c.position-index.result c.index_mut.result.now there (WritesNone c.args.compaction) c.args.tablet at.number (refused.needed (err_of e Exhausted is)));
-      large = λ is. numbered_old c.self.inside.tablets.items c.position-index.result c.index_mut.result.now c.compact.new.tablet there (IsTooLarge c.self.inside.file_limit (g.F.Files.contents c.self.inside.files) c.args.compaction) c.args.tablet at.number (refused.large (err_of e FileTooLarge is));
+      full = full_meets c.args.compaction e refused.refusal (λ is. numbered_old c.self.inside.tablets.items c.position-index.result c.index_mut.result.now c.compact.new.tablet there (IsFullTablet) c.args.tablet at.number (refused.refused.full is));
+      unfilled = λ of. numbered_not c.self.inside.tablets.items c.position-index.result c.index_mut.result.now there (MeetsFull c.args.compaction) c.args.tablet at.number (refused.refused.unfilled of);
+      exhausted = λ is. ((refused.refused.exhausted is).0, numbered_not c.self.inside.tablets.items c.position-index.result c.index_mut.result.now there (WritesNone c.args.compaction) c.args.tablet at.number ((refused.refused.exhausted is).1));
+      large = λ is. numbered_old c.self.inside.tablets.items c.position-index.result c.index_mut.result.now c.compact.new.tablet there (IsTooLarge c.self.inside.file_limit (g.F.Files.contents c.self.inside.files) c.args.compaction) c.args.tablet at.number (refused.refused.large is);
     })
     (known_refusal c.args.compaction e refused.refusal) within
-    (λ is. let same = refused.undone (err_of e TooManyFiles is) in record { as_before = record { places = refl; tablets = parts_stay c.self.inside.tablets.items c.position-index.result c.index_mut.result.now c.compact.new.tablet there refused.err }; name = same.0; files = same.1 })
+    (λ is. let same = refused.refused.undone is in record { as_before = record { places = refl; tablets = parts_stay c.self.inside.tablets.items c.position-index.result c.index_mut.result.now c.compact.new.tablet there refused.err }; name = same.0; files = same.1 })
     (tells_refused g.F.Files.faults e _ _ refused.reason)))
 
 pub returns-clause-outcome : goal.returns-clause-outcome
@@ -106,7 +118,7 @@ returns-clause-outcome g c =
     let there = found_there c.self.inside.tablets.items c.position-index.result at.tablet c.index_mut.result.now at.there c.index_mut.ensures.value in
     rw (← c.self.view_is) (compacted g.F.Files.contents g.F.Files.faults c.args.tablet _ _ c.args.compaction
     (λ order. stays c.self.inside.tablets.items c.position-index.result c.index_mut.result.now c.compact.new.tablet there c.others_stay.ensures (g.F.Files.contents c.self.inside.files) (g.F.Files.contents c.compact.new.files) c.self.inside.next_name c.compact.new.next_name c.compact.ensures.name c.compact.ensures.keeps order)
-    (record { made = remade c.self.inside.tablets.items c.position-index.result c.index_mut.result.now c.compact.new.tablet there (IsMade c.args.compaction c.self.inside.next_name) c.args.tablet at.number c.in_ok-compact.ensures.made; lists = remade c.self.inside.tablets.items c.position-index.result c.index_mut.result.now c.compact.new.tablet there (Compacts c.args.compaction (g.F.Files.contents c.self.inside.files) c.self.inside.next_name (g.F.Files.contents c.compact.new.files)) c.args.tablet at.number c.in_ok-compact.ensures.lists; cleaned = λ order. numbered_new c.self.inside.tablets.items c.position-index.result c.index_mut.result.now c.compact.new.tablet there (IsCleaned c.args.compaction (g.F.Files.contents c.compact.new.files)) c.args.tablet at.number (in_order _ (g.F.Files.contents c.self.inside.files) c.self.inside.next_name c.self.inside.tablets.items c.position-index.result c.index_mut.result.now there order c.in_ok-compact.ensures.cleaned) })
+    (record { made = remade c.self.inside.tablets.items c.position-index.result c.index_mut.result.now c.compact.new.tablet there (IsMade c.args.compaction c.self.inside.next_name) c.args.tablet at.number c.in_ok-compact.ensures.done.made; lists = remade c.self.inside.tablets.items c.position-index.result c.index_mut.result.now c.compact.new.tablet there (Compacts c.args.compaction (g.F.Files.contents c.self.inside.files) c.self.inside.next_name (g.F.Files.contents c.compact.new.files)) c.args.tablet at.number c.in_ok-compact.ensures.done.lists; cleaned = λ order. numbered_new c.self.inside.tablets.items c.position-index.result c.index_mut.result.now c.compact.new.tablet there (IsCleaned c.args.compaction (g.F.Files.contents c.compact.new.files)) c.args.tablet at.number (in_order _ (g.F.Files.contents c.self.inside.files) c.self.inside.next_name c.self.inside.tablets.items c.position-index.result c.index_mut.result.now there order c.in_ok-compact.ensures.done.cleaned) })
     (record {
       name = c.compact.ensures.name;
       limit = refl;
@@ -116,12 +128,12 @@ returns-clause-outcome g c =
     (record {
       known = rw (← c.self.view_is) at c.requires.known;
       counted = rw (← c.self.view_is) at c.requires.counted;
-      room = numbered_not c.self.inside.tablets.items c.position-index.result c.index_mut.result.now there (MeetsFull c.args.compaction) c.args.tablet at.number c.in_ok-compact.ensures.room;
-      named = λ most. numbered_old c.self.inside.tablets.items c.position-index.result c.index_mut.result.now c.compact.new.tablet there (WritesNone c.args.compaction) c.args.tablet at.number (c.in_ok-compact.ensures.left most);
-      fits = numbered_old c.self.inside.tablets.items c.position-index.result c.index_mut.result.now c.compact.new.tablet there (FitsLimit c.self.inside.file_limit (g.F.Files.contents c.self.inside.files) c.args.compaction) c.args.tablet at.number c.in_ok-compact.ensures.fits;
+      room = numbered_not c.self.inside.tablets.items c.position-index.result c.index_mut.result.now there (MeetsFull c.args.compaction) c.args.tablet at.number c.in_ok-compact.ensures.done.room;
+      named = λ most. numbered_old c.self.inside.tablets.items c.position-index.result c.index_mut.result.now c.compact.new.tablet there (WritesNone c.args.compaction) c.args.tablet at.number (c.in_ok-compact.ensures.done.named most);
+      fits = numbered_old c.self.inside.tablets.items c.position-index.result c.index_mut.result.now c.compact.new.tablet there (FitsLimit c.self.inside.file_limit (g.F.Files.contents c.self.inside.files) c.args.compaction) c.args.tablet at.number c.in_ok-compact.ensures.done.fits;
     })
     (λ minor. flush_lists c.self.inside.tablets.items c.self.inside.table c.self.invariant.0.placed c.list_files.new.table c.args.tablet c.self.inside.next_name c.index_mut.result.now c.compact.new.tablet
     (numbered_at c.self.inside.tablets.items c.args.tablet c.position-index.result c.index_mut.result.now at.number there)
-    (subst (λ (kind : Compaction). IsMade kind c.self.inside.next_name c.index_mut.result.now c.compact.new.tablet) minor c.in_ok-compact.ensures.made).names
+    (subst (λ (kind : Compaction). IsMade kind c.self.inside.next_name c.index_mut.result.now c.compact.new.tablet) minor c.in_ok-compact.ensures.done.made).names
     (c.list_files.ensures ∙ ap (λ t. with_files c.args.tablet (names_of t) c.self.inside.table) (is_set c.self.inside.tablets.items c.position-index.result c.index_mut.result.now c.compact.new.tablet c.index-2.result.now there c.index-2.ensures)))
     (tells_done g.F.Files.faults _ Done _ _ (λ is. cc) c.in_ok-compact.ensures.reason))

@@ -1,15 +1,18 @@
 -- The minor compaction comes first, and then the files are opened anew.
 use Rattle.std.proofs.Common.{inr, map, refl, sym, ap, ◌∙◌, subst}
 use Rattle.std.proofs.lemmas.Result.{on_err_weaker}
+use Rattle.cell_key.specs.declared.refusals.Refusal.TheVariants.{NoMemory}
 use Rattle.metadata_table.specs.Table.{moved}
+use Rattle.tablet.specs.declared.compactions.Compaction.TheVariants.{Minor}
 use Rattle.tablet.specs.Views.{names_of}
 use Rattle.row_atomic.specs.Changes.{IsFlushed, Remakes}
 use Rattle.row_atomic.specs.Clusters.{spot_of}
 use Rattle.row_atomic.proofs.ChangedTablets.{on_ok}
+use Rattle.row_atomic.proofs.ListRoom.{open_flushed}
 use Rattle.row_atomic.proofs.LeftTablets.{flushed_opened}
 use Rattle.row_atomic.proofs.ListedFiles.{move_lists}
 use Rattle.row_atomic.proofs.MovedTablets.{known_after}
-use Rattle.row_atomic.proofs.Outcomes.{as_refusal, flush_refused, put_after, refused_done, stayed, unmoved}
+use Rattle.row_atomic.proofs.Outcomes.{as_refusal, flush_refused, put_after, refused_done, stayed, unmoved, unstarted}
 use Rattle.row_atomic.proofs.PassedRefusals.{not_both}
 use Rattle.row_atomic.proofs.CompactionRoom.{still_used}
 use Rattle.row_atomic.proofs.cluster.Cluster.move_to.Goals as goal
@@ -19,6 +22,23 @@ compact_tablet-requires-clause-known g c = c.in_ok-is_on.ensures.known
 
 pub compact_tablet-requires-clause-counted : goal.compact_tablet-requires-clause-counted
 compact_tablet-requires-clause-counted g c = λ bad. absurd bad.such
+
+pub room_for_move-requires : goal.room_for_move-requires
+room_for_move-requires g c = record { known = c.in_ok-is_on.ensures.known }
+
+pub put-requires-clause-room : goal.put-requires-clause-room
+put-requires-clause-room g c =
+    open_flushed c.in_ok-room.room c.args.self.now.next_name c.args.tablet c.args.self.now.tablets c.compact_tablet.new.self.tablets c.in_ok-room.ensures.room c.in_ok-compact_tablet.ensures.outcome.upholds.made c.in_ok-compact_tablet.ensures.ranges
+
+pub returns-in_err-room-clause-outcome : goal.returns-in_err-room-clause-outcome
+returns-in_err-room-clause-outcome g c =
+    let old = c.args.self.now in
+    refused_done g.F.Files.contents g.F.Files.faults _ c.from_residual-in_err-room.result c.in_err-room.field-0.0 NoMemory _ _ c.from_residual-in_err-room.ensures.1 c.in_err-room.ensures.refusal
+    (flush_refused g.F.Files.contents g.F.Files.faults c.args.tablet c.args.server old old c.in_ok-is_on.ensures.known c.in_ok-is_on.ensures.below
+    (λ on. not_both _ (c.in_ok-is_on.ensures.on.1 on) c.if-branch.false) NoMemory (unstarted g.F.Files.contents g.F.Files.faults c.args.tablet old Minor c.in_ok-is_on.ensures.known (λ bad. absurd bad.such)))
+
+pub returns-in_err-room-clause-table : goal.returns-in_err-room-clause-table
+returns-in_err-room-clause-table g c = c.is_on.ensures.table
 
 pub put-requires-clause-known : goal.put-requires-clause-known
 put-requires-clause-known g c = known_after c.args.tablet c.args.self.now.places c.compact_tablet.new.self.places c.compact_tablet.new.self.tablets c.in_ok-compact_tablet.ensures.listed c.in_ok-is_on.ensures.known

@@ -12,7 +12,7 @@ invariant_of-result g c =
     let first = c.in-Ok-first_tablet.ensures.tablet in (
       subst (λ (ts : List Tablet). IsMatched c.args.file_limit 1 c.in-Ok-first_tablet.table ts) (sym first.alone)
           (subst (λ (ps : List PlaceView). IsMatched c.args.file_limit 1 ps (first.tablet ∷ [])) (sym c.in-Ok-first_tablet.ensures.table)
-          (new_matched first.tablet first.memory first.files c.args.file_limit c.requires.least c.requires.most first.range)),
+          (new_matched first.tablet first.memory first.files c.args.file_limit c.requires.limit first.range)),
       none_held c.in-Ok-first_tablet.table c.in-Ok.place_cache.numbers.entries c.in-Ok.ensures.none,
     )
 

@@ -4,7 +4,7 @@ use Rattle.cell_key.specs.declared.refusals.Refusal.TheVariants.{Damaged}
 use Rattle.file_store.specs.Store.{Contents}
 use Rattle.metadata_table.specs.Roots.{file_names, root_of}
 use Rattle.row_atomic.specs.Roots.{AreMeasured}
-use Rattle.row_atomic.specs.RootsOpened.{LacksFile}
+use Rattle.row_atomic.specs.Open.{LacksFile}
 use Rattle.row_atomic.proofs.OpenedRoots.{lacks_told, not_damaged, opened_holds, opened_kept, opened_store, opened_whole}
 use Rattle.row_atomic.proofs.Outcomes.{err_of}
 use Rattle.row_atomic.proofs.cluster.Cluster.open.Goals as goal

@@ -1,7 +1,7 @@
 -- The tablet shows what it showed.
 use Rattle.cell_key.specs.declared.refusals.Refusal.{Refusal}
 use Rattle.cell_key.specs.declared.refusals.Refusal.TheVariants.{Damaged, UnknownServer, UnknownTablet}
-use Rattle.sorted_file.specs.Sources.{IsReadRefusal}
+use Rattle.sorted_file.specs.Source.{IsReadRefusal}
 use Rattle.row_atomic.proofs.RowAnswers.{found_there, index_below, matched_set, same_cells_in, still_in_order, undamaged}
 use Rattle.row_atomic.specs.Changes.{IsReopened}
 use Rattle.row_atomic.proofs.ChangedTablets.{if_err, remade}
@@ -11,6 +11,8 @@ use Rattle.row_atomic.proofs.MovedTablets.{matched_moved, opened_keeps}
 use Rattle.row_atomic.proofs.PlaceCaches.{none_held}
 use Rattle.row_atomic.proofs.PassedRefusals.{below_only, none_answered, not_refused, passed, reason_kept, reason_passed, refused_so}
 use Rattle.std.proofs.Common.{◌≡◌, ◌<◌, ◌⊎◌, inl, inr, ℕ, Result, Ok, Err, IfErr, IsErrOf, IsOk, refl, sym, ap, subst, set}
+use Rattle.row_atomic.specs.ListRoom.{HasOpenRoom}
+use Rattle.row_atomic.proofs.CompactionRoom.{numbered_that}
 use Rattle.row_atomic.proofs.SplitClusters.{emptied_at}
 use Rattle.row_atomic.proofs.cluster.Cluster.put.Goals as goal
 
@@ -120,3 +122,9 @@ index_mut-requires g c = let at = rw (← c.self.view_is) at c.position-index.en
 
 pub unwrap-requires : goal.unwrap-requires
 unwrap-requires g c = let known = rw (← c.self.view_is) at c.requires.known in assigned c.assign.result c.assign.ensures.refusal (λ is. c.assign.ensures.unknown.0 is known) (λ is. below_only _ _ c.requires.below (c.assign.ensures.server.0 is).1)
+
+pub open_again-requires : goal.open_again-requires
+open_again-requires g c =
+    let at = rw (← c.self.view_is) at c.position-index.ensures in
+    let there = found_there c.self.inside.tablets.items c.position-index.result at.tablet c.index.result.now at.there c.index.ensures in
+    record { room = numbered_that c.self.inside.tablets.items c.position-index.result c.index.result.now there (HasOpenRoom c.args.room 0) c.args.tablet at.number (rw (← c.self.view_is) at c.requires.room) }

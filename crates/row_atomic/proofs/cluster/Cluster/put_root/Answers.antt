@@ -3,7 +3,7 @@ use Rattle.std.proofs.Common.{◌≡◌, ◌≤◌, List, Option, ℕ, IfSome, i
 use Rattle.cell_key.specs.declared.refusals.Refusal.TheVariants.{Device}
 use Rattle.file_store.specs.Store.{Contents, KeepsOthers, with_file}
 use Rattle.metadata_table.specs.Roots.{IsRoot, IsRootIn, RootView, file_names}
-use Rattle.metadata_table.specs.declared.root_formats.RootFormat.TheVariants.{Two}
+use Rattle.metadata_table.specs.declared.root.format.RootFormat.TheVariants.{Two}
 use Rattle.row_atomic.specs.Clusters.{cells_in}
 use Rattle.row_atomic.specs.Roots.{AreMeasured, root_name}
 use Rattle.row_atomic.proofs.Checkpoints.{root_keeps}

@@ -16,13 +16,13 @@ loop-command-preserved g c =
     let shorter = ap length first in
     let rest = into_iter_items c.next.new.self in
     record {
-      room = omega (arith, c.loop-command.invariant.room, shorter, c.push_outcome.ensures.len, c.push_outcome.ensures.room);
+      room = omega (arith, c.loop-command.invariant.room, shorter, c.push_reserved.ensures.len, c.push_reserved.ensures.capacity);
       under = (subst (λ (cs : List Command). AllByRecursion IsUnderRow cs) first c.loop-command.invariant.under).1;
       still = λ holds. c.answer-outcome.ensures.still (c.loop-command.invariant.still holds);
       answers =
           answered g.F.Files.contents g.F.Files.faults c.args.self.now c.loop-command.self c.answer-outcome.new.self
-          c.args.commands.items (into_iter_items c.loop-command.command-iterator) rest c.in-Some.command c.loop-command.outcomes.items c.push_outcome.new.outcomes.items c.answer-outcome.result
-          first c.push_outcome.ensures.items c.answer-outcome.ensures c.loop-command.invariant.answers;
+          c.args.commands.items (into_iter_items c.loop-command.command-iterator) rest c.in-Some.command c.loop-command.outcomes.items c.push_reserved.new.self.items c.answer-outcome.result
+          first c.push_reserved.ensures.items c.answer-outcome.ensures c.loop-command.invariant.answers;
     }
 
 pub returns-clause-answers : goal.returns-clause-answers

@@ -1,16 +1,17 @@
 -- The minor compaction comes first, and then the tablet is cut.
 use Rattle.std.proofs.Common.{map, ap, ◌∙◌, refl}
 use Rattle.std.proofs.lemmas.Result.{IfOk-weaker, on_err_weaker}
-use Rattle.cell_key.specs.declared.refusals.Refusal.TheVariants.{BadSplit}
+use Rattle.cell_key.specs.declared.refusals.Refusal.TheVariants.{BadSplit, NoMemory}
 use Rattle.metadata_table.specs.Places.{view_of}
 use Rattle.row_atomic.specs.Changes.{IsEmptied}
 use Rattle.row_atomic.specs.Clusters.{spot_of}
+use Rattle.row_atomic.proofs.ListRoom.{room_flushed}
 use Rattle.row_atomic.proofs.LeftTablets.{cut_listed, flushed_alone, halved_after}
 use Rattle.row_atomic.proofs.ListedFiles.{cut_lists}
-use Rattle.row_atomic.proofs.Outcomes.{cut_after, refused_split, uncut, unflushed}
+use Rattle.row_atomic.proofs.Outcomes.{cut_after, refused_split, uncut, unflushed, unroomed}
 use Rattle.row_atomic.proofs.PassedRefusals.{number_after}
 use Rattle.row_atomic.proofs.CompactionRoom.{holder_that, still_used}
-use Rattle.row_atomic.proofs.SplitClusters.{free_after, holder_flushed, holder_known}
+use Rattle.row_atomic.proofs.SplitClusters.{holder_flushed, holder_known}
 use Rattle.row_atomic.proofs.cluster.Cluster.split.Goals as goal
 
 pub compact_tablet-requires-clause-known : goal.compact_tablet-requires-clause-known
@@ -25,15 +26,30 @@ cut-requires-clause-flushed g c =
     let listed = rw (← c.self.view_is) at c.in_ok-compact_tablet.ensures.listed in
     holder_flushed c.self.inside.next_name c.args.row.now c.self.inside.table c.compact_tablet.new.self.places c.self.inside.tablets.items c.compact_tablet.new.self.tablets (view_of c.locate.result.now) c.locate.ensures.holder listed made
 
-pub cut-requires-clause-free : goal.cut-requires-clause-free
-cut-requires-clause-free g c =
+pub room_for_cut-requires-clause-known : goal.room_for_cut-requires-clause-known
+room_for_cut-requires-clause-known g c = rw (← c.self.view_is) (holder_known c.args.row.now c.self.inside.table (view_of c.locate.result.now) c.locate.ensures.holder)
+
+pub room_for_cut-requires-clause-free : goal.room_for_cut-requires-clause-free
+room_for_cut-requires-clause-free g c = rw (← c.self.view_is) c.in_ok-check_split.ensures.split
+
+pub cut-requires-clause-room : goal.cut-requires-clause-room
+cut-requires-clause-room g c =
+    let made = rw (← c.self.view_is) at c.in_ok-compact_tablet.ensures.outcome.upholds.made in
     let listed = rw (← c.self.view_is) at c.in_ok-compact_tablet.ensures.listed in
-    free_after c.args.row.now c.locate.result.now.tablet c.self.inside.table c.compact_tablet.new.self.places c.compact_tablet.new.self.tablets listed c.in_ok-check_split.ensures.split
+    let room = rw (← c.self.view_is) at c.in_ok-room.ensures in
+    let known = holder_known c.args.row.now c.self.inside.table (view_of c.locate.result.now) c.locate.ensures.holder in
+    room_flushed c.args.row.now c.in_ok-room.room c.self.inside.next_name c.self.inside.table c.compact_tablet.new.self.places c.self.inside.tablets.items c.compact_tablet.new.self.tablets (view_of c.locate.result.now) c.locate.ensures.table c.locate.ensures.holder
+    listed made known room.number room.cut room.names room.tablets
 
 pub returns-in_err-check_split : goal.returns-in_err-check_split
 returns-in_err-check_split g c =
     rw (← c.self.view_is) (refused_split g.F.Files.contents g.F.Files.faults _ c.from_residual.result c.in_err-check_split.field-0.0 BadSplit _ _ c.from_residual.ensures.1 c.in_err-check_split.ensures.split.0
     (uncut g.F.Files.contents g.F.Files.faults c.args.row.now _ c.in_err-check_split.ensures.split.1))
+
+pub returns-in_err-room : goal.returns-in_err-room
+returns-in_err-room g c =
+    rw (← c.self.view_is) (refused_split g.F.Files.contents g.F.Files.faults _ c.from_residual-in_err-room.result c.in_err-room.field-0.0 NoMemory _ _ c.from_residual-in_err-room.ensures.1 c.in_err-room.ensures.refusal
+    (unroomed g.F.Files.contents g.F.Files.faults c.args.row.now _ c.in_ok-check_split.ensures.split))
 
 pub returns-in_err-compact_tablet : goal.returns-in_err-compact_tablet
 returns-in_err-compact_tablet g c =

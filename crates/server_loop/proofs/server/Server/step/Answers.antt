@@ -7,10 +7,10 @@ use Rattle.server_loop.proofs.server.Server.step.Goals as goal
 
 pub returns-in-Ok : goal.returns-in-Ok
 returns-in-Ok g c = let told = c.in-Ok.ensures in record {
-  step = record { step = steps_as _ _ _ _ _ tt refl refl refl (λ st reached shown. step_changes _ _ st _ _ reached (told.made shown.in_order st reached shown.shows.store shown.shows.sessions)) told.step told.below.still told.below.stays (λ st reached held shown. progress_undamaged c.in-Ok.progress); refusal = progress_told IsStepRefusal c.in-Ok.progress; limits = tt };
-  stamps = record { last = progress_goes c.in-Ok.progress _ _ told.draws told.last; restarted = tt; exhausted = λ is. absurd (not_done _ _ tt is) };
-  edits = record { changes = λ st shown. (told.touched shown.in_order st shown.shows.sessions, λ reached. told.made shown.in_order st reached shown.shows.store shown.shows.sessions); room = λ st reached shown. told.room shown.in_order st reached shown.shows.store shown.shows.sessions };
-  sessions = record { told = λ st shown. (λ gone. absurd (ok_not _ _ (told.unknown st shown.shows.sessions gone)), λ empty. absurd (ok_not _ _ (told.empty st shown.shows.sessions empty)), λ about. progress_told IsDrawRefusal c.in-Ok.progress); sessions = tt; cleaners = record { next = refl; each = λ i. refl; count = refl }; collectors = record { next = refl; floor = refl; each = λ i. refl; count = refl }; oracle = (λ st shown. told.aside st shown.shows.sessions, progress_told _ c.in-Ok.progress) };
+  step = record { step = steps_as _ _ _ _ _ tt refl refl refl (λ st reached shown. step_changes _ _ st _ _ reached (told.accepted.made shown.in_order st reached shown.shows.store shown.shows.sessions)) told.step told.below.still told.below.stays (λ st reached held shown. progress_undamaged c.in-Ok.progress); refusal = progress_told IsStepRefusal c.in-Ok.progress; limits = tt };
+  stamps = record { last = progress_goes c.in-Ok.progress _ _ told.accepted.draws told.accepted.last; restarted = tt; exhausted = λ is. absurd (not_done _ _ tt is) };
+  edits = record { changes = λ st shown. (told.touched shown.in_order st shown.shows.sessions, λ reached. told.accepted.made shown.in_order st reached shown.shows.store shown.shows.sessions); room = λ st reached shown. told.accepted.room shown.in_order st reached shown.shows.store shown.shows.sessions };
+  sessions = record { told = λ st shown. (λ gone. absurd (ok_not _ _ ((told.causes st shown.shows.sessions).unknown gone)), λ empty. absurd (ok_not _ _ ((told.causes st shown.shows.sessions).empty empty)), λ about. progress_told IsDrawRefusal c.in-Ok.progress); sessions = tt; cleaners = record { next = refl; each = λ i. refl; count = refl }; collectors = record { next = refl; floor = refl; each = λ i. refl; count = refl }; oracle = (λ st shown. told.aside st shown.shows.sessions, progress_told _ c.in-Ok.progress) };
   tablets = told.below.stays;
   causes = record { device = λ is. absurd (not_done _ _ tt is); told = λ _. record { files = first_stays told.reason (ok_not _ _); marks = second_stays told.reason (ok_not _ _) }; full = λ is. absurd (not_done _ _ tt is) };
   tending = refl;
@@ -18,10 +18,10 @@ returns-in-Ok g c = let told = c.in-Ok.ensures in record {
 
 pub returns-in-Err : goal.returns-in-Err
 returns-in-Err g c = let told = c.in-Err.ensures in record {
-  step = record { step = steps_as _ _ _ _ _ tt refl refl refl (λ st reached shown. unchanged_if _ _ st (told.same.kept shown.in_order)) told.step told.below.still told.below.stays (λ st reached held shown. err_undamaged _ _ refl (told.undamaged held)); refusal = told.refusal; limits = tt };
-  stamps = record { last = told.stays; restarted = tt; exhausted = λ same. let is = as_err _ _ _ refl same in (told.exhausted is, λ st shown. told.exhausted_draw is st shown.shows.sessions) };
-  edits = record { changes = told.same.kept; room = told.same.room };
-  sessions = record { told = λ st shown. (λ gone. as_refused _ _ _ refl (told.unknown st shown.shows.sessions gone), λ empty. as_refused _ _ _ refl (told.empty st shown.shows.sessions empty), λ about. told.drawing st shown.shows.sessions about); sessions = told.err; cleaners = record { next = refl; each = λ i. refl; count = refl }; collectors = record { next = refl; floor = refl; each = λ i. refl; count = refl }; oracle = (λ st shown. told.aside st shown.shows.sessions, told.mark) };
+  step = record { step = steps_as _ _ _ _ _ tt refl refl refl (λ st reached shown. unchanged_if _ _ st (told.refused.same.kept shown.in_order)) told.step told.below.still told.below.stays (λ st reached held shown. err_undamaged _ _ refl (told.undamaged held)); refusal = told.refusal; limits = tt };
+  stamps = record { last = told.refused.stays; restarted = tt; exhausted = λ same. let none = told.no_stamp (as_err _ _ _ refl same) in (none.exhausted, λ st shown. none.draw_only st shown.shows.sessions) };
+  edits = record { changes = told.refused.same.kept; room = told.refused.same.room };
+  sessions = record { told = λ st shown. (λ gone. as_refused _ _ _ refl ((told.causes st shown.shows.sessions).unknown gone), λ empty. as_refused _ _ _ refl ((told.causes st shown.shows.sessions).empty empty), λ about. (told.causes st shown.shows.sessions).drawing about); sessions = told.err; cleaners = record { next = refl; each = λ i. refl; count = refl }; collectors = record { next = refl; floor = refl; each = λ i. refl; count = refl }; oracle = (λ st shown. told.aside st shown.shows.sessions, told.refused.mark) };
   tablets = told.below.stays;
   causes = record { device = λ same. one_rose told.reason (as_err _ _ _ refl same); told = λ none. record { files = first_stays told.reason (λ is. none (as_refused _ _ _ refl is)); marks = second_stays told.reason (λ is. none (as_refused _ _ _ refl is)) }; full = λ same. (told.full (as_err _ _ _ refl same), λ st reached shown. told.full_shown shown.in_order (as_err _ _ _ refl same) st reached shown.shows.store shown.shows.sessions) };
   tending = refl;

@@ -7,7 +7,7 @@ use Rattle.server_loop.proofs.server.ServerAnswering.reply_to.Goals as goal
 pub returns-clause-says : goal.returns-clause-says
 returns-clause-says g c = record {
   plain = c.take-reply.ensures;
-  resting = keeps_resting g.F.Files.contents g.F.Files.faults g.M.MarkStore.mark g.M.MarkStore.faults c.shows_reopened.ensures c.root_is_stored.ensures c.root_stays.ensures _ _
+  resting = keeps_resting g.F.Files g.M.MarkStore c.shows_reopened.ensures c.root_is_stored.ensures c.root_stays.ensures _ _
       (subst (λ (n : ℕ). IsWithinMark n (g.M.MarkStore.mark (marks_of c.take-reply.new.self))) c.last-last.ensures.last c.last-last.ensures.below_mark) _ _ c.take-reply.ensures;
 }
 

@@ -1,7 +1,7 @@
 use Rattle.std.proofs.Common.{List, map, take, sym, ap, subst, ◌∙◌}
 use Rattle.std.proofs.lemmas.List.{take-map}
 use Rattle.std.specs.List.{AllByRecursion}
-use Rattle.sorted_file.specs.declared.opened.SortedFile.{SortedFile}
+use Rattle.sorted_file.specs.declared.file.SortedFile.{SortedFile}
 use Rattle.tablet.specs.Sources.{IsOpenIn, listed_in}
 use Rattle.tablet.specs.Views.{files_of, memory_of}
 use Rattle.tablet.specs.Compactions.{ReadsOpen, inputs_of}

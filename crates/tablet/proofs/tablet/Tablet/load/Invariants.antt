@@ -1,7 +1,7 @@
 use Rattle.std.proofs.Common.{◌≡◌, map, take}
 use Rattle.std.specs.Prelude.{IfSome}
 use Rattle.std.specs.List.{AllByRecursion}
-use Rattle.sorted_file.specs.Opened.{IsOpen, name_of}
+use Rattle.sorted_file.specs.File.{IsOpen, name_of}
 use Rattle.tablet.proofs.tablet.Tablet.load.Given as goal
 
 abbrev pub invariant-names : goal.invariant-names

@@ -5,8 +5,8 @@ use Rattle.std.specs.Result.{is_ok}
 use Rattle.cell_key.specs.declared.refusals.Refusal.TheVariants.{NoMemory}
 use Rattle.file_store.specs.Store.{Contents}
 use Rattle.sorted_file.specs.Grammar.{FitsIn}
-use Rattle.sorted_file.specs.Opened.{listed, name_of}
-use Rattle.sorted_file.specs.declared.opened.SortedFile.{SortedFile}
+use Rattle.sorted_file.specs.File.{listed, name_of}
+use Rattle.sorted_file.specs.declared.file.SortedFile.{SortedFile}
 use Rattle.compaction.specs.Writing.{written}
 use Rattle.tablet.specs.Ranges.{seen}
 use Rattle.tablet.specs.Views.{Holds, files_of, memory_of, range_of}
@@ -70,32 +70,8 @@ returns-clause-keeps g c =
     (record { range = refl; memory = refl; files = c.in_ok-reserve.ensures.items }) (λ m. ap (λ (fs : List SortedFile). written false (map (seen range) (memory ∷ map (listed m) fs))) c.in_ok-reserve.ensures.items) c.in_ok-file.ensures.made)
     (λ m h. no_entries) (λ m h list. (λ i. cells_of (shown range ([] ∷ written false (map (seen range) (memory ∷ map (listed m) old)) ∷ none_left m old i))) ∙ major_cells c.names_first.ensures range memory (map (listed m) old) (held_lists m c.args.self.now h) no_entries list)
 
-pub returns-clause-fits : goal.returns-clause-fits
-returns-clause-fits g c =
-    let range = range_of c.args.self.now in
-    let memory = memory_of c.args.self.now in
-    let old = files_of c.args.self.now in
-    large_of (g.F.Files.contents c.args.files.now) c.args.self.now (record c.args.self.now { files = c.reserve.new.self }) (λ m. written false (map (seen range) (memory ∷ map (listed m) c.reserve.new.self.items))) (λ m. written false (map (seen range) (memory ∷ map (listed m) old))) (λ es. FitsIn c.args.file_limit es)
-    (record { range = refl; memory = refl; files = c.in_ok-reserve.ensures.items }) (λ m h. ap (λ (fs : List SortedFile). written false (map (seen range) (memory ∷ map (listed m) fs))) c.in_ok-reserve.ensures.items)
-    (told_written (g.F.Files.contents c.args.files.now) (record c.args.self.now { files = c.reserve.new.self }) (λ lists. FitsIn c.args.file_limit (written false (map (seen range) (memory ∷ lists)))) c.in_ok-file.ensures.fits)
-
-pub returns-in_err-file-clause-names : goal.returns-in_err-file-clause-names
-returns-in_err-file-clause-names g c = passed_none c.from_residual-in_err-file.result c.in_err-file.field-0.0 _ c.from_residual-in_err-file.ensures.1
-
-pub returns-in_err-file-clause-memory : goal.returns-in_err-file-clause-memory
-returns-in_err-file-clause-memory g c = passed_none c.from_residual-in_err-file.result c.in_err-file.field-0.0 _ c.from_residual-in_err-file.ensures.1
-
 pub returns-in_err-file-clause-lists : goal.returns-in_err-file-clause-lists
 returns-in_err-file-clause-lists g c = passed_none c.from_residual-in_err-file.result c.in_err-file.field-0.0 _ c.from_residual-in_err-file.ensures.1
-
-pub returns-in_err-file-clause-left : goal.returns-in_err-file-clause-left
-returns-in_err-file-clause-left g c = passed_none c.from_residual-in_err-file.result c.in_err-file.field-0.0 _ c.from_residual-in_err-file.ensures.1
-
-pub returns-in_err-file-clause-fits : goal.returns-in_err-file-clause-fits
-returns-in_err-file-clause-fits g c = passed_none c.from_residual-in_err-file.result c.in_err-file.field-0.0 _ c.from_residual-in_err-file.ensures.1
-
-pub returns-in_err-file-clause-used : goal.returns-in_err-file-clause-used
-returns-in_err-file-clause-used g c = passed_none c.from_residual-in_err-file.result c.in_err-file.field-0.0 _ c.from_residual-in_err-file.ensures.1
 
 pub returns-in_err-file-clause-range : goal.returns-in_err-file-clause-range
 returns-in_err-file-clause-range g c = refl
@@ -104,10 +80,7 @@ pub returns-in_err-file-clause-err : goal.returns-in_err-file-clause-err
 returns-in_err-file-clause-err g c = passed_kept c.from_residual-in_err-file.result _ (record { range = refl; memory = refl; files = c.in_ok-reserve.ensures.items })
 
 pub returns-in_err-file-clause-name : goal.returns-in_err-file-clause-name
-returns-in_err-file-clause-name g c = c.in_err-file.ensures.name
-
-pub returns-in_err-file-clause-limit : goal.returns-in_err-file-clause-limit
-returns-in_err-file-clause-limit g c = c.in_err-file.ensures.limit
+returns-in_err-file-clause-name g c = record { uses = c.in_err-file.ensures.name; within = c.in_err-file.ensures.limit }
 
 pub returns-in_err-file-clause-exhausted : goal.returns-in_err-file-clause-exhausted
 returns-in_err-file-clause-exhausted g c = λ is. c.in_err-file.ensures.exhausted (passed_on c.from_residual-in_err-file.result _ c.in_err-file.field-0.0 _ c.from_residual-in_err-file.ensures.1 refl is)
@@ -123,23 +96,8 @@ returns-in_err-file-clause-refusal g c = passed_err c.from_residual-in_err-file.
 pub returns-in_err-file-clause-reason : goal.returns-in_err-file-clause-reason
 returns-in_err-file-clause-reason g c = passed_reason c.from_residual-in_err-file.result _ c.in_err-file.field-0.0 _ _ c.from_residual-in_err-file.ensures.1 refl c.in_err-file.ensures.reason
 
-pub returns-in_err-reserve-clause-names : goal.returns-in_err-reserve-clause-names
-returns-in_err-reserve-clause-names g c = passed_none c.from_residual.result NoMemory _ c.from_residual.ensures.1
-
-pub returns-in_err-reserve-clause-memory : goal.returns-in_err-reserve-clause-memory
-returns-in_err-reserve-clause-memory g c = passed_none c.from_residual.result NoMemory _ c.from_residual.ensures.1
-
 pub returns-in_err-reserve-clause-lists : goal.returns-in_err-reserve-clause-lists
 returns-in_err-reserve-clause-lists g c = passed_none c.from_residual.result NoMemory _ c.from_residual.ensures.1
-
-pub returns-in_err-reserve-clause-left : goal.returns-in_err-reserve-clause-left
-returns-in_err-reserve-clause-left g c = passed_none c.from_residual.result NoMemory _ c.from_residual.ensures.1
-
-pub returns-in_err-reserve-clause-fits : goal.returns-in_err-reserve-clause-fits
-returns-in_err-reserve-clause-fits g c = passed_none c.from_residual.result NoMemory _ c.from_residual.ensures.1
-
-pub returns-in_err-reserve-clause-used : goal.returns-in_err-reserve-clause-used
-returns-in_err-reserve-clause-used g c = passed_none c.from_residual.result NoMemory _ c.from_residual.ensures.1
 
 pub returns-in_err-reserve-clause-range : goal.returns-in_err-reserve-clause-range
 returns-in_err-reserve-clause-range g c = refl
@@ -152,10 +110,7 @@ pub returns-in_err-reserve-clause-err : goal.returns-in_err-reserve-clause-err
 returns-in_err-reserve-clause-err g c = passed_kept c.from_residual.result _ (record { range = refl; memory = refl; files = c.in_err-reserve.ensures.items })
 
 pub returns-in_err-reserve-clause-name : goal.returns-in_err-reserve-clause-name
-returns-in_err-reserve-clause-name g c = inl (refl, refl)
-
-pub returns-in_err-reserve-clause-limit : goal.returns-in_err-reserve-clause-limit
-returns-in_err-reserve-clause-limit g c = λ most. most
+returns-in_err-reserve-clause-name g c = record { uses = inl (refl, refl); within = λ most. most }
 
 pub returns-in_err-reserve-clause-exhausted : goal.returns-in_err-reserve-clause-exhausted
 returns-in_err-reserve-clause-exhausted g c = λ is. absurd (passed_kind c.from_residual.result NoMemory _ IsNoMemory c.from_residual.ensures.1 tt is)
@@ -172,12 +127,6 @@ returns-in_err-reserve-clause-refusal g c = passed_err c.from_residual.result No
 pub returns-in_err-reserve-clause-reason : goal.returns-in_err-reserve-clause-reason
 returns-in_err-reserve-clause-reason g c = quiet_reason c.from_residual.result _ (λ is. absurd (passed_kind c.from_residual.result NoMemory _ IsNoMemory c.from_residual.ensures.1 tt is))
 
-pub returns-clause-names : goal.returns-clause-names
-returns-clause-names g c = one_name _ _ c.args.next_name.now (pushed c.push.result _ c.in_ok-file.file c.push.ensures.items c.unwrap.ensures c.clear.ensures.items) c.in_ok-file.ensures.named
-
-pub returns-clause-memory : goal.returns-clause-memory
-returns-clause-memory g c = c.new.ensures
-
 pub returns-clause-range : goal.returns-clause-range
 returns-clause-range g c = refl
 
@@ -188,10 +137,7 @@ pub returns-clause-refusal : goal.returns-clause-refusal
 returns-clause-refusal g c = tt
 
 pub returns-clause-name : goal.returns-clause-name
-returns-clause-name g c = inr (c.in_ok-file.ensures.used, c.in_ok-file.ensures.others)
-
-pub returns-clause-limit : goal.returns-clause-limit
-returns-clause-limit g c = c.in_ok-file.ensures.limit
+returns-clause-name g c = record { uses = inr (c.in_ok-file.ensures.used, c.in_ok-file.ensures.others); within = c.in_ok-file.ensures.limit }
 
 pub returns-clause-exhausted : goal.returns-clause-exhausted
 returns-clause-exhausted g c = λ is. absurd (not_err _ _ is)
@@ -202,11 +148,27 @@ returns-clause-large g c = λ is. absurd (not_err _ _ is)
 pub returns-clause-damaged : goal.returns-clause-damaged
 returns-clause-damaged g c = λ is. absurd (not_err _ _ is)
 
-pub returns-clause-left : goal.returns-clause-left
-returns-clause-left g c = c.in_ok-file.ensures.left
-
-pub returns-clause-used : goal.returns-clause-used
-returns-clause-used g c = c.in_ok-file.ensures.used
-
 pub returns-clause-reason : goal.returns-clause-reason
 returns-clause-reason g c = reason_of_ok _ _ _ _ c.in_ok-file.ensures.reason
+
+pub returns-in_err-file-clause-made : goal.returns-in_err-file-clause-made
+returns-in_err-file-clause-made g c = passed_none c.from_residual-in_err-file.result c.in_err-file.field-0.0 _ c.from_residual-in_err-file.ensures.1
+
+pub returns-in_err-reserve-clause-made : goal.returns-in_err-reserve-clause-made
+returns-in_err-reserve-clause-made g c = passed_none c.from_residual.result NoMemory _ c.from_residual.ensures.1
+
+pub returns-clause-made : goal.returns-clause-made
+returns-clause-made g c =
+    let range = range_of c.args.self.now in
+    let memory = memory_of c.args.self.now in
+    let old = files_of c.args.self.now in
+    record {
+      names = one_name _ _ c.args.next_name.now (pushed c.push.result _ c.in_ok-file.file c.push.ensures.items c.unwrap.ensures c.clear.ensures.items) c.in_ok-file.ensures.named;
+      memory = c.new.ensures;
+      left = c.in_ok-file.ensures.left;
+      used = c.in_ok-file.ensures.used;
+      fits =
+          large_of (g.F.Files.contents c.args.files.now) c.args.self.now (record c.args.self.now { files = c.reserve.new.self }) (λ m. written false (map (seen range) (memory ∷ map (listed m) c.reserve.new.self.items))) (λ m. written false (map (seen range) (memory ∷ map (listed m) old))) (λ es. FitsIn c.args.file_limit es)
+          (record { range = refl; memory = refl; files = c.in_ok-reserve.ensures.items }) (λ m h. ap (λ (fs : List SortedFile). written false (map (seen range) (memory ∷ map (listed m) fs))) c.in_ok-reserve.ensures.items)
+          (told_written (g.F.Files.contents c.args.files.now) (record c.args.self.now { files = c.reserve.new.self }) (λ lists. FitsIn c.args.file_limit (written false (map (seen range) (memory ∷ lists)))) c.in_ok-file.ensures.fits);
+    }

@@ -5,16 +5,17 @@ use Rattle.cell_key.specs.Entries.{Entry}
 use Rattle.cell_key.specs.declared.refusals.Refusal.TheVariants.{BadCount, Device}
 use Rattle.file_store.specs.Store.{Contents}
 use Rattle.sorted_file.specs.Grammar.{FitsIn}
-use Rattle.sorted_file.specs.Opened.{listed, name_of}
-use Rattle.sorted_file.specs.declared.opened.SortedFile.{SortedFile}
+use Rattle.sorted_file.specs.File.{listed, name_of}
+use Rattle.sorted_file.specs.declared.file.SortedFile.{SortedFile}
 use Rattle.compaction.specs.Writing.{written}
 use Rattle.tablet.specs.Ranges.{seen}
-use Rattle.tablet.specs.Compactions.{IsCompactionRefusal}
+use Rattle.tablet.specs.Compactions.{IsCompactionRefusal, compacted}
+use Rattle.tablet.specs.declared.compactions.Compaction.TheVariants.{Merge}
 use Rattle.tablet.specs.Views.{Holds, files_of, memory_of, names_of, range_of}
 use Rattle.tablet.specs.declared.tablet.Tablet.{Tablet}
 use Rattle.tablet.proofs.CompactedCells.{merge_cells}
 use Rattle.tablet.proofs.Held.{held_lists}
-use Rattle.tablet.proofs.MadeTablets.{large_of, made_keeps, made_lists, still_keeps}
+use Rattle.tablet.proofs.MadeTablets.{made_keeps, made_lists, still_keeps}
 use Rattle.tablet.proofs.Passed.{IsBadCount, merge_of, not_err, passed_err, passed_kept, passed_kind, passed_none, passed_on, passed_reason, quiet_reason, reason_of_ok, told_kind}
 use Rattle.tablet.proofs.WrittenFiles.{told_written}
 use Rattle.tablet.proofs.tablet.Tablet.merge.Goals as goal
@@ -22,21 +23,10 @@ use Rattle.tablet.proofs.tablet.Tablet.merge.Goals as goal
 within : (files : List SortedFile) (len count : ℕ) → len ≡ length files → count ≤ len → count ≤ length (map name_of files)
 within files len count is most = omega (arith, length-map files name_of)
 
-same_written : (old : Option Contents) (t : Tablet) (count : ℕ) (P : List Entry → Type 0)
-    → IfSome old (λ m. Holds m t → P (written (nat_lt count (length (map (listed m) (files_of t)))) (map (seen (range_of t)) (take count (map (listed m) (files_of t))))))
-    → IfSome old (λ m. Holds m t → P (written (nat_lt count (length (names_of t))) (map (seen (range_of t)) (take count (map (listed m) (files_of t))))))
-same_written old t count P = large_of old t t (λ m. written (nat_lt count (length (map (listed m) (files_of t)))) (map (seen (range_of t)) (take count (map (listed m) (files_of t))))) (λ m. written (nat_lt count (length (names_of t))) (map (seen (range_of t)) (take count (map (listed m) (files_of t)))))
-    P (record { range = refl; memory = refl; files = refl }) (λ m h. ap (λ (n : ℕ). written (nat_lt count n) (map (seen (range_of t)) (take count (map (listed m) (files_of t))))) (length-map (files_of t) (listed m) ∙ sym (length-map (files_of t) name_of)))
-
 pub returns-in_err-file-clause-keeps : goal.returns-in_err-file-clause-keeps
 returns-in_err-file-clause-keeps g c =
     still_keeps c.stays_open.ensures (g.F.Files.contents c.args.files.now) (g.F.Files.contents c.write.new.files) c.args.next_name.now c.write.new.next_name c.args.self.now _
     (record { range = refl; memory = refl; files = refl }) c.in_err-file.ensures.name
-
-pub returns-clause-names : goal.returns-clause-names
-returns-clause-names g c =
-    ap (map name_of) c.replace_newest.ensures
-    ∙ (λ i. c.in_ok-file.ensures.named i ∷ sym (drop-map name_of c.args.count (files_of c.args.self.now)) i)
 
 pub returns-clause-lists : goal.returns-clause-lists
 returns-clause-lists g c =
@@ -57,23 +47,8 @@ returns-clause-keeps g c =
     (record { range = refl; memory = refl; files = c.replace_newest.ensures; named = c.in_ok-file.ensures.named }) c.in_ok-file.ensures.used c.in_ok-file.ensures.others c.in_ok-file.ensures.made
     (λ m h. h.memory) (λ m h list. merge_cells c.names_first.ensures range memory (map (listed m) old) c.args.count (held_lists m c.args.self.now h) (nat_lt c.args.count (length (map (listed m) old))) refl list)
 
-pub returns-in_err-file-clause-names : goal.returns-in_err-file-clause-names
-returns-in_err-file-clause-names g c = passed_none c.from_residual.result c.in_err-file.field-0.0 _ c.from_residual.ensures.1
-
 pub returns-in_err-file-clause-lists : goal.returns-in_err-file-clause-lists
 returns-in_err-file-clause-lists g c = passed_none c.from_residual.result c.in_err-file.field-0.0 _ c.from_residual.ensures.1
-
-pub returns-in_err-file-clause-left : goal.returns-in_err-file-clause-left
-returns-in_err-file-clause-left g c = passed_none c.from_residual.result c.in_err-file.field-0.0 _ c.from_residual.ensures.1
-
-pub returns-in_err-file-clause-fits : goal.returns-in_err-file-clause-fits
-returns-in_err-file-clause-fits g c = passed_none c.from_residual.result c.in_err-file.field-0.0 _ c.from_residual.ensures.1
-
-pub returns-in_err-file-clause-used : goal.returns-in_err-file-clause-used
-returns-in_err-file-clause-used g c = passed_none c.from_residual.result c.in_err-file.field-0.0 _ c.from_residual.ensures.1
-
-pub returns-in_err-file-clause-memory : goal.returns-in_err-file-clause-memory
-returns-in_err-file-clause-memory g c = refl
 
 pub returns-in_err-file-clause-range : goal.returns-in_err-file-clause-range
 returns-in_err-file-clause-range g c = refl
@@ -82,10 +57,7 @@ pub returns-in_err-file-clause-err : goal.returns-in_err-file-clause-err
 returns-in_err-file-clause-err g c = passed_kept c.from_residual.result _ (record { range = refl; memory = refl; files = refl })
 
 pub returns-in_err-file-clause-name : goal.returns-in_err-file-clause-name
-returns-in_err-file-clause-name g c = c.in_err-file.ensures.name
-
-pub returns-in_err-file-clause-limit : goal.returns-in_err-file-clause-limit
-returns-in_err-file-clause-limit g c = c.in_err-file.ensures.limit
+returns-in_err-file-clause-name g c = record { uses = c.in_err-file.ensures.name; within = c.in_err-file.ensures.limit }
 
 pub returns-in_err-file-clause-count : goal.returns-in_err-file-clause-count
 returns-in_err-file-clause-count g c = (λ is. absurd (passed_kind c.from_residual.result c.in_err-file.field-0.0 BadCount IsCompactionRefusal c.from_residual.ensures.1 c.in_err-file.ensures.refusal is), λ no. absurd (no (c.if-count-lt2.false, within (files_of c.args.self.now) _ c.args.count (c.len.ensures ∙ c.args.self.now.files.ok.0) c.if-count-len.false)))
@@ -98,9 +70,8 @@ returns-in_err-file-clause-exhausted g c = λ is. c.in_err-file.ensures.exhauste
 
 pub returns-in_err-file-clause-large : goal.returns-in_err-file-clause-large
 returns-in_err-file-clause-large g c = λ is.
-    same_written (g.F.Files.contents c.args.files.now) c.args.self.now c.args.count (λ es. ¬ (FitsIn c.args.file_limit es))
-    (told_written (g.F.Files.contents c.args.files.now) c.args.self.now (λ lists. ¬ (FitsIn c.args.file_limit (written (nat_lt c.args.count (length lists)) (map (seen (range_of c.args.self.now)) (take c.args.count lists)))))
-    (c.in_err-file.ensures.large (passed_on c.from_residual.result _ c.in_err-file.field-0.0 _ c.from_residual.ensures.1 refl is)))
+    told_written (g.F.Files.contents c.args.files.now) c.args.self.now (λ lists. ¬ (FitsIn c.args.file_limit (compacted (Merge c.args.count) (range_of c.args.self.now) (memory_of c.args.self.now) lists)))
+    (c.in_err-file.ensures.large (passed_on c.from_residual.result _ c.in_err-file.field-0.0 _ c.from_residual.ensures.1 refl is))
 
 pub returns-in_err-file-clause-damaged : goal.returns-in_err-file-clause-damaged
 returns-in_err-file-clause-damaged g c = λ is. c.in_err-file.ensures.damaged (passed_on c.from_residual.result _ c.in_err-file.field-0.0 _ c.from_residual.ensures.1 refl is)
@@ -111,26 +82,11 @@ returns-in_err-file-clause-refusal g c = passed_err c.from_residual.result c.in_
 pub returns-in_err-file-clause-reason : goal.returns-in_err-file-clause-reason
 returns-in_err-file-clause-reason g c = passed_reason c.from_residual.result _ c.in_err-file.field-0.0 _ _ c.from_residual.ensures.1 refl c.in_err-file.ensures.reason
 
-pub returns-then-count-lt2-clause-names : goal.returns-then-count-lt2-clause-names
-returns-then-count-lt2-clause-names g c = tt
-
 pub returns-then-count-lt2-clause-lists : goal.returns-then-count-lt2-clause-lists
 returns-then-count-lt2-clause-lists g c = tt
 
-pub returns-then-count-lt2-clause-left : goal.returns-then-count-lt2-clause-left
-returns-then-count-lt2-clause-left g c = tt
-
-pub returns-then-count-lt2-clause-fits : goal.returns-then-count-lt2-clause-fits
-returns-then-count-lt2-clause-fits g c = tt
-
-pub returns-then-count-lt2-clause-used : goal.returns-then-count-lt2-clause-used
-returns-then-count-lt2-clause-used g c = tt
-
 pub returns-then-count-lt2-clause-refusal : goal.returns-then-count-lt2-clause-refusal
 returns-then-count-lt2-clause-refusal g c = tt
-
-pub returns-then-count-lt2-clause-memory : goal.returns-then-count-lt2-clause-memory
-returns-then-count-lt2-clause-memory g c = refl
 
 pub returns-then-count-lt2-clause-range : goal.returns-then-count-lt2-clause-range
 returns-then-count-lt2-clause-range g c = refl
@@ -139,10 +95,7 @@ pub returns-then-count-lt2-clause-err : goal.returns-then-count-lt2-clause-err
 returns-then-count-lt2-clause-err g c = record { range = refl; memory = refl; files = refl }
 
 pub returns-then-count-lt2-clause-name : goal.returns-then-count-lt2-clause-name
-returns-then-count-lt2-clause-name g c = inl (refl, refl)
-
-pub returns-then-count-lt2-clause-limit : goal.returns-then-count-lt2-clause-limit
-returns-then-count-lt2-clause-limit g c = λ most. most
+returns-then-count-lt2-clause-name g c = record { uses = inl (refl, refl); within = λ most. most }
 
 pub returns-then-count-lt2-clause-keeps : goal.returns-then-count-lt2-clause-keeps
 returns-then-count-lt2-clause-keeps g c =
@@ -164,9 +117,6 @@ returns-then-count-lt2-clause-reason g c = quiet_reason _ _ (λ is. absurd (told
 pub returns-then-count-lt2-clause-unwritten : goal.returns-then-count-lt2-clause-unwritten
 returns-then-count-lt2-clause-unwritten g c = λ is. (refl, refl)
 
-pub returns-clause-memory : goal.returns-clause-memory
-returns-clause-memory g c = refl
-
 pub returns-clause-range : goal.returns-clause-range
 returns-clause-range g c = refl
 
@@ -177,10 +127,7 @@ pub returns-clause-refusal : goal.returns-clause-refusal
 returns-clause-refusal g c = tt
 
 pub returns-clause-name : goal.returns-clause-name
-returns-clause-name g c = inr (c.in_ok-file.ensures.used, c.in_ok-file.ensures.others)
-
-pub returns-clause-limit : goal.returns-clause-limit
-returns-clause-limit g c = c.in_ok-file.ensures.limit
+returns-clause-name g c = record { uses = inr (c.in_ok-file.ensures.used, c.in_ok-file.ensures.others); within = c.in_ok-file.ensures.limit }
 
 pub returns-clause-count : goal.returns-clause-count
 returns-clause-count g c = (λ is. absurd (not_err _ _ is), λ no. absurd (no (c.if-count-lt2.false, within (files_of c.args.self.now) _ c.args.count (c.len.ensures ∙ c.args.self.now.files.ok.0) c.if-count-len.false)))
@@ -197,17 +144,23 @@ returns-clause-damaged g c = λ is. absurd (not_err _ _ is)
 pub returns-clause-unwritten : goal.returns-clause-unwritten
 returns-clause-unwritten g c = λ is. absurd (not_err _ _ is)
 
-pub returns-clause-left : goal.returns-clause-left
-returns-clause-left g c = c.in_ok-file.ensures.left
-
-pub returns-clause-used : goal.returns-clause-used
-returns-clause-used g c = c.in_ok-file.ensures.used
-
-pub returns-clause-fits : goal.returns-clause-fits
-returns-clause-fits g c =
-    same_written (g.F.Files.contents c.args.files.now) c.args.self.now c.args.count (FitsIn c.args.file_limit)
-    (told_written (g.F.Files.contents c.args.files.now) c.args.self.now (λ lists. FitsIn c.args.file_limit (written (nat_lt c.args.count (length lists)) (map (seen (range_of c.args.self.now)) (take c.args.count lists))))
-    c.in_ok-file.ensures.fits)
-
 pub returns-clause-reason : goal.returns-clause-reason
 returns-clause-reason g c = reason_of_ok _ _ _ _ c.in_ok-file.ensures.reason
+
+pub returns-in_err-file-clause-made : goal.returns-in_err-file-clause-made
+returns-in_err-file-clause-made g c = passed_none c.from_residual.result c.in_err-file.field-0.0 _ c.from_residual.ensures.1
+
+pub returns-then-count-lt2-clause-made : goal.returns-then-count-lt2-clause-made
+returns-then-count-lt2-clause-made g c = tt
+
+pub returns-clause-made : goal.returns-clause-made
+returns-clause-made g c =
+    record {
+      names =
+          ap (map name_of) c.replace_newest.ensures
+          ∙ (λ i. c.in_ok-file.ensures.named i ∷ sym (drop-map name_of c.args.count (files_of c.args.self.now)) i);
+      memory = refl;
+      left = c.in_ok-file.ensures.left;
+      used = c.in_ok-file.ensures.used;
+      fits = told_written (g.F.Files.contents c.args.files.now) c.args.self.now (λ lists. FitsIn c.args.file_limit (compacted (Merge c.args.count) (range_of c.args.self.now) (memory_of c.args.self.now) lists)) c.in_ok-file.ensures.fits;
+    }

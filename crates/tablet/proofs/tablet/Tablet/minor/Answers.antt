@@ -3,8 +3,8 @@ use Rattle.std.specs.Prelude.{◌≢◌}
 use Rattle.sorted_file.specs.Grammar.{FitsIn}
 use Rattle.cell_key.specs.Entries.{Entry}
 use Rattle.cell_key.specs.declared.refusals.Refusal.TheVariants.{Device, NoMemory, TooManyFiles}
-use Rattle.sorted_file.specs.Opened.{listed, name_of}
-use Rattle.sorted_file.specs.declared.opened.SortedFile.{SortedFile}
+use Rattle.sorted_file.specs.File.{listed, name_of}
+use Rattle.sorted_file.specs.declared.file.SortedFile.{SortedFile}
 use Rattle.compaction.specs.Writing.{written}
 use Rattle.tablet.specs.Ranges.{seen}
 use Rattle.tablet.specs.Compactions.{IsCompactionRefusal}
@@ -14,6 +14,10 @@ use Rattle.tablet.proofs.MadeTablets.{made_keeps, made_lists, made_of, still_hol
 use Rattle.tablet.proofs.Passed.{IsNoMemory, IsTooManyFiles, inserted, minor_of, not_both, not_empty, not_err, passed_err, passed_kept, passed_kind, passed_none, passed_on, passed_reason, quiet_reason, reason_of_ok, told_kind, too_few, too_many}
 use Rattle.tablet.proofs.WrittenFiles.{if_some_not}
 use Rattle.tablet.proofs.tablet.Tablet.minor.Goals as goal
+
+no_name : (next : ℕ) (memory : List Entry) (names : List ℕ) → memory ≡ [] → names ≡ with_name next memory names
+no_name next [] names is = refl
+no_name next (e ∷ es) names is = cc
 
 names_more : (next : ℕ) (memory : List Entry) (file : SortedFile) (old new : List SortedFile) → memory ≢ [] → new ≡ file ∷ old → name_of file ≡ next → map name_of new ≡ with_name next memory (map name_of old)
 names_more next [] file old new some is named = absurd (some refl)
@@ -57,43 +61,19 @@ returns-clause-keeps g c =
     (record { range = refl; memory = refl; files = c.in_ok-reserve.ensures.items }) (λ m. refl) c.in_ok-file.ensures.made)
     (λ m h. no_entries) (λ m h list. minor_cells c.keeps_one_list.ensures range memory (map (listed m) (files_of c.args.self.now)) h.memory)
 
-pub returns-clause-fits : goal.returns-clause-fits
-returns-clause-fits g c = λ some.
-    let range = range_of c.args.self.now in
-    let memory = memory_of c.args.self.now in
-    subst (λ (es : List Entry). FitsIn c.args.file_limit es) (minor_writes c.keeps_one_list.ensures range memory c.len-2.ensures.list) (c.in_ok-file.ensures.fits tt)
-
 pub returns-then-len-ge-MOST_FILES-clause-unwritten : goal.returns-then-len-ge-MOST_FILES-clause-unwritten
 returns-then-len-ge-MOST_FILES-clause-unwritten g c = λ err. (refl, refl)
 
 pub returns-then-len-ge-MOST_FILES-clause-name : goal.returns-then-len-ge-MOST_FILES-clause-name
-returns-then-len-ge-MOST_FILES-clause-name g c = inl (refl, refl)
+returns-then-len-ge-MOST_FILES-clause-name g c = record { uses = inl (refl, refl); within = λ most. most }
 
 pub returns-then-len-ge-MOST_FILES-clause-keeps : goal.returns-then-len-ge-MOST_FILES-clause-keeps
 returns-then-len-ge-MOST_FILES-clause-keeps g c =
     still_keeps c.stays_open.ensures (g.F.Files.contents c.args.files.now) (g.F.Files.contents c.args.files.now) c.args.next_name.now c.args.next_name.now c.args.self.now c.args.self.now
     (record { range = refl; memory = refl; files = refl }) (inl (refl, refl))
 
-pub returns-in_err-file-clause-names : goal.returns-in_err-file-clause-names
-returns-in_err-file-clause-names g c = passed_none c.from_residual-in_err-file.result c.in_err-file.field-0.0 _ c.from_residual-in_err-file.ensures.1
-
-pub returns-in_err-file-clause-memory : goal.returns-in_err-file-clause-memory
-returns-in_err-file-clause-memory g c = passed_none c.from_residual-in_err-file.result c.in_err-file.field-0.0 _ c.from_residual-in_err-file.ensures.1
-
 pub returns-in_err-file-clause-lists : goal.returns-in_err-file-clause-lists
 returns-in_err-file-clause-lists g c = passed_none c.from_residual-in_err-file.result c.in_err-file.field-0.0 _ c.from_residual-in_err-file.ensures.1
-
-pub returns-in_err-file-clause-room : goal.returns-in_err-file-clause-room
-returns-in_err-file-clause-room g c = passed_none c.from_residual-in_err-file.result c.in_err-file.field-0.0 _ c.from_residual-in_err-file.ensures.1
-
-pub returns-in_err-file-clause-left : goal.returns-in_err-file-clause-left
-returns-in_err-file-clause-left g c = passed_none c.from_residual-in_err-file.result c.in_err-file.field-0.0 _ c.from_residual-in_err-file.ensures.1
-
-pub returns-in_err-file-clause-fits : goal.returns-in_err-file-clause-fits
-returns-in_err-file-clause-fits g c = passed_none c.from_residual-in_err-file.result c.in_err-file.field-0.0 _ c.from_residual-in_err-file.ensures.1
-
-pub returns-in_err-file-clause-used : goal.returns-in_err-file-clause-used
-returns-in_err-file-clause-used g c = passed_none c.from_residual-in_err-file.result c.in_err-file.field-0.0 _ c.from_residual-in_err-file.ensures.1
 
 pub returns-in_err-file-clause-empty : goal.returns-in_err-file-clause-empty
 returns-in_err-file-clause-empty g c = λ none. absurd (not_empty _ _ c.is_empty.ensures c.if-is_empty.false none)
@@ -101,20 +81,14 @@ returns-in_err-file-clause-empty g c = λ none. absurd (not_empty _ _ c.is_empty
 pub returns-in_err-file-clause-range : goal.returns-in_err-file-clause-range
 returns-in_err-file-clause-range g c = refl
 
-pub returns-in_err-file-clause-always_full : goal.returns-in_err-file-clause-always_full
-returns-in_err-file-clause-always_full g c = λ some many. absurd (not_both _ _ (too_few c.args.self.now.files.items _ 64 (c.len.ensures ∙ c.args.self.now.files.ok.0) c.if-len-ge-MOST_FILES.false) many)
-
 pub returns-in_err-file-clause-err : goal.returns-in_err-file-clause-err
 returns-in_err-file-clause-err g c = passed_kept c.from_residual-in_err-file.result _ (record { range = refl; memory = refl; files = c.in_ok-reserve.ensures.items })
 
 pub returns-in_err-file-clause-name : goal.returns-in_err-file-clause-name
-returns-in_err-file-clause-name g c = c.in_err-file.ensures.name
-
-pub returns-in_err-file-clause-limit : goal.returns-in_err-file-clause-limit
-returns-in_err-file-clause-limit g c = c.in_err-file.ensures.limit
+returns-in_err-file-clause-name g c = record { uses = c.in_err-file.ensures.name; within = c.in_err-file.ensures.limit }
 
 pub returns-in_err-file-clause-full : goal.returns-in_err-file-clause-full
-returns-in_err-file-clause-full g c = λ is. absurd (passed_kind c.from_residual-in_err-file.result c.in_err-file.field-0.0 TooManyFiles IsCompactionRefusal c.from_residual-in_err-file.ensures.1 c.in_err-file.ensures.refusal is)
+returns-in_err-file-clause-full g c = (λ is. absurd (passed_kind c.from_residual-in_err-file.result c.in_err-file.field-0.0 TooManyFiles IsCompactionRefusal c.from_residual-in_err-file.ensures.1 c.in_err-file.ensures.refusal is), λ both. absurd (not_both _ _ (too_few c.args.self.now.files.items _ 64 (c.len.ensures ∙ c.args.self.now.files.ok.0) c.if-len-ge-MOST_FILES.false) both.1))
 
 pub returns-in_err-file-clause-unwritten : goal.returns-in_err-file-clause-unwritten
 returns-in_err-file-clause-unwritten g c = λ is. absurd (passed_kind c.from_residual-in_err-file.result c.in_err-file.field-0.0 TooManyFiles IsCompactionRefusal c.from_residual-in_err-file.ensures.1 c.in_err-file.ensures.refusal is)
@@ -133,35 +107,14 @@ returns-in_err-file-clause-refusal g c = passed_err c.from_residual-in_err-file.
 pub returns-in_err-file-clause-reason : goal.returns-in_err-file-clause-reason
 returns-in_err-file-clause-reason g c = passed_reason c.from_residual-in_err-file.result _ c.in_err-file.field-0.0 _ _ c.from_residual-in_err-file.ensures.1 refl c.in_err-file.ensures.reason
 
-pub returns-in_err-reserve-clause-names : goal.returns-in_err-reserve-clause-names
-returns-in_err-reserve-clause-names g c = passed_none c.from_residual.result NoMemory _ c.from_residual.ensures.1
-
-pub returns-in_err-reserve-clause-memory : goal.returns-in_err-reserve-clause-memory
-returns-in_err-reserve-clause-memory g c = passed_none c.from_residual.result NoMemory _ c.from_residual.ensures.1
-
 pub returns-in_err-reserve-clause-lists : goal.returns-in_err-reserve-clause-lists
 returns-in_err-reserve-clause-lists g c = passed_none c.from_residual.result NoMemory _ c.from_residual.ensures.1
-
-pub returns-in_err-reserve-clause-room : goal.returns-in_err-reserve-clause-room
-returns-in_err-reserve-clause-room g c = passed_none c.from_residual.result NoMemory _ c.from_residual.ensures.1
-
-pub returns-in_err-reserve-clause-left : goal.returns-in_err-reserve-clause-left
-returns-in_err-reserve-clause-left g c = passed_none c.from_residual.result NoMemory _ c.from_residual.ensures.1
-
-pub returns-in_err-reserve-clause-fits : goal.returns-in_err-reserve-clause-fits
-returns-in_err-reserve-clause-fits g c = passed_none c.from_residual.result NoMemory _ c.from_residual.ensures.1
-
-pub returns-in_err-reserve-clause-used : goal.returns-in_err-reserve-clause-used
-returns-in_err-reserve-clause-used g c = passed_none c.from_residual.result NoMemory _ c.from_residual.ensures.1
 
 pub returns-in_err-reserve-clause-empty : goal.returns-in_err-reserve-clause-empty
 returns-in_err-reserve-clause-empty g c = λ none. absurd (not_empty _ _ c.is_empty.ensures c.if-is_empty.false none)
 
 pub returns-in_err-reserve-clause-range : goal.returns-in_err-reserve-clause-range
 returns-in_err-reserve-clause-range g c = refl
-
-pub returns-in_err-reserve-clause-always_full : goal.returns-in_err-reserve-clause-always_full
-returns-in_err-reserve-clause-always_full g c = λ some many. absurd (not_both _ _ (too_few c.args.self.now.files.items _ 64 (c.len.ensures ∙ c.args.self.now.files.ok.0) c.if-len-ge-MOST_FILES.false) many)
 
 pub returns-in_err-reserve-clause-keeps : goal.returns-in_err-reserve-clause-keeps
 returns-in_err-reserve-clause-keeps g c = still_keeps c.stays_open.ensures (g.F.Files.contents c.args.files.now) (g.F.Files.contents c.args.files.now) c.args.next_name.now c.args.next_name.now c.args.self.now _
@@ -171,13 +124,10 @@ pub returns-in_err-reserve-clause-err : goal.returns-in_err-reserve-clause-err
 returns-in_err-reserve-clause-err g c = passed_kept c.from_residual.result _ (record { range = refl; memory = refl; files = c.in_err-reserve.ensures.items })
 
 pub returns-in_err-reserve-clause-name : goal.returns-in_err-reserve-clause-name
-returns-in_err-reserve-clause-name g c = inl (refl, refl)
-
-pub returns-in_err-reserve-clause-limit : goal.returns-in_err-reserve-clause-limit
-returns-in_err-reserve-clause-limit g c = λ most. most
+returns-in_err-reserve-clause-name g c = record { uses = inl (refl, refl); within = λ most. most }
 
 pub returns-in_err-reserve-clause-full : goal.returns-in_err-reserve-clause-full
-returns-in_err-reserve-clause-full g c = λ is. absurd (passed_kind c.from_residual.result NoMemory _ IsNoMemory c.from_residual.ensures.1 tt is)
+returns-in_err-reserve-clause-full g c = (λ is. absurd (passed_kind c.from_residual.result NoMemory _ IsNoMemory c.from_residual.ensures.1 tt is), λ both. absurd (not_both _ _ (too_few c.args.self.now.files.items _ 64 (c.len.ensures ∙ c.args.self.now.files.ok.0) c.if-len-ge-MOST_FILES.false) both.1))
 
 pub returns-in_err-reserve-clause-exhausted : goal.returns-in_err-reserve-clause-exhausted
 returns-in_err-reserve-clause-exhausted g c = λ is. absurd (passed_kind c.from_residual.result NoMemory _ IsNoMemory c.from_residual.ensures.1 tt is)
@@ -197,26 +147,8 @@ returns-in_err-reserve-clause-refusal g c = passed_err c.from_residual.result No
 pub returns-in_err-reserve-clause-reason : goal.returns-in_err-reserve-clause-reason
 returns-in_err-reserve-clause-reason g c = quiet_reason c.from_residual.result _ (λ is. absurd (passed_kind c.from_residual.result NoMemory _ IsNoMemory c.from_residual.ensures.1 tt is))
 
-pub returns-then-len-ge-MOST_FILES-clause-names : goal.returns-then-len-ge-MOST_FILES-clause-names
-returns-then-len-ge-MOST_FILES-clause-names g c = tt
-
-pub returns-then-len-ge-MOST_FILES-clause-memory : goal.returns-then-len-ge-MOST_FILES-clause-memory
-returns-then-len-ge-MOST_FILES-clause-memory g c = tt
-
 pub returns-then-len-ge-MOST_FILES-clause-lists : goal.returns-then-len-ge-MOST_FILES-clause-lists
 returns-then-len-ge-MOST_FILES-clause-lists g c = tt
-
-pub returns-then-len-ge-MOST_FILES-clause-room : goal.returns-then-len-ge-MOST_FILES-clause-room
-returns-then-len-ge-MOST_FILES-clause-room g c = tt
-
-pub returns-then-len-ge-MOST_FILES-clause-left : goal.returns-then-len-ge-MOST_FILES-clause-left
-returns-then-len-ge-MOST_FILES-clause-left g c = tt
-
-pub returns-then-len-ge-MOST_FILES-clause-fits : goal.returns-then-len-ge-MOST_FILES-clause-fits
-returns-then-len-ge-MOST_FILES-clause-fits g c = tt
-
-pub returns-then-len-ge-MOST_FILES-clause-used : goal.returns-then-len-ge-MOST_FILES-clause-used
-returns-then-len-ge-MOST_FILES-clause-used g c = tt
 
 pub returns-then-len-ge-MOST_FILES-clause-empty : goal.returns-then-len-ge-MOST_FILES-clause-empty
 returns-then-len-ge-MOST_FILES-clause-empty g c = λ none. absurd (not_empty _ _ c.is_empty.ensures c.if-is_empty.false none)
@@ -227,11 +159,8 @@ returns-then-len-ge-MOST_FILES-clause-range g c = refl
 pub returns-then-len-ge-MOST_FILES-clause-err : goal.returns-then-len-ge-MOST_FILES-clause-err
 returns-then-len-ge-MOST_FILES-clause-err g c = record { range = refl; memory = refl; files = refl }
 
-pub returns-then-len-ge-MOST_FILES-clause-limit : goal.returns-then-len-ge-MOST_FILES-clause-limit
-returns-then-len-ge-MOST_FILES-clause-limit g c = λ most. most
-
 pub returns-then-len-ge-MOST_FILES-clause-full : goal.returns-then-len-ge-MOST_FILES-clause-full
-returns-then-len-ge-MOST_FILES-clause-full g c = λ is. (not_empty _ _ c.is_empty.ensures c.if-is_empty.false, too_many c.args.self.now.files.items _ 64 (c.len.ensures ∙ c.args.self.now.files.ok.0) c.if-len-ge-MOST_FILES.true)
+returns-then-len-ge-MOST_FILES-clause-full g c = (λ is. (not_empty _ _ c.is_empty.ensures c.if-is_empty.false, too_many c.args.self.now.files.items _ 64 (c.len.ensures ∙ c.args.self.now.files.ok.0) c.if-len-ge-MOST_FILES.true), λ both. refl)
 
 pub returns-then-len-ge-MOST_FILES-clause-exhausted : goal.returns-then-len-ge-MOST_FILES-clause-exhausted
 returns-then-len-ge-MOST_FILES-clause-exhausted g c = λ is. absurd (told_kind TooManyFiles _ IsTooManyFiles tt is)
@@ -248,15 +177,6 @@ returns-then-len-ge-MOST_FILES-clause-refusal g c = tt
 pub returns-then-len-ge-MOST_FILES-clause-reason : goal.returns-then-len-ge-MOST_FILES-clause-reason
 returns-then-len-ge-MOST_FILES-clause-reason g c = quiet_reason _ _ (λ is. absurd (told_kind TooManyFiles Device IsTooManyFiles tt is))
 
-pub returns-then-len-ge-MOST_FILES-clause-always_full : goal.returns-then-len-ge-MOST_FILES-clause-always_full
-returns-then-len-ge-MOST_FILES-clause-always_full g c = λ some many. refl
-
-pub returns-clause-names : goal.returns-clause-names
-returns-clause-names g c = names_more c.args.next_name.now _ c.in_ok-file.file _ _ (not_empty _ _ c.is_empty.ensures c.if-is_empty.false) (inserted c.insert.result _ (c.in_ok-file.file ∷ c.reserve.new.self.items) c.reserve.new.self.items c.insert.ensures.items c.unwrap.ensures ∙ ap (λ fs. c.in_ok-file.file ∷ fs) c.in_ok-reserve.ensures.items) c.in_ok-file.ensures.named
-
-pub returns-clause-memory : goal.returns-clause-memory
-returns-clause-memory g c = c.new.ensures
-
 pub returns-clause-empty : goal.returns-clause-empty
 returns-clause-empty g c = λ none. absurd (not_empty _ _ c.is_empty.ensures c.if-is_empty.false none)
 
@@ -267,13 +187,10 @@ pub returns-clause-err : goal.returns-clause-err
 returns-clause-err g c = tt
 
 pub returns-clause-name : goal.returns-clause-name
-returns-clause-name g c = inr (c.in_ok-file.ensures.used, c.in_ok-file.ensures.others)
-
-pub returns-clause-limit : goal.returns-clause-limit
-returns-clause-limit g c = c.in_ok-file.ensures.limit
+returns-clause-name g c = record { uses = inr (c.in_ok-file.ensures.used, c.in_ok-file.ensures.others); within = c.in_ok-file.ensures.limit }
 
 pub returns-clause-full : goal.returns-clause-full
-returns-clause-full g c = λ is. absurd (not_err _ _ is)
+returns-clause-full g c = (λ is. absurd (not_err _ _ is), λ both. absurd (not_both _ _ (too_few c.args.self.now.files.items _ 64 (c.len.ensures ∙ c.args.self.now.files.ok.0) c.if-len-ge-MOST_FILES.false) both.1))
 
 pub returns-clause-exhausted : goal.returns-clause-exhausted
 returns-clause-exhausted g c = λ is. absurd (not_err _ _ is)
@@ -287,20 +204,41 @@ returns-clause-damaged g c = λ is. absurd (not_err _ _ is)
 pub returns-clause-unwritten : goal.returns-clause-unwritten
 returns-clause-unwritten g c = λ is. absurd (not_err _ _ is)
 
-pub returns-clause-room : goal.returns-clause-room
-returns-clause-room g c = λ some. too_few c.args.self.now.files.items _ 64 (c.len.ensures ∙ c.args.self.now.files.ok.0) c.if-len-ge-MOST_FILES.false
-
-pub returns-clause-left : goal.returns-clause-left
-returns-clause-left g c = λ some. c.in_ok-file.ensures.left
-
 pub returns-clause-refusal : goal.returns-clause-refusal
 returns-clause-refusal g c = tt
 
 pub returns-clause-reason : goal.returns-clause-reason
 returns-clause-reason g c = reason_of_ok _ _ _ _ c.in_ok-file.ensures.reason
 
-pub returns-clause-always_full : goal.returns-clause-always_full
-returns-clause-always_full g c = λ some many. absurd (not_both _ _ (too_few c.args.self.now.files.items _ 64 (c.len.ensures ∙ c.args.self.now.files.ok.0) c.if-len-ge-MOST_FILES.false) many)
+pub returns-in_err-file-clause-flushed : goal.returns-in_err-file-clause-flushed
+returns-in_err-file-clause-flushed g c = passed_none c.from_residual-in_err-file.result c.in_err-file.field-0.0 _ c.from_residual-in_err-file.ensures.1
 
-pub returns-clause-used : goal.returns-clause-used
-returns-clause-used g c = λ some. c.in_ok-file.ensures.used
+pub returns-in_err-reserve-clause-flushed : goal.returns-in_err-reserve-clause-flushed
+returns-in_err-reserve-clause-flushed g c = passed_none c.from_residual.result NoMemory _ c.from_residual.ensures.1
+
+pub returns-then-len-ge-MOST_FILES-clause-flushed : goal.returns-then-len-ge-MOST_FILES-clause-flushed
+returns-then-len-ge-MOST_FILES-clause-flushed g c = tt
+
+pub returns-clause-flushed : goal.returns-clause-flushed
+returns-clause-flushed g c =
+    let range = range_of c.args.self.now in
+    let memory = memory_of c.args.self.now in
+    record {
+      names = names_more c.args.next_name.now _ c.in_ok-file.file _ _ (not_empty _ _ c.is_empty.ensures c.if-is_empty.false) (inserted c.insert.result _ (c.in_ok-file.file ∷ c.reserve.new.self.items) c.reserve.new.self.items c.insert.ensures.items c.unwrap.ensures ∙ ap (λ fs. c.in_ok-file.file ∷ fs) c.in_ok-reserve.ensures.items) c.in_ok-file.ensures.named;
+      memory = c.new.ensures;
+      written = λ some. record {
+        room = too_few c.args.self.now.files.items _ 64 (c.len.ensures ∙ c.args.self.now.files.ok.0) c.if-len-ge-MOST_FILES.false;
+        left = c.in_ok-file.ensures.left;
+        used = c.in_ok-file.ensures.used;
+        fits = subst (λ (es : List Entry). FitsIn c.args.file_limit es) (minor_writes c.keeps_one_list.ensures range memory c.len-2.ensures.list) (c.in_ok-file.ensures.fits tt);
+      };
+    }
+
+pub returns-then-is_empty-clause-flushed : goal.returns-then-is_empty-clause-flushed
+returns-then-is_empty-clause-flushed g c = let none = c.is_empty.ensures.0 c.if-is_empty.true in record { names = no_name _ _ _ none; memory = none; written = λ some. absurd (some none) }
+
+pub returns-then-is_empty-clause-full : goal.returns-then-is_empty-clause-full
+returns-then-is_empty-clause-full g c = (λ is. absurd (not_err _ _ is), λ both. absurd (both.0 (c.is_empty.ensures.0 c.if-is_empty.true)))
+
+pub returns-then-is_empty-clause-name : goal.returns-then-is_empty-clause-name
+returns-then-is_empty-clause-name g c = record { uses = inl (refl, refl); within = λ most. most }

@@ -1,7 +1,7 @@
 use Rattle.std.proofs.Common.{◌≡◌, ℕ, ◌+◌, ◌<◌, List, [], ◌∷◌, ◌++◌, map, take, length, get_or, append_assoc, arith}
 use Rattle.std.proofs.lemmas.List.{map_more}
-use Rattle.sorted_file.specs.Opened.{name_of}
-use Rattle.sorted_file.specs.declared.opened.SortedFile.{SortedFile}
+use Rattle.sorted_file.specs.File.{name_of}
+use Rattle.sorted_file.specs.declared.file.SortedFile.{SortedFile}
 use Rattle.tablet.proofs.tablet.Tablet.push_names.Goals as goal
 
 one_more : (start out new : List ℕ) (files items : List SortedFile) (i name : ℕ) (file : SortedFile) → i < length items → items ≡ files → file ≡ get_or items i file → name ≡ name_of file
@@ -13,7 +13,7 @@ one_more start out new files items i name file h same is named before after =
 
 pub loop-file-preserved : goal.loop-file-preserved
 loop-file-preserved c = record {
-  names = one_more _ _ _ _ _ _ _ _ c.loop-file-test.true c.deref-file-items.ensures.value c.file-item.is c.name.ensures c.loop-file.invariant.names c.push_name.ensures.items;
-  count = (let a = c.push_name.ensures.len in let b = c.loop-file.invariant.count in omega arith);
-  room = (let a = c.push_name.ensures.room in let b = c.loop-file.invariant.room in omega arith);
+  names = one_more _ _ _ _ _ _ _ _ c.loop-file-test.true c.deref-file-items.ensures.value c.file-item.is c.name.ensures c.loop-file.invariant.names c.push_reserved.ensures.items;
+  count = (let a = c.push_reserved.ensures.len in let b = c.loop-file.invariant.count in omega arith);
+  room = (let a = c.push_reserved.ensures.capacity in let b = c.loop-file.invariant.room in omega arith);
 }

@@ -1,5 +1,5 @@
 use Rattle.std.proofs.Common.{◌≡◌, ◌≤◌, ◌+◌, ◌++◌, map, take, length, vec_len, vec_capacity}
-use Rattle.sorted_file.specs.Opened.{name_of}
+use Rattle.sorted_file.specs.File.{name_of}
 use Rattle.tablet.proofs.tablet.Tablet.push_names.Given as goal
 
 abbrev pub invariant-loop-file : goal.invariant-loop-file

@@ -1,65 +1,28 @@
-use Rattle.std.proofs.Common.{inl}
+use Rattle.std.proofs.Common.{inl, refl, subst, sym, Option}
 use Rattle.std.proofs.lemmas.Result.{IfOk-weaker}
-use Rattle.sorted_file.specs.Sources.{IsReadRefusal}
-use Rattle.tablet.specs.Compactions.{IsMinorRefusal}
-use Rattle.tablet.proofs.Passed.{err_kind, err_map, minor_read, not_err, passed_err, passed_kept, passed_none, reason_after}
-use Rattle.tablet.proofs.SplitParts.{not_open, parts_after}
+use Rattle.sorted_file.specs.Source.{IsReadRefusal}
+use Rattle.file_store.specs.Store.{Contents}
+use Rattle.tablet.specs.Compactions.{IsMinorRefusal, TakesName}
+use Rattle.tablet.proofs.Passed.{err_kind, err_map, minor_read, not_err, passed_err, passed_kept, passed_none, passed_on, passed_over, reason_after}
+use Rattle.tablet.proofs.SplitParts.{cut_after, left_after, not_open, parts_after}
+use Rattle.tablet.proofs.WrittenFiles.{as_on_ok}
 use Rattle.tablet.proofs.tablet.Tablet.split.Goals as goal
 
 pub returns-clause-parts : goal.returns-clause-parts
 returns-clause-parts g c =
     IfOk-weaker c.cut.result _ _ (λ left parts. parts_after (g.F.Files.contents c.args.files.now) (g.F.Files.contents c.minor.new.files) _ c.args.next_name.now c.minor.new.next_name c.args.self.now c.minor.new.self left c.cut.new.self c.args.row.now c.in_ok-minor.ensures.range c.in_ok-minor.ensures.keeps (parts c.minor.new.next_name)) c.cut.ensures.parts
 
-pub returns-in_err-minor-clause-left_range : goal.returns-in_err-minor-clause-left_range
-returns-in_err-minor-clause-left_range g c = passed_none c.from_residual.result c.in_err-minor.field-0.0 _ c.from_residual.ensures.1
-
-pub returns-in_err-minor-clause-right_range : goal.returns-in_err-minor-clause-right_range
-returns-in_err-minor-clause-right_range g c = passed_none c.from_residual.result c.in_err-minor.field-0.0 _ c.from_residual.ensures.1
-
-pub returns-in_err-minor-clause-left_names : goal.returns-in_err-minor-clause-left_names
-returns-in_err-minor-clause-left_names g c = passed_none c.from_residual.result c.in_err-minor.field-0.0 _ c.from_residual.ensures.1
-
-pub returns-in_err-minor-clause-right_names : goal.returns-in_err-minor-clause-right_names
-returns-in_err-minor-clause-right_names g c = passed_none c.from_residual.result c.in_err-minor.field-0.0 _ c.from_residual.ensures.1
-
-pub returns-in_err-minor-clause-left_memory : goal.returns-in_err-minor-clause-left_memory
-returns-in_err-minor-clause-left_memory g c = passed_none c.from_residual.result c.in_err-minor.field-0.0 _ c.from_residual.ensures.1
-
-pub returns-in_err-minor-clause-right_memory : goal.returns-in_err-minor-clause-right_memory
-returns-in_err-minor-clause-right_memory g c = passed_none c.from_residual.result c.in_err-minor.field-0.0 _ c.from_residual.ensures.1
-
 pub returns-in_err-minor-clause-parts : goal.returns-in_err-minor-clause-parts
 returns-in_err-minor-clause-parts g c = passed_none c.from_residual.result c.in_err-minor.field-0.0 _ c.from_residual.ensures.1
 
-pub returns-in_err-minor-clause-room : goal.returns-in_err-minor-clause-room
-returns-in_err-minor-clause-room g c = passed_none c.from_residual.result c.in_err-minor.field-0.0 _ c.from_residual.ensures.1
-
 pub returns-in_err-minor-clause-left : goal.returns-in_err-minor-clause-left
-returns-in_err-minor-clause-left g c = passed_none c.from_residual.result c.in_err-minor.field-0.0 _ c.from_residual.ensures.1
-
-pub returns-in_err-minor-clause-fits : goal.returns-in_err-minor-clause-fits
-returns-in_err-minor-clause-fits g c = passed_none c.from_residual.result c.in_err-minor.field-0.0 _ c.from_residual.ensures.1
-
-pub returns-in_err-minor-clause-used : goal.returns-in_err-minor-clause-used
-returns-in_err-minor-clause-used g c = passed_none c.from_residual.result c.in_err-minor.field-0.0 _ c.from_residual.ensures.1
+returns-in_err-minor-clause-left g c = passed_kept c.from_residual.result _ (record { range = c.in_err-minor.ensures.range; empty = λ none. c.in_err-minor.ensures.err; may = inl c.in_err-minor.ensures.err })
 
 pub returns-in_err-minor-clause-keeps : goal.returns-in_err-minor-clause-keeps
 returns-in_err-minor-clause-keeps g c = passed_kept c.from_residual.result _ c.in_err-minor.ensures.keeps
 
-pub returns-in_err-minor-clause-err_range : goal.returns-in_err-minor-clause-err_range
-returns-in_err-minor-clause-err_range g c = passed_kept c.from_residual.result _ c.in_err-minor.ensures.range
-
-pub returns-in_err-minor-clause-err : goal.returns-in_err-minor-clause-err
-returns-in_err-minor-clause-err g c = passed_kept c.from_residual.result _ (λ none. c.in_err-minor.ensures.err)
-
-pub returns-in_err-minor-clause-may : goal.returns-in_err-minor-clause-may
-returns-in_err-minor-clause-may g c = passed_kept c.from_residual.result _ (inl c.in_err-minor.ensures.err)
-
 pub returns-in_err-minor-clause-name : goal.returns-in_err-minor-clause-name
 returns-in_err-minor-clause-name g c = c.in_err-minor.ensures.name
-
-pub returns-in_err-minor-clause-limit : goal.returns-in_err-minor-clause-limit
-returns-in_err-minor-clause-limit g c = c.in_err-minor.ensures.limit
 
 pub returns-in_err-minor-clause-refusal : goal.returns-in_err-minor-clause-refusal
 returns-in_err-minor-clause-refusal g c = passed_err c.from_residual.result c.in_err-minor.field-0.0 _ c.from_residual.ensures.1 c.in_err-minor.ensures.refusal
@@ -68,7 +31,7 @@ pub returns-in_err-minor-clause-empty : goal.returns-in_err-minor-clause-empty
 returns-in_err-minor-clause-empty g c = λ none. (c.in_err-minor.ensures.empty none).1.1
 
 pub returns-clause-full : goal.returns-clause-full
-returns-clause-full g c = λ is. absurd (err_kind c.cut.result _ IsReadRefusal c.cut.ensures.refusal is)
+returns-clause-full g c = (λ is. absurd (err_kind c.cut.result _ IsReadRefusal c.cut.ensures.refusal is), λ both. absurd (not_err _ _ (c.in_ok-minor.ensures.full.1 both)))
 
 pub returns-clause-exhausted : goal.returns-clause-exhausted
 returns-clause-exhausted g c = λ is. absurd (err_kind c.cut.result _ IsReadRefusal c.cut.ensures.refusal is)
@@ -85,8 +48,31 @@ returns-clause-refusal g c = err_map c.cut.result IsReadRefusal IsMinorRefusal m
 pub returns-clause-damaged : goal.returns-clause-damaged
 returns-clause-damaged g c = λ is. not_open (g.F.Files.contents c.args.files.now) (g.F.Files.contents c.minor.new.files) c.args.next_name.now c.minor.new.next_name c.args.self.now c.minor.new.self c.in_ok-minor.ensures.keeps (c.cut.ensures.damaged is)
 
-pub returns-clause-limit : goal.returns-clause-limit
-returns-clause-limit g c = c.in_ok-minor.ensures.limit
-
 pub returns-clause-reason : goal.returns-clause-reason
 returns-clause-reason g c = reason_after (g.F.Files.faults c.args.files.now) (g.F.Files.faults c.minor.new.files) (g.F.Files.faults c.cut.new.files) (c.in_ok-minor.ensures.reason.told (λ is. not_err _ _ is)) c.cut.ensures.reason
+
+pub returns-in_err-minor-clause-cut : goal.returns-in_err-minor-clause-cut
+returns-in_err-minor-clause-cut g c = passed_none c.from_residual.result c.in_err-minor.field-0.0 _ c.from_residual.ensures.1
+
+pub returns-in_err-minor-clause-written : goal.returns-in_err-minor-clause-written
+returns-in_err-minor-clause-written g c = passed_none c.from_residual.result c.in_err-minor.field-0.0 _ c.from_residual.ensures.1
+
+pub returns-in_err-minor-clause-full : goal.returns-in_err-minor-clause-full
+returns-in_err-minor-clause-full g c = (λ is. c.in_err-minor.ensures.full.0 (passed_on c.from_residual.result _ c.in_err-minor.field-0.0 _ c.from_residual.ensures.1 refl is), λ both. passed_over c.from_residual.result c.in_err-minor.field-0.0 _ c.from_residual.ensures.1 (c.in_err-minor.ensures.full.1 both))
+
+pub returns-clause-cut : goal.returns-clause-cut
+returns-clause-cut g c =
+    cut_after c.cut.result _ c.args.row.now c.args.self.now c.minor.new.self c.cut.new.self c.in_ok-minor.ensures.range c.in_ok-minor.ensures.flushed.names
+    c.cut.ensures.left_range c.cut.ensures.right_range c.cut.ensures.left_names c.cut.ensures.right_names c.cut.ensures.left_memory c.cut.ensures.right_memory
+
+pub returns-clause-written : goal.returns-clause-written
+returns-clause-written g c = as_on_ok c.cut.result c.in_ok-minor.ensures.flushed.written
+
+pub returns-clause-left : goal.returns-clause-left
+returns-clause-left g c =
+    left_after c.cut.result c.args.next_name.now c.args.self.now c.minor.new.self c.cut.new.self c.in_ok-minor.ensures.range (λ none. (c.in_ok-minor.ensures.empty none).1.0)
+    c.in_ok-minor.ensures.flushed.memory c.in_ok-minor.ensures.flushed.names c.cut.ensures.err
+
+pub returns-clause-name : goal.returns-clause-name
+returns-clause-name g c =
+    subst (λ (told : Option Contents). TakesName (g.F.Files.contents c.args.files.now) c.args.next_name.now told c.minor.new.next_name) (sym c.cut.ensures.same) c.in_ok-minor.ensures.name

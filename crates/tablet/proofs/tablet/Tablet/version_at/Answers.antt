@@ -1,8 +1,8 @@
 use Rattle.std.proofs.Common.{length, refl, sym, ap, subst, ◌∙◌}
 use Rattle.std.proofs.lemmas.List.{with_items_is}
 use Rattle.std.specs.List.{AllByRecursion}
-use Rattle.sorted_file.specs.Opened.{IsOpen}
-use Rattle.sorted_file.specs.Sources.{IsReadRefusal}
+use Rattle.sorted_file.specs.File.{IsOpen}
+use Rattle.sorted_file.specs.Source.{IsReadRefusal}
 use Rattle.tablet.specs.Views.{Holds}
 use Rattle.tablet.proofs.Lookups.{one_none, one_some}
 use Rattle.tablet.proofs.Passed.{IsNoMemory, no_memory, not_err, passed_err, passed_kind, passed_none, passed_on, passed_reason, quiet_reason, reason_of_ok}

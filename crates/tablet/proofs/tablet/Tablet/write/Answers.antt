@@ -3,7 +3,7 @@ use Rattle.std.proofs.lemmas.List.{length-map}
 use Rattle.std.specs.Option.{option_copied}
 use Rattle.cell_key.specs.Entries.{Entry}
 use Rattle.sorted_file.specs.Grammar.{FitsIn}
-use Rattle.sorted_file.specs.Opened.{listed}
+use Rattle.sorted_file.specs.File.{listed}
 use Rattle.tablet.specs.Compactions.{IsCompactionRefusal, compacted}
 use Rattle.tablet.specs.Sources.{listed_in, lists_over}
 use Rattle.tablet.specs.Views.{Holds, files_of, memory_of, range_of}
@@ -15,23 +15,23 @@ pub returns-clause-made : goal.returns-clause-made
 returns-clause-made g c =
     if_ok_holds c.write_new.result (g.F.Files.contents c.args.files.now) _ _ (λ m. Holds m c.args.self.now) _ (λ m. compacted c.args.compaction (range_of c.args.self.now) (memory_of c.args.self.now) (map (listed m) (files_of c.args.self.now)))
     (λ m h. c.in_ok-sources.ensures.start (Some m) (c.inputs.ensures.open (Some m) (reads_held c.args.compaction m c.args.self.now h)))
-    (λ m h. compacts c.args.compaction (range_of c.args.self.now) (memory_of c.args.self.now) (map (listed_in (Some m)) (files_of c.args.self.now)) (length (files_of c.args.self.now)) _ c.deref.result.now (option_copied c.lend-end.result) (lists_over (Some m) (option_copied c.inputs.result.0) c.inputs.result.1.now) _
-    (c.in_ok-sources.ensures.entries (Some m) (c.inputs.ensures.open (Some m) (reads_held c.args.compaction m c.args.self.now h))) (length-map (files_of c.args.self.now) (listed_in (Some m))) c.keeps_erasures-keep_erasures.ensures (c.deref.ensures.value ∙ c.in_ok-from.ensures.from) (c.lend-end.ensures ∙ c.in_ok-from.ensures.end) (c.inputs.ensures.lists (Some m)) (c.in_ok-sources.ensures.lists (Some m) (c.inputs.ensures.open (Some m) (reads_held c.args.compaction m c.args.self.now h))))
+    (λ m h. compacts c.args.compaction (range_of c.args.self.now) (memory_of c.args.self.now) (map (listed_in (Some m)) (files_of c.args.self.now)) (length (files_of c.args.self.now)) _ c.deref.result.now (option_copied c.as_deref.result) (lists_over (Some m) (option_copied c.inputs.result.0) c.inputs.result.1.now) _
+    (c.in_ok-sources.ensures.entries (Some m) (c.inputs.ensures.open (Some m) (reads_held c.args.compaction m c.args.self.now h))) (length-map (files_of c.args.self.now) (listed_in (Some m))) c.keeps_erasures-keep_erasures.ensures (c.deref.ensures.value ∙ c.in_ok-from.ensures.from) (c.as_deref.ensures.value ∙ c.in_ok-from.ensures.end) (c.inputs.ensures.lists (Some m)) (c.in_ok-sources.ensures.lists (Some m) (c.inputs.ensures.open (Some m) (reads_held c.args.compaction m c.args.self.now h))))
     c.write_new.ensures.made
 
 pub returns-clause-large : goal.returns-clause-large
 returns-clause-large g c = λ err reads.
     subst (λ (es : List Entry). ¬ FitsIn c.args.file_limit es)
-    (compacts c.args.compaction (range_of c.args.self.now) (memory_of c.args.self.now) (map (listed_in (g.F.Files.contents c.args.files.now)) (files_of c.args.self.now)) (length (files_of c.args.self.now)) _ c.deref.result.now (option_copied c.lend-end.result) (lists_over (g.F.Files.contents c.args.files.now) (option_copied c.inputs.result.0) c.inputs.result.1.now) _
-    (c.in_ok-sources.ensures.entries (g.F.Files.contents c.args.files.now) (c.inputs.ensures.open (g.F.Files.contents c.args.files.now) reads)) (length-map (files_of c.args.self.now) (listed_in (g.F.Files.contents c.args.files.now))) c.keeps_erasures-keep_erasures.ensures (c.deref.ensures.value ∙ c.in_ok-from.ensures.from) (c.lend-end.ensures ∙ c.in_ok-from.ensures.end) (c.inputs.ensures.lists (g.F.Files.contents c.args.files.now)) (c.in_ok-sources.ensures.lists (g.F.Files.contents c.args.files.now) (c.inputs.ensures.open (g.F.Files.contents c.args.files.now) reads)))
+    (compacts c.args.compaction (range_of c.args.self.now) (memory_of c.args.self.now) (map (listed_in (g.F.Files.contents c.args.files.now)) (files_of c.args.self.now)) (length (files_of c.args.self.now)) _ c.deref.result.now (option_copied c.as_deref.result) (lists_over (g.F.Files.contents c.args.files.now) (option_copied c.inputs.result.0) c.inputs.result.1.now) _
+    (c.in_ok-sources.ensures.entries (g.F.Files.contents c.args.files.now) (c.inputs.ensures.open (g.F.Files.contents c.args.files.now) reads)) (length-map (files_of c.args.self.now) (listed_in (g.F.Files.contents c.args.files.now))) c.keeps_erasures-keep_erasures.ensures (c.deref.ensures.value ∙ c.in_ok-from.ensures.from) (c.as_deref.ensures.value ∙ c.in_ok-from.ensures.end) (c.inputs.ensures.lists (g.F.Files.contents c.args.files.now)) (c.in_ok-sources.ensures.lists (g.F.Files.contents c.args.files.now) (c.inputs.ensures.open (g.F.Files.contents c.args.files.now) reads)))
     (c.write_new.ensures.large err (c.in_ok-sources.ensures.start (g.F.Files.contents c.args.files.now) (c.inputs.ensures.open (g.F.Files.contents c.args.files.now) reads)))
 
 pub returns-clause-fits : goal.returns-clause-fits
 returns-clause-fits g c =
     on_ok_map c.write_new.result
     (λ fits reads. subst (λ (es : List Entry). FitsIn c.args.file_limit es)
-    (compacts c.args.compaction (range_of c.args.self.now) (memory_of c.args.self.now) (map (listed_in (g.F.Files.contents c.args.files.now)) (files_of c.args.self.now)) (length (files_of c.args.self.now)) _ c.deref.result.now (option_copied c.lend-end.result) (lists_over (g.F.Files.contents c.args.files.now) (option_copied c.inputs.result.0) c.inputs.result.1.now) _
-    (c.in_ok-sources.ensures.entries (g.F.Files.contents c.args.files.now) (c.inputs.ensures.open (g.F.Files.contents c.args.files.now) reads)) (length-map (files_of c.args.self.now) (listed_in (g.F.Files.contents c.args.files.now))) c.keeps_erasures-keep_erasures.ensures (c.deref.ensures.value ∙ c.in_ok-from.ensures.from) (c.lend-end.ensures ∙ c.in_ok-from.ensures.end) (c.inputs.ensures.lists (g.F.Files.contents c.args.files.now)) (c.in_ok-sources.ensures.lists (g.F.Files.contents c.args.files.now) (c.inputs.ensures.open (g.F.Files.contents c.args.files.now) reads)))
+    (compacts c.args.compaction (range_of c.args.self.now) (memory_of c.args.self.now) (map (listed_in (g.F.Files.contents c.args.files.now)) (files_of c.args.self.now)) (length (files_of c.args.self.now)) _ c.deref.result.now (option_copied c.as_deref.result) (lists_over (g.F.Files.contents c.args.files.now) (option_copied c.inputs.result.0) c.inputs.result.1.now) _
+    (c.in_ok-sources.ensures.entries (g.F.Files.contents c.args.files.now) (c.inputs.ensures.open (g.F.Files.contents c.args.files.now) reads)) (length-map (files_of c.args.self.now) (listed_in (g.F.Files.contents c.args.files.now))) c.keeps_erasures-keep_erasures.ensures (c.deref.ensures.value ∙ c.in_ok-from.ensures.from) (c.as_deref.ensures.value ∙ c.in_ok-from.ensures.end) (c.inputs.ensures.lists (g.F.Files.contents c.args.files.now)) (c.in_ok-sources.ensures.lists (g.F.Files.contents c.args.files.now) (c.inputs.ensures.open (g.F.Files.contents c.args.files.now) reads)))
     (fits (c.in_ok-sources.ensures.start (g.F.Files.contents c.args.files.now) (c.inputs.ensures.open (g.F.Files.contents c.args.files.now) reads))))
     c.write_new.ensures.fits
 

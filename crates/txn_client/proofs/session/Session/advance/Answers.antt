@@ -1,21 +1,23 @@
 use Rattle.std.proofs.Common.{ℕ, ◌≡◌, ◌≤◌, inl, inr, length, refl, ap, ◌∙◌, subst, sym, IfErr}
-use Rattle.std.proofs.lemmas.Result.{IfOk-weaker}
-use Rattle.std.specs.Result.{IsErrOf}
+use Rattle.std.proofs.lemmas.Result.{IfOk-weaker, on_err_weaker}
+use Rattle.std.specs.Prelude.{Option}
+use Rattle.std.specs.Result.{IsErrOf, OnErr}
 use Rattle.std.specs.declared.result.Result.{Result}
 use Rattle.std.specs.declared.result.Result.TheVariants.{Ok, Err}
 use Rattle.cell_key.specs.Cells.{Cells}
 use Rattle.cell_key.specs.declared.refusals.Refusal.{Refusal}
 use Rattle.cell_key.specs.declared.refusals.Refusal.TheVariants.{EmptyCommit, MemtableFull, Exhausted, Device, NoMemory, Damaged}
 use Rattle.cell_key.proofs.Reasons.{not_refused}
-use Rattle.oracle.specs.Ranges.{IsDrawRefusal}
+use Rattle.oracle.specs.Marks.{MayHold}
+use Rattle.oracle.specs.Ranges.{IsDrawRefusal, OracleState, next_range_end}
+use Rattle.row_atomic.specs.Calls.{OnlyReads, View}
 use Rattle.row_atomic.proofs.Calls.{reads_none}
 use Rattle.txn_client.specs.Shows.{Advances, DrawsNext, HasNoNext, top_after}
-use Rattle.txn_client.specs.Refusals.{IsAdvanceRefusal, IsCellStepRefusal}
+use Rattle.txn_client.specs.Refusals.{IsAdvanceRefusal, IsCellStepRefusal, StepLeaves}
 use Rattle.txn_client.specs.declared.session.Phase.{Phase}
 use Rattle.txn_client.specs.declared.session.Phase.TheVariants.{Open, Holding, Stamped, Finishing}
 use Rattle.txn_client.proofs.Room.{does_so, edits_in, no_room_so, stamped_does}
-use Rattle.txn_client.proofs.Sessions.{ok_at}
-use Rattle.txn_client.proofs.Passed.{passed_kept}
+use Rattle.txn_client.proofs.SessionSteps.{ok_at}
 use Rattle.txn_client.proofs.session.Session.advance.Goals as goal
 
 not_held_open : (p : Phase) (k : ℕ) → p ≡ Open → p ≡ Holding k → ⊥
@@ -73,6 +75,18 @@ not_exhausted : {A : Type 0} (r : Result A Refusal) (Holds P : Type 0) → IfErr
 not_exhausted (Ok x) H P h is = not_refused x Exhausted is
 not_exhausted (Err e) H P h is = let same : e ≡ Exhausted = cc in subst (IsCellStepRefusal H P) same h
 
+-- what a refused step on a cell leaves, which doesn't come to the oracle
+left_aside : {A R M : Type 0} (seen : View R) (mark_of : M → Option ℕ) (old new : R) (oracle : OracleState M) (r : Result A Refusal)
+    → OnErr r (OnlyReads seen old new) → OnErr r (StepLeaves seen mark_of old new oracle oracle)
+left_aside seen mark_of old new oracle r = on_err_weaker r (λ same. record { same = same; stays = refl; mark = inl refl })
+
+-- and a refused draw, which doesn't come to the rows
+left_undrawn : {A R M : Type 0} (seen : View R) (mark_of : M → Option ℕ) (rows : R) (old new : OracleState M) (r : Result A Refusal)
+    → OnErr r (new.last ≡ old.last) → OnErr r (MayHold (next_range_end old.range_end) (mark_of old.marks) (mark_of new.marks))
+    → OnErr r (StepLeaves seen mark_of rows rows old new)
+left_undrawn seen mark_of rows old new (Ok x) stays mark = tt
+left_undrawn seen mark_of rows old new (Err e) stays mark = record { same = reads_none; stays = stays; mark = mark }
+
 pub hold_next-requires : goal.hold_next-requires
 hold_next-requires g c = inr (c.in-Open.is, refl)
 
@@ -93,27 +107,23 @@ returns-in-Open g c =
     let at = c.hold_next.ensures in
     let r = c.hold_next.result in
     let rows = c.args.rows.now in
-    let holds = g.R.Rows.holds rows in
-    let cells = g.R.Rows.cells rows in
+    let holds = g.R.Rows.seen.holds rows in
+    let cells = g.R.Rows.seen.cells rows in
     let session = c.args.self.now in
     record {
-      step = λ held. ok_at (λ o (n : ℕ). Advances cells session n o (g.R.Rows.cells c.hold_next.new.rows) c.hold_next.new.self n) r (at.step held) c.args.oracle.now.last;
+      step = λ held. ok_at (λ o (n : ℕ). Advances cells session n o (g.R.Rows.seen.cells c.hold_next.new.rows) c.hold_next.new.self n) r (at.step held) c.args.oracle.now.last;
       draws = ok_at (λ o (n : ℕ). (DrawsNext n o.progress) × (n ≡ top_after n o.progress)) r at.draws c.args.oracle.now.last;
       start = at.start;
       writes = at.writes;
       err = at.err;
-      stays = passed_kept r _ refl;
-      mark = passed_kept r _ (inl refl);
-      does = IfOk-weaker r _ _ (λ o. does_so g.R.Rows.holds g.R.Rows.cells g.R.Rows.overfills g.R.Rows.storage rows c.hold_next.new.rows o.progress (edits_in holds cells session (Open) c.in-Open.is)) at.does;
-      same = at.same;
+      refused = left_aside _ _ _ _ _ r at.same;
+      does = IfOk-weaker r _ _ (λ o. does_so g.R.Rows.seen rows c.hold_next.new.rows o.progress (edits_in holds cells session (Open) c.in-Open.is)) at.does;
       refusal = cell_refused r holds _ _ (λ none. subst (λ (p : Phase). HasNoNext p (length session.writes)) (sym c.in-Open.is) none) at.refusal;
       empty = λ is. at.empty;
       drawing = λ is. absurd (not_held_open _ _ c.in-Open.is is);
-      full = λ is. no_room_so g.R.Rows.overfills rows (edits_in holds cells session (Open) c.in-Open.is) (at.full is);
-      exhausted = λ is. absurd (not_exhausted r _ _ at.refusal is);
-      draw_only = λ is. absurd (not_exhausted r _ _ at.refusal is);
+      full = λ is. no_room_so g.R.Rows.seen.overfills rows (edits_in holds cells session (Open) c.in-Open.is) (at.full is);
+      no_stamp = λ is. absurd (not_exhausted r _ _ at.refusal is);
       aside = λ other. refl;
-      undrawn = λ is. absurd (not_exhausted r _ _ at.refusal is);
       reason = inl (at.reason, refl);
     }
 
@@ -124,23 +134,19 @@ returns-then-k-len g c =
     let rows = c.args.rows.now in
     let all = held_all _ _ _ _ c.in-Holding.is c.if-k-len.true c.len.ensures.len in
     record {
-      step = λ held. ok_at (λ o (cells : Cells). Advances cells c.args.self.now c.args.oracle.now.last o cells c.draw_commit.new.self c.draw_commit.new.oracle.last) r at.step (g.R.Rows.cells rows);
+      step = λ held. ok_at (λ o (cells : Cells). Advances cells c.args.self.now c.args.oracle.now.last o cells c.draw_commit.new.self c.draw_commit.new.oracle.last) r at.step (g.R.Rows.seen.cells rows);
       draws = at.draws;
       start = at.start;
       writes = at.writes;
       err = at.err;
-      stays = at.stays;
-      mark = at.mark;
-      does = IfOk-weaker r _ _ (λ o. stamped_does g.R.Rows.holds g.R.Rows.cells g.R.Rows.overfills g.R.Rows.storage rows _ o.progress) at.stamped;
-      same = passed_kept r _ reads_none;
+      refused = left_undrawn _ _ _ _ _ r at.stays at.mark;
+      does = IfOk-weaker r _ _ (λ o. stamped_does g.R.Rows.seen rows _ o.progress) at.stamped;
       refusal = draw_refused r _ _ at.refusal;
       empty = λ is. absurd (not_held_open _ _ is c.in-Holding.is);
       drawing = λ is. at.refusal;
       full = λ is. absurd (draw_not r MemtableFull (λ u. u) at.refusal is);
-      exhausted = at.exhausted;
-      draw_only = λ is. all;
+      no_stamp = λ is. record { exhausted = at.exhausted is; draw_only = all; undrawn = at.undrawn is };
       aside = λ other. absurd (other all);
-      undrawn = at.undrawn;
       reason = inr (at.reason, refl);
     }
 
@@ -149,27 +155,23 @@ returns-else-k-len g c =
     let at = c.hold_next-else-k-len.ensures in
     let r = c.hold_next-else-k-len.result in
     let rows = c.args.rows.now in
-    let holds = g.R.Rows.holds rows in
-    let cells = g.R.Rows.cells rows in
+    let holds = g.R.Rows.seen.holds rows in
+    let cells = g.R.Rows.seen.cells rows in
     let session = c.args.self.now in
     record {
-      step = λ held. ok_at (λ o (n : ℕ). Advances cells session n o (g.R.Rows.cells c.hold_next-else-k-len.new.rows) c.hold_next-else-k-len.new.self n) r (at.step held) c.args.oracle.now.last;
+      step = λ held. ok_at (λ o (n : ℕ). Advances cells session n o (g.R.Rows.seen.cells c.hold_next-else-k-len.new.rows) c.hold_next-else-k-len.new.self n) r (at.step held) c.args.oracle.now.last;
       draws = ok_at (λ o (n : ℕ). (DrawsNext n o.progress) × (n ≡ top_after n o.progress)) r at.draws c.args.oracle.now.last;
       start = at.start;
       writes = at.writes;
       err = at.err;
-      stays = passed_kept r _ refl;
-      mark = passed_kept r _ (inl refl);
-      does = IfOk-weaker r _ _ (λ o. does_so g.R.Rows.holds g.R.Rows.cells g.R.Rows.overfills g.R.Rows.storage rows c.hold_next-else-k-len.new.rows o.progress (edits_in holds cells session (Holding c.in-Holding.k) c.in-Holding.is)) at.does;
-      same = at.same;
+      refused = left_aside _ _ _ _ _ r at.same;
+      does = IfOk-weaker r _ _ (λ o. does_so g.R.Rows.seen rows c.hold_next-else-k-len.new.rows o.progress (edits_in holds cells session (Holding c.in-Holding.k) c.in-Holding.is)) at.does;
       refusal = cell_refused r holds _ _ (no_next _ _ _ _ c.in-Holding.is c.if-k-len.false c.len.ensures.len) at.refusal;
       empty = λ is. absurd (not_held_open _ _ is c.in-Holding.is);
       drawing = λ is. absurd (held_some _ _ _ _ c.in-Holding.is c.if-k-len.false c.len.ensures.len is);
-      full = λ is. no_room_so g.R.Rows.overfills rows (edits_in holds cells session (Holding c.in-Holding.k) c.in-Holding.is) (at.full is);
-      exhausted = λ is. absurd (not_exhausted r _ _ at.refusal is);
-      draw_only = λ is. absurd (not_exhausted r _ _ at.refusal is);
+      full = λ is. no_room_so g.R.Rows.seen.overfills rows (edits_in holds cells session (Holding c.in-Holding.k) c.in-Holding.is) (at.full is);
+      no_stamp = λ is. absurd (not_exhausted r _ _ at.refusal is);
       aside = λ other. refl;
-      undrawn = λ is. absurd (not_exhausted r _ _ at.refusal is);
       reason = inl (at.reason, refl);
     }
 
@@ -178,27 +180,23 @@ returns-in-Stamped g c =
     let at = c.commit_first.ensures in
     let r = c.commit_first.result in
     let rows = c.args.rows.now in
-    let holds = g.R.Rows.holds rows in
-    let cells = g.R.Rows.cells rows in
+    let holds = g.R.Rows.seen.holds rows in
+    let cells = g.R.Rows.seen.cells rows in
     let session = c.args.self.now in
     record {
-      step = λ held. ok_at (λ o (n : ℕ). Advances cells session n o (g.R.Rows.cells c.commit_first.new.rows) c.commit_first.new.self n) r (at.step held) c.args.oracle.now.last;
+      step = λ held. ok_at (λ o (n : ℕ). Advances cells session n o (g.R.Rows.seen.cells c.commit_first.new.rows) c.commit_first.new.self n) r (at.step held) c.args.oracle.now.last;
       draws = ok_at (λ o (n : ℕ). (DrawsNext n o.progress) × (n ≡ top_after n o.progress)) r at.draws c.args.oracle.now.last;
       start = at.start;
       writes = at.writes;
       err = at.err;
-      stays = passed_kept r _ refl;
-      mark = passed_kept r _ (inl refl);
-      does = IfOk-weaker r _ _ (λ o. does_so g.R.Rows.holds g.R.Rows.cells g.R.Rows.overfills g.R.Rows.storage rows c.commit_first.new.rows o.progress (edits_in holds cells session (Stamped) c.in-Stamped.is)) at.does;
-      same = at.same;
+      refused = left_aside _ _ _ _ _ r at.same;
+      does = IfOk-weaker r _ _ (λ o. does_so g.R.Rows.seen rows c.commit_first.new.rows o.progress (edits_in holds cells session (Stamped) c.in-Stamped.is)) at.does;
       refusal = cell_refused r holds _ _ (λ none. subst (λ (p : Phase). HasNoNext p (length session.writes)) (sym c.in-Stamped.is) none) at.refusal;
       empty = λ is. absurd (not_open_stamped _ c.in-Stamped.is is);
       drawing = λ is. absurd (not_held_stamped _ _ c.in-Stamped.is is);
-      full = λ is. no_room_so g.R.Rows.overfills rows (edits_in holds cells session (Stamped) c.in-Stamped.is) (at.full is);
-      exhausted = λ is. absurd (not_exhausted r _ _ at.refusal is);
-      draw_only = λ is. absurd (not_exhausted r _ _ at.refusal is);
+      full = λ is. no_room_so g.R.Rows.seen.overfills rows (edits_in holds cells session (Stamped) c.in-Stamped.is) (at.full is);
+      no_stamp = λ is. absurd (not_exhausted r _ _ at.refusal is);
       aside = λ other. refl;
-      undrawn = λ is. absurd (not_exhausted r _ _ at.refusal is);
       reason = inl (at.reason, refl);
     }
 
@@ -207,26 +205,22 @@ returns-in-Finishing g c =
     let at = c.finish_next.ensures in
     let r = c.finish_next.result in
     let rows = c.args.rows.now in
-    let holds = g.R.Rows.holds rows in
-    let cells = g.R.Rows.cells rows in
+    let holds = g.R.Rows.seen.holds rows in
+    let cells = g.R.Rows.seen.cells rows in
     let session = c.args.self.now in
     record {
-      step = λ held. ok_at (λ o (n : ℕ). Advances cells session n o (g.R.Rows.cells c.finish_next.new.rows) c.finish_next.new.self n) r (at.step held) c.args.oracle.now.last;
+      step = λ held. ok_at (λ o (n : ℕ). Advances cells session n o (g.R.Rows.seen.cells c.finish_next.new.rows) c.finish_next.new.self n) r (at.step held) c.args.oracle.now.last;
       draws = ok_at (λ o (n : ℕ). (DrawsNext n o.progress) × (n ≡ top_after n o.progress)) r at.draws c.args.oracle.now.last;
       start = at.start;
       writes = at.writes;
       err = at.err;
-      stays = passed_kept r _ refl;
-      mark = passed_kept r _ (inl refl);
-      does = IfOk-weaker r _ _ (λ o. does_so g.R.Rows.holds g.R.Rows.cells g.R.Rows.overfills g.R.Rows.storage rows c.finish_next.new.rows o.progress (edits_in holds cells session (Finishing c.in-Finishing.k) c.in-Finishing.is)) at.does;
-      same = at.same;
+      refused = left_aside _ _ _ _ _ r at.same;
+      does = IfOk-weaker r _ _ (λ o. does_so g.R.Rows.seen rows c.finish_next.new.rows o.progress (edits_in holds cells session (Finishing c.in-Finishing.k) c.in-Finishing.is)) at.does;
       refusal = cell_refused r holds _ _ (λ none. subst (λ (p : Phase). HasNoNext p (length session.writes)) (sym c.in-Finishing.is) none) at.refusal;
       empty = λ is. absurd (not_open_finishing _ _ c.in-Finishing.is is);
       drawing = λ is. absurd (not_held_finishing _ _ _ c.in-Finishing.is is);
-      full = λ is. no_room_so g.R.Rows.overfills rows (edits_in holds cells session (Finishing c.in-Finishing.k) c.in-Finishing.is) (at.full is);
-      exhausted = λ is. absurd (not_exhausted r _ _ at.refusal is);
-      draw_only = λ is. absurd (not_exhausted r _ _ at.refusal is);
+      full = λ is. no_room_so g.R.Rows.seen.overfills rows (edits_in holds cells session (Finishing c.in-Finishing.k) c.in-Finishing.is) (at.full is);
+      no_stamp = λ is. absurd (not_exhausted r _ _ at.refusal is);
       aside = λ other. refl;
-      undrawn = λ is. absurd (not_exhausted r _ _ at.refusal is);
       reason = inl (at.reason, refl);
     }

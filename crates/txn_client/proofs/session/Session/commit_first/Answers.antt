@@ -2,7 +2,7 @@ use Rattle.std.proofs.Common.{◌∙◌, refl, ap}
 use Rattle.std.specs.Prelude.{nat_eq}
 use Rattle.cell_key.proofs.Reasons.{not_refused, reason_kept, reason_none, reason_passed}
 use Rattle.row_atomic.proofs.Calls.{reads_none, such_so}
-use Rattle.txn_client.proofs.Sessions.{advance_lost, advance_committed}
+use Rattle.txn_client.proofs.SessionSteps.{advance_lost, advance_committed}
 use Rattle.si_model.specs.ShowsCells.{kind_of_change}
 use Rattle.si_model.proofs.EditedCells.{make_cells}
 use Rattle.txn_client.proofs.Room.{no_room_so}
@@ -38,7 +38,7 @@ returns-in_err-record g c =
       does = passed_none r e _ by;
       same = passed_kept r _ at.err;
       refusal = passed_err r e _ by (row_step _ _ e at.refusal);
-      full = λ is. no_room_so g.R.Rows.overfills c.args.rows.now (λ row edits such. (c.in-Some.first.now, c.in-Some.ensures.found, rw c.kind-kind.ensures at such)) (at.full (passed_on r _ e _ by refl is));
+      full = λ is. no_room_so g.R.Rows.seen.overfills c.args.rows.now (λ row edits such. (c.in-Some.first.now, c.in-Some.ensures.found, rw c.kind-kind.ensures at such)) (at.full (passed_on r _ e _ by refl is));
       reason = reason_passed r e _ _ by at.reason;
     }
 
@@ -48,8 +48,8 @@ returns-then-not-branch g c =
     let left = rw c.if-not-branch.true at at.left in
     record {
       step = λ held last.
-          advance_lost (g.R.Rows.cells c.args.rows.now) c.args.self.now last c.in-Some.first.now c.requires c.in-Some.ensures.found
-          (rw c.if-not-branch.true at (at.gone held)) (g.R.Rows.cells c.record.new.rows) (left.kept held);
+          advance_lost (g.R.Rows.seen.cells c.args.rows.now) c.args.self.now last c.in-Some.first.now c.requires c.in-Some.ensures.found
+          (rw c.if-not-branch.true at (at.gone held)) (g.R.Rows.seen.cells c.record.new.rows) (left.kept held);
       draws = λ last. (tt, refl);
       start = refl;
       writes = refl;
@@ -63,7 +63,7 @@ returns-then-not-branch g c =
 
 pub returns : goal.returns
 returns g c =
-    let cells = g.R.Rows.cells c.args.rows.now in
+    let cells = g.R.Rows.seen.cells c.args.rows.now in
     let first = c.in-Some.first.now in
     let session = c.args.self.now in
     let stood = rw c.kind-kind.ensures at c.in_ok-record.ensures.made in
@@ -71,7 +71,7 @@ returns g c =
     record {
       step = λ held last.
           rw c.stamp.ensures.stamp (advance_committed cells session last first (nat_eq 1 c.len.result) c.requires c.in-Some.ensures.found
-          (made.such.1 held) (ap (nat_eq 1) c.len.ensures.len) (g.R.Rows.cells c.record.new.rows) (made.applied.made held ∙ (make_cells cells first.cell session.start made.edits).recorded session.commit (kind_of_change first.value) made.such.2));
+          (made.such.1 held) (ap (nat_eq 1) c.len.ensures.len) (g.R.Rows.seen.cells c.record.new.rows) (made.applied.made held ∙ (make_cells cells first.cell session.start made.edits).recorded session.commit (kind_of_change first.value) made.such.2));
       draws = λ last. (tt, refl);
       start = refl;
       writes = refl;

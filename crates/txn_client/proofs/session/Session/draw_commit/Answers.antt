@@ -1,5 +1,5 @@
 use Rattle.cell_key.proofs.Reasons.{not_refused, reason_passed}
-use Rattle.txn_client.proofs.Sessions.{advance_drawn}
+use Rattle.txn_client.proofs.SessionSteps.{advance_drawn}
 use Rattle.txn_client.proofs.session.Session.draw_commit.Goals as goal
 
 pub returns-clause-step : goal.returns-clause-step

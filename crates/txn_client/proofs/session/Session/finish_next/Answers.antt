@@ -3,7 +3,7 @@ use Rattle.std.specs.Prelude.{nat_eq}
 use Rattle.std.specs.Bool.{OnTrue, OnFalse}
 use Rattle.cell_key.proofs.Reasons.{not_refused, reason_kept, reason_none, reason_passed}
 use Rattle.row_atomic.proofs.Calls.{reads_none, such_so}
-use Rattle.txn_client.proofs.Sessions.{advance_finished}
+use Rattle.txn_client.proofs.SessionSteps.{advance_finished}
 use Rattle.si_model.specs.ShowsCells.{kind_of_change}
 use Rattle.si_model.proofs.EditedCells.{make_cells}
 use Rattle.txn_client.proofs.Room.{no_room_so}
@@ -47,7 +47,7 @@ returns-in_err-_stood g c =
       does = passed_none r e _ by;
       same = passed_kept r _ at.err;
       refusal = passed_err r e _ by (row_step _ _ e at.refusal);
-      full = λ is. no_room_so g.R.Rows.overfills c.args.rows.now (λ row edits such. (c.in-Some.write.now, c.in-Some.ensures.found, rw c.kind-kind.ensures at such)) (at.full (passed_on r _ e _ by refl is));
+      full = λ is. no_room_so g.R.Rows.seen.overfills c.args.rows.now (λ row edits such. (c.in-Some.write.now, c.in-Some.ensures.found, rw c.kind-kind.ensures at such)) (at.full (passed_on r _ e _ by refl is));
       reason = reason_passed r e _ _ by at.reason;
     }
 
@@ -56,13 +56,13 @@ returns g c =
     let at = c.in_ok-_stood.ensures in
     let stood = c.in_ok-_stood._stood in
     let put = rw c.kind-kind.ensures at at.made in
-    let cells = g.R.Rows.cells c.args.rows.now in
+    let cells = g.R.Rows.seen.cells c.args.rows.now in
     let write = c.in-Some.write.now in
     let session = c.args.self.now in
     record {
       step = λ held last.
           advance_finished cells session last c.args.k c.len.result write (nat_eq (c.args.k + 1) c.len-2.result) c.requires
-          c.in-Some.ensures.found c.len.ensures.len (ap (nat_eq (c.args.k + 1)) (c.len-2.ensures.len ∙ sym c.len.ensures.len)) (g.R.Rows.cells c.record.new.rows)
+          c.in-Some.ensures.found c.len.ensures.len (ap (nat_eq (c.args.k + 1)) (c.len-2.ensures.len ∙ sym c.len.ensures.len)) (g.R.Rows.seen.cells c.record.new.rows)
           (elim (with_gone stood put (at.gone held) at.left) [
             | inl made ↦ inl (made.such.1 held, made.applied.made held ∙ (make_cells cells write.cell session.start made.edits).recorded session.commit (kind_of_change write.value) made.such.2)
             | inr left ↦ inr (left.0, left.1.kept held)

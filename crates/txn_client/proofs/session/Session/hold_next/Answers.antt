@@ -3,7 +3,7 @@ use Rattle.cell_key.specs.Cells.{Cells, after_edits}
 use Rattle.cell_key.proofs.Reasons.{not_refused, reason_kept, reason_none, reason_passed}
 use Rattle.row_atomic.proofs.Calls.{reads_none, reads_then, such_after, such_so}
 use Rattle.txn_client.specs.Reads.{IsTaken, IsFree}
-use Rattle.txn_client.proofs.Sessions.{advance_conflict, advance_held}
+use Rattle.txn_client.proofs.SessionSteps.{advance_conflict, advance_held}
 use Rattle.txn_client.proofs.Room.{holding_makes}
 use Rattle.txn_client.proofs.Passed.{passed_on, passed_err, passed_none, passed_kept, read_row, apply_row, row_step, read_not_full, reason_untouched, apply_no_device, empty_not_full, empty_no_device, at_most_more, not_past}
 use Rattle.txn_client.proofs.session.Session.hold_next.Goals as goal
@@ -64,8 +64,8 @@ returns-then-branch g c =
     let at = c.in_ok-is_taken.ensures in
     record {
       step = λ held last.
-          advance_conflict (g.R.Rows.cells c.args.rows.now) c.args.self.now last c.args.k write c.requires c.in-Some.ensures.found
-          (subst (λ (n : ℕ). IsTaken (g.R.Rows.cells c.args.rows.now) write.cell n) c.stamp-start.ensures.stamp (rw c.if-branch.true at (at.taken held))) (g.R.Rows.cells c.is_taken.new.rows) (at.reads.kept held);
+          advance_conflict (g.R.Rows.seen.cells c.args.rows.now) c.args.self.now last c.args.k write c.requires c.in-Some.ensures.found
+          (subst (λ (n : ℕ). IsTaken (g.R.Rows.seen.cells c.args.rows.now) write.cell n) c.stamp-start.ensures.stamp (rw c.if-branch.true at (at.taken held))) (g.R.Rows.seen.cells c.is_taken.new.rows) (at.reads.kept held);
       draws = λ last. (tt, refl);
       start = refl;
       writes = refl;
@@ -85,7 +85,7 @@ returns-in_err-hold g c =
     let by = c.from_residual-in_err-hold.ensures.1 in
     let first = c.in_ok-is_taken.ensures in
     let at = c.in_err-hold.ensures in
-    let cells = g.R.Rows.cells c.args.rows.now in
+    let cells = g.R.Rows.seen.cells c.args.rows.now in
     let write = c.in-Some.write.now in
     record {
       step = λ held. passed_none r e _ by;
@@ -118,7 +118,7 @@ pub returns : goal.returns
 returns g c =
     let first = c.in_ok-is_taken.ensures in
     let made = c.in_ok-hold.ensures.ok in
-    let cells = g.R.Rows.cells c.args.rows.now in
+    let cells = g.R.Rows.seen.cells c.args.rows.now in
     let write = c.in-Some.write.now in
     let head = c.in-Some-get.first.now in
     let start = c.args.self.now.start in
@@ -126,7 +126,7 @@ returns g c =
       step = λ held last.
           advance_held cells c.args.self.now last c.args.k c.len.result write head c.requires c.in-Some.ensures.found c.in-Some-get.ensures.found
           (subst (λ (n : ℕ). IsFree cells write.cell n) c.stamp-start.ensures.stamp (rw c.if-branch.false at (first.free held)))
-          c.len.ensures.len (g.R.Rows.cells c.hold.new.rows)
+          c.len.ensures.len (g.R.Rows.seen.cells c.hold.new.rows)
           (made.applied.made (first.reads.still held) ∙ (ap (λ (cs : Cells). after_edits cs made.edits) (first.reads.kept held) ∙ holding_makes cells write.cell head.cell start write.value made.edits made.such.1));
       draws = λ last. (tt, refl);
       start = refl;

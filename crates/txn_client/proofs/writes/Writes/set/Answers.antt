@@ -3,7 +3,7 @@ use Rattle.std.specs.Prelude.{slice_set}
 use Rattle.si_model.specs.Machine.{Sets}
 use Rattle.txn_client.specs.Writes.{write_of}
 use Rattle.txn_client.specs.declared.writes.Write.{Write}
-use Rattle.txn_client.proofs.WritePlaces.{sets_last, sets_there, named_there, unnamed}
+use Rattle.txn_client.proofs.WriteIndexes.{sets_last, sets_there, named_there, unnamed}
 use Rattle.cell_key.proofs.Reasons.{not_refused}
 use Rattle.txn_client.proofs.writes.Writes.set.Goals as goal
 use Rattle.txn_client.proofs.writes.Writes.set.Goals.{in-Some-2, in-None-2}
@@ -15,12 +15,12 @@ returns-then-len-ge-MOST-clause-full c = λ e.
 
 pub returns-in-Some-clause-ok : goal.returns-in-Some-clause-ok
 returns-in-Some-clause-ok c =
-    let there = subst (λ (ws : List Write). Sets c.args.write.cell c.args.write.value (map write_of c.args.self.now) (map write_of (slice_set ws c.in-Some.place c.args.write))) (sym c.self.view_is)
-    (sets_there c.args.self.now c.in-Some.place c.args.write c.in-Some.ensures) in
+    let there = subst (λ (ws : List Write). Sets c.args.write.cell c.args.write.value (map write_of c.args.self.now) (map write_of (slice_set ws c.in-Some.index c.args.write))) (sym c.self.view_is)
+    (sets_there c.args.self.now c.in-Some.index c.args.write c.in-Some.ensures) in
     elim c.match-index_mut-write.branch [ in-Some-2 w ↦ rw w.self-is there | in-None-2 w ↦ rw w.self-is there ]
 
 pub returns-in-Some-clause-room : goal.returns-in-Some-clause-room
-returns-in-Some-clause-room c = inl (named_there c.args.self.now c.in-Some.place c.args.write.cell c.in-Some.ensures)
+returns-in-Some-clause-room c = inl (named_there c.args.self.now c.in-Some.index c.args.write.cell c.in-Some.ensures)
 
 pub returns-in_ok-push-in-None-clause-ok : goal.returns-in_ok-push-in-None-clause-ok
 returns-in_ok-push-in-None-clause-ok c =

@@ -16,7 +16,7 @@ pub loop-init : goal.loop-init
 loop-init g c = record {
   visited = λ held st reached store low come. none;
   below = record { still = λ held. held; stays = refl };
-  room = room_same g.R.Rows.overfills 0 c.args.rows.now;
+  room = room_same g.R.Rows.seen.overfills 0 c.args.rows.now;
   faults = refl;
 }
 
@@ -24,49 +24,49 @@ pub returns-in_err-visit-clause-undamaged : goal.returns-in_err-visit-clause-und
 returns-in_err-visit-clause-undamaged g c = λ held st reached store low come is.
     let before = c.loop.invariant in
     c.in_err-visit.ensures.undamaged (before.below.still held)
-    (still_shown st reached (g.R.Rows.cells c.args.rows.now) c.args.self.now store low come c.loop.counter (g.R.Rows.cells c.loop.rows) c.loop.self (before.visited held st reached store low come))
+    (still_shown st reached (g.R.Rows.seen.cells c.args.rows.now) c.args.self.now store low come c.loop.counter (g.R.Rows.seen.cells c.loop.rows) c.loop.self (before.visited held st reached store low come))
     (passed_on c.from_residual.result c.in_err-visit.field-0.0 Damaged c.from_residual.ensures.1 is)
 
 pub returns-in_err-visit-clause-full : goal.returns-in_err-visit-clause-full
 returns-in_err-visit-clause-full g c = λ is.
-    no_room_then g.R.Rows.overfills c.loop.counter 1 c.args.visits c.args.rows.now c.loop.rows (one_more c.loop.counter c.args.visits c.loop-test.true) c.loop.invariant.room
+    no_room_then g.R.Rows.seen.overfills c.loop.counter 1 c.args.visits c.args.rows.now c.loop.rows (one_more c.loop.counter c.args.visits c.loop-test.true) c.loop.invariant.room
     (c.in_err-visit.ensures.full (passed_on c.from_residual.result c.in_err-visit.field-0.0 MemtableFull c.from_residual.ensures.1 is))
 
 pub returns-in-Blocked-clause-visited : goal.returns-in-Blocked-clause-visited
 returns-in-Blocked-clause-visited g c = λ held st reached store low come.
     let before = c.loop.invariant in
     let did = before.visited held st reached store low come in
-    let shown = still_shown st reached (g.R.Rows.cells c.args.rows.now) c.args.self.now store low come c.loop.counter (g.R.Rows.cells c.loop.rows) c.loop.self did in
+    let shown = still_shown st reached (g.R.Rows.seen.cells c.args.rows.now) c.args.self.now store low come c.loop.counter (g.R.Rows.seen.cells c.loop.rows) c.loop.self did in
     record {
-      mid = g.R.Rows.cells c.loop.rows;
+      mid = g.R.Rows.seen.cells c.loop.rows;
       before = c.loop.self;
       visits = record { count = c.loop.counter; few = c.loop-test.true; visits = did };
-      last = subst (λ (r : CollectReply). Visits (g.R.Rows.cells c.loop.rows) c.loop.self r (g.R.Rows.cells c.visit.new.rows) c.visit.new.self) c.in-Blocked.is
+      last = subst (λ (r : CollectReply). Visits (g.R.Rows.seen.cells c.loop.rows) c.loop.self r (g.R.Rows.seen.cells c.visit.new.rows) c.visit.new.self) c.in-Blocked.is
           (c.in_ok-visit.ensures.visit (before.below.still held) shown);
     }
 
 pub returns-in-Blocked-clause-room : goal.returns-in-Blocked-clause-room
 returns-in-Blocked-clause-room g c =
-    room_few g.R.Rows.overfills (c.loop.counter + 1) c.args.visits c.args.rows.now c.visit.new.rows (one_more c.loop.counter c.args.visits c.loop-test.true)
-    (room_then g.R.Rows.overfills c.loop.counter 1 c.args.rows.now c.loop.rows c.visit.new.rows c.loop.invariant.room c.in_ok-visit.ensures.room)
+    room_few g.R.Rows.seen.overfills (c.loop.counter + 1) c.args.visits c.args.rows.now c.visit.new.rows (one_more c.loop.counter c.args.visits c.loop-test.true)
+    (room_then g.R.Rows.seen.overfills c.loop.counter 1 c.args.rows.now c.loop.rows c.visit.new.rows c.loop.invariant.room c.in_ok-visit.ensures.room)
 
 pub returns-in-Collected-clause-visited : goal.returns-in-Collected-clause-visited
 returns-in-Collected-clause-visited g c = λ held st reached store low come.
     let before = c.loop.invariant in
     let did = before.visited held st reached store low come in
-    let shown = still_shown st reached (g.R.Rows.cells c.args.rows.now) c.args.self.now store low come c.loop.counter (g.R.Rows.cells c.loop.rows) c.loop.self did in
+    let shown = still_shown st reached (g.R.Rows.seen.cells c.args.rows.now) c.args.self.now store low come c.loop.counter (g.R.Rows.seen.cells c.loop.rows) c.loop.self did in
     record {
-      mid = g.R.Rows.cells c.loop.rows;
+      mid = g.R.Rows.seen.cells c.loop.rows;
       before = c.loop.self;
       visits = record { count = c.loop.counter; few = c.loop-test.true; visits = did };
-      last = subst (λ (r : CollectReply). Visits (g.R.Rows.cells c.loop.rows) c.loop.self r (g.R.Rows.cells c.visit.new.rows) c.visit.new.self) c.in-Collected.is
+      last = subst (λ (r : CollectReply). Visits (g.R.Rows.seen.cells c.loop.rows) c.loop.self r (g.R.Rows.seen.cells c.visit.new.rows) c.visit.new.self) c.in-Collected.is
           (c.in_ok-visit.ensures.visit (before.below.still held) shown);
     }
 
 pub returns-in-Collected-clause-room : goal.returns-in-Collected-clause-room
 returns-in-Collected-clause-room g c =
-    room_few g.R.Rows.overfills (c.loop.counter + 1) c.args.visits c.args.rows.now c.visit.new.rows (one_more c.loop.counter c.args.visits c.loop-test.true)
-    (room_then g.R.Rows.overfills c.loop.counter 1 c.args.rows.now c.loop.rows c.visit.new.rows c.loop.invariant.room c.in_ok-visit.ensures.room)
+    room_few g.R.Rows.seen.overfills (c.loop.counter + 1) c.args.visits c.args.rows.now c.visit.new.rows (one_more c.loop.counter c.args.visits c.loop-test.true)
+    (room_then g.R.Rows.seen.overfills c.loop.counter 1 c.args.rows.now c.loop.rows c.visit.new.rows c.loop.invariant.room c.in_ok-visit.ensures.room)
 
 pub loop-preserved : goal.loop-preserved
 loop-preserved g c =
@@ -75,9 +75,9 @@ loop-preserved g c =
     record {
       visited = λ held st reached store low come.
           let did = before.visited held st reached store low come in
-          let shown = still_shown st reached (g.R.Rows.cells c.args.rows.now) c.args.self.now store low come c.loop.counter (g.R.Rows.cells c.loop.rows) c.loop.self did in
-          then did (subst (λ (r : CollectReply). Visits (g.R.Rows.cells c.loop.rows) c.loop.self r (g.R.Rows.cells c.visit.new.rows) c.visit.new.self) c.in-More.is (now.visit (before.below.still held) shown));
+          let shown = still_shown st reached (g.R.Rows.seen.cells c.args.rows.now) c.args.self.now store low come c.loop.counter (g.R.Rows.seen.cells c.loop.rows) c.loop.self did in
+          then did (subst (λ (r : CollectReply). Visits (g.R.Rows.seen.cells c.loop.rows) c.loop.self r (g.R.Rows.seen.cells c.visit.new.rows) c.visit.new.self) c.in-More.is (now.visit (before.below.still held) shown));
       below = keeps_then before.below now.below;
-      room = room_then g.R.Rows.overfills c.loop.counter 1 c.args.rows.now c.loop.rows c.visit.new.rows before.room now.room;
+      room = room_then g.R.Rows.seen.overfills c.loop.counter 1 c.args.rows.now c.loop.rows c.visit.new.rows before.room now.room;
       faults = now.reason.told (not_refused _ Device) ∙ before.faults;
     }

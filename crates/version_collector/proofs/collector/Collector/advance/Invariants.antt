@@ -8,9 +8,9 @@ use Rattle.version_collector.proofs.collector.Collector.advance.Given as goal
 -- as many visits as were counted are made, each answered More
 abbrev pub invariant-loop : goal.invariant-loop
 invariant-loop g l = record {
-  visited : g.R.Rows.holds l.fn.rows
-      → (st : State) → WhereCome st (g.R.Rows.cells l.fn.rows) l.fn.self (AreVisits (g.R.Rows.cells l.fn.rows) l.fn.self l.counter (g.R.Rows.cells l.rows) l.self);
-  below : KeepsBelow g.R.Rows.holds g.R.Rows.storage l.fn.rows l.rows;
-  room : TakesRoomOfVisits g.R.Rows.overfills l.counter l.fn.rows l.rows;
+  visited : g.R.Rows.seen.holds l.fn.rows
+      → (st : State) → WhereCome st (g.R.Rows.seen.cells l.fn.rows) l.fn.self (AreVisits (g.R.Rows.seen.cells l.fn.rows) l.fn.self l.counter (g.R.Rows.seen.cells l.rows) l.self);
+  below : KeepsBelow g.R.Rows.seen l.fn.rows l.rows;
+  room : TakesRoomOfVisits g.R.Rows.seen.overfills l.counter l.fn.rows l.rows;
   faults : g.R.Rows.faults l.rows ≡ g.R.Rows.faults l.fn.rows;
 }

@@ -10,27 +10,27 @@ use Rattle.version_collector.proofs.OneVisit.{collect_erased, collect_past}
 use Rattle.version_collector.proofs.collector.Collector.collect.Goals as goal
 
 pub returns-in_err-erased-clause-room : goal.returns-in_err-erased-clause-room
-returns-in_err-erased-clause-room g c = room_none g.R.Rows.overfills 1 c.args.rows.now c.erase_old.new.rows c.in_err-erased.ensures.err.room
+returns-in_err-erased-clause-room g c = room_none g.R.Rows.seen.overfills 1 c.args.rows.now c.erase_old.new.rows c.in_err-erased.ensures.err.room
 
 pub returns-in_err-erased-clause-full : goal.returns-in_err-erased-clause-full
 returns-in_err-erased-clause-full g c = λ is.
-    no_room_of g.R.Rows.holds g.R.Rows.cells g.R.Rows.overfills g.R.Rows.storage (g.R.Rows.holds c.args.rows.now) c.args.cell c.args.self.now.floor c.args.rows.now
+    no_room_of g.R.Rows.seen (g.R.Rows.seen.holds c.args.rows.now) c.args.cell c.args.self.now.floor c.args.rows.now
     (c.in_err-erased.ensures.full (passed_on c.from_residual.result c.in_err-erased.field-0.0 MemtableFull c.from_residual.ensures.1 is))
 
 pub returns-then-erased-clause-visit : goal.returns-then-erased-clause-visit
 returns-then-erased-clause-visit g c = λ held shown pass next.
     let made = OnTrue_at c.if-erased.true c.in_ok-erased.ensures.erased in
-    collect_erased (g.R.Rows.cells c.args.rows.now) c.args.self.now c.args.cell pass next (g.R.Rows.holds c.args.rows.now) made.row made.edits (g.R.Rows.cells c.erase_old.new.rows) held shown made.such (made.applied.made held)
+    collect_erased (g.R.Rows.seen.cells c.args.rows.now) c.args.self.now c.args.cell pass next (g.R.Rows.seen.holds c.args.rows.now) made.row made.edits (g.R.Rows.seen.cells c.erase_old.new.rows) held shown made.such (made.applied.made held)
 
 pub returns-then-erased-clause-room : goal.returns-then-erased-clause-room
 returns-then-erased-clause-room g c =
-    room_applied g.R.Rows.holds g.R.Rows.cells g.R.Rows.overfills g.R.Rows.storage (g.R.Rows.holds c.args.rows.now) c.args.cell c.args.self.now.floor c.args.rows.now c.erase_old.new.rows
+    room_applied g.R.Rows.seen (g.R.Rows.seen.holds c.args.rows.now) c.args.cell c.args.self.now.floor c.args.rows.now c.erase_old.new.rows
     (OnTrue_at c.if-erased.true c.in_ok-erased.ensures.erased)
 
 pub returns-clause-visit : goal.returns-clause-visit
 returns-clause-visit g c = λ held shown pass next.
-    subst (λ (m : Cells). Visits (g.R.Rows.cells c.args.rows.now) c.args.self.now More m (record c.args.self.now { after = Some c.args.cell })) (sym ((OnFalse_at c.if-erased.false c.in_ok-erased.ensures.left).kept held))
-    (collect_past (g.R.Rows.cells c.args.rows.now) c.args.self.now c.args.cell pass next (OnFalse_at c.if-erased.false (c.in_ok-erased.ensures.tidy held shown)))
+    subst (λ (m : Cells). Visits (g.R.Rows.seen.cells c.args.rows.now) c.args.self.now More m (record c.args.self.now { after = Some c.args.cell })) (sym ((OnFalse_at c.if-erased.false c.in_ok-erased.ensures.left).kept held))
+    (collect_past (g.R.Rows.seen.cells c.args.rows.now) c.args.self.now c.args.cell pass next (OnFalse_at c.if-erased.false (c.in_ok-erased.ensures.tidy held shown)))
 
 pub returns-clause-room : goal.returns-clause-room
-returns-clause-room g c = room_none g.R.Rows.overfills 1 c.args.rows.now c.erase_old.new.rows (OnFalse_at c.if-erased.false c.in_ok-erased.ensures.left).room
+returns-clause-room g c = room_none g.R.Rows.seen.overfills 1 c.args.rows.now c.erase_old.new.rows (OnFalse_at c.if-erased.false c.in_ok-erased.ensures.left).room

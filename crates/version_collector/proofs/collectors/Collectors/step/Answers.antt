@@ -11,14 +11,14 @@ use Rattle.version_collector.proofs.collectors.Collectors.step.Goals as goal
 
 pub returns-in_default-clause-step : goal.returns-in_default-clause-step
 returns-in_default-clause-step g c = λ held.
-    unknown_at (g.R.Rows.cells c.args.rows.now) c.args.self.now (record c.args.self.now { collectors = c.get_mut.follows.lender-at-none }) c.args.number c.args.visits
+    unknown_at (g.R.Rows.seen.cells c.args.rows.now) c.args.self.now (record c.args.self.now { collectors = c.get_mut.follows.lender-at-none }) c.args.number c.args.visits
     (same_entries c.args.self.now (record c.args.self.now { collectors = c.get_mut.follows.lender-at-none }) refl refl (ap (λ m. m.entries) c.get_mut.follows.holds-at-none)) (sym c.in_default.ensures.value)
 
 pub returns-then-visits-eq0-clause-step : goal.returns-then-visits-eq0-clause-step
 returns-then-visits-eq0-clause-step g c = λ held.
     let there : IsSome (btree.get nat_cmp c.args.self.now.collectors c.args.number) = subst (λ (o : Option Collector). IsSome o) c.in-Some.ensures.value refl in
     let lent = c.get_mut.follows.holds c.in-Some.collector.now in
-    none_at (g.R.Rows.cells c.args.rows.now) c.args.self.now (record c.args.self.now { collectors = c.get_mut.follows.lender c.in-Some.collector.now }) c.args.number c.args.visits c.in-Some.collector.now
+    none_at (g.R.Rows.seen.cells c.args.rows.now) c.args.self.now (record c.args.self.now { collectors = c.get_mut.follows.lender c.in-Some.collector.now }) c.args.number c.args.visits c.in-Some.collector.now
     (same_lent c.args.self.now (record c.args.self.now { collectors = c.get_mut.follows.lender c.in-Some.collector.now }) c.args.number c.in-Some.collector.now c.in-Some.collector.now (sym c.in-Some.ensures.value) refl refl refl (lent.3 there).0 lent.2)
     (sym c.in-Some.ensures.value) c.if-visits-eq0.true
 
@@ -26,7 +26,7 @@ pub returns-then-visits-gt-MOST_VISITS-clause-step : goal.returns-then-visits-gt
 returns-then-visits-gt-MOST_VISITS-clause-step g c = λ held.
     let there : IsSome (btree.get nat_cmp c.args.self.now.collectors c.args.number) = subst (λ (o : Option Collector). IsSome o) c.in-Some.ensures.value refl in
     let lent = c.get_mut.follows.holds c.in-Some.collector.now in
-    many_at (g.R.Rows.cells c.args.rows.now) c.args.self.now (record c.args.self.now { collectors = c.get_mut.follows.lender c.in-Some.collector.now }) c.args.number c.args.visits c.in-Some.collector.now
+    many_at (g.R.Rows.seen.cells c.args.rows.now) c.args.self.now (record c.args.self.now { collectors = c.get_mut.follows.lender c.in-Some.collector.now }) c.args.number c.args.visits c.in-Some.collector.now
     (same_lent c.args.self.now (record c.args.self.now { collectors = c.get_mut.follows.lender c.in-Some.collector.now }) c.args.number c.in-Some.collector.now c.in-Some.collector.now (sym c.in-Some.ensures.value) refl refl refl (lent.3 there).0 lent.2)
     (sym c.in-Some.ensures.value) c.if-visits-gt-MOST_VISITS.true
 
@@ -39,7 +39,7 @@ returns-in_err-reply-clause-step g c = λ held.
     let new = record c.args.self.now { collectors = c.get_mut.follows.lender w } in
     let at = (lent.3 there).0 in
     let e = as_err c.from_residual.result c.in_err-reply.field-0.0 c.from_residual.ensures.1 in
-    rw e (steps_at (g.R.Rows.cells c.args.rows.now) (g.R.Rows.cells c.advance.new.rows) c.args.self.now new c.args.number c.args.visits c.in-Some.collector.now w was
+    rw e (steps_at (g.R.Rows.seen.cells c.args.rows.now) (g.R.Rows.seen.cells c.advance.new.rows) c.args.self.now new c.args.number c.args.visits c.in-Some.collector.now w was
     (one_at c.args.self.now new c.args.number (Some w) refl refl at) (Err c.in_err-reply.field-0.0) (is_count c.args.visits c.if-visits-eq0.false c.if-visits-gt-MOST_VISITS.false) c.in_err-reply.ensures.refusal
     (now_at c.args.self.now new c.args.number (Some w) refl refl at) (with_none (btree.btree_map_len new.collectors) (btree.btree_map_len c.args.self.now.collectors) lent.2) (c.in_err-reply.ensures.visited held))
 
@@ -51,19 +51,19 @@ returns-in_err-reply-clause-visited g c = λ held count st reached store shown.
     let new = record c.args.self.now { collectors = c.get_mut.follows.lender w } in
     let at = ((c.get_mut.follows.holds w).3 there).0 in
     let e = as_err c.from_residual.result c.in_err-reply.field-0.0 c.from_residual.ensures.1 in
-    rw e (visits_at (g.R.Rows.cells c.args.rows.now) (g.R.Rows.cells c.advance.new.rows) c.args.self.now new c.args.number c.args.visits c.in-Some.collector.now w was
+    rw e (visits_at (g.R.Rows.seen.cells c.args.rows.now) (g.R.Rows.seen.cells c.advance.new.rows) c.args.self.now new c.args.number c.args.visits c.in-Some.collector.now w was
     (Err c.in_err-reply.field-0.0) (c.in_err-reply.ensures.visited held) st reached store shown (now_at c.args.self.now new c.args.number (Some w) refl refl at))
 
 pub returns-in_err-reply-clause-leaves : goal.returns-in_err-reply-clause-leaves
 returns-in_err-reply-clause-leaves g c = λ held st reached store shown.
-    let l = leaves_at (g.R.Rows.cells c.args.rows.now) (g.R.Rows.cells c.advance.new.rows) c.args.self.now c.args.self.now c.args.number c.args.visits c.in-Some.collector.now c.advance.new.self (sym c.in-Some.ensures.value)
+    let l = leaves_at (g.R.Rows.seen.cells c.args.rows.now) (g.R.Rows.seen.cells c.advance.new.rows) c.args.self.now c.args.self.now c.args.number c.args.visits c.in-Some.collector.now c.advance.new.self (sym c.in-Some.ensures.value)
     (Err c.in_err-reply.field-0.0) (c.in_err-reply.ensures.visited held) st reached store shown in
     (l.collects, l.thins)
 
 pub returns-in_err-reply-clause-undamaged : goal.returns-in_err-reply-clause-undamaged
 returns-in_err-reply-clause-undamaged g c = λ held st reached store shown is.
-    let mine = shown_some (g.R.Rows.cells c.args.rows.now) c.args.self.now c.args.number st c.in-Some.collector.now shown (sym c.in-Some.ensures.value) in
-    c.in_err-reply.ensures.undamaged held st reached store (shown_low (g.R.Rows.cells c.args.rows.now) c.in-Some.collector.now c.args.number st reached mine) mine.come
+    let mine = shown_some (g.R.Rows.seen.cells c.args.rows.now) c.args.self.now c.args.number st c.in-Some.collector.now shown (sym c.in-Some.ensures.value) in
+    c.in_err-reply.ensures.undamaged held st reached store (shown_low (g.R.Rows.seen.cells c.args.rows.now) c.in-Some.collector.now c.args.number st reached mine) mine.come
     (passed_on c.from_residual.result c.in_err-reply.field-0.0 Damaged c.from_residual.ensures.1 is)
 
 pub returns-then-closes-clause-step : goal.returns-then-closes-clause-step
@@ -77,7 +77,7 @@ returns-then-closes-clause-step g c = λ held.
     let new = record c.args.self.now { collectors = c.remove.new.self } in
     let last = sym c.closes.ensures ∙ c.if-closes.true in
     let at = λ (q : ℕ). c.remove.ensures.updates.0 q ∙ (ap (λ (o : Option Collector). cond (is_eq (nat_cmp c.args.number q)) None o) (set.0 q) ∙ twice (is_eq (nat_cmp c.args.number q)) None (Some w) (btree.get nat_cmp c.args.self.now.collectors q)) in
-    steps_at (g.R.Rows.cells c.args.rows.now) (g.R.Rows.cells c.advance.new.rows) c.args.self.now new c.args.number c.args.visits c.in-Some.collector.now w was
+    steps_at (g.R.Rows.seen.cells c.args.rows.now) (g.R.Rows.seen.cells c.advance.new.rows) c.args.self.now new c.args.number c.args.visits c.in-Some.collector.now w was
     (one_at c.args.self.now new c.args.number None refl refl at) (Ok c.in_ok-reply.reply) (is_count c.args.visits c.if-visits-eq0.false c.if-visits-gt-MOST_VISITS.false) tt
     (now_at c.args.self.now new c.args.number None refl refl at ∙ sym (kept_is c.in_ok-reply.reply w true last))
     (ap (λ (b : Bool). btree.btree_map_len new.collectors + cond b 1 0) last ∙ ((rw found at c.remove.ensures.len) ∙ lent.2)) (c.in_ok-reply.ensures.visited held)
@@ -91,12 +91,12 @@ returns-then-closes-clause-visited g c = λ held count st reached store shown.
     let new = record c.args.self.now { collectors = c.remove.new.self } in
     let last = sym c.closes.ensures ∙ c.if-closes.true in
     let at = λ (q : ℕ). c.remove.ensures.updates.0 q ∙ (ap (λ (o : Option Collector). cond (is_eq (nat_cmp c.args.number q)) None o) (set.0 q) ∙ twice (is_eq (nat_cmp c.args.number q)) None (Some w) (btree.get nat_cmp c.args.self.now.collectors q)) in
-    visits_at (g.R.Rows.cells c.args.rows.now) (g.R.Rows.cells c.advance.new.rows) c.args.self.now new c.args.number c.args.visits c.in-Some.collector.now w was
+    visits_at (g.R.Rows.seen.cells c.args.rows.now) (g.R.Rows.seen.cells c.advance.new.rows) c.args.self.now new c.args.number c.args.visits c.in-Some.collector.now w was
     (Ok c.in_ok-reply.reply) (c.in_ok-reply.ensures.visited held) st reached store shown (now_at c.args.self.now new c.args.number None refl refl at ∙ sym (kept_is c.in_ok-reply.reply w true last))
 
 pub returns-then-closes-clause-leaves : goal.returns-then-closes-clause-leaves
 returns-then-closes-clause-leaves g c = λ held st reached store shown.
-    let l = leaves_at (g.R.Rows.cells c.args.rows.now) (g.R.Rows.cells c.advance.new.rows) c.args.self.now c.args.self.now c.args.number c.args.visits c.in-Some.collector.now c.advance.new.self (sym c.in-Some.ensures.value)
+    let l = leaves_at (g.R.Rows.seen.cells c.args.rows.now) (g.R.Rows.seen.cells c.advance.new.rows) c.args.self.now c.args.self.now c.args.number c.args.visits c.in-Some.collector.now c.advance.new.self (sym c.in-Some.ensures.value)
     (Ok c.in_ok-reply.reply) (c.in_ok-reply.ensures.visited held) st reached store shown in
     (l.collects, l.thins)
 
@@ -109,7 +109,7 @@ returns-then-closes-clause-told g c = λ held st reached store shown.
     let new = record c.args.self.now { collectors = c.remove.new.self } in
     let last = sym c.closes.ensures ∙ c.if-closes.true in
     let at = λ (q : ℕ). c.remove.ensures.updates.0 q ∙ (ap (λ (o : Option Collector). cond (is_eq (nat_cmp c.args.number q)) None o) (set.0 q) ∙ twice (is_eq (nat_cmp c.args.number q)) None (Some w) (btree.get nat_cmp c.args.self.now.collectors q)) in
-    tells_at (g.R.Rows.cells c.args.rows.now) (g.R.Rows.cells c.advance.new.rows) c.args.self.now new c.args.number c.args.visits c.in-Some.collector.now w was
+    tells_at (g.R.Rows.seen.cells c.args.rows.now) (g.R.Rows.seen.cells c.advance.new.rows) c.args.self.now new c.args.number c.args.visits c.in-Some.collector.now w was
     c.in_ok-reply.reply (c.in_ok-reply.ensures.visited held) st reached store shown (now_at c.args.self.now new c.args.number None refl refl at ∙ sym (kept_is c.in_ok-reply.reply w true last))
 
 pub returns-clause-step : goal.returns-clause-step
@@ -121,7 +121,7 @@ returns-clause-step g c = λ held.
     let new = record c.args.self.now { collectors = c.get_mut.follows.lender w } in
     let last = sym c.closes.ensures ∙ c.if-closes.false in
     let at = (lent.3 there).0 in
-    steps_at (g.R.Rows.cells c.args.rows.now) (g.R.Rows.cells c.advance.new.rows) c.args.self.now new c.args.number c.args.visits c.in-Some.collector.now w was
+    steps_at (g.R.Rows.seen.cells c.args.rows.now) (g.R.Rows.seen.cells c.advance.new.rows) c.args.self.now new c.args.number c.args.visits c.in-Some.collector.now w was
     (one_at c.args.self.now new c.args.number (Some w) refl refl at) (Ok c.in_ok-reply.reply) (is_count c.args.visits c.if-visits-eq0.false c.if-visits-gt-MOST_VISITS.false) tt
     (now_at c.args.self.now new c.args.number (Some w) refl refl at ∙ sym (kept_is c.in_ok-reply.reply w false last))
     (ap (λ (b : Bool). btree.btree_map_len new.collectors + cond b 1 0) last ∙ with_none (btree.btree_map_len new.collectors) (btree.btree_map_len c.args.self.now.collectors) lent.2) (c.in_ok-reply.ensures.visited held)
@@ -134,12 +134,12 @@ returns-clause-visited g c = λ held count st reached store shown.
     let new = record c.args.self.now { collectors = c.get_mut.follows.lender w } in
     let last = sym c.closes.ensures ∙ c.if-closes.false in
     let at = ((c.get_mut.follows.holds w).3 there).0 in
-    visits_at (g.R.Rows.cells c.args.rows.now) (g.R.Rows.cells c.advance.new.rows) c.args.self.now new c.args.number c.args.visits c.in-Some.collector.now w was
+    visits_at (g.R.Rows.seen.cells c.args.rows.now) (g.R.Rows.seen.cells c.advance.new.rows) c.args.self.now new c.args.number c.args.visits c.in-Some.collector.now w was
     (Ok c.in_ok-reply.reply) (c.in_ok-reply.ensures.visited held) st reached store shown (now_at c.args.self.now new c.args.number (Some w) refl refl at ∙ sym (kept_is c.in_ok-reply.reply w false last))
 
 pub returns-clause-leaves : goal.returns-clause-leaves
 returns-clause-leaves g c = λ held st reached store shown.
-    let l = leaves_at (g.R.Rows.cells c.args.rows.now) (g.R.Rows.cells c.advance.new.rows) c.args.self.now c.args.self.now c.args.number c.args.visits c.in-Some.collector.now c.advance.new.self (sym c.in-Some.ensures.value)
+    let l = leaves_at (g.R.Rows.seen.cells c.args.rows.now) (g.R.Rows.seen.cells c.advance.new.rows) c.args.self.now c.args.self.now c.args.number c.args.visits c.in-Some.collector.now c.advance.new.self (sym c.in-Some.ensures.value)
     (Ok c.in_ok-reply.reply) (c.in_ok-reply.ensures.visited held) st reached store shown in
     (l.collects, l.thins)
 
@@ -151,14 +151,14 @@ returns-clause-told g c = λ held st reached store shown.
     let new = record c.args.self.now { collectors = c.get_mut.follows.lender w } in
     let last = sym c.closes.ensures ∙ c.if-closes.false in
     let at = ((c.get_mut.follows.holds w).3 there).0 in
-    tells_at (g.R.Rows.cells c.args.rows.now) (g.R.Rows.cells c.advance.new.rows) c.args.self.now new c.args.number c.args.visits c.in-Some.collector.now w was
+    tells_at (g.R.Rows.seen.cells c.args.rows.now) (g.R.Rows.seen.cells c.advance.new.rows) c.args.self.now new c.args.number c.args.visits c.in-Some.collector.now w was
     c.in_ok-reply.reply (c.in_ok-reply.ensures.visited held) st reached store shown (now_at c.args.self.now new c.args.number (Some w) refl refl at ∙ sym (kept_is c.in_ok-reply.reply w false last))
 
 pub returns-then-visits-eq0-clause-room : goal.returns-then-visits-eq0-clause-room
-returns-then-visits-eq0-clause-room g c = room_same g.R.Rows.overfills c.args.visits c.args.rows.now
+returns-then-visits-eq0-clause-room g c = room_same g.R.Rows.seen.overfills c.args.visits c.args.rows.now
 
 pub returns-then-visits-gt-MOST_VISITS-clause-room : goal.returns-then-visits-gt-MOST_VISITS-clause-room
-returns-then-visits-gt-MOST_VISITS-clause-room g c = room_same g.R.Rows.overfills c.args.visits c.args.rows.now
+returns-then-visits-gt-MOST_VISITS-clause-room g c = room_same g.R.Rows.seen.overfills c.args.visits c.args.rows.now
 
 pub returns-in_err-reply-clause-count : goal.returns-in_err-reply-clause-count
 returns-in_err-reply-clause-count g c = λ bad. absurd (bad (is_count c.args.visits c.if-visits-eq0.false c.if-visits-gt-MOST_VISITS.false))

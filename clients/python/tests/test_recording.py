@@ -1,0 +1,92 @@
+"""Recordings: what a store and a gateway keep of their frames, and what `tablet_audit` says of them."""
+
+from __future__ import annotations
+
+import os
+import subprocess
+import tempfile
+import unittest
+from pathlib import Path
+
+from duqishom import Store
+from duqishom.connection import whole_frames
+from tests.gateways import Gateway, folder_of
+from tests.pages import TOP
+
+# The program that judges a recording: that of the environment's TABLET_AUDIT, or the proved one, where it is built.
+AUDIT = os.environ.get("TABLET_AUDIT") or str(TOP / "crates" / "tablet_audit" / "out" / "tablet_audit")
+
+
+def bodies(file: Path) -> list[bytes]:
+    """The bodies of the frames of a file, which has nothing else."""
+    frames: list[bytes] = []
+    data = file.read_bytes()
+    assert whole_frames(data, frames) == len(data)
+    return frames
+
+
+def judged(place: Path, *words: str) -> tuple[int, str]:
+    """The status of the judgement of a recording, and its line."""
+    command = [AUDIT, str(place / "requests"), str(place / "replies"), *words]
+    ran = subprocess.run(command, capture_output=True, text=True, timeout=60)
+    return ran.returncode, ran.stdout
+
+
+class Recordings(unittest.TestCase):
+    def setUp(self) -> None:
+        folder = tempfile.TemporaryDirectory()
+        self.addCleanup(folder.cleanup)
+        self.place = Path(folder.name) / "recording"
+
+    def record(self, folder: str | None = None) -> None:
+        """Records a store that reads, writes, deletes, cleans and collects."""
+        with Store(record=self.place, folder=folder) as store:
+            with store.transaction() as transaction:
+                transaction.set(b"Ann", b"bal", b"1")
+                transaction.set(b"Bob", b"bal", b"2")
+            with store.transaction() as transaction:
+                transaction.get(b"Bob", b"bal")
+                transaction.delete(b"Ann", b"bal")
+            store.clean(b"Ann", b"bal")
+            store.collect()
+
+    def test_frames_are_kept(self) -> None:
+        with Store(record=self.place) as store:
+            store.begin()
+        self.assertEqual(bodies(self.place / "requests"), [b"", b"\x01"])
+        self.assertEqual(bodies(self.place / "replies"), [b"\xff\x16", b"\x81" + bytes(7) + b"\x01"])
+        self.assertFalse((self.place / "reopened-at").exists())
+
+    def test_a_recording_goes_on(self) -> None:
+        with tempfile.TemporaryDirectory() as folder:
+            self.record(folder)
+            before = len(bodies(self.place / "replies"))
+            self.record(folder)
+            self.record(folder)
+        noted = (self.place / "reopened-at").read_text().strip().split(",")
+        self.assertEqual(int(noted[0]), before)
+        self.assertEqual(len(noted), 2)
+
+    def test_a_socket_is_recorded_by_its_gateway(self) -> None:
+        with self.assertRaises(ValueError):
+            Store(socket="nowhere", record=self.place)
+
+    @unittest.skipUnless(os.access(AUDIT, os.X_OK), "tablet_audit isn't built")
+    def test_a_recording_is_judged(self) -> None:
+        with tempfile.TemporaryDirectory() as folder:
+            self.record(folder)
+            count = len(bodies(self.place / "replies"))
+            self.assertEqual(judged(self.place), (0, f"{count} replies, each a step of the machine\n"))
+            self.record(folder)
+        self.assertEqual(judged(self.place)[0], 1)
+        self.assertEqual(judged(self.place, "--reopened-at", (self.place / "reopened-at").read_text().strip())[0], 0)
+
+
+class RecordedGateways(unittest.TestCase):
+    def test_a_gateway_records(self) -> None:
+        place = Path(folder_of(self)) / "recording"
+        gateway = Gateway(self, ["--record", str(place)])
+        gateway.wire().commit(b"Ann", b"1")
+        self.assertEqual(gateway.stop(), 0)
+        self.assertEqual(bodies(place / "requests")[:2], [b"", b"\x01"])
+        self.assertEqual(len(bodies(place / "replies")), len(bodies(place / "requests")))

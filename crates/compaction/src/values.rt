@@ -1,0 +1,68 @@
+//! A source without its erasures.
+
+ghost use Rattle.std.specs.Prelude.{◌≡◌};
+ghost use Rattle.compaction.specs.Writing.{is_written_lent};
+
+use cell_key::{EntryRef, Refusal};
+use file_store::Files;
+use sorted_file::Source;
+
+/// The entries of a source, without its erasures unless they are kept.
+#[derive(Drop)]
+pub(crate) struct Values<S> {
+    source: S,
+    keep_erasures: bool,
+}
+
+impl<S> Values<S> {
+    pub(crate) fn new(source: S, keep_erasures: bool) -> Values<S>
+        ensures source { result.source ≡ source }
+        ensures keep { result.keep_erasures ≡ keep_erasures }
+    {
+        Values {
+            source,
+            keep_erasures,
+        }
+    }
+
+    /// Whether the source is at an entry that is written.
+    fn is_at_written<F: Files>(&self) -> bool
+    where
+        S: Source<F>,
+        ensures { result ≡ is_written_lent self.now.keep_erasures (S.lent self.now.source) }
+    {
+        match self.source.current() {
+            Some(entry) => self.keep_erasures || entry.value.is_some(),
+            None => false,
+        }
+    }
+}
+
+impl<F: Files, S: Source<F>> Source<F> for Values<S> {
+    ghost use Rattle.compaction.specs.Writing.{only_written};
+    ghost use Rattle.compaction.specs.ListLaws.{written_list};
+
+    ghost holds = { λ told s. S.holds told s.source };
+
+    ghost remaining = { λ told s. only_written s.keep_erasures (S.remaining told s.source) };
+
+    ghost lent = { λ s. S.lent s.source };
+
+    ghost left = { λ s. S.left s.source };
+
+    fn advance(&mut self, files: &mut F) -> Result<bool, Refusal> {
+        while self.source.advance(files)? {
+            if self.is_at_written::<F>() {
+                return Ok(true);
+            }
+        }
+        Ok(false)
+    }
+
+    fn current(&self) -> Option<EntryRef<'_>> {
+        self.source.current()
+    }
+
+    ghost list = { λ told s h. written_list
+        s.keep_erasures (S.lent s.source) (S.remaining told s.source) (S.list told s.source h) };
+}

@@ -1,0 +1,233 @@
+//! Files of which one call fails, for tests.
+
+ghost use Rattle.std.specs.Prelude.{◌≡◌, ◌≤◌, ◌++◌, IfOk, IfSome, None, OnErr, OnOk, length, option_map};
+ghost use Rattle.std.specs.FinMap as map;
+ghost use Rattle.file_store.specs.Fails.{IsAnswer, PutFails, ReadFails, RemoveFails, counted, next_fail, together};
+ghost use Rattle.file_store.specs.Store.{HasFaultCause, KeepsOthers, MayLack, Reads, bytes_of, with_file, without_file};
+
+use crate::files::{FileFault, Files};
+
+/// What a call has done when it fails.
+#[derive(Clone, Copy, Debug, PartialEq, Eq)]
+pub enum Fail {
+    /// Nothing.
+    Before,
+    /// A put has written the first half of its bytes, rounded down, and any other call has done nothing.
+    Half,
+    /// All that it was to do.
+    After,
+}
+
+/// How many calls there were, which of them fails, and how many have failed.
+#[derive(Clone, Copy, Debug)]
+struct Counter {
+    at: u64,
+    how: Fail,
+    calls: u64,
+    faults: u64,
+}
+
+impl Counter {
+    /// Counts a call, and answers how it fails, if it is the one that does.
+    fn count(&mut self) -> Option<Fail>
+        ensures fail { result ≡ next_fail self.old }
+        ensures counted { self.new ≡ counted self.old }
+    {
+        let is_due = self.calls < u64::MAX && self.calls + 1 == self.at;
+        self.calls = self.calls.saturating_add(1);
+        if !is_due {
+            return None;
+        }
+        self.faults = self.faults.saturating_add(1);
+        Some(self.how)
+    }
+}
+
+/// Files of which one call answers a device's fault, whatever the files inside answer to it. All other calls are theirs.
+#[derive(Drop)]
+pub struct FailAt<F> {
+    inner: F,
+    counter: Counter,
+    inner_fault: Option<FileFault>,
+}
+
+impl<F: Files> FailAt<F> {
+    /// Files of which the call with this number fails, counted from 1. At 0 none does.
+    pub fn new(inner: F, at: u64, how: Fail) -> FailAt<F>
+        ensures inner { result.inner ≡ inner }
+        ensures counter { result.counter ≡ record { at = at; how = how; calls = 0; faults = 0 } }
+        ensures inner_fault { result.inner_fault ≡ None }
+    {
+        let counter = Counter {
+            at,
+            how,
+            calls: 0,
+            faults: 0,
+        };
+        FailAt {
+            inner,
+            counter,
+            inner_fault: None,
+        }
+    }
+
+    /// How many calls of `put`, `size`, `read_at`, `list` and `remove` there were, up to the greatest number.
+    pub fn calls(&self) -> u64
+        ensures { result ≡ self.now.counter.calls }
+    {
+        self.counter.calls
+    }
+
+    /// The fault that the files inside answered to the call that failed, if they failed there too.
+    pub fn inner_fault(&self) -> Option<FileFault>
+        ensures { result ≡ self.now.inner_fault }
+    {
+        self.inner_fault
+    }
+
+    /// The files inside.
+    pub fn into_inner(self) -> F
+        ensures { result ≡ self.inner }
+    {
+        self.inner
+    }
+}
+
+impl<F: Files> Files for FailAt<F> {
+    ghost contents = { λ files. F.contents files.inner };
+
+    ghost faults = { λ files. together (F.faults files.inner) files.counter.faults };
+
+    fn put(&mut self, name: u64, bytes: &[u8]) -> Result<(), FileFault>
+        ensures counted { self.new.counter ≡ counted self.old.counter }
+        ensures answer { IsAnswer (next_fail self.old.counter)
+            (F.faults self.old.inner) (F.faults self.new.inner) result }
+        ensures failed { IfSome (next_fail self.old.counter) (λ how.
+            PutFails F.contents how name bytes.now self.new.inner_fault
+            self.old.inner self.new.inner) }
+        ensures ok { OnOk result (F.contents self.new.inner
+            ≡ with_file name bytes.now (F.contents self.old.inner)) }
+        ensures err { OnErr result (KeepsOthers name
+            (F.contents self.old.inner) (F.contents self.new.inner)) }
+        ensures cause { HasFaultCause
+            (together (F.faults self.old.inner) self.old.counter.faults)
+            (together (F.faults self.new.inner) self.new.counter.faults) result }
+    {
+        match self.counter.count() {
+            None => self.inner.put(name, bytes),
+            Some(Fail::Before) => Err(FileFault::Device),
+            Some(Fail::Half) => {
+                let half = &bytes[..bytes.len() / 2];
+                self.inner_fault = self.inner.put(name, half).err();
+                Err(FileFault::Device)
+            }
+            Some(Fail::After) => {
+                self.inner_fault = self.inner.put(name, bytes).err();
+                Err(FileFault::Device)
+            }
+        }
+    }
+
+    fn size(&mut self, name: u64) -> Result<Option<u64>, FileFault>
+        ensures counted { self.new.counter ≡ counted self.old.counter }
+        ensures answer { IsAnswer (next_fail self.old.counter)
+            (F.faults self.old.inner) (F.faults self.new.inner) result }
+        ensures failed { IfSome (next_fail self.old.counter) (λ how.
+            ReadFails F.contents how self.old.inner self.new.inner) }
+        ensures ok { IfOk result (λ size. IfSome (F.contents self.old.inner) (λ m.
+            size ≡ option_map length (map.get m name))) }
+        ensures same { F.contents self.new.inner ≡ F.contents self.old.inner }
+        ensures cause { HasFaultCause
+            (together (F.faults self.old.inner) self.old.counter.faults)
+            (together (F.faults self.new.inner) self.new.counter.faults) result }
+    {
+        match self.counter.count() {
+            None => self.inner.size(name),
+            Some(Fail::Before | Fail::Half) => Err(FileFault::Device),
+            Some(Fail::After) => {
+                self.inner_fault = self.inner.size(name).err();
+                Err(FileFault::Device)
+            }
+        }
+    }
+
+    fn read_at(&mut self, name: u64, offset: u64, out: &mut [u8]) -> Result<usize, FileFault>
+        ensures counted { self.new.counter ≡ counted self.old.counter }
+        ensures answer { IsAnswer (next_fail self.old.counter)
+            (F.faults self.old.inner) (F.faults self.new.inner) result }
+        ensures failed { IfSome (next_fail self.old.counter) (λ how.
+            ReadFails F.contents how self.old.inner self.new.inner) }
+        ensures within { IfOk result (λ n. n ≤ length out.old) }
+        ensures ok { IfOk result (λ n. IfSome (F.contents self.old.inner) (λ m.
+            Reads (bytes_of m name) offset out.old out.new n)) }
+        ensures same { F.contents self.new.inner ≡ F.contents self.old.inner }
+        ensures cause { HasFaultCause
+            (together (F.faults self.old.inner) self.old.counter.faults)
+            (together (F.faults self.new.inner) self.new.counter.faults) result }
+    {
+        match self.counter.count() {
+            None => self.inner.read_at(name, offset, out),
+            Some(Fail::Before | Fail::Half) => Err(FileFault::Device),
+            Some(Fail::After) => {
+                self.inner_fault = self.inner.read_at(name, offset, out).err();
+                Err(FileFault::Device)
+            }
+        }
+    }
+
+    fn list(&mut self, names: &mut Vec<u64>) -> Result<(), FileFault>
+        ensures counted { self.new.counter ≡ counted self.old.counter }
+        ensures answer { IsAnswer (next_fail self.old.counter)
+            (F.faults self.old.inner) (F.faults self.new.inner) result }
+        ensures failed { IfSome (next_fail self.old.counter) (λ how.
+            ReadFails F.contents how self.old.inner self.new.inner) }
+        ensures ok { OnOk result (IfSome (F.contents self.old.inner) (λ m.
+            names.new.items ≡ names.old.items ++ map.keys m)) }
+        ensures err { OnErr result (names.new.items ≡ names.old.items) }
+        ensures same { F.contents self.new.inner ≡ F.contents self.old.inner }
+        ensures cause { HasFaultCause
+            (together (F.faults self.old.inner) self.old.counter.faults)
+            (together (F.faults self.new.inner) self.new.counter.faults) result }
+    {
+        match self.counter.count() {
+            None => self.inner.list(names),
+            Some(Fail::Before | Fail::Half) => Err(FileFault::Device),
+            Some(Fail::After) => {
+                let mut unseen = Vec::new(*names.allocator());
+                self.inner_fault = self.inner.list(&mut unseen).err();
+                Err(FileFault::Device)
+            }
+        }
+    }
+
+    fn remove(&mut self, name: u64) -> Result<(), FileFault>
+        ensures counted { self.new.counter ≡ counted self.old.counter }
+        ensures answer { IsAnswer (next_fail self.old.counter)
+            (F.faults self.old.inner) (F.faults self.new.inner) result }
+        ensures failed { IfSome (next_fail self.old.counter) (λ how.
+            RemoveFails F.contents how name self.new.inner_fault
+            self.old.inner self.new.inner) }
+        ensures ok { OnOk result (F.contents self.new.inner
+            ≡ without_file name (F.contents self.old.inner)) }
+        ensures err { OnErr result (MayLack name
+            (F.contents self.old.inner) (F.contents self.new.inner)) }
+        ensures cause { HasFaultCause
+            (together (F.faults self.old.inner) self.old.counter.faults)
+            (together (F.faults self.new.inner) self.new.counter.faults) result }
+    {
+        match self.counter.count() {
+            None => self.inner.remove(name),
+            Some(Fail::Before | Fail::Half) => Err(FileFault::Device),
+            Some(Fail::After) => {
+                self.inner_fault = self.inner.remove(name).err();
+                Err(FileFault::Device)
+            }
+        }
+    }
+
+    fn faults(&self) -> u64
+        ensures { result ≡ together (F.faults self.now.inner) self.now.counter.faults }
+    {
+        self.inner.faults().saturating_add(self.counter.faults)
+    }
+}

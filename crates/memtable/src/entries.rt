@@ -1,0 +1,138 @@
+//! The entries of a block, in the byte order of their texts. What is moved to make room is a pointer each.
+
+ghost use Rattle.std.specs.Prelude.{◌≡◌, ◌+◌, ◌≤◌, ◌<◌, IfSome, option_map, length, vec_len, vec_capacity};
+ghost use Rattle.std.specs.FinMap.Entries.{put as put_entry};
+ghost use Rattle.cell_key.specs.Keys.{byte_cmp};
+ghost use Rattle.cell_key.specs.Entries.{IsPlace, IsRising, entry_of_key, lent_entry, entry_len};
+ghost use Rattle.memtable.specs.Slots.{slot_entry, slot_entries, is_named, first_value, one_value, value_count};
+
+use crate::key_text::EntryText;
+use crate::sought::Sought;
+use cell_key::EntryRef;
+use std::mem;
+
+/// An entry: the text of a key, and its value or an erasure.
+#[derive(Drop)]
+pub(crate) struct Slot {
+    pub(crate) text: EntryText,
+    pub(crate) value: Option<Vec<u8>>,
+}
+
+impl Slot {
+    /// The entry, lent.
+    pub(crate) fn lend(&self) -> EntryRef<'_>
+        ensures { lent_entry result ≡ slot_entry self.now }
+    {
+        EntryRef {
+            key: self.text.as_slice(),
+            value: self.value.as_deref(),
+        }
+    }
+
+    /// How many bytes the entry has in a file.
+    pub(crate) fn len(&self) -> u128
+        ensures { result ≡ entry_len (slot_entry self.now) }
+    {
+        let text = 4 + self.text.as_slice().len() as u128;
+        match &self.value {
+            Some(value) => text + 5 + value.len() as u128,
+            None => text + 1,
+        }
+    }
+
+    /// 1 for a value, and 0 for an erasure.
+    pub(crate) fn value_count(&self) -> usize
+        ensures { result ≡ one_value (slot_entry self.now).1 }
+    {
+        match &self.value {
+            Some(_) => 1,
+            None => 0,
+        }
+    }
+}
+
+/// The index of the first entry whose text isn't below what is sought.
+pub(crate) fn first_from<S: Sought>(slots: &[Box<Slot>], sought: S) -> usize
+    requires { IsRising (slot_entries slots.now) }
+    ensures bound { result ≤ length slots.now }
+    ensures place { IsPlace (S.name sought) (slot_entries slots.now) result }
+{
+    slots.partition_point(|slot| sought.compare(&slot.text).is_gt())
+}
+
+/// Whether the entry at an index has this text.
+fn is_named<S: Sought>(slots: &[Box<Slot>], at: usize, sought: S) -> bool
+    ensures { result ≡ is_named (S.name sought) (slot_entries slots.now) at }
+{
+    match slots.get(at) {
+        Some(slot) => sought.compare(&slot.text).is_eq(),
+        None => false,
+    }
+}
+
+/// The entry that is sought.
+pub(crate) fn find<S: Sought>(slots: &[Box<Slot>], sought: S) -> Option<&Slot>
+    requires { IsRising (slot_entries slots.now) }
+    ensures found { option_map (λ slot. (slot_entry slot.now).1) result
+        ≡ entry_of_key (slot_entries slots.now) (S.name sought) }
+    ensures named { IfSome result (λ slot. slot.now.text ≡ S.name sought) }
+{
+    let slot = slots.get(first_from(slots, sought))?;
+    if sought.compare(&slot.text).is_eq() {
+        Some(slot)
+    } else {
+        None
+    }
+}
+
+/// The first entry that has a value.
+pub(crate) fn first_value(slots: &[Box<Slot>]) -> Option<&Slot>
+    ensures { option_map (λ slot. slot_entry slot.now) result
+        ≡ first_value (slot_entries slots.now) }
+{
+    let mut rest = slots;
+    'slots: while let Some((slot, after)) = rest.split_first() {
+        if slot.value.is_some() {
+            return Some(slot);
+        }
+        rest = after;
+    }
+    None
+}
+
+/// How many entries have a value.
+pub(crate) fn value_count(slots: &[Box<Slot>]) -> usize
+    requires { length slots.now ≤ 128 }
+    ensures { result ≡ value_count (slot_entries slots.now) }
+{
+    let mut count = 0;
+    let mut rest = slots;
+    'slots: while let Some((slot, after)) = rest.split_first() {
+        count += slot.value_count();
+        rest = after;
+    }
+    count
+}
+
+/// Puts an entry at its place. There is room for one more. Returns the entry of the same text that it
+/// replaces, if there is one.
+pub(crate) fn put(slots: &mut Vec<Box<Slot>>, slot: Box<Slot>) -> Option<Box<Slot>>
+    requires rising { IsRising (slot_entries slots.old.items) }
+    requires room { vec_len slots.old < vec_capacity slots.old }
+    ensures entries { slot_entries slots.new.items
+        ≡ put_entry byte_cmp (slot_entry slot.value).0 (slot_entry slot.value).1
+        (slot_entries slots.old.items) }
+    ensures replaced { option_map (λ old. (slot_entry old.value).1) result
+        ≡ entry_of_key (slot_entries slots.old.items) slot.value.text }
+    ensures named { IfSome result (λ old. old.value.text ≡ slot.value.text) }
+    ensures some { 1 ≤ vec_len slots.new }
+    ensures len { vec_len slots.new ≤ vec_len slots.old + 1 }
+    ensures capacity { vec_capacity slots.old ≤ vec_capacity slots.new }
+{
+    let at = first_from(slots, &slot.text);
+    if is_named(slots, at, &slot.text) {
+        return Some(mem::replace(&mut slots[at], slot));
+    }
+    slots.insert(at, slot).unwrap();
+    None
+}

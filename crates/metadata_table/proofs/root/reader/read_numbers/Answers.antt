@@ -1,0 +1,17 @@
+use Rattle.std.specs.Int.{w64}
+use Rattle.std.proofs.lemmas.Result.{err_from_is_err_and}
+use Rattle.metadata_table.specs.RootReader.{number_at, numbers_at}
+use Rattle.metadata_table.proofs.RootLoops.{goes_on, ends, is_done}
+use Rattle.metadata_table.proofs.root.reader.read_numbers.Goals as goal
+
+pub returns-in_err-number : goal.returns-in_err-number
+returns-in_err-number c =
+    let p = err_from_is_err_and c.from_residual.result c.from_residual.ensures.1 in
+    rw (p.1, p.2) (ends (number_at w64) c.in_err-number.field-0.0 c.loop.numbers.items c.args.count c.loop.counter c.loop.rest.now (numbers_at c.args.count c.args.bytes.now) c.loop-test.true c.in_err-number.ensures c.loop.invariant)
+
+pub loop-preserved : goal.loop-preserved
+loop-preserved c =
+    rw c.in_ok-push.ensures.items (goes_on (number_at w64) c.loop.numbers.items c.args.count c.loop.counter c.loop.rest.now c.in_ok-number.number c.in_ok-number.after.now (numbers_at c.args.count c.args.bytes.now) c.loop-test.true c.in_ok-number.ensures c.loop.invariant)
+
+pub returns : goal.returns
+returns c = is_done (number_at w64) c.loop.numbers.items c.args.count c.loop.counter c.loop.rest.now (numbers_at c.args.count c.args.bytes.now) c.loop-test.false c.loop.invariant

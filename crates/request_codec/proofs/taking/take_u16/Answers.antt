@@ -1,5 +1,0 @@
-use Rattle.request_codec.proofs.Fields.{no_number, if_none}
-use Rattle.request_codec.proofs.taking.take_u16.Goals as goal
-
-pub returns-in_err-front-clause-none : goal.returns-in_err-front-clause-none
-returns-in_err-front-clause-none c = if_none c.from_residual.result (λ n after. no_number 2 n c.args.rest.now.now after c.in_err-front.ensures.none)

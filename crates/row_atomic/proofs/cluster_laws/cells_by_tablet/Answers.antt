@@ -1,9 +1,0 @@
--- The tablet of the place that holds the row has the row alone.
-use Rattle.row_atomic.proofs.Owners.{holder_owns, index_of}
-use Rattle.row_atomic.proofs.Shares.{cells_of_row}
-use Rattle.row_atomic.proofs.cluster_laws.cells_by_tablet.Goals as goal
-
-pub returns : goal.returns
-returns c = λ m limit next places tablets row p t table matched holds holder numbered key e.
-    cells_of_row c.stays_in_range.ensures m tablets row (index_of p.tablet) t holds
-    (holder_owns tablets places row p t table matched.placed matched.as_many holder numbered) key e

@@ -1,6 +1,0 @@
--- What stays where the storage does.
-use Rattle.row_atomic.proofs.KeptRoots.{stored_stay}
-use Rattle.row_atomic.proofs.cluster_laws.root_is_stored.Goals as goal
-
-pub returns : goal.returns
-returns g c = λ root cells old new same. stored_stay g.F.Files.contents root cells old new same

@@ -1,0 +1,140 @@
+//! Checkpoints: what a cluster shows is put into its files, and the root file has the lengths of the others.
+
+ghost use Rattle.std.specs.Prelude.{◌≡◌, ◌⊎◌, IfErr, IfOk, IfSome, IsErrOf, OnOk, length};
+ghost use Rattle.std.specs.FinMap.{get};
+ghost use Rattle.cell_key.specs.Faults.{HasReason};
+ghost use Rattle.metadata_table.specs.Roots.{file_names};
+ghost use Rattle.row_atomic.specs.Changes.{Holds, IsRefusalOf};
+ghost use Rattle.row_atomic.specs.Commands.{TellsFaults, done_of};
+ghost use Rattle.row_atomic.specs.Compactions.{minor as minor_compaction};
+ghost use Rattle.row_atomic.specs.Flushes.{KeepsShown, numbers_of};
+ghost use Rattle.row_atomic.specs.Roots.{AreFlushed, AreMeasured, Checkpoints, FlushesEach, PutsRoot, Rests};
+
+use crate::cluster::Cluster;
+use cell_key::{Refusal, Stamp};
+use file_store::Files;
+use metadata_table::MetadataTable;
+use sorted_file::refusal_of;
+use std::alloc::Global;
+use tablet::unnamed_may_go;
+
+/// The name of the root file.
+pub(crate) const ROOT_NAME: u64 = 0;
+
+/// How many bytes a file has: none if it isn't there.
+fn length_of<F: Files>(name: u64, files: &mut F) -> Result<u64, Refusal>
+    ensures length { IfOk result (λ n. IfSome (F.contents files.old) (λ m.
+        IfSome (get m name) (λ image. length image ≡ n))) }
+    ensures refusal { IfErr result (λ refusal. (refusal ≡ Refusal.Device)
+        ⊎ (refusal ≡ Refusal.NoMemory)) }
+    ensures same { F.contents files.new ≡ F.contents files.old }
+    ensures reason { HasReason (F.faults files.old) (F.faults files.new) result }
+{
+    match files.size(name) {
+        Ok(Some(size)) => Ok(size),
+        Ok(None) => Ok(0),
+        Err(fault) => Err(refusal_of(fault)),
+    }
+}
+
+/// How many bytes each of these files has.
+fn lengths_of<F: Files>(alloc: Global, names: &[u64], files: &mut F) -> Result<Vec<u64>, Refusal>
+    ensures count { IfOk result (λ lengths. length lengths.items ≡ length names.now) }
+    ensures measured { IfOk result (λ lengths. IfSome (F.contents files.old) (λ m.
+        AreMeasured m names.now lengths.items)) }
+    ensures refusal { IfErr result (λ refusal. (refusal ≡ Refusal.Device)
+        ⊎ (refusal ≡ Refusal.NoMemory)) }
+    ensures same { F.contents files.new ≡ F.contents files.old }
+    ensures reason { HasReason (F.faults files.old) (F.faults files.new) result }
+{
+    let mut lengths = Vec::new(alloc);
+    let mut rest = names;
+    'names: while let Some((name, after)) = rest.split_first() {
+        let len = length_of(*name, files)?;
+        lengths.push(len)?;
+        rest = after;
+    }
+    Ok(lengths)
+}
+
+/// How many bytes each file of a table has, in the order in which it names them.
+pub(crate) fn file_lengths<F: Files>(
+    alloc: Global,
+    table: &MetadataTable,
+    files: &mut F,
+) -> Result<Vec<u64>, Refusal>
+    ensures count { IfOk result (λ lengths. length lengths.items ≡ length (file_names table.now)) }
+    ensures measured { IfOk result (λ lengths. IfSome (F.contents files.old) (λ m.
+        AreMeasured m (file_names table.now) lengths.items)) }
+    ensures refusal { IfErr result (λ refusal. (refusal ≡ Refusal.Device)
+        ⊎ (refusal ≡ Refusal.NoMemory)) }
+    ensures same { F.contents files.new ≡ F.contents files.old }
+    ensures reason { HasReason (F.faults files.old) (F.faults files.new) result }
+{
+    let mut lengths = Vec::new(alloc);
+    let mut rest = table.places();
+    'places: while let Some((place, after)) = rest.split_first() {
+        let own = lengths_of(alloc, &place.files, files)?;
+        lengths.extend_from_slice(&own)?;
+        rest = after;
+    }
+    Ok(lengths)
+}
+
+impl<F: Files> Cluster<F> {
+    /// Compacts every tablet as `minor` does, in the order of their ends, up to one that is refused.
+    fn flush_each(&mut self) -> Result<(), Refusal>
+        ensures flushes { FlushesEach F.contents F.faults
+            self.old (numbers_of self.old.places) (done_of result) self.new }
+        ensures refusal { IfErr result (IsRefusalOf minor_compaction) }
+    {
+        for index in 0..self.table.len() {
+            let tablet = self.number_at(index);
+            self.minor(tablet)?;
+        }
+        Ok(())
+    }
+
+    /// Puts the root file, which has these stamps, the cluster's places and next name, and the lengths of its files.
+    fn put_root(&mut self, top: Stamp, floor: Stamp) -> Result<(), Refusal>
+        ensures puts { PutsRoot F.contents top floor self.old (done_of result) self.new.files }
+        ensures rest { self.new ≡ record self.old { files = self.new.files } }
+        ensures rests { OnOk result (AreFlushed self.old
+            → Rests F.contents top floor self.old self.new) }
+        ensures keeps { KeepsShown F.contents F.faults self.old self.new }
+        ensures faults { TellsFaults F.faults (done_of result) self.old self.new }
+    {
+        unnamed_may_go();
+        let lengths = file_lengths(self.alloc, &self.table, &mut self.files)?;
+        let mut image = Vec::new(self.alloc);
+        self.table
+            .write_root(top, floor, self.next_name, &lengths, &mut image)?;
+        match self.files.put(ROOT_NAME, &image) {
+            Ok(()) => Ok(()),
+            Err(fault) => Err(refusal_of(fault)),
+        }
+    }
+
+    /// Writes the memtable of every tablet as `minor` does, and then the root file, in format 2: it has these two stamps,
+    /// the next file's name, the tablets' places, and the length of each of their files. From the files alone the cells
+    /// can then be read again.
+    ///
+    /// # Errors
+    ///
+    /// Those of `minor` for a known tablet. Some minor compactions may then have been done. If
+    /// the put of the root file was refused its bytes are open.
+    pub fn checkpoint(&mut self, top: Stamp, floor: Stamp) -> Result<(), Refusal>
+        ensures steps { Checkpoints
+            F.contents F.faults top floor self.old (done_of result) self.new }
+        ensures flushed { OnOk result (AreFlushed self.new) }
+        ensures rests { OnOk result (Rests F.contents top floor self.old self.new) }
+        // Whether it is done or refused, tablets that were in order are, with the same cells.
+        ensures keeps { KeepsShown F.contents F.faults self.old self.new }
+        ensures refusal { IfErr result (IsRefusalOf minor_compaction) }
+        ensures undamaged { Holds F.contents self.old → ¬ IsErrOf result Refusal.Damaged }
+        ensures faults { TellsFaults F.faults (done_of result) self.old self.new }
+    {
+        self.flush_each()?;
+        self.put_root(top, floor)
+    }
+}

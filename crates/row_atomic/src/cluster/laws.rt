@@ -1,0 +1,41 @@
+//! Laws of clusters. Each is the contract of a function that does nothing.
+
+ghost use Rattle.row_atomic.specs.Clusters.{CellsByTablet};
+ghost use Rattle.row_atomic.specs.Roots.{RootIsStored, RootOutlastsFlushes, RootOutlastsMerges, RootStays};
+
+use file_store::Files;
+use tablet::{stays_in_range, unnamed_may_go};
+
+/// The cells of a row are those of the tablet that holds it.
+pub fn cells_by_tablet()
+    ensures { CellsByTablet }
+{
+    stays_in_range();
+}
+
+/// A command leaves a root and its cells in the files. A sweep does so if the tablets have every
+/// file that the root lists.
+pub fn root_stays<F: Files>()
+    ensures { RootStays F.contents F.faults }
+{
+    unnamed_may_go();
+}
+
+/// Whether the files keep a root depends on what lies below the memtables alone.
+pub fn root_is_stored<F: Files>()
+    ensures { RootIsStored F.contents }
+{}
+
+/// Minor compactions of many tablets leave a root and its cells in the files.
+pub fn root_outlasts_flushes<F: Files>()
+    ensures { RootOutlastsFlushes F.contents F.faults }
+{
+    unnamed_may_go();
+}
+
+/// Merges of many tablets leave a root and its cells in the files.
+pub fn root_outlasts_merges<F: Files>()
+    ensures { RootOutlastsMerges F.contents F.faults }
+{
+    unnamed_may_go();
+}

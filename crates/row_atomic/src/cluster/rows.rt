@@ -1,0 +1,104 @@
+//! A cluster as rows of cells.
+
+ghost use Rattle.std.specs.Prelude.{◌≡◌, ◌↔◌, IfErr, IfOk, IsErrOf, IsTrue, None, Some, length, option_map};
+ghost use Rattle.std.specs.List.{AllByRecursion};
+ghost use Rattle.cell_key.specs.Places.{IsNextCell, place_named};
+ghost use Rattle.file_store.specs.Store.{Contents};
+ghost use Rattle.metadata_table.specs.Places.{view_of, views};
+ghost use Rattle.metadata_table.specs.Table.{IsTable};
+ghost use Rattle.sorted_file.specs.Source.{IsReadRefusal};
+ghost use Rattle.cell_key.specs.Faults.{HasReason};
+ghost use Rattle.tablet.specs.Views.{Holds};
+ghost use Rattle.row_atomic.specs.Clusters.{ArePlaced, InOrder, Overfills, PrecedesCell, cells_in, storage_of};
+
+use crate::cluster::Cluster;
+use crate::place_cache::index_of;
+use crate::rows::Rows;
+use cell_key::{Edit, Family, Qualifier, Refusal, Row, Stamp};
+use file_store::Files;
+use metadata_table::Place;
+use tablet::{Tablet, stays_in_range};
+
+/// Whether all rows of a place come before the row of a cell.
+fn precedes(place: &Place, after: Option<(&Row, &Family)>) -> bool
+    ensures { IsTrue result
+        ↔ PrecedesCell (view_of place.now) (option_map place_named after.entry) }
+{
+    match (after, &place.end) {
+        (Some((row, _)), Some(end)) => end.cmp(row).is_lt(),
+        _ => false,
+    }
+}
+
+/// The next cell that has any key in the first of these tablets, in the order of their rows, that has one.
+fn next_cell_in<F: Files>(
+    places: &[Place],
+    tablets: &[Tablet],
+    after: Option<(&Row, &Family)>,
+    files: &mut F,
+) -> Result<Option<(Row, Family)>, Refusal>
+    requires table { IsTable (views places.now) }
+    requires placed { ArePlaced tablets.now None (views places.now) }
+    requires as_many { length tablets.now ≡ length (views places.now) }
+    ensures found { IfOk result (λ found. (m : Contents) → F.contents files.old ≡ Some m
+        → AllByRecursion (Holds m) tablets.now
+        → IsNextCell (cells_in (Some m) tablets.now) (option_map place_named after.entry) found) }
+    ensures damaged { IsErrOf result Refusal.Damaged
+        → (m : Contents) → F.contents files.old ≡ Some m → ¬ AllByRecursion (Holds m) tablets.now }
+    ensures refusal { IfErr result IsReadRefusal }
+    ensures same { F.contents files.new ≡ F.contents files.old }
+    ensures reason { HasReason (F.faults files.old) (F.faults files.new) result }
+{
+    stays_in_range();
+    for place in places {
+        if !precedes(place, after) {
+            let tablet = &tablets[place.tablet as usize - 1];
+            match tablet.next_cell(after, files)? {
+                Some(found) => return Ok(Some(found)),
+                None => {}
+            }
+        }
+    }
+    Ok(None)
+}
+
+impl<F: Files> Rows for Cluster<F> {
+    ghost seen = { record {
+      holds = λ cluster. InOrder (F.contents cluster.files) cluster.next_name cluster.tablets;
+      cells = λ cluster. cells_in (F.contents cluster.files) cluster.tablets;
+      overfills = λ cluster row edits. Overfills cluster.places cluster.tablets row edits;
+      storage = λ cluster. storage_of F.contents cluster;
+    } };
+
+    ghost faults = { λ cluster. F.faults cluster.files };
+
+    fn newest(
+        &mut self,
+        row: &Row,
+        family: &Family,
+        qualifier: Qualifier,
+        lo: Stamp,
+        hi: Stamp,
+    ) -> Result<Option<(Stamp, Vec<u8>)>, Refusal> {
+        stays_in_range();
+        let index = index_of(&self.table, &mut self.place_cache, row);
+        self.tablets[index].newest(row, family, qualifier, lo, hi, &mut self.files)
+    }
+
+    fn next_cell(
+        &mut self,
+        after: Option<(&Row, &Family)>,
+    ) -> Result<Option<(Row, Family)>, Refusal> {
+        next_cell_in(self.table.places(), &self.tablets, after, &mut self.files)
+    }
+
+    fn apply(&mut self, row: &Row, edits: Vec<Edit>) -> Result<(), Refusal> {
+        stays_in_range();
+        let index = index_of(&self.table, &mut self.place_cache, row);
+        self.tablets[index].apply(row, edits)
+    }
+
+    fn faults(&self) -> u64 {
+        self.files.faults()
+    }
+}

@@ -1,0 +1,16 @@
+use Rattle.std.proofs.Common.{sym, subst}
+use Rattle.request_codec.specs.Requests.{asked}
+use Rattle.request_codec.specs.declared.requests.Request.{Request as Lent}
+use Rattle.server_loop.specs.AuditRefusals.{RefusesFirst}
+use Rattle.server_loop.proofs.RefusedFirst.{if_none, if_some}
+use Rattle.server_loop.proofs.audit.Audit.first_refusal.Goals as goal
+
+pub returns-in-Raw-clause-some : goal.returns-in-Raw-clause-some
+returns-in-Raw-clause-some c =
+    if_some c.args.self.now (asked c.args.request.now) c.raw_refusal.result
+    (subst (λ (k : Lent). RefusesFirst c.args.self.now (asked k) c.raw_refusal.result) (sym c.in-Raw.is) (c.raw_refusal.ensures c.in-Raw.qualifier c.in-Raw.lo c.in-Raw.hi))
+
+pub returns-in-Raw-clause-none : goal.returns-in-Raw-clause-none
+returns-in-Raw-clause-none c =
+    if_none c.args.self.now (asked c.args.request.now) c.raw_refusal.result
+    (subst (λ (k : Lent). RefusesFirst c.args.self.now (asked k) c.raw_refusal.result) (sym c.in-Raw.is) (c.raw_refusal.ensures c.in-Raw.qualifier c.in-Raw.lo c.in-Raw.hi))

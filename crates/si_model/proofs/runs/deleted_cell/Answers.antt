@@ -1,5 +1,0 @@
-use Rattle.si_model.proofs.Deletions.{deleted_cell}
-use Rattle.si_model.proofs.runs.deleted_cell.Goals as goal
-
-pub returns : goal.returns
-returns c = deleted_cell

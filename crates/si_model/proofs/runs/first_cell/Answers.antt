@@ -1,5 +1,0 @@
-use Rattle.si_model.proofs.Transfers.{first_cell}
-use Rattle.si_model.proofs.runs.first_cell.Goals as goal
-
-pub returns : goal.returns
-returns c = first_cell

@@ -1,5 +1,0 @@
-use Rattle.si_model.proofs.Cleaned.{lost}
-use Rattle.si_model.proofs.runs.lost.Goals as goal
-
-pub returns : goal.returns
-returns c = lost

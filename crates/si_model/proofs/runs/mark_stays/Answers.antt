@@ -1,5 +1,0 @@
-use Rattle.si_model.proofs.Cleaned.{mark_stays}
-use Rattle.si_model.proofs.runs.mark_stays.Goals as goal
-
-pub returns : goal.returns
-returns c = mark_stays

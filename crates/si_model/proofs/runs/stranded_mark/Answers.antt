@@ -1,5 +1,0 @@
-use Rattle.si_model.proofs.Cleaned.{stranded}
-use Rattle.si_model.proofs.runs.stranded_mark.Goals as goal
-
-pub returns : goal.returns
-returns c = stranded

@@ -1,5 +1,0 @@
-use Rattle.si_model.proofs.Transfers.{transfer}
-use Rattle.si_model.proofs.runs.transfer.Goals as goal
-
-pub returns : goal.returns
-returns c = transfer

@@ -1,5 +1,0 @@
-use Rattle.std.proofs.Common.{arith}
-use Rattle.sorted_file.proofs.building.FileBuilder.into_image.Goals as goal
-
-pub returns-clause-within : goal.returns-clause-within
-returns-clause-within c = omega (arith, c.if-size-limit.false)

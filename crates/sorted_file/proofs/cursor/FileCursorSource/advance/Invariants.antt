@@ -1,0 +1,16 @@
+use Rattle.std.proofs.Common.{◌≡◌, ◌≤◌, length}
+use Rattle.std.specs.Option.{option_copied}
+use Rattle.sorted_file.specs.Cursor.{cursor_left, cursor_remaining}
+use Rattle.sorted_file.proofs.CursorSteps.{IsHeld}
+use Rattle.sorted_file.proofs.cursor.FileCursorSource.advance.Given as goal
+
+abbrev pub invariant-blocks-2 : goal.invariant-blocks-2
+invariant-blocks-2 g l = record {
+  contents : g.F.Files.contents l.files ≡ g.F.Files.contents l.initial.files;
+  quiet : g.F.Files.faults l.files ≡ g.F.Files.faults l.initial.files;
+  left : cursor_left l.self ≤ cursor_left l.initial.self;
+  held : IsHeld (g.F.Files.contents l.initial.files) l.initial.self.name l.initial.self.rows.now (option_copied l.initial.self.row) l.initial.self.block.items l.initial.self.at → IsHeld (g.F.Files.contents l.initial.files) l.self.name l.self.rows.now (option_copied l.self.row) l.self.block.items l.self.at × (cursor_remaining (g.F.Files.contents l.initial.files) l.self ≡ cursor_remaining (g.F.Files.contents l.initial.files) l.initial.self);
+}
+
+abbrev pub decreases-blocks-2 : goal.decreases-blocks-2
+decreases-blocks-2 g l = length l.self.rows.now

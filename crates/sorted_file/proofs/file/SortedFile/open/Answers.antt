@@ -1,0 +1,26 @@
+use Rattle.std.proofs.Common.{List, ℕ, Option, ap, ◌∙◌}
+use Rattle.std.specs.Global.{Vec}
+use Rattle.sorted_file.specs.Index.{skips}
+use Rattle.sorted_file.proofs.Keeping.{none_kept}
+use Rattle.sorted_file.proofs.Results.{if_some}
+use Rattle.sorted_file.proofs.file.SortedFile.open.Goals as goal
+
+pub returns-clause-opened : goal.returns-clause-opened
+returns-clause-opened g c =
+    let o = c.in_ok-rows.ensures.opening in
+    if_some (g.F.Files.contents c.args.files.now) _ _ (λ m w.
+    record {
+      list = o.list;
+      bounds = o.bounds;
+      bounded = o.bounded;
+      heads = o.heads;
+      skips = c.in_ok-skips.ensures.skips ∙ ap (λ (l : List (Option (Vec ℕ))). skips l) c.deref.ensures.value;
+      counted = o.counted;
+      format = _;
+      image = w.image;
+      there = w.there;
+      form = w.form;
+      rows = o.rows_are;
+      blocks = w.blocks;
+      cached = none_kept _ _ c.in_ok-cache.ensures.none;
+    }) c.in_ok-rows.ensures.whole

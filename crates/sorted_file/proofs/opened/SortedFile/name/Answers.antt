@@ -1,5 +1,0 @@
-use Rattle.std.proofs.Common.{refl}
-use Rattle.sorted_file.proofs.opened.SortedFile.name.Goals as goal
-
-pub returns : goal.returns
-returns c = refl

@@ -1,0 +1,48 @@
+use Rattle.std.proofs.Common.{rules, ℕ, ◌≤◌, ◌<◌, ◌+◌, ◌^◌, ◌⊎◌, length, Option, sym, subst, ap, ◌∙◌}
+use Rattle.std.specs.Prelude.{option_map}
+use Rattle.cell_key.specs.Entries.{Takes, entry_len, lent_entry}
+use Rattle.file_store.specs.Store.{Contents}
+use Rattle.sorted_file.specs.Builder.{state_of}
+use Rattle.sorted_file.specs.Grammar.{FitsIn}
+use Rattle.sorted_file.proofs.Rest.{takes_none, takes_some, writing_end, writing_step, too_large}
+use Rattle.sorted_file.proofs.writer.image_of_rest.Goals as goal
+
+pub entries-preserved-in-Continue-branch-3 : goal.entries-preserved-in-Continue-branch-3
+entries-preserved-in-Continue-branch-3 g c =
+    let i = c.entries.invariant in
+    let s = c.entries.source in
+    let t = c.advance.new.self in
+    let lent = sym c.current.ensures ∙ ap (option_map lent_entry) c.in-Some.is in
+    let holds = subst (λ (told : Option Contents). g.S.Source.holds told s → g.S.Source.holds told t) i.contents c.in_ok-advance.ensures.holds in
+    let takes = subst (λ (told : Option Contents). g.S.Source.holds told s → Takes (g.S.Source.lent t) (g.S.Source.remaining told s) (g.S.Source.remaining told t)) i.contents c.in_ok-advance.ensures.takes in
+    record {
+      contents = c.in_ok-advance.ensures.files ∙ i.contents;
+      quiet = c.in_ok-advance.ensures.reason.told (λ e. cc) ∙ i.quiet;
+      sound = c.in_ok-push.ensures.sound;
+      limit = c.in_ok-push.ensures.limit ∙ i.limit;
+      told = λ hold.
+          let now = i.told hold in
+          (holds now.0, writing_step (state_of c.entries.builder) (state_of c.push.new.self) _ _ _ (lent_entry c.in-Some.entry) (takes_some _ _ _ _ lent (takes now.0)) c.in_ok-push.ensures.built now.1);
+    }
+
+pub returns-in_err-push-clause-large : goal.returns-in_err-push-clause-large
+returns-in_err-push-clause-large g c = λ err hold fits.
+    let i = c.entries.invariant in
+    let s = c.entries.source in
+    let t = c.advance.new.self in
+    let lent = sym c.current.ensures ∙ ap (option_map lent_entry) c.in-Some.is in
+    let limit = i.limit in
+    let large = c.in_err-push.ensures.large (search rules) in
+    let takes = subst (λ (told : Option Contents). g.S.Source.holds told s → Takes (g.S.Source.lent t) (g.S.Source.remaining told s) (g.S.Source.remaining told t)) i.contents c.in_ok-advance.ensures.takes in
+    let now = i.told hold in
+    too_large (state_of c.entries.builder) _ _ _ (lent_entry c.in-Some.entry) c.args.limit (takes_some _ _ _ _ lent (takes now.0)) now.1 (subst (λ (l : ℕ). (l < length c.entries.builder.out.items + entry_len (lent_entry c.in-Some.entry)) ⊎ (2 ^ 32 ≤ entry_len (lent_entry c.in-Some.entry))) limit large) fits
+
+pub returns-clause-large : goal.returns-clause-large
+returns-clause-large g c = λ err hold fits.
+    let i = c.entries.invariant in
+    let s = c.entries.source in
+    let t = c.advance.new.self in
+    let takes = subst (λ (told : Option Contents). g.S.Source.holds told s → Takes (g.S.Source.lent t) (g.S.Source.remaining told s) (g.S.Source.remaining told t)) i.contents c.in_ok-advance.ensures.takes in
+    let now = i.told hold in
+    let end = takes_none (g.S.Source.lent t) _ _ (sym c.in_ok-advance.ensures.more ∙ c.if-branch.false) (takes now.0) in
+    c.finish.ensures.large err _ (writing_end (state_of c.entries.builder) _ _ end now.1) (subst (λ (limit : ℕ). FitsIn limit (g.S.Source.remaining (g.F.Files.contents c.args.files.now) c.args.source.now)) (sym i.limit) fits)

@@ -1,0 +1,59 @@
+-- Blocks of entries: their bytes, and what is found there.
+use Rattle.std.specs.Prelude.{List, map, option_map, ◌≡◌, None, ℕ, ◌+◌, ◌<◌, [], ◌∷◌, length, Option, Some, ◌^◌}
+use Rattle.cell_key.specs.Entries.{Entry, IsEntryList, spelled}
+use Rattle.file_store.specs.Store.{part}
+use Rattle.sorted_file.specs.Grammar.{block_bytes, Fits}
+use Rattle.sorted_file.specs.declared.entry.FileEntry.{FileEntry}
+use Rattle.sorted_file.specs.declared.block.Block.{Block}
+use Rattle.sorted_file.specs.declared.block.EntryExtent.{EntryExtent}
+use Rattle.sorted_file.specs.declared.block.Extent.{Extent}
+
+-- an entry in memory, and several
+abbrev pub file_entry : FileEntry → Entry
+file_entry entry = (entry.text.items, option_map (λ value. value.items) entry.value)
+
+abbrev pub entries_of : List FileEntry → List Entry
+entries_of entries = map file_entry entries
+
+-- the bytes are a block: those of an entry list that fits into one
+pub record IsBlock (es : List Entry) (bytes : List ℕ) : Type 0 where
+  pub list : IsEntryList es
+  pub fits : Fits es
+  pub spelled : bytes ≡ block_bytes es
+
+-- where entries begin, the first of which begins here
+abbrev pub starts_from : ℕ → List Entry → List ℕ
+starts_from at [] = []
+starts_from at (e ∷ es) = at ∷ starts_from (at + length (spelled e)) es
+
+-- the bytes are those of an entry list, whose entries begin at these offsets
+pub record IsSpelling (bytes starts : List ℕ) : Type 0 where
+  pub entries : List Entry
+  pub list : IsEntryList entries
+  pub bytes_are : bytes ≡ block_bytes entries
+  pub starts_are : starts ≡ starts_from 0 entries
+
+-- a block has the bytes of this entry list, and knows where each entry begins
+pub record IsParsed (es : List Entry) (block : Block) : Type 0 where
+  pub list : IsEntryList es
+  pub bytes : block.bytes.items ≡ block_bytes es
+  pub starts : block.starts.items ≡ starts_from 0 es
+  pub small : length (block_bytes es) < 2 ^ 32
+
+-- the first entry has this text
+abbrev pub BeginsWith : List ℕ → List Entry → Type 0
+BeginsWith name [] = ⊥
+BeginsWith name (e ∷ es) = name ≡ e.0
+
+-- the first entry that is a value
+abbrev pub first_value : List Entry → Option Entry
+first_value [] = None
+first_value ((name, None) ∷ es) = first_value es
+first_value ((name, Some value) ∷ es) = Some (name, Some value)
+
+-- what has an extent among bytes, and the entry whose text and value have these extents
+abbrev pub bytes_at : List ℕ → Extent → List ℕ
+bytes_at bytes extent = part bytes extent.offset extent.length
+
+abbrev pub entry_at : List ℕ → EntryExtent → Entry
+entry_at bytes extent = (bytes_at bytes extent.key, option_map (bytes_at bytes) extent.value)

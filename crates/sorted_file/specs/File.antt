@@ -1,0 +1,140 @@
+-- What an open file stands for, and the blocks that it caches.
+use Rattle.std.specs.Prelude.{◌≡◌, ℕ, nat_eq, List, Some, None, slice_get, Contains, ◌⊎◌, ◌+◌, ◌≤◌, length, map, Option, IfSome, option_map}
+use Rattle.std.specs.Map.{lookup}
+use Rattle.std.specs.FinMap as map
+use Rattle.std.specs.List.{AllByRecursion}
+use Rattle.std.specs.declared.vec.Vec.{Vec}
+use Rattle.cell_key.specs.Entries.{Entry, IsEntryList, entry_of_key}
+use Rattle.file_store.specs.Store.{Contents, part}
+use Rattle.sorted_file.specs.Index.{block_of, blocks_of, entries_in, row_head, texts_of, AreRows, IsRowPosition, IsBoundedRow, Tells, skips}
+use Rattle.sorted_file.specs.Block.{IsParsed, BeginsWith}
+use Rattle.sorted_file.specs.Grammar.{block_bytes, IsFile}
+use Rattle.sorted_file.specs.Bounds.{IsBounded}
+use Rattle.sorted_file.specs.declared.block.BlockRow.{BlockRow}
+use Rattle.sorted_file.specs.declared.block.Block.{Block}
+use Rattle.sorted_file.specs.declared.format.Format.{Format}
+use Rattle.sorted_file.specs.declared.file.SortedFile.{SortedFile}
+
+abbrev pub name_of : SortedFile → ℕ
+name_of file = file.name
+
+-- under this name there is the file of an entry list, in either format
+pub record HasFile (m : Contents) (name : ℕ) : Type 0 where
+  pub format : Format
+  pub entries : List Entry
+  pub image : List ℕ
+  pub list : IsEntryList entries
+  pub there : map.get m name ≡ Some image
+  pub form : IsFile format entries image
+
+-- the entries that an open file stands for over these files
+abbrev pub listed : Contents → SortedFile → List Entry
+listed m file = entries_in (blocks_of file.rows.items)
+
+-- each block that is cached is that of the row of its number
+abbrev pub AreCached : List BlockRow → List (ℕ × Block) → Type 0
+AreCached rows cached =
+    (e : ℕ × Block) → Contains cached e → (row : BlockRow) → slice_get rows e.0 ≡ Some row
+    → IsParsed (block_of row) e.1
+
+-- the block of a number isn't cached
+abbrev pub IsUncached : ℕ → List (ℕ × Block) → Type 0
+IsUncached number cached = lookup (nat_eq number) cached ≡ None
+
+-- the file of its name is there and is that of an entry list, the one that it stands for,
+-- its rows name the blocks of that file, and what it keeps of them is so
+pub record IsOpen (m : Contents) (file : SortedFile) : Type 0 where
+  pub list : IsEntryList (listed m file)
+  pub bounds : AllByRecursion (IsBounded file.bounds) (listed m file)
+  pub bounded : AllByRecursion IsBoundedRow file.rows.items
+  pub heads : texts_of file.heads.items ≡ map row_head file.rows.items
+  pub skips : file.skips.items ≡ skips file.heads.items
+  pub counted : file.count ≡ length (listed m file)
+  pub format : Format
+  pub image : List ℕ
+  pub there : map.get m (name_of file) ≡ Some image
+  pub form : IsFile format (listed m file) image
+  pub rows : AreRows 8 file.rows.items
+  pub blocks : form.blocks ≡ blocks_of file.rows.items
+  pub cached : AreCached file.rows.items file.cache.entries
+
+-- The block of a row was read from these bytes: at the row's offset they have those of an entry list
+-- that begins with the row's text.
+pub record IsReadFrom (image : List ℕ) (row : BlockRow) (es : List Entry) : Type 0 where
+  pub list : IsEntryList es
+  pub first : BeginsWith row.first.items es
+  pub bytes : part image row.offset row.length ≡ block_bytes es
+
+-- a block was read from what stands under a name now
+pub record IsReadNow
+    (told : Option Contents) (name : ℕ) (row : BlockRow) (block : Block) : Type 0 where
+  pub entries : List Entry
+  pub parsed : IsParsed entries block
+  pub read : (image : List ℕ) → Tells told name image → IsReadFrom image row entries
+
+-- Over these files an open file is what it was: it has its name, and if it was open it is, and
+-- stands for the same entries.
+pub record IsSameFile (told : Option Contents) (old new : SortedFile) : Type 0 where
+  pub name : name_of new ≡ name_of old
+  pub still : IfSome told (λ m. IsOpen m old → IsOpen m new × (listed m new ≡ listed m old))
+
+-- the block of a number was read from what stands under a file's name now
+pub record WasRead (told : Option Contents) (file : SortedFile) (e : ℕ × Block) : Type 0 where
+  pub row : BlockRow
+  pub named : slice_get file.rows.items e.0 ≡ Some row
+  pub read : IsReadNow told (name_of file) row e.1
+
+-- each block that a file caches was cached before, or was read from what stands under its name now
+abbrev pub KeepsWhatItRead : Option Contents → SortedFile → SortedFile → Type 0
+KeepsWhatItRead told old new =
+    (e : ℕ × Block) → Contains new.cache.entries e
+    → Contains old.cache.entries e ⊎ WasRead told old e
+
+-- What was found at a text in a block that wasn't cached is what stands under the name of an open
+-- file now: whatever that is, it has an entry list at the row's offset, and the entry of that list at
+-- the text is this one.
+abbrev pub IsFoundNow : Option Contents → SortedFile → List ℕ → Option (Option (List ℕ)) → Type 0
+IsFoundNow told file name found =
+    (m : Contents) → IsOpen m file → (number : ℕ) (row : BlockRow) (image : List ℕ)
+    → IsRowPosition name file.rows.items (number + 1) → slice_get file.rows.items number ≡ Some row
+    → IsUncached number file.cache.entries → Tells told (name_of file) image
+    → (es : List Entry) × IsReadFrom image row es × (found ≡ entry_of_key es name)
+
+-- the bytes of a value that was found, or of an erasure none
+abbrev pub value_bytes : {Z : Type 0} → Option (Vec ℕ Z) → Option (List ℕ)
+value_bytes value = option_map (λ bytes. bytes.items) value
+
+-- a value has at most 65,536 bytes
+abbrev pub IsShortValue : {Z : Type 0} → Option (Vec ℕ Z) → Type 0
+IsShortValue value = IfSome value (λ bytes. length bytes.items ≤ 65536)
+
+-- An open file stays open, and stands for the same entries, while the bytes under its name stay.
+abbrev pub StaysOpen : Type 0
+StaysOpen =
+    (m n : Contents) (file : SortedFile) → IsOpen m file
+    → map.get n (name_of file) ≡ map.get m (name_of file)
+    → IsOpen n file × (listed n file ≡ listed m file)
+
+-- what is open under one name stands for one list of entries
+abbrev pub OneListing : Type 0
+OneListing =
+    (m : Contents) (f g : SortedFile) → IsOpen m f → IsOpen m g → name_of f ≡ name_of g
+    → listed m f ≡ listed m g
+
+-- what is open is there
+abbrev pub OpenIsThere : Type 0
+OpenIsThere = (m : Contents) (file : SortedFile) → IsOpen m file → HasFile m (name_of file)
+
+-- a file of an entry list that is there can be opened
+abbrev pub WrittenIsThere : Type 0
+WrittenIsThere =
+    (m : Contents) (name : ℕ) (format : Format) (entries : List Entry) (image : List ℕ)
+    → IsEntryList entries → IsFile format entries image → map.get m name ≡ Some image
+    → HasFile m name
+
+-- what is opened of it stands for those entries
+abbrev pub WrittenIsListed : Type 0
+WrittenIsListed =
+    (m : Contents) (file : SortedFile) (format : Format) (entries : List Entry) (image : List ℕ)
+    → IsOpen m file → IsFile format entries image → map.get m (name_of file) ≡ Some image
+    → listed m file ≡ entries

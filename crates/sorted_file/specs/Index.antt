@@ -1,0 +1,103 @@
+-- The index of an open file: a row for each block, and the blocks in the file.
+use Rattle.std.specs.Prelude.{◌≡◌, ◌≢◌, ⊤, zero, suc, None, ℕ, ◌+◌, ◌≤◌, List, [], ◌∷◌, ◌++◌, length, map, flat_map, Option, Some, IsSomeAnd, option_map}
+use Rattle.std.specs.FinMap as map
+use Rattle.std.specs.Global.{Vec}
+use Rattle.std.specs.List.{AllByRecursion}
+use Rattle.std.specs.declared.cmp.Ordering.TheVariants.{Less}
+use Rattle.cell_key.specs.Keys.{byte_cmp}
+use Rattle.cell_key.specs.Entries.{Entry, IsEntryList, field}
+use Rattle.file_store.specs.Store.{Contents, part}
+use Rattle.sorted_file.specs.Grammar.{block_bytes, number_bytes}
+use Rattle.sorted_file.specs.Block.{first_value, entries_of}
+use Rattle.sorted_file.specs.Bounds.{IsBounded}
+use Rattle.sorted_file.specs.declared.block.BlockRow.{BlockRow}
+use Rattle.sorted_file.specs.declared.format.RowRef.{RowRef}
+use Rattle.sorted_file.specs.declared.format.Format.{Format}
+
+-- the bytes of a row of the index
+abbrev pub row_bytes : Format → RowRef → List ℕ
+row_bytes format row =
+    number_bytes format row.offset ++ (number_bytes format row.length ++ field row.first.now)
+
+-- the entries of a row's block, as they were when the file was opened
+abbrev pub block_of : BlockRow → List Entry
+block_of row = entries_of row.was.value.items
+
+abbrev pub blocks_of : List BlockRow → List (List Entry)
+blocks_of rows = map block_of rows
+
+-- the entries of blocks, one block after the other
+abbrev pub entries_in : List (List Entry) → List Entry
+entries_in blocks = flat_map (λ es. es) blocks
+
+-- the text of the first entry, if there is one
+abbrev pub IsFirstText : List ℕ → List Entry → Type 0
+IsFirstText name [] = Unit {0}
+IsFirstText name (e ∷ es) = name ≡ e.0
+
+-- a row names the block that begins at this offset
+pub record IsRowAt (at : ℕ) (row : BlockRow) : Type 0 where
+  pub offset : row.offset ≡ at
+  pub length : row.length ≡ length (block_bytes (block_of row))
+  pub first : IsFirstText row.first.items (block_of row)
+
+-- each row names the block behind those of the rows before it, the first of which begins here
+abbrev pub AreRows : ℕ → List BlockRow → Type 0
+AreRows at [] = Unit {0}
+AreRows at (row ∷ rows) = IsRowAt at row × AreRows (at + length (block_bytes (block_of row))) rows
+
+-- the stamps that a row keeps are those of the values of its block
+abbrev pub IsBoundedRow : BlockRow → Type 0
+IsBoundedRow row = AllByRecursion (IsBounded row.bounds) (block_of row)
+
+-- the first texts of the rows before this position aren't above a text, and that of the next is
+abbrev pub IsRowPosition : List ℕ → List BlockRow → ℕ → Type 0
+IsRowPosition text [] zero = ⊤
+IsRowPosition text [] (suc i) = ⊥
+IsRowPosition text (row ∷ rows) zero = byte_cmp text row.first.items ≡ Less
+IsRowPosition text (row ∷ rows) (suc i) =
+    (byte_cmp text row.first.items ≢ Less) × IsRowPosition text rows i
+
+-- the first texts rise
+abbrev pub first_of : BlockRow → Entry
+first_of row = (row.first.items, None)
+
+-- the text of a block's first value, if it has a value
+abbrev pub row_head : BlockRow → Option (List ℕ)
+row_head row = option_map (λ e. e.0) (first_value (block_of row))
+
+-- the bytes of texts, as many as are there
+abbrev pub texts_of : List (Option (Vec ℕ)) → List (Option (List ℕ))
+texts_of texts = map (option_map (λ text. text.items)) texts
+
+-- the first of these that is there
+abbrev pub first_some : {A : Type 0} → List (Option A) → Option A
+first_some [] = None
+first_some (None ∷ xs) = first_some xs
+first_some (Some x ∷ xs) = Some x
+
+-- how many are missing before the first that is there, and of each how many from it on
+abbrev pub missing_first : {A : Type 0} → List (Option A) → ℕ
+missing_first [] = 0
+missing_first (None ∷ xs) = missing_first xs + 1
+missing_first (Some x ∷ xs) = 0
+
+abbrev pub skips : {A : Type 0} → List (Option A) → List ℕ
+skips [] = []
+skips (x ∷ xs) = missing_first (x ∷ xs) ∷ skips xs
+
+-- the files have these bytes under a name, and say so
+abbrev pub Tells : Option Contents → ℕ → List ℕ → Type 0
+Tells told name image = IsSomeAnd told (λ m. map.get m name ≡ Some image)
+
+-- a row's block is in an image, at the row's offset
+pub record IsBlockIn (image : List ℕ) (row : BlockRow) : Type 0 where
+  pub list : IsEntryList (block_of row)
+  pub within : row.offset + row.length ≤ length image
+  pub bytes : part image row.offset row.length ≡ block_bytes (block_of row)
+
+-- under this name there is an image with the blocks of rows
+pub record AreBlocksIn (m : Contents) (name : ℕ) (rows : List BlockRow) : Type 0 where
+  pub image : List ℕ
+  pub there : map.get m name ≡ Some image
+  pub each : AllByRecursion (IsBlockIn image) rows

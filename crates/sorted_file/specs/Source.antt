@@ -1,0 +1,34 @@
+-- What a source answers.
+use Rattle.std.specs.Prelude.{List, ◌++◌, Option}
+use Rattle.std.specs.Option.{option_to_list}
+use Rattle.cell_key.specs.Entries.{Entry, IsEntryList}
+use Rattle.cell_key.specs.declared.refusals.Refusal.{Refusal}
+use Rattle.cell_key.specs.declared.refusals.Refusal.TheVariants as refused
+use Rattle.file_store.specs.declared.files.FileFault.{FileFault}
+use Rattle.file_store.specs.declared.files.FileFault.TheVariants.{Device, Memory}
+
+-- the entry that is lent, and those that remain
+abbrev pub pending : Option Entry → List Entry → List Entry
+pending lent remaining = option_to_list lent ++ remaining
+
+-- the entries that remain of an entry list are one
+abbrev pub RestIsList : Type 0
+RestIsList =
+    (lent : Option Entry) (remaining : List Entry) → IsEntryList (pending lent remaining)
+    → IsEntryList remaining
+
+-- what reading files may be refused: a device's fault, want of memory, damage
+abbrev pub IsReadRefusal : Refusal → Type 0
+IsReadRefusal refused.Device = Unit {0}
+IsReadRefusal refused.NoMemory = Unit {0}
+IsReadRefusal refused.Damaged = Unit {0}
+IsReadRefusal _ = ⊥
+
+-- what writing a file may be refused: that too, and a file that is too large
+abbrev pub IsWriteRefusal : Refusal → Type 0
+IsWriteRefusal refused.FileTooLarge = Unit {0}
+IsWriteRefusal refusal = IsReadRefusal refusal
+
+abbrev pub fault_refusal : FileFault → Refusal
+fault_refusal Device = refused.Device
+fault_refusal Memory = refused.NoMemory

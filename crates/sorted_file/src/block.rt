@@ -1,0 +1,331 @@
+//! Blocks in memory: their bytes, and what is found there.
+
+ghost use Rattle.std.specs.Option.{option_copied};
+ghost use Rattle.std.specs.Prelude.{◌≡◌, ◌↔◌, IsTrue, ◌≢◌, ◌<◌, ◌^◌, List, length, IfOk, IfErr, IfSome, IfNone, true, false, drop, slice_get, option_map, IsSomeAnd, ◌≤◌, ◌⊎◌, IsErrOf, map, ◌++◌, ℕ};
+ghost use Rattle.std.specs.declared.cmp.Ordering.TheVariants.{Less, Greater};
+ghost use Rattle.cell_key.specs.Entries.{IsEntry, lent_entry, Entry, IsEntryList, entries_from, entry_of_key, IsRising, spelled};
+ghost use Rattle.cell_key.specs.Keys.{byte_cmp};
+ghost use Rattle.sorted_file.specs.Index.{first_of, IsRowPosition, blocks_of, AreRows};
+ghost use Rattle.sorted_file.specs.Check.{IsFollowed};
+ghost use Rattle.sorted_file.specs.Grammar.{block_bytes, Fits};
+ghost use Rattle.sorted_file.specs.Block.{entries_of, IsSpelling, BeginsWith, IsParsed, bytes_at, entry_at, first_value};
+ghost use Rattle.sorted_file.specs.File.{IsShortValue, value_bytes};
+ghost use Rattle.sorted_file.specs.Source.{IsReadRefusal};
+
+use crate::bounds::ColumnBounds;
+use crate::entry::{FileEntry, is_below};
+use crate::format::{BLOCK_LIMIT, LENGTH, MOST_VALUE, is_entry, is_same, read_entry, spelled_len};
+use cell_key::{EntryRef, Refusal};
+use std::alloc::Global;
+use std::snapshot::Snapshot;
+
+/// A block in its bytes, whose form was checked.
+#[derive(Drop)]
+pub(crate) struct Block {
+    bytes: Vec<u8>,
+    /// Where each entry begins.
+    starts: Vec<u32>,
+}
+
+/// Whether an entry can be the next one of a list whose last text is this one, which is empty before the first.
+fn goes_on(last: &[u8], entry: EntryRef<'_>) -> bool
+    ensures { IsTrue result
+        ↔ (IsEntry (lent_entry entry.entry) × (byte_cmp last.now entry.entry.key.now ≡ Less)) }
+{
+    is_entry(entry) && is_below(last, entry.key)
+}
+
+/// Where the entries begin that have these bytes; `None` if no entry list has them. Answers `NoMemory` if there is no
+/// memory.
+fn starts_of(alloc: Global, bytes: &[u8]) -> Result<Option<Vec<u32>>, Refusal>
+    requires { length bytes.now < 2 ^ 32 }
+    ensures found { IfOk result (λ found.
+        IfSome found (λ starts. IsSpelling bytes.now starts.items)) }
+    ensures none { IfOk result (λ found. IfNone found ((es : List Entry) → IsEntryList es
+        → bytes.now ≢ block_bytes es)) }
+    ensures refusal { IfErr result (λ refusal. refusal ≡ Refusal.NoMemory) }
+{
+    // Room for the entries of a block of short values.
+    let mut starts = Vec::with_capacity(alloc, (bytes.len() / 32).min(128))?;
+    let mut last: &[u8] = &[];
+    let mut rest = bytes;
+    'entries: while !rest.is_empty() {
+        let Some((entry, after)) = read_entry(rest) else {
+            return Ok(None);
+        };
+        if !goes_on(last, entry) {
+            return Ok(None);
+        }
+        starts.push((bytes.len() - rest.len()) as u32)?;
+        last = entry.key;
+        rest = after;
+    }
+    Ok(Some(starts))
+}
+
+impl Block {
+    /// The block of these bytes; `None` if they are those of no entry list. Answers `NoMemory` if there is no memory.
+    pub(crate) fn parse(alloc: Global, bytes: Vec<u8>) -> Result<Option<Block>, Refusal>
+        requires { length bytes.items < 2 ^ 32 }
+        ensures parsed { IfOk result (λ found. IfSome found (λ block. (es : List Entry)
+            × IsParsed es block × (bytes.items ≡ block_bytes es))) }
+        ensures none { IfOk result (λ found. IfNone found ((es : List Entry) → IsEntryList es
+            → bytes.items ≢ block_bytes es)) }
+        ensures refusal { IfErr result (λ refusal. refusal ≡ Refusal.NoMemory) }
+    {
+        let Some(starts) = starts_of(alloc, &bytes)? else {
+            return Ok(None);
+        };
+        Ok(Some(Block { bytes, starts }))
+    }
+
+    /// The entry of an index.
+    pub(crate) fn entry(&self, at: usize) -> Option<EntryRef<'_>>
+        ensures { (es : List Entry) → IsParsed es self.now
+            → option_map lent_entry result ≡ slice_get es at }
+    {
+        let start = *self.starts.get(at)? as usize;
+        let (_, rest) = self.bytes.split_at(start.min(self.bytes.len()));
+        let (entry, _) = read_entry(rest)?;
+        Some(entry)
+    }
+
+    /// Whether the first entry has this text.
+    pub(crate) fn begins_with(&self, text: &[u8]) -> bool
+        ensures { (es : List Entry) → IsParsed es self.now
+            → (IsTrue result ↔ BeginsWith text.now es) }
+    {
+        self.entry(0).is_some_and(|entry| is_same(text, entry.key))
+    }
+
+    /// Whether there is an entry of this index, and its text is below this one.
+    fn is_before(&self, at: usize, text: &[u8]) -> bool
+        ensures before { result ≡ true → (es : List Entry) → IsParsed es self.now
+            → IsSomeAnd (slice_get es at) (λ e. byte_cmp text.now e.0 ≡ Greater) }
+        ensures behind { result ≡ false → (es : List Entry) → IsParsed es self.now
+            → IfSome (slice_get es at) (λ e. byte_cmp text.now e.0 ≢ Greater) }
+    {
+        self.entry(at)
+            .is_some_and(|entry| text.cmp(&entry.key).is_gt())
+    }
+
+    /// The index of the first entry whose text isn't below this one.
+    fn position(&self, text: &[u8]) -> usize
+        ensures { (es : List Entry) → IsParsed es self.now
+            → entries_from text.now es ≡ drop result es }
+    {
+        let mut low = 0;
+        let mut high = self.starts.len();
+        'halves: while low < high {
+            let middle = low + (high - low) / 2;
+            if self.is_before(middle, text) {
+                low = middle + 1;
+            } else {
+                high = middle;
+            }
+        }
+        low
+    }
+
+    /// The entry at a text.
+    pub(crate) fn find(&self, text: &[u8]) -> Option<EntryRef<'_>>
+        ensures { (es : List Entry) → IsParsed es self.now
+            → option_map (λ entry. (lent_entry entry).1) result ≡ entry_of_key es text.now }
+    {
+        let entry = self.entry(self.position(text))?;
+        if text.cmp(&entry.key).is_eq() {
+            Some(entry)
+        } else {
+            None
+        }
+    }
+
+    /// The first value at a text that isn't below this one.
+    pub(crate) fn first_value(&self, text: &[u8]) -> Option<EntryRef<'_>>
+        ensures { (es : List Entry) → IsParsed es self.now
+            → option_map lent_entry result ≡ first_value (entries_from text.now es) }
+    {
+        let mut at = self.position(text);
+        'erasures: while at < self.starts.len() {
+            let entry = self.entry(at)?;
+            if entry.value.is_some() {
+                return Some(entry);
+            }
+            at += 1;
+        }
+        None
+    }
+}
+
+/// A copy of a value, or nothing for an erasure. Answers `Damaged` if it is longer than a value may be, and `NoMemory`
+/// if there is no memory for it.
+fn copy_value(alloc: Global, value: Option<&[u8]>) -> Result<Option<Vec<u8>>, Refusal>
+    ensures copy { IfOk result (λ copy.
+        option_map (λ bytes. bytes.items) copy ≡ option_copied value.entry) }
+    ensures short { IfOk result (λ copy. IfSome copy (λ bytes. length bytes.items ≤ 65536)) }
+    ensures damaged { IsErrOf result Refusal.Damaged
+        → ¬ IfSome (option_copied value.entry) (λ bytes. length bytes ≤ 65536) }
+    ensures refusal { IfErr result (λ refusal. (refusal ≡ Refusal.NoMemory)
+        ⊎ (refusal ≡ Refusal.Damaged)) }
+{
+    let Some(value) = value else {
+        return Ok(None);
+    };
+    if value.len() > MOST_VALUE {
+        return Err(Refusal::Damaged);
+    }
+    let copy = Vec::from_slice(alloc, value)?;
+    Ok(Some(copy))
+}
+
+/// What a block has at a text: a value, `Some(None)` if it is an erasure, `None` if it has no entry. Answers `Damaged`
+/// if the value is too long, and `NoMemory` if there is no memory for it.
+pub(crate) fn value_at(
+    alloc: Global,
+    block: &Block,
+    text: &[u8],
+) -> Result<Option<Option<Vec<u8>>>, Refusal>
+    ensures found { IfOk result (λ found. (es : List Entry) → IsParsed es block.now
+        → option_map value_bytes found ≡ entry_of_key es text.now) }
+    ensures short { IfOk result (λ found. IfSome found IsShortValue) }
+    ensures damaged { IsErrOf result Refusal.Damaged → (es : List Entry)
+        → ¬ IsParsed es block.now }
+    ensures refusal { IfErr result IsReadRefusal }
+    ensures inside { ¬ IsErrOf result Refusal.Device }
+{
+    match block.find(text) {
+        Some(entry) => Ok(Some(copy_value(alloc, entry.value)?)),
+        None => Ok(None),
+    }
+}
+
+/// The text of the first value of a block at a text that isn't below this one. Answers `NoMemory` if there is no
+/// memory.
+pub(crate) fn text_at(alloc: Global, block: &Block, text: &[u8]) -> Result<Option<Vec<u8>>, Refusal>
+    ensures found { IfOk result (λ found. (es : List Entry) → IsParsed es block.now
+        → option_map (λ bytes. bytes.items) found
+        ≡ option_map (λ e. e.0) (first_value (entries_from text.now es))) }
+    ensures refusal { IfErr result (λ refusal. refusal ≡ Refusal.NoMemory) }
+{
+    match block.first_value(text) {
+        Some(entry) => Ok(Some(Vec::from_slice(alloc, entry.key)?)),
+        None => Ok(None),
+    }
+}
+
+/// What an open file has of a block in memory: where it begins, how many bytes it has, and its first text.
+#[derive(Drop)]
+pub(crate) struct BlockRow {
+    pub(crate) offset: u64,
+    pub(crate) length: u32,
+    pub(crate) first: Vec<u8>,
+    /// The bounds of its values.
+    pub(crate) bounds: ColumnBounds,
+    /// Its entries when the file was opened. They take no room.
+    pub(crate) was: Snapshot<Vec<FileEntry>>,
+}
+
+/// How many of the rows have a first text that isn't above this one.
+pub(crate) fn rows_to(rows: &[BlockRow], text: &[u8]) -> usize
+    ensures bound { result ≤ length rows.now }
+    ensures position { IsRising (map first_of rows.now) → IsRowPosition text.now rows.now result }
+{
+    rows.partition_point(|row| text.cmp(&row.first.as_slice()).is_ge())
+}
+
+/// Whether a block can follow the last of the blocks that rows name.
+pub(crate) fn is_followed(rows: &[BlockRow], block: &[FileEntry]) -> bool
+    requires { Fits (entries_of block.now) }
+    ensures { AreRows 8 rows.now
+        → (IsTrue result ↔ IsFollowed (blocks_of rows.now) (entries_of block.now)) }
+{
+    let Some((row, _)) = rows.split_last() else {
+        return true;
+    };
+    let Some((first, _)) = block.split_first() else {
+        return true;
+    };
+    row.length as u128 + spelled_len(first.lend()) > BLOCK_LIMIT
+}
+
+/// What stands in a block from the first entry on whose text isn't below this one; `None` if the bytes are no
+/// block, as far as they were read.
+pub(crate) fn bytes_from<'a>(bytes: &'a [u8], text: &[u8]) -> Option<&'a [u8]>
+    requires { length bytes.now < 2 ^ 32 }
+    ensures found { IfSome result (λ rest. (es : List Entry) → IsRising es
+        → bytes.now ≡ block_bytes es → rest.now ≡ block_bytes (entries_from text.now es)) }
+    ensures shorter { IfSome result (λ rest. length rest.now ≤ length bytes.now) }
+    ensures none { IfNone result ((es : List Entry) → IsRising es → bytes.now ≢ block_bytes es) }
+{
+    let mut rest = bytes;
+    'below: while !rest.is_empty() {
+        let (entry, after) = read_entry(rest)?;
+        if text.cmp(&entry.key).is_le() {
+            return Some(rest);
+        }
+        rest = after;
+    }
+    Some(rest)
+}
+
+/// A part of some bytes: its offset and its length.
+#[derive(Clone, Copy)]
+pub(crate) struct Extent {
+    offset: usize,
+    length: usize,
+}
+
+impl Extent {
+    /// What of the part there is.
+    fn lend(self, bytes: &[u8]) -> &[u8]
+        ensures { result.now ≡ bytes_at bytes.now self }
+    {
+        let (_, behind) = bytes.split_at(self.offset.min(bytes.len()));
+        behind.split_at(self.length.min(behind.len())).0
+    }
+}
+
+/// The parts that are the text and the value of an entry; an erasure has no value.
+#[derive(Clone, Copy)]
+pub(crate) struct EntryExtent {
+    key: Extent,
+    value: Option<Extent>,
+}
+
+impl EntryExtent {
+    /// The entry that stands there.
+    pub(crate) fn lend(self, bytes: &[u8]) -> EntryRef<'_>
+        ensures { lent_entry result ≡ entry_at bytes.now self }
+    {
+        EntryRef {
+            key: self.key.lend(bytes),
+            value: self.value.map(|value| value.lend(bytes)),
+        }
+    }
+}
+
+/// The parts of the entry that begins at this offset, and the offset at which it ends; `None` if no entry begins there.
+pub(crate) fn entry_extent(bytes: &[u8], at: usize) -> Option<(EntryExtent, usize)>
+    requires { at ≤ length bytes.now }
+    ensures found { IfSome result (λ p.
+        drop at bytes.now ≡ spelled (entry_at bytes.now p.0) ++ drop p.1 bytes.now) }
+    ensures past { IfSome result (λ p. at < p.1) }
+    ensures within { IfSome result (λ p. p.1 ≤ length bytes.now) }
+    ensures none { IfNone result (length bytes.now < 2 ^ 32 → (entry : Entry) (rest : List ℕ)
+        → drop at bytes.now ≢ spelled entry ++ rest) }
+{
+    let (entry, after) = read_entry(bytes.split_at(at).1)?;
+    let end = bytes.len() - after.len();
+    let key = Extent {
+        offset: at + LENGTH,
+        length: entry.key.len(),
+    };
+    let value = match entry.value {
+        Some(value) => Some(Extent {
+            offset: end - value.len(),
+            length: value.len(),
+        }),
+        None => None,
+    };
+    Some((EntryExtent { key, value }, end))
+}

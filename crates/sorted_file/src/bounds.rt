@@ -1,0 +1,288 @@
+//! Bounds of the values of a file and of its blocks, so that a read passes by what has none for it.
+
+ghost use Rattle.std.specs.List.{AllByRecursion};
+ghost use Rattle.std.specs.Option.{option_copied};
+ghost use Rattle.std.specs.Prelude.{◌≡◌, get_or, ◌≤◌, ℕ, List, false, IfOk, IfErr, drop, option_map, ◌≢◌, ◌<◌, ◌^◌, length, IfSome, IfNone};
+ghost use Rattle.cell_key.specs.Keys.{text};
+ghost use Rattle.cell_key.specs.Texts.{stamp_text};
+ghost use Rattle.cell_key.specs.declared.keys.CellKey.{CellKey as KeyOf};
+ghost use Rattle.sorted_file.specs.Block.{file_entry, entries_of, first_value};
+ghost use Rattle.sorted_file.specs.Newest.{at_stamp};
+ghost use Rattle.sorted_file.specs.Index.{first_some, skips};
+ghost use Rattle.sorted_file.specs.Bounds.{front, IsWithin, column_bounds, Covers, IsBounded};
+
+use crate::entry::FileEntry;
+use crate::format::is_same;
+use cell_key::{CellKey, Qualifier, Refusal, Stamp};
+use std::alloc::Global;
+
+/// The byte of a row at an index, or 0 behind its end.
+fn byte_at(row: &[u8], at: usize) -> u8
+    ensures { result ≡ get_or row.now at 0 }
+{
+    row.get(at).copied().unwrap_or(0)
+}
+
+/// The number of a row's first eight bytes, a row of fewer filled up with zeros.
+fn front_of(row: &[u8]) -> u64
+    ensures { result ≡ front row.now }
+{
+    u64::from_be_bytes([
+        byte_at(row, 0),
+        byte_at(row, 1),
+        byte_at(row, 2),
+        byte_at(row, 3),
+        byte_at(row, 4),
+        byte_at(row, 5),
+        byte_at(row, 6),
+        byte_at(row, 7),
+    ])
+}
+
+/// Bounds of values: their stamps from the least to the greatest, and the fronts of their rows from the first to the
+/// last. No value is within bounds whose least is above the greatest.
+#[derive(Clone, Copy)]
+pub(crate) struct Bounds {
+    pub(crate) least: Stamp,
+    pub(crate) greatest: Stamp,
+    pub(crate) first: u64,
+    pub(crate) last: u64,
+}
+
+impl Bounds {
+    /// The bounds of no value.
+    const NONE: Bounds = Bounds {
+        least: u64::MAX,
+        greatest: 0,
+        first: u64::MAX,
+        last: 0,
+    };
+
+    /// These bounds, widened to a value at this stamp of a row with this front.
+    fn with(self, number: u64, stamp: Stamp) -> Bounds
+        ensures has { (row : List ℕ) → number ≡ front row → IsWithin result row stamp }
+        ensures keeps { (row : List ℕ) (s : ℕ) → IsWithin self row s → IsWithin result row s }
+    {
+        Bounds {
+            least: self.least.min(stamp),
+            greatest: self.greatest.max(stamp),
+            first: self.first.min(number),
+            last: self.last.max(number),
+        }
+    }
+
+    /// Bounds of the values of both.
+    fn joined(self, other: Bounds) -> Bounds
+        ensures first { (row : List ℕ) (s : ℕ) → IsWithin self row s → IsWithin result row s }
+        ensures second { (row : List ℕ) (s : ℕ) → IsWithin other row s → IsWithin result row s }
+    {
+        Bounds {
+            least: self.least.min(other.least),
+            greatest: self.greatest.max(other.greatest),
+            first: self.first.min(other.first),
+            last: self.last.max(other.last),
+        }
+    }
+
+    /// Whether one of the stamps may be in `lo..=hi`.
+    fn meets(self, lo: Stamp, hi: Stamp) -> bool
+        ensures { result ≡ false → (row : List ℕ) (s : ℕ) → lo ≤ s → s ≤ hi
+            → ¬ (IsWithin self row s) }
+    {
+        self.least <= hi && lo <= self.greatest
+    }
+
+    /// Whether one of the rows may have this front.
+    fn has_front(self, number: u64) -> bool
+        ensures { result ≡ false → (row : List ℕ) (s : ℕ) → number ≡ front row
+            → ¬ (IsWithin self row s) }
+    {
+        self.first <= number && number <= self.last
+    }
+}
+
+/// The bounds of values, for each kind of a cell's columns.
+#[derive(Clone, Copy)]
+pub(crate) struct ColumnBounds {
+    pub(crate) data: Bounds,
+    pub(crate) lock: Bounds,
+    pub(crate) write: Bounds,
+}
+
+impl ColumnBounds {
+    /// The bounds of no value.
+    pub(crate) const NONE: ColumnBounds = ColumnBounds {
+        data: Bounds::NONE,
+        lock: Bounds::NONE,
+        write: Bounds::NONE,
+    };
+
+    /// The bounds of one kind.
+    fn of(&self, qualifier: Qualifier) -> Bounds
+        ensures { result ≡ column_bounds self.now qualifier }
+    {
+        match qualifier {
+            Qualifier::Data => self.data,
+            Qualifier::Lock => self.lock,
+            Qualifier::Write => self.write,
+        }
+    }
+
+    /// These bounds, widened to a value of this kind at this stamp of a row with this front.
+    fn with(self, qualifier: Qualifier, number: u64, stamp: Stamp) -> ColumnBounds
+        ensures has { (row : List ℕ) → number ≡ front row
+            → IsWithin (column_bounds result qualifier) row stamp }
+        ensures keeps { Covers self result }
+    {
+        let mut bounds = self;
+        match qualifier {
+            Qualifier::Data => bounds.data = self.data.with(number, stamp),
+            Qualifier::Lock => bounds.lock = self.lock.with(number, stamp),
+            Qualifier::Write => bounds.write = self.write.with(number, stamp),
+        }
+        bounds
+    }
+
+    /// Bounds of the values of both.
+    pub(crate) fn joined(self, other: ColumnBounds) -> ColumnBounds
+        ensures first { Covers self result }
+        ensures second { Covers other result }
+    {
+        ColumnBounds {
+            data: self.data.joined(other.data),
+            lock: self.lock.joined(other.lock),
+            write: self.write.joined(other.write),
+        }
+    }
+
+    /// Whether there may be a value of such a column at a stamp in `lo..=hi`.
+    pub(crate) fn meet(&self, qualifier: Qualifier, lo: Stamp, hi: Stamp) -> bool
+        ensures { result ≡ false → (row : List ℕ) (s : ℕ) → lo ≤ s → s ≤ hi
+            → ¬ (IsWithin (column_bounds self.now qualifier) row s) }
+    {
+        self.of(qualifier).meets(lo, hi)
+    }
+
+    /// Whether there may be a value of the key's column at a stamp from `lo` up to the key's.
+    pub(crate) fn meet_column(&self, key: &CellKey, lo: Stamp) -> bool
+        ensures { result ≡ false → (s : ℕ) → lo ≤ s → s ≤ key.now.stamp
+            → ¬ (IsWithin (column_bounds self.now key.now.qualifier) key.now.row s) }
+    {
+        let bounds = self.of(key.qualifier);
+        bounds.meets(lo, key.stamp) && bounds.has_front(front_of(key.row.as_bytes()))
+    }
+
+    /// These bounds, widened to an entry if it is a value.
+    fn with_entry(self, alloc: Global, entry: &FileEntry) -> Result<ColumnBounds, Refusal>
+        ensures has { IfOk result (λ bounds. IsBounded bounds (file_entry entry.now)) }
+        ensures keeps { IfOk result (λ bounds. Covers self bounds) }
+        ensures refusal { IfErr result (λ refusal. refusal ≡ Refusal.NoMemory) }
+    {
+        if entry.value.is_none() {
+            return Ok(self);
+        }
+        match CellKey::decode(alloc, &entry.text)? {
+            Some(key) => Ok(self.with(key.qualifier, front_of(key.row.as_bytes()), key.stamp)),
+            None => Ok(self),
+        }
+    }
+}
+
+/// The bounds of the values among entries. Answers `NoMemory` if there is no memory.
+pub(crate) fn bounds_of(alloc: Global, entries: &[FileEntry]) -> Result<ColumnBounds, Refusal>
+    ensures all { IfOk result (λ bounds.
+        AllByRecursion (IsBounded bounds) (entries_of entries.now)) }
+    ensures refusal { IfErr result (λ refusal. refusal ≡ Refusal.NoMemory) }
+{
+    let mut bounds = ColumnBounds::NONE;
+    let mut rest = entries;
+    'entries: while let Some((entry, after)) = rest.split_first() {
+        bounds = bounds.with_entry(alloc, entry)?;
+        rest = after;
+    }
+    Ok(bounds)
+}
+
+/// The text of the first value of a block, if it has a value. Answers `NoMemory` if there is no memory.
+pub(crate) fn head_of(alloc: Global, block: &[FileEntry]) -> Result<Option<Vec<u8>>, Refusal>
+    ensures head { IfOk result (λ head. option_map (λ text. text.items) head
+        ≡ option_map (λ e. e.0) (first_value (entries_of block.now))) }
+    ensures refusal { IfErr result (λ refusal. refusal ≡ Refusal.NoMemory) }
+{
+    let mut rest = block;
+    'erasures: while let Some((entry, after)) = rest.split_first() {
+        if entry.value.is_some() {
+            let text = Vec::from_slice(alloc, &entry.text)?;
+            return Ok(Some(text));
+        }
+        rest = after;
+    }
+    Ok(None)
+}
+
+/// How many heads are missing before the next that is there, from each on. Answers `NoMemory` if there is no memory.
+pub(crate) fn skips_of(alloc: Global, heads: &[Option<Vec<u8>>]) -> Result<Vec<usize>, Refusal>
+    ensures skips { IfOk result (λ counts. counts.items ≡ skips heads.now) }
+    ensures refusal { IfErr result (λ refusal. refusal ≡ Refusal.NoMemory) }
+{
+    let mut skips = Vec::with_capacity(alloc, heads.len())?;
+    let mut rest = heads;
+    let mut missing = 0;
+    'heads: while let Some((head, before)) = rest.split_last() {
+        missing = if head.is_some() { 0 } else { missing + 1 };
+        skips.push(missing)?;
+        rest = before;
+    }
+    skips.reverse();
+    Ok(skips)
+}
+
+/// The first head from an index on, by how many are missing before each next.
+pub(crate) fn next_head<'a>(
+    heads: &'a [Option<Vec<u8>>],
+    counts: &[usize],
+    at: usize,
+) -> Option<&'a Vec<u8>>
+    ensures { counts.now ≡ skips heads.now
+        → option_copied result ≡ first_some (drop at heads.now) }
+{
+    let skip = *counts.get(at)?;
+    let head = heads.split_at(at.min(heads.len())).1.get(skip)?;
+    head.as_ref()
+}
+
+/// The stamp of a text.
+fn stamp_of(bytes: &[u8]) -> Option<Stamp>
+    ensures some { IfSome result (λ stamp. bytes.now ≡ stamp_text stamp) }
+    ensures none { IfNone result (length bytes.now ≢ 8) }
+    ensures small { IfSome result (λ stamp. stamp < 2 ^ 64) }
+{
+    if bytes.len() != 8 {
+        return None;
+    }
+    let falling = u64::from_be_bytes([
+        bytes[0], bytes[1], bytes[2], bytes[3], bytes[4], bytes[5], bytes[6], bytes[7],
+    ]);
+    Some(u64::MAX - falling)
+}
+
+/// The stamp of a text, if it is one of the column that another text is of.
+pub(crate) fn stamp_in(column: &[u8], bytes: &[u8]) -> Option<Stamp>
+    requires { 8 ≤ length column.now }
+    ensures some { IfSome result (λ stamp. (key : KeyOf) → column.now ≡ text key
+        → bytes.now ≡ text (at_stamp key stamp)) }
+    ensures none { IfNone result ((key : KeyOf) → column.now ≡ text key
+        → (stamp : ℕ) → bytes.now ≢ text (at_stamp key stamp)) }
+    ensures small { IfSome result (λ stamp. stamp < 2 ^ 64) }
+{
+    if bytes.len() != column.len() {
+        return None;
+    }
+    let at = column.len() - 8;
+    let (front, falling) = bytes.split_at(at);
+    if is_same(front, column.split_at(at).0) {
+        stamp_of(falling)
+    } else {
+        None
+    }
+}

@@ -1,0 +1,369 @@
+//! The check of a whole file, block by block, when it is opened.
+
+ghost use Rattle.std.specs.FinMap as map;
+ghost use Rattle.std.specs.Prelude.{◌≡◌, List, ℕ, length, IfOk, IfErr, IfSome, IsSome, IsErrOf, ◌≤◌, ◌<◌, ◌+◌, take, ◌-◌, ◌++◌, ◌∷◌, ◌↔◌, [], OnOk, IsTrue};
+ghost use Rattle.cell_key.specs.Entries.{Entry, IsEntryList, IsRising};
+ghost use Rattle.cell_key.specs.Faults.{HasReason};
+ghost use Rattle.file_store.specs.Store.{part};
+ghost use Rattle.sorted_file.specs.Grammar.{IsNoFile, foot_len, head, most, block_bytes, foot, Fits};
+ghost use Rattle.sorted_file.specs.Index.{Tells, blocks_of, entries_in};
+ghost use Rattle.sorted_file.specs.Check.{IsFramed, IsNext, IsOpening, IsReading, IsWhole};
+ghost use Rattle.sorted_file.specs.Block.{IsBlock, entries_of};
+ghost use Rattle.sorted_file.specs.File.{HasFile};
+ghost use Rattle.sorted_file.specs.Source.{IsReadRefusal};
+
+use crate::block::{BlockRow, is_followed};
+use crate::bounds::{ColumnBounds, bounds_of, head_of};
+use crate::entry::{FileEntry, read_block, rises_on};
+use crate::format::{
+    Format, HEAD, LONGEST_BLOCK, RowRef, format_of, index_offset, is_same, push_foot, read_row,
+};
+use crate::source::{read_part, refusal_of};
+use cell_key::Refusal;
+use file_store::Files;
+use std::alloc::Global;
+use std::snapshot::Snapshot;
+
+/// How many bytes a file has. Answers `Damaged` if it isn't there, `Device` if a device fails, and `NoMemory` if there
+/// is no memory.
+fn file_size<F: Files>(name: u64, files: &mut F) -> Result<u64, Refusal>
+    ensures size { IfOk result (λ size. (image : List ℕ)
+        → Tells (F.contents files.old) name image → length image ≡ size) }
+    ensures there { IfOk result (λ size.
+        IfSome (F.contents files.old) (λ m. IsSome (map.get m name))) }
+    ensures damaged { IsErrOf result Refusal.Damaged → (image : List ℕ)
+        → Tells (F.contents files.old) name image → IsNoFile image }
+    ensures refusal { IfErr result IsReadRefusal }
+    ensures same { F.contents files.new ≡ F.contents files.old }
+    ensures reason { HasReason (F.faults files.old) (F.faults files.new) result }
+{
+    files
+        .size(name)
+        .map_err(refusal_of)?
+        .ok_or(Refusal::Damaged)
+}
+
+/// The format that the head of a file of this size names. Answers `Damaged` if it names none, or no file of that
+/// format has this size, `Device` if a device fails, and `NoMemory` if there is no memory.
+fn read_format<F: Files>(
+    alloc: Global,
+    name: u64,
+    size: u64,
+    files: &mut F,
+) -> Result<Format, Refusal>
+    ensures head { IfOk result (λ format. (image : List ℕ)
+        → Tells (F.contents files.old) name image → take 8 image ≡ head format) }
+    ensures least { IfOk result (λ format. 8 + foot_len format ≤ size) }
+    ensures most { IfOk result (λ format. size < most format) }
+    ensures damaged { IsErrOf result Refusal.Damaged → (image : List ℕ)
+        → Tells (F.contents files.old) name image → length image ≡ size → IsNoFile image }
+    ensures refusal { IfErr result IsReadRefusal }
+    ensures same { F.contents files.new ≡ F.contents files.old }
+    ensures reason { HasReason (F.faults files.old) (F.faults files.new) result }
+{
+    let head = read_part(alloc, name, 0, HEAD, files)?;
+    let Some(format) = format_of(&head) else {
+        return Err(Refusal::Damaged);
+    };
+    if !format.allows(size) {
+        return Err(Refusal::Damaged);
+    }
+    Ok(format)
+}
+
+/// Where the index of a file of this format and size begins, and the file's foot. Answers `Damaged` if the foot isn't
+/// in the form, `Device` if a device fails, and `NoMemory` if there is no memory.
+fn read_foot<F: Files>(
+    alloc: Global,
+    name: u64,
+    format: Format,
+    size: u64,
+    files: &mut F,
+) -> Result<(u64, Vec<u8>), Refusal>
+    requires { 8 + foot_len format ≤ size }
+    ensures framed { IfOk result (λ found. (image : List ℕ)
+        → Tells (F.contents files.old) name image → length image ≡ size
+        → take 8 image ≡ head format
+        → IsFramed format image
+        (part image found.0 (length image - foot_len format - found.0)) found.1.items) }
+    ensures within { IfOk result (λ found. found.0 + foot_len format ≤ size) }
+    ensures damaged { IsErrOf result Refusal.Damaged → (image : List ℕ)
+        → Tells (F.contents files.old) name image → length image ≡ size
+        → take 8 image ≡ head format → IsNoFile image }
+    ensures refusal { IfErr result IsReadRefusal }
+    ensures same { F.contents files.new ≡ F.contents files.old }
+    ensures reason { HasReason (F.faults files.old) (F.faults files.new) result }
+{
+    let len = format.foot_len();
+    let foot = read_part(alloc, name, size - len, len, files)?;
+    let Some(at) = index_offset(format, &foot, size) else {
+        return Err(Refusal::Damaged);
+    };
+    Ok((at, foot))
+}
+
+/// The index and the foot of a file of this format and size. Answers `Damaged` if the foot isn't in the form, `Device`
+/// if a device fails, and `NoMemory` if there is no memory.
+fn read_frame<F: Files>(
+    alloc: Global,
+    name: u64,
+    format: Format,
+    size: u64,
+    files: &mut F,
+) -> Result<(Vec<u8>, Vec<u8>), Refusal>
+    requires { 8 + foot_len format ≤ size }
+    ensures framed { IfOk result (λ frame. (image : List ℕ)
+        → Tells (F.contents files.old) name image → length image ≡ size
+        → take 8 image ≡ head format
+        → IsFramed format image frame.0.items frame.1.items) }
+    ensures damaged { IsErrOf result Refusal.Damaged → (image : List ℕ)
+        → Tells (F.contents files.old) name image → length image ≡ size
+        → take 8 image ≡ head format → IsNoFile image }
+    ensures refusal { IfErr result IsReadRefusal }
+    ensures same { F.contents files.new ≡ F.contents files.old }
+    ensures reason { HasReason (F.faults files.old) (F.faults files.new) result }
+{
+    let (at, foot) = read_foot(alloc, name, format, size, files)?;
+    let index = read_part(alloc, name, at, size - format.foot_len() - at, files)?;
+    Ok((index, foot))
+}
+
+/// A file that is being opened: the blocks that were read so far.
+#[derive(Drop)]
+pub(crate) struct Opening {
+    alloc: Global,
+    name: u64,
+    format: Format,
+    size: u64,
+    pub(crate) rows: Vec<BlockRow>,
+    /// The text of the first value of each block that has one.
+    pub(crate) heads: Vec<Option<Vec<u8>>>,
+    /// The bounds of the values.
+    pub(crate) bounds: ColumnBounds,
+    /// How many entries there are.
+    pub(crate) count: u64,
+    /// The entries of the last block.
+    last: Vec<FileEntry>,
+    /// Where the next block begins.
+    end: u64,
+}
+
+impl Opening {
+    /// A file of this format and size, no block of which was read yet.
+    fn new(alloc: Global, name: u64, format: Format, size: u64) -> Opening
+        requires least { 8 + foot_len format ≤ size }
+        requires most { size < most format }
+        ensures opening { IsOpening result }
+        ensures name { result.name ≡ name }
+        ensures format { result.format ≡ format }
+        ensures size { result.size ≡ size }
+        ensures rows { result.rows.items ≡ [] }
+    {
+        Opening {
+            alloc,
+            name,
+            format,
+            size,
+            rows: Vec::new(alloc),
+            heads: Vec::new(alloc),
+            bounds: ColumnBounds::NONE,
+            count: 0,
+            last: Vec::new(alloc),
+            end: HEAD,
+        }
+    }
+
+    /// The entries of the next block, whose row this is. Answers `Damaged` if no block of this length is
+    /// there, `Device` if a device fails, and `NoMemory` if there is no memory.
+    fn next_block<F: Files>(
+        &self,
+        row: RowRef<'_>,
+        files: &mut F,
+    ) -> Result<Vec<FileEntry>, Refusal>
+        requires { self.now.end ≤ self.now.size }
+        ensures list { IfOk result (λ block. IsEntryList (entries_of block.items)) }
+        ensures fits { IfOk result (λ block. Fits (entries_of block.items)) }
+        ensures length { IfOk result (λ block. length (block_bytes (entries_of block.items))
+            ≡ row.entry.length) }
+        ensures within { IfOk result (λ block. self.now.end + row.entry.length ≤ self.now.size) }
+        ensures read { IfOk result (λ block. (image : List ℕ)
+            → Tells (F.contents files.old) self.now.name image
+            → part image self.now.end row.entry.length ≡ block_bytes (entries_of block.items)) }
+        ensures damaged { IsErrOf result Refusal.Damaged → (image : List ℕ)
+            → Tells (F.contents files.old) self.now.name image → length image ≡ self.now.size
+            → (es : List Entry) → length (block_bytes es) ≡ row.entry.length
+            → ¬ IsBlock es (part image self.now.end row.entry.length) }
+        ensures refusal { IfErr result IsReadRefusal }
+        ensures same { F.contents files.new ≡ F.contents files.old }
+        ensures reason { HasReason (F.faults files.old) (F.faults files.new) result }
+    {
+        if row.length > self.size - self.end || row.length > LONGEST_BLOCK {
+            return Err(Refusal::Damaged);
+        }
+        let bytes = read_part(self.alloc, self.name, self.end, row.length, files)?;
+        let Some(block) = read_block(self.alloc, &bytes)? else {
+            return Err(Refusal::Damaged);
+        };
+        Ok(block)
+    }
+
+    /// Whether the texts go on to rise in a block.
+    fn rises_on(&self, block: &[FileEntry]) -> bool
+        requires opening { IsOpening self.now }
+        requires rising { IsRising (entries_of block.now) }
+        ensures { IsTrue result
+            ↔ IsRising (entries_in (blocks_of self.now.rows.items) ++ entries_of block.now) }
+    {
+        rises_on(&self.last, block)
+    }
+
+    /// Whether a block can be the next one, and the row names it.
+    fn accepts(&self, row: RowRef<'_>, block: &[FileEntry]) -> bool
+        requires opening { IsOpening self.now }
+        requires rising { IsRising (entries_of block.now) }
+        requires fits { Fits (entries_of block.now) }
+        ensures { IsTrue result ↔ IsNext self.now row.entry (entries_of block.now) }
+    {
+        let Some((first, _)) = block.split_first() else {
+            return false;
+        };
+        row.offset == self.end
+            && is_same(row.first, &first.text)
+            && is_followed(&self.rows, block)
+            && self.rises_on(block)
+    }
+
+    /// Adds a block. Answers `NoMemory` if there is no memory.
+    fn add(&mut self, row: RowRef<'_>, block: Vec<FileEntry>) -> Result<(), Refusal>
+        requires opening { IsOpening self.old }
+        requires next { IsNext self.old row (entries_of block.items) }
+        requires list { IsEntryList (entries_of block.items) }
+        requires fits { Fits (entries_of block.items) }
+        requires length { length (block_bytes (entries_of block.items)) ≡ row.length }
+        requires within { self.old.end + row.length ≤ self.old.size }
+        ensures opening { OnOk result (IsOpening self.new) }
+        ensures name { self.new.name ≡ self.old.name }
+        ensures format { self.new.format ≡ self.old.format }
+        ensures size { self.new.size ≡ self.old.size }
+        ensures rows { OnOk result (blocks_of self.new.rows.items
+            ≡ blocks_of self.old.rows.items ++ entries_of block.items ∷ []) }
+        ensures refusal { IfErr result (λ refusal. refusal ≡ Refusal.NoMemory) }
+    {
+        let first = Vec::from_slice(self.alloc, row.first)?;
+        let head = head_of(self.alloc, &block)?;
+        let bounds = bounds_of(self.alloc, &block)?;
+        let was = Snapshot::of(&block);
+        self.rows.push(BlockRow {
+            offset: row.offset,
+            length: row.length as u32,
+            first,
+            bounds,
+            was,
+        })?;
+        self.heads.push(head)?;
+        self.bounds = self.bounds.joined(bounds);
+        self.count += block.len() as u64;
+        self.last = block;
+        self.end += row.length;
+        Ok(())
+    }
+
+    /// Reads the next block, whose row stands at the front of what is left of the index, and answers what follows the
+    /// row. Answers `Damaged` if row and block aren't those of a file, `Device` if a device fails, and `NoMemory` if
+    /// there is no memory.
+    fn read_next<'i, F: Files>(
+        &mut self,
+        left: &'i [u8],
+        files: &mut F,
+    ) -> Result<&'i [u8], Refusal>
+        requires { IsOpening self.old }
+        ensures opening { OnOk result (IsOpening self.new) }
+        ensures shorter { IfOk result (λ rest. length rest.now < length left.now) }
+        ensures read { IfOk result (λ rest. (image all end : List ℕ)
+            → IsReading (F.contents files.old) self.old image all end left.now
+            → IsReading (F.contents files.old) self.new image all end rest.now) }
+        ensures damaged { IsErrOf result Refusal.Damaged → (image all end : List ℕ)
+            → IsReading (F.contents files.old) self.old image all end left.now
+            → 0 < length left.now → IsNoFile image }
+        ensures refusal { IfErr result IsReadRefusal }
+        ensures same { F.contents files.new ≡ F.contents files.old }
+        ensures reason { HasReason (F.faults files.old) (F.faults files.new) result }
+    {
+        let Some((row, rest)) = read_row(self.format, left) else {
+            return Err(Refusal::Damaged);
+        };
+        let block = self.next_block(row, files)?;
+        if !self.accepts(row, &block) {
+            return Err(Refusal::Damaged);
+        }
+        self.add(row, block)?;
+        Ok(rest)
+    }
+
+    /// Reads all blocks that an index names. Answers `Damaged` if its rows and the blocks aren't those of a
+    /// file, `Device` if a device fails, and `NoMemory` if there is no memory.
+    fn read_blocks<F: Files>(&mut self, index: &[u8], files: &mut F) -> Result<(), Refusal>
+        requires { IsOpening self.old }
+        ensures opening { OnOk result (IsOpening self.new) }
+        ensures read { OnOk result ((image end : List ℕ)
+            → IsReading (F.contents files.old) self.old image index.now end index.now
+            → IsReading (F.contents files.old) self.new image index.now end []) }
+        ensures damaged { IsErrOf result Refusal.Damaged → (image end : List ℕ)
+            → IsReading (F.contents files.old) self.old image index.now end index.now
+            → IsNoFile image }
+        ensures refusal { IfErr result IsReadRefusal }
+        ensures same { F.contents files.new ≡ F.contents files.old }
+        ensures reason { HasReason (F.faults files.old) (F.faults files.new) result }
+    {
+        let mut rest = index;
+        'blocks: while !rest.is_empty() {
+            rest = self.read_next(rest, files)?;
+        }
+        Ok(())
+    }
+
+    /// Whether the foot is that of a file of these blocks. Answers `NoMemory` if there is no memory.
+    fn has_foot(&self, end: &[u8]) -> Result<bool, Refusal>
+        requires { IsOpening self.now }
+        ensures exact { IfOk result (λ is. IsTrue is ↔ (end.now ≡ foot self.now.format self.now.end
+            (length self.now.rows.items) self.now.count self.now.size)) }
+        ensures refusal { IfErr result (λ refusal. refusal ≡ Refusal.NoMemory) }
+    {
+        let mut foot = Vec::new(self.alloc);
+        push_foot(
+            &mut foot,
+            self.format,
+            self.end,
+            self.rows.len() as u64,
+            self.count,
+            self.size,
+        )?;
+        Ok(is_same(&foot, end))
+    }
+}
+
+/// Reads a file block by block. Answers `Damaged` if it isn't there or is the file of no entry list, `Device`
+/// if a device fails, and `NoMemory` if there is no memory.
+pub(crate) fn read_file<F: Files>(
+    alloc: Global,
+    name: u64,
+    files: &mut F,
+) -> Result<Opening, Refusal>
+    ensures opening { IfOk result IsOpening }
+    ensures whole { IfOk result (λ o. IfSome (F.contents files.old) (λ m. IsWhole m name o)) }
+    ensures damaged { IsErrOf result Refusal.Damaged
+        → IfSome (F.contents files.old) (λ m. ¬ HasFile m name) }
+    ensures refusal { IfErr result IsReadRefusal }
+    ensures same { F.contents files.new ≡ F.contents files.old }
+    ensures reason { HasReason (F.faults files.old) (F.faults files.new) result }
+{
+    let size = file_size(name, files)?;
+    let format = read_format(alloc, name, size, files)?;
+    let (index, end) = read_frame(alloc, name, format, size, files)?;
+    let mut opening = Opening::new(alloc, name, format, size);
+    opening.read_blocks(&index, files)?;
+    if !opening.has_foot(&end)? {
+        return Err(Refusal::Damaged);
+    }
+    Ok(opening)
+}

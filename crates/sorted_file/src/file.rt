@@ -1,0 +1,364 @@
+//! A file of entries that is open for reading.
+
+ghost use Rattle.std.specs.Prelude.{◌≡◌, ◌≤◌, ◌<◌, ◌-◌, List, ℕ, drop, Option, Some, None, true, false, length, slice_get, option_map, IfOk, IfErr, IfSome, IsErrOf};
+ghost use Rattle.cell_key.specs.Entries.{Entry, entry_of_key, entries_from};
+ghost use Rattle.cell_key.specs.Faults.{HasReason};
+ghost use Rattle.cell_key.specs.Keys.{text};
+ghost use Rattle.file_store.specs.Store.{Contents};
+ghost use Rattle.sorted_file.specs.Index.{block_of, blocks_of, entries_in, Tells};
+ghost use Rattle.sorted_file.specs.File.{IsUncached, IsShortValue, value_bytes};
+ghost use Rattle.sorted_file.specs.Block.{IsParsed, first_value};
+ghost use Rattle.sorted_file.specs.Source.{IsReadRefusal};
+ghost use Rattle.sorted_file.specs.declared.block.BlockRow.{BlockRow as Row};
+
+use crate::block::{Block, BlockRow, rows_to, text_at, value_at};
+use crate::bounds::{ColumnBounds, next_head, skips_of, stamp_in};
+use crate::cache::{keep, no_blocks, promote};
+use crate::check::{Opening, read_file};
+use crate::cursor::FileCursor;
+use crate::source::read_part;
+use cell_key::{CellKey, Qualifier, Refusal, Stamp};
+use file_store::Files;
+use lru::LruCache;
+use std::alloc::Global;
+
+/// A file of entries, open for reading. What it reads is under its name as long as the file stays as it is.
+#[derive(Drop)]
+pub struct SortedFile {
+    alloc: Global,
+    name: u64,
+    /// What the index names: a row of each block.
+    rows: Vec<BlockRow>,
+    /// The text of the first value of each block that has one.
+    heads: Vec<Option<Vec<u8>>>,
+    /// How many blocks have no value before the next one that has, from each block on.
+    skips: Vec<usize>,
+    /// How many entries there are.
+    count: u64,
+    bounds: ColumnBounds,
+    /// The blocks that were looked into last, by their numbers.
+    cache: LruCache<usize, Block>,
+}
+
+impl SortedFile {
+    ghost use Rattle.sorted_file.specs.Cursor.{cursor_lent, cursor_remaining, CursorHolds};
+    ghost use Rattle.sorted_file.specs.Newest.{IsFirstIn, IsNewestStamp};
+    ghost use Rattle.sorted_file.specs.Bounds.{column_bounds, HasNoValue, IsWithin};
+    ghost use Rattle.sorted_file.specs.File.{HasFile, IsFoundNow, IsOpen, IsReadFrom, IsReadNow, IsSameFile, KeepsWhatItRead, listed, name_of};
+
+    /// Opens a file. Answers `Damaged` if it isn't there or is the file of no entry list, `Device`
+    /// if a device fails, and `NoMemory` if there is no memory.
+    pub fn open<F: Files>(alloc: Global, name: u64, files: &mut F) -> Result<SortedFile, Refusal>
+        ensures opened { IfOk result (λ file. IfSome (F.contents files.old) (λ m. IsOpen m file)) }
+        ensures named { IfOk result (λ file. name_of file ≡ name) }
+        ensures damaged { IsErrOf result Refusal.Damaged
+            → IfSome (F.contents files.old) (λ m. ¬ HasFile m name) }
+        ensures refusal { IfErr result IsReadRefusal }
+        ensures same { F.contents files.new ≡ F.contents files.old }
+        ensures reason { HasReason (F.faults files.old) (F.faults files.new) result }
+    {
+        let Opening {
+            rows,
+            heads,
+            count,
+            bounds,
+            ..
+        } = read_file(alloc, name, files)?;
+        let skips = skips_of(alloc, &heads)?;
+        let cache = no_blocks(alloc)?;
+        Ok(SortedFile {
+            alloc,
+            name,
+            rows,
+            heads,
+            skips,
+            count,
+            bounds,
+            cache,
+        })
+    }
+
+    /// The name of the file.
+    pub fn name(&self) -> u64
+        ensures { result ≡ name_of self.now }
+    {
+        self.name
+    }
+
+    /// How many entries the file has, erasures among them. Takes no memory and reads nothing.
+    pub fn len(&self) -> usize
+        ensures { (m : Contents) → IsOpen m self.now → result ≡ length (listed m self.now) }
+    {
+        self.count as usize
+    }
+
+    /// Whether the file may have a value of a column of this kind at a stamp in `lo..=hi`. Takes no memory and
+    /// reads nothing.
+    pub fn may_have(&self, qualifier: Qualifier, lo: Stamp, hi: Stamp) -> bool
+        ensures { result ≡ false → (m : Contents) → IsOpen m self.now
+            → HasNoValue qualifier lo hi (listed m self.now) }
+    {
+        self.bounds.meet(qualifier, lo, hi)
+    }
+
+    /// What the file has of a key: a value, of at most 65,536 bytes, `Some(None)` if it is an erasure, and
+    /// `None` if the file has no entry of the key. It reads one block at most, and none that is cached from an earlier
+    /// look-up. The file stays what it was, also after an `Err`.
+    ///
+    /// # Errors
+    ///
+    /// `Device`, `NoMemory`, and `Damaged` only if the file is no longer what was opened.
+    pub fn lookup<F: Files>(
+        &mut self,
+        key: &CellKey,
+        files: &mut F,
+    ) -> Result<Option<Option<Vec<u8>>>, Refusal>
+        ensures found { IfOk result (λ found. IfSome (F.contents files.old) (λ m. IsOpen m self.old
+            → option_map value_bytes found ≡ entry_of_key (listed m self.old) (text key.now))) }
+        ensures now { IfOk result (λ found. IsFoundNow (F.contents files.old) self.old
+            (text key.now) (option_map value_bytes found)) }
+        ensures short { IfOk result (λ found. IfSome found IsShortValue) }
+        ensures stays { IsSameFile (F.contents files.old) self.old self.new }
+        ensures kept { KeepsWhatItRead (F.contents files.old) self.old self.new }
+        ensures damaged { IsErrOf result Refusal.Damaged
+            → IfSome (F.contents files.old) (λ m. ¬ IsOpen m self.old) }
+        ensures refusal { IfErr result IsReadRefusal }
+        ensures same { F.contents files.new ≡ F.contents files.old }
+        ensures reason { HasReason (F.faults files.old) (F.faults files.new) result }
+    {
+        let mut text = Vec::new(self.alloc);
+        key.encode(&mut text)?;
+        match rows_to(&self.rows, &text) {
+            0 => Ok(None),
+            to => self.value_in(to - 1, &text, files),
+        }
+    }
+
+    /// What a block has at a text. Answers `Damaged` if the block isn't there, `Device` if a device fails, and
+    /// `NoMemory` if there is no memory.
+    fn value_in<F: Files>(
+        &mut self,
+        number: usize,
+        text: &[u8],
+        files: &mut F,
+    ) -> Result<Option<Option<Vec<u8>>>, Refusal>
+        requires { number < length self.old.rows.items }
+        ensures found { IfOk result (λ found. IfSome (F.contents files.old) (λ m. IsOpen m self.old
+            → (row : Row) → slice_get self.old.rows.items number ≡ Some row
+            → option_map value_bytes found ≡ entry_of_key (block_of row) text.now)) }
+        ensures now { IfOk result (λ found. (row : Row) (image : List ℕ)
+            → slice_get self.old.rows.items number ≡ Some row
+            → IsUncached number self.old.cache.entries
+            → Tells (F.contents files.old) (name_of self.old) image → (es : List Entry)
+            × IsReadFrom image row es × (option_map value_bytes found ≡ entry_of_key es text.now)) }
+        ensures short { IfOk result (λ found. IfSome found IsShortValue) }
+        ensures stays { IsSameFile (F.contents files.old) self.old self.new }
+        ensures kept { KeepsWhatItRead (F.contents files.old) self.old self.new }
+        ensures damaged { IsErrOf result Refusal.Damaged
+            → IfSome (F.contents files.old) (λ m. ¬ IsOpen m self.old) }
+        ensures refusal { IfErr result IsReadRefusal }
+        ensures same { F.contents files.new ≡ F.contents files.old }
+        ensures reason { HasReason (F.faults files.old) (F.faults files.new) result }
+    {
+        match self.cache.peek(&number) {
+            Some(block) => {
+                let found = value_at(self.alloc, block, text)?;
+                promote(&mut self.cache, number);
+                Ok(found)
+            }
+            None => {
+                let block = self.read_block(number, files)?;
+                let found = value_at(self.alloc, &block, text)?;
+                keep(&mut self.cache, number, block);
+                Ok(found)
+            }
+        }
+    }
+
+    /// A block, read anew. Answers `Damaged` if no block is there that begins with the text that the index
+    /// names, `Device` if a device fails, and `NoMemory` if there is no memory.
+    fn read_block<F: Files>(&self, number: usize, files: &mut F) -> Result<Block, Refusal>
+        requires { number < length self.now.rows.items }
+        ensures read { IfOk result (λ block. (row : Row)
+            → slice_get self.now.rows.items number ≡ Some row
+            → IsReadNow (F.contents files.old) (name_of self.now) row block) }
+        ensures right { IfOk result (λ block. IfSome (F.contents files.old) (λ m. IsOpen m self.now
+            → (row : Row) → slice_get self.now.rows.items number ≡ Some row
+            → IsParsed (block_of row) block)) }
+        ensures damaged { IsErrOf result Refusal.Damaged
+            → IfSome (F.contents files.old) (λ m. ¬ IsOpen m self.now) }
+        ensures refusal { IfErr result IsReadRefusal }
+        ensures same { F.contents files.new ≡ F.contents files.old }
+        ensures reason { HasReason (F.faults files.old) (F.faults files.new) result }
+    {
+        let row = &self.rows[number];
+        let bytes = read_part(self.alloc, self.name, row.offset, row.length as u64, files)?;
+        let Some(block) = Block::parse(self.alloc, bytes)? else {
+            return Err(Refusal::Damaged);
+        };
+        if !block.begins_with(&row.first) {
+            return Err(Refusal::Damaged);
+        }
+        Ok(block)
+    }
+
+    /// The greatest stamp, from `lo` up to that of the key, at which the file has a value of the key's
+    /// column. It reads one block at most, and none that can't have such a value; if `may_have` says that there is
+    /// none it takes no memory. The file stays what it was, also after an `Err`.
+    ///
+    /// # Errors
+    ///
+    /// `Device`, `NoMemory`, and `Damaged` only if the file is no longer what was opened.
+    pub fn newest_stamp<F: Files>(
+        &mut self,
+        key: &CellKey,
+        lo: Stamp,
+        files: &mut F,
+    ) -> Result<Option<Stamp>, Refusal>
+        ensures found { IfOk result (λ found. IfSome (F.contents files.old) (λ m. IsOpen m self.old
+            → IsNewestStamp (listed m self.old) key.now lo found)) }
+        ensures within { IfOk result (λ found.
+            IfSome found (λ stamp. (lo ≤ stamp) × (stamp ≤ key.now.stamp))) }
+        ensures stays { IsSameFile (F.contents files.old) self.old self.new }
+        ensures kept { KeepsWhatItRead (F.contents files.old) self.old self.new }
+        ensures damaged { IsErrOf result Refusal.Damaged
+            → IfSome (F.contents files.old) (λ m. ¬ IsOpen m self.old) }
+        ensures refusal { IfErr result IsReadRefusal }
+        ensures same { F.contents files.new ≡ F.contents files.old }
+        ensures reason { HasReason (F.faults files.old) (F.faults files.new) result }
+    {
+        if !self.bounds.meet_column(key, lo) {
+            return Ok(None);
+        }
+        // These calls show that row and family are within their limits.
+        let _row = key.row.as_bytes();
+        let _family = key.family.as_bytes();
+        let most = key.stamp;
+        let mut sought = Vec::new(self.alloc);
+        key.encode(&mut sought)?;
+        let Some(text) = self.first_text(key, lo, &sought, files)? else {
+            return Ok(None);
+        };
+        let Some(stamp) = stamp_in(&sought, &text) else {
+            return Ok(None);
+        };
+        if stamp < lo || most < stamp {
+            return Ok(None);
+        }
+        Ok(Some(stamp))
+    }
+
+    /// The text of the first value of a block at a text that isn't below this one. Answers `Damaged` if the block
+    /// isn't there, `Device` if a device fails, and `NoMemory` if there is no memory.
+    fn text_in<F: Files>(
+        &mut self,
+        number: usize,
+        text: &[u8],
+        files: &mut F,
+    ) -> Result<Option<Vec<u8>>, Refusal>
+        requires { number < length self.old.rows.items }
+        ensures found { IfOk result (λ found. IfSome (F.contents files.old) (λ m. IsOpen m self.old
+            → (row : Row) → slice_get self.old.rows.items number ≡ Some row
+            → option_map (λ bytes. bytes.items) found
+            ≡ option_map (λ e. e.0) (first_value (entries_from text.now (block_of row))))) }
+        ensures rows { self.new.rows ≡ self.old.rows }
+        ensures stays { IsSameFile (F.contents files.old) self.old self.new }
+        ensures kept { KeepsWhatItRead (F.contents files.old) self.old self.new }
+        ensures damaged { IsErrOf result Refusal.Damaged
+            → IfSome (F.contents files.old) (λ m. ¬ IsOpen m self.old) }
+        ensures refusal { IfErr result IsReadRefusal }
+        ensures same { F.contents files.new ≡ F.contents files.old }
+        ensures reason { HasReason (F.faults files.old) (F.faults files.new) result }
+    {
+        match self.cache.peek(&number) {
+            Some(block) => {
+                let found = text_at(self.alloc, block, text)?;
+                promote(&mut self.cache, number);
+                Ok(found)
+            }
+            None => {
+                let block = self.read_block(number, files)?;
+                let found = text_at(self.alloc, &block, text)?;
+                keep(&mut self.cache, number, block);
+                Ok(found)
+            }
+        }
+    }
+
+    /// The text of the first value of the blocks from this one on. Answers `NoMemory` if there is no memory.
+    fn head_from(&self, at: usize) -> Result<Option<Vec<u8>>, Refusal>
+        ensures found { IfOk result (λ found. (m : Contents) → IsOpen m self.now
+            → option_map (λ bytes. bytes.items) found ≡ option_map (λ e. e.0)
+            (first_value (entries_in (blocks_of (drop at self.now.rows.items))))) }
+        ensures refusal { IfErr result (λ refusal. refusal ≡ Refusal.NoMemory) }
+    {
+        match next_head(&self.heads, &self.skips, at) {
+            Some(head) => Ok(Some(Vec::from_slice(self.alloc, head)?)),
+            None => Ok(None),
+        }
+    }
+
+    /// The text of the first value at a text that isn't below this one, the key's, or of the first behind the block of
+    /// that text if this one can't have a value of the column. Answers `Damaged` if the file is no longer what was
+    /// opened, `Device` if a device fails, and `NoMemory` if there is no memory.
+    fn first_text<F: Files>(
+        &mut self,
+        key: &CellKey,
+        lo: Stamp,
+        sought: &[u8],
+        files: &mut F,
+    ) -> Result<Option<Vec<u8>>, Refusal>
+        requires { sought.now ≡ text key.now }
+        ensures found { IfOk result (λ found. IfSome (F.contents files.old) (λ m. IsOpen m self.old
+            → IsFirstIn (listed m self.old) key.now lo
+            (option_map (λ bytes. bytes.items) found))) }
+        ensures stays { IsSameFile (F.contents files.old) self.old self.new }
+        ensures kept { KeepsWhatItRead (F.contents files.old) self.old self.new }
+        ensures damaged { IsErrOf result Refusal.Damaged
+            → IfSome (F.contents files.old) (λ m. ¬ IsOpen m self.old) }
+        ensures refusal { IfErr result IsReadRefusal }
+        ensures same { F.contents files.new ≡ F.contents files.old }
+        ensures reason { HasReason (F.faults files.old) (F.faults files.new) result }
+    {
+        let to = rows_to(&self.rows, sought);
+        if !self.may_have_before(to, key, lo) {
+            return self.head_from(to);
+        }
+        match self.text_in(to - 1, sought, files)? {
+            Some(found) => Ok(Some(found)),
+            None => self.head_from(to),
+        }
+    }
+
+    /// Whether there is a block before this one that may have a value of the key's column from `lo` up to its stamp.
+    fn may_have_before(&self, index: usize, key: &CellKey, lo: Stamp) -> bool
+        requires { index ≤ length self.now.rows.items }
+        ensures there { result ≡ true → 0 < index }
+        ensures none { result ≡ false → (row : Row) → 0 < index
+            → slice_get self.now.rows.items (index - 1) ≡ Some row → (s : ℕ) → lo ≤ s
+            → s ≤ key.now.stamp
+            → ¬ IsWithin (column_bounds row.bounds key.now.qualifier) key.now.row s }
+    {
+        index > 0 && self.rows[index - 1].bounds.meet_column(key, lo)
+    }
+
+    /// Empties the cache. The file stays what it was. Takes no memory.
+    pub fn drop_cache(&mut self)
+        ensures stays { (told : Option Contents) → IsSameFile told self.old self.new }
+        ensures none { (number : ℕ) → IsUncached number self.new.cache.entries }
+    {
+        self.cache.clear();
+    }
+
+    /// The entries from the first text on that isn't below `from`, which is any bytes. Takes no memory and reads
+    /// nothing.
+    pub fn cursor<'a>(&'a self, from: &'a [u8]) -> FileCursor<'a>
+        ensures lent { cursor_lent result ≡ None }
+        ensures entries { (m : Contents) → IsOpen m self.now
+            → cursor_remaining (Some m) result ≡ entries_from from.now (listed m self.now) }
+        ensures holds { (m : Contents) → IsOpen m self.now → CursorHolds (Some m) result }
+    {
+        let at = rows_to(&self.rows, from).saturating_sub(1);
+        FileCursor::new(self.alloc, self.name, from, self.rows.split_at(at).1)
+    }
+}

@@ -1,4 +1,0 @@
-use Rattle.tablet.proofs.serving.past_place.Goals as goal
-
-pub returns-in-Some-clause-past : goal.returns-in-Some-clause-past
-returns-in-Some-clause-past c = rw c.in-Some.is c.version_text.ensures.text

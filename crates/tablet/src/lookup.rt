@@ -1,0 +1,183 @@
+//! A version sought through a memtable and files: the newest one that names it decides (Bigtable, tablet serving).
+
+ghost use Rattle.std.specs.Prelude.{◌≡◌, ℕ, ◌⊎◌, ◌≤◌, ◌<◌, ◌^◌, ◌∷◌, option_map, map, length, IfOk, IfErr, IfSome, IsErrOf};
+ghost use Rattle.std.specs.Option.{option_copied};
+ghost use Rattle.std.specs.List.{AllByRecursion, AllZip};
+ghost use Rattle.cell_key.specs.Cells.{version};
+ghost use Rattle.cell_key.specs.Entries.{first_naming, value_of};
+ghost use Rattle.cell_key.specs.Faults.{HasReason};
+ghost use Rattle.cell_key.specs.Keys.{text};
+ghost use Rattle.cell_key.specs.Names.{IsRow, IsFamily};
+ghost use Rattle.sorted_file.specs.File.{IsOpen, IsSameFile, IsShortValue, listed, value_bytes};
+ghost use Rattle.sorted_file.specs.Source.{IsReadRefusal};
+ghost use Rattle.tablet.specs.Reads.{HasNoLater, IsAfterStamp, IsAsked, IsValue};
+
+use cell_key::{CellKey, Family, Qualifier, Refusal, Row, Stamp};
+use file_store::Files;
+use memtable::Memtable;
+use sorted_file::SortedFile;
+use std::alloc::Global;
+
+/// The most bytes of a value.
+const MOST_VALUE: usize = 65_536;
+
+/// A copy of a value, if there is one. Answers `Damaged` if it is longer than a value may be, and `NoMemory` if there
+/// is no memory for it.
+pub(crate) fn copy_value(alloc: Global, value: Option<&[u8]>) -> Result<Option<Vec<u8>>, Refusal>
+    ensures copy { IfOk result (λ copy.
+        option_map (λ bytes. bytes.items) copy ≡ option_copied value.entry) }
+    ensures short { IfOk result (λ copy. IfSome copy (λ bytes. length bytes.items ≤ 65536)) }
+    ensures damaged { IsErrOf result Refusal.Damaged
+        → ¬ IfSome (option_copied value.entry) IsValue }
+    ensures refusal { IfErr result (λ refusal.
+        (refusal ≡ Refusal.NoMemory) ⊎ (refusal ≡ Refusal.Damaged)) }
+{
+    let Some(value) = value else {
+        return Ok(None);
+    };
+    if value.len() > MOST_VALUE {
+        return Err(Refusal::Damaged);
+    }
+    let copy = Vec::from_slice(alloc, value)?;
+    Ok(Some(copy))
+}
+
+/// The newest of some files, up to the oldest one that may have a value of a column of this kind at a stamp in
+/// `lo..=hi`. What is older hides nothing, so those after it needn't be asked.
+pub(crate) fn asked(
+    files: &[SortedFile],
+    qualifier: Qualifier,
+    lo: Stamp,
+    hi: Stamp,
+) -> &[SortedFile]
+    ensures { IsAsked qualifier lo hi files.now result.now }
+{
+    let mut asked = files;
+    'newer: while let Some((oldest, newer)) = asked.split_last() {
+        if oldest.may_have(qualifier, lo, hi) {
+            return asked;
+        }
+        asked = newer;
+    }
+    asked
+}
+
+/// The first stamp after one that was found, or `lo` if none was.
+pub(crate) fn first_after(found: Option<Stamp>, lo: Stamp) -> Stamp
+    requires { IfSome found (λ stamp. stamp < 2 ^ 63) }
+    ensures after { IsAfterStamp result lo found }
+    ensures first { (s : ℕ) → IsAfterStamp s lo found → result ≤ s }
+{
+    match found {
+        Some(stamp) => stamp + 1,
+        None => lo,
+    }
+}
+
+/// The greatest stamp, from `lo` up to that of the key, at which any of some files has a value of the key's
+/// column. The files stay what they were.
+pub(crate) fn newest_stamp<F: Files>(
+    files: &mut [SortedFile],
+    key: &CellKey,
+    lo: Stamp,
+    store: &mut F,
+) -> Result<Option<Stamp>, Refusal>
+    requires { key.now.stamp < 2 ^ 63 }
+    ensures found { IfOk result (λ found. IfSome (F.contents store.old) (λ m.
+        AllByRecursion (IsOpen m) files.old
+        → HasNoLater key.now lo found (map (listed m) files.old))) }
+    ensures within { IfOk result (λ found.
+        IfSome found (λ stamp. (lo ≤ stamp) × (stamp ≤ key.now.stamp))) }
+    ensures stay { AllZip (IsSameFile (F.contents store.old)) files.old files.new }
+    ensures damaged { IsErrOf result Refusal.Damaged → IfSome (F.contents store.old)
+        (λ m. ¬ AllByRecursion (IsOpen m) files.old) }
+    ensures refusal { IfErr result IsReadRefusal }
+    ensures same { F.contents store.new ≡ F.contents store.old }
+    ensures reason { HasReason (F.faults store.old) (F.faults store.new) result }
+{
+    let mut found = None;
+    for file in files.iter_mut() {
+        let from = first_after(found, lo);
+        let later = file.newest_stamp(key, from, store)?;
+        found = later.or(found);
+    }
+    Ok(found)
+}
+
+/// What the first of some files that names a key has of it. The files stay what they were.
+fn find_in_files<F: Files>(
+    files: &mut [SortedFile],
+    key: &CellKey,
+    store: &mut F,
+) -> Result<Option<Option<Vec<u8>>>, Refusal>
+    ensures found { IfOk result (λ found.
+        IfSome (F.contents store.old) (λ m. AllByRecursion (IsOpen m) files.old
+        → option_map value_bytes found ≡ first_naming (map (listed m) files.old) (text key.now))) }
+    ensures short { IfOk result (λ found. IfSome found IsShortValue) }
+    ensures stay { AllZip (IsSameFile (F.contents store.old)) files.old files.new }
+    ensures damaged { IsErrOf result Refusal.Damaged
+        → IfSome (F.contents store.old) (λ m. ¬ AllByRecursion (IsOpen m) files.old) }
+    ensures refusal { IfErr result IsReadRefusal }
+    ensures same { F.contents store.new ≡ F.contents store.old }
+    ensures reason { HasReason (F.faults store.old) (F.faults store.new) result }
+{
+    for file in files.iter_mut() {
+        if let Some(value) = file.lookup(key, store)? {
+            return Ok(Some(value));
+        }
+    }
+    Ok(None)
+}
+
+/// The value of a key in a memtable, or else in the first of some files that names it. An erasure is no
+/// value. The files stay what they were.
+pub(crate) fn lookup<F: Files>(
+    alloc: Global,
+    memtable: &Memtable,
+    files: &mut [SortedFile],
+    key: &CellKey,
+    store: &mut F,
+) -> Result<Option<Vec<u8>>, Refusal>
+    ensures found { IfOk result (λ found.
+        IfSome (F.contents store.old) (λ m. AllByRecursion (IsOpen m) files.old
+        → option_map (λ bytes. bytes.items) found
+        ≡ value_of (first_naming (memtable.now ∷ map (listed m) files.old) (text key.now)))) }
+    ensures short { IfOk result (λ found. IfSome found (λ bytes. length bytes.items ≤ 65536)) }
+    ensures stay { AllZip (IsSameFile (F.contents store.old)) files.old files.new }
+    ensures damaged { IsErrOf result Refusal.Damaged
+        → IfSome (F.contents store.old) (λ m. ¬ AllByRecursion (IsOpen m) files.old) }
+    ensures refusal { IfErr result IsReadRefusal }
+    ensures same { F.contents store.new ≡ F.contents store.old }
+    ensures reason { HasReason (F.faults store.old) (F.faults store.new) result }
+{
+    if let Some(newest) = memtable.lookup(key) {
+        return copy_value(alloc, newest.value);
+    }
+    match find_in_files(files, key, store)? {
+        Some(value) => Ok(value),
+        None => Ok(None),
+    }
+}
+
+/// The key of a version. Answers `NoMemory` if there is no memory.
+pub(crate) fn version_key(
+    row: &Row,
+    family: &Family,
+    qualifier: Qualifier,
+    stamp: Stamp,
+) -> Result<CellKey, Refusal>
+    ensures key { IfOk result (λ key. key ≡ version row.now family.now qualifier stamp) }
+    ensures row { IsRow row.now }
+    ensures family { IsFamily family.now }
+    ensures refusal { IfErr result (λ refusal. refusal ≡ Refusal.NoMemory) }
+{
+    // These calls show that row and family are within their limits.
+    let _row = row.as_bytes();
+    let _family = family.as_bytes();
+    Ok(CellKey {
+        row: row.clone()?,
+        family: family.clone()?,
+        qualifier,
+        stamp,
+    })
+}

@@ -1,0 +1,41 @@
+//! Which of a tablet's files are merged so that few are left.
+
+ghost use Rattle.std.specs.Prelude.{◌≡◌, ◌≤◌, ◌+◌, length};
+
+use crate::tablet::Tablet;
+use sorted_file::SortedFile;
+
+/// How many of the newest files are taken for a merge: at least `fewest`, and then each next older one that has no more
+/// entries than those before it together.
+fn merged_count(files: &[SortedFile], fewest: usize) -> usize
+    requires { fewest ≤ length files.now }
+    ensures least { fewest ≤ result }
+    ensures most { result ≤ length files.now }
+{
+    let mut entries: usize = 0;
+    for index in 0..files.len() {
+        let more = files[index].len();
+        if index >= fewest && more > entries {
+            return index;
+        }
+        entries = entries.saturating_add(more);
+    }
+    files.len()
+}
+
+impl Tablet {
+    ghost use Rattle.tablet.specs.Views.{names_of};
+
+    /// How many of the newest files a merge takes, so that fewer than `most` files are left, and each file that is left
+    /// has more entries than all newer ones together, as far as merges have come. So an entry is written again some
+    /// logarithm of times. Takes no memory and reads nothing.
+    pub fn merge_count(&self, most: usize) -> usize
+        requires least { 2 ≤ most }
+        requires many { most ≤ length (names_of self.now) }
+        ensures two { 2 ≤ result }
+        ensures within { result ≤ length (names_of self.now) }
+        ensures enough { length (names_of self.now) + 2 ≤ most + result }
+    {
+        merged_count(&self.files, self.files.len() - most + 2)
+    }
+}

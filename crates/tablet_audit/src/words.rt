@@ -1,0 +1,185 @@
+//! Requests and replies in words.
+
+use cell_key::Qualifier;
+use request_codec::{Reply, Request};
+use si_model::{CleanReply, CleanStart, CollectReply, Found, Progress};
+use std::fmt;
+
+/// The most bytes of a name or a value that are shown.
+const MOST_SHOWN: usize = 64;
+
+/// Bytes as text: those that can't be printed as their numbers, and the first 64 of more.
+#[derive(Clone, Copy, Drop)]
+struct Text<'a>(&'a [u8]);
+
+impl fmt::Display for Text<'_> {
+    fn fmt<W: fmt::Write>(&self, f: &mut fmt::Formatter<W>) -> fmt::Result {
+        match self.0.split_at_checked(MOST_SHOWN) {
+            Some((shown, rest)) if !rest.is_empty() => {
+                write!(
+                    f,
+                    "\"{}\" and {} bytes more",
+                    shown.escape_ascii(),
+                    rest.len()
+                )
+            }
+            _ => write!(f, "\"{}\"", self.0.escape_ascii()),
+        }
+    }
+}
+
+/// The name of a column.
+fn column_name(qualifier: Qualifier) -> &'static str {
+    match qualifier {
+        Qualifier::Data => "data",
+        Qualifier::Lock => "lock",
+        Qualifier::Write => "write",
+    }
+}
+
+/// A request in words: its name and its fields.
+#[derive(Drop)]
+pub struct RequestWords<'a>(pub &'a Request<'a>);
+
+impl fmt::Display for RequestWords<'_> {
+    fn fmt<W: fmt::Write>(&self, f: &mut fmt::Formatter<W>) -> fmt::Result {
+        match *self.0 {
+            Request::Begin => write!(f, "Begin"),
+            Request::Get { start, row, family } => {
+                write!(f, "Get {start} {} {}", Text(row), Text(family))
+            }
+            Request::Set {
+                start,
+                row,
+                family,
+                value,
+            } => write!(
+                f,
+                "Set {start} {} {} {}",
+                Text(row),
+                Text(family),
+                Text(value)
+            ),
+            Request::Delete { start, row, family } => {
+                write!(f, "Delete {start} {} {}", Text(row), Text(family))
+            }
+            Request::Step { start } => write!(f, "Step {start}"),
+            Request::Stop { start } => write!(f, "Stop {start}"),
+            Request::CleanBegin { row, family } => {
+                write!(f, "CleanBegin {} {}", Text(row), Text(family))
+            }
+            Request::CleanStep { cleaner } => write!(f, "CleanStep {cleaner}"),
+            Request::CollectBegin => write!(f, "CollectBegin"),
+            Request::CollectStep { collector, visits } => {
+                write!(f, "CollectStep {collector} {visits}")
+            }
+            Request::Raw {
+                row,
+                family,
+                qualifier,
+                lo,
+                hi,
+            } => {
+                let column = column_name(qualifier);
+                write!(f, "Raw {} {} {column} {lo}..{hi}", Text(row), Text(family))
+            }
+            upkeep => write_upkeep(&upkeep, f),
+        }
+    }
+}
+
+/// A request for the upkeep of tablets, in words.
+fn write_upkeep<W: fmt::Write>(request: &Request<'_>, f: &mut fmt::Formatter<W>) -> fmt::Result {
+    match *request {
+        Request::Minor { tablet } => write!(f, "Minor {tablet}"),
+        Request::Merge { tablet, count } => write!(f, "Merge {tablet} {count}"),
+        Request::Major { tablet } => write!(f, "Major {tablet}"),
+        Request::Split { row } => write!(f, "Split {}", Text(row)),
+        Request::Move { tablet, server } => write!(f, "Move {tablet} {server}"),
+        Request::Sweep => write!(f, "Sweep"),
+        Request::OracleRestart => write!(f, "OracleRestart"),
+        Request::Checkpoint => write!(f, "Checkpoint"),
+        _ => Ok(()),
+    }
+}
+
+/// A reply in words: what it answers, without the name of its request.
+#[derive(Drop)]
+pub struct ReplyWords<'a>(pub &'a Reply);
+
+impl fmt::Display for ReplyWords<'_> {
+    fn fmt<W: fmt::Write>(&self, f: &mut fmt::Formatter<W>) -> fmt::Result {
+        match self.0 {
+            Reply::Begin(start) => write!(f, "Begin {start}"),
+            Reply::Get(found) => write_found(found, f),
+            Reply::Set => write!(f, "Set done"),
+            Reply::Delete => write!(f, "Delete done"),
+            Reply::Step(progress) => write_progress(*progress, f),
+            Reply::Stop => write!(f, "Stop done"),
+            Reply::CleanBegin(CleanStart::NoLock) => write!(f, "NoLock"),
+            Reply::CleanBegin(CleanStart::Cleaner(cleaner, start)) => {
+                write!(f, "Cleaner {cleaner} {start}")
+            }
+            Reply::CleanStep(done) => write_cleaning(*done, f),
+            Reply::CollectBegin(collector, floor) => {
+                write!(f, "Collector {collector}, floor {floor}")
+            }
+            Reply::CollectStep(done) => write_collecting(done, f),
+            Reply::Minor => write!(f, "Minor done"),
+            Reply::Merge => write!(f, "Merge done"),
+            Reply::Major => write!(f, "Major done"),
+            Reply::Split(tablet) => write!(f, "Split {tablet}"),
+            Reply::Move => write!(f, "Move done"),
+            Reply::Sweep(count) => write!(f, "Sweep {count}"),
+            Reply::OracleRestart => write!(f, "OracleRestart done"),
+            Reply::Raw(None) => write!(f, "Raw nothing"),
+            Reply::Raw(Some((stamp, value))) => write!(f, "Raw {stamp} {}", Text(value)),
+            Reply::Checkpoint => write!(f, "Checkpoint done"),
+            Reply::Refused(refusal) => write!(f, "{refusal}"),
+        }
+    }
+}
+
+/// What a read finds, in words.
+fn write_found<W: fmt::Write>(found: &Found, f: &mut fmt::Formatter<W>) -> fmt::Result {
+    match found {
+        Found::Value(value) => write!(f, "Value {}", Text(value)),
+        Found::Nothing => write!(f, "Nothing"),
+        Found::Pending(start) => write!(f, "Pending {start}"),
+    }
+}
+
+/// What a step of a session did, in words.
+fn write_progress<W: fmt::Write>(progress: Progress, f: &mut fmt::Formatter<W>) -> fmt::Result {
+    match progress {
+        Progress::Held(count, all) => write!(f, "Held {count} {all}"),
+        Progress::Conflict(count) => write!(f, "Conflict {count}"),
+        Progress::Stamped(stamp) => write!(f, "Stamped {stamp}"),
+        Progress::Committed(stamp) => write!(f, "Committed {stamp}"),
+        Progress::Lost => write!(f, "Lost"),
+        Progress::Finished(count, all) => write!(f, "Finished {count} {all}"),
+    }
+}
+
+/// What a step of a cleaner did, in words.
+fn write_cleaning<W: fmt::Write>(done: CleanReply, f: &mut fmt::Formatter<W>) -> fmt::Result {
+    match done {
+        CleanReply::Decided => write!(f, "Decided"),
+        CleanReply::RolledForward(stamp) => write!(f, "RolledForward {stamp}"),
+        CleanReply::RolledBack => write!(f, "RolledBack"),
+        CleanReply::Gone => write!(f, "Gone"),
+    }
+}
+
+/// What a step of a collector came to, in words.
+fn write_collecting<W: fmt::Write>(done: &CollectReply, f: &mut fmt::Formatter<W>) -> fmt::Result {
+    match done {
+        CollectReply::More => write!(f, "More"),
+        CollectReply::Blocked(cell, start) => {
+            let row = Text(cell.row.as_bytes());
+            let family = Text(cell.family.as_bytes());
+            write!(f, "Blocked {row} {family} {start}")
+        }
+        CollectReply::Collected => write!(f, "Collected"),
+    }
+}

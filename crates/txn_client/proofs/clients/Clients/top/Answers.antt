@@ -1,4 +1,0 @@
-use Rattle.txn_client.proofs.clients.Clients.top.Goals as goal
-
-pub returns-clause-shown : goal.returns-clause-shown
-returns-clause-shown c = λ st shown. shown.top

@@ -1,0 +1,68 @@
+use Rattle.std.proofs.Common.{◌≡◌, Option, refl, sym, ap, subst, ◌∙◌}
+use Rattle.cell_key.specs.declared.refusals.Refusal.{Refusal}
+use Rattle.txn_client.proofs.Exact.{cell_unknown, is_open}
+use Rattle.std.specs.Prelude.{IsSome, Some, None}
+use Rattle.std.specs.Borrow.{MutBor}
+use Rattle.std.specs.Option.{option_copied_mut}
+use Rattle.std.specs.Ordering.{nat_cmp}
+use Rattle.std.specs.BTreeMap as btree
+use Rattle.std.specs.declared.result.Result.TheVariants.{Err}
+use Rattle.cell_key.specs.Names.{IsRow, IsFamily}
+use Rattle.si_model.specs.declared.replies.Cell.{Cell}
+use Rattle.si_model.specs.Machine as machine
+use Rattle.si_model.specs.Replies.{result_reply}
+use Rattle.si_model.specs.Reads.{cell_of}
+use Rattle.txn_client.specs.Shows.{Steps}
+use Rattle.txn_client.specs.declared.session.Session.{Session}
+use Rattle.cell_key.proofs.Passed.{as_err}
+use Rattle.txn_client.proofs.Table.{on_err_then, same_each, deletes_at, delete_refused_at, open_same}
+use Rattle.txn_client.proofs.sessions.Clients.delete.Goals as goal
+
+pub returns-in_err-cell-clause-step : goal.returns-in_err-cell-clause-step
+returns-in_err-cell-clause-step c = λ cells last.
+    let e = as_err c.from_residual.result c.in_err-cell.field-0.0 c.from_residual.ensures.1 in
+    rw e (delete_refused_at cells c.args.self.now last c.args.start (cell_of c.args.row.now c.args.family.now) c.in_err-cell.field-0.0 c.in_err-cell.ensures.refusal)
+
+pub returns-clause-step : goal.returns-clause-step
+returns-clause-step c = λ cells last.
+    let session = c.unwrap-session.result.now in
+    let was = sym c.get_mut.ensures.value ∙ ap option_copied_mut c.unwrap-session.ensures in
+    let there : IsSome (btree.get nat_cmp c.args.self.now.sessions c.args.start) = subst (λ (o : Option Session). IsSome o) (sym was) refl in
+    let w = record session { writes = c.set.new.self } in
+    let lent = c.get_mut.follows.holds w in
+    let same = c.in_ok-cell.ensures.ok in
+    subst (λ (x : Cell). Steps cells c.args.self.now last (machine.Delete c.args.start x) (result_reply (λ _. machine.DeleteDone) c.set.result) cells (record c.args.self.now { sessions = c.get_mut.follows.lender w }) last) same
+    (deletes_at cells c.args.self.now (record c.args.self.now { sessions = c.get_mut.follows.lender w }) last c.args.start session w c.in_ok-cell.cell was (open_same c.args.self.now c.args.start session was c.in_ok-cell.ensures.open)
+    refl refl refl (subst (λ (x : Cell). IsRow x.row) (sym same) c.in_ok-cell.ensures.row) (subst (λ (x : Cell). IsFamily x.family) (sym same) c.in_ok-cell.ensures.family)
+    refl (lent.3 there).0 lent.2
+    c.set.result c.set.ensures.ok c.set.ensures.room c.set.ensures.err c.set.ensures.refusal c.set.ensures.full)
+
+pub returns-in_err-cell-clause-unknown : goal.returns-in_err-cell-clause-unknown
+returns-in_err-cell-clause-unknown c = λ st shown gone.
+    let e = as_err c.from_residual.result c.in_err-cell.field-0.0 c.from_residual.ensures.1 in
+    e ∙ ap (λ (r : Refusal). Err r) (cell_unknown c.args.self.now c.args.start st shown _ _ gone c.in_err-cell.ensures.refusal)
+
+pub returns-clause-unknown : goal.returns-clause-unknown
+returns-clause-unknown c = λ st shown gone. absurd (is_open c.args.self.now c.args.start st shown gone c.in_ok-cell.ensures.open)
+
+pub returns-in_err-cell-clause-err : goal.returns-in_err-cell-clause-err
+returns-in_err-cell-clause-err c = rw (as_err c.from_residual.result c.in_err-cell.field-0.0 c.from_residual.ensures.1) (record { top = refl; each = λ t. refl })
+
+pub returns-clause-err : goal.returns-clause-err
+returns-clause-err c =
+    let session = c.unwrap-session.result.now in
+    let was = sym c.get_mut.ensures.value ∙ ap option_copied_mut c.unwrap-session.ensures in
+    let there : IsSome (btree.get nat_cmp c.args.self.now.sessions c.args.start) = subst (λ (o : Option Session). IsSome o) (sym was) refl in
+    let w = record session { writes = c.set.new.self } in
+    let lent = c.get_mut.follows.holds w in
+    on_err_then _ _ c.set.result (λ (same : c.set.new.self ≡ session.writes). record {
+      top = refl;
+      each = same_each (btree.get nat_cmp c.args.self.now.sessions) (btree.get nat_cmp (c.get_mut.follows.lender w)) c.args.start session w was (ap (λ ws. record session { writes = ws }) same) (lent.3 there).0;
+    }) c.set.ensures.err
+
+there_mut : (o : Option (MutBor Session)) (session : Session) → option_copied_mut o ≡ Some session → IsSome o
+there_mut None session e = cc
+there_mut (Some lent) session e = refl
+
+pub unwrap-session-requires : goal.unwrap-session-requires
+unwrap-session-requires c = there_mut c.get_mut.result c.in_ok-cell.ensures.open.0 (c.get_mut.ensures.value ∙ c.in_ok-cell.ensures.open.1)

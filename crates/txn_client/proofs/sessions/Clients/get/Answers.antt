@@ -1,0 +1,44 @@
+use Rattle.std.proofs.Common.{sym, ap, subst, ◌∙◌}
+use Rattle.std.specs.declared.result.Result.TheVariants.{Err}
+use Rattle.cell_key.specs.declared.refusals.Refusal.{Refusal}
+use Rattle.txn_client.proofs.Exact.{cell_unknown, is_open}
+use Rattle.cell_key.specs.Names.{IsRow, IsFamily}
+use Rattle.si_model.specs.declared.replies.Cell.{Cell}
+use Rattle.si_model.specs.Machine as machine
+use Rattle.si_model.specs.Replies.{found_reply, result_reply}
+use Rattle.si_model.specs.Reads.{cell_of}
+use Rattle.cell_key.proofs.Reasons.{reason_none}
+use Rattle.row_atomic.proofs.Calls.{reads_none}
+use Rattle.txn_client.specs.Shows.{IsCellRefusal, Steps}
+use Rattle.txn_client.proofs.Passed.{as_err, refused_not}
+use Rattle.txn_client.proofs.Table.{reads_open_at, undamaged_at, get_refused_at}
+use Rattle.txn_client.proofs.sessions.Clients.get.Goals as goal
+
+pub returns-in_err-cell-clause-step : goal.returns-in_err-cell-clause-step
+returns-in_err-cell-clause-step g c = λ held last.
+    let e = as_err c.from_residual.result c.in_err-cell.field-0.0 c.from_residual.ensures.1 in
+    rw e (get_refused_at (g.R.Rows.seen.cells c.args.rows.now) c.args.self.now last c.args.start (cell_of c.args.row.now c.args.family.now) c.in_err-cell.field-0.0 c.in_err-cell.ensures.refusal)
+
+pub returns-clause-step : goal.returns-clause-step
+returns-clause-step g c = λ held last.
+    let same = c.in_ok-cell.ensures.ok in
+    rw (c.read_cell.ensures.reads.kept held) (subst (λ (x : Cell). Steps (g.R.Rows.seen.cells c.args.rows.now) c.args.self.now last (machine.Get c.args.start x) (result_reply found_reply c.read_cell.result) (g.R.Rows.seen.cells c.args.rows.now) c.args.self.now last) same
+    (reads_open_at (g.R.Rows.seen.cells c.args.rows.now) c.args.self.now last c.args.start c.in_ok-cell.cell c.read_cell.result c.in_ok-cell.ensures.open
+    (subst (λ (x : Cell). IsRow x.row) (sym same) c.in_ok-cell.ensures.row) (subst (λ (x : Cell). IsFamily x.family) (sym same) c.in_ok-cell.ensures.family) (c.read_cell.ensures.found held) c.read_cell.ensures.refusal))
+
+pub returns-clause-undamaged : goal.returns-clause-undamaged
+returns-clause-undamaged g c = λ held. undamaged_at (g.R.Rows.seen.cells c.args.rows.now) c.in_ok-cell.cell c.args.start c.read_cell.result (c.read_cell.ensures.damaged held)
+
+pub returns-in_err-cell-clause-unknown : goal.returns-in_err-cell-clause-unknown
+returns-in_err-cell-clause-unknown g c = λ st shown gone.
+    let e = as_err c.from_residual.result c.in_err-cell.field-0.0 c.from_residual.ensures.1 in
+    e ∙ ap (λ (r : Refusal). Err r) (cell_unknown c.args.self.now c.args.start st shown _ _ gone c.in_err-cell.ensures.refusal)
+
+pub returns-clause-unknown : goal.returns-clause-unknown
+returns-clause-unknown g c = λ st shown gone. absurd (is_open c.args.self.now c.args.start st shown gone c.in_ok-cell.ensures.open)
+
+pub returns-in_err-cell-clause-reads : goal.returns-in_err-cell-clause-reads
+returns-in_err-cell-clause-reads g c = reads_none
+
+pub returns-in_err-cell-clause-reason : goal.returns-in_err-cell-clause-reason
+returns-in_err-cell-clause-reason g c = reason_none _ _ (refused_not c.from_residual.result c.in_err-cell.field-0.0 _ (IsCellRefusal c.args.self.now c.args.start (cell_of c.args.row.now c.args.family.now)) (λ u. u.1) c.from_residual.ensures.1 c.in_err-cell.ensures.refusal)

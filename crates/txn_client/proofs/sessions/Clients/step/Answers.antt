@@ -1,0 +1,306 @@
+use Rattle.std.proofs.Common.{◌≡◌, ◌∙◌, sym, ap, subst, refl, Option, Some, None, true, cond, inl, inr, ℕ, ◌≤◌, arith}
+use Rattle.std.specs.Prelude.{is_some, IsSome}
+use Rattle.std.specs.Ordering.{nat_cmp, is_eq}
+use Rattle.std.specs.BTreeMap as btree
+use Rattle.std.specs.Result.{IsErrAnd, IsErrOf}
+use Rattle.std.specs.declared.result.Result.{Result}
+use Rattle.std.specs.declared.result.Result.TheVariants.{Ok, Err}
+use Rattle.cell_key.specs.declared.refusals.Refusal.{Refusal}
+use Rattle.cell_key.specs.declared.refusals.Refusal.TheVariants.{UnknownSession, MemtableFull, Exhausted, Device, Damaged}
+use Rattle.cell_key.proofs.Reasons.{not_refused, reason_kept, reason_none, reason_passed}
+use Rattle.row_atomic.proofs.Calls.{reads_keep, reads_none}
+use Rattle.txn_client.specs.Refusals.{HasOneReason, IsAdvanceRefusal}
+use Rattle.txn_client.specs.declared.session.Session.{Session}
+use Rattle.txn_client.proofs.Room.{changes_shown, does_below, does_make, does_so, does_take, does_touch, draws_shown, edits_touch, no_room_so, same_touch}
+use Rattle.txn_client.proofs.Passed.{as_err, passed_on, passed_err, passed_none, passed_kept, refused_not, advance_step}
+use Rattle.txn_client.proofs.Exact.{is_kept, is_there, passes, unwritten_none, unwritten_phase}
+use Rattle.txn_client.proofs.Table.{entries_each, same_each, takes_at, steps_refused, advance_unknown_at, twice, with_none, touches_at, draws_next, never_draws}
+use Rattle.txn_client.proofs.sessions.Clients.step.Goals as goal
+
+one_reason_kept : {A B : Type 0} (x : A) (y : B) (before now before' now' : ℕ) → HasOneReason before now before' now' (Ok x) → HasOneReason before now before' now' (Ok y)
+one_reason_kept x y before now before' now' (inl (reason, same)) = inl (reason_kept x (Ok y) _ _ (not_refused y Device) reason, same)
+one_reason_kept x y before now before' now' (inr (reason, same)) = inr (reason_kept x (Ok y) _ _ (not_refused y Device) reason, same)
+
+one_reason_passed : {A B : Type 0} (r : Result B Refusal) (e : Refusal) (before now before' now' : ℕ) → IsErrAnd r (λ f. f ≡ e) → HasOneReason {T = A} before now before' now' (Err e) → HasOneReason before now before' now' r
+one_reason_passed r e before now before' now' by (inl (reason, same)) = inl (reason_passed r e _ _ by reason, same)
+one_reason_passed r e before now before' now' by (inr (reason, same)) = inr (reason_passed r e _ _ by reason, same)
+
+unknown_undamaged : {A : Type 0} → IsErrOf {T = A} (Err UnknownSession) Damaged → ⊥
+unknown_undamaged is = cc
+
+unknown_not_exhausted : {A : Type 0} → IsErrOf {T = A} (Err UnknownSession) Exhausted → ⊥
+unknown_not_exhausted is = cc
+
+unknown_not_full : {A : Type 0} → IsErrOf {T = A} (Err UnknownSession) MemtableFull → ⊥
+unknown_not_full is = cc
+
+unknown_no_device : {A : Type 0} → IsErrOf {T = A} (Err UnknownSession) Device → ⊥
+unknown_no_device is = cc
+
+not_less : (n m : ℕ) → m ≡ n → n ≤ m
+not_less n m same = omega arith
+
+pub returns-then-outcome-clause-step : goal.returns-then-outcome-clause-step
+returns-then-outcome-clause-step g c = λ held.
+    let was = sym c.in-Some.ensures.value in
+    let there : IsSome (btree.get nat_cmp c.args.self.now.sessions c.args.start) = subst (λ (o : Option Session). IsSome o) c.in-Some.ensures.value refl in
+    let w = c.advance.new.self in
+    let lent = c.get_mut.follows.holds w in
+    let set = lent.3 there in
+    let found : is_some c.remove.result ≡ true = ap is_some (c.remove.ensures.value ∙ set.1) in
+    takes_at (g.R.Rows.seen.cells c.args.rows.now) (g.R.Rows.seen.cells c.advance.new.rows) c.args.self.now (record c.args.self.now { top = c.top_after_step-self.result; sessions = c.remove.new.self }) c.args.oracle.now.last c.advance.new.oracle.last
+    c.in-Some.session.now w c.in_ok-outcome.outcome (c.in_ok-outcome.ensures.step held) c.in_ok-outcome.ensures.start c.in_ok-outcome.ensures.writes c.top_after_step-self.ensures
+    (rw c.if-outcome.true ((rw found at c.remove.ensures.len) ∙ lent.2)) c.args.start was
+    (λ q. rw c.if-outcome.true (c.remove.ensures.updates.0 q ∙ (ap (λ (o : Option Session). cond (is_eq (nat_cmp c.args.start q)) None o) (set.0 q) ∙ twice (is_eq (nat_cmp c.args.start q)) None (Some w) (btree.get nat_cmp c.args.self.now.sessions q))))
+
+pub returns-else-outcome-clause-step : goal.returns-else-outcome-clause-step
+returns-else-outcome-clause-step g c = λ held.
+    let was = sym c.in-Some.ensures.value in
+    let there : IsSome (btree.get nat_cmp c.args.self.now.sessions c.args.start) = subst (λ (o : Option Session). IsSome o) c.in-Some.ensures.value refl in
+    let w = c.advance.new.self in
+    let lent = c.get_mut.follows.holds w in
+    takes_at (g.R.Rows.seen.cells c.args.rows.now) (g.R.Rows.seen.cells c.advance.new.rows) c.args.self.now (record c.args.self.now { top = c.top_after_step-self.result; sessions = c.get_mut.follows.lender w }) c.args.oracle.now.last c.advance.new.oracle.last
+    c.in-Some.session.now w c.in_ok-outcome.outcome (c.in_ok-outcome.ensures.step held) c.in_ok-outcome.ensures.start c.in_ok-outcome.ensures.writes c.top_after_step-self.ensures
+    (rw c.if-outcome.false (with_none (btree.btree_map_len (c.get_mut.follows.lender w)) (btree.btree_map_len c.args.self.now.sessions) lent.2)) c.args.start was (λ q. rw c.if-outcome.false ((lent.3 there).0 q))
+
+pub returns-in_err-outcome-clause-step : goal.returns-in_err-outcome-clause-step
+returns-in_err-outcome-clause-step g c = λ held.
+    let was = sym c.in-Some.ensures.value in
+    let there : IsSome (btree.get nat_cmp c.args.self.now.sessions c.args.start) = subst (λ (o : Option Session). IsSome o) c.in-Some.ensures.value refl in
+    let w = c.advance.new.self in
+    let lent = c.get_mut.follows.holds w in
+    let e = as_err c.from_residual.result c.in_err-outcome.field-0.0 c.from_residual.ensures.1 in
+    rw (e, c.in_err-outcome.ensures.refused.same.kept held) (steps_refused _ (g.R.Rows.seen.cells c.args.rows.now) c.args.self.now (record c.args.self.now { sessions = c.get_mut.follows.lender w }) c.args.oracle.now.last c.advance.new.oracle.last c.args.start
+    c.in-Some.session.now w c.in_err-outcome.field-0.0 was c.in_err-outcome.ensures.err refl (lent.3 there).0 lent.2 (not_less _ _ c.in_err-outcome.ensures.refused.stays) c.in_err-outcome.ensures.refusal)
+
+pub returns-in_default-clause-step : goal.returns-in_default-clause-step
+returns-in_default-clause-step g c = λ held.
+    advance_unknown_at (g.R.Rows.seen.cells c.args.rows.now) c.args.self.now (record c.args.self.now { sessions = c.get_mut.follows.lender-at-none }) c.args.oracle.now.last c.args.start refl (sym c.in_default.ensures.value)
+    (ap (λ m. m.entries) c.get_mut.follows.holds-at-none)
+
+pub returns-in_err-outcome-clause-err : goal.returns-in_err-outcome-clause-err
+returns-in_err-outcome-clause-err g c =
+    let was = sym c.in-Some.ensures.value in
+    let there : IsSome (btree.get nat_cmp c.args.self.now.sessions c.args.start) = subst (λ (o : Option Session). IsSome o) c.in-Some.ensures.value refl in
+    let w = c.advance.new.self in
+    let lent = c.get_mut.follows.holds w in
+    rw (as_err c.from_residual.result c.in_err-outcome.field-0.0 c.from_residual.ensures.1)
+    (record { top = refl; each = same_each (btree.get nat_cmp c.args.self.now.sessions) (btree.get nat_cmp (c.get_mut.follows.lender w)) c.args.start c.in-Some.session.now w was c.in_err-outcome.ensures.err (lent.3 there).0 })
+
+pub returns-in_default-clause-err : goal.returns-in_default-clause-err
+returns-in_default-clause-err g c = record {
+  top = refl;
+  each = entries_each c.args.self.now (record c.args.self.now { sessions = c.get_mut.follows.lender-at-none }) (ap (λ m. m.entries) c.get_mut.follows.holds-at-none);
+}
+
+pub returns-then-outcome-clause-refusal : goal.returns-then-outcome-clause-refusal
+returns-then-outcome-clause-refusal g c = tt
+
+pub returns-then-outcome-clause-err : goal.returns-then-outcome-clause-err
+returns-then-outcome-clause-err g c = tt
+
+pub returns-then-outcome-clause-aside : goal.returns-then-outcome-clause-aside
+returns-then-outcome-clause-aside g c = λ st shown other. c.in_ok-outcome.ensures.aside (λ held. other (draws_shown c.args.self.now c.args.start c.in-Some.session.now (sym c.in-Some.ensures.value) held st shown))
+
+pub returns-else-outcome-clause-refusal : goal.returns-else-outcome-clause-refusal
+returns-else-outcome-clause-refusal g c = tt
+
+pub returns-else-outcome-clause-err : goal.returns-else-outcome-clause-err
+returns-else-outcome-clause-err g c = tt
+
+pub returns-else-outcome-clause-aside : goal.returns-else-outcome-clause-aside
+returns-else-outcome-clause-aside g c = λ st shown other. c.in_ok-outcome.ensures.aside (λ held. other (draws_shown c.args.self.now c.args.start c.in-Some.session.now (sym c.in-Some.ensures.value) held st shown))
+
+pub returns-in_err-outcome-clause-refusal : goal.returns-in_err-outcome-clause-refusal
+returns-in_err-outcome-clause-refusal g c = passed_err c.from_residual.result c.in_err-outcome.field-0.0 _ c.from_residual.ensures.1 (advance_step _ _ c.in_err-outcome.field-0.0 c.in_err-outcome.ensures.refusal)
+
+pub returns-in_err-outcome-clause-aside : goal.returns-in_err-outcome-clause-aside
+returns-in_err-outcome-clause-aside g c = λ st shown other. c.in_err-outcome.ensures.aside (λ held. other (draws_shown c.args.self.now c.args.start c.in-Some.session.now (sym c.in-Some.ensures.value) held st shown))
+
+pub returns-in_default-clause-aside : goal.returns-in_default-clause-aside
+returns-in_default-clause-aside g c = λ st shown other. refl
+
+pub returns-in_default-clause-refusal : goal.returns-in_default-clause-refusal
+returns-in_default-clause-refusal g c = tt
+
+pub returns-then-outcome-clause-below : goal.returns-then-outcome-clause-below
+returns-then-outcome-clause-below g c = does_below g.R.Rows.seen c.args.rows.now c.advance.new.rows _ c.in_ok-outcome.outcome.progress c.in_ok-outcome.ensures.does
+
+pub returns-then-outcome-clause-touched : goal.returns-then-outcome-clause-touched
+returns-then-outcome-clause-touched g c = λ held.
+    let session = c.in-Some.session.now in
+    touches_at c.args.self.now c.args.start session (g.R.Rows.seen.cells c.args.rows.now) (g.R.Rows.seen.cells c.advance.new.rows) (sym c.in-Some.ensures.value)
+    (does_touch g.R.Rows.seen c.args.rows.now c.advance.new.rows held _ c.in_ok-outcome.outcome.progress _ (edits_touch (g.R.Rows.seen.holds c.args.rows.now) (g.R.Rows.seen.cells c.args.rows.now) session session.phase (g.R.Rows.seen.cells c.advance.new.rows)) (same_touch (g.R.Rows.seen.holds c.args.rows.now) (g.R.Rows.seen.cells c.args.rows.now) session session.phase (g.R.Rows.seen.cells c.advance.new.rows)) c.in_ok-outcome.ensures.does)
+
+pub returns-then-outcome-clause-undamaged : goal.returns-then-outcome-clause-undamaged
+returns-then-outcome-clause-undamaged g c = λ held is. not_refused _ _ is
+
+pub returns-then-outcome-clause-full : goal.returns-then-outcome-clause-full
+returns-then-outcome-clause-full g c = λ is. absurd (not_refused _ _ is)
+
+pub returns-then-outcome-clause-full_shown : goal.returns-then-outcome-clause-full_shown
+returns-then-outcome-clause-full_shown g c = λ held is. absurd (not_refused _ _ is)
+
+pub returns-then-outcome-clause-reason : goal.returns-then-outcome-clause-reason
+returns-then-outcome-clause-reason g c = one_reason_kept _ _ _ _ _ _ c.in_ok-outcome.ensures.reason
+
+pub returns-else-outcome-clause-below : goal.returns-else-outcome-clause-below
+returns-else-outcome-clause-below g c = does_below g.R.Rows.seen c.args.rows.now c.advance.new.rows _ c.in_ok-outcome.outcome.progress c.in_ok-outcome.ensures.does
+
+pub returns-else-outcome-clause-touched : goal.returns-else-outcome-clause-touched
+returns-else-outcome-clause-touched g c = λ held.
+    let session = c.in-Some.session.now in
+    touches_at c.args.self.now c.args.start session (g.R.Rows.seen.cells c.args.rows.now) (g.R.Rows.seen.cells c.advance.new.rows) (sym c.in-Some.ensures.value)
+    (does_touch g.R.Rows.seen c.args.rows.now c.advance.new.rows held _ c.in_ok-outcome.outcome.progress _ (edits_touch (g.R.Rows.seen.holds c.args.rows.now) (g.R.Rows.seen.cells c.args.rows.now) session session.phase (g.R.Rows.seen.cells c.advance.new.rows)) (same_touch (g.R.Rows.seen.holds c.args.rows.now) (g.R.Rows.seen.cells c.args.rows.now) session session.phase (g.R.Rows.seen.cells c.advance.new.rows)) c.in_ok-outcome.ensures.does)
+
+pub returns-else-outcome-clause-undamaged : goal.returns-else-outcome-clause-undamaged
+returns-else-outcome-clause-undamaged g c = λ held is. not_refused _ _ is
+
+pub returns-else-outcome-clause-full : goal.returns-else-outcome-clause-full
+returns-else-outcome-clause-full g c = λ is. absurd (not_refused _ _ is)
+
+pub returns-else-outcome-clause-full_shown : goal.returns-else-outcome-clause-full_shown
+returns-else-outcome-clause-full_shown g c = λ held is. absurd (not_refused _ _ is)
+
+pub returns-else-outcome-clause-reason : goal.returns-else-outcome-clause-reason
+returns-else-outcome-clause-reason g c = one_reason_kept _ _ _ _ _ _ c.in_ok-outcome.ensures.reason
+
+pub returns-in_err-outcome-clause-below : goal.returns-in_err-outcome-clause-below
+returns-in_err-outcome-clause-below g c = reads_keep c.in_err-outcome.ensures.refused.same
+
+pub returns-in_err-outcome-clause-touched : goal.returns-in_err-outcome-clause-touched
+returns-in_err-outcome-clause-touched g c = λ held.
+    let session = c.in-Some.session.now in
+    touches_at c.args.self.now c.args.start session (g.R.Rows.seen.cells c.args.rows.now) (g.R.Rows.seen.cells c.advance.new.rows) (sym c.in-Some.ensures.value)
+    (same_touch (g.R.Rows.seen.holds c.args.rows.now) (g.R.Rows.seen.cells c.args.rows.now) session session.phase (g.R.Rows.seen.cells c.advance.new.rows) (c.in_err-outcome.ensures.refused.same.kept held))
+
+pub returns-in_err-outcome-clause-undamaged : goal.returns-in_err-outcome-clause-undamaged
+returns-in_err-outcome-clause-undamaged g c = λ held is. refused_not c.from_residual.result c.in_err-outcome.field-0.0 Damaged (IsAdvanceRefusal (g.R.Rows.seen.holds c.args.rows.now) _) (λ u. u held) c.from_residual.ensures.1 c.in_err-outcome.ensures.refusal is
+
+pub returns-in_err-outcome-clause-full : goal.returns-in_err-outcome-clause-full
+returns-in_err-outcome-clause-full g c = λ is. no_room_so g.R.Rows.seen.overfills c.args.rows.now (λ row edits so. (c.in-Some.session.now, sym c.in-Some.ensures.value, so)) (c.in_err-outcome.ensures.full (passed_on c.from_residual.result _ c.in_err-outcome.field-0.0 _ c.from_residual.ensures.1 refl is))
+
+pub returns-in_err-outcome-clause-full_shown : goal.returns-in_err-outcome-clause-full_shown
+returns-in_err-outcome-clause-full_shown g c = λ held is st reached shown kept.
+    no_room_so g.R.Rows.seen.overfills c.args.rows.now (λ row edits so. changes_shown (g.R.Rows.seen.holds c.args.rows.now) (g.R.Rows.seen.cells c.args.rows.now) c.args.self.now c.args.start held st reached shown kept row edits (c.in-Some.session.now, sym c.in-Some.ensures.value, so)) (c.in_err-outcome.ensures.full (passed_on c.from_residual.result _ c.in_err-outcome.field-0.0 _ c.from_residual.ensures.1 refl is))
+
+pub returns-in_err-outcome-clause-reason : goal.returns-in_err-outcome-clause-reason
+returns-in_err-outcome-clause-reason g c = one_reason_passed c.from_residual.result c.in_err-outcome.field-0.0 _ _ _ _ c.from_residual.ensures.1 c.in_err-outcome.ensures.reason
+
+pub returns-in_default-clause-below : goal.returns-in_default-clause-below
+returns-in_default-clause-below g c = record { still = λ held. held; stays = refl }
+
+pub returns-in_default-clause-touched : goal.returns-in_default-clause-touched
+returns-in_default-clause-touched g c = λ held st shown. inl refl
+
+pub returns-in_default-clause-undamaged : goal.returns-in_default-clause-undamaged
+returns-in_default-clause-undamaged g c = λ held is. unknown_undamaged is
+
+pub returns-in_default-clause-full : goal.returns-in_default-clause-full
+returns-in_default-clause-full g c = λ is. absurd (unknown_not_full is)
+
+pub returns-in_default-clause-full_shown : goal.returns-in_default-clause-full_shown
+returns-in_default-clause-full_shown g c = λ held is. absurd (unknown_not_full is)
+
+pub returns-in_default-clause-reason : goal.returns-in_default-clause-reason
+returns-in_default-clause-reason g c = inl (reason_none _ _ unknown_no_device, refl)
+
+pub returns-then-outcome-clause-accepted : goal.returns-then-outcome-clause-accepted
+returns-then-outcome-clause-accepted g c = record {
+  does = does_so g.R.Rows.seen c.args.rows.now c.advance.new.rows c.in_ok-outcome.outcome.progress (λ row edits is. (c.in-Some.session.now, sym c.in-Some.ensures.value, is)) c.in_ok-outcome.ensures.does;
+  made = λ held st reached shown kept.
+      does_make g.R.Rows.seen c.args.rows.now c.advance.new.rows held _ c.in_ok-outcome.outcome.progress
+      (does_so g.R.Rows.seen c.args.rows.now c.advance.new.rows c.in_ok-outcome.outcome.progress (λ row edits is. changes_shown (g.R.Rows.seen.holds c.args.rows.now) (g.R.Rows.seen.cells c.args.rows.now) c.args.self.now c.args.start held st reached shown kept row edits (c.in-Some.session.now, sym c.in-Some.ensures.value, is)) c.in_ok-outcome.ensures.does);
+  room = λ held st reached shown kept.
+      does_take g.R.Rows.seen c.args.rows.now c.advance.new.rows _ c.in_ok-outcome.outcome.progress
+      (does_so g.R.Rows.seen c.args.rows.now c.advance.new.rows c.in_ok-outcome.outcome.progress (λ row edits is. changes_shown (g.R.Rows.seen.holds c.args.rows.now) (g.R.Rows.seen.cells c.args.rows.now) c.args.self.now c.args.start held st reached shown kept row edits (c.in-Some.session.now, sym c.in-Some.ensures.value, is)) c.in_ok-outcome.ensures.does);
+  draws = c.in_ok-outcome.ensures.draws.0;
+  last = c.in_ok-outcome.ensures.draws.1;
+}
+
+pub returns-then-outcome-clause-refused : goal.returns-then-outcome-clause-refused
+returns-then-outcome-clause-refused g c = tt
+
+pub returns-then-outcome-clause-causes : goal.returns-then-outcome-clause-causes
+returns-then-outcome-clause-causes g c = λ st shown. record {
+  unknown = λ gone. absurd (is_kept c.args.self.now c.args.start st shown gone c.in-Some.session.now (sym c.in-Some.ensures.value));
+  empty = λ none.
+      let was = sym c.in-Some.ensures.value in
+      let e = c.in_ok-outcome.ensures.empty (unwritten_phase c.args.self.now c.args.start st shown none c.in-Some.session.now was) (unwritten_none c.args.self.now c.args.start st shown none c.in-Some.session.now was) in
+      absurd (not_refused _ _ e);
+  drawing = λ about. tt;
+}
+
+pub returns-then-outcome-clause-no_stamp : goal.returns-then-outcome-clause-no_stamp
+returns-then-outcome-clause-no_stamp g c = λ is. absurd (not_refused _ _ is)
+
+pub returns-else-outcome-clause-accepted : goal.returns-else-outcome-clause-accepted
+returns-else-outcome-clause-accepted g c = record {
+  does = does_so g.R.Rows.seen c.args.rows.now c.advance.new.rows c.in_ok-outcome.outcome.progress (λ row edits is. (c.in-Some.session.now, sym c.in-Some.ensures.value, is)) c.in_ok-outcome.ensures.does;
+  made = λ held st reached shown kept.
+      does_make g.R.Rows.seen c.args.rows.now c.advance.new.rows held _ c.in_ok-outcome.outcome.progress
+      (does_so g.R.Rows.seen c.args.rows.now c.advance.new.rows c.in_ok-outcome.outcome.progress (λ row edits is. changes_shown (g.R.Rows.seen.holds c.args.rows.now) (g.R.Rows.seen.cells c.args.rows.now) c.args.self.now c.args.start held st reached shown kept row edits (c.in-Some.session.now, sym c.in-Some.ensures.value, is)) c.in_ok-outcome.ensures.does);
+  room = λ held st reached shown kept.
+      does_take g.R.Rows.seen c.args.rows.now c.advance.new.rows _ c.in_ok-outcome.outcome.progress
+      (does_so g.R.Rows.seen c.args.rows.now c.advance.new.rows c.in_ok-outcome.outcome.progress (λ row edits is. changes_shown (g.R.Rows.seen.holds c.args.rows.now) (g.R.Rows.seen.cells c.args.rows.now) c.args.self.now c.args.start held st reached shown kept row edits (c.in-Some.session.now, sym c.in-Some.ensures.value, is)) c.in_ok-outcome.ensures.does);
+  draws = c.in_ok-outcome.ensures.draws.0;
+  last = c.in_ok-outcome.ensures.draws.1;
+}
+
+pub returns-else-outcome-clause-refused : goal.returns-else-outcome-clause-refused
+returns-else-outcome-clause-refused g c = tt
+
+pub returns-else-outcome-clause-causes : goal.returns-else-outcome-clause-causes
+returns-else-outcome-clause-causes g c = λ st shown. record {
+  unknown = λ gone. absurd (is_kept c.args.self.now c.args.start st shown gone c.in-Some.session.now (sym c.in-Some.ensures.value));
+  empty = λ none.
+      let was = sym c.in-Some.ensures.value in
+      let e = c.in_ok-outcome.ensures.empty (unwritten_phase c.args.self.now c.args.start st shown none c.in-Some.session.now was) (unwritten_none c.args.self.now c.args.start st shown none c.in-Some.session.now was) in
+      absurd (not_refused _ _ e);
+  drawing = λ about. tt;
+}
+
+pub returns-else-outcome-clause-no_stamp : goal.returns-else-outcome-clause-no_stamp
+returns-else-outcome-clause-no_stamp g c = λ is. absurd (not_refused _ _ is)
+
+pub returns-in_err-outcome-clause-accepted : goal.returns-in_err-outcome-clause-accepted
+returns-in_err-outcome-clause-accepted g c = passed_none c.from_residual.result c.in_err-outcome.field-0.0 _ c.from_residual.ensures.1
+
+pub returns-in_err-outcome-clause-refused : goal.returns-in_err-outcome-clause-refused
+returns-in_err-outcome-clause-refused g c = passed_kept c.from_residual.result _ c.in_err-outcome.ensures.refused
+
+pub returns-in_err-outcome-clause-causes : goal.returns-in_err-outcome-clause-causes
+returns-in_err-outcome-clause-causes g c = λ st shown. record {
+  unknown = λ gone. absurd (is_kept c.args.self.now c.args.start st shown gone c.in-Some.session.now (sym c.in-Some.ensures.value));
+  empty = λ none.
+      let was = sym c.in-Some.ensures.value in
+      passes c.from_residual.result _ c.in_err-outcome.field-0.0 _ (as_err c.from_residual.result c.in_err-outcome.field-0.0 c.from_residual.ensures.1) refl
+      (c.in_err-outcome.ensures.empty (unwritten_phase c.args.self.now c.args.start st shown none c.in-Some.session.now was) (unwritten_none c.args.self.now c.args.start st shown none c.in-Some.session.now was));
+  drawing = λ about. passed_err c.from_residual.result c.in_err-outcome.field-0.0 _ c.from_residual.ensures.1 (c.in_err-outcome.ensures.drawing (draws_next c.args.self.now c.args.start c.in-Some.session.now st (sym c.in-Some.ensures.value) shown about));
+}
+
+pub returns-in_err-outcome-clause-no_stamp : goal.returns-in_err-outcome-clause-no_stamp
+returns-in_err-outcome-clause-no_stamp g c = λ is.
+    let none = c.in_err-outcome.ensures.no_stamp (passed_on c.from_residual.result _ c.in_err-outcome.field-0.0 _ c.from_residual.ensures.1 refl is) in
+    record {
+      exhausted = none.exhausted;
+      draw_only = draws_shown c.args.self.now c.args.start c.in-Some.session.now (sym c.in-Some.ensures.value) none.draw_only;
+      undrawn = none.undrawn;
+    }
+
+pub returns-in_default-clause-accepted : goal.returns-in_default-clause-accepted
+returns-in_default-clause-accepted g c = tt
+
+pub returns-in_default-clause-refused : goal.returns-in_default-clause-refused
+returns-in_default-clause-refused g c = record { same = reads_none; stays = refl; mark = inl refl }
+
+pub returns-in_default-clause-causes : goal.returns-in_default-clause-causes
+returns-in_default-clause-causes g c = λ st shown. record {
+  unknown = λ none. refl;
+  empty = λ none.
+      absurd (is_there c.args.self.now c.args.start st shown none (sym c.in_default.ensures.value));
+  drawing = λ about. absurd (never_draws c.args.self.now c.args.start st (sym c.in_default.ensures.value) shown about);
+}
+
+pub returns-in_default-clause-no_stamp : goal.returns-in_default-clause-no_stamp
+returns-in_default-clause-no_stamp g c = λ is. absurd (unknown_not_exhausted is)

@@ -1,0 +1,335 @@
+//! The table of active sessions. Its type is named for those that run them: clients (Percolator).
+
+ghost use Rattle.std.specs.Prelude.{◌≡◌, ◌+◌, ◌<◌, ◌^◌, ◌⊎◌, ℕ, IfErr, IfOk, IsErrOf, OnErr, OnOk};
+ghost use Rattle.std.specs.Prelude.{◌≤◌, Some, is_some, if◌then◌else◌};
+ghost use Rattle.std.specs.BTreeMap as btree;
+ghost use Rattle.std.specs.BTreeMap.{Updates, btree_map_len};
+ghost use Rattle.std.specs.FinMap.{empty};
+ghost use Rattle.std.specs.Ordering.{nat_cmp};
+ghost use Rattle.cell_key.specs.Cells.{Cells};
+ghost use Rattle.cell_key.specs.Names.{IsFamily, IsRow};
+ghost use Rattle.oracle.specs.Marks.{MayHold};
+ghost use Rattle.oracle.specs.Ranges.{next_range_end};
+ghost use Rattle.cell_key.specs.Faults.{HasReason};
+ghost use Rattle.si_model.specs.Machine as machine;
+ghost use Rattle.si_model.specs.Machine.{IsReached, State};
+ghost use Rattle.si_model.specs.Replies.{found_reply, progress_reply, result_reply};
+ghost use Rattle.si_model.specs.ShowsCells.{ShowsCells};
+ghost use Rattle.si_model.specs.Reads.{cell_of};
+ghost use Rattle.txn_client.specs.Reads.{IsShort};
+ghost use Rattle.txn_client.specs.Refusals.{HasNoStamp, HasOneReason, IsBeginRefusal, IsDeleteRefusal, IsGetRefusal, IsSetRefusal, IsStepRefusal, StepCauses, StepLeaves};
+ghost use Rattle.row_atomic.specs.Calls.{KeepsBelow, OnlyReads};
+ghost use Rattle.row_atomic.specs.Room.{HasNoRoom};
+ghost use Rattle.txn_client.specs.Room.{ChangesNext, EditsOfStep, StepMakes};
+ghost use Rattle.txn_client.specs.Shows.{InEachShown, IsAboutToDraw, IsCellRefusal, IsCrowded, IsInactive, IsOpenSession, SameClients, Shows, ShowsClients, Steps, TouchesFor, open_session, top_after};
+
+use crate::cells;
+use crate::session::{Phase, Session};
+use crate::value::Value;
+use crate::writes::{Write, Writes};
+use cell_key::{MOST_STAMP, Moment, Refusal, Stamp};
+use oracle::{MarkStore, Oracle};
+use row_atomic::Rows;
+use si_model::{Cell, Found, Progress};
+use std::alloc::Global;
+use std::collections::BTreeMap;
+
+/// The most sessions that are active at once.
+const MOST_SESSIONS: usize = 1024;
+
+/// The active sessions by their starts, and the greatest stamp that was answered.
+///
+/// Each call is a step of the snapshot machine: if cells, sessions and oracle show one of its
+/// states, the answer is one that the machine may give there, and they show its next state after.
+/// A refusal leaves all as it was, and the same call may be made again.
+#[derive(Drop)]
+pub struct Clients {
+    alloc: Global,
+    top: Stamp,
+    sessions: BTreeMap<Stamp, Session>,
+}
+
+/// The greatest stamp that was answered, after a step.
+fn top_after_step(top: Stamp, progress: Progress) -> Stamp
+    ensures { result ≡ top_after top progress }
+{
+    match progress {
+        Progress::Stamped(commit) => commit,
+        _ => top,
+    }
+}
+
+impl Clients {
+    /// No sessions. The top is 0 or the greatest stamp that was answered.
+    pub fn new(alloc: Global, top: Stamp) -> Clients
+        requires { top < 2 ^ 63 }
+        ensures shown { (st : State) → st.top ≡ top → st.active ≡ empty → ShowsClients result st }
+    {
+        Clients {
+            alloc,
+            top,
+            sessions: BTreeMap::new(alloc),
+        }
+    }
+
+    /// The greatest stamp that was answered, and 0 before the first.
+    pub fn top(&self) -> Stamp
+        ensures top { result ≡ self.now.top }
+        ensures shown { (st : State) → ShowsClients self.now st → result ≡ st.top }
+    {
+        self.top
+    }
+
+    /// The least start of an active session, or one more than the top: no session has a start below
+    /// it, and none will have one.
+    pub fn floor(&self) -> Stamp
+        ensures { (st : State) → IsReached st → ShowsClients self.now st
+            → machine.IsFloor st result }
+    {
+        match self.sessions.first_key_value() {
+            Some((start, _)) => *start,
+            None => self.top.saturating_add(1),
+        }
+    }
+
+    /// Begins a session (Percolator, the start of a transaction): its start, which is the next
+    /// stamp of the oracle and names the session.
+    ///
+    /// # Errors
+    ///
+    /// `TooManySessions` if 1,024 are active, `Exhausted` after the greatest stamp, `Device`
+    /// if the oracle's mark could not be stored, `NoMemory`. There is room for the session
+    /// before its start is drawn.
+    pub fn begin<M: MarkStore>(&mut self, oracle: &mut Oracle<M>) -> Result<Stamp, Refusal>
+        ensures step { (cells : Cells) → Steps cells self.old oracle.old.last
+            machine.Begin (result_reply machine.Begun result) cells self.new oracle.new.last }
+        ensures next { IfOk result (λ start. (start ≡ oracle.old.last + 1)
+            × (oracle.new.last ≡ start)) }
+        ensures stays { OnErr result (oracle.new.last ≡ oracle.old.last) }
+        // A refusal leaves the mark, or it is the end of the next range.
+        ensures mark { OnErr result (MayHold (next_range_end oracle.old.range_end)
+            (M.mark oracle.old.marks) (M.mark oracle.new.marks)) }
+        ensures refusal { IfErr result IsBeginRefusal }
+        ensures crowded { (st : State) → ShowsClients self.old st → IsCrowded st
+            → IsErrOf result Refusal.TooManySessions }
+        ensures undrawn { IsErrOf result Refusal.TooManySessions
+            ⊎ (IsErrOf result Refusal.Exhausted ⊎ IsErrOf result Refusal.NoMemory)
+            → (oracle.new ≡ oracle.old) × SameClients self.old self.new }
+        ensures exhausted { IsErrOf result Refusal.Exhausted → oracle.old.last ≡ MOST_STAMP }
+        ensures reason { HasReason (M.faults oracle.old.marks) (M.faults oracle.new.marks) result }
+    {
+        if self.sessions.len() >= MOST_SESSIONS {
+            return Err(Refusal::TooManySessions);
+        }
+        let start = Moment::after(oracle.last())?;
+        self.make_session(start)?;
+        match oracle.draw() {
+            Ok(start) => {
+                self.top = start;
+                Ok(start)
+            }
+            Err(refusal) => {
+                self.sessions.remove(&start.stamp());
+                Err(refusal)
+            }
+        }
+    }
+
+    /// Puts an open session without writes at its start.
+    fn make_session(&mut self, start: Moment) -> Result<(), Refusal>
+        ensures made { OnOk result (Updates
+            nat_cmp self.old.sessions self.new.sessions start (Some (open_session start))) }
+        ensures len { OnOk result (btree_map_len self.new.sessions ≡ btree_map_len self.old.sessions
+            + (if is_some (btree.get nat_cmp self.old.sessions start) then 0 else 1)) }
+        ensures err { OnErr result (self.new.sessions.entries ≡ self.old.sessions.entries) }
+        ensures top { self.new.top ≡ self.old.top }
+        ensures refusal { IfErr result (λ refusal. refusal ≡ Refusal.NoMemory) }
+    {
+        let session = Session {
+            start,
+            commit: start,
+            phase: Phase::Open,
+            writes: Writes::new(self.alloc),
+        };
+        self.sessions.insert(start.stamp(), session)?;
+        Ok(())
+    }
+
+    /// Ends a session. No memory is taken.
+    ///
+    /// # Errors
+    ///
+    /// `UnknownSession` if none is active with this start.
+    pub fn stop(&mut self, start: Stamp) -> Result<(), Refusal>
+        ensures step { (cells : Cells) (last : ℕ) → Steps cells self.old last
+            (machine.Stop start) (result_reply (λ _. machine.StopDone) result) cells self.new last }
+        ensures refusal { IfErr result (λ refusal. refusal ≡ Refusal.UnknownSession) }
+        ensures err { OnErr result (SameClients self.old self.new) }
+        ensures unknown { (st : State) → ShowsClients self.old st → IsInactive st start
+            → IsErrOf result Refusal.UnknownSession }
+    {
+        let Some(_session) = self.sessions.remove(&start) else {
+            return Err(Refusal::UnknownSession);
+        };
+        Ok(())
+    }
+
+    /// The cell of a request to an open session: UnknownSession, WrongPhase, BadRow, BadColumn, NoMemory.
+    fn open_cell(&self, start: Stamp, row: &[u8], family: &[u8]) -> Result<Cell, Refusal>
+        ensures ok { IfOk result (λ cell. cell ≡ cell_of row.now family.now) }
+        ensures open { OnOk result (IsOpenSession self.now start) }
+        ensures row { OnOk result (IsRow row.now) }
+        ensures family { OnOk result (IsFamily family.now) }
+        ensures refusal { IfErr result (IsCellRefusal self.now start (cell_of row.now family.now)) }
+    {
+        let Some(session) = self.sessions.get(&start) else {
+            return Err(Refusal::UnknownSession);
+        };
+        match session.phase {
+            Phase::Open => Cell::new(self.alloc, row, family),
+            _ => Err(Refusal::WrongPhase),
+        }
+    }
+
+    /// Reads a cell as of the session's start (Percolator, Get): the value that was committed last
+    /// by then, nothing, or the stamp of a lock that keeps the answer back.
+    ///
+    /// # Errors
+    ///
+    /// In this order: `UnknownSession`, `WrongPhase` after the session's first step, `BadRow`,
+    /// `BadColumn`; then `Device`, `NoMemory`, or `Damaged` if bytes that were read are outside
+    /// their form.
+    pub fn get<R: Rows>(
+        &self,
+        rows: &mut R,
+        start: Stamp,
+        row: &[u8],
+        family: &[u8],
+    ) -> Result<Found, Refusal>
+        ensures step { R.seen.holds rows.old → (last : ℕ) → Steps
+            (R.seen.cells rows.old) self.now last (machine.Get start (cell_of row.now family.now))
+            (result_reply found_reply result) (R.seen.cells rows.new) self.now last }
+        ensures reads { OnlyReads R.seen rows.old rows.new }
+        // What is shown is never answered as damaged.
+        ensures undamaged { R.seen.holds rows.old → (st : State) → IsReached st
+            → ShowsCells (R.seen.cells rows.old) st → ¬ (IsErrOf result Refusal.Damaged) }
+        ensures short { IfOk result IsShort }
+        ensures refusal { IfErr result IsGetRefusal }
+        ensures unknown { (st : State) → ShowsClients self.now st → IsInactive st start
+            → IsErrOf result Refusal.UnknownSession }
+        ensures reason { HasReason (R.faults rows.old) (R.faults rows.new) result }
+    {
+        let cell = self.open_cell(start, row, family)?;
+        cells::read_cell(rows, &cell, start)
+    }
+
+    /// Buffers a write of a cell (Percolator, Set). A cell that has one keeps its place and takes
+    /// the new value; another one comes last, and the first of all is the primary.
+    ///
+    /// # Errors
+    ///
+    /// In this order: `UnknownSession`, `WrongPhase` after the session's first step, `BadRow`,
+    /// `BadColumn`, `BadValue` above 65,536 bytes, `TooManyWrites` at a 257th cell; `NoMemory`.
+    pub fn set(
+        &mut self,
+        start: Stamp,
+        row: &[u8],
+        family: &[u8],
+        value: &[u8],
+    ) -> Result<(), Refusal>
+        ensures step { (cells : Cells) (last : ℕ)
+            → Steps cells self.old last (machine.Set start (cell_of row.now family.now) value.now)
+            (result_reply (λ _. machine.SetDone) result) cells self.new last }
+        ensures refusal { IfErr result IsSetRefusal }
+        ensures err { OnErr result (SameClients self.old self.new) }
+        ensures unknown { (st : State) → ShowsClients self.old st → IsInactive st start
+            → IsErrOf result Refusal.UnknownSession }
+    {
+        let cell = self.open_cell(start, row, family)?;
+        let value = Value::new(self.alloc, value)?;
+        let session = self.sessions.get_mut(&start).unwrap();
+        session.writes.set(Write {
+            cell,
+            value: Some(value),
+        })
+    }
+
+    /// Buffers the deletion of a cell, as `set` buffers a write: one of the same cell keeps its place
+    /// and becomes the deletion.
+    ///
+    /// # Errors
+    ///
+    /// In this order: `UnknownSession`, `WrongPhase` after the session's first step, `BadRow`,
+    /// `BadColumn`, `TooManyWrites` at a 257th cell; `NoMemory`.
+    pub fn delete(&mut self, start: Stamp, row: &[u8], family: &[u8]) -> Result<(), Refusal>
+        ensures step { (cells : Cells) (last : ℕ)
+            → Steps cells self.old last (machine.Delete start (cell_of row.now family.now))
+            (result_reply (λ _. machine.DeleteDone) result) cells self.new last }
+        ensures refusal { IfErr result IsDeleteRefusal }
+        ensures err { OnErr result (SameClients self.old self.new) }
+        ensures unknown { (st : State) → ShowsClients self.old st → IsInactive st start
+            → IsErrOf result Refusal.UnknownSession }
+    {
+        let cell = self.open_cell(start, row, family)?;
+        let session = self.sessions.get_mut(&start).unwrap();
+        session.writes.set(Write { cell, value: None })
+    }
+
+    /// Takes the next step of a session's commit (Percolator, Prewrite and Commit): it holds the
+    /// next cell, draws the commit stamp, commits at the first cell, or finishes the next cell.
+    /// It changes one row at most. A step that draws takes no memory.
+    ///
+    /// # Errors
+    ///
+    /// In this order: `UnknownSession`, `EmptyCommit` if the session has no writes; then
+    /// `MemtableFull` if the step has edits to make and the rows have no room for them (a
+    /// conflict, a loss or a lock that is gone is answered at full rows too), `Exhausted`,
+    /// `Device`, `NoMemory` or `Damaged`, if bytes that were read are outside their form.
+    pub fn step<R: Rows, M: MarkStore>(
+        &mut self,
+        rows: &mut R,
+        oracle: &mut Oracle<M>,
+        start: Stamp,
+    ) -> Result<Progress, Refusal>
+        ensures step { R.seen.holds rows.old
+            → Steps (R.seen.cells rows.old) self.old oracle.old.last (machine.Advance start)
+            (result_reply progress_reply result) (R.seen.cells rows.new) self.new oracle.new.last }
+        ensures accepted { IfOk result (λ progress. StepMakes R.seen self.old start progress
+            rows.old rows.new oracle.old.last oracle.new.last) }
+        ensures refused { OnErr result (StepLeaves R.seen M.mark
+            rows.old rows.new oracle.old oracle.new) }
+        ensures err { OnErr result (SameClients self.old self.new) }
+        ensures below { KeepsBelow R.seen rows.old rows.new }
+        // One row changes, and what joins stands at the session's start or its commit stamp.
+        ensures touched { R.seen.holds rows.old → (st : State) → ShowsClients self.old st
+            → TouchesFor st start (R.seen.cells rows.old) (R.seen.cells rows.new) }
+        // A step that doesn't draw leaves the oracle as it is.
+        ensures aside { (st : State) → ShowsClients self.old st → ¬ IsAboutToDraw st start
+            → oracle.new ≡ oracle.old }
+        ensures refusal { IfErr result IsStepRefusal }
+        ensures undamaged { R.seen.holds rows.old → ¬ (IsErrOf result Refusal.Damaged) }
+        ensures causes { (st : State) → ShowsClients self.old st → StepCauses st start result }
+        // A step that draws is refused Exhausted after the greatest stamp, and no other one is.
+        ensures no_stamp { IsErrOf result Refusal.Exhausted
+            → HasNoStamp ((st : State) → ShowsClients self.old st → IsAboutToDraw st start)
+            oracle.old oracle.new }
+        // MemtableFull comes only if the rows have no room for the edits that the session names.
+        ensures full { IsErrOf result Refusal.MemtableFull → HasNoRoom R.seen.overfills
+            rows.old (EditsOfStep (R.seen.holds rows.old) (R.seen.cells rows.old) self.old start) }
+        ensures full_shown { R.seen.holds rows.old → IsErrOf result Refusal.MemtableFull
+            → InEachShown (R.seen.cells rows.old) self.old (λ st.
+            HasNoRoom R.seen.overfills rows.old (ChangesNext st start)) }
+        ensures reason { HasOneReason (R.faults rows.old) (R.faults rows.new)
+            (M.faults oracle.old.marks) (M.faults oracle.new.marks) result }
+    {
+        let Some(session) = self.sessions.get_mut(&start) else {
+            return Err(Refusal::UnknownSession);
+        };
+        let outcome = session.advance(self.alloc, rows, oracle)?;
+        self.top = top_after_step(self.top, outcome.progress);
+        if outcome.ended {
+            self.sessions.remove(&start);
+        }
+        Ok(outcome.progress)
+    }
+}
