@@ -13,13 +13,13 @@ input_lent (Memtable s) = s.0
 input_lent (File s) = cursor_lent s
 
 abbrev pub input_remaining : Option Contents → Input → List Entry
-input_remaining told (Memtable s) = s.1
-input_remaining told (File s) = cursor_remaining told s
+input_remaining disk (Memtable s) = s.1
+input_remaining disk (File s) = cursor_remaining disk s
 
 -- its entries are an entry list: those of a memtable whatever the files hold
 abbrev pub InputHolds : Option Contents → Input → Type 0
-InputHolds told (Memtable s) = IsEntryList (pending s.0 s.1)
-InputHolds told (File s) = CursorHolds told s
+InputHolds disk (Memtable s) = IsEntryList (pending s.0 s.1)
+InputHolds disk (File s) = CursorHolds disk s
 
 -- at most how many entries it can come to, by what is said of a file's cursor
 abbrev pub input_left : (FileCursor → ℕ) → Input → ℕ

@@ -13,10 +13,10 @@ use Rattle.compaction.specs.Writing.{is_written, only_written}
 use Rattle.compaction.specs.declared.input.Input.{Input}
 use Rattle.compaction.specs.declared.input.Input.TheVariants.{Memtable, File}
 
-pub input_list : (told : Option Contents) (s : Input) → InputHolds told s
-    → IsEntryList (pending (input_lent s) (input_remaining told s))
-input_list told (Memtable s) h = h
-input_list told (File s) h = cursor_list told s h
+pub input_list : (disk : Option Contents) (s : Input) → InputHolds disk s
+    → IsEntryList (pending (input_lent s) (input_remaining disk s))
+input_list disk (Memtable s) h = h
+input_list disk (File s) h = cursor_list disk s h
 
 pub written_list : (keep_erasures : Bool) (lent : Option Entry) (es : List Entry)
     → IsEntryList (pending lent es) → IsEntryList (pending lent (only_written keep_erasures es))

@@ -52,9 +52,9 @@ impl<F: Files, S: Source<F>> Source<F> for Bounded<'_, S> {
     ghost use Rattle.compaction.specs.Ends.{entries_until, lent_until, end_of, source_of};
     ghost use Rattle.compaction.specs.ListLaws.{until_list};
 
-    ghost holds = { λ told s. S.holds told (source_of s) };
+    ghost holds = { λ disk s. S.holds disk (source_of s) };
 
-    ghost remaining = { λ told s. entries_until (end_of s) (S.remaining told (source_of s)) };
+    ghost remaining = { λ disk s. entries_until (end_of s) (S.remaining disk (source_of s)) };
 
     ghost lent = { λ s. lent_until (end_of s) (S.lent (source_of s)) };
 
@@ -77,6 +77,6 @@ impl<F: Files, S: Source<F>> Source<F> for Bounded<'_, S> {
         }
     }
 
-    ghost list = { λ told s h. until_list (end_of s)
-        (S.lent (source_of s)) (S.remaining told (source_of s)) (S.list told (source_of s) h) };
+    ghost list = { λ disk s h. until_list (end_of s)
+        (S.lent (source_of s)) (S.remaining disk (source_of s)) (S.list disk (source_of s) h) };
 }

@@ -174,12 +174,12 @@ impl<S> Merge<S> {
     where
         S: Source<F>,
         ensures lent { ⟦<Merge<S> as Source<F>>⟧.lent result ≡ None }
-        ensures remaining { (told : Option Contents)
-            → AreAtStart S.lent (S.holds told) sources.items
-            → ⟦<Merge<S> as Source<F>>⟧.remaining told result
-            ≡ merged (map (S.remaining told) sources.items) }
-        ensures holds { (told : Option Contents) → AreAtStart S.lent (S.holds told) sources.items
-            → ⟦<Merge<S> as Source<F>>⟧.holds told result }
+        ensures remaining { (disk : Option Contents)
+            → AreAtStart S.lent (S.holds disk) sources.items
+            → ⟦<Merge<S> as Source<F>>⟧.remaining disk result
+            ≡ merged (map (S.remaining disk) sources.items) }
+        ensures holds { (disk : Option Contents) → AreAtStart S.lent (S.holds disk) sources.items
+            → ⟦<Merge<S> as Source<F>>⟧.holds disk result }
     {
         let at = sources.len();
         Merge { sources, at }
@@ -191,10 +191,10 @@ impl<F: Files, S: Source<F>> Source<F> for Merge<S> {
     ghost use Rattle.compaction.specs.Merging.{lent_at, merge_remaining, MergeHolds, cost};
     ghost use Rattle.compaction.specs.MergeLaw.{merge_list};
 
-    ghost holds = { λ told s.
-        MergeHolds S.lent (S.remaining told) (S.holds told) s.sources.items s.at };
+    ghost holds = { λ disk s.
+        MergeHolds S.lent (S.remaining disk) (S.holds disk) s.sources.items s.at };
 
-    ghost remaining = { λ told s. merge_remaining S.lent (S.remaining told) s.sources.items s.at };
+    ghost remaining = { λ disk s. merge_remaining S.lent (S.remaining disk) s.sources.items s.at };
 
     ghost lent = { λ s. lent_at S.lent s.sources.items s.at };
 
@@ -210,6 +210,6 @@ impl<F: Files, S: Source<F>> Source<F> for Merge<S> {
         self.sources.get(self.at)?.current()
     }
 
-    ghost list = { λ told s h.
-        merge_list S.lent (S.remaining told) (S.holds told) (S.list told) s.sources.items s.at h };
+    ghost list = { λ disk s h.
+        merge_list S.lent (S.remaining disk) (S.holds disk) (S.list disk) s.sources.items s.at h };
 }

@@ -42,9 +42,9 @@ impl<F: Files, S: Source<F>> Source<F> for Values<S> {
     ghost use Rattle.compaction.specs.Writing.{only_written};
     ghost use Rattle.compaction.specs.ListLaws.{written_list};
 
-    ghost holds = { λ told s. S.holds told s.source };
+    ghost holds = { λ disk s. S.holds disk s.source };
 
-    ghost remaining = { λ told s. only_written s.keep_erasures (S.remaining told s.source) };
+    ghost remaining = { λ disk s. only_written s.keep_erasures (S.remaining disk s.source) };
 
     ghost lent = { λ s. S.lent s.source };
 
@@ -63,6 +63,6 @@ impl<F: Files, S: Source<F>> Source<F> for Values<S> {
         self.source.current()
     }
 
-    ghost list = { λ told s h. written_list
-        s.keep_erasures (S.lent s.source) (S.remaining told s.source) (S.list told s.source h) };
+    ghost list = { λ disk s h. written_list
+        s.keep_erasures (S.lent s.source) (S.remaining disk s.source) (S.list disk s.source h) };
 }

@@ -11,7 +11,7 @@ ghost use Rattle.memtable.specs.Order.{ComparesAs, ComparesTo, at_stamp, column_
 use crate::key_text::{EntryText, ShortText, StackBytes};
 use arrayvec::CapacityError;
 use byteorder::{BigEndian, ByteOrder};
-use cell_key::{CellKey, Family, Qualifier, Row, Stamp};
+use cell_key::{CellKey, Family, Qualifier, Row, Stamp, stamp_of};
 use std::cmp::Ordering;
 
 /// The order of the first eight bytes of two texts.
@@ -98,21 +98,6 @@ fn push_ended(out: &mut StackBytes, part: &[u8]) -> Result<(), CapacityError>
 
 // `CellKey::encode` makes a text in a vector of a key that has its names, and `CellKey::decode` takes memory for them. Here
 // names are lent and texts are on the stack, so that a search takes no memory: hence a second way for both.
-
-/// The stamp of a text.
-fn stamp_of(bytes: &[u8]) -> Option<Stamp>
-    ensures some { IfSome result (λ stamp. bytes.now ≡ stamp_text stamp) }
-    ensures none { IfNone result (length bytes.now ≢ 8) }
-    ensures small { IfSome result (λ stamp. stamp < 2 ^ 64) }
-{
-    if bytes.len() != 8 {
-        return None;
-    }
-    let falling = u64::from_be_bytes([
-        bytes[0], bytes[1], bytes[2], bytes[3], bytes[4], bytes[5], bytes[6], bytes[7],
-    ]);
-    Some(u64::MAX - falling)
-}
 
 /// The stamp of a text that differs from another one in its last eight bytes alone.
 fn stamp_beside(text: &[u8], bytes: &[u8]) -> Option<Stamp>

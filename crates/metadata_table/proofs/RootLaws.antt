@@ -259,7 +259,7 @@ same_read : (a b : RootView) (m n bytes : List ℕ) (x : IsRootWith a m bytes) (
 same_read a b m n bytes x y = some_inj (sym (read_with a m bytes x) ∙ read_with b n bytes y)
 
 pub one_root : OneRoot
-one_root a b bytes x y = ap (λ (z : RootFormat × (RootView × List ℕ)). z.1.0) (same_read a b x.lengths y.lengths bytes x.told y.told)
+one_root a b bytes x y = ap (λ (z : RootFormat × (RootView × List ℕ)). z.1.0) (same_read a b x.lengths y.lengths bytes x.measured y.measured)
 
 pub one_measure : OneMeasure
 one_measure a b m n bytes x y = ap (λ (z : RootFormat × (RootView × List ℕ)). z.1.1) (same_read a b m n bytes x y)
@@ -270,10 +270,10 @@ no_some x e = cc
 -- bytes that can't be read are no root
 pub is_not_read : (bytes : List ℕ) → root_at bytes ≡ None → IsNoRoot bytes
 is_not_read bytes none root is =
-    no_some (is.told.format, (root, is.lengths)) (sym (read_with root is.lengths bytes is.told) ∙ none)
+    no_some (is.measured.format, (root, is.lengths)) (sym (read_with root is.lengths bytes is.measured) ∙ none)
 
 -- bytes that aren't the root of what is read from them are no root
 pub none_or_read : (f : RootFormat) (read : RootView) (lengths bytes : List ℕ) → root_at bytes ≡ Some (f, (read, lengths)) → (IsRootIn f read lengths bytes → ⊥) → IsNoRoot bytes
 none_or_read f read lengths bytes e isnt root is =
-    let same : (is.told.format, (root, is.lengths)) ≡ (f, (read, lengths)) = some_inj (sym (read_with root is.lengths bytes is.told) ∙ e) in
-    isnt (subst (λ (x : RootFormat × (RootView × List ℕ)). IsRootIn x.0 x.1.0 x.1.1 bytes) same is.told.form)
+    let same : (is.measured.format, (root, is.lengths)) ≡ (f, (read, lengths)) = some_inj (sym (read_with root is.lengths bytes is.measured) ∙ e) in
+    isnt (subst (λ (x : RootFormat × (RootView × List ℕ)). IsRootIn x.0 x.1.0 x.1.1 bytes) same is.measured.form)

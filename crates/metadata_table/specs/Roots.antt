@@ -123,7 +123,7 @@ pub record IsRootWith (root : RootView) (lengths bytes : List ℕ) : Type 0 wher
 -- the bytes are the root that says this
 pub record IsRoot (root : RootView) (bytes : List ℕ) : Type 0 where
   pub lengths : List ℕ
-  pub told : IsRootWith root lengths bytes
+  pub measured : IsRootWith root lengths bytes
 
 -- the bytes are no root
 abbrev pub IsNoRoot : List ℕ → Type 0

@@ -118,7 +118,7 @@ module _ {F : Type 0} (contents : F → Option Contents) (state : ClusterState F
     still = λ order. read_still (contents state.files) (contents files) state.next_name state.tablets i t u there stays same order;
     kept = λ order. read_kept (contents state.files) (contents files) state.next_name state.tablets i t u there stays same order;
     room = λ row later. room_same state.places state.tablets i t u there stays.range stays.memory row later;
-    stays = λ k. record { told = same k; file_limit = state.file_limit; next_name = state.next_name; places = state.places };
+    stays = λ k. record { disk = same k; file_limit = state.file_limit; next_name = state.next_name; places = state.places };
   }
 
   -- one in which edits were made

@@ -178,7 +178,7 @@ cleaned (Some m) before t (Some n) u made = λ holds below.
 pub at_order : (P : Contents → Type 0) (o : Option Contents) (next : ℕ) (ts : List Tablet) (i : ℕ) (t : Tablet) → slice_get ts i ≡ Some t → InOrder o next ts → IfSome o (λ m. Holds m t → P m) → IfSome o P
 at_order P None next ts i t there order h = tt
 at_order P (Some m) next ts i t there order h =
-    let holds = subst (λ (o : Option Contents). IfSome o (λ n. AllByRecursion (Holds n) ts)) (sym order.are_told) order.each_open in
+    let holds = subst (λ (o : Option Contents). IfSome o (λ n. AllByRecursion (Holds n) ts)) (sym order.on_disk) order.each_open in
     h (each_at (Holds m) ts holds i t there)
 
 pub on_ok : {A : Type 0} (P Q : Type 0) (r : Result A Refusal) → (P → Q) → OnOk r P → OnOk r Q
@@ -195,12 +195,12 @@ if_err P (Err e) h = h
 
 -- what is told of told files, where the tablets are in order
 pub in_order : (P : Type 0) (o : Option Contents) (next : ℕ) (ts : List Tablet) (i : ℕ) (t : Tablet) → slice_get ts i ≡ Some t → InOrder o next ts → IfSome o (λ m. Holds m t → IsBelow next t → P) → P
-in_order P None next ts i t there order h = absurd (not_told order.contents order.are_told)
+in_order P None next ts i t there order h = absurd (not_told order.contents order.on_disk)
   where
     not_told : (m : Contents) → None ≡ Some m → ⊥
     not_told m e = cc
 in_order P (Some m) next ts i t there order h =
-    let holds = subst (λ (o : Option Contents). IfSome o (λ n. AllByRecursion (Holds n) ts)) (sym order.are_told) order.each_open in
+    let holds = subst (λ (o : Option Contents). IfSome o (λ n. AllByRecursion (Holds n) ts)) (sym order.on_disk) order.each_open in
     h (each_at (Holds m) ts holds i t there) (each_at (IsBelow next) ts order.each_below i t there)
 
 -- ---- counts of files

@@ -148,13 +148,13 @@ module _ (m : Contents) where
 
 module _ (told : Option Contents) (next : ℕ) (ts us : List Tablet) (all : AllZip (IsSameTablet told) ts us) (order : InOrder told next ts) where
   opened : AreOpen order.contents ts us
-  opened = open_still order.contents ts us (subst (λ (o : Option Contents). AllZip (IsSameTablet o) ts us) order.are_told all) order.each_open
+  opened = open_still order.contents ts us (subst (λ (o : Option Contents). AllZip (IsSameTablet o) ts us) order.on_disk all) order.each_open
 
   order_still : InOrder told next us
-  order_still = record { contents = order.contents; are_told = order.are_told; each_open = opened.each; each_below = below_still told next ts us all order.each_below }
+  order_still = record { contents = order.contents; on_disk = order.on_disk; each_open = opened.each; each_below = below_still told next ts us all order.each_below }
 
   cells_still : cells_in told us ≡ cells_in told ts
-  cells_still = cells_told told order.contents us order.are_told ∙ ap joined opened.cells ∙ sym (cells_told told order.contents ts order.are_told)
+  cells_still = cells_told told order.contents us order.on_disk ∙ ap joined opened.cells ∙ sym (cells_told told order.contents ts order.on_disk)
 
 -- ---- a cluster
 

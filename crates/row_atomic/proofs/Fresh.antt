@@ -47,7 +47,7 @@ module _ (t : Tablet) (memory : memory_of t ≡ []) (files : files_of t ≡ []) 
 
   pub new_in_order : (o : Option Contents) (next : ℕ) → IsSome o → InOrder o next (t ∷ [])
   new_in_order None next h = cc
-  new_in_order (Some m) next h = record { contents = m; are_told = refl; each_open = (holds m, tt); each_below = (below next, tt) }
+  new_in_order (Some m) next h = record { contents = m; on_disk = refl; each_open = (holds m, tt); each_below = (below next, tt) }
 
   pub new_matched : (limit : ℕ) → IsFileLimit limit → range_of t ≡ record { after = None; end = None } → IsMatched limit 1 (first_place ∷ []) (t ∷ [])
   new_matched limit fits range = record {

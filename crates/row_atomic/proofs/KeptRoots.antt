@@ -71,7 +71,7 @@ module _ (law : UnnamedMayGo) (m n : Contents) (places : List PlaceView) (ts : L
 
 pub cells_stay : UnnamedMayGo → (m n : Contents) (root : RootView) (cells : Cells) → SameFiles root.places m n → KeepsCells m root cells → KeepsCells n root cells
 cells_stay law m n root cells same keeps =
-    let each = each_still law m n root.places keeps.tablets same keeps.form.told.form.sound.table keeps.opened in
+    let each = each_still law m n root.places keeps.tablets same keeps.form.measured.form.sound.table keeps.opened in
     record {
       image = keeps.image;
       there = same.root ∙ keeps.there;
@@ -166,7 +166,7 @@ module _ {F : Type 0} (contents : F → Option Contents) (root : RootView) (cell
   pub has_stored : (old new : ClusterState F) → storage_of contents new ≡ storage_of contents old → HasRoot contents root cells old → HasRoot contents root cells new
   has_stored old new same has = record {
     kept = has.kept;
-    are_told = ap (λ s. s.told) same ∙ has.are_told;
+    on_disk = ap (λ s. s.disk) same ∙ has.on_disk;
     keeps = has.keeps;
     below = subst (λ (k : ℕ). root.next_name ≤ k) (sym (ap (λ s. s.next_name) same)) has.below;
   }
@@ -190,25 +190,25 @@ module _ {F : Type 0} (contents : F → Option Contents) (law : UnnamedMayGo) (r
   has_told : (old new : ClusterState F) (has : HasRoot contents root cells old) → StillTells root.places has.kept (contents new.files) → root.next_name ≤ new.next_name → HasRoot contents root cells new
   has_told old new has still below = record {
     kept = still.0;
-    are_told = still.1;
+    on_disk = still.1;
     keeps = cells_stay law has.kept still.0 root cells still.2 has.keeps;
     below = below;
   }
 
   has_used : (old new : ClusterState F) → UsesName (contents old.files) old.next_name (contents new.files) new.next_name → HasRoot contents root cells old → HasRoot contents root cells new
   has_used old new name has =
-      let used = used_told root has.kept old.next_name new.next_name (contents new.files) has.keeps.form.told.form.sound has.below (subst (λ (o : Option Contents). UsesName o old.next_name (contents new.files) new.next_name) has.are_told name) in
+      let used = used_told root has.kept old.next_name new.next_name (contents new.files) has.keeps.form.measured.form.sound has.below (subst (λ (o : Option Contents). UsesName o old.next_name (contents new.files) new.next_name) has.on_disk name) in
       has_told old new has used.0 used.1
 
   -- a sweep leaves what the tablets list
   has_lacking : (old new : ClusterState F) → IsSweptInPart contents old new → ListsAll root.places old.places → HasRoot contents root cells old → HasRoot contents root cells new
   has_lacking old new is lists has = has_told old new has
-      (lacking_told root.places old.places has.kept (contents new.files) (subst (λ (o : Option Contents). MayLackUnkept old.places o (contents new.files)) has.are_told is.files) lists)
+      (lacking_told root.places old.places has.kept (contents new.files) (subst (λ (o : Option Contents). MayLackUnkept old.places o (contents new.files)) has.on_disk is.files) lists)
       (subst (λ (state : ClusterState F). root.next_name ≤ state.next_name) (sym is.rest) has.below)
 
   has_swept : (old new : ClusterState F) (count : ℕ) → IsSwept contents count old new → ListsAll root.places old.places → HasRoot contents root cells old → HasRoot contents root cells new
   has_swept old new count is lists has = has_told old new has
-      (swept_told root.places old.places has.kept (contents new.files) (is.files ∙ ap (option_map (swept old.places)) has.are_told) lists)
+      (swept_told root.places old.places has.kept (contents new.files) (is.files ∙ ap (option_map (swept old.places)) has.on_disk) lists)
       (subst (λ (state : ClusterState F). root.next_name ≤ state.next_name) (sym is.rest) has.below)
 
   module _ (faults : F → ℕ) (old new : ClusterState F) where

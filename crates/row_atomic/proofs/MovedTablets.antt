@@ -33,7 +33,7 @@ module _ (law : SameCells) (ts : List Tablet) (i : ℕ) (t u : Tablet) (there : 
   opened m next open_u order holds = (
     record {
       contents = m;
-      are_told = refl;
+      on_disk = refl;
       each_open = each_set (Holds m) ts i u holds open_u;
       each_below = each_set (IsBelow next) ts i u order.each_below (subst (λ (ns : List ℕ). AllByRecursion (λ name. name < next) ns) (sym names) (each_at (IsBelow next) ts order.each_below i t there));
     },
@@ -41,13 +41,13 @@ module _ (law : SameCells) (ts : List Tablet) (i : ℕ) (t u : Tablet) (there : 
   )
 
   pub opened_keeps : (old new : Option Contents) (next : ℕ) → new ≡ old → IfSome old (λ m. Holds m u) → InOrder old next ts → InOrder new next (set ts i u) × (cells_in new (set ts i u) ≡ cells_in old ts)
-  opened_keeps None new next e open_u order = absurd (not_told order.contents order.are_told)
+  opened_keeps None new next e open_u order = absurd (not_told order.contents order.on_disk)
     where
       not_told : (m : Contents) → None ≡ Some m → ⊥
       not_told m e = cc
   opened_keeps (Some m) new next e open_u order =
       subst (λ (o : Option Contents). InOrder o next (set ts i u) × (cells_in o (set ts i u) ≡ cells_in (Some m) ts)) (sym e)
-      (opened m next open_u order (subst (λ (o : Option Contents). IfSome o (λ k. AllByRecursion (Holds k) ts)) (sym order.are_told) order.each_open))
+      (opened m next open_u order (subst (λ (o : Option Contents). IfSome o (λ k. AllByRecursion (Holds k) ts)) (sym order.on_disk) order.each_open))
 
 -- ---- places on other servers
 

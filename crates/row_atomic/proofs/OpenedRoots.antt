@@ -34,7 +34,7 @@ lacks_told (Some m) root lengths finds lacks = go (get m root_name) refl finds
     go : (found : Option (List ℕ)) → get m root_name ≡ found → FindsRoot found (Some (root, lengths)) → IsDamaged m
     go None e finds = absurd finds
     go (Some image) e finds = elim lacks [
-      | inl lacking ↦ no_file image root e (record { lengths = lengths; told = finds }) lacking
+      | inl lacking ↦ no_file image root e (record { lengths = lengths; measured = finds }) lacking
       | inr wrong ↦ no_length image root lengths e finds wrong
     ]
 
@@ -62,8 +62,8 @@ whole_of one measure law m image root ts there form measured opened (no_file byt
     subst (λ (r : RootView). LacksFile m r.places) (sym same) lacks (there_all law m ts None root.places opened.each_open opened.placed)
 whole_of one measure law m image root ts there form measured opened (no_length bytes other lengths e is wrong) =
     let here : IsRootWith other lengths image = subst (λ (b : List ℕ). IsRootWith other lengths b) (sym (same_Some image bytes (sym there ∙ e))) is in
-    let same : root ≡ other = one root other image form (record { lengths = lengths; told = here }) in
-    let alike : form.lengths ≡ lengths = measure root other form.lengths lengths image form.told here in
+    let same : root ≡ other = one root other image form (record { lengths = lengths; measured = here }) in
+    let alike : form.lengths ≡ lengths = measure root other form.lengths lengths image form.measured here in
     wrong (subst (λ (r : RootView). AreMeasured m (file_names r.places) lengths) same (subst (λ (l : List ℕ). AreMeasured m (file_names root.places) l) alike measured))
 
 none_whole : (m : Contents) → get m root_name ≡ None → ¬ IsDamaged m
@@ -152,7 +152,7 @@ module _ {F : Type 0} (contents : F → Option Contents) (top floor : ℕ) (stat
 
   pub holds_of : (told : Option Contents) → contents state.files ≡ told → IfSome told (λ m. AllByRecursion (HoldsAt m) state.tablets) → IfSome told (λ _. Holds contents state)
   holds_of None e each = tt
-  holds_of (Some m) e each = record { contents = m; are_told = e; each_open = each; each_below = each_below }
+  holds_of (Some m) e each = record { contents = m; on_disk = e; each_open = each; each_below = each_below }
 
   pub store_of : (told : Option Contents) (lengths : List ℕ) → IfSome told (λ m. FindsRoot (get m root_name) (Some (root_at top floor state, lengths))) → IfSome told (λ m. AreMeasured m (file_names state.places) lengths) → IfSome told (λ m. AllByRecursion (HoldsAt m) state.tablets) → IfSome told (λ m. IsStore m (get m root_name) top floor state)
   store_of None lengths finds measured each = tt
@@ -160,7 +160,7 @@ module _ {F : Type 0} (contents : F → Option Contents) (top floor : ℕ) (stat
     where
       go : (found : Option (List ℕ)) → FindsRoot found (Some (root_at top floor state, lengths)) → IsStore m found top floor state
       go None finds = absurd finds
-      go (Some image) finds = record { form = record { lengths = lengths; told = finds }; measured = measured; opened = record { placed = loaded.placed; as_many = loaded.as_many; emptied = loaded.emptied; each_open = each } }
+      go (Some image) finds = record { form = record { lengths = lengths; measured = finds }; measured = measured; opened = record { placed = loaded.placed; as_many = loaded.as_many; emptied = loaded.emptied; each_open = each } }
 
 -- ---- files that keep cells
 
@@ -184,10 +184,10 @@ module _ {F : Type 0} (contents : F → Option Contents) (one : OneRoot) (measur
             tells = same;
             holds = holds;
             shows = ap (λ (o : Option Contents). cells_in o state.tablets) (told ∙ e)
-                ∙ same_shown law m state.tablets keeps.tablets root.places keeps.form.told.form.sound.table (subst (λ (r : RootView). AreOpened m r.places state.tablets) same opened.opened) keeps.opened ∙ keeps.shows;
+                ∙ same_shown law m state.tablets keeps.tablets root.places keeps.form.measured.form.sound.table (subst (λ (r : RootView). AreOpened m r.places state.tablets) same opened.opened) keeps.opened ∙ keeps.shows;
             emptied = opened.opened.emptied;
             keeps = record {
-              has = record { kept = m; are_told = told ∙ e; keeps = keeps; below = ends (ap (λ r. r.next_name) same) };
+              has = record { kept = m; on_disk = told ∙ e; keeps = keeps; below = ends (ap (λ r. r.next_name) same) };
               lists = same_lists root.places state.places (ap (λ r. r.places) same);
             };
           }

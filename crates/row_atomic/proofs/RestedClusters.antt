@@ -136,13 +136,13 @@ module _ (places : List PlaceView) (ts : List Tablet) (limit next : ℕ) (table 
     cells_still holds = ap joined (maps_alike (cells_at n) (cells_at m) ts (each_map (λ t. HoldsAt n t × (cells_at n t ≡ cells_at m t)) (λ t. cells_at n t ≡ cells_at m t) (λ t h. h.1) ts (each_still holds)))
 
   others_still : UnnamedMayGo → (old new : Option Contents) → KeepsOthers root_name old new → InOrder old next ts → InOrder new next ts × (cells_in new ts ≡ cells_in old ts)
-  others_still law None new others order = let none = order.are_told in cc
+  others_still law None new others order = let none = order.on_disk in cc
   others_still law (Some m) None others order = absurd others
   others_still law (Some m) (Some n) others order =
-      let same : m ≡ order.contents = same_Some m order.contents order.are_told in
+      let same : m ≡ order.contents = same_Some m order.contents order.on_disk in
       let holds : AllByRecursion (HoldsAt m) ts = subst (λ (o : Contents). AllByRecursion (HoldsAt o) ts) (sym same) order.each_open in
       let same_at : (name : ℕ) → 1 ≤ name → get n name ≡ get m name = λ name from. others name (λ is. absurd (omega (arith, is, from))) in
-      (record { contents = n; are_told = refl; each_open = open_still law m n same_at holds; each_below = order.each_below }, cells_still law m n same_at holds)
+      (record { contents = n; on_disk = refl; each_open = open_still law m n same_at holds; each_below = order.each_below }, cells_still law m n same_at holds)
 
   -- the bytes of the root file change nothing for tablets
   pub still_told : UnnamedMayGo → (old new : Option Contents) → (new ≡ old) ⊎ KeepsOthers root_name old new → InOrder old next ts → InOrder new next ts × (cells_in new ts ≡ cells_in old ts)
@@ -182,8 +182,8 @@ module _ (places : List PlaceView) (ts : List Tablet) (limit next : ℕ) (table 
       → InOrder old next ts → IsSomeAnd new (λ k. KeepsCells k root (cells_in old ts))
   keeps_told law old new image root put same form measured flushed order =
       subst (λ (o : Option Contents). IsSomeAnd o (λ k. KeepsCells k root (cells_in old ts))) (sym put)
-      (subst (λ (o : Option Contents). IsSomeAnd (with_file root_name image o) (λ k. KeepsCells k root (cells_in o ts))) (sym order.are_told)
-      (keeps law order.contents image order.each_open flushed root same form (subst (λ (o : Option Contents). IfSome o (λ m. AreMeasured m (file_names root.places) form.lengths)) order.are_told measured)))
+      (subst (λ (o : Option Contents). IsSomeAnd (with_file root_name image o) (λ k. KeepsCells k root (cells_in o ts))) (sym order.on_disk)
+      (keeps law order.contents image order.each_open flushed root same form (subst (λ (o : Option Contents). IfSome o (λ m. AreMeasured m (file_names root.places) form.lengths)) order.on_disk measured)))
 
 -- what a state's own root says of it
 pub rooted : {F : Type 0} (contents : F → Option Contents) (top floor : ℕ) (state : ClusterState F) (cells : Cells) → IsSomeAnd (contents state.files) (λ m. KeepsCells m (root_at top floor state) cells) → KeepsRoot contents (root_at top floor state) cells state
@@ -191,7 +191,7 @@ rooted contents top floor state cells keeps = go (contents state.files) refl kee
   where
     go : (told : Option Contents) → contents state.files ≡ told → IsSomeAnd told (λ m. KeepsCells m (root_at top floor state) cells) → KeepsRoot contents (root_at top floor state) cells state
     go None e keeps = absurd keeps
-    go (Some m) e keeps = record { has = record { kept = m; are_told = e; keeps = keeps; below = omega arith }; lists = λ name l. l }
+    go (Some m) e keeps = record { has = record { kept = m; on_disk = e; keeps = keeps; below = omega arith }; lists = λ name l. l }
 
 -- ---- both
 

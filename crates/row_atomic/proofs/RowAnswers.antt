@@ -88,7 +88,7 @@ same_cells_in old new ts e = ap (λ (o : Option Contents). cells_in o ts) e
 module _ (o : Option Contents) (next : ℕ) (ts : List Tablet) (order : InOrder o next ts) where
   -- what is said of told files
   pub of_told : (P : Contents → Type 0) → IfSome o P → P order.contents
-  of_told P h = at_told P o order.contents order.are_told h
+  of_told P h = at_told P o order.contents order.on_disk h
 
   -- damage is not told under the premise
   pub undamaged : (i : ℕ) (t : Tablet) (Told : Type 0) → slice_get ts i ≡ Some t → (Told → IfSome o (λ m. ¬ Holds m t)) → ¬ Told
@@ -102,7 +102,7 @@ module _ (o : Option Contents) (next : ℕ) (ts : List Tablet) (order : InOrder 
   newest_answer law seen row family qualifier lo hi i t (Ok found) owns h =
       let m = order.contents in
       let newest = of_told (λ m. Holds m t → IsTrue (has_row (range_of t) row) → IsNewest (cells_at m t) (version row family qualifier) lo hi (seen found)) h (each_at (Holds m) ts order.each_open i t owns.there) owns.has in
-      subst (λ (c : Cells). IsNewest c (version row family qualifier) lo hi (seen found)) (sym (cells_told o m ts order.are_told))
+      subst (λ (c : Cells). IsNewest c (version row family qualifier) lo hi (seen found)) (sym (cells_told o m ts order.on_disk))
       (newest_of_row law m ts row family qualifier lo hi (seen found) i t order.each_open owns newest)
 
   -- ---- edits
@@ -117,9 +117,9 @@ module _ (o : Option Contents) (next : ℕ) (ts : List Tablet) (order : InOrder 
     apply_answer law row edits (Ok x) owns same_range under made still =
         let m = order.contents in
         let holds = each_at (Holds m) ts order.each_open i t there in
-        cells_told o m (set ts i u) order.are_told
+        cells_told o m (set ts i u) order.on_disk
         ∙ applied law m ts row i t u edits order.each_open owns (still m holds) same_range under (made m holds owns.has)
-        ∙ ap (λ (c : Cells). after_edits c edits) (sym (cells_told o m ts order.are_told))
+        ∙ ap (λ (c : Cells). after_edits c edits) (sym (cells_told o m ts order.on_disk))
 
     holds_after : {A : Type 0} (r : Result A Refusal) → OnOk r ((m : Contents) → Holds m t → Holds m u) → OnErr r (u ≡ t) → Holds order.contents u
     holds_after (Ok x) still err = still order.contents (each_at (Holds order.contents) ts order.each_open i t there)
@@ -129,7 +129,7 @@ module _ (o : Option Contents) (next : ℕ) (ts : List Tablet) (order : InOrder 
     pub apply_still : {A : Type 0} (r : Result A Refusal) → files_of u ≡ files_of t → OnOk r ((m : Contents) → Holds m t → Holds m u) → OnErr r (u ≡ t) → InOrder o next (set ts i u)
     apply_still r files still err = record {
       contents = order.contents;
-      are_told = order.are_told;
+      on_disk = order.on_disk;
       each_open = each_set (Holds order.contents) ts i u order.each_open (holds_after r still err);
       each_below = each_set (IsBelow next) ts i u order.each_below
           (subst (λ (names : List ℕ). AllByRecursion (λ name. name < next) names) (sym (ap (λ files. map name_of files) files)) (each_at (IsBelow next) ts order.each_below i t there));
@@ -142,12 +142,12 @@ module _ (o now : Option Contents) (next : ℕ) (ts : List Tablet) (i : ℕ) (t 
   was_open = each_at (Holds order.contents) ts order.each_open i t there
 
   is_still : Holds order.contents u × (lists_of order.contents u ≡ lists_of order.contents t)
-  is_still = at_told (λ m. Holds m t → Holds m u × (lists_of m u ≡ lists_of m t)) o order.contents order.are_told same.still was_open
+  is_still = at_told (λ m. Holds m t → Holds m u × (lists_of m u ≡ lists_of m t)) o order.contents order.on_disk same.still was_open
 
   pub read_still : InOrder now next (set ts i u)
   read_still = record {
     contents = order.contents;
-    are_told = told ∙ order.are_told;
+    on_disk = told ∙ order.on_disk;
     each_open = each_set (Holds order.contents) ts i u order.each_open is_still.0;
     each_below = each_set (IsBelow next) ts i u order.each_below (subst (λ (names : List ℕ). AllByRecursion (λ name. name < next) names) (sym same.names) (each_at (IsBelow next) ts order.each_below i t there));
   }
@@ -162,9 +162,9 @@ module _ (o now : Option Contents) (next : ℕ) (ts : List Tablet) (i : ℕ) (t 
 
   pub read_kept : cells_in now (set ts i u) ≡ cells_in o ts
   read_kept =
-      cells_told now order.contents (set ts i u) (told ∙ order.are_told)
+      cells_told now order.contents (set ts i u) (told ∙ order.on_disk)
       ∙ ap joined (all_cells ts i there)
-      ∙ sym (cells_told o order.contents ts order.are_told)
+      ∙ sym (cells_told o order.contents ts order.on_disk)
 
 -- ---- the structure
 

@@ -127,7 +127,7 @@ pub compacted : OthersStay → (m n : Contents) (before after : ℕ) (ts : List 
 compacted law m n before after ts i t u holds below there uses open_u below_u same_u = record {
   in_order = record {
     contents = n;
-    are_told = refl;
+    on_disk = refl;
     each_open = each_set (Holds n) ts i u (stay_open ts holds below) open_u;
     each_below = each_set (IsBelow after) ts i u (stay_below ts holds below) below_u;
   };
@@ -148,14 +148,14 @@ compacted law m n before after ts i t u holds below there uses open_u below_u sa
 
 -- The same where it isn't known whether the files are told.
 pub keeps_cells : OthersStay → (old new : Option Contents) (before after : ℕ) (ts : List Tablet) (i : ℕ) (t u : Tablet) → slice_get ts i ≡ Some t → UsesName old before new after → Keeps old before t new after u → InOrder old before ts → KeepsCells old ts new after (set ts i u)
-keeps_cells law None new before after ts i t u there uses keeps order = absurd (told_not order.contents order.are_told)
+keeps_cells law None new before after ts i t u there uses keeps order = absurd (told_not order.contents order.on_disk)
   where
     told_not : (m : Contents) → None ≡ Some m → ⊥
     told_not m e = cc
 keeps_cells law (Some m) None before after ts i t u there uses keeps order =
-    let holds = subst (λ (o : Contents). AllByRecursion (Holds o) ts) (sym (same_Some m order.contents order.are_told)) order.each_open in
+    let holds = subst (λ (o : Contents). AllByRecursion (Holds o) ts) (sym (same_Some m order.contents order.on_disk)) order.each_open in
     absurd (keeps (each_at (Holds m) ts holds i t there) (each_at (IsBelow before) ts order.each_below i t there))
 keeps_cells law (Some m) (Some n) before after ts i t u there uses keeps order =
-    let holds = subst (λ (o : Contents). AllByRecursion (Holds o) ts) (sym (same_Some m order.contents order.are_told)) order.each_open in
+    let holds = subst (λ (o : Contents). AllByRecursion (Holds o) ts) (sym (same_Some m order.contents order.on_disk)) order.each_open in
     let kept = keeps (each_at (Holds m) ts holds i t there) (each_at (IsBelow before) ts order.each_below i t there) in
     compacted law m n before after ts i t u holds order.each_below there uses kept.0 kept.1 kept.2

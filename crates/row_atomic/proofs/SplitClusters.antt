@@ -77,14 +77,14 @@ module _ (places : List PlaceView) (ts : List Tablet) (i : ℕ) (t left right : 
   pub parts_keep : StaysInRange → OthersStay → (old new : Option Contents) (before after : ℕ) → ArePlaced ts None places → length ts ≡ length places → UsesName old before new after
       → IfSome old (λ m. Holds m t → IsBelow before t → IsTrue (has_row (range_of t) row) → IsSomeAnd new (λ n. AreParts m t n after left right))
       → InOrder old before ts → InOrder new after (set ts i right ++ left ∷ []) × (cells_in new (set ts i right ++ left ∷ []) ≡ cells_in old ts)
-  parts_keep law others None new before after placed as_many uses parts order = absurd (not_told order.contents order.are_told)
+  parts_keep law others None new before after placed as_many uses parts order = absurd (not_told order.contents order.on_disk)
     where
       not_told : (m : Contents) → None ≡ Some m → ⊥
       not_told m e = cc
   parts_keep law others (Some m) new before after placed as_many uses parts order = go new uses (parts (each_at (Holds m) ts holds i t there) (each_at (IsBelow before) ts order.each_below i t there) has)
     where
       holds : AllByRecursion (Holds m) ts
-      holds = subst (λ (o : Option Contents). IfSome o (λ k. AllByRecursion (Holds k) ts)) (sym order.are_told) order.each_open
+      holds = subst (λ (o : Option Contents). IfSome o (λ k. AllByRecursion (Holds k) ts)) (sym order.on_disk) order.each_open
 
       index : p.tablet ≡ suc i
       index = omega arith
@@ -98,7 +98,7 @@ module _ (places : List PlaceView) (ts : List Tablet) (i : ℕ) (t left right : 
       go (Some n) uses parts = (
         record {
           contents = n;
-          are_told = refl;
+          on_disk = refl;
           each_open = each_push (Holds n) (set ts i right) left (each_set (Holds n) ts i right (stay_open ts holds order.each_below) parts.right_holds) parts.left_holds;
           each_below = each_push (IsBelow after) (set ts i right) left (each_set (IsBelow after) ts i right (stay_below ts holds order.each_below) parts.right_below) parts.left_below;
         },

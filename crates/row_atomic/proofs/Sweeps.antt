@@ -287,7 +287,7 @@ module _ (places : List PlaceView) (ts : List Tablet) (table : IsTable places) (
       record {
         order = record {
           contents = n;
-          are_told = refl;
+          on_disk = refl;
           each_open = each_map (λ t. Holds n t × (cells_at n t ≡ cells_at m t)) (Holds n) (λ t h. h.0) ts each;
           each_below = each_below;
         };
@@ -300,8 +300,8 @@ module _ (places : List PlaceView) (ts : List Tablet) (table : IsTable places) (
 
   pub swept_order : UnnamedMayGo → (old new : Option Contents) (next : ℕ) → MayLackUnkept places old new → InOrder old next ts → KeepsOrder new next old
   swept_order law old new next may order =
-      subst (λ (o : Option Contents). KeepsOrder new next o) (sym order.are_told)
-      (swept_told_order law order.contents new next (subst (λ (o : Option Contents). MayLackUnkept places o new) order.are_told may) order.each_open order.each_below)
+      subst (λ (o : Option Contents). KeepsOrder new next o) (sym order.on_disk)
+      (swept_told_order law order.contents new next (subst (λ (o : Option Contents). MayLackUnkept places o new) order.on_disk may) order.each_open order.each_below)
 
 pub on_ok : {A E : Type 0} {P Q : Type 0} (r : Result A E) → (P → Q) → OnOk r P → OnOk r Q
 on_ok (Ok x) f h = f h

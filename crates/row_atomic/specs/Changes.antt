@@ -108,12 +108,12 @@ HasValue entry = IsSome entry.1
 
 -- none of a tablet's entries is an erasure
 abbrev pub LacksErasures : Option Contents → Tablet → Type 0
-LacksErasures told t = IsSomeAnd told (λ m. AllByRecursion (AllByRecursion HasValue) (lists_of m t))
+LacksErasures disk t = IsSomeAnd disk (λ m. AllByRecursion (AllByRecursion HasValue) (lists_of m t))
 
 -- none is after a major compaction
 abbrev pub IsCleaned : Compaction → Option Contents → Tablet → Type 0
-IsCleaned Major told t = LacksErasures told t
-IsCleaned _ told t = ⊤
+IsCleaned Major disk t = LacksErasures disk t
+IsCleaned _ disk t = ⊤
 
 -- The tablet of a number was compacted: its file has keys of the tablet's range alone,
 -- and erasures unless all files were merged.
@@ -133,15 +133,15 @@ written_by compaction m t = compacted_of compaction m t
 -- Their file would have more bytes than a file may have.
 -- That of a merging or a major one is known if the tablet's files are open.
 abbrev pub IsTooLarge : ℕ → Option Contents → Compaction → Tablet → Type 0
-IsTooLarge limit told Minor t = ¬ FitsIn limit (seen (range_of t) (memory_of t))
-IsTooLarge limit told compaction t =
-    IfSome told (λ m. HoldsAt m t → ¬ FitsIn limit (written_by compaction m t))
+IsTooLarge limit disk Minor t = ¬ FitsIn limit (seen (range_of t) (memory_of t))
+IsTooLarge limit disk compaction t =
+    IfSome disk (λ m. HoldsAt m t → ¬ FitsIn limit (written_by compaction m t))
 
 -- or it has as many at most
 abbrev pub FitsLimit : ℕ → Option Contents → Compaction → Tablet → Type 0
-FitsLimit limit told Minor t = FitsIn limit (seen (range_of t) (memory_of t))
-FitsLimit limit told compaction t =
-    IfSome told (λ m. HoldsAt m t → FitsIn limit (written_by compaction m t))
+FitsLimit limit disk Minor t = FitsIn limit (seen (range_of t) (memory_of t))
+FitsLimit limit disk compaction t =
+    IfSome disk (λ m. HoldsAt m t → FitsIn limit (written_by compaction m t))
 
 -- this many files can't be merged
 abbrev pub IsBadCount : ℕ → Tablet → Type 0
@@ -192,26 +192,26 @@ IsNumberedRefusal compaction refusal = IsRefusalOf compaction refusal
 
 -- A compaction of a tablet was done. Over the files before and after it, and their next names, it
 -- made the tablet another one: it may be done, and it used the next name if it wrote.
-pub record HasCompacted (compaction : Compaction) (limit : ℕ) (told : Option Contents) (next : ℕ)
+pub record HasCompacted (compaction : Compaction) (limit : ℕ) (disk : Option Contents) (next : ℕ)
     (later : Option Contents) (after : ℕ) (t u : Tablet) : Type 0 where
   pub made : IsMade compaction next t u
-  pub lists : Compacts compaction told next later t u
-  pub cleaned : IfSome told (λ m. HoldsAt m t → IsBelow next t → IsCleaned compaction later u)
+  pub lists : Compacts compaction disk next later t u
+  pub cleaned : IfSome disk (λ m. HoldsAt m t → IsBelow next t → IsCleaned compaction later u)
   pub room : ¬ MeetsFull compaction t
   pub named : 2 ^ 63 ≤ next → WritesNone compaction t
-  pub fits : FitsLimit limit told compaction t
+  pub fits : FitsLimit limit disk compaction t
   pub used : ¬ WritesNone compaction t → after ≡ next + 1
 
 -- It was refused so: the refusal has a cause, and a full tablet is refused before anything is written.
-pub record HasRefused (compaction : Compaction) (limit : ℕ) (told : Option Contents) (next : ℕ)
+pub record HasRefused (compaction : Compaction) (limit : ℕ) (disk : Option Contents) (next : ℕ)
     (later : Option Contents) (after : ℕ) (t : Tablet) (refusal : Refusal) : Type 0 where
   pub count : refusal ≡ refused.BadCount → MeetsBadCount compaction t
   pub full : refusal ≡ refused.TooManyFiles → IsFullTablet t
   pub unfilled : ComesOfWriting refusal → ¬ MeetsFull compaction t
   pub exhausted : refusal ≡ refused.Exhausted → (2 ^ 63 ≤ next) × (¬ WritesNone compaction t)
-  pub large : refusal ≡ refused.FileTooLarge → IsTooLarge limit told compaction t
-  pub damaged : refusal ≡ refused.Damaged → IfSome told (λ m. ¬ HoldsAt m t)
-  pub undone : refusal ≡ refused.TooManyFiles → (after ≡ next) × (later ≡ told)
+  pub large : refusal ≡ refused.FileTooLarge → IsTooLarge limit disk compaction t
+  pub damaged : refusal ≡ refused.Damaged → IfSome disk (λ m. ¬ HoldsAt m t)
+  pub undone : refusal ≡ refused.TooManyFiles → (after ≡ next) × (later ≡ disk)
 
 -- ---- splits and moves
 

@@ -44,9 +44,9 @@ cells_in (Some m) tablets = joined (map (cells_at m) tablets)
 
 -- Over files whose bytes are known the files of each tablet are open,
 -- and their names come before the next one.
-pub record InOrder (told : Option Contents) (next : ℕ) (tablets : List Tablet) : Type 0 where
+pub record InOrder (disk : Option Contents) (next : ℕ) (tablets : List Tablet) : Type 0 where
   pub contents : Contents
-  pub are_told : told ≡ Some contents
+  pub on_disk : disk ≡ Some contents
   pub each_open : AllByRecursion (Holds contents) tablets
   pub each_below : AllByRecursion (IsBelow next) tablets
 
@@ -60,7 +60,7 @@ spot_of p = (p.end, (p.tablet, p.server))
 -- What lies below the memtables: the bytes of the files, as far as they are known, the most bytes
 -- of a sorted file, the next file's name, and the places of the tablets with their files.
 pub record Storage : Type 0 where
-  pub told : Option Contents
+  pub disk : Option Contents
   pub file_limit : ℕ
   pub next_name : ℕ
   pub places : List PlaceView
@@ -68,7 +68,7 @@ pub record Storage : Type 0 where
 abbrev pub storage_of : {F : Type 0} → (F → Option Contents) → ClusterState F → Storage
 storage_of contents state =
     record {
-      told = contents state.files;
+      disk = contents state.files;
       file_limit = state.file_limit;
       next_name = state.next_name;
       places = state.places;
@@ -76,7 +76,7 @@ storage_of contents state =
 
 -- rows that are held in memory alone
 abbrev pub no_storage : Storage
-no_storage = record { told = None; file_limit = 0; next_name = 0; places = [] }
+no_storage = record { disk = None; file_limit = 0; next_name = 0; places = [] }
 
 -- where the tablets are, in the order of their ends
 abbrev pub spots_of : {F : Type 0} → ClusterState F → List Spot

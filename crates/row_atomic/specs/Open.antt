@@ -46,7 +46,7 @@ AreCounted places lengths = (lengths ≡ []) ⊎ (length lengths ≡ length (fil
 -- nothing if there is no file, and else what the file says
 abbrev pub FindsRoot : Option (List ℕ) → Option (RootView × List ℕ) → Type 0
 FindsRoot None None = ⊤
-FindsRoot (Some image) (Some told) = IsRootWith told.0 told.1 image
+FindsRoot (Some image) (Some found) = IsRootWith found.0 found.1 image
 FindsRoot _ _ = ⊥
 
 -- The tablet has the rows after this one, up to the place's end, and the files of the place.

@@ -109,7 +109,7 @@ AreFlushed state =
 pub record HasRoot {F : Type 0} (contents : F → Option Contents) (root : RootView) (cells : Cells)
     (state : ClusterState F) : Type 0 where
   pub kept : Contents
-  pub are_told : contents state.files ≡ Some kept
+  pub on_disk : contents state.files ≡ Some kept
   pub keeps : KeepsCells kept root cells
   pub below : root.next_name ≤ state.next_name
 

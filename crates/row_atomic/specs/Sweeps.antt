@@ -21,8 +21,8 @@ unkept places names = filter (λ name. not (is_kept places name)) names
 
 -- contents without the files of names, one after the other
 abbrev pub without_files : List ℕ → Option Contents → Option Contents
-without_files [] told = told
-without_files (name ∷ names) told = without_files names (without_file name told)
+without_files [] disk = disk
+without_files (name ∷ names) disk = without_files names (without_file name disk)
 
 -- how many files don't stay
 abbrev pub count_swept : List PlaceView → Contents → ℕ

@@ -32,23 +32,6 @@ fn first(slots: &Slots, from: Bound<CellKey>, to: Bound<CellKey>) -> Option<(&Ce
     Some((key, value))
 }
 
-/// The key of a version.
-fn version_key(
-    row: &Row,
-    family: &Family,
-    qualifier: Qualifier,
-    stamp: Stamp,
-) -> Result<CellKey, AllocError>
-    ensures { IfOk result (λ key. key ≡ version row.now family.now qualifier stamp) }
-{
-    Ok(CellKey {
-        row: row.clone()?,
-        family: family.clone()?,
-        qualifier,
-        stamp,
-    })
-}
-
 /// The version of a cell's column with the greatest stamp in `lo..=hi`.
 pub(crate) fn newest(
     slots: &Slots,
@@ -65,8 +48,8 @@ pub(crate) fn newest(
     if hi < lo {
         return Ok(None);
     }
-    let from = version_key(row, family, qualifier, hi)?;
-    let to = version_key(row, family, qualifier, lo)?;
+    let from = CellKey::new(row, family, qualifier, hi)?;
+    let to = CellKey::new(row, family, qualifier, lo)?;
     match first(slots, Bound::Included(from), Bound::Included(to)) {
         Some((key, value)) => Ok(Some((key.stamp, value.clone()?))),
         None => Ok(None),
@@ -79,7 +62,7 @@ fn start_after(after: Option<(&Row, &Family)>) -> Result<Bound<CellKey>, AllocEr
 {
     match after {
         Some((row, family)) => {
-            let last = version_key(row, family, Qualifier::Write, 0)?;
+            let last = CellKey::new(row, family, Qualifier::Write, 0)?;
             Ok(Bound::Excluded(last))
         }
         None => Ok(Bound::Unbounded),

@@ -185,7 +185,7 @@ module _ {F M : Type 0} (files : Files F) (store : MarkStore M) where
   pub resting_is_kept : RestingIsKept files.contents store.mark
   resting_is_kept server st rests = record {
     kept = rests.keeps.has.kept;
-    are_told = rests.keeps.has.are_told;
+    on_disk = rests.keeps.has.on_disk;
     root = rests.root;
     cells = rests.cells;
     keeps = rests.keeps.has.keeps;

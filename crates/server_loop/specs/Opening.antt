@@ -8,7 +8,7 @@ use Rattle.row_atomic.specs.Open.{IsDamaged}
 
 -- files whose bytes are known have no root file
 abbrev pub LacksRoot : Option Contents → Type 0
-LacksRoot told = IsSomeAnd told (λ m. get m root_name ≡ None)
+LacksRoot disk = IsSomeAnd disk (λ m. get m root_name ≡ None)
 
 -- The root file is out of form, or a file that it names is missing or out of form. Or the mark is
 -- below the greatest stamp that the root names.

@@ -17,20 +17,20 @@ use Rattle.server_loop.specs.declared.server.Server.{Server}
 
 -- A root names the greatest stamp of a state, its greatest floor and the places of its tablets, a
 -- mark isn't below that stamp, and cells show the state after a clean restart.
-pub record TellsState (root : RootView) (cells : Cells) (told : Option ℕ)
+pub record TellsState (root : RootView) (cells : Cells) (mark : Option ℕ)
     (st : State) : Type 0 where
   pub top : root.top ≡ st.top
   pub floor : root.floor ≡ st.floor
   pub places : machine_places root.places ≡ st.places
   pub next : st.next_tablet ≡ length st.places + 1
-  pub marked : IsSomeAnd told (λ mark. st.top ≤ mark)
+  pub marked : IsSomeAnd mark (λ number. st.top ≤ number)
   pub shows : ShowsCells cells (reopened st)
 
 -- Files and a mark keep a state: the files keep cells under a root, and these show the state.
 pub record KeepsState {F M : Type 0} (contents : F → Option Contents) (mark : M → Option ℕ)
     (files : F) (marks : M) (st : State) : Type 0 where
   pub kept : Contents
-  pub are_told : contents files ≡ Some kept
+  pub on_disk : contents files ≡ Some kept
   pub root : RootView
   pub cells : Cells
   pub keeps : KeepsCells kept root cells

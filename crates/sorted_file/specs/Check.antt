@@ -58,8 +58,8 @@ pub record IsOpening (o : Opening) : Type 0 where
 
 -- what was read is the beginning of this image, of whose index this is left
 pub record IsReading
-    (told : Option Contents) (o : Opening) (image all end rest : List ℕ) : Type 0 where
-  pub tells : Tells told o.name image
+    (disk : Option Contents) (o : Opening) (image all end rest : List ℕ) : Type 0 where
+  pub tells : Tells disk o.name image
   pub size : length image ≡ o.size
   pub framed : IsFramed o.format image all end
   pub read : IsRead o.format image all (blocks_of o.rows.items) rest

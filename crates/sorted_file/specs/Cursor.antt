@@ -34,20 +34,20 @@ abbrev pub cursor_lent : FileCursor → Option Entry
 cursor_lent s = option_map (entry_at s.block.items) s.current
 
 abbrev pub cursor_remaining : Option Contents → FileCursor → List Entry
-cursor_remaining told s =
+cursor_remaining disk s =
     cursor_ahead s ++ entries_from s.from.now (entries_in (blocks_of s.rows.now))
 
 -- the files are known and have the blocks that it has not come to, the bytes that are left of its
 -- block are those of their entries, and all these entries are a list
-pub record CursorHolds (told : Option Contents) (s : FileCursor) : Type 0 where
-  pub later : IsSomeAnd told (λ m. AreBlocksIn m s.name s.rows.now)
+pub record CursorHolds (disk : Option Contents) (s : FileCursor) : Type 0 where
+  pub later : IsSomeAnd disk (λ m. AreBlocksIn m s.name s.rows.now)
   pub small : length s.block.items < 2 ^ 32
   pub ahead : drop s.at s.block.items ≡ block_bytes (cursor_ahead s)
-  pub list : IsEntryList (pending (cursor_lent s) (cursor_remaining told s))
+  pub list : IsEntryList (pending (cursor_lent s) (cursor_remaining disk s))
 
-pub cursor_list : (told : Option Contents) (s : FileCursor) → CursorHolds told s
-    → IsEntryList (pending (cursor_lent s) (cursor_remaining told s))
-cursor_list told s h = h.list
+pub cursor_list : (disk : Option Contents) (s : FileCursor) → CursorHolds disk s
+    → IsEntryList (pending (cursor_lent s) (cursor_remaining disk s))
+cursor_list disk s h = h.list
 
 -- an entry has more than one byte
 abbrev pub bytes_left : List BlockRow → ℕ

@@ -67,37 +67,37 @@ pub record IsReadFrom (image : List ℕ) (row : BlockRow) (es : List Entry) : Ty
 
 -- a block was read from what stands under a name now
 pub record IsReadNow
-    (told : Option Contents) (name : ℕ) (row : BlockRow) (block : Block) : Type 0 where
+    (disk : Option Contents) (name : ℕ) (row : BlockRow) (block : Block) : Type 0 where
   pub entries : List Entry
   pub parsed : IsParsed entries block
-  pub read : (image : List ℕ) → Tells told name image → IsReadFrom image row entries
+  pub read : (image : List ℕ) → Tells disk name image → IsReadFrom image row entries
 
 -- Over these files an open file is what it was: it has its name, and if it was open it is, and
 -- stands for the same entries.
-pub record IsSameFile (told : Option Contents) (old new : SortedFile) : Type 0 where
+pub record IsSameFile (disk : Option Contents) (old new : SortedFile) : Type 0 where
   pub name : name_of new ≡ name_of old
-  pub still : IfSome told (λ m. IsOpen m old → IsOpen m new × (listed m new ≡ listed m old))
+  pub still : IfSome disk (λ m. IsOpen m old → IsOpen m new × (listed m new ≡ listed m old))
 
 -- the block of a number was read from what stands under a file's name now
-pub record WasRead (told : Option Contents) (file : SortedFile) (e : ℕ × Block) : Type 0 where
+pub record WasRead (disk : Option Contents) (file : SortedFile) (e : ℕ × Block) : Type 0 where
   pub row : BlockRow
   pub named : slice_get file.rows.items e.0 ≡ Some row
-  pub read : IsReadNow told (name_of file) row e.1
+  pub read : IsReadNow disk (name_of file) row e.1
 
 -- each block that a file caches was cached before, or was read from what stands under its name now
 abbrev pub KeepsWhatItRead : Option Contents → SortedFile → SortedFile → Type 0
-KeepsWhatItRead told old new =
+KeepsWhatItRead disk old new =
     (e : ℕ × Block) → Contains new.cache.entries e
-    → Contains old.cache.entries e ⊎ WasRead told old e
+    → Contains old.cache.entries e ⊎ WasRead disk old e
 
 -- What was found at a text in a block that wasn't cached is what stands under the name of an open
 -- file now: whatever that is, it has an entry list at the row's offset, and the entry of that list at
 -- the text is this one.
 abbrev pub IsFoundNow : Option Contents → SortedFile → List ℕ → Option (Option (List ℕ)) → Type 0
-IsFoundNow told file name found =
+IsFoundNow disk file name found =
     (m : Contents) → IsOpen m file → (number : ℕ) (row : BlockRow) (image : List ℕ)
     → IsRowPosition name file.rows.items (number + 1) → slice_get file.rows.items number ≡ Some row
-    → IsUncached number file.cache.entries → Tells told (name_of file) image
+    → IsUncached number file.cache.entries → Tells disk (name_of file) image
     → (es : List Entry) × IsReadFrom image row es × (found ≡ entry_of_key es name)
 
 -- the bytes of a value that was found, or of an erasure none

@@ -88,7 +88,7 @@ skips (x ∷ xs) = missing_first (x ∷ xs) ∷ skips xs
 
 -- the files have these bytes under a name, and say so
 abbrev pub Tells : Option Contents → ℕ → List ℕ → Type 0
-Tells told name image = IsSomeAnd told (λ m. map.get m name ≡ Some image)
+Tells disk name image = IsSomeAnd disk (λ m. map.get m name ≡ Some image)
 
 -- a row's block is in an image, at the row's offset
 pub record IsBlockIn (image : List ℕ) (row : BlockRow) : Type 0 where

@@ -13,7 +13,7 @@ ghost use Rattle.sorted_file.specs.Bounds.{front, IsWithin, column_bounds, Cover
 
 use crate::entry::FileEntry;
 use crate::format::is_same;
-use cell_key::{CellKey, Qualifier, Refusal, Stamp};
+use cell_key::{CellKey, Qualifier, Refusal, Stamp, stamp_of};
 use std::alloc::Global;
 
 /// The byte of a row at an index, or 0 behind its end.
@@ -249,21 +249,6 @@ pub(crate) fn next_head<'a>(
     let skip = *counts.get(at)?;
     let head = heads.split_at(at.min(heads.len())).1.get(skip)?;
     head.as_ref()
-}
-
-/// The stamp of a text.
-fn stamp_of(bytes: &[u8]) -> Option<Stamp>
-    ensures some { IfSome result (λ stamp. bytes.now ≡ stamp_text stamp) }
-    ensures none { IfNone result (length bytes.now ≢ 8) }
-    ensures small { IfSome result (λ stamp. stamp < 2 ^ 64) }
-{
-    if bytes.len() != 8 {
-        return None;
-    }
-    let falling = u64::from_be_bytes([
-        bytes[0], bytes[1], bytes[2], bytes[3], bytes[4], bytes[5], bytes[6], bytes[7],
-    ]);
-    Some(u64::MAX - falling)
 }
 
 /// The stamp of a text, if it is one of the column that another text is of.

@@ -344,7 +344,7 @@ impl SortedFile {
 
     /// Empties the cache. The file stays what it was. Takes no memory.
     pub fn drop_cache(&mut self)
-        ensures stays { (told : Option Contents) → IsSameFile told self.old self.new }
+        ensures stays { (disk : Option Contents) → IsSameFile disk self.old self.new }
         ensures none { (number : ℕ) → IsUncached number self.new.cache.entries }
     {
         self.cache.clear();

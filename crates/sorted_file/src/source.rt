@@ -48,8 +48,8 @@ pub trait Source<F: Files> {
     fn current(&self) -> Option<EntryRef<'_>>
         ensures { option_map lent_entry result ≡ lent self.now };
 
-    ghost list: { (told : Option Contents) (s : Self) → holds told s
-        → IsEntryList (pending (lent s) (remaining told s)) };
+    ghost list: { (disk : Option Contents) (s : Self) → holds disk s
+        → IsEntryList (pending (lent s) (remaining disk s)) };
 }
 
 /// The refusal of a fault of files.

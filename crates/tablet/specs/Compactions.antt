@@ -38,9 +38,9 @@ HasAsMany Major files = Unit {0}
 
 -- the files that it may read are open over files that hold this: a minor one reads none
 abbrev pub ReadsOpen : Compaction → Option Contents → Tablet → Type 0
-ReadsOpen Minor told t = Unit {0}
-ReadsOpen (Merge count) told t = AllByRecursion (IsOpenIn told) (files_of t)
-ReadsOpen Major told t = AllByRecursion (IsOpenIn told) (files_of t)
+ReadsOpen Minor disk t = Unit {0}
+ReadsOpen (Merge count) disk t = AllByRecursion (IsOpenIn disk) (files_of t)
+ReadsOpen Major disk t = AllByRecursion (IsOpenIn disk) (files_of t)
 
 -- what it writes
 abbrev pub compacted : Compaction → RowRange → List Entry → List (List Entry) → List Entry
@@ -92,13 +92,13 @@ memory_after Major memory = []
 
 -- An accepted compaction of files took the next name for a file within the limit, which is now in
 -- the place of what it wrote.
-pub record Replaces (compaction : Compaction) (file_limit : ℕ) (told : Option Contents)
+pub record Replaces (compaction : Compaction) (file_limit : ℕ) (disk : Option Contents)
     (before after : ℕ) (old new : Tablet) : Type 0 where
   pub names : names_of new ≡ names_after compaction before (names_of old)
   pub memory : memory_of new ≡ memory_after compaction (memory_of old)
   pub left : before < 2 ^ 63
   pub used : after ≡ before + 1
-  pub fits : IfSome told (λ m. Holds m old → FitsIn file_limit (compacted_of compaction m old))
+  pub fits : IfSome disk (λ m. Holds m old → FitsIn file_limit (compacted_of compaction m old))
 
 -- A minor compaction with entries to write had room for a file more, and took the next name for a
 -- file within the limit.

@@ -26,7 +26,7 @@ listed_in (Some m) file = listed m file
 
 -- the list of a memtable, if there is one, and those of files
 abbrev pub lists_over : Option Contents → Option (List Entry) → List SortedFile → List (List Entry)
-lists_over told memtable files = option_to_list memtable ++ map (listed_in told) files
+lists_over disk memtable files = option_to_list memtable ++ map (listed_in disk) files
 
 -- what lists mean together from a text on, and below another one if there is one
 abbrev pub part : List ℕ → Option (List ℕ) → List (List Entry) → List Entry
@@ -34,9 +34,9 @@ part from end lists = merged (map (entries_between from end) lists)
 
 -- a source is before its first entry
 abbrev pub IsAtStart : Option Contents → Bounded Input → Type 0
-IsAtStart told s =
-    InputHolds told (source_of s) × (lent_until (end_of s) (input_lent (source_of s)) ≡ None)
+IsAtStart disk s =
+    InputHolds disk (source_of s) × (lent_until (end_of s) (input_lent (source_of s)) ≡ None)
 
 -- the entries that it has
 abbrev pub remaining_of : Option Contents → Bounded Input → List Entry
-remaining_of told s = entries_until (end_of s) (input_remaining told (source_of s))
+remaining_of disk s = entries_until (end_of s) (input_remaining disk (source_of s))

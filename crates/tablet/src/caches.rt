@@ -11,7 +11,7 @@ use sorted_file::SortedFile;
 
 /// Empties the caches of some files. The files stay what they were.
 fn drop_each(files: &mut [SortedFile])
-    ensures { (told : Option Contents) → AllZip (IsSameFile told) files.old files.new }
+    ensures { (disk : Option Contents) → AllZip (IsSameFile disk) files.old files.new }
 {
     for file in files.iter_mut() {
         file.drop_cache();
@@ -21,7 +21,7 @@ fn drop_each(files: &mut [SortedFile])
 impl Tablet {
     /// Empties the caches of the files. The tablet stays what it was. Takes no memory.
     pub fn drop_caches(&mut self)
-        ensures { (told : Option Contents) → IsSameTablet told self.old self.new }
+        ensures { (disk : Option Contents) → IsSameTablet disk self.old self.new }
     {
         drop_each(&mut self.files);
     }

@@ -116,11 +116,11 @@ impl Tablet {
     /// The memtable, if a compaction writes it, and the files that it writes.
     fn inputs(&self, compaction: Compaction) -> (Option<&Memtable>, &[SortedFile])
         requires { HasAsMany compaction (length (files_of self.now)) }
-        ensures lists { (told : Option Contents)
-            → lists_over told (option_copied result.0) result.1.now
-            ≡ inputs_of compaction (memory_of self.now) (map (listed_in told) (files_of self.now)) }
-        ensures open { (told : Option Contents) → ReadsOpen compaction told self.now
-            → AllByRecursion (IsOpenIn told) result.1.now }
+        ensures lists { (disk : Option Contents)
+            → lists_over disk (option_copied result.0) result.1.now
+            ≡ inputs_of compaction (memory_of self.now) (map (listed_in disk) (files_of self.now)) }
+        ensures open { (disk : Option Contents) → ReadsOpen compaction disk self.now
+            → AllByRecursion (IsOpenIn disk) result.1.now }
     {
         match compaction {
             Compaction::Minor => (Some(&self.memtable), &[]),

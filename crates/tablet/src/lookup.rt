@@ -158,26 +158,3 @@ pub(crate) fn lookup<F: Files>(
         None => Ok(None),
     }
 }
-
-/// The key of a version. Answers `NoMemory` if there is no memory.
-pub(crate) fn version_key(
-    row: &Row,
-    family: &Family,
-    qualifier: Qualifier,
-    stamp: Stamp,
-) -> Result<CellKey, Refusal>
-    ensures key { IfOk result (λ key. key ≡ version row.now family.now qualifier stamp) }
-    ensures row { IsRow row.now }
-    ensures family { IsFamily family.now }
-    ensures refusal { IfErr result (λ refusal. refusal ≡ Refusal.NoMemory) }
-{
-    // These calls show that row and family are within their limits.
-    let _row = row.as_bytes();
-    let _family = family.as_bytes();
-    Ok(CellKey {
-        row: row.clone()?,
-        family: family.clone()?,
-        qualifier,
-        stamp,
-    })
-}

@@ -12,11 +12,11 @@ ghost use Rattle.sorted_file.specs.Source.{IsReadRefusal};
 ghost use Rattle.tablet.specs.Ranges.{has_row};
 ghost use Rattle.tablet.specs.Reads.{HasNoLater, IsAsked, IsLater};
 
-use crate::lookup::{asked, lookup, newest_stamp, version_key};
+use crate::lookup::{asked, lookup, newest_stamp};
 use crate::scan::{first_value, later, past_place};
 use crate::sources::fences;
 use crate::tablet::Tablet;
-use cell_key::{Family, MOST_STAMP, Qualifier, Refusal, Row, Stamp};
+use cell_key::{CellKey, Family, MOST_STAMP, Qualifier, Refusal, Row, Stamp};
 use file_store::Files;
 use std::alloc::Global;
 
@@ -87,7 +87,7 @@ impl Tablet {
         ensures same { F.contents files.new ≡ F.contents files.old }
         ensures reason { HasReason (F.faults files.old) (F.faults files.new) result }
     {
-        let key = version_key(row, family, qualifier, stamp)?;
+        let key = CellKey::new(row, family, qualifier, stamp)?;
         match lookup(self.alloc, &self.memtable, &mut self.files, &key, files)? {
             Some(value) => Ok(Some((stamp, value))),
             None => Ok(None),
@@ -160,7 +160,7 @@ impl Tablet {
         ensures same { F.contents files.new ≡ F.contents files.old }
         ensures reason { HasReason (F.faults files.old) (F.faults files.new) result }
     {
-        let key = version_key(row, family, qualifier, hi)?;
+        let key = CellKey::new(row, family, qualifier, hi)?;
         newest_stamp(&mut self.files, &key, lo, files)
     }
 

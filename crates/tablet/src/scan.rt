@@ -14,7 +14,7 @@ ghost use Rattle.sorted_file.specs.Source.{IsReadRefusal};
 ghost use Rattle.tablet.specs.Reads.{first_value, later, lent_value, past_place, texted, IsPlaceOrNone, IsStoredValue};
 ghost use Rattle.tablet.specs.Sources.{part};
 
-use crate::lookup::{copy_value, version_key};
+use crate::lookup::copy_value;
 use crate::sources::sources;
 use cell_key::{CellKey, EntryRef, Family, Qualifier, Refusal, Row, Stamp};
 use compaction::Merge;
@@ -123,7 +123,7 @@ fn version_text(
     ensures family { IsFamily family.now }
     ensures refusal { IfErr result (λ refusal. refusal ≡ Refusal.NoMemory) }
 {
-    let key = version_key(row, family, qualifier, stamp)?;
+    let key = CellKey::new(row, family, qualifier, stamp)?;
     let mut text = Vec::new(alloc);
     key.encode(&mut text)?;
     Ok(text)

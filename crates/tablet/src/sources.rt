@@ -42,8 +42,8 @@ fn memtable_source<'a>(
     from: &[u8],
     end: Option<&'a [u8]>,
 ) -> Bounded<'a, Input<'a>>
-    ensures start { (told : Option Contents) → IsAtStart told result }
-    ensures list { (told : Option Contents) → remaining_of told result
+    ensures start { (disk : Option Contents) → IsAtStart disk result }
+    ensures list { (disk : Option Contents) → remaining_of disk result
         ≡ entries_between from.now (option_copied end.entry) memtable.now }
     ensures entries { IsEntryList memtable.now }
 {
@@ -57,10 +57,10 @@ fn memtable_sources<'a>(
     from: &[u8],
     end: Option<&'a [u8]>,
 ) -> Result<Vec<Bounded<'a, Input<'a>>>, Refusal>
-    ensures start { IfOk result (λ sources. (told : Option Contents)
-        → AllByRecursion (IsAtStart told) sources.items) }
-    ensures lists { IfOk result (λ sources. (told : Option Contents)
-        → map (remaining_of told) sources.items
+    ensures start { IfOk result (λ sources. (disk : Option Contents)
+        → AllByRecursion (IsAtStart disk) sources.items) }
+    ensures lists { IfOk result (λ sources. (disk : Option Contents)
+        → map (remaining_of disk) sources.items
         ≡ map (entries_between from.now (option_copied end.entry))
         (option_to_list (option_copied memtable.entry))) }
     ensures entries { IfOk result (λ sources.
@@ -80,9 +80,9 @@ fn file_source<'a>(
     from: &'a [u8],
     end: Option<&'a [u8]>,
 ) -> Bounded<'a, Input<'a>>
-    ensures start { (told : Option Contents) → IsOpenIn told file.now → IsAtStart told result }
-    ensures list { (told : Option Contents) → IsOpenIn told file.now → remaining_of told result
-        ≡ entries_between from.now (option_copied end.entry) (listed_in told file.now) }
+    ensures start { (disk : Option Contents) → IsOpenIn disk file.now → IsAtStart disk result }
+    ensures list { (disk : Option Contents) → IsOpenIn disk file.now → remaining_of disk result
+        ≡ entries_between from.now (option_copied end.entry) (listed_in disk file.now) }
 {
     Bounded::new(Input::File(file.cursor(from)), end)
 }
@@ -97,18 +97,18 @@ pub(crate) fn sources<'a, F: Files>(
     from: &'a [u8],
     end: Option<&'a [u8]>,
 ) -> Result<Vec<Bounded<'a, Input<'a>>>, Refusal>
-    ensures start { IfOk result (λ sources. (told : Option Contents)
-        → AllByRecursion (IsOpenIn told) files.now
+    ensures start { IfOk result (λ sources. (disk : Option Contents)
+        → AllByRecursion (IsOpenIn disk) files.now
         → AreAtStart ⟦<Bounded<'static, Input<'static>> as Source<F>>⟧.lent
-        (⟦<Bounded<'static, Input<'static>> as Source<F>>⟧.holds told) sources.items) }
-    ensures lists { IfOk result (λ sources. (told : Option Contents)
-        → AllByRecursion (IsOpenIn told) files.now
-        → map (⟦<Bounded<'static, Input<'static>> as Source<F>>⟧.remaining told) sources.items
+        (⟦<Bounded<'static, Input<'static>> as Source<F>>⟧.holds disk) sources.items) }
+    ensures lists { IfOk result (λ sources. (disk : Option Contents)
+        → AllByRecursion (IsOpenIn disk) files.now
+        → map (⟦<Bounded<'static, Input<'static>> as Source<F>>⟧.remaining disk) sources.items
         ≡ map (entries_between from.now (option_copied end.entry))
-        (lists_over told (option_copied memtable.entry) files.now)) }
-    ensures entries { IfOk result (λ sources. (told : Option Contents)
-        → AllByRecursion (IsOpenIn told) files.now
-        → AllByRecursion IsEntryList (lists_over told (option_copied memtable.entry) files.now)) }
+        (lists_over disk (option_copied memtable.entry) files.now)) }
+    ensures entries { IfOk result (λ sources. (disk : Option Contents)
+        → AllByRecursion (IsOpenIn disk) files.now
+        → AllByRecursion IsEntryList (lists_over disk (option_copied memtable.entry) files.now)) }
     ensures refusal { IfErr result (λ refusal. refusal ≡ Refusal.NoMemory) }
 {
     let mut sources = memtable_sources(alloc, memtable, from, end)?;

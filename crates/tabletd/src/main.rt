@@ -156,8 +156,8 @@ where
 {
     let args: Vec<String> = env::args(rt)?.collect(rt.alloc())?;
     let words: Vec<&str> = args.iter().map(|arg| arg.as_str()).collect(rt.alloc())?;
-    let told = serve_options(rt, options(rt.alloc(), words.as_slice())?)?;
-    Ok(told)
+    let ended = serve_options(rt, options(rt.alloc(), words.as_slice())?)?;
+    Ok(ended)
 }
 
 /// Runs the program, and gives the exit status.
@@ -166,7 +166,7 @@ where
     R: Env + AllocGlobal + Input + Print + Eprint + Folders<File = File> + Clone + Drop,
 {
     let (status, line) = match serve_line(rt) {
-        Ok(told) => told,
+        Ok(ended) => ended,
         Err(LineError::NoMemory) => (NO_MEMORY, NO_MEMORY_LINE),
         Err(LineError::NotText(error)) => {
             let _ = rt.eprintln(error);

@@ -13,7 +13,7 @@ use tablet::Tablet;
 
 /// Empties the caches of tablets. They stay what they were.
 fn drop_each(tablets: &mut [Tablet])
-    ensures { (told : Option Contents) → AllZip (IsSameTablet told) tablets.old tablets.new }
+    ensures { (disk : Option Contents) → AllZip (IsSameTablet disk) tablets.old tablets.new }
 {
     for tablet in tablets.iter_mut() {
         tablet.drop_caches();

@@ -31,7 +31,7 @@ returns-in-Ok-clause-rests g c =
     let root : RootView = record { top = c.args.top; floor = c.args.floor; next_name = c.self.inside.next_name; places = c.self.inside.table } in
     let written : IsRootIn Two root c.deref.result.now c.write_root.new.out.items =
     new_root root _ _ _ c.in_ok-write_root.ensures.sound (ap length c.deref.ensures.value ∙ c.in_ok-lengths.ensures.count) c.in_ok-write_root.ensures.fit c.new-image.ensures.items c.in_ok-write_root.ensures.ok in
-    let form : IsRoot root c.write_root.new.out.items = record { lengths = c.deref.result.now; told = record { format = Two; form = written } } in
+    let form : IsRoot root c.write_root.new.out.items = record { lengths = c.deref.result.now; measured = record { format = Two; form = written } } in
     let put : g.F.Files.contents c.put.new.self ≡ with_file root_name c.write_root.new.out.items (g.F.Files.contents c.self.inside.files) =
     c.in-Ok.ensures.ok ∙ ap (λ (bytes : List ℕ). with_file root_name bytes (g.F.Files.contents c.file_lengths.new.files)) c.deref-2.ensures.value ∙ ap (with_file root_name c.write_root.new.out.items) c.in_ok-lengths.ensures.same in
     let measured = subst (λ (l : List ℕ). IfSome (g.F.Files.contents c.self.inside.files) (λ m. AreMeasured m (file_names c.self.inside.table) l)) (sym c.deref.ensures.value) c.in_ok-lengths.ensures.measured in

@@ -14,7 +14,7 @@ use Rattle.server_loop.proofs.SessionSteps.{new_cells}
 use Rattle.server_loop.proofs.server.Server.open.Goals as goal
 
 pub returns-in-Err-clause-kept : goal.returns-in-Err-clause-kept
-returns-in-Err-clause-kept g c = λ st keeps. c.in-Err.ensures.kept keeps.kept keeps.root keeps.cells keeps.are_told keeps.keeps
+returns-in-Err-clause-kept g c = λ st keeps. c.in-Err.ensures.kept keeps.kept keeps.root keeps.cells keeps.on_disk keeps.keeps
 
 pub returns-in-Err-clause-damaged : goal.returns-in-Err-clause-damaged
 returns-in-Err-clause-damaged g c = λ is. damage_told _ _ (c.in-Err.ensures.damaged is)
@@ -27,7 +27,7 @@ returns-then-last-top-clause-damaged g c = λ is.
 
 pub returns-clause-kept : goal.returns-clause-kept
 returns-clause-kept g c = λ st keeps.
-    let o = c.in-Ok.ensures.kept keeps.kept keeps.root keeps.cells keeps.are_told keeps.keeps in
+    let o = c.in-Ok.ensures.kept keeps.kept keeps.root keeps.cells keeps.on_disk keeps.keeps in
     let top : c.in-Ok.opened.1 ≡ st.top = ap (λ (root : RootView). root.top) o.tells ∙ keeps.tells.top in
     let floor : c.in-Ok.opened.2 ≡ st.floor = ap (λ (root : RootView). root.floor) o.tells ∙ keeps.tells.floor in
     record {
