@@ -225,11 +225,11 @@ module _ {R : Type 0} (seen : View R) (old new : R) (cleaner : Cleaner) (held : 
       (kills_at (seen.cells old) cleaner st i reached store mine is (made.such.1 held))
   decides_so f is (inr (reads, told)) st i reached store mine =
       let now = told held in
-      subst (λ (cs : Cells). Takes st i cs (record { cell = cleaner.cell; lock = cleaner.lock; fate = f }) clean.Decided) (sym (reads.kept held)) (told_at (seen.cells old) cleaner st i reached store mine f is now.0 now.1)
+      subst (λ (cs : Cells). Takes st i cs (record { cell = cleaner.cell; lock = cleaner.lock; fate = f }) clean.Decided) (sym reads.kept) (told_at (seen.cells old) cleaner st i reached store mine f is now.0 now.1)
 
   pub gone_so : (f : Fate) → cleaner.fate ≡ f → is_decided f ≡ true → at (seen.cells old) cleaner.cell column.Lock cleaner.lock.start ≡ None → OnlyReads seen old new → Advances (seen.cells old) cleaner clean.Gone (seen.cells new) cleaner
   gone_so f is decided gone reads st i reached store mine =
-      subst (λ (cs : Cells). Takes st i cs cleaner clean.Gone) (sym (reads.kept held)) (gone_at (seen.cells old) cleaner st i reached store mine f is decided gone)
+      subst (λ (cs : Cells). Takes st i cs cleaner clean.Gone) (sym reads.kept) (gone_at (seen.cells old) cleaner st i reached store mine f is decided gone)
 
   pub back_so : cleaner.fate ≡ Back → AppliesSuch seen (ClearsCell (seen.holds old) (seen.cells old) cleaner.cell cleaner.lock.start None) old new → Advances (seen.cells old) cleaner clean.RolledBack (seen.cells new) cleaner
   back_so is made st i reached store mine =

@@ -23,13 +23,13 @@ module _ {R : Type 0} {seen : View R} where
 module _ {R : Type 0} {seen : View R} where
   -- nothing is changed where nothing is called
   pub reads_none : {rows : R} → OnlyReads seen rows rows
-  reads_none = record { still = λ held. held; kept = λ held. refl; room = λ row later full. full; stays = refl }
+  reads_none = record { still = λ held. held; kept = refl; room = λ row later full. full; stays = refl }
 
   -- nor by a read after a read
   pub reads_then : {a b c : R} → OnlyReads seen a b → OnlyReads seen b c → OnlyReads seen a c
   reads_then first second = record {
     still = λ held. second.still (first.still held);
-    kept = λ held. second.kept (first.still held) ∙ first.kept held;
+    kept = second.kept ∙ first.kept;
     room = λ row later full. first.room row later (second.room row later full);
     stays = second.stays ∙ first.stays;
   }
@@ -45,7 +45,7 @@ module _ {R : Type 0} {seen : View R} where
   pub applies_after : {edits : List Edit} {a b c : R} → OnlyReads seen a b → Applies seen edits b c → Applies seen edits a c
   applies_after {edits} reads applies = record {
     still = λ held. applies.still (reads.still held);
-    made = λ held. applies.made (reads.still held) ∙ ap (λ (cs : Cells). after_edits cs edits) (reads.kept held);
+    made = λ held. applies.made (reads.still held) ∙ ap (λ (cs : Cells). after_edits cs edits) reads.kept;
     room = λ row later full. elim (applies.room row later full) [
       | inl before ↦ inl (reads.room row later before)
       | inr after ↦ inr (reads.room row (edits ++ later) after)
@@ -115,8 +115,8 @@ module _ {F : Type 0} (contents : F → Option Contents) (state : ClusterState F
   pub tablet_read : (i : ℕ) (t u : Tablet) (files : F) → slice_get state.tablets i ≡ Some t → IsSameTablet (contents state.files) t u → contents files ≡ contents state.files
       → OnlyReads shown state (record state { files = files; tablets = set state.tablets i u })
   tablet_read i t u files there stays same = record {
-    still = λ order. read_still (contents state.files) (contents files) state.next_name state.tablets i t u there stays same order;
-    kept = λ order. read_kept (contents state.files) (contents files) state.next_name state.tablets i t u there stays same order;
+    still = read_still (contents state.files) (contents files) state.next_name state.tablets i t u there stays same;
+    kept = read_kept (contents state.files) (contents files) state.next_name state.tablets i t u there stays same;
     room = λ row later. room_same state.places state.tablets i t u there stays.range stays.memory row later;
     stays = λ k. record { disk = same k; file_limit = state.file_limit; next_name = state.next_name; places = state.places };
   }

@@ -21,16 +21,17 @@ use Rattle.row_atomic.proofs.Shares.{cells_told}
 -- ---- tablets one after another
 
 same_itself : (o : Option Contents) (t : Tablet) → IsSameTablet o t t
-same_itself None t = record { range = refl; memory = refl; names = refl; still = tt }
-same_itself (Some m) t = record { range = refl; memory = refl; names = refl; still = λ h. (h, refl) }
+same_itself None t = record { range = refl; memory = refl; names = refl; lists = λ m. refl; still = tt }
+same_itself (Some m) t = record { range = refl; memory = refl; names = refl; lists = λ n. refl; still = λ h. h }
 
 same_after : (o : Option Contents) (t u v : Tablet) → IsSameTablet o t u → IsSameTablet o u v → IsSameTablet o t v
-same_after None t u v p q = record { range = q.range ∙ p.range; memory = q.memory ∙ p.memory; names = q.names ∙ p.names; still = tt }
+same_after None t u v p q = record { range = q.range ∙ p.range; memory = q.memory ∙ p.memory; names = q.names ∙ p.names; lists = λ m. q.lists m ∙ p.lists m; still = tt }
 same_after (Some m) t u v p q = record {
   range = q.range ∙ p.range;
   memory = q.memory ∙ p.memory;
   names = q.names ∙ p.names;
-  still = λ h. let first = p.still h in let second = q.still first.0 in (second.0, second.1 ∙ first.1);
+  lists = λ n. q.lists n ∙ p.lists n;
+  still = λ h. q.still (p.still h);
 }
 
 module _ (o : Option Contents) where
@@ -125,10 +126,10 @@ module _ (o : Option Contents) where
           }
 
 module _ (m : Contents) where
-  same_cells : (t u : Tablet) → IsSameTablet (Some m) t u → HoldsAt m t → cells_at m u ≡ cells_at m t
-  same_cells t u same holds =
+  same_cells : (t u : Tablet) → IsSameTablet (Some m) t u → cells_at m u ≡ cells_at m t
+  same_cells t u same =
       ap (λ (range : RowRange). cells_of (merged (map (seen range) (lists_of m u)))) same.range
-      ∙ ap (λ (lists : List (List Entry)). cells_of (merged (map (seen (range_of t)) lists))) (same.still holds).1
+      ∙ ap (λ (lists : List (List Entry)). cells_of (merged (map (seen (range_of t)) lists))) (same.lists m)
 
   -- where they were open they are, with the same cells
   record AreOpen (ts us : List Tablet) : Type 0 where
@@ -142,8 +143,8 @@ module _ (m : Contents) where
   open_still (t ∷ ts) (u ∷ us) all each =
       let rest = open_still ts us all.1 each.1 in
       record {
-        each = ((all.0.still each.0).0, rest.each);
-        cells = ap (λ (c : Cells). c ∷ map (cells_at m) us) (same_cells t u all.0 each.0) ∙ ap (λ (cs : List Cells). cells_at m t ∷ cs) rest.cells;
+        each = (all.0.still each.0, rest.each);
+        cells = ap (λ (c : Cells). c ∷ map (cells_at m) us) (same_cells t u all.0) ∙ ap (λ (cs : List Cells). cells_at m t ∷ cs) rest.cells;
       }
 
 module _ (told : Option Contents) (next : ℕ) (ts us : List Tablet) (all : AllZip (IsSameTablet told) ts us) (order : InOrder told next ts) where

@@ -137,34 +137,33 @@ module _ (o : Option Contents) (next : ℕ) (ts : List Tablet) (order : InOrder 
 
 -- ---- a tablet that was read
 
-module _ (o now : Option Contents) (next : ℕ) (ts : List Tablet) (i : ℕ) (t u : Tablet) (there : slice_get ts i ≡ Some t) (same : IsSameTablet o t u) (told : now ≡ o) (order : InOrder o next ts) where
-  was_open : Holds order.contents t
-  was_open = each_at (Holds order.contents) ts order.each_open i t there
+module _ (o now : Option Contents) (next : ℕ) (ts : List Tablet) (i : ℕ) (t u : Tablet) (there : slice_get ts i ≡ Some t) (same : IsSameTablet o t u) (told : now ≡ o) where
+  is_still : (order : InOrder o next ts) → Holds order.contents u
+  is_still order = at_told (λ m. Holds m t → Holds m u) o order.contents order.on_disk same.still (each_at (Holds order.contents) ts order.each_open i t there)
 
-  is_still : Holds order.contents u × (lists_of order.contents u ≡ lists_of order.contents t)
-  is_still = at_told (λ m. Holds m t → Holds m u × (lists_of m u ≡ lists_of m t)) o order.contents order.on_disk same.still was_open
-
-  pub read_still : InOrder now next (set ts i u)
-  read_still = record {
+  pub read_still : InOrder o next ts → InOrder now next (set ts i u)
+  read_still order = record {
     contents = order.contents;
     on_disk = told ∙ order.on_disk;
-    each_open = each_set (Holds order.contents) ts i u order.each_open is_still.0;
+    each_open = each_set (Holds order.contents) ts i u order.each_open (is_still order);
     each_below = each_set (IsBelow next) ts i u order.each_below (subst (λ (names : List ℕ). AllByRecursion (λ name. name < next) names) (sym same.names) (each_at (IsBelow next) ts order.each_below i t there));
   }
 
-  same_cells : cells_at order.contents u ≡ cells_at order.contents t
-  same_cells = ap (λ range. cells_of (merged (map (seen range) (lists_of order.contents u)))) same.range ∙ ap (λ lists. cells_of (merged (map (seen (range_of t)) lists))) is_still.1
+  same_cells : (m : Contents) → cells_at m u ≡ cells_at m t
+  same_cells m = ap (λ range. cells_of (merged (map (seen range) (lists_of m u)))) same.range ∙ ap (λ lists. cells_of (merged (map (seen (range_of t)) lists))) (same.lists m)
 
-  all_cells : (xs : List Tablet) (j : ℕ) → slice_get xs j ≡ Some t → map (cells_at order.contents) (set xs j u) ≡ map (cells_at order.contents) xs
-  all_cells [] j e = cc
-  all_cells (x ∷ xs) zero e = ap (λ (c : Cells). c ∷ map (cells_at order.contents) xs) (same_cells ∙ ap (cells_at order.contents) (sym (same_Some x t e)))
-  all_cells (x ∷ xs) (suc j) e = ap (λ (cs : List Cells). cells_at order.contents x ∷ cs) (all_cells xs j e)
+  all_cells : (m : Contents) (xs : List Tablet) (j : ℕ) → slice_get xs j ≡ Some t → map (cells_at m) (set xs j u) ≡ map (cells_at m) xs
+  all_cells m [] j e = cc
+  all_cells m (x ∷ xs) zero e = ap (λ (c : Cells). c ∷ map (cells_at m) xs) (same_cells m ∙ ap (cells_at m) (sym (same_Some x t e)))
+  all_cells m (x ∷ xs) (suc j) e = ap (λ (cs : List Cells). cells_at m x ∷ cs) (all_cells m xs j e)
+
+  -- over any files
+  cells_over : (k : Option Contents) → cells_in k (set ts i u) ≡ cells_in k ts
+  cells_over None = refl
+  cells_over (Some m) = ap joined (all_cells m ts i there)
 
   pub read_kept : cells_in now (set ts i u) ≡ cells_in o ts
-  read_kept =
-      cells_told now order.contents (set ts i u) (told ∙ order.on_disk)
-      ∙ ap joined (all_cells ts i there)
-      ∙ sym (cells_told o order.contents ts order.on_disk)
+  read_kept = ap (λ (k : Option Contents). cells_in k (set ts i u)) told ∙ cells_over o
 
 -- ---- the structure
 

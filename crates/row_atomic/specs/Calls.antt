@@ -18,11 +18,11 @@ pub record View (R : Type 0) : Type 1 where
   -- what lies below the rows that are in memory: files, names and the places of tablets
   pub storage : R → Storage
 
--- Nothing is changed: if they held, they still do, and their cells are the same;
--- no room is taken, and what lies below stays.
+-- Nothing is changed: if they held, they still do; their cells are the same, whatever stands in the
+-- files; no room is taken, and what lies below stays.
 pub record OnlyReads {R : Type 0} (seen : View R) (old new : R) : Type 0 where
   pub still : seen.holds old → seen.holds new
-  pub kept : seen.holds old → seen.cells new ≡ seen.cells old
+  pub kept : seen.cells new ≡ seen.cells old
   pub room : TakesNoRoom seen.overfills old new
   pub stays : seen.storage new ≡ seen.storage old
 

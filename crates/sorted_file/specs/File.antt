@@ -6,6 +6,7 @@ use Rattle.std.specs.List.{AllByRecursion}
 use Rattle.std.specs.declared.vec.Vec.{Vec}
 use Rattle.cell_key.specs.Entries.{Entry, IsEntryList, entry_of_key}
 use Rattle.file_store.specs.Store.{Contents, part}
+use Rattle.lru.specs.LruCache.{LruCache}
 use Rattle.sorted_file.specs.Index.{block_of, blocks_of, entries_in, row_head, texts_of, AreRows, IsRowPosition, IsBoundedRow, Tells, skips}
 use Rattle.sorted_file.specs.Block.{IsParsed, BeginsWith}
 use Rattle.sorted_file.specs.Grammar.{block_bytes, IsFile}
@@ -58,11 +59,12 @@ pub record IsOpen (m : Contents) (file : SortedFile) : Type 0 where
   pub blocks : form.blocks ≡ blocks_of file.rows.items
   pub cached : AreCached file.rows.items file.cache.entries
 
--- The block of a row was read from these bytes: at the row's offset they have those of an entry list
--- that begins with the row's text.
+-- The block of a row was read from these bytes: at the row's offset they have, in its whole length,
+-- those of an entry list that begins with the row's text.
 pub record IsReadFrom (image : List ℕ) (row : BlockRow) (es : List Entry) : Type 0 where
   pub list : IsEntryList es
   pub first : BeginsWith row.first.items es
+  pub whole : length (part image row.offset row.length) ≡ row.length
   pub bytes : part image row.offset row.length ≡ block_bytes es
 
 -- a block was read from what stands under a name now
@@ -72,11 +74,13 @@ pub record IsReadNow
   pub parsed : IsParsed entries block
   pub read : (image : List ℕ) → Tells disk name image → IsReadFrom image row entries
 
--- Over these files an open file is what it was: it has its name, and if it was open it is, and
--- stands for the same entries.
+-- An open file is what it was but for its cache: it has its name, and over any files it stands for
+-- the same entries. If it was open over these files, it still is.
 pub record IsSameFile (disk : Option Contents) (old new : SortedFile) : Type 0 where
+  pub rest : (cache : LruCache ℕ Block) → record new { cache = cache } ≡ record old { cache = cache }
   pub name : name_of new ≡ name_of old
-  pub still : IfSome disk (λ m. IsOpen m old → IsOpen m new × (listed m new ≡ listed m old))
+  pub lists : (m : Contents) → listed m new ≡ listed m old
+  pub still : IfSome disk (λ m. IsOpen m old → IsOpen m new)
 
 -- the block of a number was read from what stands under a file's name now
 pub record WasRead (disk : Option Contents) (file : SortedFile) (e : ℕ × Block) : Type 0 where

@@ -23,8 +23,8 @@ use Rattle.tablet.proofs.SameFiles.{told_both}
 use Rattle.tablet.proofs.Shown.{first_at, shown, stored_or_hidden}
 
 pub same_after_tablet : (o : Option Contents) (t u w : Tablet) → IsSameTablet o t u → IsSameTablet o u w → IsSameTablet o t w
-same_after_tablet None t u w p q = record { range = q.range ∙ p.range; memory = q.memory ∙ p.memory; names = q.names ∙ p.names; still = tt }
-same_after_tablet (Some m) t u w p q = record { range = q.range ∙ p.range; memory = q.memory ∙ p.memory; names = q.names ∙ p.names; still = λ held. let a = p.still held in let b = q.still a.0 in (b.0, b.1 ∙ a.1) }
+same_after_tablet None t u w p q = record { range = q.range ∙ p.range; memory = q.memory ∙ p.memory; names = q.names ∙ p.names; lists = λ m. q.lists m ∙ p.lists m; still = tt }
+same_after_tablet (Some m) t u w p q = record { range = q.range ∙ p.range; memory = q.memory ∙ p.memory; names = q.names ∙ p.names; lists = λ n. q.lists n ∙ p.lists n; still = λ held. q.still (p.still held) }
 
 pub over_now : (o now : Option Contents) (t u : Tablet) → now ≡ o → IsSameTablet now t u → IsSameTablet o t u
 over_now o now t u same is = subst (λ (told : Option Contents). IsSameTablet told t u) same is
@@ -34,7 +34,7 @@ rest [] = []
 rest (es ∷ lists) = lists
 
 still_at : (o : Option Contents) (m : Contents) (t u : Tablet) → o ≡ Some m → IsSameTablet o t u → Holds m t → Holds m u × (lists_of m u ≡ lists_of m t)
-still_at o m t u is same held = (subst (λ (told : Option Contents). IsSameTablet told t u) is same).still held
+still_at o m t u is same held = ((subst (λ (told : Option Contents). IsSameTablet told t u) is same).still held, same.lists m)
 
 same_cells : (o : Option Contents) (m : Contents) (t u : Tablet) → o ≡ Some m → IsSameTablet o t u → Holds m t → cells_at m u ≡ cells_at m t
 same_cells o m t u is same held =

@@ -23,12 +23,12 @@ told_any None = tt
 told_any (Some m) = tt
 
 same_file : (o : Option Contents) (f : SortedFile) → IsSameFile o f f
-same_file None f = record { name = refl; still = tt }
-same_file (Some m) f = record { name = refl; still = λ is. (is, refl) }
+same_file None f = record { rest = λ c. refl; name = refl; lists = λ m. refl; still = tt }
+same_file (Some m) f = record { rest = λ c. refl; name = refl; lists = λ m. refl; still = λ is. is }
 
 same_after : (o : Option Contents) (f g h : SortedFile) → IsSameFile o f g → IsSameFile o g h → IsSameFile o f h
-same_after None f g h p q = record { name = q.name ∙ p.name; still = tt }
-same_after (Some m) f g h p q = record { name = q.name ∙ p.name; still = λ is. let first = p.still is in let second = q.still first.0 in (second.0, second.1 ∙ first.1) }
+same_after None f g h p q = record { rest = λ c. q.rest c ∙ p.rest c; name = q.name ∙ p.name; lists = λ m. q.lists m ∙ p.lists m; still = tt }
+same_after (Some m) f g h p q = record { rest = λ c. q.rest c ∙ p.rest c; name = q.name ∙ p.name; lists = λ n. q.lists n ∙ p.lists n; still = λ is. q.still (p.still is) }
 
 module _ (o : Option Contents) where
   pub same_files : (xs : List SortedFile) → AllZip (IsSameFile o) xs xs
@@ -40,6 +40,12 @@ module _ (o : Option Contents) where
   same_names [] (y ∷ ys) all = absurd all
   same_names (x ∷ xs) [] all = absurd all
   same_names (x ∷ xs) (y ∷ ys) all = ap (λ name. name ∷ map name_of ys) all.0.name ∙ ap (λ names. name_of x ∷ names) (same_names xs ys all.1)
+
+  pub same_lists : (m : Contents) (xs ys : List SortedFile) → AllZip (IsSameFile o) xs ys → map (listed m) ys ≡ map (listed m) xs
+  same_lists m [] [] all = refl
+  same_lists m [] (y ∷ ys) all = absurd all
+  same_lists m (x ∷ xs) [] all = absurd all
+  same_lists m (x ∷ xs) (y ∷ ys) all = ap (λ es. es ∷ map (listed m) ys) (all.0.lists m) ∙ ap (λ lists. listed m x ∷ lists) (same_lists m xs ys all.1)
 
 module _ (m : Contents) where
   -- where they were open they are, and stand for the same lists
@@ -54,7 +60,7 @@ module _ (m : Contents) where
   still_files (x ∷ xs) (y ∷ ys) all is =
       let first = all.0.still is.0 in
       let rest = still_files xs ys all.1 is.1 in
-      record { each = (first.0, rest.each); lists = ap (λ es. es ∷ map (listed m) ys) first.1 ∙ ap (λ lists. listed m x ∷ lists) rest.lists }
+      record { each = (first, rest.each); lists = ap (λ es. es ∷ map (listed m) ys) (all.0.lists m) ∙ ap (λ lists. listed m x ∷ lists) rest.lists }
 
 -- One file is looked up in, after those before it.
 module _ (o now : Option Contents) (same : now ≡ o) (xs ys : List SortedFile) (i : ℕ) (d : SortedFile) (below : i < length ys) (all : AllZip (IsSameFile o) xs ys) where
@@ -82,7 +88,7 @@ module _ (o now : Option Contents) (same : now ≡ o) (xs ys : List SortedFile) 
       at (x ∷ xs) [] i below all each = absurd all
       at (x ∷ xs) (y ∷ ys) zero below all each =
           let first = all.0.still each.0 in
-          (first.0, ap (λ (es : List Entry). or_else (entry_of_key es name) (first_naming (map (listed m) xs) name)) (sym first.1))
+          (first, ap (λ (es : List Entry). or_else (entry_of_key es name) (first_naming (map (listed m) xs) name)) (sym (all.0.lists m)))
       at (x ∷ xs) (y ∷ ys) (suc i) below all each = at xs ys i (omega (arith, below)) all.1 each.1
 
   -- where it isn't open, not all are
@@ -158,13 +164,17 @@ no_later (Some m) xs i key lo stamp le h = λ each s after high stored. h each s
 
 -- a tablet is what it was where its files are
 pub same_tablet : (o : Option Contents) (t u : Tablet) → range_of u ≡ range_of t → memory_of u ≡ memory_of t → AllZip (IsSameFile o) (files_of t) (files_of u) → IsSameTablet o t u
-same_tablet o t u range memory files = record { range = range; memory = memory; names = same_names o (files_of t) (files_of u) files; still = go o files }
+same_tablet o t u range memory files = record {
+  range = range;
+  memory = memory;
+  names = same_names o (files_of t) (files_of u) files;
+  lists = λ m. ap (λ es. es ∷ map (listed m) (files_of u)) memory ∙ ap (λ lists. memory_of t ∷ lists) (same_lists o m (files_of t) (files_of u) files);
+  still = go o files;
+}
   where
-    go : (o : Option Contents) → AllZip (IsSameFile o) (files_of t) (files_of u) → IfSome o (λ m. Holds m t → Holds m u × (lists_of m u ≡ lists_of m t))
+    go : (o : Option Contents) → AllZip (IsSameFile o) (files_of t) (files_of u) → IfSome o (λ m. Holds m t → Holds m u)
     go None files = tt
-    go (Some m) files = λ h.
-        let still = still_files m (files_of t) (files_of u) files h.files in
-        (record { memory = subst IsEntryList (sym memory) h.memory; files = still.each }, ap (λ es. es ∷ map (listed m) (files_of u)) memory ∙ ap (λ lists. memory_of t ∷ lists) still.lists)
+    go (Some m) files = λ h. record { memory = subst IsEntryList (sym memory) h.memory; files = (still_files m (files_of t) (files_of u) files h.files).each }
 
 pub same_itself : (o : Option Contents) (t : Tablet) → IsSameTablet o t t
 same_itself o t = same_tablet o t t refl refl (same_files o (files_of t))

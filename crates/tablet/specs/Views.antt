@@ -53,13 +53,15 @@ pub record IsUnchanged (old new : Tablet) : Type 0 where
   pub memory : memory_of new ≡ memory_of old
   pub files : files_of new ≡ files_of old
 
--- Over these files a tablet is what it was: it has its range, its memtable's entries and the names
--- of its files, and if its files were open, they still are, and stand for the same lists.
+-- A tablet is what it was but for what its files cache: it has its range, its memtable's entries and
+-- the names of its files, and over any files it has the same lists. If its files were open over these
+-- files, they still are.
 pub record IsSameTablet (disk : Option Contents) (old new : Tablet) : Type 0 where
   pub range : range_of new ≡ range_of old
   pub memory : memory_of new ≡ memory_of old
   pub names : names_of new ≡ names_of old
-  pub still : IfSome disk (λ m. Holds m old → Holds m new × (lists_of m new ≡ lists_of m old))
+  pub lists : (m : Contents) → lists_of m new ≡ lists_of m old
+  pub still : IfSome disk (λ m. Holds m old → Holds m new)
 
 -- Nothing was written and the next name stays, or it is used up,
 -- and the files under other names are as they were.

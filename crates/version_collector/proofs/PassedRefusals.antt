@@ -22,4 +22,4 @@ refused_named Holds None (Err f) is none so = subst (IsRefusalOfRead Holds) (sym
 -- what is held and shown before a read is held and shown after it
 pub shown_later : {R : Type 0} {seen : View R} {a b : R}
     → OnlyReads seen a b → seen.holds a × AreShown (seen.cells a) → seen.holds b × AreShown (seen.cells b)
-shown_later reads was = (reads.still was.0, subst AreShown (sym (reads.kept was.0)) was.1)
+shown_later reads was = (reads.still was.0, subst AreShown (sym (reads.kept)) was.1)

@@ -63,7 +63,7 @@ loop-low-preserved-in-Some-2 g c =
       rest = λ held.
           let is = at_some (IsNewest (g.R.Rows.seen.cells c.loop-low.rows) at low middle) c.in_ok-older.field-0 c.in-Some-2.older c.in-Some-2.is (c.in_ok-older.ensures.found (before.reads.still held)) in
           rest_with_older (g.R.Rows.seen.cells c.args.rows.now) at c.args.lo low middle (stamped c.loop-low.found) (stamped c.in-Some-2.older) (before.rest held)
-          (subst (λ (cells : Cells). IsNewest cells at low middle (Some (stamped c.in-Some-2.older))) (before.reads.kept held) is);
+          (subst (λ (cells : Cells). IsNewest cells at low middle (Some (stamped c.in-Some-2.older))) before.reads.kept is);
     }
 
 pub loop-low-smaller : goal.loop-low-smaller
@@ -85,7 +85,7 @@ loop-low-preserved g c =
       rest = λ held.
           let is = at_none (IsNewest (g.R.Rows.seen.cells c.loop-low.rows) at low middle) c.in_ok-older.field-0 c.in-None.is (c.in_ok-older.ensures.found (before.reads.still held)) in
           rest_above (g.R.Rows.seen.cells c.args.rows.now) at c.args.lo low middle (stamped c.loop-low.found) (before.rest held)
-          (subst (λ (cells : Cells). IsNewest cells at low middle None) (before.reads.kept held) is);
+          (subst (λ (cells : Cells). IsNewest cells at low middle None) before.reads.kept is);
     }
 
 pub returns-clause-found : goal.returns-clause-found

@@ -76,10 +76,10 @@ returns g c =
     let later = c.in_ok-later.ensures in
     record {
       taken = λ held. on_true c.is_some-2.result (λ some.
-          inr (subst (λ (cells : Cells). (s : ℕ) × (c.args.start ≤ s) × IsThere cells c.args.cell.now Write s) (first.reads.kept held) (there (g.R.Rows.seen.cells c.newest.new.self) _ c.args.start _ c.in_ok-later.later (sym c.is_some-2.ensures ∙ some) (later.found (first.reads.still held)))));
+          inr (subst (λ (cells : Cells). (s : ℕ) × (c.args.start ≤ s) × IsThere cells c.args.cell.now Write s) first.reads.kept (there (g.R.Rows.seen.cells c.newest.new.self) _ c.args.start _ c.in_ok-later.later (sym c.is_some-2.ensures ∙ some) (later.found (first.reads.still held)))));
       free = λ held. on_false c.is_some-2.result (λ none. (
         nothing cells _ 0 _ c.in_ok-lock.lock (sym c.is_some.ensures ∙ c.if-is_some.false) (first.found held),
-        λ s lo hi. ap (λ (cs : Cells). get cs (key_of c.args.cell.now Write s)) (sym (first.reads.kept held)) ∙ nothing (g.R.Rows.seen.cells c.newest.new.self) _ c.args.start _ c.in_ok-later.later (sym c.is_some-2.ensures ∙ none) (later.found (first.reads.still held)) s lo hi,
+        λ s lo hi. ap (λ (cs : Cells). get cs (key_of c.args.cell.now Write s)) (sym first.reads.kept) ∙ nothing (g.R.Rows.seen.cells c.newest.new.self) _ c.args.start _ c.in_ok-later.later (sym c.is_some-2.ensures ∙ none) (later.found (first.reads.still held)) s lo hi,
       ));
       reads = reads_then first.reads later.reads;
       refusal = tt;

@@ -120,7 +120,7 @@ returns-in_default-last g c =
     record {
       found = λ held. (
         nothing (g.R.Rows.seen.cells c.args.rows.now) _ 0 _ c.in_ok-lock.lock c.in_default.is (first.found held),
-        inl (λ s lo hi. ap (λ (cs : Cells). get cs (key_of c.args.cell.now Write s)) (sym (first.reads.kept held)) ∙ nothing (g.R.Rows.seen.cells c.newest.new.self) _ 0 _ c.in_ok-last.last c.in_default-last.is (last.found (first.reads.still held)) s lo hi),
+        inl (λ s lo hi. ap (λ (cs : Cells). get cs (key_of c.args.cell.now Write s)) (sym first.reads.kept) ∙ nothing (g.R.Rows.seen.cells c.newest.new.self) _ 0 _ c.in_ok-last.last c.in_default-last.is (last.found (first.reads.still held)) s lo hi),
       );
       short = tt;
       reads = reads_then first.reads last.reads;
@@ -141,7 +141,7 @@ returns-in_default-decode g c =
       damaged = λ held _. (
         c.in-Some-last.field-0-0,
         c.in-Some-last.text.items,
-        last_written (g.R.Rows.seen.cells c.args.rows.now) (g.R.Rows.seen.cells c.newest.new.self) c.args.cell.now c.args.start c.in-Some-last.field-0-0 c.in_ok-last.last c.in-Some-last.text (first.reads.kept held) c.in-Some-last.is (last.found (first.reads.still held)),
+        last_written (g.R.Rows.seen.cells c.args.rows.now) (g.R.Rows.seen.cells c.newest.new.self) c.args.cell.now c.args.start c.in-Some-last.field-0-0 c.in_ok-last.last c.in-Some-last.text first.reads.kept c.in-Some-last.is (last.found (first.reads.still held)),
         inl (λ t kind names. c.in_default-decode.ensures.none t kind (subst (λ (bytes : List ℕ). NamesWrite bytes t kind) (sym c.deref.ensures.value) names)),
       );
       reason = reason_then _ _ _ _ _ first.reason (reason_kept _ _ _ _ damaged_no_device last.reason);
@@ -155,7 +155,7 @@ returns-in-Delete g c =
       found = λ held. (
         nothing (g.R.Rows.seen.cells c.args.rows.now) _ 0 _ c.in_ok-lock.lock c.in_default.is (first.found held),
         inr (deletion_found (g.R.Rows.seen.cells c.args.rows.now) (g.R.Rows.seen.cells c.newest.new.self) c.args.cell.now c.args.start c.in-Some-last.field-0-0 c.in-Some-decode.record.start c.in-Some-decode.record.kind c.in_ok-last.last c.in-Some-last.text
-            (first.reads.kept held) c.in-Some-last.is (last.found (first.reads.still held)) (subst (λ (bytes : List ℕ). NamesWrite bytes c.in-Some-decode.record.start c.in-Some-decode.record.kind) c.deref.ensures.value c.in-Some-decode.ensures.named) c.in-Delete.is),
+            first.reads.kept c.in-Some-last.is (last.found (first.reads.still held)) (subst (λ (bytes : List ℕ). NamesWrite bytes c.in-Some-decode.record.start c.in-Some-decode.record.kind) c.deref.ensures.value c.in-Some-decode.ensures.named) c.in-Delete.is),
       );
       short = tt;
       reads = reads_then first.reads last.reads;
@@ -188,7 +188,7 @@ returns-in-Some-2 g c =
       found = λ held.
           let still = first.reads.still held in
           value_found (g.R.Rows.seen.cells c.args.rows.now) (g.R.Rows.seen.cells c.newest.new.self) (g.R.Rows.seen.cells c.newest-2.new.self) c.args.cell.now c.args.start c.in_ok-lock.lock c.in_ok-last.last c.in_ok-value-in-Set.field-0 c.in-Some-last.field-0-0 c.in-Some-decode.record.start c.in-Some-2.field-0-0 c.in-Some-decode.record.kind c.in-Some-last.text c.in-Some-2.value
-          (first.reads.kept held) (last.reads.kept still ∙ first.reads.kept held) c.in_default.is c.in-Some-last.is c.in-Some-2.is (subst (λ (bytes : List ℕ). NamesWrite bytes c.in-Some-decode.record.start c.in-Some-decode.record.kind) c.deref.ensures.value c.in-Some-decode.ensures.named) c.in-Set.is (first.found held) (last.found still) (third.found (last.reads.still still));
+          first.reads.kept (last.reads.kept ∙ first.reads.kept) c.in_default.is c.in-Some-last.is c.in-Some-2.is (subst (λ (bytes : List ℕ). NamesWrite bytes c.in-Some-decode.record.start c.in-Some-decode.record.kind) c.deref.ensures.value c.in-Some-decode.ensures.named) c.in-Set.is (first.found held) (last.found still) (third.found (last.reads.still still));
       short = short_value _ _ _ c.in_ok-value-in-Set.field-0 c.in-Some-2.value c.in-Some-2.is third.limits;
       reads = reads_then first.reads (reads_then last.reads third.reads);
       refusal = tt;
@@ -209,8 +209,8 @@ returns g c =
       damaged = λ held _.
           let cells = g.R.Rows.seen.cells c.args.rows.now in
           let still = first.reads.still held in
-          no_data cells (g.R.Rows.seen.cells c.newest-2.new.self) c.args.cell.now c.args.start c.in-Some-last.field-0-0 c.in-Some-decode.record.start c.in-Some-decode.record.kind c.in_ok-value-in-Set.field-0 c.in-Some-last.text.items (last.reads.kept still ∙ first.reads.kept held) c.in-None.is
+          no_data cells (g.R.Rows.seen.cells c.newest-2.new.self) c.args.cell.now c.args.start c.in-Some-last.field-0-0 c.in-Some-decode.record.start c.in-Some-decode.record.kind c.in_ok-value-in-Set.field-0 c.in-Some-last.text.items (last.reads.kept ∙ first.reads.kept) c.in-None.is
           (subst (λ (bytes : List ℕ). NamesWrite bytes c.in-Some-decode.record.start c.in-Some-decode.record.kind) c.deref.ensures.value c.in-Some-decode.ensures.named) c.in-Set.is (third.found (last.reads.still still))
-          (last_written cells (g.R.Rows.seen.cells c.newest.new.self) c.args.cell.now c.args.start c.in-Some-last.field-0-0 c.in_ok-last.last c.in-Some-last.text (first.reads.kept held) c.in-Some-last.is (last.found still));
+          (last_written cells (g.R.Rows.seen.cells c.newest.new.self) c.args.cell.now c.args.start c.in-Some-last.field-0-0 c.in_ok-last.last c.in-Some-last.text first.reads.kept c.in-Some-last.is (last.found still));
       reason = reason_then _ _ _ _ _ first.reason (reason_then _ _ _ _ _ last.reason (reason_kept _ _ _ _ damaged_no_device third.reason));
     }

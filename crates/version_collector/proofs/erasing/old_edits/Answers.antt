@@ -24,7 +24,7 @@ returns-then-not-is_empty-2-clause-old g c =
     (some_list ts.items ts.len c.is_empty-2.result ts.ok.0 c.is_empty-2.ensures c.if-not-is_empty-2.true) c.deref-then-not-is_empty-2.ensures.value c.data_edits.ensures.edits c.in_ok-starts.ensures.few
     (unnamed_where_none (g.R.Rows.seen.holds c.args.rows.now) cells x c.args.floor vs.items ts.items (empty_list vs.items vs.len c.is_empty.result vs.ok.0 c.is_empty.ensures c.if-not-is_empty.false) c.in_ok-records.ensures.found
     (found_after (g.R.Rows.seen.holds c.args.rows.now) (g.R.Rows.seen.holds c.near_records.new.rows) cells (g.R.Rows.seen.cells c.near_records.new.rows) x c.args.floor c.in_ok-near.near ts.items both.still both.kept
-    (λ held. subst (λ (cs : Cells). AreNear cs x c.args.floor c.in_ok-near.near) (reads.kept held) (c.in_ok-near.ensures.named (reads.still held))) c.in_ok-starts.ensures.found))
+    (λ held. subst (λ (cs : Cells). AreNear cs x c.args.floor c.in_ok-near.near) reads.kept (c.in_ok-near.ensures.named (reads.still held))) c.in_ok-starts.ensures.found))
 
 pub returns-clause-old : goal.returns-clause-old
 returns-clause-old g c =
@@ -38,7 +38,7 @@ returns-clause-old g c =
     (empty_list ts.items ts.len c.is_empty-2.result ts.ok.0 c.is_empty-2.ensures c.if-not-is_empty-2.false) c.deletion_edits.ensures.edits
     (unnamed_where_none (g.R.Rows.seen.holds c.args.rows.now) cells x c.args.floor vs.items ts.items (empty_list vs.items vs.len c.is_empty.result vs.ok.0 c.is_empty.ensures c.if-not-is_empty.false) c.in_ok-records.ensures.found
     (found_after (g.R.Rows.seen.holds c.args.rows.now) (g.R.Rows.seen.holds c.near_records.new.rows) cells (g.R.Rows.seen.cells c.near_records.new.rows) x c.args.floor c.in_ok-near.near ts.items both.still both.kept
-    (λ held. subst (λ (cs : Cells). AreNear cs x c.args.floor c.in_ok-near.near) (reads.kept held) (c.in_ok-near.ensures.named (reads.still held))) c.in_ok-starts.ensures.found))
+    (λ held. subst (λ (cs : Cells). AreNear cs x c.args.floor c.in_ok-near.near) reads.kept (c.in_ok-near.ensures.named (reads.still held))) c.in_ok-starts.ensures.found))
     (last_after (g.R.Rows.seen.holds c.args.rows.now) (g.R.Rows.seen.holds c.old_records.new.rows) cells (g.R.Rows.seen.cells c.old_records.new.rows) x c.args.floor c.in_ok-near.deletion reads.still reads.kept c.in_ok-near.ensures.deletion)
 
 pub returns-in_err-near-clause-refusal : goal.returns-in_err-near-clause-refusal

@@ -39,7 +39,7 @@ returns-clause-named g c = λ held.
     (near_read cells x c.args.floor c.in-Some.commit c.in_ok-start.start c.in-Some.text.items c.in_ok-start.kind c.in_ok-next-2.next
     (at_some (IsNewest cells (key_of x Write) 0 c.args.floor) c.in_ok-last.last (c.in-Some.commit, c.in-Some.text) c.in-Some.is (c.in_ok-last.ensures.found held))
     (subst (λ (b : List ℕ). NamesWrite b c.in_ok-start.start c.in_ok-start.kind) c.deref.ensures.value c.in_ok-start.ensures.named)
-    (subst (λ (cs : Cells). NamesNext cs x c.args.floor c.in_ok-next-2.next) (reads.kept held) (c.in_ok-next-2.ensures.named (reads.still held))))
+    (subst (λ (cs : Cells). NamesNext cs x c.args.floor c.in_ok-next-2.next) reads.kept (c.in_ok-next-2.ensures.named (reads.still held))))
 
 pub returns-clause-deletion : goal.returns-clause-deletion
 returns-clause-deletion g c = λ held shown.

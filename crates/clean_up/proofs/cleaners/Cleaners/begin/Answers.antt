@@ -21,7 +21,7 @@ returns-in_err-cell-clause-step g c = λ held.
 pub returns-in_err-lock-clause-step : goal.returns-in_err-lock-clause-step
 returns-in_err-lock-clause-step g c = λ held.
     let e = as_err c.from_residual-in_err-lock.result c.in_err-lock.field-0.0 c.from_residual-in_err-lock.ensures.1 in
-    rw (e, c.in_err-lock.ensures.reads.kept held) (refused_at (g.R.Rows.seen.cells c.args.rows.now) c.args.self.now c.args.self.now (machine.CleanBegin (cell_of c.args.row.now c.args.family.now)) c.in_err-lock.field-0.0
+    rw (e, c.in_err-lock.ensures.reads.kept) (refused_at (g.R.Rows.seen.cells c.args.rows.now) c.args.self.now c.args.self.now (machine.CleanBegin (cell_of c.args.row.now c.args.family.now)) c.in_err-lock.field-0.0
     (same_itself c.args.self.now) (read_storage c.in_err-lock.field-0.0 c.in_err-lock.ensures.refusal))
 
 pub returns-in_err-lock-clause-undamaged : goal.returns-in_err-lock-clause-undamaged
@@ -30,30 +30,30 @@ returns-in_err-lock-clause-undamaged g c = λ held st reached store shown is.
 
 pub returns-in_default-clause-step : goal.returns-in_default-clause-step
 returns-in_default-clause-step g c = λ held.
-    rw (c.in_ok-lock.ensures.reads.kept held) (no_lock_at (g.R.Rows.seen.cells c.args.rows.now) c.args.self.now (cell_of c.args.row.now c.args.family.now) c.in_ok-cell.ensures.row c.in_ok-cell.ensures.family
+    rw c.in_ok-lock.ensures.reads.kept (no_lock_at (g.R.Rows.seen.cells c.args.rows.now) c.args.self.now (cell_of c.args.row.now c.args.family.now) c.in_ok-cell.ensures.row c.in_ok-cell.ensures.family
     (standing_none (g.R.Rows.seen.cells c.args.rows.now) c.in_ok-cell.cell (cell_of c.args.row.now c.args.family.now) c.in_ok-lock.field-0 c.in_default.is c.in_ok-cell.ensures.ok (c.in_ok-lock.ensures.found held)))
 
 pub returns-then-len-ge-MOST_CLEANERS-clause-step : goal.returns-then-len-ge-MOST_CLEANERS-clause-step
 returns-then-len-ge-MOST_CLEANERS-clause-step g c = λ held.
     let stands = standing_some (g.R.Rows.seen.cells c.args.rows.now) c.in_ok-cell.cell c.in_ok-lock.field-0 c.in-Some.lock c.in-Some.is (c.in_ok-lock.ensures.found held) in
-    rw (c.in_ok-lock.ensures.reads.kept held) (full_at (g.R.Rows.seen.cells c.args.rows.now) c.args.self.now (cell_of c.args.row.now c.args.family.now) c.in-Some.lock c.in_ok-cell.ensures.row c.in_ok-cell.ensures.family
+    rw c.in_ok-lock.ensures.reads.kept (full_at (g.R.Rows.seen.cells c.args.rows.now) c.args.self.now (cell_of c.args.row.now c.args.family.now) c.in-Some.lock c.in_ok-cell.ensures.row c.in_ok-cell.ensures.family
     (subst (λ (x : Cell). Stands (g.R.Rows.seen.cells c.args.rows.now) x c.in-Some.lock) c.in_ok-cell.ensures.ok stands) (is_full _ _ c.len.ensures.len c.if-len-ge-MOST_CLEANERS.true))
 
 pub returns-then-number-gt-MOST_NUMBER-clause-step : goal.returns-then-number-gt-MOST_NUMBER-clause-step
 returns-then-number-gt-MOST_NUMBER-clause-step g c = λ held.
-    rw (c.in_ok-lock.ensures.reads.kept held) (refused_at (g.R.Rows.seen.cells c.args.rows.now) c.args.self.now c.args.self.now (machine.CleanBegin (cell_of c.args.row.now c.args.family.now)) Exhausted (same_itself c.args.self.now) tt)
+    rw c.in_ok-lock.ensures.reads.kept (refused_at (g.R.Rows.seen.cells c.args.rows.now) c.args.self.now c.args.self.now (machine.CleanBegin (cell_of c.args.row.now c.args.family.now)) Exhausted (same_itself c.args.self.now) tt)
 
 pub returns-in_err-insert-clause-step : goal.returns-in_err-insert-clause-step
 returns-in_err-insert-clause-step g c = λ held.
     let e = as_err c.from_residual-in_err-insert.result NoMemory c.from_residual-in_err-insert.ensures.1 in
-    rw (e, c.in_ok-lock.ensures.reads.kept held) (refused_at (g.R.Rows.seen.cells c.args.rows.now) c.args.self.now (record c.args.self.now { cleaners = c.insert.new.self }) (machine.CleanBegin (cell_of c.args.row.now c.args.family.now)) NoMemory
+    rw (e, c.in_ok-lock.ensures.reads.kept) (refused_at (g.R.Rows.seen.cells c.args.rows.now) c.args.self.now (record c.args.self.now { cleaners = c.insert.new.self }) (machine.CleanBegin (cell_of c.args.row.now c.args.family.now)) NoMemory
     (same_entries c.args.self.now (record c.args.self.now { cleaners = c.insert.new.self }) refl c.in_err-insert.ensures.err) tt)
 
 pub returns-clause-step : goal.returns-clause-step
 returns-clause-step g c = λ held.
     let same = c.in_ok-cell.ensures.ok in
     let stands = standing_some (g.R.Rows.seen.cells c.args.rows.now) c.in_ok-cell.cell c.in_ok-lock.field-0 c.in-Some.lock c.in-Some.is (c.in_ok-lock.ensures.found held) in
-    rw (c.in_ok-lock.ensures.reads.kept held, c.stamp-start.ensures.stamp)
+    rw (c.in_ok-lock.ensures.reads.kept, c.stamp-start.ensures.stamp)
     (subst (λ (x : Cell). Steps (g.R.Rows.seen.cells c.args.rows.now) c.args.self.now (machine.CleanBegin x) (machine.Cleaning c.args.self.now.next c.in-Some.lock.start) (g.R.Rows.seen.cells c.args.rows.now) (record c.args.self.now { next = c.args.self.now.next + 1; cleaners = c.insert.new.self })) same
     (opens_at (g.R.Rows.seen.cells c.args.rows.now) c.args.self.now (record c.args.self.now { next = c.args.self.now.next + 1; cleaners = c.insert.new.self }) c.in_ok-cell.cell c.in-Some.lock
     (subst (λ (x : Cell). IsRow x.row) (sym same) c.in_ok-cell.ensures.row) (subst (λ (x : Cell). IsFamily x.family) (sym same) c.in_ok-cell.ensures.family) stands

@@ -22,7 +22,7 @@ returns-in_err-reply-clause-step g c = λ held.
     let w = c.advance.new.self in
     let lent = c.get_mut.follows.holds w in
     let e = as_err c.from_residual.result c.in_err-reply.field-0.0 c.from_residual.ensures.1 in
-    rw (e, c.in_err-reply.ensures.same.kept held) (refused_at (g.R.Rows.seen.cells c.args.rows.now) c.args.self.now (record c.args.self.now { cleaners = c.get_mut.follows.lender w }) (machine.CleanStep c.args.number) c.in_err-reply.field-0.0
+    rw (e, c.in_err-reply.ensures.same.kept) (refused_at (g.R.Rows.seen.cells c.args.rows.now) c.args.self.now (record c.args.self.now { cleaners = c.get_mut.follows.lender w }) (machine.CleanStep c.args.number) c.in_err-reply.field-0.0
     (same_lent c.args.self.now (record c.args.self.now { cleaners = c.get_mut.follows.lender w }) c.args.number c.in-Some.cleaner.now w was c.in_err-reply.ensures.err refl (lent.3 there).0 lent.2)
     (advance_storage c.in_err-reply.field-0.0 c.in_err-reply.ensures.refusal))
 

@@ -7,7 +7,7 @@ use Rattle.server_loop.proofs.server.Server.clean_begin.Goals as goal
 
 pub returns-in-Ok : goal.returns-in-Ok
 returns-in-Ok g c = let told = c.in-Ok.ensures in record {
-  step = record { step = cleans_as _ _ _ _ _ tt refl refl refl refl (λ st reached shown. unchanged_if _ _ st (told.reads.kept shown.in_order)) told.step told.reads.still told.reads.stays (λ held st reached cells cleaners. started_undamaged c.in-Ok.found); refusal = started_told IsBeginRefusal c.in-Ok.found; limits = tt };
+  step = record { step = cleans_as _ _ _ _ _ tt refl refl refl refl (λ st reached shown. unchanged_if _ _ st (told.reads.kept)) told.step told.reads.still told.reads.stays (λ held st reached cells cleaners. started_undamaged c.in-Ok.found); refusal = started_told IsBeginRefusal c.in-Ok.found; limits = tt };
   stamps = record { last = started_stays c.in-Ok.found _; restarted = tt; exhausted = λ is. absurd (not_done _ _ tt is) };
   edits = record { changes = told.reads.kept; room = told.reads.room };
   sessions = record { told = λ st shown. tt; sessions = record { top = refl; each = λ t. refl }; cleaners = tt; collectors = record { next = refl; floor = refl; each = λ i. refl; count = refl }; oracle = refl };
@@ -18,7 +18,7 @@ returns-in-Ok g c = let told = c.in-Ok.ensures in record {
 
 pub returns-in-Err : goal.returns-in-Err
 returns-in-Err g c = let told = c.in-Err.ensures in record {
-  step = record { step = cleans_as _ _ _ _ _ tt refl refl refl refl (λ st reached shown. unchanged_if _ _ st (told.reads.kept shown.in_order)) told.step told.reads.still told.reads.stays (λ held st reached cells cleaners. err_undamaged _ _ refl (told.undamaged held st reached cells cleaners)); refusal = told.refusal; limits = tt };
+  step = record { step = cleans_as _ _ _ _ _ tt refl refl refl refl (λ st reached shown. unchanged_if _ _ st (told.reads.kept)) told.step told.reads.still told.reads.stays (λ held st reached cells cleaners. err_undamaged _ _ refl (told.undamaged held st reached cells cleaners)); refusal = told.refusal; limits = tt };
   stamps = record { last = refl; restarted = tt; exhausted = λ is. λ st shown. told.exhausted (as_err _ _ _ refl is) st shown.cleaners };
   edits = record { changes = told.reads.kept; room = told.reads.room };
   sessions = record { told = λ st shown. tt; sessions = record { top = refl; each = λ t. refl }; cleaners = told.err; collectors = record { next = refl; floor = refl; each = λ i. refl; count = refl }; oracle = refl };

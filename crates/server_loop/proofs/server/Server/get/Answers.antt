@@ -6,7 +6,7 @@ use Rattle.server_loop.proofs.server.Server.get.Goals as goal
 
 pub returns-in-Ok : goal.returns-in-Ok
 returns-in-Ok g c = let told = c.in-Ok.ensures in record {
-  step = record { step = steps_as _ _ _ _ _ tt refl refl refl (λ st reached shown. unchanged_if _ _ st (told.reads.kept shown.in_order)) (λ h. told.step h _) told.reads.still told.reads.stays (λ st reached held shown. found_undamaged c.in-Ok.found); refusal = found_told IsGetRefusal c.in-Ok.found; limits = short_found c.in-Ok.found told.short };
+  step = record { step = steps_as _ _ _ _ _ tt refl refl refl (λ st reached shown. unchanged_if _ _ st (told.reads.kept)) (λ h. told.step h _) told.reads.still told.reads.stays (λ st reached held shown. found_undamaged c.in-Ok.found); refusal = found_told IsGetRefusal c.in-Ok.found; limits = short_found c.in-Ok.found told.short };
   stamps = record { last = found_stays c.in-Ok.found _; restarted = tt; exhausted = λ _. tt };
   edits = record { changes = told.reads.kept; room = told.reads.room };
   sessions = record { told = λ st shown gone. absurd (ok_not _ _ (told.unknown st shown.shows.sessions gone)); sessions = record { top = refl; each = λ t. refl }; cleaners = record { next = refl; each = λ i. refl; count = refl }; collectors = record { next = refl; floor = refl; each = λ i. refl; count = refl }; oracle = refl };
@@ -17,7 +17,7 @@ returns-in-Ok g c = let told = c.in-Ok.ensures in record {
 
 pub returns-in-Err : goal.returns-in-Err
 returns-in-Err g c = let told = c.in-Err.ensures in record {
-  step = record { step = steps_as _ _ _ _ _ tt refl refl refl (λ st reached shown. unchanged_if _ _ st (told.reads.kept shown.in_order)) (λ h. told.step h _) told.reads.still told.reads.stays (λ st reached held shown. err_undamaged _ _ refl (told.undamaged held st reached shown.store)); refusal = told.refusal; limits = tt };
+  step = record { step = steps_as _ _ _ _ _ tt refl refl refl (λ st reached shown. unchanged_if _ _ st (told.reads.kept)) (λ h. told.step h _) told.reads.still told.reads.stays (λ st reached held shown. err_undamaged _ _ refl (told.undamaged held st reached shown.store)); refusal = told.refusal; limits = tt };
   stamps = record { last = refl; restarted = tt; exhausted = λ _. tt };
   edits = record { changes = told.reads.kept; room = told.reads.room };
   sessions = record { told = λ st shown gone. as_refused _ _ _ refl (told.unknown st shown.shows.sessions gone); sessions = record { top = refl; each = λ t. refl }; cleaners = record { next = refl; each = λ i. refl; count = refl }; collectors = record { next = refl; floor = refl; each = λ i. refl; count = refl }; oracle = refl };

@@ -46,7 +46,7 @@ pub returns-in-Ok-newest : goal.returns-in-Ok-newest
 returns-in-Ok-newest g c =
     let told = c.in-Ok-newest.ensures in
     record {
-      step = record { step = tells_as _ _ _ (λ held. (told.reads.still held, told.reads.kept held)) refl refl refl refl _ _ (ap spots_in told.reads.stays) (λ st shown. raw_done st _ _ _ _ _ c.in-Ok.ensures.valid c.in-Ok-new.ensures.valid) (λ held. raw_whole _); refusal = tt; limits = short_found c.args.lo c.args.hi c.in-Ok-newest.found told.limits };
+      step = record { step = tells_as _ _ _ (λ held. (told.reads.still held, told.reads.kept)) refl refl refl refl _ _ (ap spots_in told.reads.stays) (λ st shown. raw_done st _ _ _ _ _ c.in-Ok.ensures.valid c.in-Ok-new.ensures.valid) (λ held. raw_whole _); refusal = tt; limits = short_found c.args.lo c.args.hi c.in-Ok-newest.found told.limits };
       stamps = record { last = refl; restarted = tt; exhausted = λ _. tt };
       edits = record { changes = told.reads.kept; room = tt };
       sessions = record { told = λ st shown. tt; sessions = record { top = refl; each = λ t. refl }; cleaners = record { next = refl; each = λ i. refl; count = refl }; collectors = record { next = refl; floor = refl; each = λ i. refl; count = refl }; oracle = refl };
@@ -60,7 +60,7 @@ returns g c =
     let told = c.in-Err-newest.ensures in
     let refusal = is_read_refusal _ c.in-Err-newest.refusal told.refusal in
     record {
-      step = record { step = tells_as _ _ _ (λ held. (told.reads.still held, told.reads.kept held)) refl refl refl refl _ _ (ap spots_in told.reads.stays) (λ st shown. refuses (raw_refuses st _ _ _ _ _ refusal)) (λ held. name_undamaged _ (read_undamaged _ _ told.refusal held)); refusal = raw_refused _ refusal; limits = tt };
+      step = record { step = tells_as _ _ _ (λ held. (told.reads.still held, told.reads.kept)) refl refl refl refl _ _ (ap spots_in told.reads.stays) (λ st shown. refuses (raw_refuses st _ _ _ _ _ refusal)) (λ held. name_undamaged _ (read_undamaged _ _ told.refusal held)); refusal = raw_refused _ refusal; limits = tt };
       stamps = record { last = refl; restarted = tt; exhausted = λ _. tt };
       edits = record { changes = told.reads.kept; room = tt };
       sessions = record { told = λ st shown. tt; sessions = record { top = refl; each = λ t. refl }; cleaners = record { next = refl; each = λ i. refl; count = refl }; collectors = record { next = refl; floor = refl; each = λ i. refl; count = refl }; oracle = refl };

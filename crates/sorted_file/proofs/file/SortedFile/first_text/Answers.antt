@@ -40,5 +40,5 @@ returns-in-None-clause-found g c =
     let same = of_told (g.F.Files.contents c.args.files.now) m _ e c.in_ok-found.ensures.stays.still o in
     first_past m c.args.self.now o c.args.key.now c.args.lo c.rows_to-to.result row.0 place some row.1
     (none ∙ ap (λ (t : List ℕ). option_map text_of (first_value (entries_from t (block_of row.0)))) c.requires) _
-    (h m same.0 ∙ ap (λ (v : Vec BlockRow). option_map text_of (first_value (entries_in (blocks_of (drop c.rows_to-to.result v.items))))) c.in_ok-found.ensures.rows)))
+    (h m same ∙ ap (λ (v : Vec BlockRow). option_map text_of (first_value (entries_in (blocks_of (drop c.rows_to-to.result v.items))))) c.in_ok-found.ensures.rows)))
     c.head_from-in-None.ensures.found

@@ -1,4 +1,4 @@
-use Rattle.std.proofs.Common.{◌≡◌, List, ℕ, Option, true, false, refl, sym, subst, ◌∙◌, arith}
+use Rattle.std.proofs.Common.{◌≡◌, List, ℕ, Option, true, false, refl, sym, ap, length, subst, ◌∙◌, arith}
 use Rattle.cell_key.specs.Entries.{Entry}
 use Rattle.file_store.specs.Store.{Contents}
 use Rattle.sorted_file.specs.Index.{Tells}
@@ -57,6 +57,7 @@ returns-clause-read g c = λ row at.
       read = λ image tells. record {
         list = parsed.1.list;
         first = subst (λ (t : List ℕ). BeginsWith t parsed.0) c.deref.ensures.value begins;
+        whole = sym (ap (λ (bytes : List ℕ). length bytes) (c.in_ok-bytes.ensures.part image tells)) ∙ c.in_ok-bytes.ensures.length;
         bytes = sym (c.in_ok-bytes.ensures.part image tells) ∙ parsed.2;
       };
     })

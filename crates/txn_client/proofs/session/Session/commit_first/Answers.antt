@@ -49,7 +49,7 @@ returns-then-not-branch g c =
     record {
       step = λ held last.
           advance_lost (g.R.Rows.seen.cells c.args.rows.now) c.args.self.now last c.in-Some.first.now c.requires c.in-Some.ensures.found
-          (rw c.if-not-branch.true at (at.gone held)) (g.R.Rows.seen.cells c.record.new.rows) (left.kept held);
+          (rw c.if-not-branch.true at (at.gone held)) (g.R.Rows.seen.cells c.record.new.rows) left.kept;
       draws = λ last. (tt, refl);
       start = refl;
       writes = refl;

@@ -65,7 +65,7 @@ returns g c =
           c.in-Some.ensures.found c.len.ensures.len (ap (nat_eq (c.args.k + 1)) (c.len-2.ensures.len ∙ sym c.len.ensures.len)) (g.R.Rows.seen.cells c.record.new.rows)
           (elim (with_gone stood put (at.gone held) at.left) [
             | inl made ↦ inl (made.such.1 held, made.applied.made held ∙ (make_cells cells write.cell session.start made.edits).recorded session.commit (kind_of_change write.value) made.such.2)
-            | inr left ↦ inr (left.0, left.1.kept held)
+            | inr left ↦ inr (left.0, left.1.kept)
           ]);
       draws = λ last. (tt, refl);
       start = refl;

@@ -22,7 +22,7 @@ returns-in_err-cell-clause-step g c = λ held last.
 pub returns-clause-step : goal.returns-clause-step
 returns-clause-step g c = λ held last.
     let same = c.in_ok-cell.ensures.ok in
-    rw (c.read_cell.ensures.reads.kept held) (subst (λ (x : Cell). Steps (g.R.Rows.seen.cells c.args.rows.now) c.args.self.now last (machine.Get c.args.start x) (result_reply found_reply c.read_cell.result) (g.R.Rows.seen.cells c.args.rows.now) c.args.self.now last) same
+    rw c.read_cell.ensures.reads.kept (subst (λ (x : Cell). Steps (g.R.Rows.seen.cells c.args.rows.now) c.args.self.now last (machine.Get c.args.start x) (result_reply found_reply c.read_cell.result) (g.R.Rows.seen.cells c.args.rows.now) c.args.self.now last) same
     (reads_open_at (g.R.Rows.seen.cells c.args.rows.now) c.args.self.now last c.args.start c.in_ok-cell.cell c.read_cell.result c.in_ok-cell.ensures.open
     (subst (λ (x : Cell). IsRow x.row) (sym same) c.in_ok-cell.ensures.row) (subst (λ (x : Cell). IsFamily x.family) (sym same) c.in_ok-cell.ensures.family) (c.read_cell.ensures.found held) c.read_cell.ensures.refusal))
 

@@ -70,7 +70,7 @@ returns-in_err-outcome-clause-step g c = λ held.
     let w = c.advance.new.self in
     let lent = c.get_mut.follows.holds w in
     let e = as_err c.from_residual.result c.in_err-outcome.field-0.0 c.from_residual.ensures.1 in
-    rw (e, c.in_err-outcome.ensures.refused.same.kept held) (steps_refused _ (g.R.Rows.seen.cells c.args.rows.now) c.args.self.now (record c.args.self.now { sessions = c.get_mut.follows.lender w }) c.args.oracle.now.last c.advance.new.oracle.last c.args.start
+    rw (e, c.in_err-outcome.ensures.refused.same.kept) (steps_refused _ (g.R.Rows.seen.cells c.args.rows.now) c.args.self.now (record c.args.self.now { sessions = c.get_mut.follows.lender w }) c.args.oracle.now.last c.advance.new.oracle.last c.args.start
     c.in-Some.session.now w c.in_err-outcome.field-0.0 was c.in_err-outcome.ensures.err refl (lent.3 there).0 lent.2 (not_less _ _ c.in_err-outcome.ensures.refused.stays) c.in_err-outcome.ensures.refusal)
 
 pub returns-in_default-clause-step : goal.returns-in_default-clause-step
@@ -172,7 +172,7 @@ pub returns-in_err-outcome-clause-touched : goal.returns-in_err-outcome-clause-t
 returns-in_err-outcome-clause-touched g c = λ held.
     let session = c.in-Some.session.now in
     touches_at c.args.self.now c.args.start session (g.R.Rows.seen.cells c.args.rows.now) (g.R.Rows.seen.cells c.advance.new.rows) (sym c.in-Some.ensures.value)
-    (same_touch (g.R.Rows.seen.holds c.args.rows.now) (g.R.Rows.seen.cells c.args.rows.now) session session.phase (g.R.Rows.seen.cells c.advance.new.rows) (c.in_err-outcome.ensures.refused.same.kept held))
+    (same_touch (g.R.Rows.seen.holds c.args.rows.now) (g.R.Rows.seen.cells c.args.rows.now) session session.phase (g.R.Rows.seen.cells c.advance.new.rows) c.in_err-outcome.ensures.refused.same.kept)
 
 pub returns-in_err-outcome-clause-undamaged : goal.returns-in_err-outcome-clause-undamaged
 returns-in_err-outcome-clause-undamaged g c = λ held is. refused_not c.from_residual.result c.in_err-outcome.field-0.0 Damaged (IsAdvanceRefusal (g.R.Rows.seen.holds c.args.rows.now) _) (λ u. u held) c.from_residual.ensures.1 c.in_err-outcome.ensures.refusal is

@@ -12,7 +12,7 @@ returns-in_err-cell-clause-room g c = room_none g.R.Rows.seen.overfills 1 c.args
 
 pub returns-in_default-clause-visit : goal.returns-in_default-clause-visit
 returns-in_default-clause-visit g c = λ held shown.
-    subst (λ (m : Cells). Visits (g.R.Rows.seen.cells c.args.rows.now) c.args.self.now c.turn.result m c.turn.new.self) (sym (c.in_ok-cell.ensures.reads.kept held))
+    subst (λ (m : Cells). Visits (g.R.Rows.seen.cells c.args.rows.now) c.args.self.now c.turn.result m c.turn.new.self) (sym c.in_ok-cell.ensures.reads.kept)
     (c.turn.ensures.turned (g.R.Rows.seen.cells c.args.rows.now)
     (subst (λ (o : Option Cell). IsNextCell (g.R.Rows.seen.cells c.args.rows.now) (position_of c.args.self.now.after) (position_of o)) c.in_default.is (c.in_ok-cell.ensures.found held)))
 
@@ -25,7 +25,7 @@ returns-in-First-clause-room g c =
 
 pub returns-in-Second-clause-visit : goal.returns-in-Second-clause-visit
 returns-in-Second-clause-visit g c = λ held shown.
-    let e = c.in_ok-cell.ensures.reads.kept held in
+    let e = c.in_ok-cell.ensures.reads.kept in
     let next = subst (λ (o : Option Cell). IsNextCell (g.R.Rows.seen.cells c.args.rows.now) (position_of c.args.self.now.after) (position_of o)) c.in-Some.is (c.in_ok-cell.ensures.found held) in
     subst (λ (m : Cells). IfOk c.collect.result (λ reply. Visits m c.args.self.now reply (g.R.Rows.seen.cells c.collect.new.rows) c.collect.new.self)) e
     (c.collect.ensures.visit (c.in_ok-cell.ensures.reads.still held) (subst (λ (m : Cells). AreShown m) (sym e) shown) c.in-Second.is
@@ -33,4 +33,4 @@ returns-in-Second-clause-visit g c = λ held shown.
 
 pub returns-in-Second-clause-undamaged : goal.returns-in-Second-clause-undamaged
 returns-in-Second-clause-undamaged g c = λ held shown.
-    c.collect.ensures.undamaged (c.in_ok-cell.ensures.reads.still held) (subst (λ (m : Cells). AreShown m) (sym (c.in_ok-cell.ensures.reads.kept held)) shown)
+    c.collect.ensures.undamaged (c.in_ok-cell.ensures.reads.still held) (subst (λ (m : Cells). AreShown m) (sym c.in_ok-cell.ensures.reads.kept) shown)
