@@ -1,6 +1,6 @@
 //! Files of which one call fails, for tests.
 
-ghost use Rattle.std.specs.Prelude.{◌≡◌, ◌≤◌, ◌++◌, IfOk, IfSome, None, OnErr, OnOk, length, option_map};
+ghost use Rattle.std.specs.Prelude.{◌≡◌, ◌≤◌, ◌++◌, IfOk, IfSome, IsErrOf, None, OnErr, OnOk, length, option_map};
 ghost use Rattle.std.specs.FinMap as map;
 ghost use Rattle.file_store.specs.Fails.{IsAnswer, PutFails, ReadFails, RemoveFails, counted, next_fail, together};
 ghost use Rattle.file_store.specs.Store.{HasFaultCause, KeepsOthers, MayLack, Reads, bytes_of, with_file, without_file};
@@ -71,7 +71,7 @@ impl<F: Files> FailAt<F> {
         }
     }
 
-    /// How many calls of `put`, `size`, `read_at`, `list` and `remove` there were, up to the greatest number.
+    /// How many calls of `put`, `put_owned`, `size`, `read_at`, `list` and `remove` there were, up to the greatest number.
     pub fn calls(&self) -> u64
         ensures { result ≡ self.now.counter.calls }
     {
@@ -109,6 +109,8 @@ impl<F: Files> Files for FailAt<F> {
             ≡ with_file name bytes.now (F.contents self.old.inner)) }
         ensures err { OnErr result (KeepsOthers name
             (F.contents self.old.inner) (F.contents self.new.inner)) }
+        ensures memory { IsErrOf result FileFault.Memory →
+            F.contents self.new.inner ≡ F.contents self.old.inner }
         ensures cause { HasFaultCause
             (together (F.faults self.old.inner) self.old.counter.faults)
             (together (F.faults self.new.inner) self.new.counter.faults) result }
@@ -126,6 +128,26 @@ impl<F: Files> Files for FailAt<F> {
                 Err(FileFault::Device)
             }
         }
+    }
+
+    fn put_owned(&mut self, name: u64, bytes: Vec<u8>) -> Result<(), FileFault>
+        ensures counted { self.new.counter ≡ counted self.old.counter }
+        ensures answer { IsAnswer (next_fail self.old.counter)
+            (F.faults self.old.inner) (F.faults self.new.inner) result }
+        ensures failed { IfSome (next_fail self.old.counter) (λ how.
+            PutFails F.contents how name bytes.items self.new.inner_fault
+            self.old.inner self.new.inner) }
+        ensures ok { OnOk result (F.contents self.new.inner
+            ≡ with_file name bytes.items (F.contents self.old.inner)) }
+        ensures err { OnErr result (KeepsOthers name
+            (F.contents self.old.inner) (F.contents self.new.inner)) }
+        ensures memory { IsErrOf result FileFault.Memory →
+            F.contents self.new.inner ≡ F.contents self.old.inner }
+        ensures cause { HasFaultCause
+            (together (F.faults self.old.inner) self.old.counter.faults)
+            (together (F.faults self.new.inner) self.new.counter.faults) result }
+    {
+        self.put(name, &bytes)
     }
 
     fn size(&mut self, name: u64) -> Result<Option<u64>, FileFault>

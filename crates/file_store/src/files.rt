@@ -1,6 +1,6 @@
 //! Stores of files under numbers: what they promise, and why a call on them fails.
 
-ghost use Rattle.std.specs.Prelude.{◌≡◌, ◌≤◌, ℕ, ◌++◌, length, Option, Some, option_map, OnOk, OnErr, IfOk, IfSome};
+ghost use Rattle.std.specs.Prelude.{◌≡◌, ◌≤◌, ℕ, ◌++◌, length, Option, Some, option_map, OnOk, OnErr, IfOk, IfSome, IsErrOf};
 ghost use Rattle.std.specs.FinMap as map;
 ghost use Rattle.file_store.specs.Store.{Contents, HasFaultCause, KeepsOthers, MayLack, Reads, bytes_of, with_file, without_file};
 ghost use Rattle.file_store.specs.Faults.{fault_text};
@@ -56,12 +56,13 @@ pub trait Files {
     /// How often a device has failed, up to the greatest number.
     ghost faults: { Self → ℕ };
 
-    /// Makes or replaces a file. After an `Err` the bytes under this name are open, and all other
-    /// files are as before.
+    /// Makes or replaces a file. After a device's fault the bytes under this name are open, and all other
+    /// files are as before. If memory was refused, all files are as before.
     fn put(&mut self, name: u64, bytes: &[u8]) -> Result<(), FileFault>
         ensures ok { OnOk result (contents self.new
             ≡ with_file name bytes.now (contents self.old)) }
         ensures err { OnErr result (KeepsOthers name (contents self.old) (contents self.new)) }
+        ensures memory { IsErrOf result Memory → contents self.new ≡ contents self.old }
         ensures cause { HasFaultCause (faults self.old) (faults self.new) result };
 
     /// Makes or replaces a file as `put` does. Files in memory keep these bytes, and no copy of them.
@@ -69,6 +70,7 @@ pub trait Files {
         ensures ok { OnOk result (contents self.new
             ≡ with_file name bytes.items (contents self.old)) }
         ensures err { OnErr result (KeepsOthers name (contents self.old) (contents self.new)) }
+        ensures memory { IsErrOf result Memory → contents self.new ≡ contents self.old }
         ensures cause { HasFaultCause (faults self.old) (faults self.new) result }
     {
         self.put(name, &bytes)
