@@ -73,7 +73,8 @@ pub data FlushesEach {F : Type 0} (contents : F → Option Contents) (faults : F
       → FlushesEach contents faults old (n ∷ ns) (outcome.Refused refusal) new
 
 -- The root file that names these stamps was put, in format 2. Or a device failed or memory was
--- refused: its bytes are then open, and all other files are as before. Nothing else changed.
+-- refused, and all files are as before, or a device failed and the root's bytes are open, and all
+-- other files are as before. Nothing else changed.
 abbrev pub PutsRoot : {F : Type 0} → (F → Option Contents) → ℕ → ℕ → ClusterState F → Outcome
     → F → Type 0
 PutsRoot contents top floor old outcome.Done files =
@@ -82,7 +83,7 @@ PutsRoot contents top floor old outcome.Done files =
 PutsRoot contents top floor old (outcome.Refused refusal) files =
     ((refusal ≡ refused.Device) ⊎ (refusal ≡ refused.NoMemory))
     × ((contents files ≡ contents old.files)
-    ⊎ KeepsOthers root_name (contents old.files) (contents files))
+    ⊎ ((refusal ≡ refused.Device) × KeepsOthers root_name (contents old.files) (contents files)))
 PutsRoot contents top floor old _ files = ⊥
 
 -- A checkpoint flushed every tablet, and put the root last, or it was refused on the way.

@@ -15,7 +15,7 @@ use Rattle.request_codec.specs.Replies.{replied}
 use Rattle.request_codec.specs.declared.replies.Reply.{Reply}
 use Rattle.request_codec.specs.declared.replies.Reply.TheVariants as codec
 use Rattle.request_codec.specs.declared.requests.Request.{Request}
-use Rattle.request_codec.specs.declared.requests.Request.TheVariants.{Begin, Get, Set, Delete, Step, Stop, CleanBegin, CleanStep, CollectBegin, CollectStep, OracleRestart}
+use Rattle.request_codec.specs.declared.requests.Request.TheVariants.{Begin, Get, Set, Delete, Step, Stop, CleanBegin, CleanStep, CollectBegin, CollectStep, Minor, Merge, Major, Split, Move, Sweep, Checkpoint, OracleRestart}
 use Rattle.server_loop.specs.Runs.{IfRefused}
 use Rattle.server_loop.specs.Server.{Shows, server_cells, cluster_of, marks_of}
 use Rattle.server_loop.specs.declared.server.Server.{Server}
@@ -44,11 +44,18 @@ pub record MakesVisits {F M : Type 0} (contents : F → Option Contents) (collec
   pub collects : Collects (server_cells contents old) (server_cells contents new) st
   pub thins : Thins n (server_cells contents old) (server_cells contents new)
 
+-- files that hold keep the cells, though they are written anew
+abbrev pub KeepsHeldCells : {F M : Type 0} → (F → Option Contents) → Server F M → Server F M
+    → Type 0
+KeepsHeldCells contents old new =
+    Holds contents (cluster_of old) → server_cells contents new ≡ server_cells contents old
+
 -- A step that is done makes the edits of its session's next step, or of its cleaner's, or none if
 -- that makes none: cells of one row at most, at the session's stamps. A collector's step makes
 -- visits, and what it answers is true: if all is Collected, each cell is tidy; if it is Blocked,
 -- the lock stands; and after More this much less is left. It alone may change cells and then be
--- refused, by its later visits. All else changes none.
+-- refused, by its later visits. What writes files changes none if the files hold, and all else
+-- changes none, also where it is refused for what stands in the files.
 abbrev pub ChangesCells : {F M : Type 0} → (F → Option Contents) → Request → Reply → Server F M
     → Server F M → Type 0
 ChangesCells contents (Step start) (codec.Step progress) old new =
@@ -69,10 +76,16 @@ ChangesCells contents (CollectStep collector n) (codec.CollectStep done) old new
 ChangesCells contents (CollectStep collector n) (codec.Refused refusal) old new =
     ((st : State) → IsReached st → Shows contents old st
     → MakesVisits contents collector n (Err refusal) old new st)
-    × (IsEarlyRefusal refusal → Holds contents (cluster_of old)
-    → server_cells contents new ≡ server_cells contents old)
+    × (IsEarlyRefusal refusal → server_cells contents new ≡ server_cells contents old)
+ChangesCells contents (Minor tablet) reply old new = KeepsHeldCells contents old new
+ChangesCells contents (Merge tablet count) reply old new = KeepsHeldCells contents old new
+ChangesCells contents (Major tablet) reply old new = KeepsHeldCells contents old new
+ChangesCells contents (Split row) reply old new = KeepsHeldCells contents old new
+ChangesCells contents (Move tablet server) reply old new = KeepsHeldCells contents old new
+ChangesCells contents Sweep reply old new = KeepsHeldCells contents old new
+ChangesCells contents Checkpoint reply old new = KeepsHeldCells contents old new
 ChangesCells contents request reply old new =
-    Holds contents (cluster_of old) → server_cells contents new ≡ server_cells contents old
+    server_cells contents new ≡ server_cells contents old
 
 -- What is for sessions, cleaners, collectors and the oracle takes no room in memory, but a step
 -- that of its edits. What a command or a checkpoint takes its outcome says.

@@ -10,7 +10,7 @@ use Rattle.sorted_file.specs.Newest.{at_stamp, IsNewestStamp}
 use Rattle.sorted_file.specs.File.{IsOpen, IsSameFile, listed, name_of}
 use Rattle.sorted_file.specs.declared.file.SortedFile.{SortedFile}
 use Rattle.tablet.specs.Reads.{HasNoLater, IsAfterStamp}
-use Rattle.tablet.specs.Views.{range_of, memory_of, files_of, lists_of, Holds, IsSameTablet}
+use Rattle.tablet.specs.Views.{range_of, memory_of, files_of, Holds, IsSameTablet}
 use Rattle.tablet.specs.declared.tablet.Tablet.{Tablet}
 
 -- facts over the files, which tell the same

@@ -31,10 +31,7 @@ fn remove<F: Files>(files: &mut F, name: u64) -> Result<(), Refusal>
         ⊎ (refusal ≡ Refusal.NoMemory)) }
     ensures reason { HasReason (F.faults files.old) (F.faults files.new) result }
 {
-    match files.remove(name) {
-        Ok(()) => Ok(()),
-        Err(fault) => Err(refusal_of(fault)),
-    }
+    files.remove(name).map_err(|fault| refusal_of(fault))
 }
 
 /// Removes those of the named files that needn't stay, and answers how many names these are.

@@ -8,7 +8,7 @@ pub returns-in-Ok : goal.returns-in-Ok
 returns-in-Ok g c = let told = c.in-Ok.ensures in record {
   step = record { step = steps_as _ _ _ _ _ tt refl refl refl (λ st reached shown. unchanged) (λ _. told.step _) (λ h. h) refl (λ st reached held shown. begun_undamaged _); refusal = tt; limits = tt };
   stamps = record { last = told.next; restarted = tt; exhausted = λ is. absurd (not_done _ _ tt is) };
-  edits = record { changes = λ held. refl; room = λ row edits over. over };
+  edits = record { changes = refl; room = λ row edits over. over };
   sessions = record { told = λ st shown many. absurd (ok_not _ _ (told.crowded st shown.shows.sessions many)); sessions = tt; cleaners = record { next = refl; each = λ i. refl; count = refl }; collectors = record { next = refl; floor = refl; each = λ i. refl; count = refl }; oracle = tt };
   tablets = refl;
   causes = record { device = λ is. absurd (not_done _ _ tt is); told = λ _. record { files = refl; marks = told.reason.told (ok_not _ _) }; full = λ _. tt };
@@ -19,7 +19,7 @@ pub returns-in-Err : goal.returns-in-Err
 returns-in-Err g c = let told = c.in-Err.ensures in record {
   step = record { step = steps_as _ _ _ _ _ tt refl refl refl (λ st reached shown. unchanged) (λ _. told.step _) (λ h. h) refl (λ st reached held shown. undamaged IsBeginRefusal _ told.refusal (λ h. h)); refusal = told.refusal; limits = tt };
   stamps = record { last = told.stays; restarted = tt; exhausted = λ is. told.exhausted (as_err _ _ _ refl is) };
-  edits = record { changes = λ held. refl; room = λ row edits over. over };
+  edits = record { changes = refl; room = λ row edits over. over };
   sessions = record { told = λ st shown many. as_refused _ _ _ refl (told.crowded st shown.shows.sessions many); sessions = tt; cleaners = record { next = refl; each = λ i. refl; count = refl }; collectors = record { next = refl; floor = refl; each = λ i. refl; count = refl }; oracle = told.mark };
   tablets = refl;
   causes = record { device = λ is. inr (told.reason.device (as_err _ _ _ refl is)); told = λ none. record { files = refl; marks = told.reason.told (λ is. none (as_refused _ _ _ refl is)) }; full = λ _. tt };

@@ -37,7 +37,7 @@ returns-in-Err g c = let told = c.in-Err.ensures in record {
         collects = (told.leaves shown.in_order st reached shown.shows.store shown.collectors).0;
         thins = (told.leaves shown.in_order st reached shown.shows.store shown.collectors).1;
       },
-      λ early held. same_cells g.F.Files.contents _ _ (told.early early).1,
+      λ early. same_cells g.F.Files.contents _ _ (told.early early).1,
     );
     room = told.room;
   };

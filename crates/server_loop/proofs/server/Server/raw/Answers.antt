@@ -24,7 +24,7 @@ pub returns-in-Err : goal.returns-in-Err
 returns-in-Err g c = record {
   step = record { step = tells_as _ _ _ (λ held. (held, refl)) refl refl refl refl _ _ refl (λ st shown. refuses (raw_row_named st _ _ _ _ _ c.in-Err.ensures.others (λ is. c.in-Err.ensures.bad.0 (ap (λ (r : Refusal). Err r) is)))) (λ held. name_undamaged _ (row_whole _ c.in-Err.ensures.others)); refusal = raw_unnamed _ tt tt c.in-Err.ensures.others; limits = tt };
   stamps = record { last = refl; restarted = tt; exhausted = λ _. tt };
-  edits = record { changes = λ held. refl; room = tt };
+  edits = record { changes = refl; room = tt };
   sessions = record { told = λ st shown. tt; sessions = record { top = refl; each = λ t. refl }; cleaners = record { next = refl; each = λ i. refl; count = refl }; collectors = record { next = refl; floor = refl; each = λ i. refl; count = refl }; oracle = refl };
   tablets = inr (elim (refused_either _ _ _ c.in-Err.ensures.others) [ inl is ↦ inl is | inr is ↦ inr (inr is) ], refl);
   causes = (unmet_causes g.F.Files.contents g.F.Files.faults g.M.MarkStore.faults _ _ _ _ refl refl (λ is. absurd (named_not _ _ row_not_device memory_not_device c.in-Err.ensures.others is)) (λ _. tt));
@@ -35,7 +35,7 @@ pub returns-in-Err-new : goal.returns-in-Err-new
 returns-in-Err-new g c = record {
   step = record { step = tells_as _ _ _ (λ held. (held, refl)) refl refl refl refl _ _ refl (λ st shown. refuses (raw_family_named st _ _ _ _ _ c.in-Ok.ensures.valid c.in-Err-new.ensures.others (λ is. c.in-Err-new.ensures.bad.0 (ap (λ (r : Refusal). Err r) is)))) (λ held. name_undamaged _ (family_whole _ c.in-Err-new.ensures.others)); refusal = raw_unnamed _ tt tt c.in-Err-new.ensures.others; limits = tt };
   stamps = record { last = refl; restarted = tt; exhausted = λ _. tt };
-  edits = record { changes = λ held. refl; room = tt };
+  edits = record { changes = refl; room = tt };
   sessions = record { told = λ st shown. tt; sessions = record { top = refl; each = λ t. refl }; cleaners = record { next = refl; each = λ i. refl; count = refl }; collectors = record { next = refl; floor = refl; each = λ i. refl; count = refl }; oracle = refl };
   tablets = inr (inr (refused_either _ _ _ c.in-Err-new.ensures.others), refl);
   causes = (unmet_causes g.F.Files.contents g.F.Files.faults g.M.MarkStore.faults _ _ _ _ refl refl (λ is. absurd (named_not _ _ column_not_device memory_not_device c.in-Err-new.ensures.others is)) (λ _. tt));

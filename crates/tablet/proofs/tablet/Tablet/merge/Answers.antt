@@ -1,9 +1,7 @@
 use Rattle.std.proofs.Common.{◌≡◌, ℕ, ◌≤◌, ◌∷◌, List, map, take, drop, length, refl, ap, sym, ◌∙◌, inl, inr, arith}
 use Rattle.std.proofs.lemmas.List.{drop-map, length-map}
-use Rattle.std.specs.Prelude.{nat_lt, Option, IfSome}
-use Rattle.cell_key.specs.Entries.{Entry}
+use Rattle.std.specs.Prelude.{nat_lt}
 use Rattle.cell_key.specs.declared.refusals.Refusal.TheVariants.{BadCount, Device}
-use Rattle.file_store.specs.Store.{Contents}
 use Rattle.sorted_file.specs.Grammar.{FitsIn}
 use Rattle.sorted_file.specs.File.{listed, name_of}
 use Rattle.sorted_file.specs.declared.file.SortedFile.{SortedFile}
@@ -11,8 +9,7 @@ use Rattle.compaction.specs.Writing.{written}
 use Rattle.tablet.specs.Ranges.{seen}
 use Rattle.tablet.specs.Compactions.{IsCompactionRefusal, compacted}
 use Rattle.tablet.specs.declared.compactions.Compaction.TheVariants.{Merge}
-use Rattle.tablet.specs.Views.{Holds, files_of, memory_of, names_of, range_of}
-use Rattle.tablet.specs.declared.tablet.Tablet.{Tablet}
+use Rattle.tablet.specs.Views.{files_of, memory_of, range_of}
 use Rattle.tablet.proofs.CompactedCells.{merge_cells}
 use Rattle.tablet.proofs.Held.{held_lists}
 use Rattle.tablet.proofs.MadeTablets.{made_keeps, made_lists, still_keeps}

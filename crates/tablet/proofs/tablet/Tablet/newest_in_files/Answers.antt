@@ -48,3 +48,29 @@ returns-clause-found g c =
     let found = rw c.in_default.is at c.in_ok-stamp.ensures.found in
     none_left o c.args.self.now c.args.row.now c.args.family.now c.args.qualifier c.args.lo c.args.hi
     (none_after o c.args.self.now c.args.row.now c.args.family.now c.args.qualifier c.args.lo c.args.hi (g.F.Files.contents c.hidden.files) c.hidden.self i.same i.stays c.hidden.to None i.told found)
+
+pub returns-in_err-stamp-clause-stays : goal.returns-in_err-stamp-clause-stays
+returns-in_err-stamp-clause-stays g c =
+    let o = g.F.Files.contents c.args.files.now in
+    let i = c.hidden.invariant in
+    same_after_tablet o c.args.self.now c.hidden.self c.newest_file_stamp.new.self i.stays (over_now o (g.F.Files.contents c.hidden.files) c.hidden.self c.newest_file_stamp.new.self i.same c.newest_file_stamp.ensures.stays)
+
+pub returns-in_err-found-clause-stays : goal.returns-in_err-found-clause-stays
+returns-in_err-found-clause-stays g c =
+    let o = g.F.Files.contents c.args.files.now in
+    let i = c.hidden.invariant in
+    let mid = same_after_tablet o c.args.self.now c.hidden.self c.newest_file_stamp.new.self i.stays (over_now o (g.F.Files.contents c.hidden.files) c.hidden.self c.newest_file_stamp.new.self i.same c.newest_file_stamp.ensures.stays) in
+    same_after_tablet o c.args.self.now c.newest_file_stamp.new.self c.version_at-in-Some.new.self mid (over_now o (g.F.Files.contents c.newest_file_stamp.new.files) c.newest_file_stamp.new.self c.version_at-in-Some.new.self (c.newest_file_stamp.ensures.same ∙ i.same) c.version_at-in-Some.ensures.stays)
+
+pub returns-in-Some-2-clause-stays : goal.returns-in-Some-2-clause-stays
+returns-in-Some-2-clause-stays g c =
+    let o = g.F.Files.contents c.args.files.now in
+    let i = c.hidden.invariant in
+    let mid = same_after_tablet o c.args.self.now c.hidden.self c.newest_file_stamp.new.self i.stays (over_now o (g.F.Files.contents c.hidden.files) c.hidden.self c.newest_file_stamp.new.self i.same c.newest_file_stamp.ensures.stays) in
+    same_after_tablet o c.args.self.now c.newest_file_stamp.new.self c.version_at-in-Some.new.self mid (over_now o (g.F.Files.contents c.newest_file_stamp.new.files) c.newest_file_stamp.new.self c.version_at-in-Some.new.self (c.newest_file_stamp.ensures.same ∙ i.same) c.version_at-in-Some.ensures.stays)
+
+pub returns-clause-stays : goal.returns-clause-stays
+returns-clause-stays g c =
+    let o = g.F.Files.contents c.args.files.now in
+    let i = c.hidden.invariant in
+    same_after_tablet o c.args.self.now c.hidden.self c.newest_file_stamp.new.self i.stays (over_now o (g.F.Files.contents c.hidden.files) c.hidden.self c.newest_file_stamp.new.self i.same c.newest_file_stamp.ensures.stays)

@@ -2,10 +2,9 @@ use Rattle.std.proofs.Common.{length, refl, sym, ap, subst, ◌∙◌}
 use Rattle.std.proofs.lemmas.List.{with_items_is}
 use Rattle.std.specs.List.{AllByRecursion}
 use Rattle.sorted_file.specs.File.{IsOpen}
-use Rattle.sorted_file.specs.Source.{IsReadRefusal}
 use Rattle.tablet.specs.Views.{Holds}
 use Rattle.tablet.proofs.Lookups.{one_none, one_some}
-use Rattle.tablet.proofs.Passed.{IsNoMemory, no_memory, not_err, passed_err, passed_kind, passed_none, passed_on, passed_reason, quiet_reason, reason_of_ok}
+use Rattle.tablet.proofs.Passed.{not_err, passed_err, passed_none, passed_on, passed_reason, reason_of_ok}
 use Rattle.tablet.proofs.SameFiles.{same_itself, same_looked}
 use Rattle.tablet.proofs.WrittenFiles.{if_some_not}
 use Rattle.tablet.proofs.tablet.Tablet.version_at.Goals as goal
@@ -20,23 +19,8 @@ returns-clause-found g c =
     one_none c.args.self.now c.deref_mut.result.now c.deref_mut.ensures.value c.args.row.now c.args.family.now c.args.qualifier c.args.stamp c.in_ok-key.ensures.row c.in_ok-key.ensures.family c.requires.from c.requires.to c.in_ok-key.key c.in_ok-key.ensures.key
     (g.F.Files.contents c.args.files.now) (rw c.in-None.is at c.in_ok-value.ensures.found)
 
-pub returns-in_err-key-clause-found : goal.returns-in_err-key-clause-found
-returns-in_err-key-clause-found g c = passed_none c.from_residual.result c.in_err-key.field-0.0 _ c.from_residual.ensures.1
-
-pub returns-in_err-key-clause-limits : goal.returns-in_err-key-clause-limits
-returns-in_err-key-clause-limits g c = passed_none c.from_residual.result c.in_err-key.field-0.0 _ c.from_residual.ensures.1
-
-pub returns-in_err-key-clause-damaged : goal.returns-in_err-key-clause-damaged
-returns-in_err-key-clause-damaged g c = λ is. absurd (passed_kind c.from_residual.result c.in_err-key.field-0.0 _ IsNoMemory c.from_residual.ensures.1 (no_memory c.in_err-key.field-0.0 c.in_err-key.ensures.refusal) is)
-
-pub returns-in_err-key-clause-refusal : goal.returns-in_err-key-clause-refusal
-returns-in_err-key-clause-refusal g c = passed_err c.from_residual.result c.in_err-key.field-0.0 _ c.from_residual.ensures.1 (subst IsReadRefusal (sym c.in_err-key.ensures.refusal) tt)
-
 pub returns-in_err-key-clause-same : goal.returns-in_err-key-clause-same
 returns-in_err-key-clause-same g c = refl
-
-pub returns-in_err-key-clause-reason : goal.returns-in_err-key-clause-reason
-returns-in_err-key-clause-reason g c = quiet_reason c.from_residual.result _ (λ is. absurd (passed_kind c.from_residual.result c.in_err-key.field-0.0 _ IsNoMemory c.from_residual.ensures.1 (no_memory c.in_err-key.field-0.0 c.in_err-key.ensures.refusal) is))
 
 pub returns-in_err-value-clause-found : goal.returns-in_err-value-clause-found
 returns-in_err-value-clause-found g c = passed_none c.from_residual-in_err-value.result c.in_err-value.field-0.0 _ c.from_residual-in_err-value.ensures.1
