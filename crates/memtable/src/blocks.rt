@@ -67,6 +67,25 @@ pub(crate) fn find<S: Sought>(blocks: &[Block], sought: S) -> Option<&Slot>
     entries::find(&block.slots, sought)
 }
 
+/// The entry at the text of a version. A short text is the version's own.
+pub(crate) fn find_at<'a>(
+    blocks: &'a [Block],
+    sought: Version<'_>,
+    short: Option<&ShortText>,
+) -> Option<&'a Slot>
+    requires rising { IsRising (block_entries blocks.now) }
+    requires blocks { AllByRecursion IsEntryBlock blocks.now }
+    requires short { IfSome short (λ made. made.now ≡ text (key_of sought)) }
+    ensures found { option_map (λ slot. (slot_entry slot.now).1) result
+        ≡ entry_of_key (block_entries blocks.now) (text (key_of sought.entry)) }
+    ensures named { IfSome result (λ slot. slot.now.text ≡ text (key_of sought.entry)) }
+{
+    match short {
+        Some(text) => find(blocks, text),
+        None => find(blocks, sought),
+    }
+}
+
 /// How many bytes the entry of a text has, if there is one.
 pub(crate) fn stood_bytes(blocks: &[Block], text: &[u8]) -> Option<u128>
     requires rising { IsRising (block_entries blocks.now) }

@@ -203,7 +203,7 @@ impl Version<'_> {
     }
 }
 
-/// What is sought among texts: a text, or a key for its text.
+/// What is sought among texts: a text, or a version for its text.
 pub(crate) trait Sought: Copy {
     /// The text.
     ghost name: { Self → List ℕ };
@@ -243,13 +243,5 @@ pub(crate) fn version_of(key: &CellKey) -> Version<'_>
         family: &key.family,
         qualifier: key.qualifier,
         stamp: key.stamp,
-    }
-}
-
-impl Sought for &CellKey {
-    ghost name = { λ key. text key.now };
-
-    fn compare(&self, text: &EntryText) -> Ordering {
-        version_of(self).compare(text)
     }
 }

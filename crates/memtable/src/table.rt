@@ -15,7 +15,7 @@ use crate::blocks::{self, Block, Blocks};
 use crate::cursor::Cursor;
 use crate::entries::Slot;
 use crate::size::{self, Size};
-use crate::sought::Version;
+use crate::sought::{Version, version_of};
 use crate::staging;
 use cell_key::{CellKey, Edit, EntryRef, Family, Qualifier, Refusal, Row, Stamp};
 use std::alloc::Global;
@@ -116,7 +116,9 @@ impl Memtable {
         ensures named { IfSome result (λ lent. lent.key.now ≡ text key.now) }
         ensures list { IsEntryList self.now }
     {
-        let slot = blocks::find(&self.blocks.filled, key)?;
+        let sought = version_of(key);
+        let text = sought.short_text();
+        let slot = blocks::find_at(&self.blocks.filled, sought, text.as_ref())?;
         Some(slot.lend())
     }
 
