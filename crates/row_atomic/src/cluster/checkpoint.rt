@@ -30,11 +30,8 @@ fn length_of<F: Files>(name: u64, files: &mut F) -> Result<u64, Refusal>
     ensures same { F.contents files.new ≡ F.contents files.old }
     ensures reason { HasReason (F.faults files.old) (F.faults files.new) result }
 {
-    match files.size(name) {
-        Ok(Some(size)) => Ok(size),
-        Ok(None) => Ok(0),
-        Err(fault) => Err(refusal_of(fault)),
-    }
+    let size = files.size(name).map_err(|fault| refusal_of(fault))?;
+    Ok(size.unwrap_or(0))
 }
 
 /// How many bytes each of these files has.

@@ -68,10 +68,8 @@ fn names_of<F: Files>(alloc: Global, files: &mut F) -> Result<Vec<u64>, Refusal>
     ensures reason { HasReason (F.faults files.old) (F.faults files.new) result }
 {
     let mut names = Vec::new(alloc);
-    match files.list(&mut names) {
-        Ok(()) => Ok(names),
-        Err(fault) => Err(refusal_of(fault)),
-    }
+    files.list(&mut names).map_err(|fault| refusal_of(fault))?;
+    Ok(names)
 }
 
 impl<F: Files> Cluster<F> {

@@ -13,14 +13,14 @@ at_ends cells from to from' to' found e f first = subst (λ (k : CellKey). IsFir
 
 pub first-requires-clause-forward : goal.first-requires-clause-forward
 first-requires-clause-forward c =
-    rw (c.in_ok-from.ensures, c.in_ok-to.ensures) (versions_fall c.args.row.now c.args.family.now c.args.qualifier c.args.lo c.args.hi (omega arith))
+    rw (c.in_ok-from.ensures.key, c.in_ok-to.ensures.key) (versions_fall c.args.row.now c.args.family.now c.args.qualifier c.args.lo c.args.hi (omega arith))
 
 pub returns-in_ok-clone-in-Some : goal.returns-in_ok-clone-in-Some
 returns-in_ok-clone-in-Some c =
     let at = version c.args.row.now c.args.family.now c.args.qualifier in
     let cells = slot_cells c.args.slots.now.entries in
     let key = c.in-Some.key.now in
-    let first = at_ends cells c.in_ok-from.from c.in_ok-to.to (at c.args.hi) (at c.args.lo) (Some (key, c.in-Some.value.now.items)) c.in_ok-from.ensures c.in_ok-to.ensures c.in-Some.ensures in
+    let first = at_ends cells c.in_ok-from.from c.in_ok-to.to (at c.args.hi) (at c.args.lo) (Some (key, c.in-Some.value.now.items)) c.in_ok-from.ensures.key c.in_ok-to.ensures.key c.in-Some.ensures in
     let newest = newest_some c.args.row.now c.args.family.now c.args.qualifier c.args.lo c.args.hi cells key c.in-Some.value.now.items first in
     let same = each_same c.in-Some.value.now.items c.in_ok-clone-in-Some.field-0.items c.in_ok-clone-in-Some.ensures.cases.0 in
     subst (λ (v : List ℕ). IsNewest cells at c.args.lo c.args.hi (Some (key.stamp, v))) (sym same) newest
@@ -30,4 +30,4 @@ returns-in-None c =
     let at = version c.args.row.now c.args.family.now c.args.qualifier in
     let cells = slot_cells c.args.slots.now.entries in
     newest_none c.args.row.now c.args.family.now c.args.qualifier c.args.lo c.args.hi cells
-    (at_ends cells c.in_ok-from.from c.in_ok-to.to (at c.args.hi) (at c.args.lo) None c.in_ok-from.ensures c.in_ok-to.ensures c.in-None.ensures)
+    (at_ends cells c.in_ok-from.from c.in_ok-to.to (at c.args.hi) (at c.args.lo) None c.in_ok-from.ensures.key c.in_ok-to.ensures.key c.in-None.ensures)

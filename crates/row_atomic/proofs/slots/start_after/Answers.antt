@@ -5,4 +5,4 @@ use Rattle.cell_key.specs.declared.keys.CellKey.{CellKey}
 use Rattle.row_atomic.proofs.slots.start_after.Goals as goal
 
 pub returns-in_ok-last-in-Some : goal.returns-in_ok-last-in-Some
-returns-in_ok-last-in-Some c = rw (c.in-Some.is) (ap (λ (key : CellKey). Excluded key) c.in_ok-last-in-Some.ensures)
+returns-in_ok-last-in-Some c = rw (c.in-Some.is) (ap (λ (key : CellKey). Excluded key) c.in_ok-last-in-Some.ensures.key)

@@ -12,10 +12,7 @@ use std::alloc::Global;
 
 /// The refusal of a call of files.
 pub fn refused<T>(call: Result<T, FileFault>) -> Result<T, Refusal> {
-    match call {
-        Ok(value) => Ok(value),
-        Err(fault) => Err(refusal_of(fault)),
-    }
+    call.map_err(|fault| refusal_of(fault))
 }
 
 /// Files in memory, and names that others are appended to.
