@@ -12,6 +12,7 @@ use Rattle.cell_key.specs.Cells.{Cells}
 use Rattle.cell_key.specs.Places.{Place}
 use Rattle.cell_key.specs.declared.refusals.Refusal.{Refusal}
 use Rattle.cell_key.specs.declared.refusals.Refusal.TheVariants.{TooManySessions, UnknownCollector, BadCount, MemtableFull, Device, NoMemory, Damaged}
+use Rattle.row_atomic.specs.Calls.{OnlyReads, View}
 use Rattle.si_model.specs.Collection as model
 use Rattle.si_model.specs.Collection.{Collects, FirstPass, HasCome, SecondPass}
 use Rattle.si_model.specs.Machine as machine
@@ -33,7 +34,7 @@ use Rattle.si_model.proofs.Numbers.{reached_numbers}
 use Rattle.si_model.proofs.ShownKept.{shows_beside}
 use Rattle.si_model.proofs.Tools.{eq_test, ne_test, get_same, get_other, get_removed, get_remains}
 use Rattle.version_collector.specs.Refusals.{IsVisitRefusal}
-use Rattle.version_collector.specs.Shows.{AreShownOn, Begins, ChangesOne, IsCount, SameCollectors, ShowsAt, ShowsCollector, ShowsCollectors, Steps, TellsAt, VisitsAt, is_last, kept_after, kept_at}
+use Rattle.version_collector.specs.Shows.{AreShownOn, Begins, ChangesOne, IsCount, SameCollectors, ShowsAt, ShowsCollector, ShowsCollectors, StepLeaves, Steps, TellsAt, VisitsAt, is_last, kept_after, kept_at}
 use Rattle.version_collector.specs.Visits.{HasVisited, IsTold, WhereCome, pass_of, position_of}
 use Rattle.version_collector.specs.declared.collector.Collector.{Collector}
 use Rattle.version_collector.specs.declared.collector.Pass.TheVariants.{First}
@@ -328,6 +329,24 @@ same_lent old new i c w was same next floor at len = record {
   ];
   count = len;
 }
+
+-- ---- what a refused step leaves
+
+module _ {R : Type 0} {seen : View R} (old new : Collectors) (i n : ℕ) (before now : R) where
+  pub same_leaves : SameCollectors old new → OnlyReads seen before now → StepLeaves seen i n old new before now
+  same_leaves same reads = record {
+    stays = λ c was. (c, same.each i ∙ was, refl);
+    same = λ one. same;
+    reads = λ one. reads;
+  }
+
+  pub refused_leaves : (c w : Collector) → kept_at old i ≡ Some c → kept_at new i ≡ Some w → w.floor ≡ c.floor → (n ≡ 1 → w ≡ c) → (w ≡ c → SameCollectors old new) → (n ≡ 1 → OnlyReads seen before now)
+      → StepLeaves seen i n old new before now
+  refused_leaves c w was is floor same so reads = record {
+    stays = λ d kept. (w, is, floor ∙ ap (λ (e : Collector). e.floor) (same_Some c d (sym was ∙ kept)));
+    same = λ one. so (same one);
+    reads = reads;
+  }
 
 module _ (cells cells' : Cells) (old new : Collectors) (i n : ℕ) (c w : Collector) (was : kept_at old i ≡ Some c) (result : Result CollectReply Refusal)
     (did : (st : State) → WhereCome st cells c (HasVisited n result cells c cells' w)) (st : State) (reached : IsReached st) (store : ShowsCells cells st) (shown : ShowsCollectors cells old st) where

@@ -6,6 +6,7 @@ use Rattle.std.specs.FinMap as finmap
 use Rattle.cell_key.specs.Cells.{Cells}
 use Rattle.cell_key.specs.declared.refusals.Refusal.{Refusal}
 use Rattle.cell_key.specs.declared.refusals.Refusal.TheVariants.{UnknownCollector, BadCount}
+use Rattle.row_atomic.specs.Calls.{OnlyReads, View}
 use Rattle.si_model.specs.Collection.{ChangesCells}
 use Rattle.si_model.specs.Kinds.{OfCollectors, kind_of}
 use Rattle.si_model.specs.Machine.{State, Request, Reply, CollectBegin, Step, IsReached, end_of_stamps, most_visits}
@@ -104,6 +105,19 @@ pub record SameCollectors (old new : Collectors) : Type 0 where
   pub floor : new.greatest_floor ≡ old.greatest_floor
   pub each : (i : ℕ) → btree.get nat_cmp new.collectors i ≡ btree.get nat_cmp old.collectors i
   pub count : btree.btree_map_len new.collectors ≡ btree.btree_map_len old.collectors
+
+-- if a collector with this number was open, one is, with its floor
+abbrev pub StaysOpen : ℕ → Collectors → Collectors → Type 0
+StaysOpen i old new = (c : Collector) → kept_at old i ≡ Some c
+    → (c' : Collector) × (kept_at new i ≡ Some c') × (c'.floor ≡ c.floor)
+
+-- What a refused step for n visits leaves: its collector stays open. If one visit was asked for,
+-- nothing is changed.
+pub record StepLeaves {R : Type 0} (seen : View R) (i n : ℕ) (old new : Collectors) (before now : R)
+    : Type 0 where
+  pub stays : StaysOpen i old new
+  pub same : n ≡ 1 → SameCollectors old new
+  pub reads : n ≡ 1 → OnlyReads seen before now
 
 -- no collector with this number is open
 abbrev pub IsUnopened : State → ℕ → Type 0

@@ -83,6 +83,7 @@ impl Collector {
         ensures turned { (cells : Cells)
             → IsNextCell cells (position_of self.old.after) None
             → Visits cells self.old result cells self.new }
+        ensures floor { self.new.floor ≡ self.old.floor }
     {
         match self.pass {
             Pass::First => {
@@ -101,6 +102,7 @@ impl Collector {
             → IsNextCell (R.seen.cells rows.old) (position_of self.old.after) (Some (place_at cell))
             → IfOk result (λ reply.
             Visits (R.seen.cells rows.old) self.old reply (R.seen.cells rows.old) self.new) }
+        ensures floor { self.new.floor ≡ self.old.floor }
         ensures reads { OnlyReads R.seen rows.old rows.new }
         ensures err { OnErr result (self.new ≡ self.old) }
         ensures refusal { IfErr result (IsRefusalOfRead (R.seen.holds rows.old)) }
@@ -125,6 +127,7 @@ impl Collector {
             → IsNextCell (R.seen.cells rows.old) (position_of self.old.after) (Some (place_at cell))
             → IfOk result (λ reply.
             Visits (R.seen.cells rows.old) self.old reply (R.seen.cells rows.new) self.new) }
+        ensures floor { self.new.floor ≡ self.old.floor }
         ensures below { KeepsBelow R.seen rows.old rows.new }
         ensures room { TakesRoomOfVisits R.seen.overfills 1 rows.old rows.new }
         ensures err { OnErr result (self.new ≡ self.old) }
@@ -159,6 +162,7 @@ impl Collector {
             → AreShown (R.seen.cells rows.old)
             → IfOk result (λ reply.
             Visits (R.seen.cells rows.old) self.old reply (R.seen.cells rows.new) self.new) }
+        ensures floor { self.new.floor ≡ self.old.floor }
         ensures below { KeepsBelow R.seen rows.old rows.new }
         ensures room { TakesRoomOfVisits R.seen.overfills 1 rows.old rows.new }
         ensures err { OnErr result (self.new ≡ self.old) }
@@ -195,6 +199,10 @@ impl Collector {
             → (st : State) → WhereCome st (R.seen.cells rows.old) self.old
             (HasVisited visits result (R.seen.cells rows.old) self.old (R.seen.cells rows.new)
             self.new) }
+        ensures floor { self.new.floor ≡ self.old.floor }
+        // A first visit that is refused changes nothing.
+        ensures first { visits ≡ 1
+            → OnErr result ((self.new ≡ self.old) × OnlyReads R.seen rows.old rows.new) }
         ensures below { KeepsBelow R.seen rows.old rows.new }
         ensures room { TakesRoomOfVisits R.seen.overfills visits rows.old rows.new }
         ensures refusal { IfErr result IsVisitRefusal }

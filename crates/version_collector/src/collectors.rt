@@ -12,7 +12,7 @@ ghost use Rattle.si_model.specs.Replies.{collect_reply, result_reply};
 ghost use Rattle.si_model.specs.ShowsCells.{ShowsCells};
 ghost use Rattle.version_collector.specs.Refusals.{IsBeginRefusal, IsStepRefusal};
 ghost use Rattle.version_collector.specs.Room.{AreOfVisitsIn, TakesRoomOfVisits};
-ghost use Rattle.version_collector.specs.Shows.{Begins, ChangesOne, InEachShown, IsCount, IsEarlyRefusal, IsUnopened, IsUsedUp, SameCollectors, ShowsCollectors, Steps, TellsAt, VisitsAt, is_last};
+ghost use Rattle.version_collector.specs.Shows.{Begins, ChangesOne, InEachShown, IsCount, IsEarlyRefusal, IsUnopened, IsUsedUp, SameCollectors, ShowsCollectors, StepLeaves, Steps, TellsAt, VisitsAt, is_last};
 ghost use Rattle.version_collector.specs.Visits.{Thins};
 ghost use Rattle.si_model.specs.Collection.{Collects};
 
@@ -154,6 +154,9 @@ impl Collectors {
         // Nothing is read or changed if no collector has this number, or the number of visits is bad.
         ensures early { IfErr result (λ refusal. IsEarlyRefusal refusal
             → SameCollectors self.old self.new × (rows.new ≡ rows.old)) }
+        // A refused step leaves its collector open with its floor, and its first visit changes nothing.
+        ensures refused { OnErr result (StepLeaves R.seen number visits
+            self.old self.new rows.old rows.new) }
         ensures below { KeepsBelow R.seen rows.old rows.new }
         ensures room { TakesRoomOfVisits R.seen.overfills visits rows.old rows.new }
         // What is shown is never answered as damaged.

@@ -1,20 +1,32 @@
-use Rattle.std.proofs.Common.{◌+◌, ◌≤◌, ◌<◌, ℕ, ◌∙◌, refl, subst, arith}
+use Rattle.std.proofs.Common.{◌+◌, ◌≡◌, ◌≢◌, ◌≤◌, ◌<◌, ℕ, ◌∙◌, refl, subst, arith}
 use Rattle.cell_key.specs.declared.refusals.Refusal.TheVariants.{Damaged, Device, MemtableFull}
 use Rattle.cell_key.proofs.Reasons.{not_refused}
 use Rattle.row_atomic.proofs.Calls.{keeps_then}
 use Rattle.si_model.specs.declared.replies.CollectReply.{CollectReply}
 use Rattle.version_collector.specs.Visits.{Visits, none, then}
 use Rattle.version_collector.proofs.Room.{no_room_then, room_few, room_same, room_then}
-use Rattle.cell_key.proofs.Passed.{passed as passed_on}
+use Rattle.row_atomic.specs.Calls.{OnlyReads, View}
+use Rattle.cell_key.proofs.Passed.{as_err, passed as passed_on}
 use Rattle.version_collector.proofs.VisitedCells.{still_shown}
 use Rattle.version_collector.proofs.collector.Collector.advance.Goals as goal
 
 one_more : (k n : ℕ) → k < n → k + 1 ≤ n
 one_more k n less = omega arith
 
+only_one : (k n : ℕ) → k < n → n ≡ 1 → k ≡ 0
+only_one k n less one = omega arith
+
+no_more : (k : ℕ) → k + 1 ≢ 0
+no_more k is = omega arith
+
+reads_since : {R : Type 0} (seen : View R) (a b c : R) → b ≡ a → OnlyReads seen b c → OnlyReads seen a c
+reads_since seen a b c same reads = subst (λ (r : _). OnlyReads seen r c) same reads
+
 pub loop-init : goal.loop-init
 loop-init g c = record {
   visited = λ held st reached store low come. none;
+  floor = refl;
+  none = λ is. (refl, refl);
   below = record { still = λ held. held; stays = refl };
   room = room_same g.R.Rows.seen.overfills 0 c.args.rows.now;
   faults = refl;
@@ -26,6 +38,12 @@ returns-in_err-visit-clause-undamaged g c = λ held st reached store low come is
     c.in_err-visit.ensures.undamaged (before.below.still held)
     (still_shown st reached (g.R.Rows.seen.cells c.args.rows.now) c.args.self.now store low come c.loop.counter (g.R.Rows.seen.cells c.loop.rows) c.loop.self (before.visited held st reached store low come))
     (passed_on c.from_residual.result c.in_err-visit.field-0.0 Damaged c.from_residual.ensures.1 is)
+
+pub returns-in_err-visit-clause-first : goal.returns-in_err-visit-clause-first
+returns-in_err-visit-clause-first g c = λ one.
+    let none = c.loop.invariant.none (only_one c.loop.counter c.args.visits c.loop-test.true one) in
+    rw (as_err c.from_residual.result c.in_err-visit.field-0.0 c.from_residual.ensures.1)
+    (c.in_err-visit.ensures.err ∙ none.0, reads_since g.R.Rows.seen c.args.rows.now c.loop.rows c.visit.new.rows none.1 c.in_err-visit.ensures.same)
 
 pub returns-in_err-visit-clause-full : goal.returns-in_err-visit-clause-full
 returns-in_err-visit-clause-full g c = λ is.
@@ -77,6 +95,8 @@ loop-preserved g c =
           let did = before.visited held st reached store low come in
           let shown = still_shown st reached (g.R.Rows.seen.cells c.args.rows.now) c.args.self.now store low come c.loop.counter (g.R.Rows.seen.cells c.loop.rows) c.loop.self did in
           then did (subst (λ (r : CollectReply). Visits (g.R.Rows.seen.cells c.loop.rows) c.loop.self r (g.R.Rows.seen.cells c.visit.new.rows) c.visit.new.self) c.in-More.is (now.visit (before.below.still held) shown));
+      floor = now.floor ∙ before.floor;
+      none = λ is. absurd (no_more c.loop.counter is);
       below = keeps_then before.below now.below;
       room = room_then g.R.Rows.seen.overfills c.loop.counter 1 c.args.rows.now c.loop.rows c.visit.new.rows before.room now.room;
       faults = now.reason.told (not_refused _ Device) ∙ before.faults;

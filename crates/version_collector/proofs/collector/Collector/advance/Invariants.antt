@@ -10,6 +10,8 @@ abbrev pub invariant-loop : goal.invariant-loop
 invariant-loop g l = record {
   visited : g.R.Rows.seen.holds l.fn.rows
       → (st : State) → WhereCome st (g.R.Rows.seen.cells l.fn.rows) l.fn.self (AreVisits (g.R.Rows.seen.cells l.fn.rows) l.fn.self l.counter (g.R.Rows.seen.cells l.rows) l.self);
+  floor : l.self.floor ≡ l.fn.self.floor;
+  none : l.counter ≡ 0 → (l.self ≡ l.fn.self) × (l.rows ≡ l.fn.rows);
   below : KeepsBelow g.R.Rows.seen l.fn.rows l.rows;
   room : TakesRoomOfVisits g.R.Rows.seen.overfills l.counter l.fn.rows l.rows;
   faults : g.R.Rows.faults l.rows ≡ g.R.Rows.faults l.fn.rows;

@@ -4,9 +4,10 @@ use Rattle.std.specs.Ordering.{nat_cmp, is_eq}
 use Rattle.std.specs.BTreeMap as btree
 use Rattle.cell_key.specs.declared.refusals.Refusal.TheVariants.{Damaged}
 use Rattle.version_collector.specs.declared.collector.Collector.{Collector}
+use Rattle.row_atomic.proofs.Calls.{reads_none}
 use Rattle.version_collector.proofs.Room.{room_same}
 use Rattle.cell_key.proofs.Passed.{as_err, passed as passed_on}
-use Rattle.version_collector.proofs.Table.{is_count, kept_is, leaves_at, many_at, none_at, now_at, one_at, same_entries, same_lent, shown_low, shown_some, steps_at, tells_at, twice, unknown_at, visits_at, with_none}
+use Rattle.version_collector.proofs.Table.{is_count, kept_is, leaves_at, many_at, none_at, now_at, one_at, refused_leaves, same_entries, same_leaves, same_lent, shown_low, shown_some, steps_at, tells_at, twice, unknown_at, visits_at, with_none}
 use Rattle.version_collector.proofs.collectors.Collectors.step.Goals as goal
 
 pub returns-in_default-clause-step : goal.returns-in_default-clause-step
@@ -59,6 +60,44 @@ returns-in_err-reply-clause-leaves g c = λ held st reached store shown.
     let l = leaves_at (g.R.Rows.seen.cells c.args.rows.now) (g.R.Rows.seen.cells c.advance.new.rows) c.args.self.now c.args.self.now c.args.number c.args.visits c.in-Some.collector.now c.advance.new.self (sym c.in-Some.ensures.value)
     (Err c.in_err-reply.field-0.0) (c.in_err-reply.ensures.visited held) st reached store shown in
     (l.collects, l.thins)
+
+pub returns-in_default-clause-refused : goal.returns-in_default-clause-refused
+returns-in_default-clause-refused g c =
+    let new = record c.args.self.now { collectors = c.get_mut.follows.lender-at-none } in
+    same_leaves c.args.self.now new c.args.number c.args.visits c.args.rows.now c.args.rows.now
+    (same_entries c.args.self.now new refl refl (ap (λ m. m.entries) c.get_mut.follows.holds-at-none)) reads_none
+
+pub returns-then-visits-eq0-clause-refused : goal.returns-then-visits-eq0-clause-refused
+returns-then-visits-eq0-clause-refused g c =
+    let was = sym c.in-Some.ensures.value in
+    let there : IsSome (btree.get nat_cmp c.args.self.now.collectors c.args.number) = subst (λ (o : Option Collector). IsSome o) c.in-Some.ensures.value refl in
+    let lent = c.get_mut.follows.holds c.in-Some.collector.now in
+    let new = record c.args.self.now { collectors = c.get_mut.follows.lender c.in-Some.collector.now } in
+    same_leaves c.args.self.now new c.args.number c.args.visits c.args.rows.now c.args.rows.now
+    (same_lent c.args.self.now new c.args.number c.in-Some.collector.now c.in-Some.collector.now was refl refl refl (lent.3 there).0 lent.2) reads_none
+
+pub returns-then-visits-gt-MOST_VISITS-clause-refused : goal.returns-then-visits-gt-MOST_VISITS-clause-refused
+returns-then-visits-gt-MOST_VISITS-clause-refused g c =
+    let was = sym c.in-Some.ensures.value in
+    let there : IsSome (btree.get nat_cmp c.args.self.now.collectors c.args.number) = subst (λ (o : Option Collector). IsSome o) c.in-Some.ensures.value refl in
+    let lent = c.get_mut.follows.holds c.in-Some.collector.now in
+    let new = record c.args.self.now { collectors = c.get_mut.follows.lender c.in-Some.collector.now } in
+    same_leaves c.args.self.now new c.args.number c.args.visits c.args.rows.now c.args.rows.now
+    (same_lent c.args.self.now new c.args.number c.in-Some.collector.now c.in-Some.collector.now was refl refl refl (lent.3 there).0 lent.2) reads_none
+
+pub returns-in_err-reply-clause-refused : goal.returns-in_err-reply-clause-refused
+returns-in_err-reply-clause-refused g c =
+    let was = sym c.in-Some.ensures.value in
+    let there : IsSome (btree.get nat_cmp c.args.self.now.collectors c.args.number) = subst (λ (o : Option Collector). IsSome o) c.in-Some.ensures.value refl in
+    let w = c.advance.new.self in
+    let lent = c.get_mut.follows.holds w in
+    let new = record c.args.self.now { collectors = c.get_mut.follows.lender w } in
+    let at = (lent.3 there).0 in
+    let first = λ (one : c.args.visits ≡ 1). c.in_err-reply.ensures.first one in
+    rw (as_err c.from_residual.result c.in_err-reply.field-0.0 c.from_residual.ensures.1)
+    (refused_leaves c.args.self.now new c.args.number c.args.visits c.args.rows.now c.advance.new.rows c.in-Some.collector.now w was
+    (now_at c.args.self.now new c.args.number (Some w) refl refl at) c.in_err-reply.ensures.floor (λ one. (first one).0)
+    (λ same. same_lent c.args.self.now new c.args.number c.in-Some.collector.now w was same refl refl at lent.2) (λ one. (first one).1))
 
 pub returns-in_err-reply-clause-undamaged : goal.returns-in_err-reply-clause-undamaged
 returns-in_err-reply-clause-undamaged g c = λ held st reached store shown is.
