@@ -16,7 +16,7 @@ ghost use Rattle.si_model.specs.Machine.{IsReached, State};
 ghost use Rattle.si_model.specs.Replies.{found_reply, progress_reply, result_reply};
 ghost use Rattle.si_model.specs.ShowsCells.{ShowsCells};
 ghost use Rattle.si_model.specs.Reads.{cell_of};
-ghost use Rattle.txn_client.specs.Reads.{IsShort};
+ghost use Rattle.txn_client.specs.Reads.{IsDamaged, IsFound, IsShort};
 ghost use Rattle.txn_client.specs.Refusals.{HasNoStamp, HasOneReason, IsBeginRefusal, IsDeleteRefusal, IsGetRefusal, IsSetRefusal, IsStepRefusal, StepCauses, StepLeaves};
 ghost use Rattle.row_atomic.specs.Calls.{KeepsBelow, OnlyReads};
 ghost use Rattle.row_atomic.specs.Room.{HasNoRoom};
@@ -209,10 +209,15 @@ impl Clients {
         ensures step { R.seen.holds rows.old → (last : ℕ) → Steps
             (R.seen.cells rows.old) self.now last (machine.Get start (cell_of row.now family.now))
             (result_reply found_reply result) (R.seen.cells rows.new) self.now last }
+        // What is answered stands in the cells, whatever they hold.
+        ensures found { R.seen.holds rows.old → IfOk result
+            (IsFound (R.seen.cells rows.old) (cell_of row.now family.now) start) }
         ensures reads { OnlyReads R.seen rows.old rows.new }
         // What is shown is never answered as damaged.
         ensures undamaged { R.seen.holds rows.old → (st : State) → IsReached st
             → ShowsCells (R.seen.cells rows.old) st → ¬ (IsErrOf result Refusal.Damaged) }
+        ensures damaged { R.seen.holds rows.old → IfErr result (λ refusal. refusal ≡ Refusal.Damaged
+            → IsDamaged (R.seen.cells rows.old) (cell_of row.now family.now) start) }
         ensures short { IfOk result IsShort }
         ensures refusal { IfErr result IsGetRefusal }
         ensures unknown { (st : State) → ShowsClients self.now st → IsInactive st start

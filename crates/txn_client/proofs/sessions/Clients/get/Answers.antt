@@ -1,6 +1,7 @@
-use Rattle.std.proofs.Common.{sym, ap, subst, ◌∙◌}
+use Rattle.std.proofs.Common.{◌≡◌, IfErr, IfOk, sym, ap, subst, ◌∙◌}
 use Rattle.std.specs.declared.result.Result.TheVariants.{Err}
 use Rattle.cell_key.specs.declared.refusals.Refusal.{Refusal}
+use Rattle.cell_key.specs.declared.refusals.Refusal.TheVariants.{Damaged}
 use Rattle.txn_client.proofs.Exact.{cell_unknown, is_open}
 use Rattle.cell_key.specs.Names.{IsRow, IsFamily}
 use Rattle.si_model.specs.declared.replies.Cell.{Cell}
@@ -9,8 +10,9 @@ use Rattle.si_model.specs.Replies.{found_reply, result_reply}
 use Rattle.si_model.specs.Reads.{cell_of}
 use Rattle.cell_key.proofs.Reasons.{reason_none}
 use Rattle.row_atomic.proofs.Calls.{reads_none}
+use Rattle.txn_client.specs.Reads.{IsDamaged, IsFound}
 use Rattle.txn_client.specs.Shows.{IsCellRefusal, Steps}
-use Rattle.txn_client.proofs.Passed.{as_err, refused_not}
+use Rattle.txn_client.proofs.Passed.{as_err, passed_err, passed_none, refused_not}
 use Rattle.txn_client.proofs.Table.{reads_open_at, undamaged_at, get_refused_at}
 use Rattle.txn_client.proofs.sessions.Clients.get.Goals as goal
 
@@ -28,6 +30,22 @@ returns-clause-step g c = λ held last.
 
 pub returns-clause-undamaged : goal.returns-clause-undamaged
 returns-clause-undamaged g c = λ held. undamaged_at (g.R.Rows.seen.cells c.args.rows.now) c.in_ok-cell.cell c.args.start c.read_cell.result (c.read_cell.ensures.damaged held)
+
+pub returns-in_err-cell-clause-found : goal.returns-in_err-cell-clause-found
+returns-in_err-cell-clause-found g c = λ held. passed_none c.from_residual.result c.in_err-cell.field-0.0 _ c.from_residual.ensures.1
+
+pub returns-in_err-cell-clause-damaged : goal.returns-in_err-cell-clause-damaged
+returns-in_err-cell-clause-damaged g c = λ held.
+    passed_err c.from_residual.result c.in_err-cell.field-0.0 _ c.from_residual.ensures.1
+    (λ is. absurd (subst (IsCellRefusal c.args.self.now c.args.start (cell_of c.args.row.now c.args.family.now)) is c.in_err-cell.ensures.refusal).1)
+
+pub returns-clause-found : goal.returns-clause-found
+returns-clause-found g c = λ held.
+    subst (λ (x : Cell). IfOk c.read_cell.result (IsFound (g.R.Rows.seen.cells c.args.rows.now) x c.args.start)) c.in_ok-cell.ensures.ok (c.read_cell.ensures.found held)
+
+pub returns-clause-damaged : goal.returns-clause-damaged
+returns-clause-damaged g c = λ held.
+    subst (λ (x : Cell). IfErr c.read_cell.result (λ refusal. refusal ≡ Damaged → IsDamaged (g.R.Rows.seen.cells c.args.rows.now) x c.args.start)) c.in_ok-cell.ensures.ok (c.read_cell.ensures.damaged held)
 
 pub returns-in_err-cell-clause-unknown : goal.returns-in_err-cell-clause-unknown
 returns-in_err-cell-clause-unknown g c = λ st shown gone.
