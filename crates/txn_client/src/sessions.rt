@@ -311,6 +311,9 @@ impl Clients {
         // A step that doesn't draw leaves the oracle as it is.
         ensures aside { (st : State) → ShowsClients self.old st → ¬ IsAboutToDraw st start
             → oracle.new ≡ oracle.old }
+        // One that draws doesn't come to the rows.
+        ensures drawn { (st : State) → ShowsClients self.old st → IsAboutToDraw st start
+            → rows.new ≡ rows.old }
         ensures refusal { IfErr result IsStepRefusal }
         ensures undamaged { R.seen.holds rows.old → ¬ (IsErrOf result Refusal.Damaged) }
         ensures causes { (st : State) → ShowsClients self.old st → StepCauses st start result }

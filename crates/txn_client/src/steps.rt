@@ -205,6 +205,8 @@ impl Session {
             → IsErrOf result Refusal.EmptyCommit }
         ensures drawing { self.old.phase ≡ phase.Holding (length self.old.writes)
             → IfErr result IsDrawRefusal }
+        ensures drawn { self.old.phase ≡ phase.Holding (length self.old.writes)
+            → rows.new ≡ rows.old }
         ensures full { IsErrOf result Refusal.MemtableFull → HasNoRoom
             R.seen.overfills rows.old
             (EditsOf (R.seen.holds rows.old) (R.seen.cells rows.old) self.old) }

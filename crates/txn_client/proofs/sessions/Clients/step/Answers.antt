@@ -123,6 +123,9 @@ returns-in_default-clause-aside g c = λ st shown other. refl
 pub returns-in_default-clause-refusal : goal.returns-in_default-clause-refusal
 returns-in_default-clause-refusal g c = tt
 
+pub returns-then-outcome-clause-drawn : goal.returns-then-outcome-clause-drawn
+returns-then-outcome-clause-drawn g c = λ st shown about. c.in_ok-outcome.ensures.drawn (draws_next c.args.self.now c.args.start c.in-Some.session.now st (sym c.in-Some.ensures.value) shown about)
+
 pub returns-then-outcome-clause-below : goal.returns-then-outcome-clause-below
 returns-then-outcome-clause-below g c = does_below g.R.Rows.seen c.args.rows.now c.advance.new.rows _ c.in_ok-outcome.outcome.progress c.in_ok-outcome.ensures.does
 
@@ -143,6 +146,9 @@ returns-then-outcome-clause-full_shown g c = λ held is. absurd (not_refused _ _
 
 pub returns-then-outcome-clause-reason : goal.returns-then-outcome-clause-reason
 returns-then-outcome-clause-reason g c = one_reason_kept _ _ _ _ _ _ c.in_ok-outcome.ensures.reason
+
+pub returns-else-outcome-clause-drawn : goal.returns-else-outcome-clause-drawn
+returns-else-outcome-clause-drawn g c = λ st shown about. c.in_ok-outcome.ensures.drawn (draws_next c.args.self.now c.args.start c.in-Some.session.now st (sym c.in-Some.ensures.value) shown about)
 
 pub returns-else-outcome-clause-below : goal.returns-else-outcome-clause-below
 returns-else-outcome-clause-below g c = does_below g.R.Rows.seen c.args.rows.now c.advance.new.rows _ c.in_ok-outcome.outcome.progress c.in_ok-outcome.ensures.does
@@ -165,6 +171,9 @@ returns-else-outcome-clause-full_shown g c = λ held is. absurd (not_refused _ _
 pub returns-else-outcome-clause-reason : goal.returns-else-outcome-clause-reason
 returns-else-outcome-clause-reason g c = one_reason_kept _ _ _ _ _ _ c.in_ok-outcome.ensures.reason
 
+pub returns-in_err-outcome-clause-drawn : goal.returns-in_err-outcome-clause-drawn
+returns-in_err-outcome-clause-drawn g c = λ st shown about. c.in_err-outcome.ensures.drawn (draws_next c.args.self.now c.args.start c.in-Some.session.now st (sym c.in-Some.ensures.value) shown about)
+
 pub returns-in_err-outcome-clause-below : goal.returns-in_err-outcome-clause-below
 returns-in_err-outcome-clause-below g c = reads_keep c.in_err-outcome.ensures.refused.same
 
@@ -186,6 +195,9 @@ returns-in_err-outcome-clause-full_shown g c = λ held is st reached shown kept.
 
 pub returns-in_err-outcome-clause-reason : goal.returns-in_err-outcome-clause-reason
 returns-in_err-outcome-clause-reason g c = one_reason_passed c.from_residual.result c.in_err-outcome.field-0.0 _ _ _ _ c.from_residual.ensures.1 c.in_err-outcome.ensures.reason
+
+pub returns-in_default-clause-drawn : goal.returns-in_default-clause-drawn
+returns-in_default-clause-drawn g c = λ st shown about. refl
 
 pub returns-in_default-clause-below : goal.returns-in_default-clause-below
 returns-in_default-clause-below g c = record { still = λ held. held; stays = refl }
