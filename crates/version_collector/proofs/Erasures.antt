@@ -217,17 +217,17 @@ deletion_answered Holds cells x floor ts deletion (Err e) none are first found =
 deletion_answered Holds cells x floor ts deletion (Ok edits) none are first found = erases_deletion Holds cells x floor ts deletion edits.items none are first found
 
 -- what was found after reads that left the cells as they were
-pub last_after : (Before Now : Type 0) (old new : Cells) (x : Cell) (floor : ℕ) (deletion : Option ℕ) → (Before → Now) → (Before → new ≡ old)
+pub last_after : (Before Now : Type 0) (old new : Cells) (x : Cell) (floor : ℕ) (deletion : Option ℕ) → (Before → Now) → new ≡ old
     → (Now → AreShown new → IsLastDeletion new x floor deletion) → Before → AreShown old → IsLastDeletion old x floor deletion
 last_after Before Now old new x floor deletion still kept found held shown =
-    subst (λ (cs : Cells). IsLastDeletion cs x floor deletion) (kept held) (found (still held) (subst AreShown (sym (kept held)) shown))
+    subst (λ (cs : Cells). IsLastDeletion cs x floor deletion) kept (found (still held) (subst AreShown (sym kept) shown))
 
-pub found_after : (Before Now : Type 0) (old new : Cells) (x : Cell) (floor : ℕ) (near : NearStarts) (ts : List ℕ) → (Before → Now) → (Before → new ≡ old) → (Before → AreNear old x floor near)
+pub found_after : (Before Now : Type 0) (old new : Cells) (x : Cell) (floor : ℕ) (near : NearStarts) (ts : List ℕ) → (Before → Now) → new ≡ old → (Before → AreNear old x floor near)
     → (Now → AreShown new → HasOneRecord new x floor → AreNear new x floor near → AreUnnamed new x floor ts) → Before → AreShown old → HasOneRecord old x floor → AreUnnamed old x floor ts
 found_after Before Now old new x floor near ts still kept are found held shown one =
-    subst (λ (cs : Cells). AreUnnamed cs x floor ts) (kept held)
-    (found (still held) (subst AreShown (sym (kept held)) shown) (subst (λ (cs : Cells). HasOneRecord cs x floor) (sym (kept held)) one)
-    (subst (λ (cs : Cells). AreNear cs x floor near) (sym (kept held)) (are held)))
+    subst (λ (cs : Cells). AreUnnamed cs x floor ts) kept
+    (found (still held) (subst AreShown (sym kept) shown) (subst (λ (cs : Cells). HasOneRecord cs x floor) (sym kept) one)
+    (subst (λ (cs : Cells). AreNear cs x floor near) (sym kept) (are held)))
 
 -- ---- refusals
 

@@ -8,7 +8,7 @@ pub loop-start-preserved : goal.loop-start-preserved
 loop-start-preserved c =
     let x = c.args.cell.now in
     let t = c.start-item.result in
-    let key = c.in_ok-data.ensures ∙ ap (key_of x Data) c.stamp.ensures.stamp in
+    let key = c.in_ok-data.ensures.key ∙ ap (key_of x Data) c.stamp.ensures.stamp in
     record {
       edits = data_next x c.args.starts.now c.loop-start.start-index t c.loop-start.edits.items c.push.new.self.items c.in_ok-data.data
           c.loop-start-test.true c.start-item.is c.loop-start.invariant.edits key c.in_ok-push.ensures.items;

@@ -8,8 +8,8 @@ pub loop-commit-preserved : goal.loop-commit-preserved
 loop-commit-preserved c =
     let x = c.args.cell.now in
     let v = c.loop-commit-item.result in
-    let record_key = c.in_ok-record.ensures ∙ ap (key_of x Write) c.stamp.ensures.stamp in
-    let data_key = c.in_ok-data.ensures ∙ ap (key_of x Data) c.stamp-in-loop-commit.ensures.stamp in
+    let record_key = c.in_ok-record.ensures.key ∙ ap (key_of x Write) c.stamp.ensures.stamp in
+    let data_key = c.in_ok-data.ensures.key ∙ ap (key_of x Data) c.stamp-in-loop-commit.ensures.stamp in
     record {
       edits = records_next x c.args.records.now c.loop-commit.commit-index v c.loop-commit.edits.items c.push.new.self.items c.push-in-loop-commit.new.self.items c.in_ok-record.record c.in_ok-data.data
           c.loop-commit-test.true c.loop-commit-item.is c.loop-commit.invariant.edits record_key data_key c.in_ok-push.ensures.items c.in_ok-push-2.ensures.items;

@@ -29,7 +29,7 @@ returns-then-erased-clause-room g c =
 
 pub returns-clause-visit : goal.returns-clause-visit
 returns-clause-visit g c = λ held shown pass next.
-    subst (λ (m : Cells). Visits (g.R.Rows.seen.cells c.args.rows.now) c.args.self.now More m (record c.args.self.now { after = Some c.args.cell })) (sym ((OnFalse_at c.if-erased.false c.in_ok-erased.ensures.left).kept held))
+    subst (λ (m : Cells). Visits (g.R.Rows.seen.cells c.args.rows.now) c.args.self.now More m (record c.args.self.now { after = Some c.args.cell })) (sym ((OnFalse_at c.if-erased.false c.in_ok-erased.ensures.left).kept))
     (collect_past (g.R.Rows.seen.cells c.args.rows.now) c.args.self.now c.args.cell pass next (OnFalse_at c.if-erased.false (c.in_ok-erased.ensures.tidy held shown)))
 
 pub returns-clause-room : goal.returns-clause-room
