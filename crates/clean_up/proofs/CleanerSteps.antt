@@ -29,7 +29,7 @@ use Rattle.si_model.proofs.Snapshots.{same_commit}
 use Rattle.si_model.proofs.Steps.{reached_sound}
 use Rattle.si_model.proofs.Tools.{same_entry}
 use Rattle.si_model.proofs.Without.{without}
-use Rattle.clean_up.specs.Fates.{Decides, IsNextRecord, IsToldBy, verdict_of}
+use Rattle.clean_up.specs.Fates.{Decides, IsNextRecord, IsToldBy, NamesOther, verdict_of}
 use Rattle.clean_up.specs.Locks.{TellsKind}
 use Rattle.clean_up.specs.Room.{ClearsCell}
 use Rattle.clean_up.specs.Shows.{Advances, Follows, ShowsCleaner, cleaner_of, is_decided}
@@ -44,6 +44,10 @@ Takes st i cells' cleaner' reply = (next : State) × Step st (machine.CleanStep 
 
 not_open : true ≡ false → ⊥
 not_open e = cc
+
+-- a record names one start
+not_named : (b : List ℕ) (t : ℕ) → NamesOther b t → ¬ NamesStart b t
+not_named b t (u, (kind, named), other) (k, names) = other (sym named.start ∙ names.start)
 
 module _ (cells : Cells) (cleaner : Cleaner) (st : State) (i : ℕ) (reached : IsReached st) (store : ShowsCells cells st) (mine : ShowsCleaner cleaner i st) where
   abbrev t : ℕ
@@ -151,7 +155,7 @@ module _ (cells : Cells) (cleaner : Cleaner) (st : State) (i : ℕ) (reached : I
       (learned, s.0, s.1, record { cleaners = refl; next_cleaner = refl; knows = λ e. record { is_first = mine.knows.is_first; right = λ m. committed } })
   told_at Back is gone told =
       let s = learns_at is (tells.unlocked gone i (cleaner_of cleaner) mine.kept refl) in
-      (learned, s.0, s.1, record { cleaners = refl; next_cleaner = refl; knows = λ e. record { is_first = mine.knows.is_first; right = λ m. tells.back gone (none_names told.0 told.1 told.2) x m } })
+      (learned, s.0, s.1, record { cleaners = refl; next_cleaner = refl; knows = λ e. record { is_first = mine.knows.is_first; right = λ m. tells.back gone (none_names told.0 told.1 (λ c b is. not_named b t (told.2 c b is))) x m } })
 
   -- ---- the second step
 

@@ -17,6 +17,7 @@ use Rattle.cell_key.specs.Texts.{place_text}
 use Rattle.cell_key.specs.Columns.{IsLockText}
 use Rattle.cell_key.proofs.LockTexts.{one_first}
 use Rattle.cell_key.proofs.Order.{one_place_a_text}
+use Rattle.row_atomic.specs.Calls.{View}
 use Rattle.row_atomic.specs.Refusals.{IsReadRefusal}
 use Rattle.si_model.specs.Deciding.{CleanersKnow}
 use Rattle.si_model.specs.Laws.{IsWritable}
@@ -28,6 +29,7 @@ use Rattle.si_model.specs.Replies.{clean_reply}
 use Rattle.si_model.specs.ShowsCells.{ShowsCells, ShowsMark, IsFirstCell, kind_of_change}
 use Rattle.si_model.specs.declared.replies.Cell.{Cell}
 use Rattle.si_model.specs.declared.replies.CleanReply.{CleanReply}
+use Rattle.si_model.specs.declared.replies.CleanStart.TheVariants as begin
 use Rattle.si_model.proofs.Acceptable.{clean_begin_ok}
 use Rattle.si_model.proofs.Bounds.{reached_bounds}
 use Rattle.si_model.proofs.CleanerFates.{cleaners_know}
@@ -42,6 +44,7 @@ use Rattle.clean_up.specs.Fates.{verdict_of}
 use Rattle.clean_up.specs.Locks.{IsStanding, LacksPlace, Stands}
 use Rattle.clean_up.specs.Refusals.{IsAdvanceRefusal}
 use Rattle.clean_up.specs.Shows.{Advances, AreShownOn, AreShownSame, Follows, KnowsItsLock, SameCleaners, ShowsAt, ShowsCleaner, ShowsCleaners, Steps, cleaner_of, is_last}
+use Rattle.clean_up.specs.Told.{BeginsWith, IsTold, TellsAt}
 use Rattle.clean_up.specs.declared.cleaner.Cleaner.{Cleaner}
 use Rattle.clean_up.specs.declared.cleaners.Cleaners.{Cleaners}
 use Rattle.clean_up.specs.declared.fates.Fate.TheVariants.{Open}
@@ -305,6 +308,19 @@ shows_new cleaners st next none empty = record {
 pub same_lent : (old new : Cleaners) (i : ℕ) (cleaner w : Cleaner) → btree.get nat_cmp old.cleaners i ≡ Some cleaner → w ≡ cleaner → new.next ≡ old.next
     → ((q : ℕ) → btree.get nat_cmp new.cleaners q ≡ cond (is_eq (nat_cmp i q)) (Some w) (btree.get nat_cmp old.cleaners q)) → btree.btree_map_len new.cleaners ≡ btree.btree_map_len old.cleaners → SameCleaners old new
 same_lent old new i cleaner w was same next at len = record { next = next; each = same_each (btree.get nat_cmp old.cleaners) (btree.get nat_cmp new.cleaners) i cleaner w was same at; count = len }
+
+-- ---- what is said of a step and of a beginning
+
+-- what is said of a cleaner is said of the one that was stored
+pub told_at : {R : Type 0} (seen : View R) (old new : Cleaners) (i : ℕ) (k k' : Cleaner) (reply : CleanReply) (before now : R) → btree.get nat_cmp old.cleaners i ≡ Some k → (last : Bool) → is_last reply ≡ last
+    → ((q : ℕ) → btree.get nat_cmp new.cleaners q ≡ cond (is_eq (nat_cmp i q)) (cond last None (Some k')) (btree.get nat_cmp old.cleaners q)) → IsTold seen k reply k' before now → TellsAt seen i reply old new before now
+told_at seen old new i k k' reply before now was last is at told =
+    (k, k', was, upd_at (btree.get nat_cmp old.cleaners) (btree.get nat_cmp new.cleaners) i (cond last None (Some k')) at ∙ ap (λ (b : Bool). cond b None (Some k')) (sym is), told)
+
+pub begins_with : (cells : Cells) (old new : Cleaners) (x y : Cell) (lock : Lock) (t : ℕ) → x ≡ y → t ≡ lock.start → Stands cells x lock
+    → ((q : ℕ) → btree.get nat_cmp new.cleaners q ≡ cond (is_eq (nat_cmp old.next q)) (Some (record { cell = x; lock = lock; fate = Open })) (btree.get nat_cmp old.cleaners q)) → BeginsWith cells y new (begin.Cleaner old.next t)
+begins_with cells old new x y lock t same start stands at = subst (λ (z : Cell). BeginsWith cells z new (begin.Cleaner old.next t)) same
+    (lock, sym start, stands, upd_at (btree.get nat_cmp old.cleaners) (btree.get nat_cmp new.cleaners) old.next (Some (record { cell = x; lock = lock; fate = Open })) at)
 
 -- ---- what a read of the lock found
 

@@ -1,5 +1,5 @@
 -- The fate of a start, as the records of its first cell show it.
-use Rattle.std.specs.Prelude.{◌≡◌, ◌⊎◌, ℕ, ◌+◌, ◌-◌, ◌^◌, List, Option, Some}
+use Rattle.std.specs.Prelude.{◌≡◌, ◌≢◌, ◌⊎◌, ℕ, ◌+◌, ◌-◌, ◌^◌, List, Option, Some}
 use Rattle.cell_key.specs.Cells.{Cells}
 use Rattle.cell_key.specs.declared.keys.Qualifier.TheVariants.{Write}
 use Rattle.cell_key.specs.Columns.{NamesStart}
@@ -25,14 +25,18 @@ verdict_of Back = deciding.Back
 abbrev pub IsNextRecord : Cells → Cell → ℕ → Option (ℕ × List ℕ) → Type 0
 IsNextRecord cells x t found = IsOldest cells (key_of x Write) (t + 1) (2 ^ 64 - 1) found
 
+-- a record names a start, and it is another one than t
+abbrev pub NamesOther : List ℕ → ℕ → Type 0
+NamesOther text t = (u : ℕ) × NamesStart text u × (u ≢ t)
+
 -- What the records of its first cell show of t: one names it, or the first one above it,
--- if there is one, doesn't.
+-- if there is one, names another start.
 abbrev pub IsToldBy : Cells → Cell → ℕ → Fate → Type 0
 IsToldBy cells x t Open = ⊥
 IsToldBy cells x t (Forward c) = (b : List ℕ) × (at cells x Write c ≡ Some b) × NamesStart b t
 IsToldBy cells x t Back =
     (next : Option (ℕ × List ℕ)) × IsNextRecord cells x t next
-    × ((c : ℕ) (b : List ℕ) → next ≡ Some (c, b) → ¬ NamesStart b t)
+    × ((c : ℕ) (b : List ℕ) → next ≡ Some (c, b) → NamesOther b t)
 
 -- a record of x names no start
 abbrev pub HasBadRecord : Cells → Cell → Type 0

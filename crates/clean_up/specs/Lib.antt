@@ -3,6 +3,7 @@ pub mod Locks
 pub mod Refusals
 pub mod Room
 pub mod Shows
+pub mod Told
 pub use Rattle.si_model.specs.Machine
 pub use Rattle.si_model.specs.Replies
 pub use Rattle.si_model.specs.ShowsCells

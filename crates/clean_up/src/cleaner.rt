@@ -8,6 +8,7 @@ ghost use Rattle.clean_up.specs.Fates.{HasBadRecord};
 ghost use Rattle.clean_up.specs.Refusals.{IsAdvanceRefusal};
 ghost use Rattle.clean_up.specs.Room.{Does, EditsOf};
 ghost use Rattle.clean_up.specs.Shows.{Advances};
+ghost use Rattle.clean_up.specs.Told.{IsTold};
 
 use crate::clearing;
 use crate::fates::{self, Fate};
@@ -37,6 +38,8 @@ impl Cleaner {
         ensures does { IfOk result (λ reply. Does R.seen
             (EditsOf (R.seen.holds rows.old) (R.seen.cells rows.old) self.old)
             reply rows.old rows.new) }
+        ensures told { IfOk result (λ reply.
+            IsTold R.seen self.old reply self.new rows.old rows.new) }
         ensures err { OnErr result (self.new ≡ self.old) }
         ensures same { OnErr result (OnlyReads R.seen rows.old rows.new) }
         ensures refusal { IfErr result IsAdvanceRefusal }

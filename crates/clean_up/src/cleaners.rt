@@ -9,9 +9,11 @@ ghost use Rattle.si_model.specs.Machine as machine;
 ghost use Rattle.si_model.specs.Machine.{State};
 ghost use Rattle.si_model.specs.Reads.{cell_of};
 ghost use Rattle.si_model.specs.Replies.{clean_reply, clean_start_reply, result_reply};
+ghost use Rattle.clean_up.specs.Locks.{LacksPlace};
 ghost use Rattle.clean_up.specs.Refusals.{IsBeginRefusal, IsStepRefusal};
-ghost use Rattle.clean_up.specs.Room.{ChangesNext, Does, EditsOfStep, Makes, TakesRoom};
+ghost use Rattle.clean_up.specs.Room.{ChangesNext, EditsOfStep, Makes, TakesRoom};
 ghost use Rattle.clean_up.specs.Shows.{InEachShown, IsUnopened, IsUsedUp, SameCleaners, ShowsCleaners, Steps, TouchesFor, is_last};
+ghost use Rattle.clean_up.specs.Told.{BeginsWith, MeetsBadRecord, StepMakes};
 
 use crate::cleaner::Cleaner;
 use crate::fates::Fate;
@@ -80,11 +82,16 @@ impl Cleaners {
             → Steps (R.seen.cells rows.old) self.old
             (machine.CleanBegin (cell_of row.now family.now))
             (result_reply clean_start_reply result) (R.seen.cells rows.new) self.new }
+        // The cleaner that is stored has the lock that stands on the cell, or none does.
+        ensures found { R.seen.holds rows.old → IfOk result (BeginsWith
+            (R.seen.cells rows.old) (cell_of row.now family.now) self.new) }
         ensures reads { OnlyReads R.seen rows.old rows.new }
         // What is shown is never answered as damaged.
         ensures undamaged { R.seen.holds rows.old
             → InEachShown (R.seen.cells rows.old) self.old (λ st.
             ¬ IsErrOf result Refusal.Damaged) }
+        ensures damaged { R.seen.holds rows.old → IfErr result (λ refusal. refusal ≡ Refusal.Damaged
+            → LacksPlace (R.seen.cells rows.old) (cell_of row.now family.now)) }
         ensures refusal { IfErr result IsBeginRefusal }
         ensures err { OnErr result (SameCleaners self.old self.new) }
         ensures exhausted { IsErrOf result Refusal.Exhausted
@@ -124,10 +131,9 @@ impl Cleaners {
         ensures step { R.seen.holds rows.old
             → Steps (R.seen.cells rows.old) self.old (machine.CleanStep number)
             (result_reply clean_reply result) (R.seen.cells rows.new) self.new }
-        // The edits that the cleaner names are made, or nothing is changed.
-        ensures does { IfOk result (λ reply. Does R.seen (EditsOfStep
-            (R.seen.holds rows.old) (R.seen.cells rows.old) self.old number)
-            reply rows.old rows.new) }
+        // The edits that the cleaner names are made, or nothing is changed, and what is answered is so.
+        ensures accepted { IfOk result (λ reply.
+            StepMakes R.seen number reply self.old self.new rows.old rows.new) }
         ensures same { OnErr result (OnlyReads R.seen rows.old rows.new) }
         ensures below { KeepsBelow R.seen rows.old rows.new }
         // One row changes, and what joins stands at the stamp of the commit whose mark goes.
@@ -142,6 +148,8 @@ impl Cleaners {
         ensures undamaged { R.seen.holds rows.old
             → InEachShown (R.seen.cells rows.old) self.old (λ st.
             ¬ IsErrOf result Refusal.Damaged) }
+        ensures damaged { R.seen.holds rows.old → IfErr result (λ refusal. refusal ≡ Refusal.Damaged
+            → MeetsBadRecord (R.seen.cells rows.old) self.old number) }
         ensures refusal { IfErr result IsStepRefusal }
         ensures err { OnErr result (SameCleaners self.old self.new) }
         ensures unknown { (st : State) → ShowsCleaners self.old st → IsUnopened st number

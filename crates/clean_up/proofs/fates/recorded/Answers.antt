@@ -2,7 +2,6 @@ use Rattle.std.proofs.Common.{◌≡◌, ◌≢◌, ◌∙◌, ℕ, List, Option
 use Rattle.std.specs.Prelude.{option_map}
 use Rattle.std.proofs.lemmas.Option.{same_Some}
 use Rattle.std.specs.declared.vec.Vec.{Vec}
-use Rattle.byteorder.specs.Endian.{big_number}
 use Rattle.cell_key.specs.Versions.{stamped}
 use Rattle.cell_key.specs.Cells.{Cells}
 use Rattle.cell_key.specs.Columns.{NamesStart, NamesWrite}
@@ -21,7 +20,9 @@ back : {Z : Type 0} (cells : Cells) (x : Cell) (s t c n : ℕ) (kind : WriteKind
 back cells x s t c n kind found text same is named other next = (
   option_map stamped found,
   subst (λ (k : ℕ). IsNextRecord cells x k (option_map stamped found)) same next,
-  λ d b e (k, names). other (sym named.start ∙ (ap (big_number 8) (ap (λ (p : ℕ × List ℕ). p.1) (same_Some (c, text.items) (d, b) (sym (ap (λ f. option_map stamped f) is) ∙ e))) ∙ (names.start ∙ sym same))),
+  λ d b e.
+      let text_is : text.items ≡ b = ap (λ (p : ℕ × List ℕ). p.1) (same_Some (c, text.items) (d, b) (sym (ap (λ f. option_map stamped f) is) ∙ e)) in
+      (n, (kind, subst (λ (l : List ℕ). NamesWrite l n kind) text_is named), λ at. other (at ∙ sym same)),
 )
 
 bad : {Z : Type 0} (cells : Cells) (x : Cell) (s c : ℕ) (found : Option (ℕ × Vec ℕ Z)) (text : Vec ℕ Z) (now : List ℕ) → found ≡ Some (c, text) → now ≡ text.items → ((t : ℕ) (kind : WriteKind) → ¬ NamesWrite now t kind) → IsNextRecord cells x s (option_map stamped found) → HasBadRecord cells x

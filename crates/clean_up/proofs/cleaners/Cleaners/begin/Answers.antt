@@ -1,17 +1,20 @@
-use Rattle.std.proofs.Common.{◌∙◌, ◌+◌, sym, ap, subst, refl, Option}
+use Rattle.std.proofs.Common.{◌≢◌, ◌∙◌, ◌+◌, sym, ap, subst, refl, Option}
 use Rattle.std.specs.Prelude.{is_some, if◌then◌else◌}
 use Rattle.std.specs.BTreeMap as btree
 use Rattle.cell_key.specs.Names.{IsRow, IsFamily}
 use Rattle.cell_key.specs.declared.refusals.Refusal.TheVariants.{Exhausted, NoMemory, Damaged}
 use Rattle.si_model.specs.Machine as machine
-use Rattle.si_model.specs.Reads.{cell_of}
+use Rattle.si_model.specs.Reads.{IsNameRefusal, cell_of}
 use Rattle.si_model.specs.declared.replies.Cell.{Cell}
-use Rattle.clean_up.specs.Locks.{Stands}
+use Rattle.clean_up.specs.Locks.{LacksPlace, Stands}
 use Rattle.clean_up.specs.Shows.{Steps}
 use Rattle.clean_up.specs.declared.cleaner.Cleaner.{Cleaner}
-use Rattle.cell_key.proofs.Passed.{as_err, same_refusal}
-use Rattle.clean_up.proofs.Table.{full_at, is_full, is_room, name_refused_at, no_lacking, no_lock_at, opens_at, read_storage, refused_at, same_entries, same_itself, standing_none, standing_some}
+use Rattle.cell_key.proofs.Passed.{as_err, passed_err, passed_none, same_refusal}
+use Rattle.clean_up.proofs.Table.{begins_with, full_at, is_full, is_room, name_refused_at, no_lacking, no_lock_at, opens_at, read_storage, refused_at, same_entries, same_itself, standing_none, standing_some}
 use Rattle.clean_up.proofs.cleaners.Cleaners.begin.Goals as goal
+
+no_damage : NoMemory ≢ Damaged
+no_damage is = cc
 
 pub returns-in_err-cell-clause-step : goal.returns-in_err-cell-clause-step
 returns-in_err-cell-clause-step g c = λ held.
@@ -59,3 +62,35 @@ returns-clause-step g c = λ held.
     (subst (λ (x : Cell). IsRow x.row) (sym same) c.in_ok-cell.ensures.row) (subst (λ (x : Cell). IsFamily x.family) (sym same) c.in_ok-cell.ensures.family) stands
     (is_room _ _ c.len.ensures.len c.if-len-ge-MOST_CLEANERS.false) c.if-number-gt-MOST_NUMBER.false refl c.in_ok-insert.ensures.updates.0
     (c.in_ok-insert.ensures.len ∙ ap (λ (o : Option Cleaner). btree.btree_map_len c.args.self.now.cleaners + (if is_some o then 0 else 1)) c.in_ok-insert.ensures.old)))
+
+pub returns-in_err-cell-clause-found : goal.returns-in_err-cell-clause-found
+returns-in_err-cell-clause-found g c = λ held. passed_none c.from_residual.result c.in_err-cell.field-0.0 _ c.from_residual.ensures.1
+
+pub returns-in_err-cell-clause-damaged : goal.returns-in_err-cell-clause-damaged
+returns-in_err-cell-clause-damaged g c = λ held.
+    passed_err c.from_residual.result c.in_err-cell.field-0.0 _ c.from_residual.ensures.1
+    (λ is. absurd (subst (IsNameRefusal (cell_of c.args.row.now c.args.family.now)) is c.in_err-cell.ensures.refusal))
+
+pub returns-in_err-lock-clause-found : goal.returns-in_err-lock-clause-found
+returns-in_err-lock-clause-found g c = λ held. passed_none c.from_residual-in_err-lock.result c.in_err-lock.field-0.0 _ c.from_residual-in_err-lock.ensures.1
+
+pub returns-in_err-lock-clause-damaged : goal.returns-in_err-lock-clause-damaged
+returns-in_err-lock-clause-damaged g c = λ held.
+    passed_err c.from_residual-in_err-lock.result c.in_err-lock.field-0.0 _ c.from_residual-in_err-lock.ensures.1
+    (λ is. subst (λ (x : Cell). LacksPlace (g.R.Rows.seen.cells c.args.rows.now) x) c.in_ok-cell.ensures.ok (c.in_err-lock.ensures.damaged held is))
+
+pub returns-in_default-clause-found : goal.returns-in_default-clause-found
+returns-in_default-clause-found g c = λ held.
+    standing_none (g.R.Rows.seen.cells c.args.rows.now) c.in_ok-cell.cell (cell_of c.args.row.now c.args.family.now) c.in_ok-lock.field-0 c.in_default.is c.in_ok-cell.ensures.ok (c.in_ok-lock.ensures.found held)
+
+pub returns-in_err-insert-clause-found : goal.returns-in_err-insert-clause-found
+returns-in_err-insert-clause-found g c = λ held. passed_none c.from_residual-in_err-insert.result NoMemory _ c.from_residual-in_err-insert.ensures.1
+
+pub returns-in_err-insert-clause-damaged : goal.returns-in_err-insert-clause-damaged
+returns-in_err-insert-clause-damaged g c = λ held. passed_err c.from_residual-in_err-insert.result NoMemory _ c.from_residual-in_err-insert.ensures.1 (λ is. absurd (no_damage is))
+
+pub returns-clause-found : goal.returns-clause-found
+returns-clause-found g c = λ held.
+    let stands = standing_some (g.R.Rows.seen.cells c.args.rows.now) c.in_ok-cell.cell c.in_ok-lock.field-0 c.in-Some.lock c.in-Some.is (c.in_ok-lock.ensures.found held) in
+    begins_with (g.R.Rows.seen.cells c.args.rows.now) c.args.self.now (record c.args.self.now { next = c.args.self.now.next + 1; cleaners = c.insert.new.self }) c.in_ok-cell.cell (cell_of c.args.row.now c.args.family.now) c.in-Some.lock _
+    c.in_ok-cell.ensures.ok c.stamp-start.ensures.stamp stands c.in_ok-insert.ensures.updates.0

@@ -6,8 +6,8 @@ use Rattle.cell_key.specs.declared.refusals.Refusal.TheVariants.{MemtableFull, D
 use Rattle.si_model.specs.Machine as machine
 use Rattle.clean_up.specs.declared.cleaner.Cleaner.{Cleaner}
 use Rattle.clean_up.proofs.Room.{changes_shown, does_make, does_so, does_take, does_touch, no_bad_record, no_room_so, touches_shown}
-use Rattle.cell_key.proofs.Passed.{as_err, passed as passed_on, same_refusal}
-use Rattle.clean_up.proofs.Table.{advance_storage, refused_at, same_entries, same_lent, takes_at, twice, unknown_at, with_none}
+use Rattle.cell_key.proofs.Passed.{as_err, passed as passed_on, passed_err, passed_none, same_refusal}
+use Rattle.clean_up.proofs.Table.{advance_storage, refused_at, same_entries, same_lent, takes_at, told_at, twice, unknown_at, with_none}
 use Rattle.clean_up.proofs.cleaners.Cleaners.step.Goals as goal
 
 pub returns-in_default-clause-step : goal.returns-in_default-clause-step
@@ -90,3 +90,35 @@ returns-else-closes-clause-room g c = λ held st reached store shown.
     does_take g.R.Rows.seen c.args.rows.now c.advance.new.rows _ c.in_ok-reply.reply
     (does_so g.R.Rows.seen c.args.rows.now c.advance.new.rows c.in_ok-reply.reply
     (changes_shown (g.R.Rows.seen.holds c.args.rows.now) (g.R.Rows.seen.cells c.args.rows.now) c.args.self.now c.args.number c.in-Some.cleaner.now (sym c.in-Some.ensures.value) held st store shown) c.in_ok-reply.ensures.does)
+
+pub returns-in_err-reply-clause-accepted : goal.returns-in_err-reply-clause-accepted
+returns-in_err-reply-clause-accepted g c = passed_none c.from_residual.result c.in_err-reply.field-0.0 _ c.from_residual.ensures.1
+
+pub returns-in_err-reply-clause-damaged : goal.returns-in_err-reply-clause-damaged
+returns-in_err-reply-clause-damaged g c = λ held.
+    passed_err c.from_residual.result c.in_err-reply.field-0.0 _ c.from_residual.ensures.1
+    (λ is. (c.in-Some.cleaner.now, sym c.in-Some.ensures.value, c.in_err-reply.ensures.damaged held is))
+
+pub returns-then-closes-clause-accepted : goal.returns-then-closes-clause-accepted
+returns-then-closes-clause-accepted g c =
+    let there : IsSome (btree.get nat_cmp c.args.self.now.cleaners c.args.number) = subst (λ (o : Option Cleaner). IsSome o) c.in-Some.ensures.value refl in
+    let w = c.advance.new.self in
+    let set = (c.get_mut.follows.holds w).3 there in
+    record {
+      does = does_so g.R.Rows.seen c.args.rows.now c.advance.new.rows c.in_ok-reply.reply (λ row edits is. (c.in-Some.cleaner.now, sym c.in-Some.ensures.value, is)) c.in_ok-reply.ensures.does;
+      told = told_at g.R.Rows.seen c.args.self.now (record c.args.self.now { cleaners = c.remove.new.self }) c.args.number c.in-Some.cleaner.now w c.in_ok-reply.reply c.args.rows.now c.advance.new.rows
+          (sym c.in-Some.ensures.value) true (sym c.closes.ensures ∙ c.if-closes.true)
+          (λ q. c.remove.ensures.updates.0 q ∙ (ap (λ (o : Option Cleaner). cond (is_eq (nat_cmp c.args.number q)) None o) (set.0 q) ∙ twice (is_eq (nat_cmp c.args.number q)) None (Some w) (btree.get nat_cmp c.args.self.now.cleaners q)))
+          c.in_ok-reply.ensures.told;
+    }
+
+pub returns-else-closes-clause-accepted : goal.returns-else-closes-clause-accepted
+returns-else-closes-clause-accepted g c =
+    let there : IsSome (btree.get nat_cmp c.args.self.now.cleaners c.args.number) = subst (λ (o : Option Cleaner). IsSome o) c.in-Some.ensures.value refl in
+    let w = c.advance.new.self in
+    let lent = c.get_mut.follows.holds w in
+    record {
+      does = does_so g.R.Rows.seen c.args.rows.now c.advance.new.rows c.in_ok-reply.reply (λ row edits is. (c.in-Some.cleaner.now, sym c.in-Some.ensures.value, is)) c.in_ok-reply.ensures.does;
+      told = told_at g.R.Rows.seen c.args.self.now (record c.args.self.now { cleaners = c.get_mut.follows.lender w }) c.args.number c.in-Some.cleaner.now w c.in_ok-reply.reply c.args.rows.now c.advance.new.rows
+          (sym c.in-Some.ensures.value) false (sym c.closes.ensures ∙ c.if-closes.false) (lent.3 there).0 c.in_ok-reply.ensures.told;
+    }
