@@ -22,12 +22,12 @@ many_not_read h = h
 
 module _ {F : Type 0} (contents : F → Option Contents) (faults : F → ℕ) (row family : List ℕ) (qualifier : Qualifier) (lo hi : ℕ) where
   pub found_outcome : (found : Option (ℕ × Vec ℕ Global)) (old new : ClusterState F) → (Holds contents old → Holds contents new)
-      → (Holds contents old → IsNewest (cells_shown contents old) (version row family qualifier) lo hi (option_map stamped found)) → (Holds contents old → cells_shown contents new ≡ cells_shown contents old)
+      → (Holds contents old → IsNewest (cells_shown contents old) (version row family qualifier) lo hi (option_map stamped found)) → cells_shown contents new ≡ cells_shown contents old
       → storage_of contents new ≡ storage_of contents old → IsNoFuller old new → faults new.files ≡ faults old.files
       → IsOutcome contents faults (command.Newest row family qualifier lo hi) (Newest found) old new
   found_outcome found old new still is kept storage room told = record {
     still = still;
-    answers = λ order. (is order, kept order);
+    answers = λ order. (is order, kept);
     upholds = storage;
     files = tt;
     lists = λ _ name l. subst (IsListed name) (sym (ap (λ s. s.places) storage)) l;
@@ -37,13 +37,13 @@ module _ {F : Type 0} (contents : F → Option Contents) (faults : F → ℕ) (r
   }
 
   pub refused_outcome : {A : Type 0} (e : Refusal) (old new : ClusterState F) → (Holds contents old → Holds contents new)
-      → (Holds contents old → cells_shown contents new ≡ cells_shown contents old) → (Holds contents old → ¬ (e ≡ Damaged))
+      → cells_shown contents new ≡ cells_shown contents old → (Holds contents old → ¬ (e ≡ Damaged))
       → storage_of contents new ≡ storage_of contents old → IsNoFuller old new → IsReadRefusal e
       → faults old.files ≤ faults new.files → (IsErrOf {T = A} (Err e) Device → HasRisen (faults old.files) (faults new.files)) → (¬ IsErrOf {T = A} (Err e) Device → faults new.files ≡ faults old.files)
       → IsOutcome contents faults (command.Newest row family qualifier lo hi) (Refused e) old new
   refused_outcome e old new still kept whole storage room refusal later device told = record {
     still = still;
-    answers = λ order. (whole order, kept order);
+    answers = λ order. (whole order, kept);
     upholds = (refusal, storage);
     files = tt;
     lists = λ _ name l. subst (IsListed name) (sym (ap (λ s. s.places) storage)) l;
