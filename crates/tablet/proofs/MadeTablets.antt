@@ -1,5 +1,5 @@
 -- Tablets after the calls that change them.
-use Rattle.std.proofs.Common.{◌≡◌, ℕ, zero, suc, ◌+◌, ◌<◌, ◌≤◌, List, [], ◌∷◌, map, drop, get_or, sym, subst, ◌∙◌, arith}
+use Rattle.std.proofs.Common.{◌≡◌, ℕ, zero, suc, ◌+◌, ◌<◌, ◌≤◌, List, [], ◌∷◌, map, drop, take, get_or, sym, subst, ◌∙◌, arith}
 use Rattle.std.proofs.lemmas.List.{drop-map}
 use Rattle.std.specs.Prelude.{◌≢◌, Option, Some, None, Result, Ok, Err, OnOk, IfSome, IsSomeAnd, IsTrue, length}
 use Rattle.std.proofs.Common.{inl, inr}
@@ -14,9 +14,12 @@ use Rattle.memtable.specs.Edits.{HasStoredKey, with_edits}
 use Rattle.sorted_file.specs.File.{HasFile, IsOpen, StaysOpen, listed, name_of}
 use Rattle.sorted_file.specs.declared.file.SortedFile.{SortedFile}
 use Rattle.tablet.specs.Ranges.{has_row}
-use Rattle.tablet.specs.Compactions.{IsNewFile}
+use Rattle.tablet.specs.Compactions.{HasPut, IsNewFile, ReadsOpen, files_after}
+use Rattle.tablet.specs.Sources.{IsOpenIn}
 use Rattle.tablet.specs.Views.{range_of, memory_of, files_of, names_of, lists_of, cells_at, Holds, IsBelow, IsUnchanged, UsesName, Keeps, MakesLists}
 use Rattle.tablet.specs.declared.tablet.Tablet.{Tablet}
+use Rattle.tablet.specs.declared.compactions.Compaction.{Compaction}
+use Rattle.tablet.specs.declared.compactions.Compaction.TheVariants.{Minor, Merge, Major}
 use Rattle.tablet.proofs.Held.{held_lists}
 use Rattle.tablet.proofs.Seen.{shown}
 use Rattle.tablet.proofs.KeptCells.{edits_list, edits_shown}
@@ -157,13 +160,34 @@ missing_one (Some m) now names i same l h =
     let one = subst (λ (o : Option Contents). IfSome o (λ m. ¬ (HasFile m (get_or names i 0)))) same h in
     λ all. one (all_at (HasFile m) names i l all)
 
--- what was written of a tablet is what would be of one that is as it was
-pub made_of : (old new : Option Contents) (t u : Tablet) (file : SortedFile) (before es : Contents → List Entry) → IsUnchanged t u → ((m : Contents) → before m ≡ es m)
-    → IfSome old (λ m. Holds m u → IsSomeAnd new (λ n. IsNewFile n file (before m))) → IfSome old (λ m. Holds m t → IsSomeAnd new (λ n. IsNewFile n file (es m)))
-made_of None new t u file before es same is h = tt
-made_of (Some m) new t u file before es same is h = λ held. subst (λ (xs : List Entry). IsSomeAnd new (λ n. IsNewFile n file xs)) (is m) (h (still_holds m t u same held))
+-- what a compaction reads of a tablet is open where it is of one that is as it was
+pub still_reads : (compaction : Compaction) (told : Option Contents) (t u : Tablet) → IsUnchanged t u → ReadsOpen compaction told t → ReadsOpen compaction told u
+still_reads Minor told t u same h = tt
+still_reads (Merge count) told t u same h = subst (λ (fs : List SortedFile). AllByRecursion (IsOpenIn told) (take count fs)) (sym same.files) h
+still_reads Major told t u same h = subst (AllByRecursion (IsOpenIn told)) (sym same.files) h
 
-pub large_of : (old : Option Contents) (t u : Tablet) (before es : Contents → List Entry) (P : List Entry → Type 0) → IsUnchanged t u → ((m : Contents) → Holds m t → before m ≡ es m)
-    → IfSome old (λ m. Holds m u → P (before m)) → IfSome old (λ m. Holds m t → P (es m))
-large_of None t u before es P same is h = tt
-large_of (Some m) t u before es P same is h = λ held. subst P (is m held) (h (still_holds m t u same held))
+-- what was written of a tablet is what would be of one that is as it was
+pub made_of : (compaction : Compaction) (old new : Option Contents) (t u : Tablet) (file : SortedFile) (before es : Contents → List Entry) → IsUnchanged t u → ((m : Contents) → before m ≡ es m)
+    → IfSome old (λ m. ReadsOpen compaction (Some m) u → IsSomeAnd new (λ n. IsNewFile n file (before m))) → IfSome old (λ m. ReadsOpen compaction (Some m) t → IsSomeAnd new (λ n. IsNewFile n file (es m)))
+made_of compaction None new t u file before es same is h = tt
+made_of compaction (Some m) new t u file before es same is h = λ reads. subst (λ (xs : List Entry). IsSomeAnd new (λ n. IsNewFile n file xs)) (is m) (h (still_reads compaction (Some m) t u same reads))
+
+pub large_of : (compaction : Compaction) (old : Option Contents) (t u : Tablet) (before es : Contents → List Entry) (P : List Entry → Type 0) → IsUnchanged t u → ((m : Contents) → before m ≡ es m)
+    → IfSome old (λ m. ReadsOpen compaction (Some m) u → P (before m)) → IfSome old (λ m. ReadsOpen compaction (Some m) t → P (es m))
+large_of compaction None t u before es P same is h = tt
+large_of compaction (Some m) t u before es P same is h = λ reads. subst P (is m) (h (still_reads compaction (Some m) t u same reads))
+
+-- a file that a compaction made is in the place of what it wrote
+put_over : (compaction : Compaction) (new : Option Contents) (t u : Tablet) (file : SortedFile) (es fs : List Entry) → files_of u ≡ files_after compaction file (files_of t) → es ≡ fs → IsSomeAnd new (λ n. IsNewFile n file es) → IsSomeAnd new (λ n. HasPut compaction n fs t u)
+put_over compaction None t u file es fs is same made = absurd made
+put_over compaction (Some n) t u file es fs is same made = record { file = file; files = is; written = subst (IsNewFile n file) same made }
+
+pub has_put : (compaction : Compaction) (old new : Option Contents) (t u : Tablet) (file : SortedFile) (es fs : Contents → List Entry) → files_of u ≡ files_after compaction file (files_of t) → ((m : Contents) → es m ≡ fs m)
+    → IfSome old (λ m. ReadsOpen compaction (Some m) t → IsSomeAnd new (λ n. IsNewFile n file (es m))) → IfSome old (λ m. ReadsOpen compaction (Some m) t → IsSomeAnd new (λ n. HasPut compaction n (fs m) t u))
+has_put compaction None new t u file es fs is same h = tt
+has_put compaction (Some m) new t u file es fs is same h = λ reads. put_over compaction new t u file (es m) (fs m) is (same m) (h reads)
+
+-- a minor compaction reads no file
+pub reads_none : (old : Option Contents) (P : Contents → Type 0) → IfSome old (λ m. Unit {0} → P m) → IfSome old P
+reads_none None P h = tt
+reads_none (Some m) P h = h tt

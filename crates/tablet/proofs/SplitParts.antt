@@ -1,6 +1,6 @@
 -- The two parts of a tablet that is split.
-use Rattle.std.proofs.Common.{◌≡◌, ℕ, ◌<◌, Bool, true, false, cond, ◌&&◌, List, [], ◌∷◌, map, refl, sym, ap, subst, ◌∙◌, inl, inr}
-use Rattle.std.specs.Prelude.{◌⊎◌, Option, Some, None, IfSome, IsSomeAnd, IsTrue}
+use Rattle.std.proofs.Common.{◌≡◌, ℕ, ◌<◌, Bool, true, false, cond, ◌&&◌, List, [], ◌∷◌, map, refl, sym, ap, subst, ◌∙◌, inl, inr, arith}
+use Rattle.std.specs.Prelude.{◌⊎◌, ◌≢◌, Option, Some, None, IfSome, IsSomeAnd, IsTrue}
 use Rattle.std.specs.List.{AllByRecursion}
 use Rattle.std.specs.Ordering.{is_le, is_lt}
 use Rattle.std.specs.Result.{IfOk, OnErr, OnOk}
@@ -11,23 +11,25 @@ use Rattle.std.specs.declared.cmp.Ordering.TheVariants.{Less, Equal, Greater}
 use Rattle.std.specs.FinMap.{get}
 use Rattle.cell_key.specs.Keys.{byte_cmp}
 use Rattle.cell_key.specs.Cells.{Cells}
-use Rattle.cell_key.specs.Entries.{IsEntryList, cells_of}
+use Rattle.cell_key.specs.Entries.{Entry, IsEntryList, cells_of}
 use Rattle.cell_key.specs.declared.refusals.Refusal.{Refusal}
 use Rattle.file_store.specs.Store.{Contents}
 use Rattle.sorted_file.specs.File.{HasFile, IsOpen, OneListing, OpenIsThere, listed, name_of}
 use Rattle.sorted_file.specs.declared.file.SortedFile.{SortedFile}
 use Rattle.cell_key.proofs.TextPlaces.{one_text as same_key}
 use Rattle.cell_key.proofs.EntryLists.{total}
-use Rattle.tablet.specs.Ranges.{has_row, is_after, is_up_to}
-use Rattle.tablet.specs.Compactions.{LeavesFlushed}
-use Rattle.tablet.specs.Views.{AreParts, Holds, IsBelow, IsPart, IsUnchanged, Keeps, cells_at, files_of, lists_of, memory_of, names_of, range_of, with_name}
+use Rattle.tablet.specs.Ranges.{has_row, is_after, is_up_to, seen}
+use Rattle.tablet.specs.Compactions.{Flushes, HasPut, LeavesFlushed}
+use Rattle.tablet.specs.declared.compactions.Compaction.TheVariants.{Minor}
+use Rattle.tablet.specs.Views.{AreParts, Holds, IsBelow, IsPart, IsUnchanged, Keeps, UsesName, cells_at, files_of, lists_of, memory_of, names_of, range_of, with_name}
 use Rattle.tablet.specs.Splits.{Cuts, MakesParts}
 use Rattle.tablet.specs.declared.ranges.RowRange.{RowRange}
 use Rattle.tablet.specs.declared.tablet.Tablet.{Tablet}
 use Rattle.tablet.proofs.Held.{held_lists}
 use Rattle.tablet.proofs.Seen.{shown}
 use Rattle.tablet.proofs.KeptCells.{part_of}
-use Rattle.tablet.proofs.TabletLaws.{files_there, one_names}
+use Rattle.tablet.proofs.MadeTablets.{OthersStay}
+use Rattle.tablet.proofs.TabletLaws.{one_names}
 
 -- ---- rows
 
@@ -142,16 +144,37 @@ parts_after (Some m) (Some k) new next after whole middle left right row range k
       right_cells = subst (λ (cells : Cells). IsPart (range_of right) cells (cells_at n right)) same parts.right_cells;
     }
 
--- the files of a tablet are there
-pub still_there : OpenIsThere → (told : Option Contents) (t : Tablet) → IfSome told (λ n. ¬ (AllByRecursion (HasFile n) (names_of t))) → IfSome told (λ m. ¬ Holds m t)
-still_there law None t missing = tt
-still_there law (Some m) t missing = λ h. missing (files_there law m (files_of t) h.files)
+-- ---- files that are there
 
--- a tablet whose files are no longer open after a minor compaction had none open before
-pub not_open : (old mid : Option Contents) (next after : ℕ) (whole middle : Tablet) → Keeps old next whole mid after middle → IfSome mid (λ m. ¬ Holds m middle) → IfSome old (λ m. Holds m whole → ¬ IsBelow next whole)
-not_open None mid next after whole middle keeps closed = tt
-not_open (Some m) None next after whole middle keeps closed = λ h below. keeps h below
-not_open (Some m) (Some n) next after whole middle keeps closed = λ h below. closed (keeps h below).0
+same_there : (m n : Contents) (name : ℕ) → get n name ≡ get m name → HasFile m name → HasFile n name
+same_there m n name same h = record { format = h.format; entries = h.entries; image = h.image; list = h.list; there = same ∙ h.there; form = h.form }
+
+apart : (name next : ℕ) → name < next → name ≢ next
+apart name next l e = omega arith
+
+others_there : (m n : Contents) (next : ℕ) → OthersStay next m n → (names : List ℕ) → AllByRecursion (λ name. name < next) names → AllByRecursion (HasFile m) names → AllByRecursion (HasFile n) names
+others_there m n next others [] below h = tt
+others_there m n next others (name ∷ names) below h = (same_there m n name (others name (apart name next below.0)) h.0, others_there m n next others names below.1 h.1)
+
+still_there : (m n : Contents) (next after : ℕ) → UsesName (Some m) next (Some n) after → (names : List ℕ) → AllByRecursion (λ name. name < next) names → AllByRecursion (HasFile m) names → AllByRecursion (HasFile n) names
+still_there m n next after (inl e) names below h = let same : n ≡ m = (let is : Some n ≡ Some m = e.1 in cc) in subst (λ (k : Contents). AllByRecursion (HasFile k) names) (sym same) h
+still_there m n next after (inr e) names below h = others_there m n next e.1 names below h
+
+-- with the file that a minor compaction put
+all_there : OpenIsThere → (n : Contents) (next : ℕ) (t u : Tablet) (memory es : List Entry) → names_of u ≡ with_name next memory (names_of t) → (memory ≢ [] → HasPut Minor n es t u) → AllByRecursion (HasFile n) (names_of t) → AllByRecursion (HasFile n) (names_of u)
+all_there law n next t u [] es names put there = subst (AllByRecursion (HasFile n)) (sym names) there
+all_there law n next t u (e ∷ rest) es names put there =
+    let one = put (λ none. absurd (let no : e ∷ rest ≡ [] = none in cc)) in
+    subst (λ (fs : List SortedFile). AllByRecursion (HasFile n) (map name_of fs)) (sym one.files) (law n one.file one.written.opened, there)
+
+-- if a file isn't there after a minor compaction, one wasn't before
+pub missing_before : OpenIsThere → (old mid : Option Contents) (limit next after : ℕ) (t u : Tablet) → UsesName old next mid after → Flushes limit old next mid after t u
+    → IfSome mid (λ n. ¬ AllByRecursion (HasFile n) (names_of u)) → IfSome old (λ m. IsBelow next t → ¬ AllByRecursion (HasFile m) (names_of t))
+missing_before law None mid limit next after t u uses flushed missing = tt
+missing_before law (Some m) None limit next after t u (inl e) flushed missing = absurd (let no : None ≡ Some m = e.1 in cc)
+missing_before law (Some m) None limit next after t u (inr e) flushed missing = absurd e.1
+missing_before law (Some m) (Some n) limit next after t u uses flushed missing =
+    λ below there. missing (all_there law n next t u (memory_of t) (seen (range_of t) (memory_of t)) flushed.names flushed.put (still_there m n next after uses (names_of t) below there))
 
 -- the parts that a tablet was cut into after a minor compaction, by what it was before
 pub cut_after : (r : Result Tablet Refusal) (names row : List ℕ) (t mid right : Tablet) → range_of mid ≡ range_of t → names_of mid ≡ names

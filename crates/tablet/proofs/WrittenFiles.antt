@@ -122,13 +122,27 @@ told_not (Some m) P not = not
 -- over files that are held, what a compaction reads is open
 pub reads_held : (compaction : Compaction) (m : Contents) (t : Tablet) → Holds m t → ReadsOpen compaction (Some m) t
 reads_held Minor m t h = tt
-reads_held (Merge count) m t h = h.files
+reads_held (Merge count) m t h = all_take (IsOpenIn (Some m)) count (files_of t) h.files
 reads_held Major m t h = h.files
 
--- a merge and a major compaction say so of files that tell something
-pub told_written : (told : Option Contents) (t : Tablet) (P : List (List Entry) → Type 0) → (AllByRecursion (IsOpenIn told) (files_of t) → P (map (listed_in told) (files_of t))) → IfSome told (λ m. Holds m t → P (map (listed m) (files_of t)))
-told_written None t P h = tt
-told_written (Some m) t P h = λ held. h held.files
+-- what holds where those are open holds where all are
+pub where_held : (compaction : Compaction) (told : Option Contents) (t : Tablet) (P : Contents → Type 0) → IfSome told (λ m. ReadsOpen compaction (Some m) t → P m) → IfSome told (λ m. Holds m t → P m)
+where_held compaction None t P h = tt
+where_held compaction (Some m) t P h = λ held. h (reads_held compaction m t held)
+
+-- a compaction says so of files that tell something
+pub told_written : (compaction : Compaction) (told : Option Contents) (t : Tablet) (P : List (List Entry) → Type 0) → (ReadsOpen compaction told t → P (map (listed_in told) (files_of t))) → IfSome told (λ m. ReadsOpen compaction (Some m) t → P (map (listed m) (files_of t)))
+told_written compaction None t P h = tt
+told_written compaction (Some m) t P h = h
+
+-- what never fails over files that tell something fails only over others
+pub none_told : (told : Option Contents) → IfSome told (λ m. ¬ (Unit {0})) → IsNone told
+none_told None h = refl
+none_told (Some m) h = absurd (h tt)
+
+pub none_says : (told : Option Contents) (P : Contents → Type 0) → IsNone told → IfSome told P
+none_says None P is = tt
+none_says (Some m) P is = absurd (let no : true ≡ false = is in cc)
 
 pub if_some_not : (old : Option Contents) (A H : Contents → Type 0) → ((m : Contents) → H m → A m) → IfSome old (λ m. ¬ (A m)) → IfSome old (λ m. ¬ (H m))
 if_some_not None A H f h = tt

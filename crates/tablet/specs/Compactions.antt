@@ -1,5 +1,5 @@
 -- What a compaction writes, and the file that it makes.
-use Rattle.std.specs.Prelude.{◌≡◌, ◌≢◌, ◌≤◌, ◌<◌, ◌+◌, ◌^◌, ℕ, IfSome, Bool, true, false, nat_lt, Option, List, [], ◌∷◌, map, take, drop, length}
+use Rattle.std.specs.Prelude.{◌≡◌, ◌≢◌, ◌≤◌, ◌<◌, ◌+◌, ◌^◌, ℕ, IfSome, IsSomeAnd, Bool, true, false, nat_lt, Option, Some, List, [], ◌∷◌, map, take, drop, length}
 use Rattle.std.specs.List.{AllByRecursion}
 use Rattle.cell_key.specs.Entries.{Entry}
 use Rattle.cell_key.specs.declared.refusals.Refusal.{Refusal}
@@ -12,7 +12,7 @@ use Rattle.sorted_file.specs.declared.file.SortedFile.{SortedFile}
 use Rattle.compaction.specs.Writing.{written}
 use Rattle.tablet.specs.Ranges.{seen}
 use Rattle.tablet.specs.Sources.{IsOpenIn}
-use Rattle.tablet.specs.Views.{files_of, flushed, memory_of, names_of, range_of, with_name, Holds, IsUnchanged, MakesLists, MayBeFlushed, UsesName}
+use Rattle.tablet.specs.Views.{files_of, flushed, memory_of, names_of, range_of, with_name, IsUnchanged, MakesLists, MayBeFlushed, UsesName}
 use Rattle.tablet.specs.declared.tablet.Tablet.{Tablet}
 use Rattle.tablet.specs.declared.ranges.RowRange.{RowRange}
 use Rattle.tablet.specs.declared.compactions.Compaction.{Compaction}
@@ -36,10 +36,10 @@ HasAsMany Minor files = Unit {0}
 HasAsMany (Merge count) files = count ≤ files
 HasAsMany Major files = Unit {0}
 
--- the files that it may read are open over files that hold this: a minor one reads none
+-- the files that it reads are open over files that hold this: a minor one reads none
 abbrev pub ReadsOpen : Compaction → Option Contents → Tablet → Type 0
 ReadsOpen Minor disk t = Unit {0}
-ReadsOpen (Merge count) disk t = AllByRecursion (IsOpenIn disk) (files_of t)
+ReadsOpen (Merge count) disk t = AllByRecursion (IsOpenIn disk) (take count (files_of t))
 ReadsOpen Major disk t = AllByRecursion (IsOpenIn disk) (files_of t)
 
 -- what it writes
@@ -84,6 +84,19 @@ names_after Minor name names = name ∷ names
 names_after (Merge count) name names = name ∷ drop count names
 names_after Major name names = name ∷ []
 
+-- its files after a compaction that made this one
+abbrev pub files_after : Compaction → SortedFile → List SortedFile → List SortedFile
+files_after Minor file files = file ∷ files
+files_after (Merge count) file files = file ∷ drop count files
+files_after Major file files = file ∷ []
+
+-- A file of these entries, made by a compaction, is in the place of what the compaction wrote.
+pub record HasPut (compaction : Compaction) (n : Contents) (es : List Entry)
+    (old new : Tablet) : Type 0 where
+  pub file : SortedFile
+  pub files : files_of new ≡ files_after compaction file (files_of old)
+  pub written : IsNewFile n file es
+
 -- the entries of its memtable
 abbrev pub memory_after : Compaction → List Entry → List Entry
 memory_after Minor memory = []
@@ -91,14 +104,18 @@ memory_after (Merge count) memory = memory
 memory_after Major memory = []
 
 -- An accepted compaction of files took the next name for a file within the limit, which is now in
--- the place of what it wrote.
+-- the place of what it wrote. If the files that it read were open, the file has what they mean,
+-- whatever all others hold.
 pub record Replaces (compaction : Compaction) (file_limit : ℕ) (disk : Option Contents)
-    (before after : ℕ) (old new : Tablet) : Type 0 where
+    (before : ℕ) (now : Option Contents) (after : ℕ) (old new : Tablet) : Type 0 where
   pub names : names_of new ≡ names_after compaction before (names_of old)
   pub memory : memory_of new ≡ memory_after compaction (memory_of old)
   pub left : before < 2 ^ 63
   pub used : after ≡ before + 1
-  pub fits : IfSome disk (λ m. Holds m old → FitsIn file_limit (compacted_of compaction m old))
+  pub fits : IfSome disk (λ m.
+      ReadsOpen compaction (Some m) old → FitsIn file_limit (compacted_of compaction m old))
+  pub put : IfSome disk (λ m. ReadsOpen compaction (Some m) old
+      → IsSomeAnd now (λ n. HasPut compaction n (compacted_of compaction m old) old new))
 
 -- A minor compaction with entries to write had room for a file more, and took the next name for a
 -- file within the limit.
@@ -108,11 +125,15 @@ pub record WritesMemory (file_limit before after : ℕ) (t : Tablet) : Type 0 wh
   pub used : after ≡ before + 1
   pub fits : FitsIn file_limit (seen (range_of t) (memory_of t))
 
--- An accepted minor compaction: the memtable is empty, and what it had is in one file more.
-pub record Flushes (file_limit before after : ℕ) (old new : Tablet) : Type 0 where
+-- An accepted minor compaction: the memtable is empty, and what it had is in one file more, in front
+-- of all that there were, whatever they hold.
+pub record Flushes (file_limit : ℕ) (disk : Option Contents) (before : ℕ) (now : Option Contents)
+    (after : ℕ) (old new : Tablet) : Type 0 where
   pub names : names_of new ≡ with_name before (memory_of old) (names_of old)
   pub memory : memory_of new ≡ []
   pub written : memory_of old ≢ [] → WritesMemory file_limit before after old
+  pub put : memory_of old ≢ [] → IfSome disk (λ m.
+      IsSomeAnd now (λ n. HasPut Minor n (seen (range_of old) (memory_of old)) old new))
 
 -- A refused call that begins with a minor compaction left the tablet as it was, but that it may
 -- have done the compaction.

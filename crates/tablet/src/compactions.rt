@@ -3,7 +3,7 @@
 //! nothing is refused. The calls of laws of lower crates, as `stays_open()`, do nothing: what is ensured here rests on
 //! them.
 
-ghost use Rattle.std.specs.Prelude.{◌≡◌, ◌≢◌, ◌≤◌, ◌<◌, ◌+◌, ◌^◌, ◌∷◌, ◌↔◌, [], Option, Some, length, map, drop, take, false, nat_lt, option_map, vec_len, IfOk, IfErr, OnOk, OnErr, IfSome, IsOk, IsSomeAnd, IsErrOf};
+ghost use Rattle.std.specs.Prelude.{◌≡◌, ◌≢◌, ◌≤◌, ◌<◌, ◌+◌, ◌^◌, ◌∷◌, ◌↔◌, [], Option, Some, length, map, drop, take, false, nat_lt, option_map, vec_len, IfOk, IfErr, OnOk, OnErr, IfSome, IsNone, IsOk, IsSomeAnd, IsErrOf};
 ghost use Rattle.std.specs.Option.{option_copied};
 ghost use Rattle.std.specs.List.{AllByRecursion};
 ghost use Rattle.file_store.specs.Store.{Contents, KeepsOthers};
@@ -15,7 +15,7 @@ ghost use Rattle.compaction.specs.Merging.{AreAtStart};
 ghost use Rattle.compaction.specs.Writing.{written};
 ghost use Rattle.tablet.specs.Ranges.{seen};
 ghost use Rattle.tablet.specs.Sources.{IsOpenIn, listed_in, lists_over};
-ghost use Rattle.tablet.specs.Views.{range_of, memory_of, files_of, names_of, Holds, IsUnchanged, Keeps, UsesName};
+ghost use Rattle.tablet.specs.Views.{range_of, memory_of, files_of, names_of, IsUnchanged, Keeps, UsesName};
 ghost use Rattle.tablet.specs.declared.compactions.Compaction.TheVariants.{Minor, Merge, Major};
 ghost use Rattle.tablet.specs.Compactions.{compacted, compacted_of, inputs_of, keeps_erasures, Compacts, Flushes, HasAsMany, IsCompactionRefusal, IsMergeRefusal, IsMinorRefusal, IsNewFile, ReadsOpen, Replaces, TakesName};
 
@@ -152,9 +152,9 @@ impl Tablet {
         requires limit { IsFileLimit file_limit }
         requires within { HasAsMany compaction (length (files_of self.now)) }
         ensures named { IfOk result (λ file. name_of file ≡ next_name.old) }
-        ensures made { IfOk result (λ file. IfSome (F.contents files.old) (λ m. Holds m self.now
-            → IsSomeAnd (F.contents files.new) (λ n. IsNewFile n file (compacted compaction
-            (range_of self.now) (memory_of self.now) (map (listed m) (files_of self.now)))))) }
+        ensures made { IfOk result (λ file. IfSome (F.contents files.old) (λ m.
+            ReadsOpen compaction (Some m) self.now → IsSomeAnd (F.contents files.new) (λ n.
+            IsNewFile n file (compacted_of compaction m self.now)))) }
         ensures used { OnOk result (next_name.new ≡ next_name.old + 1) }
         ensures others { OnOk result (KeepsOthers
             next_name.old (F.contents files.old) (F.contents files.new)) }
@@ -170,8 +170,8 @@ impl Tablet {
         ensures fits { OnOk result (ReadsOpen compaction (F.contents files.old) self.now
             → FitsIn file_limit (compacted compaction (range_of self.now)
             (memory_of self.now) (map (listed_in (F.contents files.old)) (files_of self.now)))) }
-        ensures damaged { IsErrOf result Refusal.Damaged
-            → IfSome (F.contents files.old) (λ m. ¬ Holds m self.now) }
+        ensures damaged { IsErrOf result Refusal.Damaged → IfSome (F.contents files.old) (λ m.
+            ¬ ReadsOpen compaction (Some m) self.now) }
         ensures refusal { IfErr result IsCompactionRefusal }
         ensures reason { HasReason (F.faults files.old) (F.faults files.new) result }
     {
@@ -195,8 +195,8 @@ impl Tablet {
     /// # Errors
     ///
     /// `TooManyFiles` if there are 64 files already, `FileTooLarge`, `Exhausted` if no name is left,
-    /// `Device`, `NoMemory`, and `Damaged` only if a file is no longer what was opened. The memtable then has
-    /// entries, and the tablet is as before.
+    /// `Device` and `NoMemory`; no file that the tablet has is read, and `Damaged` comes only over files that do
+    /// not keep what they are given. The memtable then has entries, and the tablet is as before.
     pub fn minor<F: Files>(
         &mut self,
         file_limit: u64,
@@ -204,8 +204,8 @@ impl Tablet {
         files: &mut F,
     ) -> Result<(), Refusal>
         requires limit { IsFileLimit file_limit }
-        ensures flushed { OnOk result (Flushes
-            file_limit next_name.old next_name.new self.old self.new) }
+        ensures flushed { OnOk result (Flushes file_limit (F.contents files.old)
+            next_name.old (F.contents files.new) next_name.new self.old self.new) }
         ensures lists { OnOk result (Compacts
             Minor (F.contents files.old) next_name.old (F.contents files.new) self.old self.new) }
         ensures keeps { Keeps (F.contents files.old)
@@ -223,8 +223,7 @@ impl Tablet {
             → (memory_of self.old ≢ []) × (2 ^ 63 ≤ next_name.old) }
         ensures large { IsErrOf result Refusal.FileTooLarge → (memory_of self.old ≢ [])
             × ¬ FitsIn file_limit (seen (range_of self.old) (memory_of self.old)) }
-        ensures damaged { IsErrOf result Refusal.Damaged
-            → IfSome (F.contents files.old) (λ m. ¬ Holds m self.old) }
+        ensures damaged { IsErrOf result Refusal.Damaged → IsNone (F.contents files.old) }
         ensures refusal { IfErr result IsMinorRefusal }
         ensures reason { HasReason (F.faults files.old) (F.faults files.new) result }
         ensures unwritten { IsErrOf result Refusal.TooManyFiles
@@ -252,8 +251,8 @@ impl Tablet {
     /// # Errors
     ///
     /// `BadCount` exactly if `count` is below 2 or above the number of files, `FileTooLarge`, `Exhausted`
-    /// if no name is left, `Device`, `NoMemory`, and `Damaged` only if a file is no longer what was
-    /// opened. The tablet is then as before.
+    /// if no name is left, `Device`, `NoMemory`, and `Damaged` only if one of these files is no longer what
+    /// was opened. The tablet is then as before.
     pub fn merge<F: Files>(
         &mut self,
         count: u32,
@@ -262,8 +261,8 @@ impl Tablet {
         files: &mut F,
     ) -> Result<(), Refusal>
         requires limit { IsFileLimit file_limit }
-        ensures made { OnOk result (Replaces (Merge count) file_limit
-            (F.contents files.old) next_name.old next_name.new self.old self.new) }
+        ensures made { OnOk result (Replaces (Merge count) file_limit (F.contents files.old)
+            next_name.old (F.contents files.new) next_name.new self.old self.new) }
         ensures lists { OnOk result (Compacts (Merge count)
             (F.contents files.old) next_name.old (F.contents files.new) self.old self.new) }
         ensures keeps { Keeps (F.contents files.old)
@@ -276,10 +275,10 @@ impl Tablet {
             ↔ ¬ ((2 ≤ count) × (count ≤ length (names_of self.old))) }
         ensures exhausted { IsErrOf result Refusal.Exhausted → 2 ^ 63 ≤ next_name.old }
         ensures large { IsErrOf result Refusal.FileTooLarge
-            → IfSome (F.contents files.old) (λ m. Holds m self.old
+            → IfSome (F.contents files.old) (λ m. ReadsOpen (Merge count) (Some m) self.old
             → ¬ FitsIn file_limit (compacted_of (Merge count) m self.old)) }
-        ensures damaged { IsErrOf result Refusal.Damaged
-            → IfSome (F.contents files.old) (λ m. ¬ Holds m self.old) }
+        ensures damaged { IsErrOf result Refusal.Damaged → IfSome (F.contents files.old) (λ m.
+            ¬ ReadsOpen (Merge count) (Some m) self.old) }
         ensures refusal { IfErr result IsMergeRefusal }
         ensures reason { HasReason (F.faults files.old) (F.faults files.new) result }
         ensures unwritten { IsErrOf result Refusal.BadCount
@@ -311,8 +310,8 @@ impl Tablet {
         files: &mut F,
     ) -> Result<(), Refusal>
         requires limit { IsFileLimit file_limit }
-        ensures made { OnOk result (Replaces Major file_limit
-            (F.contents files.old) next_name.old next_name.new self.old self.new) }
+        ensures made { OnOk result (Replaces Major file_limit (F.contents files.old)
+            next_name.old (F.contents files.new) next_name.new self.old self.new) }
         ensures lists { OnOk result (Compacts
             Major (F.contents files.old) next_name.old (F.contents files.new) self.old self.new) }
         ensures keeps { Keeps (F.contents files.old)
@@ -323,10 +322,10 @@ impl Tablet {
             (F.contents files.old) next_name.old (F.contents files.new) next_name.new }
         ensures exhausted { IsErrOf result Refusal.Exhausted → 2 ^ 63 ≤ next_name.old }
         ensures large { IsErrOf result Refusal.FileTooLarge
-            → IfSome (F.contents files.old) (λ m. Holds m self.old
+            → IfSome (F.contents files.old) (λ m. ReadsOpen Major (Some m) self.old
             → ¬ FitsIn file_limit (compacted_of Major m self.old)) }
-        ensures damaged { IsErrOf result Refusal.Damaged
-            → IfSome (F.contents files.old) (λ m. ¬ Holds m self.old) }
+        ensures damaged { IsErrOf result Refusal.Damaged → IfSome (F.contents files.old) (λ m.
+            ¬ ReadsOpen Major (Some m) self.old) }
         ensures refusal { IfErr result IsCompactionRefusal }
         ensures reason { HasReason (F.faults files.old) (F.faults files.new) result }
     {

@@ -1,7 +1,7 @@
 //! Cutting a tablet in two, and moving it: after a minor compaction its files are all that it has, and they may
 //! be named by two tablets or opened by another server.
 
-ghost use Rattle.std.specs.Prelude.{◌≡◌, ◌≢◌, ◌≤◌, ◌<◌, ◌+◌, ◌^◌, ◌∷◌, [], Some, length, ◌↔◌, ℕ, IfOk, IfErr, OnOk, OnErr, IfSome, IsErrOf};
+ghost use Rattle.std.specs.Prelude.{◌≡◌, ◌≢◌, ◌≤◌, ◌<◌, ◌+◌, ◌^◌, ◌∷◌, [], Some, length, ◌↔◌, ℕ, IfOk, IfErr, OnOk, OnErr, IfSome, IsNone, IsErrOf};
 ghost use Rattle.std.specs.List.{AllByRecursion};
 ghost use Rattle.sorted_file.specs.Grammar.{FitsIn};
 ghost use Rattle.sorted_file.specs.Limits.{IsFileLimit};
@@ -96,7 +96,8 @@ impl Tablet {
     ) -> Result<Vec<u64>, Refusal>
         requires limit { IsFileLimit file_limit }
         ensures flushed { IfOk result (λ names. (names.items ≡ names_of self.new)
-            × Flushes file_limit next_name.old next_name.new self.old self.new) }
+            × Flushes file_limit (F.contents files.old)
+            next_name.old (F.contents files.new) next_name.new self.old self.new) }
         ensures lists { OnOk result (Compacts
             Minor (F.contents files.old) next_name.old (F.contents files.new) self.old self.new) }
         ensures keeps { Keeps (F.contents files.old)
@@ -112,8 +113,7 @@ impl Tablet {
             → (memory_of self.old ≢ []) × (2 ^ 63 ≤ next_name.old) }
         ensures large { IsErrOf result Refusal.FileTooLarge → (memory_of self.old ≢ [])
             × ¬ FitsIn file_limit (seen (range_of self.old) (memory_of self.old)) }
-        ensures damaged { IsErrOf result Refusal.Damaged
-            → IfSome (F.contents files.old) (λ m. ¬ Holds m self.old) }
+        ensures damaged { IsErrOf result Refusal.Damaged → IsNone (F.contents files.old) }
         ensures refusal { IfErr result IsMinorRefusal }
         ensures reason { HasReason (F.faults files.old) (F.faults files.new) result }
         ensures unwritten { IsErrOf result Refusal.TooManyFiles → IsUnchanged self.old self.new
@@ -145,8 +145,8 @@ impl Tablet {
     ///
     /// # Errors
     ///
-    /// `Device`, `NoMemory`, and `Damaged` only if a file is no longer what was opened. The tablet is then as
-    /// before.
+    /// `Device`, `NoMemory`, and `Damaged` only if a file is missing or is the file of no entry list. The tablet is
+    /// then as before.
     pub fn cut<F: Files>(&mut self, row: &Row, files: &mut F) -> Result<Tablet, Refusal>
         requires flushed { memory_of self.old ≡ [] }
         ensures left_range { IfOk result (λ left.
@@ -162,14 +162,13 @@ impl Tablet {
         ensures err { OnErr result (IsUnchanged self.old self.new) }
         ensures keeps { OnErr result ((next : ℕ) → Keeps
             (F.contents files.old) next self.old (F.contents files.new) next self.new) }
-        ensures damaged { IsErrOf result Refusal.Damaged
-            → IfSome (F.contents files.old) (λ m. ¬ Holds m self.old) }
+        ensures damaged { IsErrOf result Refusal.Damaged → IfSome (F.contents files.old) (λ m.
+            ¬ AllByRecursion (HasFile m) (names_of self.old)) }
         ensures refusal { IfErr result IsReadRefusal }
         ensures same { F.contents files.new ≡ F.contents files.old }
         ensures reason { HasReason (F.faults files.old) (F.faults files.new) result }
     {
         one_listing();
-        open_is_there();
         let (range, after) = self.left_of(row)?;
         let left = self.open_again(range, files)?;
         self.range.after = Some(after);
@@ -180,7 +179,7 @@ impl Tablet {
     ///
     /// # Errors
     ///
-    /// Those of `minor`. A refused call may have done the minor compaction.
+    /// Those of `minor` and of `cut`. A refused call may have done the minor compaction.
     pub fn split<F: Files>(
         &mut self,
         row: &Row,
@@ -209,7 +208,7 @@ impl Tablet {
         ensures large { IsErrOf result Refusal.FileTooLarge → (memory_of self.old ≢ [])
             × ¬ FitsIn file_limit (seen (range_of self.old) (memory_of self.old)) }
         ensures damaged { IsErrOf result Refusal.Damaged → IfSome (F.contents files.old) (λ m.
-            Holds m self.old → ¬ IsBelow next_name.old self.old) }
+            IsBelow next_name.old self.old → ¬ AllByRecursion (HasFile m) (names_of self.old)) }
         ensures refusal { IfErr result IsMinorRefusal }
         ensures reason { HasReason (F.faults files.old) (F.faults files.new) result }
         ensures unwritten { IsErrOf result Refusal.TooManyFiles → IsUnchanged self.old self.new
@@ -217,6 +216,7 @@ impl Tablet {
         ensures empty { memory_of self.old ≡ []
             → (next_name.new ≡ next_name.old) × (F.contents files.new ≡ F.contents files.old) }
     {
+        open_is_there();
         self.minor(file_limit, next_name, files)?;
         self.cut(row, files)
     }

@@ -3,7 +3,10 @@ use Rattle.std.proofs.Common.{◌≡◌, ◌^◌, ℕ, Option, Some, None, IfSom
 use Rattle.cell_key.specs.declared.refusals.Refusal.{Refusal}
 use Rattle.cell_key.specs.declared.refusals.Refusal.TheVariants.{BadCount, Damaged, Exhausted, FileTooLarge, TooManyFiles}
 use Rattle.file_store.specs.Store.{Contents}
-use Rattle.tablet.specs.Compactions.{IsCompactionRefusal, IsMergeRefusal, IsMinorRefusal}
+use Rattle.sorted_file.specs.Grammar.{FitsIn}
+use Rattle.tablet.specs.Compactions.{IsCompactionRefusal, IsMergeRefusal, IsMinorRefusal, compacted_of}
+use Rattle.tablet.specs.declared.compactions.Compaction.TheVariants.{Major, Merge}
+use Rattle.tablet.proofs.WrittenFiles.{none_says, where_held}
 use Rattle.tablet.specs.Views.{Holds, IsBelow}
 use Rattle.tablet.specs.declared.tablet.Tablet.{Tablet}
 use Rattle.row_atomic.proofs.ChangedTablets.{cleaned, on_ok}
@@ -50,7 +53,7 @@ returns-in-Merge-clause-done g c = rw (c.in-Merge.is) (
       cleaned = none_erased (g.F.Files.contents c.args.files.now) c.args.next_name.now c.args.tablet.now;
       room = λ full. full;
       named = not_least (2 ^ 63) c.args.next_name.now made.left;
-      fits = made.fits;
+      fits = where_held (Merge c.in-Merge.count) (g.F.Files.contents c.args.files.now) c.args.tablet.now (λ m. FitsIn c.args.file_limit (compacted_of (Merge c.in-Merge.count) m c.args.tablet.now)) made.fits;
       used = λ some. made.used;
     }) (both_done _ _ c.merge.result c.merge.ensures.made c.merge.ensures.lists))
 
@@ -62,7 +65,7 @@ returns-in-Major-clause-done g c = rw (c.in-Major.is) (
       cleaned = cleaned (g.F.Files.contents c.args.files.now) c.args.next_name.now c.args.tablet.now (g.F.Files.contents c.major.new.files) c.major.new.self h.1;
       room = λ full. full;
       named = not_least (2 ^ 63) c.args.next_name.now made.left;
-      fits = made.fits;
+      fits = where_held Major (g.F.Files.contents c.args.files.now) c.args.tablet.now (λ m. FitsIn c.args.file_limit (compacted_of Major m c.args.tablet.now)) made.fits;
       used = λ some. made.used;
     }) (both_done _ _ c.major.result c.major.ensures.made c.major.ensures.lists))
 
@@ -75,7 +78,7 @@ returns-in-Minor-clause-refused g c = rw (c.in-Minor.is) (
       unfilled = unfilled;
       exhausted = λ is. let out = by.exhausted (told Exhausted is) in (out.1, out.0);
       large = λ is. (by.large (told FileTooLarge is)).1;
-      damaged = λ is. by.damaged (told Damaged is);
+      damaged = λ is. none_says (g.F.Files.contents c.args.files.now) _ (by.damaged (told Damaged is));
       undone = λ is. by.unwritten (told TooManyFiles is);
     }) (not_full_written c.minor.result c.args.tablet.now (λ some many. by.full.1 (some, many))))
 
@@ -87,8 +90,8 @@ returns-in-Merge-clause-refused g c = rw (c.in-Merge.is) (
       full = λ is. absurd (not_answered IsMergeRefusal c.merge.result TooManyFiles _ by.refusal (told TooManyFiles is) refl);
       unfilled = λ of full. full;
       exhausted = λ is. (by.exhausted (told Exhausted is), λ none. none);
-      large = λ is. by.large (told FileTooLarge is);
-      damaged = λ is. by.damaged (told Damaged is);
+      large = λ is. where_held (Merge c.in-Merge.count) (g.F.Files.contents c.args.files.now) c.args.tablet.now (λ m. ¬ FitsIn c.args.file_limit (compacted_of (Merge c.in-Merge.count) m c.args.tablet.now)) (by.large (told FileTooLarge is));
+      damaged = λ is. where_held (Merge c.in-Merge.count) (g.F.Files.contents c.args.files.now) c.args.tablet.now (λ m. ⊥) (by.damaged (told Damaged is));
       undone = λ is. absurd (not_answered IsMergeRefusal c.merge.result TooManyFiles _ by.refusal (told TooManyFiles is) refl);
     }) (any_refusal c.merge.result))
 
@@ -100,8 +103,8 @@ returns-in-Major-clause-refused g c = rw (c.in-Major.is) (
       full = λ is. absurd (not_answered IsCompactionRefusal c.major.result TooManyFiles _ by.refusal (told TooManyFiles is) refl);
       unfilled = λ of full. full;
       exhausted = λ is. (by.exhausted (told Exhausted is), λ none. none);
-      large = λ is. by.large (told FileTooLarge is);
-      damaged = λ is. by.damaged (told Damaged is);
+      large = λ is. where_held Major (g.F.Files.contents c.args.files.now) c.args.tablet.now (λ m. ¬ FitsIn c.args.file_limit (compacted_of Major m c.args.tablet.now)) (by.large (told FileTooLarge is));
+      damaged = λ is. where_held Major (g.F.Files.contents c.args.files.now) c.args.tablet.now (λ m. ⊥) (by.damaged (told Damaged is));
       undone = λ is. absurd (not_answered IsCompactionRefusal c.major.result TooManyFiles _ by.refusal (told TooManyFiles is) refl);
     }) (any_refusal c.major.result))
 

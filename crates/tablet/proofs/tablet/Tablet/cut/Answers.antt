@@ -2,7 +2,7 @@ use Rattle.std.proofs.Common.{refl, sym, ◌∙◌, subst}
 use Rattle.std.specs.Prelude.{Option, Some}
 use Rattle.file_store.specs.Store.{Contents}
 use Rattle.tablet.specs.Views.{Keeps}
-use Rattle.tablet.proofs.SplitParts.{keeps_itself, splits, still_there}
+use Rattle.tablet.proofs.SplitParts.{keeps_itself, splits}
 use Rattle.tablet.proofs.Passed.{passed_kept, passed_on}
 use Rattle.tablet.proofs.tablet.Tablet.cut.Goals as goal
 
@@ -22,8 +22,7 @@ returns-clause-parts g c = λ next.
 
 pub returns-in_err-left-clause-damaged : goal.returns-in_err-left-clause-damaged
 returns-in_err-left-clause-damaged g c = λ err.
-    still_there c.open_is_there.ensures (g.F.Files.contents c.args.files.now) c.args.self.now
-    (c.in_err-left.ensures.damaged (passed_on c.from_residual-in_err-left.result _ c.in_err-left.field-0.0 _ c.from_residual-in_err-left.ensures.1 refl err))
+    c.in_err-left.ensures.damaged (passed_on c.from_residual-in_err-left.result _ c.in_err-left.field-0.0 _ c.from_residual-in_err-left.ensures.1 refl err)
 
 pub returns-in_err-range-clause-keeps : goal.returns-in_err-range-clause-keeps
 returns-in_err-range-clause-keeps g c = passed_kept c.from_residual.result _ (λ next. keeps_itself (g.F.Files.contents c.args.files.now) next c.args.self.now)

@@ -5,7 +5,6 @@ use Rattle.sorted_file.specs.declared.file.SortedFile.{SortedFile}
 use Rattle.tablet.specs.Sources.{IsOpenIn, listed_in}
 use Rattle.tablet.specs.Views.{files_of, memory_of}
 use Rattle.tablet.specs.Compactions.{ReadsOpen, inputs_of}
-use Rattle.tablet.proofs.WrittenFiles.{all_take}
 use Rattle.tablet.proofs.tablet.Tablet.inputs.Goals as goal
 
 pub returns-in-Minor-clause-lists : goal.returns-in-Minor-clause-lists
@@ -22,8 +21,7 @@ returns-in-Minor-clause-open c = λ told reads. tt
 
 pub returns-in-Merge-clause-open : goal.returns-in-Merge-clause-open
 returns-in-Merge-clause-open c = λ told reads.
-    all_take (IsOpenIn told) c.in-Merge.count c.deref.result.now
-    (subst (λ (fs : List SortedFile). AllByRecursion (IsOpenIn told) fs) (sym c.deref.ensures.value) (subst (λ (k : _). ReadsOpen k told c.args.self.now) c.in-Merge.is reads))
+    (subst (λ (fs : List SortedFile). AllByRecursion (IsOpenIn told) (take c.in-Merge.count fs)) (sym c.deref.ensures.value) (subst (λ (k : _). ReadsOpen k told c.args.self.now) c.in-Merge.is reads))
 
 pub returns-in-Major-clause-open : goal.returns-in-Major-clause-open
 returns-in-Major-clause-open c = λ told reads.

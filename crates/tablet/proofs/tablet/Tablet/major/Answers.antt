@@ -1,6 +1,6 @@
 use Rattle.std.proofs.Common.{◌≡◌, [], ◌∷◌, List, map, drop, length, refl, false, ap, sym, ◌∙◌, inl, inr, ℕ, ◌++◌, arith}
 use Rattle.std.proofs.lemmas.List.{drop_all, length-map}
-use Rattle.std.specs.Prelude.{if◌then◌else◌, Result, Ok}
+use Rattle.std.specs.Prelude.{if◌then◌else◌, IsSomeAnd, Result, Ok, Some}
 use Rattle.std.specs.Result.{is_ok}
 use Rattle.cell_key.specs.declared.refusals.Refusal.TheVariants.{NoMemory}
 use Rattle.file_store.specs.Store.{Contents}
@@ -9,12 +9,14 @@ use Rattle.sorted_file.specs.File.{listed, name_of}
 use Rattle.sorted_file.specs.declared.file.SortedFile.{SortedFile}
 use Rattle.compaction.specs.Writing.{written}
 use Rattle.tablet.specs.Ranges.{seen}
-use Rattle.tablet.specs.Views.{Holds, files_of, memory_of, range_of}
+use Rattle.tablet.specs.Compactions.{IsNewFile, ReadsOpen}
+use Rattle.tablet.specs.declared.compactions.Compaction.TheVariants.{Major}
+use Rattle.tablet.specs.Views.{files_of, memory_of, range_of}
 use Rattle.tablet.proofs.CompactedCells.{major_cells, no_entries}
 use Rattle.tablet.proofs.Held.{held_lists}
-use Rattle.tablet.proofs.MadeTablets.{large_of, made_keeps, made_lists, made_of, still_holds, still_keeps}
+use Rattle.tablet.proofs.MadeTablets.{has_put, large_of, made_keeps, made_lists, made_of, still_keeps, still_reads}
 use Rattle.tablet.proofs.Passed.{IsNoMemory, inserted, not_err, passed_err, passed_kept, passed_kind, passed_none, passed_on, passed_reason, quiet_reason, reason_of_ok}
-use Rattle.tablet.proofs.WrittenFiles.{if_some_not, told_written}
+use Rattle.tablet.proofs.WrittenFiles.{if_some_not, told_written, where_held}
 use Rattle.cell_key.specs.Entries.{cells_of}
 use Rattle.tablet.proofs.Seen.{shown}
 use Rattle.tablet.proofs.tablet.Tablet.major.Goals as goal
@@ -35,9 +37,9 @@ returns-in_err-file-clause-large g c = λ err.
     let range = range_of c.args.self.now in
     let memory = memory_of c.args.self.now in
     let old = files_of c.args.self.now in
-    large_of (g.F.Files.contents c.args.files.now) c.args.self.now (record c.args.self.now { files = c.reserve.new.self }) (λ m. written false (map (seen range) (memory ∷ map (listed m) c.reserve.new.self.items))) (λ m. written false (map (seen range) (memory ∷ map (listed m) old))) (λ es. ¬ (FitsIn c.args.file_limit es))
-    (record { range = refl; memory = refl; files = c.in_ok-reserve.ensures.items }) (λ m h. ap (λ (fs : List SortedFile). written false (map (seen range) (memory ∷ map (listed m) fs))) c.in_ok-reserve.ensures.items)
-    (told_written (g.F.Files.contents c.args.files.now) (record c.args.self.now { files = c.reserve.new.self }) (λ lists. ¬ (FitsIn c.args.file_limit (written false (map (seen range) (memory ∷ lists))))) (c.in_err-file.ensures.large (passed_on c.from_residual-in_err-file.result _ c.in_err-file.field-0.0 _ c.from_residual-in_err-file.ensures.1 refl err)))
+    large_of Major (g.F.Files.contents c.args.files.now) c.args.self.now (record c.args.self.now { files = c.reserve.new.self }) (λ m. written false (map (seen range) (memory ∷ map (listed m) c.reserve.new.self.items))) (λ m. written false (map (seen range) (memory ∷ map (listed m) old))) (λ es. ¬ (FitsIn c.args.file_limit es))
+    (record { range = refl; memory = refl; files = c.in_ok-reserve.ensures.items }) (λ m. ap (λ (fs : List SortedFile). written false (map (seen range) (memory ∷ map (listed m) fs))) c.in_ok-reserve.ensures.items)
+    (told_written Major (g.F.Files.contents c.args.files.now) (record c.args.self.now { files = c.reserve.new.self }) (λ lists. ¬ (FitsIn c.args.file_limit (written false (map (seen range) (memory ∷ lists))))) (c.in_err-file.ensures.large (passed_on c.from_residual-in_err-file.result _ c.in_err-file.field-0.0 _ c.from_residual-in_err-file.ensures.1 refl err)))
 
 none_left : (m : Contents) (files : List SortedFile) → drop (length files) (map (listed m) files) ≡ []
 none_left m files = drop_all (length files) (map (listed m) files) (let e = length-map files (listed m) in omega arith)
@@ -54,8 +56,8 @@ returns-clause-lists g c =
     made_lists c.stays_open.ensures (g.F.Files.contents c.args.files.now) (g.F.Files.contents c.write.new.files) c.args.next_name.now c.write.new.next_name c.args.self.now (record c.args.self.now { memtable = c.new.result; files = c.push.new.self }) c.in_ok-file.file (length old) [] (λ m. written false (map (seen range) (memory ∷ map (listed m) old)))
     (λ memory lists. [] ∷ written false (map (seen (range_of c.args.self.now)) (memory ∷ lists)) ∷ [])
     (record { range = refl; memory = c.new.ensures; files = files ∙ only c.in_ok-file.file old; named = c.in_ok-file.ensures.named }) c.in_ok-file.ensures.used c.in_ok-file.ensures.others
-    (made_of (g.F.Files.contents c.args.files.now) (g.F.Files.contents c.write.new.files) c.args.self.now (record c.args.self.now { files = c.reserve.new.self }) c.in_ok-file.file (λ m. written false (map (seen range) (memory ∷ map (listed m) c.reserve.new.self.items))) (λ m. written false (map (seen range) (memory ∷ map (listed m) old)))
-    (record { range = refl; memory = refl; files = c.in_ok-reserve.ensures.items }) (λ m. ap (λ (fs : List SortedFile). written false (map (seen range) (memory ∷ map (listed m) fs))) c.in_ok-reserve.ensures.items) c.in_ok-file.ensures.made)
+    (where_held Major (g.F.Files.contents c.args.files.now) c.args.self.now (λ m. IsSomeAnd (g.F.Files.contents c.write.new.files) (λ n. IsNewFile n c.in_ok-file.file (written false (map (seen range) (memory ∷ map (listed m) old))))) (made_of Major (g.F.Files.contents c.args.files.now) (g.F.Files.contents c.write.new.files) c.args.self.now (record c.args.self.now { files = c.reserve.new.self }) c.in_ok-file.file (λ m. written false (map (seen range) (memory ∷ map (listed m) c.reserve.new.self.items))) (λ m. written false (map (seen range) (memory ∷ map (listed m) old)))
+    (record { range = refl; memory = refl; files = c.in_ok-reserve.ensures.items }) (λ m. ap (λ (fs : List SortedFile). written false (map (seen range) (memory ∷ map (listed m) fs))) c.in_ok-reserve.ensures.items) c.in_ok-file.ensures.made))
     (λ m h. no_entries) (λ m h. λ i. [] ∷ written false (map (seen range) (memory ∷ map (listed m) old)) ∷ none_left m old i)
 
 pub returns-clause-keeps : goal.returns-clause-keeps
@@ -66,8 +68,8 @@ returns-clause-keeps g c =
     let files = pushed c.push.result _ c.in_ok-file.file c.push.ensures.items c.unwrap.ensures c.clear.ensures.items in
     made_keeps c.stays_open.ensures (g.F.Files.contents c.args.files.now) (g.F.Files.contents c.write.new.files) c.args.next_name.now c.write.new.next_name c.args.self.now _ c.in_ok-file.file (length old) [] (λ m. written false (map (seen range) (memory ∷ map (listed m) old)))
     (record { range = refl; memory = c.new.ensures; files = files ∙ only c.in_ok-file.file old; named = c.in_ok-file.ensures.named }) c.in_ok-file.ensures.used c.in_ok-file.ensures.others
-    (made_of (g.F.Files.contents c.args.files.now) (g.F.Files.contents c.write.new.files) c.args.self.now (record c.args.self.now { files = c.reserve.new.self }) c.in_ok-file.file (λ m. written false (map (seen range) (memory ∷ map (listed m) c.reserve.new.self.items))) (λ m. written false (map (seen range) (memory ∷ map (listed m) old)))
-    (record { range = refl; memory = refl; files = c.in_ok-reserve.ensures.items }) (λ m. ap (λ (fs : List SortedFile). written false (map (seen range) (memory ∷ map (listed m) fs))) c.in_ok-reserve.ensures.items) c.in_ok-file.ensures.made)
+    (where_held Major (g.F.Files.contents c.args.files.now) c.args.self.now (λ m. IsSomeAnd (g.F.Files.contents c.write.new.files) (λ n. IsNewFile n c.in_ok-file.file (written false (map (seen range) (memory ∷ map (listed m) old))))) (made_of Major (g.F.Files.contents c.args.files.now) (g.F.Files.contents c.write.new.files) c.args.self.now (record c.args.self.now { files = c.reserve.new.self }) c.in_ok-file.file (λ m. written false (map (seen range) (memory ∷ map (listed m) c.reserve.new.self.items))) (λ m. written false (map (seen range) (memory ∷ map (listed m) old)))
+    (record { range = refl; memory = refl; files = c.in_ok-reserve.ensures.items }) (λ m. ap (λ (fs : List SortedFile). written false (map (seen range) (memory ∷ map (listed m) fs))) c.in_ok-reserve.ensures.items) c.in_ok-file.ensures.made))
     (λ m h. no_entries) (λ m h list. (λ i. cells_of (shown range ([] ∷ written false (map (seen range) (memory ∷ map (listed m) old)) ∷ none_left m old i))) ∙ major_cells c.names_first.ensures range memory (map (listed m) old) (held_lists m c.args.self.now h) no_entries list)
 
 pub returns-in_err-file-clause-lists : goal.returns-in_err-file-clause-lists
@@ -87,8 +89,8 @@ returns-in_err-file-clause-exhausted g c = λ is. c.in_err-file.ensures.exhauste
 
 pub returns-in_err-file-clause-damaged : goal.returns-in_err-file-clause-damaged
 returns-in_err-file-clause-damaged g c = λ is.
-    if_some_not (g.F.Files.contents c.args.files.now) (λ m. Holds m (record c.args.self.now { files = c.reserve.new.self })) (λ m. Holds m c.args.self.now)
-    (λ m. still_holds m c.args.self.now (record c.args.self.now { files = c.reserve.new.self }) (record { range = refl; memory = refl; files = c.in_ok-reserve.ensures.items })) (c.in_err-file.ensures.damaged (passed_on c.from_residual-in_err-file.result _ c.in_err-file.field-0.0 _ c.from_residual-in_err-file.ensures.1 refl is))
+    if_some_not (g.F.Files.contents c.args.files.now) (λ m. ReadsOpen Major (Some m) (record c.args.self.now { files = c.reserve.new.self })) (λ m. ReadsOpen Major (Some m) c.args.self.now)
+    (λ m. still_reads Major (Some m) c.args.self.now (record c.args.self.now { files = c.reserve.new.self }) (record { range = refl; memory = refl; files = c.in_ok-reserve.ensures.items })) (c.in_err-file.ensures.damaged (passed_on c.from_residual-in_err-file.result _ c.in_err-file.field-0.0 _ c.from_residual-in_err-file.ensures.1 refl is))
 
 pub returns-in_err-file-clause-refusal : goal.returns-in_err-file-clause-refusal
 returns-in_err-file-clause-refusal g c = passed_err c.from_residual-in_err-file.result c.in_err-file.field-0.0 _ c.from_residual-in_err-file.ensures.1 c.in_err-file.ensures.refusal
@@ -162,13 +164,17 @@ returns-clause-made g c =
     let range = range_of c.args.self.now in
     let memory = memory_of c.args.self.now in
     let old = files_of c.args.self.now in
+    let files = pushed c.push.result _ c.in_ok-file.file c.push.ensures.items c.unwrap.ensures c.clear.ensures.items in
     record {
-      names = one_name _ _ c.args.next_name.now (pushed c.push.result _ c.in_ok-file.file c.push.ensures.items c.unwrap.ensures c.clear.ensures.items) c.in_ok-file.ensures.named;
+      names = one_name _ _ c.args.next_name.now files c.in_ok-file.ensures.named;
       memory = c.new.ensures;
       left = c.in_ok-file.ensures.left;
       used = c.in_ok-file.ensures.used;
       fits =
-          large_of (g.F.Files.contents c.args.files.now) c.args.self.now (record c.args.self.now { files = c.reserve.new.self }) (λ m. written false (map (seen range) (memory ∷ map (listed m) c.reserve.new.self.items))) (λ m. written false (map (seen range) (memory ∷ map (listed m) old))) (λ es. FitsIn c.args.file_limit es)
-          (record { range = refl; memory = refl; files = c.in_ok-reserve.ensures.items }) (λ m h. ap (λ (fs : List SortedFile). written false (map (seen range) (memory ∷ map (listed m) fs))) c.in_ok-reserve.ensures.items)
-          (told_written (g.F.Files.contents c.args.files.now) (record c.args.self.now { files = c.reserve.new.self }) (λ lists. FitsIn c.args.file_limit (written false (map (seen range) (memory ∷ lists)))) c.in_ok-file.ensures.fits);
+          large_of Major (g.F.Files.contents c.args.files.now) c.args.self.now (record c.args.self.now { files = c.reserve.new.self }) (λ m. written false (map (seen range) (memory ∷ map (listed m) c.reserve.new.self.items))) (λ m. written false (map (seen range) (memory ∷ map (listed m) old))) (λ es. FitsIn c.args.file_limit es)
+          (record { range = refl; memory = refl; files = c.in_ok-reserve.ensures.items }) (λ m. ap (λ (fs : List SortedFile). written false (map (seen range) (memory ∷ map (listed m) fs))) c.in_ok-reserve.ensures.items)
+          (told_written Major (g.F.Files.contents c.args.files.now) (record c.args.self.now { files = c.reserve.new.self }) (λ lists. FitsIn c.args.file_limit (written false (map (seen range) (memory ∷ lists)))) c.in_ok-file.ensures.fits);
+      put = has_put Major (g.F.Files.contents c.args.files.now) (g.F.Files.contents c.write.new.files) c.args.self.now (record c.args.self.now { memtable = c.new.result; files = c.push.new.self }) c.in_ok-file.file (λ m. written false (map (seen range) (memory ∷ map (listed m) old))) (λ m. written false (map (seen range) (memory ∷ map (listed m) old))) files (λ m. refl)
+          (made_of Major (g.F.Files.contents c.args.files.now) (g.F.Files.contents c.write.new.files) c.args.self.now (record c.args.self.now { files = c.reserve.new.self }) c.in_ok-file.file (λ m. written false (map (seen range) (memory ∷ map (listed m) c.reserve.new.self.items))) (λ m. written false (map (seen range) (memory ∷ map (listed m) old)))
+          (record { range = refl; memory = refl; files = c.in_ok-reserve.ensures.items }) (λ m. ap (λ (fs : List SortedFile). written false (map (seen range) (memory ∷ map (listed m) fs))) c.in_ok-reserve.ensures.items) c.in_ok-file.ensures.made);
     }

@@ -1,20 +1,20 @@
 use Rattle.std.proofs.Common.{◌≡◌, ℕ, ◌≤◌, ◌∷◌, List, map, take, drop, length, refl, ap, sym, ◌∙◌, inl, inr, arith}
 use Rattle.std.proofs.lemmas.List.{drop-map, length-map}
-use Rattle.std.specs.Prelude.{nat_lt}
+use Rattle.std.specs.Prelude.{nat_lt, IsSomeAnd}
 use Rattle.cell_key.specs.declared.refusals.Refusal.TheVariants.{BadCount, Device}
 use Rattle.sorted_file.specs.Grammar.{FitsIn}
 use Rattle.sorted_file.specs.File.{listed, name_of}
 use Rattle.sorted_file.specs.declared.file.SortedFile.{SortedFile}
 use Rattle.compaction.specs.Writing.{written}
 use Rattle.tablet.specs.Ranges.{seen}
-use Rattle.tablet.specs.Compactions.{IsCompactionRefusal, compacted}
+use Rattle.tablet.specs.Compactions.{IsCompactionRefusal, IsNewFile, compacted, compacted_of}
 use Rattle.tablet.specs.declared.compactions.Compaction.TheVariants.{Merge}
 use Rattle.tablet.specs.Views.{files_of, memory_of, range_of}
 use Rattle.tablet.proofs.CompactedCells.{merge_cells}
 use Rattle.tablet.proofs.Held.{held_lists}
-use Rattle.tablet.proofs.MadeTablets.{made_keeps, made_lists, still_keeps}
+use Rattle.tablet.proofs.MadeTablets.{has_put, made_keeps, made_lists, still_keeps}
 use Rattle.tablet.proofs.Passed.{IsBadCount, merge_of, not_err, passed_err, passed_kept, passed_kind, passed_none, passed_on, passed_reason, quiet_reason, reason_of_ok, told_kind}
-use Rattle.tablet.proofs.WrittenFiles.{told_written}
+use Rattle.tablet.proofs.WrittenFiles.{told_written, where_held}
 use Rattle.tablet.proofs.tablet.Tablet.merge.Goals as goal
 
 within : (files : List SortedFile) (len count : ℕ) → len ≡ length files → count ≤ len → count ≤ length (map name_of files)
@@ -32,7 +32,8 @@ returns-clause-lists g c =
     let old = files_of c.args.self.now in
     made_lists c.stays_open.ensures (g.F.Files.contents c.args.files.now) (g.F.Files.contents c.write.new.files) c.args.next_name.now c.write.new.next_name c.args.self.now (record c.args.self.now { files = c.replace_newest.new.files }) c.in_ok-file.file c.args.count memory (λ m. written (nat_lt c.args.count (length (map (listed m) old))) (map (seen range) (take c.args.count (map (listed m) old))))
     (λ memory lists. memory ∷ written (nat_lt c.args.count (length lists)) (map (seen (range_of c.args.self.now)) (take c.args.count lists)) ∷ drop c.args.count lists)
-    (record { range = refl; memory = refl; files = c.replace_newest.ensures; named = c.in_ok-file.ensures.named }) c.in_ok-file.ensures.used c.in_ok-file.ensures.others c.in_ok-file.ensures.made
+    (record { range = refl; memory = refl; files = c.replace_newest.ensures; named = c.in_ok-file.ensures.named }) c.in_ok-file.ensures.used c.in_ok-file.ensures.others
+    (where_held (Merge c.args.count) (g.F.Files.contents c.args.files.now) c.args.self.now (λ m. IsSomeAnd (g.F.Files.contents c.write.new.files) (λ n. IsNewFile n c.in_ok-file.file (written (nat_lt c.args.count (length (map (listed m) old))) (map (seen range) (take c.args.count (map (listed m) old)))))) c.in_ok-file.ensures.made)
     (λ m h. h.memory) (λ m h. refl)
 
 pub returns-clause-keeps : goal.returns-clause-keeps
@@ -41,7 +42,8 @@ returns-clause-keeps g c =
     let memory = memory_of c.args.self.now in
     let old = files_of c.args.self.now in
     made_keeps c.stays_open.ensures (g.F.Files.contents c.args.files.now) (g.F.Files.contents c.write.new.files) c.args.next_name.now c.write.new.next_name c.args.self.now _ c.in_ok-file.file c.args.count memory (λ m. written (nat_lt c.args.count (length (map (listed m) old))) (map (seen range) (take c.args.count (map (listed m) old))))
-    (record { range = refl; memory = refl; files = c.replace_newest.ensures; named = c.in_ok-file.ensures.named }) c.in_ok-file.ensures.used c.in_ok-file.ensures.others c.in_ok-file.ensures.made
+    (record { range = refl; memory = refl; files = c.replace_newest.ensures; named = c.in_ok-file.ensures.named }) c.in_ok-file.ensures.used c.in_ok-file.ensures.others
+    (where_held (Merge c.args.count) (g.F.Files.contents c.args.files.now) c.args.self.now (λ m. IsSomeAnd (g.F.Files.contents c.write.new.files) (λ n. IsNewFile n c.in_ok-file.file (written (nat_lt c.args.count (length (map (listed m) old))) (map (seen range) (take c.args.count (map (listed m) old)))))) c.in_ok-file.ensures.made)
     (λ m h. h.memory) (λ m h list. merge_cells c.names_first.ensures range memory (map (listed m) old) c.args.count (held_lists m c.args.self.now h) (nat_lt c.args.count (length (map (listed m) old))) refl list)
 
 pub returns-in_err-file-clause-lists : goal.returns-in_err-file-clause-lists
@@ -67,7 +69,7 @@ returns-in_err-file-clause-exhausted g c = λ is. c.in_err-file.ensures.exhauste
 
 pub returns-in_err-file-clause-large : goal.returns-in_err-file-clause-large
 returns-in_err-file-clause-large g c = λ is.
-    told_written (g.F.Files.contents c.args.files.now) c.args.self.now (λ lists. ¬ (FitsIn c.args.file_limit (compacted (Merge c.args.count) (range_of c.args.self.now) (memory_of c.args.self.now) lists)))
+    told_written (Merge c.args.count) (g.F.Files.contents c.args.files.now) c.args.self.now (λ lists. ¬ (FitsIn c.args.file_limit (compacted (Merge c.args.count) (range_of c.args.self.now) (memory_of c.args.self.now) lists)))
     (c.in_err-file.ensures.large (passed_on c.from_residual.result _ c.in_err-file.field-0.0 _ c.from_residual.ensures.1 refl is))
 
 pub returns-in_err-file-clause-damaged : goal.returns-in_err-file-clause-damaged
@@ -159,5 +161,6 @@ returns-clause-made g c =
       memory = refl;
       left = c.in_ok-file.ensures.left;
       used = c.in_ok-file.ensures.used;
-      fits = told_written (g.F.Files.contents c.args.files.now) c.args.self.now (λ lists. FitsIn c.args.file_limit (compacted (Merge c.args.count) (range_of c.args.self.now) (memory_of c.args.self.now) lists)) c.in_ok-file.ensures.fits;
+      fits = told_written (Merge c.args.count) (g.F.Files.contents c.args.files.now) c.args.self.now (λ lists. FitsIn c.args.file_limit (compacted (Merge c.args.count) (range_of c.args.self.now) (memory_of c.args.self.now) lists)) c.in_ok-file.ensures.fits;
+      put = has_put (Merge c.args.count) (g.F.Files.contents c.args.files.now) (g.F.Files.contents c.write.new.files) c.args.self.now (record c.args.self.now { files = c.replace_newest.new.files }) c.in_ok-file.file (λ m. compacted_of (Merge c.args.count) m c.args.self.now) (λ m. compacted_of (Merge c.args.count) m c.args.self.now) c.replace_newest.ensures (λ m. refl) c.in_ok-file.ensures.made;
     }

@@ -1,5 +1,5 @@
 use Rattle.std.proofs.Common.{◌≡◌, ℕ, List, [], ◌∷◌, map, refl, true, ap, subst, ◌∙◌, inl, inr}
-use Rattle.std.specs.Prelude.{◌≢◌}
+use Rattle.std.specs.Prelude.{◌≢◌, IsSomeAnd}
 use Rattle.sorted_file.specs.Grammar.{FitsIn}
 use Rattle.cell_key.specs.Entries.{Entry}
 use Rattle.cell_key.specs.declared.refusals.Refusal.TheVariants.{Device, NoMemory, TooManyFiles}
@@ -7,12 +7,13 @@ use Rattle.sorted_file.specs.File.{listed, name_of}
 use Rattle.sorted_file.specs.declared.file.SortedFile.{SortedFile}
 use Rattle.compaction.specs.Writing.{written}
 use Rattle.tablet.specs.Ranges.{seen}
-use Rattle.tablet.specs.Compactions.{IsCompactionRefusal}
-use Rattle.tablet.specs.Views.{Holds, files_of, flushed, memory_of, range_of, with_name}
+use Rattle.tablet.specs.Compactions.{IsCompactionRefusal, IsNewFile}
+use Rattle.tablet.specs.declared.compactions.Compaction.TheVariants.{Minor}
+use Rattle.tablet.specs.Views.{files_of, flushed, memory_of, range_of, with_name}
 use Rattle.tablet.proofs.CompactedCells.{minor_cells, minor_form, minor_writes, no_entries}
-use Rattle.tablet.proofs.MadeTablets.{made_keeps, made_lists, made_of, still_holds, still_keeps}
+use Rattle.tablet.proofs.MadeTablets.{has_put, made_keeps, made_lists, made_of, reads_none, still_keeps}
 use Rattle.tablet.proofs.Passed.{IsNoMemory, IsTooManyFiles, inserted, minor_of, not_both, not_empty, not_err, passed_err, passed_kept, passed_kind, passed_none, passed_on, passed_reason, quiet_reason, reason_of_ok, told_kind, too_few, too_many}
-use Rattle.tablet.proofs.WrittenFiles.{if_some_not}
+use Rattle.tablet.proofs.WrittenFiles.{none_told, where_held}
 use Rattle.tablet.proofs.tablet.Tablet.minor.Goals as goal
 
 no_name : (next : ℕ) (memory : List Entry) (names : List ℕ) → memory ≡ [] → names ≡ with_name next memory names
@@ -46,8 +47,8 @@ returns-clause-lists g c =
     made_lists c.stays_open.ensures (g.F.Files.contents c.args.files.now) (g.F.Files.contents c.write.new.files) c.args.next_name.now c.write.new.next_name c.args.self.now (record c.args.self.now { memtable = c.new.result; files = c.insert.new.self }) c.in_ok-file.file 0 [] (λ m. written true (seen range memory ∷ []))
     (λ memory lists. [] ∷ flushed (range_of c.args.self.now) memory lists)
     (record { range = refl; memory = c.new.ensures; files = files; named = c.in_ok-file.ensures.named }) c.in_ok-file.ensures.used c.in_ok-file.ensures.others
-    (made_of (g.F.Files.contents c.args.files.now) (g.F.Files.contents c.write.new.files) c.args.self.now (record c.args.self.now { files = c.reserve.new.self }) c.in_ok-file.file (λ m. written true (seen range memory ∷ [])) (λ m. written true (seen range memory ∷ []))
-    (record { range = refl; memory = refl; files = c.in_ok-reserve.ensures.items }) (λ m. refl) c.in_ok-file.ensures.made)
+    (where_held Minor (g.F.Files.contents c.args.files.now) c.args.self.now (λ m. IsSomeAnd (g.F.Files.contents c.write.new.files) (λ n. IsNewFile n c.in_ok-file.file (written true (seen range memory ∷ [])))) (made_of Minor (g.F.Files.contents c.args.files.now) (g.F.Files.contents c.write.new.files) c.args.self.now (record c.args.self.now { files = c.reserve.new.self }) c.in_ok-file.file (λ m. written true (seen range memory ∷ [])) (λ m. written true (seen range memory ∷ []))
+    (record { range = refl; memory = refl; files = c.in_ok-reserve.ensures.items }) (λ m. refl) c.in_ok-file.ensures.made))
     (λ m h. no_entries) (λ m h. minor_form c.keeps_one_list.ensures range memory (map (listed m) (files_of c.args.self.now)) some h.memory)
 
 pub returns-clause-keeps : goal.returns-clause-keeps
@@ -57,8 +58,8 @@ returns-clause-keeps g c =
     let files = inserted c.insert.result _ (c.in_ok-file.file ∷ c.reserve.new.self.items) c.reserve.new.self.items c.insert.ensures.items c.unwrap.ensures ∙ ap (λ fs. c.in_ok-file.file ∷ fs) c.in_ok-reserve.ensures.items in
     made_keeps c.stays_open.ensures (g.F.Files.contents c.args.files.now) (g.F.Files.contents c.write.new.files) c.args.next_name.now c.write.new.next_name c.args.self.now _ c.in_ok-file.file 0 [] (λ m. written true (seen range memory ∷ []))
     (record { range = refl; memory = c.new.ensures; files = files; named = c.in_ok-file.ensures.named }) c.in_ok-file.ensures.used c.in_ok-file.ensures.others
-    (made_of (g.F.Files.contents c.args.files.now) (g.F.Files.contents c.write.new.files) c.args.self.now (record c.args.self.now { files = c.reserve.new.self }) c.in_ok-file.file (λ m. written true (seen range memory ∷ [])) (λ m. written true (seen range memory ∷ []))
-    (record { range = refl; memory = refl; files = c.in_ok-reserve.ensures.items }) (λ m. refl) c.in_ok-file.ensures.made)
+    (where_held Minor (g.F.Files.contents c.args.files.now) c.args.self.now (λ m. IsSomeAnd (g.F.Files.contents c.write.new.files) (λ n. IsNewFile n c.in_ok-file.file (written true (seen range memory ∷ [])))) (made_of Minor (g.F.Files.contents c.args.files.now) (g.F.Files.contents c.write.new.files) c.args.self.now (record c.args.self.now { files = c.reserve.new.self }) c.in_ok-file.file (λ m. written true (seen range memory ∷ [])) (λ m. written true (seen range memory ∷ []))
+    (record { range = refl; memory = refl; files = c.in_ok-reserve.ensures.items }) (λ m. refl) c.in_ok-file.ensures.made))
     (λ m h. no_entries) (λ m h list. minor_cells c.keeps_one_list.ensures range memory (map (listed m) (files_of c.args.self.now)) h.memory)
 
 pub returns-then-len-ge-MOST_FILES-clause-unwritten : goal.returns-then-len-ge-MOST_FILES-clause-unwritten
@@ -98,8 +99,7 @@ returns-in_err-file-clause-exhausted g c = λ is. (not_empty _ _ c.is_empty.ensu
 
 pub returns-in_err-file-clause-damaged : goal.returns-in_err-file-clause-damaged
 returns-in_err-file-clause-damaged g c = λ is.
-    if_some_not (g.F.Files.contents c.args.files.now) (λ m. Holds m (record c.args.self.now { files = c.reserve.new.self })) (λ m. Holds m c.args.self.now)
-    (λ m. still_holds m c.args.self.now (record c.args.self.now { files = c.reserve.new.self }) (record { range = refl; memory = refl; files = c.in_ok-reserve.ensures.items })) (c.in_err-file.ensures.damaged (passed_on c.from_residual-in_err-file.result _ c.in_err-file.field-0.0 _ c.from_residual-in_err-file.ensures.1 refl is))
+    none_told (g.F.Files.contents c.args.files.now) (c.in_err-file.ensures.damaged (passed_on c.from_residual-in_err-file.result _ c.in_err-file.field-0.0 _ c.from_residual-in_err-file.ensures.1 refl is))
 
 pub returns-in_err-file-clause-refusal : goal.returns-in_err-file-clause-refusal
 returns-in_err-file-clause-refusal g c = passed_err c.from_residual-in_err-file.result c.in_err-file.field-0.0 _ c.from_residual-in_err-file.ensures.1 (minor_of c.in_err-file.field-0.0 c.in_err-file.ensures.refusal)
@@ -223,8 +223,9 @@ pub returns-clause-flushed : goal.returns-clause-flushed
 returns-clause-flushed g c =
     let range = range_of c.args.self.now in
     let memory = memory_of c.args.self.now in
+    let files = inserted c.insert.result _ (c.in_ok-file.file ∷ c.reserve.new.self.items) c.reserve.new.self.items c.insert.ensures.items c.unwrap.ensures ∙ ap (λ fs. c.in_ok-file.file ∷ fs) c.in_ok-reserve.ensures.items in
     record {
-      names = names_more c.args.next_name.now _ c.in_ok-file.file _ _ (not_empty _ _ c.is_empty.ensures c.if-is_empty.false) (inserted c.insert.result _ (c.in_ok-file.file ∷ c.reserve.new.self.items) c.reserve.new.self.items c.insert.ensures.items c.unwrap.ensures ∙ ap (λ fs. c.in_ok-file.file ∷ fs) c.in_ok-reserve.ensures.items) c.in_ok-file.ensures.named;
+      names = names_more c.args.next_name.now _ c.in_ok-file.file _ _ (not_empty _ _ c.is_empty.ensures c.if-is_empty.false) files c.in_ok-file.ensures.named;
       memory = c.new.ensures;
       written = λ some. record {
         room = too_few c.args.self.now.files.items _ 64 (c.len.ensures ∙ c.args.self.now.files.ok.0) c.if-len-ge-MOST_FILES.false;
@@ -232,10 +233,13 @@ returns-clause-flushed g c =
         used = c.in_ok-file.ensures.used;
         fits = subst (λ (es : List Entry). FitsIn c.args.file_limit es) (minor_writes c.keeps_one_list.ensures range memory c.len-2.ensures.list) (c.in_ok-file.ensures.fits tt);
       };
+      put = λ some. reads_none (g.F.Files.contents c.args.files.now) _ (has_put Minor (g.F.Files.contents c.args.files.now) (g.F.Files.contents c.write.new.files) c.args.self.now (record c.args.self.now { memtable = c.new.result; files = c.insert.new.self }) c.in_ok-file.file (λ m. written true (seen range memory ∷ [])) (λ m. seen range memory) files (λ m. minor_writes c.keeps_one_list.ensures range memory c.len-2.ensures.list)
+          (made_of Minor (g.F.Files.contents c.args.files.now) (g.F.Files.contents c.write.new.files) c.args.self.now (record c.args.self.now { files = c.reserve.new.self }) c.in_ok-file.file (λ m. written true (seen range memory ∷ [])) (λ m. written true (seen range memory ∷ []))
+          (record { range = refl; memory = refl; files = c.in_ok-reserve.ensures.items }) (λ m. refl) c.in_ok-file.ensures.made));
     }
 
 pub returns-then-is_empty-clause-flushed : goal.returns-then-is_empty-clause-flushed
-returns-then-is_empty-clause-flushed g c = let none = c.is_empty.ensures.0 c.if-is_empty.true in record { names = no_name _ _ _ none; memory = none; written = λ some. absurd (some none) }
+returns-then-is_empty-clause-flushed g c = let none = c.is_empty.ensures.0 c.if-is_empty.true in record { names = no_name _ _ _ none; memory = none; written = λ some. absurd (some none); put = λ some. absurd (some none) }
 
 pub returns-then-is_empty-clause-full : goal.returns-then-is_empty-clause-full
 returns-then-is_empty-clause-full g c = (λ is. absurd (not_err _ _ is), λ both. absurd (both.0 (c.is_empty.ensures.0 c.if-is_empty.true)))

@@ -4,8 +4,8 @@ use Rattle.sorted_file.specs.Source.{IsReadRefusal}
 use Rattle.file_store.specs.Store.{Contents}
 use Rattle.tablet.specs.Compactions.{IsMinorRefusal, TakesName}
 use Rattle.tablet.proofs.Passed.{err_kind, err_map, minor_read, not_err, passed_err, passed_kept, passed_none, passed_on, passed_over, reason_after}
-use Rattle.tablet.proofs.SplitParts.{cut_after, left_after, not_open, parts_after}
-use Rattle.tablet.proofs.WrittenFiles.{as_on_ok}
+use Rattle.tablet.proofs.SplitParts.{cut_after, left_after, missing_before, parts_after}
+use Rattle.tablet.proofs.WrittenFiles.{as_on_ok, none_says}
 use Rattle.tablet.proofs.tablet.Tablet.split.Goals as goal
 
 pub returns-clause-parts : goal.returns-clause-parts
@@ -23,6 +23,9 @@ returns-in_err-minor-clause-keeps g c = passed_kept c.from_residual.result _ c.i
 
 pub returns-in_err-minor-clause-name : goal.returns-in_err-minor-clause-name
 returns-in_err-minor-clause-name g c = c.in_err-minor.ensures.name
+
+pub returns-in_err-minor-clause-damaged : goal.returns-in_err-minor-clause-damaged
+returns-in_err-minor-clause-damaged g c = λ is. none_says (g.F.Files.contents c.args.files.now) _ (c.in_err-minor.ensures.damaged (passed_on c.from_residual.result _ c.in_err-minor.field-0.0 _ c.from_residual.ensures.1 refl is))
 
 pub returns-in_err-minor-clause-refusal : goal.returns-in_err-minor-clause-refusal
 returns-in_err-minor-clause-refusal g c = passed_err c.from_residual.result c.in_err-minor.field-0.0 _ c.from_residual.ensures.1 c.in_err-minor.ensures.refusal
@@ -46,7 +49,7 @@ pub returns-clause-refusal : goal.returns-clause-refusal
 returns-clause-refusal g c = err_map c.cut.result IsReadRefusal IsMinorRefusal minor_read c.cut.ensures.refusal
 
 pub returns-clause-damaged : goal.returns-clause-damaged
-returns-clause-damaged g c = λ is. not_open (g.F.Files.contents c.args.files.now) (g.F.Files.contents c.minor.new.files) c.args.next_name.now c.minor.new.next_name c.args.self.now c.minor.new.self c.in_ok-minor.ensures.keeps (c.cut.ensures.damaged is)
+returns-clause-damaged g c = λ is. missing_before c.open_is_there.ensures (g.F.Files.contents c.args.files.now) (g.F.Files.contents c.minor.new.files) c.args.file_limit c.args.next_name.now c.minor.new.next_name c.args.self.now c.minor.new.self c.in_ok-minor.ensures.name.uses c.in_ok-minor.ensures.flushed (c.cut.ensures.damaged is)
 
 pub returns-clause-reason : goal.returns-clause-reason
 returns-clause-reason g c = reason_after (g.F.Files.faults c.args.files.now) (g.F.Files.faults c.minor.new.files) (g.F.Files.faults c.cut.new.files) (c.in_ok-minor.ensures.reason.told (λ is. not_err _ _ is)) c.cut.ensures.reason

@@ -4,19 +4,19 @@ use Rattle.std.specs.Option.{option_copied}
 use Rattle.cell_key.specs.Entries.{Entry}
 use Rattle.sorted_file.specs.Grammar.{FitsIn}
 use Rattle.sorted_file.specs.File.{listed}
-use Rattle.tablet.specs.Compactions.{IsCompactionRefusal, compacted}
+use Rattle.tablet.specs.Compactions.{IsCompactionRefusal, ReadsOpen, compacted}
 use Rattle.tablet.specs.Sources.{listed_in, lists_over}
-use Rattle.tablet.specs.Views.{Holds, files_of, memory_of, range_of}
+use Rattle.tablet.specs.Views.{files_of, memory_of, range_of}
 use Rattle.tablet.proofs.Passed.{IsNoMemory, no_memory, passed_err, passed_kind, passed_none, quiet_reason}
-use Rattle.tablet.proofs.WrittenFiles.{compacts, if_ok_holds, if_some_not, on_ok_map, reads_held}
+use Rattle.tablet.proofs.WrittenFiles.{compacts, if_ok_holds, if_some_not, on_ok_map}
 use Rattle.tablet.proofs.tablet.Tablet.write.Goals as goal
 
 pub returns-clause-made : goal.returns-clause-made
 returns-clause-made g c =
-    if_ok_holds c.write_new.result (g.F.Files.contents c.args.files.now) _ _ (λ m. Holds m c.args.self.now) _ (λ m. compacted c.args.compaction (range_of c.args.self.now) (memory_of c.args.self.now) (map (listed m) (files_of c.args.self.now)))
-    (λ m h. c.in_ok-sources.ensures.start (Some m) (c.inputs.ensures.open (Some m) (reads_held c.args.compaction m c.args.self.now h)))
-    (λ m h. compacts c.args.compaction (range_of c.args.self.now) (memory_of c.args.self.now) (map (listed_in (Some m)) (files_of c.args.self.now)) (length (files_of c.args.self.now)) _ c.deref.result.now (option_copied c.as_deref.result) (lists_over (Some m) (option_copied c.inputs.result.0) c.inputs.result.1.now) _
-    (c.in_ok-sources.ensures.entries (Some m) (c.inputs.ensures.open (Some m) (reads_held c.args.compaction m c.args.self.now h))) (length-map (files_of c.args.self.now) (listed_in (Some m))) c.keeps_erasures-keep_erasures.ensures (c.deref.ensures.value ∙ c.in_ok-from.ensures.from) (c.as_deref.ensures.value ∙ c.in_ok-from.ensures.end) (c.inputs.ensures.lists (Some m)) (c.in_ok-sources.ensures.lists (Some m) (c.inputs.ensures.open (Some m) (reads_held c.args.compaction m c.args.self.now h))))
+    if_ok_holds c.write_new.result (g.F.Files.contents c.args.files.now) _ _ (λ m. ReadsOpen c.args.compaction (Some m) c.args.self.now) _ (λ m. compacted c.args.compaction (range_of c.args.self.now) (memory_of c.args.self.now) (map (listed m) (files_of c.args.self.now)))
+    (λ m reads. c.in_ok-sources.ensures.start (Some m) (c.inputs.ensures.open (Some m) reads))
+    (λ m reads. compacts c.args.compaction (range_of c.args.self.now) (memory_of c.args.self.now) (map (listed_in (Some m)) (files_of c.args.self.now)) (length (files_of c.args.self.now)) _ c.deref.result.now (option_copied c.as_deref.result) (lists_over (Some m) (option_copied c.inputs.result.0) c.inputs.result.1.now) _
+    (c.in_ok-sources.ensures.entries (Some m) (c.inputs.ensures.open (Some m) reads)) (length-map (files_of c.args.self.now) (listed_in (Some m))) c.keeps_erasures-keep_erasures.ensures (c.deref.ensures.value ∙ c.in_ok-from.ensures.from) (c.as_deref.ensures.value ∙ c.in_ok-from.ensures.end) (c.inputs.ensures.lists (Some m)) (c.in_ok-sources.ensures.lists (Some m) (c.inputs.ensures.open (Some m) reads)))
     c.write_new.ensures.made
 
 pub returns-clause-large : goal.returns-clause-large
@@ -37,7 +37,7 @@ returns-clause-fits g c =
 
 pub returns-clause-damaged : goal.returns-clause-damaged
 returns-clause-damaged g c = λ err.
-    if_some_not (g.F.Files.contents c.args.files.now) _ (λ m. Holds m c.args.self.now) (λ m h. c.in_ok-sources.ensures.start (Some m) (c.inputs.ensures.open (Some m) (reads_held c.args.compaction m c.args.self.now h))) (c.write_new.ensures.damaged err)
+    if_some_not (g.F.Files.contents c.args.files.now) _ (λ m. ReadsOpen c.args.compaction (Some m) c.args.self.now) (λ m reads. c.in_ok-sources.ensures.start (Some m) (c.inputs.ensures.open (Some m) reads)) (c.write_new.ensures.damaged err)
 
 pub returns-in_err-from-clause-named : goal.returns-in_err-from-clause-named
 returns-in_err-from-clause-named g c = passed_none c.from_residual.result c.in_err-from.field-0.0 _ c.from_residual.ensures.1
