@@ -1,5 +1,6 @@
--- What a mark store contains, and what its calls may do.
-use Rattle.std.specs.Prelude.{◌≡◌, ℕ, ◌≤◌, ◌⊎◌, Option, option_map, IfSome}
+-- What a mark store contains, what its calls may do, and the bytes of a mark.
+use Rattle.std.specs.Prelude.{◌≡◌, ℕ, ◌≤◌, ◌<◌, ◌^◌, ◌⊎◌, List, Option, option_map, IfSome}
+use Rattle.std.specs.Int.{to_be_bytes, w64}
 
 -- the mark once a number was stored, if the mark is known
 abbrev pub mark_after : ℕ → Option ℕ → Option ℕ
@@ -12,3 +13,12 @@ MayHold number old new = (new ≡ old) ⊎ (new ≡ mark_after number old)
 -- a number isn't past the mark, if the mark is known
 abbrev pub IsWithinMark : ℕ → Option ℕ → Type 0
 IsWithinMark number mark = IfSome mark (λ stored. number ≤ stored)
+
+-- the bytes of a number: eight, the highest first
+abbrev pub mark_bytes : ℕ → List ℕ
+mark_bytes number = to_be_bytes w64 number
+
+-- these are the bytes of this number, and it isn't past the greatest stamp
+pub record IsMark (bytes : List ℕ) (number : ℕ) : Type 0 where
+  pub limit : number < 2 ^ 63
+  pub eight : bytes ≡ mark_bytes number

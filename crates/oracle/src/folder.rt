@@ -1,9 +1,10 @@
 //! A mark in a folder.
 
-ghost use Rattle.std.specs.Prelude.{◌≡◌, ◌≢◌, ◌≤◌, ◌<◌, ◌^◌, length, Err, IfErr, IfOk, IfSome, IsErr, None, Ok, OnErr, OnOk};
-ghost use Rattle.std.specs.Io.KnownBytes.{Appends, IsAtEnd};
+ghost use Rattle.std.specs.Prelude.{◌≡◌, ◌≢◌, ◌≤◌, ◌<◌, ◌^◌, ℕ, length, take, Err, IfErr, IfNone, IfOk, IfSome, IsErr, None, Ok, OnErr, OnOk};
+ghost use Rattle.std.specs.Io.KnownBytes.{Appends, Consumes, IsAtEnd};
 ghost use Rattle.std.specs.IoError.{error_kind};
 ghost use Rattle.cell_key.specs.Faults.{HasRisen};
+ghost use Rattle.oracle.specs.Marks.{IsMark, mark_bytes};
 
 use crate::marks::{MarkFault, MarkStore};
 use cell_key::{MOST_STAMP, Stamp};
@@ -31,7 +32,8 @@ pub struct DirMark<R> {
 
 /// The number of a mark's bytes, if there are eight and the number is not past the greatest stamp.
 fn number_of(bytes: &[u8]) -> Option<Stamp>
-    ensures { IfSome result (λ number. number < 2 ^ 63) }
+    ensures some { IfSome result (IsMark bytes.now) }
+    ensures none { IfNone result ((number : ℕ) → ¬ IsMark bytes.now number) }
 {
     let bytes: [u8; MARK_BYTES] = bytes.try_into().ok()?;
     let number = u64::from_be_bytes(bytes);
@@ -45,6 +47,8 @@ fn number_of(bytes: &[u8]) -> Option<Stamp>
 fn fill<F: Read>(file: &mut F, bytes: &mut [u8]) -> io::Result<usize>
     ensures within { IfOk result (λ n. n ≤ length bytes.old) }
     ensures end { IfOk result (λ n. n < length bytes.old → IsAtEnd (F.remaining file.new)) }
+    ensures read { IfOk result (λ n.
+        Consumes (F.remaining file.old) (F.remaining file.new) (take n bytes.new)) }
 {
     let mut at = 0;
     while at < bytes.len() {
@@ -57,6 +61,17 @@ fn fill<F: Read>(file: &mut F, bytes: &mut [u8]) -> io::Result<usize>
     Ok(at)
 }
 
+/// Reads a mark from here to the end of a file.
+fn read_number<F: Read>(file: &mut F) -> io::Result<Stamp>
+    ensures within { IfOk result (λ number. number < 2 ^ 63) }
+    ensures whole { IfOk result (λ number.
+        IfSome (F.remaining file.old) (λ bytes. IsMark bytes number)) }
+{
+    let mut bytes = [0u8; MARK_BYTES + 1];
+    let count = fill(file, &mut bytes)?;
+    number_of(&bytes[..count]).ok_or(io::Error::from(ErrorKind::InvalidData))
+}
+
 /// Reads the mark of a file that was opened: 0 if there is no such file. Any other failure is passed on.
 fn read_mark<F: Read + Drop>(opened: io::Result<F>) -> io::Result<Stamp>
     ensures within { IfOk result (λ number. number < 2 ^ 63) }
@@ -64,15 +79,15 @@ fn read_mark<F: Read + Drop>(opened: io::Result<F>) -> io::Result<Stamp>
         error_kind error ≡ ErrorKind.NotFound → result ≡ Ok 0) }
     ensures failed { IfErr opened (λ error.
         error_kind error ≢ ErrorKind.NotFound → result ≡ Err error) }
+    ensures whole { IfOk opened (λ file. IfSome (F.remaining file) (λ bytes.
+        IfOk result (IsMark bytes))) }
 {
     let mut file = match opened {
         Ok(file) => file,
         Err(error) if error.kind() == ErrorKind::NotFound => return Ok(0),
         Err(error) => return Err(error),
     };
-    let mut bytes = [0u8; MARK_BYTES + 1];
-    let count = fill(&mut file, &mut bytes)?;
-    number_of(&bytes[..count]).ok_or(io::Error::from(ErrorKind::InvalidData))
+    read_number(&mut file)
 }
 
 /// Writes bytes behind those of a file, and forces it to the disk.
@@ -83,10 +98,18 @@ fn write_synced<W: Write + OpenFile>(file: &mut W, bytes: &[u8]) -> io::Result<(
     file.sync_all()
 }
 
+/// Writes the bytes of a mark behind those of a file, and forces it to the disk.
+fn write_number<W: Write + OpenFile>(file: &mut W, number: Stamp) -> io::Result<()>
+    ensures { OnOk result
+        (Appends (W.contents file.old) (W.contents file.new) (mark_bytes number)) }
+{
+    write_synced(file, &number.to_be_bytes())
+}
+
 /// Writes a mark beside the file, and puts it in the file's place.
 fn place_mark<R: Folders>(rt: &R, path: &str, beside: &str, number: Stamp) -> io::Result<()> {
     let mut file = File::create(rt, beside)?;
-    write_synced(&mut file, &number.to_be_bytes())?;
+    write_number(&mut file, number)?;
     fs::rename(rt, beside, path)
 }
 
