@@ -3,11 +3,13 @@
 mod audits;
 mod bodies;
 mod caches;
+mod checkpoint_faults;
 mod checkpoints;
 mod cleaning;
 mod clusters;
 mod collecting;
 mod compactions;
+mod damages;
 mod deleting;
 mod edits;
 mod faults;
@@ -22,6 +24,7 @@ mod recordings;
 mod rows;
 mod script;
 mod slow;
+mod slow_roots;
 mod sorted_files;
 mod stamps;
 mod statuses;
@@ -177,7 +180,7 @@ fn deletions(rt: HostRuntime) -> Result<(), Fail> {
 }
 
 /// Input, output and the exit status.
-const ENDS: [(&[u8], &[u8], u8); 8] = [
+const ENDS: [(&[u8], &[u8], u8); 10] = [
     // empty input
     (b"", b"", 0),
     // one begin
@@ -197,6 +200,20 @@ const ENDS: [(&[u8], &[u8], u8); 8] = [
     (b"\0\0\0\0", b"\0\0\0\x02\xFF\x16", 0),
     // too large a frame alone
     (b"\xFF\xFF\xFF\xFF", b"\0\0\0\x02\xFF\x17", 3),
+    // a field that would go far past its body
+    (
+        b"\0\0\0\x0D\x02\0\0\0\0\0\0\0\x01\xFF\xFF\xFF\xFF",
+        b"\0\0\0\x02\xFF\x16",
+        0,
+    ),
+    // a begin, and empty rows in its session and in an unknown one
+    (
+        b"\0\0\0\x01\x01\
+        \0\0\0\x12\x02\0\0\0\0\0\0\0\x01\0\0\0\0\0\0\0\x01c\
+        \0\0\0\x12\x02\0\0\0\0\0\0\0\x02\0\0\0\0\0\0\0\x01c",
+        b"\0\0\0\x09\x81\0\0\0\0\0\0\0\x01\0\0\0\x02\xFF\x03\0\0\0\x02\xFF\x01",
+        0,
+    ),
 ];
 
 #[test]

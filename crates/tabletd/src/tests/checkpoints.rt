@@ -18,13 +18,13 @@ use std::test::Fail;
 type DirServer = Server<DirFiles<HostRuntime>, DirMark<HostRuntime>>;
 
 /// A store is written.
-const WRITTEN: [Exchange; 1] = [(b"\x12", b"\x92")];
+pub const WRITTEN: [Exchange; 1] = [(b"\x12", b"\x92")];
 
 /// A new store is written.
 const NEW: Row = (0, &[&WRITTEN]);
 
 /// The transfer is written when it has committed its first cell.
-const HALF: Row = (COMMITTED, &[&WRITTEN]);
+pub const HALF: Row = (COMMITTED, &[&WRITTEN]);
 
 /// The whole transfer is written.
 const WHOLE: Row = (TRANSFER.len(), &[&WRITTEN]);
@@ -219,7 +219,7 @@ const OLD_COLLECTED: [Exchange; 15] = [
 const IS_READ: Row = (0, &[&READ, &OLD_RECORDS, &OLD_COLLECTED]);
 
 /// A server of a folder. It takes the folder's files and mark as a program that is started does.
-fn opened(rt: &HostRuntime, path: &str) -> Result<DirServer, Refusal> {
+pub fn opened(rt: &HostRuntime, path: &str) -> Result<DirServer, Refusal> {
     let files = match DirFiles::open(*rt, path) {
         Ok(files) => files,
         Err(_) => return Err(Refusal::Device),

@@ -1,86 +1,183 @@
-//! The script of requests where one call of the files or of the mark store fails: exactly one request, or the new server, is
-//! refused Device, and asked again it gets the reply that it gets without a fault.
+//! The script of requests with one failing call of the files or of the mark store. If a request makes the call, this
+//! request, or the new server, is refused Device, and asked again it gets the reply that it gets without a fault. If a
+//! compaction makes it that comes by itself, nothing is refused. All other replies are as without a fault.
 
-use crate::tests::script::{Came, Room, played_over};
+ghost use Rattle.std.specs.Prelude.{None};
+
+use crate::tests::script::{Came, Room, Run, Watch, played_over};
 use cell_key::Refusal;
-use file_store::{FailAt, MemFiles};
+use file_store::{FailAt, FileFault, Files, MemFiles};
 use oracle::{FailMarkAt, MemMark};
 use std::alloc::Global;
 use std::test::Fail;
 
-/// How many calls the script makes of its files.
-const FILE_CALLS: u64 = 55;
-
-/// How many it makes of its mark store: it loads the mark and stores the end of a range, and both again after the oracle restarts.
+/// How many calls the script makes of its mark store: it loads the mark and stores the end of a range, and both again
+/// after the oracle restarts.
 const MARK_CALLS: u64 = 4;
 
-/// What such a call has done when it fails.
-const WAYS: [(file_store::Fail, oracle::Fail); 3] = [
-    (file_store::Fail::Before, oracle::Fail::Before),
-    (file_store::Fail::Half, oracle::Fail::Half),
-    (file_store::Fail::After, oracle::Fail::After),
-];
+/// Whether the server compacts by itself, and how many calls of the files there are then in the script: those that its
+/// requests make, and those between two requests.
+const FILE_CALLS: [(bool, u64, u64); 2] = [(false, 55, 0), (true, 56, 132)];
 
-/// Of which of the two a call fails.
-#[derive(Clone, Copy)]
-enum Failing {
-    Files,
-    Mark,
+/// More calls than there are.
+const MOST_CALLS: u64 = 1000;
+
+/// Files that are watched.
+#[derive(Drop)]
+struct Watched<'a, F> {
+    files: F,
+    watch: &'a Watch,
 }
 
-impl Failing {
-    /// What comes of the script where the call with this number fails so, counted from 1.
-    fn came(
-        self,
-        alloc: Global,
-        at: u64,
-        how: (file_store::Fail, oracle::Fail),
-    ) -> Result<Came, Refusal> {
-        let (file_call, mark_call) = match self {
-            Failing::Files => (at, 0),
-            Failing::Mark => (0, at),
-        };
-        let files = FailAt::new(MemFiles::new(alloc), file_call, how.0);
-        let marks = FailMarkAt::new(MemMark::new(), mark_call, how.1);
-        played_over(alloc, files, marks, Refusal::Device, Room::new(alloc)?)
+impl<F: Files> Files for Watched<'_, F> {
+    ghost contents = { λ _. None };
+
+    ghost faults = { λ watched. F.faults watched.files };
+
+    fn put(&mut self, name: u64, bytes: &[u8]) -> Result<(), FileFault> {
+        let done = self.files.put(name, bytes);
+        self.watch.note(done.is_err());
+        done
     }
 
-    /// Whether the script makes so many calls, each fault of which is told once, and the replies are then right.
-    fn is_told(
-        self,
-        alloc: Global,
-        calls: u64,
-        how: (file_store::Fail, oracle::Fail),
-    ) -> Result<bool, Refusal> {
-        for at in 1..=calls {
-            let came = self.came(alloc, at, how)?;
-            if !matches!(came, Came::AnsweredLater) {
-                return Ok(false);
-            }
-        }
-        let came = self.came(alloc, calls.saturating_add(1), how)?;
-        Ok(matches!(came, Came::Answered))
+    fn size(&mut self, name: u64) -> Result<Option<u64>, FileFault> {
+        let size = self.files.size(name);
+        self.watch.note(size.is_err());
+        size
     }
+
+    fn read_at(&mut self, name: u64, offset: u64, out: &mut [u8]) -> Result<usize, FileFault> {
+        let count = self.files.read_at(name, offset, out);
+        self.watch.note(count.is_err());
+        count
+    }
+
+    fn list(&mut self, names: &mut Vec<u64>) -> Result<(), FileFault> {
+        let done = self.files.list(names);
+        self.watch.note(done.is_err());
+        done
+    }
+
+    fn remove(&mut self, name: u64) -> Result<(), FileFault> {
+        let done = self.files.remove(name);
+        self.watch.note(done.is_err());
+        done
+    }
+
+    fn faults(&self) -> u64 {
+        self.files.faults()
+    }
+}
+
+/// Room for the script of a server that compacts by itself, or on request.
+fn room(alloc: Global, by_itself: bool) -> Result<Room, Refusal> {
+    if by_itself {
+        return Room::by_itself(alloc);
+    }
+    Room::new(alloc)
+}
+
+/// What comes of the script if the call of the files with this number fails so, counted from 1; and whether a call failed
+/// that a request made, and one between two requests.
+fn came_of_files(
+    alloc: Global,
+    by_itself: bool,
+    at: u64,
+    how: file_store::Fail,
+) -> Result<(Came, (bool, bool)), Refusal> {
+    let watch = Watch::new();
+    let run = Run {
+        refusal: Refusal::Device,
+        watch: &watch,
+    };
+    let files = Watched {
+        files: FailAt::new(MemFiles::new(alloc), at, how),
+        watch: &watch,
+    };
+    let came = played_over(alloc, files, MemMark::new(), run, room(alloc, by_itself)?)?;
+    Ok((came, watch.failed()))
+}
+
+/// How many calls are made by requests, each of which reports the fault, and how many between two requests, whose faults
+/// nothing reports. `None` if something else comes of a fault.
+fn calls_of_files(
+    alloc: Global,
+    by_itself: bool,
+    how: file_store::Fail,
+) -> Result<Option<(u64, u64)>, Refusal> {
+    let (mut asked, mut between) = (0u64, 0u64);
+    for at in 1..=MOST_CALLS {
+        match came_of_files(alloc, by_itself, at, how)? {
+            (Came::AnsweredLater, (true, false)) => asked = asked.saturating_add(1),
+            (Came::Answered, (false, true)) => between = between.saturating_add(1),
+            (Came::Answered, (false, false)) => return Ok(Some((asked, between))),
+            _ => return Ok(None),
+        }
+    }
+    Ok(None)
 }
 
 #[test]
 fn a_call_of_the_files_fails(rt: HostRuntime) -> Result<(), Fail> {
-    for how in WAYS {
-        assert!(rt;
-            Failing::Files.is_told(rt.alloc(), FILE_CALLS, how)?,
-            "{how:?}"
-        );
+    let ways = [
+        file_store::Fail::Before,
+        file_store::Fail::Half,
+        file_store::Fail::After,
+    ];
+    for how in ways {
+        for (by_itself, asked, between) in FILE_CALLS {
+            let calls = calls_of_files(rt.alloc(), by_itself, how)?;
+            assert!(rt; calls == Some((asked, between)), "{how:?} {calls:?}");
+        }
     }
     Ok(())
 }
 
+/// What comes of the script if the call of the mark store with this number fails so.
+fn came_of_mark(
+    alloc: Global,
+    by_itself: bool,
+    at: u64,
+    how: oracle::Fail,
+) -> Result<Came, Refusal> {
+    let watch = Watch::new();
+    let run = Run {
+        refusal: Refusal::Device,
+        watch: &watch,
+    };
+    let marks = FailMarkAt::new(MemMark::new(), at, how);
+    played_over(
+        alloc,
+        MemFiles::new(alloc),
+        marks,
+        run,
+        room(alloc, by_itself)?,
+    )
+}
+
+/// Whether the fault of each call of the mark store is reported, and there are no more calls.
+fn is_reported(alloc: Global, by_itself: bool, how: oracle::Fail) -> Result<bool, Refusal> {
+    for at in 1..=MARK_CALLS {
+        let came = came_of_mark(alloc, by_itself, at, how)?;
+        if !matches!(came, Came::AnsweredLater) {
+            return Ok(false);
+        }
+    }
+    let came = came_of_mark(alloc, by_itself, MARK_CALLS.saturating_add(1), how)?;
+    Ok(matches!(came, Came::Answered))
+}
+
 #[test]
 fn a_call_of_the_mark_store_fails(rt: HostRuntime) -> Result<(), Fail> {
-    for how in WAYS {
-        assert!(rt;
-            Failing::Mark.is_told(rt.alloc(), MARK_CALLS, how)?,
-            "{how:?}"
-        );
+    let ways = [
+        oracle::Fail::Before,
+        oracle::Fail::Half,
+        oracle::Fail::After,
+    ];
+    for how in ways {
+        for by_itself in [false, true] {
+            assert!(rt; is_reported(rt.alloc(), by_itself, how)?, "{how:?}");
+        }
     }
     Ok(())
 }

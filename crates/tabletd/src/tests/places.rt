@@ -57,7 +57,7 @@ fn places_of_rows(rt: HostRuntime) -> Result<(), Fail> {
 pub const NEW_ROOT: &[u8] =
     b"TABROOT2\0\0\0\0\0\0\0\0\0\0\0\0\0\0\0\0\0\0\0\0\0\0\0\x01\0\0\0\x02\0\0\0\x01\0\0\0\x01\x01\0\0\0\0\0TABROOTZ";
 
-const OLD_ROOT: &[u8] =
+pub const OLD_ROOT: &[u8] =
     b"TABROOT1\0\0\0\0\0\0\0\0\0\0\0\0\0\0\0\0\0\0\0\0\0\0\0\x01\0\0\0\x02\0\0\0\x01\0\0\0\x01\x01\0\0\0\0\0TABROOTZ";
 
 /// Whether the bytes are a root, and that of a new store.
@@ -76,7 +76,7 @@ fn is_root(alloc: Global, bytes: &[u8]) -> Result<bool, Refusal> {
 }
 
 /// Whether the bytes are no root.
-fn is_no_root(alloc: Global, bytes: &[u8]) -> Result<bool, Refusal> {
+pub fn is_no_root(alloc: Global, bytes: &[u8]) -> Result<bool, Refusal> {
     Ok(MetadataTable::read_root(alloc, bytes)?.is_none())
 }
 

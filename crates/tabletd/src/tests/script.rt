@@ -22,7 +22,7 @@ const FLUSHED: [Exchange; 1] = [
 ];
 
 /// The two cells get a tablet each, and a session begins.
-const SPLIT: [Exchange; 3] = [
+pub const SPLIT: [Exchange; 3] = [
     // Split Bob: 2
     (b"\x0D\0\0\0\x03Bob", b"\x8D\0\0\0\x02"),
     // Move 2 3: done
@@ -31,12 +31,16 @@ const SPLIT: [Exchange; 3] = [
     (b"\x01", b"\x81\0\0\0\0\0\0\0\x05"),
 ];
 
-/// Files are merged, old versions collected, and both cells read, before and after the oracle restarts.
-const TIDIED: [Exchange; 8] = [
+/// Files are merged.
+pub const MERGED: [Exchange; 2] = [
     // Minor 1: done
     (b"\x0A\0\0\0\x01", b"\x8A"),
     // Merge 1 2: done
     (b"\x0B\0\0\0\x01\0\0\0\x02", b"\x8B"),
+];
+
+/// Old versions are collected, both cells read, and the oracle restarts.
+pub const COLLECTED: [Exchange; 6] = [
     // CollectBegin: 1, floor 5
     (b"\x08", b"\x88\0\0\0\0\0\0\0\x01\0\0\0\0\0\0\0\x05"),
     // CollectStep 1 1000: Collected
@@ -65,8 +69,18 @@ const SWEPT: [Exchange; 2] = [
     (b"\x0F", b"\x8F\0\0\0\0\0\0\0\x02"),
 ];
 
+/// The same of a server that compacts by itself. Of 20 files each tablet has one. The transfer and its cleaner put two
+/// entries into a memtable eight times: eight files, and seven that merge the new one with the one before. The collector
+/// puts two into each memtable: two files, and two merged ones. The Major writes the last.
+const MORE_SWEPT: [Exchange; 2] = [
+    // Begin: 1001
+    (b"\x01", b"\x81\0\0\0\0\0\0\x03\xE9"),
+    // Sweep: 18
+    (b"\x0F", b"\x8F\0\0\0\0\0\0\0\x12"),
+];
+
 /// What both cells hold in their three columns.
-const COLUMNS: [Exchange; 6] = [
+pub const COLUMNS: [Exchange; 6] = [
     // Raw Bob bal data 0..9: stamp 3, 3
     (
         b"\x11\0\0\0\x03Bob\0\0\0\x03bal\x01\0\0\0\0\0\0\0\0\0\0\0\0\0\0\0\x09",
@@ -100,20 +114,33 @@ const COLUMNS: [Exchange; 6] = [
 ];
 
 /// The script, after the transfer's beginning.
-const SCRIPT: [&[Exchange]; 6] = [
+const SCRIPT: [&[Exchange]; 7] = [
     &FLUSHED,
     &SESSION_STOPPED,
     &SPLIT,
     &ROLLED_FORWARD,
-    &TIDIED,
+    &MERGED,
+    &COLLECTED,
     &SWEPT,
 ];
 
-/// The limits of the server.
-const CONFIG: Config = Config {
-    flush: 10_000,
-    file_limit: FILE_LIMIT,
-};
+/// The same for a server that compacts by itself. It has no Merge: which files there are would depend on the compactions
+/// that were refused.
+const SHORTER_SCRIPT: [&[Exchange]; 6] = [
+    &FLUSHED,
+    &SESSION_STOPPED,
+    &SPLIT,
+    &ROLLED_FORWARD,
+    &COLLECTED,
+    &MORE_SWEPT,
+];
+
+/// When the server compacts by itself: at how many entries of a memtable, and at how many files.
+#[derive(Clone, Copy)]
+struct Upkeep {
+    flush: u32,
+    merge: Option<u32>,
+}
 
 /// How many bytes the frame of a refusal has.
 const REFUSAL_LENGTH: usize = 6;
@@ -138,12 +165,53 @@ pub enum Came {
     WrongAnswer,
 }
 
+/// Which of the server's calls of its files fail: those that a request makes, or those between two requests.
+#[derive(Drop)]
+pub struct Watch {
+    is_answering: Cell<bool>,
+    in_request: Cell<bool>,
+    between: Cell<bool>,
+}
+
+impl Watch {
+    pub fn new() -> Watch {
+        Watch {
+            is_answering: Cell::new(true),
+            in_request: Cell::new(false),
+            between: Cell::new(false),
+        }
+    }
+
+    /// Takes note of a call, which failed or not.
+    pub fn note(&self, has_failed: bool) {
+        if has_failed && self.is_answering.get() {
+            self.in_request.set(true);
+        }
+        if has_failed && !self.is_answering.get() {
+            self.between.set(true);
+        }
+    }
+
+    /// Whether a call of a request failed, and whether one between two did.
+    pub fn failed(&self) -> (bool, bool) {
+        (self.in_request.get(), self.between.get())
+    }
+}
+
+/// The refusal that may come once, and who watches the files.
+#[derive(Clone, Copy)]
+pub struct Run<'a> {
+    pub refusal: Refusal,
+    pub watch: &'a Watch,
+}
+
 /// A reader of frames of fewer than 256 bytes, of which a read gives one. It ends where the last one was refused.
 #[derive(Drop)]
 struct Frames<'a> {
     last: &'a [u8],
     rest: &'a [u8],
     is_refused: &'a Cell<bool>,
+    watch: &'a Watch,
 }
 
 impl Read for Frames<'_> {
@@ -160,6 +228,7 @@ impl Read for Frames<'_> {
         buf[..count].copy_from_slice(&self.rest[..count]);
         self.last = self.rest;
         self.rest = &self.rest[count..];
+        self.watch.is_answering.set(true);
         Ok(count)
     }
 }
@@ -170,6 +239,7 @@ struct Replies<'a> {
     written: Vec<u8>,
     refusal: Refusal,
     is_refused: &'a Cell<bool>,
+    watch: &'a Watch,
 }
 
 impl Write for Replies<'_> {
@@ -177,6 +247,7 @@ impl Write for Replies<'_> {
         self.written.extend_from_slice(buf)?;
         let refused = frame_of(self.refusal);
         self.is_refused.set(self.written.ends_with(&refused));
+        self.watch.is_answering.set(false);
         Ok(buf.len())
     }
 
@@ -187,9 +258,9 @@ impl Write for Replies<'_> {
 
 /// Serves frames, and writes the replies behind what is there. It answers how many bytes of frames are left where one was refused
 /// so, from that one on: its reply is then not kept.
-fn served<F: Files + Drop, M: MarkStore + Drop>(
+pub fn served<F: Files + Drop, M: MarkStore + Drop>(
     server: &mut Server<F, M>,
-    refusal: Refusal,
+    run: Run<'_>,
     frames: &[u8],
     written: Vec<u8>,
 ) -> (Vec<u8>, usize) {
@@ -198,11 +269,13 @@ fn served<F: Files + Drop, M: MarkStore + Drop>(
         last: frames,
         rest: frames,
         is_refused: &is_refused,
+        watch: run.watch,
     };
     let mut writer = Replies {
         written,
-        refusal,
+        refusal: run.refusal,
         is_refused: &is_refused,
+        watch: run.watch,
     };
     let ended = server.serve(&mut reader, &mut writer, u64::MAX);
     let left = reader.last.len();
@@ -254,21 +327,41 @@ impl Streams {
 /// The script, what is read of both cells after it, and room for what is written. All of it is made before the script is run.
 #[derive(Drop)]
 pub struct Room {
+    upkeep: Upkeep,
     script: Streams,
     columns: Streams,
     written: Vec<u8>,
 }
 
 impl Room {
+    /// The script of a server that compacts on request.
     pub fn new(alloc: Global) -> Result<Room, Refusal> {
+        let upkeep = Upkeep {
+            flush: 10_000,
+            merge: None,
+        };
+        Room::of(alloc, upkeep, &SCRIPT)
+    }
+
+    /// The script of a server that also compacts by itself: memtables of two entries, and tablets of two files.
+    pub fn by_itself(alloc: Global) -> Result<Room, Refusal> {
+        let upkeep = Upkeep {
+            flush: 2,
+            merge: Some(2),
+        };
+        Room::of(alloc, upkeep, &SHORTER_SCRIPT)
+    }
+
+    fn of(alloc: Global, upkeep: Upkeep, parts: &[&[Exchange]]) -> Result<Room, Refusal> {
         let mut script = Streams::new(alloc, COUNT_LENGTH);
         script.push_all(&TRANSFER[..COMMITTED])?;
-        for part in SCRIPT {
+        for part in parts {
             script.push_all(part)?;
         }
         let mut columns = Streams::new(alloc, 0);
         columns.push_all(&COLUMNS)?;
         Ok(Room {
+            upkeep,
             script,
             columns,
             written: Vec::with_capacity(alloc, 1024)?,
@@ -276,37 +369,59 @@ impl Room {
     }
 }
 
+/// A new server that compacts by itself so.
+fn made<F: Files + Drop, M: MarkStore + Drop>(
+    alloc: Global,
+    files: F,
+    marks: M,
+    upkeep: Upkeep,
+) -> Result<Server<F, M>, (Refusal, F, M)> {
+    if upkeep.flush == 0 || upkeep.flush > 100_000 {
+        return Err((Refusal::FileTooLarge, files, marks));
+    }
+    let config = Config {
+        flush: upkeep.flush,
+        file_limit: FILE_LIMIT,
+    };
+    let mut server = match Server::new(alloc, files, marks, config) {
+        Ok(server) => server,
+        Err(refused) => return Err(refused),
+    };
+    if let Some(most) = upkeep.merge {
+        server.merge_at(most);
+    }
+    Ok(server)
+}
+
 /// A server with the refusal that may come once, and what came of the script.
 #[derive(Drop)]
-struct Play<F, M: MarkStore> {
+struct Play<'a, F, M: MarkStore> {
     server: Server<F, M>,
-    refusal: Refusal,
+    run: Run<'a>,
     came: Came,
 }
 
-impl<F: Files + Drop, M: MarkStore + Drop> Play<F, M> {
+impl<'a, F: Files + Drop, M: MarkStore + Drop> Play<'a, F, M> {
     /// A new server, which is made once more of what it gave back where it was refused so.
-    fn new(alloc: Global, files: F, marks: M, refusal: Refusal) -> Result<Play<F, M>, Refusal> {
-        let (files, marks) = match Server::new(alloc, files, marks, CONFIG) {
+    fn new(
+        alloc: Global,
+        files: F,
+        marks: M,
+        upkeep: Upkeep,
+        run: Run<'a>,
+    ) -> Result<Play<'a, F, M>, Refusal> {
+        let (files, marks) = match made(alloc, files, marks, upkeep) {
             Ok(server) => {
                 let came = Came::Answered;
-                return Ok(Play {
-                    server,
-                    refusal,
-                    came,
-                });
+                return Ok(Play { server, run, came });
             }
-            Err((told, files, marks)) if told == refusal => (files, marks),
+            Err((told, files, marks)) if told == run.refusal => (files, marks),
             Err((told, _, _)) => return Err(told),
         };
-        match Server::new(alloc, files, marks, CONFIG) {
+        match made(alloc, files, marks, upkeep) {
             Ok(server) => {
                 let came = Came::AnsweredLater;
-                Ok(Play {
-                    server,
-                    refusal,
-                    came,
-                })
+                Ok(Play { server, run, came })
             }
             Err((told, _, _)) => Err(told),
         }
@@ -316,13 +431,13 @@ impl<F: Files + Drop, M: MarkStore + Drop> Play<F, M> {
     /// the room for the replies.
     fn ask(&mut self, streams: &Streams, room: Vec<u8>) -> Vec<u8> {
         let frames = streams.requests.as_slice();
-        let (mut written, mut left) = served(&mut self.server, self.refusal, frames, room);
+        let (mut written, mut left) = served(&mut self.server, self.run, frames, room);
         if left > 0 && matches!(self.came, Came::Answered) {
             self.came = Came::AnsweredLater;
             let (_, rest) = frames.split_at(frames.len().saturating_sub(left));
-            (written, left) = served(&mut self.server, self.refusal, rest, written);
+            (written, left) = served(&mut self.server, self.run, rest, written);
         }
-        let is_disturbed = !matches!(self.came, Came::Answered);
+        let is_disturbed = !matches!(self.came, Came::Answered) || self.run.watch.between.get();
         if left > 0 || !streams.are_met(&written, is_disturbed) {
             self.came = Came::WrongAnswer;
         }
@@ -333,24 +448,29 @@ impl<F: Files + Drop, M: MarkStore + Drop> Play<F, M> {
 
 /// What comes of the script in memory, of which an allocation may be refused.
 pub fn played(alloc: Global, room: Room) -> Result<Came, Refusal> {
-    let files = MemFiles::new(alloc);
-    played_over(alloc, files, MemMark::new(), Refusal::NoMemory, room)
+    let watch = Watch::new();
+    let run = Run {
+        refusal: Refusal::NoMemory,
+        watch: &watch,
+    };
+    played_over(alloc, MemFiles::new(alloc), MemMark::new(), run, room)
 }
 
-/// What comes of the script, over these files and this mark store, where this refusal may come once.
+/// What comes of the script, over these files and this mark store, if this refusal may come once.
 pub fn played_over<F: Files + Drop, M: MarkStore + Drop>(
     alloc: Global,
     files: F,
     marks: M,
-    refusal: Refusal,
+    run: Run<'_>,
     room: Room,
 ) -> Result<Came, Refusal> {
     let Room {
+        upkeep,
         script,
         columns,
         written,
     } = room;
-    let mut play = Play::new(alloc, files, marks, refusal)?;
+    let mut play = Play::new(alloc, files, marks, upkeep, run)?;
     let written = play.ask(&script, written);
     if !matches!(play.came, Came::WrongAnswer) {
         play.ask(&columns, written);

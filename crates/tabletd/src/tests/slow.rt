@@ -12,7 +12,7 @@ fn widths(bytes: &[u8]) -> Option<(usize, usize)> {
 }
 
 /// The number that `width` bytes at a place make, the highest first.
-fn number_at(bytes: &[u8], at: usize, width: usize) -> Option<usize> {
+pub fn number_at(bytes: &[u8], at: usize, width: usize) -> Option<usize> {
     let (_, rest) = bytes.split_at_checked(at)?;
     let (number, _) = rest.split_at_checked(width)?;
     let mut sum = 0u64;
@@ -23,7 +23,7 @@ fn number_at(bytes: &[u8], at: usize, width: usize) -> Option<usize> {
 }
 
 /// The field of bytes at a place, and the place after it.
-fn field_at(bytes: &[u8], at: usize) -> Option<(&[u8], usize)> {
+pub fn field_at(bytes: &[u8], at: usize) -> Option<(&[u8], usize)> {
     let len = number_at(bytes, at, 4)?;
     let from = at.checked_add(4)?;
     let (_, rest) = bytes.split_at_checked(from)?;

@@ -4,7 +4,7 @@ use crate::FILE_LIMIT;
 use crate::tests::edits::{data_key, edits_of};
 use crate::tests::files::Recorder;
 use crate::tests::memory::files::{merge, refused};
-use crate::tests::slow::{found_at, is_file};
+use crate::tests::slow::found_at;
 use cell_key::{CellKey, Family, Qualifier, Refusal, Row, Stamp};
 use file_store::{Files, MemFiles, read_whole};
 use memtable::Memtable;
@@ -13,35 +13,35 @@ use std::alloc::{AllocError, Global};
 use std::test::Fail;
 
 /// A file of no entries.
-const EMPTY: &[u8] = b"TABLET01\0\0\0\x08\0\0\0\0\0\0\0\0\0\0\0\x20TABLETZZ";
+pub const EMPTY: &[u8] = b"TABLET01\0\0\0\x08\0\0\0\0\0\0\0\0\0\0\0\x20TABLETZZ";
 
 /// A file of one entry, the key (`a`, `bal`, data, 1) with the value `10`.
-const ONE: &[u8] = b"TABLET01\
+pub const ONE: &[u8] = b"TABLET01\
     \0\0\0\x16a\0\0bal\0\0data\0\0\xFF\xFF\xFF\xFF\xFF\xFF\xFF\xFE\x01\0\0\0\x0210\
     \0\0\0\x08\0\0\0\x21\0\0\0\x16a\0\0bal\0\0data\0\0\xFF\xFF\xFF\xFF\xFF\xFF\xFF\xFE\
     \0\0\0\x29\0\0\0\x01\0\0\0\x01\0\0\0\x63TABLETZZ";
 
 /// A file of two entries, at the stamps 2 and 1.
-const TWO: &[u8] = b"TABLET01\
+pub const TWO: &[u8] = b"TABLET01\
     \0\0\0\x16a\0\0bal\0\0data\0\0\xFF\xFF\xFF\xFF\xFF\xFF\xFF\xFD\x01\0\0\0\x0210\
     \0\0\0\x16a\0\0bal\0\0data\0\0\xFF\xFF\xFF\xFF\xFF\xFF\xFF\xFE\x01\0\0\0\x0210\
     \0\0\0\x08\0\0\0\x42\0\0\0\x16a\0\0bal\0\0data\0\0\xFF\xFF\xFF\xFF\xFF\xFF\xFF\xFD\
     \0\0\0\x4A\0\0\0\x01\0\0\0\x02\0\0\0\x84TABLETZZ";
 
 /// The same in format 2, in which files are written: a file of no entries.
-const EMPTY_NEW: &[u8] = b"TABLET02\
+pub const EMPTY_NEW: &[u8] = b"TABLET02\
     \0\0\0\0\0\0\0\x08\0\0\0\0\0\0\0\0\
     \0\0\0\0\0\0\0\0\0\0\0\0\0\0\0\x30TABLETZZ";
 
 /// The one entry in format 2.
-const ONE_NEW: &[u8] = b"TABLET02\
+pub const ONE_NEW: &[u8] = b"TABLET02\
     \0\0\0\x16a\0\0bal\0\0data\0\0\xFF\xFF\xFF\xFF\xFF\xFF\xFF\xFE\x01\0\0\0\x0210\
     \0\0\0\0\0\0\0\x08\0\0\0\0\0\0\0\x21\0\0\0\x16a\0\0bal\0\0data\0\0\xFF\xFF\xFF\xFF\xFF\xFF\xFF\xFE\
     \0\0\0\0\0\0\0\x29\0\0\0\0\0\0\0\x01\
     \0\0\0\0\0\0\0\x01\0\0\0\0\0\0\0\x7BTABLETZZ";
 
 /// The two entries in format 2.
-const TWO_NEW: &[u8] = b"TABLET02\
+pub const TWO_NEW: &[u8] = b"TABLET02\
     \0\0\0\x16a\0\0bal\0\0data\0\0\xFF\xFF\xFF\xFF\xFF\xFF\xFF\xFD\x01\0\0\0\x0210\
     \0\0\0\x16a\0\0bal\0\0data\0\0\xFF\xFF\xFF\xFF\xFF\xFF\xFF\xFE\x01\0\0\0\x0210\
     \0\0\0\0\0\0\0\x08\0\0\0\0\0\0\0\x42\0\0\0\x16a\0\0bal\0\0data\0\0\xFF\xFF\xFF\xFF\xFF\xFF\xFF\xFD\
@@ -97,7 +97,7 @@ fn is_written_as(alloc: Global, bytes: &[u8], again: &[u8]) -> Result<bool, Refu
 }
 
 /// Whether a file of these bytes is refused as damaged.
-fn is_damaged(alloc: Global, bytes: &[u8]) -> bool {
+pub fn is_damaged(alloc: Global, bytes: &[u8]) -> bool {
     let mut files = MemFiles::new(alloc);
     matches!(opened(alloc, &mut files, bytes), Err(Refusal::Damaged))
 }
@@ -163,7 +163,7 @@ fn files_of_literal_bytes(rt: HostRuntime) -> Result<(), Fail> {
 }
 
 /// Puts a byte at a place.
-fn put_at(bytes: &mut [u8], at: usize, byte: u8) {
+pub fn put_at(bytes: &mut [u8], at: usize, byte: u8) {
     if let Some(place) = bytes.get_mut(at) {
         *place = byte;
     }
@@ -198,32 +198,6 @@ fn damaged_files(rt: HostRuntime) -> Result<(), Fail> {
     }
     for (at, byte, damaged) in CHANGES {
         assert!(rt; is_damaged_by(rt.alloc(), at, byte)? == damaged);
-    }
-    Ok(())
-}
-
-/// Whether the slow reader and `open` agree on each change of the byte at a place.
-fn agree_at(alloc: Global, file: &[u8], at: usize) -> Result<bool, Refusal> {
-    let mut bytes = Vec::from_slice(alloc, file)?;
-    for byte in 0..=255 {
-        put_at(&mut bytes, at, byte);
-        if is_file(alloc, &bytes)? == is_damaged(alloc, &bytes) {
-            return Ok(false);
-        }
-    }
-    Ok(true)
-}
-
-#[test]
-fn a_slow_reader_agrees(rt: HostRuntime) -> Result<(), Fail> {
-    for file in [EMPTY, TWO, EMPTY_NEW, TWO_NEW] {
-        assert!(rt; is_file(rt.alloc(), file)?);
-    }
-    for at in 0..99 {
-        assert!(rt; agree_at(rt.alloc(), ONE, at)?);
-    }
-    for at in 0..123 {
-        assert!(rt; agree_at(rt.alloc(), ONE_NEW, at)?);
     }
     Ok(())
 }
