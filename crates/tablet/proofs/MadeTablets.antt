@@ -118,9 +118,6 @@ made_keeps stays (Some m) (Some n) next after t u file count memory es is used o
           ∙ cells m h (subst IsEntryList (written h).lists (written h).opened.list),
     )
 
-pub still_holds : (m : Contents) (t u : Tablet) → IsUnchanged t u → Holds m t → Holds m u
-still_holds m t u same h = record { memory = subst IsEntryList (sym same.memory) h.memory; files = subst (AllByRecursion (IsOpen m)) (sym same.files) h.files }
-
 -- a tablet that is as it was keeps its cells, whether a file of a new name was written or not
 same_keeps : StaysOpen → (m n : Contents) (next after : ℕ) (t u : Tablet) → IsUnchanged t u → OthersStay next m n → after ≡ next + 1 → Holds m t → IsBelow next t → Holds n u × IsBelow after u × (cells_at n u ≡ cells_at m t)
 same_keeps stays m n next after t u same others used h below =
