@@ -127,6 +127,7 @@ impl<F: Files> Cluster<F> {
     {
         others_stay();
         stays_in_range();
+        files_are_there();
         let tablet = self.table.locate(row).tablet;
         let index = self.position(tablet);
         let part = self.tablets[index].cut(row, &mut self.files)?;

@@ -15,6 +15,7 @@ use Rattle.row_atomic.proofs.ListRoom.{appended, listed_has, ready}
 use Rattle.row_atomic.proofs.LeftTablets.{cut_in_two, holder_unchanged}
 use Rattle.row_atomic.proofs.PassedRefusals.{none_answered, not_refused, passed, reason_kept, reason_passed, refused_so}
 use Rattle.row_atomic.proofs.SplitClusters.{holder_emptied, holder_known, matched_cut, parts_keep, stays_over}
+use Rattle.row_atomic.proofs.MovedTablets.{not_there}
 use Rattle.row_atomic.proofs.PlaceCaches.{none_held}
 use Rattle.row_atomic.proofs.cluster.Cluster.cut.Goals as goal
 
@@ -104,7 +105,7 @@ pub returns-in_err-part-clause-undamaged : goal.returns-in_err-part-clause-undam
 returns-in_err-part-clause-undamaged g c =
     let at = rw (← c.self.view_is) at c.position-index.ensures in
     let there = found_there c.self.inside.tablets.items c.position-index.result at.tablet c.index_mut.result.now at.there c.index_mut.ensures.value in
-    rw (← c.self.view_is) (λ order is. in_order ⊥ (g.F.Files.contents c.self.inside.files) c.self.inside.next_name c.self.inside.tablets.items c.position-index.result c.index_mut.result.now there order (IfSome_then (g.F.Files.contents c.self.inside.files) (c.in_err-part.ensures.damaged (passed c.from_residual.result c.in_err-part.field-0.0 _ c.from_residual.ensures.1 is)) (λ m closed h below. closed h)))
+    rw (← c.self.view_is) (λ order is. in_order ⊥ (g.F.Files.contents c.self.inside.files) c.self.inside.next_name c.self.inside.tablets.items c.position-index.result c.index_mut.result.now there order (IfSome_then (g.F.Files.contents c.self.inside.files) (not_there c.files_are_there.ensures (g.F.Files.contents c.self.inside.files) (names_of c.index_mut.result.now) c.index_mut.result.now refl (c.in_err-part.ensures.damaged (passed c.from_residual.result c.in_err-part.field-0.0 _ c.from_residual.ensures.1 is))) (λ m closed h below. closed h)))
 
 pub returns-in_err-part-clause-refusal : goal.returns-in_err-part-clause-refusal
 returns-in_err-part-clause-refusal g c = refused_so c.from_residual.result c.in_err-part.field-0.0 IsReadRefusal c.from_residual.ensures.1 c.in_err-part.ensures.refusal
