@@ -19,7 +19,7 @@ equal Less e = cc
 equal Equal e = refl
 equal Greater e = cc
 
-one_text : (x y : List ℕ) → eq_by_cmp byte_cmp x y ≡ true → x ≡ y
+pub one_text : (x y : List ℕ) → eq_by_cmp byte_cmp x y ≡ true → x ≡ y
 one_text x y e = slice_cmp-IsAntisymmetric nat_cmp-IsAntisymmetric x y (equal (byte_cmp x y) e)
 
 module _ (bounds : ColumnBounds) (key : CellKey) (stored : IsStored key) (out : ¬ (IsWithin (column_bounds bounds key.qualifier) key.row key.stamp)) where

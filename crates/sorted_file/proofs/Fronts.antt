@@ -25,7 +25,7 @@ text_length key s = ap length (in_parts key s) ∙ length-append (front key) (st
 pub one_length : (key : CellKey) (s t : ℕ) → length (text (at_stamp key s)) ≡ length (text (at_stamp key t))
 one_length key s t = text_length key s ∙ sym (text_length key t)
 
-before : (key : CellKey) (s : ℕ) → take (length (text (at_stamp key s)) - 8) (text (at_stamp key s)) ≡ front key
+pub before : (key : CellKey) (s : ℕ) → take (length (text (at_stamp key s)) - 8) (text (at_stamp key s)) ≡ front key
 before key s =
     let l = text_length key s in
     let n : length (text (at_stamp key s)) - 8 ≡ length (front key) = omega (arith, l) in

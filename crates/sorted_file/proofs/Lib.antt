@@ -10,6 +10,7 @@ mod Joining
 mod Keeping
 mod LookUps
 mod NextBlocks
+mod Numbered
 mod OpenBlocks
 mod OpenFiles
 mod Places

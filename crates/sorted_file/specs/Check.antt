@@ -8,6 +8,7 @@ use Rattle.sorted_file.specs.Index.{IsFirstText, blocks_of, entries_in, AreRows,
 use Rattle.sorted_file.specs.Grammar.{body, foot_len, head, index, most, number_bytes, IsFullBlock, AreBlocks, IsFile}
 use Rattle.sorted_file.specs.Block.{entries_of}
 use Rattle.sorted_file.specs.Bounds.{IsBounded}
+use Rattle.sorted_file.specs.Numbers.{IsNumbered}
 use Rattle.sorted_file.specs.declared.format.RowRef.{RowRef}
 use Rattle.sorted_file.specs.declared.format.Format.{Format}
 use Rattle.sorted_file.specs.declared.check.Opening.{Opening}
@@ -50,6 +51,7 @@ pub record IsOpening (o : Opening) : Type 0 where
   pub heads : texts_of o.heads.items ≡ map row_head o.rows.items
   pub bounds : AllByRecursion (IsBounded o.bounds) (entries_in (blocks_of o.rows.items))
   pub bounded : AllByRecursion IsBoundedRow o.rows.items
+  pub numbered : AllByRecursion (IsNumbered o.numbers.items) (entries_in (blocks_of o.rows.items))
   pub counted : o.count ≡ length (entries_in (blocks_of o.rows.items))
   pub last : IsLastOf (blocks_of o.rows.items) (entries_of o.last.items)
   pub reached : o.end ≡ 8 + length (body (blocks_of o.rows.items))

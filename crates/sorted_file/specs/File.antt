@@ -3,6 +3,7 @@ use Rattle.std.specs.Prelude.{◌≡◌, ℕ, nat_eq, List, Some, None, slice_ge
 use Rattle.std.specs.Map.{lookup}
 use Rattle.std.specs.FinMap as map
 use Rattle.std.specs.List.{AllByRecursion}
+use Rattle.std.specs.List.Sorted.{IsNonDecreasing}
 use Rattle.std.specs.declared.vec.Vec.{Vec}
 use Rattle.cell_key.specs.Entries.{Entry, IsEntryList, entry_of_key}
 use Rattle.file_store.specs.Store.{Contents, part}
@@ -11,6 +12,7 @@ use Rattle.sorted_file.specs.Index.{block_of, blocks_of, entries_in, row_head, t
 use Rattle.sorted_file.specs.Block.{IsParsed, BeginsWith}
 use Rattle.sorted_file.specs.Grammar.{block_bytes, IsFile}
 use Rattle.sorted_file.specs.Bounds.{IsBounded}
+use Rattle.sorted_file.specs.Numbers.{IsNumbered}
 use Rattle.sorted_file.specs.declared.block.BlockRow.{BlockRow}
 use Rattle.sorted_file.specs.declared.block.Block.{Block}
 use Rattle.sorted_file.specs.declared.format.Format.{Format}
@@ -48,6 +50,8 @@ pub record IsOpen (m : Contents) (file : SortedFile) : Type 0 where
   pub list : IsEntryList (listed m file)
   pub bounds : AllByRecursion (IsBounded file.bounds) (listed m file)
   pub bounded : AllByRecursion IsBoundedRow file.rows.items
+  pub numbered : AllByRecursion (IsNumbered file.numbers.items) (listed m file)
+  pub rising : IsNonDecreasing file.numbers.items
   pub heads : texts_of file.heads.items ≡ map row_head file.rows.items
   pub skips : file.skips.items ≡ skips file.heads.items
   pub counted : file.count ≡ length (listed m file)

@@ -9,5 +9,6 @@ pub mod File
 pub mod Index
 pub mod Limits
 pub mod Newest
+pub mod Numbers
 pub use Rattle.cell_key.specs.Entries
 pub use Rattle.file_store.specs.Store

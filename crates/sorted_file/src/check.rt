@@ -18,6 +18,7 @@ use crate::entry::{FileEntry, read_block, rises_on};
 use crate::format::{
     Format, HEAD, LONGEST_BLOCK, RowRef, format_of, index_offset, is_same, push_foot, read_row,
 };
+use crate::numbers::push_numbers;
 use crate::source::{read_part, refusal_of};
 use cell_key::Refusal;
 use file_store::Files;
@@ -140,6 +141,8 @@ pub(crate) struct Opening {
     pub(crate) heads: Vec<Option<Vec<u8>>>,
     /// The bounds of the values.
     pub(crate) bounds: ColumnBounds,
+    /// A number of each column that has an entry.
+    pub(crate) numbers: Vec<u64>,
     /// How many entries there are.
     pub(crate) count: u64,
     /// The entries of the last block.
@@ -167,6 +170,7 @@ impl Opening {
             rows: Vec::new(alloc),
             heads: Vec::new(alloc),
             bounds: ColumnBounds::NONE,
+            numbers: Vec::new(alloc),
             count: 0,
             last: Vec::new(alloc),
             end: HEAD,
@@ -252,6 +256,7 @@ impl Opening {
         let first = Vec::from_slice(self.alloc, row.first)?;
         let head = head_of(self.alloc, &block)?;
         let bounds = bounds_of(self.alloc, &block)?;
+        push_numbers(&mut self.numbers, &block)?;
         let was = Snapshot::of(&block);
         self.rows.push(BlockRow {
             offset: row.offset,

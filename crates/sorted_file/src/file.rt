@@ -1,6 +1,6 @@
 //! A file of entries that is open for reading.
 
-ghost use Rattle.std.specs.Prelude.{◌≡◌, ◌≤◌, ◌<◌, ◌-◌, List, ℕ, drop, Option, Some, None, true, false, length, slice_get, option_map, IfOk, IfErr, IfSome, IsErrOf};
+ghost use Rattle.std.specs.Prelude.{◌≡◌, ◌≤◌, ◌<◌, ◌-◌, List, ℕ, drop, Option, Some, None, true, false, length, slice_get, option_map, IfOk, IfErr, IfSome, IsErrOf, Contains};
 ghost use Rattle.cell_key.specs.Entries.{Entry, entry_of_key, entries_from};
 ghost use Rattle.cell_key.specs.Faults.{HasReason};
 ghost use Rattle.cell_key.specs.Keys.{text};
@@ -16,6 +16,7 @@ use crate::bounds::{ColumnBounds, next_head, skips_of, stamp_in};
 use crate::cache::{keep, no_blocks, promote};
 use crate::check::{Opening, read_file};
 use crate::cursor::FileCursor;
+use crate::numbers::{column_number, has_number, sorted};
 use crate::source::read_part;
 use cell_key::{CellKey, Qualifier, Refusal, Stamp};
 use file_store::Files;
@@ -36,6 +37,8 @@ pub struct SortedFile {
     /// How many entries there are.
     count: u64,
     bounds: ColumnBounds,
+    /// A number of each column that has an entry, in rising order.
+    numbers: Vec<u64>,
     /// The blocks that were looked into last, by their numbers.
     cache: LruCache<usize, Block>,
 }
@@ -44,6 +47,7 @@ impl SortedFile {
     ghost use Rattle.sorted_file.specs.Cursor.{cursor_lent, cursor_remaining, CursorHolds};
     ghost use Rattle.sorted_file.specs.Newest.{IsFirstIn, IsNewestStamp};
     ghost use Rattle.sorted_file.specs.Bounds.{column_bounds, HasNoValue, IsWithin};
+    ghost use Rattle.sorted_file.specs.Numbers.{number_of, HasNoEntry};
     ghost use Rattle.sorted_file.specs.File.{HasFile, IsFoundNow, IsOpen, IsReadFrom, IsReadNow, IsSameFile, KeepsWhatItRead, listed, name_of};
 
     /// Opens a file. Answers `Damaged` if it isn't there or is the file of no entry list, `Device`
@@ -62,6 +66,7 @@ impl SortedFile {
             heads,
             count,
             bounds,
+            numbers,
             ..
         } = read_file(alloc, name, files)?;
         let skips = skips_of(alloc, &heads)?;
@@ -74,6 +79,7 @@ impl SortedFile {
             skips,
             count,
             bounds,
+            numbers: sorted(numbers),
             cache,
         })
     }
@@ -99,6 +105,29 @@ impl SortedFile {
             → HasNoValue qualifier lo hi (listed m self.now) }
     {
         self.bounds.meet(qualifier, lo, hi)
+    }
+
+    /// Whether the column of the key with this text may have an entry.
+    fn may_have_text(&self, text: &[u8]) -> bool
+        ensures { result ≡ false → (m : Contents) → IsOpen m self.now
+            → ¬ Contains self.now.numbers.items (number_of text.now) }
+    {
+        has_number(&self.numbers, column_number(text))
+    }
+
+    /// Whether the file may have an entry of the key's column, a value or an erasure, at any stamp. Reads nothing.
+    ///
+    /// # Errors
+    ///
+    /// `NoMemory`.
+    pub fn may_have_column(&self, key: &CellKey) -> Result<bool, Refusal>
+        ensures none { IfOk result (λ may. may ≡ false → (m : Contents) → IsOpen m self.now
+            → HasNoEntry key.now (listed m self.now)) }
+        ensures refusal { IfErr result (λ refusal. refusal ≡ Refusal.NoMemory) }
+    {
+        let mut text = Vec::new(self.alloc);
+        key.encode(&mut text)?;
+        Ok(self.may_have_text(&text))
     }
 
     /// What the file has of a key: a value, of at most 65,536 bytes, `Some(None)` if it is an erasure, and
@@ -236,6 +265,9 @@ impl SortedFile {
         let most = key.stamp;
         let mut sought = Vec::new(self.alloc);
         key.encode(&mut sought)?;
+        if !self.may_have_text(&sought) {
+            return Ok(None);
+        }
         let Some(text) = self.first_text(key, lo, &sought, files)? else {
             return Ok(None);
         };

@@ -11,6 +11,7 @@ mod entry;
 mod file;
 mod format;
 mod laws;
+mod numbers;
 mod source;
 mod writer;
 

@@ -1,15 +1,17 @@
-use Rattle.std.proofs.Common.{◌++◌, inl, inr, List, ℕ, Some, None, sym, ap, subst, ◌∙◌, arith}
+use Rattle.std.proofs.Common.{◌++◌, Contains, inl, inr, List, ℕ, Some, None, sym, ap, subst, ◌∙◌, arith}
 use Rattle.std.specs.Global.{Vec}
 use Rattle.std.specs.Prelude.{option_map}
 use Rattle.file_store.specs.Store.{Contents}
 use Rattle.cell_key.specs.Keys.{text, IsKey}
-use Rattle.cell_key.specs.Entries.{entries_from}
+use Rattle.cell_key.specs.Entries.{entries_from, value_of}
 use Rattle.sorted_file.specs.Newest.{at_stamp, IsFirstIn}
+use Rattle.sorted_file.specs.Numbers.{number_of}
 use Rattle.sorted_file.specs.Block.{first_value}
 use Rattle.sorted_file.specs.File.{IsOpen, listed}
 use Rattle.sorted_file.proofs.OpenBlocks.{none_of, some_of}
 use Rattle.sorted_file.proofs.Results.{as_some, if_some}
 use Rattle.sorted_file.proofs.Bounded.{no_value}
+use Rattle.sorted_file.proofs.Numbered.{no_entry}
 use Rattle.sorted_file.proofs.Stamps.{IsFirstValue, stamp_found, stamp_none, stamp_other, stamp_outside, tells}
 use Rattle.sorted_file.proofs.file.SortedFile.newest_stamp.Goals.{then-stamp-lo-via-then-stamp-lo, then-stamp-lo-via-else-stamp-lo+then-most-stamp}
 use Rattle.sorted_file.proofs.file.SortedFile.newest_stamp.Goals as goal
@@ -18,6 +20,14 @@ pub returns-then-not-meet_column-clause-found : goal.returns-then-not-meet_colum
 returns-then-not-meet_column-clause-found g c =
     as_some (g.F.Files.contents c.args.files.now) _ (λ m o s low high stored.
     no_value c.args.self.now.bounds (at_stamp c.args.key.now s) stored (c.meet_column.ensures c.if-not-meet_column.true s low high) _ o.bounds)
+
+pub returns-then-not-may_have_text-clause-found : goal.returns-then-not-may_have_text-clause-found
+returns-then-not-may_have_text-clause-found g c =
+    as_some (g.F.Files.contents c.args.files.now) _ (λ m o s low high stored.
+    let asked = c.deref.ensures.value ∙ c.in_ok-encode.ensures.ok ∙ ap (λ (xs : List ℕ). xs ++ text c.args.key.now) c.new-sought.ensures.items in
+    let numbers = c.args.self.now.numbers.items in
+    let out = subst (λ (t : List ℕ). ¬ (Contains numbers (number_of t))) asked (c.may_have_text.ensures c.if-not-may_have_text.true m o) in
+    ap value_of (no_entry numbers c.args.key.now out _ o.numbered s))
 
 pub returns-in_default-clause-found : goal.returns-in_default-clause-found
 returns-in_default-clause-found g c =
@@ -39,7 +49,7 @@ returns-in_default-stamp_in-clause-found g c =
     let is_key : IsKey c.args.key.now = record { row = c.as_bytes-row.ensures.valid; family = c.as_bytes-family.ensures.valid; stamp = omega arith } in
     let x = some_of (first_value (entries_from (text c.args.key.now) es)) c.in-Some.text.items (ap (option_map (λ (v : Vec ℕ). v.items)) (sym c.in-Some.is) ∙ f.first) in
     let first = subst (IsFirstValue (text c.args.key.now) es) x.is (tells (text c.args.key.now) es f.list.rising) in
-    f.same is_key None (stamp_other c.args.key.now c.as_bytes-row.ensures.valid c.as_bytes-family.ensures.valid (omega arith) es f.list c.args.lo x.entry first (λ s e. (rw c.in_default-stamp_in.is at c.stamp_in.ensures.none) c.args.key.now (c.deref-2.ensures.value ∙ sought) s (c.deref-3.ensures.value ∙ sym x.named ∙ e))))
+    f.same is_key None (stamp_other c.args.key.now c.as_bytes-row.ensures.valid c.as_bytes-family.ensures.valid (omega arith) es f.list c.args.lo x.entry first (λ s e. (rw c.in_default-stamp_in.is at c.stamp_in.ensures.none) c.args.key.now (c.deref-3.ensures.value ∙ sought) s (c.deref-4.ensures.value ∙ sym x.named ∙ e))))
     c.in_ok-text.ensures.found
 
 pub returns-then-stamp-lo-clause-found : goal.returns-then-stamp-lo-clause-found
@@ -51,7 +61,7 @@ returns-then-stamp-lo-clause-found g c =
     let is_key : IsKey c.args.key.now = record { row = c.as_bytes-row.ensures.valid; family = c.as_bytes-family.ensures.valid; stamp = omega arith } in
     let x = some_of (first_value (entries_from (text c.args.key.now) es)) c.in-Some.text.items (ap (option_map (λ (v : Vec ℕ). v.items)) (sym c.in-Some.is) ∙ f.first) in
     let first = subst (IsFirstValue (text c.args.key.now) es) x.is (tells (text c.args.key.now) es f.list.rising) in
-    f.same is_key None (stamp_outside c.args.key.now c.as_bytes-row.ensures.valid c.as_bytes-family.ensures.valid (omega arith) es f.list c.args.lo x.entry first c.in-Some-stamp_in.stamp c.in-Some-stamp_in.ensures.small (x.named ∙ sym c.deref-3.ensures.value ∙ c.in-Some-stamp_in.ensures.some c.args.key.now (c.deref-2.ensures.value ∙ sought))
+    f.same is_key None (stamp_outside c.args.key.now c.as_bytes-row.ensures.valid c.as_bytes-family.ensures.valid (omega arith) es f.list c.args.lo x.entry first c.in-Some-stamp_in.stamp c.in-Some-stamp_in.ensures.small (x.named ∙ sym c.deref-4.ensures.value ∙ c.in-Some-stamp_in.ensures.some c.args.key.now (c.deref-3.ensures.value ∙ sought))
     (elim c.then-stamp-lo.branch [
       | then-stamp-lo-via-then-stamp-lo w ↦ inl w.if-stamp-lo.true
       | then-stamp-lo-via-else-stamp-lo+then-most-stamp w ↦ inr w.if-most-stamp.true
@@ -67,5 +77,5 @@ returns-clause-found g c =
     let is_key : IsKey c.args.key.now = record { row = c.as_bytes-row.ensures.valid; family = c.as_bytes-family.ensures.valid; stamp = omega arith } in
     let x = some_of (first_value (entries_from (text c.args.key.now) es)) c.in-Some.text.items (ap (option_map (λ (v : Vec ℕ). v.items)) (sym c.in-Some.is) ∙ f.first) in
     let first = subst (IsFirstValue (text c.args.key.now) es) x.is (tells (text c.args.key.now) es f.list.rising) in
-    f.same is_key (Some c.in-Some-stamp_in.stamp) (stamp_found c.args.key.now c.as_bytes-row.ensures.valid c.as_bytes-family.ensures.valid (omega arith) es f.list c.args.lo x.entry first c.in-Some-stamp_in.stamp c.in-Some-stamp_in.ensures.small (x.named ∙ sym c.deref-3.ensures.value ∙ c.in-Some-stamp_in.ensures.some c.args.key.now (c.deref-2.ensures.value ∙ sought)) c.if-stamp-lo.false))
+    f.same is_key (Some c.in-Some-stamp_in.stamp) (stamp_found c.args.key.now c.as_bytes-row.ensures.valid c.as_bytes-family.ensures.valid (omega arith) es f.list c.args.lo x.entry first c.in-Some-stamp_in.stamp c.in-Some-stamp_in.ensures.small (x.named ∙ sym c.deref-4.ensures.value ∙ c.in-Some-stamp_in.ensures.some c.args.key.now (c.deref-3.ensures.value ∙ sought)) c.if-stamp-lo.false))
     c.in_ok-text.ensures.found

@@ -2,6 +2,7 @@ use Rattle.std.proofs.Common.{List, ℕ, Option, ap, ◌∙◌}
 use Rattle.std.specs.Global.{Vec}
 use Rattle.sorted_file.specs.Index.{skips}
 use Rattle.sorted_file.proofs.Keeping.{none_kept}
+use Rattle.sorted_file.proofs.Numbered.{numbered_on}
 use Rattle.sorted_file.proofs.Results.{if_some}
 use Rattle.sorted_file.proofs.file.SortedFile.open.Goals as goal
 
@@ -13,6 +14,8 @@ returns-clause-opened g c =
       list = o.list;
       bounds = o.bounds;
       bounded = o.bounded;
+      numbered = numbered_on _ _ c.sorted.ensures.keeps _ o.numbered;
+      rising = c.sorted.ensures.rising;
       heads = o.heads;
       skips = c.in_ok-skips.ensures.skips ∙ ap (λ (l : List (Option (Vec ℕ))). skips l) c.deref.ensures.value;
       counted = o.counted;

@@ -1,0 +1,32 @@
+-- A column whose number isn't among those of entries has none of them.
+use Rattle.std.proofs.Common.{◌≡◌, ◌<◌, ℕ, Bool, true, false, cond, List, [], ◌∷◌, length, Contains, Option, Some, None, refl, sym, ap, subst, ◌∙◌, arith}
+use Rattle.std.specs.List.{AllByRecursion}
+use Rattle.std.specs.Ordering.{eq_by_cmp}
+use Rattle.std.specs.FinMap.Entries.{find}
+use Rattle.std.specs.Hash.FoldHasher as folding
+use Rattle.cell_key.specs.Keys.{byte_cmp, text}
+use Rattle.cell_key.specs.Entries.{Entry, entry_of_key}
+use Rattle.cell_key.specs.declared.keys.CellKey.{CellKey}
+use Rattle.sorted_file.specs.Newest.{at_stamp}
+use Rattle.sorted_file.specs.Numbers.{number_of, HasNoEntry, IsAmong, IsNumbered}
+use Rattle.sorted_file.proofs.Bounded.{one_text}
+use Rattle.sorted_file.proofs.Fronts.{before}
+
+one_number : (key : CellKey) (s : ℕ) → number_of (text (at_stamp key s)) ≡ number_of (text key)
+one_number key s = ap (λ (column : List ℕ). folding.finish (folding.write folding.initial column)) (before key s ∙ sym (before key key.stamp))
+
+module _ (numbers name : List ℕ) (out : ¬ Contains numbers (number_of name)) where
+  none_here : (es : List Entry) → AllByRecursion (IsNumbered numbers) es → entry_of_key es name ≡ None
+  none_here [] all = refl
+  none_here ((n, v) ∷ es) all = go (none_here es all.1) (eq_by_cmp byte_cmp name n) refl
+    where
+      go : entry_of_key es name ≡ None → (b : Bool) → eq_by_cmp byte_cmp name n ≡ b → cond b (Some v) (find byte_cmp name es) ≡ None
+      go more true e = absurd (out (subst (λ (t : List ℕ). Contains numbers (number_of t)) (sym (one_text name n e)) all.0))
+      go more false e = more
+
+pub no_entry : (numbers : List ℕ) (key : CellKey) → ¬ Contains numbers (number_of (text key)) → (es : List Entry) → AllByRecursion (IsNumbered numbers) es → HasNoEntry key es
+no_entry numbers key out es all s = none_here numbers (text (at_stamp key s)) (λ there. out (subst (λ (n : ℕ). Contains numbers n) (one_number key s) there)) es all
+
+pub numbered_on : (old new : List ℕ) → IsAmong old new → (es : List Entry) → AllByRecursion (IsNumbered old) es → AllByRecursion (IsNumbered new) es
+numbered_on old new keeps [] all = tt
+numbered_on old new keeps (e ∷ es) all = (keeps (number_of e.0) all.0, numbered_on old new keeps es all.1)

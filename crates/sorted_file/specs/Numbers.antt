@@ -1,0 +1,27 @@
+-- The numbers of the columns of which there are entries.
+use Rattle.std.specs.Prelude.{◌≡◌, ◌-◌, ℕ, List, length, take, Contains, None}
+use Rattle.std.specs.Hash.FoldHasher as folding
+use Rattle.cell_key.specs.Keys.{text}
+use Rattle.cell_key.specs.Entries.{Entry, entry_of_key}
+use Rattle.cell_key.specs.declared.keys.CellKey.{CellKey}
+use Rattle.sorted_file.specs.Newest.{at_stamp}
+
+-- a key's text without its stamp, which is the text of the key's column
+abbrev pub column_of : List ℕ → List ℕ
+column_of name = take (length name - 8) name
+
+-- the number of the column of a key with this text: keys of one column have one number
+abbrev pub number_of : List ℕ → ℕ
+number_of name = folding.finish (folding.write folding.initial (column_of name))
+
+-- the number of an entry's column is among these
+abbrev pub IsNumbered : List ℕ → Entry → Type 0
+IsNumbered numbers entry = Contains numbers (number_of entry.0)
+
+-- each of the first numbers is among the second
+abbrev pub IsAmong : List ℕ → List ℕ → Type 0
+IsAmong old new = (number : ℕ) → Contains old number → Contains new number
+
+-- entries have none of a key's column, neither a value nor an erasure
+abbrev pub HasNoEntry : CellKey → List Entry → Type 0
+HasNoEntry key es = (stamp : ℕ) → entry_of_key es (text (at_stamp key stamp)) ≡ None
