@@ -4,7 +4,7 @@ ghost use Rattle.std.specs.Prelude.{◌≡◌, ℕ, ◌⊎◌, ◌≤◌, ◌<�
 ghost use Rattle.std.specs.Option.{option_copied};
 ghost use Rattle.std.specs.List.{AllByRecursion, AllZip};
 ghost use Rattle.cell_key.specs.Cells.{version};
-ghost use Rattle.cell_key.specs.Entries.{first_naming, value_of};
+ghost use Rattle.cell_key.specs.Entries.{entry_of_key, first_naming, value_of};
 ghost use Rattle.cell_key.specs.Faults.{HasReason};
 ghost use Rattle.cell_key.specs.Keys.{text};
 ghost use Rattle.cell_key.specs.Names.{IsRow, IsFamily};
@@ -104,6 +104,28 @@ pub(crate) fn newest_stamp<F: Files>(
     Ok(found)
 }
 
+/// What a file has of a key. No block is read if the file has no entry of the key's column. The file stays what it was.
+fn find_in_file<F: Files>(
+    file: &mut SortedFile,
+    key: &CellKey,
+    store: &mut F,
+) -> Result<Option<Option<Vec<u8>>>, Refusal>
+    ensures found { IfOk result (λ found. IfSome (F.contents store.old) (λ m. IsOpen m file.old
+        → option_map value_bytes found ≡ entry_of_key (listed m file.old) (text key.now))) }
+    ensures short { IfOk result (λ found. IfSome found IsShortValue) }
+    ensures stays { IsSameFile (F.contents store.old) file.old file.new }
+    ensures damaged { IsErrOf result Refusal.Damaged
+        → IfSome (F.contents store.old) (λ m. ¬ IsOpen m file.old) }
+    ensures refusal { IfErr result IsReadRefusal }
+    ensures same { F.contents store.new ≡ F.contents store.old }
+    ensures reason { HasReason (F.faults store.old) (F.faults store.new) result }
+{
+    if !file.may_have_column(key)? {
+        return Ok(None);
+    }
+    file.lookup(key, store)
+}
+
 /// What the first of some files that names a key has of it. The files stay what they were.
 fn find_in_files<F: Files>(
     files: &mut [SortedFile],
@@ -122,7 +144,7 @@ fn find_in_files<F: Files>(
     ensures reason { HasReason (F.faults store.old) (F.faults store.new) result }
 {
     for file in files.iter_mut() {
-        if let Some(value) = file.lookup(key, store)? {
+        if let Some(value) = find_in_file(file, key, store)? {
             return Ok(Some(value));
         }
     }

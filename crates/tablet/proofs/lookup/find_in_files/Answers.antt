@@ -16,16 +16,16 @@ loop-file-preserved g c =
     let now = g.F.Files.contents c.loop-file.store in
     let below : c.loop-file.file-index < length c.loop-file.files = omega arith in
     record {
-      same = c.lookup.ensures.same ∙ c.loop-file.invariant.same;
+      same = c.find_in_file.ensures.same ∙ c.loop-file.invariant.same;
       quiet = c.in_ok-value.ensures.reason.told (not_err _ Device) ∙ c.loop-file.invariant.quiet;
-      stay = same_set told now c.loop-file.invariant.same c.args.files.now c.loop-file.files c.loop-file.file-index c.file-item.result below c.loop-file.invariant.stay c.lookup.new.self c.lookup.ensures.stays;
+      stay = same_set told now c.loop-file.invariant.same c.args.files.now c.loop-file.files c.loop-file.file-index c.file-item.result below c.loop-file.invariant.stay c.find_in_file.new.file c.find_in_file.ensures.stays;
       told = none_here told now c.loop-file.invariant.same c.args.files.now c.loop-file.files c.loop-file.file-index c.file-item.result below c.loop-file.invariant.stay (text c.args.key.now) c.loop-file.invariant.told (rw c.in_default.is at c.in_ok-value.ensures.found);
     }
 
 pub returns-in_err-value-clause-stay : goal.returns-in_err-value-clause-stay
 returns-in_err-value-clause-stay g c =
     let below : c.loop-file.file-index < length c.loop-file.files = omega arith in
-    same_set (g.F.Files.contents c.args.store.now) (g.F.Files.contents c.loop-file.store) c.loop-file.invariant.same c.args.files.now c.loop-file.files c.loop-file.file-index c.file-item.result below c.loop-file.invariant.stay c.lookup.new.self c.lookup.ensures.stays
+    same_set (g.F.Files.contents c.args.store.now) (g.F.Files.contents c.loop-file.store) c.loop-file.invariant.same c.args.files.now c.loop-file.files c.loop-file.file-index c.file-item.result below c.loop-file.invariant.stay c.find_in_file.new.file c.find_in_file.ensures.stays
 
 pub returns-in_err-value-clause-damaged : goal.returns-in_err-value-clause-damaged
 returns-in_err-value-clause-damaged g c = λ is.
@@ -42,4 +42,4 @@ returns-in-Some-clause-found g c =
 pub returns-in-Some-clause-stay : goal.returns-in-Some-clause-stay
 returns-in-Some-clause-stay g c =
     let below : c.loop-file.file-index < length c.loop-file.files = omega arith in
-    same_set (g.F.Files.contents c.args.store.now) (g.F.Files.contents c.loop-file.store) c.loop-file.invariant.same c.args.files.now c.loop-file.files c.loop-file.file-index c.file-item.result below c.loop-file.invariant.stay c.lookup.new.self c.lookup.ensures.stays
+    same_set (g.F.Files.contents c.args.store.now) (g.F.Files.contents c.loop-file.store) c.loop-file.invariant.same c.args.files.now c.loop-file.files c.loop-file.file-index c.file-item.result below c.loop-file.invariant.stay c.find_in_file.new.file c.find_in_file.ensures.stays
