@@ -18,6 +18,7 @@ pub mod Limits
 pub mod ListRoom
 pub mod ListedFiles
 pub mod LoadedTablets
+pub mod Memtables
 pub mod MovedTablets
 pub mod Nexts
 pub mod Numbers

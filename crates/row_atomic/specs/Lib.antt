@@ -6,6 +6,7 @@ pub mod Compactions
 pub mod Flushes
 pub mod Laws
 pub mod ListRoom
+pub mod Memtables
 pub mod Oldest
 pub mod Open
 pub mod PlaceCaches

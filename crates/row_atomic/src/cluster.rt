@@ -39,11 +39,14 @@ pub struct Cluster<F> {
     pub(crate) next_name: u64,
     pub(crate) table: MetadataTable,
     pub(crate) tablets: Vec<Tablet>,
+    /// No tablet's memtable has more entries. While it is below a flush number, no tablet has to be asked.
+    pub(crate) most_entries: usize,
     pub(crate) place_cache: PlaceCache,
 }
 
 impl<F> Model for Cluster<F> {
     ghost use Rattle.row_atomic.specs.Clusters.{ClusterState, IsMatched};
+    ghost use Rattle.row_atomic.specs.Memtables.{HaveAtMost};
     ghost use Rattle.row_atomic.specs.PlaceCaches.{AreHeld};
 
     ghost Value = { ClusterState F };
@@ -59,7 +62,8 @@ impl<F> Model for Cluster<F> {
 
     ghost invariant = { λ cluster.
         IsMatched cluster.file_limit cluster.next_name cluster.table cluster.tablets.items
-        × AreHeld cluster.table cluster.place_cache.numbers.entries };
+        × AreHeld cluster.table cluster.place_cache.numbers.entries
+        × HaveAtMost cluster.most_entries cluster.tablets.items };
 }
 
 /// The table of a new store, and its one tablet.
@@ -108,6 +112,7 @@ impl<F: Files> Cluster<F> {
                 next_name: 1,
                 table,
                 tablets,
+                most_entries: 0,
                 place_cache,
             }),
             Err(refusal) => Err((refusal, files)),
@@ -134,6 +139,7 @@ impl<F: Files> Cluster<F> {
             next_name: _,
             table: _,
             tablets: _,
+            most_entries: _,
             place_cache: _,
         } = self;
         files

@@ -196,6 +196,7 @@ impl<F: Files> Cluster<F> {
                     next_name: root.next_name,
                     table: root.table,
                     tablets,
+                    most_entries: 0,
                     place_cache,
                 },
                 root.top,

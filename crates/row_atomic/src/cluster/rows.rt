@@ -95,7 +95,9 @@ impl<F: Files> Rows for Cluster<F> {
     fn apply(&mut self, row: &Row, edits: Vec<Edit>) -> Result<(), Refusal> {
         stays_in_range();
         let index = index_of(&self.table, &mut self.place_cache, row);
-        self.tablets[index].apply(row, edits)
+        let done = self.tablets[index].apply(row, edits);
+        self.most_entries = self.most_entries.max(self.tablets[index].len());
+        done
     }
 
     fn faults(&self) -> u64 {

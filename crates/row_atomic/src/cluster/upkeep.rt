@@ -1,16 +1,31 @@
 //! Upkeep of tablets: minor compactions of those whose memtables have many entries, and merging compactions of those
 //! that have many files.
 
-ghost use Rattle.std.specs.Prelude.{◌≡◌, ◌≤◌, ◌<◌, Some, true, length, nat_le};
+ghost use Rattle.std.specs.Prelude.{◌≡◌, ◌≤◌, ◌<◌, Some, IsTrue, true, length, nat_le};
 ghost use Rattle.std.specs.List.{list_any, slice_get};
 ghost use Rattle.tablet.specs.Views.{memory_of};
 ghost use Rattle.metadata_table.specs.Table.{HasTablet};
 ghost use Rattle.row_atomic.specs.Changes.{Numbered};
 ghost use Rattle.row_atomic.specs.Clusters.{tablet_numbered};
+ghost use Rattle.row_atomic.specs.Memtables.{is_any_full, longest};
 ghost use Rattle.row_atomic.specs.Flushes.{CompactsFull, KeepsShown, LeavesFew, MergesMany, has_entries, has_files, numbers_of};
 
 use crate::cluster::Cluster;
 use file_store::Files;
+use tablet::Tablet;
+
+/// How many entries the longest memtable of these tablets has.
+fn longest(tablets: &[Tablet]) -> usize
+    ensures { result ≡ longest tablets.now }
+{
+    let mut most = 0;
+    let mut rest = tablets;
+    'tablets: while let Some((tablet, after)) = rest.split_first() {
+        most = most.max(tablet.len());
+        rest = after;
+    }
+    most
+}
 
 impl<F: Files> Cluster<F> {
     /// The number of the tablet at an index in the order of the tablets' ends.
@@ -22,14 +37,23 @@ impl<F: Files> Cluster<F> {
         self.table.places()[index].tablet
     }
 
+    /// Whether some tablet's memtable may have `flush` entries or more: if not, none has. Asks no tablet.
+    fn may_have_full(&self, flush: u32) -> bool
+        ensures { IsTrue (is_any_full flush self.now.tablets) → IsTrue result }
+    {
+        self.most_entries >= flush as usize
+    }
+
     /// Whether some tablet's memtable has `flush` entries or more, erasures among them, so that `compact_full` compacts
-    /// it. Takes no memory.
+    /// it. No tablet is asked if none can have as many. Takes no memory.
     pub fn has_full(&self, flush: u32) -> bool
         ensures { result ≡ list_any (λ t. nat_le flush (length (memory_of t))) self.now.tablets }
     {
-        self.tablets
-            .iter()
-            .any(|tablet| tablet.len() >= flush as usize)
+        self.may_have_full(flush)
+            && self
+                .tablets
+                .iter()
+                .any(|tablet| tablet.len() >= flush as usize)
     }
 
     /// Whether the memtable of a tablet has this many entries or more.
@@ -41,10 +65,8 @@ impl<F: Files> Cluster<F> {
         self.tablets[index].len() >= flush as usize
     }
 
-    /// Compacts each tablet whose memtable has `flush` entries or more, erasures among them, as `minor` does, in the
-    /// order of their ends. A refusal isn't answered: the tablet is then as before, and the next one is tried all the
-    /// same.
-    pub fn compact_full(&mut self, flush: u32)
+    /// Asks each tablet whether its memtable has `flush` entries or more, and compacts it if so.
+    fn compact_each_full(&mut self, flush: u32)
         ensures compacts { CompactsFull F.contents F.faults flush self.old self.new }
         ensures keeps { KeepsShown F.contents F.faults self.old self.new }
     {
@@ -53,6 +75,19 @@ impl<F: Files> Cluster<F> {
             if self.has_entries(tablet, flush) {
                 let _ = self.minor(tablet);
             }
+        }
+    }
+
+    /// Compacts each tablet whose memtable has `flush` entries or more, erasures among them, as `minor` does, in the
+    /// order of their ends. A refusal isn't answered: the tablet is then as before, and the next one is tried all the
+    /// same. No tablet is asked if none can have as many.
+    pub fn compact_full(&mut self, flush: u32)
+        ensures compacts { CompactsFull F.contents F.faults flush self.old self.new }
+        ensures keeps { KeepsShown F.contents F.faults self.old self.new }
+    {
+        if self.may_have_full(flush) {
+            self.compact_each_full(flush);
+            self.most_entries = longest(&self.tablets);
         }
     }
 

@@ -19,6 +19,7 @@ use Rattle.row_atomic.specs.declared.commands.Outcome.TheVariants.{Done}
 use Rattle.row_atomic.proofs.Outcomes.{compacted, full_meets, known_refusal, refused_done, tells_done, tells_refused, uncompacted, unstarted}
 use Rattle.row_atomic.proofs.PassedRefusals.{none_answered}
 use Rattle.row_atomic.proofs.CompactionRoom.{numbered_not, numbered_that}
+use Rattle.row_atomic.proofs.Memtables.{set_made, set_same}
 use Rattle.row_atomic.proofs.PlaceCaches.{held_listed}
 use Rattle.row_atomic.proofs.cluster.Cluster.compact_tablet.Goals as goal
 
@@ -26,7 +27,7 @@ pub invariant_of-self : goal.invariant_of-self
 invariant_of-self g c =
     let at = rw (← c.self.view_is) at c.position-index.ensures in
     let there = found_there c.self.inside.tablets.items c.position-index.result at.tablet c.index_mut.result.now at.there c.index_mut.ensures.value in
-    (matched_unchanged c.self.inside.file_limit (g.F.Files.contents c.self.inside.files) (g.F.Files.contents c.compact.new.files) c.self.inside.next_name c.compact.new.next_name c.self.inside.table c.self.inside.tablets.items c.position-index.result c.index_mut.result.now c.compact.new.tablet there c.compact.ensures.name c.compact.ensures.named_to c.in_err-compact.ensures.err c.self.invariant.0, c.self.invariant.1)
+    (matched_unchanged c.self.inside.file_limit (g.F.Files.contents c.self.inside.files) (g.F.Files.contents c.compact.new.files) c.self.inside.next_name c.compact.new.next_name c.self.inside.table c.self.inside.tablets.items c.position-index.result c.index_mut.result.now c.compact.new.tablet there c.compact.ensures.name c.compact.ensures.named_to c.in_err-compact.ensures.err c.self.invariant.0, c.self.invariant.1, set_same c.self.inside.most_entries c.self.inside.tablets.items c.position-index.result c.self.invariant.2 c.index_mut.result.now c.compact.new.tablet there c.in_err-compact.ensures.err.memory)
 
 pub index-requires-2 : goal.index-requires-2
 index-requires-2 g c =
@@ -53,6 +54,7 @@ invariant_of-self-2 g c =
           (placed_names c.self.inside.next_name c.self.inside.tablets.items c.args.tablet c.index_mut.result.now (numbered_at c.self.inside.tablets.items c.args.tablet c.position-index.result c.index_mut.result.now at.number there) None c.self.inside.table c.self.invariant.0.placed c.self.invariant.0.files (rw (← c.self.view_is) at c.requires.known)))
           c.self.invariant.0,
       subst (λ (ps : List PlaceView). AreHeld ps c.self.inside.place_cache.numbers.entries) (sym listed) (held_listed c.self.inside.table c.args.tablet (names_of c.compact.new.tablet) c.self.inside.place_cache.numbers.entries c.self.invariant.1),
+      set_made c.self.inside.most_entries c.self.inside.tablets.items c.position-index.result c.self.invariant.2 c.args.compaction c.self.inside.next_name c.index_mut.result.now c.compact.new.tablet there c.in_ok-compact.ensures.done.made,
     )
 
 pub returns-clause-listed : goal.returns-clause-listed

@@ -3,7 +3,9 @@ use Rattle.std.proofs.Common.{List, [], ◌∷◌, refl, sym, subst, ap, ◌∙�
 use Rattle.metadata_table.specs.Places.{PlaceView}
 use Rattle.tablet.specs.declared.tablet.Tablet.{Tablet}
 use Rattle.row_atomic.specs.Clusters.{InOrder, IsMatched, cells_in}
+use Rattle.row_atomic.specs.Memtables.{HaveAtMost}
 use Rattle.row_atomic.proofs.Fresh.{new_cells, new_in_order, new_matched}
+use Rattle.row_atomic.proofs.Memtables.{all_emptied}
 use Rattle.row_atomic.proofs.PlaceCaches.{none_held}
 use Rattle.row_atomic.proofs.cluster.Cluster.new.Goals as goal
 
@@ -14,6 +16,7 @@ invariant_of-result g c =
           (subst (λ (ps : List PlaceView). IsMatched c.args.file_limit 1 ps (first.tablet ∷ [])) (sym c.in-Ok-first_tablet.ensures.table)
           (new_matched first.tablet first.memory first.files c.args.file_limit c.requires.limit first.range)),
       none_held c.in-Ok-first_tablet.table c.in-Ok.place_cache.numbers.entries c.in-Ok.ensures.none,
+      subst (HaveAtMost 0) (sym first.alone) (all_emptied 0 (first.tablet ∷ []) (first.memory, tt)),
     )
 
 pub returns-in-Ok-first_tablet-clause-cells : goal.returns-in-Ok-first_tablet-clause-cells

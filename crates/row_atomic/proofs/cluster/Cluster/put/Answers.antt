@@ -7,6 +7,7 @@ use Rattle.row_atomic.specs.Changes.{IsReopened}
 use Rattle.row_atomic.proofs.ChangedTablets.{if_err, remade}
 use Rattle.row_atomic.proofs.CommandSteps.{when_ok}
 use Rattle.metadata_table.specs.Table.{moved}
+use Rattle.row_atomic.proofs.Memtables.{set_emptied}
 use Rattle.row_atomic.proofs.MovedTablets.{matched_moved, opened_keeps}
 use Rattle.row_atomic.proofs.PlaceCaches.{none_held}
 use Rattle.row_atomic.proofs.PassedRefusals.{below_only, none_answered, not_refused, passed, reason_kept, reason_passed, refused_so}
@@ -30,6 +31,7 @@ invariant_of-self-2 g c =
       matched_moved c.self.inside.file_limit c.self.inside.next_name c.args.tablet c.args.server c.self.inside.table c.assign.new.self (set c.self.inside.tablets.items c.position-index.result c.in_ok-opened.opened) done
           (matched_set c.self.inside.file_limit c.self.inside.next_name c.self.inside.table c.self.inside.tablets.items c.position-index.result c.index.result.now c.in_ok-opened.opened there c.in_ok-opened.ensures.range c.in_ok-opened.ensures.names c.self.invariant.0),
       none_held c.assign.new.self c.clear.new.self.numbers.entries c.clear.ensures.none,
+      set_emptied c.self.inside.most_entries c.self.inside.tablets.items c.position-index.result c.self.invariant.2 c.in_ok-opened.opened c.in_ok-opened.ensures.memory,
     )
 
 pub returns-clause-kept : goal.returns-clause-kept

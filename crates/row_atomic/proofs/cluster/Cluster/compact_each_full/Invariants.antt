@@ -1,7 +1,7 @@
 -- The tablets before the index are done.
 use Rattle.std.proofs.Common.{◌≡◌, length}
 use Rattle.row_atomic.proofs.Flushes.{IsReached}
-use Rattle.row_atomic.proofs.cluster.Cluster.compact_full.Given as goal
+use Rattle.row_atomic.proofs.cluster.Cluster.compact_each_full.Given as goal
 
 abbrev pub invariant-loop-index : goal.invariant-loop-index
 invariant-loop-index g l = record {
