@@ -28,7 +28,7 @@ use Rattle.clean_up.specs.Shows.{IsUnopened, SameCleaners}
 use Rattle.clean_up.specs.declared.cleaners.Cleaners.{Cleaners}
 use Rattle.version_collector.specs.Room.{TakesRoomOfVisits}
 use Rattle.version_collector.specs.Shows as open_collectors
-use Rattle.version_collector.specs.Shows.{ChangesOne, IsCount, IsEarlyRefusal, SameCollectors, TellsAt, VisitsAt}
+use Rattle.version_collector.specs.Shows.{ChangesOne, IsCount, IsEarlyRefusal, SameCollectors, StaysOpen, TellsAt, VisitsAt}
 use Rattle.version_collector.specs.Visits.{Thins}
 use Rattle.version_collector.specs.declared.collectors.Collectors.{Collectors}
 
@@ -49,6 +49,10 @@ abbrev pub KeepsHeldCells : {F M : Type 0} → (F → Option Contents) → Serve
     → Type 0
 KeepsHeldCells contents old new =
     Holds contents (cluster_of old) → server_cells contents new ≡ server_cells contents old
+
+-- a refusal that comes before any visit of n, or by the only one
+abbrev pub ComesFirst : Refusal → ℕ → Type 0
+ComesFirst refusal n = IsEarlyRefusal refusal ⊎ (n ≡ 1)
 
 -- A step that is done makes the edits of its session's next step, or of its cleaner's, or none if
 -- that makes none: cells of one row at most, at the session's stamps. A collector's step makes
@@ -76,7 +80,7 @@ ChangesCells contents (CollectStep collector n) (codec.CollectStep done) old new
 ChangesCells contents (CollectStep collector n) (codec.Refused refusal) old new =
     ((st : State) → IsReached st → Shows contents old st
     → MakesVisits contents collector n (Err refusal) old new st)
-    × (IsEarlyRefusal refusal → server_cells contents new ≡ server_cells contents old)
+    × (ComesFirst refusal n → server_cells contents new ≡ server_cells contents old)
 ChangesCells contents (Minor tablet) reply old new = KeepsHeldCells contents old new
 ChangesCells contents (Merge tablet count) reply old new = KeepsHeldCells contents old new
 ChangesCells contents (Major tablet) reply old new = KeepsHeldCells contents old new
@@ -160,13 +164,15 @@ KeepsCleaners (CleanStep cleaner) (codec.CleanStep reply) old new = ⊤
 KeepsCleaners request reply old new = SameCleaners old new
 
 -- A beginning, and a step, change the collectors as the machine's step says, and a step its own
--- collector alone. A refused step keeps the visits that it made. All else leaves the collectors,
--- and so does a step for which no collector or no visit is found.
+-- collector alone. A refused step keeps the visits that it made, and its collector stays open, with
+-- its floor. All else leaves the collectors, and so does a step that is refused before its visits,
+-- or by its only one.
 abbrev pub KeepsCollectors : Request → Reply → Collectors → Collectors → Type 0
 KeepsCollectors CollectBegin (codec.CollectBegin collector floor) old new = ⊤
 KeepsCollectors (CollectStep collector n) reply old new =
     ChangesOne collector old new
-    × IfRefused (λ refusal. IsEarlyRefusal refusal → SameCollectors old new) (replied reply)
+    × IfRefused (λ refusal. StaysOpen collector old new
+    × (ComesFirst refusal n → SameCollectors old new)) (replied reply)
 KeepsCollectors request reply old new = SameCollectors old new
 
 -- the mark is as before, or it is the end of the oracle's next range

@@ -1,4 +1,4 @@
-use Rattle.std.proofs.Common.{inl, refl, subst}
+use Rattle.std.proofs.Common.{inl, inr, refl, subst}
 use Rattle.version_collector.specs.Refusals.{IsStepRefusal}
 use Rattle.server_loop.specs.Runs.{KeepsToLimits}
 use Rattle.server_loop.proofs.CollectSteps.{bad_told, collected_stays, collected_told, collected_undamaged, collects_as, never_bad, same_cells}
@@ -37,11 +37,14 @@ returns-in-Err g c = let told = c.in-Err.ensures in record {
         collects = (told.leaves shown.in_order st reached shown.shows.store shown.collectors).0;
         thins = (told.leaves shown.in_order st reached shown.shows.store shown.collectors).1;
       },
-      λ early. same_cells g.F.Files.contents _ _ (told.early early).1,
+      λ first. elim first [
+        | inl early ↦ same_cells g.F.Files.contents _ _ (told.early early).1
+        | inr one ↦ (told.refused.reads one).kept
+      ],
     );
     room = told.room;
   };
-  sessions = record { told = λ st shown. (λ gone. as_refused _ _ _ refl (told.unknown _ st shown.collectors gone), λ bad. bad_told _ _ refl (told.count bad)); sessions = record { top = refl; each = λ t. refl }; cleaners = record { next = refl; each = λ i. refl; count = refl }; collectors = (told.one, λ early. (told.early early).0); oracle = refl };
+  sessions = record { told = λ st shown. (λ gone. as_refused _ _ _ refl (told.unknown _ st shown.collectors gone), λ bad. bad_told _ _ refl (told.count bad)); sessions = record { top = refl; each = λ t. refl }; cleaners = record { next = refl; each = λ i. refl; count = refl }; collectors = (told.one, (told.refused.stays, λ first. elim first [ inl early ↦ (told.early early).0 | inr one ↦ told.refused.same one ])); oracle = refl };
   tablets = told.below.stays;
   causes = record { device = λ is. inl (told.reason.device (as_err _ _ _ refl is)); told = λ none. record { files = told.reason.told (λ is. none (as_refused _ _ _ refl is)); marks = refl }; full = λ same. told.full (as_err _ _ _ refl same) };
   tending = refl;
