@@ -106,11 +106,44 @@ fn write_number<W: Write + OpenFile>(file: &mut W, number: Stamp) -> io::Result<
     write_synced(file, &number.to_be_bytes())
 }
 
+/// Puts what was written beside the file in its place. A failure to write it is passed on.
+fn put_there<R: Folders>(
+    rt: &R,
+    path: &str,
+    beside: &str,
+    written: io::Result<()>,
+) -> io::Result<()>
+    ensures failed { IfErr written (λ error. result ≡ Err error) }
+{
+    written?;
+    fs::rename(rt, beside, path)
+}
+
 /// Writes a mark beside the file, and puts it in the file's place.
 fn place_mark<R: Folders>(rt: &R, path: &str, beside: &str, number: Stamp) -> io::Result<()> {
     let mut file = File::create(rt, beside)?;
-    write_number(&mut file, number)?;
-    fs::rename(rt, beside, path)
+    let written = write_number(&mut file, number);
+    put_there(rt, path, beside, written)
+}
+
+/// Forces a folder that was opened to the disk. A failure to open it is passed on.
+fn sync_opened<F: OpenFile + Drop>(opened: io::Result<F>) -> io::Result<()>
+    ensures failed { IfErr opened (λ error. result ≡ Err error) }
+{
+    let folder = opened?;
+    folder.sync_all()
+}
+
+/// Forces the folder to the disk once a mark was put in the place of the file. If that failed, what was written beside
+/// it is removed, and the failure is passed on.
+fn finish<R: Folders>(rt: &R, folder: &str, beside: &str, placed: io::Result<()>) -> io::Result<()>
+    ensures failed { IfErr placed (λ error. result ≡ Err error) }
+{
+    if placed.is_err() {
+        let _ = fs::remove_file(rt, beside);
+    }
+    placed?;
+    sync_opened(File::open(rt, folder))
 }
 
 /// Puts a mark in the place of the file. If that fails, what was written beside it is removed.
@@ -122,12 +155,7 @@ fn write_mark<R: Folders>(
     number: Stamp,
 ) -> io::Result<()> {
     let placed = place_mark(rt, path, beside, number);
-    if placed.is_err() {
-        let _ = fs::remove_file(rt, beside);
-    }
-    placed?;
-    let folder = File::open(rt, folder)?;
-    folder.sync_all()
+    finish(rt, folder, beside, placed)
 }
 
 impl<R: Folders + AllocGlobal + Drop> DirMark<R> {
