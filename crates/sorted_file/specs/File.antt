@@ -6,13 +6,15 @@ use Rattle.std.specs.List.{AllByRecursion}
 use Rattle.std.specs.List.Sorted.{IsNonDecreasing}
 use Rattle.std.specs.declared.vec.Vec.{Vec}
 use Rattle.cell_key.specs.Entries.{Entry, IsEntryList, entry_of_key}
+use Rattle.cell_key.specs.Keys.{text}
+use Rattle.cell_key.specs.declared.keys.CellKey.{CellKey}
 use Rattle.file_store.specs.Store.{Contents, part}
 use Rattle.lru.specs.LruCache.{LruCache}
 use Rattle.sorted_file.specs.Index.{block_of, blocks_of, entries_in, row_head, texts_of, AreRows, IsRowPosition, IsBoundedRow, Tells, skips}
 use Rattle.sorted_file.specs.Block.{IsParsed, BeginsWith}
 use Rattle.sorted_file.specs.Grammar.{block_bytes, IsFile}
-use Rattle.sorted_file.specs.Bounds.{IsBounded}
-use Rattle.sorted_file.specs.Numbers.{IsNumbered}
+use Rattle.sorted_file.specs.Bounds.{IsBounded, IsWithin, column_bounds}
+use Rattle.sorted_file.specs.Numbers.{IsNumbered, number_of}
 use Rattle.sorted_file.specs.declared.block.BlockRow.{BlockRow}
 use Rattle.sorted_file.specs.declared.block.Block.{Block}
 use Rattle.sorted_file.specs.declared.format.Format.{Format}
@@ -107,6 +109,29 @@ IsFoundNow disk file name found =
     → IsRowPosition name file.rows.items (number + 1) → slice_get file.rows.items number ≡ Some row
     → IsUncached number file.cache.entries → Tells disk (name_of file) image
     → (es : List Entry) × IsReadFrom image row es × (found ≡ entry_of_key es name)
+
+-- The block of a number, if it wasn't cached, is what stands under the name of the file now: whatever
+-- that is, it has an entry list at the row's offset.
+abbrev pub HasBlockNow : Option Contents → SortedFile → ℕ → Type 0
+HasBlockNow disk file number =
+    (row : BlockRow) (image : List ℕ) → slice_get file.rows.items number ≡ Some row
+    → IsUncached number file.cache.entries → Tells disk (name_of file) image
+    → (es : List Entry) × IsReadFrom image row es
+
+-- By what an open file knows without a read, the block of a row may have a value of the key's column
+-- at this stamp.
+pub record MayHaveAt (file : SortedFile) (row : BlockRow) (key : CellKey) (stamp : ℕ) : Type 0 where
+  pub in_column : Contains file.numbers.items (number_of (text key))
+  pub in_file : IsWithin (column_bounds file.bounds key.qualifier) key.row stamp
+  pub in_block : IsWithin (column_bounds row.bounds key.qualifier) key.row stamp
+
+-- The block of a key, if it may have a value of the key's column from lo up to its stamp, was read from
+-- what stands under the name of an open file now.
+abbrev pub IsSearchedNow : Option Contents → SortedFile → CellKey → ℕ → Type 0
+IsSearchedNow disk file key lo =
+    (m : Contents) → IsOpen m file → (number : ℕ) (row : BlockRow) (stamp : ℕ)
+    → IsRowPosition (text key) file.rows.items (number + 1) → slice_get file.rows.items number ≡ Some row
+    → lo ≤ stamp → stamp ≤ key.stamp → MayHaveAt file row key stamp → HasBlockNow disk file number
 
 -- the bytes of a value that was found, or of an erasure none
 abbrev pub value_bytes : {Z : Type 0} → Option (Vec ℕ Z) → Option (List ℕ)

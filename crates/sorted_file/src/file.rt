@@ -1,6 +1,6 @@
 //! A file of entries that is open for reading.
 
-ghost use Rattle.std.specs.Prelude.{◌≡◌, ◌≤◌, ◌<◌, ◌-◌, List, ℕ, drop, Option, Some, None, true, false, length, slice_get, option_map, IfOk, IfErr, IfSome, IsErrOf, Contains};
+ghost use Rattle.std.specs.Prelude.{OnOk, ◌≡◌, ◌≤◌, ◌<◌, ◌-◌, List, ℕ, drop, Option, Some, None, true, false, length, slice_get, option_map, IfOk, IfErr, IfSome, IsErrOf, Contains};
 ghost use Rattle.cell_key.specs.Entries.{Entry, entry_of_key, entries_from};
 ghost use Rattle.cell_key.specs.Faults.{HasReason};
 ghost use Rattle.cell_key.specs.Keys.{text};
@@ -48,7 +48,7 @@ impl SortedFile {
     ghost use Rattle.sorted_file.specs.Newest.{IsFirstIn, IsNewestStamp};
     ghost use Rattle.sorted_file.specs.Bounds.{column_bounds, HasNoValue, IsWithin};
     ghost use Rattle.sorted_file.specs.Numbers.{number_of, HasNoEntry};
-    ghost use Rattle.sorted_file.specs.File.{HasFile, IsFoundNow, IsOpen, IsReadFrom, IsReadNow, IsSameFile, KeepsWhatItRead, listed, name_of};
+    ghost use Rattle.sorted_file.specs.File.{HasBlockNow, HasFile, IsFoundNow, IsOpen, IsReadFrom, IsReadNow, IsSameFile, IsSearchedNow, KeepsWhatItRead, listed, name_of};
 
     /// Opens a file. Answers `Damaged` if it isn't there or is the file of no entry list, `Device`
     /// if a device fails, and `NoMemory` if there is no memory.
@@ -246,6 +246,7 @@ impl SortedFile {
     ) -> Result<Option<Stamp>, Refusal>
         ensures found { IfOk result (λ found. IfSome (F.contents files.old) (λ m. IsOpen m self.old
             → IsNewestStamp (listed m self.old) key.now lo found)) }
+        ensures now { OnOk result (IsSearchedNow (F.contents files.old) self.old key.now lo) }
         ensures within { IfOk result (λ found.
             IfSome found (λ stamp. (lo ≤ stamp) × (stamp ≤ key.now.stamp))) }
         ensures stays { IsSameFile (F.contents files.old) self.old self.new }
@@ -293,6 +294,7 @@ impl SortedFile {
             → (row : Row) → slice_get self.old.rows.items number ≡ Some row
             → option_map (λ bytes. bytes.items) found
             ≡ option_map (λ e. e.0) (first_value (entries_from text.now (block_of row))))) }
+        ensures now { OnOk result (HasBlockNow (F.contents files.old) self.old number) }
         ensures rows { self.new.rows ≡ self.old.rows }
         ensures stays { IsSameFile (F.contents files.old) self.old self.new }
         ensures kept { KeepsWhatItRead (F.contents files.old) self.old self.new }
@@ -344,6 +346,7 @@ impl SortedFile {
         ensures found { IfOk result (λ found. IfSome (F.contents files.old) (λ m. IsOpen m self.old
             → IsFirstIn (listed m self.old) key.now lo
             (option_map (λ bytes. bytes.items) found))) }
+        ensures now { OnOk result (IsSearchedNow (F.contents files.old) self.old key.now lo) }
         ensures stays { IsSameFile (F.contents files.old) self.old self.new }
         ensures kept { KeepsWhatItRead (F.contents files.old) self.old self.new }
         ensures damaged { IsErrOf result Refusal.Damaged

@@ -79,3 +79,11 @@ returns-clause-found g c =
     let first = subst (IsFirstValue (text c.args.key.now) es) x.is (tells (text c.args.key.now) es f.list.rising) in
     f.same is_key (Some c.in-Some-stamp_in.stamp) (stamp_found c.args.key.now c.as_bytes-row.ensures.valid c.as_bytes-family.ensures.valid (omega arith) es f.list c.args.lo x.entry first c.in-Some-stamp_in.stamp c.in-Some-stamp_in.ensures.small (x.named ∙ sym c.deref-4.ensures.value ∙ c.in-Some-stamp_in.ensures.some c.args.key.now (c.deref-3.ensures.value ∙ sought)) c.if-stamp-lo.false))
     c.in_ok-text.ensures.found
+
+pub returns-then-not-meet_column-clause-now : goal.returns-then-not-meet_column-clause-now
+returns-then-not-meet_column-clause-now g c = λ m o number row stamp placed at low high may. absurd (c.meet_column.ensures c.if-not-meet_column.true stamp low high may.in_file)
+
+pub returns-then-not-may_have_text-clause-now : goal.returns-then-not-may_have_text-clause-now
+returns-then-not-may_have_text-clause-now g c = λ m o number row stamp placed at low high may.
+    let asked = c.deref.ensures.value ∙ c.in_ok-encode.ensures.ok ∙ ap (λ (xs : List ℕ). xs ++ text c.args.key.now) c.new-sought.ensures.items in
+    absurd (subst (λ (t : List ℕ). ¬ (Contains c.args.self.now.numbers.items (number_of t))) asked (c.may_have_text.ensures c.if-not-may_have_text.true m o) may.in_column)

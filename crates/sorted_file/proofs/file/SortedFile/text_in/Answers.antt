@@ -31,3 +31,8 @@ pub returns-in_ok-found-in-None-clause-kept : goal.returns-in_ok-found-in-None-c
 returns-in_ok-found-in-None-clause-kept g c = λ e d.
     let row = some_row c.args.self.now.rows.items c.args.number c.requires in
     kept_or_read (g.F.Files.contents c.args.files.now) c.args.self.now c.args.number c.in_ok-block-in-None.block row.0 row.1 (c.in_ok-block-in-None.ensures.read row.0 row.1) e (c.keep.ensures.kept e d)
+
+pub returns-in_ok-found-in-None-clause-now : goal.returns-in_ok-found-in-None-clause-now
+returns-in_ok-found-in-None-clause-now g c = λ row image at uncached tells.
+    let r = c.in_ok-block-in-None.ensures.read row at in
+    (r.entries, r.read image tells)
