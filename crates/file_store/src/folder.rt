@@ -1,13 +1,13 @@
 //! Files in a folder.
 
-ghost use Rattle.std.specs.Prelude.{◌≡◌, ◌≢◌, ◌≤◌, ◌<◌, ℕ, Err, IfOk, IfErr, None, Ok, OnOk, Some, length};
+ghost use Rattle.std.specs.Prelude.{◌≡◌, ◌≢◌, ◌≤◌, ◌<◌, ℕ, Err, IfOk, IfErr, IsOk, None, Ok, OnOk, Some, length};
 ghost use Rattle.std.specs.Io.KnownBytes.{Appends, IsAtEnd};
 ghost use Rattle.std.specs.IoError.{error_kind};
 ghost use Rattle.file_store.specs.Store.{HasFaultCause};
 
 use crate::files::{FileFault, Files};
 use std::alloc::{Allocator, Global};
-use std::fs::{DirEntry, File, OpenFile};
+use std::fs::{DirEntry, File, Metadata, OpenFile};
 use std::io::{ErrorKind, Read, Seek, SeekFrom, Write};
 use std::rt::Files as Folders;
 use std::{fs, io};
@@ -62,10 +62,17 @@ fn lock_folder<R: Folders<File = File>>(rt: &R, alloc: Global, folder: &str) -> 
     Ok(file)
 }
 
+/// Forces a folder that was opened to the disk. A failure to open it is passed on.
+fn sync_opened<F: OpenFile + Drop>(opened: io::Result<F>) -> io::Result<()>
+    ensures failed { IfErr opened (λ error. result ≡ Err error) }
+{
+    let folder = opened?;
+    folder.sync_all()
+}
+
 /// Forces a folder to the disk: which names it has.
 fn sync_folder<R: Folders>(rt: &R, folder: &str) -> io::Result<()> {
-    let folder = File::open(rt, folder)?;
-    folder.sync_all()
+    sync_opened(File::open(rt, folder))
 }
 
 /// Writes bytes behind those of a file, and forces it to the disk.
@@ -76,11 +83,36 @@ fn write_synced<W: Write + OpenFile>(file: &mut W, bytes: &[u8]) -> io::Result<(
     file.sync_all()
 }
 
+/// Puts what was written beside a place there. A failure to write it is passed on.
+fn put_there<R: Folders>(
+    rt: &R,
+    beside: &str,
+    path: &str,
+    written: io::Result<()>,
+) -> io::Result<()>
+    ensures failed { IfErr written (λ error. result ≡ Err error) }
+{
+    written?;
+    fs::rename(rt, beside, path)
+}
+
 /// Writes a file beside its place, and puts it there.
 fn place_file<R: Folders>(rt: &R, beside: &str, path: &str, bytes: &[u8]) -> io::Result<()> {
     let mut file = File::create(rt, beside)?;
-    write_synced(&mut file, bytes)?;
-    fs::rename(rt, beside, path)
+    let written = write_synced(&mut file, bytes);
+    put_there(rt, beside, path, written)
+}
+
+/// Forces a folder to the disk once a file was put in its place. If that failed, what was written beside the place is
+/// removed, and the failure is passed on.
+fn finish<R: Folders>(rt: &R, folder: &str, beside: &str, placed: io::Result<()>) -> io::Result<()>
+    ensures failed { IfErr placed (λ error. result ≡ Err error) }
+{
+    if placed.is_err() {
+        let _ = fs::remove_file(rt, beside);
+    }
+    placed?;
+    sync_folder(rt, folder)
 }
 
 /// Makes or replaces a file in a folder. If that fails, what was written beside its place is removed.
@@ -94,11 +126,7 @@ fn write_file<R: Folders>(
     let path = path_of(alloc, folder, name, "tab")?;
     let beside = path_of(alloc, folder, name, "new")?;
     let placed = place_file(rt, beside.as_str(), path.as_str(), bytes);
-    if placed.is_err() {
-        let _ = fs::remove_file(rt, beside.as_str());
-    }
-    placed?;
-    sync_folder(rt, folder)
+    finish(rt, folder, beside.as_str(), placed)
 }
 
 /// What a call answers on a file that may be missing: nothing if it is. Any other failure is passed on.
@@ -168,20 +196,40 @@ fn read_from<R: Folders>(
     read_part(File::open(rt, path.as_str()), offset, out)
 }
 
+/// How many bytes a file has by what is known of it. It may be missing; any other failure is passed on.
+fn size_in(found: io::Result<Metadata>) -> io::Result<Option<u64>>
+    ensures missing { IfErr found (λ error.
+        error_kind error ≡ ErrorKind.NotFound → result ≡ Ok None) }
+    ensures failed { IfErr found (λ error.
+        error_kind error ≢ ErrorKind.NotFound → result ≡ Err error) }
+{
+    let metadata = if_there(found)?;
+    Ok(metadata.map(|metadata| metadata.len()))
+}
+
 /// How many bytes a file has, if it is there.
 fn size_of<R: Folders>(rt: &R, alloc: Global, folder: &str, name: u64) -> io::Result<Option<u64>> {
     let path = path_of(alloc, folder, name, "tab")?;
-    let metadata = if_there(fs::metadata(rt, path.as_str()))?;
-    Ok(metadata.map(|metadata| metadata.len()))
+    size_in(fs::metadata(rt, path.as_str()))
+}
+
+/// Forces a folder to the disk once a file was removed, if it was there. Any other failure is passed on.
+fn sync_removed<R: Folders>(rt: &R, folder: &str, removed: io::Result<()>) -> io::Result<()>
+    ensures missing { IfErr removed (λ error.
+        error_kind error ≡ ErrorKind.NotFound → IsOk result) }
+    ensures failed { IfErr removed (λ error.
+        error_kind error ≢ ErrorKind.NotFound → result ≡ Err error) }
+{
+    match if_there(removed)? {
+        Some(()) => sync_folder(rt, folder),
+        None => Ok(()),
+    }
 }
 
 /// Removes a file, if it is there.
 fn remove_file<R: Folders>(rt: &R, alloc: Global, folder: &str, name: u64) -> io::Result<()> {
     let path = path_of(alloc, folder, name, "tab")?;
-    match if_there(fs::remove_file(rt, path.as_str()))? {
-        Some(()) => sync_folder(rt, folder),
-        None => Ok(()),
-    }
+    sync_removed(rt, folder, fs::remove_file(rt, path.as_str()))
 }
 
 /// The name that a file of a listing has, with this ending, if it has one. A name that is no text is none.
