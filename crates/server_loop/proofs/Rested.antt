@@ -3,6 +3,7 @@ use Rattle.std.proofs.Common.{◌≡◌, ◌≢◌, ◌≤◌, ◌⊎◌, inl, i
 use Rattle.std.specs.Prelude.{IsSome, IsSomeAnd}
 use Rattle.cell_key.specs.Cells.{Cells}
 use Rattle.cell_key.specs.declared.refusals.Refusal.{Refusal}
+use Rattle.cell_key.specs.declared.refusals.Refusal.TheVariants.{Device}
 use Rattle.file_store.specs.declared.files.Files.{Ghosts as Files}
 use Rattle.oracle.specs.declared.marks.MarkStore.{Ghosts as MarkStore}
 use Rattle.metadata_table.specs.Roots.{RootView}
@@ -24,7 +25,7 @@ use Rattle.server_loop.specs.Answer.{IsPlainAnswer, TendsTablets}
 use Rattle.server_loop.specs.Commands.{HasOutcome, command_of}
 use Rattle.server_loop.specs.Resting.{IsSparing, KeepsResting, RestingIsKept, RestsAt, RestsBetween, TellsState}
 use Rattle.server_loop.specs.Server.{Shows, cluster_of, last_of, marks_of}
-use Rattle.server_loop.specs.Sessions.{KeepsOracle}
+use Rattle.server_loop.specs.Sessions.{KeepsOracle, LeavesOracle}
 use Rattle.server_loop.specs.Tending.{MergesWhere}
 use Rattle.server_loop.specs.declared.server.Server.{Server}
 use Rattle.server_loop.proofs.Tended.{still_shown}
@@ -68,16 +69,20 @@ marked_now None top last is within low = cc
 marked_now (Some m) top last is within low = omega (arith, within, low)
 
 module _ {F M : Type 0} (files : Files F) (store : MarkStore M) where
+  told_left : (e : Refusal) (old new : Server F M) → LeavesOracle store.mark e old new → IsSome (store.mark (marks_of old)) → IsSome (store.mark (marks_of new))
+  told_left Device old new left told = may_told _ _ _ left.0 told
+  told_left e old new left told = subst (λ (o : OracleState M). IsSome (store.mark o.marks)) (sym left) told
+
   told_mark : (request : Lent) (e : Refusal) (old new : Server F M) → KeepsOracle files.contents store.mark request (codec.Refused e) old new → IsSome (store.mark (marks_of old)) → IsSome (store.mark (marks_of new))
-  told_mark lent.Begin e old new keeps told = may_told _ _ _ keeps told
+  told_mark lent.Begin e old new keeps told = told_left e old new keeps told
   told_mark (lent.Step start) e old new keeps told = may_told _ _ _ keeps.1 told
-  told_mark lent.OracleRestart e old new keeps told = subst (λ (o : Option ℕ). IsSome o) (sym keeps) told
+  told_mark lent.OracleRestart e old new keeps told = subst (λ (o : Option ℕ). IsSome o) (sym keeps.0) told
   told_mark request e old new keeps told = subst (λ (o : OracleState M). IsSome (store.mark o.marks)) (sym keeps) told
 
   told_spared : (request : Lent) (reply : CodecReply) (old new : Server F M) → IsSparing request → KeepsOracle files.contents store.mark request reply old new → IsSome (store.mark (marks_of old)) → IsSome (store.mark (marks_of new))
   told_spared (lent.Minor t) reply old new is keeps told = subst (λ (o : OracleState M). IsSome (store.mark o.marks)) (sym keeps) told
   told_spared lent.Sweep reply old new is keeps told = subst (λ (o : OracleState M). IsSome (store.mark o.marks)) (sym keeps) told
-  told_spared lent.OracleRestart reply old new is keeps told = subst (λ (o : Option ℕ). IsSome o) (sym keeps) told
+  told_spared lent.OracleRestart reply old new is keeps told = subst (λ (o : Option ℕ). IsSome o) (sym keeps.0) told
   told_spared (lent.Raw row family qualifier lo hi) reply old new is keeps told = subst (λ (o : OracleState M). IsSome (store.mark o.marks)) (sym keeps) told
   told_spared request reply old new is keeps told = absurd is
 

@@ -1,11 +1,11 @@
 -- A server's steps, by those of its sessions.
 use Rattle.std.proofs.Common.{◌≡◌, ℕ, Option, Some, None, Result, Ok, Err, IsErrOf, refl, ap, ◌∙◌, ◌⊎◌, subst, sym, inl, inr}
-use Rattle.std.specs.Prelude.{⊤}
+use Rattle.std.specs.Prelude.{⊤, ◌≢◌}
 use Rattle.std.specs.FinMap.{empty, get-empty}
 use Rattle.cell_key.specs.Faults.{HasRisen}
 use Rattle.cell_key.specs.Keys.{key_cmp}
 use Rattle.cell_key.specs.declared.refusals.Refusal.{Refusal}
-use Rattle.cell_key.specs.declared.refusals.Refusal.TheVariants.{BadRow, BadColumn, Damaged, Device, NoMemory}
+use Rattle.cell_key.specs.declared.refusals.Refusal.TheVariants.{BadRow, BadColumn, Damaged, Device, Exhausted, NoMemory, TooManySessions}
 use Rattle.si_model.specs.Machine.{State, Request, Reply, Begun, SetDone, DeleteDone, StopDone, Refused, IsReached, OracleRestart, RestartDone, accepts, refuses, tells, restarts, new_machine}
 use Rattle.si_model.specs.Collection.{ChangesCells}
 use Rattle.si_model.specs.Kinds.{OfSessions, kind_of}
@@ -20,7 +20,8 @@ use Rattle.file_store.specs.Store.{Contents}
 use Rattle.row_atomic.specs.Changes.{Holds}
 use Rattle.row_atomic.specs.Clusters.{cells_in, storage_of}
 use Rattle.txn_client.specs.Reads.{IsShort}
-use Rattle.txn_client.specs.Refusals.{HasOneReason}
+use Rattle.oracle.specs.Ranges.{SameNumbers}
+use Rattle.txn_client.specs.Refusals.{HasOneReason, IsBeginRefusal}
 use Rattle.txn_client.specs.Shows as clients
 use Rattle.txn_client.specs.Shows.{DrawsNext, top_after}
 use Rattle.request_codec.specs.Replies.{replied}
@@ -28,6 +29,7 @@ use Rattle.request_codec.specs.declared.replies.Reply.{Reply as CodecReply}
 use Rattle.request_codec.specs.declared.replies.Reply.TheVariants as codec
 use Rattle.server_loop.specs.declared.server.Server.{Server}
 use Rattle.server_loop.specs.Server.{Shows, server_cells}
+use Rattle.server_loop.specs.Sessions.{LeavesMark, LeavesOracle}
 use Rattle.server_loop.specs.Runs.{KeepsToLimits, StampsGoOn, StepsAs, IfRefused}
 use Rattle.server_loop.proofs.CleanSteps.{spots_in}
 use Rattle.server_loop.proofs.OthersShown.{cleaners_stay, collectors_stay, not_kind, sessions_not_cleaners, sessions_not_collectors}
@@ -53,6 +55,29 @@ module _ {F M : Type 0} (contents : F → Option Contents) (old new : Server F M
         next = still_next before next request reply taken keeps shown.next;
       } in
       (next, taken, after, whole before reached shown.in_order shown.shows)
+
+-- nothing was drawn for a begin, by why it was refused
+abbrev pub Undrawn : Refusal → Type 0
+Undrawn refusal =
+    IsErrOf {T = ℕ} (Err refusal) TooManySessions
+    ⊎ (IsErrOf {T = ℕ} (Err refusal) Exhausted ⊎ IsErrOf {T = ℕ} (Err refusal) NoMemory)
+
+-- what a refused begin leaves, if no device failed
+pub begin_leaves : (refusal : Refusal) (P : Type 0) → IsBeginRefusal refusal → (Undrawn refusal → P) → refusal ≢ Device → P
+begin_leaves TooManySessions P is undrawn other = undrawn (inl refl)
+begin_leaves Exhausted P is undrawn other = undrawn (inr (inl refl))
+begin_leaves NoMemory P is undrawn other = undrawn (inr (inr refl))
+begin_leaves Device P is undrawn other = absurd (other refl)
+begin_leaves _ P is undrawn other = absurd is
+
+-- and of the oracle
+pub begin_leaves_oracle : {F M : Type 0} (mark : M → Option ℕ) (refusal : Refusal) (old new : Server F M) → IsBeginRefusal refusal → (Undrawn refusal → new.oracle ≡ old.oracle)
+    → LeavesMark mark old new × SameNumbers old.oracle new.oracle → LeavesOracle mark refusal old new
+begin_leaves_oracle mark TooManySessions old new is undrawn device = undrawn (inl refl)
+begin_leaves_oracle mark Exhausted old new is undrawn device = undrawn (inr (inl refl))
+begin_leaves_oracle mark NoMemory old new is undrawn device = undrawn (inr (inr refl))
+begin_leaves_oracle mark Device old new is undrawn device = device
+begin_leaves_oracle mark _ old new is undrawn device = absurd is
 
 -- a refusal of another kind isn't that bytes are damaged
 pub undamaged : (P : Refusal → Type 0) (refusal : Refusal) → P refusal → (P Damaged → ⊥) → Refused refusal ≡ Refused Damaged → ⊥

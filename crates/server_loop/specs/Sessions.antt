@@ -1,8 +1,8 @@
 -- What a request does to the cells, to the room in memory, to sessions, cleaners and collectors and
 -- to the oracle, and what is always answered.
-use Rattle.std.specs.Prelude.{◌≡◌, ◌⊎◌, ℕ, Option, Result, Ok, Err, ⊤}
+use Rattle.std.specs.Prelude.{◌≡◌, ◌≢◌, ◌⊎◌, ℕ, Option, Result, Ok, Err, ⊤}
 use Rattle.cell_key.specs.declared.refusals.Refusal.{Refusal}
-use Rattle.cell_key.specs.declared.refusals.Refusal.TheVariants.{UnknownSession, UnknownCleaner, UnknownCollector, BadCount, EmptyCommit, TooManySessions}
+use Rattle.cell_key.specs.declared.refusals.Refusal.TheVariants.{Device, UnknownSession, UnknownCleaner, UnknownCollector, BadCount, EmptyCommit, TooManySessions}
 use Rattle.file_store.specs.Store.{Contents}
 use Rattle.row_atomic.specs.Changes.{Holds}
 use Rattle.row_atomic.specs.Commands.{IsNoFuller, OverfillsCluster}
@@ -10,7 +10,7 @@ use Rattle.si_model.specs.Collection.{Collects}
 use Rattle.si_model.specs.Machine.{IsReached, State}
 use Rattle.si_model.specs.declared.replies.CollectReply.{CollectReply}
 use Rattle.oracle.specs.Marks.{MayHold}
-use Rattle.oracle.specs.Ranges.{IsDrawRefusal, next_range_end}
+use Rattle.oracle.specs.Ranges.{IsDrawRefusal, SameNumbers, next_range_end}
 use Rattle.request_codec.specs.Replies.{replied}
 use Rattle.request_codec.specs.declared.replies.Reply.{Reply}
 use Rattle.request_codec.specs.declared.replies.Reply.TheVariants as codec
@@ -146,10 +146,11 @@ IsAlwaysTold (CollectStep collector n) reply st =
     × (¬ IsCount n → (reply ≡ codec.Refused UnknownCollector) ⊎ (reply ≡ codec.Refused BadCount))
 IsAlwaysTold request reply st = ⊤
 
--- A begin, and a write, a deletion, a step or an end that is done, change the sessions as the
--- machine's step says. All else leaves them.
+-- A begin, a write, a deletion, a step or an end that is done changes the sessions as the
+-- machine's step says, and so does a begin that a device's fault refused. All else leaves them.
 abbrev pub KeepsSessions : Request → Reply → Clients → Clients → Type 0
-KeepsSessions Begin reply old new = ⊤
+KeepsSessions Begin reply old new =
+    IfRefused (λ refusal. refusal ≢ Device → SameClients old new) (replied reply)
 KeepsSessions (Set start row family value) codec.Set old new = ⊤
 KeepsSessions (Delete start row family) codec.Delete old new = ⊤
 KeepsSessions (Step start) (codec.Step progress) old new = ⊤
@@ -180,14 +181,23 @@ abbrev pub LeavesMark : {F M : Type 0} → (M → Option ℕ) → Server F M →
 LeavesMark mark old new =
     MayHold (next_range_end old.oracle.range_end) (mark (marks_of old)) (mark (marks_of new))
 
--- Only a begin, a step that comes to draw a stamp, and a restart use the oracle.
+-- What a refused begin leaves of the oracle: all of it. If the mark could not be stored, the last
+-- stamp and the range.
+abbrev pub LeavesOracle : {F M : Type 0} → (M → Option ℕ) → Refusal → Server F M → Server F M
+    → Type 0
+LeavesOracle mark Device old new = LeavesMark mark old new × SameNumbers old.oracle new.oracle
+LeavesOracle mark refusal old new = new.oracle ≡ old.oracle
+
+-- Only a begin, a step that comes to draw a stamp, and a restart use the oracle. A restart leaves
+-- the mark, and if it is refused, the last stamp and the range.
 abbrev pub KeepsOracle : {F M : Type 0} → (F → Option Contents) → (M → Option ℕ) → Request → Reply
     → Server F M → Server F M → Type 0
 KeepsOracle contents mark Begin reply old new =
-    IfRefused (λ _. LeavesMark mark old new) (replied reply)
+    IfRefused (λ refusal. LeavesOracle mark refusal old new) (replied reply)
 KeepsOracle contents mark (Step start) reply old new =
     ((st : State) → Shows contents old st → ¬ IsAboutToDraw st start → new.oracle ≡ old.oracle)
     × IfRefused (λ _. LeavesMark mark old new) (replied reply)
 KeepsOracle contents mark OracleRestart reply old new =
-    mark (marks_of new) ≡ mark (marks_of old)
+    (mark (marks_of new) ≡ mark (marks_of old))
+    × IfRefused (λ _. SameNumbers old.oracle new.oracle) (replied reply)
 KeepsOracle contents mark request reply old new = new.oracle ≡ old.oracle

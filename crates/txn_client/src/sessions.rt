@@ -106,6 +106,7 @@ impl Clients {
         ensures next { IfOk result (λ start. (start ≡ oracle.old.last + 1)
             × (oracle.new.last ≡ start)) }
         ensures stays { OnErr result (oracle.new.last ≡ oracle.old.last) }
+        ensures range { OnErr result (oracle.new.range_end ≡ oracle.old.range_end) }
         // A refusal leaves the mark, or it is the end of the next range.
         ensures mark { OnErr result (MayHold (next_range_end oracle.old.range_end)
             (M.mark oracle.old.marks) (M.mark oracle.new.marks)) }

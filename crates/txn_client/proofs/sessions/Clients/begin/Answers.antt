@@ -97,6 +97,9 @@ returns-in_err-start-clause-next g c = passed_none c.from_residual.result c.in_e
 pub returns-in_err-start-clause-stays : goal.returns-in_err-start-clause-stays
 returns-in_err-start-clause-stays g c = passed_kept c.from_residual.result _ refl
 
+pub returns-in_err-start-clause-range : goal.returns-in_err-start-clause-range
+returns-in_err-start-clause-range g c = passed_kept c.from_residual.result _ refl
+
 pub returns-in_err-start-clause-refusal : goal.returns-in_err-start-clause-refusal
 returns-in_err-start-clause-refusal g c = passed_err c.from_residual.result c.in_err-start.field-0.0 _ c.from_residual.ensures.1 (subst IsBeginRefusal (sym c.in_err-start.ensures.refusal.0) tt)
 
@@ -111,6 +114,9 @@ returns-in_err-make_session-clause-next g c = passed_none c.from_residual-in_err
 
 pub returns-in_err-make_session-clause-stays : goal.returns-in_err-make_session-clause-stays
 returns-in_err-make_session-clause-stays g c = passed_kept c.from_residual-in_err-make_session.result _ refl
+
+pub returns-in_err-make_session-clause-range : goal.returns-in_err-make_session-clause-range
+returns-in_err-make_session-clause-range g c = passed_kept c.from_residual-in_err-make_session.result _ refl
 
 pub returns-in_err-make_session-clause-refusal : goal.returns-in_err-make_session-clause-refusal
 returns-in_err-make_session-clause-refusal g c = passed_err c.from_residual-in_err-make_session.result c.in_err-make_session.field-0.0 _ c.from_residual-in_err-make_session.ensures.1 (subst IsBeginRefusal (sym c.in_err-make_session.ensures.refusal) tt)
@@ -130,6 +136,9 @@ returns-in-Ok-clause-exhausted g c = λ is. absurd (not_refused _ _ is)
 pub returns-in-Err-clause-stays : goal.returns-in-Err-clause-stays
 returns-in-Err-clause-stays g c = c.in-Err.ensures.err.last
 
+pub returns-in-Err-clause-range : goal.returns-in-Err-clause-range
+returns-in-Err-clause-range g c = c.in-Err.ensures.err.range_end
+
 pub returns-in-Err-clause-refusal : goal.returns-in-Err-clause-refusal
 returns-in-Err-clause-refusal g c = draw_begin c.in-Err.refusal c.in-Err.ensures.refusals
 
@@ -141,6 +150,9 @@ returns-then-len-ge-MOST_SESSIONS-clause-next g c = tt
 
 pub returns-then-len-ge-MOST_SESSIONS-clause-stays : goal.returns-then-len-ge-MOST_SESSIONS-clause-stays
 returns-then-len-ge-MOST_SESSIONS-clause-stays g c = refl
+
+pub returns-then-len-ge-MOST_SESSIONS-clause-range : goal.returns-then-len-ge-MOST_SESSIONS-clause-range
+returns-then-len-ge-MOST_SESSIONS-clause-range g c = refl
 
 pub returns-then-len-ge-MOST_SESSIONS-clause-refusal : goal.returns-then-len-ge-MOST_SESSIONS-clause-refusal
 returns-then-len-ge-MOST_SESSIONS-clause-refusal g c = tt
@@ -156,6 +168,9 @@ returns-then-len-ge-MOST_SESSIONS-clause-exhausted g c = λ is. absurd (too_many
 
 pub returns-in-Ok-clause-stays : goal.returns-in-Ok-clause-stays
 returns-in-Ok-clause-stays g c = tt
+
+pub returns-in-Ok-clause-range : goal.returns-in-Ok-clause-range
+returns-in-Ok-clause-range g c = tt
 
 pub returns-in-Ok-clause-refusal : goal.returns-in-Ok-clause-refusal
 returns-in-Ok-clause-refusal g c = tt
