@@ -1,20 +1,20 @@
 -- How reads join, and how they end.
-use Rattle.std.proofs.Common.{◌≡◌, ◌==◌, ℕ, ◌+◌, ◌<◌, ◌≤◌, Bool, true, false, List, [], ◌∷◌, ◌++◌, length, map, take, Option, Some, None, Result, Ok, Err, IfErr, IfOk, inl, inr, refl, sym, ap, ◌∙◌, subst, arith, append_assoc, append-nil, length-append, length-take-le}
+use Rattle.std.proofs.Common.{◌≡◌, ◌==◌, ℕ, ◌+◌, ◌<◌, ◌≤◌, Bool, true, false, List, [], ◌∷◌, ◌++◌, length, map, take, Option, Some, None, Result, Ok, Err, IfErr, IfOk, inl, inr, refl, sym, ap, ◌∙◌, subst, arith, append_assoc, append-nil, length-append, length-take, length-take-le}
 use Rattle.std.specs.Io.KnownBytes.{Consumes, Appends, IsAtEnd, Keeps}
 use Rattle.std.proofs.KnownBytes.{Consumes-trans, Consumes-nil, Appends-kept}
 use Rattle.std.proofs.lemmas.Bool.Decides.{nat_tests}
 use Rattle.si_model.specs.Machine.{State}
 use Rattle.request_codec.specs.declared.replies.Reply.{Reply as CodecReply}
 use Rattle.request_codec.specs.declared.requests.Request.{Request as Lent}
-use Rattle.request_codec.specs.Stream.{IsPartial}
+use Rattle.request_codec.specs.Stream.{frames, IsPartial}
 use Rattle.server_loop.specs.Runs.{Taken, Body}
-use Rattle.server_loop.specs.Serve.{taken_of, Answered, EndsBy, Handles, HandlesTo, IsRest, ReadsOn, Served, ServesOn, TakesBodies, WritesReplies}
+use Rattle.server_loop.specs.Serve.{most_left, taken_of, Answered, EndsBy, Handles, HandlesTo, IsRest, ReadsOn, Served, ServesOn, TakesBodies, WritesReplies}
 use Rattle.server_loop.specs.declared.statuses.End.{End}
 use Rattle.server_loop.specs.declared.statuses.End.TheVariants as ends
 use Rattle.server_loop.specs.declared.statuses.ServeFault.{ServeFault}
 use Rattle.server_loop.specs.declared.statuses.ServeFault.TheVariants as faults
 use Rattle.server_loop.specs.declared.serving.Rest.TheVariants as rests
-use Rattle.server_loop.proofs.ServingLemmas.{AnswersAs-none, Answered-more, Answered-none, Answered-then, Handles-after, BeginsNoFrame-from_large, BeginsNoFrame-from_partial, IsPartial-nil, taken-large, taken-partial}
+use Rattle.server_loop.proofs.ServingLemmas.{AnswersAs-none, Answered-more, Answered-none, Answered-then, Handles-after, BeginsNoFrame-from_large, BeginsNoFrame-from_partial, has_room, IsPartial-nil, taken-large, taken-partial}
 
 -- ---- bytes that stay
 
@@ -34,6 +34,22 @@ keeps_then (Some x) None j bs p q = absurd p
 keeps_then (Some x) (Some y) None bs p q = absurd q
 keeps_then (Some x) (Some y) (Some z) bs p q = q ∙ ap (λ l. l ++ bs) p
 
+-- ---- what is left
+
+partial_within : (hand : List ℕ) → IsPartial hand → length hand ≤ most_left
+partial_within hand partial = let few : length hand < 1048580 = has_room hand partial in omega (arith, few)
+
+-- of a part of a frame and one piece
+left_within : (hand read rest : List ℕ) (bodies : List (List ℕ)) → IsPartial hand → length read ≤ 65536 → hand ++ read ≡ frames bodies ++ rest → length rest ≤ most_left
+left_within hand read rest bodies partial within whole =
+    let few : length hand < 1048580 = has_room hand partial in
+    let same : length (hand ++ read) ≡ length (frames bodies ++ rest) = ap length whole in
+    omega (arith, few, within, same, length-append hand read, length-append (frames bodies) rest)
+
+-- what was read to the front of a piece
+pub taken_within : (n : ℕ) (buffer : List ℕ) → length buffer ≤ 65536 → length (take n buffer) ≤ 65536
+taken_within n buffer within = omega (arith, within, length-take n buffer)
+
 -- ---- ends
 
 EndsBy-after : (result : Result End ServeFault) (r s : ℕ) (front read rest : List ℕ) (left h i j k : Option (List ℕ)) → (result ≡ Err faults.NoMemory → ⊥) → r ≤ s + length front
@@ -43,15 +59,22 @@ EndsBy-after (Ok ends.Truncated) r s front read rest left h i j k known counted 
 EndsBy-after (Ok ends.TooLarge) r s front read rest left h i j k known counted p = p
 EndsBy-after (Ok ends.ReadsUsedUp) r s front read rest left h i j k known counted p = (omega (arith, length-append front read, p.0), p.1)
 EndsBy-after (Err faults.Read) r s front read rest left h i j k known counted p = p
-EndsBy-after (Err faults.Write) r s front read rest left h i j k known counted p = tt
+EndsBy-after (Err faults.Write) r s front read rest left h i j k known counted p = p
 EndsBy-after (Err faults.NoMemory) r s front read rest left h i j k known counted p = absurd (known refl)
 
 -- what an end takes is taken too where the last flush fails
 takes_so : (end : End) (bodies : List (List ℕ)) (r : ℕ) (read rest : List ℕ) (left h i : Option (List ℕ)) (taken : List Taken) → EndsBy (Ok end) r read rest left h i → taken ≡ taken_of bodies rest → TakesBodies (Err faults.Write) bodies rest taken
 takes_so ends.Clean bodies r read rest left h i taken p q = inl (q ∙ sym (taken-partial bodies rest (subst IsPartial (sym p.0) IsPartial-nil)))
 takes_so ends.Truncated bodies r read rest left h i taken p q = inl (q ∙ sym (taken-partial bodies rest p.1))
-takes_so ends.TooLarge bodies r read rest left h i taken p q = inr (p, q ∙ sym (taken-large bodies rest p))
+takes_so ends.TooLarge bodies r read rest left h i taken p q = inr (p.0, q ∙ sym (taken-large bodies rest p.0))
 takes_so ends.ReadsUsedUp bodies r read rest left h i taken p q = inl (q ∙ sym (taken-partial bodies rest p.1))
+
+-- and as much is left
+left_so : (end : End) (r : ℕ) (read rest : List ℕ) (left h i : Option (List ℕ)) → EndsBy (Ok end) r read rest left h i → length rest ≤ most_left
+left_so ends.Clean r read rest left h i p = partial_within rest (subst IsPartial (sym p.0) IsPartial-nil)
+left_so ends.Truncated r read rest left h i p = partial_within rest p.1
+left_so ends.TooLarge r read rest left h i p = p.1
+left_so ends.ReadsUsedUp r read rest left h i p = partial_within rest p.1
 
 nothing_taken : (result : Result End ServeFault) (rest : List ℕ) → IsPartial rest → TakesBodies result [] rest []
 nothing_taken (Ok end) rest p = taken-partial [] rest p
@@ -95,7 +118,7 @@ module _ {S : Type 0} (shows : S → State → Type 0) (says : S → Lent → Co
       → ReadsOn shows says between result hand hand' a a l l h i r s
   flush_fails result fault hand hand' a l h i r s is write partial keeps =
       subst (λ (x : Result (Option End) ServeFault). ReadsOn shows says between x hand hand' a a l l h i r s) (sym (is ∙ ap (λ f. Err f) write))
-      (ServesOn-none (Err faults.Write) hand a l l h i r (Consumes-nil l) partial keeps tt)
+      (ServesOn-none (Err faults.Write) hand a l l h i r (Consumes-nil l) partial keeps (partial_within hand partial))
 
   -- ---- a read that gave bytes
 
@@ -116,40 +139,40 @@ module _ {S : Type 0} (shows : S → State → Type 0) (says : S → Lent → Co
   kept_answered : (a b : S) (bytes rest : List ℕ) (h i j : Option (List ℕ)) → Keeps h i → Answered shows says between a b bytes rest i j → Answered shows says between a b bytes rest h j
   kept_answered a b bytes rest h i j keeps p = record { bodies = p.bodies; whole = p.whole; each = p.each; replies = p.replies; run = p.run; appended = keeps_then h i j _ keeps p.appended }
 
-  cut_short : (a b : S) (hand read rest : List ℕ) (l m h i j : Option (List ℕ)) (r : ℕ) → Consumes l m read → Keeps h i → Handles shows says between (Err faults.Write) a b (hand ++ read) rest i j
+  cut_short : (a b : S) (hand read rest : List ℕ) (l m h i j : Option (List ℕ)) (r : ℕ) → Consumes l m read → IsPartial hand → length read ≤ 65536 → Keeps h i → Handles shows says between (Err faults.Write) a b (hand ++ read) rest i j
       → ServesOn shows says between hand a b l m h j r (Err faults.Write)
-  cut_short a b hand read rest l m h i j r consumed keeps p = record {
+  cut_short a b hand read rest l m h i j r consumed partial within keeps p = record {
     read = read;
     consumed = consumed;
     rest = rest;
     open_rest = λ other. absurd (other refl);
     handled = kept_handled (Err faults.Write) a b (hand ++ read) rest h i j keeps p;
-    ending = tt;
+    ending = left_within hand read rest p.bodies partial within p.whole;
   }
 
-  fails_so : (fault : ServeFault) (a b : S) (hand hand' read rest : List ℕ) (l m h i j : Option (List ℕ)) (r s : ℕ) → Consumes l m read → Keeps h i → HandlesTo shows says between (Err fault) a b (hand ++ read) rest i j
+  fails_so : (fault : ServeFault) (a b : S) (hand hand' read rest : List ℕ) (l m h i j : Option (List ℕ)) (r s : ℕ) → Consumes l m read → IsPartial hand → length read ≤ 65536 → Keeps h i → HandlesTo shows says between (Err fault) a b (hand ++ read) rest i j
       → ReadsOn shows says between (Err fault) hand hand' a b l m h j r s
-  fails_so faults.Write a b hand hand' read rest l m h i j r s consumed keeps p = cut_short a b hand read rest l m h i j r consumed keeps p
-  fails_so faults.Read a b hand hand' read rest l m h i j r s consumed keeps p = absurd p
-  fails_so faults.NoMemory a b hand hand' read rest l m h i j r s consumed keeps p = absurd p
+  fails_so faults.Write a b hand hand' read rest l m h i j r s consumed partial within keeps p = cut_short a b hand read rest l m h i j r consumed partial within keeps p
+  fails_so faults.Read a b hand hand' read rest l m h i j r s consumed partial within keeps p = absurd p
+  fails_so faults.NoMemory a b hand hand' read rest l m h i j r s consumed partial within keeps p = absurd p
 
   -- the piece was not answered to its end
-  pub read_fails : (result : Result (Option End) ServeFault) (fault : ServeFault) (a b : S) (hand hand' read : List ℕ) (l m h i j : Option (List ℕ)) (r s : ℕ) → result ≡ Err fault → Consumes l m read → Keeps h i
+  pub read_fails : (result : Result (Option End) ServeFault) (fault : ServeFault) (a b : S) (hand hand' read : List ℕ) (l m h i j : Option (List ℕ)) (r s : ℕ) → result ≡ Err fault → Consumes l m read → IsPartial hand → length read ≤ 65536 → Keeps h i
       → ((rest : List ℕ) × IsRest (Err fault) rest hand' × HandlesTo shows says between (Err fault) a b (hand ++ read) rest i j) → ReadsOn shows says between result hand hand' a b l m h j r s
-  read_fails result fault a b hand hand' read l m h i j r s is consumed keeps p =
+  read_fails result fault a b hand hand' read l m h i j r s is consumed partial within keeps p =
       subst (λ (x : Result (Option End) ServeFault). ReadsOn shows says between x hand hand' a b l m h j r s) (sym is)
-      (fails_so fault a b hand hand' read p.0 l m h i j r s consumed keeps p.2)
+      (fails_so fault a b hand hand' read p.0 l m h i j r s consumed partial within keeps p.2)
 
   -- a length past the limit stands in it
-  pub read_large : (a b : S) (hand hand' read : List ℕ) (l m h i j : Option (List ℕ)) (r : ℕ) → Consumes l m read → Keeps h i
+  pub read_large : (a b : S) (hand hand' read : List ℕ) (l m h i j : Option (List ℕ)) (r : ℕ) → Consumes l m read → IsPartial hand → length read ≤ 65536 → Keeps h i
       → ((rest : List ℕ) × IsRest (Ok rests.TooLarge) rest hand' × HandlesTo shows says between (Ok rests.TooLarge) a b (hand ++ read) rest i j) → ServesOn shows says between hand a b l m h j r (Ok ends.TooLarge)
-  read_large a b hand hand' read l m h i j r consumed keeps p = record {
+  read_large a b hand hand' read l m h i j r consumed partial within keeps p = record {
     read = read;
     consumed = consumed;
     rest = p.0;
     open_rest = λ _. BeginsNoFrame-from_large p.0 p.2.0;
     handled = kept_handled (Ok ends.TooLarge) a b (hand ++ read) p.0 h i j keeps p.2.1;
-    ending = p.2.0;
+    ending = (p.2.0, left_within hand read p.0 p.2.1.bodies partial within p.2.1.whole);
   }
 
   -- or it was answered, and the input goes on
@@ -281,7 +304,7 @@ module _ {S : Type 0} (shows : S → State → Type 0) (says : S → Lent → Co
       writes = inl p.handled.writes;
       appended = Appends-kept h i j p.handled.written p.handled.appended keeps;
     };
-    ending = tt;
+    ending = left_so end r p.read p.rest m h i p.ending;
   }
 
   pub finished : (result : Result End ServeFault) (end : End) (a b : S) (hand : List ℕ) (l m h i j : Option (List ℕ)) (r : ℕ) → Keeps i j → IfOk result (λ is. is ≡ end) → IfErr result (λ fault. fault ≡ faults.Write)

@@ -33,7 +33,7 @@ module _ {S : Type 0} (shows : S → State → Type 0) (says : S → Lent → Co
   past : (a b : S) (stream rest' : List ℕ) (h i : Option (List ℕ)) (r : ℕ) (p : Serves shows says between a b (Some stream) (Some rest') h i r (Ok ends.TooLarge)) → ServesStream shows says between a b stream h i ends.TooLarge
   past a b stream rest' h i r p =
       let q = p.handled in
-      let large = IsTooLong-more p.rest rest' p.ending in
+      let large = IsTooLong-more p.rest rest' p.ending.0 in
       record {
         bodies = q.bodies;
         rest = p.rest ++ rest';
@@ -44,7 +44,7 @@ module _ {S : Type 0} (shows : S → State → Type 0) (says : S → Lent → Co
         };
         rest_is = large;
         replies = q.replies;
-        run = subst (λ (ts : List Taken). AnswersAs shows says between a b ts q.replies) (q.takes ∙ sym (taken-large q.bodies p.rest p.ending) ∙ taken-large q.bodies (p.rest ++ rest') large) (record { run = q.run; said = q.writes.0 });
+        run = subst (λ (ts : List Taken). AnswersAs shows says between a b ts q.replies) (q.takes ∙ sym (taken-large q.bodies p.rest p.ending.0) ∙ taken-large q.bodies (p.rest ++ rest') large) (record { run = q.run; said = q.writes.0 });
         appended = subst (Appends h i) q.writes.1 q.appended;
       }
 

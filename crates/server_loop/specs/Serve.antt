@@ -71,6 +71,10 @@ WritesReplies says between result old new taken replies written =
 
 -- ---- how it ends
 
+-- the most bytes that are taken and not answered: less than a frame, and one piece of the input
+abbrev pub most_left : ℕ
+most_left = longest + 3 + 65536
+
 -- How each end comes about, by the bytes that were read, their rest, what the reader has left and
 -- what the writer holds.
 abbrev pub EndsBy : Result End ServeFault → ℕ → List ℕ → List ℕ → Option (List ℕ) → Option (List ℕ)
@@ -78,11 +82,12 @@ abbrev pub EndsBy : Result End ServeFault → ℕ → List ℕ → List ℕ → 
 EndsBy (Ok ends.Clean) most_reads read rest left held held' = (rest ≡ []) × IsAtEnd left
 EndsBy (Ok ends.Truncated) most_reads read rest left held held' =
     (0 < length rest) × IsPartial rest × IsAtEnd left
-EndsBy (Ok ends.TooLarge) most_reads read rest left held held' = IsTooLong rest
+EndsBy (Ok ends.TooLarge) most_reads read rest left held held' =
+    IsTooLong rest × (length rest ≤ most_left)
 EndsBy (Ok ends.ReadsUsedUp) most_reads read rest left held held' =
     (most_reads ≤ length read) × IsPartial rest
 EndsBy (Err faults.Read) most_reads read rest left held held' = IsPartial rest
-EndsBy (Err faults.Write) most_reads read rest left held held' = ⊤
+EndsBy (Err faults.Write) most_reads read rest left held held' = length rest ≤ most_left
 EndsBy (Err faults.NoMemory) most_reads read rest left held held' = (read ≡ []) × Keeps held held'
 
 -- ---- what was done with bytes

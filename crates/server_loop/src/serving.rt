@@ -177,6 +177,7 @@ fn serve_read<A: Answering, R: Read, W: Write>(
 ) -> Result<Option<End>, ServeFault>
     requires room { LONGEST_REPLY ≤ vec_capacity out.old }
     requires piece { 0 < length piece.old }
+    requires within { length piece.old ≤ LONGEST_PIECE }
     requires reads { 0 < reads_left.old }
     requires partial { IsPartial framer.old }
     ensures reads { ReadsOn A.shows A.says A.between result framer.old framer.new server.old

@@ -13,7 +13,8 @@ pub enum End {
     Clean,
     /// Inside a frame.
     Truncated,
-    /// At a frame whose length is past the limit. It was refused, and nothing of its body was read.
+    /// At a frame whose length is past the limit. It was refused, and no piece was read after the one in which its length
+    /// ends.
     TooLarge,
     /// After as many reads as were permitted.
     ReadsUsedUp,

@@ -3,7 +3,7 @@ use Rattle.std.proofs.lemmas.Bool.Decides.{nat_tests}
 use Rattle.std.proofs.lemmas.Result.{err_from_is_err_and}
 use Rattle.server_loop.specs.declared.statuses.End.TheVariants as ends
 use Rattle.server_loop.specs.declared.statuses.ServeFault.TheVariants as faults
-use Rattle.server_loop.proofs.StreamReads.{at_its_end, flush_fails, none_held, read_fails, read_large, read_on, reads_none, ServesOn-none, some_held}
+use Rattle.server_loop.proofs.StreamReads.{at_its_end, flush_fails, none_held, read_fails, read_large, read_on, reads_none, ServesOn-none, some_held, taken_within}
 use Rattle.server_loop.proofs.serving.serve_read.Goals as goal
 
 pub returns-in_err-flush-clause-reads : goal.returns-in_err-flush-clause-reads
@@ -29,7 +29,7 @@ returns-in-Ok-eq0-2-clause-reads g c =
 
 pub returns-in-TooLarge-clause-reads : goal.returns-in-TooLarge-clause-reads
 returns-in-TooLarge-clause-reads g c =
-    read_large _ _ _ _ _ _ c.serve_piece.new.framer _ _ _ _ _ _ _ c.in-Ok.ensures.bytes.0 c.in_ok-flush.ensures.kept (rw c.in-TooLarge.is at c.in_ok-serve_piece-in-Ok.ensures.handles)
+    read_large _ _ _ _ _ _ c.serve_piece.new.framer _ _ _ _ _ _ _ c.in-Ok.ensures.bytes.0 c.requires.partial (taken_within _ c.read.new.buf (omega (arith, c.requires.within, c.read.auto.buf))) c.in_ok-flush.ensures.kept (rw c.in-TooLarge.is at c.in_ok-serve_piece-in-Ok.ensures.handles)
 
 pub returns-in-Err-clause-reads : goal.returns-in-Err-clause-reads
 returns-in-Err-clause-reads g c =
@@ -44,4 +44,4 @@ returns-in_err-serve_piece-in-Ok-clause-reads g c =
     let fault = c.in_err-serve_piece-in-Ok.field-0.0 in
     let p = err_from_is_err_and c.from_residual-in_err-serve_piece-in-Ok.result c.from_residual-in_err-serve_piece-in-Ok.ensures.1 in
     let is : c.from_residual-in_err-serve_piece-in-Ok.result ≡ Err fault = p.1 ∙ ap (λ x. Err x) p.2 in
-    read_fails _ _ _ _ fault _ _ _ _ _ _ _ _ _ _ _ _ is c.in-Ok.ensures.bytes.0 c.in_ok-flush.ensures.kept c.in_err-serve_piece-in-Ok.ensures.handles
+    read_fails _ _ _ _ fault _ _ _ _ _ _ _ _ _ _ _ _ is c.in-Ok.ensures.bytes.0 c.requires.partial (taken_within _ c.read.new.buf (omega (arith, c.requires.within, c.read.auto.buf))) c.in_ok-flush.ensures.kept c.in_err-serve_piece-in-Ok.ensures.handles
