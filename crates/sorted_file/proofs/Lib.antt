@@ -11,6 +11,7 @@ mod Keeping
 mod LookUps
 mod NextBlocks
 mod Numbered
+mod Opened
 mod OpenBlocks
 mod OpenFiles
 mod Places

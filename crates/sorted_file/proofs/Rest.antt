@@ -1,12 +1,13 @@
 -- A source is written as a file.
 use Rattle.std.proofs.Common.{◌≡◌, ℕ, ◌+◌, ◌≤◌, ◌<◌, ◌^◌, ◌⊎◌, inl, inr, false, List, [], ◌∷◌, ◌++◌, length, refl, sym, ap, subst, ◌∙◌, arith, length-append, append_assoc}
-use Rattle.std.specs.Prelude.{flat_map, Option, Some, None, is_some}
+use Rattle.std.specs.Prelude.{flat_map, Option, Some, None, is_some, IsSome}
 use Rattle.std.proofs.lemmas.List.Concat.{flat_map-append}
 use Rattle.cell_key.specs.Entries.{Entry, spelled, entry_len, Takes}
 use Rattle.file_store.specs.Store.{Contents, KeepsOthers}
 use Rattle.std.specs.List.{AllByRecursion}
 use Rattle.sorted_file.specs.Grammar.{FitsIn, IsShortEntry, body, head}
 use Rattle.sorted_file.specs.declared.format.Format.TheVariants.{Two}
+use Rattle.sorted_file.specs.Source.{ComesToEnd, ends, goes_on}
 use Rattle.sorted_file.specs.Builder.{State, IsBuilt, with_open}
 use Rattle.sorted_file.proofs.Spelling.{body-whole, is_cut}
 
@@ -71,3 +72,18 @@ takes_some o e old new is t = subst (λ (q : Option Entry). Takes q old new) is 
 pub takes_none : (o : Option Entry) (old new : List Entry) → is_some o ≡ false → Takes o old new → old ≡ []
 takes_none None old new is t = t.0
 takes_none (Some e) old new is t = cc
+
+-- ---- a source comes to its end
+
+module _ {S : Type 0} (steps : Option Contents → S → S → Type 0) (lent : S → Option Entry) where
+  -- a step over files that hold the same, to an entry
+  pub step_on : (was disk : Option Contents) (s t : S) (e : Entry) → was ≡ disk → steps was s t → lent t ≡ Some e → ComesToEnd (steps disk) lent t → ComesToEnd (steps disk) lent s
+  step_on was disk s t e same step some h = goes_on (subst (λ (d : Option Contents). steps d s t) same step) (subst (λ (o : Option Entry). IsSome o) (sym some) tt) h
+
+  -- and to none
+  pub step_end : (was disk : Option Contents) (s t : S) → was ≡ disk → steps was s t → is_some (lent t) ≡ false → ComesToEnd (steps disk) lent s
+  step_end was disk s t same step none = ends (subst (λ (d : Option Contents). steps d s t) same step) (none_of (lent t) none)
+    where
+      none_of : (o : Option Entry) → is_some o ≡ false → o ≡ None
+      none_of None e = refl
+      none_of (Some e) p = cc

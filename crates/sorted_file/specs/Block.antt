@@ -1,5 +1,8 @@
 -- Blocks of entries: their bytes, and what is found there.
-use Rattle.std.specs.Prelude.{List, map, option_map, ◌≡◌, None, ℕ, ◌+◌, ◌<◌, [], ◌∷◌, length, Option, Some, ◌^◌}
+use Rattle.std.specs.Prelude.{List, map, option_map, ◌≡◌, None, ℕ, ◌+◌, ◌<◌, [], ◌∷◌, ◌++◌, length, Option, Some, ◌^◌}
+use Rattle.std.specs.List.{AllByRecursion}
+use Rattle.std.specs.declared.cmp.Ordering.TheVariants.{Greater}
+use Rattle.cell_key.specs.Keys.{byte_cmp}
 use Rattle.cell_key.specs.Entries.{Entry, IsEntryList, spelled}
 use Rattle.file_store.specs.Store.{part}
 use Rattle.sorted_file.specs.Grammar.{block_bytes, Fits}
@@ -57,3 +60,9 @@ bytes_at bytes extent = part bytes extent.offset extent.length
 
 abbrev pub entry_at : List ℕ → EntryExtent → Entry
 entry_at bytes extent = (bytes_at bytes extent.key, option_map (bytes_at bytes) extent.value)
+
+-- bytes are those of entries with texts below this one, and then the rest
+pub record IsBehind (text bytes rest : List ℕ) : Type 0 where
+  pub before : List Entry
+  pub below : AllByRecursion (λ e. byte_cmp text e.0 ≡ Greater) before
+  pub bytes_are : bytes ≡ block_bytes before ++ rest

@@ -1,11 +1,11 @@
 -- What a cursor of an open file stands for, over files.
-use Rattle.std.specs.Prelude.{◌≡◌, ℕ, ◌+◌, ◌-◌, ◌<◌, ◌^◌, nat_le, if◌then◌else◌, List, [], ◌∷◌, ◌++◌, length, drop, Option, Some, None, option_map, IsSomeAnd}
+use Rattle.std.specs.Prelude.{◌≡◌, ℕ, ◌+◌, ◌-◌, ◌<◌, ◌^◌, nat_le, if◌then◌else◌, List, [], ◌∷◌, ◌++◌, length, drop, Option, Some, None, option_map, IfSome, IsSomeAnd}
 use Rattle.std.specs.Option.{option_copied}
-use Rattle.cell_key.specs.Entries.{Entry, IsEntryList, entries_from}
-use Rattle.file_store.specs.Store.{Contents}
+use Rattle.cell_key.specs.Entries.{Entry, IsEntryList, entries_from, spelled}
+use Rattle.file_store.specs.Store.{Contents, bytes_of, part}
 use Rattle.sorted_file.specs.Index.{block_of, blocks_of, entries_in, AreBlocksIn}
 use Rattle.sorted_file.specs.Grammar.{block_bytes}
-use Rattle.sorted_file.specs.Block.{entry_at}
+use Rattle.sorted_file.specs.Block.{entry_at, IsBehind}
 use Rattle.sorted_file.specs.Source.{pending}
 use Rattle.sorted_file.specs.declared.block.BlockRow.{BlockRow}
 use Rattle.sorted_file.specs.declared.cursor.FileCursor.{FileCursor}
@@ -56,3 +56,32 @@ bytes_left (row ∷ rows) = row.length + bytes_left rows
 
 abbrev pub cursor_left : FileCursor → ℕ
 cursor_left s = block_left s + bytes_left s.rows.now
+
+-- what stands at a row's place now, in its whole length, is entries with texts below this one, and
+-- then the rest
+pub record IsOpened (m : Contents) (name : ℕ) (from : List ℕ) (row : BlockRow) (rest : List ℕ) : Type 0 where
+  pub whole : length (part (bytes_of m name) row.offset row.length) ≡ row.length
+  pub behind : IsBehind from (part (bytes_of m name) row.offset row.length) rest
+
+-- Before these bytes of a block and these rows there is this entry, or none, and then there are these
+-- bytes and rows: an entry stands there, or no more rows are there, or the next row's block is opened.
+pub data GoesOn (disk : Option Contents) (name : ℕ) (from : List ℕ)
+    : List ℕ → List BlockRow → Option Entry → List ℕ → List BlockRow → Type 0 where
+  takes : {e : Entry} {rest : List ℕ} {rows : List BlockRow}
+      → GoesOn disk name from (spelled e ++ rest) rows (Some e) rest rows
+  ends : GoesOn disk name from [] [] None [] []
+  opens : {row : BlockRow} {rows later : List BlockRow} {bytes rest : List ℕ} {lent : Option Entry}
+      → IfSome disk (λ m. IsOpened m name from row bytes)
+      → GoesOn disk name from bytes rows lent rest later
+      → GoesOn disk name from [] (row ∷ rows) lent rest later
+
+-- the bytes of its block that it has not come to
+abbrev pub bytes_ahead : FileCursor → List ℕ
+bytes_ahead s = drop s.at s.block.items
+
+-- a cursor goes on by one step, through what the files hold now
+pub record CursorSteps (disk : Option Contents) (s t : FileCursor) : Type 0 where
+  pub name : t.name ≡ s.name
+  pub from : t.from.now ≡ s.from.now
+  pub goes : GoesOn disk s.name s.from.now (bytes_ahead s) s.rows.now (cursor_lent t)
+      (bytes_ahead t) t.rows.now

@@ -1,5 +1,5 @@
 -- What a source answers.
-use Rattle.std.specs.Prelude.{List, ◌++◌, Option}
+use Rattle.std.specs.Prelude.{◌≡◌, List, ◌++◌, Option, None, IsSome}
 use Rattle.std.specs.Option.{option_to_list}
 use Rattle.cell_key.specs.Entries.{Entry, IsEntryList}
 use Rattle.cell_key.specs.declared.refusals.Refusal.{Refusal}
@@ -32,3 +32,8 @@ IsWriteRefusal refusal = IsReadRefusal refusal
 abbrev pub fault_refusal : FileFault → Refusal
 fault_refusal Device = refused.Device
 fault_refusal Memory = refused.NoMemory
+
+-- by one step after the other, each but the last to an entry, a source comes to its end
+pub data ComesToEnd {S : Type 0} (steps : S → S → Type 0) (lent : S → Option Entry) : S → Type 0 where
+  ends : {s t : S} → steps s t → lent t ≡ None → ComesToEnd steps lent s
+  goes_on : {s t : S} → steps s t → IsSome (lent t) → ComesToEnd steps lent t → ComesToEnd steps lent s

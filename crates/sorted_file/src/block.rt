@@ -8,7 +8,7 @@ ghost use Rattle.cell_key.specs.Keys.{byte_cmp};
 ghost use Rattle.sorted_file.specs.Index.{first_of, IsRowPosition, blocks_of, AreRows};
 ghost use Rattle.sorted_file.specs.Check.{IsFollowed};
 ghost use Rattle.sorted_file.specs.Grammar.{block_bytes, Fits};
-ghost use Rattle.sorted_file.specs.Block.{entries_of, IsSpelling, BeginsWith, IsParsed, bytes_at, entry_at, first_value};
+ghost use Rattle.sorted_file.specs.Block.{entries_of, IsBehind, IsSpelling, BeginsWith, IsParsed, bytes_at, entry_at, first_value};
 ghost use Rattle.sorted_file.specs.File.{IsShortValue, value_bytes};
 ghost use Rattle.sorted_file.specs.Source.{IsReadRefusal};
 
@@ -254,6 +254,7 @@ pub(crate) fn bytes_from<'a>(bytes: &'a [u8], text: &[u8]) -> Option<&'a [u8]>
     requires { length bytes.now < 2 ^ 32 }
     ensures found { IfSome result (λ rest. (es : List Entry) → IsRising es
         → bytes.now ≡ block_bytes es → rest.now ≡ block_bytes (entries_from text.now es)) }
+    ensures behind { IfSome result (λ rest. IsBehind text.now bytes.now rest.now) }
     ensures shorter { IfSome result (λ rest. length rest.now ≤ length bytes.now) }
     ensures none { IfNone result ((es : List Entry) → IsRising es → bytes.now ≢ block_bytes es) }
 {

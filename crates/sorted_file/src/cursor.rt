@@ -1,8 +1,9 @@
 //! A cursor over the entries of an open file. It holds the bytes of one block.
 
-ghost use Rattle.std.specs.Prelude.{◌≡◌, ◌<◌, ◌^◌, List, ℕ, length, drop, IfOk, IfErr, IsErrOf};
+ghost use Rattle.std.specs.Prelude.{◌≡◌, ◌<◌, ◌^◌, List, ℕ, length, drop, IfOk, IfErr, IfSome, IsErrOf};
 ghost use Rattle.cell_key.specs.Entries.{entries_from};
 ghost use Rattle.cell_key.specs.Faults.{HasReason};
+ghost use Rattle.sorted_file.specs.Cursor.{IsOpened};
 ghost use Rattle.sorted_file.specs.Index.{block_of, IsBlockIn, Tells};
 ghost use Rattle.sorted_file.specs.Grammar.{block_bytes};
 ghost use Rattle.sorted_file.specs.Source.{IsReadRefusal};
@@ -73,6 +74,8 @@ impl<'a> FileCursor<'a> {
             → Tells (F.contents files.old) self.now.name image → IsBlockIn image row.now
             → drop read.1 read.0.items
             ≡ block_bytes (entries_from self.now.from.now (block_of row.now))) }
+        ensures opened { IfOk result (λ read. IfSome (F.contents files.old) (λ m.
+            IsOpened m self.now.name self.now.from.now row.now (drop read.1 read.0.items))) }
         ensures length { IfOk result (λ read. length read.0.items ≡ row.now.length) }
         ensures small { IfOk result (λ read. length read.0.items < 2 ^ 32) }
         ensures damaged { IsErrOf result Refusal.Damaged → (image : List ℕ)
@@ -91,13 +94,15 @@ impl<'a> FileCursor<'a> {
 }
 
 impl<F: Files> Source<F> for FileCursor<'_> {
-    ghost use Rattle.sorted_file.specs.Cursor.{cursor_left, cursor_lent, cursor_list, cursor_remaining, CursorHolds};
+    ghost use Rattle.sorted_file.specs.Cursor.{cursor_left, cursor_lent, cursor_list, cursor_remaining, CursorHolds, CursorSteps};
 
     ghost holds = { CursorHolds };
 
     ghost remaining = { cursor_remaining };
 
     ghost lent = { cursor_lent };
+
+    ghost steps = { CursorSteps };
 
     ghost left = { cursor_left };
 

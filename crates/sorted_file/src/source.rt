@@ -1,9 +1,9 @@
 //! Where entries come from: parts of files, and sources, which give one entry after the other.
 
-ghost use Rattle.std.specs.Prelude.{◌≡◌, ◌≤◌, ◌+◌, ℕ, List, Option, option_map, is_some, IfOk, OnOk, IsErrOf, IfErr, if◌then◌else◌, length, ◌<◌};
+ghost use Rattle.std.specs.Prelude.{◌≡◌, ◌≤◌, ◌+◌, ℕ, List, Option, option_map, is_some, IfOk, OnOk, IsErrOf, IfErr, IfSome, if◌then◌else◌, length, ◌<◌};
 ghost use Rattle.cell_key.specs.Entries.{Entry, IsEntryList, Takes, lent_entry};
 ghost use Rattle.cell_key.specs.Faults.{HasReason};
-ghost use Rattle.file_store.specs.Store.{Contents, Reads, part};
+ghost use Rattle.file_store.specs.Store.{Contents, Reads, bytes_of, part};
 ghost use Rattle.sorted_file.specs.Index.{Tells};
 ghost use Rattle.sorted_file.specs.Source.{IsReadRefusal, pending, fault_refusal};
 
@@ -24,6 +24,10 @@ pub trait Source<F: Files> {
     /// The entry that it is at.
     ghost lent: { Self → Option Entry };
 
+    /// Over files that hold this it goes on by one step from the one to the other, through bytes that are entries,
+    /// whatever stood there before.
+    ghost steps: { Option Contents → Self → Self → Type 0 };
+
     /// At most how many entries it can come to, whatever the files give.
     ghost left: { Self → ℕ };
 
@@ -38,6 +42,7 @@ pub trait Source<F: Files> {
         ensures more { IfOk result (λ more. more ≡ is_some (lent self.new)) }
         ensures lower { IfOk result (λ more.
             left self.new + (if more then 1 else 0) ≤ left self.old) }
+        ensures steps { OnOk result (steps (F.contents files.old) self.old self.new) }
         ensures holds { OnOk result (holds (F.contents files.old) self.old
             → holds (F.contents files.old) self.new) }
         ensures takes { OnOk result (holds (F.contents files.old) self.old
@@ -72,6 +77,8 @@ fn read_into<F: Files>(
     ensures within { IfOk result (λ n. n ≤ length buffer.old) }
     ensures read { IfOk result (λ n. (image : List ℕ) → Tells (F.contents files.old) name image
         → Reads image offset buffer.old buffer.new n) }
+    ensures now { IfOk result (λ n. IfSome (F.contents files.old) (λ m.
+        Reads (bytes_of m name) offset buffer.old buffer.new n)) }
     ensures refusal { IfErr result IsReadRefusal }
     ensures sound { ¬ IsErrOf result Refusal.Damaged }
     ensures same { F.contents files.new ≡ F.contents files.old }
@@ -91,6 +98,8 @@ pub(crate) fn read_part<F: Files>(
 ) -> Result<Vec<u8>, Refusal>
     ensures part { IfOk result (λ bytes. (image : List ℕ)
         → Tells (F.contents files.old) name image → bytes.items ≡ part image offset len) }
+    ensures now { IfOk result (λ bytes. IfSome (F.contents files.old) (λ m.
+        bytes.items ≡ part (bytes_of m name) offset len)) }
     ensures length { IfOk result (λ bytes. length bytes.items ≡ len) }
     ensures damaged { IsErrOf result Refusal.Damaged → (image : List ℕ)
         → Tells (F.contents files.old) name image → length image < offset + len }

@@ -5,7 +5,7 @@ ghost use Rattle.cell_key.specs.Faults.{HasReason};
 ghost use Rattle.file_store.specs.Store.{KeepsOthers, with_file};
 ghost use Rattle.sorted_file.specs.Grammar.{IsFile, FitsIn};
 ghost use Rattle.sorted_file.specs.Limits.{IsFileLimit};
-ghost use Rattle.sorted_file.specs.Source.{IsWriteRefusal};
+ghost use Rattle.sorted_file.specs.Source.{ComesToEnd, IsWriteRefusal};
 
 use crate::builder::FileBuilder;
 use crate::format::Format;
@@ -24,6 +24,8 @@ fn image_of_rest<F: Files, S: Source<F>>(
     requires { 8 ≤ limit }
     ensures file { IfOk result (λ image. S.holds (F.contents files.old) source.old
         → IsFile Format.Two (S.remaining (F.contents files.old) source.old) image.items) }
+    ensures comes { OnOk result
+        (ComesToEnd (S.steps (F.contents files.old)) S.lent source.old) }
     ensures within { IfOk result (λ image. length image.items ≤ limit) }
     ensures large { IsErrOf result Refusal.FileTooLarge → S.holds (F.contents files.old) source.old
         → ¬ FitsIn limit (S.remaining (F.contents files.old) source.old) }
@@ -70,6 +72,8 @@ pub fn write_file<F: Files, S: Source<F>>(
         × ((F.contents files.new ≡ with_file name image (F.contents files.old))
         × (length image ≤ file_limit) × (S.holds (F.contents files.old) source.old
         → IsFile Format.Two (S.remaining (F.contents files.old) source.old) image))) }
+    ensures comes { OnOk result
+        (ComesToEnd (S.steps (F.contents files.old)) S.lent source.old) }
     ensures large { IsErrOf result Refusal.FileTooLarge → S.holds (F.contents files.old) source.old
         → ¬ FitsIn file_limit (S.remaining (F.contents files.old) source.old) }
     ensures damaged { IsErrOf result Refusal.Damaged → ¬ S.holds (F.contents files.old) source.old }

@@ -1,6 +1,7 @@
 use Rattle.std.proofs.Common.{rules, length, sym, ap, ◌∙◌, arith, length-append}
 use Rattle.std.specs.Ordering.{is_le}
 use Rattle.cell_key.specs.Entries.{lent_entry, spelled}
+use Rattle.sorted_file.proofs.Opened.{behind_next, behind_none}
 use Rattle.sorted_file.proofs.Results.{as_none}
 use Rattle.sorted_file.proofs.Searched.{past_end, past_entry, past_here, no_front}
 use Rattle.sorted_file.proofs.block.bytes_from.Goals as goal
@@ -25,6 +26,7 @@ below-preserved c =
     let len = ap length c.in_ok-entry.ensures.found ∙ length-append (spelled (lent_entry c.in_ok-entry.entry)) c.in_ok-entry.after.now in
     record {
       past = λ es rising e. past_entry c.args.text.now c.below.rest.now es (i.past es rising e) c.in_ok-entry.after.now (lent_entry c.in_ok-entry.entry) (omega (arith, short, c.requires)) c.in_ok-entry.ensures.found (ap is_le (sym c.cmp.ensures) ∙ sym c.is_le.ensures ∙ c.if-is_le.false);
+      behind = behind_next c.args.text.now c.args.bytes.now c.below.rest.now c.in_ok-entry.after.now (lent_entry c.in_ok-entry.entry) i.behind c.in_ok-entry.ensures.found (ap is_le (sym c.cmp.ensures) ∙ sym c.is_le.ensures ∙ c.if-is_le.false);
       shorter = omega (arith, short, len);
     }
 

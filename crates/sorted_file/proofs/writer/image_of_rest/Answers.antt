@@ -4,7 +4,8 @@ use Rattle.cell_key.specs.Entries.{Takes, entry_len, lent_entry}
 use Rattle.file_store.specs.Store.{Contents}
 use Rattle.sorted_file.specs.Builder.{state_of}
 use Rattle.sorted_file.specs.Grammar.{FitsIn}
-use Rattle.sorted_file.proofs.Rest.{takes_none, takes_some, writing_end, writing_step, too_large}
+use Rattle.sorted_file.proofs.Results.{always_ok}
+use Rattle.sorted_file.proofs.Rest.{step_end, step_on, takes_none, takes_some, writing_end, writing_step, too_large}
 use Rattle.sorted_file.proofs.writer.image_of_rest.Goals as goal
 
 pub entries-preserved-in-Continue-branch-3 : goal.entries-preserved-in-Continue-branch-3
@@ -20,6 +21,7 @@ entries-preserved-in-Continue-branch-3 g c =
       quiet = c.in_ok-advance.ensures.reason.told (λ e. cc) ∙ i.quiet;
       sound = c.in_ok-push.ensures.sound;
       limit = c.in_ok-push.ensures.limit ∙ i.limit;
+      comes = λ h. i.comes (step_on g.S.Source.steps g.S.Source.lent _ _ s t _ i.contents c.in_ok-advance.ensures.steps lent h);
       told = λ hold.
           let now = i.told hold in
           (holds now.0, writing_step (state_of c.entries.builder) (state_of c.push.new.self) _ _ _ (lent_entry c.in-Some.entry) (takes_some _ _ _ _ lent (takes now.0)) c.in_ok-push.ensures.built now.1);
@@ -46,3 +48,10 @@ returns-clause-large g c = λ err hold fits.
     let now = i.told hold in
     let end = takes_none (g.S.Source.lent t) _ _ (sym c.in_ok-advance.ensures.more ∙ c.if-branch.false) (takes now.0) in
     c.finish.ensures.large err _ (writing_end (state_of c.entries.builder) _ _ end now.1) (subst (λ (limit : ℕ). FitsIn limit (g.S.Source.remaining (g.F.Files.contents c.args.files.now) c.args.source.now)) (sym i.limit) fits)
+
+pub returns-clause-comes : goal.returns-clause-comes
+returns-clause-comes g c =
+    let i = c.entries.invariant in
+    let s = c.entries.source in
+    let t = c.advance.new.self in
+    always_ok c.finish.result _ (i.comes (step_end g.S.Source.steps g.S.Source.lent _ _ s t i.contents c.in_ok-advance.ensures.steps (sym c.in_ok-advance.ensures.more ∙ c.if-branch.false)))

@@ -1,16 +1,18 @@
 use Rattle.std.proofs.Common.{◌≡◌, ◌≤◌, ◌<◌, ◌-◌, ◌^◌, ◌++◌, ℕ, List, [], Option, length, drop, sym, ap, subst, ◌∙◌, arith, length-drop}
 use Rattle.std.proofs.lemmas.List.{nil_from_length}
+use Rattle.std.proofs.Math.ListN.{drop_of_length-le}
 use Rattle.std.specs.Option.{option_copied}
 use Rattle.cell_key.specs.Entries.{Entry, IsEntryList, IsRising, entries_from, spelled}
 use Rattle.file_store.specs.Store.{Contents}
 use Rattle.sorted_file.specs.Index.{block_of, blocks_of, entries_in, IsBlockIn, Tells}
-use Rattle.sorted_file.specs.Cursor.{bytes_left, cursor_remaining, last_of, CursorHolds}
+use Rattle.sorted_file.specs.Cursor.{bytes_ahead, bytes_left, cursor_remaining, last_of, CursorHolds}
 use Rattle.sorted_file.specs.Grammar.{block_bytes}
 use Rattle.sorted_file.specs.Block.{entry_at}
 use Rattle.sorted_file.specs.declared.block.BlockRow.{BlockRow}
 use Rattle.sorted_file.specs.declared.cursor.FileCursor.{FileCursor}
 use Rattle.sorted_file.specs.declared.block.EntryExtent.{EntryExtent}
 use Rattle.sorted_file.proofs.CursorSteps.{block_ahead, block_read, block_step, entry_taken, used_up, IsHeld, IsTaken}
+use Rattle.sorted_file.proofs.Opened.{goes_end, goes_entry, goes_open}
 use Rattle.sorted_file.proofs.Places.{rest_list}
 use Rattle.sorted_file.proofs.Searched.{no_front}
 use Rattle.sorted_file.proofs.cursor.FileCursorSource.advance.Goals as goal
@@ -41,6 +43,9 @@ blocks-2-preserved g c =
       contents = c.in_ok-self.ensures.same ∙ i.contents;
       quiet = c.in_ok-self.ensures.reason.told (λ e. cc) ∙ i.quiet;
       left = omega (arith, size, left, fewer, over);
+      name = i.name;
+      from = i.from;
+      goes = λ lent later rows h. i.goes lent later rows (goes_open _ told s.name c.args.self.now.name s.from.now c.args.self.now.from.now row rest s.rows.now rows (bytes_ahead s) (drop at block) later lent i.contents i.name i.from c.in_ok-self.ensures.opened (drop_of_length-le s.block.items over) cut h);
       held = λ h.
           let now = i.held h in
           let used = used_up told s.name s.rows.now (option_copied s.row) s.block.items s.at now.0 over in
@@ -101,4 +106,30 @@ returns-clause-holds g c = λ h.
       small = now.0.small;
       ahead = took.ahead;
       list = subst IsEntryList (returns-clause-takes g c h) (rest_list _ _ h.list);
+    }
+
+pub returns-in_default-clause-steps : goal.returns-in_default-clause-steps
+returns-in_default-clause-steps g c =
+    let s = c.blocks-2.self in
+    let i = c.blocks-2.invariant in
+    let test = c.blocks-2-test.true in
+    let len = c.len.ensures in
+    let none = drop_of_length-le s.block.items (omega (arith, test, len, s.block.ok.0)) in
+    record {
+      name = i.name;
+      from = i.from;
+      goes = i.goes _ _ _ (goes_end _ _ _ (bytes_ahead s) s.rows.now none (nil_from_length s.rows.now c.in_default.ensures.cases));
+    }
+
+pub returns-clause-steps : goal.returns-clause-steps
+returns-clause-steps g c =
+    let s = c.blocks-2.self in
+    let i = c.blocks-2.invariant in
+    let entry = c.in-Some-entry_extent.entry in
+    let end = c.in-Some-entry_extent.end in
+    let found = subst (λ (l : List ℕ). drop s.at l ≡ spelled (entry_at l entry) ++ drop end l) c.deref.ensures.value c.in-Some-entry_extent.ensures.found in
+    record {
+      name = i.name;
+      from = i.from;
+      goes = i.goes _ _ _ (goes_entry _ _ _ (bytes_ahead s) (drop end s.block.items) s.rows.now (entry_at s.block.items entry) found);
     }
