@@ -78,7 +78,7 @@ takes_none (Some e) old new is t = cc
 module _ {S : Type 0} (steps : Option Contents → S → S → Type 0) (lent : S → Option Entry) where
   -- a step over files that hold the same, to an entry
   pub step_on : (was disk : Option Contents) (s t : S) (e : Entry) → was ≡ disk → steps was s t → lent t ≡ Some e → ComesToEnd (steps disk) lent t → ComesToEnd (steps disk) lent s
-  step_on was disk s t e same step some h = goes_on (subst (λ (d : Option Contents). steps d s t) same step) (subst (λ (o : Option Entry). IsSome o) (sym some) tt) h
+  step_on was disk s t e same step some h = goes_on (subst (λ (d : Option Contents). steps d s t) same step) (subst (λ (o : Option Entry). IsSome o) (sym some) refl) h
 
   -- and to none
   pub step_end : (was disk : Option Contents) (s t : S) → was ≡ disk → steps was s t → is_some (lent t) ≡ false → ComesToEnd (steps disk) lent s
