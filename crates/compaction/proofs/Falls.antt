@@ -32,11 +32,11 @@ module _ {S : Type 0} (lent : S → Option Entry) where
   least_within (x ∷ xs) zero l = lt-ltb 0 (suc (length xs)) (omega arith) ∙ some_there (lent x) _ l
   least_within (x ∷ xs) (suc at) l = ltb_suc at (length xs) ∙ least_within xs at l.1
 
-  unmapped : (xs : List S) → AllByRecursion (λ o. o ≡ None) (map lent xs) → AllByRecursion (λ s. lent s ≡ None) xs
+  pub unmapped : (xs : List S) → AllByRecursion (λ o. o ≡ None) (map lent xs) → AllByRecursion (λ s. lent s ≡ None) xs
   unmapped [] h = tt
   unmapped (x ∷ xs) h = (h.0, unmapped xs h.1)
 
-is_none : (o : Option Entry) → is_some o ≡ false → o ≡ None
+pub is_none : (o : Option Entry) → is_some o ≡ false → o ≡ None
 is_none None h = refl
 is_none (Some e) h = cc
 

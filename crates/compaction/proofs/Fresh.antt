@@ -5,7 +5,14 @@ use Rattle.std.specs.List.{AllByRecursion}
 use Rattle.cell_key.specs.Entries.{Entry, merged}
 use Rattle.sorted_file.specs.Source.{pending}
 use Rattle.compaction.specs.Least.{IsLeast, IsAbove, entry_at}
-use Rattle.compaction.specs.Merging.{AreAtStart, waiting, HasStarted, past_lent, merge_remaining, MergeHolds}
+use Rattle.compaction.specs.Merging.{AreAtStart, lent_at, waiting, HasStarted, past_lent, merge_remaining, MergeHolds}
+
+none_there : {S : Type 0} (lent : S → Option Entry) (xs : List S) → lent_at lent xs (length xs) ≡ None
+none_there lent [] = refl
+none_there lent (x ∷ xs) = none_there lent xs
+
+pub fresh_none : {S : Type 0} (lent : S → Option Entry) (xs : List S) (at : ℕ) → at ≡ length xs → lent_at lent xs at ≡ None
+fresh_none lent xs at e = ap (lent_at lent xs) e ∙ none_there lent xs
 
 module _ {S : Type 0} (lent : S → Option Entry) (remaining : S → List Entry) (holds : S → Type 0) where
   at_none : (xs : List S) → entry_at (map lent xs) (length xs) ≡ None

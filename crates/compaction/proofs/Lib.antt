@@ -1,5 +1,6 @@
 pub mod Best
 pub mod EndedSources
+pub mod Ending
 pub mod Falls
 pub mod Fresh
 pub mod Ranges

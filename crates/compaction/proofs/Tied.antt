@@ -1,5 +1,5 @@
 -- The sources at the least key go on, and the others stay.
-use Rattle.std.proofs.Common.{◌≡◌, ℕ, ◌+◌, ◌≤◌, true, false, List, [], ◌∷◌, ◌++◌, map, length, refl, sym, ap, subst, ◌∙◌, arith}
+use Rattle.std.proofs.Common.{◌≡◌, ℕ, ◌+◌, ◌≤◌, true, false, List, [], ◌∷◌, ◌++◌, map, length, refl, sym, ap, subst, ◌∙◌, arith, inl, inr}
 use Rattle.std.proofs.lemmas.List.Sums.{sum_by-append, sum_by-cons}
 use Rattle.std.specs.Prelude.{Option, Some, None, OnSome, IsSome, IsSomeAnd, sum_by}
 use Rattle.std.specs.List.{AllByRecursion, AllZip}
@@ -7,7 +7,7 @@ use Rattle.std.specs.Ordering.{is_eq}
 use Rattle.cell_key.specs.Entries.{Entry, Takes}
 use Rattle.compaction.specs.Least.{IsAbove, IsLeast, entry_at}
 use Rattle.compaction.specs.Ties.{ties}
-use Rattle.compaction.specs.Merging.{lent_at, HasStarted, MergeHolds, StepsTo}
+use Rattle.compaction.specs.Merging.{MayStep, lent_at, HasStarted, MergeHolds, StepsTo}
 use Rattle.cell_key.proofs.EntryLists.{ties_itself}
 use Rattle.compaction.specs.MergeLaw.{step_tie, step_same}
 
@@ -64,3 +64,11 @@ cost_tied price s t before after later sources e one rest =
 pub all_tied_part : {S : Type 0} (P : S → Type 0) (s : S) (before after : List S) → AllByRecursion P (before ++ s ∷ after) → P s × AllByRecursion P after
 all_tied_part P s [] after h = h
 all_tied_part P s (b ∷ before) after h = all_tied_part P s before after h.1
+
+-- the tied source goes on, those before it stay, and those after it move
+pub tied_moves : {S : Type 0} (steps : S → S → Type 0) (s t : S) (after later sources before : List S) → sources ≡ before ++ s ∷ after → steps s t → AllZip (MayStep steps) after later → AllZip (MayStep steps) sources (before ++ t ∷ later)
+tied_moves steps s t after later sources before e step rest = subst (λ xs. AllZip (MayStep steps) xs (before ++ t ∷ later)) (sym e) (all before)
+  where
+    all : (before : List _) → AllZip (MayStep steps) (before ++ s ∷ after) (before ++ t ∷ later)
+    all [] = (inl step, rest)
+    all (b ∷ before) = (inr refl, all before)

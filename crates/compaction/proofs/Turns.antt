@@ -14,12 +14,13 @@ use Rattle.compaction.specs.Merging.{cost, one}
 use Rattle.file_store.specs.Store.{Contents}
 
 -- At an index a list came from another: what is before it is changed, and the rest is the same.
-pub record Progress {S F : Type 0} (contents : F → Option Contents) (faults : F → ℕ) (price bonus : S → ℕ) (before : S → Type 0) (step : S → S → Type 0) (start files : F) (xs ys : List S) (i : ℕ) : Type 0 where
+pub record Progress {S F : Type 0} (contents : F → Option Contents) (faults : F → ℕ) (price bonus : S → ℕ) (before : S → Type 0) (step move : S → S → Type 0) (start files : F) (xs ys : List S) (i : ℕ) : Type 0 where
   pub same : contents files ≡ contents start
   pub quiet : faults files ≡ faults start
   pub rest : drop i ys ≡ drop i xs
   pub paid : sum_by price (take i ys) + sum_by bonus (take i ys) ≤ sum_by price (take i xs)
   pub steps : AllByRecursion before xs → AllZip step (take i xs) (take i ys)
+  pub moves : AllZip move (take i xs) (take i ys)
 
 -- what an index has is the first of the rest
 item-rest : {S : Type 0} (xs ys : List S) (i : ℕ) (d : S) → drop i ys ≡ drop i xs → get_or ys i d ≡ get_or xs i d
@@ -32,13 +33,13 @@ rest_more : {S : Type 0} (xs ys : List S) (i : ℕ) → i < length xs → drop i
 rest_more xs ys i l e = grind (arith, common_steps)
 
 -- the element at the index became t
-pub go_on : {S F : Type 0} {contents : F → Option Contents} {faults : F → ℕ} {price bonus : S → ℕ} {before : S → Type 0} {step : S → S → Type 0} {start files : F} {xs ys : List S} {i : ℕ}
-    → Progress contents faults price bonus before step start files xs ys i → (next : F) (zs : List S) (s t : S)
+pub go_on : {S F : Type 0} {contents : F → Option Contents} {faults : F → ℕ} {price bonus : S → ℕ} {before : S → Type 0} {step move : S → S → Type 0} {start files : F} {xs ys : List S} {i : ℕ}
+    → Progress contents faults price bonus before step move start files xs ys i → (next : F) (zs : List S) (s t : S)
     → i < length xs → s ≡ get_or ys i s → contents next ≡ contents files → faults next ≡ faults files
     → take (i + 1) zs ≡ take i ys ++ t ∷ [] → drop (i + 1) zs ≡ drop (i + 1) ys → price t + bonus t ≤ price s
-    → (before s → step s t)
-    → Progress contents faults price bonus before step start next xs zs (i + 1)
-go_on {S} {F} {contents} {faults} {price} {bonus} {before} {step} {start} {files} {xs} {ys} {i} p next zs s t l is same quiet front rest cheaper here =
+    → (before s → step s t) → move s t
+    → Progress contents faults price bonus before step move start next xs zs (i + 1)
+go_on {S} {F} {contents} {faults} {price} {bonus} {before} {step} {move} {start} {files} {xs} {ys} {i} p next zs s t l is same quiet front rest cheaper here moved =
     let was : s ≡ get_or xs i s = is ∙ item-rest xs ys i s p.rest in
     let old : take (i + 1) xs ≡ take i xs ++ s ∷ [] = one_more xs i s l was in
     record {
@@ -47,6 +48,7 @@ go_on {S} {F} {contents} {faults} {price} {bonus} {before} {step} {start} {files
       rest = rest ∙ rest_more xs ys i l p.rest;
       paid = rw (front, old, sum_by-append price (take i ys) (t ∷ []), sum_by-append bonus (take i ys) (t ∷ []), sum_by-append price (take i xs) (s ∷ [])) (omega (arith, p.paid));
       steps = λ all. rw (front, old) (AllZip-push step (take i xs) (take i ys) s t (p.steps all) (here (at_place before xs i s l was all)));
+      moves = rw (front, old) (AllZip-push move (take i xs) (take i ys) s t p.moves moved);
     }
   where
     at_place : (P : S → Type 0) (xs : List S) (i : ℕ) (s : S) → i < length xs → s ≡ get_or xs i s → AllByRecursion P xs → P s
@@ -77,7 +79,7 @@ pub cost_falls_from : (lt ls : ℕ) (b : Bool) (t s : Option Entry) → b ≡ is
 cost_falls_from lt ls b t s e y h = rw y (paid_tied lt ls (is_some t) (subst (λ b. lt + cond b 1 0 ≤ ls) e h))
 
 -- the loop at its end
-module _ {S F : Type 0} {contents : F → Option Contents} {faults : F → ℕ} {price bonus : S → ℕ} {before : S → Type 0} {step : S → S → Type 0} {start files : F} {xs ys : List S} {i : ℕ} (p : Progress contents faults price bonus before step start files xs ys i) where
+module _ {S F : Type 0} {contents : F → Option Contents} {faults : F → ℕ} {price bonus : S → ℕ} {before : S → Type 0} {step move : S → S → Type 0} {start files : F} {xs ys : List S} {i : ℕ} (p : Progress contents faults price bonus before step move start files xs ys i) where
   pub paid_whole : length xs ≤ i → length ys ≡ length xs → sum_by price ys + sum_by bonus ys ≤ sum_by price xs
   paid_whole long same =
       subst (λ (zs : List S). sum_by price zs + sum_by bonus zs ≤ sum_by price xs) (take_all i ys (omega arith))
@@ -85,6 +87,9 @@ module _ {S F : Type 0} {contents : F → Option Contents} {faults : F → ℕ} 
 
   pub steps_whole : length xs ≤ i → length ys ≡ length xs → AllByRecursion before xs → AllZip step xs ys
   steps_whole long same all = subst (AllZip step xs) (take_all i ys (omega arith)) (subst (λ (zs : List S). AllZip step zs (take i ys)) (take_all i xs long) (p.steps all))
+
+  pub moves_whole : length xs ≤ i → length ys ≡ length xs → AllZip move xs ys
+  moves_whole long same = subst (AllZip move xs) (take_all i ys (omega arith)) (subst (λ (zs : List S). AllZip move zs (take i ys)) (take_all i xs long) p.moves)
 
   pub not_each : (P : Option Contents → S → Type 0) (d : S) → i < length xs → ¬ (P (contents files) (get_or ys i d)) → ¬ (AllByRecursion (P (contents start)) xs)
   not_each P d l here all = here (subst (λ (told : Option Contents). P told (get_or ys i d)) (sym p.same) (subst (P (contents start)) (sym (item-rest xs ys i d p.rest)) (All-from_recursion (P (contents start)) xs all i d l)))

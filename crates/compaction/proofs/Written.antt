@@ -4,10 +4,10 @@ use Rattle.std.specs.Prelude.{Option, Some, None, is_some, ◌||◌}
 use Rattle.std.specs.Ordering.{eq_by_cmp}
 use Rattle.std.specs.FinMap.Entries.{below_all, same_entries}
 use Rattle.cell_key.specs.Keys.{byte_cmp}
-use Rattle.cell_key.specs.Entries.{Entry, IsRising, merged, entry_of_key, or_else, value_of, MergesLists}
+use Rattle.cell_key.specs.Entries.{Entry, IsRising, Takes, merged, entry_of_key, or_else, value_of, MergesLists}
 use Rattle.cell_key.proofs.EntryLists.{filter-list, total, merged_list}
 use Rattle.cell_key.proofs.TextPlaces.{first, second, equal, one_text as same_key, find_below}
-use Rattle.compaction.specs.Writing.{is_written, only_written, WritesEntryLists, KeepsOneList, NamesFirst}
+use Rattle.compaction.specs.Writing.{is_written, is_written_lent, only_written, WritesEntryLists, KeepsOneList, NamesFirst}
 
 pub writes_entry_lists : WritesEntryLists
 writes_entry_lists keep lists h = filter-list (is_written keep) (merged lists) (merged_list lists h)
@@ -54,3 +54,8 @@ names_first merges lists name = (
   ap (λ es. entry_of_key es name) (all_written (merged lists)) ∙ (merges lists).1 name,
   λ keep. value-written keep name (merged lists) (merges lists).0 ∙ ap value_of ((merges lists).1 name),
 )
+
+-- an entry that isn't written is left out
+pub left_out : (keep : Bool) (o : Option Entry) (old new : List Entry) → is_written_lent keep o ≡ false → is_some o ≡ true → Takes o old new → only_written keep new ≡ only_written keep old
+left_out keep None old new out some t = cc
+left_out keep (Some e) old new out some t = sym (ap (only_written keep) t ∙ ap (λ (b : Bool). cond b (e ∷ only_written keep new) (only_written keep new)) out)

@@ -38,3 +38,9 @@ lent_until end (Some entry) = cond (is_below end entry.0) (Some entry) None
 abbrev pub is_at_end : Option (List ℕ) → Option Entry → Bool
 is_at_end end None = false
 is_at_end end (Some entry) = not (is_below end entry.0)
+
+-- a source up to an end goes on by one step of the source, or it is at the end and stays there
+pub data BoundedSteps {S : Type 0} (steps : S → S → Type 0) (lent : S → Option Entry)
+    (s t : Bounded S) : Type 0 where
+  goes_on : end_of t ≡ end_of s → steps (source_of s) (source_of t) → BoundedSteps steps lent s t
+  stays : is_at_end (end_of s) (lent (source_of s)) ≡ true → t ≡ s → BoundedSteps steps lent s t

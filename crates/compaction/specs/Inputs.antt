@@ -1,9 +1,9 @@
 -- What an input stands for, over files.
 use Rattle.std.specs.Prelude.{ℕ, List, Option, length}
-use Rattle.cell_key.specs.Entries.{Entry, IsEntryList}
+use Rattle.cell_key.specs.Entries.{Entry, IsEntryList, Takes}
 use Rattle.file_store.specs.Store.{Contents}
 use Rattle.sorted_file.specs.Source.{pending}
-use Rattle.sorted_file.specs.Cursor.{cursor_lent, cursor_remaining, CursorHolds}
+use Rattle.sorted_file.specs.Cursor.{cursor_lent, cursor_remaining, CursorHolds, CursorSteps}
 use Rattle.sorted_file.specs.declared.cursor.FileCursor.{FileCursor}
 use Rattle.compaction.specs.declared.input.Input.{Input}
 use Rattle.compaction.specs.declared.input.Input.TheVariants.{Memtable, File}
@@ -25,3 +25,9 @@ InputHolds disk (File s) = CursorHolds disk s
 abbrev pub input_left : (FileCursor → ℕ) → Input → ℕ
 input_left left (Memtable s) = length s.1
 input_left left (File s) = left s
+
+-- a memtable's cursor takes its next entry, and a file's goes on by one step through what the files hold
+abbrev pub InputSteps : Option Contents → Input → Input → Type 0
+InputSteps disk (Memtable s) (Memtable t) = Takes t.0 s.1 t.1
+InputSteps disk (File s) (File t) = CursorSteps disk s t
+InputSteps disk s t = ⊥

@@ -1,6 +1,6 @@
 -- What a merge stands for, by what its sources stand for.
-use Rattle.std.specs.Prelude.{◌≡◌, ℕ, ◌+◌, ◌*◌, List, [], ◌∷◌, Option, Some, None, OnSome, is_some, map, if◌then◌else◌}
-use Rattle.std.specs.List.{AllByRecursion}
+use Rattle.std.specs.Prelude.{◌≡◌, ℕ, ◌+◌, ◌*◌, ◌⊎◌, List, [], ◌∷◌, Option, Some, None, OnSome, is_some, map, if◌then◌else◌}
+use Rattle.std.specs.List.{AllByRecursion, AllZip}
 use Rattle.std.specs.Ordering.{is_eq}
 use Rattle.cell_key.specs.Keys.{byte_cmp}
 use Rattle.cell_key.specs.Entries.{Entry, merged}
@@ -56,3 +56,17 @@ module _ {S : Type 0} (lent : S → Option Entry) (remaining : S → List Entry)
 -- each source stands for its list over the files, and has come to none of its entries yet
 abbrev pub AreAtStart : {S : Type 0} → (S → Option Entry) → (S → Type 0) → List S → Type 0
 AreAtStart lent holds sources = AllByRecursion (λ s. holds s × (lent s ≡ None)) sources
+
+-- Of a merge at no entry each source goes on by one step; of one at an entry each does so or stays.
+abbrev pub MayStep : {S : Type 0} → (S → S → Type 0) → S → S → Type 0
+MayStep steps s t = steps s t ⊎ (t ≡ s)
+
+abbrev pub Moves : {S : Type 0} → (S → S → Type 0) → Option Entry → S → S → Type 0
+Moves steps None s t = steps s t
+Moves steps (Some e) s t = MayStep steps s t
+
+-- each source of a merge moves, and if the merge is at no entry then, no source is
+pub record MergeSteps {S : Type 0} (steps : S → S → Type 0) (lent : S → Option Entry)
+    (sources : List S) (at : ℕ) (later : List S) (next : ℕ) : Type 0 where
+  pub each : AllZip (Moves steps (lent_at lent sources at)) sources later
+  pub ended : lent_at lent later next ≡ None → AllByRecursion (λ s. lent s ≡ None) later

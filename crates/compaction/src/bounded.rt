@@ -49,7 +49,7 @@ impl<'a, S> Bounded<'a, S> {
 }
 
 impl<F: Files, S: Source<F>> Source<F> for Bounded<'_, S> {
-    ghost use Rattle.compaction.specs.Ends.{entries_until, lent_until, end_of, source_of};
+    ghost use Rattle.compaction.specs.Ends.{BoundedSteps, entries_until, lent_until, end_of, source_of};
     ghost use Rattle.compaction.specs.ListLaws.{until_list};
 
     ghost holds = { λ disk s. S.holds disk (source_of s) };
@@ -57,6 +57,8 @@ impl<F: Files, S: Source<F>> Source<F> for Bounded<'_, S> {
     ghost remaining = { λ disk s. entries_until (end_of s) (S.remaining disk (source_of s)) };
 
     ghost lent = { λ s. lent_until (end_of s) (S.lent (source_of s)) };
+
+    ghost steps = { λ disk s t. BoundedSteps (S.steps disk) S.lent s t };
 
     ghost left = { λ s. S.left (source_of s) };
 

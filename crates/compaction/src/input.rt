@@ -14,7 +14,7 @@ pub enum Input<'a> {
 }
 
 impl<F: Files> Source<F> for Input<'_> {
-    ghost use Rattle.compaction.specs.Inputs.{input_remaining, input_lent, input_left, InputHolds};
+    ghost use Rattle.compaction.specs.Inputs.{input_remaining, input_lent, input_left, InputHolds, InputSteps};
     ghost use Rattle.compaction.specs.ListLaws.{input_list};
 
     ghost holds = { InputHolds };
@@ -22,6 +22,8 @@ impl<F: Files> Source<F> for Input<'_> {
     ghost remaining = { input_remaining };
 
     ghost lent = { input_lent };
+
+    ghost steps = { InputSteps };
 
     ghost left = { input_left ⟦<FileCursor<'static> as Source<F>>⟧.left };
 

@@ -4,10 +4,10 @@ ghost use Rattle.std.specs.Prelude.{ℕ, ◌≡◌, ◌≤◌, ◌+◌, None, le
 ghost use Rattle.std.specs.List.{AllByRecursion, AllZip};
 ghost use Rattle.file_store.specs.Store.{Contents};
 ghost use Rattle.cell_key.specs.Entries.{merged};
-ghost use Rattle.sorted_file.specs.Source.{IsReadRefusal};
+ghost use Rattle.sorted_file.specs.Source.{ComesToEnd, IsReadRefusal};
 ghost use Rattle.cell_key.specs.Faults.{HasReason};
 ghost use Rattle.compaction.specs.Least.{IsLeast};
-ghost use Rattle.compaction.specs.Merging.{AreAtStart, lent_at, StepsTo, MergeHolds, HasStarted, cost, one};
+ghost use Rattle.compaction.specs.Merging.{AreAtStart, MayStep, lent_at, Moves, StepsTo, MergeHolds, HasStarted, cost, one};
 ghost use Rattle.compaction.specs.Ties.{comes_first, ties};
 
 use cell_key::{EntryRef, Refusal};
@@ -70,6 +70,8 @@ fn step_all<F: Files, S: Source<F>>(sources: &mut [S], files: &mut F) -> Result<
     ensures cost { OnOk result (sum_by (λ s. cost (S.left s) (S.lent s)) sources.new
         + sum_by (λ s. one (S.lent s)) sources.new
         ≤ sum_by (λ s. cost (S.left s) (S.lent s)) sources.old) }
+    ensures moves { OnOk result
+        (AllZip (S.steps (F.contents files.old)) sources.old sources.new) }
     ensures steps { OnOk result (AreAtStart S.lent (S.holds (F.contents files.old)) sources.old
         → AllZip (StepsTo S.lent (S.remaining (F.contents files.old))
         (S.holds (F.contents files.old)) None) sources.old sources.new) }
@@ -93,6 +95,8 @@ fn step_after<F: Files, S: Source<F>>(
     ensures refusal { IfErr result IsReadRefusal }
     ensures cost { OnOk result (sum_by (λ s. cost (S.left s) (S.lent s)) sources.new
         ≤ sum_by (λ s. cost (S.left s) (S.lent s)) sources.old) }
+    ensures moves { OnOk result
+        (AllZip (MayStep (S.steps (F.contents files.old))) sources.old sources.new) }
     ensures steps { OnOk result (AllByRecursion (λ s. S.holds (F.contents files.old) s
         × HasStarted S.lent (S.remaining (F.contents files.old)) s) sources.old
         → AllZip (StepsTo S.lent (S.remaining (F.contents files.old))
@@ -120,6 +124,8 @@ fn step_tied<F: Files, S: Source<F>>(
     ensures refusal { IfErr result IsReadRefusal }
     ensures cost { OnOk result (sum_by (λ s. cost (S.left s) (S.lent s)) sources.new + 1
         ≤ sum_by (λ s. cost (S.left s) (S.lent s)) sources.old) }
+    ensures moves { OnOk result
+        (AllZip (MayStep (S.steps (F.contents files.old))) sources.old sources.new) }
     ensures steps { OnOk result (MergeHolds S.lent (S.remaining (F.contents files.old))
         (S.holds (F.contents files.old)) sources.old at
         → AllZip (StepsTo S.lent (S.remaining (F.contents files.old))
@@ -154,6 +160,8 @@ fn step<F: Files, S: Source<F>>(sources: &mut [S], at: usize, files: &mut F) -> 
     ensures lower { OnOk result ((k : ℕ) → IsSome (lent_at S.lent sources.new k)
         → sum_by (λ s. cost (S.left s) (S.lent s)) sources.new + 1
         ≤ sum_by (λ s. cost (S.left s) (S.lent s)) sources.old) }
+    ensures moves { OnOk result (AllZip (Moves (S.steps (F.contents files.old))
+        (lent_at S.lent sources.old at)) sources.old sources.new) }
     ensures steps { OnOk result (MergeHolds S.lent (S.remaining (F.contents files.old))
         (S.holds (F.contents files.old)) sources.old at
         → AllZip (StepsTo S.lent (S.remaining (F.contents files.old))
@@ -180,6 +188,9 @@ impl<S> Merge<S> {
             ≡ merged (map (S.remaining disk) sources.items) }
         ensures holds { (disk : Option Contents) → AreAtStart S.lent (S.holds disk) sources.items
             → ⟦<Merge<S> as Source<F>>⟧.holds disk result }
+        ensures comes { (disk : Option Contents)
+            → ComesToEnd (⟦<Merge<S> as Source<F>>⟧.steps disk) ⟦<Merge<S> as Source<F>>⟧.lent result
+            → AllByRecursion (ComesToEnd (S.steps disk) S.lent) sources.items }
     {
         let at = sources.len();
         Merge { sources, at }
@@ -188,7 +199,7 @@ impl<S> Merge<S> {
 
 impl<F: Files, S: Source<F>> Source<F> for Merge<S> {
     ghost use Rattle.std.specs.Prelude.{sum_by};
-    ghost use Rattle.compaction.specs.Merging.{lent_at, merge_remaining, MergeHolds, cost};
+    ghost use Rattle.compaction.specs.Merging.{lent_at, merge_remaining, MergeHolds, MergeSteps, cost};
     ghost use Rattle.compaction.specs.MergeLaw.{merge_list};
 
     ghost holds = { λ disk s.
@@ -197,6 +208,9 @@ impl<F: Files, S: Source<F>> Source<F> for Merge<S> {
     ghost remaining = { λ disk s. merge_remaining S.lent (S.remaining disk) s.sources.items s.at };
 
     ghost lent = { λ s. lent_at S.lent s.sources.items s.at };
+
+    ghost steps = { λ disk s t.
+        MergeSteps (S.steps disk) S.lent s.sources.items s.at t.sources.items t.at };
 
     ghost left = { λ s. sum_by (λ x. cost (S.left x) (S.lent x)) s.sources.items };
 

@@ -39,7 +39,7 @@ impl<S> Values<S> {
 }
 
 impl<F: Files, S: Source<F>> Source<F> for Values<S> {
-    ghost use Rattle.compaction.specs.Writing.{only_written};
+    ghost use Rattle.compaction.specs.Writing.{StepsOn, only_written};
     ghost use Rattle.compaction.specs.ListLaws.{written_list};
 
     ghost holds = { λ disk s. S.holds disk s.source };
@@ -47,6 +47,8 @@ impl<F: Files, S: Source<F>> Source<F> for Values<S> {
     ghost remaining = { λ disk s. only_written s.keep_erasures (S.remaining disk s.source) };
 
     ghost lent = { λ s. S.lent s.source };
+
+    ghost steps = { λ disk s t. StepsOn (S.steps disk) S.lent s.source t.source };
 
     ghost left = { λ s. S.left s.source };
 

@@ -1,10 +1,11 @@
 //! Writing several sources as one file.
 
 ghost use Rattle.std.specs.Prelude.{◌≡◌, ◌≤◌, ℕ, List, length, map, IfErr, OnOk, OnErr, IsErrOf};
+ghost use Rattle.std.specs.List.{AllByRecursion};
 ghost use Rattle.file_store.specs.Store.{KeepsOthers, with_file};
 ghost use Rattle.sorted_file.specs.Grammar.{IsFile, FitsIn};
 ghost use Rattle.sorted_file.specs.Limits.{IsFileLimit};
-ghost use Rattle.sorted_file.specs.Source.{IsWriteRefusal};
+ghost use Rattle.sorted_file.specs.Source.{ComesToEnd, IsWriteRefusal};
 ghost use Rattle.sorted_file.specs.declared.format.Format.TheVariants.{Two};
 ghost use Rattle.cell_key.specs.Faults.{HasReason};
 ghost use Rattle.compaction.specs.Merging.{AreAtStart};
@@ -41,6 +42,8 @@ pub fn merge_into<F: Files, S: Source<F> + Drop>(
         × (length image ≤ file_limit)
         × (AreAtStart S.lent (S.holds (F.contents files.old)) sources.items → IsFile Two
         (written keep_erasures (map (S.remaining (F.contents files.old)) sources.items)) image))) }
+    ensures comes { OnOk result (AllByRecursion
+        (ComesToEnd (S.steps (F.contents files.old)) S.lent) sources.items) }
     ensures large { IsErrOf result Refusal.FileTooLarge
         → AreAtStart S.lent (S.holds (F.contents files.old)) sources.items → ¬ FitsIn file_limit
         (written keep_erasures (map (S.remaining (F.contents files.old)) sources.items)) }

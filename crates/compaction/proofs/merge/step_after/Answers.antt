@@ -1,10 +1,10 @@
-use Rattle.std.proofs.Common.{◌≡◌, true, false, ◌≤◌, ◌+◌, ◌<◌, length, arith, subst, sym, cond, get_or, refl, ◌∙◌}
+use Rattle.std.proofs.Common.{inl, inr, ◌≡◌, true, false, ◌≤◌, ◌+◌, ◌<◌, length, arith, subst, sym, cond, get_or, refl, ◌∙◌}
 use Rattle.std.specs.Prelude.{Option}
 use Rattle.file_store.specs.Store.{Contents}
 use Rattle.cell_key.specs.Entries.{Takes}
 use Rattle.compaction.specs.Ties.{ties}
 use Rattle.compaction.specs.Merging.{cost, StepsTo}
-use Rattle.compaction.proofs.Turns.{first_within, go_on, front_set, rest_set, cost_falls, not_each, paid_whole, steps_whole}
+use Rattle.compaction.proofs.Turns.{first_within, go_on, front_set, rest_set, cost_falls, moves_whole, not_each, paid_whole, steps_whole}
 use Rattle.compaction.specs.MergeLaw.{step_tie, step_same}
 use Rattle.cell_key.specs.declared.refusals.Refusal.TheVariants.{Device}
 use Rattle.cell_key.proofs.Passed.{passed_err, passed_none, passed_on, passed_reason, reason_after}
@@ -33,12 +33,13 @@ loop-source-preserved g c =
           (let holds = subst (λ (o : Option Contents). g.S.Source.holds o s → g.S.Source.holds o t) same (subst (λ s. g.S.Source.holds here_told s → g.S.Source.holds here_told t) (sym is) w.in_ok-advance.ensures.holds) in
           let takes = subst (λ (o : Option Contents). g.S.Source.holds o s → Takes (g.S.Source.lent t) (g.S.Source.remaining o s) (g.S.Source.remaining o t)) same
           (subst (λ s. g.S.Source.holds here_told s → Takes (g.S.Source.lent t) (g.S.Source.remaining here_told s) (g.S.Source.remaining here_told t)) (sym is) w.in_ok-advance.ensures.takes) in
-          λ before. step_tie g.S.Source.lent (g.S.Source.remaining told) (g.S.Source.holds told) (g.S.Source.lent c.args.least.now) s t (sym (subst (λ s. true ≡ ties (g.S.Source.lent c.args.least.now) (g.S.Source.lent s)) (sym is) w.if-is_tied.ensures)) (holds before.0) (takes before.0)))
+          λ before. step_tie g.S.Source.lent (g.S.Source.remaining told) (g.S.Source.holds told) (g.S.Source.lent c.args.least.now) s t (sym (subst (λ s. true ≡ ties (g.S.Source.lent c.args.least.now) (g.S.Source.lent s)) (sym is) w.if-is_tied.ensures)) (holds before.0) (takes before.0))
+          (inl (subst (λ (o : Option Contents). g.S.Source.steps o s t) same (subst (λ s. g.S.Source.steps here_told s t) (sym is) w.in_ok-advance.ensures.steps))))
       | else-is_tied w ↦
           rw (w.sources-is, w.files-is) (go_on c.loop-source.invariant c.loop-source.files _ s now l is refl refl
           (front_set c.loop-source.sources i now here) (rest_set c.loop-source.sources i now) (subst (λ t. cost (g.S.Source.left t) (g.S.Source.lent t) + 0 ≤ cost (g.S.Source.left s) (g.S.Source.lent s)) is (omega arith))
           (λ before. subst (λ t. StepsTo g.S.Source.lent (g.S.Source.remaining told) (g.S.Source.holds told) (g.S.Source.lent c.args.least.now) s t) is
-          (step_same g.S.Source.lent (g.S.Source.remaining told) (g.S.Source.holds told) (g.S.Source.lent c.args.least.now) s (sym (subst (λ s. false ≡ ties (g.S.Source.lent c.args.least.now) (g.S.Source.lent s)) (sym is) w.if-is_tied.ensures)) before.0 before.1)))
+          (step_same g.S.Source.lent (g.S.Source.remaining told) (g.S.Source.holds told) (g.S.Source.lent c.args.least.now) s (sym (subst (λ s. false ≡ ties (g.S.Source.lent c.args.least.now) (g.S.Source.lent s)) (sym is) w.if-is_tied.ensures)) before.0 before.1)) (inr (sym is)))
     ]
 
 pub returns-in_err-advance-clause-files : goal.returns-in_err-advance-clause-files
@@ -78,3 +79,9 @@ pub returns-in_err-advance-clause-damaged : goal.returns-in_err-advance-clause-d
 returns-in_err-advance-clause-damaged g c = λ is.
     not_each c.loop-source.invariant g.S.Source.holds c.source-item.result c.loop-source-test.true
     (c.in_err-advance.ensures.damaged (passed_on c.from_residual.result _ c.in_err-advance.field-0.0 _ c.from_residual.ensures.1 refl is))
+
+pub returns-in_err-advance-clause-moves : goal.returns-in_err-advance-clause-moves
+returns-in_err-advance-clause-moves g c = passed_none c.from_residual.result c.in_err-advance.field-0.0 _ c.from_residual.ensures.1
+
+pub returns-clause-moves : goal.returns-clause-moves
+returns-clause-moves g c = moves_whole c.loop-source.invariant c.loop-source-test.false c.loop-source.auto.sources

@@ -2,7 +2,7 @@ use Rattle.std.proofs.Common.{◌≤◌, ◌+◌, ◌<◌, length, arith, subst,
 use Rattle.cell_key.specs.Entries.{Takes}
 use Rattle.std.specs.Prelude.{Option}
 use Rattle.file_store.specs.Store.{Contents}
-use Rattle.compaction.proofs.Turns.{go_on, front_set, rest_set, cost_falls, not_each, paid_whole, steps_whole}
+use Rattle.compaction.proofs.Turns.{go_on, front_set, rest_set, cost_falls, moves_whole, not_each, paid_whole, steps_whole}
 use Rattle.compaction.specs.MergeLaw.{step_none}
 use Rattle.cell_key.specs.declared.refusals.Refusal.TheVariants.{Device}
 use Rattle.cell_key.proofs.Passed.{passed_err, passed_none, passed_on, passed_reason, reason_after}
@@ -23,6 +23,7 @@ loop-source-preserved g c =
     (front_set c.loop-source.sources c.loop-source.source-index t (omega arith)) (rest_set c.loop-source.sources c.loop-source.source-index t)
     (cost_falls _ _ c.in_ok-advance.field-0 (g.S.Source.lent t) (g.S.Source.lent s) c.in_ok-advance.ensures.more (subst (λ s. g.S.Source.left t + cond c.in_ok-advance.field-0 1 0 ≤ g.S.Source.left s) (sym c.source-item.is) c.in_ok-advance.ensures.lower))
     (λ before. step_none g.S.Source.lent (g.S.Source.remaining told) (g.S.Source.holds told) s t before.1 (holds before.0) (takes before.0))
+    (subst (λ (o : Option Contents). g.S.Source.steps o s t) c.loop-source.invariant.same (subst (λ s. g.S.Source.steps now s t) (sym c.source-item.is) c.in_ok-advance.ensures.steps))
 
 pub returns-in_err-advance-clause-files : goal.returns-in_err-advance-clause-files
 returns-in_err-advance-clause-files g c = c.in_err-advance.ensures.files ∙ c.loop-source.invariant.same
@@ -61,3 +62,9 @@ returns-in_err-advance-clause-damaged g c = λ is.
 
 pub returns-clause-steps : goal.returns-clause-steps
 returns-clause-steps g c = steps_whole c.loop-source.invariant c.loop-source-test.false c.loop-source.auto.sources
+
+pub returns-in_err-advance-clause-moves : goal.returns-in_err-advance-clause-moves
+returns-in_err-advance-clause-moves g c = passed_none c.from_residual.result c.in_err-advance.field-0.0 _ c.from_residual.ensures.1
+
+pub returns-clause-moves : goal.returns-clause-moves
+returns-clause-moves g c = moves_whole c.loop-source.invariant c.loop-source-test.false c.loop-source.auto.sources

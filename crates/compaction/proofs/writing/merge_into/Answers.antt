@@ -1,9 +1,11 @@
 use Rattle.std.proofs.Common.{map, subst}
 use Rattle.cell_key.specs.Entries.{merged}
+use Rattle.sorted_file.specs.Source.{ComesToEnd}
 use Rattle.sorted_file.specs.Grammar.{IsFile}
 use Rattle.sorted_file.specs.declared.format.Format.TheVariants.{Two}
-use Rattle.compaction.specs.Merging.{MergeHolds, merge_remaining}
+use Rattle.compaction.specs.Merging.{lent_at, MergeHolds, MergeSteps, merge_remaining}
 use Rattle.compaction.specs.Writing.{only_written}
+use Rattle.compaction.proofs.Ending.{values_end}
 use Rattle.compaction.proofs.Falls.{on_ok}
 use Rattle.compaction.proofs.writing.merge_into.Goals as goal
 
@@ -22,3 +24,12 @@ returns-clause-written g c =
             subst (λ k. IsFile Two (only_written k (merged (map (g.S.Source.remaining m) c.args.sources.items))) w.0) c.new-values.ensures.keep of_lists),
       ),
     ))
+
+pub returns-clause-comes : goal.returns-clause-comes
+returns-clause-comes g c =
+    let m = g.F.Files.contents c.args.files.now in
+    let steps = g.S.Source.steps m in
+    let lent = g.S.Source.lent in
+    on_ok c.write_file.result _ _ c.write_file.ensures.comes (λ h.
+    let of_values = values_end (λ s t. MergeSteps steps lent s.sources.items s.at t.sources.items t.at) (λ s. lent_at lent s.sources.items s.at) (λ v. v.source) c.new-values.result h in
+    c.new-merge.ensures.comes m (subst (ComesToEnd (λ s t. MergeSteps steps lent s.sources.items s.at t.sources.items t.at) (λ s. lent_at lent s.sources.items s.at)) c.new-values.ensures.source of_values))

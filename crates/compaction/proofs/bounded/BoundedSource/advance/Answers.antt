@@ -1,7 +1,7 @@
 use Rattle.std.proofs.Common.{◌≡◌, true, refl, sym, ap, ◌∙◌}
 use Rattle.std.specs.Prelude.{Option, Some, None, option_map, is_some}
 use Rattle.cell_key.specs.Entries.{lent_entry}
-use Rattle.compaction.specs.Ends.{end_of, source_of, is_at_end}
+use Rattle.compaction.specs.Ends.{end_of, source_of, is_at_end, goes_on, stays}
 use Rattle.compaction.proofs.EndedSources.{until_stays, until_takes}
 use Rattle.compaction.proofs.bounded.BoundedSource.advance.Goals as goal
 
@@ -24,3 +24,10 @@ is_some_map f (Some a) = refl
 
 pub returns-clause-more : goal.returns-clause-more
 returns-clause-more g c = c.is_some.ensures ∙ is_some_map lent_entry c.current.result ∙ ap is_some c.current.ensures
+
+pub returns-then-is_at_end-clause-steps : goal.returns-then-is_at_end-clause-steps
+returns-then-is_at_end-clause-steps g c =
+    stays (sym {b = is_at_end (end_of c.args.self.now) (g.S.Source.lent (source_of c.args.self.now))} c.if-is_at_end.ensures) refl
+
+pub returns-clause-steps : goal.returns-clause-steps
+returns-clause-steps g c = goes_on refl c.in_ok-advance.ensures.steps

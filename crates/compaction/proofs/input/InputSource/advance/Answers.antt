@@ -20,3 +20,6 @@ returns-in-File-clause-holds g c = rw c.in-File.is c.advance-in-File.ensures.hol
 
 pub returns-in-File-clause-takes : goal.returns-in-File-clause-takes
 returns-in-File-clause-takes g c = rw c.in-File.is c.advance-in-File.ensures.takes
+
+pub returns-in-File-clause-steps : goal.returns-in-File-clause-steps
+returns-in-File-clause-steps g c = rw c.in-File.is c.advance-in-File.ensures.steps

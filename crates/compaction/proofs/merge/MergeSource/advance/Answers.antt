@@ -1,7 +1,8 @@
 use Rattle.std.proofs.Common.{◌≡◌, ◌∙◌, ap, sym, ◌++◌, map, take, drop, length, subst}
 use Rattle.std.specs.Prelude.{nat_lt}
 use Rattle.compaction.specs.Least.{IsLeast}
-use Rattle.compaction.proofs.Falls.{merge_falls, back_whole, least_within}
+use Rattle.compaction.proofs.Falls.{merge_falls, back_whole, least_within, unmapped}
+use Rattle.compaction.specs.LeastLaw.{none_lent}
 use Rattle.compaction.specs.MergeLaw.{merge_takes, merge_holds}
 use Rattle.compaction.proofs.merge.MergeSource.advance.Goals as goal
 use Rattle.compaction.proofs.merge.MergeSource.advance.Goals.{After-len}
@@ -32,3 +33,9 @@ returns-clause-holds g c = rw (news_are g c, ← c.deref_mut.ensures.value) (λ 
 pub returns-clause-takes : goal.returns-clause-takes
 returns-clause-takes g c = rw (news_are g c, ← c.deref_mut.ensures.value) (λ h.
     merge_takes g.S.Source.lent (g.S.Source.remaining (g.F.Files.contents c.args.files.now)) (g.S.Source.holds (g.F.Files.contents c.args.files.now)) (λ s k. (g.met.S.Source.list (g.F.Files.contents c.args.files.now) s k).rising) c.deref_mut.result.now c.step.new.sources c.args.self.now.at c.least-self.result (c.in_ok-step.ensures.steps h) (least_of g c))
+
+pub returns-clause-steps : goal.returns-clause-steps
+returns-clause-steps g c = rw (news_are g c, ← c.deref_mut.ensures.value) (record {
+  each = c.in_ok-step.ensures.moves;
+  ended = λ none. unmapped g.S.Source.lent c.step.new.sources (none_lent (map g.S.Source.lent c.step.new.sources) c.least-self.result (least_of g c) none);
+})
