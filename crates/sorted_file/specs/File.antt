@@ -1,16 +1,16 @@
 -- What an open file stands for, and the blocks that it caches.
-use Rattle.std.specs.Prelude.{◌≡◌, ℕ, nat_eq, List, Some, None, slice_get, Contains, ◌⊎◌, ◌+◌, ◌≤◌, length, map, Option, IfSome, option_map}
+use Rattle.std.specs.Prelude.{◌≡◌, ℕ, nat_eq, List, Some, None, slice_get, Contains, ◌⊎◌, ◌+◌, ◌-◌, ◌≤◌, [], drop, length, map, Option, IfSome, option_map}
 use Rattle.std.specs.Map.{lookup}
 use Rattle.std.specs.FinMap as map
 use Rattle.std.specs.List.{AllByRecursion}
 use Rattle.std.specs.List.Sorted.{IsNonDecreasing}
 use Rattle.std.specs.declared.vec.Vec.{Vec}
-use Rattle.cell_key.specs.Entries.{Entry, IsEntryList, entry_of_key}
+use Rattle.cell_key.specs.Entries.{Entry, IsEntryList, IsRising, entry_of_key}
 use Rattle.cell_key.specs.Keys.{text}
 use Rattle.cell_key.specs.declared.keys.CellKey.{CellKey}
 use Rattle.file_store.specs.Store.{Contents, part}
 use Rattle.lru.specs.LruCache.{LruCache}
-use Rattle.sorted_file.specs.Index.{block_of, blocks_of, entries_in, row_head, texts_of, AreRows, IsRowPosition, IsBoundedRow, Tells, skips}
+use Rattle.sorted_file.specs.Index.{block_of, blocks_of, entries_in, first_of, row_head, texts_of, AreRows, IsRowPosition, IsBoundedRow, Tells, skips}
 use Rattle.sorted_file.specs.Block.{IsParsed, BeginsWith}
 use Rattle.sorted_file.specs.Grammar.{block_bytes, IsFile}
 use Rattle.sorted_file.specs.Bounds.{IsBounded, IsWithin, column_bounds}
@@ -18,6 +18,8 @@ use Rattle.sorted_file.specs.Numbers.{IsNumbered, number_of}
 use Rattle.sorted_file.specs.declared.block.BlockRow.{BlockRow}
 use Rattle.sorted_file.specs.declared.block.Block.{Block}
 use Rattle.sorted_file.specs.declared.format.Format.{Format}
+use Rattle.sorted_file.specs.Cursor.{bytes_ahead}
+use Rattle.sorted_file.specs.declared.cursor.FileCursor.{FileCursor}
 use Rattle.sorted_file.specs.declared.file.SortedFile.{SortedFile}
 
 abbrev pub name_of : SortedFile → ℕ
@@ -171,3 +173,13 @@ WrittenIsListed =
     (m : Contents) (file : SortedFile) (format : Format) (entries : List Entry) (image : List ℕ)
     → IsOpen m file → IsFile format entries image → map.get m (name_of file) ≡ Some image
     → listed m file ≡ entries
+
+-- A cursor is one of a file, from a text on: it has come to nothing yet, and has the rows of the file
+-- from the one on whose block may have the text.
+pub record IsCursorOf (file : SortedFile) (text : List ℕ) (cursor : FileCursor) : Type 0 where
+  pub name : cursor.name ≡ name_of file
+  pub from : cursor.from.now ≡ text
+  pub ahead : bytes_ahead cursor ≡ []
+  pub number : ℕ
+  pub rows : cursor.rows.now ≡ drop (number - 1) file.rows.items
+  pub place : IsRising (map first_of file.rows.items) → IsRowPosition text file.rows.items number

@@ -48,7 +48,7 @@ impl SortedFile {
     ghost use Rattle.sorted_file.specs.Newest.{IsFirstIn, IsNewestStamp};
     ghost use Rattle.sorted_file.specs.Bounds.{column_bounds, HasNoValue, IsWithin};
     ghost use Rattle.sorted_file.specs.Numbers.{number_of, HasNoEntry};
-    ghost use Rattle.sorted_file.specs.File.{HasBlockNow, HasFile, IsFoundNow, IsOpen, IsReadFrom, IsReadNow, IsSameFile, IsSearchedNow, KeepsWhatItRead, listed, name_of};
+    ghost use Rattle.sorted_file.specs.File.{HasBlockNow, HasFile, IsCursorOf, IsFoundNow, IsOpen, IsReadFrom, IsReadNow, IsSameFile, IsSearchedNow, KeepsWhatItRead, listed, name_of};
 
     /// Opens a file. Answers `Damaged` if it isn't there or is the file of no entry list, `Device`
     /// if a device fails, and `NoMemory` if there is no memory.
@@ -392,6 +392,7 @@ impl SortedFile {
         ensures entries { (m : Contents) → IsOpen m self.now
             → cursor_remaining (Some m) result ≡ entries_from from.now (listed m self.now) }
         ensures holds { (m : Contents) → IsOpen m self.now → CursorHolds (Some m) result }
+        ensures of { IsCursorOf self.now from.now result }
     {
         let at = rows_to(&self.rows, from).saturating_sub(1);
         FileCursor::new(self.alloc, self.name, from, self.rows.split_at(at).1)

@@ -48,3 +48,15 @@ returns-clause-holds c = λ m o.
       ahead = drop_of_length-le c.new.result.block.items (rw c.new.ensures.block (omega arith)) ∙ ap block_bytes (sym (none_ahead c.new.result c.new.ensures.row));
       list = subst (λ (lent : Option Entry). IsEntryList (pending lent (cursor_remaining (Some m) c.new.result))) (sym (ap (option_map (entry_at c.new.result.block.items)) c.new.ensures.current)) (subst IsEntryList (sym remaining) list);
     }
+
+pub returns-clause-of : goal.returns-clause-of
+returns-clause-of c =
+    let rows = c.args.self.now.rows.items in
+    record {
+      name = c.new.ensures.name;
+      from = c.new.ensures.from;
+      ahead = drop_of_length-le c.new.result.block.items (rw c.new.ensures.block (omega arith));
+      number = c.rows_to.result;
+      rows = c.new.ensures.rows ∙ c.split_at.ensures.back ∙ ap (λ (l : List BlockRow). drop c.saturating_sub-at.result l) c.deref-2.ensures.value ∙ ap (λ (n : ℕ). drop n rows) c.saturating_sub-at.ensures;
+      place = λ rising. subst (λ (l : List BlockRow). IsRowPosition c.args.from.now l c.rows_to.result) c.deref.ensures.value (c.rows_to.ensures.position (subst (λ (l : List BlockRow). IsRising (map first_of l)) (sym c.deref.ensures.value) rising));
+    }
