@@ -2,7 +2,7 @@
 use Rattle.std.proofs.Common.{◌≡◌, ◌+◌, ◌<◌, ◌≤◌, ℕ, List, [], ◌∷◌, ◌++◌, map, length, take, get_or, refl, sym, ap, subst, ◌∙◌, append_assoc, add-one}
 use Rattle.std.proofs.Math.Seq.{take-suc}
 use Rattle.std.proofs.lemmas.List.{take_all}
-use Rattle.std.proofs.lemmas.List.Elements.{All-from_recursion}
+use Rattle.std.proofs.lemmas.List.Elements.{All-contains, All-from_recursion, Contains-append_left, Contains-push}
 use Rattle.std.specs.Prelude.{Option, Some, None}
 use Rattle.std.specs.Option.{option_to_list}
 use Rattle.std.specs.List.{AllByRecursion}
@@ -17,11 +17,12 @@ use Rattle.compaction.specs.Inputs.{InputHolds, input_lent, input_remaining}
 use Rattle.compaction.specs.declared.input.Input.{Input}
 use Rattle.compaction.specs.declared.input.Input.TheVariants.{File}
 use Rattle.compaction.specs.declared.bounded.Bounded.{Bounded}
-use Rattle.tablet.specs.Sources.{entries_between, listed_in, lists_over, IsAtStart, IsOpenIn, remaining_of}
+use Rattle.tablet.specs.Sources.{entries_between, listed_in, lists_over, Comes, HasSource, IsAtStart, IsOpenIn, IsReadThrough, IsSourceOf, remaining_of}
 
 -- the sources are those of the memtable and of the first files
 pub record AreGathered (from : List ℕ) (end : Option (List ℕ)) (memtable : Option (List Entry)) (files : List SortedFile) (i : ℕ) (sources : List (Bounded Input)) : Type 0 where
   pub start : (told : Option Contents) → AllByRecursion (IsOpenIn told) files → AllByRecursion (IsAtStart told) sources
+  pub of : AllByRecursion (HasSource from end sources) (take i files)
   pub lists : (told : Option Contents) → AllByRecursion (IsOpenIn told) files → map (remaining_of told) sources ≡ map (entries_between from end) (lists_over told memtable (take i files))
 
 each-push : {A : Type 0} (P : A → Type 0) (xs : List A) (x : A) → AllByRecursion P xs → P x → AllByRecursion P (xs ++ x ∷ [])
@@ -39,9 +40,14 @@ append-nil (x ∷ xs) = ap (λ ys. x ∷ ys) (append-nil xs)
 one_more : {S : Type 0} (xs : List S) (i : ℕ) (s : S) → i < length xs → s ≡ get_or xs i s → take (i + 1) xs ≡ take i xs ++ s ∷ []
 one_more xs i s l e = rw add-one (take-suc xs i s l ∙ ap (λ x. take i xs ++ x ∷ []) (sym e))
 
+still_there : (from : List ℕ) (end : Option (List ℕ)) (xs : List (Bounded Input)) (s : Bounded Input) (files : List SortedFile) → AllByRecursion (HasSource from end xs) files → AllByRecursion (HasSource from end (xs ++ s ∷ [])) files
+still_there from end xs s [] h = tt
+still_there from end xs s (file ∷ files) h = (record { source = h.0.source; among = Contains-append_left xs (s ∷ []) h.0.source h.0.among; of = h.0.of }, still_there from end xs s files h.1)
+
 module _ (from : List ℕ) (end : Option (List ℕ)) (memtable : Option (List Entry)) (files : List SortedFile) where
   pub first_gathered : (sources : List (Bounded Input)) → ((told : Option Contents) → AllByRecursion (IsAtStart told) sources) → ((told : Option Contents) → map (remaining_of told) sources ≡ map (entries_between from end) (option_to_list memtable)) → AreGathered from end memtable files 0 sources
   first_gathered sources start lists = record {
+    of = tt;
     start = λ m all. start m;
     lists = λ m all. lists m ∙ ap (map (entries_between from end)) (sym (append-nil (option_to_list memtable)));
   }
@@ -49,14 +55,20 @@ module _ (from : List ℕ) (end : Option (List ℕ)) (memtable : Option (List En
   pub all_gathered : (i : ℕ) (sources : List (Bounded Input)) → AreGathered from end memtable files i sources → length files ≤ i → (m : Option Contents) → AllByRecursion (IsOpenIn m) files → map (remaining_of m) sources ≡ map (entries_between from end) (lists_over m memtable files)
   all_gathered i sources g h m all = g.lists m all ∙ ap (λ (xs : List SortedFile). map (entries_between from end) (lists_over m memtable xs)) (take_all i files h)
 
+  pub all_there : (i : ℕ) (sources : List (Bounded Input)) → AreGathered from end memtable files i sources → length files ≤ i → AllByRecursion (HasSource from end sources) files
+  all_there i sources g h = subst (AllByRecursion (HasSource from end sources)) (take_all i files h) g.of
+
   lists_more : (m : Option Contents) (i : ℕ) (file : SortedFile) → i < length files → file ≡ get_or files i file → lists_over m memtable (take (i + 1) files) ≡ lists_over m memtable (take i files) ++ listed_in m file ∷ []
   lists_more m i file l is =
       ap (λ (xs : List SortedFile). option_to_list memtable ++ map (listed_in m) xs) (one_more files i file l is)
       ∙ ap (λ (xs : List (List Entry)). option_to_list memtable ++ xs) (map-push (listed_in m) (take i files) file)
       ∙ sym (append_assoc (option_to_list memtable) (map (listed_in m) (take i files)) (listed_in m file ∷ []))
 
-  pub one_gathered : (i : ℕ) (xs ys : List (Bounded Input)) (file : SortedFile) (s : Bounded Input) → AreGathered from end memtable files i xs → i < length files → file ≡ get_or files i file → ((m : Option Contents) → IsOpenIn m file → IsAtStart m s) → ((m : Option Contents) → IsOpenIn m file → remaining_of m s ≡ entries_between from end (listed_in m file)) → ys ≡ xs ++ s ∷ [] → AreGathered from end memtable files (i + 1) ys
-  one_gathered i xs ys file s g l is start list pushed = record {
+  pub one_gathered : (i : ℕ) (xs ys : List (Bounded Input)) (file : SortedFile) (s : Bounded Input) → AreGathered from end memtable files i xs → i < length files → file ≡ get_or files i file → ((m : Option Contents) → IsOpenIn m file → IsAtStart m s) → ((m : Option Contents) → IsOpenIn m file → remaining_of m s ≡ entries_between from end (listed_in m file)) → IsSourceOf from end file s → ys ≡ xs ++ s ∷ [] → AreGathered from end memtable files (i + 1) ys
+  one_gathered i xs ys file s g l is start list of pushed = record {
+    of = subst (λ (zs : List (Bounded Input)). AllByRecursion (HasSource from end zs) (take (i + 1) files)) (sym pushed)
+        (subst (AllByRecursion (HasSource from end (xs ++ s ∷ []))) (sym (one_more files i file l is))
+        (each-push (HasSource from end (xs ++ s ∷ [])) (take i files) file (still_there from end xs s (take i files) g.of) (record { source = s; among = Contains-push xs s; of = of })));
     start = λ m all. subst (λ (zs : List (Bounded Input)). AllByRecursion (IsAtStart m) zs) (sym pushed) (each-push (IsAtStart m) xs s (g.start m all) (start m (opened m all)));
     lists =
         λ m all.
@@ -101,3 +113,24 @@ all_lists (Some m) (file ∷ files) all = (all.0.list, all_lists (Some m) files 
 pub entry_lists : (memtable : Option (List Entry)) (files : List SortedFile) → AllByRecursion IsEntryList (option_to_list memtable) → (told : Option Contents) → AllByRecursion (IsOpenIn told) files → AllByRecursion IsEntryList (lists_over told memtable files)
 entry_lists None files is told all = all_lists told files all
 entry_lists (Some es) files is told all = (is.0, all_lists told files all)
+
+-- ---- the files that were read
+
+-- what has sources that come to their ends was read through
+read_through : (disk : Option Contents) (from : List ℕ) (end : Option (List ℕ)) (sources : List (Bounded Input)) (files : List SortedFile) → AllByRecursion (HasSource from end sources) files → AllByRecursion (Comes disk) sources → AllByRecursion (IsReadThrough disk from end) files
+read_through disk from end sources [] has all = tt
+read_through disk from end sources (file ∷ files) has all = (
+  record {
+    source = has.0.source;
+    of = has.0.of;
+    comes = All-contains (Comes disk) sources has.0.source (All-from_recursion (Comes disk) sources all) has.0.among;
+  },
+  read_through disk from end sources files has.1 all,
+)
+
+-- and so were the same files, from the same text up to the same other
+pub all_through : (disk : Option Contents) (from low : List ℕ) (end high : Option (List ℕ)) (sources : List (Bounded Input)) (files read : List SortedFile) → from ≡ low → end ≡ high → files ≡ read → AllByRecursion (HasSource from end sources) files → AllByRecursion (Comes disk) sources → AllByRecursion (IsReadThrough disk low high) read
+all_through disk from low end high sources files read f e r has all =
+    subst (AllByRecursion (IsReadThrough disk low high)) r
+    (subst (λ (h : Option (List ℕ)). AllByRecursion (IsReadThrough disk low h) files) e
+    (subst (λ (l : List ℕ). AllByRecursion (IsReadThrough disk l end) files) f (read_through disk from end sources files has all)))

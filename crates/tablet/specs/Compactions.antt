@@ -10,8 +10,8 @@ use Rattle.sorted_file.specs.File.{IsOpen, listed}
 use Rattle.sorted_file.specs.Source.{IsWriteRefusal}
 use Rattle.sorted_file.specs.declared.file.SortedFile.{SortedFile}
 use Rattle.compaction.specs.Writing.{written}
-use Rattle.tablet.specs.Ranges.{seen}
-use Rattle.tablet.specs.Sources.{IsOpenIn}
+use Rattle.tablet.specs.Ranges.{lower_fence, seen, upper_fence}
+use Rattle.tablet.specs.Sources.{IsOpenIn, IsReadThrough}
 use Rattle.tablet.specs.Views.{files_of, flushed, memory_of, names_of, range_of, with_name, IsUnchanged, MakesLists, MayBeFlushed, UsesName}
 use Rattle.tablet.specs.declared.tablet.Tablet.{Tablet}
 use Rattle.tablet.specs.declared.ranges.RowRange.{RowRange}
@@ -41,6 +41,17 @@ abbrev pub ReadsOpen : Compaction → Option Contents → Tablet → Type 0
 ReadsOpen Minor disk t = Unit {0}
 ReadsOpen (Merge count) disk t = AllByRecursion (IsOpenIn disk) (take count (files_of t))
 ReadsOpen Major disk t = AllByRecursion (IsOpenIn disk) (files_of t)
+
+abbrev pub files_read : Compaction → List SortedFile → List SortedFile
+files_read Minor files = []
+files_read (Merge count) files = take count files
+files_read Major files = files
+
+-- it read them through, in its rows
+abbrev pub ReadsThrough : Compaction → Option Contents → Tablet → Type 0
+ReadsThrough compaction disk t =
+    AllByRecursion (IsReadThrough disk (lower_fence (range_of t)) (upper_fence (range_of t)))
+    (files_read compaction (files_of t))
 
 -- what it writes
 abbrev pub compacted : Compaction → RowRange → List Entry → List (List Entry) → List Entry
@@ -104,14 +115,15 @@ memory_after (Merge count) memory = memory
 memory_after Major memory = []
 
 -- An accepted compaction of files took the next name for a file within the limit, which is now in
--- the place of what it wrote. If the files that it read were open, the file has what they mean,
--- whatever all others hold.
+-- the place of what it wrote. It read its files through; if they were open, the file has what they
+-- mean, whatever all others hold.
 pub record Replaces (compaction : Compaction) (file_limit : ℕ) (disk : Option Contents)
     (before : ℕ) (now : Option Contents) (after : ℕ) (old new : Tablet) : Type 0 where
   pub names : names_of new ≡ names_after compaction before (names_of old)
   pub memory : memory_of new ≡ memory_after compaction (memory_of old)
   pub left : before < 2 ^ 63
   pub used : after ≡ before + 1
+  pub read : ReadsThrough compaction disk old
   pub fits : IfSome disk (λ m.
       ReadsOpen compaction (Some m) old → FitsIn file_limit (compacted_of compaction m old))
   pub put : IfSome disk (λ m. ReadsOpen compaction (Some m) old

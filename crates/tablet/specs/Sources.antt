@@ -1,13 +1,16 @@
 -- The lists that a tablet reads, and parts of them.
-use Rattle.std.specs.Prelude.{◌≡◌, ℕ, List, [], ◌++◌, map, Option, Some, None}
+use Rattle.std.specs.Prelude.{◌≡◌, ℕ, List, [], ◌++◌, map, Option, Some, None, Contains}
 use Rattle.std.specs.Option.{option_to_list}
 use Rattle.cell_key.specs.Entries.{Entry, entries_from, merged}
 use Rattle.file_store.specs.Store.{Contents}
-use Rattle.sorted_file.specs.File.{IsOpen, listed}
+use Rattle.sorted_file.specs.File.{IsCursorOf, IsOpen, listed}
+use Rattle.sorted_file.specs.Source.{ComesToEnd}
+use Rattle.sorted_file.specs.declared.cursor.FileCursor.{FileCursor}
 use Rattle.sorted_file.specs.declared.file.SortedFile.{SortedFile}
-use Rattle.compaction.specs.Ends.{entries_until, lent_until, source_of, end_of}
-use Rattle.compaction.specs.Inputs.{InputHolds, input_lent, input_remaining}
+use Rattle.compaction.specs.Ends.{BoundedSteps, entries_until, lent_until, source_of, end_of}
+use Rattle.compaction.specs.Inputs.{InputHolds, InputSteps, input_lent, input_remaining}
 use Rattle.compaction.specs.declared.input.Input.{Input}
+use Rattle.compaction.specs.declared.input.Input.TheVariants.{File}
 use Rattle.compaction.specs.declared.bounded.Bounded.{Bounded}
 
 -- the entries from a text on, and below another one if there is one
@@ -40,3 +43,32 @@ IsAtStart disk s =
 -- the entries that it has
 abbrev pub remaining_of : Option Contents → Bounded Input → List Entry
 remaining_of disk s = entries_until (end_of s) (input_remaining disk (source_of s))
+
+-- a source has the entries of a file from a text on, and below another one if there is one
+pub record IsSourceOf (text : List ℕ) (end : Option (List ℕ)) (file : SortedFile) (s : Bounded Input)
+    : Type 0 where
+  pub cursor : FileCursor
+  pub source : source_of s ≡ File cursor
+  pub ends : end_of s ≡ end
+  pub of : IsCursorOf file text cursor
+
+-- such a source is among these
+pub record HasSource (text : List ℕ) (end : Option (List ℕ)) (sources : List (Bounded Input))
+    (file : SortedFile) : Type 0 where
+  pub source : Bounded Input
+  pub among : Contains sources source
+  pub of : IsSourceOf text end file source
+
+-- over files that hold this a source comes to its end
+abbrev pub Comes : Option Contents → Bounded Input → Type 0
+Comes disk =
+    ComesToEnd (BoundedSteps (InputSteps disk) input_lent)
+    (λ s. lent_until (end_of s) (input_lent (source_of s)))
+
+-- A file was read from a text on, and up to another one if there is one: over files that hold this a
+-- source of it comes to its end, through bytes that are entries.
+pub record IsReadThrough (disk : Option Contents) (text : List ℕ) (end : Option (List ℕ))
+    (file : SortedFile) : Type 0 where
+  pub source : Bounded Input
+  pub of : IsSourceOf text end file source
+  pub comes : Comes disk source

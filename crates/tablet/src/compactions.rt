@@ -7,6 +7,7 @@ ghost use Rattle.std.specs.Prelude.{◌≡◌, ◌≢◌, ◌≤◌, ◌<◌, �
 ghost use Rattle.std.specs.Option.{option_copied};
 ghost use Rattle.std.specs.List.{AllByRecursion};
 ghost use Rattle.file_store.specs.Store.{Contents, KeepsOthers};
+ghost use Rattle.sorted_file.specs.Source.{ComesToEnd};
 ghost use Rattle.sorted_file.specs.Grammar.{FitsIn};
 ghost use Rattle.sorted_file.specs.Limits.{IsFileLimit};
 ghost use Rattle.sorted_file.specs.File.{listed, name_of};
@@ -17,7 +18,7 @@ ghost use Rattle.tablet.specs.Ranges.{seen};
 ghost use Rattle.tablet.specs.Sources.{IsOpenIn, listed_in, lists_over};
 ghost use Rattle.tablet.specs.Views.{range_of, memory_of, files_of, names_of, IsUnchanged, Keeps, UsesName};
 ghost use Rattle.tablet.specs.declared.compactions.Compaction.TheVariants.{Minor, Merge, Major};
-ghost use Rattle.tablet.specs.Compactions.{compacted, compacted_of, inputs_of, keeps_erasures, Compacts, Flushes, HasAsMany, IsCompactionRefusal, IsMergeRefusal, IsMinorRefusal, IsNewFile, ReadsOpen, Replaces, TakesName};
+ghost use Rattle.tablet.specs.Compactions.{compacted, compacted_of, inputs_of, keeps_erasures, Compacts, Flushes, HasAsMany, files_read, IsCompactionRefusal, IsMergeRefusal, IsMinorRefusal, IsNewFile, ReadsOpen, ReadsThrough, Replaces, TakesName};
 
 use crate::sources::{fences, sources};
 use crate::tablet::Tablet;
@@ -76,6 +77,8 @@ fn write_new<F: Files, S: Source<F> + Drop>(
     ensures used { OnOk result (next_name.new ≡ next_name.old + 1) }
     ensures others { OnOk result (KeepsOthers
         next_name.old (F.contents files.old) (F.contents files.new)) }
+    ensures comes { OnOk result (AllByRecursion
+        (ComesToEnd (S.steps (F.contents files.old)) S.lent) sources.items) }
     ensures name { UsesName
         (F.contents files.old) next_name.old (F.contents files.new) next_name.new }
     ensures limit { next_name.old ≤ 2 ^ 63 → next_name.new ≤ 2 ^ 63 }
@@ -121,6 +124,7 @@ impl Tablet {
             ≡ inputs_of compaction (memory_of self.now) (map (listed_in disk) (files_of self.now)) }
         ensures open { (disk : Option Contents) → ReadsOpen compaction disk self.now
             → AllByRecursion (IsOpenIn disk) result.1.now }
+        ensures files { result.1.now ≡ files_read compaction (files_of self.now) }
     {
         match compaction {
             Compaction::Minor => (Some(&self.memtable), &[]),
@@ -155,13 +159,14 @@ impl Tablet {
         ensures made { IfOk result (λ file. IfSome (F.contents files.old) (λ m.
             ReadsOpen compaction (Some m) self.now → IsSomeAnd (F.contents files.new) (λ n.
             IsNewFile n file (compacted_of compaction m self.now)))) }
-        ensures used { OnOk result (next_name.new ≡ next_name.old + 1) }
+        ensures read { OnOk result (ReadsThrough compaction (F.contents files.old) self.now) }
+        ensures used { OnOk result ((next_name.old < 2 ^ 63)
+            × (next_name.new ≡ next_name.old + 1)) }
         ensures others { OnOk result (KeepsOthers
             next_name.old (F.contents files.old) (F.contents files.new)) }
         ensures name { UsesName
             (F.contents files.old) next_name.old (F.contents files.new) next_name.new }
         ensures limit { next_name.old ≤ 2 ^ 63 → next_name.new ≤ 2 ^ 63 }
-        ensures left { OnOk result (next_name.old < 2 ^ 63) }
         ensures exhausted { IsErrOf result Refusal.Exhausted → 2 ^ 63 ≤ next_name.old }
         ensures large { IsErrOf result Refusal.FileTooLarge
             → ReadsOpen compaction (F.contents files.old) self.now

@@ -7,7 +7,7 @@ ghost use Rattle.file_store.specs.Store.{Contents};
 ghost use Rattle.cell_key.specs.Entries.{IsEntryList};
 ghost use Rattle.compaction.specs.Merging.{AreAtStart};
 ghost use Rattle.tablet.specs.Ranges.{lower_fence, upper_fence};
-ghost use Rattle.tablet.specs.Sources.{entries_between, listed_in, lists_over, IsAtStart, IsOpenIn, remaining_of};
+ghost use Rattle.tablet.specs.Sources.{entries_between, listed_in, lists_over, HasSource, IsAtStart, IsOpenIn, IsSourceOf, remaining_of};
 
 use crate::ranges::RowRange;
 use cell_key::{Refusal, Row};
@@ -83,6 +83,7 @@ fn file_source<'a>(
     ensures start { (disk : Option Contents) → IsOpenIn disk file.now → IsAtStart disk result }
     ensures list { (disk : Option Contents) → IsOpenIn disk file.now → remaining_of disk result
         ≡ entries_between from.now (option_copied end.entry) (listed_in disk file.now) }
+    ensures of { IsSourceOf from.now (option_copied end.entry) file.now result }
 {
     Bounded::new(Input::File(file.cursor(from)), end)
 }
@@ -109,6 +110,8 @@ pub(crate) fn sources<'a, F: Files>(
     ensures entries { IfOk result (λ sources. (disk : Option Contents)
         → AllByRecursion (IsOpenIn disk) files.now
         → AllByRecursion IsEntryList (lists_over disk (option_copied memtable.entry) files.now)) }
+    ensures of { IfOk result (λ sources. AllByRecursion
+        (HasSource from.now (option_copied end.entry) sources.items) files.now) }
     ensures refusal { IfErr result (λ refusal. refusal ≡ Refusal.NoMemory) }
 {
     let mut sources = memtable_sources(alloc, memtable, from, end)?;

@@ -159,3 +159,12 @@ returns-clause-refusal g c = err_map c.open.result IsReadRefusal IsCompactionRef
 
 pub returns-clause-reason : goal.returns-clause-reason
 returns-clause-reason g c = reason_after _ _ _ (c.in_ok-merge_into.ensures.reason.told (not_err _ Device)) c.open.ensures.reason
+
+pub returns-in_err-name-clause-comes : goal.returns-in_err-name-clause-comes
+returns-in_err-name-clause-comes g c = passed_none c.from_residual.result c.in_err-name.field-0.0 _ c.from_residual.ensures.1
+
+pub returns-in_err-merge_into-clause-comes : goal.returns-in_err-merge_into-clause-comes
+returns-in_err-merge_into-clause-comes g c = passed_none c.from_residual-in_err-merge_into.result c.in_err-merge_into.field-0.0 _ c.from_residual-in_err-merge_into.ensures.1
+
+pub returns-clause-comes : goal.returns-clause-comes
+returns-clause-comes g c = as_on_ok c.open.result c.in_ok-merge_into.ensures.comes

@@ -4,7 +4,7 @@ use Rattle.std.specs.List.{AllByRecursion}
 use Rattle.sorted_file.specs.declared.file.SortedFile.{SortedFile}
 use Rattle.tablet.specs.Sources.{IsOpenIn, listed_in}
 use Rattle.tablet.specs.Views.{files_of, memory_of}
-use Rattle.tablet.specs.Compactions.{ReadsOpen, inputs_of}
+use Rattle.tablet.specs.Compactions.{ReadsOpen, files_read, inputs_of}
 use Rattle.tablet.proofs.tablet.Tablet.inputs.Goals as goal
 
 pub returns-in-Minor-clause-lists : goal.returns-in-Minor-clause-lists
@@ -26,3 +26,12 @@ returns-in-Merge-clause-open c = λ told reads.
 pub returns-in-Major-clause-open : goal.returns-in-Major-clause-open
 returns-in-Major-clause-open c = λ told reads.
     subst (λ (fs : List SortedFile). AllByRecursion (IsOpenIn told) fs) (sym c.deref-in-Major.ensures.value) (subst (λ (k : _). ReadsOpen k told c.args.self.now) c.in-Major.is reads)
+
+pub returns-in-Minor-clause-files : goal.returns-in-Minor-clause-files
+returns-in-Minor-clause-files c = ap (λ (k : _). files_read k (files_of c.args.self.now)) (sym c.in-Minor.is)
+
+pub returns-in-Merge-clause-files : goal.returns-in-Merge-clause-files
+returns-in-Merge-clause-files c = ap (take c.in-Merge.count) c.deref.ensures.value ∙ ap (λ (k : _). files_read k (files_of c.args.self.now)) (sym c.in-Merge.is)
+
+pub returns-in-Major-clause-files : goal.returns-in-Major-clause-files
+returns-in-Major-clause-files c = c.deref-in-Major.ensures.value ∙ ap (λ (k : _). files_read k (files_of c.args.self.now)) (sym c.in-Major.is)

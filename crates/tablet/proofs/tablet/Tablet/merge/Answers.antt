@@ -32,7 +32,7 @@ returns-clause-lists g c =
     let old = files_of c.args.self.now in
     made_lists c.stays_open.ensures (g.F.Files.contents c.args.files.now) (g.F.Files.contents c.write.new.files) c.args.next_name.now c.write.new.next_name c.args.self.now (record c.args.self.now { files = c.replace_newest.new.files }) c.in_ok-file.file c.args.count memory (λ m. written (nat_lt c.args.count (length (map (listed m) old))) (map (seen range) (take c.args.count (map (listed m) old))))
     (λ memory lists. memory ∷ written (nat_lt c.args.count (length lists)) (map (seen (range_of c.args.self.now)) (take c.args.count lists)) ∷ drop c.args.count lists)
-    (record { range = refl; memory = refl; files = c.replace_newest.ensures; named = c.in_ok-file.ensures.named }) c.in_ok-file.ensures.used c.in_ok-file.ensures.others
+    (record { range = refl; memory = refl; files = c.replace_newest.ensures; named = c.in_ok-file.ensures.named }) c.in_ok-file.ensures.used.1 c.in_ok-file.ensures.others
     (where_held (Merge c.args.count) (g.F.Files.contents c.args.files.now) c.args.self.now (λ m. IsSomeAnd (g.F.Files.contents c.write.new.files) (λ n. IsNewFile n c.in_ok-file.file (written (nat_lt c.args.count (length (map (listed m) old))) (map (seen range) (take c.args.count (map (listed m) old)))))) c.in_ok-file.ensures.made)
     (λ m h. h.memory) (λ m h. refl)
 
@@ -42,7 +42,7 @@ returns-clause-keeps g c =
     let memory = memory_of c.args.self.now in
     let old = files_of c.args.self.now in
     made_keeps c.stays_open.ensures (g.F.Files.contents c.args.files.now) (g.F.Files.contents c.write.new.files) c.args.next_name.now c.write.new.next_name c.args.self.now _ c.in_ok-file.file c.args.count memory (λ m. written (nat_lt c.args.count (length (map (listed m) old))) (map (seen range) (take c.args.count (map (listed m) old))))
-    (record { range = refl; memory = refl; files = c.replace_newest.ensures; named = c.in_ok-file.ensures.named }) c.in_ok-file.ensures.used c.in_ok-file.ensures.others
+    (record { range = refl; memory = refl; files = c.replace_newest.ensures; named = c.in_ok-file.ensures.named }) c.in_ok-file.ensures.used.1 c.in_ok-file.ensures.others
     (where_held (Merge c.args.count) (g.F.Files.contents c.args.files.now) c.args.self.now (λ m. IsSomeAnd (g.F.Files.contents c.write.new.files) (λ n. IsNewFile n c.in_ok-file.file (written (nat_lt c.args.count (length (map (listed m) old))) (map (seen range) (take c.args.count (map (listed m) old)))))) c.in_ok-file.ensures.made)
     (λ m h. h.memory) (λ m h list. merge_cells c.names_first.ensures range memory (map (listed m) old) c.args.count (held_lists m c.args.self.now h) (nat_lt c.args.count (length (map (listed m) old))) refl list)
 
@@ -126,7 +126,7 @@ pub returns-clause-refusal : goal.returns-clause-refusal
 returns-clause-refusal g c = tt
 
 pub returns-clause-name : goal.returns-clause-name
-returns-clause-name g c = record { uses = inr (c.in_ok-file.ensures.used, c.in_ok-file.ensures.others); within = c.in_ok-file.ensures.limit }
+returns-clause-name g c = record { uses = inr (c.in_ok-file.ensures.used.1, c.in_ok-file.ensures.others); within = c.in_ok-file.ensures.limit }
 
 pub returns-clause-count : goal.returns-clause-count
 returns-clause-count g c = (λ is. absurd (not_err _ _ is), λ no. absurd (no (c.if-count-lt2.false, within (files_of c.args.self.now) _ c.args.count (c.len.ensures ∙ c.args.self.now.files.ok.0) c.if-count-len.false)))
@@ -159,8 +159,9 @@ returns-clause-made g c =
           ap (map name_of) c.replace_newest.ensures
           ∙ (λ i. c.in_ok-file.ensures.named i ∷ sym (drop-map name_of c.args.count (files_of c.args.self.now)) i);
       memory = refl;
-      left = c.in_ok-file.ensures.left;
-      used = c.in_ok-file.ensures.used;
+      left = c.in_ok-file.ensures.used.0;
+      used = c.in_ok-file.ensures.used.1;
+      read = c.in_ok-file.ensures.read;
       fits = told_written (Merge c.args.count) (g.F.Files.contents c.args.files.now) c.args.self.now (λ lists. FitsIn c.args.file_limit (compacted (Merge c.args.count) (range_of c.args.self.now) (memory_of c.args.self.now) lists)) c.in_ok-file.ensures.fits;
       put = has_put (Merge c.args.count) (g.F.Files.contents c.args.files.now) (g.F.Files.contents c.write.new.files) c.args.self.now (record c.args.self.now { files = c.replace_newest.new.files }) c.in_ok-file.file (λ m. compacted_of (Merge c.args.count) m c.args.self.now) (λ m. compacted_of (Merge c.args.count) m c.args.self.now) c.replace_newest.ensures (λ m. refl) c.in_ok-file.ensures.made;
     }

@@ -46,7 +46,7 @@ returns-clause-lists g c =
     let files = inserted c.insert.result _ (c.in_ok-file.file ∷ c.reserve.new.self.items) c.reserve.new.self.items c.insert.ensures.items c.unwrap.ensures ∙ ap (λ fs. c.in_ok-file.file ∷ fs) c.in_ok-reserve.ensures.items in
     made_lists c.stays_open.ensures (g.F.Files.contents c.args.files.now) (g.F.Files.contents c.write.new.files) c.args.next_name.now c.write.new.next_name c.args.self.now (record c.args.self.now { memtable = c.new.result; files = c.insert.new.self }) c.in_ok-file.file 0 [] (λ m. written true (seen range memory ∷ []))
     (λ memory lists. [] ∷ flushed (range_of c.args.self.now) memory lists)
-    (record { range = refl; memory = c.new.ensures; files = files; named = c.in_ok-file.ensures.named }) c.in_ok-file.ensures.used c.in_ok-file.ensures.others
+    (record { range = refl; memory = c.new.ensures; files = files; named = c.in_ok-file.ensures.named }) c.in_ok-file.ensures.used.1 c.in_ok-file.ensures.others
     (where_held Minor (g.F.Files.contents c.args.files.now) c.args.self.now (λ m. IsSomeAnd (g.F.Files.contents c.write.new.files) (λ n. IsNewFile n c.in_ok-file.file (written true (seen range memory ∷ [])))) (made_of Minor (g.F.Files.contents c.args.files.now) (g.F.Files.contents c.write.new.files) c.args.self.now (record c.args.self.now { files = c.reserve.new.self }) c.in_ok-file.file (λ m. written true (seen range memory ∷ [])) (λ m. written true (seen range memory ∷ []))
     (record { range = refl; memory = refl; files = c.in_ok-reserve.ensures.items }) (λ m. refl) c.in_ok-file.ensures.made))
     (λ m h. no_entries) (λ m h. minor_form c.keeps_one_list.ensures range memory (map (listed m) (files_of c.args.self.now)) some h.memory)
@@ -57,7 +57,7 @@ returns-clause-keeps g c =
     let memory = memory_of c.args.self.now in
     let files = inserted c.insert.result _ (c.in_ok-file.file ∷ c.reserve.new.self.items) c.reserve.new.self.items c.insert.ensures.items c.unwrap.ensures ∙ ap (λ fs. c.in_ok-file.file ∷ fs) c.in_ok-reserve.ensures.items in
     made_keeps c.stays_open.ensures (g.F.Files.contents c.args.files.now) (g.F.Files.contents c.write.new.files) c.args.next_name.now c.write.new.next_name c.args.self.now _ c.in_ok-file.file 0 [] (λ m. written true (seen range memory ∷ []))
-    (record { range = refl; memory = c.new.ensures; files = files; named = c.in_ok-file.ensures.named }) c.in_ok-file.ensures.used c.in_ok-file.ensures.others
+    (record { range = refl; memory = c.new.ensures; files = files; named = c.in_ok-file.ensures.named }) c.in_ok-file.ensures.used.1 c.in_ok-file.ensures.others
     (where_held Minor (g.F.Files.contents c.args.files.now) c.args.self.now (λ m. IsSomeAnd (g.F.Files.contents c.write.new.files) (λ n. IsNewFile n c.in_ok-file.file (written true (seen range memory ∷ [])))) (made_of Minor (g.F.Files.contents c.args.files.now) (g.F.Files.contents c.write.new.files) c.args.self.now (record c.args.self.now { files = c.reserve.new.self }) c.in_ok-file.file (λ m. written true (seen range memory ∷ [])) (λ m. written true (seen range memory ∷ []))
     (record { range = refl; memory = refl; files = c.in_ok-reserve.ensures.items }) (λ m. refl) c.in_ok-file.ensures.made))
     (λ m h. no_entries) (λ m h list. minor_cells c.keeps_one_list.ensures range memory (map (listed m) (files_of c.args.self.now)) h.memory)
@@ -187,7 +187,7 @@ pub returns-clause-err : goal.returns-clause-err
 returns-clause-err g c = tt
 
 pub returns-clause-name : goal.returns-clause-name
-returns-clause-name g c = record { uses = inr (c.in_ok-file.ensures.used, c.in_ok-file.ensures.others); within = c.in_ok-file.ensures.limit }
+returns-clause-name g c = record { uses = inr (c.in_ok-file.ensures.used.1, c.in_ok-file.ensures.others); within = c.in_ok-file.ensures.limit }
 
 pub returns-clause-full : goal.returns-clause-full
 returns-clause-full g c = (λ is. absurd (not_err _ _ is), λ both. absurd (not_both _ _ (too_few c.args.self.now.files.items _ 64 (c.len.ensures ∙ c.args.self.now.files.ok.0) c.if-len-ge-MOST_FILES.false) both.1))
@@ -229,8 +229,8 @@ returns-clause-flushed g c =
       memory = c.new.ensures;
       written = λ some. record {
         room = too_few c.args.self.now.files.items _ 64 (c.len.ensures ∙ c.args.self.now.files.ok.0) c.if-len-ge-MOST_FILES.false;
-        left = c.in_ok-file.ensures.left;
-        used = c.in_ok-file.ensures.used;
+        left = c.in_ok-file.ensures.used.0;
+        used = c.in_ok-file.ensures.used.1;
         fits = subst (λ (es : List Entry). FitsIn c.args.file_limit es) (minor_writes c.keeps_one_list.ensures range memory c.len-2.ensures.list) (c.in_ok-file.ensures.fits tt);
       };
       put = λ some. reads_none (g.F.Files.contents c.args.files.now) _ (has_put Minor (g.F.Files.contents c.args.files.now) (g.F.Files.contents c.write.new.files) c.args.self.now (record c.args.self.now { memtable = c.new.result; files = c.insert.new.self }) c.in_ok-file.file (λ m. written true (seen range memory ∷ [])) (λ m. seen range memory) files (λ m. minor_writes c.keeps_one_list.ensures range memory c.len-2.ensures.list)

@@ -4,11 +4,13 @@ use Rattle.std.specs.Option.{option_copied}
 use Rattle.cell_key.specs.Entries.{Entry}
 use Rattle.sorted_file.specs.Grammar.{FitsIn}
 use Rattle.sorted_file.specs.File.{listed}
-use Rattle.tablet.specs.Compactions.{IsCompactionRefusal, ReadsOpen, compacted}
+use Rattle.tablet.specs.Compactions.{IsCompactionRefusal, ReadsOpen, compacted, files_read}
+use Rattle.tablet.specs.Ranges.{lower_fence, upper_fence}
 use Rattle.tablet.specs.Sources.{listed_in, lists_over}
 use Rattle.tablet.specs.Views.{files_of, memory_of, range_of}
 use Rattle.tablet.proofs.Passed.{IsNoMemory, no_memory, passed_err, passed_kind, passed_none, quiet_reason}
-use Rattle.tablet.proofs.WrittenFiles.{compacts, if_ok_holds, if_some_not, on_ok_map}
+use Rattle.tablet.proofs.SourceLists.{all_through}
+use Rattle.tablet.proofs.WrittenFiles.{compacts, if_ok_holds, if_some_not, on_ok_both, on_ok_map}
 use Rattle.tablet.proofs.tablet.Tablet.write.Goals as goal
 
 pub returns-clause-made : goal.returns-clause-made
@@ -51,9 +53,6 @@ returns-in_err-from-clause-used g c = passed_none c.from_residual.result c.in_er
 pub returns-in_err-from-clause-others : goal.returns-in_err-from-clause-others
 returns-in_err-from-clause-others g c = passed_none c.from_residual.result c.in_err-from.field-0.0 _ c.from_residual.ensures.1
 
-pub returns-in_err-from-clause-left : goal.returns-in_err-from-clause-left
-returns-in_err-from-clause-left g c = passed_none c.from_residual.result c.in_err-from.field-0.0 _ c.from_residual.ensures.1
-
 pub returns-in_err-from-clause-fits : goal.returns-in_err-from-clause-fits
 returns-in_err-from-clause-fits g c = passed_none c.from_residual.result c.in_err-from.field-0.0 _ c.from_residual.ensures.1
 
@@ -90,9 +89,6 @@ returns-in_err-sources-clause-used g c = passed_none c.from_residual-in_err-sour
 pub returns-in_err-sources-clause-others : goal.returns-in_err-sources-clause-others
 returns-in_err-sources-clause-others g c = passed_none c.from_residual-in_err-sources.result c.in_err-sources.field-0.0 _ c.from_residual-in_err-sources.ensures.1
 
-pub returns-in_err-sources-clause-left : goal.returns-in_err-sources-clause-left
-returns-in_err-sources-clause-left g c = passed_none c.from_residual-in_err-sources.result c.in_err-sources.field-0.0 _ c.from_residual-in_err-sources.ensures.1
-
 pub returns-in_err-sources-clause-fits : goal.returns-in_err-sources-clause-fits
 returns-in_err-sources-clause-fits g c = passed_none c.from_residual-in_err-sources.result c.in_err-sources.field-0.0 _ c.from_residual-in_err-sources.ensures.1
 
@@ -121,7 +117,7 @@ pub returns-clause-named : goal.returns-clause-named
 returns-clause-named g c = c.write_new.ensures.named
 
 pub returns-clause-used : goal.returns-clause-used
-returns-clause-used g c = c.write_new.ensures.used
+returns-clause-used g c = on_ok_both c.write_new.result _ _ c.write_new.ensures.left c.write_new.ensures.used
 
 pub returns-clause-others : goal.returns-clause-others
 returns-clause-others g c = c.write_new.ensures.others
@@ -132,9 +128,6 @@ returns-clause-name g c = c.write_new.ensures.name
 pub returns-clause-limit : goal.returns-clause-limit
 returns-clause-limit g c = c.write_new.ensures.limit
 
-pub returns-clause-left : goal.returns-clause-left
-returns-clause-left g c = c.write_new.ensures.left
-
 pub returns-clause-exhausted : goal.returns-clause-exhausted
 returns-clause-exhausted g c = c.write_new.ensures.exhausted
 
@@ -143,3 +136,18 @@ returns-clause-refusal g c = c.write_new.ensures.refusal
 
 pub returns-clause-reason : goal.returns-clause-reason
 returns-clause-reason g c = c.write_new.ensures.reason
+
+pub returns-in_err-from-clause-read : goal.returns-in_err-from-clause-read
+returns-in_err-from-clause-read g c = passed_none c.from_residual.result c.in_err-from.field-0.0 _ c.from_residual.ensures.1
+
+pub returns-in_err-sources-clause-read : goal.returns-in_err-sources-clause-read
+returns-in_err-sources-clause-read g c = passed_none c.from_residual-in_err-sources.result c.in_err-sources.field-0.0 _ c.from_residual-in_err-sources.ensures.1
+
+pub returns-clause-read : goal.returns-clause-read
+returns-clause-read g c =
+    let disk = g.F.Files.contents c.args.files.now in
+    let range = range_of c.args.self.now in
+    on_ok_map c.write_new.result
+    (all_through disk c.deref.result.now (lower_fence range) (option_copied c.as_deref.result) (upper_fence range) c.in_ok-sources.sources.items c.inputs.result.1.now (files_read c.args.compaction (files_of c.args.self.now))
+    (c.deref.ensures.value ∙ c.in_ok-from.ensures.from) (c.as_deref.ensures.value ∙ c.in_ok-from.ensures.end) c.inputs.ensures.files c.in_ok-sources.ensures.of)
+    c.write_new.ensures.comes
