@@ -86,18 +86,20 @@ part_flushed next later t u v first second = record {
   names = second.names ∙ ap (λ (memory : List Entry). with_name later memory (names_of u)) first.memory ∙ first.names;
 }
 
--- A tablet was flushed and its place lists its files, and then the tablet that holds a row was cut.
-module _ (next later : ℕ) (row : List ℕ) (places places' : List PlaceView) (old mid new : List Tablet) (p : PlaceView) (holder : IsHolder row places p)
-    (listed : Numbered (λ t. places' ≡ with_files p.tablet (names_of t) places) p.tablet mid) (first : Remakes (IsFlushed next) p.tablet old mid) where
+-- The place that holds a row lists other files.
+module _ (row : List ℕ) (places places' : List PlaceView) (mid : List Tablet) (p : PlaceView) (holder : IsHolder row places p) (listed : Numbered (λ t. places' ≡ with_files p.tablet (names_of t) places) p.tablet mid) where
   mid_holder : IsHolder row places' (naming p.tablet (names_of listed.tablet) p)
   mid_holder = subst (λ (ps : List PlaceView). IsHolder row ps (naming p.tablet (names_of listed.tablet) p)) (sym listed.such) (holder_listed p.tablet (names_of listed.tablet) row places p holder)
 
-  number_is : (q : PlaceView) → IsHolder row places' q → q.tablet ≡ p.tablet
+  pub number_is : (q : PlaceView) → IsHolder row places' q → q.tablet ≡ p.tablet
   number_is q holds = ap (λ (r : PlaceView). r.tablet) (one_holder row places' q (naming p.tablet (names_of listed.tablet) p) holds mid_holder) ∙ same_tablet p.tablet (names_of listed.tablet) p
 
+-- A tablet was flushed and its place lists its files, and then the tablet that holds a row was cut.
+module _ (next later : ℕ) (row : List ℕ) (places places' : List PlaceView) (old mid new : List Tablet) (p : PlaceView) (holder : IsHolder row places p)
+    (listed : Numbered (λ t. places' ≡ with_files p.tablet (names_of t) places) p.tablet mid) (first : Remakes (IsFlushed next) p.tablet old mid) where
   pub halved_after : (left : ℕ) → IsHalved later row left places' mid new → IsHalved next row left places old new
   halved_after left second =
-      let number = number_is second.place second.holder in
+      let number = number_is row places places' mid p holder listed second.place second.holder in
       let same = same_numbered (tablet_numbered p.tablet mid) first.is second.was first.is_numbered (ap (λ (n : ℕ). tablet_numbered n mid) (sym number) ∙ second.was_numbered) in
       let flushed = subst (IsFlushed next first.was) same first.made in
       let right = subst (λ (n : ℕ). Numbered (IsFlushed later second.was) n new) number second.right_part in
@@ -115,7 +117,7 @@ module _ (next later : ℕ) (row : List ℕ) (places places' : List PlaceView) (
   pub flushed_alone : ((q : PlaceView) → IsHolder row places' q → Remakes IsUnchanged q.tablet mid new) → MayHolderBeFlushed next row places old new
   flushed_alone stays = λ q holds.
       let number = same_tablet p.tablet (names_of listed.tablet) p in
-      let second = subst (λ (n : ℕ). Remakes IsUnchanged n mid new) number (stays (naming p.tablet (names_of listed.tablet) p) mid_holder) in
+      let second = subst (λ (n : ℕ). Remakes IsUnchanged n mid new) number (stays (naming p.tablet (names_of listed.tablet) p) (mid_holder row places places' mid p holder listed)) in
       let same = same_numbered (tablet_numbered p.tablet mid) first.is second.was first.is_numbered second.was_numbered in
       subst (λ (r : PlaceView). MayBeFlushed next r.tablet old new) (one_holder row places p q holder holds)
       (inr (record {

@@ -4,6 +4,7 @@ pub mod Checkpoints
 pub mod CommandSteps
 pub mod CompactionRoom
 pub mod CutTablets
+pub mod DamagedTablets
 pub mod EmptiedCaches
 pub mod FileNames
 pub mod Firsts

@@ -13,7 +13,7 @@ use Rattle.metadata_table.specs.Table.{BarsSplit, HasTablet, IsHolder, IsNumbere
 use Rattle.sorted_file.specs.Source.{IsReadRefusal as IsFileRefusal}
 use Rattle.tablet.specs.Views.{UsesName}
 use Rattle.tablet.specs.declared.tablet.Tablet.{Tablet}
-use Rattle.row_atomic.specs.Changes.{Holds, IsAsBefore, IsCompacted, IsCut, IsEmptied, IsFlushed, IsFullTablet, IsHalved, IsMoveRefusal, IsMoved, IsNumberedRefusal, IsOn, IsRefusalOf, IsSplitRefusal, IsUndone, KeepsMap, ListsAll, MayBeFlushed, MayHolderBeFlushed, MeetsBadCount, MeetsFull, Numbered, OfHolder, Remakes, WritesNone}
+use Rattle.row_atomic.specs.Changes.{Holds, IsAsBefore, IsCompacted, IsCut, IsEmptied, IsFlushed, IsFullTablet, IsHalved, IsMoveRefusal, IsMoved, IsNumberedRefusal, IsOn, IsOutOfOrder, IsRefusalOf, IsSplitRefusal, IsUndone, KeepsMap, ListsAll, MayBeFlushed, MayHolderBeFlushed, MeetsBadCount, MeetsFull, Numbered, OfHolder, Remakes, WritesNone}
 use Rattle.row_atomic.specs.Clusters.{ClusterState, spots_of, storage_of}
 use Rattle.row_atomic.specs.Commands.{AnswersFromCells, BarsCompaction, HasCause, IsNoFuller, IsOutcome, LeavesRoom, MayCompact, OverfillsCluster, TellsFaults, Upholds, UsesFiles, cells_shown, compacting, done_of, split_of, swept_of}
 use Rattle.row_atomic.specs.Refusals.{IsApplyRefusal, IsReadRefusal}
@@ -26,6 +26,7 @@ use Rattle.row_atomic.specs.declared.commands.Outcome.{Outcome}
 use Rattle.row_atomic.specs.declared.commands.Outcome.TheVariants.{Done, Refused, Split, Swept}
 use Rattle.row_atomic.proofs.PassedRefusals.{IsUnknown, below_only, read_move, read_split, unknown_move, unknown_only, unknown_unwritten, want_compacts}
 use Rattle.row_atomic.proofs.ChangedTablets.{contained}
+use Rattle.row_atomic.proofs.DamagedTablets.{none_out}
 use Rattle.row_atomic.proofs.ListedFiles.{same_lists, stored_lists}
 use Rattle.row_atomic.proofs.CompactionRoom.{holder_not, holder_that}
 use Rattle.row_atomic.proofs.SplitClusters.{holder_known}
@@ -271,6 +272,7 @@ module _ {F : Type 0} (contents : F → Option Contents) (count : F → ℕ) (n 
     unfilled = λ of. absurd of;
     exhausted = λ is. cc;
     large = λ is. cc;
+    damaged = λ is. cc;
   })
 
   pub uncounted : (many : ℕ) → HasTablet n state.places → Numbered (MeetsBadCount (compactions.Merge many)) n state.tablets → IsOutcome contents count (command.Merge n many) (Refused BadCount) state state
@@ -281,6 +283,7 @@ module _ {F : Type 0} (contents : F → Option Contents) (count : F → ℕ) (n 
     unfilled = λ of. absurd of;
     exhausted = λ is. cc;
     large = λ is. cc;
+    damaged = λ is. cc;
   })
 
   pub unstarted : (compaction : Compaction) → HasTablet n state.places → ¬ Numbered (MeetsBadCount compaction) n state.tablets → IsOutcome contents count (compacting compaction n) (Refused NoMemory) state state
@@ -291,6 +294,7 @@ module _ {F : Type 0} (contents : F → Option Contents) (count : F → ℕ) (n 
     unfilled = λ of. absurd of;
     exhausted = λ is. cc;
     large = λ is. cc;
+    damaged = λ is. cc;
   })
 
 -- ---- splits
@@ -305,7 +309,7 @@ module _ {F : Type 0} (contents : F → Option Contents) (count : F → ℕ) (ro
     lists = λ _ name l. l;
     room = tt;
     cause = record {
-      due = record { bad = ((λ _. bars), λ _. refl); full = λ is. cc; unfilled = λ of. absurd of; exhausted = λ is. cc; large = λ is. cc };
+      due = record { bad = ((λ _. bars), λ _. refl); full = λ is. cc; unfilled = λ of. absurd of; exhausted = λ is. cc; large = λ is. cc; damaged = λ is. cc };
       barred = λ _. refl;
       undone = λ _. none_done contents state;
     };
@@ -322,7 +326,7 @@ module _ {F : Type 0} (contents : F → Option Contents) (count : F → ℕ) (ro
     lists = λ _ name l. l;
     room = tt;
     cause = record {
-      due = record { bad = ((λ is. cc), λ bars. absurd (free bars)); full = λ is. cc; unfilled = λ of. absurd of; exhausted = λ is. cc; large = λ is. cc };
+      due = record { bad = ((λ is. cc), λ bars. absurd (free bars)); full = λ is. cc; unfilled = λ of. absurd of; exhausted = λ is. cc; large = λ is. cc; damaged = λ is. cc };
       barred = λ is. cc;
       undone = λ _. none_done contents state;
     };
@@ -348,6 +352,7 @@ module _ {F : Type 0} (contents : F → Option Contents) (count : F → ℕ) (ro
               unfilled = λ of. holder_not IsFullTablet row old.places old.tablets p holder (due.unfilled of);
               exhausted = λ is. let none_left = due.exhausted is in (none_left.0, holder_not IsEmptied row old.places old.tablets p holder none_left.1);
               large = λ is. record { place = p; holder = holder; tablet = due.large is };
+              damaged = λ is. record { place = p; holder = holder; tablet = due.damaged is };
             };
             barred = λ is. absurd (flush_bad (subst (IsNumberedRefusal compactions.Minor) is flush.upholds.0));
             undone = flush.cause.undone;
@@ -361,8 +366,9 @@ module _ {F : Type 0} (contents : F → Option Contents) (count : F → ℕ) (ro
         → (OfHolder IsEmptied row old.places old.tablets → (new.next_name ≡ old.next_name) × (contents new.files ≡ contents old.files))
         → IfOk r (λ left. left ≡ length old.places + 1) → IfOk r (λ left. IsCut row left old.places new.places) → IfOk r (λ left. IsHalved old.next_name row left old.places old.tablets new.tablets)
         → OnErr r (spots_of new ≡ spots_of old) → OnErr r (MayHolderBeFlushed old.next_name row old.places old.tablets new.tablets)
-        → ListsAll mid.places new.places → (Holds contents mid → ¬ IsErrOf r Damaged) → IfErr r IsFileRefusal → HasReason (count mid.files) (count new.files) r → IsOutcome contents count (command.Split row) (split_of r) old new
-    cut_after new (Ok left) flush kept limit name none number cut halved spots may lists whole refusal reason = record {
+        → ListsAll mid.places new.places → (IsErrOf r Damaged → OfHolder (IsOutOfOrder (contents old.files)) row old.places old.tablets) → IfErr r IsFileRefusal → HasReason (count mid.files) (count new.files) r
+        → IsOutcome contents count (command.Split row) (split_of r) old new
+    cut_after new (Ok left) flush kept limit name none number cut halved spots may lists damaged refusal reason = record {
       still = λ order. (kept (flush.still order)).0;
       answers = λ order. (kept (flush.still order)).1 ∙ flush.answers order;
       upholds = (number, cut, halved);
@@ -377,9 +383,9 @@ module _ {F : Type 0} (contents : F → Option Contents) (count : F → ℕ) (ro
       };
       faults = told_after count (Split left) old mid new (flush.faults.told (λ is. cc)) (tells_done count left (Split left) mid new (λ is. cc) reason);
     }
-    cut_after new (Err e) flush kept limit name none number cut halved spots may lists whole refusal reason = record {
+    cut_after new (Err e) flush kept limit name none number cut halved spots may lists damaged refusal reason = record {
       still = λ order. (kept (flush.still order)).0;
-      answers = λ order. ((λ is. whole (flush.still order) (err_of e Damaged is)), (kept (flush.still order)).1 ∙ flush.answers order);
+      answers = λ order. ((λ is. none_out (contents old.files) old.next_name p.tablet old.tablets order (holder_that (IsOutOfOrder (contents old.files)) row old.places old.tablets p holder (damaged (err_of e Damaged is)))), (kept (flush.still order)).1 ∙ flush.answers order);
       upholds = (read_split e refusal, (spots, may));
       files = record { name = name; limit = limit ∙ flush.files.0.limit; none = none };
       lists = λ _ name l. lists name (flush.lists (λ takes. absurd takes.0) name l);
@@ -391,6 +397,7 @@ module _ {F : Type 0} (contents : F → Option Contents) (count : F → ℕ) (ro
           unfilled = λ of. holder_not IsFullTablet row old.places old.tablets p holder flush.cause.room;
           exhausted = λ is. absurd (read_not_out (subst IsFileRefusal is refusal));
           large = λ is. absurd (read_not_large (subst IsFileRefusal is refusal));
+          damaged = λ is. damaged (err_of e Damaged is);
         };
         barred = λ is. absurd (read_not_bad (subst IsFileRefusal is refusal));
         undone = λ is. absurd (read_not_many (subst IsFileRefusal is refusal));
@@ -437,6 +444,7 @@ module _ {F : Type 0} (contents : F → Option Contents) (count : F → ℕ) (n 
               unfilled = λ of. absurd (unknown_unwritten e unknown of);
               exhausted = λ is. absurd (subst IsUnknown is unknown);
               large = λ is. absurd (subst IsUnknown is unknown);
+              damaged = λ is. absurd (subst IsUnknown is unknown);
             },
           );
           barred = λ _. refl;
@@ -487,8 +495,9 @@ module _ {F : Type 0} (contents : F → Option Contents) (count : F → ℕ) (n 
         → (Numbered IsEmptied n old.tablets → (new.next_name ≡ old.next_name) × (contents new.files ≡ contents old.files))
         → OnOk r (IsMoved n server old.places new.places) → OnOk r (Remakes (IsFlushed old.next_name) n old.tablets new.tablets)
         → OnErr r (spots_of new ≡ spots_of old) → OnErr r (MayBeFlushed old.next_name n old.tablets new.tablets)
-        → ListsAll mid.places new.places → (Holds contents mid → ¬ IsErrOf r Damaged) → IfErr r IsFileRefusal → HasReason (count mid.files) (count new.files) r → IsOutcome contents count (command.Move n server) (done_of r) old new
-    put_after new (Ok x) flush kept limit name none moved flushed spots may lists whole refusal reason = record {
+        → ListsAll mid.places new.places → (IsErrOf r Damaged → Numbered (IsOutOfOrder (contents old.files)) n old.tablets) → IfErr r IsFileRefusal → HasReason (count mid.files) (count new.files) r
+        → IsOutcome contents count (command.Move n server) (done_of r) old new
+    put_after new (Ok x) flush kept limit name none moved flushed spots may lists damaged refusal reason = record {
       still = λ order. (kept (flush.still order)).0;
       answers = λ order. (kept (flush.still order)).1 ∙ flush.answers order;
       upholds = inr (record { elsewhere = away; moved = moved; flushed = flushed });
@@ -498,9 +507,9 @@ module _ {F : Type 0} (contents : F → Option Contents) (count : F → ℕ) (n 
       cause = record { known = known; near = below; flushes = λ _. flush.cause };
       faults = told_after count Done old mid new (flush.faults.told (λ is. cc)) (tells_done count x Done mid new (λ is. cc) reason);
     }
-    put_after new (Err e) flush kept limit name none moved flushed spots may lists whole refusal reason = record {
+    put_after new (Err e) flush kept limit name none moved flushed spots may lists damaged refusal reason = record {
       still = λ order. (kept (flush.still order)).0;
-      answers = λ order. ((λ is. whole (flush.still order) (err_of e Damaged is)), (kept (flush.still order)).1 ∙ flush.answers order);
+      answers = λ order. ((λ is. none_out (contents old.files) old.next_name n old.tablets order (damaged (err_of e Damaged is))), (kept (flush.still order)).1 ∙ flush.answers order);
       upholds = (read_move e refusal, (away, spots, may));
       files = record { name = name; limit = limit ∙ flush.files.0.limit; none = none };
       lists = λ _ name l. lists name (flush.lists (λ takes. absurd takes.0) name l);
@@ -515,6 +524,7 @@ module _ {F : Type 0} (contents : F → Option Contents) (count : F → ℕ) (n 
             unfilled = λ of. flush.cause.room;
             exhausted = λ is. absurd (read_not_out (subst IsFileRefusal is refusal));
             large = λ is. absurd (read_not_large (subst IsFileRefusal is refusal));
+            damaged = λ is. damaged (err_of e Damaged is);
           },
         );
         barred = λ barred. elim barred [

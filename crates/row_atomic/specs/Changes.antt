@@ -33,6 +33,14 @@ KeepsMap contents old new =
     Holds contents old → Holds contents new
     × (cells_in (contents new.files) new.tablets ≡ cells_in (contents old.files) old.tablets)
 
+-- over files whose bytes are known, a tablet isn't in order: its files aren't open
+abbrev pub IsOutOfOrder : Option Contents → Tablet → Type 0
+IsOutOfOrder disk t = IfSome disk (λ m. ¬ HoldsAt m t)
+
+-- a tablet that is out of order over the second files was so before, over the first ones
+abbrev pub StaysInOrder : Option Contents → Option Contents → Tablet → Tablet → Type 0
+StaysInOrder first second t u = IsOutOfOrder second u → IsOutOfOrder first t
+
 -- a tablet's range, its memtable's entries and its open files
 abbrev pub parts_of : Tablet → RowRange × (List Entry × List SortedFile)
 parts_of t = (range_of t, (memory_of t, files_of t))
@@ -210,7 +218,7 @@ pub record HasRefused (compaction : Compaction) (limit : ℕ) (disk : Option Con
   pub unfilled : ComesOfWriting refusal → ¬ MeetsFull compaction t
   pub exhausted : refusal ≡ refused.Exhausted → (2 ^ 63 ≤ next) × (¬ WritesNone compaction t)
   pub large : refusal ≡ refused.FileTooLarge → IsTooLarge limit disk compaction t
-  pub damaged : refusal ≡ refused.Damaged → IfSome disk (λ m. ¬ HoldsAt m t)
+  pub damaged : refusal ≡ refused.Damaged → IsOutOfOrder disk t
   pub undone : refusal ≡ refused.TooManyFiles → (after ≡ next) × (later ≡ disk)
 
 -- ---- splits and moves

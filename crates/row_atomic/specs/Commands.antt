@@ -13,7 +13,7 @@ use Rattle.cell_key.specs.declared.refusals.Refusal.TheVariants as refused
 use Rattle.file_store.specs.Store.{Contents}
 use Rattle.metadata_table.specs.Table.{BarsSplit, HasTablet, most_servers}
 use Rattle.tablet.specs.Views.{UsesName}
-use Rattle.row_atomic.specs.Changes.{ComesOfWriting, ComesTo, FitsLimit, Holds, IsAsBefore, IsCompacted, IsCut, IsEmptied, IsFullTablet, IsHalved, IsMoveRefusal, IsNumberedRefusal, IsOn, IsSplitRefusal, IsTooLarge, IsUncached, IsUndone, ListsAll, MayBeFlushed, MayHolderBeFlushed, MeetsBadCount, MeetsFull, Numbered, OfHolder, WritesNone}
+use Rattle.row_atomic.specs.Changes.{ComesOfWriting, ComesTo, FitsLimit, Holds, IsAsBefore, IsCompacted, IsCut, IsEmptied, IsFullTablet, IsHalved, IsMoveRefusal, IsNumberedRefusal, IsOn, IsOutOfOrder, IsSplitRefusal, IsTooLarge, IsUncached, IsUndone, ListsAll, MayBeFlushed, MayHolderBeFlushed, MeetsBadCount, MeetsFull, Numbered, OfHolder, WritesNone}
 use Rattle.row_atomic.specs.Clusters.{ClusterState, Overfills, cells_in, spots_of, storage_of}
 use Rattle.row_atomic.specs.Compactions as compaction
 use Rattle.row_atomic.specs.Refusals.{IsApplyRefusal, IsReadRefusal}
@@ -214,6 +214,8 @@ pub record BarsCompaction {F : Type 0} (contents : F → Option Contents) (compa
       → (2 ^ 63 ≤ old.next_name) × (¬ Numbered (WritesNone compaction) tablet old.tablets)
   pub large : refusal ≡ refused.FileTooLarge
       → Numbered (IsTooLarge old.file_limit (contents old.files) compaction) tablet old.tablets
+  pub damaged : refusal ≡ refused.Damaged
+      → Numbered (IsOutOfOrder (contents old.files)) tablet old.tablets
 
 -- and why a split at a row is, which flushes the tablet that holds it
 pub record BarsCut {F : Type 0} (contents : F → Option Contents) (row : List ℕ) (refusal : Refusal)
@@ -225,11 +227,16 @@ pub record BarsCut {F : Type 0} (contents : F → Option Contents) (row : List �
       → (2 ^ 63 ≤ old.next_name) × (¬ OfHolder IsEmptied row old.places old.tablets)
   pub large : refusal ≡ refused.FileTooLarge → OfHolder
       (IsTooLarge old.file_limit (contents old.files) compaction.minor) row old.places old.tablets
+  pub damaged : refusal ≡ refused.Damaged
+      → OfHolder (IsOutOfOrder (contents old.files)) row old.places old.tablets
 
 -- Why a command is refused so. Of a device's fault more is said below,
 -- and of want of memory nothing.
 abbrev pub IsDue : {F : Type 0} → (F → Option Contents) → Command → Refusal → ClusterState F
     → Type 0
+IsDue contents (command.Newest row family qualifier lo hi) refusal old =
+    refusal ≡ refused.Damaged
+    → OfHolder (IsOutOfOrder (contents old.files)) row old.places old.tablets
 IsDue contents (command.Apply row edits) refusal old =
     refusal ≡ refused.MemtableFull → Overfills old.places old.tablets row edits.items
 IsDue contents (command.Minor tablet) refusal old =

@@ -10,7 +10,7 @@ use Rattle.cell_key.specs.declared.refusals.Refusal.{Refusal}
 use Rattle.cell_key.specs.declared.refusals.Refusal.TheVariants.{Damaged, Device, TooManyFiles}
 use Rattle.file_store.specs.Store.{Contents}
 use Rattle.metadata_table.specs.Table.{IsListed}
-use Rattle.row_atomic.specs.Changes.{Holds}
+use Rattle.row_atomic.specs.Changes.{Holds, IsOutOfOrder, OfHolder}
 use Rattle.row_atomic.specs.Clusters.{ClusterState, storage_of}
 use Rattle.row_atomic.specs.Commands.{IsNoFuller, IsOutcome, cells_shown}
 use Rattle.row_atomic.specs.Refusals.{IsReadRefusal}
@@ -37,17 +37,17 @@ module _ {F : Type 0} (contents : F → Option Contents) (faults : F → ℕ) (r
   }
 
   pub refused_outcome : {A : Type 0} (e : Refusal) (old new : ClusterState F) → (Holds contents old → Holds contents new)
-      → cells_shown contents new ≡ cells_shown contents old → (Holds contents old → ¬ (e ≡ Damaged))
+      → cells_shown contents new ≡ cells_shown contents old → (Holds contents old → ¬ (e ≡ Damaged)) → (IsErrOf {T = A} (Err e) Damaged → OfHolder (IsOutOfOrder (contents old.files)) row old.places old.tablets)
       → storage_of contents new ≡ storage_of contents old → IsNoFuller old new → IsReadRefusal e
       → faults old.files ≤ faults new.files → (IsErrOf {T = A} (Err e) Device → HasRisen (faults old.files) (faults new.files)) → (¬ IsErrOf {T = A} (Err e) Device → faults new.files ≡ faults old.files)
       → IsOutcome contents faults (command.Newest row family qualifier lo hi) (Refused e) old new
-  refused_outcome e old new still kept whole storage room refusal later device told = record {
+  refused_outcome e old new still kept whole damaged storage room refusal later device told = record {
     still = still;
     answers = λ order. (whole order, kept);
     upholds = (refusal, storage);
     files = tt;
     lists = λ _ name l. subst (IsListed name) (sym (ap (λ s. s.places) storage)) l;
     room = room;
-    cause = record { due = tt; barred = λ bars. absurd bars; undone = λ is. absurd (many_not_read (subst IsReadRefusal is refusal)) };
+    cause = record { due = λ is. damaged (ap (λ (r : Refusal). Err r) is); barred = λ bars. absurd bars; undone = λ is. absurd (many_not_read (subst IsReadRefusal is refusal)) };
     faults = record { later = later; device = λ is. device (let that : e ≡ Device = cc in ap (λ (r : Refusal). Err r) that); told = λ other. told (λ err. other (let that : e ≡ Device = cc in ap (λ (r : Refusal). Refused r) that)) };
   }

@@ -5,7 +5,7 @@ ghost use Rattle.cell_key.specs.Faults.{HasReason};
 ghost use Rattle.metadata_table.specs.Table.{HasTablet, IsTable, with_files};
 ghost use Rattle.sorted_file.specs.Limits.{IsFileLimit};
 ghost use Rattle.tablet.specs.Views.{IsUnchanged, Keeps, UsesName, names_of, range_of};
-ghost use Rattle.row_atomic.specs.Changes.{HasCompacted, HasRefused, IsBadCount, IsRefusalOf, MeetsBadCount, Numbered, Remakes, WritesNone};
+ghost use Rattle.row_atomic.specs.Changes.{HasCompacted, HasRefused, IsBadCount, IsRefusalOf, MeetsBadCount, Numbered, Remakes, StaysInOrder, WritesNone};
 ghost use Rattle.row_atomic.specs.Commands.{IsOutcome, compacting, done_of};
 
 use crate::cluster::Cluster;
@@ -118,6 +118,8 @@ impl<F: Files> Cluster<F> {
             ≡ with_files tablet (names_of t) self.old.places) tablet self.new.tablets) }
         ensures ranges { OnOk result (Remakes
             (λ t u. range_of u ≡ range_of t) tablet self.old.tablets self.new.tablets) }
+        ensures order { OnOk result (Remakes (StaysInOrder (F.contents self.old.files)
+            (F.contents self.new.files)) tablet self.old.tablets self.new.tablets) }
     {
         others_stay();
         let index = self.position(tablet);

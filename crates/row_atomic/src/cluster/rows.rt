@@ -1,14 +1,19 @@
 //! A cluster as rows of cells.
 
-ghost use Rattle.std.specs.Prelude.{◌≡◌, ◌↔◌, IfErr, IfOk, IsErrOf, IsTrue, None, Some, length, option_map};
+ghost use Rattle.std.specs.Prelude.{◌≡◌, ◌↔◌, IfErr, IfOk, IfSome, IsErrOf, IsTrue, None, Some, length, option_map};
 ghost use Rattle.std.specs.List.{AllByRecursion};
+ghost use Rattle.cell_key.specs.Cells.{IsNewest, version};
 ghost use Rattle.cell_key.specs.Places.{IsNextCell, place_named};
+ghost use Rattle.cell_key.specs.Versions.{IsVersionIn, stamped};
 ghost use Rattle.file_store.specs.Store.{Contents};
 ghost use Rattle.metadata_table.specs.Places.{view_of, views};
 ghost use Rattle.metadata_table.specs.Table.{IsTable};
 ghost use Rattle.sorted_file.specs.Source.{IsReadRefusal};
 ghost use Rattle.cell_key.specs.Faults.{HasReason};
 ghost use Rattle.tablet.specs.Views.{Holds};
+ghost use Rattle.row_atomic.specs.Calls.{OnlyReads};
+ghost use Rattle.row_atomic.specs.Changes.{IsOutOfOrder, OfHolder};
+ghost use Rattle.row_atomic.specs.Refusals.{IsRefusalOfRead};
 ghost use Rattle.row_atomic.specs.Clusters.{ArePlaced, InOrder, Overfills, PrecedesCell, cells_in, storage_of};
 
 use crate::cluster::Cluster;
@@ -79,7 +84,17 @@ impl<F: Files> Rows for Cluster<F> {
         qualifier: Qualifier,
         lo: Stamp,
         hi: Stamp,
-    ) -> Result<Option<(Stamp, Vec<u8>)>, Refusal> {
+    ) -> Result<Option<(Stamp, Vec<u8>)>, Refusal>
+        ensures found { seen.holds self.old → IfOk result (λ found. IsNewest (seen.cells self.old)
+            (version row.now family.now qualifier) lo hi (option_map stamped found)) }
+        ensures reads { OnlyReads seen self.old self.new }
+        ensures limits { IfOk result (λ found.
+            IfSome (option_map stamped found) (IsVersionIn lo hi)) }
+        ensures damaged { IsErrOf result Refusal.Damaged → OfHolder
+            (IsOutOfOrder (F.contents self.old.files)) row.now self.old.places self.old.tablets }
+        ensures refusal { IfErr result (IsRefusalOfRead (seen.holds self.old)) }
+        ensures reason { HasReason (faults self.old) (faults self.new) result }
+    {
         stays_in_range();
         let index = index_of(&self.table, &mut self.place_cache, row);
         self.tablets[index].newest(row, family, qualifier, lo, hi, &mut self.files)

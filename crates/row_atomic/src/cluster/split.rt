@@ -6,7 +6,7 @@ ghost use Rattle.metadata_table.specs.Table.{BarsSplit, Cuts, HasTablet, IsHolde
 ghost use Rattle.sorted_file.specs.Source.{IsReadRefusal};
 ghost use Rattle.cell_key.specs.Faults.{HasReason};
 ghost use Rattle.tablet.specs.Views.{Holds as HoldsAt, IsUnchanged, memory_of, names_of, range_of};
-ghost use Rattle.row_atomic.specs.Changes.{Holds, IsEmptied, IsHalved, IsOn, IsReopened, KeepsMap, Numbered, OfHolder, Remakes};
+ghost use Rattle.row_atomic.specs.Changes.{IsEmptied, IsHalved, IsOn, IsOutOfOrder, IsReopened, KeepsMap, Numbered, OfHolder, Remakes};
 ghost use Rattle.row_atomic.specs.Commands.{IsOutcome, done_of, split_of};
 ghost use Rattle.row_atomic.specs.ListRoom.{HasNameRoom, HasOpenRoom, IsEmptyFor, IsRoomToCut};
 
@@ -62,7 +62,7 @@ fn open_again<F: Files>(
     ensures names { IfOk result (λ opened. names_of opened ≡ names_of tablet.now) }
     ensures holds { IfOk result (λ opened. IfSome (F.contents files.old) (λ m. HoldsAt m opened)) }
     ensures damaged { IsErrOf result Refusal.Damaged
-        → IfSome (F.contents files.old) (λ m. ¬ HoldsAt m tablet.now) }
+        → IsOutOfOrder (F.contents files.old) tablet.now }
     ensures refusal { IfErr result IsReadRefusal }
     ensures same { F.contents files.new ≡ F.contents files.old }
     ensures reason { HasReason (F.faults files.old) (F.faults files.new) result }
@@ -121,7 +121,8 @@ impl<F: Files> Cluster<F> {
         ensures unchanged { OnErr result ((place : PlaceView)
             → IsHolder row.now self.old.places place
             → Remakes IsUnchanged place.tablet self.old.tablets self.new.tablets) }
-        ensures undamaged { Holds F.contents self.old → ¬ IsErrOf result Refusal.Damaged }
+        ensures damaged { IsErrOf result Refusal.Damaged → OfHolder
+            (IsOutOfOrder (F.contents self.old.files)) row.now self.old.places self.old.tablets }
         ensures refusal { IfErr result IsReadRefusal }
         ensures reason { HasReason (F.faults self.old.files) (F.faults self.new.files) result }
     {
@@ -208,7 +209,8 @@ impl<F: Files> Cluster<F> {
         ensures stay { OnErr result (self.new.places ≡ self.old.places) }
         ensures opened { OnOk result (Remakes IsReopened tablet self.old.tablets self.new.tablets) }
         ensures err { OnErr result (self.new.tablets ≡ self.old.tablets) }
-        ensures undamaged { Holds F.contents self.old → ¬ IsErrOf result Refusal.Damaged }
+        ensures damaged { IsErrOf result Refusal.Damaged → Numbered
+            (IsOutOfOrder (F.contents self.old.files)) tablet self.old.tablets }
         ensures refusal { IfErr result IsReadRefusal }
         ensures reason { HasReason (F.faults self.old.files) (F.faults self.new.files) result }
     {

@@ -1,10 +1,11 @@
 -- Each call tells what its command did.
-use Rattle.std.proofs.Common.{subst}
+use Rattle.std.proofs.Common.{◌∙◌, subst}
+use Rattle.cell_key.specs.declared.refusals.Refusal.TheVariants.{Damaged}
 use Rattle.std.proofs.lemmas.Result.{on_err_weaker, on_ok_weaker}
 use Rattle.cell_key.specs.Places.{IsNextCell}
 use Rattle.row_atomic.proofs.Calls.{either_way, is_read_refusal, read_undamaged}
 use Rattle.row_atomic.proofs.ListedFiles.{stored_lists}
-use Rattle.row_atomic.proofs.Outcomes.{applied, of_done, read_refused, tells_read}
+use Rattle.row_atomic.proofs.Outcomes.{applied, err_of, of_done, read_refused, tells_read}
 use Rattle.row_atomic.specs.Commands.{cells_shown}
 use Rattle.row_atomic.specs.declared.commands.Command.TheVariants as command
 use Rattle.row_atomic.specs.declared.commands.Outcome.TheVariants as outcome
@@ -31,7 +32,7 @@ pub returns-in-Newest : goal.returns-in-Newest
 returns-in-Newest g c =
     let told = c.newest.ensures in
     rw c.in-Newest.is (read_refused g.F.Files.contents g.F.Files.faults (command.Newest c.in-Newest.row c.in-Newest.family c.in-Newest.qualifier c.in-Newest.lo c.in-Newest.hi) c.newest.result c.in-Err.refusal c.args.self.now c.newest.new.self c.in-Err.is told.reads.still
-    (λ order. (read_undamaged _ c.in-Err.refusal c.in-Err.ensures.refusal order, told.reads.kept)) (is_read_refusal _ c.in-Err.refusal c.in-Err.ensures.refusal, told.reads.stays) tt told.reads.stays told.reads.room (λ many. record { due = tt; barred = λ bars. absurd bars; undone = λ is. absurd (many is) }) (is_read_refusal _ c.in-Err.refusal c.in-Err.ensures.refusal) told.reason.later told.reason.device told.reason.told)
+    (λ order. (read_undamaged _ c.in-Err.refusal c.in-Err.ensures.refusal order, told.reads.kept)) (is_read_refusal _ c.in-Err.refusal c.in-Err.ensures.refusal, told.reads.stays) tt told.reads.stays told.reads.room (λ many. record { due = λ is. told.damaged (c.in-Err.is ∙ err_of _ Damaged is); barred = λ bars. absurd bars; undone = λ is. absurd (many is) }) (is_read_refusal _ c.in-Err.refusal c.in-Err.ensures.refusal) told.reason.later told.reason.device told.reason.told)
 
 pub returns-in-Ok-next_cell : goal.returns-in-Ok-next_cell
 returns-in-Ok-next_cell g c =

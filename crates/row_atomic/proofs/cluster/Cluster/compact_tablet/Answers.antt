@@ -8,9 +8,10 @@ use Rattle.metadata_table.specs.Table.{with_files}
 use Rattle.tablet.specs.Views.{names_of, range_of}
 use Rattle.row_atomic.specs.Clusters.{spot_of}
 use Rattle.row_atomic.specs.PlaceCaches.{AreHeld}
-use Rattle.row_atomic.specs.Changes.{FitsLimit, IsCleaned, IsFullTablet, IsMade, IsTooLarge, MeetsBadCount, MeetsFull, WritesNone}
+use Rattle.row_atomic.specs.Changes.{FitsLimit, IsCleaned, IsFullTablet, IsMade, IsOutOfOrder, IsTooLarge, MeetsBadCount, MeetsFull, StaysInOrder, WritesNone}
 use Rattle.tablet.specs.Compactions.{Compacts}
 use Rattle.row_atomic.proofs.RowAnswers.{found_there, undamaged}
+use Rattle.row_atomic.proofs.DamagedTablets.{named_below, stays_ordered}
 use Rattle.row_atomic.proofs.ListedFiles.{flush_lists}
 use Rattle.row_atomic.proofs.FileNames.{compacted_files, no_less, placed_names}
 use Rattle.row_atomic.proofs.ChangedTablets.{numbered_at, has_room, in_order, is_set, matched_unchanged, matched_listed, numbered_new, numbered_old, parts_stay, remade, same_spots, stays}
@@ -69,6 +70,23 @@ returns-clause-ranges g c =
     let there = found_there c.self.inside.tablets.items c.position-index.result at.tablet c.index_mut.result.now at.there c.index_mut.ensures.value in
     rw (← c.self.view_is) (remade c.self.inside.tablets.items c.position-index.result c.index_mut.result.now c.compact.new.tablet there (λ t u. range_of u ≡ range_of t) c.args.tablet at.number c.compact.ensures.range)
 
+pub returns-clause-order : goal.returns-clause-order
+returns-clause-order g c =
+    let at = rw (← c.self.view_is) at c.position-index.ensures in
+    let ts = c.self.inside.tablets.items in
+    let t = c.index_mut.result.now in
+    let old = g.F.Files.contents c.self.inside.files in
+    let new = g.F.Files.contents c.compact.new.files in
+    let there = found_there ts c.position-index.result at.tablet t at.there c.index_mut.ensures.value in
+    let named = placed_names c.self.inside.next_name ts c.args.tablet t (numbered_at ts c.args.tablet c.position-index.result t at.number there) None c.self.inside.table c.self.invariant.0.placed c.self.invariant.0.files (rw (← c.self.view_is) at c.requires.known) in
+    rw (← c.self.view_is) (remade ts c.position-index.result t c.compact.new.tablet there (StaysInOrder old new) c.args.tablet at.number (stays_ordered old new c.self.inside.next_name c.compact.new.next_name t c.compact.new.tablet c.compact.ensures.keeps (named_below c.self.inside.next_name t named)))
+
+pub returns-in_err-names-clause-order : goal.returns-in_err-names-clause-order
+returns-in_err-names-clause-order g c = none_answered c.from_residual.result c.in_err-names.field-0.0 _ c.from_residual.ensures.1
+
+pub returns-in_err-compact-clause-order : goal.returns-in_err-compact-clause-order
+returns-in_err-compact-clause-order g c = none_answered c.from_residual-in_err-compact.result c.in_err-compact.field-0.0 _ c.from_residual-in_err-compact.ensures.1
+
 pub returns-in_err-names-clause-ranges : goal.returns-in_err-names-clause-ranges
 returns-in_err-names-clause-ranges g c = none_answered c.from_residual.result c.in_err-names.field-0.0 _ c.from_residual.ensures.1
 
@@ -109,6 +127,7 @@ returns-in_err-compact-clause-outcome g c =
       unfilled = λ of. numbered_not c.self.inside.tablets.items c.position-index.result c.index_mut.result.now there (MeetsFull c.args.compaction) c.args.tablet at.number (refused.refused.unfilled of);
       exhausted = λ is. ((refused.refused.exhausted is).0, numbered_not c.self.inside.tablets.items c.position-index.result c.index_mut.result.now there (WritesNone c.args.compaction) c.args.tablet at.number ((refused.refused.exhausted is).1));
       large = λ is. numbered_old c.self.inside.tablets.items c.position-index.result c.index_mut.result.now c.compact.new.tablet there (IsTooLarge c.self.inside.file_limit (g.F.Files.contents c.self.inside.files) c.args.compaction) c.args.tablet at.number (refused.refused.large is);
+      damaged = λ is. numbered_old c.self.inside.tablets.items c.position-index.result c.index_mut.result.now c.compact.new.tablet there (IsOutOfOrder (g.F.Files.contents c.self.inside.files)) c.args.tablet at.number (refused.refused.damaged is);
     })
     (known_refusal c.args.compaction e refused.refusal) within
     (λ is. let same = refused.refused.undone is in record { as_before = record { places = refl; tablets = parts_stay c.self.inside.tablets.items c.position-index.result c.index_mut.result.now c.compact.new.tablet there refused.err }; name = same.0; files = same.1 })

@@ -1,6 +1,5 @@
 -- The parts come in the place of the tablet.
 use Rattle.std.proofs.Common.{refl, inl, ℕ, ◌<◌, ◌≡◌, ◌++◌, ◌∷◌, [], List, ap, ◌∙◌, set, length, subst, sym, arith}
-use Rattle.std.proofs.lemmas.Option.{IfSome_then}
 use Rattle.cell_key.specs.declared.refusals.Refusal.TheVariants.{Damaged}
 use Rattle.metadata_table.specs.Places.{PlaceView, view_of}
 use Rattle.metadata_table.specs.Table.{Cuts, HasTablet, with_files}
@@ -9,8 +8,8 @@ use Rattle.tablet.specs.Views.{names_of, with_name}
 use Rattle.tablet.specs.declared.tablet.Tablet.{Tablet}
 use Rattle.row_atomic.specs.Clusters.{InOrder, IsMatched, cells_in}
 use Rattle.row_atomic.proofs.RowAnswers.{found_there, index_below}
-use Rattle.row_atomic.proofs.ChangedTablets.{if_err, in_order, matched_unchanged}
-use Rattle.row_atomic.specs.Changes.{IsHalved}
+use Rattle.row_atomic.proofs.ChangedTablets.{if_err, matched_unchanged, numbered_old}
+use Rattle.row_atomic.specs.Changes.{IsHalved, IsOutOfOrder}
 use Rattle.row_atomic.specs.Memtables.{HaveAtMost}
 use Rattle.row_atomic.proofs.Memtables.{set_emptied, set_same, with_emptied}
 use Rattle.row_atomic.proofs.ListRoom.{appended, listed_has, ready}
@@ -103,11 +102,17 @@ returns-in_err-part-clause-kept g c =
     let there = found_there c.self.inside.tablets.items c.position-index.result at.tablet c.index_mut.result.now at.there c.index_mut.ensures.value in
     rw (← c.self.view_is) (stays_over c.self.inside.tablets.items c.self.inside.tablets.items refl c.position-index.result c.index_mut.result.now c.cut.new.self there c.others_stay.ensures (g.F.Files.contents c.self.inside.files) (g.F.Files.contents c.cut.new.files) c.self.inside.next_name c.self.inside.next_name (inl (refl, c.cut.ensures.same)) (c.in_err-part.ensures.keeps c.self.inside.next_name))
 
-pub returns-in_err-part-clause-undamaged : goal.returns-in_err-part-clause-undamaged
-returns-in_err-part-clause-undamaged g c =
+pub returns-in_err-part-clause-damaged : goal.returns-in_err-part-clause-damaged
+returns-in_err-part-clause-damaged g c =
+    let holder = c.locate.ensures.holder in
     let at = rw (← c.self.view_is) at c.position-index.ensures in
     let there = found_there c.self.inside.tablets.items c.position-index.result at.tablet c.index_mut.result.now at.there c.index_mut.ensures.value in
-    rw (← c.self.view_is) (λ order is. in_order ⊥ (g.F.Files.contents c.self.inside.files) c.self.inside.next_name c.self.inside.tablets.items c.position-index.result c.index_mut.result.now there order (IfSome_then (g.F.Files.contents c.self.inside.files) (not_there c.files_are_there.ensures (g.F.Files.contents c.self.inside.files) (names_of c.index_mut.result.now) c.index_mut.result.now refl (c.in_err-part.ensures.damaged (passed c.from_residual.result c.in_err-part.field-0.0 _ c.from_residual.ensures.1 is))) (λ m closed h below. closed h)))
+    let out = λ is. not_there c.files_are_there.ensures (g.F.Files.contents c.self.inside.files) (names_of c.index_mut.result.now) c.index_mut.result.now refl (c.in_err-part.ensures.damaged (passed c.from_residual.result c.in_err-part.field-0.0 _ c.from_residual.ensures.1 is)) in
+    rw (← c.self.view_is) (λ is. record {
+      place = view_of c.locate.result.now;
+      holder = holder;
+      tablet = numbered_old c.self.inside.tablets.items c.position-index.result c.index_mut.result.now c.cut.new.self there (IsOutOfOrder (g.F.Files.contents c.self.inside.files)) (view_of c.locate.result.now).tablet at.number (out is);
+    })
 
 pub returns-in_err-part-clause-refusal : goal.returns-in_err-part-clause-refusal
 returns-in_err-part-clause-refusal g c = refused_so c.from_residual.result c.in_err-part.field-0.0 IsReadRefusal c.from_residual.ensures.1 c.in_err-part.ensures.refusal
@@ -227,8 +232,8 @@ returns-clause-unchanged g c = tt
 pub returns-clause-refusal : goal.returns-clause-refusal
 returns-clause-refusal g c = tt
 
-pub returns-clause-undamaged : goal.returns-clause-undamaged
-returns-clause-undamaged g c = λ order is. not_refused _ Damaged is
+pub returns-clause-damaged : goal.returns-clause-damaged
+returns-clause-damaged g c = λ is. absurd (not_refused _ Damaged is)
 
 pub returns-clause-reason : goal.returns-clause-reason
 returns-clause-reason g c = rw (← c.self.view_is) (reason_kept _ _ _ _ c.in_ok-part.ensures.reason)

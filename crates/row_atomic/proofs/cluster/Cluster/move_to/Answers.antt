@@ -8,6 +8,7 @@ use Rattle.tablet.specs.Views.{names_of}
 use Rattle.row_atomic.specs.Changes.{IsFlushed, Remakes}
 use Rattle.row_atomic.specs.Clusters.{spot_of}
 use Rattle.row_atomic.proofs.ChangedTablets.{on_ok}
+use Rattle.row_atomic.proofs.DamagedTablets.{out_before}
 use Rattle.row_atomic.proofs.ListRoom.{open_flushed}
 use Rattle.row_atomic.proofs.LeftTablets.{flushed_opened}
 use Rattle.row_atomic.proofs.ListedFiles.{move_lists}
@@ -84,7 +85,8 @@ returns-clause-outcome g c =
     (on_err_weaker c.put.result (λ same. ap (map spot_of) same ∙ outcome.files.1) c.put.ensures.stay)
     (on_err_weaker c.put.result (λ stay. inr (subst (Remakes (IsFlushed old.next_name) c.args.tablet old.tablets) (sym stay) outcome.upholds.made)) c.put.ensures.err)
     (move_lists c.args.tablet c.args.server mid.places new.places c.put.result c.put.ensures.places c.put.ensures.stay)
-    c.put.ensures.undamaged c.put.ensures.refusal c.put.ensures.reason
+    (λ is. out_before (g.F.Files.contents old.files) (g.F.Files.contents mid.files) c.args.tablet old.tablets mid.tablets c.in_ok-compact_tablet.ensures.order (c.put.ensures.damaged is))
+    c.put.ensures.refusal c.put.ensures.reason
 
 pub returns-in_err-is_on-clause-table : goal.returns-in_err-is_on-clause-table
 returns-in_err-is_on-clause-table g c = c.is_on.ensures.table

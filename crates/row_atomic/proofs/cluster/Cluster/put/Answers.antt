@@ -2,9 +2,9 @@
 use Rattle.cell_key.specs.declared.refusals.Refusal.{Refusal}
 use Rattle.cell_key.specs.declared.refusals.Refusal.TheVariants.{Damaged, UnknownServer, UnknownTablet}
 use Rattle.sorted_file.specs.Source.{IsReadRefusal}
-use Rattle.row_atomic.proofs.RowAnswers.{found_there, index_below, matched_set, same_cells_in, still_in_order, undamaged}
-use Rattle.row_atomic.specs.Changes.{IsReopened}
-use Rattle.row_atomic.proofs.ChangedTablets.{if_err, remade}
+use Rattle.row_atomic.proofs.RowAnswers.{found_there, index_below, matched_set, same_cells_in, still_in_order}
+use Rattle.row_atomic.specs.Changes.{IsOutOfOrder, IsReopened}
+use Rattle.row_atomic.proofs.ChangedTablets.{if_err, numbered_old, remade}
 use Rattle.row_atomic.proofs.CommandSteps.{when_ok}
 use Rattle.metadata_table.specs.Table.{moved}
 use Rattle.row_atomic.proofs.Memtables.{set_emptied}
@@ -71,11 +71,11 @@ returns-in_err-opened-clause-stay g c = if_err _ c.from_residual.result (rw (←
 pub returns-in_err-opened-clause-err : goal.returns-in_err-opened-clause-err
 returns-in_err-opened-clause-err g c = if_err _ c.from_residual.result (rw (← c.self.view_is) refl)
 
-pub returns-in_err-opened-clause-undamaged : goal.returns-in_err-opened-clause-undamaged
-returns-in_err-opened-clause-undamaged g c =
+pub returns-in_err-opened-clause-damaged : goal.returns-in_err-opened-clause-damaged
+returns-in_err-opened-clause-damaged g c =
     let at = rw (← c.self.view_is) at c.position-index.ensures in
     let there = found_there c.self.inside.tablets.items c.position-index.result at.tablet c.index.result.now at.there c.index.ensures in
-    rw (← c.self.view_is) (λ order is. undamaged (g.F.Files.contents c.self.inside.files) c.self.inside.next_name c.self.inside.tablets.items order c.position-index.result c.index.result.now _ there c.in_err-opened.ensures.damaged (passed c.from_residual.result c.in_err-opened.field-0.0 _ c.from_residual.ensures.1 is))
+    rw (← c.self.view_is) (λ is. numbered_old c.self.inside.tablets.items c.position-index.result c.index.result.now c.index.result.now there (IsOutOfOrder (g.F.Files.contents c.self.inside.files)) c.args.tablet at.number (c.in_err-opened.ensures.damaged (passed c.from_residual.result c.in_err-opened.field-0.0 _ c.from_residual.ensures.1 is)))
 
 pub returns-in_err-opened-clause-refusal : goal.returns-in_err-opened-clause-refusal
 returns-in_err-opened-clause-refusal g c = refused_so c.from_residual.result c.in_err-opened.field-0.0 IsReadRefusal c.from_residual.ensures.1 c.in_err-opened.ensures.refusal
@@ -101,8 +101,8 @@ returns-clause-err g c = tt
 pub returns-clause-refusal : goal.returns-clause-refusal
 returns-clause-refusal g c = tt
 
-pub returns-clause-undamaged : goal.returns-clause-undamaged
-returns-clause-undamaged g c = λ order is. not_refused _ Damaged is
+pub returns-clause-damaged : goal.returns-clause-damaged
+returns-clause-damaged g c = λ is. absurd (not_refused _ Damaged is)
 
 pub returns-clause-reason : goal.returns-clause-reason
 returns-clause-reason g c = rw (← c.self.view_is) (reason_kept _ _ _ _ c.in_ok-opened.ensures.reason)

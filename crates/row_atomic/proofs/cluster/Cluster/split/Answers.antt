@@ -5,6 +5,7 @@ use Rattle.cell_key.specs.declared.refusals.Refusal.TheVariants.{BadSplit, NoMem
 use Rattle.metadata_table.specs.Places.{view_of}
 use Rattle.row_atomic.specs.Changes.{IsEmptied}
 use Rattle.row_atomic.specs.Clusters.{spot_of}
+use Rattle.row_atomic.proofs.DamagedTablets.{holder_out_before}
 use Rattle.row_atomic.proofs.ListRoom.{room_flushed}
 use Rattle.row_atomic.proofs.LeftTablets.{cut_listed, flushed_alone, halved_after}
 use Rattle.row_atomic.proofs.ListedFiles.{cut_lists}
@@ -61,6 +62,7 @@ pub returns : goal.returns
 returns g c =
     let outcome = rw (← c.self.view_is) at c.in_ok-compact_tablet.ensures.outcome in
     let listed = rw (← c.self.view_is) at c.in_ok-compact_tablet.ensures.listed in
+    let order = rw (← c.self.view_is) at c.in_ok-compact_tablet.ensures.order in
     let made = outcome.upholds.made in
     let files = outcome.files in
     let mid = c.compact_tablet.new.self in
@@ -75,4 +77,5 @@ returns g c =
     (on_err_weaker c.cut.result (λ same. ap (map spot_of) same ∙ files.1) c.cut.ensures.err)
     (on_err_weaker c.cut.result (flushed_alone c.self.inside.next_name mid.next_name c.args.row.now c.self.inside.table mid.places c.self.inside.tablets.items mid.tablets new.tablets (view_of c.locate.result.now) c.locate.ensures.holder listed made) c.cut.ensures.unchanged)
     (cut_lists c.args.row.now mid.places new.places c.cut.result c.cut.ensures.cut c.cut.ensures.err)
-    c.cut.ensures.undamaged c.cut.ensures.refusal c.cut.ensures.reason)
+    (λ is. holder_out_before (g.F.Files.contents c.self.inside.files) (g.F.Files.contents mid.files) c.args.row.now c.self.inside.table mid.places c.self.inside.tablets.items mid.tablets (view_of c.locate.result.now) c.locate.ensures.holder listed order (c.cut.ensures.damaged is))
+    c.cut.ensures.refusal c.cut.ensures.reason)

@@ -64,7 +64,7 @@ returns g c =
       stamps = record { last = refl; restarted = tt; exhausted = λ _. tt };
       edits = record { changes = told.reads.kept; room = tt };
       sessions = record { told = λ st shown. tt; sessions = record { top = refl; each = λ t. refl }; cleaners = record { next = refl; each = λ i. refl; count = refl }; collectors = record { next = refl; floor = refl; each = λ i. refl; count = refl }; oracle = refl };
-      tablets = inl (rw (← c.in-Ok.ensures.ok) (rw (← c.in-Ok-new.ensures.ok) (refused_outcome g.F.Files.contents g.F.Files.faults c.in-Ok.row c.in-Ok-new.family c.args.qualifier c.args.lo c.args.hi c.in-Err-newest.refusal _ _ told.reads.still told.reads.kept (λ held. read_undamaged _ _ told.refusal held) told.reads.stays told.reads.room refusal told.reason.later told.reason.device told.reason.told)));
+      tablets = inl (rw (← c.in-Ok.ensures.ok) (rw (← c.in-Ok-new.ensures.ok) (refused_outcome g.F.Files.contents g.F.Files.faults c.in-Ok.row c.in-Ok-new.family c.args.qualifier c.args.lo c.args.hi c.in-Err-newest.refusal _ _ told.reads.still told.reads.kept (λ held. read_undamaged _ _ told.refusal held) told.damaged told.reads.stays told.reads.room refusal told.reason.later told.reason.device told.reason.told)));
       causes = record { device = λ is. inl (told.reason.device (as_err _ _ _ refl is)); told = λ none. record { files = told.reason.told (λ is. none (as_refused _ _ _ refl is)); marks = refl }; full = λ _. tt };
       tending = refl;
     }

@@ -1,6 +1,8 @@
 -- The cells of the row are those of its tablet, which stays what it was.
 use Rattle.std.proofs.Common.{◌<◌, ℕ, sym, subst}
 use Rattle.row_atomic.proofs.RowAnswers.{found_there, index_below, matched_set, newest_answer, owner_at, undamaged}
+use Rattle.row_atomic.specs.Changes.{IsOutOfOrder}
+use Rattle.row_atomic.proofs.ChangedTablets.{numbered_old}
 use Rattle.row_atomic.proofs.Calls.{refused_read, tablet_read}
 use Rattle.row_atomic.proofs.Memtables.{set_same}
 use Rattle.row_atomic.proofs.PlaceCaches.{at_kept}
@@ -36,6 +38,18 @@ returns-clause-reads g c =
     let ts = c.self.inside.tablets.items in
     let there = found_there ts c.index_of-index.result at.tablet c.index_mut.result.now at.there c.index_mut.ensures.value in
     rw (← c.self.view_is) (tablet_read g.F.Files.contents _ c.index_of-index.result c.index_mut.result.now c.newest.new.self c.newest.new.files there c.newest.ensures.stays c.newest.ensures.same)
+
+pub returns-clause-damaged : goal.returns-clause-damaged
+returns-clause-damaged g c =
+    let at = at_kept c.self.inside.table c.self.inside.tablets.items c.args.row.now c.index_of-index.result c.self.invariant.0.placed c.index_of-index.ensures.holder in
+    let ts = c.self.inside.tablets.items in
+    let t = c.index_mut.result.now in
+    let there = found_there ts c.index_of-index.result at.tablet t at.there c.index_mut.ensures.value in
+    rw (← c.self.view_is) (λ is. record {
+      place = at.place;
+      holder = at.holder;
+      tablet = numbered_old ts c.index_of-index.result t c.newest.new.self there (IsOutOfOrder (g.F.Files.contents c.self.inside.files)) at.place.tablet at.number (c.newest.ensures.damaged is);
+    })
 
 pub returns-clause-refusal : goal.returns-clause-refusal
 returns-clause-refusal g c =
