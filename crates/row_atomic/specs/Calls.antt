@@ -1,8 +1,9 @@
 -- What is seen of rows, and what a call of them leaves.
-use Rattle.std.specs.Prelude.{◌≡◌, ◌⊎◌, ℕ, List, ◌++◌}
+use Rattle.std.specs.Prelude.{◌≡◌, ◌⊎◌, ℕ, List, ◌++◌, Option}
 use Rattle.cell_key.specs.Cells.{Cells, after_edits}
 use Rattle.cell_key.specs.declared.edits.Edit.{Edit}
-use Rattle.row_atomic.specs.Clusters.{Storage}
+use Rattle.file_store.specs.Store.{Contents}
+use Rattle.row_atomic.specs.Clusters.{ClusterState, InOrder, Overfills, Storage, cells_in, storage_of}
 use Rattle.row_atomic.specs.Room.{TakesNoRoom}
 
 -- What is seen of rows, however they are stored.
@@ -17,6 +18,15 @@ pub record View (R : Type 0) : Type 1 where
   pub overfills : R → List ℕ → List Edit → Type 0
   -- what lies below the rows that are in memory: files, names and the places of tablets
   pub storage : R → Storage
+
+-- what is seen of a cluster, over the bytes of its files
+abbrev pub seen_of : {F : Type 0} → (F → Option Contents) → View (ClusterState F)
+seen_of contents = record {
+  holds = λ state. InOrder (contents state.files) state.next_name state.tablets;
+  cells = λ state. cells_in (contents state.files) state.tablets;
+  overfills = λ state row edits. Overfills state.places state.tablets row edits;
+  storage = λ state. storage_of contents state;
+}
 
 -- Nothing is changed: if they held, they still do; their cells are the same, whatever stands in the
 -- files; no room is taken, and what lies below stays.

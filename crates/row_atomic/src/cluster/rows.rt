@@ -10,11 +10,12 @@ ghost use Rattle.metadata_table.specs.Places.{view_of, views};
 ghost use Rattle.metadata_table.specs.Table.{IsTable};
 ghost use Rattle.sorted_file.specs.Source.{IsReadRefusal};
 ghost use Rattle.cell_key.specs.Faults.{HasReason};
-ghost use Rattle.tablet.specs.Views.{Holds};
-ghost use Rattle.row_atomic.specs.Calls.{OnlyReads};
-ghost use Rattle.row_atomic.specs.Changes.{IsOutOfOrder, OfHolder};
+ghost use Rattle.tablet.specs.Views.{Holds as HoldsAt};
+ghost use Rattle.row_atomic.specs.Calls.{OnlyReads, seen_of};
+ghost use Rattle.row_atomic.specs.Changes.{Holds, IsOutOfOrder, OfHolder};
+ghost use Rattle.row_atomic.specs.Commands.{cells_shown};
 ghost use Rattle.row_atomic.specs.Refusals.{IsRefusalOfRead};
-ghost use Rattle.row_atomic.specs.Clusters.{ArePlaced, InOrder, Overfills, PrecedesCell, cells_in, storage_of};
+ghost use Rattle.row_atomic.specs.Clusters.{ArePlaced, PrecedesCell, cells_in};
 
 use crate::cluster::Cluster;
 use crate::place_cache::index_of;
@@ -46,10 +47,10 @@ fn next_cell_in<F: Files>(
     requires placed { ArePlaced tablets.now None (views places.now) }
     requires as_many { length tablets.now ≡ length (views places.now) }
     ensures found { IfOk result (λ found. (m : Contents) → F.contents files.old ≡ Some m
-        → AllByRecursion (Holds m) tablets.now
+        → AllByRecursion (HoldsAt m) tablets.now
         → IsNextCell (cells_in (Some m) tablets.now) (option_map place_named after.entry) found) }
     ensures damaged { IsErrOf result Refusal.Damaged
-        → (m : Contents) → F.contents files.old ≡ Some m → ¬ AllByRecursion (Holds m) tablets.now }
+        → (m : Contents) → F.contents files.old ≡ Some m → ¬ AllByRecursion (HoldsAt m) tablets.now }
     ensures refusal { IfErr result IsReadRefusal }
     ensures same { F.contents files.new ≡ F.contents files.old }
     ensures reason { HasReason (F.faults files.old) (F.faults files.new) result }
@@ -68,12 +69,7 @@ fn next_cell_in<F: Files>(
 }
 
 impl<F: Files> Rows for Cluster<F> {
-    ghost seen = { record {
-      holds = λ cluster. InOrder (F.contents cluster.files) cluster.next_name cluster.tablets;
-      cells = λ cluster. cells_in (F.contents cluster.files) cluster.tablets;
-      overfills = λ cluster row edits. Overfills cluster.places cluster.tablets row edits;
-      storage = λ cluster. storage_of F.contents cluster;
-    } };
+    ghost seen = { seen_of F.contents };
 
     ghost faults = { λ cluster. F.faults cluster.files };
 
@@ -85,15 +81,16 @@ impl<F: Files> Rows for Cluster<F> {
         lo: Stamp,
         hi: Stamp,
     ) -> Result<Option<(Stamp, Vec<u8>)>, Refusal>
-        ensures found { seen.holds self.old → IfOk result (λ found. IsNewest (seen.cells self.old)
-            (version row.now family.now qualifier) lo hi (option_map stamped found)) }
-        ensures reads { OnlyReads seen self.old self.new }
+        ensures found { Holds F.contents self.old → IfOk result (λ found.
+            IsNewest (cells_shown F.contents self.old) (version row.now family.now qualifier) lo hi
+            (option_map stamped found)) }
+        ensures reads { OnlyReads (seen_of F.contents) self.old self.new }
         ensures limits { IfOk result (λ found.
             IfSome (option_map stamped found) (IsVersionIn lo hi)) }
         ensures damaged { IsErrOf result Refusal.Damaged → OfHolder
             (IsOutOfOrder (F.contents self.old.files)) row.now self.old.places self.old.tablets }
-        ensures refusal { IfErr result (IsRefusalOfRead (seen.holds self.old)) }
-        ensures reason { HasReason (faults self.old) (faults self.new) result }
+        ensures refusal { IfErr result (IsRefusalOfRead (Holds F.contents self.old)) }
+        ensures reason { HasReason (F.faults self.old.files) (F.faults self.new.files) result }
     {
         stays_in_range();
         let index = index_of(&self.table, &mut self.place_cache, row);
