@@ -107,11 +107,10 @@ returns-in_err-part-clause-damaged g c =
     let holder = c.locate.ensures.holder in
     let at = rw (← c.self.view_is) at c.position-index.ensures in
     let there = found_there c.self.inside.tablets.items c.position-index.result at.tablet c.index_mut.result.now at.there c.index_mut.ensures.value in
-    let out = λ is. not_there c.files_are_there.ensures (g.F.Files.contents c.self.inside.files) (names_of c.index_mut.result.now) c.index_mut.result.now refl (c.in_err-part.ensures.damaged (passed c.from_residual.result c.in_err-part.field-0.0 _ c.from_residual.ensures.1 is)) in
     rw (← c.self.view_is) (λ is. record {
       place = view_of c.locate.result.now;
       holder = holder;
-      tablet = numbered_old c.self.inside.tablets.items c.position-index.result c.index_mut.result.now c.cut.new.self there (IsOutOfOrder (g.F.Files.contents c.self.inside.files)) (view_of c.locate.result.now).tablet at.number (out is);
+      tablet = numbered_old c.self.inside.tablets.items c.position-index.result c.index_mut.result.now c.cut.new.self there (IsOutOfOrder (g.F.Files.contents c.self.inside.files)) (view_of c.locate.result.now).tablet at.number (not_there c.files_are_there.ensures (g.F.Files.contents c.self.inside.files) (names_of c.index_mut.result.now) c.index_mut.result.now refl (c.in_err-part.ensures.damaged (passed c.from_residual.result c.in_err-part.field-0.0 _ c.from_residual.ensures.1 is)));
     })
 
 pub returns-in_err-part-clause-refusal : goal.returns-in_err-part-clause-refusal
