@@ -41,6 +41,10 @@ parts [] i d h = absurd (omega arith)
 parts (p ∷ ps) zero d h = refl
 parts (p ∷ ps) (suc i) d h = ap (λ (vs : List PlaceView). view_of p ∷ vs) (parts ps i d (below_next p ps i h))
 
+-- the places before one at an index, and those after it
+pub parted_at : (places : List Place) (i : ℕ) (p : Place) → i < length places → p ≡ slice_index_or places i p → views places ≡ views (take i places) ++ view_of p ∷ views (drop (suc i) places)
+parted_at places i p h e = parts places i p h ∙ ap (λ (q : Place). views (take i places) ++ view_of q ∷ views (drop (suc i) places)) (sym e)
+
 -- the tablet of a place stands at its number less 1
 pub record IsNumbered (ts : List Tablet) (n : ℕ) : Type 0 where
   pub from : 1 ≤ n
@@ -98,8 +102,7 @@ module _ (law : StaysInRange) (m : Contents) (ts : List Tablet) (holds : AllByRe
     -- the first that a tablet answers is the next one
     pub scan_finds : (i : ℕ) (p : Place) (t : Tablet) (found : CellPlace) → i < length places → p ≡ slice_index_or places i p → AllByRecursion (NoneAfter m ts after) (views (take i places)) → tablet_numbered p.tablet ts ≡ Some t → IsNextCell (cells_at m t) after (Some found) → IsNextCell (cells_in (Some m) ts) after (Some found)
     scan_finds i p t found h e passed numbered next =
-        let whole : views places ≡ views (take i places) ++ view_of p ∷ views (drop (suc i) places) =
-        parts places i p h ∙ ap (λ (q : Place). views (take i places) ++ view_of q ∷ views (drop (suc i) places)) (sym e) in
+        let whole = parted_at places i p h e in
         found_next law m ts holds (views (take i places)) (view_of p) (views (drop (suc i) places)) after found t
         (subst IsTable whole table) (subst (λ (ps : List PlaceView). length ts ≡ length ps) whole as_many) (subst (λ (ps : List PlaceView). ArePlaced ts None ps) whole placed) passed numbered next
 

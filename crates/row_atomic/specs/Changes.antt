@@ -1,9 +1,10 @@
 -- What the calls of a cluster do to its tablets and their places. Begin with `IsOutcome` at the end
 -- of Commands.antt, which cites these words: `IsCompacted`, `IsHalved` and `ComesTo` are what a
 -- compaction, a split and a move do, and `IsAsBefore` what a refused one leaves.
-use Rattle.std.specs.Prelude.{◌≡◌, ◌≢◌, ◌≤◌, ◌+◌, ◌^◌, ◌⊎◌, ℕ, List, [], ◌∷◌, length, map, drop, Option, Some, IsSome, IsSomeAnd, IfSome, ⊤}
+use Rattle.std.specs.Prelude.{◌≡◌, ◌≢◌, ◌≤◌, ◌+◌, ◌^◌, ◌⊎◌, ℕ, List, [], ◌∷◌, ◌++◌, length, map, drop, Option, None, Some, IsSome, IsSomeAnd, IfSome, ⊤}
 use Rattle.std.specs.List.{AllByRecursion, AllZip, Contains, slice_get}
 use Rattle.cell_key.specs.Entries.{Entry}
+use Rattle.cell_key.specs.Places.{IsNextCell, Place}
 use Rattle.cell_key.specs.declared.refusals.Refusal.{Refusal}
 use Rattle.cell_key.specs.declared.refusals.Refusal.TheVariants as refused
 use Rattle.file_store.specs.Store.{Contents}
@@ -12,13 +13,13 @@ use Rattle.sorted_file.specs.declared.file.SortedFile.{SortedFile}
 use Rattle.metadata_table.specs.Places.{PlaceView}
 use Rattle.metadata_table.specs.Table.{Cuts, IsHolder, IsListed, moved, with_files}
 use Rattle.tablet.specs.Ranges.{seen}
-use Rattle.tablet.specs.Views.{Holds as HoldsAt, IsBelow, IsSameTablet, range_of, memory_of, files_of, names_of, lists_of, with_name}
+use Rattle.tablet.specs.Views.{Holds as HoldsAt, IsBelow, IsSameTablet, cells_at, range_of, memory_of, files_of, names_of, lists_of, with_name}
 use Rattle.tablet.specs.Compactions.{Compacts, IsCompactionRefusal, compacted_of}
 use Rattle.tablet.specs.declared.compactions.Compaction.{Compaction}
 use Rattle.tablet.specs.declared.compactions.Compaction.TheVariants.{Minor, Merge, Major}
 use Rattle.tablet.specs.declared.ranges.RowRange.{RowRange}
 use Rattle.tablet.specs.declared.tablet.Tablet.{Tablet}
-use Rattle.row_atomic.specs.Clusters.{ClusterState, InOrder, cells_in, tablet_numbered}
+use Rattle.row_atomic.specs.Clusters.{ClusterState, InOrder, PrecedesCell, cells_in, tablet_numbered}
 
 -- ---- all tablets
 
@@ -221,7 +222,7 @@ pub record HasRefused (compaction : Compaction) (limit : ℕ) (disk : Option Con
   pub damaged : refusal ≡ refused.Damaged → IsOutOfOrder disk t
   pub undone : refusal ≡ refused.TooManyFiles → (after ≡ next) × (later ≡ disk)
 
--- ---- splits and moves
+-- ---- the tablet of a row
 
 -- the tablet of the place that holds the row is such
 pub record OfHolder (P : Tablet → Type 0) (row : List ℕ) (places : List PlaceView)
@@ -229,6 +230,31 @@ pub record OfHolder (P : Tablet → Type 0) (row : List ℕ) (places : List Plac
   pub place : PlaceView
   pub holder : IsHolder row places place
   pub tablet : Numbered P place.tablet tablets
+
+-- ---- scans
+
+-- a tablet that is in order has no cell after this one
+abbrev pub HasNoneAfter : Option Contents → Option Place → Tablet → Type 0
+HasNoneAfter disk after t = IfSome disk (λ m. HoldsAt m t → IsNextCell (cells_at m t) after None)
+
+-- A scan passes a place: its rows come before that of the cell after which the scan goes on,
+-- or its tablet has no cell after that one.
+abbrev pub Passes : Option Contents → List Tablet → Option Place → PlaceView → Type 0
+Passes disk tablets after p =
+    PrecedesCell p after ⊎ Numbered (HasNoneAfter disk after) p.tablet tablets
+
+-- a scan comes to a tablet that is out of order, after it passed all places before
+pub record MeetsDamage (disk : Option Contents) (after : Option Place) (places : List PlaceView)
+    (tablets : List Tablet) : Type 0 where
+  pub before : List PlaceView
+  pub place : PlaceView
+  pub rest : List PlaceView
+  pub parts : places ≡ before ++ place ∷ rest
+  pub passed : AllByRecursion (Passes disk tablets after) before
+  pub within : ¬ PrecedesCell place after
+  pub out : Numbered (IsOutOfOrder disk) place.tablet tablets
+
+-- ---- splits and moves
 
 -- The tablet that holds the row was cut there, after it was given files.
 pub record IsCut (row : List ℕ) (left : ℕ) (old new : List PlaceView) : Type 0 where

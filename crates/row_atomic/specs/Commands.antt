@@ -13,7 +13,7 @@ use Rattle.cell_key.specs.declared.refusals.Refusal.TheVariants as refused
 use Rattle.file_store.specs.Store.{Contents}
 use Rattle.metadata_table.specs.Table.{BarsSplit, HasTablet, most_servers}
 use Rattle.tablet.specs.Views.{UsesName}
-use Rattle.row_atomic.specs.Changes.{ComesOfWriting, ComesTo, FitsLimit, Holds, IsAsBefore, IsCompacted, IsCut, IsEmptied, IsFullTablet, IsHalved, IsMoveRefusal, IsNumberedRefusal, IsOn, IsOutOfOrder, IsSplitRefusal, IsTooLarge, IsUncached, IsUndone, ListsAll, MayBeFlushed, MayHolderBeFlushed, MeetsBadCount, MeetsFull, Numbered, OfHolder, WritesNone}
+use Rattle.row_atomic.specs.Changes.{ComesOfWriting, ComesTo, FitsLimit, Holds, IsAsBefore, IsCompacted, IsCut, IsEmptied, IsFullTablet, IsHalved, IsMoveRefusal, IsNumberedRefusal, IsOn, IsOutOfOrder, IsSplitRefusal, IsTooLarge, IsUncached, IsUndone, ListsAll, MayBeFlushed, MayHolderBeFlushed, MeetsBadCount, MeetsDamage, MeetsFull, Numbered, OfHolder, WritesNone}
 use Rattle.row_atomic.specs.Clusters.{ClusterState, Overfills, cells_in, spots_of, storage_of}
 use Rattle.row_atomic.specs.Compactions as compaction
 use Rattle.row_atomic.specs.Refusals.{IsApplyRefusal, IsReadRefusal}
@@ -237,6 +237,8 @@ abbrev pub IsDue : {F : Type 0} → (F → Option Contents) → Command → Refu
 IsDue contents (command.Newest row family qualifier lo hi) refusal old =
     refusal ≡ refused.Damaged
     → OfHolder (IsOutOfOrder (contents old.files)) row old.places old.tablets
+IsDue contents (command.NextCell after) refusal old =
+    refusal ≡ refused.Damaged → MeetsDamage (contents old.files) after old.places old.tablets
 IsDue contents (command.Apply row edits) refusal old =
     refusal ≡ refused.MemtableFull → Overfills old.places old.tablets row edits.items
 IsDue contents (command.Minor tablet) refusal old =

@@ -12,7 +12,7 @@ ghost use Rattle.sorted_file.specs.Source.{IsReadRefusal};
 ghost use Rattle.cell_key.specs.Faults.{HasReason};
 ghost use Rattle.tablet.specs.Views.{Holds as HoldsAt};
 ghost use Rattle.row_atomic.specs.Calls.{OnlyReads, seen_of};
-ghost use Rattle.row_atomic.specs.Changes.{Holds, IsOutOfOrder, OfHolder};
+ghost use Rattle.row_atomic.specs.Changes.{Holds, IsOutOfOrder, MeetsDamage, OfHolder};
 ghost use Rattle.row_atomic.specs.Commands.{cells_shown};
 ghost use Rattle.row_atomic.specs.Refusals.{IsRefusalOfRead};
 ghost use Rattle.row_atomic.specs.Clusters.{ArePlaced, PrecedesCell, cells_in};
@@ -49,6 +49,8 @@ fn next_cell_in<F: Files>(
     ensures found { IfOk result (λ found. (m : Contents) → F.contents files.old ≡ Some m
         → AllByRecursion (HoldsAt m) tablets.now
         → IsNextCell (cells_in (Some m) tablets.now) (option_map place_named after.entry) found) }
+    ensures meets { IsErrOf result Refusal.Damaged → MeetsDamage (F.contents files.old)
+        (option_map place_named after.entry) (views places.now) tablets.now }
     ensures damaged { IsErrOf result Refusal.Damaged
         → (m : Contents) → F.contents files.old ≡ Some m → ¬ AllByRecursion (HoldsAt m) tablets.now }
     ensures refusal { IfErr result IsReadRefusal }
@@ -100,7 +102,16 @@ impl<F: Files> Rows for Cluster<F> {
     fn next_cell(
         &mut self,
         after: Option<(&Row, &Family)>,
-    ) -> Result<Option<(Row, Family)>, Refusal> {
+    ) -> Result<Option<(Row, Family)>, Refusal>
+        ensures found { Holds F.contents self.old → IfOk result (IsNextCell
+            (cells_shown F.contents self.old) (option_map place_named after.entry)) }
+        ensures reads { OnlyReads (seen_of F.contents) self.old self.new }
+        ensures damaged { IsErrOf result Refusal.Damaged → MeetsDamage
+            (F.contents self.old.files) (option_map place_named after.entry)
+            self.old.places self.old.tablets }
+        ensures refusal { IfErr result (IsRefusalOfRead (Holds F.contents self.old)) }
+        ensures reason { HasReason (F.faults self.old.files) (F.faults self.new.files) result }
+    {
         next_cell_in(self.table.places(), &self.tablets, after, &mut self.files)
     }
 
