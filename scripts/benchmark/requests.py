@@ -1,0 +1,125 @@
+"""Requests of tabletd, each with the reply that is wanted."""
+
+from __future__ import annotations
+
+import struct
+from collections.abc import Iterator, Sequence
+
+# A request and its reply, both without the lengths of their frames.
+Exchange = tuple[bytes, bytes]
+
+# A row and the value that is set there.
+Write = tuple[bytes, bytes]
+
+MINOR: Exchange = b"\x0a\0\0\0\x01", b"\x8a"
+MAJOR: Exchange = b"\x0c\0\0\0\x01", b"\x8c"
+CHECKPOINT: Exchange = b"\x12", b"\x92"
+
+
+def field(text: bytes) -> bytes:
+    """A field of bytes, or a frame."""
+    return struct.pack(">I", len(text)) + text
+
+
+def stamp(number: int) -> bytes:
+    """A stamp, or the number of a cleaner or a collector."""
+    return struct.pack(">Q", number)
+
+
+def cell(row: bytes) -> bytes:
+    """A row, and the family that all cells here have."""
+    return field(row) + field(b"c")
+
+
+def begin(start: int) -> Exchange:
+    """Begins a session."""
+    return b"\x01", b"\x81" + stamp(start)
+
+
+def put(start: int, write: Write) -> Exchange:
+    """Buffers a write of a session."""
+    row, value = write
+    return b"\x03" + stamp(start) + cell(row) + field(value), b"\x83"
+
+
+def hold(start: int, place: int, count: int) -> Exchange:
+    """A step that holds a cell."""
+    return b"\x04" + stamp(start), b"\x84\x01" + struct.pack(">HH", place, count)
+
+
+def draw(start: int, commit: int) -> Exchange:
+    """A step that draws the stamp of the commit."""
+    return b"\x04" + stamp(start), b"\x84\x03" + stamp(commit)
+
+
+def commit_first(start: int, commit: int) -> Exchange:
+    """A step that commits, at the first cell."""
+    return b"\x04" + stamp(start), b"\x84\x04" + stamp(commit)
+
+
+def finish(start: int, place: int, count: int) -> Exchange:
+    """A step that finishes a further cell."""
+    return b"\x04" + stamp(start), b"\x84\x06" + struct.pack(">HH", place, count)
+
+
+def stop(start: int) -> Exchange:
+    """Ends a session."""
+    return b"\x05" + stamp(start), b"\x85"
+
+
+def get(start: int, row: bytes, value: bytes | None) -> Exchange:
+    """Reads a cell, which has this value or none."""
+    return b"\x02" + stamp(start) + cell(row), b"\x82\0" if value is None else b"\x82\x01" + field(value)
+
+
+def split(row: bytes, tablet: int) -> Exchange:
+    """Cuts the tablet that holds the row; the part that ends with it becomes this one."""
+    return b"\x0d" + field(row), b"\x8d" + struct.pack(">I", tablet)
+
+
+def begin_clean(cleaner: int, row: bytes, start: int) -> Exchange:
+    """Opens a cleaner at a lock of the session with this start."""
+    return b"\x06" + cell(row), b"\x86\x01" + stamp(cleaner) + stamp(start)
+
+
+def decide(cleaner: int) -> Exchange:
+    """A cleaner's first step."""
+    return b"\x07" + stamp(cleaner), b"\x87\x01"
+
+
+def roll_forward(cleaner: int, commit: int) -> Exchange:
+    """A cleaner's second step, if the session has committed."""
+    return b"\x07" + stamp(cleaner), b"\x87\x02" + stamp(commit)
+
+
+def begin_collect(collector: int, floor: int) -> Exchange:
+    """Opens a collector."""
+    return b"\x08", b"\x88" + stamp(collector) + stamp(floor)
+
+
+def visit(collector: int, is_last: bool) -> Exchange:
+    """A collector's step of 1,000 visits, or of fewer if it is the last one."""
+    return b"\x09" + stamp(collector) + struct.pack(">I", 1000), b"\x89\x03" if is_last else b"\x89\x01"
+
+
+def stamps_of(number: int) -> tuple[int, int]:
+    """The start and the commit of a transaction that begins when all before it have ended."""
+    return 2 * number + 1, 2 * number + 2
+
+
+def committed(number: int, writes: Sequence[Write]) -> Iterator[Exchange]:
+    """Such a transaction, up to its commit."""
+    start, commit = stamps_of(number)
+    count = len(writes)
+    yield begin(start)
+    yield from (put(start, write) for write in writes)
+    yield from (hold(start, place, count) for place in range(1, count + 1))
+    yield draw(start, commit)
+    yield commit_first(start, commit)
+
+
+def transaction(number: int, writes: Sequence[Write]) -> Iterator[Exchange]:
+    """Such a transaction, up to its end."""
+    count = len(writes)
+    yield from committed(number, writes)
+    yield from (finish(stamps_of(number)[0], place, count) for place in range(2, count + 1))

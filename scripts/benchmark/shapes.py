@@ -1,0 +1,309 @@
+"""The shapes of the streams that scripts/bench measures."""
+
+from __future__ import annotations
+
+import random
+from collections.abc import Callable, Iterable, Iterator
+from typing import NamedTuple
+
+from benchmark.requests import (
+    MAJOR,
+    MINOR,
+    Exchange,
+    begin,
+    begin_clean,
+    begin_collect,
+    commit_first,
+    committed,
+    decide,
+    draw,
+    get,
+    hold,
+    put,
+    roll_forward,
+    split,
+    stamps_of,
+    stop,
+    transaction,
+    visit,
+)
+
+# How many files a store has whose rows are read, and a folder that is opened.
+FILES = 48
+
+# The memtable's entries at which none of these streams has a compaction that it doesn't ask for.
+LARGE_MEMTABLE = ("--flush", "99999")
+
+# Requests by the size of a stream.
+Stream = Callable[[int], Iterable[Exchange]]
+
+# A row that is read, and the value that is there, or none.
+Found = tuple[bytes, bytes | None]
+
+
+class Shape(NamedTuple):
+    """A stream of requests by its size, and the store that it is sent to."""
+
+    size: int
+    what: str
+    asked: Stream
+    loaded: Stream = lambda size: ()
+    words: tuple[str, ...] = ()
+    is_folder: bool = False
+    is_opening: bool = False
+
+
+def short_value(number: int) -> bytes:
+    """A value of 8 bytes."""
+    return b"%08d" % number
+
+
+def middle_value(number: int) -> bytes:
+    """A value of 100 bytes."""
+    return b"%0100d" % number
+
+
+def long_value(number: int) -> bytes:
+    """A value of 1 KiB."""
+    return b"%01024d" % number
+
+
+def short_row(number: int) -> bytes:
+    """One of 1,000 rows, in turn."""
+    return b"row%03d" % (number % 1000)
+
+
+def long_row(number: int) -> bytes:
+    """One of 1,000 rows of 4,000 bytes, which differ in their last ones."""
+    return short_row(number).rjust(4000, b"r")
+
+
+def zero_row(number: int) -> bytes:
+    """One of 1,000 rows of 14 bytes, the fifth of which is 0."""
+    return b"user\0%09d" % (number % 1000)
+
+
+def hot_row(number: int) -> bytes:
+    """The one row."""
+    return b"row"
+
+
+def shuffled_rows(count: int) -> list[bytes]:
+    """Rows in a random order, the same one each time."""
+    rows = [b"row%05d" % number for number in range(count)]
+    random.Random(1).shuffle(rows)
+    return rows
+
+
+def commits(count: int, row_of: Callable[[int], bytes], minor_every: int | None = None) -> Iterator[Exchange]:
+    """Transactions of one cell, with a minor compaction of tablet 1 now and then."""
+    for number in range(count):
+        yield from transaction(number, [(row_of(number), short_value(number))])
+        if minor_every and number % minor_every == minor_every - 1:
+            yield MINOR
+
+
+def random_commits(count: int) -> Iterator[Exchange]:
+    """Transactions of one cell each, on rows in a random order."""
+    return commits(count, shuffled_rows(count).__getitem__)
+
+
+def first_row(number: int) -> bytes:
+    """The row of the first cell of a transaction that stops after its commit."""
+    return b"a%08d" % number
+
+
+def second_row(number: int) -> bytes:
+    """The row of its second cell, which stays locked."""
+    return b"b%08d" % number
+
+
+def stopped(number: int) -> Iterator[Exchange]:
+    """A transaction of two cells that stops between its commit and the second of them."""
+    value = short_value(number)
+    yield from committed(number, [(first_row(number), value), (second_row(number), value)])
+    yield stop(stamps_of(number)[0])
+
+
+def cleaned(number: int) -> Iterator[Exchange]:
+    """What a cleaner does for the lock that such a transaction left."""
+    start, commit = stamps_of(number)
+    yield begin_clean(number + 1, second_row(number), start)
+    yield decide(number + 1)
+    yield roll_forward(number + 1, commit)
+
+
+def stranded(count: int) -> Iterator[Exchange]:
+    """Leaves locks behind, then cleans all of them."""
+    yield from (exchange for number in range(count) for exchange in stopped(number))
+    yield MINOR
+    yield from (exchange for number in range(count) for exchange in cleaned(number))
+
+
+def collected(count: int) -> Iterator[Exchange]:
+    """Writes 100 versions of each cell, collects the old ones, and reads each cell.
+
+    A collector's first pass visits each cell once. Its second erases what is old in a cell, and then finds the cell
+    tidy. At the end of each pass one visit finds no cell.
+    """
+    rows = count // 100
+    for number in range(100 * rows):
+        yield from transaction(number, [(b"row%05d" % (number % rows), short_value(number))])
+    yield MAJOR
+    start, _ = stamps_of(100 * rows)
+    visits = 3 * rows + 2
+    yield begin_collect(1, start)
+    yield from [visit(1, is_last=False)] * ((visits - 1) // 1000)
+    yield visit(1, is_last=True)
+    yield begin(start)
+    yield from (get(start, b"row%05d" % row, short_value(99 * rows + row)) for row in range(rows))
+
+
+def together(first: int, sessions: int) -> Iterator[Exchange]:
+    """Sessions with one write each that are open at once, and take each of their steps in turn.
+
+    Before them there were as many transactions as `first` says.
+    """
+    begun, _ = stamps_of(first)
+    pairs = [(begun + number, begun + sessions + number) for number in range(sessions)]
+    yield from (begin(start) for start, _ in pairs)
+    yield from (put(start, (short_row(number), short_value(start))) for number, (start, _) in enumerate(pairs))
+    yield from (hold(start, 1, 1) for start, _ in pairs)
+    yield from (draw(start, commit) for start, commit in pairs)
+    yield from (commit_first(start, commit) for start, commit in pairs)
+
+
+def many_sessions(count: int) -> Iterator[Exchange]:
+    """Transactions of one cell each, a thousand of them at once."""
+    for first in range(0, count, 1000):
+        yield from together(first, min(1000, count - first))
+
+
+def wide_commits(count: int) -> Iterator[Exchange]:
+    """Transactions of 256 cells each, on rows in a random order."""
+    rows = iter(shuffled_rows(256 * count))
+    for number in range(count):
+        yield from transaction(number, [(next(rows), long_value(number)) for _ in range(256)])
+
+
+def rows_in_files(count: int) -> Iterator[Exchange]:
+    """Rows that are set in a random order, and written to files, as many to each."""
+    for number, row in enumerate(shuffled_rows(count)):
+        yield from transaction(number, [(row, middle_value(number))])
+        if (number + 1) * FILES // count > number * FILES // count:
+            yield MINOR
+
+
+def present(rows: list[bytes], number: int) -> Found:
+    """A row that is there, and its value."""
+    return rows[number], middle_value(number)
+
+
+def missing(rows: list[bytes], number: int) -> Found:
+    """A row between those that are there."""
+    return rows[number] + b"x", None
+
+
+def gets(count: int, start: int, found: Callable[[list[bytes], int], Found]) -> Iterator[Exchange]:
+    """Reads in one session, drawn at random, where as many rows are in files."""
+    rows = shuffled_rows(count)
+    draws = random.Random(2)
+    yield begin(start)
+    for _ in range(count):
+        yield get(start, *found(rows, draws.randrange(count)))
+
+
+def next_start(count: int) -> int:
+    """The first start after this number of transactions."""
+    return stamps_of(count)[0]
+
+
+def reopened_start(count: int) -> int:
+    """The same in a folder that is opened after them: a program begins with a new range of 1,000 stamps."""
+    return -(-2 * count // 1000) * 1000 + 1
+
+
+def splits(size: int) -> Iterator[Exchange]:
+    """Splits between all of 1,024 rows, whatever the size."""
+    return (split(b"row%04d" % number, number + 2) for number in range(1023))
+
+
+def tablet_commits(count: int) -> Iterator[Exchange]:
+    """Transactions of one cell each, on these rows in turn."""
+    return commits(count, lambda number: b"row%04d" % (number % 1024))
+
+
+SHAPES = {
+    "rows": Shape(
+        100_000,
+        "commits of one cell on 1,000 rows, with a Minor every 2,000 of them",
+        lambda size: commits(size, short_row, 2_000),
+    ),
+    "random": Shape(33_000, "commits of one cell on rows in a random order", random_commits),
+    "hot": Shape(15_000, "commits of one hot cell", lambda size: commits(size, hot_row)),
+    "files": Shape(
+        160_000,
+        "commits of one cell on 1,000 rows, with 48 files written on the way",
+        lambda size: commits(size, short_row, 10_000),
+    ),
+    "merge": Shape(
+        160_000,
+        "the same, with the files merged by --merge 8",
+        lambda size: commits(size, short_row, 10_000),
+        words=("--merge", "8"),
+    ),
+    "collect": Shape(
+        100_000, "commits of one cell, 100 of each; a Major; collecting old versions; reading each cell", collected
+    ),
+    "clean": Shape(10_000, "commits of two cells, each stopped before the second one; cleaning those", stranded),
+    "many": Shape(30_000, "commits of one cell on 1,000 rows by 1,000 sessions that are open at once", many_sessions),
+    "wide": Shape(
+        80,
+        "commits of 256 cells with values of 1 KiB, with --flush 1500",
+        wide_commits,
+        words=("--flush", "1500"),
+    ),
+    "tablet1": Shape(
+        30_000, "commits of one cell on 1,024 rows of one tablet", tablet_commits, words=LARGE_MEMTABLE
+    ),
+    "tablets": Shape(
+        30_000, "the same, with a tablet for each row", tablet_commits, loaded=splits, words=LARGE_MEMTABLE
+    ),
+    "long": Shape(
+        3_000, "commits of one cell on 1,000 rows of 4,000 bytes", lambda size: commits(size, long_row, 2_000)
+    ),
+    "zero": Shape(
+        100_000, "as rows, on rows of 14 bytes, one of them 0", lambda size: commits(size, zero_row, 2_000)
+    ),
+    "get48": Shape(
+        48_000,
+        "N Gets at random of N rows in 48 files",
+        lambda size: gets(size, next_start(size), present),
+        loaded=rows_in_files,
+        words=LARGE_MEMTABLE,
+    ),
+    "missing": Shape(
+        48_000,
+        "N Gets of rows that aren't there, between the same N rows",
+        lambda size: gets(size, next_start(size), missing),
+        loaded=rows_in_files,
+        words=LARGE_MEMTABLE,
+    ),
+    "folder": Shape(
+        48_000,
+        "N Gets as those of get48, in a folder",
+        lambda size: gets(size, reopened_start(size), present),
+        loaded=rows_in_files,
+        words=LARGE_MEMTABLE,
+        is_folder=True,
+    ),
+    "open": Shape(
+        48_000,
+        "opening a folder of N rows in 48 files; its figures are those of a row, and not of a request",
+        lambda size: (),
+        loaded=rows_in_files,
+        words=LARGE_MEMTABLE,
+        is_folder=True,
+        is_opening=True,
+    ),
+}
