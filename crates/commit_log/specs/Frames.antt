@@ -1,0 +1,38 @@
+-- The bytes of a log: a head, the frame of each record, and a tail at whose front no whole frame stands.
+use Rattle.std.specs.Prelude.{◌≡◌, ◌≢◌, ℕ, ◌≤◌, List, ◌++◌, codes, length, map}
+use Rattle.std.specs.Global.{Vec}
+use Rattle.std.specs.List.{AllByRecursion, flat_map}
+use Rattle.std.specs.Int.{to_be_bytes, w32}
+use Rattle.md5.specs.Md5.{md5}
+
+-- the most bytes of a record
+abbrev pub longest : ℕ
+longest = 134217728
+
+abbrev pub IsRecord : List ℕ → Type 0
+IsRecord payload = length payload ≤ longest
+
+-- a frame: the length of a record in four bytes, its checksum in sixteen, and its bytes
+unfoldable pub frame : List ℕ → List ℕ
+frame payload = to_be_bytes w32 (length payload) ++ (md5 payload ++ payload)
+
+abbrev pub head : List ℕ
+head = codes "TABLOG01"
+
+-- the bytes of a log of these records, with no tail
+abbrev pub log_of : List (List ℕ) → List ℕ
+log_of records = head ++ flat_map frame records
+
+-- no whole frame stands at the front of the bytes, whatever comes behind it
+abbrev pub IsTail : List ℕ → Type 0
+IsTail bytes = (payload behind : List ℕ) → IsRecord payload → bytes ≢ frame payload ++ behind
+
+-- The bytes are a log of these records, and a tail.
+pub record IsLog (bytes : List ℕ) (records : List (List ℕ)) (tail : List ℕ) : Type 0 where
+  pub spelled : bytes ≡ log_of records ++ tail
+  pub each : AllByRecursion IsRecord records
+  pub torn : IsTail tail
+
+-- the bytes of each vector
+abbrev pub bytes_of : List (Vec ℕ) → List (List ℕ)
+bytes_of vectors = map (λ v. v.items) vectors

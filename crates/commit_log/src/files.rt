@@ -1,0 +1,54 @@
+//! The file under a log: what it promises.
+
+ghost use Rattle.std.specs.Prelude.{◌≡◌, ℕ, List, Option, IfErr, IfOk, IfSome, IsErr, IsErrOf, OnErr, OnOk};
+ghost use Rattle.commit_log.specs.Faults.{HasFaultCause};
+ghost use Rattle.commit_log.specs.Files.{GrowsInPart, MayBeCut, with_first, with_more};
+
+use crate::faults::LogFault;
+use std::alloc::Global;
+
+/// A file of bytes that grow at the end. Nobody else writes it. Once a write or a cut failed it takes no more of them until it
+/// is opened anew: what the device has of its end is not known any more.
+pub trait LogFile {
+    /// Its bytes, or none if it does not say, as on a real disk.
+    ghost bytes: { Self → Option (List ℕ) };
+
+    /// An earlier write or cut failed.
+    ghost is_stopped: { Self → Type 0 };
+
+    /// How often a device has failed, up to the greatest number.
+    ghost faults: { Self → ℕ };
+
+    /// All bytes.
+    fn read(&mut self, alloc: Global) -> Result<Vec<u8>, LogFault>
+        ensures ok { IfOk result (λ found.
+            IfSome (bytes self.old) (λ held. found.items ≡ held)) }
+        ensures same { bytes self.new ≡ bytes self.old }
+        ensures stays { is_stopped self.old → is_stopped self.new }
+        ensures intact { ¬ IsErrOf result LogFault.Damaged }
+        ensures cause { HasFaultCause (faults self.old) (faults self.new) result };
+
+    /// Writes bytes at the end, and forces them to the disk. After an `Err` a beginning of them may stand there.
+    fn write(&mut self, more: &[u8]) -> Result<(), LogFault>
+        ensures ok { OnOk result (bytes self.new ≡ with_more more.now (bytes self.old)) }
+        ensures err { OnErr result (GrowsInPart more.now (bytes self.old) (bytes self.new)) }
+        ensures stops { OnErr result (is_stopped self.new) }
+        ensures refused { is_stopped self.old → IsErr result }
+        ensures still { is_stopped self.old → bytes self.new ≡ bytes self.old }
+        ensures fault { IfErr result (λ fault. fault ≡ LogFault.Device) }
+        ensures cause { HasFaultCause (faults self.old) (faults self.new) result };
+
+    /// Keeps the first bytes, this many if there are more. After an `Err` all may stand there still.
+    fn cut(&mut self, len: u64) -> Result<(), LogFault>
+        ensures ok { OnOk result (bytes self.new ≡ with_first len (bytes self.old)) }
+        ensures err { OnErr result (MayBeCut len (bytes self.old) (bytes self.new)) }
+        ensures stops { OnErr result (is_stopped self.new) }
+        ensures refused { is_stopped self.old → IsErr result }
+        ensures still { is_stopped self.old → bytes self.new ≡ bytes self.old }
+        ensures fault { IfErr result (λ fault. fault ≡ LogFault.Device) }
+        ensures cause { HasFaultCause (faults self.old) (faults self.new) result };
+
+    /// How often a device has failed, up to the greatest number.
+    fn faults(&self) -> u64
+        ensures { result ≡ faults self.now };
+}

@@ -1,0 +1,115 @@
+//! Frames: how the records of a log are spelled as bytes, and read again.
+
+ghost use Rattle.std.specs.Prelude.{◌≡◌, ◌≢◌, ◌+◌, ◌≤◌, ◌++◌, ◌↔◌, take, drop, length, IfOk, IfSome, IfNone, IsErrOf, IsTrue};
+ghost use Rattle.std.specs.Int.{from_be_bytes, to_be_bytes, w32};
+ghost use Rattle.md5.specs.Md5.{md5};
+ghost use Rattle.commit_log.specs.Frames.{IsLog, IsRecord, IsTail, bytes_of, frame, head};
+
+use crate::faults::LogFault;
+use md5::{Digest, Md5};
+use std::alloc::{AllocError, Global};
+
+/// The most bytes of a record.
+pub const LONGEST_RECORD: usize = 134_217_728;
+
+/// The bytes with which a log begins.
+pub const HEAD: [u8; 8] = *b"TABLOG01";
+
+/// How many bytes of a frame stand before its record: a length and a checksum.
+const PREFIX: usize = 20;
+
+/// The frame of a record.
+pub fn frame_of(alloc: Global, payload: &[u8]) -> Result<Vec<u8>, AllocError>
+    requires { IsRecord payload.now }
+    ensures { IfOk result (λ bytes. bytes.items ≡ frame payload.now) }
+{
+    let mut bytes = Vec::with_capacity(alloc, PREFIX + payload.len())?;
+    let length = payload.len() as u32;
+    bytes.extend_from_slice(&length.to_be_bytes())?;
+    bytes.extend_from_slice(&checksum_of(payload))?;
+    bytes.extend_from_slice(payload)?;
+    Ok(bytes)
+}
+
+/// The checksum of a record.
+fn checksum_of(payload: &[u8]) -> [u8; 16]
+    ensures { result ≡ md5 payload.now }
+{
+    Md5::digest(payload)
+}
+
+/// Whether bytes are the checksum of a record.
+fn is_checksum(payload: &[u8], checksum: [u8; 16]) -> bool
+    ensures { IsTrue result ↔ (md5 payload.now ≡ checksum) }
+{
+    checksum_of(payload) == checksum
+}
+
+/// The length that four bytes give.
+fn length_in(bytes: [u8; 4]) -> u32
+    ensures value { result ≡ from_be_bytes w32 bytes }
+    ensures spells { to_be_bytes w32 result ≡ bytes }
+{
+    u32::from_be_bytes(bytes)
+}
+
+/// The record whose whole frame stands at the front of bytes, if one does.
+pub fn first_record(bytes: &[u8]) -> Option<&[u8]>
+    ensures found { IfSome result (λ payload. IsRecord payload.now) }
+    ensures front { IfSome result (λ payload. bytes.now
+        ≡ frame payload.now ++ drop (20 + length payload.now) bytes.now) }
+    ensures within { IfSome result (λ payload. 20 + length payload.now ≤ length bytes.now) }
+    ensures none { IfNone result (IsTail bytes.now) }
+{
+    let Some((length, after)) = bytes.split_first_chunk::<4>() else {
+        return None;
+    };
+    let Some((checksum, rest)) = after.split_first_chunk::<16>() else {
+        return None;
+    };
+    let len = length_in(*length) as usize;
+    if len > LONGEST_RECORD {
+        return None;
+    }
+    if rest.len() < len {
+        return None;
+    }
+    let payload = &rest[..len];
+    if !is_checksum(payload, *checksum) {
+        return None;
+    }
+    Some(payload)
+}
+
+/// What stands in the bytes of a log.
+#[derive(Drop)]
+pub struct Reading {
+    /// The records of the whole frames at the front.
+    pub records: Vec<Vec<u8>>,
+    /// Where they end.
+    pub end: usize,
+}
+
+/// Reads a log. What stands behind its last whole frame is left out.
+///
+/// # Errors
+///
+/// `Damaged` if the bytes don't begin as a log does; `Memory`.
+pub fn read_log(alloc: Global, bytes: &[u8]) -> Result<Reading, LogFault>
+    ensures ok { IfOk result (λ found.
+        IsLog bytes.now (bytes_of found.records.items) (drop found.end bytes.now)) }
+    ensures end { IfOk result (λ found. found.end ≤ length bytes.now) }
+    ensures damaged { IsErrOf result LogFault.Damaged ↔ (take 8 bytes.now ≢ head) }
+    ensures device { ¬ IsErrOf result LogFault.Device }
+{
+    let Some(mut rest) = bytes.strip_prefix(&HEAD) else {
+        return Err(LogFault::Damaged);
+    };
+    let mut records = Vec::new(alloc);
+    while let Some(payload) = first_record(rest) {
+        records.push(Vec::from_slice(alloc, payload)?)?;
+        rest = &rest[PREFIX + payload.len()..];
+    }
+    let end = bytes.len() - rest.len();
+    Ok(Reading { records, end })
+}

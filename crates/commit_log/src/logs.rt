@@ -1,0 +1,47 @@
+//! Logs: what they promise.
+
+ghost use Rattle.std.specs.Prelude.{◌≡◌, ℕ, List, IfOk, IsErrOf, OnErr, OnOk};
+ghost use Rattle.commit_log.specs.Faults.{HasFaultCause};
+ghost use Rattle.commit_log.specs.Frames.{IsRecord, bytes_of};
+ghost use Rattle.commit_log.specs.Held.{Empties, Gains, Keeps, MayEmpty, MayGain};
+
+use crate::faults::LogFault;
+
+/// Records of bytes, in the order in which they were appended, which outlast a kill.
+pub trait Log {
+    /// It holds these records. Of a log that does not say what it holds, as on a real disk, nothing holds this.
+    ghost holds: { Self → List (List ℕ) → Type 0 };
+
+    /// How often a device has failed, up to the greatest number.
+    ghost faults: { Self → ℕ };
+
+    /// Puts a record at the end, and forces it to the disk. After an `Err` the log holds what it held, or that and this
+    /// record: a part of it is never held. If memory was refused, it holds what it held.
+    fn append(&mut self, payload: &[u8]) -> Result<(), LogFault>
+        requires { IsRecord payload.now }
+        ensures ok { OnOk result (Gains (holds self.old) (holds self.new) payload.now) }
+        ensures err { OnErr result (MayGain (holds self.old) (holds self.new) payload.now) }
+        ensures memory { IsErrOf result LogFault.Memory → Keeps (holds self.old) (holds self.new) }
+        ensures intact { ¬ IsErrOf result LogFault.Damaged }
+        ensures cause { HasFaultCause (faults self.old) (faults self.new) result };
+
+    /// The records. `Damaged` is answered only by a log that holds none of them.
+    fn records(&mut self) -> Result<Vec<Vec<u8>>, LogFault>
+        ensures ok { IfOk result (λ found. (records : List (List ℕ))
+            → holds self.old records → bytes_of found.items ≡ records) }
+        ensures same { Keeps (holds self.old) (holds self.new) }
+        ensures damaged { IsErrOf result LogFault.Damaged
+            → (records : List (List ℕ)) → ¬ holds self.old records }
+        ensures cause { HasFaultCause (faults self.old) (faults self.new) result };
+
+    /// Takes all records out. After an `Err` the log holds what it held, or none.
+    fn reset(&mut self) -> Result<(), LogFault>
+        ensures ok { OnOk result (Empties (holds self.old) (holds self.new)) }
+        ensures err { OnErr result (MayEmpty (holds self.old) (holds self.new)) }
+        ensures intact { ¬ IsErrOf result LogFault.Damaged }
+        ensures cause { HasFaultCause (faults self.old) (faults self.new) result };
+
+    /// How often a device has failed, up to the greatest number.
+    fn faults(&self) -> u64
+        ensures { result ≡ faults self.now };
+}
