@@ -1,2 +1,3 @@
 mod Cuts
 mod Fronts
+mod Holding

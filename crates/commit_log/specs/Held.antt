@@ -31,3 +31,7 @@ pub record IsKept (told : Option (List ℕ)) (records : List (List ℕ)) : Type 
 pub record IsHeld (told : Option (List ℕ)) (stopped : Type 0) (records : List (List ℕ)) : Type 0 where
   pub kept : IsKept told records
   pub clean : (kept.tail ≡ []) ⊎ stopped
+
+-- A log that was opened holds the records that a kill left.
+abbrev pub Opens : Option (List ℕ) → Option (List ℕ) → Type 0 → Type 0
+Opens old new stopped = (records : List (List ℕ)) → IsKept old records → IsHeld new stopped records

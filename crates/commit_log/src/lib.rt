@@ -2,13 +2,20 @@
 #![tactic(auto)]
 
 mod faults;
+mod file_log;
 mod files;
+mod folder;
 mod frames;
+pub mod laws;
 mod logs;
 mod memory;
+#[cfg(test)]
+mod tests;
 
 pub use faults::LogFault;
+pub use file_log::FileLog;
 pub use files::LogFile;
+pub use folder::{DirFile, DirLog, make_log, open_log};
 pub use frames::{HEAD, LONGEST_RECORD, Reading, first_record, frame_of, read_log};
 pub use logs::Log;
 pub use memory::MemLog;
