@@ -1,11 +1,11 @@
 -- A log is read in one way, and what is left of one that was cut short is a log of the first of its records.
-use Rattle.std.proofs.Common.{◌≡◌, ℕ, zero, suc, ◌+◌, ◌-◌, ◌<◌, ◌≤◌, ◌⊎◌, inl, inr, append-nil, List, [], ◌∷◌, ◌++◌, length, take, drop, refl, sym, ap, ◌∙◌, subst, arith, take_at, drop_at, length-append, append_assoc}
+use Rattle.std.proofs.Common.{◌≡◌, ℕ, suc, ◌-◌, ◌<◌, ◌≤◌, ◌⊎◌, inl, inr, append-nil, List, [], ◌∷◌, ◌++◌, length, take, drop, refl, sym, ap, ◌∙◌, subst, arith, take_at, drop_at, length-append, append_assoc}
 use Rattle.std.proofs.lemmas.List.{take-append-drop, take-append-le, length-drop, append_cancel_left, flat_map_more, take_all}
 use Rattle.std.proofs.Math.Seq.{take-append-add}
 use Rattle.std.proofs.lemmas.Bool.{cases_lt}
 use Rattle.std.specs.List.{AllByRecursion, flat_map}
 use Rattle.commit_log.specs.Frames.{frame, head, log_of, IsLog, IsRecord, IsTail}
-use Rattle.commit_log.proofs.Fronts.{Begins, begins, length-frame}
+use Rattle.commit_log.proofs.Fronts.{begins}
 
 same_front : (a b x y : List ℕ) → length a ≡ length b → a ++ x ≡ b ++ y → (a ≡ b) × (x ≡ y)
 same_front a b x y size same = (
@@ -90,12 +90,12 @@ cut_frames : (records : List (List ℕ)) (n : ℕ) → AllByRecursion IsRecord r
 cut_frames [] n each = record { k = 0; tail = []; spelled = take_all n [] (omega arith); each = tt; torn = nothing_left }
 cut_frames (r ∷ rs) n each = elim (cases_lt n (length (frame r))) [
   | inl short ↦ record {
-      k = 0;
-      tail = take n (frame r);
-      spelled = take-append-le n (frame r) (flat_map frame rs) (omega (arith, short));
-      each = tt;
-      torn = torn_frame r n each.0 short;
-    }
+    k = 0;
+    tail = take n (frame r);
+    spelled = take-append-le n (frame r) (flat_map frame rs) (omega (arith, short));
+    each = tt;
+    torn = torn_frame r n each.0 short;
+  }
   | inr long ↦
       let m : ℕ = n - length (frame r) in
       let more = cut_frames rs m each.1 in

@@ -1,5 +1,5 @@
 -- What the calls of a file leave of the records of its log.
-use Rattle.std.proofs.Common.{◌≡◌, ℕ, ◌+◌, ◌-◌, ◌<◌, ◌≤◌, ◌⊎◌, inl, inr, append-nil, List, [], ◌∷◌, ◌++◌, length, take, drop, Option, Some, None, IfSome, Result, Ok, Err, IsErr, OnErr, OnOk, refl, sym, ap, ◌∙◌, subst, arith}
+use Rattle.std.proofs.Common.{◌≡◌, ℕ, ◌≤◌, ◌⊎◌, inl, inr, append-nil, List, [], ◌∷◌, ◌++◌, length, take, drop, Option, Some, None, IfSome, Result, Ok, Err, IsErr, OnErr, OnOk, refl, sym, ap, ◌∙◌, subst, arith}
 use Rattle.std.proofs.lemmas.List.{take-append-drop, length-drop, append_cancel_right}
 use Rattle.commit_log.specs.Files.{GrowsInPart, MayBeCut, with_first, with_more}
 use Rattle.commit_log.specs.Frames.{frame, head, log_of, IsLog, IsRecord}
@@ -91,9 +91,9 @@ may_gain old new stopped after p fits wrote still now records held = elim held.c
       let is = grown old new (take wrote.0 (frame p)) records held.kept none wrote.1 in
       elim (in_part records p wrote.0 held.kept.is_log.each fits) [
         | inl log ↦ inl (record {
-            kept = record { bytes = log_of records ++ take wrote.0 (frame p); are_told = is; tail = take wrote.0 (frame p); is_log = log };
-            clean = inr now;
-          })
+          kept = record { bytes = log_of records ++ take wrote.0 (frame p); are_told = is; tail = take wrote.0 (frame p); is_log = log };
+          clean = inr now;
+        })
         | inr log ↦ inr (record { kept = record { bytes = log_of records ++ take wrote.0 (frame p); are_told = is; tail = []; is_log = log }; clean = inl refl })
       ]
   | inr s ↦ inl (record { kept = keeps_kept old new (still s) records held.kept; clean = inr now })
@@ -118,6 +118,7 @@ opens old new after read found end same log cut records kept =
 -- no tail was there
 pub opens_clean : (old new : Option (List ℕ)) (after : Type 0) (read : List ℕ) (found : List (List ℕ)) (end : ℕ) → IfSome old (λ b. read ≡ b) → IsLog read found (drop end read) → new ≡ old → length read ≤ end
     → (records : List (List ℕ)) → IsKept old records → IsHeld new after records
+unfolding keeps_kept
 opens_clean old new after read found end same log still long records kept =
     let left = (reading old read found (drop end read) same log records kept).1 in
     let none : drop end read ≡ [] = nil_of (drop end read) (omega (arith, length-drop end read)) in
@@ -158,7 +159,7 @@ may_empty old new stopped after cut now records held = elim cut [
 pub append_ok : {A E : Type 0} (result : Result A E) (old new : Option (List ℕ)) (stopped after : Type 0) (p more : List ℕ) → IsRecord p → more ≡ frame p → (stopped → IsErr result)
     → OnOk result (new ≡ with_more more old) → OnOk result (Gains (IsHeld old stopped) (IsHeld new after) p)
 append_ok (Ok a) old new stopped after p more fits is refused wrote =
-    gains old new stopped after p fits (wrote ∙ ap (λ (m : List ℕ). with_more m old) is) refused
+    gains old new stopped after p fits (wrote ∙ ap (λ (m : List ℕ). with_more m old) is) (λ s. let h = refused s in cc)
 append_ok (Err e) old new stopped after p more fits is refused wrote = tt
 
 pub append_err : {A E : Type 0} (result : Result A E) (old new : Option (List ℕ)) (stopped after : Type 0) (p more : List ℕ) → IsRecord p → more ≡ frame p → (stopped → new ≡ old)

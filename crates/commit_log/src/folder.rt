@@ -28,10 +28,7 @@ pub struct DirFile<F> {
 }
 
 /// Opens the file of a folder's log, if there is one.
-fn open_file<R: Folders + AllocGlobal>(
-    rt: &R,
-    folder: &str,
-) -> io::Result<Option<DirFile<R::File>>>
+fn open_file<R: Folders + AllocGlobal>(rt: &R, folder: &str) -> io::Result<Option<DirFile<R::File>>>
     ensures { IfOk result (λ found. IfSome found (λ file. file.faults ≡ 0)) }
 {
     let path = format!(in rt.alloc(); "{folder}/commit.log")?;

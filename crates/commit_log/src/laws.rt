@@ -8,28 +8,24 @@ ghost use Rattle.commit_log.specs.Frames.{IsLog, IsRecord, frame, log_of};
 pub fn one_reading()
     ensures { (bytes : List ℕ) (first second : List (List ℕ)) (left other : List ℕ)
         → IsLog bytes first left → IsLog bytes second other → (first ≡ second) × (left ≡ other) }
-{
-}
+{}
 
 /// What was written is read: all records, and no tail.
 pub fn whole_log()
     ensures { (records : List (List ℕ)) → AllByRecursion IsRecord records
         → IsLog (log_of records) records [] }
-{
-}
+{}
 
 /// A beginning of a log, from its head on, is a log of the first of its records.
 pub fn torn_log()
     ensures { (records : List (List ℕ)) (n : ℕ) → AllByRecursion IsRecord records → 8 ≤ n
         → (k : ℕ) × (tail : List ℕ) × IsLog (take n (log_of records)) (take k records) tail }
-{
-}
+{}
 
 /// A log to whose end a beginning of a frame came is a log of the same records, or of one more.
 pub fn torn_append()
     ensures { (records : List (List ℕ)) (payload : List ℕ) (n : ℕ)
         → AllByRecursion IsRecord records → IsRecord payload
         → IsLog (log_of records ++ take n (frame payload)) records (take n (frame payload))
-            ⊎ IsLog (log_of records ++ take n (frame payload)) (records ++ payload ∷ []) [] }
-{
-}
+        ⊎ IsLog (log_of records ++ take n (frame payload)) (records ++ payload ∷ []) [] }
+{}

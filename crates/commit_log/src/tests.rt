@@ -27,7 +27,11 @@ const RECORDS: [&[u8]; 2] = [b"a", b"ab"];
 
 /// Whether records are the first ones of `TWO`.
 fn are_first(records: &[Vec<u8>], count: usize) -> bool {
-    records.len() == count && records.iter().zip(RECORDS).all(|(found, wanted)| found.as_slice() == wanted)
+    records.len() == count
+        && records
+            .iter()
+            .zip(RECORDS)
+            .all(|(found, wanted)| found.as_slice() == wanted)
 }
 
 #[test]
@@ -126,7 +130,11 @@ impl LogFile for FakeFile {
             return Err(self.fail());
         }
         let goes = self.goes();
-        let part = if goes { more.len() } else { self.part.min(more.len()) };
+        let part = if goes {
+            more.len()
+        } else {
+            self.part.min(more.len())
+        };
         let added = self.bytes.extend_from_slice(&more[..part]);
         if !goes || added.is_err() {
             return Err(self.fail());
@@ -188,7 +196,10 @@ fn a_file_that_fails(rt: HostRuntime) -> Result<(), Fail> {
             assert!(rt; count as u64 == left, "{left} {part}");
             assert!(rt; file.faults == 2 - left, "{left} {part}");
             let (records, len) = reopened(rt.alloc(), &file.bytes)?;
-            assert!(rt; are_first(&records, count) || are_first(&records, count + 1), "{left} {part}");
+            assert!(rt;
+                are_first(&records, count) || are_first(&records, count + 1),
+                "{left} {part}"
+            );
             assert!(rt; ENDS.get(records.len()) == Some(&len), "{left} {part}");
         }
     }

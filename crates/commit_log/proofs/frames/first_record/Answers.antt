@@ -1,4 +1,4 @@
-use Rattle.std.proofs.Common.{◌≡◌, ◌<◌, ◌≤◌, take, drop, refl, length}
+use Rattle.std.proofs.Common.{refl}
 use Rattle.commit_log.proofs.Fronts.{no_length, no_checksum, too_long, too_short, no_match, whole_frame}
 use Rattle.commit_log.proofs.frames.first_record.Goals as goal
 
