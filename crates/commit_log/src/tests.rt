@@ -179,10 +179,10 @@ fn append_both(alloc: Global, left: u64, part: usize) -> Result<(usize, FakeFile
     let Ok(mut log) = FileLog::open(alloc, fake(alloc, b"TABLOG01", left, part)?) else {
         return Err(LogFault::Damaged);
     };
-    let mut count = 0;
+    let mut count: usize = 0;
     for record in RECORDS {
         if log.append(record).is_ok() {
-            count += 1;
+            count = count.saturating_add(1);
         }
     }
     Ok((count, log.into_file()))
@@ -197,7 +197,7 @@ fn a_file_that_fails(rt: HostRuntime) -> Result<(), Fail> {
             assert!(rt; file.faults == 2 - left, "{left} {part}");
             let (records, len) = reopened(rt.alloc(), &file.bytes)?;
             assert!(rt;
-                are_first(&records, count) || are_first(&records, count + 1),
+                are_first(&records, count) || are_first(&records, left as usize + 1),
                 "{left} {part}"
             );
             assert!(rt; ENDS.get(records.len()) == Some(&len), "{left} {part}");
