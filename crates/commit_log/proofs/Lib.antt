@@ -1,3 +1,4 @@
+mod Bits
 mod Cuts
 mod Fronts
 mod Holding

@@ -3,7 +3,7 @@ use Rattle.std.specs.Prelude.{◌≡◌, ◌≢◌, ℕ, ◌≤◌, List, ◌++�
 use Rattle.std.specs.Global.{Vec}
 use Rattle.std.specs.List.{AllByRecursion, flat_map}
 use Rattle.std.specs.Int.{to_be_bytes, w32}
-use Rattle.md5.specs.Md5.{md5}
+use Rattle.commit_log.specs.Crc32.{crc32}
 
 -- the most bytes of a record
 abbrev pub longest : ℕ
@@ -12,9 +12,17 @@ longest = 134217728
 abbrev pub IsRecord : List ℕ → Type 0
 IsRecord payload = length payload ≤ longest
 
--- a frame: the length of a record in four bytes, its checksum in sixteen, and its bytes
+-- the length of a record in four bytes
+abbrev pub spelled_length : List ℕ → List ℕ
+spelled_length payload = to_be_bytes w32 (length payload)
+
+-- the checksum of a record's length and bytes, in four bytes
+unfoldable pub checksum : List ℕ → List ℕ
+checksum payload = to_be_bytes w32 (crc32 (spelled_length payload ++ payload))
+
+-- a frame: the length of a record, the checksum, and the bytes
 unfoldable pub frame : List ℕ → List ℕ
-frame payload = to_be_bytes w32 (length payload) ++ (md5 payload ++ payload)
+frame payload = spelled_length payload ++ (checksum payload ++ payload)
 
 abbrev pub head : List ℕ
 head = codes "TABLOG01"

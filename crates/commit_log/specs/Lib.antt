@@ -1,3 +1,4 @@
+pub mod Crc32
 pub mod Faults
 pub mod Files
 pub mod Frames

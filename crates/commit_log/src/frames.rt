@@ -2,11 +2,10 @@
 
 ghost use Rattle.std.specs.Prelude.{◌≡◌, ◌≢◌, ◌+◌, ◌≤◌, ◌++◌, ◌↔◌, take, drop, length, IfOk, IfSome, IfNone, IsErrOf, IsTrue};
 ghost use Rattle.std.specs.Int.{from_be_bytes, to_be_bytes, w32};
-ghost use Rattle.md5.specs.Md5.{md5};
-ghost use Rattle.commit_log.specs.Frames.{IsLog, IsRecord, IsTail, bytes_of, frame, head};
+ghost use Rattle.commit_log.specs.Frames.{IsLog, IsRecord, IsTail, bytes_of, checksum, frame, head};
 
+use crate::crc32::crc32;
 use crate::faults::LogFault;
-use md5::{Digest, Md5};
 use std::alloc::{AllocError, Global};
 
 /// The most bytes of a record.
@@ -16,7 +15,7 @@ pub const LONGEST_RECORD: usize = 134_217_728;
 pub const HEAD: [u8; 8] = *b"TABLOG01";
 
 /// How many bytes of a frame stand before its record: a length and a checksum.
-const PREFIX: usize = 20;
+const PREFIX: usize = 8;
 
 /// The frame of a record.
 pub fn frame_of(alloc: Global, payload: &[u8]) -> Result<Vec<u8>, AllocError>
@@ -31,18 +30,21 @@ pub fn frame_of(alloc: Global, payload: &[u8]) -> Result<Vec<u8>, AllocError>
     Ok(bytes)
 }
 
-/// The checksum of a record.
-fn checksum_of(payload: &[u8]) -> [u8; 16]
-    ensures { result ≡ md5 payload.now }
+/// The checksum of a record. Its length is counted in.
+fn checksum_of(payload: &[u8]) -> [u8; 4]
+    requires { IsRecord payload.now }
+    ensures { result ≡ checksum payload.now }
 {
-    Md5::digest(payload)
+    let length = payload.len() as u32;
+    crc32(&length.to_be_bytes(), payload).to_be_bytes()
 }
 
 /// Whether bytes are the checksum of a record.
-fn is_checksum(payload: &[u8], checksum: [u8; 16]) -> bool
-    ensures { IsTrue result ↔ (md5 payload.now ≡ checksum) }
+fn is_checksum(payload: &[u8], found: [u8; 4]) -> bool
+    requires { IsRecord payload.now }
+    ensures { IsTrue result ↔ (checksum payload.now ≡ found) }
 {
-    checksum_of(payload) == checksum
+    checksum_of(payload) == found
 }
 
 /// The length that four bytes give.
@@ -57,14 +59,14 @@ fn length_in(bytes: [u8; 4]) -> u32
 pub fn first_record(bytes: &[u8]) -> Option<&[u8]>
     ensures found { IfSome result (λ payload. IsRecord payload.now) }
     ensures front { IfSome result (λ payload. bytes.now
-        ≡ frame payload.now ++ drop (20 + length payload.now) bytes.now) }
-    ensures within { IfSome result (λ payload. 20 + length payload.now ≤ length bytes.now) }
+        ≡ frame payload.now ++ drop (8 + length payload.now) bytes.now) }
+    ensures within { IfSome result (λ payload. 8 + length payload.now ≤ length bytes.now) }
     ensures none { IfNone result (IsTail bytes.now) }
 {
     let Some((length, after)) = bytes.split_first_chunk::<4>() else {
         return None;
     };
-    let Some((checksum, rest)) = after.split_first_chunk::<16>() else {
+    let Some((checksum, rest)) = after.split_first_chunk::<4>() else {
         return None;
     };
     let len = length_in(*length) as usize;

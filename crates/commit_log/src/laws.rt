@@ -1,8 +1,19 @@
 //! What holds of the bytes of all logs.
 
-ghost use Rattle.std.specs.Prelude.{◌≡◌, ◌≤◌, ◌⊎◌, ◌++◌, ◌∷◌, [], ℕ, List, take};
+ghost use Rattle.std.specs.Prelude.{◌≡◌, ◌≤◌, ◌⊎◌, ◌++◌, ◌∷◌, [], ℕ, List, codes, replicate, take};
 ghost use Rattle.std.specs.List.{AllByRecursion};
-ghost use Rattle.commit_log.specs.Frames.{IsLog, IsRecord, frame, log_of};
+ghost use Rattle.commit_log.specs.Crc32.{crc32};
+ghost use Rattle.commit_log.specs.Frames.{IsLog, IsRecord, IsTail, frame, log_of};
+
+/// The checksum has the check value of CRC-32, which tells it from others.
+pub fn check_value()
+    ensures { crc32 (codes "123456789") ≡ 0xCBF43926 }
+{}
+
+/// Zeros are not read as records.
+pub fn zeros_are_a_tail()
+    ensures { (n : ℕ) → IsTail (replicate n 0) }
+{}
 
 /// The bytes of a log are read in one way.
 pub fn one_reading()

@@ -3,24 +3,26 @@
 ghost use Rattle.std.specs.Prelude.{◌≡◌, ◌≤◌, None, true};
 ghost use Rattle.commit_log.specs.Faults.{HasRisen};
 
+use crate::crc32::crc32;
 use crate::faults::LogFault;
 use crate::file_log::FileLog;
 use crate::files::LogFile;
 use crate::folder::{make_log, open_log};
 use crate::frames::{frame_of, read_log};
 use crate::logs::Log;
+use crate::mem_file::MemFile;
 use crate::memory::MemLog;
 use std::alloc::Global;
 use std::test::Fail;
 use std::{fs, io, process};
 
 /// A log of the records `a` and `ab`.
-const TWO: [u8; 51] = *b"TABLOG01\
-\x00\x00\x00\x01\x0C\xC1\x75\xB9\xC0\xF1\xB6\xA8\x31\xC3\x99\xE2\x69\x77\x26\x61a\
-\x00\x00\x00\x02\x18\x7E\xF4\x43\x61\x22\xD1\xCC\x2F\x40\xDC\x2B\x92\xF0\xEB\xA0ab";
+const TWO: [u8; 27] = *b"TABLOG01\
+\x00\x00\x00\x01\xE5\x8C\x97\x92a\
+\x00\x00\x00\x02\x6D\x1C\x2F\x5Fab";
 
 /// Where the head, the first frame and the second end.
-const ENDS: [usize; 3] = [8, 29, 51];
+const ENDS: [usize; 3] = [8, 17, 27];
 
 /// The records of `TWO`.
 const RECORDS: [&[u8]; 2] = [b"a", b"ab"];
@@ -32,6 +34,14 @@ fn are_first(records: &[Vec<u8>], count: usize) -> bool {
             .iter()
             .zip(RECORDS)
             .all(|(found, wanted)| found.as_slice() == wanted)
+}
+
+#[test]
+fn the_check_value_of_the_checksum(rt: HostRuntime) -> Result<(), Fail> {
+    assert!(rt; crc32(b"", b"") == 0);
+    assert!(rt; crc32(b"123456789", b"") == 0xCBF4_3926);
+    assert!(rt; crc32(b"1234", b"56789") == 0xCBF4_3926);
+    Ok(())
 }
 
 #[test]
@@ -73,6 +83,22 @@ fn damaged_logs(rt: HostRuntime) -> Result<(), Fail> {
         let count = ENDS[1..].iter().filter(|end| **end <= at).count();
         assert!(rt; are_first(&read?.records, count), "at {at}");
     }
+    Ok(())
+}
+
+#[test]
+fn zeros_are_no_record(rt: HostRuntime) -> Result<(), Fail> {
+    for len in 0..40 {
+        let mut bytes = Vec::from_slice(rt.alloc(), TWO.as_slice())?;
+        bytes.resize(TWO.len() + len, 0)?;
+        let found = read_log(rt.alloc(), &bytes)?;
+        assert!(rt;
+            are_first(&found.records, 2) && found.end == TWO.len(),
+            "{len}"
+        );
+    }
+    let empty = frame_of(rt.alloc(), b"")?;
+    assert!(rt; empty.as_slice() == b"\x00\x00\x00\x00\x21\x44\xDF\x1C".as_slice());
     Ok(())
 }
 
@@ -155,7 +181,7 @@ impl LogFile for FakeFile {
     }
 }
 
-/// A file of these bytes that has so many calls left.
+/// A file of these bytes that has this many calls left.
 fn fake(alloc: Global, bytes: &[u8], left: u64, part: usize) -> Result<FakeFile, LogFault> {
     Ok(FakeFile {
         bytes: Vec::from_slice(alloc, bytes)?,
@@ -191,7 +217,7 @@ fn append_both(alloc: Global, left: u64, part: usize) -> Result<(usize, FakeFile
 #[test]
 fn a_file_that_fails(rt: HostRuntime) -> Result<(), Fail> {
     for left in 0..3 {
-        for part in 0..30 {
+        for part in 0..20 {
             let (count, file) = append_both(rt.alloc(), left, part)?;
             assert!(rt; count as u64 == left, "{left} {part}");
             assert!(rt; file.faults == 2 - left, "{left} {part}");
@@ -232,6 +258,19 @@ fn a_log_in_memory(rt: HostRuntime) -> Result<(), Fail> {
     Ok(())
 }
 
+#[test]
+fn a_file_in_memory(rt: HostRuntime) -> Result<(), Fail> {
+    let file = MemFile::new(Vec::from_slice(rt.alloc(), &TWO[..26])?);
+    let Ok(mut log) = FileLog::open(rt.alloc(), file) else {
+        return Err(Fail::from(LogFault::Device));
+    };
+    log.append(b"ab")?;
+    assert!(rt; are_first(&log.records()?, 2) && log.faults() == 0);
+    let bytes = log.into_file().read(rt.alloc())?;
+    assert!(rt; bytes.as_slice() == TWO.as_slice());
+    Ok(())
+}
+
 /// The log of a folder, which is there.
 fn records_in(rt: &HostRuntime, folder: &str) -> Result<Vec<Vec<u8>>, LogFault> {
     match open_log(rt, folder)? {
@@ -263,9 +302,9 @@ fn a_log_in_a_folder(rt: HostRuntime) -> Result<(), Fail> {
     }
     let file = format!(in rt.alloc(); "{path}/commit.log")?;
     assert!(rt; fs::read(&rt, file.as_str())?.as_slice() == TWO.as_slice());
-    fs::write(&rt, file.as_str(), &TWO[..50])?;
+    fs::write(&rt, file.as_str(), &TWO[..26])?;
     assert!(rt; are_first(&records_in(&rt, path)?, 1));
-    assert!(rt; fs::read(&rt, file.as_str())?.as_slice() == &TWO[..29]);
+    assert!(rt; fs::read(&rt, file.as_str())?.as_slice() == &TWO[..17]);
     fs::write(&rt, file.as_str(), b"TABLOG02")?;
     assert!(rt; matches!(records_in(&rt, path), Err(LogFault::Damaged)));
     fs::remove_dir_all(&rt, path)?;
