@@ -43,7 +43,7 @@ use Rattle.si_model.proofs.Tools.{eq_test, ne_test, get_same, get_other, get_rem
 use Rattle.clean_up.specs.Fates.{verdict_of}
 use Rattle.clean_up.specs.Locks.{IsStanding, LacksPlace, Stands}
 use Rattle.clean_up.specs.Refusals.{IsAdvanceRefusal}
-use Rattle.clean_up.specs.Shows.{Advances, AreShownOn, AreShownSame, Follows, KnowsItsLock, SameCleaners, ShowsAt, ShowsCleaner, ShowsCleaners, Steps, cleaner_of, is_last}
+use Rattle.clean_up.specs.Shows.{Advances, AreShownOn, AreShownSame, ChangesOne, Follows, KnowsItsLock, OpensOne, SameCleaners, ShowsAt, ShowsCleaner, ShowsCleaners, Steps, cleaner_of, is_last}
 use Rattle.clean_up.specs.Told.{BeginsWith, IsTold, TellsAt}
 use Rattle.clean_up.specs.declared.cleaner.Cleaner.{Cleaner}
 use Rattle.clean_up.specs.declared.cleaners.Cleaners.{Cleaners}
@@ -321,6 +321,25 @@ pub begins_with : (cells : Cells) (old new : Cleaners) (x y : Cell) (lock : Lock
     → ((q : ℕ) → btree.get nat_cmp new.cleaners q ≡ cond (is_eq (nat_cmp old.next q)) (Some (record { cell = x; lock = lock; fate = Open })) (btree.get nat_cmp old.cleaners q)) → BeginsWith cells y new (begin.Cleaner old.next t)
 begins_with cells old new x y lock t same start stands at = subst (λ (z : Cell). BeginsWith cells z new (begin.Cleaner old.next t)) same
     (lock, sym start, stands, upd_at (btree.get nat_cmp old.cleaners) (btree.get nat_cmp new.cleaners) old.next (Some (record { cell = x; lock = lock; fate = Open })) at)
+
+-- one cleaner changes alone, or none
+pub one_at : (old new : Cleaners) (i : ℕ) (o : Option Cleaner) → new.next ≡ old.next
+    → ((q : ℕ) → btree.get nat_cmp new.cleaners q ≡ cond (is_eq (nat_cmp i q)) o (btree.get nat_cmp old.cleaners q)) → ChangesOne i old new
+one_at old new i o next at = record { next = next; others = upd_off (btree.get nat_cmp old.cleaners) (btree.get nat_cmp new.cleaners) i o at }
+
+pub same_one : (old new : Cleaners) (i : ℕ) → SameCleaners old new → ChangesOne i old new
+same_one old new i same = record { next = same.next; others = λ j ne. same.each j }
+
+pub opens_one : (old new : Cleaners) (x y : Cell) (lock : Lock) (t : ℕ) → x ≡ y → t ≡ lock.start → new.next ≡ old.next + 1
+    → ((q : ℕ) → btree.get nat_cmp new.cleaners q ≡ cond (is_eq (nat_cmp old.next q)) (Some (record { cell = x; lock = lock; fate = Open })) (btree.get nat_cmp old.cleaners q)) → OpensOne y old.next t old new
+opens_one old new x y lock t same start next at = subst (λ (z : Cell). OpensOne z old.next t old new) same (record {
+  number = refl;
+  next = next;
+  lock = lock;
+  start = sym start;
+  kept = upd_at (btree.get nat_cmp old.cleaners) (btree.get nat_cmp new.cleaners) old.next (Some (record { cell = x; lock = lock; fate = Open })) at;
+  others = upd_off (btree.get nat_cmp old.cleaners) (btree.get nat_cmp new.cleaners) old.next (Some (record { cell = x; lock = lock; fate = Open })) at;
+})
 
 -- ---- what a read of the lock found
 

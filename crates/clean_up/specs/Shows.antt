@@ -1,5 +1,5 @@
 -- What it means that the cleaners show those of a state of the snapshot machine.
-use Rattle.std.specs.Prelude.{◌≡◌, ◌≢◌, ℕ, ◌≤◌, ◌⊎◌, Bool, true, false, cond, Option, Some, None}
+use Rattle.std.specs.Prelude.{◌≡◌, ◌≢◌, ℕ, ◌+◌, ◌≤◌, ◌⊎◌, Bool, true, false, cond, Option, Some, None}
 use Rattle.std.specs.Ordering.{nat_cmp}
 use Rattle.std.specs.BTreeMap as btree
 use Rattle.std.specs.FinMap as finmap
@@ -10,13 +10,17 @@ use Rattle.si_model.specs.Machine as machine
 use Rattle.si_model.specs.Machine.{State, Request, Reply, Step, IsReached, CommittedAt, end_of_stamps}
 use Rattle.si_model.specs.Replies.{clean_reply}
 use Rattle.si_model.specs.ShowsCells.{ShowsCells, TouchesOneRow}
+use Rattle.si_model.specs.declared.replies.Cell.{Cell}
 use Rattle.si_model.specs.declared.replies.CleanReply.{CleanReply}
 use Rattle.si_model.specs.declared.replies.CleanReply.TheVariants as clean
+use Rattle.si_model.specs.declared.replies.CleanStart.{CleanStart}
+use Rattle.si_model.specs.declared.replies.CleanStart.TheVariants as begin
 use Rattle.clean_up.specs.Fates.{verdict_of}
 use Rattle.clean_up.specs.declared.cleaner.Cleaner.{Cleaner}
 use Rattle.clean_up.specs.declared.cleaners.Cleaners.{Cleaners}
 use Rattle.clean_up.specs.declared.fates.Fate.{Fate}
 use Rattle.clean_up.specs.declared.fates.Fate.TheVariants.{Open, Forward, Back}
+use Rattle.clean_up.specs.declared.locks.Lock.{Lock}
 
 -- whether a cleaner has taken its first step
 abbrev pub is_decided : Fate → Bool
@@ -69,6 +73,25 @@ pub record SameCleaners (old new : Cleaners) : Type 0 where
   pub next : new.next ≡ old.next
   pub each : (i : ℕ) → btree.get nat_cmp new.cleaners i ≡ btree.get nat_cmp old.cleaners i
   pub count : btree.btree_map_len new.cleaners ≡ btree.btree_map_len old.cleaners
+
+-- no cleaner but the one with this number changes, and none begins
+pub record ChangesOne (i : ℕ) (old new : Cleaners) : Type 0 where
+  pub next : new.next ≡ old.next
+  pub others : (j : ℕ) → j ≢ i → btree.get nat_cmp new.cleaners j ≡ btree.get nat_cmp old.cleaners j
+
+-- a cleaner of x, for a lock of t, begins with the next number, and all others stay
+pub record OpensOne (x : Cell) (i t : ℕ) (old new : Cleaners) : Type 0 where
+  pub number : i ≡ old.next
+  pub next : new.next ≡ i + 1
+  pub lock : Lock
+  pub start : lock.start ≡ t
+  pub kept : btree.get nat_cmp new.cleaners i ≡ Some (record { cell = x; lock = lock; fate = Open })
+  pub others : (j : ℕ) → j ≢ i → btree.get nat_cmp new.cleaners j ≡ btree.get nat_cmp old.cleaners j
+
+-- one cleaner begins so, or all stay
+abbrev pub Opens : Cell → CleanStart → Cleaners → Cleaners → Type 0
+Opens x begin.NoLock old new = SameCleaners old new
+Opens x (begin.Cleaner i t) old new = OpensOne x i t old new
 
 -- no cleaner with this number is open
 abbrev pub IsUnopened : State → ℕ → Type 0

@@ -12,7 +12,7 @@ ghost use Rattle.si_model.specs.Replies.{clean_reply, clean_start_reply, result_
 ghost use Rattle.clean_up.specs.Locks.{LacksPlace};
 ghost use Rattle.clean_up.specs.Refusals.{IsBeginRefusal, IsStepRefusal};
 ghost use Rattle.clean_up.specs.Room.{ChangesNext, EditsOfStep, Makes, TakesRoom};
-ghost use Rattle.clean_up.specs.Shows.{InEachShown, IsUnopened, IsUsedUp, SameCleaners, ShowsCleaners, Steps, TouchesFor, is_last};
+ghost use Rattle.clean_up.specs.Shows.{ChangesOne, InEachShown, IsUnopened, IsUsedUp, Opens, SameCleaners, ShowsCleaners, Steps, TouchesFor, is_last};
 ghost use Rattle.clean_up.specs.Told.{BeginsWith, MeetsBadRecord, StepMakes};
 
 use crate::cleaner::Cleaner;
@@ -85,6 +85,9 @@ impl Cleaners {
         // The cleaner that is stored has the lock that stands on the cell, or none does.
         ensures found { R.seen.holds rows.old → IfOk result (BeginsWith
             (R.seen.cells rows.old) (cell_of row.now family.now) self.new) }
+        // One cleaner opens, or none, and all others stay, whatever the cells hold.
+        ensures opens { IfOk result (λ found.
+            Opens (cell_of row.now family.now) found self.old self.new) }
         ensures reads { OnlyReads R.seen rows.old rows.new }
         // What is shown is never answered as damaged.
         ensures undamaged { R.seen.holds rows.old
@@ -134,6 +137,8 @@ impl Cleaners {
         // The edits that the cleaner names are made, or nothing is changed, and what is answered is so.
         ensures accepted { IfOk result (λ reply.
             StepMakes R.seen number reply self.old self.new rows.old rows.new) }
+        // All other cleaners stay, whatever the cells hold.
+        ensures one { ChangesOne number self.old self.new }
         ensures same { OnErr result (OnlyReads R.seen rows.old rows.new) }
         ensures below { KeepsBelow R.seen rows.old rows.new }
         // One row changes, and what joins stands at the stamp of the commit whose mark goes.

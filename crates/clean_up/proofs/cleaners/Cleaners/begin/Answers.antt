@@ -10,7 +10,7 @@ use Rattle.clean_up.specs.Locks.{LacksPlace, Stands}
 use Rattle.clean_up.specs.Shows.{Steps}
 use Rattle.clean_up.specs.declared.cleaner.Cleaner.{Cleaner}
 use Rattle.cell_key.proofs.Passed.{as_err, passed_err, passed_none, same_refusal}
-use Rattle.clean_up.proofs.Table.{begins_with, full_at, is_full, is_room, name_refused_at, no_lacking, no_lock_at, opens_at, read_storage, refused_at, same_entries, same_itself, standing_none, standing_some}
+use Rattle.clean_up.proofs.Table.{begins_with, full_at, is_full, is_room, name_refused_at, no_lacking, no_lock_at, opens_at, opens_one, read_storage, refused_at, same_entries, same_itself, standing_none, standing_some}
 use Rattle.clean_up.proofs.cleaners.Cleaners.begin.Goals as goal
 
 no_damage : NoMemory ≢ Damaged
@@ -94,3 +94,20 @@ returns-clause-found g c = λ held.
     let stands = standing_some (g.R.Rows.seen.cells c.args.rows.now) c.in_ok-cell.cell c.in_ok-lock.field-0 c.in-Some.lock c.in-Some.is (c.in_ok-lock.ensures.found held) in
     begins_with (g.R.Rows.seen.cells c.args.rows.now) c.args.self.now (record c.args.self.now { next = c.args.self.now.next + 1; cleaners = c.insert.new.self }) c.in_ok-cell.cell (cell_of c.args.row.now c.args.family.now) c.in-Some.lock _
     c.in_ok-cell.ensures.ok c.stamp-start.ensures.stamp stands c.in_ok-insert.ensures.updates.0
+
+pub returns-in_err-cell-clause-opens : goal.returns-in_err-cell-clause-opens
+returns-in_err-cell-clause-opens g c = passed_none c.from_residual.result c.in_err-cell.field-0.0 _ c.from_residual.ensures.1
+
+pub returns-in_err-lock-clause-opens : goal.returns-in_err-lock-clause-opens
+returns-in_err-lock-clause-opens g c = passed_none c.from_residual-in_err-lock.result c.in_err-lock.field-0.0 _ c.from_residual-in_err-lock.ensures.1
+
+pub returns-in_default-clause-opens : goal.returns-in_default-clause-opens
+returns-in_default-clause-opens g c = same_itself c.args.self.now
+
+pub returns-in_err-insert-clause-opens : goal.returns-in_err-insert-clause-opens
+returns-in_err-insert-clause-opens g c = passed_none c.from_residual-in_err-insert.result NoMemory _ c.from_residual-in_err-insert.ensures.1
+
+pub returns-clause-opens : goal.returns-clause-opens
+returns-clause-opens g c =
+    opens_one c.args.self.now (record c.args.self.now { next = c.args.self.now.next + 1; cleaners = c.insert.new.self }) c.in_ok-cell.cell (cell_of c.args.row.now c.args.family.now) c.in-Some.lock _
+    c.in_ok-cell.ensures.ok c.stamp-start.ensures.stamp refl c.in_ok-insert.ensures.updates.0

@@ -7,7 +7,7 @@ use Rattle.si_model.specs.Machine as machine
 use Rattle.clean_up.specs.declared.cleaner.Cleaner.{Cleaner}
 use Rattle.clean_up.proofs.Room.{changes_shown, does_make, does_so, does_take, does_touch, no_bad_record, no_room_so, touches_shown}
 use Rattle.cell_key.proofs.Passed.{as_err, passed as passed_on, passed_err, passed_none, same_refusal}
-use Rattle.clean_up.proofs.Table.{advance_storage, refused_at, same_entries, same_lent, takes_at, told_at, twice, unknown_at, with_none}
+use Rattle.clean_up.proofs.Table.{advance_storage, one_at, refused_at, same_entries, same_one, same_lent, takes_at, told_at, twice, unknown_at, with_none}
 use Rattle.clean_up.proofs.cleaners.Cleaners.step.Goals as goal
 
 pub returns-in_default-clause-step : goal.returns-in_default-clause-step
@@ -122,3 +122,28 @@ returns-else-closes-clause-accepted g c =
       told = told_at g.R.Rows.seen c.args.self.now (record c.args.self.now { cleaners = c.get_mut.follows.lender w }) c.args.number c.in-Some.cleaner.now w c.in_ok-reply.reply c.args.rows.now c.advance.new.rows
           (sym c.in-Some.ensures.value) false (sym c.closes.ensures ∙ c.if-closes.false) (lent.3 there).0 c.in_ok-reply.ensures.told;
     }
+
+pub returns-in_default-clause-one : goal.returns-in_default-clause-one
+returns-in_default-clause-one g c =
+    let new = record c.args.self.now { cleaners = c.get_mut.follows.lender-at-none } in
+    same_one c.args.self.now new c.args.number (same_entries c.args.self.now new refl (ap (λ m. m.entries) c.get_mut.follows.holds-at-none))
+
+pub returns-in_err-reply-clause-one : goal.returns-in_err-reply-clause-one
+returns-in_err-reply-clause-one g c =
+    let there : IsSome (btree.get nat_cmp c.args.self.now.cleaners c.args.number) = subst (λ (o : Option Cleaner). IsSome o) c.in-Some.ensures.value refl in
+    let w = c.advance.new.self in
+    one_at c.args.self.now (record c.args.self.now { cleaners = c.get_mut.follows.lender w }) c.args.number (Some w) refl ((c.get_mut.follows.holds w).3 there).0
+
+pub returns-then-closes-clause-one : goal.returns-then-closes-clause-one
+returns-then-closes-clause-one g c =
+    let there : IsSome (btree.get nat_cmp c.args.self.now.cleaners c.args.number) = subst (λ (o : Option Cleaner). IsSome o) c.in-Some.ensures.value refl in
+    let w = c.advance.new.self in
+    let set = (c.get_mut.follows.holds w).3 there in
+    one_at c.args.self.now (record c.args.self.now { cleaners = c.remove.new.self }) c.args.number None refl
+    (λ q. c.remove.ensures.updates.0 q ∙ (ap (λ (o : Option Cleaner). cond (is_eq (nat_cmp c.args.number q)) None o) (set.0 q) ∙ twice (is_eq (nat_cmp c.args.number q)) None (Some w) (btree.get nat_cmp c.args.self.now.cleaners q)))
+
+pub returns-else-closes-clause-one : goal.returns-else-closes-clause-one
+returns-else-closes-clause-one g c =
+    let there : IsSome (btree.get nat_cmp c.args.self.now.cleaners c.args.number) = subst (λ (o : Option Cleaner). IsSome o) c.in-Some.ensures.value refl in
+    let w = c.advance.new.self in
+    one_at c.args.self.now (record c.args.self.now { cleaners = c.get_mut.follows.lender w }) c.args.number (Some w) refl ((c.get_mut.follows.holds w).3 there).0
