@@ -81,12 +81,13 @@ HasOneReason before now before' now' result =
 
 -- ---- a refused step of a session
 
--- It leaves the rows as they were, and the last stamp. The mark stays too, or it is the end of the
--- next range.
+-- It leaves the rows as they were, the last stamp and the range. The mark stays too, or it is the end
+-- of the next range.
 pub record StepLeaves {R M : Type 0} (seen : View R) (mark_of : M → Option ℕ) (old new : R)
     (oracle oracle' : OracleState M) : Type 0 where
   pub same : OnlyReads seen old new
   pub stays : oracle'.last ≡ oracle.last
+  pub range : oracle'.range_end ≡ oracle.range_end
   pub mark : MayHold (next_range_end oracle.range_end) (mark_of oracle.marks) (mark_of oracle'.marks)
 
 -- Why a step of t is refused in this state: no session that began at t is active, or it has no

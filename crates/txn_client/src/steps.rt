@@ -83,6 +83,7 @@ impl Session {
         ensures writes { self.new.writes ≡ self.old.writes }
         ensures err { OnErr result (self.new ≡ self.old) }
         ensures stays { OnErr result (oracle.new.last ≡ oracle.old.last) }
+        ensures range { OnErr result (oracle.new.range_end ≡ oracle.old.range_end) }
         ensures mark { OnErr result (MayHold (next_range_end oracle.old.range_end)
             (M.mark oracle.old.marks) (M.mark oracle.new.marks)) }
         ensures refusal { IfErr result IsDrawRefusal }

@@ -78,14 +78,14 @@ not_exhausted (Err e) H P h is = let same : e ≡ Exhausted = cc in subst (IsCel
 -- what a refused step on a cell leaves, which doesn't come to the oracle
 left_aside : {A R M : Type 0} (seen : View R) (mark_of : M → Option ℕ) (old new : R) (oracle : OracleState M) (r : Result A Refusal)
     → OnErr r (OnlyReads seen old new) → OnErr r (StepLeaves seen mark_of old new oracle oracle)
-left_aside seen mark_of old new oracle r = on_err_weaker r (λ same. record { same = same; stays = refl; mark = inl refl })
+left_aside seen mark_of old new oracle r = on_err_weaker r (λ same. record { same = same; stays = refl; range = refl; mark = inl refl })
 
 -- and a refused draw, which doesn't come to the rows
 left_undrawn : {A R M : Type 0} (seen : View R) (mark_of : M → Option ℕ) (rows : R) (old new : OracleState M) (r : Result A Refusal)
-    → OnErr r (new.last ≡ old.last) → OnErr r (MayHold (next_range_end old.range_end) (mark_of old.marks) (mark_of new.marks))
+    → OnErr r (new.last ≡ old.last) → OnErr r (new.range_end ≡ old.range_end) → OnErr r (MayHold (next_range_end old.range_end) (mark_of old.marks) (mark_of new.marks))
     → OnErr r (StepLeaves seen mark_of rows rows old new)
-left_undrawn seen mark_of rows old new (Ok x) stays mark = tt
-left_undrawn seen mark_of rows old new (Err e) stays mark = record { same = reads_none; stays = stays; mark = mark }
+left_undrawn seen mark_of rows old new (Ok x) stays range mark = tt
+left_undrawn seen mark_of rows old new (Err e) stays range mark = record { same = reads_none; stays = stays; range = range; mark = mark }
 
 pub hold_next-requires : goal.hold_next-requires
 hold_next-requires g c = inr (c.in-Open.is, refl)
@@ -140,7 +140,7 @@ returns-then-k-len g c =
       start = at.start;
       writes = at.writes;
       err = at.err;
-      refused = left_undrawn _ _ _ _ _ r at.stays at.mark;
+      refused = left_undrawn _ _ _ _ _ r at.stays at.range at.mark;
       does = IfOk-weaker r _ _ (λ o. stamped_does g.R.Rows.seen rows _ o.progress) at.stamped;
       refusal = draw_refused r _ _ at.refusal;
       empty = λ is. absurd (not_held_open _ _ is c.in-Holding.is);

@@ -304,7 +304,7 @@ pub returns-in_default-clause-accepted : goal.returns-in_default-clause-accepted
 returns-in_default-clause-accepted g c = tt
 
 pub returns-in_default-clause-refused : goal.returns-in_default-clause-refused
-returns-in_default-clause-refused g c = record { same = reads_none; stays = refl; mark = inl refl }
+returns-in_default-clause-refused g c = record { same = reads_none; stays = refl; range = refl; mark = inl refl }
 
 pub returns-in_default-clause-causes : goal.returns-in_default-clause-causes
 returns-in_default-clause-causes g c = λ st shown. record {
