@@ -75,7 +75,7 @@ module _ {F M : Type 0} (files : Files F) (store : MarkStore M) where
 
   told_mark : (request : Lent) (e : Refusal) (old new : Server F M) → KeepsOracle files.contents store.mark request (codec.Refused e) old new → IsSome (store.mark (marks_of old)) → IsSome (store.mark (marks_of new))
   told_mark lent.Begin e old new keeps told = told_left e old new keeps told
-  told_mark (lent.Step start) e old new keeps told = may_told _ _ _ keeps.1 told
+  told_mark (lent.Step start) e old new keeps told = may_told _ _ _ keeps.1.0 told
   told_mark lent.OracleRestart e old new keeps told = subst (λ (o : Option ℕ). IsSome o) (sym keeps.0) told
   told_mark request e old new keeps told = subst (λ (o : OracleState M). IsSome (store.mark o.marks)) (sym keeps) told
 

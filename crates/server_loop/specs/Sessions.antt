@@ -8,6 +8,7 @@ use Rattle.row_atomic.specs.Changes.{Holds}
 use Rattle.row_atomic.specs.Commands.{IsNoFuller, OverfillsCluster}
 use Rattle.si_model.specs.Collection.{Collects}
 use Rattle.si_model.specs.Machine.{IsReached, State}
+use Rattle.si_model.specs.Reads.{cell_of}
 use Rattle.si_model.specs.declared.replies.CollectReply.{CollectReply}
 use Rattle.oracle.specs.Marks.{MayHold}
 use Rattle.oracle.specs.Ranges.{IsDrawRefusal, SameNumbers, next_range_end}
@@ -28,13 +29,12 @@ use Rattle.clean_up.specs.Shows.{IsUnopened, SameCleaners}
 use Rattle.clean_up.specs.declared.cleaners.Cleaners.{Cleaners}
 use Rattle.version_collector.specs.Room.{TakesRoomOfVisits}
 use Rattle.version_collector.specs.Shows as open_collectors
-use Rattle.version_collector.specs.Shows.{ChangesOne, IsCount, IsEarlyRefusal, SameCollectors, StaysOpen, TellsAt, VisitsAt}
+use Rattle.version_collector.specs.Shows.{ChangesOne, IsCount, IsEarlyRefusal, Opens, SameCollectors, StaysOpen, TellsAt, VisitsAt}
 use Rattle.version_collector.specs.Visits.{Thins}
 use Rattle.version_collector.specs.declared.collectors.Collectors.{Collectors}
 
 -- What a collector's step for n visits made of the cells, and of its collector: visits, by the
--- rules of collection. All that sessions read, each lock and each fate stays. Keys of n rows go at
--- the most, and none joins.
+-- rules of collection. All that sessions read, each lock and each fate stays.
 pub record MakesVisits {F M : Type 0} (contents : F → Option Contents) (collector n : ℕ)
     (result : Result CollectReply Refusal)
     (old new : Server F M) (st : State) : Type 0 where
@@ -42,7 +42,13 @@ pub record MakesVisits {F M : Type 0} (contents : F → Option Contents) (collec
       → VisitsAt collector n result (server_cells contents old) old.collectors
       (server_cells contents new) new.collectors
   pub collects : Collects (server_cells contents old) (server_cells contents new) st
-  pub thins : Thins n (server_cells contents old) (server_cells contents new)
+
+-- keys of n rows go at the most, and none joins, if the files hold
+abbrev pub ThinsHeldCells : {F M : Type 0} → (F → Option Contents) → ℕ → Server F M → Server F M
+    → Type 0
+ThinsHeldCells contents n old new =
+    Holds contents (cluster_of old)
+    → Thins n (server_cells contents old) (server_cells contents new)
 
 -- files that hold keep the cells, though they are written anew
 abbrev pub KeepsHeldCells : {F M : Type 0} → (F → Option Contents) → Server F M → Server F M
@@ -58,7 +64,7 @@ ComesFirst refusal n = IsEarlyRefusal refusal ⊎ (n ≡ 1)
 -- that makes none: cells of one row at most, at the session's stamps. A collector's step makes
 -- visits, and what it answers is true: if all is Collected, each cell is tidy; if it is Blocked,
 -- the lock stands; and after More this much less is left. It alone may change cells and then be
--- refused, by its later visits. What writes files changes none if the files hold, and all else
+-- refused, by its later visits; whatever the cells show, it only erases. What writes files changes none if the files hold, and all else
 -- changes none, also where it is refused for what stands in the files.
 abbrev pub ChangesCells : {F M : Type 0} → (F → Option Contents) → Request → Reply → Server F M
     → Server F M → Type 0
@@ -73,12 +79,14 @@ ChangesCells contents (CleanStep cleaner) (codec.CleanStep done) old new =
     × clean_up.Makes (clean_up.ChangesNext st cleaner) done (server_cells contents old)
     (server_cells contents new)
 ChangesCells contents (CollectStep collector n) (codec.CollectStep done) old new =
-    (st : State) → IsReached st → Shows contents old st
+    ThinsHeldCells contents n old new
+    × ((st : State) → IsReached st → Shows contents old st
     → MakesVisits contents collector n (Ok done) old new st
     × TellsAt collector n done (server_cells contents old) old.collectors
-    (server_cells contents new) new.collectors st
+    (server_cells contents new) new.collectors st)
 ChangesCells contents (CollectStep collector n) (codec.Refused refusal) old new =
-    ((st : State) → IsReached st → Shows contents old st
+    ThinsHeldCells contents n old new
+    × ((st : State) → IsReached st → Shows contents old st
     → MakesVisits contents collector n (Err refusal) old new st)
     × (ComesFirst refusal n → server_cells contents new ≡ server_cells contents old)
 ChangesCells contents (Minor tablet) reply old new = KeepsHeldCells contents old new
@@ -157,19 +165,21 @@ KeepsSessions (Step start) (codec.Step progress) old new = ⊤
 KeepsSessions (Stop start) codec.Stop old new = ⊤
 KeepsSessions request reply old new = SameClients old new
 
--- A beginning, and a step that is done, change the cleaners as the machine's step says. All else
--- leaves them.
+-- A beginning, and a step that is done, change the cleaners as the machine's step says, each its own
+-- alone. All else leaves them.
 abbrev pub KeepsCleaners : Request → Reply → Cleaners → Cleaners → Type 0
-KeepsCleaners (CleanBegin row family) (codec.CleanBegin found) old new = ⊤
-KeepsCleaners (CleanStep cleaner) (codec.CleanStep reply) old new = ⊤
+KeepsCleaners (CleanBegin row family) (codec.CleanBegin found) old new =
+    open_cleaners.Opens (cell_of row.now family.now) found old new
+KeepsCleaners (CleanStep cleaner) (codec.CleanStep reply) old new =
+    open_cleaners.ChangesOne cleaner old new
 KeepsCleaners request reply old new = SameCleaners old new
 
--- A beginning, and a step, change the collectors as the machine's step says, and a step its own
--- collector alone. A refused step keeps the visits that it made, and its collector stays open, with
--- its floor. All else leaves the collectors, and so does a step that is refused before its visits,
--- or by its only one.
+-- A beginning, and a step, change the collectors as the machine's step says, each its own alone. A
+-- refused step keeps the visits that it made, and its collector stays open, with its floor. All else
+-- leaves the collectors, and so does a step that is refused before its visits, or by its only one.
 abbrev pub KeepsCollectors : Request → Reply → Collectors → Collectors → Type 0
-KeepsCollectors CollectBegin (codec.CollectBegin collector floor) old new = ⊤
+KeepsCollectors CollectBegin (codec.CollectBegin collector floor) old new =
+    Opens floor collector old new
 KeepsCollectors (CollectStep collector n) reply old new =
     ChangesOne collector old new
     × IfRefused (λ refusal. StaysOpen collector old new
@@ -189,14 +199,14 @@ LeavesOracle mark Device old new = LeavesMark mark old new × SameNumbers old.or
 LeavesOracle mark refusal old new = new.oracle ≡ old.oracle
 
 -- Only a begin, a step that comes to draw a stamp, and a restart use the oracle. A restart leaves
--- the mark, and if it is refused, the last stamp and the range.
+-- the mark. If it or a step is refused, the last stamp and the range stay.
 abbrev pub KeepsOracle : {F M : Type 0} → (F → Option Contents) → (M → Option ℕ) → Request → Reply
     → Server F M → Server F M → Type 0
 KeepsOracle contents mark Begin reply old new =
     IfRefused (λ refusal. LeavesOracle mark refusal old new) (replied reply)
 KeepsOracle contents mark (Step start) reply old new =
     ((st : State) → Shows contents old st → ¬ IsAboutToDraw st start → new.oracle ≡ old.oracle)
-    × IfRefused (λ _. LeavesMark mark old new) (replied reply)
+    × IfRefused (λ _. LeavesMark mark old new × SameNumbers old.oracle new.oracle) (replied reply)
 KeepsOracle contents mark OracleRestart reply old new =
     (mark (marks_of new) ≡ mark (marks_of old))
     × IfRefused (λ _. SameNumbers old.oracle new.oracle) (replied reply)

@@ -5,4 +5,5 @@ pub mod PassedRefusals
 pub mod Room
 pub mod Starts
 pub mod Table
+pub mod Thinned
 pub mod VisitedCells

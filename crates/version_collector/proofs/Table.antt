@@ -34,7 +34,7 @@ use Rattle.si_model.proofs.Numbers.{reached_numbers}
 use Rattle.si_model.proofs.ShownKept.{shows_beside}
 use Rattle.si_model.proofs.Tools.{eq_test, ne_test, get_same, get_other, get_removed, get_remains}
 use Rattle.version_collector.specs.Refusals.{IsVisitRefusal}
-use Rattle.version_collector.specs.Shows.{AreShownOn, Begins, ChangesOne, IsCount, SameCollectors, ShowsAt, ShowsCollector, ShowsCollectors, StepLeaves, Steps, TellsAt, VisitsAt, is_last, kept_after, kept_at}
+use Rattle.version_collector.specs.Shows.{AreShownOn, Begins, ChangesOne, IsCount, Opens, SameCollectors, ShowsAt, ShowsCollector, ShowsCollectors, StepLeaves, Steps, TellsAt, VisitsAt, is_last, kept_after, kept_at}
 use Rattle.version_collector.specs.Visits.{HasVisited, IsTold, WhereCome, pass_of, position_of}
 use Rattle.version_collector.specs.declared.collector.Collector.{Collector}
 use Rattle.version_collector.specs.declared.collector.Pass.TheVariants.{First}
@@ -255,6 +255,15 @@ module _ (old new : Collectors) (floor : ℕ) (room : btree.btree_map_len old.co
         count = finmap.len-insert nat_cmp_total st.collectors st.next_collector floor ∙ (ap (λ o. cond (is_some o) (finmap.len st.collectors) (finmap.len st.collectors + 1)) (fresh st reached)
             ∙ (ap (λ (n : ℕ). n + 1) shown.count ∙ sym (len ∙ ap (λ (o : Option Collector). btree.btree_map_len old.collectors + (if is_some o then 0 else 1)) (ap (kept_at old) shown.next ∙ unused cells old st reached shown))));
       }
+
+  pub opens_one : Opens floor old.next old new
+  opens_one = record {
+    number = refl;
+    next = next;
+    greatest = greatest;
+    kept = upd_at (kept_at old) (kept_at new) old.next (Some collector) at;
+    others = upd_off (kept_at old) (kept_at new) old.next (Some collector) at;
+  }
 
 -- a refused begin leaves what it found
 pub begin_refused : (old new : Collectors) (e : Refusal) → SameCollectors old new → IsStorageRefusal e

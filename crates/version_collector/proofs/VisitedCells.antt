@@ -131,10 +131,16 @@ each_key cells cells' st collects k = by_column k.qualifier (record { row = k.ro
     by_column Lock x s = inl (collects.locks x s)
     by_column Write x s = elim (collects.records x s) [ inl same ↦ inl same | inr left ↦ inr left.0 ]
 
+-- each lock stands as it was
+each_lock : (cells cells' : Cells) (st : State) → Collects cells cells' st → (k : CellKey) → k.qualifier ≡ Lock → get cells' k ≡ get cells k
+each_lock cells cells' st collects k is =
+    let x : Cell = record { row = k.row; family = k.family } in
+    subst (λ (q : Qualifier). at cells' x q k.stamp ≡ at cells x q k.stamp) (sym is) (collects.locks x k.stamp)
+
 -- ---- rows whose keys change
 
 pub thins_none : (n : ℕ) (cells : Cells) → Thins n cells cells
-thins_none n cells = record { rows = []; few = omega arith; others = λ k out. refl; fewer = λ k. inl refl }
+thins_none n cells = record { rows = []; few = omega arith; others = λ k out. refl; fewer = λ k. inl refl; locks = λ k is. refl }
 
 thins_row : (cells cells' : Cells) (st : State) (x : Cell) → Collects cells cells' st → ((k : CellKey) → k.row ≢ x.row → get cells' k ≡ get cells k) → Thins 1 cells cells'
 thins_row cells cells' st x collects off = record {
@@ -142,6 +148,7 @@ thins_row cells cells' st x collects off = record {
   few = omega arith;
   others = λ k out. off k (λ e. out (subst (λ (r : List ℕ). r ∈ (x.row ∷ [])) (sym e) here));
   fewer = each_key cells cells' st collects;
+  locks = each_lock cells cells' st collects;
 }
 
 in_first : {A : Type 0} (r : A) (xs ys : List A) → r ∈ xs → r ∈ (xs ++ ys)
@@ -166,7 +173,11 @@ thins_then m n a b c first second = record {
     | inl same ↦ elim (first.fewer k) [ inl again ↦ inl (same ∙ again) | inr gone ↦ inr (same ∙ gone) ]
     | inr gone ↦ inr gone
   ];
+  locks = λ k is. second.locks k is ∙ first.locks k is;
 }
+
+pub thins_few : (m n : ℕ) (a b : Cells) → m ≤ n → Thins m a b → Thins n a b
+thins_few m n a b le p = record { rows = p.rows; few = let few = p.few in omega arith; others = p.others; fewer = p.fewer; locks = p.locks }
 
 -- ---- one visit
 
@@ -279,7 +290,7 @@ module _ (st : State) (reached : IsReached st) where
   leaves_few : (m n : ℕ) (a : Cells) (c : Collector) (b : Cells) (d : Collector) → m ≤ n → VisitsLeave m a c b d st → VisitsLeave n a c b d st
   leaves_few m n a c b d le l = record {
     collects = l.collects;
-    thins = let f = l.thins.few in record { rows = l.thins.rows; few = omega arith; others = l.thins.others; fewer = l.thins.fewer };
+    thins = let f = l.thins.few in record { rows = l.thins.rows; few = omega arith; others = l.thins.others; fewer = l.thins.fewer; locks = l.thins.locks };
     floor = l.floor;
     come = l.come;
   }

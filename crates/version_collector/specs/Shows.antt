@@ -1,5 +1,5 @@
 -- What it means that the collectors show those of a state of the snapshot machine.
-use Rattle.std.specs.Prelude.{◌≡◌, ◌≢◌, ⊤, ℕ, ◌≤◌, Bool, true, false, Option, Some, None, Result, Ok}
+use Rattle.std.specs.Prelude.{◌≡◌, ◌≢◌, ⊤, ℕ, ◌+◌, ◌≤◌, max, Bool, true, false, Option, Some, None, Result, Ok}
 use Rattle.std.specs.Ordering.{nat_cmp}
 use Rattle.std.specs.BTreeMap as btree
 use Rattle.std.specs.FinMap as finmap
@@ -15,6 +15,7 @@ use Rattle.si_model.specs.declared.replies.CollectReply.{CollectReply}
 use Rattle.si_model.specs.declared.replies.CollectReply.TheVariants.{Collected}
 use Rattle.version_collector.specs.Visits.{Comes, HasVisited, IsTold}
 use Rattle.version_collector.specs.declared.collector.Collector.{Collector}
+use Rattle.version_collector.specs.declared.collector.Pass.TheVariants.{First}
 use Rattle.version_collector.specs.declared.collectors.Collectors.{Collectors}
 
 -- the collector with this number is this one, and has come as far as it says
@@ -82,6 +83,14 @@ TellsAt i n reply cells old cells' new st =
 pub record ChangesOne (i : ℕ) (old new : Collectors) : Type 0 where
   pub next : new.next ≡ old.next
   pub floor : new.greatest_floor ≡ old.greatest_floor
+  pub others : (j : ℕ) → j ≢ i → kept_at new j ≡ kept_at old j
+
+-- a collector begins with this floor and the next number, and all others stay
+pub record Opens (floor i : ℕ) (old new : Collectors) : Type 0 where
+  pub number : i ≡ old.next
+  pub next : new.next ≡ i + 1
+  pub greatest : new.greatest_floor ≡ max old.greatest_floor floor
+  pub kept : kept_at new i ≡ Some (record { floor = floor; pass = First; after = None })
   pub others : (j : ℕ) → j ≢ i → kept_at new j ≡ kept_at old j
 
 -- whether a reply closes the collector

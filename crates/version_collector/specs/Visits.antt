@@ -111,12 +111,13 @@ WhereCome st cells c IsSo =
 abbrev pub left_by : Cells → Collector → ℕ
 left_by cells c = left_of cells (pass_of c.pass) (position_of c.after)
 
--- keys of at most n rows change, and each that does is gone
+-- keys of at most n rows change, none of a lock, and each that does is gone
 pub record Thins (n : ℕ) (cells cells' : Cells) : Type 0 where
   pub rows : List (List ℕ)
   pub few : length rows ≤ n
   pub others : (k : CellKey) → ¬ (k.row ∈ rows) → get cells' k ≡ get cells k
   pub fewer : (k : CellKey) → (get cells' k ≡ get cells k) ⊎ (get cells' k ≡ None)
+  pub locks : (k : CellKey) → k.qualifier ≡ column.Lock → get cells' k ≡ get cells k
 
 -- What is told is so. After More at least n less is left. Where it is Blocked a lock below the
 -- floor stands on the cell. Where all is Collected no mark stands below the floor, and each cell is

@@ -13,7 +13,7 @@ ghost use Rattle.version_collector.specs.Locks.{IsLowLock};
 ghost use Rattle.version_collector.specs.Refusals.{IsVisitRefusal};
 ghost use Rattle.version_collector.specs.Room.{AreOfVisitsIn, TakesRoomOfVisits};
 ghost use Rattle.version_collector.specs.Versions.{AreShown};
-ghost use Rattle.version_collector.specs.Visits.{HasVisited, Visits, WhereCome, position_of};
+ghost use Rattle.version_collector.specs.Visits.{HasVisited, Thins, Visits, WhereCome, position_of};
 
 use crate::erasing::erase_old;
 use cell_key::{Family, Qualifier, Refusal, Row, Stamp};
@@ -128,6 +128,8 @@ impl Collector {
             → IfOk result (λ reply.
             Visits (R.seen.cells rows.old) self.old reply (R.seen.cells rows.new) self.new) }
         ensures floor { self.new.floor ≡ self.old.floor }
+        ensures thins { R.seen.holds rows.old
+            → Thins 1 (R.seen.cells rows.old) (R.seen.cells rows.new) }
         ensures below { KeepsBelow R.seen rows.old rows.new }
         ensures room { TakesRoomOfVisits R.seen.overfills 1 rows.old rows.new }
         ensures err { OnErr result (self.new ≡ self.old) }
@@ -163,6 +165,8 @@ impl Collector {
             → IfOk result (λ reply.
             Visits (R.seen.cells rows.old) self.old reply (R.seen.cells rows.new) self.new) }
         ensures floor { self.new.floor ≡ self.old.floor }
+        ensures thins { R.seen.holds rows.old
+            → Thins 1 (R.seen.cells rows.old) (R.seen.cells rows.new) }
         ensures below { KeepsBelow R.seen rows.old rows.new }
         ensures room { TakesRoomOfVisits R.seen.overfills 1 rows.old rows.new }
         ensures err { OnErr result (self.new ≡ self.old) }
@@ -203,6 +207,8 @@ impl Collector {
         // A first visit that is refused changes nothing.
         ensures first { visits ≡ 1
             → OnErr result ((self.new ≡ self.old) × OnlyReads R.seen rows.old rows.new) }
+        ensures thins { R.seen.holds rows.old
+            → Thins visits (R.seen.cells rows.old) (R.seen.cells rows.new) }
         ensures below { KeepsBelow R.seen rows.old rows.new }
         ensures room { TakesRoomOfVisits R.seen.overfills visits rows.old rows.new }
         ensures refusal { IfErr result IsVisitRefusal }

@@ -12,7 +12,7 @@ ghost use Rattle.si_model.specs.Replies.{collect_reply, result_reply};
 ghost use Rattle.si_model.specs.ShowsCells.{ShowsCells};
 ghost use Rattle.version_collector.specs.Refusals.{IsBeginRefusal, IsStepRefusal};
 ghost use Rattle.version_collector.specs.Room.{AreOfVisitsIn, TakesRoomOfVisits};
-ghost use Rattle.version_collector.specs.Shows.{Begins, ChangesOne, InEachShown, IsCount, IsEarlyRefusal, IsUnopened, IsUsedUp, SameCollectors, ShowsCollectors, StepLeaves, Steps, TellsAt, VisitsAt, is_last};
+ghost use Rattle.version_collector.specs.Shows.{Begins, ChangesOne, InEachShown, IsCount, IsEarlyRefusal, IsUnopened, IsUsedUp, Opens, SameCollectors, ShowsCollectors, StepLeaves, Steps, TellsAt, VisitsAt, is_last};
 ghost use Rattle.version_collector.specs.Visits.{Thins};
 ghost use Rattle.si_model.specs.Collection.{Collects};
 
@@ -92,6 +92,8 @@ impl Collectors {
             → IsFloor st floor
             → Begins cells self.new
             (result_reply (λ number. machine.Collecting number floor) result) st }
+        // One collector opens, and all others stay, whatever the cells hold.
+        ensures opens { IfOk result (λ number. Opens floor number self.old self.new) }
         ensures refusal { IfErr result IsBeginRefusal }
         ensures err { OnErr result (SameCollectors self.old self.new) }
         ensures exhausted { IsErrOf result Refusal.Exhausted
@@ -139,11 +141,13 @@ impl Collectors {
             → InEachShown (R.seen.cells rows.old) self.old (λ st.
             VisitsAt number visits result (R.seen.cells rows.old) self.old (R.seen.cells rows.new)
             self.new) }
-        // All that sessions read, each lock and each fate stays. Keys of at most this many rows go, and none is added.
+        // All that sessions read, each lock and each fate stays.
         ensures leaves { R.seen.holds rows.old
             → InEachShown (R.seen.cells rows.old) self.old (λ st.
-            Collects (R.seen.cells rows.old) (R.seen.cells rows.new) st
-            × Thins visits (R.seen.cells rows.old) (R.seen.cells rows.new)) }
+            Collects (R.seen.cells rows.old) (R.seen.cells rows.new) st) }
+        // Keys of at most this many rows go, none of a lock, and none is added, whatever the cells hold.
+        ensures thins { R.seen.holds rows.old
+            → Thins visits (R.seen.cells rows.old) (R.seen.cells rows.new) }
         // Collected: each cell is tidy. More: so much less is left. Blocked: a lock below the floor stands there.
         ensures told { R.seen.holds rows.old
             → IfOk result (λ reply. InEachShown (R.seen.cells rows.old) self.old (λ st.

@@ -10,7 +10,7 @@ returns-in-Ok g c = let told = c.in-Ok.ensures in record {
   step = record { step = cleans_as _ _ _ _ _ tt refl refl refl refl (λ st reached shown. unchanged_if _ _ st (told.reads.kept)) told.step told.reads.still told.reads.stays (λ held st reached cells cleaners. started_undamaged c.in-Ok.found); refusal = started_told IsBeginRefusal c.in-Ok.found; limits = tt };
   stamps = record { last = started_stays c.in-Ok.found _; restarted = tt; exhausted = λ is. absurd (not_done _ _ tt is) };
   edits = record { changes = told.reads.kept; room = told.reads.room };
-  sessions = record { told = λ st shown. tt; sessions = record { top = refl; each = λ t. refl }; cleaners = tt; collectors = record { next = refl; floor = refl; each = λ i. refl; count = refl }; oracle = refl };
+  sessions = record { told = λ st shown. tt; sessions = record { top = refl; each = λ t. refl }; cleaners = told.opens; collectors = record { next = refl; floor = refl; each = λ i. refl; count = refl }; oracle = refl };
   tablets = told.reads.stays;
   causes = record { device = λ is. absurd (not_done _ _ tt is); told = λ _. record { files = told.reason.told (ok_not _ _); marks = refl }; full = λ _. tt };
   tending = refl;

@@ -10,7 +10,7 @@ returns-in-Ok g c = let told = c.in-Ok.ensures in record {
   step = record { step = cleans_as _ _ _ _ _ tt refl refl refl refl (λ st reached shown. clean_changes _ _ st _ _ (told.made shown.in_order st reached shown.shows.store shown.cleaners)) told.step told.below.still told.below.stays (λ held st reached cells cleaners. cleaned_undamaged c.in-Ok.done); refusal = cleaned_told IsStepRefusal c.in-Ok.done; limits = tt };
   stamps = record { last = cleaned_stays c.in-Ok.done _; restarted = tt; exhausted = λ is. absurd (not_done _ _ tt is) };
   edits = record { changes = λ st reached shown. (told.touched shown.in_order st reached shown.shows.store shown.cleaners, told.made shown.in_order st reached shown.shows.store shown.cleaners); room = λ st reached shown. told.room shown.in_order st reached shown.shows.store shown.cleaners };
-  sessions = record { told = λ st shown gone. absurd (ok_not _ _ (told.unknown st shown.cleaners gone)); sessions = record { top = refl; each = λ t. refl }; cleaners = tt; collectors = record { next = refl; floor = refl; each = λ i. refl; count = refl }; oracle = refl };
+  sessions = record { told = λ st shown gone. absurd (ok_not _ _ (told.unknown st shown.cleaners gone)); sessions = record { top = refl; each = λ t. refl }; cleaners = told.one; collectors = record { next = refl; floor = refl; each = λ i. refl; count = refl }; oracle = refl };
   tablets = told.below.stays;
   causes = record { device = λ is. absurd (not_done _ _ tt is); told = λ _. record { files = told.reason.told (ok_not _ _); marks = refl }; full = λ is. absurd (not_done _ _ tt is) };
   tending = refl;

@@ -9,7 +9,7 @@ returns-in-Ok g c = let told = c.in-Ok.ensures in record {
   step = record { step = collects_as _ _ _ _ _ tt refl refl refl refl (λ st reached shown. told.step _ st reached shown.shows.store shown.collectors (c.floor-floor.ensures st reached shown.shows.sessions)) (λ h. h) refl (λ st reached shown. begun_undamaged _ _); refusal = tt; limits = tt };
   stamps = record { last = refl; restarted = tt; exhausted = λ is. absurd (not_done _ _ tt is) };
   edits = record { changes = refl; room = λ row edits over. over };
-  sessions = record { told = λ st shown. tt; sessions = record { top = refl; each = λ t. refl }; cleaners = record { next = refl; each = λ i. refl; count = refl }; collectors = tt; oracle = refl };
+  sessions = record { told = λ st shown. tt; sessions = record { top = refl; each = λ t. refl }; cleaners = record { next = refl; each = λ i. refl; count = refl }; collectors = told.opens; oracle = refl };
   tablets = refl;
   causes = record { device = λ is. absurd (not_done _ _ tt is); told = λ _. record { files = refl; marks = refl }; full = λ _. tt };
   tending = refl;

@@ -10,13 +10,15 @@ returns-in-Ok g c = let told = c.in-Ok.ensures in rw c.collected.ensures.reply (
   step = record { step = collects_as _ _ _ _ _ tt refl refl refl refl (λ st reached shown. told.step shown.in_order st reached shown.shows.store shown.collectors) told.below.still told.below.stays (λ st reached shown. collected_undamaged c.in-Ok.done); refusal = collected_told IsStepRefusal c.in-Ok.done; limits = subst KeepsToLimits c.collected.ensures.reply c.collected.ensures.limits };
   stamps = record { last = collected_stays c.in-Ok.done _; restarted = tt; exhausted = λ _. tt };
   edits = record {
-    changes = λ st reached shown. (
-      record {
-        visits = λ count. told.visited shown.in_order count st reached shown.shows.store shown.collectors;
-        collects = (told.leaves shown.in_order st reached shown.shows.store shown.collectors).0;
-        thins = (told.leaves shown.in_order st reached shown.shows.store shown.collectors).1;
-      },
-      told.told shown.in_order st reached shown.shows.store shown.collectors,
+    changes = (
+      told.thins,
+      λ st reached shown. (
+        record {
+          visits = λ count. told.visited shown.in_order count st reached shown.shows.store shown.collectors;
+          collects = told.leaves shown.in_order st reached shown.shows.store shown.collectors;
+        },
+        told.told shown.in_order st reached shown.shows.store shown.collectors,
+      ),
     );
     room = told.room;
   };
@@ -32,10 +34,10 @@ returns-in-Err g c = let told = c.in-Err.ensures in record {
   stamps = record { last = refl; restarted = tt; exhausted = λ _. tt };
   edits = record {
     changes = (
+      told.thins,
       λ st reached shown. record {
         visits = λ count. told.visited shown.in_order count st reached shown.shows.store shown.collectors;
-        collects = (told.leaves shown.in_order st reached shown.shows.store shown.collectors).0;
-        thins = (told.leaves shown.in_order st reached shown.shows.store shown.collectors).1;
+        collects = told.leaves shown.in_order st reached shown.shows.store shown.collectors;
       },
       λ first. elim first [
         | inl early ↦ same_cells g.F.Files.contents _ _ (told.early early).1

@@ -21,7 +21,7 @@ returns-in-Err g c = let told = c.in-Err.ensures in record {
   step = record { step = steps_as _ _ _ _ _ tt refl refl refl (λ st reached shown. unchanged_if _ _ st (told.refused.same.kept)) told.step told.below.still told.below.stays (λ st reached held shown. err_undamaged _ _ refl (told.undamaged held)); refusal = told.refusal; limits = tt };
   stamps = record { last = told.refused.stays; restarted = tt; exhausted = λ same. let none = told.no_stamp (as_err _ _ _ refl same) in (none.exhausted, λ st shown. none.draw_only st shown.shows.sessions) };
   edits = record { changes = told.refused.same.kept; room = told.refused.same.room };
-  sessions = record { told = λ st shown. (λ gone. as_refused _ _ _ refl ((told.causes st shown.shows.sessions).unknown gone), λ empty. as_refused _ _ _ refl ((told.causes st shown.shows.sessions).empty empty), λ about. (told.causes st shown.shows.sessions).drawing about); sessions = told.err; cleaners = record { next = refl; each = λ i. refl; count = refl }; collectors = record { next = refl; floor = refl; each = λ i. refl; count = refl }; oracle = (λ st shown. told.aside st shown.shows.sessions, told.refused.mark) };
+  sessions = record { told = λ st shown. (λ gone. as_refused _ _ _ refl ((told.causes st shown.shows.sessions).unknown gone), λ empty. as_refused _ _ _ refl ((told.causes st shown.shows.sessions).empty empty), λ about. (told.causes st shown.shows.sessions).drawing about); sessions = told.err; cleaners = record { next = refl; each = λ i. refl; count = refl }; collectors = record { next = refl; floor = refl; each = λ i. refl; count = refl }; oracle = (λ st shown. told.aside st shown.shows.sessions, (told.refused.mark, record { last = told.refused.stays; range_end = told.refused.range })) };
   tablets = told.below.stays;
   causes = record { device = λ same. one_rose told.reason (as_err _ _ _ refl same); told = λ none. record { files = first_stays told.reason (λ is. none (as_refused _ _ _ refl is)); marks = second_stays told.reason (λ is. none (as_refused _ _ _ refl is)) }; full = λ same. (told.full (as_err _ _ _ refl same), λ st reached shown. told.full_shown shown.in_order (as_err _ _ _ refl same) st reached shown.shows.store shown.shows.sessions) };
   tending = refl;

@@ -7,7 +7,7 @@ use Rattle.version_collector.specs.Visits.{Visits, none, then}
 use Rattle.version_collector.proofs.Room.{no_room_then, room_few, room_same, room_then}
 use Rattle.row_atomic.specs.Calls.{OnlyReads, View}
 use Rattle.cell_key.proofs.Passed.{as_err, passed as passed_on}
-use Rattle.version_collector.proofs.VisitedCells.{still_shown}
+use Rattle.version_collector.proofs.VisitedCells.{still_shown, thins_few, thins_none, thins_then}
 use Rattle.version_collector.proofs.collector.Collector.advance.Goals as goal
 
 one_more : (k n : ℕ) → k < n → k + 1 ≤ n
@@ -28,6 +28,7 @@ loop-init g c = record {
   floor = refl;
   none = λ is. (refl, refl);
   below = record { still = λ held. held; stays = refl };
+  thins = λ held. thins_none 0 (g.R.Rows.seen.cells c.args.rows.now);
   room = room_same g.R.Rows.seen.overfills 0 c.args.rows.now;
   faults = refl;
 }
@@ -86,6 +87,24 @@ returns-in-Collected-clause-room g c =
     room_few g.R.Rows.seen.overfills (c.loop.counter + 1) c.args.visits c.args.rows.now c.visit.new.rows (one_more c.loop.counter c.args.visits c.loop-test.true)
     (room_then g.R.Rows.seen.overfills c.loop.counter 1 c.args.rows.now c.loop.rows c.visit.new.rows c.loop.invariant.room c.in_ok-visit.ensures.room)
 
+pub returns-in_err-visit-clause-thins : goal.returns-in_err-visit-clause-thins
+returns-in_err-visit-clause-thins g c = λ held.
+    let before = c.loop.invariant in
+    thins_few (c.loop.counter + 1) c.args.visits (g.R.Rows.seen.cells c.args.rows.now) (g.R.Rows.seen.cells c.visit.new.rows) (one_more c.loop.counter c.args.visits c.loop-test.true)
+    (thins_then c.loop.counter 1 (g.R.Rows.seen.cells c.args.rows.now) (g.R.Rows.seen.cells c.loop.rows) (g.R.Rows.seen.cells c.visit.new.rows) (before.thins held) (c.in_err-visit.ensures.thins (before.below.still held)))
+
+pub returns-in-Blocked-clause-thins : goal.returns-in-Blocked-clause-thins
+returns-in-Blocked-clause-thins g c = λ held.
+    let before = c.loop.invariant in
+    thins_few (c.loop.counter + 1) c.args.visits (g.R.Rows.seen.cells c.args.rows.now) (g.R.Rows.seen.cells c.visit.new.rows) (one_more c.loop.counter c.args.visits c.loop-test.true)
+    (thins_then c.loop.counter 1 (g.R.Rows.seen.cells c.args.rows.now) (g.R.Rows.seen.cells c.loop.rows) (g.R.Rows.seen.cells c.visit.new.rows) (before.thins held) (c.in_ok-visit.ensures.thins (before.below.still held)))
+
+pub returns-in-Collected-clause-thins : goal.returns-in-Collected-clause-thins
+returns-in-Collected-clause-thins g c = λ held.
+    let before = c.loop.invariant in
+    thins_few (c.loop.counter + 1) c.args.visits (g.R.Rows.seen.cells c.args.rows.now) (g.R.Rows.seen.cells c.visit.new.rows) (one_more c.loop.counter c.args.visits c.loop-test.true)
+    (thins_then c.loop.counter 1 (g.R.Rows.seen.cells c.args.rows.now) (g.R.Rows.seen.cells c.loop.rows) (g.R.Rows.seen.cells c.visit.new.rows) (before.thins held) (c.in_ok-visit.ensures.thins (before.below.still held)))
+
 pub loop-preserved : goal.loop-preserved
 loop-preserved g c =
     let before = c.loop.invariant in
@@ -98,6 +117,7 @@ loop-preserved g c =
       floor = now.floor ∙ before.floor;
       none = λ is. absurd (no_more c.loop.counter is);
       below = keeps_then before.below now.below;
+      thins = λ held. thins_then c.loop.counter 1 (g.R.Rows.seen.cells c.args.rows.now) (g.R.Rows.seen.cells c.loop.rows) (g.R.Rows.seen.cells c.visit.new.rows) (before.thins held) (now.thins (before.below.still held));
       room = room_then g.R.Rows.seen.overfills c.loop.counter 1 c.args.rows.now c.loop.rows c.visit.new.rows before.room now.room;
       faults = now.reason.told (not_refused _ Device) ∙ before.faults;
     }

@@ -2,7 +2,7 @@ use Rattle.std.proofs.Common.{◌≡◌}
 use Rattle.row_atomic.specs.Calls.{KeepsBelow}
 use Rattle.si_model.specs.Machine.{State}
 use Rattle.version_collector.specs.Room.{TakesRoomOfVisits}
-use Rattle.version_collector.specs.Visits.{AreVisits, WhereCome}
+use Rattle.version_collector.specs.Visits.{AreVisits, Thins, WhereCome}
 use Rattle.version_collector.proofs.collector.Collector.advance.Given as goal
 
 -- as many visits as were counted are made, each answered More
@@ -13,6 +13,7 @@ invariant-loop g l = record {
   floor : l.self.floor ≡ l.fn.self.floor;
   none : l.counter ≡ 0 → (l.self ≡ l.fn.self) × (l.rows ≡ l.fn.rows);
   below : KeepsBelow g.R.Rows.seen l.fn.rows l.rows;
+  thins : g.R.Rows.seen.holds l.fn.rows → Thins l.counter (g.R.Rows.seen.cells l.fn.rows) (g.R.Rows.seen.cells l.rows);
   room : TakesRoomOfVisits g.R.Rows.seen.overfills l.counter l.fn.rows l.rows;
   faults : g.R.Rows.faults l.rows ≡ g.R.Rows.faults l.fn.rows;
 }

@@ -6,6 +6,7 @@ use Rattle.si_model.specs.declared.replies.CollectReply.TheVariants.{More}
 use Rattle.version_collector.specs.Visits.{Visits}
 use Rattle.version_collector.proofs.Room.{no_room_of, room_applied, room_none}
 use Rattle.cell_key.proofs.Passed.{passed as passed_on}
+use Rattle.version_collector.proofs.Thinned.{thins_applied, thins_kept}
 use Rattle.version_collector.proofs.OneVisit.{collect_erased, collect_past}
 use Rattle.version_collector.proofs.collector.Collector.collect.Goals as goal
 
@@ -34,3 +35,13 @@ returns-clause-visit g c = λ held shown pass next.
 
 pub returns-clause-room : goal.returns-clause-room
 returns-clause-room g c = room_none g.R.Rows.seen.overfills 1 c.args.rows.now c.erase_old.new.rows (OnFalse_at c.if-erased.false c.in_ok-erased.ensures.left).room
+
+pub returns-in_err-erased-clause-thins : goal.returns-in_err-erased-clause-thins
+returns-in_err-erased-clause-thins g c = λ held. thins_kept g.R.Rows.seen 1 c.args.rows.now c.erase_old.new.rows c.in_err-erased.ensures.err.kept
+
+pub returns-then-erased-clause-thins : goal.returns-then-erased-clause-thins
+returns-then-erased-clause-thins g c = λ held.
+    thins_applied g.R.Rows.seen (g.R.Rows.seen.holds c.args.rows.now) c.args.cell c.args.self.now.floor c.args.rows.now c.erase_old.new.rows (OnTrue_at c.if-erased.true c.in_ok-erased.ensures.erased) held
+
+pub returns-clause-thins : goal.returns-clause-thins
+returns-clause-thins g c = λ held. thins_kept g.R.Rows.seen 1 c.args.rows.now c.erase_old.new.rows (OnFalse_at c.if-erased.false c.in_ok-erased.ensures.left).kept

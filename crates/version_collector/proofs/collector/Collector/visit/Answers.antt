@@ -1,10 +1,11 @@
-use Rattle.std.proofs.Common.{Option, Some, IfOk, sym, subst}
+use Rattle.std.proofs.Common.{Option, Some, IfOk, sym, subst, ◌∙◌}
 use Rattle.cell_key.specs.Cells.{Cells}
 use Rattle.cell_key.specs.Places.{IsNextCell}
 use Rattle.si_model.specs.declared.replies.Cell.{Cell}
 use Rattle.version_collector.specs.Versions.{AreShown}
-use Rattle.version_collector.specs.Visits.{Visits, position_of}
+use Rattle.version_collector.specs.Visits.{Thins, Visits, position_of}
 use Rattle.version_collector.proofs.Room.{room_none}
+use Rattle.version_collector.proofs.Thinned.{thins_kept}
 use Rattle.version_collector.proofs.collector.Collector.visit.Goals as goal
 
 pub returns-in_err-cell-clause-room : goal.returns-in_err-cell-clause-room
@@ -34,3 +35,16 @@ returns-in-Second-clause-visit g c = λ held shown.
 pub returns-in-Second-clause-undamaged : goal.returns-in-Second-clause-undamaged
 returns-in-Second-clause-undamaged g c = λ held shown.
     c.collect.ensures.undamaged (c.in_ok-cell.ensures.reads.still held) (subst (λ (m : Cells). AreShown m) (sym c.in_ok-cell.ensures.reads.kept) shown)
+
+pub returns-in_err-cell-clause-thins : goal.returns-in_err-cell-clause-thins
+returns-in_err-cell-clause-thins g c = λ held. thins_kept g.R.Rows.seen 1 c.args.rows.now c.next_cell.new.rows c.in_err-cell.ensures.reads.kept
+
+pub returns-in_default-clause-thins : goal.returns-in_default-clause-thins
+returns-in_default-clause-thins g c = λ held. thins_kept g.R.Rows.seen 1 c.args.rows.now c.next_cell.new.rows c.in_ok-cell.ensures.reads.kept
+
+pub returns-in-First-clause-thins : goal.returns-in-First-clause-thins
+returns-in-First-clause-thins g c = λ held. thins_kept g.R.Rows.seen 1 c.args.rows.now c.look.new.rows (c.look.ensures.reads.kept ∙ c.in_ok-cell.ensures.reads.kept)
+
+pub returns-in-Second-clause-thins : goal.returns-in-Second-clause-thins
+returns-in-Second-clause-thins g c = λ held.
+    subst (λ (m : Cells). Thins 1 m (g.R.Rows.seen.cells c.collect.new.rows)) c.in_ok-cell.ensures.reads.kept (c.collect.ensures.thins (c.in_ok-cell.ensures.reads.still held))

@@ -4,7 +4,7 @@ use Rattle.std.specs.BTreeMap as btree
 use Rattle.cell_key.specs.declared.refusals.Refusal.TheVariants.{Exhausted, NoMemory}
 use Rattle.version_collector.specs.declared.collector.Collector.{Collector}
 use Rattle.cell_key.proofs.Passed.{as_err}
-use Rattle.version_collector.proofs.Table.{begin_full, begin_refused, begins_at, is_full, is_room, same_entries, same_itself}
+use Rattle.version_collector.proofs.Table.{begin_full, begin_refused, begins_at, is_full, is_room, opens_one, same_entries, same_itself}
 use Rattle.version_collector.proofs.collectors.Collectors.begin.Goals as goal
 
 pub returns-then-len-ge-MOST_COLLECTORS-clause-step : goal.returns-then-len-ge-MOST_COLLECTORS-clause-step
@@ -26,3 +26,9 @@ returns-clause-step c = λ cells st reached store shown is.
     begins_at c.args.self.now (record c.args.self.now { next = c.args.self.now.next + 1; greatest_floor = c.max-self.result; collectors = c.insert.new.self }) c.args.floor
     (is_room _ _ c.len.ensures.len c.if-len-ge-MOST_COLLECTORS.false) c.if-number-gt-MOST_NUMBER.false refl c.max-self.ensures c.in_ok-insert.ensures.updates.0
     (c.in_ok-insert.ensures.len ∙ ap (λ (o : Option Collector). btree.btree_map_len c.args.self.now.collectors + (if is_some o then 0 else 1)) c.in_ok-insert.ensures.old) cells st reached store shown is
+
+pub returns-clause-opens : goal.returns-clause-opens
+returns-clause-opens c =
+    opens_one c.args.self.now (record c.args.self.now { next = c.args.self.now.next + 1; greatest_floor = c.max-self.result; collectors = c.insert.new.self }) c.args.floor
+    (is_room _ _ c.len.ensures.len c.if-len-ge-MOST_COLLECTORS.false) c.if-number-gt-MOST_NUMBER.false refl c.max-self.ensures c.in_ok-insert.ensures.updates.0
+    (c.in_ok-insert.ensures.len ∙ ap (λ (o : Option Collector). btree.btree_map_len c.args.self.now.collectors + (if is_some o then 0 else 1)) c.in_ok-insert.ensures.old)

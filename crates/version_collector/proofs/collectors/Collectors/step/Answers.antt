@@ -59,7 +59,7 @@ pub returns-in_err-reply-clause-leaves : goal.returns-in_err-reply-clause-leaves
 returns-in_err-reply-clause-leaves g c = λ held st reached store shown.
     let l = leaves_at (g.R.Rows.seen.cells c.args.rows.now) (g.R.Rows.seen.cells c.advance.new.rows) c.args.self.now c.args.self.now c.args.number c.args.visits c.in-Some.collector.now c.advance.new.self (sym c.in-Some.ensures.value)
     (Err c.in_err-reply.field-0.0) (c.in_err-reply.ensures.visited held) st reached store shown in
-    (l.collects, l.thins)
+    l.collects
 
 pub returns-in_default-clause-refused : goal.returns-in_default-clause-refused
 returns-in_default-clause-refused g c =
@@ -137,7 +137,7 @@ pub returns-then-closes-clause-leaves : goal.returns-then-closes-clause-leaves
 returns-then-closes-clause-leaves g c = λ held st reached store shown.
     let l = leaves_at (g.R.Rows.seen.cells c.args.rows.now) (g.R.Rows.seen.cells c.advance.new.rows) c.args.self.now c.args.self.now c.args.number c.args.visits c.in-Some.collector.now c.advance.new.self (sym c.in-Some.ensures.value)
     (Ok c.in_ok-reply.reply) (c.in_ok-reply.ensures.visited held) st reached store shown in
-    (l.collects, l.thins)
+    l.collects
 
 pub returns-then-closes-clause-told : goal.returns-then-closes-clause-told
 returns-then-closes-clause-told g c = λ held st reached store shown.
@@ -180,7 +180,7 @@ pub returns-clause-leaves : goal.returns-clause-leaves
 returns-clause-leaves g c = λ held st reached store shown.
     let l = leaves_at (g.R.Rows.seen.cells c.args.rows.now) (g.R.Rows.seen.cells c.advance.new.rows) c.args.self.now c.args.self.now c.args.number c.args.visits c.in-Some.collector.now c.advance.new.self (sym c.in-Some.ensures.value)
     (Ok c.in_ok-reply.reply) (c.in_ok-reply.ensures.visited held) st reached store shown in
-    (l.collects, l.thins)
+    l.collects
 
 pub returns-clause-told : goal.returns-clause-told
 returns-clause-told g c = λ held st reached store shown.
