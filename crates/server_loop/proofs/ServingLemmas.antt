@@ -1,5 +1,5 @@
 -- How what was served joins.
-use Rattle.std.proofs.Common.{◌≡◌, ℕ, ◌+◌, ◌-◌, min, ◌<◌, ◌≤◌, Bool, true, false, nat_le, List, [], ◌∷◌, ◌++◌, length, take, drop, map, Option, Result, Ok, Err, inl, inr, refl, sym, ap, ◌∙◌, subst, arith, append_assoc, append-nil, length-append, length-drop, length-take, take-append-drop}
+use Rattle.std.proofs.Common.{◌≡◌, ℕ, ◌+◌, ◌-◌, min, ◌<◌, ◌≤◌, Bool, true, false, nat_le, List, [], ◌∷◌, ◌++◌, length, take, drop, map, Option, Result, Ok, Err, ◌⊎◌, inl, inr, refl, sym, ap, ◌∙◌, subst, arith, append_assoc, append-nil, length-append, length-drop, length-take, take-append-drop}
 use Rattle.std.specs.List.{AllByRecursion}
 use Rattle.std.specs.Io.KnownBytes.{Appends}
 use Rattle.std.proofs.KnownBytes.{Appends-trans, Appends-nil}
@@ -270,24 +270,25 @@ module _ {S : Type 0} (shows : S → State → Type 0) (says : S → Lent → Co
   }
 
   -- one reply was not delivered
-  undelivered : (fault : ServeFault) (a b c : S) (bodies : List (List ℕ)) (bytes rest : List ℕ) (t : Taken) (reply : Reply) (h i : Option (List ℕ)) → bytes ≡ frames bodies ++ rest → AllByRecursion IsBody bodies
+  undelivered : (fault : ServeFault) (a b c : S) (bodies : List (List ℕ)) (bytes rest : List ℕ) (t : Taken) (reply : Reply) (h i : Option (List ℕ)) → IsTooLong rest ⊎ (length rest < length bytes) → bytes ≡ frames bodies ++ rest → AllByRecursion IsBody bodies
       → TakesBodies (Err faults.Write) bodies rest (t ∷ []) → RunsAs shows a b (t ∷ []) (reply ∷ []) → SaysOf says a t reply b → Delivers shows between (Err fault) (reply_body reply) b c h i
       → HandlesTo shows says between (Err fault) a c bytes rest h i
-  undelivered faults.Read a b c bodies bytes rest t reply h i whole each takes run says_of d = absurd d
-  undelivered faults.NoMemory a b c bodies bytes rest t reply h i whole each takes run says_of d = absurd d
-  undelivered faults.Write a b c bodies bytes rest t reply h i whole each takes run says_of d =
-      subst (λ (s : S). Handles shows says between (Err faults.Write) a s bytes rest h i) (sym d.0)
-      (Handles-cut a b bodies bytes rest t reply d.1.0 h i whole each takes run says_of d.1.1 d.1.2)
+  undelivered faults.Read a b c bodies bytes rest t reply h i fewer whole each takes run says_of d = absurd d
+  undelivered faults.NoMemory a b c bodies bytes rest t reply h i fewer whole each takes run says_of d = absurd d
+  undelivered faults.Write a b c bodies bytes rest t reply h i fewer whole each takes run says_of d =
+      subst (λ (s : S). HandlesTo shows says between (Err faults.Write) a s bytes rest h i) (sym d.0)
+      (fewer, Handles-cut a b bodies bytes rest t reply d.1.0 h i whole each takes run says_of d.1.1 d.1.2)
 
   pub undelivered-one : (fault : ServeFault) (a b c : S) (body bytes rest : List ℕ) (reply : Reply) (h i : Option (List ℕ)) → IsBody body → bytes ≡ frame body ++ rest
       → RunsAs shows a b (Body body ∷ []) (reply ∷ []) → SaysOf says a (Body body) reply b → Delivers shows between (Err fault) (reply_body reply) b c h i → HandlesTo shows says between (Err fault) a c bytes rest h i
   undelivered-one fault a b c body bytes rest reply h i fits whole run says_of d =
-      undelivered fault a b c (body ∷ []) bytes rest (Body body) reply h i (whole ∙ ap (λ l. l ++ rest) (sym (append-nil (frame body)))) (fits, tt) (inl refl) run says_of d
+      undelivered fault a b c (body ∷ []) bytes rest (Body body) reply h i (inr (fewer-one body bytes rest whole)) (whole ∙ ap (λ l. l ++ rest) (sym (append-nil (frame body)))) (fits, tt) (inl refl) run says_of d
 
   pub undelivered-large : (fault : ServeFault) (a c : S) (bytes rest : List ℕ) (h i : Option (List ℕ)) → IsTooLong bytes → rest ≡ bytes
       → Delivers shows between (Err fault) (reply_body (Refused FrameTooLarge)) a c h i → HandlesTo shows says between (Err fault) a c bytes rest h i
   undelivered-large fault a c bytes rest h i large same d =
-      undelivered fault a a c [] bytes rest Oversize (Refused FrameTooLarge) h i (sym same) tt (inr (subst IsTooLong (sym same) large, refl)) (RunsAs-oversize shows a) (refl, refl) d
+      let left = subst IsTooLong (sym same) large in
+      undelivered fault a a c [] bytes rest Oversize (Refused FrameTooLarge) h i (inl left) (sym same) tt (inr (left, refl)) (RunsAs-oversize shows a) (refl, refl) d
 
   -- the refusal of a length past the limit was delivered
   pub delivered-large : (a c : S) (bytes rest : List ℕ) (h i : Option (List ℕ)) → IsTooLong bytes → rest ≡ bytes → between a c → ((st : State) → shows a st → shows c st) → Appends h i (frame (reply_body (Refused FrameTooLarge)))
@@ -321,12 +322,23 @@ module _ {S : Type 0} (shows : S → State → Type 0) (says : S → Lent → Co
 
   -- ---- more bytes
 
+  fewer_after : (bodies : List (List ℕ)) (bytes mid rest : List ℕ) → bytes ≡ frames bodies ++ mid → IsTooLong rest ⊎ (length rest < length mid) → IsTooLong rest ⊎ (length rest < length bytes)
+  fewer_after bodies bytes mid rest whole (inl large) = inl large
+  fewer_after bodies bytes mid rest whole (inr fewer) =
+      let size : length bytes ≡ length (frames bodies ++ mid) = ap length whole in
+      inr (omega (arith, fewer, size, length-append (frames bodies) mid))
+
+  fewer_more : (bytes rest more : List ℕ) → IsTooLong rest ⊎ (length rest < length bytes) → IsTooLong (rest ++ more) ⊎ (length (rest ++ more) < length (bytes ++ more))
+  fewer_more bytes rest more (inl large) = inl (IsTooLong-more rest more large)
+  fewer_more bytes rest more (inr fewer) = inr (omega (arith, fewer, length-append rest more, length-append bytes more))
+
   -- bytes are handled to where those after some answered frames are
   pub HandlesTo-after : (result : Result Rest ServeFault) (a b c : S) (bytes mid rest : List ℕ) (h i j : Option (List ℕ)) → Answered shows says between a b bytes mid h i → HandlesTo shows says between result b c mid rest i j
       → HandlesTo shows says between result a c bytes rest h j
   HandlesTo-after (Ok rests.Partial) a b c bytes mid rest h i j p q = (q.0, Answered-then a b c bytes mid rest h i j p q.1)
   HandlesTo-after (Ok rests.TooLarge) a b c bytes mid rest h i j p q = (q.0, Handles-after (Ok ends.TooLarge) a b c bytes mid rest h i j p q.1)
-  HandlesTo-after (Err faults.Write) a b c bytes mid rest h i j p q = Handles-after (Err faults.Write) a b c bytes mid rest h i j p q
+  HandlesTo-after (Err faults.Write) a b c bytes mid rest h i j p q =
+      (fewer_after p.bodies bytes mid rest p.whole q.0, Handles-after (Err faults.Write) a b c bytes mid rest h i j p q.1)
   HandlesTo-after (Err faults.Read) a b c bytes mid rest h i j p q = absurd q
   HandlesTo-after (Err faults.NoMemory) a b c bytes mid rest h i j p q = absurd q
 
@@ -345,7 +357,7 @@ module _ {S : Type 0} (shows : S → State → Type 0) (says : S → Lent → Co
   }
 
   HandlesTo-more_error : (fault : ServeFault) (a c : S) (bytes rest more : List ℕ) (h i : Option (List ℕ)) → HandlesTo shows says between (Err fault) a c bytes rest h i → HandlesTo shows says between (Err fault) a c (bytes ++ more) (rest ++ more) h i
-  HandlesTo-more_error faults.Write a c bytes rest more h i p = Handles-more_cut a c bytes rest more h i p
+  HandlesTo-more_error faults.Write a c bytes rest more h i p = (fewer_more bytes rest more p.0, Handles-more_cut a c bytes rest more h i p.1)
   HandlesTo-more_error faults.Read a c bytes rest more h i p = absurd p
   HandlesTo-more_error faults.NoMemory a c bytes rest more h i p = absurd p
 

@@ -1,19 +1,21 @@
 -- How reads join, and how they end.
-use Rattle.std.proofs.Common.{◌≡◌, ◌==◌, ℕ, ◌+◌, ◌<◌, ◌≤◌, Bool, true, false, List, [], ◌∷◌, ◌++◌, length, map, take, Option, Some, None, Result, Ok, Err, IfErr, IfOk, inl, inr, refl, sym, ap, ◌∙◌, subst, arith, append_assoc, append-nil, length-append, length-take, length-take-le}
+use Rattle.std.proofs.Common.{◌≡◌, ◌==◌, ℕ, ◌+◌, ◌<◌, ◌≤◌, Bool, true, false, List, [], ◌∷◌, ◌++◌, length, map, take, Option, Some, None, Result, Ok, Err, IfErr, IfOk, ◌⊎◌, inl, inr, refl, sym, ap, ◌∙◌, subst, arith, append_assoc, append-nil, length-append, length-take, length-take-le}
 use Rattle.std.specs.Io.KnownBytes.{Consumes, Appends, IsAtEnd, Keeps}
+use Rattle.std.specs.List.{AllByRecursion}
 use Rattle.std.proofs.KnownBytes.{Consumes-trans, Consumes-nil, Appends-kept}
 use Rattle.std.proofs.lemmas.Bool.Decides.{nat_tests}
 use Rattle.si_model.specs.Machine.{State}
 use Rattle.request_codec.specs.declared.replies.Reply.{Reply as CodecReply}
 use Rattle.request_codec.specs.declared.requests.Request.{Request as Lent}
-use Rattle.request_codec.specs.Stream.{frames, IsPartial}
+use Rattle.request_codec.specs.Stream.{frame, frames, IsBody, IsPartial, IsTooLong}
 use Rattle.server_loop.specs.Runs.{Taken, Body}
-use Rattle.server_loop.specs.Serve.{most_left, taken_of, Answered, EndsBy, Handles, HandlesTo, IsRest, ReadsOn, Served, ServesOn, TakesBodies, WritesReplies}
+use Rattle.server_loop.specs.Serve.{most_dropped, most_left, taken_of, Answered, EndsBy, Handles, HandlesTo, IsRest, ReadsOn, Served, ServesOn, TakesBodies, WritesReplies}
 use Rattle.server_loop.specs.declared.statuses.End.{End}
 use Rattle.server_loop.specs.declared.statuses.End.TheVariants as ends
 use Rattle.server_loop.specs.declared.statuses.ServeFault.{ServeFault}
 use Rattle.server_loop.specs.declared.statuses.ServeFault.TheVariants as faults
 use Rattle.server_loop.specs.declared.serving.Rest.TheVariants as rests
+use Rattle.server_loop.proofs.FrameHeads.{hand_frame, hand_long}
 use Rattle.server_loop.proofs.ServingLemmas.{AnswersAs-none, Answered-more, Answered-none, Answered-then, Handles-after, BeginsNoFrame-from_large, BeginsNoFrame-from_partial, has_room, IsPartial-nil, taken-large, taken-partial}
 
 -- ---- bytes that stay
@@ -39,12 +41,27 @@ keeps_then (Some x) (Some y) (Some z) bs p q = q ∙ ap (λ l. l ++ bs) p
 partial_within : (hand : List ℕ) → IsPartial hand → length hand ≤ most_left
 partial_within hand partial = let few : length hand < 1048580 = has_room hand partial in omega (arith, few)
 
--- of a part of a frame and one piece
-left_within : (hand read rest : List ℕ) (bodies : List (List ℕ)) → IsPartial hand → length read ≤ 65536 → hand ++ read ≡ frames bodies ++ rest → length rest ≤ most_left
-left_within hand read rest bodies partial within whole =
-    let few : length hand < 1048580 = has_room hand partial in
-    let same : length (hand ++ read) ≡ length (frames bodies ++ rest) = ap length whole in
-    omega (arith, few, within, same, length-append hand read, length-append (frames bodies) rest)
+-- of a part of a frame and one piece, of which a frame was answered
+after_frame : (hand read rest b : List ℕ) (bodies : List (List ℕ)) → IsPartial hand → IsBody b → length read ≤ 65536 → hand ++ read ≡ frames (b ∷ bodies) ++ rest → length rest ≤ most_dropped
+after_frame hand read rest b bodies partial fits within whole =
+    let few = hand_frame hand read b (frames bodies ++ rest) partial fits (whole ∙ append_assoc (frame b) (frames bodies) rest) in
+    let same : length (hand ++ read) ≡ length (frames (b ∷ bodies) ++ rest) = ap length whole in
+    omega (arith, few, within, same, length-append hand read, length-append (frames (b ∷ bodies)) rest, length-append (frame b) (frames bodies))
+
+-- or in which a length past the limit came
+dropped_within : (hand read rest : List ℕ) (bodies : List (List ℕ)) → IsPartial hand → IsTooLong rest → AllByRecursion IsBody bodies → length read ≤ 65536 → hand ++ read ≡ frames bodies ++ rest → length rest ≤ most_dropped
+dropped_within hand read rest [] partial long each within whole =
+    let few = hand_long hand read rest partial long whole in
+    let same : length (hand ++ read) ≡ length rest = ap length whole in
+    omega (arith, few, within, same, length-append hand read)
+dropped_within hand read rest (b ∷ bodies) partial long each within whole = after_frame hand read rest b bodies partial each.0 within whole
+
+-- or of which fewer bytes are left
+cut_within : (hand read rest : List ℕ) (bodies : List (List ℕ)) → IsPartial hand → AllByRecursion IsBody bodies → length read ≤ 65536 → hand ++ read ≡ frames bodies ++ rest → IsTooLong rest ⊎ (length rest < length (hand ++ read))
+    → length rest ≤ most_left
+cut_within hand read rest bodies partial each within whole (inl large) = let few = dropped_within hand read rest bodies partial large each within whole in omega (arith, few)
+cut_within hand read rest [] partial each within whole (inr fewer) = let same : length (hand ++ read) ≡ length rest = ap length whole in absurd (omega (arith, fewer, same))
+cut_within hand read rest (b ∷ bodies) partial each within whole (inr fewer) = let few = after_frame hand read rest b bodies partial each.0 within whole in omega (arith, few)
 
 -- what was read to the front of a piece
 pub taken_within : (n : ℕ) (buffer : List ℕ) → length buffer ≤ 65536 → length (take n buffer) ≤ 65536
@@ -73,7 +90,7 @@ takes_so ends.ReadsUsedUp bodies r read rest left h i taken p q = inl (q ∙ sym
 left_so : (end : End) (r : ℕ) (read rest : List ℕ) (left h i : Option (List ℕ)) → EndsBy (Ok end) r read rest left h i → length rest ≤ most_left
 left_so ends.Clean r read rest left h i p = partial_within rest (subst IsPartial (sym p.0) IsPartial-nil)
 left_so ends.Truncated r read rest left h i p = partial_within rest p.1
-left_so ends.TooLarge r read rest left h i p = p.1
+left_so ends.TooLarge r read rest left h i p = let few = p.1 in omega (arith, few)
 left_so ends.ReadsUsedUp r read rest left h i p = partial_within rest p.1
 
 nothing_taken : (result : Result End ServeFault) (rest : List ℕ) → IsPartial rest → TakesBodies result [] rest []
@@ -139,15 +156,15 @@ module _ {S : Type 0} (shows : S → State → Type 0) (says : S → Lent → Co
   kept_answered : (a b : S) (bytes rest : List ℕ) (h i j : Option (List ℕ)) → Keeps h i → Answered shows says between a b bytes rest i j → Answered shows says between a b bytes rest h j
   kept_answered a b bytes rest h i j keeps p = record { bodies = p.bodies; whole = p.whole; each = p.each; replies = p.replies; run = p.run; appended = keeps_then h i j _ keeps p.appended }
 
-  cut_short : (a b : S) (hand read rest : List ℕ) (l m h i j : Option (List ℕ)) (r : ℕ) → Consumes l m read → IsPartial hand → length read ≤ 65536 → Keeps h i → Handles shows says between (Err faults.Write) a b (hand ++ read) rest i j
+  cut_short : (a b : S) (hand read rest : List ℕ) (l m h i j : Option (List ℕ)) (r : ℕ) → Consumes l m read → IsPartial hand → length read ≤ 65536 → Keeps h i → HandlesTo shows says between (Err faults.Write) a b (hand ++ read) rest i j
       → ServesOn shows says between hand a b l m h j r (Err faults.Write)
   cut_short a b hand read rest l m h i j r consumed partial within keeps p = record {
     read = read;
     consumed = consumed;
     rest = rest;
     open_rest = λ other. absurd (other refl);
-    handled = kept_handled (Err faults.Write) a b (hand ++ read) rest h i j keeps p;
-    ending = left_within hand read rest p.bodies partial within p.whole;
+    handled = kept_handled (Err faults.Write) a b (hand ++ read) rest h i j keeps p.1;
+    ending = cut_within hand read rest p.1.bodies partial p.1.each within p.1.whole p.0;
   }
 
   fails_so : (fault : ServeFault) (a b : S) (hand hand' read rest : List ℕ) (l m h i j : Option (List ℕ)) (r s : ℕ) → Consumes l m read → IsPartial hand → length read ≤ 65536 → Keeps h i → HandlesTo shows says between (Err fault) a b (hand ++ read) rest i j
@@ -172,7 +189,7 @@ module _ {S : Type 0} (shows : S → State → Type 0) (says : S → Lent → Co
     rest = p.0;
     open_rest = λ _. BeginsNoFrame-from_large p.0 p.2.0;
     handled = kept_handled (Ok ends.TooLarge) a b (hand ++ read) p.0 h i j keeps p.2.1;
-    ending = (p.2.0, left_within hand read p.0 p.2.1.bodies partial within p.2.1.whole);
+    ending = (p.2.0, dropped_within hand read p.0 p.2.1.bodies partial p.2.0 p.2.1.each within p.2.1.whole);
   }
 
   -- or it was answered, and the input goes on

@@ -71,9 +71,13 @@ WritesReplies says between result old new taken replies written =
 
 -- ---- how it ends
 
--- the most bytes that are taken and not answered: less than a frame, and one piece of the input
+-- the most bytes that are taken and not answered: less than a frame
 abbrev pub most_left : ℕ
-most_left = longest + 3 + 65536
+most_left = longest + 3
+
+-- and where a length past the limit comes: less than its four bytes, and one piece of the input
+abbrev pub most_dropped : ℕ
+most_dropped = 3 + 65536
 
 -- How each end comes about, by the bytes that were read, their rest, what the reader has left and
 -- what the writer holds.
@@ -83,7 +87,7 @@ EndsBy (Ok ends.Clean) most_reads read rest left held held' = (rest ≡ []) × I
 EndsBy (Ok ends.Truncated) most_reads read rest left held held' =
     (0 < length rest) × IsPartial rest × IsAtEnd left
 EndsBy (Ok ends.TooLarge) most_reads read rest left held held' =
-    IsTooLong rest × (length rest ≤ most_left)
+    IsTooLong rest × (length rest ≤ most_dropped)
 EndsBy (Ok ends.ReadsUsedUp) most_reads read rest left held held' =
     (most_reads ≤ length read) × IsPartial rest
 EndsBy (Err faults.Read) most_reads read rest left held held' = IsPartial rest
@@ -122,8 +126,8 @@ pub record Answered {S : Type 0} (shows : S → State → Type 0)
   pub run : AnswersAs shows says between old new (map Body bodies) replies
   pub appended : Appends held held' (written_of replies)
 
--- What bytes were handled to: less than a frame is left of them, or a length past the limit, or a
--- write failed.
+-- What bytes were handled to: less than a frame is left of them, or a length past the limit. If a
+-- write failed, such a length is left, or fewer bytes.
 abbrev pub HandlesTo : {S : Type 0} → (S → State → Type 0) → (S → Lent → CodecReply → S → Type 0)
     → (S → S → Type 0) → Result Rest ServeFault → S → S → List ℕ → List ℕ → Option (List ℕ)
     → Option (List ℕ) → Type 0
@@ -132,7 +136,8 @@ HandlesTo shows says between (Ok rests.Partial) old new bytes rest held held' =
 HandlesTo shows says between (Ok rests.TooLarge) old new bytes rest held held' =
     IsTooLong rest × Handles shows says between (Ok ends.TooLarge) old new bytes rest held held'
 HandlesTo shows says between (Err faults.Write) old new bytes rest held held' =
-    Handles shows says between (Err faults.Write) old new bytes rest held held'
+    (IsTooLong rest ⊎ (length rest < length bytes))
+    × Handles shows says between (Err faults.Write) old new bytes rest held held'
 HandlesTo shows says between (Err faults.Read) old new bytes rest held held' = ⊥
 HandlesTo shows says between (Err faults.NoMemory) old new bytes rest held held' = ⊥
 
