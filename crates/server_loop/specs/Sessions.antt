@@ -64,8 +64,9 @@ ComesFirst refusal n = IsEarlyRefusal refusal ⊎ (n ≡ 1)
 -- that makes none: cells of one row at most, at the session's stamps. A collector's step makes
 -- visits, and what it answers is true: if all is Collected, each cell is tidy; if it is Blocked,
 -- the lock stands; and after More this much less is left. It alone may change cells and then be
--- refused, by its later visits; whatever the cells show, it only erases. What writes files changes none if the files hold, and all else
--- changes none, also where it is refused for what stands in the files.
+-- refused, by its later visits; whatever the cells show, it only erases. What writes files changes
+-- none if the files hold, and all else changes none, also where it is refused for what stands in
+-- the files.
 abbrev pub ChangesCells : {F M : Type 0} → (F → Option Contents) → Request → Reply → Server F M
     → Server F M → Type 0
 ChangesCells contents (Step start) (codec.Step progress) old new =
@@ -165,8 +166,8 @@ KeepsSessions (Step start) (codec.Step progress) old new = ⊤
 KeepsSessions (Stop start) codec.Stop old new = ⊤
 KeepsSessions request reply old new = SameClients old new
 
--- A beginning, and a step that is done, change the cleaners as the machine's step says, each its own
--- alone. All else leaves them.
+-- A beginning, and a step that is done, change the cleaners as the machine's step says, each its
+-- own alone. All else leaves them.
 abbrev pub KeepsCleaners : Request → Reply → Cleaners → Cleaners → Type 0
 KeepsCleaners (CleanBegin row family) (codec.CleanBegin found) old new =
     open_cleaners.Opens (cell_of row.now family.now) found old new
@@ -175,8 +176,9 @@ KeepsCleaners (CleanStep cleaner) (codec.CleanStep reply) old new =
 KeepsCleaners request reply old new = SameCleaners old new
 
 -- A beginning, and a step, change the collectors as the machine's step says, each its own alone. A
--- refused step keeps the visits that it made, and its collector stays open, with its floor. All else
--- leaves the collectors, and so does a step that is refused before its visits, or by its only one.
+-- refused step keeps the visits that it made, and its collector stays open, with its floor. All
+-- else leaves the collectors, and so does a step that is refused before its visits, or by its only
+-- one.
 abbrev pub KeepsCollectors : Request → Reply → Collectors → Collectors → Type 0
 KeepsCollectors CollectBegin (codec.CollectBegin collector floor) old new =
     Opens floor collector old new

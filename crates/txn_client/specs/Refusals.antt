@@ -81,8 +81,8 @@ HasOneReason before now before' now' result =
 
 -- ---- a refused step of a session
 
--- It leaves the rows as they were, the last stamp and the range. The mark stays too, or it is the end
--- of the next range.
+-- It leaves the rows as they were, the last stamp and the range. The mark stays too, or it is the
+-- end of the next range.
 pub record StepLeaves {R M : Type 0} (seen : View R) (mark_of : M → Option ℕ) (old new : R)
     (oracle oracle' : OracleState M) : Type 0 where
   pub same : OnlyReads seen old new
