@@ -1,5 +1,5 @@
--- Places of cells, and the next cell after a place.
-use Rattle.std.specs.Prelude.{◌≡◌, ℕ, List, Option, Some, None, IsSome, ⊤}
+-- Places of cells, and the next cells after a place.
+use Rattle.std.specs.Prelude.{◌≡◌, ◌≤◌, ◌-◌, ℕ, List, [], ◌∷◌, Option, Some, None, IsSome, ⊤}
 use Rattle.std.specs.Borrow.{Bor}
 use Rattle.std.specs.declared.cmp.Ordering.{Ordering}
 use Rattle.std.specs.declared.cmp.Ordering.TheVariants.{Less}
@@ -60,3 +60,19 @@ IsNextCell cells after None = (place : Place) → IsAfter after place → ¬ (Ha
 IsNextCell cells after (Some found) =
     IsAfter after found × HasCell cells found × ((place : Place) → IsAfter after place
     → place_cmp place found ≡ Less → ¬ (HasCell cells place))
+
+-- Places come one after the other, each next after the one before it: so many, or fewer if then none
+-- is next.
+abbrev pub AreNext : (Option Place → Option Place → Type 0) → Option Place → ℕ → List Place → Type 0
+AreNext IsNext after most [] = 1 ≤ most → IsNext after None
+AreNext IsNext after most (found ∷ rest) =
+    (1 ≤ most) × IsNext after (Some found) × AreNext IsNext (Some found) (most - 1) rest
+
+-- found are the next cells after the given place: so many, or fewer if no more are left
+abbrev pub AreNextCells : Cells → Option Place → ℕ → List Place → Type 0
+AreNextCells cells = AreNext (IsNextCell cells)
+
+-- the last of some places, or another one if there are none
+abbrev pub last_or : Option Place → List Place → Option Place
+last_or other [] = other
+last_or other (place ∷ places) = last_or (Some place) places

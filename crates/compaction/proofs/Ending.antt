@@ -1,11 +1,12 @@
 -- A merge that comes to its end has sources that do.
-use Rattle.std.proofs.Common.{◌≡◌, ℕ, ◌⊎◌, inl, inr, true, false, List, [], ◌∷◌, map, length, refl, sym, ap, subst, ◌∙◌}
-use Rattle.std.specs.Prelude.{Option, Some, None, IsSome, is_some}
+use Rattle.std.proofs.Common.{◌≡◌, ℕ, ◌⊎◌, inl, inr, true, false, List, [], ◌∷◌, map, refl, sym, ap, subst, ◌∙◌}
+use Rattle.std.specs.Prelude.{Option, Some, None, Bool, IfSome, IsSome, IsSomeAnd, is_some}
 use Rattle.std.specs.List.{AllByRecursion, AllZip}
 use Rattle.cell_key.specs.Entries.{Entry}
 use Rattle.sorted_file.specs.Source.{ComesToEnd, ends, goes_on}
-use Rattle.compaction.specs.Merging.{lent_at, MayStep, Moves, MergeSteps}
-use Rattle.compaction.specs.Writing.{StepsOn, steps_once, steps_past}
+use Rattle.compaction.specs.Least.{IsLeast}
+use Rattle.compaction.specs.Merging.{lent_at, GoesPast, IsAtLeast, MayStep, Moves, MovesPast, MergeSteps}
+use Rattle.compaction.specs.Writing.{is_written, is_written_lent, StepsOn, steps_once, steps_past}
 
 some_is : (o : Option Entry) (e : Entry) → o ≡ Some e → IsSome o
 some_is o e is = subst (λ (o : Option Entry). IsSome o) (sym is) refl
@@ -13,6 +14,19 @@ some_is o e is = subst (λ (o : Option Entry). IsSome o) (sym is) refl
 not_both : (o : Option Entry) → IsSome o → o ≡ None → ⊥
 not_both None some none = cc
 not_both (Some e) some none = cc
+
+-- whether an entry that a source is at is written
+pub written_if : (now keep : Bool) (o : Option Entry) → now ≡ keep → true ≡ is_written_lent now o → IfSome o (λ e. is_written keep e ≡ true)
+written_if now keep None k h = tt
+written_if now keep (Some e) k h = ap (λ (b : Bool). is_written b e) (sym k) ∙ sym h
+
+pub left_if : (now keep : Bool) (o : Option Entry) → now ≡ keep → is_some o ≡ true → false ≡ is_written_lent now o → IsSomeAnd o (λ e. is_written keep e ≡ false)
+left_if now keep None k some h = cc
+left_if now keep (Some e) k some h = ap (λ (b : Bool). is_written b e) (sym k) ∙ sym h
+
+pub ended_if : (o : Option Entry) (P : Entry → Type 0) → is_some o ≡ false → IfSome o P
+ended_if None P h = tt
+ended_if (Some e) P h = cc
 
 module _ {S : Type 0} (steps : S → S → Type 0) (lent : S → Option Entry) where
   -- a source comes to its end, or it has come to it if the merge is at an entry and the source at none
@@ -59,21 +73,25 @@ module _ {S : Type 0} (steps : S → S → Type 0) (lent : S → Option Entry) w
     merge_ends m none h = subst (λ (o : Option Entry). AllByRecursion (Ends o) (sources m)) none (all_end m h)
 
   -- a source without its erasures
-  past_end : (s t : S) → StepsOn steps lent s t → lent t ≡ None → ComesToEnd steps lent s
-  past_end s t (steps_once step) none = ends step none
-  past_end s t (steps_past step some more) none = goes_on step some (past_end _ t more none)
+  some_and : (o : Option Entry) (P : Entry → Type 0) → IsSomeAnd o P → IsSome o
+  some_and None P h = absurd h
+  some_and (Some e) P h = refl
 
-  past_on : (s t : S) → StepsOn steps lent s t → IsSome (lent t) → ComesToEnd steps lent t → ComesToEnd steps lent s
-  past_on s t (steps_once step) some h = goes_on step some h
-  past_on s t (steps_past step here more) some h = goes_on step here (past_on _ t more some h)
+  past_end : (keep : Bool) (s t : S) → StepsOn keep steps lent s t → lent t ≡ None → ComesToEnd steps lent s
+  past_end keep s t (steps_once step written) none = ends step none
+  past_end keep s t (steps_past step out more) none = goes_on step (some_and (lent _) _ out) (past_end keep _ t more none)
+
+  past_on : (keep : Bool) (s t : S) → StepsOn keep steps lent s t → IsSome (lent t) → ComesToEnd steps lent t → ComesToEnd steps lent s
+  past_on keep s t (steps_once step written) some h = goes_on step some h
+  past_on keep s t (steps_past step out more) some h = goes_on step (some_and (lent _) _ out) (past_on keep _ t more some h)
 
   -- what goes on from one source goes on from the other
-  abbrev pub GoesOnFrom : S → S → Type 0
-  GoesOnFrom now start = (s : S) → StepsOn steps lent now s → StepsOn steps lent start s
+  abbrev pub GoesOnFrom : Bool → S → S → Type 0
+  GoesOnFrom keep now start = (s : S) → StepsOn keep steps lent now s → StepsOn keep steps lent start s
 
-  pub values_end : {V : Type 0} (source : V → S) (v : V) → ComesToEnd (λ a b. StepsOn steps lent (source a) (source b)) (λ a. lent (source a)) v → ComesToEnd steps lent (source v)
-  values_end source v (ends {t = w} step none) = past_end (source v) (source w) step none
-  values_end source v (goes_on {t = w} step some h) = past_on (source v) (source w) step some (values_end source w h)
+  pub values_end : {V : Type 0} (source : V → S) (keeps : V → Bool) (v : V) → ComesToEnd (λ a b. (keeps b ≡ keeps a) × StepsOn (keeps a) steps lent (source a) (source b)) (λ a. lent (source a)) v → ComesToEnd steps lent (source v)
+  values_end source keeps v (ends {t = w} step none) = past_end (keeps v) (source v) (source w) step.1 none
+  values_end source keeps v (goes_on {t = w} step some h) = past_on (keeps v) (source v) (source w) step.1 some (values_end source keeps w h)
 
   -- what a merge's sources do, by the entry that it is at
   pub moves_some : (o : Option Entry) (xs ys : List S) → true ≡ is_some o → AllZip (MayStep steps) xs ys → AllZip (Moves steps o) xs ys
@@ -83,3 +101,15 @@ module _ {S : Type 0} (steps : S → S → Type 0) (lent : S → Option Entry) w
   pub moves_none : (o : Option Entry) (xs ys : List S) → false ≡ is_some o → AllZip steps xs ys → AllZip (Moves steps o) xs ys
   moves_none None xs ys e h = h
   moves_none (Some e) xs ys p h = cc
+
+  pub past_some : (xs ys : List S) (at : ℕ) → true ≡ is_some (lent_at lent xs at) → (IsLeast (map lent xs) at → AllZip (GoesPast steps lent (lent_at lent xs at)) xs ys) → IsAtLeast lent xs at → AllZip (MovesPast steps lent (lent_at lent xs at)) xs ys
+  past_some xs ys at e h l = go (lent_at lent xs at) refl e l h
+    where
+      go : (o : Option Entry) → lent_at lent xs at ≡ o → true ≡ is_some o → (o ≡ None) ⊎ IsLeast (map lent xs) at → (IsLeast (map lent xs) at → AllZip (GoesPast steps lent o) xs ys) → AllZip (MovesPast steps lent o) xs ys
+      go None is e l h = cc
+      go (Some e) is p (inl none) h = cc
+      go (Some e) is p (inr least) h = h least
+
+  pub past_none : (o : Option Entry) (xs ys : List S) → false ≡ is_some o → AllZip steps xs ys → AllZip (MovesPast steps lent o) xs ys
+  past_none None xs ys e h = h
+  past_none (Some e) xs ys p h = cc

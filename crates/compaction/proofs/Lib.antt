@@ -3,6 +3,7 @@ pub mod EndedSources
 pub mod Ending
 pub mod Falls
 pub mod Fresh
+pub mod Passed
 pub mod Ranges
 pub mod Tied
 pub mod Turns

@@ -1,13 +1,14 @@
 -- The sources at the least key go on, and the others stay.
 use Rattle.std.proofs.Common.{◌≡◌, ℕ, ◌+◌, ◌≤◌, true, false, List, [], ◌∷◌, ◌++◌, map, length, refl, sym, ap, subst, ◌∙◌, arith, inl, inr}
 use Rattle.std.proofs.lemmas.List.Sums.{sum_by-append, sum_by-cons}
-use Rattle.std.specs.Prelude.{Option, Some, None, OnSome, IsSome, IsSomeAnd, sum_by}
+use Rattle.std.specs.Prelude.{Option, Some, None, OnSome, IsSome, IsSomeAnd, Contains, sum_by}
+use Rattle.std.proofs.lemmas.List.Elements.{Contains-append_right, Contains-get_or}
 use Rattle.std.specs.List.{AllByRecursion, AllZip}
 use Rattle.std.specs.Ordering.{is_eq}
 use Rattle.cell_key.specs.Entries.{Entry, Takes}
 use Rattle.compaction.specs.Least.{IsAbove, IsLeast, entry_at}
 use Rattle.compaction.specs.Ties.{ties}
-use Rattle.compaction.specs.Merging.{MayStep, lent_at, HasStarted, MergeHolds, StepsTo}
+use Rattle.compaction.specs.Merging.{BreaksAmong, GoesPast, IsMoved, MayStep, lent_at, goes_past, stays_there, HasStarted, MergeHolds, StepsTo}
 use Rattle.cell_key.proofs.EntryLists.{ties_itself}
 use Rattle.compaction.specs.MergeLaw.{step_tie, step_same}
 
@@ -72,3 +73,63 @@ tied_moves steps s t after later sources before e step rest = subst (λ xs. AllZ
     all : (before : List _) → AllZip (MayStep steps) (before ++ s ∷ after) (before ++ t ∷ later)
     all [] = (inl step, rest)
     all (b ∷ before) = (inr refl, all before)
+
+-- each source that goes past an entry, or stays, may step
+pub may_all : {S : Type 0} (steps : S → S → Type 0) (lent : S → Option Entry) (at : Option Entry) (xs ys : List S) → AllZip (GoesPast steps lent at) xs ys → AllZip (MayStep steps) xs ys
+may_all {S} steps lent at xs ys z = all xs ys z
+  where
+    one : (x y : S) → GoesPast steps lent at x y → MayStep steps x y
+    one x y (goes_past tied step) = inl step
+    one x y (stays_there apart same) = inr same
+
+    all : (xs ys : List S) → AllZip (GoesPast steps lent at) xs ys → AllZip (MayStep steps) xs ys
+    all [] [] z = tt
+    all [] (y ∷ ys) z = absurd z
+    all (x ∷ xs) [] z = absurd z
+    all (x ∷ xs) (y ∷ ys) z = (one x y z.0, all xs ys z.1)
+
+-- of the least entry just the sources at its key go on
+pub tied_past : {S : Type 0} (steps : S → S → Type 0) (lent : S → Option Entry) (s t : S) (after later sources before : List S) (at : ℕ) → sources ≡ before ++ s ∷ after → length before ≡ at → steps s t
+    → AllZip (GoesPast steps lent (lent s)) after later → IsLeast (map lent sources) at → AllZip (GoesPast steps lent (lent_at lent sources at)) sources (before ++ t ∷ later)
+tied_past {S} steps lent s t after later sources before at e n step rest least =
+    let here : lent_at lent sources at ≡ lent s = lent_there lent s after sources before at e n in
+    let l : IsLeast (map lent (before ++ s ∷ after)) (length before) = subst (λ k. IsLeast (map lent (before ++ s ∷ after)) k) (sym n) (subst (λ xs. IsLeast (map lent xs) at) e least) in
+    subst (λ o. AllZip (GoesPast steps lent o) sources (before ++ t ∷ later)) (sym here) (subst (λ xs. AllZip (GoesPast steps lent (lent s)) xs (before ++ t ∷ later)) (sym e) (all before l))
+  where
+    all : (before : List S) → IsLeast (map lent (before ++ s ∷ after)) (length before) → AllZip (GoesPast steps lent (lent s)) (before ++ s ∷ after) (before ++ t ∷ later)
+    all [] l = (goes_past (tie_self (lent s) _ l) step, rest)
+    all (b ∷ before) l = (stays_there (untied (lent s) (lent b) (subst (λ o. IsAbove o (lent b)) (entry_there lent s after before) l.0)) refl, all before l.1)
+
+moved_of : {S : Type 0} (lent : S → Option Entry) (o : Option Entry) (x : S) → ties o (lent x) ≡ true → IsMoved lent o x
+moved_of lent None x h = tt
+moved_of lent (Some e) x h = h
+
+-- the source at the entry goes on
+pub least_moved : {S : Type 0} (lent : S → Option Entry) (s : S) → IsMoved lent (lent s) s
+least_moved {S} lent s = go (lent s) refl
+  where
+    go : (o : Option Entry) → lent s ≡ o → IsMoved lent o s
+    go None is = tt
+    go (Some e) is = ap (ties (Some e)) is ∙ ties_itself e.0
+
+-- what breaks off is the source at the entry, or one after it
+pub least_breaks : {S : Type 0} (breaks : S → Type 0) (lent : S → Option Entry) (s : S) (before after sources : List S) (at : ℕ) → sources ≡ before ++ s ∷ after → length before ≡ at → breaks s → BreaksAmong breaks (IsMoved lent (lent_at lent sources at)) sources
+least_breaks breaks lent s before after sources at e n here =
+    let o = lent_there lent s after sources before at e n in
+    record {
+      source = s;
+      among = subst (λ xs. Contains xs s) (sym e) (Contains-append_right before (s ∷ after) s (Contains-get_or (s ∷ after) 0 s (omega arith)));
+      moves = subst (λ o. IsMoved lent o s) (sym o) (least_moved lent s);
+      here = here;
+    }
+
+pub after_breaks : {S : Type 0} (breaks : S → Type 0) (lent : S → Option Entry) (s : S) (before after sources : List S) (at : ℕ) → sources ≡ before ++ s ∷ after → length before ≡ at → BreaksAmong breaks (λ x. ties (lent s) (lent x) ≡ true) after
+    → BreaksAmong breaks (IsMoved lent (lent_at lent sources at)) sources
+after_breaks breaks lent s before after sources at e n b =
+    let o = lent_there lent s after sources before at e n in
+    record {
+      source = b.source;
+      among = subst (λ xs. Contains xs b.source) (sym e) (Contains-append_right before (s ∷ after) b.source (Contains-append_right (s ∷ []) after b.source b.among));
+      moves = subst (λ o. IsMoved lent o b.source) (sym o) (moved_of lent (lent s) b.source b.moves);
+      here = b.here;
+    }

@@ -1,7 +1,7 @@
 -- A loop that goes once over sources and may change each.
 use Rattle.std.proofs.Common.{◌≡◌, ℕ, ◌+◌, ◌≤◌, ◌<◌, List, [], ◌∷◌, ◌++◌, length, take, drop, set, get_or, sym, ap, subst, ◌∙◌, arith, add-one}
 use Rattle.std.proofs.lemmas.Grind.{common_steps}
-use Rattle.std.proofs.lemmas.List.Elements.{AllZip-push, All-from_recursion}
+use Rattle.std.proofs.lemmas.List.Elements.{AllZip-push, All-from_recursion, Contains-get_or}
 use Rattle.std.proofs.Math.Seq.{take-suc, take-suc-set}
 use Rattle.std.proofs.lemmas.List.{drop-set-lt, take_all}
 use Rattle.std.proofs.lemmas.List.Sums.{sum_by-append}
@@ -10,7 +10,7 @@ use Rattle.std.specs.List.{AllByRecursion, AllZip}
 use Rattle.std.proofs.Common.{Bool, true, false, cond, ◌*◌}
 use Rattle.std.specs.Prelude.{is_some}
 use Rattle.cell_key.specs.Entries.{Entry}
-use Rattle.compaction.specs.Merging.{cost, one}
+use Rattle.compaction.specs.Merging.{cost, one, BreaksAmong}
 use Rattle.file_store.specs.Store.{Contents}
 
 -- At an index a list came from another: what is before it is changed, and the rest is the same.
@@ -93,6 +93,16 @@ module _ {S F : Type 0} {contents : F → Option Contents} {faults : F → ℕ} 
 
   pub not_each : (P : Option Contents → S → Type 0) (d : S) → i < length xs → ¬ (P (contents files) (get_or ys i d)) → ¬ (AllByRecursion (P (contents start)) xs)
   not_each P d l here all = here (subst (λ (told : Option Contents). P told (get_or ys i d)) (sym p.same) (subst (P (contents start)) (sym (item-rest xs ys i d p.rest)) (All-from_recursion (P (contents start)) xs all i d l)))
+
+  pub breaks_among : (P : Option Contents → S → Type 0) (M : S → Type 0) (d : S) → i < length xs → P (contents files) (get_or ys i d) → M (get_or ys i d) → BreaksAmong (P (contents start)) M xs
+  breaks_among P M d l here moves =
+      let same : get_or ys i d ≡ get_or xs i d = item-rest xs ys i d p.rest in
+      record {
+        source = get_or xs i d;
+        among = Contains-get_or xs i d l;
+        moves = subst M same moves;
+        here = subst (λ (told : Option Contents). P told (get_or xs i d)) p.same (subst (P (contents files)) same here);
+      }
 
 pub first_within : (a b c : ℕ) → a + b ≤ c → a ≤ c
 first_within a b c h = omega arith

@@ -1,6 +1,6 @@
 -- The entries of a source up to an end.
 use Rattle.std.proofs.Common.{◌≡◌, Bool, true, false, cond}
-use Rattle.std.specs.Prelude.{ℕ, List, ◌∷◌, filter, map, Option, Some, None, not}
+use Rattle.std.specs.Prelude.{ℕ, List, filter, map, Option, Some, None, not}
 use Rattle.std.specs.Option.{option_copied}
 use Rattle.std.specs.Ordering.{is_lt}
 use Rattle.cell_key.specs.Keys.{byte_cmp}

@@ -3,7 +3,7 @@ use Rattle.std.specs.Prelude.{ℕ, List, Option, length}
 use Rattle.cell_key.specs.Entries.{Entry, IsEntryList, Takes}
 use Rattle.file_store.specs.Store.{Contents}
 use Rattle.sorted_file.specs.Source.{pending}
-use Rattle.sorted_file.specs.Cursor.{cursor_lent, cursor_remaining, CursorHolds, CursorSteps}
+use Rattle.sorted_file.specs.Cursor.{cursor_lent, cursor_remaining, CursorBreaks, CursorHolds, CursorSteps}
 use Rattle.sorted_file.specs.declared.cursor.FileCursor.{FileCursor}
 use Rattle.compaction.specs.declared.input.Input.{Input}
 use Rattle.compaction.specs.declared.input.Input.TheVariants.{Memtable, File}
@@ -31,3 +31,8 @@ abbrev pub InputSteps : Option Contents → Input → Input → Type 0
 InputSteps disk (Memtable s) (Memtable t) = Takes t.0 s.1 t.1
 InputSteps disk (File s) (File t) = CursorSteps disk s t
 InputSteps disk s t = ⊥
+
+-- a memtable's cursor never breaks off
+abbrev pub InputBreaks : Option Contents → Input → Type 0
+InputBreaks disk (Memtable s) = ⊥
+InputBreaks disk (File s) = CursorBreaks disk s

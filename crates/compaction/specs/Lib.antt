@@ -8,6 +8,7 @@ pub mod LeastLaw
 pub mod MergeLaw
 pub mod Ties
 pub mod Writing
+pub mod Passing
 pub use Rattle.cell_key.specs.Entries
 pub use Rattle.file_store.specs.Store
 pub use Rattle.sorted_file.specs.Source

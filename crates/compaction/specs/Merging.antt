@@ -1,11 +1,12 @@
 -- What a merge stands for, by what its sources stand for.
-use Rattle.std.specs.Prelude.{◌≡◌, ℕ, ◌+◌, ◌*◌, ◌⊎◌, List, [], ◌∷◌, Option, Some, None, OnSome, is_some, map, if◌then◌else◌}
+use Rattle.std.specs.Prelude.{◌≡◌, ℕ, ◌+◌, ◌*◌, ◌⊎◌, List, [], ◌∷◌, true, false, Contains, Option, Some, None, OnSome, is_some, map, if◌then◌else◌}
 use Rattle.std.specs.List.{AllByRecursion, AllZip}
 use Rattle.std.specs.Ordering.{is_eq}
 use Rattle.cell_key.specs.Keys.{byte_cmp}
 use Rattle.cell_key.specs.Entries.{Entry, merged}
 use Rattle.sorted_file.specs.Source.{pending}
 use Rattle.compaction.specs.Least.{IsLeast, entry_at}
+use Rattle.compaction.specs.Ties.{ties}
 
 -- what is left of entries without a first one of this key
 abbrev pub past : List ℕ → List Entry → List Entry
@@ -65,8 +66,39 @@ abbrev pub Moves : {S : Type 0} → (S → S → Type 0) → Option Entry → S 
 Moves steps None s t = steps s t
 Moves steps (Some e) s t = MayStep steps s t
 
--- each source of a merge moves, and if the merge is at no entry then, no source is
+-- a source at the key of an entry goes on by one step, and any other stays
+pub data GoesPast {S : Type 0} (steps : S → S → Type 0) (lent : S → Option Entry)
+    (at : Option Entry) (s t : S) : Type 0 where
+  goes_past : ties at (lent s) ≡ true → steps s t → GoesPast steps lent at s t
+  stays_there : ties at (lent s) ≡ false → t ≡ s → GoesPast steps lent at s t
+
+-- which sources of a merge go on: all of one at no entry, and those at the key of the entry
+abbrev pub IsMoved : {S : Type 0} → (S → Option Entry) → Option Entry → S → Type 0
+IsMoved lent None s = Unit {0}
+IsMoved lent (Some e) s = ties (Some e) (lent s) ≡ true
+
+abbrev pub MovesPast : {S : Type 0} → (S → S → Type 0) → (S → Option Entry) → Option Entry → S → S
+    → Type 0
+MovesPast steps lent None s t = steps s t
+MovesPast steps lent (Some e) s t = GoesPast steps lent (Some e) s t
+
+-- a merge is at no entry, or at the least that its sources are at
+abbrev pub IsAtLeast : {S : Type 0} → (S → Option Entry) → List S → ℕ → Type 0
+IsAtLeast lent sources at = (lent_at lent sources at ≡ None) ⊎ IsLeast (map lent sources) at
+
+-- Each source of a merge moves, and if the merge is at no entry then, no source is. From the least
+-- entry on it is just those at its key that go on, and the merge comes to the least entry again.
 pub record MergeSteps {S : Type 0} (steps : S → S → Type 0) (lent : S → Option Entry)
     (sources : List S) (at : ℕ) (later : List S) (next : ℕ) : Type 0 where
   pub each : AllZip (Moves steps (lent_at lent sources at)) sources later
   pub ended : lent_at lent later next ≡ None → AllByRecursion (λ s. lent s ≡ None) later
+  pub past : IsAtLeast lent sources at
+      → AllZip (MovesPast steps lent (lent_at lent sources at)) sources later
+  pub least : IsLeast (map lent later) next
+
+-- a source that is to go on breaks off
+pub record BreaksAmong {S : Type 0} (breaks moved : S → Type 0) (sources : List S) : Type 0 where
+  pub source : S
+  pub among : Contains sources source
+  pub moves : moved source
+  pub here : breaks source

@@ -1,6 +1,6 @@
 -- What is written of several lists.
 use Rattle.std.proofs.Common.{◌≡◌, Bool, true, false}
-use Rattle.std.specs.Prelude.{ℕ, List, [], ◌∷◌, filter, Option, Some, None, IsSome, is_some, ◌||◌}
+use Rattle.std.specs.Prelude.{ℕ, List, [], ◌∷◌, filter, Option, Some, None, IfSome, IsSomeAnd, is_some, ◌||◌}
 use Rattle.std.specs.List.{AllByRecursion}
 use Rattle.cell_key.specs.Entries.{Entry, IsEntryList, merged, entry_of_key, first_naming, value_of}
 
@@ -39,8 +39,18 @@ NamesFirst =
     × ((keep_erasures : Bool) → value_of (entry_of_key (written keep_erasures lists) name)
     ≡ value_of (first_naming lists name))
 
--- a source goes on by one step after the other, each but the last to an entry
-pub data StepsOn {S : Type 0} (steps : S → S → Type 0) (lent : S → Option Entry) : S → S → Type 0 where
-  steps_once : {s t : S} → steps s t → StepsOn steps lent s t
-  steps_past : {s t u : S} → steps s t → IsSome (lent t) → StepsOn steps lent t u
-      → StepsOn steps lent s u
+-- a source goes on by one step after the other, each but the last to an entry that isn't written
+pub data StepsOn {S : Type 0} (keep_erasures : Bool) (steps : S → S → Type 0)
+    (lent : S → Option Entry) : S → S → Type 0 where
+  steps_once : {s t : S} → steps s t → IfSome (lent t) (λ e. is_written keep_erasures e ≡ true)
+      → StepsOn keep_erasures steps lent s t
+  steps_past : {s t u : S} → steps s t
+      → IsSomeAnd (lent t) (λ e. is_written keep_erasures e ≡ false)
+      → StepsOn keep_erasures steps lent t u → StepsOn keep_erasures steps lent s u
+
+-- or it breaks off on the way
+pub data BreaksOn {S : Type 0} (keep_erasures : Bool) (steps : S → S → Type 0)
+    (lent : S → Option Entry) (breaks : S → Type 0) : S → Type 0 where
+  breaks_here : {s : S} → breaks s → BreaksOn keep_erasures steps lent breaks s
+  breaks_past : {s t : S} → steps s t → IsSomeAnd (lent t) (λ e. is_written keep_erasures e ≡ false)
+      → BreaksOn keep_erasures steps lent breaks t → BreaksOn keep_erasures steps lent breaks s

@@ -60,6 +60,8 @@ impl<F: Files, S: Source<F>> Source<F> for Bounded<'_, S> {
 
     ghost steps = { λ disk s t. BoundedSteps (S.steps disk) S.lent s t };
 
+    ghost breaks = { λ disk s. S.breaks disk (source_of s) };
+
     ghost left = { λ s. S.left (source_of s) };
 
     fn advance(&mut self, files: &mut F) -> Result<bool, Refusal> {

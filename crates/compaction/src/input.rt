@@ -14,7 +14,7 @@ pub enum Input<'a> {
 }
 
 impl<F: Files> Source<F> for Input<'_> {
-    ghost use Rattle.compaction.specs.Inputs.{input_remaining, input_lent, input_left, InputHolds, InputSteps};
+    ghost use Rattle.compaction.specs.Inputs.{input_remaining, input_lent, input_left, InputBreaks, InputHolds, InputSteps};
     ghost use Rattle.compaction.specs.ListLaws.{input_list};
 
     ghost holds = { InputHolds };
@@ -24,6 +24,8 @@ impl<F: Files> Source<F> for Input<'_> {
     ghost lent = { input_lent };
 
     ghost steps = { InputSteps };
+
+    ghost breaks = { InputBreaks };
 
     ghost left = { input_left ⟦<FileCursor<'static> as Source<F>>⟧.left };
 

@@ -1,13 +1,13 @@
 //! Several sources as one.
 
-ghost use Rattle.std.specs.Prelude.{ℕ, ◌≡◌, ◌≤◌, ◌+◌, None, length, map, is_some, sum_by, IsTrue, IsSome, OnOk, IfErr, IsErrOf, Option, option_and_then, option_copied};
+ghost use Rattle.std.specs.Prelude.{ℕ, ◌≡◌, ◌≤◌, ◌+◌, None, length, map, is_some, sum_by, IsTrue, IsSome, OnOk, IfErr, IsErrOf, Option, option_and_then, option_copied, true};
 ghost use Rattle.std.specs.List.{AllByRecursion, AllZip};
 ghost use Rattle.file_store.specs.Store.{Contents};
 ghost use Rattle.cell_key.specs.Entries.{merged};
 ghost use Rattle.sorted_file.specs.Source.{ComesToEnd, IsReadRefusal};
 ghost use Rattle.cell_key.specs.Faults.{HasReason};
 ghost use Rattle.compaction.specs.Least.{IsLeast};
-ghost use Rattle.compaction.specs.Merging.{AreAtStart, MayStep, lent_at, Moves, StepsTo, MergeHolds, HasStarted, cost, one};
+ghost use Rattle.compaction.specs.Merging.{AreAtStart, BreaksAmong, GoesPast, IsAtLeast, IsMoved, MayStep, MovesPast, lent_at, Moves, StepsTo, MergeHolds, HasStarted, cost, one};
 ghost use Rattle.compaction.specs.Ties.{comes_first, ties};
 
 use cell_key::{EntryRef, Refusal};
@@ -77,6 +77,8 @@ fn step_all<F: Files, S: Source<F>>(sources: &mut [S], files: &mut F) -> Result<
         (S.holds (F.contents files.old)) None) sources.old sources.new) }
     ensures damaged { IsErrOf result Refusal.Damaged
         → ¬ AllByRecursion (S.holds (F.contents files.old)) sources.old }
+    ensures broken { IsErrOf result Refusal.Damaged
+        → BreaksAmong (S.breaks (F.contents files.old)) (IsMoved S.lent None) sources.old }
 {
     for source in sources.iter_mut() {
         let _ = source.advance(files)?;
@@ -95,14 +97,17 @@ fn step_after<F: Files, S: Source<F>>(
     ensures refusal { IfErr result IsReadRefusal }
     ensures cost { OnOk result (sum_by (λ s. cost (S.left s) (S.lent s)) sources.new
         ≤ sum_by (λ s. cost (S.left s) (S.lent s)) sources.old) }
-    ensures moves { OnOk result
-        (AllZip (MayStep (S.steps (F.contents files.old))) sources.old sources.new) }
+    ensures moves { OnOk result (AllZip (GoesPast (S.steps (F.contents files.old))
+        S.lent (S.lent least.now)) sources.old sources.new) }
     ensures steps { OnOk result (AllByRecursion (λ s. S.holds (F.contents files.old) s
         × HasStarted S.lent (S.remaining (F.contents files.old)) s) sources.old
         → AllZip (StepsTo S.lent (S.remaining (F.contents files.old))
         (S.holds (F.contents files.old)) (S.lent least.now)) sources.old sources.new) }
     ensures damaged { IsErrOf result Refusal.Damaged
         → ¬ AllByRecursion (S.holds (F.contents files.old)) sources.old }
+    ensures broken { IsErrOf result Refusal.Damaged
+        → BreaksAmong (S.breaks (F.contents files.old))
+        (λ s. ties (S.lent least.now) (S.lent s) ≡ true) sources.old }
 {
     for source in sources.iter_mut() {
         if is_tied(least, source) {
@@ -126,12 +131,18 @@ fn step_tied<F: Files, S: Source<F>>(
         ≤ sum_by (λ s. cost (S.left s) (S.lent s)) sources.old) }
     ensures moves { OnOk result
         (AllZip (MayStep (S.steps (F.contents files.old))) sources.old sources.new) }
+    ensures past { OnOk result (IsLeast (map S.lent sources.old) at
+        → AllZip (GoesPast (S.steps (F.contents files.old)) S.lent
+        (lent_at S.lent sources.old at)) sources.old sources.new) }
     ensures steps { OnOk result (MergeHolds S.lent (S.remaining (F.contents files.old))
         (S.holds (F.contents files.old)) sources.old at
         → AllZip (StepsTo S.lent (S.remaining (F.contents files.old))
         (S.holds (F.contents files.old)) (lent_at S.lent sources.old at)) sources.old sources.new) }
     ensures damaged { IsErrOf result Refusal.Damaged
         → ¬ AllByRecursion (S.holds (F.contents files.old)) sources.old }
+    ensures broken { IsErrOf result Refusal.Damaged
+        → BreaksAmong (S.breaks (F.contents files.old))
+        (IsMoved S.lent (lent_at S.lent sources.old at)) sources.old }
 {
     let (_before, rest) = sources.split_at_mut(at);
     let (least, after) = rest.split_first_mut().unwrap();
@@ -162,12 +173,18 @@ fn step<F: Files, S: Source<F>>(sources: &mut [S], at: usize, files: &mut F) -> 
         ≤ sum_by (λ s. cost (S.left s) (S.lent s)) sources.old) }
     ensures moves { OnOk result (AllZip (Moves (S.steps (F.contents files.old))
         (lent_at S.lent sources.old at)) sources.old sources.new) }
+    ensures past { OnOk result (IsAtLeast S.lent sources.old at
+        → AllZip (MovesPast (S.steps (F.contents files.old)) S.lent
+        (lent_at S.lent sources.old at)) sources.old sources.new) }
     ensures steps { OnOk result (MergeHolds S.lent (S.remaining (F.contents files.old))
         (S.holds (F.contents files.old)) sources.old at
         → AllZip (StepsTo S.lent (S.remaining (F.contents files.old))
         (S.holds (F.contents files.old)) (lent_at S.lent sources.old at)) sources.old sources.new) }
     ensures damaged { IsErrOf result Refusal.Damaged
         → ¬ AllByRecursion (S.holds (F.contents files.old)) sources.old }
+    ensures broken { IsErrOf result Refusal.Damaged
+        → BreaksAmong (S.breaks (F.contents files.old))
+        (IsMoved S.lent (lent_at S.lent sources.old at)) sources.old }
 {
     if is_at_entry(sources, at) {
         step_tied(sources, at, files)
@@ -191,6 +208,7 @@ impl<S> Merge<S> {
         ensures comes { (disk : Option Contents)
             → ComesToEnd (⟦<Merge<S> as Source<F>>⟧.steps disk) ⟦<Merge<S> as Source<F>>⟧.lent result
             → AllByRecursion (ComesToEnd (S.steps disk) S.lent) sources.items }
+        ensures sources { result.sources ≡ sources }
     {
         let at = sources.len();
         Merge { sources, at }
@@ -199,7 +217,7 @@ impl<S> Merge<S> {
 
 impl<F: Files, S: Source<F>> Source<F> for Merge<S> {
     ghost use Rattle.std.specs.Prelude.{sum_by};
-    ghost use Rattle.compaction.specs.Merging.{lent_at, merge_remaining, MergeHolds, MergeSteps, cost};
+    ghost use Rattle.compaction.specs.Merging.{lent_at, merge_remaining, BreaksAmong, IsMoved, MergeHolds, MergeSteps, cost};
     ghost use Rattle.compaction.specs.MergeLaw.{merge_list};
 
     ghost holds = { λ disk s.
@@ -211,6 +229,9 @@ impl<F: Files, S: Source<F>> Source<F> for Merge<S> {
 
     ghost steps = { λ disk s t.
         MergeSteps (S.steps disk) S.lent s.sources.items s.at t.sources.items t.at };
+
+    ghost breaks = { λ disk s. BreaksAmong
+        (S.breaks disk) (IsMoved S.lent (lent_at S.lent s.sources.items s.at)) s.sources.items };
 
     ghost left = { λ s. sum_by (λ x. cost (S.left x) (S.lent x)) s.sources.items };
 

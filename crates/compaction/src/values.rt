@@ -39,7 +39,7 @@ impl<S> Values<S> {
 }
 
 impl<F: Files, S: Source<F>> Source<F> for Values<S> {
-    ghost use Rattle.compaction.specs.Writing.{StepsOn, only_written};
+    ghost use Rattle.compaction.specs.Writing.{BreaksOn, StepsOn, only_written};
     ghost use Rattle.compaction.specs.ListLaws.{written_list};
 
     ghost holds = { λ disk s. S.holds disk s.source };
@@ -48,7 +48,11 @@ impl<F: Files, S: Source<F>> Source<F> for Values<S> {
 
     ghost lent = { λ s. S.lent s.source };
 
-    ghost steps = { λ disk s t. StepsOn (S.steps disk) S.lent s.source t.source };
+    ghost steps = { λ disk s t. (t.keep_erasures ≡ s.keep_erasures)
+        × StepsOn s.keep_erasures (S.steps disk) S.lent s.source t.source };
+
+    ghost breaks = { λ disk s.
+        BreaksOn s.keep_erasures (S.steps disk) S.lent (S.breaks disk) s.source };
 
     ghost left = { λ s. S.left s.source };
 

@@ -9,6 +9,7 @@ ghost use Rattle.sorted_file.specs.Source.{ComesToEnd, IsWriteRefusal};
 ghost use Rattle.sorted_file.specs.declared.format.Format.TheVariants.{Two};
 ghost use Rattle.cell_key.specs.Faults.{HasReason};
 ghost use Rattle.compaction.specs.Merging.{AreAtStart};
+ghost use Rattle.compaction.specs.Passing.{IsFileOfMerge, MergeBreaks, MergesTooMuch};
 ghost use Rattle.compaction.specs.Writing.{written};
 
 use crate::merge::Merge;
@@ -42,6 +43,10 @@ pub fn merge_into<F: Files, S: Source<F> + Drop>(
         × (length image ≤ file_limit)
         × (AreAtStart S.lent (S.holds (F.contents files.old)) sources.items → IsFile Two
         (written keep_erasures (map (S.remaining (F.contents files.old)) sources.items)) image))) }
+    ensures whole { OnOk result ((image : List ℕ)
+        × (F.contents files.new ≡ with_file name image (F.contents files.old))
+        × IsFileOfMerge
+        (S.steps (F.contents files.old)) S.lent keep_erasures sources.items image) }
     ensures comes { OnOk result (AllByRecursion
         (ComesToEnd (S.steps (F.contents files.old)) S.lent) sources.items) }
     ensures large { IsErrOf result Refusal.FileTooLarge
@@ -49,6 +54,10 @@ pub fn merge_into<F: Files, S: Source<F> + Drop>(
         (written keep_erasures (map (S.remaining (F.contents files.old)) sources.items)) }
     ensures damaged { IsErrOf result Refusal.Damaged
         → ¬ AreAtStart S.lent (S.holds (F.contents files.old)) sources.items }
+    ensures too_much { IsErrOf result Refusal.FileTooLarge → MergesTooMuch
+        (S.steps (F.contents files.old)) S.lent keep_erasures file_limit sources.items }
+    ensures broken { IsErrOf result Refusal.Damaged → MergeBreaks (S.steps (F.contents files.old))
+        S.lent (S.breaks (F.contents files.old)) sources.items }
     ensures large_same { IsErrOf result Refusal.FileTooLarge
         → F.contents files.new ≡ F.contents files.old }
     ensures damaged_same { IsErrOf result Refusal.Damaged

@@ -33,6 +33,10 @@ with_file name bytes = option_map (λ m. map.insert m name bytes)
 abbrev pub without_file : ℕ → Option Contents → Option Contents
 without_file name = option_map (λ m. map.remove m name)
 
+-- the contents are as before, or a file has these bytes
+abbrev pub MayHaveFile : ℕ → List ℕ → Option Contents → Option Contents → Type 0
+MayHaveFile name bytes old new = (new ≡ old) ⊎ (new ≡ with_file name bytes old)
+
 -- the contents are as before, or the file was removed
 abbrev pub MayLack : ℕ → Option Contents → Option Contents → Type 0
 MayLack name old new = (new ≡ old) ⊎ (new ≡ without_file name old)

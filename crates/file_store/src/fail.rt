@@ -98,6 +98,8 @@ impl<F: Files> Files for FailAt<F> {
 
     ghost faults = { λ files. together (F.faults files.inner) files.counter.faults };
 
+    ghost replaces = { ⊥ };
+
     fn put(&mut self, name: u64, bytes: &[u8]) -> Result<(), FileFault>
         ensures counted { self.new.counter ≡ counted self.old.counter }
         ensures answer { IsAnswer (next_fail self.old.counter)

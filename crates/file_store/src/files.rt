@@ -2,7 +2,7 @@
 
 ghost use Rattle.std.specs.Prelude.{◌≡◌, ◌≤◌, ℕ, ◌++◌, length, Option, Some, option_map, OnOk, OnErr, IfOk, IfSome, IsErrOf};
 ghost use Rattle.std.specs.FinMap as map;
-ghost use Rattle.file_store.specs.Store.{Contents, HasFaultCause, KeepsOthers, MayLack, Reads, bytes_of, with_file, without_file};
+ghost use Rattle.file_store.specs.Store.{Contents, HasFaultCause, KeepsOthers, MayHaveFile, MayLack, Reads, bytes_of, with_file, without_file};
 ghost use Rattle.file_store.specs.Faults.{fault_text};
 ghost use Rattle.file_store.specs.declared.files.FileFault.TheVariants.{Memory};
 
@@ -56,12 +56,17 @@ pub trait Files {
     /// How often a device has failed, up to the greatest number.
     ghost faults: { Self → ℕ };
 
+    /// Whether a put that fails leaves the old file or the new one, and nothing between.
+    ghost replaces: { Type 0 };
+
     /// Makes or replaces a file. After a device's fault the bytes under this name are open, and all other
     /// files are as before. If memory was refused, all files are as before.
     fn put(&mut self, name: u64, bytes: &[u8]) -> Result<(), FileFault>
         ensures ok { OnOk result (contents self.new
             ≡ with_file name bytes.now (contents self.old)) }
         ensures err { OnErr result (KeepsOthers name (contents self.old) (contents self.new)) }
+        ensures whole { replaces → OnErr result
+            (MayHaveFile name bytes.now (contents self.old) (contents self.new)) }
         ensures memory { IsErrOf result Memory → contents self.new ≡ contents self.old }
         ensures cause { HasFaultCause (faults self.old) (faults self.new) result };
 
@@ -70,6 +75,8 @@ pub trait Files {
         ensures ok { OnOk result (contents self.new
             ≡ with_file name bytes.items (contents self.old)) }
         ensures err { OnErr result (KeepsOthers name (contents self.old) (contents self.new)) }
+        ensures whole { replaces → OnErr result
+            (MayHaveFile name bytes.items (contents self.old) (contents self.new)) }
         ensures memory { IsErrOf result Memory → contents self.new ≡ contents self.old }
         ensures cause { HasFaultCause (faults self.old) (faults self.new) result }
     {

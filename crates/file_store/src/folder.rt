@@ -1,6 +1,6 @@
 //! Files in a folder.
 
-ghost use Rattle.std.specs.Prelude.{◌≡◌, ◌≢◌, ◌≤◌, ◌<◌, ℕ, Err, IfOk, IfErr, IsOk, None, Ok, OnOk, Some, length};
+ghost use Rattle.std.specs.Prelude.{⊤, ◌≡◌, ◌≢◌, ◌≤◌, ◌<◌, ℕ, Err, IfOk, IfErr, IsOk, None, Ok, OnOk, Some, length};
 ghost use Rattle.std.specs.Io.KnownBytes.{Appends, IsAtEnd};
 ghost use Rattle.std.specs.IoError.{error_kind};
 ghost use Rattle.file_store.specs.Store.{HasFaultCause};
@@ -346,6 +346,8 @@ impl<R: Folders + AllocGlobal + Clone + Drop> Files for DirFiles<R> {
     ghost contents = { λ _. None };
 
     ghost faults = { λ files. files.faults };
+
+    ghost replaces = { ⊤ };
 
     fn put(&mut self, name: u64, bytes: &[u8]) -> Result<(), FileFault> {
         let called = write_file(&self.rt, self.alloc, self.folder.as_str(), name, bytes);

@@ -1,6 +1,6 @@
 //! Files in memory.
 
-ghost use Rattle.std.specs.Prelude.{◌≡◌, ◌≤◌, Some, Ok, length, option_map, IfErr, OnErr, OnOk, IsOk, IfOk};
+ghost use Rattle.std.specs.Prelude.{⊤, ◌≡◌, ◌≤◌, Some, Ok, length, option_map, IfErr, OnErr, OnOk, IsOk, IfOk};
 ghost use Rattle.std.specs.FinMap as map;
 ghost use Rattle.file_store.specs.Store.{Reads, bytes_of, part, with_front};
 
@@ -46,6 +46,8 @@ impl Files for MemFiles {
     ghost contents = { λ files. Some files };
 
     ghost faults = { λ _. 0 };
+
+    ghost replaces = { ⊤ };
 
     fn put(&mut self, name: u64, bytes: &[u8]) -> Result<(), FileFault>
         ensures ok { OnOk result (self.new ≡ map.insert self.old name bytes.now) }

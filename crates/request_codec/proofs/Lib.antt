@@ -5,3 +5,5 @@ mod Longest
 mod Names
 mod OneReply
 mod OneRequest
+mod ScanBodies
+mod Scans

@@ -1,10 +1,12 @@
 -- How long the bodies of replies are.
 use Rattle.std.proofs.Common.{◌≡◌, ℕ, ◌+◌, ◌≤◌, List, ◌++◌, length, Some, None, arith, length-append}
 use Rattle.std.specs.Int.{to_be_bytes, w32}
-use Rattle.si_model.specs.Messages.{Reply, Answered, Cleaning, Collecting, Blocked, RawFound, Begun, Pending, Held, Conflict, Drawn, Committed, Finished, RolledForward, SplitOff, Swept}
+use Rattle.si_model.specs.Messages.{Reply, Answered, Cleaning, Collecting, Blocked, RawFound, Scanned, Begun, Pending, Held, Conflict, Drawn, Committed, Finished, RolledForward, SplitOff, Swept}
 use Rattle.request_codec.specs.Fields.{number, field, cell_fields}
 use Rattle.request_codec.specs.Replies.{reply_body, HoldsWithinLimits}
 use Rattle.request_codec.specs.Stream.{frame, longest_reply}
+use Rattle.request_codec.specs.Scans.{reach_fields, items_fields}
+use Rattle.request_codec.proofs.Scans.{few_reach, length-items}
 use Rattle.request_codec.proofs.Fields.{length-number, length-field, length-cell}
 
 pub length-frame : (body : List ℕ) → length (frame body) ≡ 4 + length body
@@ -29,6 +31,17 @@ short_body (RolledForward n) p = omega (arith, length-number 8 n)
 short_body (Collecting m n) p = omega (arith, length-two 8 8 m n)
 short_body (Blocked cell n) p =
     omega (arith, p.0.few, p.1.few, length-append (cell_fields cell) (number 8 n), length-cell cell, length-number 8 n)
+short_body (Scanned items reach) p =
+    let few = p.few in
+    omega (
+      arith,
+      few,
+      few_reach reach p.reached,
+      length-append (reach_fields reach) (number 4 (length items) ++ items_fields items),
+      length-append (number 4 (length items)) (items_fields items),
+      length-number 4 (length items),
+      length-items items,
+    )
 short_body (SplitOff n) p = omega (arith, length-number 4 n)
 short_body (Swept n) p = omega (arith, length-number 8 n)
 short_body (RawFound None) p = omega arith

@@ -1,14 +1,17 @@
 -- What a body tells of its reply.
-use Rattle.std.proofs.Common.{◌≡◌, ℕ, ◌<◌, ◌^◌, ◌-◌, List, [], ◌∷◌, ◌++◌, get_or, Some, None, refl, sym, ap, subst, drop, arith, ◌∙◌}
+use Rattle.std.proofs.Common.{◌≡◌, ℕ, ◌<◌, ◌^◌, ◌-◌, List, [], ◌∷◌, ◌++◌, length, get_or, Some, None, refl, sym, ap, subst, drop, arith, ◌∙◌}
 use Rattle.cell_key.specs.Names.{IsRow, IsFamily}
 use Rattle.cell_key.specs.Refusals.{refusal_number}
 use Rattle.cell_key.specs.declared.refusals.Refusal.{Refusal}
 use Rattle.cell_key.specs.declared.refusals.Refusal.TheVariants.{UnknownSession, WrongPhase, BadRow, BadColumn, BadValue, TooManyWrites, TooManySessions, EmptyCommit, UnknownCleaner, UnknownCollector, UnknownTablet, BadSplit, UnknownServer, BadCount, MemtableFull, TooManyFiles, FileTooLarge, Exhausted, Device, NoMemory, Damaged, BadRequest, FrameTooLarge}
-use Rattle.si_model.specs.Messages.{Reply, Begun, Answered, Pending, SetDone, DeleteDone, Held, Conflict, Drawn, Committed, Lost, Finished, StopDone, NoLock, Cleaning, Decided, RolledForward, RolledBack, Gone, Collecting, More, Blocked, Collected, MinorDone, MergeDone, MajorDone, SplitOff, MoveDone, Swept, RestartDone, RawFound, CheckpointDone, Refused}
+use Rattle.si_model.specs.Messages.{Item, Reach, Reply, Begun, Answered, Pending, Scanned, SetDone, DeleteDone, Held, Conflict, Drawn, Committed, Lost, Finished, StopDone, NoLock, Cleaning, Decided, RolledForward, RolledBack, Gone, Collecting, More, Blocked, Collected, MinorDone, MergeDone, MajorDone, SplitOff, MoveDone, Swept, RestartDone, RawFound, CheckpointDone, Refused}
 use Rattle.si_model.specs.declared.replies.Cell.{Cell}
 use Rattle.request_codec.specs.Fields.{number, field, cell_fields, FitsField}
 use Rattle.request_codec.specs.Replies.{reply_body, IsReply}
 use Rattle.request_codec.proofs.Fields.{same_number, past_number, same_cell, first, second}
+use Rattle.request_codec.specs.Scans.{reach_fields, items_fields, FitsScan, StartFits}
+use Rattle.request_codec.proofs.Scans.{same_reach, same_items, all_fit, few_items}
+use Rattle.std.specs.List.{AllByRecursion}
 use Rattle.request_codec.proofs.Names.{cell_fits}
 use Rattle.request_codec.proofs.OneRequest.{lone_number, lone_tablet, lone_field}
 
@@ -274,7 +277,31 @@ raw_some_only (RawFound (Some found)) f p =
 raw_some_only (RawFound None) f p = let d = ap second p.whole in absurd (omega (arith, d))
 raw_some_only other f p = let e = ap first p.whole in absurd (omega (arith, e))
 
+-- what a scan found
+pub record AsScanned (r : Reply) (f : List ℕ) : Type 0 where
+  pub items : List (Cell × Item)
+  pub reach : Reach
+  pub starts : AllByRecursion (λ (item : Cell × Item). StartFits item.1) items
+  pub fits : FitsScan items reach
+  is : r ≡ Scanned items reach
+  pub fields : f ≡ reach_fields reach ++ (number 4 (length items) ++ items_fields items)
+
+pub scanned_only : (r : Reply) (f : List ℕ) → IsReply r (0xB1 ∷ f) → AsScanned r f
+scanned_only (Scanned items reach) f p = record { items = items; reach = reach; starts = p.numbers; fits = p.bytes; is = refl; fields = ap (drop 1) p.whole }
+scanned_only other f p = let e = ap first p.whole in absurd (omega (arith, e))
+
 -- ---- two replies of one body
+
+same_scanned : (items : List (Cell × Item)) (reach : Reach) (b : Reply) → AllByRecursion (λ (item : Cell × Item). StartFits item.1) items → FitsScan items reach
+    → AsScanned b (reach_fields reach ++ (number 4 (length items) ++ items_fields items)) → Scanned items reach ≡ b
+same_scanned items reach b starts fits g =
+    let few = fits.few in
+    let few_other = g.fits.few in
+    let r = same_reach reach g.reach (number 4 (length items) ++ items_fields items) (number 4 (length g.items) ++ items_fields g.items) fits.reached g.fits.reached g.fields in
+    let size = same_number 4 (length items) (length g.items) (items_fields items) (items_fields g.items) (omega (arith, few, few_items items)) (omega (arith, few_other, few_items g.items)) r.1 in
+    let rest = past_number 4 (length items) (length g.items) (items_fields items) (items_fields g.items) r.1 in
+    let same = same_items items g.items (all_fit items starts fits.named few) (all_fit g.items g.starts g.fits.named few_other) size rest in
+    ap (λ x. Scanned x reach) same ∙ ap (λ x. Scanned g.items x) r.0 ∙ sym g.is
 
 pair-same : (made : ℕ → ℕ → Reply) (m n k l : ℕ) → m < 2 ^ 16 → n < 2 ^ 16 → k < 2 ^ 16 → l < 2 ^ 16 → number 2 m ++ number 2 n ≡ number 2 k ++ number 2 l → made m n ≡ made k l
 pair-same made m n k l p q r s e =
@@ -313,6 +340,8 @@ one_reply (Begun n) b body p q =
 one_reply (Pending n) b body p q =
     let g = pending_only b (number 8 n) (subst (IsReply b) p.whole q) in
     ap (λ m. Pending m) (lone_number n g.n p.numbers g.fits g.fields) ∙ sym g.is
+one_reply (Scanned items reach) b body p q =
+    same_scanned items reach b p.numbers p.bytes (scanned_only b (reach_fields reach ++ (number 4 (length items) ++ items_fields items)) (subst (IsReply b) p.whole q))
 one_reply (Drawn n) b body p q =
     let g = drawn_only b (number 8 n) (subst (IsReply b) p.whole q) in
     ap (λ m. Drawn m) (lone_number n g.n p.numbers g.fits g.fields) ∙ sym g.is

@@ -1,10 +1,12 @@
 -- What a body tells of its request.
-use Rattle.std.proofs.Common.{◌≡◌, ℕ, ◌<◌, ◌^◌, List, [], ◌∷◌, ◌++◌, refl, sym, ap, subst, ◌∙◌, drop, arith}
+use Rattle.std.proofs.Common.{◌≡◌, ℕ, ◌<◌, ◌^◌, Bool, List, [], ◌∷◌, ◌++◌, refl, sym, ap, subst, ◌∙◌, drop, arith}
 use Rattle.cell_key.specs.declared.keys.Qualifier.{Qualifier}
 use Rattle.si_model.specs.declared.replies.Cell.{Cell}
-use Rattle.si_model.specs.Messages.{Request, Begin, Get, Set, Delete, Advance, Stop, CleanBegin, CleanStep, CollectBegin, CollectStep, Minor, Merge, Major, Split, Move, Sweep, OracleRestart, Raw, Checkpoint}
+use Rattle.si_model.specs.Messages.{Range, Request, Begin, Get, ScanFrom, Set, Delete, Advance, Stop, CleanBegin, CleanStep, CollectBegin, CollectStep, Minor, Merge, Major, Split, Move, Sweep, OracleRestart, Raw, Checkpoint}
 use Rattle.request_codec.specs.Fields.{number, field, cell_fields, qualifier_number, FitsField, FitsCell}
 use Rattle.request_codec.specs.Requests.{request_body, IsRequest}
+use Rattle.request_codec.specs.Scans.{flag_number, range_fields, FitsRange}
+use Rattle.request_codec.proofs.Scans.{same_flag, same_range}
 use Rattle.request_codec.proofs.Fields.{same_number, past_number, same_field, same_cell, same_qualifier, first}
 
 -- one number, cell or field alone
@@ -50,6 +52,22 @@ get_only other f p = let e = ap first p.whole in absurd (omega (arith, e))
 delete_only : (r : Request) (f : List ℕ) → IsRequest r (0x13 ∷ f) → AsOfCell r (λ start cell. Delete start cell) f
 delete_only (Delete start cell) f p = record { start = start; cell = cell; fits = p.numbers; cell_fits = p.bytes; is = refl; fields = ap (drop 1) p.whole }
 delete_only other f p = let e = ap first p.whole in absurd (omega (arith, e))
+
+record AsScan (r : Request) (f : List ℕ) : Type 0 where
+  start : ℕ
+  keys_only : Bool
+  range : Range
+  cells : ℕ
+  fits : start < 2 ^ 64
+  cells_fit : cells < 2 ^ 32
+  range_fits : FitsRange range
+  is : r ≡ ScanFrom start range keys_only cells
+  fields : f ≡ number 8 start ++ (flag_number keys_only ∷ (range_fields range ++ number 4 cells))
+
+scan_only : (r : Request) (f : List ℕ) → IsRequest r (0x31 ∷ f) → AsScan r f
+scan_only (ScanFrom start range keys_only cells) f p =
+    record { start = start; keys_only = keys_only; range = range; cells = cells; fits = p.numbers.0; cells_fit = p.numbers.1; range_fits = p.bytes; is = refl; fields = ap (drop 1) p.whole }
+scan_only other f p = let e = ap first p.whole in absurd (omega (arith, e))
 
 record AsSet (r : Request) (f : List ℕ) : Type 0 where
   start : ℕ
@@ -182,6 +200,18 @@ same_of_cell made start cell b fits cell_fits g =
     let c = lone_cell cell g.cell cell_fits g.cell_fits (past_number 8 start g.start (cell_fields cell) (cell_fields g.cell) g.fields) in
     ap (λ m. made m cell) n ∙ ap (λ d. made g.start d) c ∙ sym g.is
 
+same_scan : (start : ℕ) (range : Range) (keys_only : Bool) (cells : ℕ) (b : Request) → start < 2 ^ 64 → FitsRange range → cells < 2 ^ 32
+    → AsScan b (number 8 start ++ (flag_number keys_only ∷ (range_fields range ++ number 4 cells))) → ScanFrom start range keys_only cells ≡ b
+same_scan start range keys_only cells b fits range_fits cells_fit g =
+    let behind = flag_number keys_only ∷ (range_fields range ++ number 4 cells) in
+    let other = flag_number g.keys_only ∷ (range_fields g.range ++ number 4 g.cells) in
+    let s = same_number 8 start g.start behind other fits g.fits g.fields in
+    let rest = past_number 8 start g.start behind other g.fields in
+    let k = same_flag keys_only g.keys_only (ap first rest) in
+    let r = same_range range g.range (number 4 cells) (number 4 g.cells) range_fits g.range_fits (ap (drop 1) rest) in
+    let n = lone_tablet cells g.cells cells_fit g.cells_fit r.1 in
+    ap (λ m. ScanFrom m range keys_only cells) s ∙ ap (λ m. ScanFrom g.start m keys_only cells) r.0 ∙ ap (λ m. ScanFrom g.start g.range m cells) k ∙ ap (λ m. ScanFrom g.start g.range g.keys_only m) n ∙ sym g.is
+
 same_set : (start : ℕ) (cell : Cell) (value : List ℕ) (b : Request) → start < 2 ^ 64 → FitsCell cell → FitsField value → IsRequest b (request_body (Set start cell value)) → Set start cell value ≡ b
 same_set start cell value b fits cell_fits value_fits q =
     let g = set_only b (number 8 start ++ (cell_fields cell ++ field value)) q in
@@ -217,6 +247,9 @@ pub one_request : (a b : Request) (body : List ℕ) → IsRequest a body → IsR
 one_request Begin b body p q = sym (begin_only b [] (subst (IsRequest b) p.whole q))
 one_request (Get start cell) b body p q =
     same_of_cell (λ s c. Get s c) start cell b p.numbers p.bytes (get_only b (number 8 start ++ cell_fields cell) (subst (IsRequest b) p.whole q))
+one_request (ScanFrom start range keys_only cells) b body p q =
+    same_scan start range keys_only cells b p.numbers.0 p.bytes p.numbers.1
+    (scan_only b (number 8 start ++ (flag_number keys_only ∷ (range_fields range ++ number 4 cells))) (subst (IsRequest b) p.whole q))
 one_request (Delete start cell) b body p q =
     same_of_cell (λ s c. Delete s c) start cell b p.numbers p.bytes (delete_only b (number 8 start ++ cell_fields cell) (subst (IsRequest b) p.whole q))
 one_request (Set start cell value) b body p q = same_set start cell value b p.numbers p.bytes.0 p.bytes.1 (subst (IsRequest b) p.whole q)

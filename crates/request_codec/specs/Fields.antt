@@ -1,5 +1,5 @@
 -- The fields of messages.
-use Rattle.std.specs.Prelude.{ℕ, List, ◌++◌, ◌<◌, ◌^◌, length}
+use Rattle.std.specs.Prelude.{ℕ, List, [], ◌∷◌, ◌++◌, ◌<◌, ◌^◌, length, Option, None, Some}
 use Rattle.byteorder.specs.Endian.{big_bytes}
 use Rattle.cell_key.specs.declared.keys.Qualifier.{Qualifier}
 use Rattle.cell_key.specs.declared.keys.Qualifier.TheVariants.{Data, Lock, Write}
@@ -16,6 +16,11 @@ field bytes = number 4 (length bytes) ++ bytes
 -- a cell: its row, and its family
 unfoldable pub cell_fields : Cell → List ℕ
 cell_fields cell = field cell.row ++ field cell.family
+
+-- what may be left out: 0, or 1 and its fields
+abbrev pub optional : {A : Type 0} → (A → List ℕ) → Option A → List ℕ
+optional fields None = 0x00 ∷ []
+optional fields (Some kept) = 0x01 ∷ fields kept
 
 -- the number of a qualifier
 abbrev pub qualifier_number : Qualifier → ℕ

@@ -1,5 +1,6 @@
 pub mod Fields
 pub mod Framing
+pub mod Scans
 pub mod Requests
 pub mod Replies
 pub mod Stream

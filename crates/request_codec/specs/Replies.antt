@@ -4,9 +4,13 @@ use Rattle.std.specs.Prelude.{◌≡◌, ℕ, List, [], ◌∷◌, ◌++◌, ◌
 use Rattle.cell_key.specs.Names.{IsRow, IsFamily}
 use Rattle.cell_key.specs.Refusals.{refusal_number}
 use Rattle.cell_key.specs.Versions.{stamped}
-use Rattle.si_model.specs.Messages.{Reply, Begun, Answered, Pending, SetDone, DeleteDone, Held, Conflict, Drawn, Committed, Lost, Finished, StopDone, NoLock, Cleaning, Decided, RolledForward, RolledBack, Gone, Collecting, More, Blocked, Collected, MinorDone, MergeDone, MajorDone, SplitOff, MoveDone, Swept, RestartDone, RawFound, CheckpointDone, Refused}
-use Rattle.si_model.specs.Replies.{found_reply, progress_reply, clean_start_reply, clean_reply, collect_reply}
+use Rattle.si_model.specs.Messages.{Reply, Begun, Answered, Pending, Scanned, ToEnd, SetDone, DeleteDone, Held, Conflict, Drawn, Committed, Lost, Finished, StopDone, NoLock, Cleaning, Decided, RolledForward, RolledBack, Gone, Collecting, More, Blocked, Collected, MinorDone, MergeDone, MajorDone, SplitOff, MoveDone, Swept, RestartDone, RawFound, CheckpointDone, Refused}
+use Rattle.si_model.specs.Replies.{found_reply, progress_reply, clean_start_reply, clean_reply, collect_reply, scan_reply}
 use Rattle.request_codec.specs.Fields.{number, field, cell_fields, FitsField}
+use Rattle.request_codec.specs.Scans.{reach_fields, items_fields, FitsScan, StartFits}
+use Rattle.si_model.specs.Messages.{Item}
+use Rattle.si_model.specs.declared.replies.Cell.{Cell}
+use Rattle.std.specs.List.{AllByRecursion}
 use Rattle.request_codec.specs.declared.replies.Reply.{Reply as Kept}
 use Rattle.request_codec.specs.declared.replies.Reply.TheVariants as kept
 
@@ -14,6 +18,7 @@ use Rattle.request_codec.specs.declared.replies.Reply.TheVariants as kept
 abbrev pub replied : Kept → Reply
 replied (kept.Begin start) = Begun start
 replied (kept.Get found) = found_reply found
+replied (kept.Scan reply) = scan_reply reply
 replied kept.Set = SetDone
 replied kept.Delete = DeleteDone
 replied (kept.Step progress) = progress_reply progress
@@ -48,6 +53,8 @@ abbrev pub reply_body : Reply → List ℕ
 reply_body (Begun start) = 0x81 ∷ number 8 start
 reply_body (Answered answer) = 0x82 ∷ answer_fields answer
 reply_body (Pending start) = 0x82 ∷ 0x02 ∷ number 8 start
+reply_body (Scanned items reach) =
+    0xB1 ∷ (reach_fields reach ++ (number 4 (length items) ++ items_fields items))
 reply_body SetDone = 0x83 ∷ []
 reply_body DeleteDone = 0x93 ∷ []
 reply_body (Held place count) = 0x84 ∷ 0x01 ∷ (number 2 place ++ number 2 count)
@@ -82,6 +89,8 @@ reply_body (Refused refusal) = 0xFF ∷ refusal_number refusal ∷ []
 abbrev pub ReplyNumbersFit : Reply → Type 0
 ReplyNumbersFit (Begun start) = start < 2 ^ 64
 ReplyNumbersFit (Pending start) = start < 2 ^ 64
+ReplyNumbersFit (Scanned items reach) =
+    AllByRecursion (λ (item : Cell × Item). StartFits item.1) items
 ReplyNumbersFit (Held place count) = (place < 2 ^ 16) × (count < 2 ^ 16)
 ReplyNumbersFit (Conflict place) = place < 2 ^ 16
 ReplyNumbersFit (Drawn stamp) = stamp < 2 ^ 64
@@ -97,9 +106,10 @@ ReplyNumbersFit (RawFound (Some found)) = found.0 < 2 ^ 64
 ReplyNumbersFit other = Unit {0}
 
 -- each field of bytes has a length that fits; if a lock blocks a collector,
--- the row and the family are within their limits
+-- the row and the family are within their limits; of a scan these and the items are
 abbrev pub ReplyBytesFit : Reply → Type 0
 ReplyBytesFit (Answered (Some value)) = FitsField value
+ReplyBytesFit (Scanned items reach) = FitsScan items reach
 ReplyBytesFit (Blocked cell start) = IsRow cell.row × IsFamily cell.family
 ReplyBytesFit (RawFound (Some found)) = FitsField found.1
 ReplyBytesFit other = Unit {0}
@@ -117,6 +127,7 @@ IsNoReply body = (reply : Reply) → IsReply reply body → ⊥
 -- what the reply holds is within the limits of rows, families and values
 abbrev pub HoldsWithinLimits : Reply → Type 0
 HoldsWithinLimits (Answered (Some value)) = length value ≤ 65536
+HoldsWithinLimits (Scanned items reach) = FitsScan items reach
 HoldsWithinLimits (RawFound (Some found)) = length found.1 ≤ 65536
 HoldsWithinLimits (Blocked cell start) = IsRow cell.row × IsFamily cell.family
 HoldsWithinLimits other = Unit {0}
@@ -124,6 +135,8 @@ HoldsWithinLimits other = Unit {0}
 -- the reply holds bytes, which take memory
 abbrev pub HoldsBytes : Reply → Type 0
 HoldsBytes (Answered (Some value)) = Unit {0}
+HoldsBytes (Scanned [] ToEnd) = ⊥
+HoldsBytes (Scanned items reach) = Unit {0}
 HoldsBytes (Blocked cell start) = Unit {0}
 HoldsBytes (RawFound (Some found)) = Unit {0}
 HoldsBytes other = ⊥

@@ -1,8 +1,10 @@
 -- The bodies of requests: an operation's number, and its fields.
 use Rattle.std.specs.Prelude.{◌≡◌, ℕ, List, [], ◌∷◌, ◌++◌, ◌<◌, ◌^◌}
-use Rattle.si_model.specs.Messages.{Request, Begin, Get, Set, Delete, Advance, Stop, CleanBegin, CleanStep, CollectBegin, CollectStep, Minor, Merge, Major, Split, Move, Sweep, OracleRestart, Raw, Checkpoint}
+use Rattle.si_model.specs.Messages.{Request, Begin, Get, ScanFrom, Set, Delete, Advance, Stop, CleanBegin, CleanStep, CollectBegin, CollectStep, Minor, Merge, Major, Split, Move, Sweep, OracleRestart, Raw, Checkpoint}
 pub use Rattle.request_codec.specs.Fields.{qualifier_number}
 use Rattle.request_codec.specs.Fields.{number, field, cell_fields, FitsField, FitsCell}
+use Rattle.request_codec.specs.Scans.{flag_number, range_fields, FitsRange}
+use Rattle.si_model.specs.Replies.{range_of}
 use Rattle.request_codec.specs.declared.requests.Request.{Request as Lent}
 use Rattle.request_codec.specs.declared.requests.Request.TheVariants as lent
 
@@ -10,6 +12,7 @@ use Rattle.request_codec.specs.declared.requests.Request.TheVariants as lent
 abbrev pub asked : Lent → Request
 asked lent.Begin = Begin
 asked (lent.Get start row family) = Get start (record { row = row.now; family = family.now })
+asked (lent.Scan start range keys_only cells) = ScanFrom start (range_of range) keys_only cells
 asked (lent.Set start row family value) =
     Set start (record { row = row.now; family = family.now }) value.now
 asked (lent.Delete start row family) =
@@ -35,6 +38,8 @@ asked lent.Checkpoint = Checkpoint
 abbrev pub request_body : Request → List ℕ
 request_body Begin = 0x01 ∷ []
 request_body (Get start cell) = 0x02 ∷ (number 8 start ++ cell_fields cell)
+request_body (ScanFrom start range keys_only cells) =
+    0x31 ∷ (number 8 start ++ (flag_number keys_only ∷ (range_fields range ++ number 4 cells)))
 request_body (Set start cell value) = 0x03 ∷ (number 8 start ++ (cell_fields cell ++ field value))
 request_body (Delete start cell) = 0x13 ∷ (number 8 start ++ cell_fields cell)
 request_body (Advance start) = 0x04 ∷ number 8 start
@@ -59,6 +64,7 @@ request_body Checkpoint = 0x12 ∷ []
 abbrev pub IsOfClient : Request → Type 0
 IsOfClient Begin = Unit {0}
 IsOfClient (Get start cell) = Unit {0}
+IsOfClient (ScanFrom start range keys_only cells) = Unit {0}
 IsOfClient (Set start cell value) = Unit {0}
 IsOfClient (Delete start cell) = Unit {0}
 IsOfClient (Advance start) = Unit {0}
@@ -72,6 +78,7 @@ IsOfClient other = ⊥
 -- each number fits its field
 abbrev pub NumbersFit : Request → Type 0
 NumbersFit (Get start cell) = start < 2 ^ 64
+NumbersFit (ScanFrom start range keys_only cells) = (start < 2 ^ 64) × (cells < 2 ^ 32)
 NumbersFit (Set start cell value) = start < 2 ^ 64
 NumbersFit (Delete start cell) = start < 2 ^ 64
 NumbersFit (Advance start) = start < 2 ^ 64
@@ -88,6 +95,7 @@ NumbersFit other = Unit {0}
 -- each field of bytes has a length that fits
 abbrev pub BytesFit : Request → Type 0
 BytesFit (Get start cell) = FitsCell cell
+BytesFit (ScanFrom start range keys_only cells) = FitsRange range
 BytesFit (Set start cell value) = FitsCell cell × FitsField value
 BytesFit (Delete start cell) = FitsCell cell
 BytesFit (CleanBegin cell) = FitsCell cell

@@ -5,20 +5,21 @@ ghost use Rattle.cell_key.specs.Names.{IsRow, IsFamily};
 ghost use Rattle.cell_key.specs.Refusals.{refusal_number};
 ghost use Rattle.cell_key.specs.declared.refusals.Refusal.{Refusal as Refusals};
 ghost use Rattle.request_codec.specs.Replies.{replied, IsReply, IsNoReply, NeedsMemory};
-ghost use Rattle.si_model.specs.Replies.{found_reply, progress_reply, clean_start_reply, clean_reply, collect_reply};
+ghost use Rattle.si_model.specs.Replies.{found_reply, progress_reply, clean_start_reply, clean_reply, collect_reply, scan_reply};
 
 use crate::read_bodies::{
     whole_bytes, whole_lock, whole_u16, whole_u16_pair, whole_u32, whole_u64, whole_u64_pair,
     whole_version,
 };
+use crate::read_items::{own_items, own_reach, whole_scanned};
 use crate::replies::{
     BEGIN, BLOCKED, CHECKPOINT, CLEAN_BEGIN, CLEAN_STEP, CLEANER, COLLECT_BEGIN, COLLECT_STEP,
     COLLECTED, COMMITTED, CONFLICT, DECIDED, DELETE, FINISHED, GET, GONE, HELD, LOST, MAJOR, MERGE,
     MINOR, MORE, MOVE, NO_LOCK, NOTHING, ORACLE_RESTART, PENDING, RAW, REFUSED, ROLLED_BACK,
-    ROLLED_FORWARD, Reply, SET, SPLIT, STAMPED, STEP, STOP, SWEEP, VALUE, VERSION,
+    ROLLED_FORWARD, Reply, SCAN, SET, SPLIT, STAMPED, STEP, STOP, SWEEP, VALUE, VERSION,
 };
 use cell_key::{Family, Refusal, Row};
-use si_model::{Cell, CleanReply, CleanStart, CollectReply, Found, Progress};
+use si_model::{Cell, CleanReply, CleanStart, CollectReply, Found, Progress, ScanReply};
 use std::alloc::{AllocError, Global};
 
 /// The refusal of a number.
@@ -103,6 +104,22 @@ fn decode_raw(alloc: Global, fields: &[u8]) -> Result<Option<Reply>, AllocError>
         }
         _ => Ok(None),
     }
+}
+
+/// What a scan answers, from the fields of its reply, and none if they are not those of one.
+fn decode_scan(alloc: Global, fields: &[u8]) -> Result<Option<ScanReply>, Refusal>
+    ensures found { IfOk result (λ found.
+        IfSome found (λ reply. IsReply (scan_reply reply) (0xB1 ∷ fields.now))) }
+    ensures none { IfOk result (λ found. IfNone found (IsNoReply (0xB1 ∷ fields.now))) }
+    ensures refusal { IfErr result (λ refusal. refusal ≡ Refusal.NoMemory) }
+    ensures needed { OnErr result (NeedsMemory (0xB1 ∷ fields.now)) }
+{
+    let Some((reach, count, rest)) = whole_scanned(fields) else {
+        return Ok(None);
+    };
+    let reach = own_reach(alloc, reach)?;
+    let items = own_items(alloc, rest, count)?;
+    Ok(Some(ScanReply { items, reach }))
 }
 
 /// What a step did, from the fields of its reply.
@@ -246,12 +263,13 @@ fn decode_refusal(fields: &[u8]) -> Option<Refusal>
     refusal_of(*number)
 }
 
-/// The reply of a body that begins with this operation's number, neither read's nor a collector's
-/// step's, and none if it is the body of no reply.
+/// The reply of a body that begins with this operation's number, neither a read's nor a scan's nor a
+/// collector's step's, and none if it is the body of no reply.
 fn decode_other(operation: u8, fields: &[u8]) -> Option<Reply>
     requires get { operation ≢ 0x82 }
     requires collect { operation ≢ 0x89 }
     requires raw { operation ≢ 0x91 }
+    requires scan { operation ≢ 0xB1 }
     ensures found { IfSome result (λ reply. IsReply (replied reply) (operation ∷ fields.now)) }
     ensures none { IfNone result (IsNoReply (operation ∷ fields.now)) }
 {
@@ -302,7 +320,8 @@ fn decode_other(operation: u8, fields: &[u8]) -> Option<Reply>
 }
 
 /// The reply whose body this is, and none if it is the body of no reply.
-/// Answers `NoMemory` if there is no room for a value, or for the cell that blocks a collector.
+/// Answers `NoMemory` if there is no room for a value, for the cell that blocks a collector, or
+/// for what a scan names.
 pub fn decode_reply(alloc: Global, body: &[u8]) -> Result<Option<Reply>, Refusal>
     ensures found { IfOk result (λ found.
         IfSome found (λ reply. IsReply (replied reply) body.now)) }
@@ -322,6 +341,12 @@ pub fn decode_reply(alloc: Global, body: &[u8]) -> Result<Option<Reply>, Refusal
             Ok(Some(Reply::Get(found)))
         }
         RAW => Ok(decode_raw(alloc, fields)?),
+        SCAN => {
+            let Some(reply) = decode_scan(alloc, fields)? else {
+                return Ok(None);
+            };
+            Ok(Some(Reply::Scan(reply)))
+        }
         COLLECT_STEP => {
             let Some(done) = decode_collect_reply(alloc, fields)? else {
                 return Ok(None);

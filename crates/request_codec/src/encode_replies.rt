@@ -13,6 +13,7 @@ use crate::replies::{
     ROLLED_FORWARD, Reply, SET, SPLIT, STAMPED, STEP, STOP, SWEEP, VALUE, VERSION,
 };
 use crate::write_fields::{push_byte, push_cell, push_field, push_u16, push_u32, push_u64};
+use crate::write_scans::{push_scanned, scan_length};
 use cell_key::{Refusal, Stamp};
 use si_model::{Cell, CleanReply, CleanStart, CollectReply, Found, Progress};
 
@@ -27,6 +28,7 @@ pub fn reply_length(reply: &Reply) -> usize
         Reply::Get(Found::Nothing) | Reply::Raw(None) | Reply::Refused(_) => 2,
         Reply::Get(Found::Value(value)) => 6 + value.len(),
         Reply::Get(Found::Pending(_)) => 10,
+        Reply::Scan(reply) => scan_length(reply),
         Reply::Set | Reply::Delete | Reply::Stop => 1,
         Reply::OracleRestart | Reply::Checkpoint => 1,
         Reply::Minor | Reply::Merge | Reply::Major | Reply::Move => 1,
@@ -216,6 +218,7 @@ fn push_reply(reply: &Reply, out: &mut Vec<u8>)
             push_u64(out, *start);
         }
         Reply::Get(found) => push_found(found, out),
+        Reply::Scan(reply) => push_scanned(out, reply),
         Reply::Set => push_byte(out, SET),
         Reply::Delete => push_byte(out, DELETE),
         Reply::Step(progress) => push_progress(*progress, out),

@@ -8,9 +8,12 @@ mod laws;
 mod qualifiers;
 mod read_bodies;
 mod read_fields;
+mod read_items;
+mod read_scans;
 mod replies;
 mod requests;
 mod write_fields;
+mod write_scans;
 
 pub use decode_replies::decode_reply;
 pub use encode_replies::{encode_reply, reply_length};

@@ -1,5 +1,5 @@
 //! Reading fields from the front of lent bytes.
-ghost use Rattle.std.specs.Prelude.{◌≡◌, ◌≢◌, ◌≤◌, ◌<◌, ◌^◌, ◌++◌, List, ℕ, length, IfSome, IfNone};
+ghost use Rattle.std.specs.Prelude.{◌≡◌, ◌≢◌, ◌≤◌, ◌<◌, ◌^◌, ◌++◌, ◌∷◌, [], List, ℕ, length, IfSome, IfNone};
 ghost use Rattle.si_model.specs.declared.replies.Cell.{Cell as CellOf};
 ghost use Rattle.cell_key.specs.declared.keys.Qualifier.{Qualifier as Qualifiers};
 ghost use Rattle.request_codec.specs.Fields.{number, field, cell_fields, qualifier_number, FitsField, FitsCell};
@@ -22,6 +22,16 @@ fn take_front<'a>(rest: &mut &'a [u8], len: usize) -> Option<&'a [u8]>
     let front = &all[..len];
     rest.advance(len);
     Some(front)
+}
+
+/// The first byte.
+pub(crate) fn take_byte(rest: &mut &[u8]) -> Option<u8>
+    ensures found { IfSome result (λ byte. rest.old.now ≡ byte ∷ rest.new.now) }
+    ensures none { IfNone result (rest.old.now ≡ []) }
+{
+    let (byte, after) = rest.split_first()?;
+    *rest = after;
+    Some(*byte)
 }
 
 /// A number of one byte.

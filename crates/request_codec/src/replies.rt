@@ -1,7 +1,7 @@
 //! What the store answers, and the numbers by which its bytes say so.
 
 use cell_key::{Refusal, Stamp};
-use si_model::{CleanReply, CleanStart, CollectReply, Found, Progress};
+use si_model::{CleanReply, CleanStart, CollectReply, Found, Progress, ScanReply};
 
 /// The most bytes of a reply's frame, its length's four bytes too: a stamp and the longest value.
 pub const LONGEST_REPLY: usize = 65_554;
@@ -13,6 +13,8 @@ pub enum Reply {
     Begin(Stamp),
     /// What the read found.
     Get(Found),
+    /// What the scan found, and how far it went.
+    Scan(ScanReply),
     /// The write is buffered.
     Set,
     /// The deletion is buffered.
@@ -60,6 +62,18 @@ pub(crate) const NOTHING: u8 = 0x00;
 pub(crate) const VALUE: u8 = 0x01;
 
 pub(crate) const PENDING: u8 = 0x02;
+
+pub(crate) const SCAN: u8 = 0xB1;
+
+pub(crate) const REACH_END: u8 = 0x01;
+
+pub(crate) const REACH_MORE: u8 = 0x02;
+
+pub(crate) const ITEM_VALUE: u8 = 0x01;
+
+pub(crate) const ITEM_PENDING: u8 = 0x02;
+
+pub(crate) const ITEM_UNSENT: u8 = 0x03;
 
 pub(crate) const SET: u8 = 0x83;
 

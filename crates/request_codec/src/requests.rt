@@ -8,10 +8,13 @@ use crate::read_bodies::{
     whole_bytes, whole_cell, whole_move, whole_raw, whole_read, whole_u32, whole_u32_pair,
     whole_u64, whole_visits, whole_write,
 };
+use crate::read_scans::whole_scan;
 use crate::write_fields::{
     push_byte, push_cell, push_field, push_qualifier, push_u8, push_u32, push_u64,
 };
+use crate::write_scans::{push_scan, range_length};
 use cell_key::{Qualifier, Refusal, Stamp};
+use si_model::ScanRange;
 
 /// What is asked of the store. Rows, families and values are lent by the body that was read, and may be outside
 /// their limits.
@@ -24,6 +27,14 @@ pub enum Request<'a> {
         start: Stamp,
         row: &'a [u8],
         family: &'a [u8],
+    },
+    /// Reads the cells of a range as of the session's start: their values, or whether they have one. At most so many
+    /// cells are looked at.
+    Scan {
+        start: Stamp,
+        range: ScanRange<'a>,
+        keys_only: bool,
+        cells: u32,
     },
     /// Buffers a write.
     Set {
@@ -138,6 +149,8 @@ const CHECKPOINT: u8 = 0x12;
 
 const DELETE: u8 = 0x13;
 
+pub(crate) const SCAN: u8 = 0x31;
+
 /// The request of a body that begins with this operation's number, a session's, a cleaner's or a
 /// collector's, and none if it is the body of no request.
 fn decode_client(operation: u8, fields: &[u8]) -> Option<Request<'_>>
@@ -194,6 +207,7 @@ fn decode_client(operation: u8, fields: &[u8]) -> Option<Request<'_>>
 fn decode_upkeep(operation: u8, fields: &[u8]) -> Option<Request<'_>>
     requires later { 0x0A ≤ operation }
     requires other { operation ≢ 0x13 }
+    requires scan { operation ≢ 0x31 }
     ensures found { IfSome result (λ request. IsRequest (asked request) (operation ∷ fields.now)) }
     ensures malformed { IfNone result (IsMalformed (operation ∷ fields.now)) }
 {
@@ -241,13 +255,29 @@ fn decode_raw(fields: &[u8]) -> Option<Request<'_>>
     })
 }
 
+/// A scan, from its fields, and none if they are not those of one.
+fn decode_scan(fields: &[u8]) -> Option<Request<'_>>
+    ensures found { IfSome result (λ request. IsRequest (asked request) (0x31 ∷ fields.now)) }
+    ensures malformed { IfNone result (IsMalformed (0x31 ∷ fields.now)) }
+{
+    let (start, keys_only, range, cells) = whole_scan(fields)?;
+    Some(Request::Scan {
+        start,
+        range,
+        keys_only,
+        cells,
+    })
+}
+
 /// The request whose body this is, and none if it is the body of no request. Its fields are lent by the body.
 pub fn decode_request(body: &[u8]) -> Option<Request<'_>>
     ensures found { IfSome result (λ request. IsRequest (asked request) body.now) }
     ensures malformed { IfNone result (IsMalformed body.now) }
 {
     let (operation, fields) = body.split_first()?;
-    if *operation < MINOR || *operation == DELETE {
+    if *operation == SCAN {
+        decode_scan(fields)
+    } else if *operation < MINOR || *operation == DELETE {
         decode_client(*operation, fields)
     } else {
         decode_upkeep(*operation, fields)
@@ -266,6 +296,7 @@ fn request_length(request: &Request<'_>) -> usize
         Request::Get { row, family, .. } | Request::Delete { row, family, .. } => {
             17 + row.len() + family.len()
         }
+        Request::Scan { range, .. } => 14 + range_length(range),
         Request::Set {
             row,
             family,
@@ -407,6 +438,12 @@ fn push_client(request: &Request<'_>, out: &mut Vec<u8>)
     match *request {
         Request::Begin => push_byte(out, BEGIN),
         Request::Get { start, row, family } => push_of_cell(out, GET, start, row, family),
+        Request::Scan {
+            start,
+            range,
+            keys_only,
+            cells,
+        } => push_scan(out, start, range, keys_only, cells),
         Request::Set {
             start,
             row,
@@ -474,6 +511,7 @@ fn push_request(request: &Request<'_>, out: &mut Vec<u8>)
     match *request {
         Request::Begin
         | Request::Get { .. }
+        | Request::Scan { .. }
         | Request::Set { .. }
         | Request::Delete { .. }
         | Request::Step { .. }

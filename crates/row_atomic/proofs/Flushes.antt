@@ -1,5 +1,5 @@
--- Compactions of the tablets whose memtables have many entries, one after the other.
-use Rattle.std.proofs.Common.{◌≡◌, ◌≢◌, ◌<◌, ◌≤◌, ◌+◌, ℕ, zero, suc, Bool, true, false, List, [], ◌∷◌, length, map, filter, drop, Option, Some, None, Result, Ok, Err, cond, refl, sym, ap, ◌∙◌, subst, arith, nat_le, slice_get, slice_index_or, add-one}
+-- Compactions of the tablets whose memtables are full, one after the other.
+use Rattle.std.proofs.Common.{◌≡◌, ◌≢◌, ◌<◌, ◌≤◌, ◌+◌, ℕ, zero, suc, Bool, true, false, List, [], ◌∷◌, length, map, filter, drop, Option, Some, None, Result, Ok, Err, cond, refl, sym, ap, ◌∙◌, subst, arith, slice_get, slice_index_or, add-one}
 use Rattle.std.proofs.lemmas.List.{drop_all, length-map}
 use Rattle.std.specs.Bool.{⊤}
 use Rattle.std.specs.List.{AllByRecursion}
@@ -10,14 +10,17 @@ use Rattle.metadata_table.specs.declared.places.Place.{Place}
 use Rattle.metadata_table.specs.Table.{HasTablet, IsTable}
 use Rattle.sorted_file.specs.declared.file.SortedFile.{SortedFile}
 use Rattle.cell_key.specs.Entries.{Entry}
+use Rattle.memtable.specs.Edits.{bytes_of}
 use Rattle.tablet.specs.declared.ranges.RowRange.{RowRange}
 use Rattle.tablet.specs.declared.tablet.Tablet.{Tablet}
 use Rattle.row_atomic.specs.Changes.{Holds, parts_of}
 use Rattle.row_atomic.specs.Clusters.{ClusterState, Spot, spot_of, tablet_numbered}
 use Rattle.row_atomic.specs.Commands.{AnswersAll, IsOutcome, cells_shown, done_of}
-use Rattle.row_atomic.specs.Flushes.{CompactsFull, KeepsShown, has_entries, numbers_of}
+use Rattle.row_atomic.specs.Flushes.{CompactsFull, KeepsShown, has_full, numbers_of}
 use Rattle.row_atomic.specs.declared.commands.Command.TheVariants as command
 use Rattle.row_atomic.specs.declared.commands.Outcome.{Outcome}
+use Rattle.row_atomic.specs.declared.fill.FlushLimits.{FlushLimits}
+use Rattle.row_atomic.specs.Memtables.{reaches}
 use Rattle.row_atomic.proofs.Numbers.{AreOthers, Differ, differ_of}
 
 -- ---- numbers that differ
@@ -85,34 +88,34 @@ none_from places i h = drop_all i (numbers_of places) (let same = length-map pla
 -- ---- memtables that stay
 
 -- what is told of a tablet by its parts
-abbrev entries_by : ℕ → Option (RowRange × (List Entry × List SortedFile)) → Bool
-entries_by flush None = false
-entries_by flush (Some parts) = nat_le flush (length parts.1.0)
+abbrev full_by : FlushLimits → Option (RowRange × (List Entry × List SortedFile)) → Bool
+full_by limits None = false
+full_by limits (Some parts) = reaches limits (length parts.1.0) (bytes_of parts.1.0)
 
 abbrev pub part_at : List (RowRange × (List Entry × List SortedFile)) → ℕ → Option (RowRange × (List Entry × List SortedFile))
 part_at parts zero = None
 part_at parts (suc i) = slice_get parts i
 
-by_index : (flush : ℕ) (ts : List Tablet) (i : ℕ) → has_entries flush (slice_get ts i) ≡ entries_by flush (slice_get (map parts_of ts) i)
-by_index flush [] i = refl
-by_index flush (t ∷ ts) zero = refl
-by_index flush (t ∷ ts) (suc i) = by_index flush ts i
+by_index : (limits : FlushLimits) (ts : List Tablet) (i : ℕ) → has_full limits (slice_get ts i) ≡ full_by limits (slice_get (map parts_of ts) i)
+by_index limits [] i = refl
+by_index limits (t ∷ ts) zero = refl
+by_index limits (t ∷ ts) (suc i) = by_index limits ts i
 
-by_parts : (flush : ℕ) (ts : List Tablet) (n : ℕ) → has_entries flush (tablet_numbered n ts) ≡ entries_by flush (part_at (map parts_of ts) n)
-by_parts flush ts zero = refl
-by_parts flush ts (suc i) = by_index flush ts i
+by_parts : (limits : FlushLimits) (ts : List Tablet) (n : ℕ) → has_full limits (tablet_numbered n ts) ≡ full_by limits (part_at (map parts_of ts) n)
+by_parts limits ts zero = refl
+by_parts limits ts (suc i) = by_index limits ts i
 
--- whether a tablet's memtable has so many entries
-abbrev has_at : {F : Type 0} → ℕ → ClusterState F → ℕ → Bool
-has_at flush state n = has_entries flush (tablet_numbered n state.tablets)
+-- whether a tablet's memtable is full
+abbrev has_at : {F : Type 0} → FlushLimits → ClusterState F → ℕ → Bool
+has_at limits state n = has_full limits (tablet_numbered n state.tablets)
 
 -- as to that these tablets are as at the start
-abbrev pub AreStill : {F : Type 0} → ℕ → ClusterState F → ClusterState F → List ℕ → Type 0
-AreStill flush start now ns = AllByRecursion (λ n. has_at flush now n ≡ has_at flush start n) ns
+abbrev pub AreStill : {F : Type 0} → FlushLimits → ClusterState F → ClusterState F → List ℕ → Type 0
+AreStill limits start now ns = AllByRecursion (λ n. has_at limits now n ≡ has_at limits start n) ns
 
-pub all_still : {F : Type 0} (flush : ℕ) (start : ClusterState F) (ns : List ℕ) → AreStill flush start start ns
-all_still flush start [] = tt
-all_still flush start (n ∷ ns) = (refl, all_still flush start ns)
+pub all_still : {F : Type 0} (limits : FlushLimits) (start : ClusterState F) (ns : List ℕ) → AreStill limits start start ns
+all_still limits start [] = tt
+all_still limits start (n ∷ ns) = (refl, all_still limits start ns)
 
 -- ---- what is kept
 
@@ -129,18 +132,18 @@ module _ {F : Type 0} (contents : F → Option Contents) (faults : F → ℕ) wh
     later = let a = keeps.later in let b = more.later in omega arith;
   }
 
-module _ {F : Type 0} (contents : F → Option Contents) (faults : F → ℕ) (flush : ℕ) where
+module _ {F : Type 0} (contents : F → Option Contents) (faults : F → ℕ) (limits : FlushLimits) where
   abbrev has : ClusterState F → ℕ → Bool
-  has state n = has_at flush state n
+  has state n = has_at limits state n
 
   -- what compacts those of these tablets completes the whole
   abbrev pub Completes : ClusterState F → ClusterState F → List ℕ → Type 0
-  Completes start now ns = (outcomes : List Outcome) (state : ClusterState F) → AnswersAll contents faults now (map command.Minor (filter (has start) ns)) outcomes state → CompactsFull contents faults flush start state
+  Completes start now ns = (outcomes : List Outcome) (state : ClusterState F) → AnswersAll contents faults now (map command.Minor (filter (has start) ns)) outcomes state → CompactsFull contents faults limits start state
 
   pub none_yet : (start : ClusterState F) → Completes start start (numbers_of start.places)
   none_yet start outcomes state rest = (outcomes, rest)
 
-  pub all_done : (start now : ClusterState F) (ns : List ℕ) → ns ≡ [] → Completes start now ns → CompactsFull contents faults flush start now
+  pub all_done : (start now : ClusterState F) (ns : List ℕ) → ns ≡ [] → Completes start now ns → CompactsFull contents faults limits start now
   all_done start now ns none completes = completes [] now (subst (λ (ms : List ℕ). AnswersAll contents faults now (map command.Minor (filter (has start) ms)) [] now) (sym none) refl)
 
   pub skipped : (start now : ClusterState F) (n : ℕ) (ns : List ℕ) → has start n ≡ false → Completes start now (n ∷ ns) → Completes start now ns
@@ -156,10 +159,10 @@ module _ {F : Type 0} (contents : F → Option Contents) (faults : F → ℕ) (f
     one_still m other = by_result r is
       where
         by_result : (r : Result (Unit {0}) Refusal) → IsOutcome contents faults (command.Minor n) (done_of r) now after → has after m ≡ has now m
-        by_result (Ok _) is = ap (has_entries flush) (is.upholds.made.others m other)
-        by_result (Err refusal) is = by_parts flush after.tablets m ∙ ap (λ parts. entries_by flush (part_at parts m)) is.upholds.1.tablets ∙ sym (by_parts flush now.tablets m)
+        by_result (Ok _) is = ap (has_full limits) (is.upholds.made.others m other)
+        by_result (Err refusal) is = by_parts limits after.tablets m ∙ ap (λ parts. full_by limits (part_at parts m)) is.upholds.1.tablets ∙ sym (by_parts limits now.tablets m)
 
-    pub still_after : (ns : List ℕ) → AllByRecursion (λ m. m ≢ n) ns → AreStill flush start now ns → AreStill flush start after ns
+    pub still_after : (ns : List ℕ) → AllByRecursion (λ m. m ≢ n) ns → AreStill limits start now ns → AreStill limits start after ns
     still_after [] others still = tt
     still_after (m ∷ ns) others still = (one_still m others.0 ∙ still.0, still_after ns others.1 still.1)
 
@@ -186,54 +189,54 @@ within_kept contents faults start now i keeps within =
 -- ---- one place after the other
 
 -- The tablets before the index are done, and those from there on are as at the start.
-pub record IsReached {F : Type 0} (contents : F → Option Contents) (faults : F → ℕ) (flush : ℕ) (start now : ClusterState F) (i : ℕ) : Type 0 where
+pub record IsReached {F : Type 0} (contents : F → Option Contents) (faults : F → ℕ) (limits : FlushLimits) (start now : ClusterState F) (i : ℕ) : Type 0 where
   pub table : IsTable start.places
   pub keeps : KeepsShown contents faults start now
-  pub still : AreStill flush start now (drop i (numbers_of start.places))
-  pub completes : Completes contents faults flush start now (drop i (numbers_of start.places))
+  pub still : AreStill limits start now (drop i (numbers_of start.places))
+  pub completes : Completes contents faults limits start now (drop i (numbers_of start.places))
 
-module _ {F : Type 0} (contents : F → Option Contents) (faults : F → ℕ) (flush : ℕ) (start : ClusterState F) where
-  pub at_start : IsTable start.places → IsReached contents faults flush start start 0
+module _ {F : Type 0} (contents : F → Option Contents) (faults : F → ℕ) (limits : FlushLimits) (start : ClusterState F) where
+  pub at_start : IsTable start.places → IsReached contents faults limits start start 0
   at_start table = record {
     table = table;
     keeps = keeps_start contents faults start;
-    still = all_still flush start (numbers_of start.places);
-    completes = none_yet contents faults flush start;
+    still = all_still limits start (numbers_of start.places);
+    completes = none_yet contents faults limits start;
   }
 
-  module _ (now : ClusterState F) (i : ℕ) (reached : IsReached contents faults flush start now i) where
+  module _ (now : ClusterState F) (i : ℕ) (reached : IsReached contents faults limits start now i) where
     pub within_now : i < length start.places → i < length now.places
     within_now within = within_kept contents faults start now i reached.keeps within
 
-    pub at_end : length start.places ≤ i → CompactsFull contents faults flush start now
-    at_end past = all_done contents faults flush start now (drop i (numbers_of start.places)) (none_from start.places i past) reached.completes
+    pub at_end : length start.places ≤ i → CompactsFull contents faults limits start now
+    at_end past = all_done contents faults limits start now (drop i (numbers_of start.places)) (none_from start.places i past) reached.completes
 
     -- the tablet whose number stands there
     module _ (n : ℕ) (there : slice_get (numbers_of now.places) i ≡ Some n) where
       first : drop i (numbers_of start.places) ≡ n ∷ drop (i + 1) (numbers_of start.places)
       first = from_there (numbers_of start.places) i n (ap (λ (ns : List ℕ). slice_get ns i) (sym (same_numbers start.places now.places reached.keeps.spots)) ∙ there)
 
-      still_there : AreStill flush start now (n ∷ drop (i + 1) (numbers_of start.places))
-      still_there = subst (λ (ns : List ℕ). AreStill flush start now ns) first reached.still
+      still_there : AreStill limits start now (n ∷ drop (i + 1) (numbers_of start.places))
+      still_there = subst (λ (ns : List ℕ). AreStill limits start now ns) first reached.still
 
-      left : Completes contents faults flush start now (n ∷ drop (i + 1) (numbers_of start.places))
-      left = subst (λ (ns : List ℕ). Completes contents faults flush start now ns) first reached.completes
+      left : Completes contents faults limits start now (n ∷ drop (i + 1) (numbers_of start.places))
+      left = subst (λ (ns : List ℕ). Completes contents faults limits start now ns) first reached.completes
 
       distinct : AreDistinct (n ∷ drop (i + 1) (numbers_of start.places))
       distinct = subst AreDistinct first (distinct_from i (numbers_of start.places) (are_distinct start.places reached.table))
 
-      pub after_none : has_entries flush (tablet_numbered n now.tablets) ≡ false → IsReached contents faults flush start now (i + 1)
+      pub after_none : has_full limits (tablet_numbered n now.tablets) ≡ false → IsReached contents faults limits start now (i + 1)
       after_none lacks = record {
         table = reached.table;
         keeps = reached.keeps;
         still = still_there.1;
-        completes = skipped contents faults flush start now n (drop (i + 1) (numbers_of start.places)) (sym still_there.0 ∙ lacks) left;
+        completes = skipped contents faults limits start now n (drop (i + 1) (numbers_of start.places)) (sym still_there.0 ∙ lacks) left;
       }
 
-      pub after_one : (after : ClusterState F) (r : Result (Unit {0}) Refusal) → has_entries flush (tablet_numbered n now.tablets) ≡ true → IsOutcome contents faults (command.Minor n) (done_of r) now after → IsReached contents faults flush start after (i + 1)
+      pub after_one : (after : ClusterState F) (r : Result (Unit {0}) Refusal) → has_full limits (tablet_numbered n now.tablets) ≡ true → IsOutcome contents faults (command.Minor n) (done_of r) now after → IsReached contents faults limits start after (i + 1)
       after_one after r has is = record {
         table = reached.table;
-        keeps = keeps_after contents faults flush start now after n r is reached.keeps;
-        still = still_after contents faults flush start now after n r is (drop (i + 1) (numbers_of start.places)) distinct.0 still_there.1;
-        completes = compacted contents faults flush start now after n r is (drop (i + 1) (numbers_of start.places)) (sym still_there.0 ∙ has) left;
+        keeps = keeps_after contents faults limits start now after n r is reached.keeps;
+        still = still_after contents faults limits start now after n r is (drop (i + 1) (numbers_of start.places)) distinct.0 still_there.1;
+        completes = compacted contents faults limits start now after n r is (drop (i + 1) (numbers_of start.places)) (sym still_there.0 ∙ has) left;
       }

@@ -19,8 +19,10 @@ pub mod Limits
 pub mod ListRoom
 pub mod ListedFiles
 pub mod LoadedTablets
+pub mod ManyNexts
 pub mod Memtables
 pub mod MovedTablets
+pub mod NextLists
 pub mod Nexts
 pub mod Numbers
 pub mod OpenedRoots

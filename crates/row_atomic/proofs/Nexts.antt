@@ -84,7 +84,7 @@ past_end (Some e) row low h le = by (byte_cmp row low) refl
 
 module _ (law : StaysInRange) (m : Contents) (ts : List Tablet) (holds : AllByRecursion (Holds m) ts) where
   -- a tablet has cells in its range alone
-  in_range : (i : ℕ) (t : Tablet) (place : Place) → slice_get ts i ≡ Some t → HasCell (cells_at m t) place → has_row (range_of t) place.0 ≡ true
+  pub in_range : (i : ℕ) (t : Tablet) (place : Place) → slice_get ts i ≡ Some t → HasCell (cells_at m t) place → has_row (range_of t) place.0 ≡ true
   in_range i t place there cell = by (has_row (range_of t) place.0) refl
     where
       by : (b : Bool) → has_row (range_of t) place.0 ≡ b → has_row (range_of t) place.0 ≡ true
@@ -146,6 +146,10 @@ module _ (law : StaysInRange) (m : Contents) (ts : List Tablet) (holds : AllByRe
         let has = in_range (index_of p.tablet) t found (numbered_at ts p.tablet t numbered) next.1 in
         let up = second_true (is_after at.before found.0) (is_up_to p.end found.0) (sym (ap (λ (r : RowRange). has_row r found.0) range) ∙ has) in
         not_past p.end found.0 up
+
+    -- what comes after its tablet begins past its row
+    pub begin_past : AllByRecursion (OfTablet ts (BeginsPast found.0)) post
+    begin_past = later_begin ts found.0 p post (rise_at pre p post table.rising) (placed_at None pre p post placed).later reaches_found
 
     none_before : (place : Place) → IsAfter after place → place_cmp place found ≡ Less → AllByRecursion (HasNone m ts place) (pre ++ p ∷ post)
     none_before place behind less =

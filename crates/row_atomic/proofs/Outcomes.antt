@@ -15,7 +15,7 @@ use Rattle.tablet.specs.Views.{UsesName}
 use Rattle.tablet.specs.declared.tablet.Tablet.{Tablet}
 use Rattle.row_atomic.specs.Changes.{Holds, IsAsBefore, IsCompacted, IsCut, IsEmptied, IsFlushed, IsFullTablet, IsHalved, IsMoveRefusal, IsMoved, IsNumberedRefusal, IsOn, IsOutOfOrder, IsRefusalOf, IsSplitRefusal, IsUndone, KeepsMap, ListsAll, MayBeFlushed, MayHolderBeFlushed, MeetsBadCount, MeetsFull, Numbered, OfHolder, Remakes, WritesNone}
 use Rattle.row_atomic.specs.Clusters.{ClusterState, spots_of, storage_of}
-use Rattle.row_atomic.specs.Commands.{AnswersFromCells, BarsCompaction, HasCause, IsNoFuller, IsOutcome, LeavesRoom, MayCompact, OverfillsCluster, TellsFaults, Upholds, UsesFiles, cells_shown, compacting, done_of, split_of, swept_of}
+use Rattle.row_atomic.specs.Commands.{AnswersFromCells, BarsCompaction, BarsReading, HasCause, IsNoFuller, IsOutcome, LeavesRoom, MayCompact, OverfillsCluster, TellsFaults, Upholds, UsesFiles, cells_shown, compacting, done_of, split_of, swept_of}
 use Rattle.row_atomic.specs.Refusals.{IsApplyRefusal, IsReadRefusal}
 use Rattle.row_atomic.specs.Sweeps.{MayLackUnkept, count_swept, swept}
 use Rattle.tablet.specs.declared.compactions.Compaction.{Compaction}
@@ -190,19 +190,19 @@ module _ {F : Type 0} (contents : F → Option Contents) (count : F → ℕ) (n 
 
   -- one that is refused, of a tablet that is known
   pub uncompacted : (compaction : Compaction) (e : Refusal) → KeepsMap contents old new → (Holds contents old → ¬ (e ≡ Damaged)) → IsRefusalOf compaction e → IsAsBefore old new
-      → Uses contents (Numbered (WritesNone compaction) n old.tablets) old new → BarsCompaction contents compaction n e old → ¬ (e ≡ UnknownTablet) → ¬ (e ≡ BadCount) → (e ≡ TooManyFiles → IsUndone contents old new)
+      → Uses contents (Numbered (WritesNone compaction) n old.tablets) old new → BarsCompaction contents compaction n e old → BarsReading contents compaction n e old → ¬ (e ≡ UnknownTablet) → ¬ (e ≡ BadCount) → (e ≡ TooManyFiles → IsUndone contents old new)
       → TellsFaults count (Refused e) old new → IsOutcome contents count (compacting compaction n) (Refused e) old new
-  uncompacted compactions.Minor e kept whole refusal as_before uses bars known counted undone told = record {
+  uncompacted compactions.Minor e kept whole refusal as_before uses bars reads known counted undone told = record {
     still = λ order. (kept order).0;
     answers = λ order. (whole order, (kept order).1);
     upholds = (numbered_refusal compactions.Minor e refusal, as_before);
     files = (record { name = uses.name; limit = uses.limit; none = uses.none }, uses.spots);
     lists = λ _. same_lists old.places new.places as_before.places;
     room = tt;
-    cause = record { due = bars; barred = λ same. absurd (known same); undone = undone };
+    cause = record { due = (bars, reads); barred = λ same. absurd (known same); undone = undone };
     faults = told;
   }
-  uncompacted (compactions.Merge many) e kept whole refusal as_before uses bars known counted undone told = record {
+  uncompacted (compactions.Merge many) e kept whole refusal as_before uses bars reads known counted undone told = record {
     still = λ order. (kept order).0;
     answers = λ order. (whole order, (kept order).1);
     upholds = (numbered_refusal (compactions.Merge many) e refusal, as_before);
@@ -210,7 +210,7 @@ module _ {F : Type 0} (contents : F → Option Contents) (count : F → ℕ) (n 
     lists = λ _. same_lists old.places new.places as_before.places;
     room = tt;
     cause = record {
-      due = bars;
+      due = (bars, reads);
       barred = λ barred. elim barred [
         | inl same ↦ absurd (known same)
         | inr same ↦ absurd (counted same)
@@ -219,48 +219,48 @@ module _ {F : Type 0} (contents : F → Option Contents) (count : F → ℕ) (n 
     };
     faults = told;
   }
-  uncompacted compactions.Major e kept whole refusal as_before uses bars known counted undone told = record {
+  uncompacted compactions.Major e kept whole refusal as_before uses bars reads known counted undone told = record {
     still = λ order. (kept order).0;
     answers = λ order. (whole order, (kept order).1);
     upholds = (numbered_refusal compactions.Major e refusal, as_before);
     files = (record { name = uses.name; limit = uses.limit; none = λ none. absurd none }, uses.spots);
     lists = λ _. same_lists old.places new.places as_before.places;
     room = tt;
-    cause = record { due = bars; barred = λ same. absurd (known same); undone = undone };
+    cause = record { due = (bars, reads); barred = λ same. absurd (known same); undone = undone };
     faults = told;
   }
 
 -- one that is refused before anything is done
 module _ {F : Type 0} (contents : F → Option Contents) (count : F → ℕ) (n : ℕ) (state : ClusterState F) where
-  pub stopped : (compaction : Compaction) (e : Refusal) → IsNumberedRefusal compaction e → ¬ (e ≡ Damaged) → ¬ (e ≡ Device) → BarsCompaction contents compaction n e state → IsOutcome contents count (compacting compaction n) (Refused e) state state
-  stopped compactions.Minor e refusal whole not bars = record {
+  pub stopped : (compaction : Compaction) (e : Refusal) → IsNumberedRefusal compaction e → ¬ (e ≡ Damaged) → ¬ (e ≡ Device) → BarsCompaction contents compaction n e state → BarsReading contents compaction n e state → IsOutcome contents count (compacting compaction n) (Refused e) state state
+  stopped compactions.Minor e refusal whole not bars reads = record {
     still = λ order. order;
     answers = λ order. (whole, refl);
     upholds = (refusal, as_was state);
     files = (record { name = inl (refl, refl); limit = refl; none = λ _. (refl, refl) }, refl);
     lists = λ _ name l. l;
     room = tt;
-    cause = record { due = bars; barred = λ _. refl; undone = λ _. none_done contents state };
+    cause = record { due = (bars, reads); barred = λ _. refl; undone = λ _. none_done contents state };
     faults = no_fault count (Refused e) state (not_device e not);
   }
-  stopped (compactions.Merge many) e refusal whole not bars = record {
+  stopped (compactions.Merge many) e refusal whole not bars reads = record {
     still = λ order. order;
     answers = λ order. (whole, refl);
     upholds = (refusal, as_was state);
     files = (record { name = inl (refl, refl); limit = refl; none = λ _. (refl, refl) }, refl);
     lists = λ _ name l. l;
     room = tt;
-    cause = record { due = bars; barred = λ _. refl; undone = λ _. none_done contents state };
+    cause = record { due = (bars, reads); barred = λ _. refl; undone = λ _. none_done contents state };
     faults = no_fault count (Refused e) state (not_device e not);
   }
-  stopped compactions.Major e refusal whole not bars = record {
+  stopped compactions.Major e refusal whole not bars reads = record {
     still = λ order. order;
     answers = λ order. (whole, refl);
     upholds = (refusal, as_was state);
     files = (record { name = inl (refl, refl); limit = refl; none = λ _. (refl, refl) }, refl);
     lists = λ _ name l. l;
     room = tt;
-    cause = record { due = bars; barred = λ _. refl; undone = λ _. none_done contents state };
+    cause = record { due = (bars, reads); barred = λ _. refl; undone = λ _. none_done contents state };
     faults = no_fault count (Refused e) state (not_device e not);
   }
 
@@ -273,7 +273,7 @@ module _ {F : Type 0} (contents : F → Option Contents) (count : F → ℕ) (n 
     exhausted = λ is. cc;
     large = λ is. cc;
     damaged = λ is. cc;
-  })
+  }) (record { large = λ is. cc; damaged = λ is. cc })
 
   pub uncounted : (many : ℕ) → HasTablet n state.places → Numbered (MeetsBadCount (compactions.Merge many)) n state.tablets → IsOutcome contents count (command.Merge n many) (Refused BadCount) state state
   uncounted many known bad = stopped (compactions.Merge many) BadCount tt (λ is. cc) (λ is. cc) (record {
@@ -284,7 +284,7 @@ module _ {F : Type 0} (contents : F → Option Contents) (count : F → ℕ) (n 
     exhausted = λ is. cc;
     large = λ is. cc;
     damaged = λ is. cc;
-  })
+  }) (record { large = λ is. cc; damaged = λ is. cc })
 
   pub unstarted : (compaction : Compaction) → HasTablet n state.places → ¬ Numbered (MeetsBadCount compaction) n state.tablets → IsOutcome contents count (compacting compaction n) (Refused NoMemory) state state
   unstarted compaction known within = stopped compaction NoMemory (numbered_refusal compaction NoMemory (want_compacts compaction NoMemory tt)) (λ is. cc) (λ is. cc) (record {
@@ -295,7 +295,7 @@ module _ {F : Type 0} (contents : F → Option Contents) (count : F → ℕ) (n 
     exhausted = λ is. cc;
     large = λ is. cc;
     damaged = λ is. cc;
-  })
+  }) (record { large = λ is. cc; damaged = λ is. cc })
 
 -- ---- splits
 
@@ -337,7 +337,7 @@ module _ {F : Type 0} (contents : F → Option Contents) (count : F → ℕ) (ro
     -- the flush was refused
     pub unflushed : (e : Refusal) → IsOutcome contents count (command.Minor p.tablet) (Refused e) old mid → IsOutcome contents count (command.Split row) (Refused e) old mid
     unflushed e flush =
-        let due = flush.cause.due in
+        let due = flush.cause.due.0 in
         record {
           still = flush.still;
           answers = flush.answers;
@@ -479,9 +479,9 @@ module _ {F : Type 0} (contents : F → Option Contents) (count : F → ℕ) (n 
           lists = λ _. flush.lists (λ takes. absurd takes.0);
           room = tt;
           cause = record {
-            due = (((λ is. absurd (near is)), λ far. absurd (below_only _ _ below far.1)), flush.cause.due);
+            due = (((λ is. absurd (near is)), λ far. absurd (below_only _ _ below far.1)), flush.cause.due.0);
             barred = λ barred. elim barred [
-              | inl is ↦ absurd (flush.cause.due.unknown.0 is known)
+              | inl is ↦ absurd (flush.cause.due.0.unknown.0 is known)
               | inr is ↦ absurd (near is)
             ];
             undone = flush.cause.undone;

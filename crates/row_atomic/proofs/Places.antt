@@ -17,11 +17,11 @@ use Rattle.cell_key.specs.Places.{Place, place_of, place_cmp, IsAfter, IsNextCel
 use Rattle.cell_key.proofs.KeyLaws.{both_Equal}
 use Rattle.row_atomic.specs.Slots.{IsFirstKey, past}
 
-place_cmp_total : IsTotalOrder place_cmp
+pub place_cmp_total : IsTotalOrder place_cmp
 place_cmp_total = then_total (on_total (λ (p : Place). p.0) nat_list_cmp_total) (on_total (λ (p : Place). p.1) nat_list_cmp_total)
 
 -- places that are equal in the order are one
-exact_places : (a b : Place) → place_cmp a b ≡ Equal → a ≡ b
+pub exact_places : (a b : Place) → place_cmp a b ≡ Equal → a ≡ b
 exact_places a b e =
     let both = both_Equal (byte_cmp a.0 b.0) (byte_cmp a.1 b.1) e in
     let row = slice_cmp-IsAntisymmetric nat_cmp-IsAntisymmetric a.0 b.0 both.0 in

@@ -1,8 +1,9 @@
 -- After a checkpoint the files keep what the cluster shows.
 use Rattle.std.proofs.Common.{IfSome, ◌≡◌, ◌≤◌, ◌<◌, ◌==◌, ◌⊎◌, ◌++◌, ◌^◌, length, inl, inr, ℕ, Bool, true, false, cond, nat_eq, List, [], ◌∷◌, Option, Some, None, Result, Ok, Err, refl, sym, ap, ◌∙◌, subst, arith}
 use Rattle.std.proofs.lemmas.Option.{same_Some}
-use Rattle.std.specs.Prelude.{IsSomeAnd, OnOk}
+use Rattle.std.specs.Prelude.{IsSomeAnd, OnErr, OnOk}
 use Rattle.std.specs.FinMap as finite
+use Rattle.std.specs.Result.{IsErrAnd}
 use Rattle.std.specs.Cmp.{nat_cmp_total, unsigned_tied}
 use Rattle.std.specs.FinMap.{get, get-insert}
 use Rattle.std.specs.List.{AllByRecursion}
@@ -18,10 +19,10 @@ use Rattle.tablet.specs.Laws.{UnnamedMayGo}
 use Rattle.tablet.specs.Views.{Holds as HoldsAt, cells_at, names_of}
 use Rattle.tablet.specs.declared.tablet.Tablet.{Tablet}
 use Rattle.row_atomic.specs.Changes.{Holds, IsEmptied, Numbered}
-use Rattle.row_atomic.specs.Clusters.{ArePlaced, ClusterState, InOrder, IsMatched, cells_in, joined, spots_of, tablet_numbered}
+use Rattle.row_atomic.specs.Clusters.{ArePlaced, ClusterState, InOrder, IsMatched, cells_in, joined, spots_of, storage_of, tablet_numbered}
 use Rattle.row_atomic.specs.Commands.{IsOutcome, cells_shown}
 use Rattle.row_atomic.specs.Flushes.{numbers_of}
-use Rattle.row_atomic.specs.Roots.{AreMeasured, AreFlushed, AreOpened, FlushesEach, KeepsCells, KeepsRoot, Rests, root_at, root_name}
+use Rattle.row_atomic.specs.Roots.{AreMeasured, AreFlushed, AreOpened, FlushesEach, KeepsCells, KeepsRoot, PutsRootOrNone, Rests, RootIsStored, RootOutlastsFlushes, StaysOrRests, root_at, root_name}
 use Rattle.row_atomic.specs.declared.commands.Command.TheVariants as command
 use Rattle.row_atomic.specs.declared.commands.Outcome.TheVariants as outcome
 use Rattle.row_atomic.proofs.Flushes.{same_numbers}
@@ -193,6 +194,15 @@ rooted contents top floor state cells keeps = go (contents state.files) refl kee
     go None e keeps = absurd keeps
     go (Some m) e keeps = record { has = record { kept = m; on_disk = e; keeps = keeps; below = omega arith }; lists = λ name l. l }
 
+-- a root that was put keeps what the flushed state shows
+pub put_rests : {F : Type 0} (contents : F → Option Contents) (top floor : ℕ) (old : ClusterState F) (files : F) → IsTable old.places → IsMatched old.file_limit old.next_name old.places old.tablets → UnnamedMayGo
+    → (image lengths : List ℕ) → IsRootIn Two (root_at top floor old) lengths image → contents files ≡ with_file root_name image (contents old.files)
+    → IfSome (contents old.files) (λ m. AreMeasured m (file_names old.places) lengths) → AreFlushed old → Rests contents top floor old (record old { files = files })
+put_rests contents top floor old files table matched law image lengths written put measured flushed order =
+    rooted contents top floor (record old { files = files }) (cells_in (contents old.files) old.tablets)
+    (keeps_told old.places old.tablets old.file_limit old.next_name table matched law (contents old.files) (contents files) image (root_at top floor old) put refl
+    (record { lengths = lengths; measured = record { format = Two; form = written } }) measured flushed order)
+
 -- ---- both
 
 module _ {F : Type 0} (contents : F → Option Contents) (faults : F → ℕ) (top floor : ℕ) where
@@ -208,6 +218,31 @@ pub when_done : {P Q : Type 0} (r : Result (Unit {0}) Refusal) → (P → Q) →
 when_done (Ok x) f h = f h
 when_done (Err e) f h = tt
 
+pub when_refused : {P Q : Type 0} (r : Result (Unit {0}) Refusal) → (P → Q) → OnErr r P → OnErr r Q
+when_refused (Ok x) f h = tt
+when_refused (Err e) f h = f h
+
 pub when_true : {P : Type 0} (r : Result (Unit {0}) Refusal) → P → OnOk r P
 when_true (Ok x) h = h
 when_true (Err e) h = tt
+
+module _ {F : Type 0} (contents : F → Option Contents) (faults : F → ℕ) (stored : RootIsStored contents) (outlasts : RootOutlastsFlushes contents faults) (top floor : ℕ) where
+  same_storage : (mid new : ClusterState F) → new ≡ record mid { files = new.files } → contents new.files ≡ contents mid.files → storage_of contents new ≡ storage_of contents mid
+  same_storage mid new rest same =
+      ap (storage_of contents) rest
+      ∙ ap (λ (disk : Option Contents). record { disk = disk; file_limit = mid.file_limit; next_name = mid.next_name; places = mid.places }) same
+
+  -- the tablets are flushed, and then the root is put or not
+  pub stays_or_rests : (old mid new : ClusterState F) → FlushesEach contents faults old (numbers_of old.places) outcome.Done mid → new ≡ record mid { files = new.files } → PutsRootOrNone contents top floor mid new
+      → StaysOrRests contents top floor old new
+  stays_or_rests old mid new flushes rest puts = elim puts [
+    | inl same ↦ inl (λ root cells.
+        let first = (outlasts root cells old mid).1 (numbers_of old.places) outcome.Done flushes in
+        let then = stored root cells mid new (same_storage mid new rest same) in
+        ((λ has. then.0 (first.0 has)), (λ keeps. then.1 (first.1 keeps))))
+    | inr rests ↦ inr (rests_after contents faults top floor old mid new flushes (rests (are_flushed contents faults old mid flushes)))
+  ]
+
+pub on_refused : {P : Type 0} (r : Result (Unit {0}) Refusal) → (e : Refusal) → IsErrAnd r (λ f. f ≡ e) → P → OnErr r P
+on_refused (Ok x) e by h = absurd by
+on_refused (Err f) e by h = h

@@ -1,10 +1,10 @@
 -- What the calls of a cluster do to its tablets and their places. Begin with `IsOutcome` at the end
 -- of Commands.antt, which cites these words: `IsCompacted`, `IsHalved` and `ComesTo` are what a
 -- compaction, a split and a move do, and `IsAsBefore` what a refused one leaves.
-use Rattle.std.specs.Prelude.{◌≡◌, ◌≢◌, ◌≤◌, ◌+◌, ◌^◌, ◌⊎◌, ℕ, List, [], ◌∷◌, ◌++◌, length, map, drop, Option, None, Some, IsSome, IsSomeAnd, IfSome, ⊤}
+use Rattle.std.specs.Prelude.{◌≡◌, ◌≢◌, ◌<◌, ◌≤◌, ◌+◌, ◌^◌, ◌⊎◌, ℕ, List, [], ◌∷◌, ◌++◌, length, map, drop, Option, None, Some, IsSome, IsSomeAnd, IfSome, ⊤}
 use Rattle.std.specs.List.{AllByRecursion, AllZip, Contains, slice_get}
 use Rattle.cell_key.specs.Entries.{Entry}
-use Rattle.cell_key.specs.Places.{IsNextCell, Place}
+use Rattle.cell_key.specs.Places.{HasCell, IsAfter, Place}
 use Rattle.cell_key.specs.declared.refusals.Refusal.{Refusal}
 use Rattle.cell_key.specs.declared.refusals.Refusal.TheVariants as refused
 use Rattle.file_store.specs.Store.{Contents}
@@ -14,7 +14,7 @@ use Rattle.metadata_table.specs.Places.{PlaceView}
 use Rattle.metadata_table.specs.Table.{Cuts, IsHolder, IsListed, moved, with_files}
 use Rattle.tablet.specs.Ranges.{seen}
 use Rattle.tablet.specs.Views.{Holds as HoldsAt, IsBelow, IsSameTablet, cells_at, range_of, memory_of, files_of, names_of, lists_of, with_name}
-use Rattle.tablet.specs.Compactions.{Compacts, IsCompactionRefusal, compacted_of}
+use Rattle.tablet.specs.Compactions.{compacted_of, Compacts, IsCompactionRefusal, IsUnreadable, ReadsOpen, ReadsTooMuch}
 use Rattle.tablet.specs.declared.compactions.Compaction.{Compaction}
 use Rattle.tablet.specs.declared.compactions.Compaction.TheVariants.{Minor, Merge, Major}
 use Rattle.tablet.specs.declared.ranges.RowRange.{RowRange}
@@ -211,6 +211,12 @@ pub record HasCompacted (compaction : Compaction) (limit : ℕ) (disk : Option C
   pub fits : FitsLimit limit disk compaction t
   pub used : ¬ WritesNone compaction t → after ≡ next + 1
 
+-- Over files whose bytes are known, a compaction can't read a tablet's files: those that it reads, and
+-- no others, aren't all open, and what stands there now breaks off, or isn't in order.
+abbrev pub CannotRead : Option Contents → Compaction → Tablet → Type 0
+CannotRead disk compaction t =
+    IfSome disk (λ m. (¬ ReadsOpen compaction (Some m) t) × IsUnreadable compaction (Some m) t)
+
 -- It was refused so: the refusal has a cause, and a full tablet is refused before anything is written.
 pub record HasRefused (compaction : Compaction) (limit : ℕ) (disk : Option Contents) (next : ℕ)
     (later : Option Contents) (after : ℕ) (t : Tablet) (refusal : Refusal) : Type 0 where
@@ -220,6 +226,8 @@ pub record HasRefused (compaction : Compaction) (limit : ℕ) (disk : Option Con
   pub exhausted : refusal ≡ refused.Exhausted → (2 ^ 63 ≤ next) × (¬ WritesNone compaction t)
   pub large : refusal ≡ refused.FileTooLarge → IsTooLarge limit disk compaction t
   pub damaged : refusal ≡ refused.Damaged → IsOutOfOrder disk t
+  pub too_much : refusal ≡ refused.FileTooLarge → ReadsTooMuch compaction limit disk t
+  pub unread : refusal ≡ refused.Damaged → CannotRead disk compaction t
   pub undone : refusal ≡ refused.TooManyFiles → (after ≡ next) × (later ≡ disk)
 
 -- ---- the tablet of a row
@@ -233,24 +241,28 @@ pub record OfHolder (P : Tablet → Type 0) (row : List ℕ) (places : List Plac
 
 -- ---- scans
 
--- a tablet that is in order has no cell after this one
-abbrev pub HasNoneAfter : Option Contents → Option Place → Tablet → Type 0
-HasNoneAfter disk after t = IfSome disk (λ m. HoldsAt m t → IsNextCell (cells_at m t) after None)
+-- a tablet that is in order has no cells after this one but these
+abbrev pub HasNoMore : Option Contents → Option Place → List Place → Tablet → Type 0
+HasNoMore disk after found t = IfSome disk (λ m. HoldsAt m t
+    → (place : Place) → IsAfter after place → HasCell (cells_at m t) place → Contains found place)
 
 -- A scan passes a place: its rows come before that of the cell after which the scan goes on,
--- or its tablet has no cell after that one.
-abbrev pub Passes : Option Contents → List Tablet → Option Place → PlaceView → Type 0
-Passes disk tablets after p =
-    PrecedesCell p after ⊎ Numbered (HasNoneAfter disk after) p.tablet tablets
+-- or its tablet has no cells after that one but those that were found.
+abbrev pub Passes : Option Contents → List Tablet → Option Place → List Place → PlaceView → Type 0
+Passes disk tablets after found p =
+    PrecedesCell p after ⊎ Numbered (HasNoMore disk after found) p.tablet tablets
 
--- a scan comes to a tablet that is out of order, after it passed all places before
-pub record MeetsDamage (disk : Option Contents) (after : Option Place) (places : List PlaceView)
-    (tablets : List Tablet) : Type 0 where
+-- a scan for so many cells comes to a tablet that is out of order, after it passed all places before
+-- and found fewer
+pub record MeetsDamage (disk : Option Contents) (after : Option Place) (most : ℕ)
+    (places : List PlaceView) (tablets : List Tablet) : Type 0 where
   pub before : List PlaceView
   pub place : PlaceView
   pub rest : List PlaceView
   pub parts : places ≡ before ++ place ∷ rest
-  pub passed : AllByRecursion (Passes disk tablets after) before
+  pub found : List Place
+  pub few : length found < most
+  pub passed : AllByRecursion (Passes disk tablets after found) before
   pub within : ¬ PrecedesCell place after
   pub out : Numbered (IsOutOfOrder disk) place.tablet tablets
 

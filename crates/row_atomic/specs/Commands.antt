@@ -12,8 +12,9 @@ use Rattle.cell_key.specs.declared.refusals.Refusal.{Refusal}
 use Rattle.cell_key.specs.declared.refusals.Refusal.TheVariants as refused
 use Rattle.file_store.specs.Store.{Contents}
 use Rattle.metadata_table.specs.Table.{BarsSplit, HasTablet, most_servers}
+use Rattle.tablet.specs.Compactions.{ReadsTooMuch}
 use Rattle.tablet.specs.Views.{UsesName}
-use Rattle.row_atomic.specs.Changes.{ComesOfWriting, ComesTo, FitsLimit, Holds, IsAsBefore, IsCompacted, IsCut, IsEmptied, IsFullTablet, IsHalved, IsMoveRefusal, IsNumberedRefusal, IsOn, IsOutOfOrder, IsSplitRefusal, IsTooLarge, IsUncached, IsUndone, ListsAll, MayBeFlushed, MayHolderBeFlushed, MeetsBadCount, MeetsDamage, MeetsFull, Numbered, OfHolder, WritesNone}
+use Rattle.row_atomic.specs.Changes.{CannotRead, ComesOfWriting, ComesTo, FitsLimit, Holds, IsAsBefore, IsCompacted, IsCut, IsEmptied, IsFullTablet, IsHalved, IsMoveRefusal, IsNumberedRefusal, IsOn, IsOutOfOrder, IsSplitRefusal, IsTooLarge, IsUncached, IsUndone, ListsAll, MayBeFlushed, MayHolderBeFlushed, MeetsBadCount, MeetsDamage, MeetsFull, Numbered, OfHolder, WritesNone}
 use Rattle.row_atomic.specs.Clusters.{ClusterState, Overfills, cells_in, spots_of, storage_of}
 use Rattle.row_atomic.specs.Compactions as compaction
 use Rattle.row_atomic.specs.Refusals.{IsApplyRefusal, IsReadRefusal}
@@ -217,6 +218,14 @@ pub record BarsCompaction {F : Type 0} (contents : F → Option Contents) (compa
   pub damaged : refusal ≡ refused.Damaged
       → Numbered (IsOutOfOrder (contents old.files)) tablet old.tablets
 
+-- and what stands in its files now: it can't be read, or what is written of it is too much
+pub record BarsReading {F : Type 0} (contents : F → Option Contents) (compaction : Compaction)
+    (tablet : ℕ) (refusal : Refusal) (old : ClusterState F) : Type 0 where
+  pub large : refusal ≡ refused.FileTooLarge
+      → Numbered (ReadsTooMuch compaction old.file_limit (contents old.files)) tablet old.tablets
+  pub damaged : refusal ≡ refused.Damaged
+      → Numbered (CannotRead (contents old.files) compaction) tablet old.tablets
+
 -- and why a split at a row is, which flushes the tablet that holds it
 pub record BarsCut {F : Type 0} (contents : F → Option Contents) (row : List ℕ) (refusal : Refusal)
     (old : ClusterState F) : Type 0 where
@@ -238,15 +247,18 @@ IsDue contents (command.Newest row family qualifier lo hi) refusal old =
     refusal ≡ refused.Damaged
     → OfHolder (IsOutOfOrder (contents old.files)) row old.places old.tablets
 IsDue contents (command.NextCell after) refusal old =
-    refusal ≡ refused.Damaged → MeetsDamage (contents old.files) after old.places old.tablets
+    refusal ≡ refused.Damaged → MeetsDamage (contents old.files) after 1 old.places old.tablets
 IsDue contents (command.Apply row edits) refusal old =
     refusal ≡ refused.MemtableFull → Overfills old.places old.tablets row edits.items
 IsDue contents (command.Minor tablet) refusal old =
     BarsCompaction contents compaction.minor tablet refusal old
+    × BarsReading contents compaction.minor tablet refusal old
 IsDue contents (command.Merge tablet count) refusal old =
     BarsCompaction contents (compaction.merging count) tablet refusal old
+    × BarsReading contents (compaction.merging count) tablet refusal old
 IsDue contents (command.Major tablet) refusal old =
     BarsCompaction contents compaction.major tablet refusal old
+    × BarsReading contents compaction.major tablet refusal old
 IsDue contents (command.Split row) refusal old = BarsCut contents row refusal old
 IsDue contents (command.Move tablet server) refusal old =
     (refusal ≡ refused.UnknownServer ↔ (HasTablet tablet old.places × (most_servers ≤ server)))

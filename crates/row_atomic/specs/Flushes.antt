@@ -1,42 +1,39 @@
--- Compactions that no command asks for: of each tablet whose memtable has many entries, or that has
--- many files.
+-- Compactions that no command asks for: of each tablet whose memtable is full, or that has many
+-- files.
 use Rattle.std.specs.Prelude.{◌≡◌, ◌≤◌, ◌^◌, ◌+◌, ◌&&◌, ℕ, Bool, false, nat_le, nat_lt, List, [], ◌∷◌, length, map, filter, Option, None, Some}
 use Rattle.file_store.specs.Store.{Contents}
 use Rattle.metadata_table.specs.Places.{PlaceView}
-use Rattle.tablet.specs.Views.{memory_of, names_of}
+use Rattle.tablet.specs.Views.{names_of}
 use Rattle.tablet.specs.declared.tablet.Tablet.{Tablet}
 use Rattle.row_atomic.specs.Changes.{KeepsMap, Numbered}
 use Rattle.row_atomic.specs.Clusters.{ClusterState, spots_of, tablet_numbered}
 use Rattle.row_atomic.specs.Commands.{AnswersAll, IsOutcome}
+use Rattle.row_atomic.specs.Memtables.{is_full}
 use Rattle.row_atomic.specs.declared.commands.Command.TheVariants as command
 use Rattle.row_atomic.specs.declared.commands.Outcome.{Outcome}
+use Rattle.row_atomic.specs.declared.fill.FlushLimits.{FlushLimits}
 
--- a number of entries at which a memtable may be compacted: no memtable has more than 100,000
-pub record IsFlushNumber (flush : ℕ) : Type 0 where
-  pub from : 1 ≤ flush
-  pub to : flush ≤ 100000
-
--- whether there is a tablet, and its memtable has this many entries or more
-abbrev pub has_entries : ℕ → Option Tablet → Bool
-has_entries flush None = false
-has_entries flush (Some t) = nat_le flush (length (memory_of t))
+-- whether there is a tablet, and its memtable is full
+abbrev pub has_full : FlushLimits → Option Tablet → Bool
+has_full limits None = false
+has_full limits (Some t) = is_full limits t
 
 -- the numbers of tablets, in the order of their ends
 abbrev pub numbers_of : List PlaceView → List ℕ
 numbers_of places = map (λ p. p.tablet) places
 
--- those of the tablets whose memtables have this many entries or more
-abbrev pub numbers_with : {F : Type 0} → ℕ → ClusterState F → List ℕ
-numbers_with flush state =
-    filter (λ n. has_entries flush (tablet_numbered n state.tablets)) (numbers_of state.places)
+-- those of the tablets whose memtables are full
+abbrev pub numbers_full : {F : Type 0} → FlushLimits → ClusterState F → List ℕ
+numbers_full limits state =
+    filter (λ n. has_full limits (tablet_numbered n state.tablets)) (numbers_of state.places)
 
 -- Minor compactions of these tablets, and of no other, were done one after the other, or refused.
 -- Their outcomes are not reported.
 abbrev pub CompactsFull : {F : Type 0}
-    → (F → Option Contents) → (F → ℕ) → ℕ → ClusterState F → ClusterState F → Type 0
-CompactsFull contents faults flush old new =
+    → (F → Option Contents) → (F → ℕ) → FlushLimits → ClusterState F → ClusterState F → Type 0
+CompactsFull contents faults limits old new =
     (outcomes : List Outcome)
-    × AnswersAll contents faults old (map command.Minor (numbers_with flush old)) outcomes new
+    × AnswersAll contents faults old (map command.Minor (numbers_full limits old)) outcomes new
 
 -- whether there is a tablet, and it has this many files or more, two at least,
 -- and no more than a merge can count

@@ -1,18 +1,42 @@
--- How many entries the memtables of tablets have.
-use Rattle.std.specs.Prelude.{◌≤◌, ℕ, Bool, nat_le, List, [], ◌∷◌, length, max}
+-- How full the memtables of tablets are.
+use Rattle.std.specs.Prelude.{◌≤◌, ◌||◌, ℕ, Bool, false, nat_le, List, [], ◌∷◌, Option, None, Some, length, max}
 use Rattle.std.specs.List.{AllByRecursion, list_any}
+use Rattle.memtable.specs.Edits.{bytes_of}
 use Rattle.tablet.specs.Views.{memory_of}
 use Rattle.tablet.specs.declared.tablet.Tablet.{Tablet}
+use Rattle.row_atomic.specs.declared.fill.Fill.{Fill}
+use Rattle.row_atomic.specs.declared.fill.FlushLimits.{FlushLimits}
 
--- no memtable has more entries than this
-abbrev pub HaveAtMost : ℕ → List Tablet → Type 0
-HaveAtMost most tablets = AllByRecursion (λ t. length (memory_of t) ≤ most) tablets
+-- no memtable has more entries or bytes than these
+pub record HasAtMost (most : Fill) (t : Tablet) : Type 0 where
+  pub entries : length (memory_of t) ≤ most.entries
+  pub bytes : bytes_of (memory_of t) ≤ most.bytes
 
--- as many as the longest memtable has
+abbrev pub HaveAtMost : Fill → List Tablet → Type 0
+HaveAtMost most tablets = AllByRecursion (HasAtMost most) tablets
+
+-- as many entries as the longest memtable has, and as many bytes as the largest
 abbrev pub longest : List Tablet → ℕ
 longest [] = 0
 longest (t ∷ ts) = max (length (memory_of t)) (longest ts)
 
--- whether some memtable has this many or more
-abbrev pub is_any_full : ℕ → List Tablet → Bool
-is_any_full flush tablets = list_any (λ t. nat_le flush (length (memory_of t))) tablets
+abbrev pub largest : List Tablet → ℕ
+largest [] = 0
+largest (t ∷ ts) = max (bytes_of (memory_of t)) (largest ts)
+
+-- whether a number of bytes is given, and these are as many or more
+abbrev pub has_bytes : Option ℕ → ℕ → Bool
+has_bytes None bytes = false
+has_bytes (Some most) bytes = nat_le most bytes
+
+-- whether a memtable of so many entries and bytes is full
+abbrev pub reaches : FlushLimits → ℕ → ℕ → Bool
+reaches limits entries bytes = nat_le limits.entries entries || has_bytes limits.bytes bytes
+
+-- whether a tablet's memtable is
+abbrev pub is_full : FlushLimits → Tablet → Bool
+is_full limits t = reaches limits (length (memory_of t)) (bytes_of (memory_of t))
+
+-- whether some tablet's memtable is
+abbrev pub is_any_full : FlushLimits → List Tablet → Bool
+is_any_full limits tablets = list_any (is_full limits) tablets

@@ -19,6 +19,7 @@ use Rattle.row_atomic.specs.declared.commands.Command.{Command}
 use Rattle.row_atomic.specs.declared.commands.Command.TheVariants as command
 use Rattle.row_atomic.specs.declared.commands.Outcome.{Outcome}
 use Rattle.row_atomic.specs.declared.commands.Outcome.TheVariants as outcome
+use Rattle.row_atomic.specs.declared.fill.FlushLimits.{FlushLimits}
 
 -- the name of the root file
 abbrev pub root_name : ℕ
@@ -146,6 +147,20 @@ StayRooted contents root cells old new =
     (HasRoot contents root cells old → HasRoot contents root cells new)
     × (KeepsRoot contents root cells old → KeepsRoot contents root cells new)
 
+-- All files are as before, or they keep what a cluster shows whose memtables are empty.
+abbrev pub PutsRootOrNone : {F : Type 0} → (F → Option Contents) → ℕ → ℕ → ClusterState F
+    → ClusterState F → Type 0
+PutsRootOrNone contents top floor old new =
+    (contents new.files ≡ contents old.files)
+    ⊎ (AreFlushed old → Rests contents top floor old new)
+
+-- The files keep each root that they kept, or what the cluster showed.
+abbrev pub StaysOrRests : {F : Type 0} → (F → Option Contents) → ℕ → ℕ → ClusterState F
+    → ClusterState F → Type 0
+StaysOrRests contents top floor old new =
+    ((root : RootView) (cells : Cells) → StayRooted contents root cells old new)
+    ⊎ Rests contents top floor old new
+
 -- this depends on what lies below the memtables alone
 abbrev pub RootIsStored : {F : Type 0} → (F → Option Contents) → Type 0
 RootIsStored {F} contents =
@@ -156,7 +171,7 @@ RootIsStored {F} contents =
 abbrev pub RootOutlastsFlushes : {F : Type 0} → (F → Option Contents) → (F → ℕ) → Type 0
 RootOutlastsFlushes {F} contents faults =
     (root : RootView) (cells : Cells) (old new : ClusterState F)
-    → ((flush : ℕ) → CompactsFull contents faults flush old new
+    → ((limits : FlushLimits) → CompactsFull contents faults limits old new
     → StayRooted contents root cells old new)
     × ((numbers : List ℕ) (result : Outcome) → FlushesEach contents faults old numbers result new
     → StayRooted contents root cells old new)

@@ -17,6 +17,7 @@ mod split;
 mod sweep;
 mod upkeep;
 
+use crate::fill::Fill;
 use crate::place_cache::PlaceCache;
 use cell_key::Refusal;
 use file_store::Files;
@@ -39,8 +40,8 @@ pub struct Cluster<F> {
     pub(crate) next_name: u64,
     pub(crate) table: MetadataTable,
     pub(crate) tablets: Vec<Tablet>,
-    /// No tablet's memtable has more entries. While it is below a flush number, no tablet has to be asked.
-    pub(crate) most_entries: usize,
+    /// No tablet's memtable has more entries or bytes. While this doesn't reach the limits, no tablet has to be asked.
+    pub(crate) most: Fill,
     pub(crate) place_cache: PlaceCache,
 }
 
@@ -63,7 +64,7 @@ impl<F> Model for Cluster<F> {
     ghost invariant = { λ cluster.
         IsMatched cluster.file_limit cluster.next_name cluster.table cluster.tablets.items
         × AreHeld cluster.table cluster.place_cache.numbers.entries
-        × HaveAtMost cluster.most_entries cluster.tablets.items };
+        × HaveAtMost cluster.most cluster.tablets.items };
 }
 
 /// The table of a new store, and its one tablet.
@@ -112,11 +113,18 @@ impl<F: Files> Cluster<F> {
                 next_name: 1,
                 table,
                 tablets,
-                most_entries: 0,
+                most: Fill::NONE,
                 place_cache,
             }),
             Err(refusal) => Err((refusal, files)),
         }
+    }
+
+    /// The name of the next file: it rises whenever a tablet's file is written. Takes no memory.
+    pub fn next_name(&self) -> u64
+        ensures { result ≡ self.now.next_name }
+    {
+        self.next_name
     }
 
     /// The index of the tablet of a number.
@@ -139,7 +147,7 @@ impl<F: Files> Cluster<F> {
             next_name: _,
             table: _,
             tablets: _,
-            most_entries: _,
+            most: _,
             place_cache: _,
         } = self;
         files

@@ -4,6 +4,7 @@
 
 mod cluster;
 mod commands;
+mod fill;
 mod laws;
 mod oldest_version;
 mod place_cache;
@@ -16,6 +17,7 @@ pub use cluster::laws::{
     cells_by_tablet, root_is_stored, root_outlasts_flushes, root_outlasts_merges, root_stays,
 };
 pub use commands::{Command, Outcome};
+pub use fill::FlushLimits;
 pub use laws::{one_newest, one_next_cell};
 pub use oldest_version::oldest;
 pub use plain::PlainRows;

@@ -12,7 +12,7 @@ use std::collections::BTreeMap;
 use std::marker::Model;
 
 /// Rows of cells in one ordered map in memory, which is never full and never damaged. A read looks
-/// at one entry of the map. Edits first make room for each of their keys, and an erased key leaves
+/// at one entry of the map, and that of the next cells at one for each of them. Edits first make room for each of their keys, and an erased key leaves
 /// the map.
 #[derive(Drop)]
 pub struct PlainRows {
@@ -71,6 +71,14 @@ impl Rows for PlainRows {
         after: Option<(&Row, &Family)>,
     ) -> Result<Option<(Row, Family)>, Refusal> {
         Ok(slots::next_cell(&self.slots, after)?)
+    }
+
+    fn next_cells(
+        &mut self,
+        after: Option<(&Row, &Family)>,
+        most: usize,
+    ) -> Result<Vec<(Row, Family)>, Refusal> {
+        Ok(slots::next_cells(self.alloc, &self.slots, after, most)?)
     }
 
     fn apply(&mut self, _row: &Row, edits: Vec<Edit>) -> Result<(), Refusal> {

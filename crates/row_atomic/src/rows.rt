@@ -1,10 +1,10 @@
 //! Rows of cells: what each kind of them can do, and what each call leaves.
 
-ghost use Rattle.std.specs.Prelude.{◌≡◌, ℕ, IfOk, OnOk, OnErr, IfErr, IsErrOf, IfSome, option_map};
+ghost use Rattle.std.specs.Prelude.{◌≡◌, ◌≤◌, ℕ, length, IfOk, OnOk, OnErr, IfErr, IsErrOf, IfSome, option_map};
 ghost use Rattle.std.specs.List.{AllByRecursion};
 ghost use Rattle.cell_key.specs.Cells.{IsNewest, IsEditOf, version};
 ghost use Rattle.cell_key.specs.Faults.{HasReason};
-ghost use Rattle.cell_key.specs.Places.{IsNextCell, place_named};
+ghost use Rattle.cell_key.specs.Places.{AreNextCells, IsNextCell, place_named};
 ghost use Rattle.cell_key.specs.Versions.{IsVersionIn, stamped};
 ghost use Rattle.row_atomic.specs.Calls.{Applies, OnlyReads, View};
 ghost use Rattle.row_atomic.specs.Refusals.{IsApplyRefusal, IsRefusalOfRead};
@@ -59,6 +59,25 @@ pub trait Rows {
     ) -> Result<Option<(Row, Family)>, Refusal>
         ensures found { seen.holds self.old
             → IfOk result (IsNextCell (seen.cells self.old) (option_map place_named after.entry)) }
+        ensures reads { OnlyReads seen self.old self.new }
+        ensures refusal { IfErr result (IsRefusalOfRead (seen.holds self.old)) }
+        ensures reason { HasReason (faults self.old) (faults self.new) result };
+
+    /// The next cells that have any key, in the order of rows and then of families, after the cell of `after`, or
+    /// from the start if that is `None`: `most` of them, or fewer if no more are left. They cost one pass over what
+    /// lies before the last of them.
+    ///
+    /// # Errors
+    ///
+    /// `Device`, `NoMemory` or `Damaged`, as for every read.
+    fn next_cells(
+        &mut self,
+        after: Option<(&Row, &Family)>,
+        most: usize,
+    ) -> Result<Vec<(Row, Family)>, Refusal>
+        ensures found { seen.holds self.old → IfOk result (λ found. AreNextCells
+            (seen.cells self.old) (option_map place_named after.entry) most found.items) }
+        ensures few { IfOk result (λ found. length found.items ≤ most) }
         ensures reads { OnlyReads seen self.old self.new }
         ensures refusal { IfErr result (IsRefusalOfRead (seen.holds self.old)) }
         ensures reason { HasReason (faults self.old) (faults self.new) result };

@@ -1,7 +1,7 @@
 //! The slots of `PlainRows`, the measure for tests. A slot is empty only within `apply`, which makes room before it changes a
 //! cell.
 
-ghost use Rattle.std.specs.Prelude.{◌≡◌, ◌≢◌, ◌≤◌, ℕ, IsSome, OnOk, OnErr, IfOk, option_map, map, List, ◌∷◌, Some, None};
+ghost use Rattle.std.specs.Prelude.{◌≡◌, ◌≢◌, ◌≤◌, ℕ, length, IsSome, OnOk, OnErr, IfOk, option_map, map, List, ◌∷◌, Some, None};
 ghost use Rattle.std.specs.List.{All, AllByRecursion};
 ghost use Rattle.std.specs.BTreeMap.{Updates};
 ghost use Rattle.std.specs.BTreeMap.Range.{IsLeBy, IsLtBy};
@@ -10,11 +10,11 @@ ghost use Rattle.std.specs.declared.ops.Bound.TheVariants.{Unbounded};
 ghost use Rattle.cell_key.specs.Keys.{key_cmp};
 ghost use Rattle.cell_key.specs.Cells.{after_edit, after_edits, edited_key, IsNewest, version};
 ghost use Rattle.cell_key.specs.declared.keys.CellKey.{CellKey as Key};
-ghost use Rattle.cell_key.specs.Places.{IsNextCell, place_named};
+ghost use Rattle.cell_key.specs.Places.{AreNextCells, IsNextCell, place_named};
 ghost use Rattle.cell_key.specs.Versions.{stamped};
 ghost use Rattle.row_atomic.specs.Slots.{slot_cells, slot_at, keyed, HasSlot, KeepsSlots, EmptiesNone, AreFilled, IsFullBut, IsFirstKey, past, HasEdited};
 
-use cell_key::{CellKey, Edit, Family, Qualifier, Row, Stamp};
+use cell_key::{CellKey, Edit, Family, Qualifier, Row, Stamp, last_place};
 use std::alloc::{AllocError, Global};
 use std::collections::BTreeMap;
 use std::ops::Bound;
@@ -83,6 +83,28 @@ pub(crate) fn next_cell(
         Some((key, _)) => Ok(Some((key.row.clone()?, key.family.clone()?))),
         None => Ok(None),
     }
+}
+
+/// The next cells after a place: `most` of them, or fewer if no more are left.
+pub(crate) fn next_cells(
+    alloc: Global,
+    slots: &Slots,
+    after: Option<(&Row, &Family)>,
+    most: usize,
+) -> Result<Vec<(Row, Family)>, AllocError>
+    requires { AreFilled slots.now.entries }
+    ensures found { IfOk result (λ found. AreNextCells (slot_cells slots.now.entries)
+        (option_map place_named after.entry) most found.items) }
+    ensures few { IfOk result (λ found. length found.items ≤ most) }
+{
+    let mut found = Vec::new(alloc);
+    'wanted: while found.len() < most {
+        match next_cell(slots, last_place(&found, after))? {
+            Some(place) => found.push(place)?,
+            None => return Ok(found),
+        }
+    }
+    Ok(found)
 }
 
 /// The key of an edit.

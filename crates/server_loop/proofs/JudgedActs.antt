@@ -5,7 +5,7 @@ use Rattle.std.specs.Global.{Vec}
 use Rattle.std.proofs.lemmas.Bool.{false≢true}
 use Rattle.cell_key.specs.declared.refusals.Refusal.{Refusal}
 use Rattle.si_model.specs.Machine as machine
-use Rattle.si_model.specs.Machine.{State, Request, Acts, Tells, tells, begins, reads, sets, deletes, holds, conflicts, draws, loses, commits, finishes, stops, opens, kills, learns, rolls_forward, rolls_back, finds_gone, collects, has_collected, splits, moves_tablet, waits, finds_none, is_blocked, goes_further, minors, merges, majors, sweeps, restarts, finds_raw, checkpoints}
+use Rattle.si_model.specs.Machine.{State, Request, Acts, Tells, tells, begins, reads, scans, sets, deletes, holds, conflicts, draws, loses, commits, finishes, stops, opens, kills, learns, rolls_forward, rolls_back, finds_gone, collects, has_collected, splits, moves_tablet, waits, finds_none, is_blocked, goes_further, minors, merges, majors, sweeps, restarts, finds_raw, checkpoints}
 use Rattle.request_codec.specs.Replies.{replied}
 use Rattle.request_codec.specs.Requests.{asked}
 use Rattle.request_codec.specs.declared.replies.Reply.{Reply as Kept}
@@ -14,6 +14,7 @@ use Rattle.request_codec.specs.declared.requests.Request.{Request as Lent}
 use Rattle.request_codec.specs.declared.requests.Request.TheVariants as lent
 use Rattle.si_model.specs.declared.replies.Found.{Found}
 use Rattle.si_model.specs.declared.replies.Found.TheVariants as found
+use Rattle.si_model.specs.declared.scans.ScanReply.{ScanReply}
 use Rattle.si_model.specs.declared.replies.Progress.{Progress}
 use Rattle.si_model.specs.declared.replies.Progress.TheVariants as progress
 use Rattle.si_model.specs.declared.replies.CleanStart.{CleanStart}
@@ -31,6 +32,7 @@ use Rattle.server_loop.proofs.KeptMaps.{stays_itself}
 abbrev pub Fits : Request → Kept → Type 0
 Fits machine.Begin k = (s : ℕ) × (k ≡ kept.Begin s)
 Fits (machine.Get s x) k = (f : Found) × (k ≡ kept.Get f)
+Fits (machine.ScanFrom s range keys_only n) k = (f : ScanReply) × (k ≡ kept.Scan f)
 Fits (machine.Set s x v) k = k ≡ kept.Set
 Fits (machine.Delete s x) k = k ≡ kept.Delete
 Fits (machine.Advance s) k = (p : Progress) × (k ≡ kept.Step p)
@@ -57,6 +59,8 @@ fits (kept.Get (found.Value v)) (reads h free last) = (found.Value v, refl)
 fits (kept.Get found.Nothing) (tells h) = elim h [ ]
 fits (kept.Get found.Nothing) (reads h free last) = (found.Nothing, refl)
 fits (kept.Get (found.Pending t)) (tells (waits h m low)) = (found.Pending t, refl)
+fits (kept.Scan f) (tells h) = elim h [ ]
+fits (kept.Scan f) (scans h is) = (f, refl)
 fits kept.Set (tells h) = elim h [ ]
 fits kept.Set (sets h wrote put) = refl
 fits kept.Delete (tells h) = elim h [ ]
@@ -129,6 +133,7 @@ pub record HasNoArm (q : Lent) : Type 0 where
 fits_upkeep : (q : Lent) (k : Kept) → ¬ IsOfSession (asked q) → HasNoArm q → Fits (asked q) k → IsUpkeep (asked q) k
 fits_upkeep lent.Begin k no_session not h = absurd (no_session tt)
 fits_upkeep (lent.Get a b d) k no_session not h = absurd (no_session tt)
+fits_upkeep (lent.Scan a b d e) k no_session not h = absurd (no_session tt)
 fits_upkeep (lent.Set a b d e) k no_session not h = absurd (no_session tt)
 fits_upkeep (lent.Delete a b d) k no_session not h = absurd (no_session tt)
 fits_upkeep (lent.Step a) k no_session not h = absurd (no_session tt)

@@ -9,6 +9,7 @@ mod JudgedActs
 mod JudgedCleanSteps
 mod JudgedCollectors
 mod JudgedRefusals
+mod JudgedScans
 mod JudgedSessions
 mod JudgedSteps
 mod JudgedTablets

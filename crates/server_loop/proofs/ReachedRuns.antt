@@ -26,6 +26,7 @@ reached_step st next request reply reached step = runs reached (goes_on step res
 pub laws_of : (st : State) → IsReached st → ObeysLaws st
 laws_of st reached = record {
   settled = (reached_sound reached).settled;
+  scans = (reached_sound reached).scans_settled;
   first_committer = (reached_sound reached).first_committer;
   one_fate = fates st reached;
   one_mark = (reached_sound reached).one_mark;

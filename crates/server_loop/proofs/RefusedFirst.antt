@@ -15,15 +15,16 @@ use Rattle.cell_key.specs.declared.refusals.Refusal.{Refusal}
 use Rattle.cell_key.specs.declared.refusals.Refusal.TheVariants.{UnknownSession, WrongPhase, BadRow, BadColumn, BadValue, TooManyWrites, TooManySessions, EmptyCommit, UnknownCleaner, UnknownCollector, UnknownTablet, BadSplit, UnknownServer, BadCount}
 use Rattle.si_model.specs.Machine as machine
 use Rattle.si_model.specs.Machine.{State, Value, Request, InPhase, Wrote, Names, HasTablet, IsEnd, Applies, IsFirstRefusal, IsAcceptable, IsStorageRefusal, Refuses}
-use Rattle.si_model.specs.Machine.{Begin, Get, Set, Delete, Advance, Stop, CleanBegin, CleanStep, CollectBegin, CollectStep, Minor, Merge, Major, Split, Move, Raw}
+use Rattle.si_model.specs.Machine.{Range, Begin, Get, ScanFrom, Set, Delete, Advance, Stop, CleanBegin, CleanStep, CollectBegin, CollectStep, Minor, Merge, Major, Split, Move, Raw}
 use Rattle.si_model.specs.Machine.{most_sessions, most_cleaners, most_collectors, most_tablets, most_servers, most_writes, most_value, most_visits}
 use Rattle.si_model.specs.Refusing.{set_unknown, set_late, set_row, set_family, set_long, set_full, delete_unknown, delete_late, delete_row, delete_family, delete_full, advance_unknown, advance_empty, merge_unknown, merge_few, raw_row, raw_family}
 use Rattle.si_model.specs.Refusing.Refuses.{applies_first, gives_up, merges_too_many}
 use Rattle.si_model.specs.Sets.{◌∈◌}
 use Rattle.si_model.specs.declared.replies.Cell.{Cell}
 use Rattle.si_model.proofs.Tools.{same_entry}
-use Rattle.si_model.proofs.Acceptable.{no_entry, get_ok}
-use Rattle.si_model.proofs.FirstRefusals.{begin_full_first, get_unknown_first, get_late_first, get_row_first, get_family_first, set_unknown_first, set_late_first, set_row_first, set_family_first, set_long_first, set_full_first, delete_unknown_first, delete_late_first, delete_row_first, delete_family_first, delete_full_first, advance_unknown_first, advance_empty_first, stop_unknown_first, clean_row_first, clean_family_first, clean_full_first, clean_unknown_first, collect_full_first, collect_unknown_first, collect_none_first, collect_many_first, minor_unknown_first, major_unknown_first, merge_unknown_first, split_row_first, split_end_first, split_full_first, move_unknown_first, move_server_first, raw_row_first, raw_family_first}
+use Rattle.si_model.proofs.Acceptable.{no_entry, get_ok, scan_ok}
+use Rattle.si_model.proofs.FirstRefusals.{scan_unknown_first, scan_late_first, scan_row_first, scan_family_first, scan_none_first, scan_many_first, begin_full_first, get_unknown_first, get_late_first, get_row_first, get_family_first, set_unknown_first, set_late_first, set_row_first, set_family_first, set_long_first, set_full_first, delete_unknown_first, delete_late_first, delete_row_first, delete_family_first, delete_full_first, advance_unknown_first, advance_empty_first, stop_unknown_first, clean_row_first, clean_family_first, clean_full_first, clean_unknown_first, collect_full_first, collect_unknown_first, collect_none_first, collect_many_first, minor_unknown_first, major_unknown_first, merge_unknown_first, split_row_first, split_end_first, split_full_first, move_unknown_first, move_server_first, raw_row_first, raw_family_first}
+use Rattle.server_loop.specs.AuditScans.{RefusesRange}
 use Rattle.server_loop.specs.AuditRefusals.{HasEnd, HasNoRoom, HasWrittenNothing, RefusesFirst, RefusesName, RefusesUnlessOpen, RefusesUse}
 use Rattle.server_loop.specs.Audits.{Accepts, IsMerge, Keeps, cleaner_of, mark_of, phase_of, place_of, write_of, writes_of}
 use Rattle.server_loop.specs.declared.audit.Audit.{Audit}
@@ -289,3 +290,19 @@ module _ (audit : Audit) where
 
       pub split_full_now : most_tablets ≤ length audit.places.items → RefusesFirst audit (Split row) (Some BadSplit)
       split_full_now full st kept = let l = sym (length-map audit.places.items place_of) ∙ ap length kept.places in first_of (split_full_first is (omega arith)) (λ s. s) (λ m. m.1)
+
+-- ---- a scan
+
+module _ (audit : Audit) (start : ℕ) (range : Range) (keys : Bool) (cells : ℕ) where
+  pub scan_closed : (n : Refusal) → RefusesUnlessOpen audit start (Some n) → RefusesFirst audit (ScanFrom start range keys cells) (Some n)
+  scan_closed UnknownSession e = λ st kept. first_of (scan_unknown_first (in_no_phase audit st start kept e)) (λ s. s) (λ m. m.1)
+  scan_closed WrongPhase (p, e, ahead) = λ st kept. first_of (scan_late_first (phase_of p) (in_phase audit st start p kept e) (late_too p ahead)) (λ s. s) (λ m. m.1)
+  scan_closed _ bad = absurd bad
+
+  pub scan_first : RefusesUnlessOpen audit start None → (o : Option Refusal) → RefusesRange range cells o → RefusesFirst audit (ScanFrom start range keys cells) o
+  scan_first e None (rows, families, some, few) = λ st kept. scan_ok (in_phase audit st start phase.Open kept e) rows families some few
+  scan_first e (Some BadRow) bad = λ st kept. first_of (scan_row_first (in_phase audit st start phase.Open kept e) bad) (λ s. s) (λ m. m.1)
+  scan_first e (Some BadColumn) (rows, bad) = λ st kept. first_of (scan_family_first (in_phase audit st start phase.Open kept e) rows bad) (λ s. s) (λ m. m.1)
+  scan_first e (Some BadCount) (rows, families, inl none) = λ st kept. first_of (scan_none_first (in_phase audit st start phase.Open kept e) rows families none) (λ s. s) (λ m. m.1)
+  scan_first e (Some BadCount) (rows, families, inr many) = λ st kept. first_of (scan_many_first (in_phase audit st start phase.Open kept e) rows families many) (λ s. s) (λ m. m.1)
+  scan_first e (Some _) bad = absurd bad

@@ -23,7 +23,7 @@ use Rattle.si_model.specs.Machine.{Acts, CheckpointDone, IsReached, Refused, Sta
 use Rattle.si_model.specs.ShowsCells.{ShowsCells}
 use Rattle.server_loop.specs.Answer.{IsPlainAnswer, TendsTablets}
 use Rattle.server_loop.specs.Commands.{HasOutcome, command_of}
-use Rattle.server_loop.specs.Resting.{IsSparing, KeepsResting, RestingIsKept, RestsAt, RestsBetween, TellsState}
+use Rattle.server_loop.specs.Resting.{IsSparing, KeepsResting, RestingIsKept, RestsAt, RestsBetween, StoresState, TellsState}
 use Rattle.server_loop.specs.Server.{Shows, cluster_of, last_of, marks_of}
 use Rattle.server_loop.specs.Sessions.{KeepsOracle, LeavesOracle}
 use Rattle.server_loop.specs.Tending.{MergesWhere}
@@ -97,12 +97,12 @@ module _ {F M : Type 0} (files : Files F) (store : MarkStore M) where
     by_command (Some command) request e old new (inl is) keeps = (stays command (outcome.Refused e) root cells old new is).1 (λ takes. not_done e takes.1) keeps
     by_command (Some command) request e old new (inr none) keeps = subst (λ (state : ClusterState F). KeepsRoot files.contents root cells state) (sym none.1) keeps
 
-    tends_root : (request : Lent) (e : Refusal) (old new : Server F M) → request ≢ lent.Checkpoint → TendsTablets files.contents files.faults request (codec.Refused e) old new
+    tends_root : (request : Lent) (e : Refusal) (old new : Server F M) → request ≢ lent.Checkpoint → TendsTablets files request (codec.Refused e) old new
         → KeepsRoot files.contents root cells (cluster_of old) → KeepsRoot files.contents root cells (cluster_of new)
     tends_root lent.Checkpoint e old new other tends keeps = absurd (other refl)
     tends_root request e old new other tends keeps = by_command (command_of request) request e (cluster_of old) (cluster_of new) tends keeps
 
-    spared_root : (request : Lent) (reply : CodecReply) (old new : Server F M) → IsSparing request → TendsTablets files.contents files.faults request reply old new
+    spared_root : (request : Lent) (reply : CodecReply) (old new : Server F M) → IsSparing request → TendsTablets files request reply old new
         → KeepsRoot files.contents root cells (cluster_of old) → KeepsRoot files.contents root cells (cluster_of new)
     spared_root (lent.Minor t) reply old new is (inl made) keeps = (stays _ _ root cells (cluster_of old) (cluster_of new) made).1 (λ takes. takes.0) keeps
     spared_root (lent.Minor t) reply old new is (inr none) keeps = absurd none.0
@@ -162,11 +162,41 @@ module _ {F M : Type 0} (files : Files F) (store : MarkStore M) where
           };
         }
 
-    pub keeps_resting : (request : Lent) (reply : CodecReply) → IsPlainAnswer files store old request reply new → KeepsResting files.contents store.mark request reply old new
+    -- what a refused checkpoint leaves there
+    stores_after : (e : Refusal) → files.replaces → IsPlainAnswer files store old lent.Checkpoint (codec.Refused e) new → (kept st : State) → StoresState files.contents store.mark old kept → IsReached st → Shows files.contents old st
+        → StoresState files.contents store.mark new kept ⊎ StoresState files.contents store.mark new st
+    stores_after e replaces plain kept st stores reached shown =
+        let (next, step, after, whole) = plain.step.step st reached shown in
+        let shows : Shows files.contents new st = subst (λ (s : State). Shows files.contents new s) (refused_same _ _ _ _ step) after in
+        let same : store.mark (marks_of new) ≡ store.mark (marks_of old) = ap (λ (o : OracleState M). store.mark o.marks) plain.sessions.oracle in
+        elim (plain.tablets.2 replaces e refl) [
+          | inl stays ↦ inl (record {
+            root = stores.root;
+            cells = stores.cells;
+            has = (stays stores.root stores.cells).0 stores.has;
+            tells = subst (λ (o : Option ℕ). TellsState stores.root stores.cells o kept) (sym same) stores.tells;
+          })
+          | inr rests ↦ inr (record {
+            root = _;
+            cells = _;
+            has = (rests shown.in_order).has;
+            tells = record {
+              top = shown.shows.sessions.top;
+              floor = shown.collectors.floor;
+              places = shows.places;
+              next = shows.next;
+              marked = marked_now _ _ _ (subst (λ (o : Option ℕ). IsSome o) (sym same) (some_told _ _ stores.tells.marked)) within shows.shows.top;
+              shows = reopens _ st shown.shows.store;
+            };
+          })
+        ]
+
+    pub keeps_resting : (request : Lent) (reply : CodecReply) → IsPlainAnswer files store old request reply new → KeepsResting files store.mark request reply old new
     keeps_resting request reply plain = record {
       done = λ is told. rests_done (subst (λ (q : Lent). IsPlainAnswer files store old q codec.Checkpoint new) is (subst (λ (r : CodecReply). IsPlainAnswer files store old request r new) told plain));
       refused = λ other e told. rests_refused request e other (subst (λ (r : CodecReply). IsPlainAnswer files store old request r new) told plain);
       spared = λ is. rests_spared request reply is plain;
+      unfinished = λ replaces is e told. stores_after e replaces (subst (λ (q : Lent). IsPlainAnswer files store old q (codec.Refused e) new) is (subst (λ (r : CodecReply). IsPlainAnswer files store old request r new) told plain));
     }
 
   -- ---- between two requests

@@ -2,7 +2,7 @@
 use Rattle.std.proofs.Common.{◌≡◌, ◌⊎◌, ℕ, inl, inr, List, Option, Some, None, refl}
 use Rattle.std.specs.Prelude.{⊤}
 use Rattle.si_model.specs.Machine.{State, Commit, Place, Request, Reply, Split, Move}
-use Rattle.si_model.specs.Machine.{Acts, tells, begins, reads, sets, deletes, holds, conflicts, draws, loses, commits, finishes, stops, opens, kills, learns, rolls_forward, rolls_back, finds_gone, collects, has_collected, splits, moves_tablet, Step, refuses, accepts}
+use Rattle.si_model.specs.Machine.{Acts, tells, begins, reads, scans, sets, deletes, holds, conflicts, draws, loses, commits, finishes, stops, opens, kills, learns, rolls_forward, rolls_back, finds_gone, collects, has_collected, splits, moves_tablet, Step, refuses, accepts}
 use Rattle.si_model.specs.ShowsCells.{ShowsCells, ShowsMark, NamesCommit, IsForgotten, IsGiven, IsThere, MayLack}
 use Rattle.si_model.specs.declared.replies.Cell.{Cell}
 use Rattle.cell_key.specs.Cells.{Cells}
@@ -28,6 +28,7 @@ module _ (st : State) where
   acts_keep _ _ _ (tells t) keeps = (refl, refl)
   acts_keep _ _ _ (begins d) keeps = (refl, refl)
   acts_keep _ _ _ (reads h none shown) keeps = (refl, refl)
+  acts_keep _ _ _ (scans h is) keeps = (refl, refl)
   acts_keep _ _ _ (sets h w by) keeps = (refl, refl)
   acts_keep _ _ _ (deletes h w by) keeps = (refl, refl)
   acts_keep _ _ _ (holds h w puts free) keeps = (refl, refl)

@@ -11,7 +11,8 @@ use Rattle.si_model.specs.Collection.{ChangesCells}
 use Rattle.si_model.specs.Kinds.{OfSessions, kind_of}
 use Rattle.si_model.specs.ShowsCells.{ShowsCells}
 use Rattle.si_model.specs.Refusing.{Refuses, gives_up}
-use Rattle.si_model.specs.Replies.{found_reply, progress_reply}
+use Rattle.si_model.specs.Replies.{found_reply, progress_reply, scan_reply}
+use Rattle.si_model.specs.declared.scans.ScanReply.{ScanReply}
 use Rattle.si_model.specs.declared.replies.Found.{Found}
 use Rattle.si_model.specs.declared.replies.Found.TheVariants as founds
 use Rattle.si_model.specs.declared.replies.Progress.{Progress}
@@ -120,6 +121,9 @@ pub found_undamaged : (found : Found) → found_reply found ≡ Refused Damaged 
 found_undamaged (founds.Value value) = λ e. cc
 found_undamaged founds.Nothing = λ e. cc
 found_undamaged (founds.Pending start) = λ e. cc
+
+pub scan_undamaged : (reply : ScanReply) → scan_reply reply ≡ Refused Damaged → ⊥
+scan_undamaged reply = λ e. cc
 
 pub progress_undamaged : (progress : Progress) → progress_reply progress ≡ Refused Damaged → ⊥
 progress_undamaged (steps.Held place count) = λ e. cc

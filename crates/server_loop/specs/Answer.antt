@@ -1,5 +1,6 @@
 -- All that is said of an answer to a request, in eight parts.
 use Rattle.std.specs.Prelude.{◌≡◌, ℕ, Option, IfSome, ⊤}
+use Rattle.cell_key.specs.declared.refusals.Refusal.{Refusal}
 use Rattle.cell_key.specs.declared.refusals.Refusal.TheVariants.{Device, Exhausted, MemtableFull}
 use Rattle.file_store.specs.Store.{Contents}
 use Rattle.file_store.specs.declared.files.Files.{Ghosts as Files}
@@ -13,7 +14,7 @@ use Rattle.request_codec.specs.declared.requests.Request.TheVariants.{Begin, Ste
 use Rattle.row_atomic.specs.Changes.{Holds}
 use Rattle.row_atomic.specs.Commands.{OverfillsCluster}
 use Rattle.row_atomic.specs.Room.{HasNoRoom}
-use Rattle.row_atomic.specs.Roots.{Checkpoints, Rests}
+use Rattle.row_atomic.specs.Roots.{Checkpoints, Rests, StaysOrRests}
 use Rattle.si_model.specs.Machine.{IsReached, State}
 use Rattle.server_loop.specs.Commands.{HasOutcome, command_of, outcome_of}
 use Rattle.server_loop.specs.Refusals.{IsRefusalOfRequest}
@@ -90,16 +91,21 @@ pub record ServesSessions {F M : Type 0} (contents : F → Option Contents) (mar
 -- ---- tablets and files
 
 -- What a request did to tablets and files. A checkpoint writes the sessions' top and the
--- collectors' greatest floor, and once it is done the files keep what the tablets show.
-abbrev pub TendsTablets : {F M : Type 0} → (F → Option Contents) → (F → ℕ) → Request → Reply
-    → Server F M → Server F M → Type 0
-TendsTablets contents faults Checkpoint reply old new =
-    Checkpoints contents faults (top_of old) (floor_of old)
+-- collectors' greatest floor, and once it is done the files keep what the tablets show. Over files
+-- that a put replaces as a whole, a refused one leaves there what they kept, or what the tablets
+-- show.
+abbrev pub TendsTablets : {F M : Type 0} → Files F → Request → Reply → Server F M → Server F M
+    → Type 0
+TendsTablets files Checkpoint reply old new =
+    Checkpoints files.contents files.faults (top_of old) (floor_of old)
     (cluster_of old) (outcome_of reply) (cluster_of new)
     × (reply ≡ codec.Checkpoint
-    → Rests contents (top_of old) (floor_of old) (cluster_of old) (cluster_of new))
-TendsTablets contents faults request reply old new =
-    HasOutcome contents faults (command_of request) request reply (cluster_of old) (cluster_of new)
+    → Rests files.contents (top_of old) (floor_of old) (cluster_of old) (cluster_of new))
+    × (files.replaces → (refusal : Refusal) → reply ≡ codec.Refused refusal
+    → StaysOrRests files.contents (top_of old) (floor_of old) (cluster_of old) (cluster_of new))
+TendsTablets files request reply old new =
+    HasOutcome files.contents files.faults
+    (command_of request) request reply (cluster_of old) (cluster_of new)
 
 -- ---- faults and causes
 
@@ -140,7 +146,7 @@ pub record IsPlainAnswer {F M : Type 0} (files : Files F) (marks : MarkStore M)
   pub stamps : DrawsStamps files.contents marks.mark request reply old new
   pub edits : MakesEdits files.contents request reply old new
   pub sessions : ServesSessions files.contents marks.mark request reply old new
-  pub tablets : TendsTablets files.contents files.faults request reply old new
+  pub tablets : TendsTablets files request reply old new
   pub causes : TellsCauses files.contents files.faults marks.faults request reply old new
   -- no request changes when a server compacts and merges by itself
   pub tending : tending_of new ≡ tending_of old
@@ -149,4 +155,4 @@ pub record IsPlainAnswer {F M : Type 0} (files : Files F) (marks : MarkStore M)
 pub record IsAnswer {F M : Type 0} (files : Files F) (marks : MarkStore M)
     (old : Server F M) (request : Request) (reply : Reply) (new : Server F M) : Type 0 where
   pub plain : IsPlainAnswer files marks old request reply new
-  pub resting : KeepsResting files.contents marks.mark request reply old new
+  pub resting : KeepsResting files marks.mark request reply old new

@@ -61,7 +61,7 @@ SameMembers {A} xs ys = (x : A) → (x ∈ xs) ↔ (x ∈ ys)
 abbrev pub SameEach : {A B : Type 0} → (A → B) → btree.BTreeMap ℕ A → finmap.FinMap nat_cmp B → Type 0
 SameEach read kept m = (k : ℕ) → option_map read (btree.get nat_cmp kept k) ≡ finmap.get m k
 
--- The audit keeps the state, but for its reads, for which no step asks.
+-- The audit keeps the state, but for its reads and scans, for which no step asks.
 pub record Keeps (audit : Audit) (st : State) : Type 0 where
   pub top : audit.top ≡ st.top
   pub begun : SameEach writes_of audit.begun st.begun
@@ -194,6 +194,7 @@ IsMerge q = ⊥
 abbrev pub IsOfSession : Request → Type 0
 IsOfSession machine.Begin = ⊤
 IsOfSession (machine.Get start x) = ⊤
+IsOfSession (machine.ScanFrom start range keys_only cells) = ⊤
 IsOfSession (machine.Set start x value) = ⊤
 IsOfSession (machine.Delete start x) = ⊤
 IsOfSession (machine.Advance start) = ⊤

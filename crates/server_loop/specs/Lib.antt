@@ -10,5 +10,6 @@ pub mod Opening
 pub mod Answer
 pub mod Tending
 pub mod Audits
+pub mod AuditScans
 pub mod AuditSteps
 pub mod AuditRefusals

@@ -6,11 +6,11 @@ use Rattle.row_atomic.specs.Changes as cluster
 use Rattle.row_atomic.specs.Changes.{IsNumberedRefusal, IsSplitRefusal, IsMoveRefusal}
 use Rattle.row_atomic.specs.Refusals.{IsReadRefusal}
 use Rattle.row_atomic.specs.Compactions as compaction
-use Rattle.txn_client.specs.Refusals.{IsBeginRefusal, IsDeleteRefusal, IsGetRefusal, IsSetRefusal, IsStepRefusal}
+use Rattle.txn_client.specs.Refusals.{IsBeginRefusal, IsDeleteRefusal, IsGetRefusal, IsScanRefusal, IsSetRefusal, IsStepRefusal}
 use Rattle.clean_up.specs.Refusals as clean_up
 use Rattle.version_collector.specs.Refusals as version_collector
 use Rattle.request_codec.specs.declared.requests.Request.{Request}
-use Rattle.request_codec.specs.declared.requests.Request.TheVariants.{Begin, Get, Set, Delete, Step, Stop, CleanBegin, CleanStep, CollectBegin, CollectStep, Minor, Merge, Major, Split, Move, Sweep, OracleRestart, Raw, Checkpoint}
+use Rattle.request_codec.specs.declared.requests.Request.TheVariants.{Begin, Get, Set, Delete, Scan, Step, Stop, CleanBegin, CleanStep, CollectBegin, CollectStep, Minor, Merge, Major, Split, Move, Sweep, OracleRestart, Raw, Checkpoint}
 
 -- a cut at a row that may be none
 abbrev pub IsCutRefusal : Refusal → Type 0
@@ -32,6 +32,7 @@ IsRefusalOfRequest Begin refusal = IsBeginRefusal refusal
 IsRefusalOfRequest (Get start row family) refusal = IsGetRefusal refusal
 IsRefusalOfRequest (Set start row family value) refusal = IsSetRefusal refusal
 IsRefusalOfRequest (Delete start row family) refusal = IsDeleteRefusal refusal
+IsRefusalOfRequest (Scan start range keys_only cells) refusal = IsScanRefusal refusal
 IsRefusalOfRequest (Step start) refusal = IsStepRefusal refusal
 IsRefusalOfRequest (Stop start) refusal = refusal ≡ UnknownSession
 IsRefusalOfRequest (CleanBegin row family) refusal = clean_up.IsBeginRefusal refusal

@@ -3,16 +3,17 @@ use Rattle.std.specs.Prelude.{◌≡◌, ◌≢◌, ◌+◌, ◌≤◌, ◌⊎�
 use Rattle.cell_key.specs.Cells.{Cells}
 use Rattle.cell_key.specs.declared.refusals.Refusal.{Refusal}
 use Rattle.file_store.specs.Store.{Contents}
+use Rattle.file_store.specs.declared.files.Files.{Ghosts as Files}
 use Rattle.metadata_table.specs.Roots.{RootView}
 use Rattle.request_codec.specs.declared.replies.Reply.{Reply}
 use Rattle.request_codec.specs.declared.replies.Reply.TheVariants as codec
 use Rattle.request_codec.specs.declared.requests.Request.{Request}
 use Rattle.request_codec.specs.declared.requests.Request.TheVariants.{Minor, Sweep, OracleRestart, Raw, Checkpoint}
-use Rattle.row_atomic.specs.Roots.{KeepsCells, KeepsRoot}
+use Rattle.row_atomic.specs.Roots.{HasRoot, KeepsCells, KeepsRoot}
 use Rattle.si_model.specs.Machine.{IsReached, State, reopened}
 use Rattle.si_model.specs.ShowsCells.{ShowsCells}
 use Rattle.server_loop.specs.Server.{Shows, cluster_of, machine_places, marks_of, tending_of}
-use Rattle.server_loop.specs.Tending.{IsTended, has_full}
+use Rattle.server_loop.specs.Tending.{IsTended, is_due}
 use Rattle.server_loop.specs.declared.server.Server.{Server}
 
 -- A root names the greatest stamp of a state, its greatest floor and the places of its tablets, a
@@ -46,6 +47,15 @@ pub record RestsAt {F M : Type 0} (contents : F → Option Contents) (mark : M �
   pub keeps : KeepsRoot contents root cells (cluster_of server)
   pub tells : TellsState root cells (mark (marks_of server)) st
 
+-- A server's files and its mark keep a state, whatever it shows itself by now. Files to come have
+-- other names than the root's.
+pub record StoresState {F M : Type 0} (contents : F → Option Contents) (mark : M → Option ℕ)
+    (server : Server F M) (st : State) : Type 0 where
+  pub root : RootView
+  pub cells : Cells
+  pub has : HasRoot contents root cells (cluster_of server)
+  pub tells : TellsState root cells (mark (marks_of server)) st
+
 -- requests that leave the machine as it is, and to each tablet all its files
 abbrev pub IsSparing : Request → Type 0
 IsSparing (Minor tablet) = ⊤
@@ -55,24 +65,32 @@ IsSparing (Raw row family qualifier lo hi) = ⊤
 IsSparing request = ⊥
 
 -- What a server rests at after an answer.
-pub record KeepsResting {F M : Type 0} (contents : F → Option Contents) (mark : M → Option ℕ)
+pub record KeepsResting {F M : Type 0} (files : Files F) (mark : M → Option ℕ)
     (request : Request) (reply : Reply) (old new : Server F M) : Type 0 where
   -- An accepted checkpoint leaves a server that shows a reached state resting at it, if the mark is
   -- known.
   pub done : request ≡ Checkpoint → reply ≡ codec.Checkpoint → (st : State) → IsReached st
-      → Shows contents old st → IsSome (mark (marks_of old)) → RestsAt contents mark new st
+      → Shows files.contents old st → IsSome (mark (marks_of old))
+      → RestsAt files.contents mark new st
   -- Any other request that is refused leaves it resting where it did, and so does a sparing one.
   pub refused : request ≢ Checkpoint → (refusal : Refusal) → reply ≡ codec.Refused refusal
-      → (st : State) → IsReached st → RestsAt contents mark old st → RestsAt contents mark new st
-  pub spared : IsSparing request → (st : State) → IsReached st → RestsAt contents mark old st
-      → RestsAt contents mark new st
+      → (st : State) → IsReached st → RestsAt files.contents mark old st
+      → RestsAt files.contents mark new st
+  pub spared : IsSparing request → (st : State) → IsReached st → RestsAt files.contents mark old st
+      → RestsAt files.contents mark new st
+  -- Over files that a put replaces as a whole, a refused checkpoint leaves the state that was stored
+  -- before, or the one that the server shows.
+  pub unfinished : files.replaces → request ≡ Checkpoint → (refusal : Refusal)
+      → reply ≡ codec.Refused refusal → (stored shown : State)
+      → StoresState files.contents mark old stored → IsReached shown → Shows files.contents old shown
+      → StoresState files.contents mark new stored ⊎ StoresState files.contents mark new shown
 
 -- Between two requests a server goes on resting where it did, if it doesn't merge by itself, or if
--- no memtable is full.
+-- no merge is due.
 abbrev pub RestsBetween : {F M : Type 0} → (F → Option Contents) → (F → ℕ) → (M → Option ℕ) → Type 0
 RestsBetween {F} {M} contents faults mark =
     (old new : Server F M) (st : State) → IsTended contents faults old new
-    → ((tending_of old).merge ≡ None) ⊎ (has_full (tending_of old).flush (cluster_of old) ≡ false)
+    → ((tending_of old).merge ≡ None) ⊎ (is_due (tending_of old) (cluster_of old) ≡ false)
     → RestsAt contents mark old st → RestsAt contents mark new st
 
 -- A server that rests at a state leaves it in its files and its mark.

@@ -1,10 +1,13 @@
 -- The machine's run over what a server takes from a stream.
-use Rattle.std.specs.Prelude.{◌≡◌, ℕ, ◌+◌, ◌≤◌, List, [], ◌∷◌, length, Some, ◌⊎◌, ⊤}
+use Rattle.std.specs.Prelude.{◌≡◌, ℕ, ◌+◌, ◌≤◌, List, [], ◌∷◌, length, map, Some, ◌⊎◌, ⊤}
 use Rattle.cell_key.specs.Names.{IsRow, IsFamily}
 use Rattle.cell_key.specs.declared.refusals.Refusal.{Refusal}
 use Rattle.cell_key.specs.declared.refusals.Refusal.TheVariants.{BadRequest, FrameTooLarge, Damaged}
 use Rattle.si_model.specs.Machine.{State, Reply, Refused, Step, IsReached}
 use Rattle.si_model.specs.Laws.{IsSettled, FirstCommitterWins, OneFate, OneMark}
+use Rattle.si_model.specs.Replies.{item_of, reach_of}
+use Rattle.si_model.specs.ScanLaws.{ScansSettled}
+use Rattle.txn_client.specs.Scans.{IsInScanLimits}
 use Rattle.request_codec.specs.Replies.{replied}
 use Rattle.request_codec.specs.Requests.{asked, IsRequest, IsMalformed}
 use Rattle.request_codec.specs.declared.requests.Request.{Request as Lent}
@@ -40,6 +43,9 @@ pub record ObeysLaws (st : State) : Type 0 where
   -- each answered value is the last one committed by its session's start, in the commits as they
   -- are now
   pub settled : IsSettled st
+  -- what each scan said of the cells that it went over, named or not, is so at its session's start,
+  -- in the commits as they are now
+  pub scans : ScansSettled st
   -- no two commits of one cell overlap
   pub first_committer : FirstCommitterWins st
   -- no start is both rolled back and committed, or committed twice
@@ -98,10 +104,12 @@ StepsAs shows old new request reply = (before : State) → IsReached before → 
     → (after : State) × Step before request reply after × shows new after
     × (reply ≡ Refused Damaged → ⊥)
 
--- A value that is answered has at most 65,536 bytes, and a cell that is named is within the limits
--- of rows and families.
+-- A value that is answered has at most 65,536 bytes, the items of a scan have at most 61,440, and a
+-- cell that is named is within the limits of rows and families.
 abbrev pub KeepsToLimits : CodecReply → Type 0
 KeepsToLimits (codec.Get (Value value)) = length value.items ≤ 65536
+KeepsToLimits (codec.Scan reply) =
+    IsInScanLimits (map item_of reply.items.items) (reach_of reply.reach)
 KeepsToLimits (codec.Raw (Some found)) = length found.1.items ≤ 65536
 KeepsToLimits (codec.CollectStep (Blocked cell start)) = IsRow cell.row × IsFamily cell.family
 KeepsToLimits other = ⊤

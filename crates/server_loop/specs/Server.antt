@@ -1,5 +1,5 @@
 -- What it means that a server shows a state of the machine.
-use Rattle.std.specs.Prelude.{◌≡◌, ◌≤◌, ℕ, ◌+◌, ◌⊎◌, List, length, map, Option}
+use Rattle.std.specs.Prelude.{◌≡◌, ◌≤◌, ℕ, ◌+◌, ◌⊎◌, List, length, map, Option, IfSome}
 use Rattle.std.specs.FinMap.{empty}
 use Rattle.cell_key.specs.Cells.{Cells}
 use Rattle.cell_key.specs.Faults.{HasRisen}
@@ -20,8 +20,9 @@ use Rattle.server_loop.specs.declared.server.Tending.{Tending}
 
 -- limits that a store can have
 pub record IsConfig (config : Config) : Type 0 where
-  pub flush_least : 1 ≤ config.flush
-  pub flush_most : config.flush ≤ 100000
+  pub flush_least : 1 ≤ config.flush.entries
+  pub flush_most : config.flush.entries ≤ 100000
+  pub flush_bytes : IfSome config.flush.bytes (λ bytes. (1048576 ≤ bytes) × (bytes ≤ 67108864))
   pub limit : IsFileLimit config.file_limit
 
 -- its cluster, the mark store of its oracle, and the oracle's last stamp

@@ -1,6 +1,6 @@
 -- What a request does to the cells, to the room in memory, to sessions, cleaners and collectors and
 -- to the oracle, and what is always answered.
-use Rattle.std.specs.Prelude.{◌≡◌, ◌≢◌, ◌⊎◌, ℕ, Option, Result, Ok, Err, ⊤}
+use Rattle.std.specs.Prelude.{◌≡◌, ◌≢◌, ◌⊎◌, ℕ, Option, Result, Ok, Err, map, ⊤}
 use Rattle.cell_key.specs.declared.refusals.Refusal.{Refusal}
 use Rattle.cell_key.specs.declared.refusals.Refusal.TheVariants.{Device, UnknownSession, UnknownCleaner, UnknownCollector, BadCount, EmptyCommit, TooManySessions}
 use Rattle.file_store.specs.Store.{Contents}
@@ -9,6 +9,7 @@ use Rattle.row_atomic.specs.Commands.{IsNoFuller, OverfillsCluster}
 use Rattle.si_model.specs.Collection.{Collects}
 use Rattle.si_model.specs.Machine.{IsReached, State}
 use Rattle.si_model.specs.Reads.{cell_of}
+use Rattle.si_model.specs.Replies.{item_of, range_of, reach_of}
 use Rattle.si_model.specs.declared.replies.CollectReply.{CollectReply}
 use Rattle.oracle.specs.Marks.{MayHold}
 use Rattle.oracle.specs.Ranges.{IsDrawRefusal, SameNumbers, next_range_end}
@@ -16,11 +17,12 @@ use Rattle.request_codec.specs.Replies.{replied}
 use Rattle.request_codec.specs.declared.replies.Reply.{Reply}
 use Rattle.request_codec.specs.declared.replies.Reply.TheVariants as codec
 use Rattle.request_codec.specs.declared.requests.Request.{Request}
-use Rattle.request_codec.specs.declared.requests.Request.TheVariants.{Begin, Get, Set, Delete, Step, Stop, CleanBegin, CleanStep, CollectBegin, CollectStep, Minor, Merge, Major, Split, Move, Sweep, Checkpoint, OracleRestart}
+use Rattle.request_codec.specs.declared.requests.Request.TheVariants.{Begin, Get, Set, Delete, Scan, Step, Stop, CleanBegin, CleanStep, CollectBegin, CollectStep, Minor, Merge, Major, Split, Move, Sweep, Checkpoint, OracleRestart}
 use Rattle.server_loop.specs.Runs.{IfRefused}
 use Rattle.server_loop.specs.Server.{Shows, server_cells, cluster_of, marks_of}
 use Rattle.server_loop.specs.declared.server.Server.{Server}
 use Rattle.txn_client.specs.Room.{ChangesNext, Makes, TakesRoom}
+use Rattle.txn_client.specs.Scans.{IsScanFound}
 use Rattle.txn_client.specs.declared.sessions.Clients.{Clients}
 use Rattle.txn_client.specs.Shows.{IsAboutToDraw, IsCrowded, IsInactive, IsUnwritten, SameClients, TouchesFor}
 use Rattle.clean_up.specs.Room as clean_up
@@ -65,8 +67,9 @@ ComesFirst refusal n = IsEarlyRefusal refusal ⊎ (n ≡ 1)
 -- visits, and what it answers is true: if all is Collected, each cell is tidy; if it is Blocked,
 -- the lock stands; and after More this much less is left. It alone may change cells and then be
 -- refused, by its later visits; whatever the cells show, it only erases. What writes files changes
--- none if the files hold, and all else changes none, also where it is refused for what stands in
--- the files.
+-- none if the files hold, and all else changes none, also where it is refused for what stands in the
+-- files. A scan finds what reads of the cells find, sends each value that it may, and looks at as many
+-- cells as it may, unless none is left or the next item does not fit.
 abbrev pub ChangesCells : {F M : Type 0} → (F → Option Contents) → Request → Reply → Server F M
     → Server F M → Type 0
 ChangesCells contents (Step start) (codec.Step progress) old new =
@@ -90,6 +93,10 @@ ChangesCells contents (CollectStep collector n) (codec.Refused refusal) old new 
     × ((st : State) → IsReached st → Shows contents old st
     → MakesVisits contents collector n (Err refusal) old new st)
     × (ComesFirst refusal n → server_cells contents new ≡ server_cells contents old)
+ChangesCells contents (Scan start range keys_only cells) (codec.Scan reply) old new =
+    (server_cells contents new ≡ server_cells contents old)
+    × (Holds contents (cluster_of old) → IsScanFound (server_cells contents old) start
+    (range_of range) keys_only cells (map item_of reply.items.items) (reach_of reply.reach))
 ChangesCells contents (Minor tablet) reply old new = KeepsHeldCells contents old new
 ChangesCells contents (Merge tablet count) reply old new = KeepsHeldCells contents old new
 ChangesCells contents (Major tablet) reply old new = KeepsHeldCells contents old new
@@ -110,6 +117,8 @@ LeavesServerRoom contents (Get start row family) reply old new =
 LeavesServerRoom contents (Set start row family value) reply old new =
     IsNoFuller (cluster_of old) (cluster_of new)
 LeavesServerRoom contents (Delete start row family) reply old new =
+    IsNoFuller (cluster_of old) (cluster_of new)
+LeavesServerRoom contents (Scan start range keys_only cells) reply old new =
     IsNoFuller (cluster_of old) (cluster_of new)
 LeavesServerRoom contents (Step start) (codec.Step progress) old new =
     (st : State) → IsReached st → Shows contents old st
@@ -142,6 +151,8 @@ IsAlwaysTold (Get start row family) reply st =
 IsAlwaysTold (Set start row family value) reply st =
     IsInactive st start → reply ≡ codec.Refused UnknownSession
 IsAlwaysTold (Delete start row family) reply st =
+    IsInactive st start → reply ≡ codec.Refused UnknownSession
+IsAlwaysTold (Scan start range keys_only cells) reply st =
     IsInactive st start → reply ≡ codec.Refused UnknownSession
 IsAlwaysTold (Step start) reply st =
     (IsInactive st start → reply ≡ codec.Refused UnknownSession)

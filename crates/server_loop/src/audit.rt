@@ -6,7 +6,9 @@ mod lists;
 mod marks;
 mod names;
 mod parts;
+mod ranges;
 mod refusals;
+mod scans;
 mod session_refusals;
 mod sessions;
 mod steps;
@@ -143,6 +145,15 @@ impl Audit {
             },
             Request::Stop { start } => match reply {
                 Reply::Stop => Ok(self.stop(start)),
+                _ => Ok(false),
+            },
+            Request::Scan {
+                start,
+                range,
+                keys_only,
+                cells,
+            } => match reply {
+                Reply::Scan(found) => Ok(self.scan(start, &range, keys_only, cells, found)),
                 _ => Ok(false),
             },
             _ => self.act_without_session(request, reply),

@@ -2,7 +2,10 @@
 
 ghost use Rattle.std.specs.Prelude.{◌≤◌, IfOk, IfSome};
 
-use crate::command_options::{DEFAULT_FLUSH, MOST_FLUSH, MOST_MERGE, Options};
+use crate::command_options::{
+    DEFAULT_FLUSH, LEAST_CACHE, LEAST_FLUSH_BYTES, MOST_CACHE, MOST_FLUSH, MOST_FLUSH_BYTES,
+    MOST_MERGE, Options,
+};
 use clap::builder::ValueParser;
 use clap::{Arg, ArgAction, Command, Error};
 use std::alloc::Global;
@@ -17,65 +20,114 @@ const DIR_HELP: &str =
     "A folder that keeps the store, and no other program has: opened as its last checkpoint left it, and new \
     where it is empty [default: memory]";
 
-const MERGE_HELP: &str =
-    "Files of a tablet at which the newest ones are merged after such a compaction: 2 to 64 [default: never]";
-
 const FLUSH_HELP: &str =
-    "Entries of a memtable at which it is compacted: 1 to 100000 [default: 10000]";
+    "Entries of a memtable at which it is compacted: 1 to 100000. From 99746 on one can be too full for a collector's \
+    step and stay so, and at 100000 for a commit's too [default: 10000]";
 
-/// Reads the words of the command line, the program's name first: `tabletd [--dir DIR] [--flush N] [--merge M]`,
-/// where N is 1 to 100,000 and M is 2 to 64. An error has the parser's text, that of a request for help too.
+const FLUSH_BYTES_HELP: &str =
+    "Bytes of its entries at which it is compacted too: 1048576 to 67108864. From 65038466 on one can be too full for a \
+    collector's step and stay so, and from 67019079 on for a commit's too [default: bytes don't count]";
+
+const MERGE_HELP: &str =
+    "Files of a tablet at which the newest ones are merged after a file was written: 2 to 64 [default: never]";
+
+const CACHE_HELP: &str =
+    "Blocks of each file that stay in memory, those that were read last: 8 to 4096 [default: 8]";
+
+/// An option that takes a number from `least` to `most`.
+fn number<'a>(
+    alloc: Global,
+    long: &'a str,
+    letter: &'a str,
+    help: &'a str,
+    least: u32,
+    most: u32,
+) -> Arg<'a> {
+    Arg::new(alloc, long)
+        .long(long)
+        .value_name(letter)
+        .help(help)
+        .action(ArgAction::Set)
+        .value_parser(ValueParser::unsigned(least as u64, most as u64))
+}
+
+/// Reads the words of the command line, the program's name first: `tabletd [--dir DIR] [--flush N] [--flush-bytes B]
+/// [--merge M] [--cache C]`, where N is 1 to 100,000, B is 1,048,576 to 67,108,864, M is 2 to 64 and C is 8 to 4,096. An
+/// error has the parser's text, that of a request for help too.
 pub fn options<'a>(alloc: Global, words: &'a [&'a str]) -> Result<Options<'a>, Error>
     ensures flush { IfOk result (λ options. (1 ≤ options.flush) × (options.flush ≤ MOST_FLUSH)) }
+    ensures flush_bytes { IfOk result (λ options. IfSome options.flush_bytes (λ bytes.
+        (LEAST_FLUSH_BYTES ≤ bytes) × (bytes ≤ MOST_FLUSH_BYTES))) }
     ensures merge { IfOk result (λ options.
         IfSome options.merge (λ most. (2 ≤ most) × (most ≤ MOST_MERGE))) }
+    ensures cache { IfOk result (λ options.
+        (LEAST_CACHE ≤ options.cache) × (options.cache ≤ MOST_CACHE)) }
 {
     let dir = Arg::new(alloc, "dir")
         .long("dir")
         .value_name("DIR")
         .help(DIR_HELP)
         .action(ArgAction::Set);
-    let flush = Arg::new(alloc, "flush")
-        .long("flush")
-        .value_name("N")
-        .help(FLUSH_HELP)
-        .action(ArgAction::Set)
-        .value_parser(ValueParser::unsigned(1, 100_000));
-    let merge = Arg::new(alloc, "merge")
-        .long("merge")
-        .value_name("M")
-        .help(MERGE_HELP)
-        .action(ArgAction::Set)
-        .value_parser(ValueParser::unsigned(2, 64));
+    let flush = number(alloc, "flush", "N", FLUSH_HELP, 1, MOST_FLUSH);
+    let flush_bytes = number(
+        alloc,
+        "flush-bytes",
+        "B",
+        FLUSH_BYTES_HELP,
+        LEAST_FLUSH_BYTES,
+        MOST_FLUSH_BYTES,
+    );
+    let merge = number(alloc, "merge", "M", MERGE_HELP, 2, MOST_MERGE);
+    let cache = number(alloc, "cache", "C", CACHE_HELP, LEAST_CACHE, MOST_CACHE);
     let command = Command::new(alloc, "tabletd")
         .about(ABOUT)
         .arg(dir)?
         .arg(flush)?
-        .arg(merge)?;
+        .arg(flush_bytes)?
+        .arg(merge)?
+        .arg(cache)?;
     let matches = command.try_get_matches_from(words)?;
-    let flush = flush_of(matches.get_one::<u32>("flush"));
-    let merge = merge_of(matches.get_one::<u32>("merge"));
-    let dir = matches.get_str("dir");
-    Ok(Options { dir, flush, merge })
+    Ok(Options {
+        dir: matches.get_str("dir"),
+        flush: flush_of(matches.get_one::<u32>("flush")),
+        flush_bytes: within(
+            matches.get_one::<u32>("flush-bytes"),
+            LEAST_FLUSH_BYTES,
+            MOST_FLUSH_BYTES,
+        ),
+        merge: within(matches.get_one::<u32>("merge"), 2, MOST_MERGE),
+        cache: cache_of(matches.get_one::<u32>("cache")),
+    })
 }
 
-/// The number that was given, or the default. The parser has refused a number outside the limits.
+/// The number that was given, if one was. The parser has refused a number outside the limits.
+fn within(given: Option<u32>, least: u32, most: u32) -> Option<u32>
+    ensures { IfSome result (λ number. (least ≤ number) × (number ≤ most)) }
+{
+    match given {
+        Some(number) if least <= number && number <= most => Some(number),
+        _ => None,
+    }
+}
+
+/// The number of entries that was given, or the default.
 fn flush_of(given: Option<u32>) -> u32
     ensures least { 1 ≤ result }
     ensures most { result ≤ MOST_FLUSH }
 {
-    match given {
-        Some(number) if 1 <= number && number <= MOST_FLUSH => number,
-        _ => DEFAULT_FLUSH,
+    match within(given, 1, MOST_FLUSH) {
+        Some(number) => number,
+        None => DEFAULT_FLUSH,
     }
 }
 
-/// The number that was given, if one was. The parser has refused a number outside the limits.
-fn merge_of(given: Option<u32>) -> Option<u32>
-    ensures { IfSome result (λ most. (2 ≤ most) × (most ≤ MOST_MERGE)) }
+/// The number of blocks that was given, or the default.
+fn cache_of(given: Option<u32>) -> u32
+    ensures least { LEAST_CACHE ≤ result }
+    ensures most { result ≤ MOST_CACHE }
 {
-    match given {
-        Some(number) if 2 <= number && number <= MOST_MERGE => Some(number),
-        _ => None,
+    match within(given, LEAST_CACHE, MOST_CACHE) {
+        Some(number) => number,
+        None => LEAST_CACHE,
     }
 }

@@ -6,8 +6,21 @@ pub const DEFAULT_FLUSH: u32 = 10_000;
 /// The greatest number that `--flush` takes. The least is 1.
 pub const MOST_FLUSH: u32 = 100_000;
 
+/// The least number that `--flush-bytes` takes.
+pub const LEAST_FLUSH_BYTES: u32 = 1_048_576;
+
+/// The greatest number that `--flush-bytes` takes.
+pub const MOST_FLUSH_BYTES: u32 = 67_108_864;
+
 /// The greatest number that `--merge` takes. The least is 2.
 pub const MOST_MERGE: u32 = 64;
+
+/// How many blocks a file caches at most, where the command line says nothing else, and the least number that `--cache`
+/// takes.
+pub const LEAST_CACHE: u32 = 8;
+
+/// The greatest number that `--cache` takes.
+pub const MOST_CACHE: u32 = 4096;
 
 /// What the command line says.
 #[derive(Clone, Copy, Debug, PartialEq, Eq)]
@@ -16,6 +29,10 @@ pub struct Options<'a> {
     pub dir: Option<&'a str>,
     /// How many entries a memtable has before it is compacted: 1 to 100,000.
     pub flush: u32,
+    /// How many bytes its entries have before it is compacted too: 1,048,576 to 67,108,864, or bytes don't count.
+    pub flush_bytes: Option<u32>,
     /// How many files a tablet has before newest ones are merged: 2 to 64, or never.
     pub merge: Option<u32>,
+    /// How many blocks of each file are cached at most: 8 to 4,096.
+    pub cache: u32,
 }

@@ -9,6 +9,7 @@ mod command_options;
 mod frames;
 mod laws;
 mod opening;
+mod scanning;
 mod server;
 mod serving;
 mod sessions;
@@ -17,7 +18,11 @@ mod upkeep;
 
 pub use audit::Audit;
 pub use command_line::options;
-pub use command_options::{DEFAULT_FLUSH, MOST_FLUSH, MOST_MERGE, Options};
+pub use command_options::{
+    DEFAULT_FLUSH, LEAST_CACHE, LEAST_FLUSH_BYTES, MOST_CACHE, MOST_FLUSH, MOST_FLUSH_BYTES,
+    MOST_MERGE, Options,
+};
 pub use laws::{resting_is_kept, rests_between};
+pub use row_atomic::FlushLimits;
 pub use server::{Config, Server};
 pub use statuses::{End, ServeFault, end_status, open_status};

@@ -53,7 +53,7 @@ impl<F: Files + Drop, M: MarkStore + Drop> Server<F, M> {
             IfSome (M.mark marks) (λ mark. last_of server ≡ mark)) }
         ensures mark { IfOk result (λ server. M.mark (marks_of server) ≡ M.mark marks) }
         ensures tending { IfOk result (λ server.
-            tending_of server ≡ record { flush = config.flush; merge = None }) }
+            tending_of server ≡ record { flush = config.flush; merge = None; merged_to = 0 }) }
         // If it is not refused with Device, both counts of faults are as before.
         ensures told { MatchResult result
             (λ server. (F.faults (cluster_of server).files ≡ F.faults files)

@@ -13,18 +13,20 @@ use clean_up::Cleaners;
 use file_store::Files;
 use oracle::{MarkStore, Oracle};
 use request_codec::{Reply, Request};
-use row_atomic::{Cluster, root_is_stored, root_stays};
+use row_atomic::{Cluster, Command, FlushLimits, Outcome, root_is_stored, root_stays};
 use si_model::shows_reopened;
 use std::alloc::Global;
 use std::io::{Read, Write};
+use std::num::NonZeroUsize;
 use txn_client::Clients;
 use version_collector::Collectors;
 
 /// The limits of a server's store.
 #[derive(Clone, Copy, Debug, PartialEq, Eq)]
 pub struct Config {
-    /// How many entries a memtable has before it is compacted, which `serve` does after a reply: 1 to 100,000.
-    pub flush: u32,
+    /// How full a memtable is when it is compacted, which `serve` does after a reply: it has as many entries, 1 to
+    /// 100,000, or as many bytes, 1,048,576 to 67,108,864 if they count.
+    pub flush: FlushLimits,
     /// The most bytes of a sorted file: 48 to 68,719,476,736.
     pub file_limit: u64,
 }
@@ -32,10 +34,12 @@ pub struct Config {
 /// When a server compacts by itself.
 #[derive(Clone, Copy)]
 pub(crate) struct Tending {
-    /// How many entries a memtable has before it is compacted.
-    pub(crate) flush: u32,
+    /// How full a memtable is when it is compacted.
+    pub(crate) flush: FlushLimits,
     /// How many files a tablet has before newest ones are merged, if they are to be.
     pub(crate) merge: Option<u32>,
+    /// The name of the next file when files were last merged: while it is the same no file was written. 0 at first.
+    pub(crate) merged_to: u64,
 }
 
 /// A server: a cluster of tablets, an oracle of stamps, the sessions that are active, and the
@@ -60,7 +64,8 @@ impl<F: Files + Drop, M: MarkStore + Drop> Server<F, M> {
     ghost use Rattle.server_loop.specs.Server.{IsConfig, Shows, ShowsNoSession, cluster_of, tending_of, last_of, marks_of};
     ghost use Rattle.row_atomic.specs.Flushes.{KeepsShown};
     ghost use Rattle.server_loop.specs.Resting.{KeepsResting};
-    ghost use Rattle.server_loop.specs.Tending.{IsTended, Merges};
+    ghost use Rattle.row_atomic.specs.Commands.{IsOutcome};
+    ghost use Rattle.server_loop.specs.Tending.{IsTended, Merges, is_due};
 
     /// A server with no session, cleaner or collector. `top` is the greatest stamp that was answered, and `floor` the
     /// greatest floor that a collector began with.
@@ -78,7 +83,8 @@ impl<F: Files + Drop, M: MarkStore + Drop> Server<F, M> {
         ensures cluster { cluster_of result ≡ cluster }
         ensures last { last_of result ≡ oracle.last }
         ensures marks { marks_of result ≡ oracle.marks }
-        ensures tending { tending_of result ≡ record { flush = config.flush; merge = None } }
+        ensures tending { tending_of result
+            ≡ record { flush = config.flush; merge = None; merged_to = 0 } }
     {
         Server {
             alloc,
@@ -90,6 +96,7 @@ impl<F: Files + Drop, M: MarkStore + Drop> Server<F, M> {
             tending: Tending {
                 flush: config.flush,
                 merge: None,
+                merged_to: 0,
             },
         }
     }
@@ -119,7 +126,7 @@ impl<F: Files + Drop, M: MarkStore + Drop> Server<F, M> {
         ensures mark { IfOk result (λ server. M.mark (marks_of server) ≡ M.mark marks) }
         ensures limit { IfOk result (λ server. (cluster_of server).file_limit ≡ config.file_limit) }
         ensures tending { IfOk result (λ server.
-            tending_of server ≡ record { flush = config.flush; merge = None }) }
+            tending_of server ≡ record { flush = config.flush; merge = None; merged_to = 0 }) }
         ensures refusal { IfErr result (λ refused.
             (refused.0 ≡ Refusal.NoMemory) ⊎ (refused.0 ≡ Refusal.Device)) }
         ensures device { IfErr result (λ refused.
@@ -140,17 +147,39 @@ impl<F: Files + Drop, M: MarkStore + Drop> Server<F, M> {
         }
     }
 
-    /// From now on, after `serve` has compacted a tablet, newest files are merged of each tablet that has `most` files
-    /// or more, so that it has fewer. A refusal is not reported. Without this call files are merged only on request.
+    /// From now on, after each reply of `serve` before which a file was written, and after the first, newest files are
+    /// merged of each tablet that has `most` files or more, so that it has fewer. A refusal is not reported. Without this
+    /// call files are merged only on request.
     pub fn merge_at(&mut self, most: u32)
-        ensures { self.new
-            ≡ record self.old { tending = record (tending_of self.old) { merge = Some most } } }
+        ensures { self.new ≡ record self.old {
+          tending = record (tending_of self.old) { merge = Some most; merged_to = 0 };
+        } }
     {
         self.tending.merge = Some(most);
+        self.tending.merged_to = 0;
     }
 
-    /// Merges newest files of the tablets that have many, if that is to be done.
-    fn merge_files(&mut self)
+    /// Lets each open file cache this many blocks at most, from now on, and those too that will be opened. Without this
+    /// call it is 8. What the server shows stays.
+    pub fn cache_blocks(&mut self, most_blocks: NonZeroUsize)
+        ensures outcome { IsOutcome F.contents F.faults Command.DropCaches Outcome.Done
+            (cluster_of self.old) (cluster_of self.new) }
+        ensures others { self.new ≡ record self.old { cluster = cluster_of self.new } }
+    {
+        self.cluster.resize_caches(most_blocks);
+    }
+
+    /// Whether files are to be merged: a memtable is full, so that one is written, or one was since files were last
+    /// merged.
+    fn is_merge_due(&self) -> bool
+        ensures { result ≡ is_due (tending_of self.now) (cluster_of self.now) }
+    {
+        self.cluster.has_full(self.tending.flush)
+            || self.cluster.next_name() != self.tending.merged_to
+    }
+
+    /// Merges newest files of the tablets that have many, if that is to be done at all.
+    fn merge_newest(&mut self)
         ensures merges { Merges F.contents F.faults (tending_of self.old).merge
             (cluster_of self.old) (cluster_of self.new) }
         ensures keeps { KeepsShown F.contents F.faults (cluster_of self.old) (cluster_of self.new) }
@@ -159,6 +188,20 @@ impl<F: Files + Drop, M: MarkStore + Drop> Server<F, M> {
         if let Some(most) = self.tending.merge {
             self.cluster.merge_many(most);
         }
+    }
+
+    /// Merges newest files as `merge_newest` does, and keeps the name that the next file has then.
+    fn merge_files(&mut self)
+        ensures merges { Merges F.contents F.faults (tending_of self.old).merge
+            (cluster_of self.old) (cluster_of self.new) }
+        ensures keeps { KeepsShown F.contents F.faults (cluster_of self.old) (cluster_of self.new) }
+        ensures others { self.new ≡ record self.old {
+          cluster = cluster_of self.new;
+          tending = record (tending_of self.old) { merged_to = (cluster_of self.new).next_name };
+        } }
+    {
+        self.merge_newest();
+        self.tending.merged_to = self.cluster.next_name();
     }
 
     /// Takes a request to the function that answers it.
@@ -175,6 +218,12 @@ impl<F: Files + Drop, M: MarkStore + Drop> Server<F, M> {
                 value,
             } => self.set(start, row, family, value),
             Request::Delete { start, row, family } => self.delete(start, row, family),
+            Request::Scan {
+                start,
+                range,
+                keys_only,
+                cells,
+            } => self.scan(start, range, keys_only, cells),
             Request::Step { start } => self.step(start),
             Request::Stop { start } => self.stop(start),
             Request::CleanBegin { row, family } => self.clean_begin(row, family),
@@ -207,19 +256,19 @@ impl<F: Files + Drop, M: MarkStore + Drop> Server<F, M> {
         ensures edits { MakesEdits F.contents request.entry result self.old self.new }
         ensures sessions { ServesSessions
             F.contents M.mark request.entry result self.old self.new }
-        ensures tablets { TendsTablets F.contents F.faults request.entry result self.old self.new }
+        ensures tablets { TendsTablets F.Files request.entry result self.old self.new }
         ensures causes { TellsCauses
             F.contents F.faults M.faults request.entry result self.old self.new }
         ensures tending { tending_of self.new ≡ tending_of self.old }
-        ensures resting { KeepsResting F.contents M.mark request.entry result self.old self.new }
+        ensures resting { KeepsResting F.Files M.mark request.entry result self.old self.new }
     {
         self.reply_to(request)
     }
 
     /// Serves requests in frames until the input ends, and at most `most_reads` reads of it. It takes its buffers
     /// first. It reads pieces of at most 65,536 bytes, and answers every whole frame before it reads again. Each reply is
-    /// written to its end before the next frame is taken, and then each memtable with as many entries as the
-    /// configuration says, or more, is compacted.
+    /// written to its end before the next frame is taken, and then each memtable with as many entries or bytes as the
+    /// configuration says, or more, is compacted, and files are merged if `merge_at` says so.
     ///
     /// What is read is cut into bodies and a rest, the replies are those of a run of the snapshot machine over these,
     /// each is what `answer` says of its request, from one server to the next, with those compactions and nothing else
@@ -273,9 +322,9 @@ impl<F: Files + Drop, M: MarkStore + Drop> Answering for Server<F, M> {
     }
 
     fn tend(&mut self) {
-        let full = self.cluster.has_full(self.tending.flush);
+        let due = self.is_merge_due();
         self.cluster.compact_full(self.tending.flush);
-        if full {
+        if due {
             self.merge_files();
         }
     }

@@ -1,15 +1,17 @@
 -- Where a request is acceptable: what suffices for it, and what follows from it.
-use Rattle.std.proofs.Common.{◌≡◌, ◌≢◌, ℕ, ◌<◌, ◌≤◌, List, length, Option, Some, None, ◌⊎◌, inl, inr, refl, sym, ap, subst, ◌∙◌, arith}
+use Rattle.std.proofs.Common.{◌≡◌, ◌≢◌, ℕ, ◌<◌, ◌≤◌, Bool, List, length, Option, Some, None, ◌⊎◌, inl, inr, refl, sym, ap, subst, ◌∙◌, arith}
 use Rattle.std.specs.Ordering.{nat_cmp}
 use Rattle.std.specs.FinMap.{FinMap, get, len}
 use Rattle.std.proofs.lemmas.Option.{none-some}
 use Rattle.cell_key.specs.Names.{IsRow, IsFamily}
-use Rattle.cell_key.specs.declared.refusals.Refusal.TheVariants.{UnknownSession, WrongPhase}
+use Rattle.cell_key.specs.declared.refusals.Refusal.TheVariants.{UnknownSession, WrongPhase, BadCount}
 use Rattle.si_model.specs.declared.replies.Cell.{Cell}
-use Rattle.si_model.specs.Machine.{State, Value, Writes, Phase, Open, Holding, Stamped, Finishing, Cleaner, InPhase, Wrote, Names, Marked, HasTablet, IsEnd, IsAcceptable}
-use Rattle.si_model.specs.Machine.{most_sessions, most_cleaners, most_collectors, most_tablets, most_servers, most_writes, most_value, most_visits}
-use Rattle.si_model.specs.Machine.{Begin, Get, Set, Delete, Advance, Stop, CleanBegin, CleanStep, CollectBegin, CollectStep, Split, Move}
-use Rattle.si_model.specs.Refusing.{begin_full, get_unknown, get_late, get_row, get_family, set_unknown, set_late, set_row, set_family, set_long, set_full, delete_unknown, delete_late, delete_row, delete_family, delete_full, advance_unknown, advance_empty, stop_unknown, clean_row, clean_family, clean_full, clean_unknown, collect_full, collect_unknown, collect_none, collect_many, split_row, split_end, split_full, move_unknown, move_server}
+use Rattle.si_model.specs.Machine.{State, Value, Writes, Phase, Open, Holding, Stamped, Finishing, Cleaner, InPhase, Wrote, Names, Range, Marked, HasTablet, IsEnd, IsAcceptable}
+use Rattle.si_model.specs.Machine.{most_sessions, most_cleaners, most_collectors, most_tablets, most_servers, most_writes, most_value, most_visits, most_scanned}
+use Rattle.si_model.specs.Machine.{Begin, Get, Set, Delete, ScanFrom, Advance, Stop, CleanBegin, CleanStep, CollectBegin, CollectStep, Split, Move}
+use Rattle.si_model.specs.Refusing.{begin_full, get_unknown, get_late, get_row, get_family, set_unknown, set_late, set_row, set_family, set_long, set_full, delete_unknown, delete_late, delete_row, delete_family, delete_full, scan_unknown, scan_late, scan_row, scan_family, scan_none, scan_many, advance_unknown, advance_empty, stop_unknown, clean_row, clean_family, clean_full, clean_unknown, collect_full, collect_unknown, collect_none, collect_many, split_row, split_end, split_full, move_unknown, move_server}
+use Rattle.si_model.specs.Scans.{HasRows, HasFamilies}
+use Rattle.std.proofs.lemmas.Bool.{cases_lt}
 use Rattle.si_model.proofs.Tools.{same_entry}
 
 pub no_entry : {X : Type 0} (m : FinMap nat_cmp X) (k : ℕ) (v : X) → get m k ≡ Some v → get m k ≡ None → ⊥
@@ -52,6 +54,15 @@ delete_ok {st} {s} {x} ws h row family w few n (delete_full {ws = us} g none ful
       | inl named ↦ none (subst (λ (l : Writes). Names l x) (sym same) named)
       | inr room ↦ let e : length us ≡ length ws = ap length same in absurd (omega arith)
     ]
+
+pub scan_ok : {st : State} {s n : ℕ} {range : Range} {keys_only : Bool} → InPhase st s Open → HasRows range → HasFamilies range
+    → 1 ≤ n → n ≤ most_scanned → IsAcceptable st (ScanFrom s range keys_only n)
+scan_ok {st} {s} h rows families some few m (scan_unknown e) = no_entry st.active s Open h e
+scan_ok {st} {s} h rows families some few m (scan_late {p = p} g late) = late (same_entry st.active s p Open g h)
+scan_ok h rows families some few m (scan_row bad) = bad rows
+scan_ok h rows families some few m (scan_family bad) = bad families
+scan_ok h rows families some few m (scan_none none) = absurd (omega arith)
+scan_ok h rows families some few m (scan_many many) = absurd (omega arith)
 
 pub advance_ok : {st : State} {s : ℕ} (p : Phase) (ws : Writes) → InPhase st s p → Wrote st s ws → 1 ≤ length ws → IsAcceptable st (Advance s)
 advance_ok {st} {s} p ws h w some n (advance_unknown e) = no_entry st.active s p h e
@@ -98,7 +109,7 @@ opened : (st : State) (s : ℕ) → (get st.active s ≢ None) → ((p : Phase) 
 opened st s known early None e = absurd (known e)
 opened st s known early (Some p) e = elim (cases_open p) [ inl is ↦ subst (λ (q : Phase). InPhase st s q) is e | inr not ↦ absurd (early p e not) ]
 
--- the session of an acceptable Get, Set or Delete is open
+-- the session of an acceptable Get, Set, Delete or scan is open
 pub get_is_open : (st : State) (s : ℕ) (x : Cell) → IsAcceptable st (Get s x) → InPhase st s Open
 get_is_open st s x ok = opened st s (λ e. ok UnknownSession (get_unknown e)) (λ p h late. ok WrongPhase (get_late h late)) (get st.active s) refl
 
@@ -107,3 +118,10 @@ set_is_open st s x v ok = opened st s (λ e. ok UnknownSession (set_unknown e)) 
 
 pub delete_is_open : (st : State) (s : ℕ) (x : Cell) → IsAcceptable st (Delete s x) → InPhase st s Open
 delete_is_open st s x ok = opened st s (λ e. ok UnknownSession (delete_unknown e)) (λ p h late. ok WrongPhase (delete_late h late)) (get st.active s) refl
+
+pub scan_is_open : (st : State) (s : ℕ) (range : Range) (keys_only : Bool) (n : ℕ) → IsAcceptable st (ScanFrom s range keys_only n) → InPhase st s Open
+scan_is_open st s range keys_only n ok = opened st s (λ e. ok UnknownSession (scan_unknown e)) (λ p h late. ok WrongPhase (scan_late h late)) (get st.active s) refl
+
+-- and a scan is of a cell at least
+pub scan_is_some : (st : State) (s : ℕ) (range : Range) (keys_only : Bool) (n : ℕ) → IsAcceptable st (ScanFrom s range keys_only n) → 1 ≤ n
+scan_is_some st s range keys_only n ok = elim (cases_lt n 1) [ inl none ↦ absurd (ok BadCount (scan_none none)) | inr some ↦ some ]

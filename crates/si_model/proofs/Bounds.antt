@@ -12,7 +12,7 @@ use Rattle.si_model.specs.Machine.{State, Change, Phase, Open, Holding, Stamped,
 use Rattle.si_model.specs.Sets.{◌∈◌}
 use Rattle.si_model.specs.declared.replies.Cell.{Cell}
 use Rattle.si_model.specs.Refusing.{begin_full, set_full, delete_full}
-use Rattle.si_model.specs.Machine.{Acts, tells, begins, reads, sets, deletes, holds, conflicts, draws, loses, commits, finishes, stops, opens, kills, learns, rolls_forward, rolls_back, finds_gone, collects, has_collected, splits, moves_tablet, Step, refuses, accepts}
+use Rattle.si_model.specs.Machine.{Acts, tells, begins, reads, scans, sets, deletes, holds, conflicts, draws, loses, commits, finishes, stops, opens, kills, learns, rolls_forward, rolls_back, finds_gone, collects, has_collected, splits, moves_tablet, Step, refuses, accepts}
 use Rattle.si_model.specs.Machine.{Run, rests, goes_on, IsReached, begins_new, runs, reopens, new_machine}
 use Rattle.si_model.specs.Laws.{FitsPhase, Bounds}
 use Rattle.si_model.proofs.Tools.{get_other, each_insert, each_remove, same_entry, set_length, len_grows, len_stays, len_falls}
@@ -150,6 +150,7 @@ acts_bounds {st} {st'} i b ok (conflicts {t = t} h w puts clash) = let s : Acts 
 acts_bounds {st} {st'} i b ok (loses {t = t} h d) = let s : Acts st _ _ st' = loses h d in kept_bounds (acts_sound i s) b refl b.top (ends_few st t b) (ends_fit st t b)
 acts_bounds {st} {st'} i b ok (stops {t = t} h) = let s : Acts st _ _ st' = stops h in kept_bounds (acts_sound i s) b refl b.top (ends_few st t b) (ends_fit st t b)
 acts_bounds {st} {st'} i b ok (reads h none shown) = let s : Acts st _ _ st' = reads h none shown in kept_bounds (acts_sound i s) b refl b.top b.few_sessions b.fits
+acts_bounds {st} {st'} i b ok (scans h is) = let s : Acts st _ _ st' = scans h is in kept_bounds (acts_sound i s) b refl b.top b.few_sessions b.fits
 acts_bounds {st} {st'} i b ok (opens m room) = let s : Acts st _ _ st' = opens m room in kept_bounds (acts_sound i s) b refl b.top b.few_sessions b.fits
 acts_bounds {st} {st'} i b ok (kills is nc alive w puts less) = let s : Acts st _ _ st' = kills is nc alive w puts less in kept_bounds (acts_sound i s) b refl b.top b.few_sessions b.fits
 acts_bounds {st} {st'} i b ok (learns is fate) = let s : Acts st _ _ st' = learns is fate in kept_bounds (acts_sound i s) b refl b.top b.few_sessions b.fits

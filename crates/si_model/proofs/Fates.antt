@@ -8,7 +8,7 @@ use Rattle.std.proofs.lemmas.Option.{same_Some, none-some}
 use Rattle.si_model.specs.Sets.{◌∈◌, here, there, IsWithout}
 use Rattle.si_model.specs.Machine.{State, Change, Writes, Open, Stamped, Finishing, Commit, Cleaner, Request, Reply, InPhase, Wrote, Marked, Puts, IsDead, IsCommitted, HasHeld}
 use Rattle.si_model.specs.declared.replies.Cell.{Cell}
-use Rattle.si_model.specs.Machine.{Acts, tells, begins, reads, sets, deletes, holds, conflicts, draws, loses, commits, finishes, stops, opens, kills, learns, rolls_forward, rolls_back, finds_gone, collects, has_collected, splits, moves_tablet, Step, refuses, accepts}
+use Rattle.si_model.specs.Machine.{Acts, tells, begins, reads, scans, sets, deletes, holds, conflicts, draws, loses, commits, finishes, stops, opens, kills, learns, rolls_forward, rolls_back, finds_gone, collects, has_collected, splits, moves_tablet, Step, refuses, accepts}
 use Rattle.si_model.specs.Machine.{Run, rests, goes_on, IsReached, begins_new, runs, reopens, new_machine, reopened}
 use Rattle.si_model.specs.Laws.{FateSeen}
 use Rattle.si_model.proofs.Tools.{each_cons, get_other, each_insert, each_remove, same_entry}
@@ -55,6 +55,7 @@ acts_wrote {st} i (deletes {s = s} {ws' = ws'} h w' by) y u p ws w = elim (cases
   | inr ne ↦ get_other st.begun s ws' u ne ∙ w
 ]
 acts_wrote i (reads h none shown) y u p ws w = w
+acts_wrote i (scans h is) y u p ws w = w
 acts_wrote i (holds h w0 puts free) y u p ws w = w
 acts_wrote i (conflicts h w0 puts clash) y u p ws w = w
 acts_wrote i (draws h w0 d) y u p ws w = w
@@ -100,6 +101,7 @@ acts_fate {st} {st'} i (rolls_back {i = n} {t = t} {x = x} is m nc less) y u f =
     left_known st st' x t less (i.decided n (record { cell = x; start = t; decided = true }) is refl) (λ u d. d) y u f
 acts_fate i (begins d) y u f = f
 acts_fate i (reads h none shown) y u f = f
+acts_fate i (scans h is) y u f = f
 acts_fate i (sets h w by) y u f = f
 acts_fate i (deletes h w by) y u f = f
 acts_fate i (conflicts h w puts clash) y u f = f
@@ -221,6 +223,7 @@ acts_fates {st} {st'} i f (opens {x = x} {t = t} m room) =
     (λ u d. d) (λ a m. m)
 acts_fates {st} {st'} i f (begins d) = let s : Acts st _ _ st' = begins d in fates_by i f s (λ y u m. m) f.of_cleaner (λ u d. d) (λ a m. m)
 acts_fates {st} {st'} i f (reads h none shown) = let s : Acts st _ _ st' = reads h none shown in fates_by i f s (λ y u m. m) f.of_cleaner (λ u d. d) (λ a m. m)
+acts_fates {st} {st'} i f (scans h is) = let s : Acts st _ _ st' = scans h is in fates_by i f s (λ y u m. m) f.of_cleaner (λ u d. d) (λ a m. m)
 acts_fates {st} {st'} i f (sets h w by) = let s : Acts st _ _ st' = sets h w by in fates_by i f s (λ y u m. m) f.of_cleaner (λ u d. d) (λ a m. m)
 acts_fates {st} {st'} i f (deletes h w by) = let s : Acts st _ _ st' = deletes h w by in fates_by i f s (λ y u m. m) f.of_cleaner (λ u d. d) (λ a m. m)
 acts_fates {st} {st'} i f (conflicts h w puts clash) = let s : Acts st _ _ st' = conflicts h w puts clash in fates_by i f s (λ y u m. m) f.of_cleaner (λ u d. d) (λ a m. m)

@@ -1,5 +1,5 @@
 -- How each refusal comes to be the first that applies.
-use Rattle.std.proofs.Common.{◌≡◌, ◌≢◌, ℕ, ◌<◌, ◌≤◌, List, [], length, Some, None, ◌⊎◌, inl, inr, refl, arith, lit<}
+use Rattle.std.proofs.Common.{◌≡◌, ◌≢◌, ℕ, ◌<◌, ◌≤◌, Bool, List, [], length, Some, None, ◌⊎◌, inl, inr, refl, arith, lit<}
 use Rattle.std.specs.FinMap.{get, len}
 use Rattle.cell_key.specs.Names.{IsRow, IsFamily}
 use Rattle.cell_key.specs.Refusals.{refusal_number}
@@ -7,11 +7,12 @@ use Rattle.cell_key.specs.declared.keys.Qualifier.{Qualifier}
 use Rattle.cell_key.specs.declared.refusals.Refusal.{Refusal}
 use Rattle.cell_key.specs.declared.refusals.Refusal.TheVariants.{UnknownSession, WrongPhase, BadRow, BadColumn, BadValue, TooManyWrites, TooManySessions, EmptyCommit, UnknownCleaner, UnknownCollector, UnknownTablet, BadSplit, UnknownServer, BadCount}
 use Rattle.si_model.specs.declared.replies.Cell.{Cell}
-use Rattle.si_model.specs.Machine.{State, Value, Writes, Phase, Open, InPhase, Wrote, Names, Marked, HasTablet, IsEnd, Applies, Refuses}
-use Rattle.si_model.specs.Machine.{most_sessions, most_cleaners, most_collectors, most_tablets, most_servers, most_writes, most_value, most_visits}
-use Rattle.si_model.specs.Machine.{Begin, Get, Set, Delete, Advance, Stop, CleanBegin, CleanStep, CollectBegin, CollectStep, Minor, Merge, Major, Split, Move, Raw}
-use Rattle.si_model.specs.Refusing.{begin_full, get_unknown, get_late, get_row, get_family, set_unknown, set_late, set_row, set_family, set_long, set_full, delete_unknown, delete_late, delete_row, delete_family, delete_full, advance_unknown, advance_empty, stop_unknown, clean_row, clean_family, clean_full, clean_unknown, collect_full, collect_unknown, collect_none, collect_many, minor_unknown, merge_unknown, merge_few, major_unknown, split_row, split_end, split_full, move_unknown, move_server, raw_row, raw_family}
+use Rattle.si_model.specs.Machine.{State, Value, Writes, Phase, Open, InPhase, Wrote, Names, Range, Marked, HasTablet, IsEnd, Applies, Refuses}
+use Rattle.si_model.specs.Machine.{most_sessions, most_cleaners, most_collectors, most_tablets, most_servers, most_writes, most_value, most_visits, most_scanned}
+use Rattle.si_model.specs.Machine.{Begin, Get, Set, Delete, ScanFrom, Advance, Stop, CleanBegin, CleanStep, CollectBegin, CollectStep, Minor, Merge, Major, Split, Move, Raw}
+use Rattle.si_model.specs.Refusing.{begin_full, get_unknown, get_late, get_row, get_family, set_unknown, set_late, set_row, set_family, set_long, set_full, delete_unknown, delete_late, delete_row, delete_family, delete_full, scan_unknown, scan_late, scan_row, scan_family, scan_none, scan_many, advance_unknown, advance_empty, stop_unknown, clean_row, clean_family, clean_full, clean_unknown, collect_full, collect_unknown, collect_none, collect_many, minor_unknown, merge_unknown, merge_few, major_unknown, split_row, split_end, split_full, move_unknown, move_server, raw_row, raw_family}
 use Rattle.si_model.specs.Refusing.Refuses.{applies_first}
+use Rattle.si_model.specs.Scans.{HasRows, HasFamilies}
 use Rattle.si_model.proofs.Tools.{same_entry}
 use Rattle.si_model.proofs.Acceptable.{no_entry}
 
@@ -172,6 +173,72 @@ delete_full_first {st} {s} {x} h row family ws w none full = applies_first (reco
     first m (delete_row b) = absurd (b row)
     first m (delete_family b) = absurd (b family)
     first m (delete_full u n f) = inl refl
+
+pub scan_unknown_first : {st : State} {s n : ℕ} {range : Range} {keys_only : Bool} → (e : get st.active s ≡ None) → Refuses st (ScanFrom s range keys_only n) UnknownSession
+scan_unknown_first {st} {s} {n} {range} {keys_only} e = applies_first (record { applies = scan_unknown e; first = first })
+  where
+    first : (m : Refusal) → Applies st (ScanFrom s range keys_only n) m → (m ≡ UnknownSession) ⊎ (refusal_number UnknownSession < refusal_number m)
+    first m (scan_unknown f) = inl refl
+    first m (scan_late {p = q} g l) = inr (lit< tt)
+    first m (scan_row b) = inr (lit< tt)
+    first m (scan_family b) = inr (lit< tt)
+    first m (scan_none c) = inr (lit< tt)
+    first m (scan_many c) = inr (lit< tt)
+
+pub scan_late_first : {st : State} {s n : ℕ} {range : Range} {keys_only : Bool} → (p : Phase) → (h : InPhase st s p) → (late : p ≢ Open) → Refuses st (ScanFrom s range keys_only n) WrongPhase
+scan_late_first {st} {s} {n} {range} {keys_only} p h late = applies_first (record { applies = scan_late h late; first = first })
+  where
+    first : (m : Refusal) → Applies st (ScanFrom s range keys_only n) m → (m ≡ WrongPhase) ⊎ (refusal_number WrongPhase < refusal_number m)
+    first m (scan_unknown f) = absurd (no_entry st.active s p h f)
+    first m (scan_late {p = q} g l) = inl refl
+    first m (scan_row b) = inr (lit< tt)
+    first m (scan_family b) = inr (lit< tt)
+    first m (scan_none c) = inr (lit< tt)
+    first m (scan_many c) = inr (lit< tt)
+
+pub scan_row_first : {st : State} {s n : ℕ} {range : Range} {keys_only : Bool} → (h : InPhase st s Open) → (bad : ¬ HasRows range) → Refuses st (ScanFrom s range keys_only n) BadRow
+scan_row_first {st} {s} {n} {range} {keys_only} h bad = applies_first (record { applies = scan_row bad; first = first })
+  where
+    first : (m : Refusal) → Applies st (ScanFrom s range keys_only n) m → (m ≡ BadRow) ⊎ (refusal_number BadRow < refusal_number m)
+    first m (scan_unknown f) = absurd (no_entry st.active s Open h f)
+    first m (scan_late {p = q} g l) = absurd (l (same_entry st.active s q Open g h))
+    first m (scan_row b) = inl refl
+    first m (scan_family b) = inr (lit< tt)
+    first m (scan_none c) = inr (lit< tt)
+    first m (scan_many c) = inr (lit< tt)
+
+pub scan_family_first : {st : State} {s n : ℕ} {range : Range} {keys_only : Bool} → (h : InPhase st s Open) → (rows : HasRows range) → (bad : ¬ HasFamilies range) → Refuses st (ScanFrom s range keys_only n) BadColumn
+scan_family_first {st} {s} {n} {range} {keys_only} h rows bad = applies_first (record { applies = scan_family bad; first = first })
+  where
+    first : (m : Refusal) → Applies st (ScanFrom s range keys_only n) m → (m ≡ BadColumn) ⊎ (refusal_number BadColumn < refusal_number m)
+    first m (scan_unknown f) = absurd (no_entry st.active s Open h f)
+    first m (scan_late {p = q} g l) = absurd (l (same_entry st.active s q Open g h))
+    first m (scan_row b) = absurd (b rows)
+    first m (scan_family b) = inl refl
+    first m (scan_none c) = inr (lit< tt)
+    first m (scan_many c) = inr (lit< tt)
+
+pub scan_none_first : {st : State} {s n : ℕ} {range : Range} {keys_only : Bool} → (h : InPhase st s Open) → (rows : HasRows range) → (families : HasFamilies range) → (none : n < 1) → Refuses st (ScanFrom s range keys_only n) BadCount
+scan_none_first {st} {s} {n} {range} {keys_only} h rows families none = applies_first (record { applies = scan_none none; first = first })
+  where
+    first : (m : Refusal) → Applies st (ScanFrom s range keys_only n) m → (m ≡ BadCount) ⊎ (refusal_number BadCount < refusal_number m)
+    first m (scan_unknown f) = absurd (no_entry st.active s Open h f)
+    first m (scan_late {p = q} g l) = absurd (l (same_entry st.active s q Open g h))
+    first m (scan_row b) = absurd (b rows)
+    first m (scan_family b) = absurd (b families)
+    first m (scan_none c) = inl refl
+    first m (scan_many c) = inl refl
+
+pub scan_many_first : {st : State} {s n : ℕ} {range : Range} {keys_only : Bool} → (h : InPhase st s Open) → (rows : HasRows range) → (families : HasFamilies range) → (many : most_scanned < n) → Refuses st (ScanFrom s range keys_only n) BadCount
+scan_many_first {st} {s} {n} {range} {keys_only} h rows families many = applies_first (record { applies = scan_many many; first = first })
+  where
+    first : (m : Refusal) → Applies st (ScanFrom s range keys_only n) m → (m ≡ BadCount) ⊎ (refusal_number BadCount < refusal_number m)
+    first m (scan_unknown f) = absurd (no_entry st.active s Open h f)
+    first m (scan_late {p = q} g l) = absurd (l (same_entry st.active s q Open g h))
+    first m (scan_row b) = absurd (b rows)
+    first m (scan_family b) = absurd (b families)
+    first m (scan_none c) = inl refl
+    first m (scan_many c) = inl refl
 
 pub advance_unknown_first : {st : State} {s : ℕ} → (e : get st.active s ≡ None) → Refuses st (Advance s) UnknownSession
 advance_unknown_first {st} {s} e = applies_first (record { applies = advance_unknown e; first = first })

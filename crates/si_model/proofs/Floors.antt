@@ -8,7 +8,7 @@ use Rattle.std.proofs.lemmas.Option.{none-some}
 use Rattle.si_model.specs.Machine.{State, Phase, Open, Holding, Stamped, Finishing, Request, Reply, CollectStep, Collected, InPhase, finishing}
 use Rattle.si_model.specs.declared.replies.Cell.{Cell}
 use Rattle.si_model.specs.Machine.IsFloor.{least, none_active}
-use Rattle.si_model.specs.Machine.{Acts, tells, begins, reads, sets, deletes, holds, conflicts, draws, loses, commits, finishes, stops, opens, kills, learns, rolls_forward, rolls_back, finds_gone, collects, has_collected, splits, moves_tablet, Step, refuses, accepts}
+use Rattle.si_model.specs.Machine.{Acts, tells, begins, reads, scans, sets, deletes, holds, conflicts, draws, loses, commits, finishes, stops, opens, kills, learns, rolls_forward, rolls_back, finds_gone, collects, has_collected, splits, moves_tablet, Step, refuses, accepts}
 use Rattle.si_model.specs.Machine.{Run, rests, goes_on, IsReached, begins_new, runs, reopens}
 use Rattle.si_model.specs.Laws.{FloorStaysLow, IsCleared, StaysCleared}
 use Rattle.si_model.proofs.Tools.{same_entry, each_cons, each_insert, each_remove}
@@ -38,6 +38,7 @@ acts_floors i f (tells t) = f
 acts_floors {st} i f (begins {s = s} d) =
     let low = f.low in let new = d.0 in record { above = each_insert st.active s (λ u q. st.floor ≤ u) Open (omega arith) (λ u q ne g. f.above u q g); low = omega arith; each = f.each }
 acts_floors i f (reads h none shown) = record { above = f.above; low = f.low; each = f.each }
+acts_floors i f (scans h is) = record { above = f.above; low = f.low; each = f.each }
 acts_floors i f (sets h w by) = record { above = f.above; low = f.low; each = f.each }
 acts_floors i f (deletes h w by) = record { above = f.above; low = f.low; each = f.each }
 acts_floors {st} i f (holds {t = t} {k = k} h w puts free) = let hp = held_phase st t k h in record { above = goes st t hp.p (Holding (k + 1)) hp.is f; low = f.low; each = f.each }
@@ -81,6 +82,7 @@ acts_cleared {st} f (collects (least {t = t} {p = p} h all) room) c k = let low 
 acts_cleared {st} f (collects (none_active none) room) c k = let low = k.0 in (le_trans low (le-max_left st.floor (st.top + 1)), k.1)
 acts_cleared f (begins d) c k = (k.0, k.1)
 acts_cleared f (reads h none shown) c k = (k.0, k.1)
+acts_cleared f (scans h is) c k = (k.0, k.1)
 acts_cleared f (sets h w by) c k = (k.0, k.1)
 acts_cleared f (deletes h w by) c k = (k.0, k.1)
 acts_cleared f (conflicts h w puts clash) c k = (k.0, k.1)

@@ -3,7 +3,7 @@ use Rattle.std.proofs.Common.{◌≡◌, ◌≢◌, ℕ, true, false, cond, [], 
 use Rattle.std.specs.Prelude.{nat_eq}
 use Rattle.std.specs.FinMap.{get, insert, remove}
 use Rattle.si_model.specs.Machine.{State, Phase, Open, Holding, Stamped, Finishing, Request, Reply, Writes, Wrote, InPhase, finishing}
-use Rattle.si_model.specs.Machine.{Acts, tells, begins, reads, sets, deletes, holds, conflicts, draws, loses, commits, finishes, stops, opens, kills, learns, rolls_forward, rolls_back, finds_gone, collects, has_collected, splits, moves_tablet, Step, refuses, accepts, goes_on, rests, IsReached}
+use Rattle.si_model.specs.Machine.{Acts, tells, begins, reads, scans, sets, deletes, holds, conflicts, draws, loses, commits, finishes, stops, opens, kills, learns, rolls_forward, rolls_back, finds_gone, collects, has_collected, splits, moves_tablet, Step, refuses, accepts, goes_on, rests, IsReached}
 use Rattle.si_model.specs.Laws.{Goes}
 use Rattle.si_model.proofs.Tools.{get_other, each_insert, each_remove}
 use Rattle.si_model.proofs.Invariant.{Sound}
@@ -49,6 +49,7 @@ acts_open {st} i (deletes {s = s} {ws' = ws'} h w' by) = record {
   late = λ u ws w late. late;
 }
 acts_open {st} {st'} i (reads h none shown) = goes_by st st' refl (λ u h. h)
+acts_open {st} {st'} i (scans h is) = goes_by st st' refl (λ u h. h)
 acts_open {st} {st'} i (holds {t = t} {k = k} h w puts free) = goes_by st st' refl (goes_open st t (Holding (k + 1)) (λ e. cc))
 acts_open {st} {st'} i (conflicts {t = t} h w puts clash) = goes_by st st' refl (ends_open st t)
 acts_open {st} {st'} i (draws {t = t} {c = c} h w d) = goes_by st st' refl (goes_open st t (Stamped c) (λ e. cc))

@@ -6,7 +6,7 @@ use Rattle.std.proofs.lemmas.Option.{same_Some, none-some}
 use Rattle.si_model.specs.Sets.{◌∈◌, here, there}
 use Rattle.si_model.specs.Machine.{State, Change, Writes, Phase, Finishing, Commit, Request, Reply, InPhase, Wrote, Marked, Puts, HasHeld, finishing}
 use Rattle.si_model.specs.declared.replies.Cell.{Cell}
-use Rattle.si_model.specs.Machine.{Acts, tells, begins, reads, sets, deletes, holds, conflicts, draws, loses, commits, finishes, stops, opens, kills, learns, rolls_forward, rolls_back, finds_gone, collects, has_collected, splits, moves_tablet, Step, refuses, accepts}
+use Rattle.si_model.specs.Machine.{Acts, tells, begins, reads, scans, sets, deletes, holds, conflicts, draws, loses, commits, finishes, stops, opens, kills, learns, rolls_forward, rolls_back, finds_gone, collects, has_collected, splits, moves_tablet, Step, refuses, accepts}
 use Rattle.si_model.specs.Machine.{Run, rests, goes_on, IsReached}
 use Rattle.si_model.specs.Laws.{OneFate, GoneForGood}
 use Rattle.si_model.proofs.Tools.{each_cons, each_insert, each_remove, same_entry, one_place}
@@ -47,6 +47,7 @@ pub acts_placed : {st st' : State} {q : Request} {r : Reply} → Sound st → Ac
 acts_placed i (tells t) y u p = p
 acts_placed {st} i (begins {s = s} d) y u p = Kept.begun_placed st s d.0 i y u p
 acts_placed {st} {st'} i (reads h none shown) y u p = same_placed st st' refl refl y u p
+acts_placed {st} {st'} i (scans h is) y u p = same_placed st st' refl refl y u p
 acts_placed {st} i (sets {s = s} {ws' = ws'} h w by) y u p = Kept.rewritten_placed st s ws' h y u p
 acts_placed {st} i (deletes {s = s} {ws' = ws'} h w by) y u p = Kept.rewritten_placed st s ws' h y u p
 acts_placed {st} i (holds {t = t} {k = k} {x = x} h w puts free) y u p = Kept.held_placed st t k x h y u p
@@ -80,6 +81,7 @@ pub acts_no_return : {st st' : State} {q : Request} {r : Reply} → Sound st →
 acts_no_return i (tells t) y u p m = m
 acts_no_return i (begins d) y u p m = m
 acts_no_return i (reads h none shown) y u p m = m
+acts_no_return i (scans h is) y u p m = m
 acts_no_return i (sets h w by) y u p m = m
 acts_no_return i (deletes h w by) y u p m = m
 acts_no_return {st} i (holds {t = t} {x = x} h w puts free) y u p m =

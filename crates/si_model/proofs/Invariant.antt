@@ -1,11 +1,12 @@
 -- What holds of every reached state.
-use Rattle.std.proofs.Common.{◌≡◌, ◌≢◌, ℕ, ◌<◌, ◌≤◌, true, List, [], ◌∷◌, Some, ◌⊎◌}
+use Rattle.std.proofs.Common.{◌≡◌, ◌≢◌, ℕ, ◌<◌, ◌≤◌, true, List, [], ◌∷◌, Option, Some, ◌⊎◌}
 use Rattle.std.specs.FinMap.{get}
 use Rattle.si_model.specs.Sets.{◌∈◌}
-use Rattle.si_model.specs.Machine.{State, Change, Writes, Phase, Stamped, Finishing, Commit, Read, Cleaner, InPhase, Wrote, Marked, Puts, Names, IsDead, CommittedAt, IsCommitted}
+use Rattle.si_model.specs.Machine.{State, Change, Writes, Phase, Stamped, Finishing, Commit, Read, Item, Locked, Scan, Cleaner, InPhase, Wrote, Marked, Puts, Names, IsDead, CommittedAt, IsCommitted}
 use Rattle.si_model.specs.declared.replies.Cell.{Cell}
 pub use Rattle.si_model.specs.Enduring.{IsPast, HasTried}
 use Rattle.si_model.specs.Laws.{IsSettled, FirstCommitterWins, OneMark}
+use Rattle.si_model.specs.ScanLaws.{SaysOf, ScansSettled}
 use Rattle.si_model.proofs.Tools.{CellsDiffer}
 
 -- the session has yet to commit
@@ -31,6 +32,17 @@ abbrev pub StartsDiffer : List Commit → Type 0
 StartsDiffer [] = Unit {0}
 StartsDiffer (a ∷ rest) = ((b : Commit) → b ∈ rest → b.start ≢ a.start) × StartsDiffer rest
 
+-- a scan says something of x, which no mark kept back
+pub record SaysThere (scan : Scan) (x : Cell) : Type 0 where
+  pub said : Option Item
+  pub is : SaysOf scan x said
+  pub free : (t : ℕ) → said ≢ Some (Locked t)
+
+-- a Get of this start and cell was answered, or a scan said something there
+abbrev pub Told : State → Read → Type 0
+Told st r =
+    (r ∈ st.reads) ⊎ ((scan : Scan) × (scan ∈ st.scans) × SaysThere scan r.cell × (r.start ≡ scan.start))
+
 pub record Sound (st : State) : Type 0 where
   -- starts
   pub start_low : (t : ℕ) (ws : Writes) → Wrote st t ws → t ≤ st.top
@@ -55,10 +67,11 @@ pub record Sound (st : State) : Type 0 where
   pub not_dead : (a : Commit) → a ∈ st.commits → ¬ IsDead st a.start
   pub first_committer : FirstCommitterWins st
   -- reads
-  pub read_low : (r : Read) → r ∈ st.reads → r.start ≤ st.top
+  pub read_low : (r : Read) → Told st r → r.start ≤ st.top
   pub settled : IsSettled st
+  pub scans_settled : ScansSettled st
   -- what has drawn its stamp below a read and writes its cell never commits
-  pub unread : (r : Read) → r ∈ st.reads → (t : ℕ) (p : Phase) → InPhase st t p → (c : ℕ) → p ≡ Stamped c → (ws : Writes) → Wrote st t ws
+  pub unread : (r : Read) → Told st r → (t : ℕ) (p : Phase) → InPhase st t p → (c : ℕ) → p ≡ Stamped c → (ws : Writes) → Wrote st t ws
       → Names ws r.cell → c ≤ r.start → IsDead st t
   -- cleaners
   pub decided : (i : ℕ) (k : Cleaner) → get st.cleaners i ≡ Some k → k.decided ≡ true → IsCommitted st k.start ⊎ IsDead st k.start

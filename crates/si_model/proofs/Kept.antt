@@ -1,15 +1,17 @@
 -- Each change of the machine keeps the invariant.
-use Rattle.std.proofs.Common.{◌≡◌, ◌≢◌, ℕ, ◌+◌, ◌<◌, ◌≤◌, Bool, true, false, cond, List, [], ◌∷◌, length, Option, Some, ◌⊎◌, inl, inr, refl, sym, ap, subst, ◌∙◌, arith}
+use Rattle.std.proofs.Common.{◌≡◌, ◌≢◌, ℕ, ◌+◌, ◌<◌, ◌≤◌, Bool, true, false, cond, List, [], ◌∷◌, length, Option, Some, None, ◌⊎◌, inl, inr, refl, sym, ap, subst, ◌∙◌, arith}
 use Rattle.std.specs.Prelude.{slice_get, nat_eq}
 use Rattle.std.specs.Ordering.{nat_cmp}
 use Rattle.std.specs.FinMap.{FinMap, get, insert, remove}
 use Rattle.std.proofs.lemmas.Bool.{cases_eq, cases_lt}
 use Rattle.std.proofs.lemmas.Option.{same_Some, slice_get_within}
 use Rattle.si_model.specs.Sets.{◌∈◌, here, there, IsWithout}
-use Rattle.si_model.specs.Machine.{State, Value, Change, Writes, Phase, Open, Holding, Stamped, Finishing, Commit, Read, Cleaner, Place, InPhase, Wrote, Marked, Puts, Names, IsDead, CommittedAt, IsCommitted, IsSnapshot, Clashes, HasHeld, finishing}
+use Rattle.si_model.specs.Machine.{State, Value, Change, Writes, Phase, Open, Holding, Stamped, Finishing, Commit, Read, Item, Valued, Locked, Unsent, Scan, Cleaner, Place, InPhase, Wrote, Marked, Puts, Names, IsDead, CommittedAt, IsCommitted, IsSnapshot, Clashes, HasHeld, finishing}
 use Rattle.si_model.specs.declared.replies.Cell.{Cell}
 use Rattle.si_model.proofs.Tools.{each_cons, get_same, get_other, each_insert, each_remove, same_entry, CellsDiffer}
-use Rattle.si_model.proofs.Invariant.{IsLive, IsPast, HasTried, IsOwn, IsFair, Sound}
+use Rattle.si_model.specs.Scans.{IsFreeAt, IsSo}
+use Rattle.si_model.specs.ScanLaws.{SaysOf}
+use Rattle.si_model.proofs.Invariant.{SaysThere, Told, IsLive, IsPast, HasTried, IsOwn, IsFair, Sound}
 
 -- a session begins
 module _ (st : State) (s : ℕ) (new : st.top < s) where
@@ -66,6 +68,7 @@ module _ (st : State) (s : ℕ) (new : st.top < s) where
     first_committer = i.first_committer;
     read_low = λ r m. let low = i.read_low r m in omega arith;
     settled = i.settled;
+    scans_settled = i.scans_settled;
     unread = λ r m. each_insert st.active s (λ t p. (c : ℕ) → p ≡ Stamped c → (ws : Writes) → Wrote begun t ws → Names ws r.cell → c ≤ r.start → IsDead st t) Open
         (λ c e. cc) (λ t p ne h c e ws w. i.unread r m t p h c e ws (sym (get_other st.begun s [] t ne) ∙ w));
     decided = i.decided;
@@ -76,8 +79,12 @@ module _ (st : State) (s : ℕ) (x : Cell) (v : Option Value) where
   abbrev pub answered : State
   answered = record st { reads = record { start = s; cell = x; answer = v } ∷ st.reads }
 
+  told_more : (P : Read → Type 0) → P (record { start = s; cell = x; answer = v }) → ((r : Read) → Told st r → P r) → (r : Read) → Told answered r → P r
+  told_more P new old r (inl m) = each_cons P new (λ r m. old r (inl m)) r m
+  told_more P new old r (inr by) = old r (inr by)
+
   -- what has drawn its stamp below s and writes x is dead: else its mark would have kept the answer back
-  no_answer : ((t : ℕ) → Marked st x t → s < t) → Sound st → (t : ℕ) (p : Phase) → InPhase st t p → (c : ℕ) → p ≡ Stamped c → (ws : Writes) → Wrote st t ws → Names ws x → c ≤ s → IsDead st t
+  pub no_answer : ((t : ℕ) → Marked st x t → s < t) → Sound st → (t : ℕ) (p : Phase) → InPhase st t p → (c : ℕ) → p ≡ Stamped c → (ws : Writes) → Wrote st t ws → Names ws x → c ≤ s → IsDead st t
   no_answer none i t p h c e ws w names low = elim (i.stands t p h (subst IsLive (sym e) tt) ws w) [
     | inl d ↦ d
     | inr f ↦ let later = (i.drawn t p h c e).later in
@@ -102,10 +109,53 @@ module _ (st : State) (s : ℕ) (x : Cell) (v : Option Value) where
     stamps_differ = i.stamps_differ;
     not_dead = i.not_dead;
     first_committer = i.first_committer;
-    read_low = each_cons (λ r. r.start ≤ st.top) (let b = i.has_begun s Open is_open in i.start_low s b.0 b.1) i.read_low;
+    read_low = told_more (λ r. r.start ≤ st.top) (let b = i.has_begun s Open is_open in i.start_low s b.0 b.1) i.read_low;
+    scans_settled = i.scans_settled;
     settled = each_cons (λ r. IsSnapshot st.commits r.start r.cell r.answer) shown i.settled;
-    unread = each_cons (λ r. (t : ℕ) (p : Phase) → InPhase st t p → (c : ℕ) → p ≡ Stamped c → (ws : Writes) → Wrote st t ws → Names ws r.cell → c ≤ r.start → IsDead st t)
+    unread = told_more (λ r. (t : ℕ) (p : Phase) → InPhase st t p → (c : ℕ) → p ≡ Stamped c → (ws : Writes) → Wrote st t ws → Names ws r.cell → c ≤ r.start → IsDead st t)
         (no_answer none i) i.unread;
+    decided = i.decided;
+  }
+
+-- what a scan says is so as of its start, and where it says something nothing kept it back
+pub record IsRight (st : State) (scan : Scan) : Type 0 where
+  pub so : (x : Cell) (said : Option Item) → SaysOf scan x said → IsSo st.commits scan.start x said
+  pub free : (x : Cell) → SaysThere scan x → IsFreeAt st scan.start x
+
+-- a scan is answered
+module _ (st : State) (scan : Scan) where
+  abbrev pub scanned : State
+  scanned = record st { scans = scan ∷ st.scans }
+
+  told_scan : (P : Read → Type 0) → ((r : Read) → r.start ≡ scan.start → SaysThere scan r.cell → P r) → ((r : Read) → Told st r → P r)
+      → (r : Read) → Told scanned r → P r
+  told_scan P new old r (inl m) = old r (inl m)
+  told_scan P new old r (inr (one, m, says, starts)) =
+      each_cons (λ (one : Scan). SaysThere one r.cell → r.start ≡ one.start → P r) (λ says starts. new r starts says)
+      (λ one m says starts. old r (inr (one, m, says, starts))) one m says starts
+
+  pub scanned_sound : InPhase st scan.start Open → IsRight st scan → Sound st → Sound scanned
+  scanned_sound is_open is i = record {
+    start_low = i.start_low;
+    cells_differ = i.cells_differ;
+    has_begun = i.has_begun;
+    uncommitted = i.uncommitted;
+    stands = i.stands;
+    drawn = λ t p h c e. let o = i.drawn t p h c e in record { later = o.later; low = o.low; no_start = o.no_start; no_commit = o.no_commit; no_other = o.no_other };
+    finishes = i.finishes;
+    placed = λ y t m. let p = i.placed y t m in record { ws = p.ws; k = p.k; v = p.v; wrote = p.wrote; puts = p.puts; past = p.past };
+    one_mark = i.one_mark;
+    younger = i.younger;
+    fair = λ a m. let f = i.fair a m in record { wrote = f.wrote; later = f.later; low = f.low; no_start = f.no_start };
+    starts_differ = i.starts_differ;
+    stamps_differ = i.stamps_differ;
+    not_dead = i.not_dead;
+    first_committer = i.first_committer;
+    read_low = told_scan (λ r. r.start ≤ st.top) (λ r e says. let b = i.has_begun scan.start Open is_open in let low = i.start_low scan.start b.0 b.1 in omega (arith, e)) i.read_low;
+    settled = i.settled;
+    scans_settled = each_cons (λ (one : Scan). (x : Cell) (said : Option Item) → SaysOf one x said → IsSo st.commits one.start x said) is.so i.scans_settled;
+    unread = told_scan (λ r. (t : ℕ) (p : Phase) → InPhase st t p → (c : ℕ) → p ≡ Stamped c → (ws : Writes) → Wrote st t ws → Names ws r.cell → c ≤ r.start → IsDead st t)
+        (λ r e says t p h c stamped ws w names low. no_answer st scan.start r.cell None (is.free r.cell says) i t p h c stamped ws w names (omega (arith, e))) i.unread;
     decided = i.decided;
   }
 
@@ -157,6 +207,7 @@ module _ (st : State) (s : ℕ) (ws' : Writes) where
     first_committer = i.first_committer;
     read_low = i.read_low;
     settled = i.settled;
+    scans_settled = i.scans_settled;
     unread = λ r m t p h c e us g. i.unread r m t p h c e us (sym (get_other st.begun s ws' t (apart is_open t p h (λ f. let g : Stamped c ≡ Open = cc in cc))) ∙ g);
     decided = i.decided;
   }
@@ -242,6 +293,7 @@ module _ (st : State) (t k : ℕ) (x : Cell) where
     first_committer = i.first_committer;
     read_low = i.read_low;
     settled = i.settled;
+    scans_settled = i.scans_settled;
     unread = λ r m. each_insert st.active t (λ u p. (c : ℕ) → p ≡ Stamped c → (us : Writes) → Wrote st u us → Names us r.cell → c ≤ r.start → IsDead st u) (Holding (k + 1))
         (λ c e. cc) (λ u p ne g. i.unread r m u p g);
     decided = i.decided;
@@ -343,6 +395,7 @@ module _ (st : State) (t c : ℕ) (ws : Writes) (new : st.top < c) where
     first_committer = i.first_committer;
     read_low = λ r m. let low = i.read_low r m in omega arith;
     settled = i.settled;
+    scans_settled = i.scans_settled;
     unread = λ r m. each_insert st.active t (λ u p. (d : ℕ) → p ≡ Stamped d → (us : Writes) → Wrote st u us → Names us r.cell → d ≤ r.start → IsDead st u) (Stamped c)
         (λ d e us g names le. let f : c ≡ d = cc in let low = i.read_low r m in absurd (omega arith)) (λ u p ne g. i.unread r m u p g);
     decided = i.decided;
@@ -407,6 +460,7 @@ module _ (st : State) (active' : FinMap nat_cmp Phase) (less : Recedes st active
     first_committer = i.first_committer;
     read_low = i.read_low;
     settled = i.settled;
+    scans_settled = i.scans_settled;
     unread = λ r m. each_left (λ u p. (c : ℕ) → p ≡ Stamped c → (ws : Writes) → Wrote st u ws → Names ws r.cell → c ≤ r.start → IsDead st u) (i.unread r m) (λ u c k n ws w d e. cc);
     decided = i.decided;
   }
@@ -432,7 +486,7 @@ pub record Joins (st : State) (t c : ℕ) (ws : Writes) : Type 0 where
   pub alive : ¬ IsDead st t
   pub once : (a : Commit) → a ∈ st.commits → a.start ≢ t
   pub stands : (x : Cell) → Names ws x → Marked st x t
-  pub unread : (r : Read) → r ∈ st.reads → Names ws r.cell → r.start < c
+  pub unread : (r : Read) → Told st r → Names ws r.cell → r.start < c
 
 module _ (st : State) (t c : ℕ) (ws : Writes) where
   abbrev pub new_commit : Commit
@@ -444,7 +498,7 @@ module _ (st : State) (t c : ℕ) (ws : Writes) where
   first_before : Joins st t c ws → Sound st → (a : Commit) → a ∈ st.commits → (x : Cell) → Names a.writes x → Names ws x → a.stamp < t
   first_before j i a m x na n = i.younger x t (j.stands x n) a m (j.once a m) na
 
-  settled_still : Joins st t c ws → (r : Read) → r ∈ st.reads → (v : Option Value) → IsSnapshot st.commits r.start r.cell v → IsSnapshot joined.commits r.start r.cell v
+  settled_still : Joins st t c ws → (r : Read) → Told st r → (v : Option Value) → IsSnapshot st.commits r.start r.cell v → IsSnapshot joined.commits r.start r.cell v
   settled_still j r m v old = elim old [
     | inl (a, ma, gives, le, most) ↦ inl (
       a,
@@ -455,6 +509,18 @@ module _ (st : State) (t c : ℕ) (ws : Writes) where
     )
     | inr (e, none) ↦ inr (e, each_cons (λ b. Names b.writes r.cell → r.start < b.stamp) (j.unread r m) none)
   ]
+
+  shown_still : Joins st t c ws → (scan : Scan) → scan ∈ st.scans → (x : Cell) (said : Option Item) → SaysOf scan x said → ((u : ℕ) → said ≢ Some (Locked u))
+      → (v : Option Value) → IsSnapshot st.commits scan.start x v → IsSnapshot joined.commits scan.start x v
+  shown_still j scan m x said says free v =
+      settled_still j (record { start = scan.start; cell = x; answer = v }) (inr (scan, m, record { said = said; is = says; free = free }, refl)) v
+
+  -- what a scan said is so still
+  says_still : Joins st t c ws → Sound st → (scan : Scan) → scan ∈ st.scans → (x : Cell) (said : Option Item) → SaysOf scan x said → IsSo joined.commits scan.start x said
+  says_still j i scan m x None says = shown_still j scan m x None says (λ t e. cc) None (i.scans_settled scan m x None says)
+  says_still j i scan m x (Some (Valued v)) says = shown_still j scan m x (Some (Valued v)) says (λ t e. cc) (Some v) (i.scans_settled scan m x (Some (Valued v)) says)
+  says_still j i scan m x (Some Unsent) says = let v = i.scans_settled scan m x (Some Unsent) says in (v.0, shown_still j scan m x (Some Unsent) says (λ t e. cc) (Some v.0) v.1)
+  says_still j i scan m x (Some (Locked u)) says = tt
 
   pub joined_sound : Joins st t c ws → Sound st → Sound joined
   joined_sound j i = record {
@@ -487,7 +553,8 @@ module _ (st : State) (t c : ℕ) (ws : Writes) where
         (λ a m. each_cons (λ b. a.start ≢ b.start → (x : Cell) → Names a.writes x → Names b.writes x → (a.stamp < b.start) ⊎ (b.stamp < a.start))
         (λ ne x na nb. inl (first_before j i a m x na nb)) (λ b n. i.first_committer a b m n) b n) a m;
     read_low = i.read_low;
-    settled = λ r m. settled_still j r m r.answer (i.settled r m);
+    settled = λ r m. settled_still j r (inl m) r.answer (i.settled r m);
+    scans_settled = says_still j i;
     unread = i.unread;
     decided = λ n k h e. elim (i.decided n k h e) [ inl f ↦ inl (f.0, (f.1.0, there f.1.1)) | inr d ↦ inr d ];
   }
@@ -532,6 +599,7 @@ module _ (st : State) (x : Cell) (t : ℕ) (marks' : List (Cell × ℕ)) (less :
     first_committer = i.first_committer;
     read_low = i.read_low;
     settled = i.settled;
+    scans_settled = i.scans_settled;
     unread = i.unread;
     decided = i.decided;
   }
@@ -561,6 +629,7 @@ module _ (st : State) (t : ℕ) where
     first_committer = i.first_committer;
     read_low = i.read_low;
     settled = i.settled;
+    scans_settled = i.scans_settled;
     unread = λ r m u p h c e ws w n le. there (i.unread r m u p h c e ws w n le);
     decided = λ n k h e. elim (i.decided n k h e) [ inl f ↦ inl f | inr d ↦ inr (there d) ];
   }
@@ -589,6 +658,7 @@ module _ (st : State) (cleaners' : FinMap nat_cmp Cleaner) (next : ℕ) (collect
     first_committer = i.first_committer;
     read_low = i.read_low;
     settled = i.settled;
+    scans_settled = i.scans_settled;
     unread = i.unread;
     decided = fates;
   }

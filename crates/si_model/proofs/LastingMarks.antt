@@ -6,7 +6,7 @@ use Rattle.std.proofs.lemmas.Option.{none-some}
 use Rattle.si_model.specs.Sets.{◌∈◌, there}
 use Rattle.si_model.specs.Machine.{State, Commit, Cleaner, Request, Reply, Marked, IsDead}
 use Rattle.si_model.specs.declared.replies.Cell.{Cell}
-use Rattle.si_model.specs.Machine.{Acts, tells, begins, reads, sets, deletes, holds, conflicts, draws, loses, commits, finishes, stops, opens, kills, learns, rolls_forward, rolls_back, finds_gone, collects, has_collected, splits, moves_tablet, Step, refuses, accepts}
+use Rattle.si_model.specs.Machine.{Acts, tells, begins, reads, scans, sets, deletes, holds, conflicts, draws, loses, commits, finishes, stops, opens, kills, learns, rolls_forward, rolls_back, finds_gone, collects, has_collected, splits, moves_tablet, Step, refuses, accepts}
 use Rattle.si_model.specs.Machine.{Run, rests, goes_on, IsReached, begins_new, runs, reopens}
 use Rattle.si_model.specs.Laws.{FloorStaysLow}
 use Rattle.si_model.specs.Enduring.{HasTried, HaveTried, Endures}
@@ -25,6 +25,7 @@ acts_marks {st} f (holds {t = t} {k = k} {x = x} h w puts free) y u m =
 acts_marks f (tells t) y u m = inl m
 acts_marks f (begins d) y u m = inl m
 acts_marks f (reads h none shown) y u m = inl m
+acts_marks f (scans h is) y u m = inl m
 acts_marks f (sets h w by) y u m = inl m
 acts_marks f (deletes h w by) y u m = inl m
 acts_marks f (conflicts h w puts clash) y u m = inl m
@@ -50,6 +51,7 @@ acts_commits (commits h alive w puts less) a i = there i
 acts_commits (tells t) a i = i
 acts_commits (begins d) a i = i
 acts_commits (reads h none shown) a i = i
+acts_commits (scans h is) a i = i
 acts_commits (sets h w by) a i = i
 acts_commits (deletes h w by) a i = i
 acts_commits (holds h w puts free) a i = i
@@ -75,6 +77,7 @@ acts_dead (kills is nc alive w puts less) u d = there d
 acts_dead (tells t) u d = d
 acts_dead (begins e) u d = d
 acts_dead (reads h none shown) u d = d
+acts_dead (scans h is) u d = d
 acts_dead (sets h w by) u d = d
 acts_dead (deletes h w by) u d = d
 acts_dead (holds h w puts free) u d = d
@@ -111,6 +114,7 @@ acts_cleaners {st} {st'} s p (finds_gone {i = n} is m) = each_remove st.cleaners
 acts_cleaners s p (tells t) = λ i k g. p i k g
 acts_cleaners s p (begins d) = λ i k g. acts_placed s (begins d) k.cell k.start (p i k g)
 acts_cleaners s p (reads h none shown) = λ i k g. acts_placed s (reads h none shown) k.cell k.start (p i k g)
+acts_cleaners s p (scans h is) = λ i k g. acts_placed s (scans h is) k.cell k.start (p i k g)
 acts_cleaners s p (sets h w by) = λ i k g. acts_placed s (sets h w by) k.cell k.start (p i k g)
 acts_cleaners s p (deletes h w by) = λ i k g. acts_placed s (deletes h w by) k.cell k.start (p i k g)
 acts_cleaners s p (holds h w puts free) = λ i k g. acts_placed s (holds h w puts free) k.cell k.start (p i k g)

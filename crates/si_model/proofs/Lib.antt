@@ -1,6 +1,7 @@
 mod Cleaned
 mod Deletions
 mod Races
+mod ScanScript
 mod ScriptSteps
 mod TabletScript
 mod Transfers
@@ -24,8 +25,12 @@ pub mod Kept
 pub mod LastingMarks
 pub mod Left
 pub mod Limits
+pub mod NextCells
 pub mod Numbers
 pub mod Refusals
+pub mod ScanLaws
+pub mod Scannable
+pub mod Scanned
 pub mod ShownAt
 pub mod ShownKept
 pub mod ShownTouched

@@ -9,7 +9,7 @@ use Rattle.cell_key.specs.Names.{IsRow, IsFamily, IsFamilyByte}
 use Rattle.cell_key.specs.declared.refusals.Refusal.TheVariants.{BadRow, BadColumn, BadValue}
 use Rattle.si_model.specs.declared.replies.Cell.{Cell}
 use Rattle.si_model.specs.Machine.{State, Value, Change, Writes, Request, Reply, Set, Delete, Wrote, Puts, Gives, Sets, appends, replaces, passes, IsAcceptable, most_value}
-use Rattle.si_model.specs.Machine.{Acts, tells, begins, reads, sets, deletes, holds, conflicts, draws, loses, commits, finishes, stops, opens, kills, learns, rolls_forward, rolls_back, finds_gone, collects, has_collected, splits, moves_tablet, refuses, accepts}
+use Rattle.si_model.specs.Machine.{Acts, tells, begins, reads, scans, sets, deletes, holds, conflicts, draws, loses, commits, finishes, stops, opens, kills, learns, rolls_forward, rolls_back, finds_gone, collects, has_collected, splits, moves_tablet, refuses, accepts}
 use Rattle.si_model.specs.Machine.{Run, rests, goes_on, IsReached, begins_new, runs, reopens}
 use Rattle.si_model.specs.Refusing.{set_row, set_family, set_long, delete_row, delete_family}
 use Rattle.si_model.specs.Laws.{IsWritable, WritesWithinLimits}
@@ -99,6 +99,7 @@ acts_within {st} ok (sets {s = s} {x = x} {v = v} {ws = ws} {ws' = ws'} h w by) 
 acts_within {st} ok (deletes {s = s} {x = x} {ws = ws} {ws' = ws'} h w by) within = rewritten_within st s x None ws ws' w by (delete_writable st s x ok) within
 acts_within ok (tells t) within = within
 acts_within ok (reads h none shown) within = within
+acts_within ok (scans h is) within = within
 acts_within ok (holds h w puts free) within = within
 acts_within ok (conflicts h w puts clash) within = within
 acts_within ok (draws h w d) within = within

@@ -9,7 +9,7 @@ use Rattle.cell_key.specs.declared.refusals.Refusal.TheVariants.{TooManySessions
 use Rattle.si_model.specs.declared.replies.Cell.{Cell}
 use Rattle.si_model.specs.Machine.{State, Place, Request, Reply, CleanBegin, CollectBegin, Split, Marked, Cuts, cuts_last, cuts, cuts_later, Moves, moves, moves_later, most_cleaners, most_collectors, most_tablets, end_of_stamps, IsAcceptable}
 use Rattle.si_model.specs.Refusing.{clean_full, collect_full, split_full}
-use Rattle.si_model.specs.Machine.{Acts, tells, begins, reads, sets, deletes, holds, conflicts, draws, loses, commits, finishes, stops, opens, kills, learns, rolls_forward, rolls_back, finds_gone, collects, has_collected, splits, moves_tablet, Step, refuses, accepts}
+use Rattle.si_model.specs.Machine.{Acts, tells, begins, reads, scans, sets, deletes, holds, conflicts, draws, loses, commits, finishes, stops, opens, kills, learns, rolls_forward, rolls_back, finds_gone, collects, has_collected, splits, moves_tablet, Step, refuses, accepts}
 use Rattle.si_model.specs.Machine.{Run, rests, goes_on, IsReached, begins_new, runs, reopens}
 use Rattle.si_model.specs.Laws.{AreNumbered, Numbers}
 use Rattle.si_model.proofs.Tools.{each_insert, each_remove, len_grows, len_stays, len_falls}
@@ -104,6 +104,7 @@ acts_numbers {st} n ok (rolls_back {i = i} is m nc less) = record { cleaners = c
 acts_numbers {st} n ok (finds_gone {i = i} is m) = record { cleaners = closed st.cleaners st.next_cleaner most_cleaners n.cleaners i; collectors = n.collectors; tablets = n.tablets }
 acts_numbers n ok (begins d) = record { cleaners = n.cleaners; collectors = n.collectors; tablets = n.tablets }
 acts_numbers n ok (reads h none shown) = record { cleaners = n.cleaners; collectors = n.collectors; tablets = n.tablets }
+acts_numbers n ok (scans h is) = record { cleaners = n.cleaners; collectors = n.collectors; tablets = n.tablets }
 acts_numbers n ok (sets h w by) = record { cleaners = n.cleaners; collectors = n.collectors; tablets = n.tablets }
 acts_numbers n ok (deletes h w by) = record { cleaners = n.cleaners; collectors = n.collectors; tablets = n.tablets }
 acts_numbers n ok (holds h w puts free) = record { cleaners = n.cleaners; collectors = n.collectors; tablets = n.tablets }

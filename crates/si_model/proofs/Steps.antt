@@ -5,12 +5,13 @@ use Rattle.std.specs.FinMap.{empty, get, insert, remove, get-empty}
 use Rattle.std.proofs.lemmas.Bool.{cases_lt}
 use Rattle.std.proofs.lemmas.Option.{none-some}
 use Rattle.si_model.specs.Sets.{here, IsWithout}
-use Rattle.si_model.specs.Machine.{State, Writes, Stamped, Finishing, Cleaner, Request, Reply, InPhase, Wrote, IsDead, CommittedAt, IsCommitted, finishing}
+use Rattle.si_model.specs.Machine.{State, Writes, Read, Stamped, Finishing, Cleaner, Request, Reply, InPhase, Wrote, IsDead, CommittedAt, IsCommitted, finishing}
 use Rattle.si_model.specs.declared.replies.Cell.{Cell}
-use Rattle.si_model.specs.Machine.{Acts, tells, begins, reads, sets, deletes, holds, conflicts, draws, loses, commits, finishes, stops, opens, kills, learns, rolls_forward, rolls_back, finds_gone, collects, has_collected, splits, moves_tablet, Step, refuses, accepts}
+use Rattle.si_model.specs.Machine.{Acts, tells, begins, reads, scans, sets, deletes, holds, conflicts, draws, loses, commits, finishes, stops, opens, kills, learns, rolls_forward, rolls_back, finds_gone, collects, has_collected, splits, moves_tablet, Step, refuses, accepts}
 use Rattle.si_model.specs.Machine.{Run, rests, goes_on, IsReached, begins_new, runs, reopens, new_machine, reopened}
 use Rattle.si_model.proofs.Tools.{get_remains, each_insert, each_remove, cells_differ_after}
-use Rattle.si_model.proofs.Invariant.{IsOwn, Sound}
+use Rattle.si_model.proofs.Invariant.{IsOwn, Told, Sound}
+use Rattle.si_model.proofs.Scanned.{scan_right}
 use Rattle.si_model.proofs.Kept
 
 -- a live stamped session that isn't dead may commit
@@ -67,6 +68,7 @@ pub acts_sound : {st st' : State} {q : Request} {r : Reply} → Sound st → Act
 acts_sound i (tells t) = i
 acts_sound {st} i (begins {s = s} d) = Kept.begun_sound st s d.0 i
 acts_sound {st} i (reads {s = s} {x = x} {answer = v} h none shown) = Kept.answered_sound st s x v h none shown i
+acts_sound {st} i (scans h is) = Kept.scanned_sound st _ h (scan_right is) i
 acts_sound {st} i (sets {s = s} {ws = ws} {ws' = ws'} h w by) = Kept.rewritten_sound st s ws' h ws w (cells_differ_after by (i.cells_differ s ws w)) i
 acts_sound {st} i (deletes {s = s} {ws = ws} {ws' = ws'} h w by) = Kept.rewritten_sound st s ws' h ws w (cells_differ_after by (i.cells_differ s ws w)) i
 acts_sound {st} i (holds {t = t} {k = k} {ws = ws} {x = x} {v = v} h w puts free) = Kept.held_sound st t k x h ws v w puts free i
@@ -124,12 +126,17 @@ new_sound = record {
   stamps_differ = λ a b m. elim m [ ];
   not_dead = λ a m. elim m [ ];
   first_committer = λ a b m. elim m [ ];
-  read_low = λ r m. elim m [ ];
+  read_low = λ r m. none r m;
   settled = λ r m. elim m [ ];
-  unread = λ r m. elim m [ ];
+  scans_settled = λ scan m. elim m [ ];
+  unread = λ r m. none r m;
   decided = λ n k h. absurd (nothing k n h);
 }
   where
+    none : {P : Type 0} (r : Read) → Told new_machine r → P
+    none r (inl m) = elim m [ ]
+    none r (inr (scan, m, says, starts)) = elim m [ ]
+
     nothing : {X : Type 0} (v : X) (k : ℕ) → get (empty {X = X} {R = nat_cmp}) k ≡ Some v → ⊥
     nothing v k h = none-some v (sym (get-empty nat_cmp k) ∙ h)
 

@@ -6,7 +6,7 @@ use Rattle.std.proofs.lemmas.Bool.{cases_eq, cases_lt}
 use Rattle.cell_key.specs.declared.refusals.Refusal.TheVariants.{UnknownSession, EmptyCommit, UnknownCleaner}
 use Rattle.si_model.specs.declared.replies.Cell.{Cell}
 use Rattle.si_model.specs.Machine.{State, Value, Writes, Phase, Open, Holding, Stamped, Finishing, Cleaner, Request, Reply, InPhase, Wrote, Marked, HasHeld, IsAcceptable, end_of_stamps, IsReached}
-use Rattle.si_model.specs.Machine.{Begin, Get, Set, Delete, Advance, Stop, CleanBegin, CleanStep}
+use Rattle.si_model.specs.Machine.{Begin, Get, Set, Delete, ScanFrom, Advance, Stop, CleanBegin, CleanStep}
 use Rattle.si_model.specs.Machine.{Acts, tells, waits, finds_none, begins, reads, sets, deletes, holds, conflicts, draws, loses, commits, finishes, stops, opens, kills, learns, rolls_forward, rolls_back, finds_gone}
 use Rattle.si_model.specs.Refusing.{advance_unknown, advance_empty, stop_unknown, clean_unknown}
 use Rattle.si_model.specs.Laws.{OneMark, Bounds, IsNeverStuck}
@@ -14,7 +14,8 @@ use Rattle.si_model.proofs.Steps.{reached_sound}
 use Rattle.si_model.proofs.Bounds.{reached_bounds}
 use Rattle.si_model.proofs.Fates.{Fates, Primary, reached_fates}
 use Rattle.si_model.proofs.Without.{without}
-use Rattle.si_model.proofs.Acceptable.{get_is_open, set_is_open, delete_is_open}
+use Rattle.si_model.proofs.Acceptable.{get_is_open, set_is_open, delete_is_open, scan_is_open, scan_is_some}
+use Rattle.si_model.proofs.Scannable.{can_scan}
 use Rattle.si_model.proofs.Decided.{mark_of, clash_of, snapshot_of, sets_of, dead_of, committed_of, put_of}
 
 -- something can be done
@@ -113,6 +114,10 @@ never_stuck st reached (Delete s x) of ok stamps numbers =
     let h = delete_is_open st s x ok in
     let w = (reached_sound reached).has_begun s Open h in
     let c = can_delete st s x w.0 h w.1 in
+    c
+never_stuck st reached (ScanFrom s range keys_only n) of ok stamps numbers =
+    let h = scan_is_open st s range keys_only n ok in
+    let c = can_scan st s n range keys_only (reached_sound reached).one_mark h (scan_is_some st s range keys_only n ok) in
     c
 never_stuck st reached (Advance s) of ok stamps numbers =
     let p = found st.active s (λ e. ok UnknownSession (advance_unknown e)) (get st.active s) refl in

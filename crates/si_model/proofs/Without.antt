@@ -7,7 +7,7 @@ use Rattle.si_model.specs.Machine.{}
 use Rattle.si_model.specs.declared.replies.Cell.{Cell}
 use Rattle.si_model.proofs.Tools.{each_cons}
 
-cases_bytes : (xs ys : List ℕ) → (xs ≡ ys) ⊎ (xs ≢ ys)
+pub cases_bytes : (xs ys : List ℕ) → (xs ≡ ys) ⊎ (xs ≢ ys)
 cases_bytes xs ys = elim (cases_Bool _) [
   | inl e ↦ inl ((bytes_eq-Decides xs ys).0 e)
   | inr f ↦ inr (λ e. cc ((bytes_eq-Decides xs ys).1 e))

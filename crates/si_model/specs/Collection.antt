@@ -9,6 +9,7 @@ use Rattle.cell_key.specs.declared.keys.Qualifier.TheVariants.{Data, Lock, Write
 use Rattle.cell_key.specs.Columns.{record_text}
 use Rattle.cell_key.specs.declared.columns.WriteKind.{WriteKind}
 use Rattle.cell_key.specs.declared.columns.WriteKind.TheVariants as write
+pub use Rattle.si_model.specs.Scans.{place_at}
 use Rattle.si_model.specs.Sets.{◌∈◌}
 use Rattle.si_model.specs.Machine.{Request, Reply, Step}
 use Rattle.si_model.specs.State.{State, Phase, Stamped, Change, Commit, InPhase, Names, Marked, CommittedAt}
@@ -104,9 +105,6 @@ pub record IsTidy (cells : Cells) (x : Cell) (floor : ℕ) : Type 0 where
   pub named : (t : ℕ) → t < floor → IsThere cells x Data t → IsNamed cells x t
   -- the newest record at or below the floor, which is the only one, is no deletion's
   pub lasting : (c t : ℕ) → c ≤ floor → at cells x Write c ≢ Some (record_text t write.Delete)
-
-abbrev pub place_at : Cell → Place
-place_at x = (x.row, x.family)
 
 -- a collector that was last at this place has the cell behind it
 abbrev pub IsBehind : Option Place → Cell → Type 0

@@ -2,7 +2,7 @@
 use Rattle.std.specs.Prelude.{◌≡◌, ◌≢◌}
 use Rattle.si_model.specs.State.{State}
 use Rattle.si_model.specs.Machine.{Step}
-use Rattle.si_model.specs.Messages.{Request, Reply, Begin, Get, Set, Delete, Advance, Stop, CleanBegin, CleanStep, CollectBegin, CollectStep, Minor, Merge, Major, Split, Move, Sweep, OracleRestart, Raw, Checkpoint}
+use Rattle.si_model.specs.Messages.{Request, Reply, Begin, Get, Set, Delete, ScanFrom, Advance, Stop, CleanBegin, CleanStep, CollectBegin, CollectStep, Minor, Merge, Major, Split, Move, Sweep, OracleRestart, Raw, Checkpoint}
 
 -- what a request is about: sessions, cleaners, collectors, the places of tablets, or none of these
 pub data Kind : Type 0 where
@@ -17,6 +17,7 @@ kind_of Begin = OfSessions
 kind_of (Get start cell) = OfSessions
 kind_of (Set start cell value) = OfSessions
 kind_of (Delete start cell) = OfSessions
+kind_of (ScanFrom start range keys_only cells) = OfSessions
 kind_of (Advance start) = OfSessions
 kind_of (Stop start) = OfSessions
 kind_of (CleanBegin cell) = OfCleaners
@@ -40,6 +41,7 @@ pub record SameSessions (st next : State) : Type 0 where
   pub active : next.active ≡ st.active
   pub commits : next.commits ≡ st.commits
   pub reads : next.reads ≡ st.reads
+  pub scans : next.scans ≡ st.scans
 
 -- the same open cleaners, and starts that were rolled back
 pub record SameCleaners (st next : State) : Type 0 where

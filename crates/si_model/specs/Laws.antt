@@ -5,7 +5,7 @@ use Rattle.std.specs.FinMap.{FinMap, get, len}
 use Rattle.cell_key.specs.Names.{IsRow, IsFamily}
 use Rattle.cell_key.specs.declared.refusals.Refusal.{Refusal}
 use Rattle.si_model.specs.Sets.{◌∈◌}
-use Rattle.si_model.specs.Machine.{State, Value, Change, Phase, Open, Holding, Finishing, end_of_stamps, most_sessions, most_writes, most_value, most_cleaners, most_collectors, most_tablets, Stamped, InPhase, Commit, Read, Request, Reply, Refused, Begin, Get, Set, Delete, Advance, Stop, CleanBegin, CleanStep, CollectStep, Pending, Conflict, NoLock, Cleaning, Blocked, Committed, Lost, Decided, RolledForward, RolledBack, Gone, Collected, Gives, Names, Marked, IsDead, CommittedAt, IsCommitted, Cleaner, Writes, Wrote, Puts, IsSnapshot, Clashes, IsAcceptable, IsFirstRefusal, IsStorageRefusal, Acts, Step, Run, IsReached}
+use Rattle.si_model.specs.Machine.{State, Value, Change, Phase, Open, Holding, Finishing, end_of_stamps, most_sessions, most_writes, most_value, most_cleaners, most_collectors, most_tablets, Stamped, InPhase, Commit, Read, Request, Reply, Refused, Begin, Get, Set, Delete, ScanFrom, Advance, Stop, CleanBegin, CleanStep, CollectStep, Pending, Conflict, NoLock, Cleaning, Blocked, Committed, Lost, Decided, RolledForward, RolledBack, Gone, Collected, Gives, Names, Marked, IsDead, CommittedAt, IsCommitted, Cleaner, Writes, Wrote, Puts, IsSnapshot, Clashes, IsAcceptable, IsFirstRefusal, IsStorageRefusal, Acts, Step, Run, IsReached}
 use Rattle.si_model.specs.declared.replies.Cell.{Cell}
 
 -- a law of each step from a reached state
@@ -201,6 +201,7 @@ IsOfTransactions Begin = ⊤
 IsOfTransactions (Get s x) = ⊤
 IsOfTransactions (Set s x v) = ⊤
 IsOfTransactions (Delete s x) = ⊤
+IsOfTransactions (ScanFrom s range keys_only n) = ⊤
 IsOfTransactions (Advance s) = ⊤
 IsOfTransactions (Stop s) = ⊤
 IsOfTransactions (CleanBegin x) = ⊤

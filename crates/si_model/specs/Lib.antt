@@ -1,9 +1,12 @@
 pub mod Sets
 pub mod State
+pub mod Snapshots
+pub mod Scans
 pub mod Messages
 pub mod Refusing
 pub mod Machine
 pub mod Laws
+pub mod ScanLaws
 pub mod Replies
 pub mod Scripts
 pub mod ShowsCells

@@ -1,5 +1,5 @@
 -- The snapshot machine: what one request may do, and what the machine may become.
-use Rattle.std.specs.Prelude.{◌≡◌, ◌≢◌, ℕ, ◌+◌, ◌<◌, ◌≤◌, true, false, ◌⊎◌, List, [], ◌∷◌, length, Option, None, Some, nat_eq, cond, max}
+use Rattle.std.specs.Prelude.{◌≡◌, ◌≢◌, ℕ, ◌+◌, ◌<◌, ◌≤◌, Bool, true, false, ◌⊎◌, List, [], ◌∷◌, length, Option, None, Some, nat_eq, cond, max}
 use Rattle.std.specs.Ordering.{nat_cmp}
 use Rattle.std.specs.declared.cmp.Ordering.TheVariants.{Less}
 use Rattle.std.specs.Cmp.Lexicographic.{slice_cmp}
@@ -8,23 +8,16 @@ use Rattle.cell_key.specs.declared.keys.Qualifier.{Qualifier}
 use Rattle.cell_key.specs.declared.refusals.Refusal.{Refusal}
 use Rattle.si_model.specs.Sets.{◌∈◌, IsWithout}
 use Rattle.si_model.specs.declared.replies.Cell.{Cell}
-pub use Rattle.si_model.specs.State.{State, Value, Change, Writes, Phase, Open, Holding, Stamped, Finishing, Commit, Read, Cleaner, Place, new_machine, reopened, most_sessions, most_cleaners, most_collectors, most_tablets, most_servers, most_writes, most_value, most_visits, end_of_stamps, InPhase, Wrote, Marked, Puts, Gives, Names, IsDead, CommittedAt, IsCommitted, HasTablet, IsEnd}
-pub use Rattle.si_model.specs.Messages.{Request, Begin, Get, Set, Delete, Advance, Stop, CleanBegin, CleanStep, CollectBegin, CollectStep, Minor, Merge, Major, Split, Move, Sweep, OracleRestart, Raw, Checkpoint, Reply, Begun, Answered, Pending, SetDone, DeleteDone, Held, Conflict, Drawn, Committed, Lost, Finished, StopDone, NoLock, Cleaning, Decided, RolledForward, RolledBack, Gone, Collecting, More, Blocked, Collected, MinorDone, MergeDone, MajorDone, SplitOff, MoveDone, Swept, RestartDone, RawFound, CheckpointDone, Refused}
+pub use Rattle.si_model.specs.State.{State, Value, Change, Writes, Phase, Open, Holding, Stamped, Finishing, Commit, Read, Range, Item, Valued, Locked, Unsent, Reach, ToEnd, UpTo, Scan, Cleaner, Place, new_machine, reopened, most_sessions, most_cleaners, most_collectors, most_tablets, most_servers, most_writes, most_value, most_visits, most_scanned, end_of_stamps, InPhase, Wrote, Marked, Puts, Gives, Names, IsDead, CommittedAt, IsCommitted, HasTablet, IsEnd}
+pub use Rattle.si_model.specs.Messages.{Request, Begin, Get, Set, Delete, ScanFrom, Advance, Stop, CleanBegin, CleanStep, CollectBegin, CollectStep, Minor, Merge, Major, Split, Move, Sweep, OracleRestart, Raw, Checkpoint, Reply, Begun, Answered, Pending, SetDone, DeleteDone, Scanned, Held, Conflict, Drawn, Committed, Lost, Finished, StopDone, NoLock, Cleaning, Decided, RolledForward, RolledBack, Gone, Collecting, More, Blocked, Collected, MinorDone, MergeDone, MajorDone, SplitOff, MoveDone, Swept, RestartDone, RawFound, CheckpointDone, Refused}
 pub use Rattle.si_model.specs.Refusing.{Applies, IsFirstRefusal, IsAcceptable, IsStorageRefusal, Refuses}
+pub use Rattle.si_model.specs.Snapshots.{IsSnapshot}
+use Rattle.si_model.specs.Scans.{IsScanned}
 
 -- A stamp that may be drawn: any above the greatest that was answered, up to the limit.
 -- (Percolator, timestamp oracle.)
 abbrev pub Draws : State → ℕ → Type 0
 Draws st s = (st.top < s) × (s < end_of_stamps)
-
--- The answer for x as of s: what the commit of greatest stamp at most s among those that write x
--- makes of it, its value or, if it deletes x, nothing; nothing if there is none.
--- (Snapshot isolation.)
-abbrev pub IsSnapshot : List Commit → ℕ → Cell → Option Value → Type 0
-IsSnapshot commits s x answer =
-    ((a : Commit) × (a ∈ commits) × Gives a.writes x answer × (a.stamp ≤ s)
-    × ((b : Commit) → b ∈ commits → Names b.writes x → b.stamp ≤ s → b.stamp ≤ a.stamp))
-    ⊎ ((answer ≡ None) × ((b : Commit) → b ∈ commits → Names b.writes x → s < b.stamp))
 
 -- t may not hold x: a mark stands on it, or it was written after t began. (Percolator, Prewrite.)
 abbrev pub Clashes : State → Cell → ℕ → Type 0
@@ -101,7 +94,8 @@ pub data Tells (st : State) : Request → Reply → Type 0 where
 -- What an accepted request may do in st: its reply, and the state that it leads to.
 pub data Acts (st : State) : Request → Reply → State → Type 0 where
   tells : {q : Request} {r : Reply} → Tells st q r → Acts st q r st
-  -- sessions (Percolator, Get, Set, Prewrite and Commit; a Delete is buffered as a Set is)
+  -- sessions (Percolator, Get, Set, Prewrite and Commit; a Delete is buffered as a Set is, and a
+  -- scan answers as many Gets do)
   begins : {s : ℕ} → Draws st s
       → Acts st Begin (Begun s)
       (record st { top = s; begun = insert st.begun s []; active = insert st.active s Open })
@@ -109,6 +103,12 @@ pub data Acts (st : State) : Request → Reply → State → Type 0 where
       → ((t : ℕ) → Marked st x t → s < t) → IsSnapshot st.commits s x answer
       → Acts st (Get s x) (Answered answer)
       (record st { reads = record { start = s; cell = x; answer = answer } ∷ st.reads })
+  scans : {s cells : ℕ} {range : Range} {keys_only : Bool} {items : List (Cell × Item)}
+      {reach : Reach} → InPhase st s Open → IsScanned st s range keys_only cells items reach
+      → Acts st (ScanFrom s range keys_only cells) (Scanned items reach)
+      (record st {
+        scans = record { start = s; range = range; reach = reach; items = items } ∷ st.scans;
+      })
   sets : {s : ℕ} {x : Cell} {v : Value} {ws ws' : Writes} → InPhase st s Open
       → Wrote st s ws → Sets x (Some v) ws ws'
       → Acts st (Set s x v) SetDone (record st { begun = insert st.begun s ws' })

@@ -1,8 +1,9 @@
 -- What is asked of the machine, and what it answers.
-use Rattle.std.specs.Prelude.{ℕ, List, Option}
+use Rattle.std.specs.Prelude.{ℕ, Bool, List, Option}
 use Rattle.cell_key.specs.declared.keys.Qualifier.{Qualifier}
 use Rattle.cell_key.specs.declared.refusals.Refusal.{Refusal}
 use Rattle.si_model.specs.State.{Value}
+pub use Rattle.si_model.specs.State.{Range, Item, Valued, Locked, Unsent, Reach, ToEnd, UpTo}
 use Rattle.si_model.specs.declared.replies.Cell.{Cell}
 
 pub data Request : Type 0 where
@@ -10,6 +11,8 @@ pub data Request : Type 0 where
   Get : (start : ℕ) (cell : Cell) → Request
   Set : (start : ℕ) (cell : Cell) (value : Value) → Request
   Delete : (start : ℕ) (cell : Cell) → Request
+  -- what the cells of the range have, at most so many of them; if keys only, no values
+  ScanFrom : (start : ℕ) (range : Range) (keys_only : Bool) (cells : ℕ) → Request
   -- the session's next step
   Advance : (start : ℕ) → Request
   Stop : (start : ℕ) → Request
@@ -37,6 +40,8 @@ pub data Reply : Type 0 where
   SetDone : Reply
   -- Delete
   DeleteDone : Reply
+  -- ScanFrom
+  Scanned : (items : List (Cell × Item)) (reach : Reach) → Reply
   -- Advance
   Held : (place count : ℕ) → Reply
   Conflict : (place : ℕ) → Reply

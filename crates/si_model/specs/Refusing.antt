@@ -1,13 +1,14 @@
 -- When a request is refused, and as what.
-use Rattle.std.specs.Prelude.{◌≡◌, ◌≢◌, ℕ, ◌<◌, ◌≤◌, ◌⊎◌, ⊤, List, [], length, None}
+use Rattle.std.specs.Prelude.{◌≡◌, ◌≢◌, ℕ, ◌<◌, ◌≤◌, ◌⊎◌, ⊤, Bool, List, [], length, None}
 use Rattle.std.specs.FinMap.{get, len}
 use Rattle.cell_key.specs.Names.{IsRow, IsFamily}
 use Rattle.cell_key.specs.Refusals.{refusal_number}
 use Rattle.cell_key.specs.declared.keys.Qualifier.{Qualifier}
 use Rattle.cell_key.specs.declared.refusals.Refusal.{Refusal}
 use Rattle.cell_key.specs.declared.refusals.Refusal.TheVariants.{UnknownSession, WrongPhase, BadRow, BadColumn, BadValue, TooManyWrites, TooManySessions, EmptyCommit, UnknownCleaner, UnknownCollector, UnknownTablet, BadSplit, UnknownServer, BadCount, MemtableFull, TooManyFiles, FileTooLarge, Exhausted, Device, NoMemory, Damaged}
-use Rattle.si_model.specs.State.{State, Value, Writes, Phase, Open, InPhase, Wrote, Names, Marked, HasTablet, IsEnd, most_sessions, most_cleaners, most_collectors, most_tablets, most_servers, most_writes, most_value, most_visits}
-use Rattle.si_model.specs.Messages.{Request, Begin, Get, Set, Delete, Advance, Stop, CleanBegin, CleanStep, CollectBegin, CollectStep, Minor, Merge, Major, Split, Move, Raw}
+use Rattle.si_model.specs.State.{State, Value, Writes, Range, Phase, Open, InPhase, Wrote, Names, Marked, HasTablet, IsEnd, most_sessions, most_cleaners, most_collectors, most_tablets, most_servers, most_writes, most_value, most_visits, most_scanned}
+use Rattle.si_model.specs.Messages.{Request, Begin, Get, Set, Delete, ScanFrom, Advance, Stop, CleanBegin, CleanStep, CollectBegin, CollectStep, Minor, Merge, Major, Split, Move, Raw}
+use Rattle.si_model.specs.Scans.{HasRows, HasFamilies}
 use Rattle.si_model.specs.declared.replies.Cell.{Cell}
 
 -- The refusal applies to the request: for each operation its refusals, in the order in which they
@@ -38,6 +39,18 @@ pub data Applies (st : State) : Request → Refusal → Type 0 where
   delete_family : {s : ℕ} {x : Cell} → ¬ IsFamily x.family → Applies st (Delete s x) BadColumn
   delete_full : {s : ℕ} {x : Cell} {ws : Writes} → Wrote st s ws → ¬ Names ws x
       → most_writes ≤ length ws → Applies st (Delete s x) TooManyWrites
+  scan_unknown : {s n : ℕ} {range : Range} {keys_only : Bool} → get st.active s ≡ None
+      → Applies st (ScanFrom s range keys_only n) UnknownSession
+  scan_late : {s n : ℕ} {range : Range} {keys_only : Bool} {p : Phase} → InPhase st s p → p ≢ Open
+      → Applies st (ScanFrom s range keys_only n) WrongPhase
+  scan_row : {s n : ℕ} {range : Range} {keys_only : Bool} → ¬ HasRows range
+      → Applies st (ScanFrom s range keys_only n) BadRow
+  scan_family : {s n : ℕ} {range : Range} {keys_only : Bool} → ¬ HasFamilies range
+      → Applies st (ScanFrom s range keys_only n) BadColumn
+  scan_none : {s n : ℕ} {range : Range} {keys_only : Bool} → n < 1
+      → Applies st (ScanFrom s range keys_only n) BadCount
+  scan_many : {s n : ℕ} {range : Range} {keys_only : Bool} → most_scanned < n
+      → Applies st (ScanFrom s range keys_only n) BadCount
   advance_unknown : {s : ℕ} → get st.active s ≡ None → Applies st (Advance s) UnknownSession
   advance_empty : {s : ℕ} → Wrote st s [] → Applies st (Advance s) EmptyCommit
   stop_unknown : {s : ℕ} → get st.active s ≡ None → Applies st (Stop s) UnknownSession

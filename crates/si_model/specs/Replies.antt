@@ -1,9 +1,18 @@
 -- What a call's answer is as a reply of the machine.
-use Rattle.std.specs.Prelude.{Some, None, Result, Ok, Err}
+use Rattle.std.specs.Prelude.{Some, None, Result, Ok, Err, map, option_map}
 use Rattle.cell_key.specs.declared.refusals.Refusal.{Refusal}
-use Rattle.si_model.specs.Messages.{Reply, Answered, Pending, Held, Conflict, Drawn, Committed, Lost, Finished, NoLock, Cleaning, Decided, RolledForward, RolledBack, Gone, More, Blocked, Collected, Refused}
+use Rattle.si_model.specs.Messages.{Range, Item, Valued, Locked, Unsent, Reach, ToEnd, UpTo, Reply, Answered, Pending, Scanned, Held, Conflict, Drawn, Committed, Lost, Finished, NoLock, Cleaning, Decided, RolledForward, RolledBack, Gone, More, Blocked, Collected, Refused}
 use Rattle.si_model.specs.declared.replies.Found.{Found}
 use Rattle.si_model.specs.declared.replies.Found.TheVariants as found
+use Rattle.si_model.specs.Reads.{cell_of}
+use Rattle.si_model.specs.declared.replies.Cell.{Cell}
+use Rattle.si_model.specs.declared.scans.ScanRange.{ScanRange}
+use Rattle.si_model.specs.declared.scans.ScanFound.{ScanFound}
+use Rattle.si_model.specs.declared.scans.ScanFound.TheVariants as scanned
+use Rattle.si_model.specs.declared.scans.ScanItem.{ScanItem}
+use Rattle.si_model.specs.declared.scans.ScanReach.{ScanReach}
+use Rattle.si_model.specs.declared.scans.ScanReach.TheVariants as reach
+use Rattle.si_model.specs.declared.scans.ScanReply.{ScanReply}
 use Rattle.si_model.specs.declared.replies.Progress.{Progress}
 use Rattle.si_model.specs.declared.replies.Progress.TheVariants as progress
 use Rattle.si_model.specs.declared.replies.CleanStart.{CleanStart}
@@ -18,6 +27,30 @@ abbrev pub found_reply : Found → Reply
 found_reply (found.Value value) = Answered (Some value.items)
 found_reply found.Nothing = Answered None
 found_reply (found.Pending start) = Pending start
+
+-- the range that is asked for
+abbrev pub range_of : ScanRange → Range
+range_of range = record {
+  after = option_map (λ names. cell_of names.0.now names.1.now) range.after;
+  end = option_map (λ row. row.now) range.end;
+  family = option_map (λ family. family.now) range.family;
+}
+
+abbrev pub found_item : ScanFound → Item
+found_item (scanned.Value value) = Valued value.items
+found_item (scanned.Pending start) = Locked start
+found_item scanned.Unsent = Unsent
+
+abbrev pub item_of : ScanItem → Cell × Item
+item_of item = (item.cell, found_item item.found)
+
+abbrev pub reach_of : ScanReach → Reach
+reach_of reach.End = ToEnd
+reach_of (reach.More cell) = UpTo cell
+
+-- ScanFrom
+abbrev pub scan_reply : ScanReply → Reply
+scan_reply reply = Scanned (map item_of reply.items.items) (reach_of reply.reach)
 
 -- Advance
 abbrev pub progress_reply : Progress → Reply

@@ -1,8 +1,8 @@
 -- Scripts that the machine can follow, from a new machine on. Cells count from 1 in replies.
-use Rattle.std.specs.Prelude.{List, [], ◌∷◌, Some, None, codes}
+use Rattle.std.specs.Prelude.{true, false, List, [], ◌∷◌, Some, None, codes}
 use Rattle.cell_key.specs.declared.refusals.Refusal.TheVariants.{UnknownSession, UnknownCollector, BadSplit}
 use Rattle.si_model.specs.declared.replies.Cell.{Cell}
-use Rattle.si_model.specs.Machine.{State, Request, Reply, Run, new_machine, reopened, Begin, Get, Set, Delete, Advance, Stop, CleanBegin, CleanStep, CollectBegin, CollectStep, Split, Move, Begun, Answered, Pending, SetDone, DeleteDone, Held, Conflict, Drawn, Committed, Lost, Finished, StopDone, Cleaning, NoLock, Decided, Gone, RolledForward, RolledBack, Collecting, More, Blocked, Collected, SplitOff, MoveDone, Refused}
+use Rattle.si_model.specs.Machine.{State, Request, Reply, Run, new_machine, reopened, Begin, Get, Range, Valued, Locked, Unsent, ToEnd, UpTo, Set, Delete, ScanFrom, Advance, Stop, CleanBegin, CleanStep, CollectBegin, CollectStep, Split, Move, Begun, Answered, Pending, SetDone, DeleteDone, Scanned, Held, Conflict, Drawn, Committed, Lost, Finished, StopDone, Cleaning, NoLock, Decided, Gone, RolledForward, RolledBack, Collecting, More, Blocked, Collected, SplitOff, MoveDone, Refused}
 
 -- a new machine can answer the requests so
 abbrev pub CanAnswer : List Request → List Reply → Type 0
@@ -19,6 +19,10 @@ bob = record { row = codes "Bob"; family = codes "bal" }
 
 abbrev pub joe : Cell
 joe = record { row = codes "Joe"; family = codes "bal" }
+
+-- that of Eve, who comes between them
+abbrev pub eve : Cell
+eve = record { row = codes "Eve"; family = codes "bal" }
 
 -- one cell is set, held, committed and read
 abbrev pub FirstCell : Type 0
@@ -38,6 +42,29 @@ DeletedCell = CanAnswer
     ∷ Begun 3 ∷ DeleteDone ∷ Held 1 1 ∷ Begun 4 ∷ Pending 3 ∷ Drawn 5 ∷ Committed 5
     ∷ Answered (Some (codes "v"))
     ∷ Begun 6 ∷ Answered None ∷ [])
+
+-- all cells, and the balances that come after Bob's up to Joe's
+abbrev pub all_cells : Range
+all_cells = record { after = None; end = None; family = None }
+
+abbrev pub up_to_joe : Range
+up_to_joe = record { after = Some bob; end = Some (codes "Joe"); family = Some (codes "bal") }
+
+-- Bob has 10 and Joe 2, and Eve gets 5. A session that begins before she has it scans two cells,
+-- and meets her mark. After her commit it scans all cells: she isn't named. A scan of keys only
+-- names Joe without his 2.
+abbrev pub ScannedCells : Type 0
+ScannedCells = CanAnswer
+    (Begin ∷ Set 1 bob (codes "10")
+    ∷ Set 1 joe (codes "2") ∷ Advance 1 ∷ Advance 1 ∷ Advance 1 ∷ Advance 1 ∷ Advance 1
+    ∷ Begin ∷ Set 3 eve (codes "5") ∷ Advance 3 ∷ Begin ∷ ScanFrom 4 all_cells false 2
+    ∷ Advance 3 ∷ Advance 3 ∷ ScanFrom 4 all_cells false 1000 ∷ ScanFrom 4 up_to_joe true 10 ∷ [])
+    (Begun 1 ∷ SetDone ∷ SetDone ∷ Held 1 2 ∷ Held 2 2 ∷ Drawn 2 ∷ Committed 2 ∷ Finished 2 2
+    ∷ Begun 3 ∷ SetDone ∷ Held 1 1 ∷ Begun 4
+    ∷ Scanned ((bob, Valued (codes "10")) ∷ (eve, Locked 3) ∷ []) (UpTo eve)
+    ∷ Drawn 5 ∷ Committed 5
+    ∷ Scanned ((bob, Valued (codes "10")) ∷ (joe, Valued (codes "2")) ∷ []) ToEnd
+    ∷ Scanned ((joe, Unsent) ∷ []) ToEnd ∷ [])
 
 -- Bob has 10 and Joe 2. A second session reads both, moves 7 from Bob to Joe,
 -- and a third reads what it wrote.

@@ -38,6 +38,33 @@ pub record Read : Type 0 where
   pub cell : Cell
   pub answer : Option Value
 
+-- a range of cells: those after a cell or from the first on, up to and with a row or to the last,
+-- of one family or of all
+pub record Range : Type 0 where
+  pub after : Option Cell
+  pub end : Option (List ℕ)
+  pub family : Option (List ℕ)
+
+-- what a scan names a cell with: its value; the start of the mark that keeps it back;
+-- or that it has a value, which isn't sent
+pub data Item : Type 0 where
+  Valued : (value : Value) → Item
+  Locked : (start : ℕ) → Item
+  Unsent : Item
+
+-- how far a scan went: over all of its range, or up to and with a cell
+pub data Reach : Type 0 where
+  ToEnd : Reach
+  UpTo : (cell : Cell) → Reach
+
+-- a scan that was answered: the start of its session, its range, how far it went,
+-- and the cells that it named
+pub record Scan : Type 0 where
+  pub start : ℕ
+  pub range : Range
+  pub reach : Reach
+  pub items : List (Cell × Item)
+
 -- an open cleaner: the cell and the start of the mark that it clears,
 -- and whether its first step was taken
 pub record Cleaner : Type 0 where
@@ -64,6 +91,7 @@ pub record State : Type 0 where
   -- the cells that are held, each with the start of its holder
   pub marks : List (Cell × ℕ)
   pub reads : List Read
+  pub scans : List Scan
   pub cleaners : FinMap nat_cmp Cleaner
   pub next_cleaner : ℕ
   -- the floor of each open collector
@@ -85,6 +113,7 @@ new_machine = record {
   dead = [];
   marks = [];
   reads = [];
+  scans = [];
   cleaners = empty;
   next_cleaner = 1;
   collectors = empty;
@@ -131,6 +160,10 @@ most_value = 65536
 
 abbrev pub most_visits : ℕ
 most_visits = 1000
+
+-- cells that one scan may look at
+abbrev pub most_scanned : ℕ
+most_scanned = 1000
 
 -- stamps, and the numbers of cleaners and collectors, lie below it
 abbrev pub end_of_stamps : ℕ

@@ -10,12 +10,34 @@ ghost use Rattle.si_model.specs.Enduring.{Endures, HaveTried};
 ghost use Rattle.si_model.specs.Kinds.{EachLeavesOthers};
 ghost use Rattle.si_model.specs.Laws.{AtEachStep, Bounds, ClearsItsFloor, CommitSeen, FateSeen, FirstCommitterWins, FloorStaysLow, Goes, GoneForGood, IsNeverStuck, IsSettled, Numbers, OneFate, OneMark, OneSnapshot, RefusesFirst, StartsLow, StaysCleared, TellsFate, TellsMarks, WritesWithinLimits};
 ghost use Rattle.si_model.specs.Machine.{IsReached, State, reopened};
+ghost use Rattle.si_model.specs.ScanLaws.{NothingThere, ScansAsGets, ScansMeet, ScansSettled};
 ghost use Rattle.si_model.specs.ShowsCells.{ShowsCells, WhereShown};
 ghost use Rattle.si_model.specs.declared.replies.Cell.{Cell};
 
 /// Each answered value is the last one committed by its session's start, in the commits as they are now.
 pub fn settled()
     ensures { (st : State) → IsReached st → IsSettled st }
+{}
+
+/// What each scan said of the cells that it went over, named or not, is so at its session's start, in the commits as
+/// they are now.
+pub fn scans_settled()
+    ensures { (st : State) → IsReached st → ScansSettled st }
+{}
+
+/// Two scans of one start say the same of a cell, unless a mark kept it back from one of them.
+pub fn scans_meet()
+    ensures { (st : State) → IsReached st → ScansMeet st }
+{}
+
+/// A scan says of each cell that it goes over what a Get of its start would answer.
+pub fn scans_as_gets()
+    ensures { (st : State) → ScansAsGets st }
+{}
+
+/// A cell without a key has no mark, and nothing as of each stamp from the floor on.
+pub fn nothing_there()
+    ensures { WhereShown NothingThere }
 {}
 
 /// No two commits of one cell overlap.

@@ -1,7 +1,7 @@
 //! Scripts that the machine can follow, which show that its rules are met by something.
 //! Each is a call that does nothing: its contract is the script.
 
-ghost use Rattle.si_model.specs.Scripts.{CommitPoint, DeletedCell, FirstCell, FirstHolder, LostTransfer, MarkStays, RolledBackTransfer, SplitTablet, StrandedMark, Transfer, WriteSkew, YoungerFirst};
+ghost use Rattle.si_model.specs.Scripts.{CommitPoint, DeletedCell, FirstCell, FirstHolder, LostTransfer, MarkStays, RolledBackTransfer, ScannedCells, SplitTablet, StrandedMark, Transfer, WriteSkew, YoungerFirst};
 
 /// One cell is set, held, committed and read.
 pub fn first_cell()
@@ -11,6 +11,11 @@ pub fn first_cell()
 /// A cell is deleted: sessions that began before the commit read its value, and later ones nothing.
 pub fn deleted_cell()
     ensures { DeletedCell }
+{}
+
+/// A scan names a locked cell, and one that is committed after the session's start isn't named.
+pub fn scanned_cells()
+    ensures { ScannedCells }
 {}
 
 /// A session moves 7 from Bob to Joe, and the next one reads both balances.

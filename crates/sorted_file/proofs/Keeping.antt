@@ -1,6 +1,8 @@
 -- Blocks that stay kept.
-use Rattle.std.proofs.Common.{◌≡◌, ◌⊎◌, ℕ, Bool, nat_eq, List, [], inl, inr, slice_get, Contains, Some, Result, Ok, Err, OnOk, OnErr, refl, sym, ap, subst, ◌∙◌, arith}
+use Rattle.std.proofs.Common.{◌≡◌, ◌⊎◌, ℕ, Bool, nat_eq, List, [], drop, take, inl, inr, slice_get, Contains, Some, Result, Ok, Err, OnOk, OnErr, refl, sym, ap, subst, ◌∙◌, arith}
 use Rattle.std.proofs.lemmas.Bool.{eqb-true}
+use Rattle.std.proofs.lemmas.List.{take-append-drop}
+use Rattle.std.proofs.lemmas.List.Elements.{Contains-append_left}
 use Rattle.std.specs.Map.{lookup}
 use Rattle.lru.specs.LruCache.{LruCache, lru_cache, put_entries, promoted}
 use Rattle.lru.proofs.CallerLemmas.{Contains-put_entries, Contains-promoted, Contains-lookup}
@@ -9,6 +11,10 @@ use Rattle.sorted_file.specs.File.{AreCached, IsUncached}
 use Rattle.sorted_file.specs.Block.{IsParsed}
 use Rattle.sorted_file.specs.declared.block.BlockRow.{BlockRow}
 use Rattle.sorted_file.specs.declared.block.Block.{Block}
+
+-- what is among the first ones is there
+pub among_taken : (n : ℕ) (es : List (ℕ × Block)) (e : ℕ × Block) → Contains (take n es) e → Contains es e
+among_taken n es e d = subst (λ (l : List (ℕ × Block)). Contains l e) (take-append-drop n es) (Contains-append_left (take n es) (drop n es) e d)
 
 module _ (rows : List BlockRow) where
   still_put : (c : LruCache ℕ Block) (k : ℕ) (v : Block) → AreCached rows c.entries → ((row : BlockRow) → slice_get rows k ≡ Some row → IsParsed (block_of row) v) → AreCached rows (put_entries nat_eq c k v)
@@ -26,6 +32,9 @@ module _ (rows : List BlockRow) where
 
   pub still_promoted : (test : ℕ → Bool) (es : List (ℕ × Block)) → AreCached rows es → AreCached rows (promoted test es)
   still_promoted test es h e d = h e (Contains-promoted test es e d)
+
+  pub still_taken : (n : ℕ) (es : List (ℕ × Block)) → AreCached rows es → AreCached rows (take n es)
+  still_taken n es h e d = h e (among_taken n es e d)
 
   pub found_cached : (k : ℕ) (es : List (ℕ × Block)) (v : Block) (row : BlockRow) → AreCached rows es → lookup (nat_eq k) es ≡ Some v → slice_get rows k ≡ Some row → IsParsed (block_of row) v
   found_cached k es v row h t at = let found = Contains-lookup (nat_eq k) es v t in h (found.0, v) found.1 row (ap (slice_get rows) (sym (eqb-true k found.0 found.2)) ∙ at)

@@ -1,4 +1,5 @@
 mod Behind
+mod Breaks
 mod Counting
 mod CursorSteps
 mod EntryParts
@@ -8,12 +9,14 @@ mod Growth
 mod Halves
 mod Joining
 mod Keeping
+mod Locked
 mod LookUps
 mod NextBlocks
 mod Numbered
 mod Opened
 mod OpenBlocks
 mod OpenFiles
+mod Passed
 mod Places
 mod Reading
 mod Rest

@@ -12,7 +12,7 @@ use Rattle.sorted_file.specs.Numbers.{number_of, HasNoEntry, IsAmong, IsNumbered
 use Rattle.sorted_file.proofs.Bounded.{one_text}
 use Rattle.sorted_file.proofs.Fronts.{before}
 
-one_number : (key : CellKey) (s : ℕ) → number_of (text (at_stamp key s)) ≡ number_of (text key)
+pub one_number : (key : CellKey) (s : ℕ) → number_of (text (at_stamp key s)) ≡ number_of (text key)
 one_number key s = ap (λ (column : List ℕ). folding.finish (folding.write folding.initial column)) (before key s ∙ sym (before key key.stamp))
 
 module _ (numbers name : List ℕ) (out : ¬ Contains numbers (number_of name)) where

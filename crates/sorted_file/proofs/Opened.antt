@@ -1,5 +1,5 @@
 -- What stands behind entries with texts below one.
-use Rattle.std.proofs.Common.{◌≡◌, Bool, true, false, List, ℕ, [], ◌∷◌, ◌++◌, refl, sym, ap, ◌∙◌, append_assoc, subst, length, drop, Option, Some, None}
+use Rattle.std.proofs.Common.{◌≡◌, ◌≢◌, Bool, true, false, List, ℕ, [], ◌∷◌, ◌++◌, refl, sym, ap, ◌∙◌, append_assoc, subst, length, drop, Option, Some, None}
 use Rattle.std.specs.Prelude.{IfSome}
 use Rattle.std.specs.Ordering.{is_le}
 use Rattle.std.specs.List.{AllByRecursion}
@@ -9,7 +9,7 @@ use Rattle.std.proofs.lemmas.List.Concat.{flat_map-append}
 use Rattle.cell_key.specs.Keys.{byte_cmp}
 use Rattle.cell_key.specs.Entries.{Entry, spelled}
 use Rattle.file_store.specs.Store.{Contents, bytes_of, part}
-use Rattle.sorted_file.specs.Block.{IsBehind}
+use Rattle.sorted_file.specs.Block.{BeginsFrom, IsBehind}
 use Rattle.sorted_file.specs.Cursor.{GoesOn, IsOpened, ends, opens, takes}
 use Rattle.sorted_file.specs.declared.block.BlockRow.{BlockRow}
 use Rattle.sorted_file.specs.Grammar.{block_bytes}
@@ -20,6 +20,11 @@ greater : (o : Ordering) → is_le o ≡ false → o ≡ Greater
 greater Less p = cc
 greater Equal p = cc
 greater Greater p = refl
+
+pub not_greater : (o : Ordering) → is_le o ≡ true → o ≢ Greater
+not_greater o p g =
+    let no : false ≡ true = sym (ap is_le g) ∙ p in
+    cc
 
 all_on : (P : Entry → Type 0) (es : List Entry) (e : Entry) → AllByRecursion P es → P e → AllByRecursion P (es ++ e ∷ [])
 all_on P [] e h p = (p, tt)
@@ -47,11 +52,12 @@ behind_next text bytes rest after e h r low =
 -- ---- a step of a cursor
 
 -- a row was opened
-pub is_opened : (m : Contents) (name : ℕ) (from : List ℕ) (row : BlockRow) (block bytes rest ahead : List ℕ) → length block ≡ row.length → block ≡ part (bytes_of m name) row.offset row.length → bytes ≡ block → IsBehind from bytes rest → ahead ≡ rest → IsOpened m name from row ahead
-is_opened m name from row block bytes rest ahead size now same behind e =
+pub is_opened : (m : Contents) (name : ℕ) (from : List ℕ) (row : BlockRow) (block bytes rest ahead : List ℕ) → length block ≡ row.length → block ≡ part (bytes_of m name) row.offset row.length → bytes ≡ block → IsBehind from bytes rest → BeginsFrom from rest → ahead ≡ rest → IsOpened m name from row ahead
+is_opened m name from row block bytes rest ahead size now same behind begins e =
     record {
       whole = ap length (sym now) ∙ size;
       behind = subst (λ (l : List ℕ). IsBehind from l ahead) (same ∙ now) (subst (IsBehind from bytes) (sym e) behind);
+      begins = subst (BeginsFrom from) (sym e) begins;
     }
 
 pub goes_open : (was disk : Option Contents) (old name : ℕ) (before from : List ℕ) (row : BlockRow) (rows all later : List BlockRow) (ahead bytes rest : List ℕ) (lent : Option Entry)

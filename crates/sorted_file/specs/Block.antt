@@ -1,5 +1,5 @@
 -- Blocks of entries: their bytes, and what is found there.
-use Rattle.std.specs.Prelude.{List, map, option_map, ◌≡◌, None, ℕ, ◌+◌, ◌<◌, [], ◌∷◌, ◌++◌, length, Option, Some, ◌^◌}
+use Rattle.std.specs.Prelude.{List, map, option_map, ◌≡◌, ◌≢◌, ◌⊎◌, None, ℕ, ◌+◌, ◌<◌, [], ◌∷◌, ◌++◌, length, Option, Some, ◌^◌}
 use Rattle.std.specs.List.{AllByRecursion}
 use Rattle.std.specs.declared.cmp.Ordering.TheVariants.{Greater}
 use Rattle.cell_key.specs.Keys.{byte_cmp}
@@ -66,3 +66,9 @@ pub record IsBehind (text bytes rest : List ℕ) : Type 0 where
   pub before : List Entry
   pub below : AllByRecursion (λ e. byte_cmp text e.0 ≡ Greater) before
   pub bytes_are : bytes ≡ block_bytes before ++ rest
+
+-- at the front of bytes stands an entry whose text isn't below this one, or there are none
+abbrev pub BeginsFrom : List ℕ → List ℕ → Type 0
+BeginsFrom text bytes =
+    (bytes ≡ [])
+    ⊎ ((e : Entry) × (rest : List ℕ) × (bytes ≡ spelled e ++ rest) × (byte_cmp text e.0 ≢ Greater))

@@ -8,7 +8,7 @@ use Rattle.sorted_file.specs.Index.{IsFirstText, blocks_of, entries_in, AreRows,
 use Rattle.sorted_file.specs.Grammar.{body, foot_len, head, index, most, number_bytes, IsFullBlock, AreBlocks, IsFile}
 use Rattle.sorted_file.specs.Block.{entries_of}
 use Rattle.sorted_file.specs.Bounds.{IsBounded}
-use Rattle.sorted_file.specs.Numbers.{IsNumbered}
+use Rattle.sorted_file.specs.Numbers.{IsLockNumbered, IsNumbered}
 use Rattle.sorted_file.specs.declared.format.RowRef.{RowRef}
 use Rattle.sorted_file.specs.declared.format.Format.{Format}
 use Rattle.sorted_file.specs.declared.check.Opening.{Opening}
@@ -52,6 +52,7 @@ pub record IsOpening (o : Opening) : Type 0 where
   pub bounds : AllByRecursion (IsBounded o.bounds) (entries_in (blocks_of o.rows.items))
   pub bounded : AllByRecursion IsBoundedRow o.rows.items
   pub numbered : AllByRecursion (IsNumbered o.numbers.items) (entries_in (blocks_of o.rows.items))
+  pub locked : AllByRecursion (IsLockNumbered o.locks.items) (entries_in (blocks_of o.rows.items))
   pub counted : o.count ≡ length (entries_in (blocks_of o.rows.items))
   pub last : IsLastOf (blocks_of o.rows.items) (entries_of o.last.items)
   pub reached : o.end ≡ 8 + length (body (blocks_of o.rows.items))

@@ -1,11 +1,11 @@
 -- What a cursor of an open file stands for, over files.
-use Rattle.std.specs.Prelude.{◌≡◌, ℕ, ◌+◌, ◌-◌, ◌<◌, ◌^◌, nat_le, if◌then◌else◌, List, [], ◌∷◌, ◌++◌, length, drop, Option, Some, None, option_map, IfSome, IsSomeAnd}
+use Rattle.std.specs.Prelude.{◌≡◌, ◌≢◌, ℕ, ◌+◌, ◌-◌, ◌<◌, ◌^◌, nat_le, if◌then◌else◌, List, [], ◌∷◌, ◌++◌, length, drop, Option, Some, None, option_map, IfSome, IsSomeAnd}
 use Rattle.std.specs.Option.{option_copied}
 use Rattle.cell_key.specs.Entries.{Entry, IsEntryList, entries_from, spelled}
 use Rattle.file_store.specs.Store.{Contents, bytes_of, part}
 use Rattle.sorted_file.specs.Index.{block_of, blocks_of, entries_in, AreBlocksIn}
 use Rattle.sorted_file.specs.Grammar.{block_bytes}
-use Rattle.sorted_file.specs.Block.{entry_at, IsBehind}
+use Rattle.sorted_file.specs.Block.{entry_at, BeginsFrom, IsBehind}
 use Rattle.sorted_file.specs.Source.{pending}
 use Rattle.sorted_file.specs.declared.block.BlockRow.{BlockRow}
 use Rattle.sorted_file.specs.declared.cursor.FileCursor.{FileCursor}
@@ -58,10 +58,11 @@ abbrev pub cursor_left : FileCursor → ℕ
 cursor_left s = block_left s + bytes_left s.rows.now
 
 -- what stands at a row's place now, in its whole length, is entries with texts below this one, and
--- then the rest
+-- then the rest, which begins with an entry whose text isn't below it
 pub record IsOpened (m : Contents) (name : ℕ) (from : List ℕ) (row : BlockRow) (rest : List ℕ) : Type 0 where
   pub whole : length (part (bytes_of m name) row.offset row.length) ≡ row.length
   pub behind : IsBehind from (part (bytes_of m name) row.offset row.length) rest
+  pub begins : BeginsFrom from rest
 
 -- Before these bytes of a block and these rows there is this entry, or none, and then there are these
 -- bytes and rows: an entry stands there, or no more rows are there, or the next row's block is opened.
@@ -75,6 +76,29 @@ pub data GoesOn (disk : Option Contents) (name : ℕ) (from : List ℕ)
       → GoesOn disk name from bytes rows lent rest later
       → GoesOn disk name from [] (row ∷ rows) lent rest later
 
+-- what stands at a row's place now isn't, in the row's whole length, the bytes of an entry list
+abbrev pub HasNoBlock : Contents → ℕ → BlockRow → Type 0
+HasNoBlock m name row =
+    (es : List Entry) → IsEntryList es → length (block_bytes es) ≡ row.length
+    → part (bytes_of m name) row.offset row.length ≢ block_bytes es
+
+-- no entry stands at the front of bytes of a block
+abbrev pub BeginsNoEntry : List ℕ → Type 0
+BeginsNoEntry bytes =
+    length bytes < 2 ^ 32 → (e : Entry) (rest : List ℕ) → bytes ≢ spelled e ++ rest
+
+-- At these bytes of a block, and before these rows, the entries break off: there are bytes, and no
+-- entry stands there, or the next row's block isn't there, or it is opened, and they break off there.
+pub data BreaksOff (disk : Option Contents) (name : ℕ) (from : List ℕ)
+    : List ℕ → List BlockRow → Type 0 where
+  garbled : {bytes : List ℕ} {rows : List BlockRow} → bytes ≢ [] → BeginsNoEntry bytes
+      → BreaksOff disk name from bytes rows
+  missing : {row : BlockRow} {rows : List BlockRow} → IfSome disk (λ m. HasNoBlock m name row)
+      → BreaksOff disk name from [] (row ∷ rows)
+  behind : {row : BlockRow} {rows : List BlockRow} {bytes : List ℕ}
+      → IfSome disk (λ m. IsOpened m name from row bytes) → BreaksOff disk name from bytes rows
+      → BreaksOff disk name from [] (row ∷ rows)
+
 -- the bytes of its block that it has not come to
 abbrev pub bytes_ahead : FileCursor → List ℕ
 bytes_ahead s = drop s.at s.block.items
@@ -85,3 +109,7 @@ pub record CursorSteps (disk : Option Contents) (s t : FileCursor) : Type 0 wher
   pub from : t.from.now ≡ s.from.now
   pub goes : GoesOn disk s.name s.from.now (bytes_ahead s) s.rows.now (cursor_lent t)
       (bytes_ahead t) t.rows.now
+
+-- the entries of a cursor break off where it is, over what the files hold now
+abbrev pub CursorBreaks : Option Contents → FileCursor → Type 0
+CursorBreaks disk s = BreaksOff disk s.name s.from.now (bytes_ahead s) s.rows.now

@@ -8,13 +8,15 @@ use Rattle.std.specs.declared.vec.Vec.{Vec}
 use Rattle.cell_key.specs.Entries.{Entry, IsEntryList, IsRising, entry_of_key}
 use Rattle.cell_key.specs.Keys.{text}
 use Rattle.cell_key.specs.declared.keys.CellKey.{CellKey}
+use Rattle.cell_key.specs.declared.keys.Qualifier.{Qualifier}
+use Rattle.cell_key.specs.declared.keys.Qualifier.TheVariants.{Data, Lock, Write}
 use Rattle.file_store.specs.Store.{Contents, part}
 use Rattle.lru.specs.LruCache.{LruCache}
 use Rattle.sorted_file.specs.Index.{block_of, blocks_of, entries_in, first_of, row_head, texts_of, AreRows, IsRowPosition, IsBoundedRow, Tells, skips}
 use Rattle.sorted_file.specs.Block.{IsParsed, BeginsWith}
 use Rattle.sorted_file.specs.Grammar.{block_bytes, IsFile}
 use Rattle.sorted_file.specs.Bounds.{IsBounded, IsWithin, column_bounds}
-use Rattle.sorted_file.specs.Numbers.{IsNumbered, number_of}
+use Rattle.sorted_file.specs.Numbers.{IsLockNumbered, IsNumbered, number_of}
 use Rattle.sorted_file.specs.declared.block.BlockRow.{BlockRow}
 use Rattle.sorted_file.specs.declared.block.Block.{Block}
 use Rattle.sorted_file.specs.declared.format.Format.{Format}
@@ -56,6 +58,8 @@ pub record IsOpen (m : Contents) (file : SortedFile) : Type 0 where
   pub bounded : AllByRecursion IsBoundedRow file.rows.items
   pub numbered : AllByRecursion (IsNumbered file.numbers.items) (listed m file)
   pub rising : IsNonDecreasing file.numbers.items
+  pub locked : AllByRecursion (IsLockNumbered file.locks.items) (listed m file)
+  pub locks_rising : IsNonDecreasing file.locks.items
   pub heads : texts_of file.heads.items ≡ map row_head file.rows.items
   pub skips : file.skips.items ≡ skips file.heads.items
   pub counted : file.count ≡ length (listed m file)
@@ -120,10 +124,16 @@ HasBlockNow disk file number =
     → IsUncached number file.cache.entries → Tells disk (name_of file) image
     → (es : List Entry) × IsReadFrom image row es
 
+-- the numbers of the columns of this kind that may have a value in an open file
+abbrev pub value_numbers : SortedFile → Qualifier → List ℕ
+value_numbers file Data = file.numbers.items
+value_numbers file Lock = file.locks.items
+value_numbers file Write = file.numbers.items
+
 -- By what an open file knows without a read, the block of a row may have a value of the key's column
 -- at this stamp.
 pub record MayHaveAt (file : SortedFile) (row : BlockRow) (key : CellKey) (stamp : ℕ) : Type 0 where
-  pub in_column : Contains file.numbers.items (number_of (text key))
+  pub in_column : Contains (value_numbers file key.qualifier) (number_of (text key))
   pub in_file : IsWithin (column_bounds file.bounds key.qualifier) key.row stamp
   pub in_block : IsWithin (column_bounds row.bounds key.qualifier) key.row stamp
 

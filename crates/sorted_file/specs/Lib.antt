@@ -1,5 +1,6 @@
 pub mod Grammar
 pub mod Source
+pub mod Passing
 pub mod Block
 pub mod Bounds
 pub mod Builder

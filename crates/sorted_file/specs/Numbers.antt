@@ -1,9 +1,10 @@
 -- The numbers of the columns of which there are entries.
-use Rattle.std.specs.Prelude.{◌≡◌, ◌-◌, ℕ, List, length, take, Contains, None}
+use Rattle.std.specs.Prelude.{◌≡◌, ◌-◌, ℕ, List, length, take, Contains, IsSome, None}
 use Rattle.std.specs.Hash.FoldHasher as folding
-use Rattle.cell_key.specs.Keys.{text}
+use Rattle.cell_key.specs.Keys.{text, IsStored}
 use Rattle.cell_key.specs.Entries.{Entry, entry_of_key}
 use Rattle.cell_key.specs.declared.keys.CellKey.{CellKey}
+use Rattle.cell_key.specs.declared.keys.Qualifier.TheVariants.{Lock}
 use Rattle.sorted_file.specs.Newest.{at_stamp}
 
 -- a key's text without its stamp, which is the text of the key's column
@@ -17,6 +18,12 @@ number_of name = folding.finish (folding.write folding.initial (column_of name))
 -- the number of an entry's column is among these
 abbrev pub IsNumbered : List ℕ → Entry → Type 0
 IsNumbered numbers entry = Contains numbers (number_of entry.0)
+
+-- so it is if the entry is the value of a lock
+abbrev pub IsLockNumbered : List ℕ → Entry → Type 0
+IsLockNumbered numbers entry =
+    (key : CellKey) → IsStored key → entry.0 ≡ text key → key.qualifier ≡ Lock → IsSome entry.1
+    → Contains numbers (number_of entry.0)
 
 -- each of the first numbers is among the second
 abbrev pub IsAmong : List ℕ → List ℕ → Type 0

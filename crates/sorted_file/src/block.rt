@@ -8,7 +8,7 @@ ghost use Rattle.cell_key.specs.Keys.{byte_cmp};
 ghost use Rattle.sorted_file.specs.Index.{first_of, IsRowPosition, blocks_of, AreRows};
 ghost use Rattle.sorted_file.specs.Check.{IsFollowed};
 ghost use Rattle.sorted_file.specs.Grammar.{block_bytes, Fits};
-ghost use Rattle.sorted_file.specs.Block.{entries_of, IsBehind, IsSpelling, BeginsWith, IsParsed, bytes_at, entry_at, first_value};
+ghost use Rattle.sorted_file.specs.Block.{entries_of, BeginsFrom, IsBehind, IsSpelling, BeginsWith, IsParsed, bytes_at, entry_at, first_value};
 ghost use Rattle.sorted_file.specs.File.{IsShortValue, value_bytes};
 ghost use Rattle.sorted_file.specs.Source.{IsReadRefusal};
 
@@ -255,6 +255,7 @@ pub(crate) fn bytes_from<'a>(bytes: &'a [u8], text: &[u8]) -> Option<&'a [u8]>
     ensures found { IfSome result (λ rest. (es : List Entry) → IsRising es
         → bytes.now ≡ block_bytes es → rest.now ≡ block_bytes (entries_from text.now es)) }
     ensures behind { IfSome result (λ rest. IsBehind text.now bytes.now rest.now) }
+    ensures begins { IfSome result (λ rest. BeginsFrom text.now rest.now) }
     ensures shorter { IfSome result (λ rest. length rest.now ≤ length bytes.now) }
     ensures none { IfNone result ((es : List Entry) → IsRising es → bytes.now ≢ block_bytes es) }
 {
@@ -312,8 +313,8 @@ pub(crate) fn entry_extent(bytes: &[u8], at: usize) -> Option<(EntryExtent, usiz
         drop at bytes.now ≡ spelled (entry_at bytes.now p.0) ++ drop p.1 bytes.now) }
     ensures past { IfSome result (λ p. at < p.1) }
     ensures within { IfSome result (λ p. p.1 ≤ length bytes.now) }
-    ensures none { IfNone result (length bytes.now < 2 ^ 32 → (entry : Entry) (rest : List ℕ)
-        → drop at bytes.now ≢ spelled entry ++ rest) }
+    ensures none { IfNone result (length (drop at bytes.now) < 2 ^ 32 → (entry : Entry)
+        (rest : List ℕ) → drop at bytes.now ≢ spelled entry ++ rest) }
 {
     let (entry, after) = read_entry(bytes.split_at(at).1)?;
     let end = bytes.len() - after.len();

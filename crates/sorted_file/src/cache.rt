@@ -1,6 +1,8 @@
 //! The cache of an open file: the blocks that were looked into last.
 
-ghost use Rattle.std.specs.Prelude.{◌≡◌, [], IfOk, IfErr, ◌⊎◌, ℕ, List, slice_get, Contains, Some};
+ghost use Rattle.std.specs.Prelude.{◌≡◌, [], IfOk, IfErr, ◌⊎◌, ℕ, List, slice_get, take, Contains, Some};
+ghost use Rattle.std.specs.NonZero.{non_zero_usize_get};
+ghost use Rattle.lru.specs.LruCache.{lru_cache};
 ghost use Rattle.sorted_file.specs.Index.{block_of};
 ghost use Rattle.sorted_file.specs.File.{AreCached};
 ghost use Rattle.sorted_file.specs.Block.{IsParsed};
@@ -13,16 +15,41 @@ use lru::LruCache;
 use std::alloc::Global;
 use std::num::NonZeroUsize;
 
-/// How many blocks an open file caches.
-const MOST_BLOCKS: usize = 8;
+/// How many blocks an open file caches at most, if it isn't told otherwise.
+const FEW_BLOCKS: usize = 8;
 
-/// An empty cache. Answers `NoMemory` if there is no memory.
-pub(crate) fn no_blocks(alloc: Global) -> Result<LruCache<usize, Block>, Refusal>
+/// How many blocks an open file caches at most, if it isn't told otherwise: 8.
+pub fn few_blocks() -> NonZeroUsize
+    ensures { non_zero_usize_get result ≡ 8 }
+{
+    NonZeroUsize::new(FEW_BLOCKS).unwrap()
+}
+
+/// An empty cache, of this many blocks at most. Answers `NoMemory` if there is no memory.
+pub(crate) fn no_blocks(
+    alloc: Global,
+    most: NonZeroUsize,
+) -> Result<LruCache<usize, Block>, Refusal>
     ensures none { IfOk result (λ cache. cache.entries ≡ []) }
+    ensures most { IfOk result (λ cache. cache.cap ≡ non_zero_usize_get most) }
     ensures refusal { IfErr result (λ refusal. refusal ≡ Refusal.NoMemory) }
 {
-    let most = NonZeroUsize::new(MOST_BLOCKS).unwrap();
-    Ok(LruCache::new(alloc, most)?)
+    // Room for more blocks is taken when they come.
+    let mut cache = LruCache::new(alloc, few_blocks())?;
+    cache.resize(most);
+    Ok(cache)
+}
+
+/// Lets a cache have this many blocks at most. If it has more, those go whose use is longest ago.
+pub(crate) fn resize(cache: &mut LruCache<usize, Block>, most: NonZeroUsize)
+    ensures cache { cache.new ≡ lru_cache (take (non_zero_usize_get most) cache.old.entries)
+        (non_zero_usize_get most) }
+    ensures still { (rows : List Row) → AreCached rows cache.old.entries
+        → AreCached rows cache.new.entries }
+    ensures kept { (e : ℕ × Cached) → Contains cache.new.entries e
+        → Contains cache.old.entries e }
+{
+    cache.resize(most);
 }
 
 /// Caches a block as the one that was used last, instead of the one whose use is longest ago. If there is no memory

@@ -18,7 +18,7 @@ use crate::entry::{FileEntry, read_block, rises_on};
 use crate::format::{
     Format, HEAD, LONGEST_BLOCK, RowRef, format_of, index_offset, is_same, push_foot, read_row,
 };
-use crate::numbers::push_numbers;
+use crate::numbers::{push_locks, push_numbers};
 use crate::source::{read_part, refusal_of};
 use cell_key::Refusal;
 use file_store::Files;
@@ -143,6 +143,8 @@ pub(crate) struct Opening {
     pub(crate) bounds: ColumnBounds,
     /// A number of each column that has an entry.
     pub(crate) numbers: Vec<u64>,
+    /// A number of each column of a lock that has a value.
+    pub(crate) locks: Vec<u64>,
     /// How many entries there are.
     pub(crate) count: u64,
     /// The entries of the last block.
@@ -171,6 +173,7 @@ impl Opening {
             heads: Vec::new(alloc),
             bounds: ColumnBounds::NONE,
             numbers: Vec::new(alloc),
+            locks: Vec::new(alloc),
             count: 0,
             last: Vec::new(alloc),
             end: HEAD,
@@ -257,6 +260,7 @@ impl Opening {
         let head = head_of(self.alloc, &block)?;
         let bounds = bounds_of(self.alloc, &block)?;
         push_numbers(&mut self.numbers, &block)?;
+        push_locks(self.alloc, &mut self.locks, bounds, &block)?;
         let was = Snapshot::of(&block);
         self.rows.push(BlockRow {
             offset: row.offset,

@@ -3,7 +3,7 @@
 ghost use Rattle.std.specs.Prelude.{◌≡◌, ◌<◌, ◌^◌, List, ℕ, length, drop, IfOk, IfErr, IfSome, IsErrOf};
 ghost use Rattle.cell_key.specs.Entries.{entries_from};
 ghost use Rattle.cell_key.specs.Faults.{HasReason};
-ghost use Rattle.sorted_file.specs.Cursor.{IsOpened};
+ghost use Rattle.sorted_file.specs.Cursor.{HasNoBlock, IsOpened};
 ghost use Rattle.sorted_file.specs.Index.{block_of, IsBlockIn, Tells};
 ghost use Rattle.sorted_file.specs.Grammar.{block_bytes};
 ghost use Rattle.sorted_file.specs.Source.{IsReadRefusal};
@@ -80,6 +80,8 @@ impl<'a> FileCursor<'a> {
         ensures small { IfOk result (λ read. length read.0.items < 2 ^ 32) }
         ensures damaged { IsErrOf result Refusal.Damaged → (image : List ℕ)
             → Tells (F.contents files.old) self.now.name image → ¬ IsBlockIn image row.now }
+        ensures broken { IsErrOf result Refusal.Damaged → IfSome (F.contents files.old) (λ m.
+            HasNoBlock m self.now.name row.now) }
         ensures refusal { IfErr result IsReadRefusal }
         ensures same { F.contents files.new ≡ F.contents files.old }
         ensures reason { HasReason (F.faults files.old) (F.faults files.new) result }
@@ -94,7 +96,7 @@ impl<'a> FileCursor<'a> {
 }
 
 impl<F: Files> Source<F> for FileCursor<'_> {
-    ghost use Rattle.sorted_file.specs.Cursor.{cursor_left, cursor_lent, cursor_list, cursor_remaining, CursorHolds, CursorSteps};
+    ghost use Rattle.sorted_file.specs.Cursor.{cursor_left, cursor_lent, cursor_list, cursor_remaining, CursorBreaks, CursorHolds, CursorSteps};
 
     ghost holds = { CursorHolds };
 
@@ -103,6 +105,8 @@ impl<F: Files> Source<F> for FileCursor<'_> {
     ghost lent = { cursor_lent };
 
     ghost steps = { CursorSteps };
+
+    ghost breaks = { CursorBreaks };
 
     ghost left = { cursor_left };
 

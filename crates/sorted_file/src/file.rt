@@ -1,10 +1,12 @@
 //! A file of entries that is open for reading.
 
-ghost use Rattle.std.specs.Prelude.{OnOk, ◌≡◌, ◌≤◌, ◌<◌, ◌-◌, List, ℕ, drop, Option, Some, None, true, false, length, slice_get, option_map, IfOk, IfErr, IfSome, IsErrOf, Contains};
+ghost use Rattle.std.specs.Prelude.{OnOk, ◌≡◌, ◌≤◌, ◌<◌, ◌-◌, List, ℕ, drop, Option, Some, None, true, false, length, slice_get, take, option_map, IfOk, IfErr, IfSome, IsErrOf, Contains};
+ghost use Rattle.std.specs.NonZero.{non_zero_usize_get};
 ghost use Rattle.cell_key.specs.Entries.{Entry, entry_of_key, entries_from};
 ghost use Rattle.cell_key.specs.Faults.{HasReason};
 ghost use Rattle.cell_key.specs.Keys.{text};
 ghost use Rattle.file_store.specs.Store.{Contents};
+ghost use Rattle.lru.specs.LruCache.{lru_cache};
 ghost use Rattle.sorted_file.specs.Index.{block_of, blocks_of, entries_in, Tells};
 ghost use Rattle.sorted_file.specs.File.{IsUncached, IsShortValue, value_bytes};
 ghost use Rattle.sorted_file.specs.Block.{IsParsed, first_value};
@@ -13,7 +15,7 @@ ghost use Rattle.sorted_file.specs.declared.block.BlockRow.{BlockRow as Row};
 
 use crate::block::{Block, BlockRow, rows_to, text_at, value_at};
 use crate::bounds::{ColumnBounds, next_head, skips_of, stamp_in};
-use crate::cache::{keep, no_blocks, promote};
+use crate::cache::{few_blocks, keep, no_blocks, promote, resize};
 use crate::check::{Opening, read_file};
 use crate::cursor::FileCursor;
 use crate::numbers::{column_number, has_number, sorted};
@@ -22,6 +24,7 @@ use cell_key::{CellKey, Qualifier, Refusal, Stamp};
 use file_store::Files;
 use lru::LruCache;
 use std::alloc::Global;
+use std::num::NonZeroUsize;
 
 /// A file of entries, open for reading. What it reads is under its name as long as the file stays as it is.
 #[derive(Drop)]
@@ -39,6 +42,8 @@ pub struct SortedFile {
     bounds: ColumnBounds,
     /// A number of each column that has an entry, in rising order.
     numbers: Vec<u64>,
+    /// A number of each column of a lock that has a value, in rising order. Mostly there is none.
+    locks: Vec<u64>,
     /// The blocks that were looked into last, by their numbers.
     cache: LruCache<usize, Block>,
 }
@@ -48,13 +53,34 @@ impl SortedFile {
     ghost use Rattle.sorted_file.specs.Newest.{IsFirstIn, IsNewestStamp};
     ghost use Rattle.sorted_file.specs.Bounds.{column_bounds, HasNoValue, IsWithin};
     ghost use Rattle.sorted_file.specs.Numbers.{number_of, HasNoEntry};
-    ghost use Rattle.sorted_file.specs.File.{HasBlockNow, HasFile, IsCursorOf, IsFoundNow, IsOpen, IsReadFrom, IsReadNow, IsSameFile, IsSearchedNow, KeepsWhatItRead, listed, name_of};
+    ghost use Rattle.sorted_file.specs.File.{HasBlockNow, HasFile, IsCursorOf, IsFoundNow, IsOpen, IsReadFrom, IsReadNow, IsSameFile, IsSearchedNow, KeepsWhatItRead, listed, name_of, value_numbers};
 
-    /// Opens a file. Answers `Damaged` if it isn't there or is the file of no entry list, `Device`
-    /// if a device fails, and `NoMemory` if there is no memory.
+    /// Opens a file that caches 8 blocks at most. Answers `Damaged` if it isn't there or is the file of no entry list,
+    /// `Device` if a device fails, and `NoMemory` if there is no memory.
     pub fn open<F: Files>(alloc: Global, name: u64, files: &mut F) -> Result<SortedFile, Refusal>
         ensures opened { IfOk result (λ file. IfSome (F.contents files.old) (λ m. IsOpen m file)) }
         ensures named { IfOk result (λ file. name_of file ≡ name) }
+        ensures sized { IfOk result (λ file. file.cache.cap ≡ 8) }
+        ensures damaged { IsErrOf result Refusal.Damaged
+            → IfSome (F.contents files.old) (λ m. ¬ HasFile m name) }
+        ensures refusal { IfErr result IsReadRefusal }
+        ensures same { F.contents files.new ≡ F.contents files.old }
+        ensures reason { HasReason (F.faults files.old) (F.faults files.new) result }
+    {
+        SortedFile::open_with(alloc, name, few_blocks(), files)
+    }
+
+    /// Opens a file that caches this many blocks at most. Answers `Damaged` if it isn't there or is the file of no entry
+    /// list, `Device` if a device fails, and `NoMemory` if there is no memory.
+    pub fn open_with<F: Files>(
+        alloc: Global,
+        name: u64,
+        most_blocks: NonZeroUsize,
+        files: &mut F,
+    ) -> Result<SortedFile, Refusal>
+        ensures opened { IfOk result (λ file. IfSome (F.contents files.old) (λ m. IsOpen m file)) }
+        ensures named { IfOk result (λ file. name_of file ≡ name) }
+        ensures sized { IfOk result (λ file. file.cache.cap ≡ non_zero_usize_get most_blocks) }
         ensures damaged { IsErrOf result Refusal.Damaged
             → IfSome (F.contents files.old) (λ m. ¬ HasFile m name) }
         ensures refusal { IfErr result IsReadRefusal }
@@ -67,10 +93,11 @@ impl SortedFile {
             count,
             bounds,
             numbers,
+            locks,
             ..
         } = read_file(alloc, name, files)?;
         let skips = skips_of(alloc, &heads)?;
-        let cache = no_blocks(alloc)?;
+        let cache = no_blocks(alloc, most_blocks)?;
         Ok(SortedFile {
             alloc,
             name,
@@ -80,6 +107,7 @@ impl SortedFile {
             count,
             bounds,
             numbers: sorted(numbers),
+            locks: sorted(locks),
             cache,
         })
     }
@@ -113,6 +141,19 @@ impl SortedFile {
             → ¬ Contains self.now.numbers.items (number_of text.now) }
     {
         has_number(&self.numbers, column_number(text))
+    }
+
+    /// Whether the column of this kind of the key with this text may have a value: of a lock's, whether it may have one
+    /// that stands in the file, and of another, whether it may have an entry.
+    fn may_have_value(&self, qualifier: Qualifier, text: &[u8]) -> bool
+        ensures { result ≡ false → (m : Contents) → IsOpen m self.now
+            → ¬ Contains (value_numbers self.now qualifier) (number_of text.now) }
+    {
+        let number = column_number(text);
+        match qualifier {
+            Qualifier::Lock => has_number(&self.locks, number),
+            Qualifier::Data | Qualifier::Write => has_number(&self.numbers, number),
+        }
     }
 
     /// Whether the file may have an entry of the key's column, a value or an erasure, at any stamp. Reads nothing.
@@ -232,8 +273,9 @@ impl SortedFile {
     }
 
     /// The greatest stamp, from `lo` up to that of the key, at which the file has a value of the key's
-    /// column. It reads one block at most, and none that can't have such a value; if `may_have` says that there is
-    /// none it takes no memory. The file stays what it was, also after an `Err`.
+    /// column. It reads one block at most, and none that can't have such a value, nor any if the column is a lock's and no
+    /// value of it stands in the file; if `may_have` says that there is none it takes no memory. The file stays what it
+    /// was, also after an `Err`.
     ///
     /// # Errors
     ///
@@ -266,7 +308,7 @@ impl SortedFile {
         let most = key.stamp;
         let mut sought = Vec::new(self.alloc);
         key.encode(&mut sought)?;
-        if !self.may_have_text(&sought) {
+        if !self.may_have_value(key.qualifier, &sought) {
             return Ok(None);
         }
         let Some(text) = self.first_text(key, lo, &sought, files)? else {
@@ -383,6 +425,18 @@ impl SortedFile {
         ensures none { (number : ℕ) → IsUncached number self.new.cache.entries }
     {
         self.cache.clear();
+    }
+
+    /// Lets the file cache this many blocks at most, from now on. If it has more, those go whose use is longest ago. The
+    /// file stays what it was, and nothing but the cache changes.
+    pub fn resize_cache(&mut self, most_blocks: NonZeroUsize)
+        ensures stays { (disk : Option Contents) → IsSameFile disk self.old self.new }
+        ensures kept { (disk : Option Contents) → KeepsWhatItRead disk self.old self.new }
+        ensures cache { self.new.cache ≡ lru_cache
+            (take (non_zero_usize_get most_blocks) self.old.cache.entries)
+            (non_zero_usize_get most_blocks) }
+    {
+        resize(&mut self.cache, most_blocks);
     }
 
     /// The entries from the first text on that isn't below `from`, which is any bytes. Takes no memory and reads

@@ -15,6 +15,7 @@ mod numbers;
 mod source;
 mod writer;
 
+pub use cache::few_blocks;
 pub use cursor::FileCursor;
 pub use file::SortedFile;
 pub use laws::{

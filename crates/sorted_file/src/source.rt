@@ -28,17 +28,22 @@ pub trait Source<F: Files> {
     /// whatever stood there before.
     ghost steps: { Option Contents → Self → Self → Type 0 };
 
+    /// Over files that hold this its entries break off behind the one that it is at: what stands there is no list
+    /// of entries.
+    ghost breaks: { Option Contents → Self → Type 0 };
+
     /// At most how many entries it can come to, whatever the files give.
     ghost left: { Self → ℕ };
 
     /// Goes on to the next entry, and says whether there is one. Answers `Device` if a device fails,
     /// `NoMemory` if there is no memory, and `Damaged` only if the files do not hold what the source
-    /// stands for.
+    /// stands for, and its entries break off where it is.
     fn advance(&mut self, files: &mut F) -> Result<bool, Refusal>
         ensures files { F.contents files.new ≡ F.contents files.old }
         ensures reason { HasReason (F.faults files.old) (F.faults files.new) result }
         ensures refusal { IfErr result IsReadRefusal }
         ensures damaged { IsErrOf result Refusal.Damaged → ¬ holds (F.contents files.old) self.old }
+        ensures broken { IsErrOf result Refusal.Damaged → breaks (F.contents files.old) self.old }
         ensures more { IfOk result (λ more. more ≡ is_some (lent self.new)) }
         ensures lower { IfOk result (λ more.
             left self.new + (if more then 1 else 0) ≤ left self.old) }
@@ -103,6 +108,8 @@ pub(crate) fn read_part<F: Files>(
     ensures length { IfOk result (λ bytes. length bytes.items ≡ len) }
     ensures damaged { IsErrOf result Refusal.Damaged → (image : List ℕ)
         → Tells (F.contents files.old) name image → length image < offset + len }
+    ensures short { IsErrOf result Refusal.Damaged → IfSome (F.contents files.old) (λ m.
+        length (part (bytes_of m name) offset len) < len) }
     ensures refusal { IfErr result IsReadRefusal }
     ensures same { F.contents files.new ≡ F.contents files.old }
     ensures reason { HasReason (F.faults files.old) (F.faults files.new) result }

@@ -6,6 +6,7 @@ ghost use Rattle.file_store.specs.Store.{KeepsOthers, with_file};
 ghost use Rattle.sorted_file.specs.Grammar.{IsFile, FitsIn};
 ghost use Rattle.sorted_file.specs.Limits.{IsFileLimit};
 ghost use Rattle.sorted_file.specs.Source.{ComesToEnd, IsWriteRefusal};
+ghost use Rattle.sorted_file.specs.Passing.{BreaksAfter, IsFileOf, PassesTooMuch};
 
 use crate::builder::FileBuilder;
 use crate::format::Format;
@@ -26,9 +27,16 @@ fn image_of_rest<F: Files, S: Source<F>>(
         → IsFile Format.Two (S.remaining (F.contents files.old) source.old) image.items) }
     ensures comes { OnOk result
         (ComesToEnd (S.steps (F.contents files.old)) S.lent source.old) }
+    ensures whole { IfOk result (λ image.
+        IsFileOf (S.steps (F.contents files.old)) S.lent source.old image.items) }
     ensures within { IfOk result (λ image. length image.items ≤ limit) }
     ensures large { IsErrOf result Refusal.FileTooLarge → S.holds (F.contents files.old) source.old
         → ¬ FitsIn limit (S.remaining (F.contents files.old) source.old) }
+    ensures too_much { IsErrOf result Refusal.FileTooLarge
+        → PassesTooMuch (S.steps (F.contents files.old)) S.lent limit source.old }
+    ensures broken { IsErrOf result Refusal.Damaged
+        → BreaksAfter (S.steps (F.contents files.old)) S.lent (S.breaks (F.contents files.old))
+        source.old }
     ensures damaged { IsErrOf result Refusal.Damaged → ¬ S.holds (F.contents files.old) source.old }
     ensures refusal { IfErr result IsWriteRefusal }
     ensures same { F.contents files.new ≡ F.contents files.old }
@@ -70,12 +78,19 @@ pub fn write_file<F: Files, S: Source<F>>(
     requires limit { IsFileLimit file_limit }
     ensures written { OnOk result ((image : List ℕ)
         × ((F.contents files.new ≡ with_file name image (F.contents files.old))
-        × (length image ≤ file_limit) × (S.holds (F.contents files.old) source.old
+        × (length image ≤ file_limit)
+        × IsFileOf (S.steps (F.contents files.old)) S.lent source.old image
+        × (S.holds (F.contents files.old) source.old
         → IsFile Format.Two (S.remaining (F.contents files.old) source.old) image))) }
     ensures comes { OnOk result
         (ComesToEnd (S.steps (F.contents files.old)) S.lent source.old) }
     ensures large { IsErrOf result Refusal.FileTooLarge → S.holds (F.contents files.old) source.old
         → ¬ FitsIn file_limit (S.remaining (F.contents files.old) source.old) }
+    ensures too_much { IsErrOf result Refusal.FileTooLarge
+        → PassesTooMuch (S.steps (F.contents files.old)) S.lent file_limit source.old }
+    ensures broken { IsErrOf result Refusal.Damaged
+        → BreaksAfter (S.steps (F.contents files.old)) S.lent (S.breaks (F.contents files.old))
+        source.old }
     ensures damaged { IsErrOf result Refusal.Damaged → ¬ S.holds (F.contents files.old) source.old }
     ensures large_same { IsErrOf result Refusal.FileTooLarge
         → F.contents files.new ≡ F.contents files.old }

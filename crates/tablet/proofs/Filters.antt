@@ -14,7 +14,7 @@ pub cond_same : {A : Type 0} (b : Bool) (x : A) → cond b x x ≡ x
 cond_same true x = refl
 cond_same false x = refl
 
-cond_and : {A : Type 0} (a b : Bool) (x : Option A) → cond b (cond a x None) None ≡ cond (a && b) x None
+pub cond_and : {A : Type 0} (a b : Bool) (x : Option A) → cond b (cond a x None) None ≡ cond (a && b) x None
 cond_and true true x = refl
 cond_and true false x = refl
 cond_and false true x = refl

@@ -11,6 +11,9 @@ pub mod Lookups
 pub mod MadeTablets
 pub mod Newer
 pub mod NextCells
+pub mod NextLists
+pub mod NextPlaces
+pub mod ReadPlaces
 pub mod Passed
 pub mod SameFiles
 pub mod Seen
@@ -19,5 +22,6 @@ pub mod Shown
 pub mod SourceLists
 pub mod SplitParts
 pub mod TabletLaws
+mod Unread
 pub mod Versions
 pub mod WrittenFiles

@@ -7,20 +7,19 @@ use Rattle.cell_key.specs.Names.{IsRow, IsFamily}
 use Rattle.cell_key.specs.Keys.{text, IsStored}
 use Rattle.cell_key.specs.Cells.{IsNewest, version}
 use Rattle.cell_key.specs.Entries.{Entry, first_naming, value_of}
-use Rattle.cell_key.specs.Places.{Place, place_of, IsNextCell}
+use Rattle.cell_key.specs.Places.{AreNext, AreNextCells, Place}
 use Rattle.cell_key.specs.declared.keys.CellKey.{CellKey}
 use Rattle.cell_key.specs.declared.keys.Qualifier.{Qualifier}
 use Rattle.file_store.specs.Store.{Contents}
 use Rattle.sorted_file.specs.File.{IsOpen, listed}
 use Rattle.sorted_file.specs.declared.file.SortedFile.{SortedFile}
 use Rattle.tablet.specs.Ranges.{has_row, upper_fence}
-use Rattle.tablet.specs.Reads.{first_value, start_of, IsPlaceOrNone}
+use Rattle.tablet.specs.Reads.{start_of, IsNextIn, IsPlaceOrNone}
 use Rattle.tablet.specs.Sources.{IsOpenIn, listed_in, part}
 use Rattle.tablet.specs.Views.{range_of, memory_of, files_of, lists_of, cells_at, Holds}
 use Rattle.tablet.specs.declared.tablet.Tablet.{Tablet}
-use Rattle.tablet.proofs.Found.{has_none, has_first}
 use Rattle.tablet.proofs.Held.{held_lists}
-use Rattle.tablet.proofs.NextCells.{next_none, next_some}
+use Rattle.tablet.proofs.NextPlaces.{next_cells}
 use Rattle.tablet.proofs.Shown.{stored_or_hidden}
 use Rattle.tablet.proofs.Versions.{newest_at_none, newest_at_some}
 
@@ -83,24 +82,13 @@ module _ (t : Tablet) (fs : List SortedFile) (files : fs ≡ files_of t) where
         newest_at_some row family q (range_of t) (lists_of m t) (held_lists m t held) has stamp value
         (record { row = is_row; family = is_family; from = from; to = to }) (moved_one m (Some value) h held)
 
-  abbrev pub Answers : List ℕ → Option (List ℕ) → Option Contents → Option (List ℕ × List ℕ) → Type 0
-  Answers x y o found = IfSome o (λ m. AllByRecursion (IsOpen m) fs → found ≡ first_value (part x y (memory_of t ∷ map (listed m) fs)))
-
-  module _ (x from : List ℕ) (y end : Option (List ℕ)) (starts : x ≡ from) (ends : y ≡ end) where
-    moved : (m : Contents) (found : Option (List ℕ × List ℕ)) → (AllByRecursion (IsOpen m) fs → found ≡ first_value (part x y (memory_of t ∷ map (listed m) fs))) → Holds m t → first_value (part from end (lists_of m t)) ≡ found
-    moved m found h held = sym (h (open_files m held) ∙ λ i. first_value (part (starts i) (ends i) (memory_of t ∷ map (listed m) (files i))))
+  abbrev pub FindsPlaces : List ℕ → Option (List ℕ) → ℕ → List Place → Option Contents → Type 0
+  FindsPlaces x y most found o = IfSome o (λ m. AllByRecursion (IsOpen m) fs → AreNext (IsNextIn (part x y (memory_of t ∷ map (listed m) fs))) None most found)
 
   module _ (after : Option Place) (is : IsPlaceOrNone after) (x : List ℕ) (y : Option (List ℕ)) (starts : x ≡ start_of (range_of t) after) (ends : y ≡ upper_fence (range_of t)) where
-    pub cell_none : (o : Option Contents) → Answers x y o None → IfSome o (λ m. Holds m t → IsNextCell (cells_at m t) after None)
-    cell_none None h = tt
-    cell_none (Some m) h =
+    pub cells_found : (o : Option Contents) (most : ℕ) (found : List Place) → FindsPlaces x y most found o → IfSome o (λ m. Holds m t → AreNextCells (cells_at m t) after most found)
+    cells_found None most found h = tt
+    cells_found (Some m) most found h =
         λ held.
-        next_none (range_of t) after is (lists_of m t) (held_lists m t held)
-        (has_none (start_of (range_of t) after) (upper_fence (range_of t)) (lists_of m t) (moved x (start_of (range_of t) after) y (upper_fence (range_of t)) starts ends m None h held))
-
-    pub cell_some : (o : Option Contents) (key : CellKey) (value : List ℕ) → IsStored key → Answers x y o (Some (text key, value)) → IfSome o (λ m. Holds m t → IsNextCell (cells_at m t) after (Some (place_of key)))
-    cell_some None key value stored h = tt
-    cell_some (Some m) key value stored h =
-        λ held.
-        next_some (range_of t) after is (lists_of m t) (held_lists m t held) key value stored
-        (has_first (start_of (range_of t) after) (upper_fence (range_of t)) (lists_of m t) (held_lists m t held) key value stored (moved x (start_of (range_of t) after) y (upper_fence (range_of t)) starts ends m (Some (text key, value)) h held))
+        next_cells (range_of t) (lists_of m t) (held_lists m t held) after is most found
+        (subst (λ (es : List Entry). AreNext (IsNextIn es) None most found) (λ i. part (starts i) (ends i) (memory_of t ∷ map (listed m) (files i))) (h (open_files m held)))

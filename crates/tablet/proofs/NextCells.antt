@@ -70,6 +70,14 @@ less_by_place a b e = two_less (byte_cmp a.row b.row) (byte_cmp a.family b.famil
 last_key : (place : Place) → IsStoredPlace place → IsKey (version place.0 place.1 Write 0)
 last_key place is = record { row = is.row; family = is.family; stamp = omega arith }
 
+same_text : (x : List ℕ) → byte_cmp x x ≡ Equal
+same_text x = go (byte_cmp x x) (total.antisymm x x)
+  where
+    go : (o : Ordering) → o ≡ ordering_reverse o → o ≡ Equal
+    go Less e = cc
+    go Equal e = refl
+    go Greater e = cc
+
 module _ (key : CellKey) (stored : IsStored key) where
   past_after : (place : Place) → IsStoredPlace place → is_le (byte_cmp (past_place (Some place)) (text key)) ≡ true → place_cmp place (place_of key) ≡ Less
   past_after place is e =
@@ -81,7 +89,17 @@ module _ (key : CellKey) (stored : IsStored key) where
       ap is_le (text_order (version place.0 place.1 Write 0) key (last_key place is) (stored_key key stored))
       ∙ two_first (byte_cmp place.0 key.row) (byte_cmp place.1 key.family) _ e
 
-from_none : (name : List ℕ) → is_le (byte_cmp [] name) ≡ true
+  -- the text of a key comes before what comes after its place
+  pub below_past : byte_cmp (text key) (past_place (Some (place_of key))) ≡ Less
+  below_past =
+      let over : byte_cmp (past_place (Some (place_of key))) (text key) ≡ Greater =
+      text_order (version key.row key.family Write 0) key (record { row = stored.row; family = stored.family; stamp = omega arith }) (stored_key key stored)
+      ∙ ap (λ o. ordering_then o (ordering_then (byte_cmp key.family key.family) (ordering_then (byte_cmp (qualifier_name Write) (qualifier_name key.qualifier)) (nat_cmp key.stamp 0)))) (same_text key.row)
+      ∙ ap (λ o. ordering_then o (ordering_then (byte_cmp (qualifier_name Write) (qualifier_name key.qualifier)) (nat_cmp key.stamp 0))) (same_text key.family)
+      ∙ last_of_place key.qualifier key.stamp stored.from in
+      total.antisymm (text key) (past_place (Some (place_of key))) ∙ ap ordering_reverse over
+
+pub from_none : (name : List ℕ) → is_le (byte_cmp [] name) ≡ true
 from_none [] = refl
 from_none (b ∷ name) = refl
 
@@ -92,7 +110,7 @@ not_less Less e = cc
 not_less Equal e = cc
 not_less Greater e = refl
 
-le_trans : (x y z : List ℕ) → is_le (byte_cmp x y) ≡ true → is_le (byte_cmp y z) ≡ true → is_le (byte_cmp x z) ≡ true
+pub le_trans : (x y z : List ℕ) → is_le (byte_cmp x y) ≡ true → is_le (byte_cmp y z) ≡ true → is_le (byte_cmp x z) ≡ true
 le_trans x y z e f = go (byte_cmp x y) (byte_cmp y z) refl refl e f
   where
     go : (o p : Ordering) → byte_cmp x y ≡ o → byte_cmp y z ≡ p → is_le o ≡ true → is_le p ≡ true → is_le (byte_cmp x z) ≡ true
@@ -103,29 +121,29 @@ le_trans x y z e f = go (byte_cmp x y) (byte_cmp y z) refl refl e f
     go Greater p a b e f = cc
 
 -- a text from the later of two on is one from each on
-from_both : (a b name : List ℕ) → is_le (byte_cmp (later a b) name) ≡ true → (is_le (byte_cmp a name) ≡ true) × (is_le (byte_cmp b name) ≡ true)
+pub from_both : (a b name : List ℕ) → is_le (byte_cmp (later a b) name) ≡ true → (is_le (byte_cmp a name) ≡ true) × (is_le (byte_cmp b name) ≡ true)
 from_both a b name e = go (is_le (byte_cmp a b)) refl e
   where
     go : (t : Bool) → is_le (byte_cmp a b) ≡ t → is_le (byte_cmp (cond t b a) name) ≡ true → (is_le (byte_cmp a name) ≡ true) × (is_le (byte_cmp b name) ≡ true)
     go true p h = (le_trans a b name p h, h)
     go false p h = (h, le_trans b a name (ap is_le (total.antisymm b a ∙ not_less (byte_cmp a b) p)) h)
 
-to_later : (a b name : List ℕ) → is_le (byte_cmp a name) ≡ true → is_le (byte_cmp b name) ≡ true → is_le (byte_cmp (later a b) name) ≡ true
+pub to_later : (a b name : List ℕ) → is_le (byte_cmp a name) ≡ true → is_le (byte_cmp b name) ≡ true → is_le (byte_cmp (later a b) name) ≡ true
 to_later a b name p q = go (is_le (byte_cmp a b))
   where
     go : (t : Bool) → is_le (byte_cmp (cond t b a) name) ≡ true
     go true = q
     go false = p
 
-first_so : (a b : Bool) → (a && b) ≡ true → a ≡ true
+pub first_so : (a b : Bool) → (a && b) ≡ true → a ≡ true
 first_so true b e = refl
 first_so false b e = cc
 
-second_so : (a b : Bool) → (a && b) ≡ true → b ≡ true
+pub second_so : (a b : Bool) → (a && b) ≡ true → b ≡ true
 second_so true b e = e
 second_so false b e = cc
 
-both_so : (a b : Bool) → a ≡ true → b ≡ true → (a && b) ≡ true
+pub both_so : (a b : Bool) → a ≡ true → b ≡ true → (a && b) ≡ true
 both_so true b p q = q
 both_so false b p q = cc
 

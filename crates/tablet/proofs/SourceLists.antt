@@ -5,7 +5,7 @@ use Rattle.std.proofs.lemmas.List.{take_all}
 use Rattle.std.proofs.lemmas.List.Elements.{All-contains, All-from_recursion, Contains-append_left, Contains-push}
 use Rattle.std.specs.Prelude.{Option, Some, None}
 use Rattle.std.specs.Option.{option_to_list}
-use Rattle.std.specs.List.{AllByRecursion}
+use Rattle.std.specs.List.{AllByRecursion, AllZip}
 use Rattle.cell_key.specs.Entries.{Entry, IsEntryList, entries_from}
 use Rattle.file_store.specs.Store.{Contents}
 use Rattle.sorted_file.specs.Cursor.{CursorHolds, cursor_lent, cursor_remaining}
@@ -17,12 +17,13 @@ use Rattle.compaction.specs.Inputs.{InputHolds, input_lent, input_remaining}
 use Rattle.compaction.specs.declared.input.Input.{Input}
 use Rattle.compaction.specs.declared.input.Input.TheVariants.{File}
 use Rattle.compaction.specs.declared.bounded.Bounded.{Bounded}
-use Rattle.tablet.specs.Sources.{entries_between, listed_in, lists_over, Comes, HasSource, IsAtStart, IsOpenIn, IsReadThrough, IsSourceOf, remaining_of}
+use Rattle.tablet.specs.Sources.{entries_between, listed_in, lists_over, AreSourcesOf, Comes, HasSource, IsAtStart, IsOpenIn, IsReadThrough, IsSourceOf, remaining_of}
 
 -- the sources are those of the memtable and of the first files
 pub record AreGathered (from : List ℕ) (end : Option (List ℕ)) (memtable : Option (List Entry)) (files : List SortedFile) (i : ℕ) (sources : List (Bounded Input)) : Type 0 where
   pub start : (told : Option Contents) → AllByRecursion (IsOpenIn told) files → AllByRecursion (IsAtStart told) sources
   pub of : AllByRecursion (HasSource from end sources) (take i files)
+  pub each : AreSourcesOf from end memtable (take i files) sources
   pub lists : (told : Option Contents) → AllByRecursion (IsOpenIn told) files → map (remaining_of told) sources ≡ map (entries_between from end) (lists_over told memtable (take i files))
 
 each-push : {A : Type 0} (P : A → Type 0) (xs : List A) (x : A) → AllByRecursion P xs → P x → AllByRecursion P (xs ++ x ∷ [])
@@ -44,10 +45,23 @@ still_there : (from : List ℕ) (end : Option (List ℕ)) (xs : List (Bounded In
 still_there from end xs s [] h = tt
 still_there from end xs s (file ∷ files) h = (record { source = h.0.source; among = Contains-append_left xs (s ∷ []) h.0.source h.0.among; of = h.0.of }, still_there from end xs s files h.1)
 
+zip_push : {A B : Type 0} (P : A → B → Type 0) (xs : List A) (ys : List B) (x : A) (y : B) → AllZip P xs ys → P x y → AllZip P (xs ++ x ∷ []) (ys ++ y ∷ [])
+zip_push P [] [] x y all p = (p, tt)
+zip_push P [] (b ∷ ys) x y all p = absurd all
+zip_push P (a ∷ xs) [] x y all p = absurd all
+zip_push P (a ∷ xs) (b ∷ ys) x y all p = (all.0, zip_push P xs ys x y all.1 p)
+
+-- a source more, of a file more
+pub sources_push : (from : List ℕ) (end : Option (List ℕ)) (memory : Option (List Entry)) (files : List SortedFile) (xs : List (Bounded Input)) (file : SortedFile) (s : Bounded Input) → AreSourcesOf from end memory files xs → IsSourceOf from end file s → AreSourcesOf from end memory (files ++ file ∷ []) (xs ++ s ∷ [])
+sources_push from end None files xs file s are of = zip_push (IsSourceOf from end) files xs file s are of
+sources_push from end (Some memory) files [] file s are of = absurd are
+sources_push from end (Some memory) files (x ∷ xs) file s are of = (are.0, zip_push (IsSourceOf from end) files xs file s are.1 of)
+
 module _ (from : List ℕ) (end : Option (List ℕ)) (memtable : Option (List Entry)) (files : List SortedFile) where
-  pub first_gathered : (sources : List (Bounded Input)) → ((told : Option Contents) → AllByRecursion (IsAtStart told) sources) → ((told : Option Contents) → map (remaining_of told) sources ≡ map (entries_between from end) (option_to_list memtable)) → AreGathered from end memtable files 0 sources
-  first_gathered sources start lists = record {
+  pub first_gathered : (sources : List (Bounded Input)) → ((told : Option Contents) → AllByRecursion (IsAtStart told) sources) → ((told : Option Contents) → map (remaining_of told) sources ≡ map (entries_between from end) (option_to_list memtable)) → AreSourcesOf from end memtable [] sources → AreGathered from end memtable files 0 sources
+  first_gathered sources start lists each = record {
     of = tt;
+    each = each;
     start = λ m all. start m;
     lists = λ m all. lists m ∙ ap (map (entries_between from end)) (sym (append-nil (option_to_list memtable)));
   }
@@ -57,6 +71,9 @@ module _ (from : List ℕ) (end : Option (List ℕ)) (memtable : Option (List En
 
   pub all_there : (i : ℕ) (sources : List (Bounded Input)) → AreGathered from end memtable files i sources → length files ≤ i → AllByRecursion (HasSource from end sources) files
   all_there i sources g h = subst (AllByRecursion (HasSource from end sources)) (take_all i files h) g.of
+
+  pub all_each : (i : ℕ) (sources : List (Bounded Input)) → AreGathered from end memtable files i sources → length files ≤ i → AreSourcesOf from end memtable files sources
+  all_each i sources g h = subst (λ (fs : List SortedFile). AreSourcesOf from end memtable fs sources) (take_all i files h) g.each
 
   lists_more : (m : Option Contents) (i : ℕ) (file : SortedFile) → i < length files → file ≡ get_or files i file → lists_over m memtable (take (i + 1) files) ≡ lists_over m memtable (take i files) ++ listed_in m file ∷ []
   lists_more m i file l is =
@@ -69,6 +86,8 @@ module _ (from : List ℕ) (end : Option (List ℕ)) (memtable : Option (List En
     of = subst (λ (zs : List (Bounded Input)). AllByRecursion (HasSource from end zs) (take (i + 1) files)) (sym pushed)
         (subst (AllByRecursion (HasSource from end (xs ++ s ∷ []))) (sym (one_more files i file l is))
         (each-push (HasSource from end (xs ++ s ∷ [])) (take i files) file (still_there from end xs s (take i files) g.of) (record { source = s; among = Contains-push xs s; of = of })));
+    each = subst (λ (zs : List (Bounded Input)). AreSourcesOf from end memtable (take (i + 1) files) zs) (sym pushed)
+        (subst (λ (fs : List SortedFile). AreSourcesOf from end memtable fs (xs ++ s ∷ [])) (sym (one_more files i file l is)) (sources_push from end memtable (take i files) xs file s g.each of));
     start = λ m all. subst (λ (zs : List (Bounded Input)). AllByRecursion (IsAtStart m) zs) (sym pushed) (each-push (IsAtStart m) xs s (g.start m all) (start m (opened m all)));
     lists =
         λ m all.

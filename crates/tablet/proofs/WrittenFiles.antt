@@ -34,7 +34,7 @@ other_tie : (a b : ℕ) → a ≢ b → (t : Bool) → eq_by_cmp nat_cmp a b ≡
 other_tie a b n false e = refl
 other_tie a b n true e = absurd (n (nat_cmp-IsAntisymmetric a b (equal (nat_cmp a b) e)))
 
-get_own : (m : Contents) (name : ℕ) (image : List ℕ) → get (insert m name image) name ≡ Some image
+pub get_own : (m : Contents) (name : ℕ) (image : List ℕ) → get (insert m name image) name ≡ Some image
 get_own m name image = get-insert nat_cmp_total m name image name ∙ ap (λ b. cond b (Some image) (get m name)) (own_tie name)
 
 get_other : (m : Contents) (name : ℕ) (image : List ℕ) (other : ℕ) → other ≢ name → get (insert m name image) other ≡ get m other

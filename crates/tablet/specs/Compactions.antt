@@ -1,7 +1,7 @@
 -- What a compaction writes, and the file that it makes.
-use Rattle.std.specs.Prelude.{◌≡◌, ◌≢◌, ◌≤◌, ◌<◌, ◌+◌, ◌^◌, ℕ, IfSome, IsSomeAnd, Bool, true, false, nat_lt, Option, Some, List, [], ◌∷◌, map, take, drop, length}
+use Rattle.std.specs.Prelude.{◌≡◌, ◌≢◌, ◌⊎◌, ◌≤◌, ◌<◌, ◌+◌, ◌^◌, ℕ, IfSome, IsSomeAnd, Bool, true, false, nat_lt, Option, Some, None, List, [], ◌∷◌, map, take, drop, length}
 use Rattle.std.specs.List.{AllByRecursion}
-use Rattle.cell_key.specs.Entries.{Entry}
+use Rattle.cell_key.specs.Entries.{Entry, IsEntryList}
 use Rattle.cell_key.specs.declared.refusals.Refusal.{Refusal}
 use Rattle.cell_key.specs.declared.refusals.Refusal.TheVariants as refused
 use Rattle.file_store.specs.Store.{Contents}
@@ -9,9 +9,12 @@ use Rattle.sorted_file.specs.Grammar.{FitsIn}
 use Rattle.sorted_file.specs.File.{IsOpen, listed}
 use Rattle.sorted_file.specs.Source.{IsWriteRefusal}
 use Rattle.sorted_file.specs.declared.file.SortedFile.{SortedFile}
-use Rattle.compaction.specs.Writing.{written}
+use Rattle.compaction.specs.Passing.{IsFileOfMerge, MergeBreaks, MergesTooMuch}
+use Rattle.compaction.specs.Writing.{only_written, written}
+use Rattle.compaction.specs.declared.bounded.Bounded.{Bounded}
+use Rattle.compaction.specs.declared.input.Input.{Input}
 use Rattle.tablet.specs.Ranges.{lower_fence, seen, upper_fence}
-use Rattle.tablet.specs.Sources.{IsOpenIn, IsReadThrough}
+use Rattle.tablet.specs.Sources.{lent_by, AreSourcesOf, Breaks, IsOpenIn, IsReadThrough, Steps}
 use Rattle.tablet.specs.Views.{files_of, flushed, memory_of, names_of, range_of, with_name, IsUnchanged, MakesLists, MayBeFlushed, UsesName}
 use Rattle.tablet.specs.declared.tablet.Tablet.{Tablet}
 use Rattle.tablet.specs.declared.ranges.RowRange.{RowRange}
@@ -52,6 +55,43 @@ abbrev pub ReadsThrough : Compaction → Option Contents → Tablet → Type 0
 ReadsThrough compaction disk t =
     AllByRecursion (IsReadThrough disk (lower_fence (range_of t)) (upper_fence (range_of t)))
     (files_read compaction (files_of t))
+
+-- the memtable, if it reads that
+abbrev pub memory_read : Compaction → List Entry → Option (List Entry)
+memory_read Minor memory = Some memory
+memory_read (Merge count) memory = None
+memory_read Major memory = Some memory
+
+-- Sources of all that it reads, in its rows, before their first entries.
+abbrev pub AreRead : Compaction → Tablet → List (Bounded Input) → Type 0
+AreRead compaction t =
+    AreSourcesOf (lower_fence (range_of t)) (upper_fence (range_of t))
+    (memory_read compaction (memory_of t)) (files_read compaction (files_of t))
+
+-- What it writes of entries that it comes to, as the files stand now, has no file within the
+-- limit.
+pub record ReadsTooMuch (compaction : Compaction) (limit : ℕ) (disk : Option Contents)
+    (t : Tablet) : Type 0 where
+  pub sources : List (Bounded Input)
+  pub of : AreRead compaction t sources
+  pub large : MergesTooMuch (Steps disk) lent_by (keeps_erasures compaction (length (files_of t)))
+      limit sources
+
+-- What is written of all that a merge of sources passes over is no entry list: a file isn't in
+-- order.
+pub record MergesNoList {S : Type 0} (steps : S → S → Type 0) (lent : S → Option Entry)
+    (keep_erasures : Bool) (sources : List S) : Type 0 where
+  pub image : List ℕ
+  pub whole : IsFileOfMerge steps lent keep_erasures sources image
+  pub none : ¬ IsEntryList (only_written keep_erasures whole.entries)
+
+-- Over these files what a compaction reads breaks off somewhere, or it isn't in order.
+pub record IsUnreadable (compaction : Compaction) (disk : Option Contents) (t : Tablet)
+    : Type 0 where
+  pub sources : List (Bounded Input)
+  pub of : AreRead compaction t sources
+  pub damage : MergeBreaks (Steps disk) lent_by (Breaks disk) sources
+      ⊎ MergesNoList (Steps disk) lent_by (keeps_erasures compaction (length (files_of t))) sources
 
 -- what it writes
 abbrev pub compacted : Compaction → RowRange → List Entry → List (List Entry) → List Entry

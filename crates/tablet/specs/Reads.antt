@@ -1,13 +1,12 @@
 -- What a read finds.
 use Rattle.std.specs.Prelude.{◌≡◌, ℕ, ◌≤◌, ◌<◌, length, List, [], ◌∷◌, ◌++◌, Option, Some, None, if◌then◌else◌}
-use Rattle.std.specs.declared.vec.Vec.{Vec}
 use Rattle.std.specs.List.{AllByRecursion}
 use Rattle.std.specs.Ordering.{is_le}
 use Rattle.cell_key.specs.Names.{IsRow, IsFamily}
 use Rattle.cell_key.specs.Keys.{byte_cmp, text, IsStored}
 use Rattle.cell_key.specs.Cells.{version}
-use Rattle.cell_key.specs.Entries.{Entry, first_naming, value_of}
-use Rattle.cell_key.specs.Places.{Place}
+use Rattle.cell_key.specs.Entries.{Entry, entries_from, first_naming, value_of}
+use Rattle.cell_key.specs.Places.{Place, place_of}
 use Rattle.cell_key.specs.declared.keys.CellKey.{CellKey}
 use Rattle.cell_key.specs.declared.keys.Qualifier.{Qualifier}
 use Rattle.cell_key.specs.declared.keys.Qualifier.TheVariants.{Write}
@@ -25,24 +24,26 @@ first_value [] = None
 first_value ((name, None) ∷ es) = first_value es
 first_value ((name, Some value) ∷ es) = Some (name, value)
 
--- the value of an entry that may be there, with its text
-abbrev pub lent_value : Option Entry → Option (List ℕ × List ℕ)
-lent_value None = None
-lent_value (Some (name, None)) = None
-lent_value (Some (name, Some value)) = Some (name, value)
-
--- the text of a key, and the bytes of its value
-abbrev pub texted : {Z : Type 0} → CellKey × Vec ℕ Z → List ℕ × List ℕ
-texted found = (text found.0, found.1.items)
-
 -- what a value keeps to
 abbrev pub IsValue : List ℕ → Type 0
 IsValue bytes = length bytes ≤ 65536
 
--- a key and a value within the limits
-pub record IsStoredValue (key : CellKey) (bytes : List ℕ) : Type 0 where
+-- of some entries these are left, among them all whose texts aren't below this one
+abbrev pub HasLeft : List ℕ → List Entry → List Entry → Type 0
+HasLeft past es left = entries_from past left ≡ entries_from past es
+
+-- a text with a value is that of a key of the place
+pub record IsOfPlace (found : Option (List ℕ × List ℕ)) (place : Place) : Type 0 where
+  pub key : CellKey
+  pub value : List ℕ
   pub stored : IsStored key
-  pub value : length bytes ≤ 65536
+  pub at : place_of key ≡ place
+  pub is : found ≡ Some (text key, value)
+
+-- the place of such a text, or nothing
+abbrev pub NamesPlace : Option (List ℕ × List ℕ) → Option Place → Type 0
+NamesPlace found None = found ≡ None
+NamesPlace found (Some place) = IsOfPlace found place
 
 -- Of some files, the newest first, these come first, and those after them have no value of a column
 -- of this kind at these stamps.
@@ -90,3 +91,7 @@ pub record IsStoredPlace (place : Place) : Type 0 where
 abbrev pub IsPlaceOrNone : Option Place → Type 0
 IsPlaceOrNone None = Unit {0}
 IsPlaceOrNone (Some place) = IsStoredPlace place
+
+-- found is the place of the first value of entries after a place
+abbrev pub IsNextIn : List Entry → Option Place → Option Place → Type 0
+IsNextIn es after = NamesPlace (first_value (entries_from (past_place after) es))

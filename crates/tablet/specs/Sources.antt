@@ -1,6 +1,7 @@
 -- The lists that a tablet reads, and parts of them.
-use Rattle.std.specs.Prelude.{◌≡◌, ℕ, List, [], ◌++◌, map, Option, Some, None, Contains}
+use Rattle.std.specs.Prelude.{◌≡◌, ℕ, List, [], ◌∷◌, ◌++◌, map, Option, Some, None, Contains}
 use Rattle.std.specs.Option.{option_to_list}
+use Rattle.std.specs.List.{AllZip}
 use Rattle.cell_key.specs.Entries.{Entry, entries_from, merged}
 use Rattle.file_store.specs.Store.{Contents}
 use Rattle.sorted_file.specs.File.{IsCursorOf, IsOpen, listed}
@@ -8,9 +9,9 @@ use Rattle.sorted_file.specs.Source.{ComesToEnd}
 use Rattle.sorted_file.specs.declared.cursor.FileCursor.{FileCursor}
 use Rattle.sorted_file.specs.declared.file.SortedFile.{SortedFile}
 use Rattle.compaction.specs.Ends.{BoundedSteps, entries_until, lent_until, source_of, end_of}
-use Rattle.compaction.specs.Inputs.{InputHolds, InputSteps, input_lent, input_remaining}
+use Rattle.compaction.specs.Inputs.{InputBreaks, InputHolds, InputSteps, input_lent, input_remaining}
 use Rattle.compaction.specs.declared.input.Input.{Input}
-use Rattle.compaction.specs.declared.input.Input.TheVariants.{File}
+use Rattle.compaction.specs.declared.input.Input.TheVariants.{File, Memtable}
 use Rattle.compaction.specs.declared.bounded.Bounded.{Bounded}
 
 -- the entries from a text on, and below another one if there is one
@@ -59,11 +60,33 @@ pub record HasSource (text : List ℕ) (end : Option (List ℕ)) (sources : List
   pub among : Contains sources source
   pub of : IsSourceOf text end file source
 
+-- and a source those of a memtable
+pub record IsMemorySource (text : List ℕ) (end : Option (List ℕ)) (memory : List Entry)
+    (s : Bounded Input) : Type 0 where
+  pub source : source_of s ≡ Memtable (None, entries_from text memory)
+  pub ends : end_of s ≡ end
+
+-- the sources are one of a memtable, if there is one, and then one of each file, the newest first
+abbrev pub AreSourcesOf : List ℕ → Option (List ℕ) → Option (List Entry) → List SortedFile
+    → List (Bounded Input) → Type 0
+AreSourcesOf text end None files sources = AllZip (IsSourceOf text end) files sources
+AreSourcesOf text end (Some memory) files [] = ⊥
+AreSourcesOf text end (Some memory) files (s ∷ sources) =
+    IsMemorySource text end memory s × AllZip (IsSourceOf text end) files sources
+
+-- the entry that a source is at, and how it goes on and where it breaks off over files that hold this
+abbrev pub lent_by : Bounded Input → Option Entry
+lent_by s = lent_until (end_of s) (input_lent (source_of s))
+
+abbrev pub Steps : Option Contents → Bounded Input → Bounded Input → Type 0
+Steps disk = BoundedSteps (InputSteps disk) input_lent
+
+abbrev pub Breaks : Option Contents → Bounded Input → Type 0
+Breaks disk s = InputBreaks disk (source_of s)
+
 -- over files that hold this a source comes to its end
 abbrev pub Comes : Option Contents → Bounded Input → Type 0
-Comes disk =
-    ComesToEnd (BoundedSteps (InputSteps disk) input_lent)
-    (λ s. lent_until (end_of s) (input_lent (source_of s)))
+Comes disk = ComesToEnd (Steps disk) lent_by
 
 -- A file was read from a text on, and up to another one if there is one: over files that hold this a
 -- source of it comes to its end, through bytes that are entries.

@@ -3,7 +3,7 @@
 //! nothing is refused. The calls of laws of lower crates, as `stays_open()`, do nothing: what is ensured here rests on
 //! them.
 
-ghost use Rattle.std.specs.Prelude.{◌≡◌, ◌≢◌, ◌≤◌, ◌<◌, ◌+◌, ◌^◌, ◌∷◌, ◌↔◌, [], Option, Some, length, map, drop, take, false, nat_lt, option_map, vec_len, IfOk, IfErr, OnOk, OnErr, IfSome, IsNone, IsOk, IsSomeAnd, IsErrOf};
+ghost use Rattle.std.specs.Prelude.{◌≡◌, ◌≢◌, ◌≤◌, ◌<◌, ◌+◌, ◌^◌, ◌∷◌, ◌↔◌, ◌⊎◌, [], Option, Some, length, map, drop, take, false, nat_lt, option_map, vec_len, IfOk, IfErr, OnOk, OnErr, IfSome, IsNone, IsOk, IsSomeAnd, IsErrOf};
 ghost use Rattle.std.specs.Option.{option_copied};
 ghost use Rattle.std.specs.List.{AllByRecursion};
 ghost use Rattle.file_store.specs.Store.{Contents, KeepsOthers};
@@ -13,12 +13,13 @@ ghost use Rattle.sorted_file.specs.Limits.{IsFileLimit};
 ghost use Rattle.sorted_file.specs.File.{listed, name_of};
 ghost use Rattle.cell_key.specs.Faults.{HasReason};
 ghost use Rattle.compaction.specs.Merging.{AreAtStart};
+ghost use Rattle.compaction.specs.Passing.{MergeBreaks, MergesTooMuch};
 ghost use Rattle.compaction.specs.Writing.{written};
 ghost use Rattle.tablet.specs.Ranges.{seen};
 ghost use Rattle.tablet.specs.Sources.{IsOpenIn, listed_in, lists_over};
 ghost use Rattle.tablet.specs.Views.{range_of, memory_of, files_of, names_of, IsUnchanged, Keeps, UsesName};
 ghost use Rattle.tablet.specs.declared.compactions.Compaction.TheVariants.{Minor, Merge, Major};
-ghost use Rattle.tablet.specs.Compactions.{compacted, compacted_of, inputs_of, keeps_erasures, Compacts, Flushes, HasAsMany, files_read, IsCompactionRefusal, IsMergeRefusal, IsMinorRefusal, IsNewFile, ReadsOpen, ReadsThrough, Replaces, TakesName};
+ghost use Rattle.tablet.specs.Compactions.{compacted, compacted_of, inputs_of, keeps_erasures, memory_read, Compacts, Flushes, HasAsMany, files_read, IsCompactionRefusal, IsMergeRefusal, IsMinorRefusal, IsNewFile, IsUnreadable, MergesNoList, ReadsOpen, ReadsThrough, ReadsTooMuch, Replaces, TakesName};
 
 use crate::sources::{fences, sources};
 use crate::tablet::Tablet;
@@ -28,6 +29,7 @@ use file_store::Files;
 use memtable::Memtable;
 use sorted_file::{SortedFile, Source, stays_open, written_is_listed, written_is_there};
 use std::alloc::Global;
+use std::num::NonZeroUsize;
 
 /// The greatest name of a file.
 const MOST_NAME: u64 = 9_223_372_036_854_775_807;
@@ -60,12 +62,13 @@ fn take_name(next_name: &mut u64) -> Result<u64, Refusal>
     Ok(name)
 }
 
-/// Writes what sources mean together as a file of the next name, and opens it.
+/// Writes what sources mean together as a file of the next name, and opens it to cache this many blocks at most.
 fn write_new<F: Files, S: Source<F> + Drop>(
     alloc: Global,
     sources: Vec<S>,
     keep_erasures: bool,
     file_limit: u64,
+    most_blocks: NonZeroUsize,
     next_name: &mut u64,
     files: &mut F,
 ) -> Result<SortedFile, Refusal>
@@ -90,8 +93,13 @@ fn write_new<F: Files, S: Source<F> + Drop>(
     ensures fits { OnOk result (AreAtStart S.lent (S.holds (F.contents files.old)) sources.items
         → FitsIn file_limit
         (written keep_erasures (map (S.remaining (F.contents files.old)) sources.items))) }
+    ensures too_much { IsErrOf result Refusal.FileTooLarge → MergesTooMuch
+        (S.steps (F.contents files.old)) S.lent keep_erasures file_limit sources.items }
     ensures damaged { IsErrOf result Refusal.Damaged → IfSome (F.contents files.old) (λ m.
         ¬ AreAtStart S.lent (S.holds (Some m)) sources.items) }
+    ensures broken { IsErrOf result Refusal.Damaged → IfSome (F.contents files.old) (λ m.
+        MergeBreaks (S.steps (Some m)) S.lent (S.breaks (Some m)) sources.items
+        ⊎ MergesNoList (S.steps (Some m)) S.lent keep_erasures sources.items) }
     ensures refusal { IfErr result IsCompactionRefusal }
     ensures reason { HasReason (F.faults files.old) (F.faults files.new) result }
 {
@@ -100,7 +108,7 @@ fn write_new<F: Files, S: Source<F> + Drop>(
     written_is_listed();
     let name = take_name(next_name)?;
     merge_into(alloc, sources, keep_erasures, name, file_limit, files)?;
-    SortedFile::open(alloc, name, files)
+    SortedFile::open_with(alloc, name, most_blocks, files)
 }
 
 /// Puts a file in the place of the first `count` ones.
@@ -125,6 +133,7 @@ impl Tablet {
         ensures open { (disk : Option Contents) → ReadsOpen compaction disk self.now
             → AllByRecursion (IsOpenIn disk) result.1.now }
         ensures files { result.1.now ≡ files_read compaction (files_of self.now) }
+        ensures memory { option_copied result.0 ≡ memory_read compaction (memory_of self.now) }
     {
         match compaction {
             Compaction::Minor => (Some(&self.memtable), &[]),
@@ -175,8 +184,12 @@ impl Tablet {
         ensures fits { OnOk result (ReadsOpen compaction (F.contents files.old) self.now
             → FitsIn file_limit (compacted compaction (range_of self.now)
             (memory_of self.now) (map (listed_in (F.contents files.old)) (files_of self.now)))) }
+        ensures too_much { IsErrOf result Refusal.FileTooLarge
+            → ReadsTooMuch compaction file_limit (F.contents files.old) self.now }
         ensures damaged { IsErrOf result Refusal.Damaged → IfSome (F.contents files.old) (λ m.
             ¬ ReadsOpen compaction (Some m) self.now) }
+        ensures broken { IsErrOf result Refusal.Damaged → IfSome (F.contents files.old) (λ m.
+            IsUnreadable compaction (Some m) self.now) }
         ensures refusal { IfErr result IsCompactionRefusal }
         ensures reason { HasReason (F.faults files.old) (F.faults files.new) result }
     {
@@ -189,6 +202,7 @@ impl Tablet {
             sources,
             keep_erasures,
             file_limit,
+            self.most_blocks,
             next_name,
             files,
         )
@@ -228,6 +242,8 @@ impl Tablet {
             → (memory_of self.old ≢ []) × (2 ^ 63 ≤ next_name.old) }
         ensures large { IsErrOf result Refusal.FileTooLarge → (memory_of self.old ≢ [])
             × ¬ FitsIn file_limit (seen (range_of self.old) (memory_of self.old)) }
+        ensures too_much { IsErrOf result Refusal.FileTooLarge
+            → ReadsTooMuch Minor file_limit (F.contents files.old) self.old }
         ensures damaged { IsErrOf result Refusal.Damaged → IsNone (F.contents files.old) }
         ensures refusal { IfErr result IsMinorRefusal }
         ensures reason { HasReason (F.faults files.old) (F.faults files.new) result }
@@ -257,7 +273,8 @@ impl Tablet {
     ///
     /// `BadCount` exactly if `count` is below 2 or above the number of files, `FileTooLarge`, `Exhausted`
     /// if no name is left, `Device`, `NoMemory`, and `Damaged` only if one of these files is no longer what
-    /// was opened. The tablet is then as before.
+    /// was opened: what stands there now breaks off where it was read, or isn't in order. The tablet is then as
+    /// before.
     pub fn merge<F: Files>(
         &mut self,
         count: u32,
@@ -282,8 +299,12 @@ impl Tablet {
         ensures large { IsErrOf result Refusal.FileTooLarge
             → IfSome (F.contents files.old) (λ m. ReadsOpen (Merge count) (Some m) self.old
             → ¬ FitsIn file_limit (compacted_of (Merge count) m self.old)) }
+        ensures too_much { IsErrOf result Refusal.FileTooLarge
+            → ReadsTooMuch (Merge count) file_limit (F.contents files.old) self.old }
         ensures damaged { IsErrOf result Refusal.Damaged → IfSome (F.contents files.old) (λ m.
             ¬ ReadsOpen (Merge count) (Some m) self.old) }
+        ensures broken { IsErrOf result Refusal.Damaged → IfSome (F.contents files.old) (λ m.
+            IsUnreadable (Merge count) (Some m) self.old) }
         ensures refusal { IfErr result IsMergeRefusal }
         ensures reason { HasReason (F.faults files.old) (F.faults files.new) result }
         ensures unwritten { IsErrOf result Refusal.BadCount
@@ -307,7 +328,8 @@ impl Tablet {
     /// # Errors
     ///
     /// `FileTooLarge`, `Exhausted` if no name is left, `Device`, `NoMemory`, and `Damaged` only if a file
-    /// is no longer what was opened. The tablet is then as before.
+    /// is no longer what was opened: what stands there now breaks off where it was read, or isn't in order. The
+    /// tablet is then as before.
     pub fn major<F: Files>(
         &mut self,
         file_limit: u64,
@@ -329,8 +351,12 @@ impl Tablet {
         ensures large { IsErrOf result Refusal.FileTooLarge
             → IfSome (F.contents files.old) (λ m. ReadsOpen Major (Some m) self.old
             → ¬ FitsIn file_limit (compacted_of Major m self.old)) }
+        ensures too_much { IsErrOf result Refusal.FileTooLarge
+            → ReadsTooMuch Major file_limit (F.contents files.old) self.old }
         ensures damaged { IsErrOf result Refusal.Damaged → IfSome (F.contents files.old) (λ m.
             ¬ ReadsOpen Major (Some m) self.old) }
+        ensures broken { IsErrOf result Refusal.Damaged → IfSome (F.contents files.old) (λ m.
+            IsUnreadable Major (Some m) self.old) }
         ensures refusal { IfErr result IsCompactionRefusal }
         ensures reason { HasReason (F.faults files.old) (F.faults files.new) result }
     {

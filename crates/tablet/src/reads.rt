@@ -1,10 +1,10 @@
-//! What a tablet answers: the newest version of a column, and the next cell.
+//! What a tablet answers: the newest version of a column, and the next cells.
 
-ghost use Rattle.std.specs.Prelude.{◌≡◌, ℕ, ◌≤◌, ◌<◌, ◌^◌, [], false, IsTrue, option_map, map, IfOk, IfErr, IfSome, IsErrOf};
+ghost use Rattle.std.specs.Prelude.{◌≡◌, ℕ, ◌≤◌, ◌<◌, ◌^◌, length, [], false, IsTrue, option_map, map, IfOk, IfErr, IfSome, IsErrOf};
 ghost use Rattle.cell_key.specs.Cells.{IsNewest, version};
 ghost use Rattle.cell_key.specs.Entries.{cells_of};
 ghost use Rattle.cell_key.specs.Faults.{HasReason};
-ghost use Rattle.cell_key.specs.Places.{IsNextCell, place_named};
+ghost use Rattle.cell_key.specs.Places.{AreNextCells, IsNextCell, place_named};
 ghost use Rattle.cell_key.specs.Versions.{IsVersion, IsVersionIn, stamped};
 ghost use Rattle.memtable.specs.Slots.{lent_version};
 ghost use Rattle.sorted_file.specs.File.{listed};
@@ -13,7 +13,7 @@ ghost use Rattle.tablet.specs.Ranges.{has_row};
 ghost use Rattle.tablet.specs.Reads.{HasNoLater, IsAsked, IsLater};
 
 use crate::lookup::{asked, lookup, newest_stamp};
-use crate::scan::{first_value, later, past_place};
+use crate::scan::{later, merged_places, past_place};
 use crate::sources::fences;
 use crate::tablet::Tablet;
 use cell_key::{CellKey, Family, MOST_STAMP, Qualifier, Refusal, Row, Stamp};
@@ -227,19 +227,44 @@ impl Tablet {
         ensures same { F.contents files.new ≡ F.contents files.old }
         ensures reason { HasReason (F.faults files.old) (F.faults files.new) result }
     {
+        let mut found = self.next_cells(after, 1, files)?;
+        Ok(found.pop())
+    }
+
+    /// The first cells of the tablet that have any version, after the cell of `after`, which may lie outside
+    /// the tablet's range, or from its start: `most` of them, or fewer if no more are left. The memtable and the
+    /// files are read once, up to the last of so many.
+    ///
+    /// # Errors
+    ///
+    /// `Damaged` only if a file is no longer what was opened, `Device` and `NoMemory`.
+    pub fn next_cells<F: Files>(
+        &self,
+        after: Option<(&Row, &Family)>,
+        most: usize,
+        files: &mut F,
+    ) -> Result<Vec<(Row, Family)>, Refusal>
+        ensures found { IfOk result (λ found. IfSome (F.contents files.old) (λ m. Holds m self.now
+            → AreNextCells (cells_at m self.now) (option_map place_named after.entry) most
+            found.items)) }
+        ensures few { IfOk result (λ found. length found.items ≤ most) }
+        ensures damaged { IsErrOf result Refusal.Damaged
+            → IfSome (F.contents files.old) (λ m. ¬ Holds m self.now) }
+        ensures refusal { IfErr result IsReadRefusal }
+        ensures same { F.contents files.new ≡ F.contents files.old }
+        ensures reason { HasReason (F.faults files.old) (F.faults files.new) result }
+    {
         let (fence, end) = fences(self.alloc, &self.range)?;
         let past = past_place(self.alloc, after)?;
         let from = later(&fence, &past);
-        match first_value(
+        merged_places(
             self.alloc,
             &self.memtable,
             &self.files,
             from,
             end.as_deref(),
+            most,
             files,
-        )? {
-            Some((key, _value)) => Ok(Some((key.row, key.family))),
-            None => Ok(None),
-        }
+        )
     }
 }

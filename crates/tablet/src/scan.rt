@@ -1,103 +1,141 @@
-//! The merged scan: the first value that a memtable and files show together from a text on (Bigtable, tablet serving).
+//! The merged scan: the places of the values that a memtable and files show together from a text on (Bigtable, tablet
+//! serving).
 
-ghost use Rattle.std.specs.Prelude.{◌≡◌, ◌⊎◌, ◌∷◌, Some, option_map, map, IfOk, IfErr, IfSome, IsErrOf};
-ghost use Rattle.std.specs.Option.{option_copied};
+ghost use Rattle.std.specs.Prelude.{◌≡◌, ◌≤◌, ◌⊎◌, length, [], ◌∷◌, None, Some, option_map, map, IfOk, OnOk, IfErr, IfSome, IsErrOf};
+ghost use Rattle.std.specs.Option.{option_copied, option_to_list};
 ghost use Rattle.std.specs.List.{AllByRecursion};
 ghost use Rattle.cell_key.specs.Cells.{version};
-ghost use Rattle.cell_key.specs.Entries.{IsEntry, lent_entry};
+ghost use Rattle.cell_key.specs.Entries.{IsEntry, entries_from, lent_entry};
 ghost use Rattle.cell_key.specs.Faults.{HasReason};
 ghost use Rattle.cell_key.specs.Keys.{text};
 ghost use Rattle.cell_key.specs.Names.{IsRow, IsFamily};
-ghost use Rattle.cell_key.specs.Places.{place_named};
+ghost use Rattle.cell_key.specs.Places.{AreNext, place_named};
 ghost use Rattle.sorted_file.specs.File.{IsOpen, listed};
 ghost use Rattle.sorted_file.specs.Source.{IsReadRefusal};
-ghost use Rattle.tablet.specs.Reads.{first_value, later, lent_value, past_place, texted, IsPlaceOrNone, IsStoredValue};
+ghost use Rattle.tablet.specs.Reads.{first_value, later, past_place, HasLeft, IsNextIn, IsPlaceOrNone, NamesPlace};
 ghost use Rattle.tablet.specs.Sources.{part};
 
-use crate::lookup::copy_value;
 use crate::sources::sources;
-use cell_key::{CellKey, EntryRef, Family, Qualifier, Refusal, Row, Stamp};
+use cell_key::{CellKey, EntryRef, Family, Qualifier, Refusal, Row, Stamp, last_place};
 use compaction::Merge;
 use file_store::Files;
 use memtable::Memtable;
 use sorted_file::{SortedFile, Source};
 use std::alloc::Global;
 
-/// The key and the value of an entry, if it is no erasure. Answers `Damaged` if it isn't within the limits
-/// of entries, and `NoMemory` if there is no memory for the two.
-fn keyed_value(alloc: Global, entry: EntryRef<'_>) -> Result<Option<(CellKey, Vec<u8>)>, Refusal>
-    ensures found { IfOk result (λ found.
-        option_map texted found ≡ lent_value (Some (lent_entry entry.entry))) }
-    ensures limits { IfOk result (λ found. IfSome found (λ p. IsStoredValue p.0 p.1.items)) }
+/// The place of the key of an entry, if it is no erasure and its text isn't below `past`. Answers `Damaged` if
+/// such an entry isn't within the limits of entries, and `NoMemory` if there is no memory for the place.
+fn place_of(
+    alloc: Global,
+    entry: EntryRef<'_>,
+    past: &[u8],
+) -> Result<Option<(Row, Family)>, Refusal>
+    ensures found { IfOk result
+        (NamesPlace (first_value (entries_from past.now (lent_entry entry.entry ∷ [])))) }
     ensures damaged { IsErrOf result Refusal.Damaged → ¬ IsEntry (lent_entry entry.entry) }
     ensures refusal { IfErr result (λ refusal.
         (refusal ≡ Refusal.NoMemory) ⊎ (refusal ≡ Refusal.Damaged)) }
 {
-    let Some(value) = copy_value(alloc, entry.value)? else {
+    if entry.value.is_none() || entry.key.cmp(&past).is_lt() {
         return Ok(None);
-    };
+    }
     match CellKey::decode(alloc, entry.key)? {
-        Some(key) => Ok(Some((key, value))),
+        Some(key) => Ok(Some((key.row, key.family))),
         None => Err(Refusal::Damaged),
     }
 }
 
-/// The key and the value that a source is at, if it is at a value.
-fn value_at<F: Files, S: Source<F>>(
+/// The place that a source is at, if it is at a value whose text isn't below `past`.
+fn place_at<F: Files, S: Source<F>>(
     alloc: Global,
     source: &S,
-) -> Result<Option<(CellKey, Vec<u8>)>, Refusal>
-    ensures found { IfOk result (λ found.
-        option_map texted found ≡ lent_value (S.lent source.now)) }
-    ensures limits { IfOk result (λ found. IfSome found (λ p. IsStoredValue p.0 p.1.items)) }
+    past: &[u8],
+) -> Result<Option<(Row, Family)>, Refusal>
+    ensures found { IfOk result
+        (NamesPlace (first_value (entries_from past.now (option_to_list (S.lent source.now))))) }
     ensures damaged { IsErrOf result Refusal.Damaged → ¬ IfSome (S.lent source.now) IsEntry }
     ensures refusal { IfErr result (λ refusal.
         (refusal ≡ Refusal.NoMemory) ⊎ (refusal ≡ Refusal.Damaged)) }
 {
     match source.current() {
-        Some(entry) => keyed_value(alloc, entry),
+        Some(entry) => place_of(alloc, entry, past),
         None => Ok(None),
     }
 }
 
-/// The next value of a source, with its key. Reads up to it and not further.
-fn next_value<F: Files, S: Source<F>>(
+/// The place of the next value of a source whose text isn't below `past`. Reads up to it and not further.
+fn next_place<F: Files, S: Source<F>>(
     alloc: Global,
     source: &mut S,
+    past: &[u8],
     store: &mut F,
-) -> Result<Option<(CellKey, Vec<u8>)>, Refusal>
-    ensures found { IfOk result (λ found. S.holds (F.contents store.old) source.old
-        → option_map texted found ≡ first_value (S.remaining (F.contents store.old) source.old)) }
-    ensures limits { IfOk result (λ found. IfSome found (λ p. IsStoredValue p.0 p.1.items)) }
+) -> Result<Option<(Row, Family)>, Refusal>
+    ensures found { IfOk result (λ found. S.holds (F.contents store.old) source.old → NamesPlace
+        (first_value (entries_from past.now (S.remaining (F.contents store.old) source.old))) found) }
+    // What comes after the place has not been read.
+    ensures rest { IfOk result (λ found. S.holds (F.contents store.old) source.old
+        → IfSome found (λ place. HasLeft (past_place (Some place))
+        (S.remaining (F.contents store.old) source.old)
+        (S.remaining (F.contents store.old) source.new))) }
+    ensures holds { OnOk result (S.holds (F.contents store.old) source.old
+        → S.holds (F.contents store.old) source.new) }
     ensures damaged { IsErrOf result Refusal.Damaged → ¬ S.holds (F.contents store.old) source.old }
     ensures refusal { IfErr result IsReadRefusal }
     ensures same { F.contents store.new ≡ F.contents store.old }
     ensures reason { HasReason (F.faults store.old) (F.faults store.new) result }
 {
     while source.advance(store)? {
-        if let Some(found) = value_at::<F, S>(alloc, source)? {
-            return Ok(Some(found));
+        if let Some(place) = place_at::<F, S>(alloc, source, past)? {
+            return Ok(Some(place));
         }
     }
     Ok(None)
 }
 
-/// The first value of a memtable and files together, the newest first, whose text is `from` or comes after
-/// it, and is below `end` if there is one, with its key. Reads no more of the files than that range.
-pub(crate) fn first_value<F: Files>(
+/// The places of the values of a source, one after the other: `most` of them, or fewer if no more are left. Reads
+/// up to the last of so many and not further.
+fn next_places<F: Files, S: Source<F>>(
+    alloc: Global,
+    source: &mut S,
+    most: usize,
+    store: &mut F,
+) -> Result<Vec<(Row, Family)>, Refusal>
+    ensures found { IfOk result (λ found. S.holds (F.contents store.old) source.old → AreNext
+        (IsNextIn (S.remaining (F.contents store.old) source.old)) None most found.items) }
+    ensures few { IfOk result (λ found. length found.items ≤ most) }
+    ensures damaged { IsErrOf result Refusal.Damaged → ¬ S.holds (F.contents store.old) source.old }
+    ensures refusal { IfErr result IsReadRefusal }
+    ensures same { F.contents store.new ≡ F.contents store.old }
+    ensures reason { HasReason (F.faults store.old) (F.faults store.new) result }
+{
+    let mut found = Vec::new(alloc);
+    'wanted: while found.len() < most {
+        let past = past_place(alloc, last_place(&found, None))?;
+        match next_place(alloc, source, &past, store)? {
+            Some(place) => found.push(place)?,
+            None => return Ok(found),
+        }
+    }
+    Ok(found)
+}
+
+/// The places of the values of a memtable and files together, the newest first, whose texts are `from` or come
+/// after it, and are below `end` if there is one: `most` of them, or fewer if no more are left. One pass over
+/// that range, which ends at the last of so many.
+pub(crate) fn merged_places<F: Files>(
     alloc: Global,
     memtable: &Memtable,
     files: &[SortedFile],
     from: &[u8],
     end: Option<&[u8]>,
+    most: usize,
     store: &mut F,
-) -> Result<Option<(CellKey, Vec<u8>)>, Refusal>
+) -> Result<Vec<(Row, Family)>, Refusal>
     ensures found { IfOk result (λ found.
         IfSome (F.contents store.old) (λ m. AllByRecursion (IsOpen m) files.now
-        → option_map texted found
-        ≡ first_value (part from.now (option_copied end.entry)
-        (memtable.now ∷ map (listed m) files.now)))) }
-    ensures limits { IfOk result (λ found. IfSome found (λ p. IsStoredValue p.0 p.1.items)) }
+        → AreNext (IsNextIn (part from.now (option_copied end.entry)
+        (memtable.now ∷ map (listed m) files.now))) None most found.items)) }
+    ensures few { IfOk result (λ found. length found.items ≤ most) }
     ensures damaged { IsErrOf result Refusal.Damaged
         → IfSome (F.contents store.old) (λ m. ¬ AllByRecursion (IsOpen m) files.now) }
     ensures refusal { IfErr result IsReadRefusal }
@@ -106,7 +144,7 @@ pub(crate) fn first_value<F: Files>(
 {
     let sources = sources::<F>(alloc, Some(memtable), files, from, end)?;
     let mut merge = Merge::new::<F>(sources);
-    next_value(alloc, &mut merge, store)
+    next_places(alloc, &mut merge, most, store)
 }
 
 /// The text of the key of a version. Answers `NoMemory` if there is no memory.

@@ -1,13 +1,13 @@
 //! What a tablet reads: its memtable and its files, from a text on and up to another.
 
-ghost use Rattle.std.specs.Prelude.{◌≡◌, map, Option, option_map, IfOk, IfErr};
+ghost use Rattle.std.specs.Prelude.{◌≡◌, [], map, Option, option_map, IfOk, IfErr};
 ghost use Rattle.std.specs.Option.{option_copied, option_to_list};
 ghost use Rattle.std.specs.List.{AllByRecursion};
 ghost use Rattle.file_store.specs.Store.{Contents};
 ghost use Rattle.cell_key.specs.Entries.{IsEntryList};
 ghost use Rattle.compaction.specs.Merging.{AreAtStart};
 ghost use Rattle.tablet.specs.Ranges.{lower_fence, upper_fence};
-ghost use Rattle.tablet.specs.Sources.{entries_between, listed_in, lists_over, HasSource, IsAtStart, IsOpenIn, IsSourceOf, remaining_of};
+ghost use Rattle.tablet.specs.Sources.{entries_between, listed_in, lists_over, AreSourcesOf, HasSource, IsAtStart, IsMemorySource, IsOpenIn, IsSourceOf, remaining_of};
 
 use crate::ranges::RowRange;
 use cell_key::{Refusal, Row};
@@ -46,6 +46,7 @@ fn memtable_source<'a>(
     ensures list { (disk : Option Contents) → remaining_of disk result
         ≡ entries_between from.now (option_copied end.entry) memtable.now }
     ensures entries { IsEntryList memtable.now }
+    ensures of { IsMemorySource from.now (option_copied end.entry) memtable.now result }
 {
     Bounded::new(Input::Memtable(memtable.cursor(from)), end)
 }
@@ -65,6 +66,8 @@ fn memtable_sources<'a>(
         (option_to_list (option_copied memtable.entry))) }
     ensures entries { IfOk result (λ sources.
         AllByRecursion IsEntryList (option_to_list (option_copied memtable.entry))) }
+    ensures of { IfOk result (λ sources. AreSourcesOf
+        from.now (option_copied end.entry) (option_copied memtable.entry) [] sources.items) }
     ensures refusal { IfErr result (λ refusal. refusal ≡ Refusal.NoMemory) }
 {
     let mut sources = Vec::new(alloc);
@@ -112,6 +115,8 @@ pub(crate) fn sources<'a, F: Files>(
         → AllByRecursion IsEntryList (lists_over disk (option_copied memtable.entry) files.now)) }
     ensures of { IfOk result (λ sources. AllByRecursion
         (HasSource from.now (option_copied end.entry) sources.items) files.now) }
+    ensures each { IfOk result (λ sources. AreSourcesOf from.now
+        (option_copied end.entry) (option_copied memtable.entry) files.now sources.items) }
     ensures refusal { IfErr result (λ refusal. refusal ≡ Refusal.NoMemory) }
 {
     let mut sources = memtable_sources(alloc, memtable, from, end)?;

@@ -21,9 +21,11 @@ use file_store::Files;
 use memtable::Memtable;
 use sorted_file::{SortedFile, one_listing, open_is_there};
 use std::alloc::Global;
+use std::num::NonZeroUsize;
 
 impl Tablet {
-    /// Opens the files of these names, the newest first, as a tablet of a range with an empty memtable.
+    /// Opens the files of these names, the newest first, as a tablet of a range with an empty memtable. Each file, and each
+    /// that it opens later, caches `most_blocks` blocks at most.
     ///
     /// # Errors
     ///
@@ -32,9 +34,11 @@ impl Tablet {
         alloc: Global,
         range: RowRange,
         names: &[u64],
+        most_blocks: NonZeroUsize,
         files: &mut F,
     ) -> Result<Tablet, Refusal>
         ensures range { IfOk result (λ t. range_of t ≡ range) }
+        ensures blocks { IfOk result (λ t. t.most_blocks ≡ most_blocks) }
         ensures memory { IfOk result (λ t. memory_of t ≡ []) }
         ensures names { IfOk result (λ t. names_of t ≡ names.now) }
         ensures holds { IfOk result (λ t. IfSome (F.contents files.old) (λ m. Holds m t)) }
@@ -46,7 +50,7 @@ impl Tablet {
     {
         let mut open = Vec::new(alloc);
         'names: for name in names {
-            let file = SortedFile::open(alloc, *name, files)?;
+            let file = SortedFile::open_with(alloc, *name, most_blocks, files)?;
             open.push(file)?;
         }
         Ok(Tablet {
@@ -54,6 +58,7 @@ impl Tablet {
             range,
             memtable: Memtable::new(alloc),
             files: open,
+            most_blocks,
         })
     }
 
@@ -80,7 +85,7 @@ impl Tablet {
         ensures reason { HasReason (F.faults files.old) (F.faults files.new) result }
     {
         let names = self.names()?;
-        Tablet::load(self.alloc, range, &names, files)
+        Tablet::load(self.alloc, range, &names, self.most_blocks, files)
     }
 
     /// A minor compaction, and then the names of the files, the newest first.

@@ -4,13 +4,14 @@ ghost use Rattle.std.specs.Prelude.{◌≡◌, ◌≤◌, ◌<◌, ◌+◌, ◌+
 ghost use Rattle.std.specs.List.{AllByRecursion};
 ghost use Rattle.cell_key.specs.Cells.{IsEditOf, after_edits};
 ghost use Rattle.file_store.specs.Store.{Contents};
-ghost use Rattle.memtable.specs.Edits.{with_edits, IsWithinLimits};
+ghost use Rattle.memtable.specs.Edits.{bytes_of, with_edits, IsWithinLimits};
 
 use crate::ranges::RowRange;
 use cell_key::{Edit, Refusal, Row};
 use memtable::Memtable;
-use sorted_file::SortedFile;
+use sorted_file::{SortedFile, few_blocks};
 use std::alloc::Global;
+use std::num::NonZeroUsize;
 
 /// A range of rows: a memtable with the recent writes, and immutable sorted files, the newest first. A read
 /// sees the merged view of all of them, cut to the range (Bigtable, tablet serving).
@@ -21,6 +22,8 @@ pub struct Tablet {
     pub(crate) memtable: Memtable,
     /// The newest first.
     pub(crate) files: Vec<SortedFile>,
+    /// How many blocks a file that is opened caches at most.
+    pub(crate) most_blocks: NonZeroUsize,
 }
 
 impl Tablet {
@@ -31,7 +34,7 @@ impl Tablet {
     /// refused `TooManyFiles`.
     pub const MOST_FILES: usize = 64;
 
-    /// A tablet of all rows, with no entries and no files. Takes no memory.
+    /// A tablet of all rows, with no entries and no files. A file that it opens caches 8 blocks at most. Takes no memory.
     pub fn new(alloc: Global) -> Tablet
         ensures range { range_of result ≡ record { after = None; end = None } }
         ensures memory { memory_of result ≡ [] }
@@ -45,6 +48,7 @@ impl Tablet {
             },
             memtable: Memtable::new(alloc),
             files: Vec::new(alloc),
+            most_blocks: few_blocks(),
         }
     }
 
@@ -63,11 +67,25 @@ impl Tablet {
         self.memtable.len()
     }
 
+    /// How many bytes the entries of the memtable have in a file, as `Memtable::entry_bytes` counts them. Takes no memory.
+    pub fn entry_bytes(&self) -> usize
+        ensures { result ≡ bytes_of (memory_of self.now) }
+    {
+        self.memtable.entry_bytes()
+    }
+
     /// Whether the memtable has no entries. Takes no memory.
     pub fn is_empty(&self) -> bool
         ensures { IsTrue result ↔ (memory_of self.now ≡ []) }
     {
         self.memtable.is_empty()
+    }
+
+    /// How many blocks a file that the tablet opens caches at most. Takes no memory.
+    pub fn most_blocks(&self) -> NonZeroUsize
+        ensures { result ≡ self.now.most_blocks }
+    {
+        self.most_blocks
     }
 
     /// How many files the tablet has. Takes no memory.

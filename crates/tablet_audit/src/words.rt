@@ -2,7 +2,9 @@
 
 use cell_key::Qualifier;
 use request_codec::{Reply, Request};
-use si_model::{CleanReply, CleanStart, CollectReply, Found, Progress};
+use si_model::{
+    CleanReply, CleanStart, CollectReply, Found, Progress, ScanRange, ScanReach, ScanReply,
+};
 use std::fmt;
 
 /// The most bytes of a name or a value that are shown.
@@ -48,6 +50,16 @@ impl fmt::Display for RequestWords<'_> {
             Request::Get { start, row, family } => {
                 write!(f, "Get {start} {} {}", Text(row), Text(family))
             }
+            Request::Scan {
+                start,
+                range,
+                keys_only,
+                cells,
+            } => {
+                let what = if keys_only { "keys" } else { "cells" };
+                write!(f, "Scan {start} {cells} {what}")?;
+                write_range(&range, f)
+            }
             Request::Set {
                 start,
                 row,
@@ -88,6 +100,20 @@ impl fmt::Display for RequestWords<'_> {
     }
 }
 
+/// The range of a scan, in words.
+fn write_range<W: fmt::Write>(range: &ScanRange<'_>, f: &mut fmt::Formatter<W>) -> fmt::Result {
+    if let Some((row, family)) = range.after {
+        write!(f, " after {} {}", Text(row), Text(family))?;
+    }
+    if let Some(end) = range.end {
+        write!(f, " up to {}", Text(end))?;
+    }
+    if let Some(family) = range.family {
+        write!(f, " of {}", Text(family))?;
+    }
+    Ok(())
+}
+
 /// A request for the upkeep of tablets, in words.
 fn write_upkeep<W: fmt::Write>(request: &Request<'_>, f: &mut fmt::Formatter<W>) -> fmt::Result {
     match *request {
@@ -112,6 +138,7 @@ impl fmt::Display for ReplyWords<'_> {
         match self.0 {
             Reply::Begin(start) => write!(f, "Begin {start}"),
             Reply::Get(found) => write_found(found, f),
+            Reply::Scan(reply) => write_scanned(reply, f),
             Reply::Set => write!(f, "Set done"),
             Reply::Delete => write!(f, "Delete done"),
             Reply::Step(progress) => write_progress(*progress, f),
@@ -146,6 +173,19 @@ fn write_found<W: fmt::Write>(found: &Found, f: &mut fmt::Formatter<W>) -> fmt::
         Found::Value(value) => write!(f, "Value {}", Text(value)),
         Found::Nothing => write!(f, "Nothing"),
         Found::Pending(start) => write!(f, "Pending {start}"),
+    }
+}
+
+/// What a scan found, in words: how many cells it names, and how far it went.
+fn write_scanned<W: fmt::Write>(reply: &ScanReply, f: &mut fmt::Formatter<W>) -> fmt::Result {
+    let count = reply.items.len();
+    match &reply.reach {
+        ScanReach::End => write!(f, "Scan {count} cells, End"),
+        ScanReach::More(cell) => {
+            let row = Text(cell.row.as_bytes());
+            let family = Text(cell.family.as_bytes());
+            write!(f, "Scan {count} cells, More after {row} {family}")
+        }
     }
 }
 

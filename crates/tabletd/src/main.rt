@@ -1,17 +1,18 @@
-//! `tabletd [--dir DIR] [--flush N] [--merge M]` serves framed requests from the standard input, and writes a framed reply to
-//! each to the standard output. The store is in memory, or in a folder.
+//! `tabletd [--dir DIR] [--flush N] [--flush-bytes B] [--merge M] [--cache C]` serves framed requests from the standard
+//! input, and writes a framed reply to each to the standard output. The store is in memory, or in a folder.
 #![tactic(auto)]
 
-ghost use Rattle.std.specs.Prelude.{◌≡◌, ◌≤◌, IfOk};
+ghost use Rattle.std.specs.Prelude.{◌≡◌, ◌≤◌, IfOk, IfSome};
 
 use cell_key::Refusal;
 use clap::error::ErrorKind;
 use file_store::{DirFiles, FileFault, Files, MemFiles};
 use oracle::{DirMark, MarkStore, MemMark};
-use server_loop::{Config, Options, Server, end_status, open_status, options};
+use server_loop::{Config, FlushLimits, Options, Server, end_status, open_status, options};
 use std::alloc::{AllocError, Global};
 use std::fs::File;
 use std::io::BufWriter;
+use std::num::NonZeroUsize;
 use std::process::ExitCode;
 use std::rt::{Env, Files as Folders};
 use std::{env, io};
@@ -78,14 +79,17 @@ fn folder_status(fault: &FileFault) -> (u8, &'static str) {
 fn serve<R: AllocGlobal + Input + Print, F: Files + Drop, M: MarkStore + Drop>(
     rt: &R,
     opened: Result<Server<F, M>, (Refusal, F, M)>,
-    merge: Option<u32>,
+    options: &Options<'_>,
 ) -> (u8, &'static str) {
     let mut server = match opened {
         Ok(server) => server,
         Err((refusal, _, _)) => return open_status(&refusal),
     };
-    if let Some(most) = merge {
+    if let Some(most) = options.merge {
         server.merge_at(most);
+    }
+    if let Some(most_blocks) = NonZeroUsize::new(options.cache as usize) {
+        server.cache_blocks(most_blocks);
     }
     let mut reader = rt.reader();
     match BufWriter::with_capacity(rt.alloc(), WAITING, io::writer(rt)) {
@@ -98,15 +102,17 @@ fn serve<R: AllocGlobal + Input + Print, F: Files + Drop, M: MarkStore + Drop>(
 fn serve_memory<R: AllocGlobal + Input + Print>(
     rt: &R,
     config: Config,
-    merge: Option<u32>,
+    options: &Options<'_>,
 ) -> (u8, &'static str)
-    requires flush_least { 1 ≤ config.flush }
-    requires flush_most { config.flush ≤ 100000 }
+    requires flush_least { 1 ≤ config.flush.entries }
+    requires flush_most { config.flush.entries ≤ 100000 }
+    requires flush_bytes { IfSome config.flush.bytes (λ bytes.
+        (1048576 ≤ bytes) × (bytes ≤ 67108864)) }
     requires limit { config.file_limit ≡ FILE_LIMIT }
 {
     let alloc = rt.alloc();
     let made = Server::new(alloc, MemFiles::new(alloc), MemMark::new(), config);
-    serve(rt, made, merge)
+    serve(rt, made, options)
 }
 
 /// Serves the store of a folder.
@@ -114,10 +120,12 @@ fn serve_folder<R: AllocGlobal + Input + Print + Folders<File = File> + Clone + 
     rt: &R,
     folder: &str,
     config: Config,
-    merge: Option<u32>,
+    options: &Options<'_>,
 ) -> Result<(u8, &'static str), AllocError>
-    requires flush_least { 1 ≤ config.flush }
-    requires flush_most { config.flush ≤ 100000 }
+    requires flush_least { 1 ≤ config.flush.entries }
+    requires flush_most { config.flush.entries ≤ 100000 }
+    requires flush_bytes { IfSome config.flush.bytes (λ bytes.
+        (1048576 ≤ bytes) × (bytes ≤ 67108864)) }
     requires limit { config.file_limit ≡ FILE_LIMIT }
 {
     let files = match DirFiles::open(rt.clone()?, folder) {
@@ -128,24 +136,29 @@ fn serve_folder<R: AllocGlobal + Input + Print + Folders<File = File> + Clone + 
         return Ok(open_status(&Refusal::Device));
     };
     let opened = Server::open(rt.alloc(), files, marks, config);
-    Ok(serve(rt, opened, merge))
+    Ok(serve(rt, opened, options))
 }
 
 /// Serves the store that the command line names.
 fn serve_options<R: AllocGlobal + Input + Print + Folders<File = File> + Clone + Drop>(
     rt: &R,
-    options: Options<'_>,
+    options: &Options<'_>,
 ) -> Result<(u8, &'static str), AllocError>
-    requires flush_least { 1 ≤ options.flush }
-    requires flush_most { options.flush ≤ 100000 }
+    requires flush_least { 1 ≤ options.now.flush }
+    requires flush_most { options.now.flush ≤ 100000 }
+    requires flush_bytes { IfSome options.now.flush_bytes (λ bytes.
+        (1048576 ≤ bytes) × (bytes ≤ 67108864)) }
 {
     let config = Config {
-        flush: options.flush,
+        flush: FlushLimits {
+            entries: options.flush,
+            bytes: options.flush_bytes,
+        },
         file_limit: FILE_LIMIT,
     };
     match options.dir {
-        Some(folder) => serve_folder(rt, folder, config, options.merge),
-        None => Ok(serve_memory(rt, config, options.merge)),
+        Some(folder) => serve_folder(rt, folder, config, options),
+        None => Ok(serve_memory(rt, config, options)),
     }
 }
 
@@ -156,7 +169,8 @@ where
 {
     let args: Vec<String> = env::args(rt)?.collect(rt.alloc())?;
     let words: Vec<&str> = args.iter().map(|arg| arg.as_str()).collect(rt.alloc())?;
-    let ended = serve_options(rt, options(rt.alloc(), words.as_slice())?)?;
+    let options = options(rt.alloc(), words.as_slice())?;
+    let ended = serve_options(rt, &options)?;
     Ok(ended)
 }
 

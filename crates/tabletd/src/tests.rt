@@ -14,6 +14,7 @@ mod deleting;
 mod edits;
 mod faults;
 mod files;
+mod filling;
 mod folders;
 mod keys;
 mod limits;
@@ -22,6 +23,8 @@ mod memtables;
 mod places;
 mod recordings;
 mod rows;
+mod scan_limits;
+mod scanning;
 mod script;
 mod slow;
 mod slow_roots;
@@ -31,13 +34,15 @@ mod statuses;
 mod streams;
 mod upkeep;
 
+ghost use Rattle.std.specs.Prelude.{◌≤◌, IfSome, IsTrue};
+
 use crate::FILE_LIMIT;
 use cell_key::Refusal;
 use file_store::MemFiles;
 use oracle::MemMark;
 use request_codec::{Reply, Request};
 use rows::{Row, TRANSFER};
-use server_loop::{Config, End, ServeFault, Server, end_status};
+use server_loop::{Config, End, FlushLimits, ServeFault, Server, end_status};
 use std::alloc::{AllocError, Global};
 use std::cell::Cell;
 use std::io::{Read, Write};
@@ -49,14 +54,37 @@ type MemServer = Server<MemFiles, MemMark>;
 /// How a server ended.
 type Ended = Result<End, ServeFault>;
 
+/// How full a memtable is when it is compacted, if nothing else is said.
+const FLUSH: FlushLimits = FlushLimits {
+    entries: 10_000,
+    bytes: None,
+};
+
 /// A server over files in memory, each of `file_limit` bytes at most.
 fn new_server(alloc: Global, file_limit: u64) -> Result<MemServer, Refusal> {
-    flushing_server(alloc, 10_000, file_limit)
+    flushing_server(alloc, FLUSH, file_limit)
 }
 
-/// The same, whose memtables are compacted at `flush` entries.
-fn flushing_server(alloc: Global, flush: u32, file_limit: u64) -> Result<MemServer, Refusal> {
-    if flush == 0 || flush > 100_000 || file_limit < 48 || file_limit > FILE_LIMIT {
+/// Whether a number of bytes at which memtables are compacted, if there is one, is within its limits.
+fn are_flush_bytes(bytes: Option<u32>) -> bool
+    ensures { IsTrue result → IfSome bytes (λ bytes. (1048576 ≤ bytes) × (bytes ≤ 67108864)) }
+{
+    match bytes {
+        Some(bytes) => 1_048_576 <= bytes && bytes <= 67_108_864,
+        None => true,
+    }
+}
+
+/// The same, whose memtables are compacted when they are as full as this.
+fn flushing_server(
+    alloc: Global,
+    flush: FlushLimits,
+    file_limit: u64,
+) -> Result<MemServer, Refusal> {
+    if flush.entries == 0 || flush.entries > 100_000 || !are_flush_bytes(flush.bytes) {
+        return Err(Refusal::FileTooLarge);
+    }
+    if file_limit < 48 || file_limit > FILE_LIMIT {
         return Err(Refusal::FileTooLarge);
     }
     let config = Config { flush, file_limit };
@@ -173,6 +201,17 @@ fn collectors(rt: HostRuntime) -> Result<(), Fail> {
 #[test]
 fn deletions(rt: HostRuntime) -> Result<(), Fail> {
     for row in deleting::ROWS {
+        assert!(rt; flushing(rt.alloc(), 10_000, None, &row)?);
+        assert!(rt; flushing(rt.alloc(), 1, Some(2), &row)?);
+    }
+    Ok(())
+}
+
+/// Rows of scans: with memtables that stay, and with memtables that are compacted after each reply and files that are merged at
+/// two.
+#[test]
+fn scans(rt: HostRuntime) -> Result<(), Fail> {
+    for row in scanning::ROWS {
         assert!(rt; flushing(rt.alloc(), 10_000, None, &row)?);
         assert!(rt; flushing(rt.alloc(), 1, Some(2), &row)?);
     }
@@ -335,7 +374,11 @@ fn a_flush_fails(rt: HostRuntime) -> Result<(), Fail> {
 /// replies.
 fn flushing(alloc: Global, flush: u32, merge: Option<u32>, row: &Row) -> Result<bool, Refusal> {
     let (requests, replies) = streams_of(alloc, row)?;
-    let mut server = flushing_server(alloc, flush, FILE_LIMIT)?;
+    let limits = FlushLimits {
+        entries: flush,
+        bytes: None,
+    };
+    let mut server = flushing_server(alloc, limits, FILE_LIMIT)?;
     if let Some(most) = merge {
         server.merge_at(most);
     }
@@ -346,7 +389,7 @@ fn flushing(alloc: Global, flush: u32, merge: Option<u32>, row: &Row) -> Result<
 }
 
 /// At how many entries memtables are compacted, at how many files these are merged, and the row.
-const COMPACTIONS: [(u32, Option<u32>, Row); 7] = [
+const COMPACTIONS: [(u32, Option<u32>, Row); 9] = [
     (2, None, upkeep::COMPACTED),
     (2, Some(3), upkeep::COMPACTED),
     (2, Some(2), upkeep::MERGED_AT_TWO),
@@ -354,6 +397,8 @@ const COMPACTIONS: [(u32, Option<u32>, Row); 7] = [
     (2, Some(2), upkeep::BOTH_MERGED_AT_TWO),
     (3, Some(2), upkeep::NOT_COMPACTED),
     (10_000, None, upkeep::NOT_COMPACTED),
+    (10_000, None, upkeep::CHECKPOINTED),
+    (10_000, Some(2), upkeep::CHECKPOINTED_AND_MERGED),
 ];
 
 #[test]

@@ -1,9 +1,12 @@
 pub mod Advance
 pub mod Exact
+pub mod GatheredItems
 pub mod Passed
 pub mod ShownReads
 pub mod Refused
 pub mod Room
+pub mod ScanSteps
+pub mod Scanned
 pub mod SessionSteps
 pub mod Table
 pub mod WriteIndexes

@@ -1,5 +1,5 @@
 -- The machine's reads, where the cell map shows its state.
-use Rattle.std.proofs.Common.{◌≡◌, ℕ, zero, suc, ◌+◌, ◌<◌, ◌≤◌, ◌^◌, ◌⊎◌, inl, inr, List, ◌∷◌, Option, Some, None, refl, sym, ap, subst, ◌∙◌, arith}
+use Rattle.std.proofs.Common.{◌≡◌, ℕ, zero, suc, ◌+◌, ◌<◌, ◌≤◌, ◌^◌, ◌⊎◌, inl, inr, Bool, true, List, ◌∷◌, Option, Some, None, refl, sym, ap, subst, ◌∙◌, arith}
 use Rattle.std.proofs.lemmas.Option.{none-some}
 use Rattle.cell_key.specs.Names.{IsRow, IsFamily}
 use Rattle.cell_key.specs.Cells.{Cells}
@@ -9,20 +9,23 @@ use Rattle.cell_key.proofs.RecordTexts.{names_of, one_write}
 use Rattle.cell_key.specs.declared.columns.WriteKind.TheVariants as write
 use Rattle.si_model.specs.Sets.{◌∈◌}
 use Rattle.si_model.specs.Machine as step
-use Rattle.si_model.specs.Machine.{State, Value, Change, Writes, Open, Commit, IsReached, Step, accepts, tells, Get, Answered, Pending, InPhase, Gives, Names, Marked, IsSnapshot}
+use Rattle.si_model.specs.Machine.{State, Value, Change, Writes, Range, Item, Valued, Locked, Unsent, Reach, ToEnd, UpTo, Open, Commit, IsReached, Step, accepts, tells, Get, ScanFrom, Answered, Pending, Scanned, InPhase, Gives, Names, Marked, IsSnapshot}
 use Rattle.si_model.specs.declared.replies.Cell.{Cell}
 use Rattle.si_model.proofs.Tools.{same_entry}
 use Rattle.si_model.proofs.Steps.{reached_sound}
 use Rattle.si_model.proofs.Floors.{reached_floors}
 use Rattle.si_model.proofs.Bounds.{reached_bounds}
 use Rattle.si_model.proofs.Goes.{goes}
-use Rattle.si_model.proofs.Acceptable.{get_ok}
+use Rattle.si_model.proofs.Acceptable.{get_ok, scan_ok}
 use Rattle.si_model.specs.ShowsCells.{at, kind_of_change, IsForgotten, IsThere, NamesCommit, ShowsCells}
 use Rattle.si_model.proofs.Decided.{snapshot_of}
 use Rattle.si_model.proofs.ShownKept.{shows_beside}
 use Rattle.si_model.specs.Reads.{IsClear, IsLast}
+use Rattle.si_model.specs.Scans.{HasFamilies, HasRows, IsBetween, IsSaid, IsScanned, item_length, most_items}
 use Rattle.si_model.proofs.ChangeKinds.{is_deletion, is_set}
 use Rattle.txn_client.specs.Reads.{ReadsValue, ReadsDeletion, IsDamaged}
+use Rattle.txn_client.specs.Scans.{IsReadAs, IsScanCount, IsScanFound, Stops}
+use Rattle.txn_client.proofs.Scanned.{looked_between}
 
 not_above : (m n : ℕ) → ¬ (n < m) → m ≤ n
 not_above m n h = omega arith
@@ -84,9 +87,8 @@ module _ (cells : Cells) (st : State) (reached : IsReached st) (shown : ShowsCel
       (k, shows_beside cells st (after_read s x v) (goes reached k) shown (λ y u m. m) (λ y u m. m) refl)
 
   -- nothing was written, or the last record was that of a deletion, and is forgotten
-  pub reads_nothing : (x : Cell) (s : ℕ) → IsRow x.row → IsFamily x.family → InPhase st s Open → IsClear cells x Lock 0 s → IsClear cells x Write 0 s
-      → Step st (Get s x) (Answered None) (after_read s x None) × ShowsCells cells (after_read s x None)
-  reads_nothing x s row family h clear none = answers x s None row family h clear (snapshot (snapshot_of st.commits s x).1)
+  shows_nothing : (x : Cell) (s : ℕ) → InPhase st s Open → IsClear cells x Lock 0 s → IsClear cells x Write 0 s → IsSnapshot st.commits s x None
+  shows_nothing x s h clear none = snapshot (snapshot_of st.commits s x).1
     where
       snapshot : {answer : Option Value} → IsSnapshot st.commits s x answer → IsSnapshot st.commits s x None
       snapshot (inr (e, never)) = inr (refl, never)
@@ -98,24 +100,27 @@ module _ (cells : Cells) (st : State) (reached : IsReached st) (shown : ShowsCel
             | inr f ↦ inl (r.0, r.1, f.deletes, r.3, λ b j names le. let k = most b j names le in omega arith)
           ]
 
+  pub reads_nothing : (x : Cell) (s : ℕ) → IsRow x.row → IsFamily x.family → InPhase st s Open → IsClear cells x Lock 0 s → IsClear cells x Write 0 s
+      → Step st (Get s x) (Answered None) (after_read s x None) × ShowsCells cells (after_read s x None)
+  reads_nothing x s row family h clear none = answers x s None row family h clear (shows_nothing x s h clear none)
+
   -- the last write record names the snapshot
-  reads_last : (x : Cell) (s c : ℕ) (text : List ℕ) (v : Change) → IsRow x.row → IsFamily x.family → InPhase st s Open → IsClear cells x Lock 0 s → (last : IsLast cells x s c text)
-      → Gives (shown.records x c text last.there).commit.writes x v → Step st (Get s x) (Answered v) (after_read s x v) × ShowsCells cells (after_read s x v)
-  reads_last x s c text v row family h clear last gives =
+  shows_last : (x : Cell) (s c : ℕ) (text : List ℕ) (v : Change) → InPhase st s Open → IsClear cells x Lock 0 s → (last : IsLast cells x s c text)
+      → Gives (shown.records x c text last.there).commit.writes x v → IsSnapshot st.commits s x v
+  shows_last x s c text v h clear last gives =
       let k = shown.records x c text last.there in
       let e = k.stamp in
       let low = last.low in
-      answers x s v row family h clear (inl (
+      inl (
         k.commit,
         k.is_in,
         gives,
         omega arith,
         λ b i names le. let late = greatest x s c text clear ((reached_floors reached).above s Open h) last b i names le in omega arith,
-      ))
+      )
 
-  pub reads_value : (x : Cell) (s : ℕ) (v : Value) → IsRow x.row → IsFamily x.family → InPhase st s Open → ReadsValue cells x s v
-      → Step st (Get s x) (Answered (Some v)) (after_read s x (Some v)) × ShowsCells cells (after_read s x (Some v))
-  reads_value x s v row family h r = reads_last x s r.stamp r.text (Some v) row family h r.unlocked r.is_last gives
+  shows_value : (x : Cell) (s : ℕ) (v : Value) → InPhase st s Open → ReadsValue cells x s v → IsSnapshot st.commits s x (Some v)
+  shows_value x s v h r = shows_last x s r.stamp r.text (Some v) h r.unlocked r.is_last gives
     where
       k : NamesCommit cells st x r.stamp r.text
       k = shown.records x r.stamp r.text r.is_last.there
@@ -128,15 +133,57 @@ module _ (cells : Cells) (st : State) (reached : IsReached st) (shown : ShowsCel
           let g = shown.given x k.commit.start v data_at in
           subst (λ (ws : Writes). Gives ws x (Some v)) (same_entry st.begun k.commit.start g.ws k.commit.writes g.wrote ((reached_sound reached).fair k.commit k.is_in).wrote) g.gives
 
-  pub reads_deletion : (x : Cell) (s : ℕ) → IsRow x.row → IsFamily x.family → InPhase st s Open → IsClear cells x Lock 0 s → ReadsDeletion cells x s
-      → Step st (Get s x) (Answered None) (after_read s x None) × ShowsCells cells (after_read s x None)
-  reads_deletion x s row family h clear r = reads_last x s r.stamp r.text None row family h clear r.is_last (subst (λ (v : Change). Gives k.commit.writes x v) deletes k.gives)
+  pub reads_value : (x : Cell) (s : ℕ) (v : Value) → IsRow x.row → IsFamily x.family → InPhase st s Open → ReadsValue cells x s v
+      → Step st (Get s x) (Answered (Some v)) (after_read s x (Some v)) × ShowsCells cells (after_read s x (Some v))
+  reads_value x s v row family h r = answers x s (Some v) row family h r.unlocked (shows_value x s v h r)
+
+  shows_deletion : (x : Cell) (s : ℕ) → InPhase st s Open → IsClear cells x Lock 0 s → ReadsDeletion cells x s → IsSnapshot st.commits s x None
+  shows_deletion x s h clear r = shows_last x s r.stamp r.text None h clear r.is_last (subst (λ (v : Change). Gives k.commit.writes x v) deletes k.gives)
     where
       k : NamesCommit cells st x r.stamp r.text
       k = shown.records x r.stamp r.text r.is_last.there
 
       deletes : k.change ≡ None
       deletes = is_deletion k.change (one_write r.text k.commit.start r.start (kind_of_change k.change) write.Delete (names_it x r.stamp r.text k) r.names).1
+
+  pub reads_deletion : (x : Cell) (s : ℕ) → IsRow x.row → IsFamily x.family → InPhase st s Open → IsClear cells x Lock 0 s → ReadsDeletion cells x s
+      → Step st (Get s x) (Answered None) (after_read s x None) × ShowsCells cells (after_read s x None)
+  reads_deletion x s row family h clear r = answers x s None row family h clear (shows_deletion x s h clear r)
+
+  -- ---- what a scan says
+
+  said_so : (x : Cell) (s : ℕ) (keys_only : Bool) → InPhase st s Open → (said : Option Item) → IsReadAs cells s keys_only x said → IsSaid st s x said
+  said_so x s keys_only h None found = (above x s found.0, elim found.1 [ inl none ↦ shows_nothing x s h found.0 none | inr deleted ↦ shows_deletion x s h found.0 deleted ])
+  said_so x s keys_only h (Some (Valued v)) read = (above x s read.0.unlocked, shows_value x s v h read.0)
+  said_so x s keys_only h (Some (Locked t)) lock = (shown.locks x t lock.1.0 lock.1.1, lock.0)
+  said_so x s keys_only h (Some Unsent) (v, read, unsent) = (above x s read.unlocked, (v, shows_value x s v h read))
+
+  is_scanned : (s : ℕ) (range : Range) (keys_only : Bool) (n : ℕ) (items : List (Cell × Item)) (reach : Reach) → InPhase st s Open → IsScanFound cells s range keys_only n items reach → IsScanned st s range keys_only n items reach
+  is_scanned s range keys_only n items reach h found = record {
+    said = λ x covers said says. said_so x s keys_only h said (found.said x covers said says);
+    covered = found.covered;
+    rises = found.rises;
+    few = found.few;
+    stops = stops reach found.stops;
+    unsent = λ keys x v i. (found.said x (found.covered x (Valued v) i) (Some (Valued v)) i).1 (inl keys);
+    withheld = λ x i. withheld x (found.said x (found.covered x Unsent i) (Some Unsent) i);
+  }
+    where
+      withheld : (x : Cell) → IsReadAs cells s keys_only x (Some Unsent) → (keys_only ≡ true) ⊎ ((v : Value) × IsSnapshot st.commits s x (Some v) × (most_items < item_length (x, Valued v)))
+      withheld x (v, read, why) = elim why [ inl keys ↦ inl keys | inr long ↦ inr (v, shows_value x s v h read, long) ]
+
+      stops : (reach : Reach) → Stops cells s range keys_only n items reach → (last : Cell) → reach ≡ UpTo last → IsBetween range last
+      stops ToEnd why last is = let f : ⊥ = cc in absurd f
+      stops (UpTo x) (k, some, few, looks, why) last is = let same : x ≡ last = cc in subst (λ (y : Cell). IsBetween range y) same (looked_between cells range k (Some x) looks some x refl)
+
+  abbrev pub after_scan : ℕ → Range → List (Cell × Item) → Reach → State
+  after_scan s range items reach = record st { scans = record { start = s; range = range; reach = reach; items = items } ∷ st.scans }
+
+  pub scans : (s : ℕ) (range : Range) (keys_only : Bool) (n : ℕ) (items : List (Cell × Item)) (reach : Reach) → InPhase st s Open → HasRows range → HasFamilies range → IsScanCount n → IsScanFound cells s range keys_only n items reach
+      → Step st (ScanFrom s range keys_only n) (Scanned items reach) (after_scan s range items reach) × ShowsCells cells (after_scan s range items reach)
+  scans s range keys_only n items reach h rows families count found =
+      let k = accepts (scan_ok h rows families count.0 count.1) (step.scans h (is_scanned s range keys_only n items reach h found)) in
+      (k, shows_beside cells st (after_scan s range items reach) (goes reached k) shown (λ y u m. m) (λ y u m. m) refl)
 
   -- what is shown isn't damaged
   pub undamaged : (x : Cell) (s : ℕ) → ¬ IsDamaged cells x s

@@ -68,7 +68,7 @@ on_err_then P Q (Ok x) go h = tt
 on_err_then P Q (Err e) go h = go h
 
 -- where the machine keeps phase and writes of t, what is shown at t stays shown
-shows_other : (st next : State) (o : Option Session) (t : ℕ) → finmap.get next.active t ≡ finmap.get st.active t → finmap.get next.begun t ≡ finmap.get st.begun t → ShowsAt o t st → ShowsAt o t next
+pub shows_other : (st next : State) (o : Option Session) (t : ℕ) → finmap.get next.active t ≡ finmap.get st.active t → finmap.get next.begun t ≡ finmap.get st.begun t → ShowsAt o t st → ShowsAt o t next
 shows_other st next None t a b h = a ∙ h
 shows_other st next (Some s) t a b h = record { start = h.start; phase = a ∙ h.phase; writes = b ∙ h.writes }
 
@@ -296,19 +296,19 @@ reads_at cells clients last t session x r was is_open row family ok refused st r
     by (Err f) found e = (st, refused_storage (read_storage f e), shown)
 
 -- a request that is refused changes nothing
-stays : (cells : Cells) (clients : Clients) (last : ℕ) (q : Request) (e : Refusal) → ((st : State) → IsReached st → Shows cells clients last st → Step st q (Refused e) st) → Steps cells clients last q (Refused e) cells clients last
+pub stays : (cells : Cells) (clients : Clients) (last : ℕ) (q : Request) (e : Refusal) → ((st : State) → IsReached st → Shows cells clients last st → Step st q (Refused e) st) → Steps cells clients last q (Refused e) cells clients last
 stays cells clients last q e s st reached shown = (st, s st reached shown, shown)
 
-shown_none : (clients : Clients) (t : ℕ) (st : State) → ShowsClients clients st → btree.get nat_cmp clients.sessions t ≡ None → finmap.get st.active t ≡ None
+pub shown_none : (clients : Clients) (t : ℕ) (st : State) → ShowsClients clients st → btree.get nat_cmp clients.sessions t ≡ None → finmap.get st.active t ≡ None
 shown_none clients t st shown none = subst (λ (o : Option Session). ShowsAt o t st) none (shown.sessions t)
 
 pub shown_some : (clients : Clients) (t : ℕ) (st : State) (session : Session) → ShowsClients clients st → btree.get nat_cmp clients.sessions t ≡ Some session → ShowsSession session t st
 shown_some clients t st session shown was = subst (λ (o : Option Session). ShowsAt o t st) was (shown.sessions t)
 
-open_phase : (clients : Clients) (t : ℕ) (st : State) → ShowsClients clients st → IsOpenSession clients t → InPhase st t machine.Open
+pub open_phase : (clients : Clients) (t : ℕ) (st : State) → ShowsClients clients st → IsOpenSession clients t → InPhase st t machine.Open
 open_phase clients t st shown open_at = (shown_some clients t st open_at.0 shown open_at.1).phase ∙ ap (λ (p : Phase). Some (phase_of p open_at.0.commit)) open_at.2
 
-late_phase : (p : Phase) (c : ℕ) → p ≢ Open → phase_of p c ≢ machine.Open
+pub late_phase : (p : Phase) (c : ℕ) → p ≢ Open → phase_of p c ≢ machine.Open
 late_phase Open c h e = h refl
 late_phase (Holding k) c h e = cc
 late_phase Stamped c h e = cc

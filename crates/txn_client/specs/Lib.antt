@@ -1,6 +1,9 @@
+pub mod Gathering
+pub mod Ranges
 pub mod Reads
 pub mod Refusals
 pub mod Room
+pub mod Scans
 pub mod Shows
 pub mod Writes
 pub use Rattle.si_model.specs.Machine

@@ -2,7 +2,7 @@
 use Rattle.std.specs.Prelude.{◌≡◌, ◌⊎◌, ◌^◌, ◌-◌, ⊤, ℕ, IfErr, IsErrOf, Option, Result}
 use Rattle.cell_key.specs.Faults.{HasReason}
 use Rattle.cell_key.specs.declared.refusals.Refusal.{Refusal}
-use Rattle.cell_key.specs.declared.refusals.Refusal.TheVariants.{UnknownSession, WrongPhase, BadRow, BadColumn, BadValue, TooManyWrites, TooManySessions, EmptyCommit, MemtableFull, Exhausted, Device, NoMemory, Damaged}
+use Rattle.cell_key.specs.declared.refusals.Refusal.TheVariants.{UnknownSession, WrongPhase, BadRow, BadColumn, BadValue, TooManyWrites, TooManySessions, EmptyCommit, BadCount, MemtableFull, Exhausted, Device, NoMemory, Damaged}
 use Rattle.oracle.specs.Marks.{MayHold}
 use Rattle.oracle.specs.Ranges.{IsDrawRefusal, OracleState, next_range_end}
 use Rattle.row_atomic.specs.Calls.{OnlyReads, View}
@@ -25,6 +25,17 @@ IsGetRefusal Device = ⊤
 IsGetRefusal NoMemory = ⊤
 IsGetRefusal Damaged = ⊤
 IsGetRefusal _ = ⊥
+
+abbrev pub IsScanRefusal : Refusal → Type 0
+IsScanRefusal UnknownSession = ⊤
+IsScanRefusal WrongPhase = ⊤
+IsScanRefusal BadRow = ⊤
+IsScanRefusal BadColumn = ⊤
+IsScanRefusal BadCount = ⊤
+IsScanRefusal Device = ⊤
+IsScanRefusal NoMemory = ⊤
+IsScanRefusal Damaged = ⊤
+IsScanRefusal _ = ⊥
 
 abbrev pub IsSetRefusal : Refusal → Type 0
 IsSetRefusal UnknownSession = ⊤

@@ -5,7 +5,7 @@ use Rattle.std.specs.BTreeMap as btree
 use Rattle.std.specs.FinMap as finmap
 use Rattle.cell_key.specs.Cells.{Cells}
 use Rattle.cell_key.specs.declared.refusals.Refusal.{Refusal}
-use Rattle.cell_key.specs.declared.refusals.Refusal.TheVariants.{UnknownSession, WrongPhase}
+use Rattle.cell_key.specs.declared.refusals.Refusal.TheVariants.{UnknownSession, WrongPhase, BadCount}
 use Rattle.si_model.specs.Machine as machine
 use Rattle.si_model.specs.Machine.{State, Request, Reply, Step, IsReached, InPhase, Wrote, Writes}
 use Rattle.si_model.specs.Reads.{IsNameRefusal}
@@ -14,6 +14,9 @@ use Rattle.si_model.specs.ShowsCells.{ShowsCells, TouchesOneRow}
 use Rattle.si_model.specs.declared.replies.Cell.{Cell}
 use Rattle.si_model.specs.declared.replies.Progress.{Progress}
 use Rattle.si_model.specs.declared.replies.Progress.TheVariants as progress
+use Rattle.si_model.specs.Scans.{HasFamilies, HasRows}
+use Rattle.txn_client.specs.Ranges.{IsRangeRefusal}
+use Rattle.txn_client.specs.Scans.{IsScanCount}
 use Rattle.txn_client.specs.Writes.{write_of}
 use Rattle.txn_client.specs.declared.sessions.Clients.{Clients}
 use Rattle.txn_client.specs.declared.session.Session.{Session}
@@ -131,6 +134,14 @@ abbrev pub IsCellRefusal : Clients → ℕ → Cell → Refusal → Type 0
 IsCellRefusal clients t x UnknownSession = btree.get nat_cmp clients.sessions t ≡ None
 IsCellRefusal clients t x WrongPhase = IsLate clients t
 IsCellRefusal clients t x refusal = IsOpenSession clients t × IsNameRefusal x refusal
+
+-- why a scan is refused before it reads a cell
+abbrev pub IsScanCause : Clients → ℕ → machine.Range → ℕ → Refusal → Type 0
+IsScanCause clients t range cells UnknownSession = btree.get nat_cmp clients.sessions t ≡ None
+IsScanCause clients t range cells WrongPhase = IsLate clients t
+IsScanCause clients t range cells BadCount =
+    IsOpenSession clients t × HasRows range × HasFamilies range × ¬ IsScanCount cells
+IsScanCause clients t range cells refusal = IsOpenSession clients t × IsRangeRefusal range refusal
 
 -- what a step of one session does: the machine takes the step,
 -- and goes to a state with this session

@@ -3,6 +3,8 @@
 
 mod cells;
 mod laws;
+mod range;
+mod scan;
 mod session;
 mod sessions;
 mod steps;

@@ -1,7 +1,7 @@
 //! The table of active sessions. Its type is named for those that run them: clients (Percolator).
 
 ghost use Rattle.std.specs.Prelude.{◌≡◌, ◌+◌, ◌<◌, ◌^◌, ◌⊎◌, ℕ, IfErr, IfOk, IsErrOf, OnErr, OnOk};
-ghost use Rattle.std.specs.Prelude.{◌≤◌, Some, is_some, if◌then◌else◌};
+ghost use Rattle.std.specs.Prelude.{◌≤◌, Some, is_some, if◌then◌else◌, map};
 ghost use Rattle.std.specs.BTreeMap as btree;
 ghost use Rattle.std.specs.BTreeMap.{Updates, btree_map_len};
 ghost use Rattle.std.specs.FinMap.{empty};
@@ -13,29 +13,37 @@ ghost use Rattle.oracle.specs.Ranges.{next_range_end};
 ghost use Rattle.cell_key.specs.Faults.{HasReason};
 ghost use Rattle.si_model.specs.Machine as machine;
 ghost use Rattle.si_model.specs.Machine.{IsReached, State};
-ghost use Rattle.si_model.specs.Replies.{found_reply, progress_reply, result_reply};
+ghost use Rattle.si_model.specs.Replies.{found_reply, item_of, progress_reply, range_of, reach_of, result_reply, scan_reply};
+ghost use Rattle.si_model.specs.Scans.{HasFamilies, HasRows};
 ghost use Rattle.si_model.specs.ShowsCells.{ShowsCells};
 ghost use Rattle.si_model.specs.Reads.{cell_of};
 ghost use Rattle.txn_client.specs.Reads.{IsDamaged, IsFound, IsShort};
-ghost use Rattle.txn_client.specs.Refusals.{HasNoStamp, HasOneReason, IsBeginRefusal, IsDeleteRefusal, IsGetRefusal, IsSetRefusal, IsStepRefusal, StepCauses, StepLeaves};
+ghost use Rattle.txn_client.specs.Ranges.{range_named};
+ghost use Rattle.txn_client.specs.Scans.{IsInScanLimits, IsScanCount, IsScanDamaged, IsScanFound};
+ghost use Rattle.txn_client.specs.Refusals.{HasNoStamp, HasOneReason, IsBeginRefusal, IsDeleteRefusal, IsGetRefusal, IsScanRefusal, IsSetRefusal, IsStepRefusal, StepCauses, StepLeaves};
 ghost use Rattle.row_atomic.specs.Calls.{KeepsBelow, OnlyReads};
 ghost use Rattle.row_atomic.specs.Room.{HasNoRoom};
 ghost use Rattle.txn_client.specs.Room.{ChangesNext, EditsOfStep, StepMakes};
-ghost use Rattle.txn_client.specs.Shows.{InEachShown, IsAboutToDraw, IsCellRefusal, IsCrowded, IsInactive, IsOpenSession, SameClients, Shows, ShowsClients, Steps, TouchesFor, open_session, top_after};
+ghost use Rattle.txn_client.specs.Shows.{InEachShown, IsAboutToDraw, IsCellRefusal, IsCrowded, IsInactive, IsOpenSession, IsScanCause, SameClients, Shows, ShowsClients, Steps, TouchesFor, open_session, top_after};
 
 use crate::cells;
+use crate::range::Range;
+use crate::scan::Scan;
 use crate::session::{Phase, Session};
 use crate::value::Value;
 use crate::writes::{Write, Writes};
 use cell_key::{MOST_STAMP, Moment, Refusal, Stamp};
 use oracle::{MarkStore, Oracle};
 use row_atomic::Rows;
-use si_model::{Cell, Found, Progress};
+use si_model::{Cell, Found, Progress, ScanRange, ScanReply};
 use std::alloc::Global;
 use std::collections::BTreeMap;
 
 /// The most sessions that are active at once.
 const MOST_SESSIONS: usize = 1024;
+
+/// The most cells that a scan may look at.
+const MOST_SCANNED: u32 = 1000;
 
 /// The active sessions by their starts, and the greatest stamp that was answered.
 ///
@@ -227,6 +235,90 @@ impl Clients {
     {
         let cell = self.open_cell(start, row, family)?;
         cells::read_cell(rows, &cell, start)
+    }
+
+    /// What is to be scanned for an open session: UnknownSession, WrongPhase, BadRow, BadColumn,
+    /// BadCount, NoMemory.
+    fn open_scan(
+        &self,
+        start: Stamp,
+        range: ScanRange<'_>,
+        keys_only: bool,
+        cells: u32,
+    ) -> Result<Scan, Refusal>
+        ensures start { IfOk result (λ scan. scan.start ≡ start) }
+        ensures range { IfOk result (λ scan. range_named scan.range ≡ range_of range.entry) }
+        ensures keys { IfOk result (λ scan. scan.keys_only ≡ keys_only) }
+        ensures open { OnOk result (IsOpenSession self.now start) }
+        ensures rows { OnOk result (HasRows (range_of range.entry)) }
+        ensures families { OnOk result (HasFamilies (range_of range.entry)) }
+        ensures count { OnOk result (IsScanCount cells) }
+        ensures refusal { IfErr result
+            (IsScanCause self.now start (range_of range.entry) cells) }
+    {
+        let Some(session) = self.sessions.get(&start) else {
+            return Err(Refusal::UnknownSession);
+        };
+        let range = match session.phase {
+            Phase::Open => Range::new(self.alloc, range)?,
+            _ => return Err(Refusal::WrongPhase),
+        };
+        if cells < 1 || cells > MOST_SCANNED {
+            return Err(Refusal::BadCount);
+        }
+        Ok(Scan {
+            start,
+            range,
+            keys_only,
+        })
+    }
+
+    /// Reads the cells of a range as of the session's start, in the order of rows and then of families.
+    /// It names each cell that has a value, with the value, and each that a lock keeps back, with the
+    /// lock's stamp. A cell that it goes over and doesn't name has nothing. A value is left out if keys
+    /// alone are asked for, or if its item alone would take more than 61,440 bytes of a reply.
+    ///
+    /// It goes over the whole range (`End`), or stops after a cell (`More`): when it has looked at
+    /// `cells` cells, those of other families among them, or before a cell whose item would make the
+    /// items take more than 61,440 bytes. It goes on by one cell at least.
+    ///
+    /// # Errors
+    ///
+    /// In this order: `UnknownSession`, `WrongPhase` after the session's first step, `BadRow`,
+    /// `BadColumn`, `BadCount` if `cells` is 0 or above 1,000; then `Device`, `NoMemory`, or `Damaged`
+    /// if bytes that were read are outside their form.
+    pub fn scan<R: Rows>(
+        &self,
+        rows: &mut R,
+        start: Stamp,
+        range: ScanRange<'_>,
+        keys_only: bool,
+        cells: u32,
+    ) -> Result<ScanReply, Refusal>
+        ensures step { R.seen.holds rows.old → (last : ℕ) → Steps
+            (R.seen.cells rows.old) self.now last
+            (machine.ScanFrom start (range_of range.entry) keys_only cells)
+            (result_reply scan_reply result) (R.seen.cells rows.new) self.now last }
+        // What is answered stands in the cells, whatever they hold.
+        ensures found { R.seen.holds rows.old → IfOk result (λ reply. IsScanFound
+            (R.seen.cells rows.old) start (range_of range.entry) keys_only cells
+            (map item_of reply.items.items) (reach_of reply.reach)) }
+        ensures reads { OnlyReads R.seen rows.old rows.new }
+        // What is shown is never answered as damaged.
+        ensures undamaged { R.seen.holds rows.old → (st : State) → IsReached st
+            → ShowsCells (R.seen.cells rows.old) st → ¬ (IsErrOf result Refusal.Damaged) }
+        ensures damaged { R.seen.holds rows.old → IfErr result (λ refusal. refusal ≡ Refusal.Damaged
+            → IsScanDamaged (R.seen.cells rows.old) (range_of range.entry) start) }
+        ensures limits { IfOk result (λ reply. IsInScanLimits
+            (map item_of reply.items.items) (reach_of reply.reach)) }
+        ensures refusal { IfErr result IsScanRefusal }
+        ensures unknown { (st : State) → ShowsClients self.now st → IsInactive st start
+            → IsErrOf result Refusal.UnknownSession }
+        ensures count { OnOk result (IsScanCount cells) }
+        ensures reason { HasReason (R.faults rows.old) (R.faults rows.new) result }
+    {
+        let scan = self.open_scan(start, range, keys_only, cells)?;
+        scan.run(self.alloc, rows, cells)
     }
 
     /// Buffers a write of a cell (Percolator, Set). A cell that has one keeps its place and takes

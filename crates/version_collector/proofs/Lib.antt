@@ -1,3 +1,4 @@
+pub mod AheadCells
 pub mod Erasures
 pub mod Greatest
 pub mod OneVisit

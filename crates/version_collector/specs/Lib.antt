@@ -1,3 +1,4 @@
+pub mod Ahead
 pub mod Erasing
 pub mod Locks
 pub mod Refusals

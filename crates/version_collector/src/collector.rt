@@ -1,6 +1,7 @@
 //! One collector, and its visits of cells.
 
-ghost use Rattle.std.specs.Prelude.{◌≡◌, IfErr, IfOk, IsErrOf, None, OnErr, Some};
+ghost use Rattle.std.specs.Prelude.{◌≡◌, ◌≤◌, IfErr, IfOk, IsErrOf, None, OnErr, OnOk, Some};
+ghost use Rattle.std.specs.Vec.Iter.{into_iter_items};
 ghost use Rattle.cell_key.specs.Cells.{Cells};
 ghost use Rattle.cell_key.specs.Faults.{HasReason};
 ghost use Rattle.cell_key.specs.Places.{IsNextCell};
@@ -9,14 +10,16 @@ ghost use Rattle.row_atomic.specs.Refusals.{IsRefusalOfRead};
 ghost use Rattle.row_atomic.specs.Room.{HasNoRoom};
 ghost use Rattle.si_model.specs.Collection.{place_at};
 ghost use Rattle.si_model.specs.Machine.{State};
+ghost use Rattle.version_collector.specs.Ahead.{Follow, IsAhead};
 ghost use Rattle.version_collector.specs.Locks.{IsLowLock};
 ghost use Rattle.version_collector.specs.Refusals.{IsVisitRefusal};
 ghost use Rattle.version_collector.specs.Room.{AreOfVisitsIn, TakesRoomOfVisits};
 ghost use Rattle.version_collector.specs.Versions.{AreShown};
 ghost use Rattle.version_collector.specs.Visits.{HasVisited, Thins, Visits, WhereCome, position_of};
 
+use crate::ahead::Ahead;
 use crate::erasing::erase_old;
-use cell_key::{Family, Qualifier, Refusal, Row, Stamp};
+use cell_key::{Qualifier, Refusal, Stamp};
 use row_atomic::Rows;
 use si_model::{Cell, CollectReply};
 use std::alloc::Global;
@@ -52,32 +55,7 @@ fn low_lock<R: Rows>(rows: &mut R, cell: &Cell, floor: Stamp) -> Result<Option<S
     Ok(lock.map(|(start, _)| start))
 }
 
-/// The cell of a row and a family, if there is one.
-fn cell_at(place: Option<(Row, Family)>) -> Option<Cell>
-    ensures { position_of result ≡ place }
-{
-    match place {
-        Some((row, family)) => Some(Cell { row, family }),
-        None => None,
-    }
-}
-
 impl Collector {
-    /// The next cell after the position that has any key.
-    fn next_cell<R: Rows>(&self, rows: &mut R) -> Result<Option<Cell>, Refusal>
-        ensures found { R.seen.holds rows.old
-            → IfOk result (λ found.
-            IsNextCell (R.seen.cells rows.old) (position_of self.now.after) (position_of found)) }
-        ensures reads { OnlyReads R.seen rows.old rows.new }
-        ensures refusal { IfErr result (IsRefusalOfRead (R.seen.holds rows.old)) }
-        ensures reason { HasReason (R.faults rows.old) (R.faults rows.new) result }
-    {
-        match &self.after {
-            Some(cell) => Ok(cell_at(rows.next_cell(Some((&cell.row, &cell.family)))?)),
-            None => Ok(cell_at(rows.next_cell(None)?)),
-        }
-    }
-
     /// With no next cell: the second pass begins before all cells, or all is collected.
     fn turn(&mut self) -> CollectReply
         ensures turned { (cells : Cells)
@@ -102,6 +80,8 @@ impl Collector {
             → IsNextCell (R.seen.cells rows.old) (position_of self.old.after) (Some (place_at cell))
             → IfOk result (λ reply.
             Visits (R.seen.cells rows.old) self.old reply (R.seen.cells rows.old) self.new) }
+        ensures moves { IfOk result (λ reply. reply ≡ CollectReply.More
+            → self.new.after ≡ Some cell) }
         ensures floor { self.new.floor ≡ self.old.floor }
         ensures reads { OnlyReads R.seen rows.old rows.new }
         ensures err { OnErr result (self.new ≡ self.old) }
@@ -115,18 +95,25 @@ impl Collector {
         Ok(CollectReply::More)
     }
 
-    /// Visits the next cell in the second pass: erases old versions of it, or goes past it.
+    /// Visits the next cell in the second pass: erases old versions of it, which may be all its keys, or goes past it.
     fn collect<R: Rows>(
         &mut self,
         alloc: Global,
         rows: &mut R,
         cell: Cell,
+        ahead: &mut Ahead,
     ) -> Result<CollectReply, Refusal>
         ensures visit { R.seen.holds rows.old
             → AreShown (R.seen.cells rows.old) → self.old.pass ≡ Pass.Second
             → IsNextCell (R.seen.cells rows.old) (position_of self.old.after) (Some (place_at cell))
             → IfOk result (λ reply.
             Visits (R.seen.cells rows.old) self.old reply (R.seen.cells rows.new) self.new) }
+        ensures ahead { R.seen.holds rows.old
+            → IsNextCell (R.seen.cells rows.old) (position_of self.old.after) (Some (place_at cell))
+            → Follow (R.seen.cells rows.old) (Some (place_at cell))
+            (into_iter_items ahead.old.places) ahead.old.is_end
+            → ahead.old.doubted ≡ None
+            → OnOk result (IsAhead (R.seen.cells rows.new) (position_of self.new.after) ahead.new) }
         ensures floor { self.new.floor ≡ self.old.floor }
         ensures thins { R.seen.holds rows.old
             → Thins 1 (R.seen.cells rows.old) (R.seen.cells rows.new) }
@@ -143,13 +130,14 @@ impl Collector {
     {
         let erased = erase_old(alloc, rows, &cell, self.floor)?;
         if erased {
+            ahead.doubted = Some(cell);
             return Ok(CollectReply::More);
         }
         self.after = Some(cell);
         Ok(CollectReply::More)
     }
 
-    /// Makes one visit. `More` says that the next visit may follow.
+    /// Makes one visit, of the `visits` that are still to be made. `More` says that the next visit may follow.
     ///
     /// # Errors
     ///
@@ -159,11 +147,20 @@ impl Collector {
         &mut self,
         alloc: Global,
         rows: &mut R,
+        ahead: &mut Ahead,
+        visits: usize,
     ) -> Result<CollectReply, Refusal>
+        requires { 1 ≤ visits }
         ensures visit { R.seen.holds rows.old
             → AreShown (R.seen.cells rows.old)
+            → IsAhead (R.seen.cells rows.old) (position_of self.old.after) ahead.old
             → IfOk result (λ reply.
             Visits (R.seen.cells rows.old) self.old reply (R.seen.cells rows.new) self.new) }
+        // What was found ahead is still ahead.
+        ensures ahead { R.seen.holds rows.old
+            → IsAhead (R.seen.cells rows.old) (position_of self.old.after) ahead.old
+            → IfOk result (λ reply. reply ≡ CollectReply.More
+            → IsAhead (R.seen.cells rows.new) (position_of self.new.after) ahead.new) }
         ensures floor { self.new.floor ≡ self.old.floor }
         ensures thins { R.seen.holds rows.old
             → Thins 1 (R.seen.cells rows.old) (R.seen.cells rows.new) }
@@ -179,16 +176,18 @@ impl Collector {
             → HasNoRoom R.seen.overfills rows.old (AreOfVisitsIn 1) }
         ensures reason { HasReason (R.faults rows.old) (R.faults rows.new) result }
     {
-        let Some(cell) = self.next_cell(rows)? else {
+        let Some(cell) = ahead.next(rows, &self.after, visits)? else {
+            *ahead = Ahead::new(alloc);
             return Ok(self.turn());
         };
         match self.pass {
             Pass::First => self.look(rows, cell),
-            Pass::Second => self.collect(alloc, rows, cell),
+            Pass::Second => self.collect(alloc, rows, cell, ahead),
         }
     }
 
-    /// Makes visits until one is answered otherwise than `More`, or is refused, or this many are made.
+    /// Makes visits until one is answered otherwise than `More`, or is refused, or this many are made. Their cells are
+    /// found many at a time.
     ///
     /// # Errors
     ///
@@ -219,8 +218,9 @@ impl Collector {
             → HasNoRoom R.seen.overfills rows.old (AreOfVisitsIn visits) }
         ensures reason { HasReason (R.faults rows.old) (R.faults rows.new) result }
     {
-        for _ in 0..visits {
-            match self.visit(alloc, rows)? {
+        let mut ahead = Ahead::new(alloc);
+        for made in 0..visits {
+            match self.visit(alloc, rows, &mut ahead, (visits - made) as usize)? {
                 CollectReply::More => {}
                 CollectReply::Blocked(cell, start) => {
                     return Ok(CollectReply::Blocked(cell, start));

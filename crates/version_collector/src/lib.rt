@@ -2,6 +2,7 @@
 //! the snapshot machine.
 #![tactic(auto)]
 
+mod ahead;
 mod collector;
 mod collectors;
 mod erasing;

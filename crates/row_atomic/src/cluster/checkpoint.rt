@@ -1,6 +1,6 @@
 //! Checkpoints: what a cluster shows is put into its files, and the root file has the lengths of the others.
 
-ghost use Rattle.std.specs.Prelude.{◌≡◌, ◌⊎◌, IfErr, IfOk, IfSome, IsErrOf, OnOk, length};
+ghost use Rattle.std.specs.Prelude.{◌≡◌, ◌⊎◌, IfErr, IfOk, IfSome, IsErrOf, OnErr, OnOk, length};
 ghost use Rattle.std.specs.FinMap.{get};
 ghost use Rattle.cell_key.specs.Faults.{HasReason};
 ghost use Rattle.metadata_table.specs.Roots.{file_names};
@@ -8,9 +8,10 @@ ghost use Rattle.row_atomic.specs.Changes.{Holds, IsRefusalOf};
 ghost use Rattle.row_atomic.specs.Commands.{TellsFaults, done_of};
 ghost use Rattle.row_atomic.specs.Compactions.{minor as minor_compaction};
 ghost use Rattle.row_atomic.specs.Flushes.{KeepsShown, numbers_of};
-ghost use Rattle.row_atomic.specs.Roots.{AreFlushed, AreMeasured, Checkpoints, FlushesEach, PutsRoot, Rests};
+ghost use Rattle.row_atomic.specs.Roots.{AreFlushed, AreMeasured, Checkpoints, FlushesEach, PutsRoot, PutsRootOrNone, Rests, StaysOrRests};
 
 use crate::cluster::Cluster;
+use crate::cluster::laws::{root_is_stored, root_outlasts_flushes};
 use cell_key::{Refusal, Stamp};
 use file_store::Files;
 use metadata_table::MetadataTable;
@@ -98,6 +99,8 @@ impl<F: Files> Cluster<F> {
         ensures rest { self.new ≡ record self.old { files = self.new.files } }
         ensures rests { OnOk result (AreFlushed self.old
             → Rests F.contents top floor self.old self.new) }
+        ensures whole { F.replaces → OnErr result
+            (PutsRootOrNone F.contents top floor self.old self.new) }
         ensures keeps { KeepsShown F.contents F.faults self.old self.new }
         ensures faults { TellsFaults F.faults (done_of result) self.old self.new }
     {
@@ -118,19 +121,24 @@ impl<F: Files> Cluster<F> {
     ///
     /// # Errors
     ///
-    /// Those of `minor` for a known tablet. Some minor compactions may then have been done. If
-    /// the put of the root file was refused its bytes are open.
+    /// Those of `minor` for a known tablet. Some minor compactions may then have been done. If the put of the root
+    /// file was refused, its bytes are open; over files that a put replaces as a whole they are the old or the new ones.
     pub fn checkpoint(&mut self, top: Stamp, floor: Stamp) -> Result<(), Refusal>
         ensures steps { Checkpoints
             F.contents F.faults top floor self.old (done_of result) self.new }
         ensures flushed { OnOk result (AreFlushed self.new) }
         ensures rests { OnOk result (Rests F.contents top floor self.old self.new) }
+        // Over files that a put replaces as a whole, a refusal leaves there what they kept, or what the cluster showed.
+        ensures whole { F.replaces → OnErr result
+            (StaysOrRests F.contents top floor self.old self.new) }
         // Whether it is done or refused, tablets that were in order are, with the same cells.
         ensures keeps { KeepsShown F.contents F.faults self.old self.new }
         ensures refusal { IfErr result (IsRefusalOf minor_compaction) }
         ensures undamaged { Holds F.contents self.old → ¬ IsErrOf result Refusal.Damaged }
         ensures faults { TellsFaults F.faults (done_of result) self.old self.new }
     {
+        root_is_stored::<F>();
+        root_outlasts_flushes::<F>();
         self.flush_each()?;
         self.put_root(top, floor)
     }

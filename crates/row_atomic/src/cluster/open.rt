@@ -16,11 +16,12 @@ ghost use Rattle.row_atomic.specs.Open.{AreCounted, AreLoaded, FindsRoot, FitsAt
 
 use crate::cluster::Cluster;
 use crate::cluster::checkpoint::{ROOT_NAME, file_lengths};
+use crate::fill::Fill;
 use crate::place_cache::PlaceCache;
 use cell_key::{Refusal, Row, Stamp};
 use file_store::{Files, read_whole};
 use metadata_table::{MetadataTable, Place, Root, one_measure, one_root};
-use sorted_file::refusal_of;
+use sorted_file::{few_blocks, refusal_of};
 use std::alloc::{AllocError, Global};
 use tablet::{RowRange, Tablet, files_are_there, same_cells};
 
@@ -78,7 +79,13 @@ fn load_at<F: Files>(
         end_of(&places[index - 1])?
     };
     let end = end_of(&places[index])?;
-    Tablet::load(alloc, RowRange { after, end }, &places[index].files, files)
+    Tablet::load(
+        alloc,
+        RowRange { after, end },
+        &places[index].files,
+        few_blocks(),
+        files,
+    )
 }
 
 /// Opens the files of every tablet, each at its number less 1.
@@ -196,7 +203,7 @@ impl<F: Files> Cluster<F> {
                     next_name: root.next_name,
                     table: root.table,
                     tablets,
-                    most_entries: 0,
+                    most: Fill::NONE,
                     place_cache,
                 },
                 root.top,

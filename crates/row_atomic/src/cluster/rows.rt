@@ -1,9 +1,9 @@
 //! A cluster as rows of cells.
 
-ghost use Rattle.std.specs.Prelude.{◌≡◌, ◌↔◌, IfErr, IfOk, IfSome, IsErrOf, IsTrue, None, Some, length, option_map};
+ghost use Rattle.std.specs.Prelude.{◌≡◌, ◌≤◌, ◌↔◌, IfErr, IfOk, IfSome, IsErrOf, IsTrue, None, Some, length, option_map};
 ghost use Rattle.std.specs.List.{AllByRecursion};
 ghost use Rattle.cell_key.specs.Cells.{IsNewest, version};
-ghost use Rattle.cell_key.specs.Places.{IsNextCell, place_named};
+ghost use Rattle.cell_key.specs.Places.{AreNextCells, IsNextCell, place_named};
 ghost use Rattle.cell_key.specs.Versions.{IsVersionIn, stamped};
 ghost use Rattle.file_store.specs.Store.{Contents};
 ghost use Rattle.metadata_table.specs.Places.{view_of, views};
@@ -18,11 +18,13 @@ ghost use Rattle.row_atomic.specs.Refusals.{IsRefusalOfRead};
 ghost use Rattle.row_atomic.specs.Clusters.{ArePlaced, PrecedesCell, cells_in};
 
 use crate::cluster::Cluster;
+use crate::fill::Fill;
 use crate::place_cache::index_of;
 use crate::rows::Rows;
 use cell_key::{Edit, Family, Qualifier, Refusal, Row, Stamp};
 use file_store::Files;
 use metadata_table::Place;
+use std::alloc::Global;
 use tablet::{Tablet, stays_in_range};
 
 /// Whether all rows of a place come before the row of a cell.
@@ -36,21 +38,26 @@ fn precedes(place: &Place, after: Option<(&Row, &Family)>) -> bool
     }
 }
 
-/// The next cell that has any key in the first of these tablets, in the order of their rows, that has one.
-fn next_cell_in<F: Files>(
+/// The next cells that have any key in these tablets, in the order of their rows: `most` of them, or fewer if no
+/// more are left. A tablet is asked only for what those before it lack.
+fn next_cells_in<F: Files>(
+    alloc: Global,
     places: &[Place],
     tablets: &[Tablet],
     after: Option<(&Row, &Family)>,
+    most: usize,
     files: &mut F,
-) -> Result<Option<(Row, Family)>, Refusal>
+) -> Result<Vec<(Row, Family)>, Refusal>
     requires table { IsTable (views places.now) }
     requires placed { ArePlaced tablets.now None (views places.now) }
     requires as_many { length tablets.now ≡ length (views places.now) }
     ensures found { IfOk result (λ found. (m : Contents) → F.contents files.old ≡ Some m
         → AllByRecursion (HoldsAt m) tablets.now
-        → IsNextCell (cells_in (Some m) tablets.now) (option_map place_named after.entry) found) }
+        → AreNextCells (cells_in (Some m) tablets.now) (option_map place_named after.entry) most
+        found.items) }
+    ensures few { IfOk result (λ found. length found.items ≤ most) }
     ensures meets { IsErrOf result Refusal.Damaged → MeetsDamage (F.contents files.old)
-        (option_map place_named after.entry) (views places.now) tablets.now }
+        (option_map place_named after.entry) most (views places.now) tablets.now }
     ensures damaged { IsErrOf result Refusal.Damaged
         → (m : Contents) → F.contents files.old ≡ Some m → ¬ AllByRecursion (HoldsAt m) tablets.now }
     ensures refusal { IfErr result IsReadRefusal }
@@ -58,16 +65,15 @@ fn next_cell_in<F: Files>(
     ensures reason { HasReason (F.faults files.old) (F.faults files.new) result }
 {
     stays_in_range();
+    let mut found = Vec::new(alloc);
     for place in places {
-        if !precedes(place, after) {
+        if found.len() < most && !precedes(place, after) {
             let tablet = &tablets[place.tablet as usize - 1];
-            match tablet.next_cell(after, files)? {
-                Some(found) => return Ok(Some(found)),
-                None => {}
-            }
+            let mut more = tablet.next_cells(after, most - found.len(), files)?;
+            found.append(&mut more)?;
         }
     }
-    Ok(None)
+    Ok(found)
 }
 
 impl<F: Files> Rows for Cluster<F> {
@@ -107,19 +113,47 @@ impl<F: Files> Rows for Cluster<F> {
             (cells_shown F.contents self.old) (option_map place_named after.entry)) }
         ensures reads { OnlyReads (seen_of F.contents) self.old self.new }
         ensures damaged { IsErrOf result Refusal.Damaged → MeetsDamage
-            (F.contents self.old.files) (option_map place_named after.entry)
+            (F.contents self.old.files) (option_map place_named after.entry) 1
             self.old.places self.old.tablets }
         ensures refusal { IfErr result (IsRefusalOfRead (Holds F.contents self.old)) }
         ensures reason { HasReason (F.faults self.old.files) (F.faults self.new.files) result }
     {
-        next_cell_in(self.table.places(), &self.tablets, after, &mut self.files)
+        let mut found = self.next_cells(after, 1)?;
+        Ok(found.pop())
+    }
+
+    fn next_cells(
+        &mut self,
+        after: Option<(&Row, &Family)>,
+        most: usize,
+    ) -> Result<Vec<(Row, Family)>, Refusal>
+        ensures found { Holds F.contents self.old → IfOk result (λ found. AreNextCells
+            (cells_shown F.contents self.old) (option_map place_named after.entry) most
+            found.items) }
+        ensures few { IfOk result (λ found. length found.items ≤ most) }
+        ensures reads { OnlyReads (seen_of F.contents) self.old self.new }
+        ensures damaged { IsErrOf result Refusal.Damaged → MeetsDamage
+            (F.contents self.old.files) (option_map place_named after.entry) most
+            self.old.places self.old.tablets }
+        ensures refusal { IfErr result (IsRefusalOfRead (Holds F.contents self.old)) }
+        ensures reason { HasReason (F.faults self.old.files) (F.faults self.new.files) result }
+    {
+        let places = self.table.places();
+        next_cells_in(
+            self.alloc,
+            places,
+            &self.tablets,
+            after,
+            most,
+            &mut self.files,
+        )
     }
 
     fn apply(&mut self, row: &Row, edits: Vec<Edit>) -> Result<(), Refusal> {
         stays_in_range();
         let index = index_of(&self.table, &mut self.place_cache, row);
         let done = self.tablets[index].apply(row, edits);
-        self.most_entries = self.most_entries.max(self.tablets[index].len());
+        self.most = self.most.joined(Fill::of(&self.tablets[index]));
         done
     }
 

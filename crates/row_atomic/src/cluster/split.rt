@@ -70,7 +70,7 @@ fn open_again<F: Files>(
     files_are_there();
     let mut names = room.names;
     tablet.push_names(&mut names).unwrap();
-    Tablet::load(alloc, room.range, &names, files)
+    Tablet::load(alloc, room.range, &names, tablet.most_blocks(), files)
 }
 
 impl<F: Files> Cluster<F> {

@@ -1,27 +1,28 @@
-//! Upkeep of tablets: minor compactions of those whose memtables have many entries, and merging compactions of those
-//! that have many files.
+//! Upkeep of tablets: minor compactions of those whose memtables are full, and merging compactions of those that have
+//! many files.
 
-ghost use Rattle.std.specs.Prelude.{◌≡◌, ◌≤◌, ◌<◌, Some, IsTrue, true, length, nat_le};
-ghost use Rattle.std.specs.List.{list_any, slice_get};
-ghost use Rattle.tablet.specs.Views.{memory_of};
+ghost use Rattle.std.specs.Prelude.{◌≡◌, ◌≤◌, ◌<◌, Some, IsTrue, true, length};
+ghost use Rattle.std.specs.List.{slice_get};
 ghost use Rattle.metadata_table.specs.Table.{HasTablet};
 ghost use Rattle.row_atomic.specs.Changes.{Numbered};
 ghost use Rattle.row_atomic.specs.Clusters.{tablet_numbered};
-ghost use Rattle.row_atomic.specs.Memtables.{is_any_full, longest};
-ghost use Rattle.row_atomic.specs.Flushes.{CompactsFull, KeepsShown, LeavesFew, MergesMany, has_entries, has_files, numbers_of};
+ghost use Rattle.row_atomic.specs.Memtables.{is_any_full, largest, longest};
+ghost use Rattle.row_atomic.specs.Flushes.{CompactsFull, KeepsShown, LeavesFew, MergesMany, has_files, has_full, numbers_of};
 
 use crate::cluster::Cluster;
+use crate::fill::{Fill, FlushLimits};
 use file_store::Files;
 use tablet::Tablet;
 
-/// How many entries the longest memtable of these tablets has.
-fn longest(tablets: &[Tablet]) -> usize
-    ensures { result ≡ longest tablets.now }
+/// How many entries the longest memtable of these tablets has, and how many bytes the largest.
+fn fullest(tablets: &[Tablet]) -> Fill
+    ensures entries { result.entries ≡ longest tablets.now }
+    ensures bytes { result.bytes ≡ largest tablets.now }
 {
-    let mut most = 0;
+    let mut most = Fill::NONE;
     let mut rest = tablets;
     'tablets: while let Some((tablet, after)) = rest.split_first() {
-        most = most.max(tablet.len());
+        most = most.joined(Fill::of(tablet));
         rest = after;
     }
     most
@@ -37,57 +38,57 @@ impl<F: Files> Cluster<F> {
         self.table.places()[index].tablet
     }
 
-    /// Whether some tablet's memtable may have `flush` entries or more: if not, none has. Asks no tablet.
-    fn may_have_full(&self, flush: u32) -> bool
-        ensures { IsTrue (is_any_full flush self.now.tablets) → IsTrue result }
+    /// Whether some tablet's memtable may be full: if not, none is. Asks no tablet.
+    fn may_have_full(&self, limits: FlushLimits) -> bool
+        ensures { IsTrue (is_any_full limits self.now.tablets) → IsTrue result }
     {
-        self.most_entries >= flush as usize
+        self.most.reaches(limits)
     }
 
-    /// Whether some tablet's memtable has `flush` entries or more, erasures among them, so that `compact_full` compacts
-    /// it. No tablet is asked if none can have as many. Takes no memory.
-    pub fn has_full(&self, flush: u32) -> bool
-        ensures { result ≡ list_any (λ t. nat_le flush (length (memory_of t))) self.now.tablets }
+    /// Whether some tablet's memtable is full, so that `compact_full` compacts it. No tablet is asked if none can be.
+    /// Takes no memory.
+    pub fn has_full(&self, limits: FlushLimits) -> bool
+        ensures { result ≡ is_any_full limits self.now.tablets }
     {
-        self.may_have_full(flush)
+        self.may_have_full(limits)
             && self
                 .tablets
                 .iter()
-                .any(|tablet| tablet.len() >= flush as usize)
+                .any(|tablet| Fill::of(tablet).reaches(limits))
     }
 
-    /// Whether the memtable of a tablet has this many entries or more.
-    fn has_entries(&self, tablet: u32, flush: u32) -> bool
+    /// Whether the memtable of a tablet is full.
+    fn is_full(&self, tablet: u32, limits: FlushLimits) -> bool
         requires known { HasTablet tablet self.now.places }
-        ensures { result ≡ has_entries flush (tablet_numbered tablet self.now.tablets) }
+        ensures { result ≡ has_full limits (tablet_numbered tablet self.now.tablets) }
     {
         let index = self.position(tablet);
-        self.tablets[index].len() >= flush as usize
+        Fill::of(&self.tablets[index]).reaches(limits)
     }
 
-    /// Asks each tablet whether its memtable has `flush` entries or more, and compacts it if so.
-    fn compact_each_full(&mut self, flush: u32)
-        ensures compacts { CompactsFull F.contents F.faults flush self.old self.new }
+    /// Asks each tablet whether its memtable is full, and compacts it if so.
+    fn compact_each_full(&mut self, limits: FlushLimits)
+        ensures compacts { CompactsFull F.contents F.faults limits self.old self.new }
         ensures keeps { KeepsShown F.contents F.faults self.old self.new }
     {
         for index in 0..self.table.len() {
             let tablet = self.number_at(index);
-            if self.has_entries(tablet, flush) {
+            if self.is_full(tablet, limits) {
                 let _ = self.minor(tablet);
             }
         }
     }
 
-    /// Compacts each tablet whose memtable has `flush` entries or more, erasures among them, as `minor` does, in the
-    /// order of their ends. A refusal isn't answered: the tablet is then as before, and the next one is tried all the
-    /// same. No tablet is asked if none can have as many.
-    pub fn compact_full(&mut self, flush: u32)
-        ensures compacts { CompactsFull F.contents F.faults flush self.old self.new }
+    /// Compacts each tablet whose memtable is full, that is has as many entries or bytes as the limits say, as `minor`
+    /// does, in the order of their ends. A refusal isn't answered: the tablet is then as before, and the next one is
+    /// tried all the same. No tablet is asked if none can be full.
+    pub fn compact_full(&mut self, limits: FlushLimits)
+        ensures compacts { CompactsFull F.contents F.faults limits self.old self.new }
         ensures keeps { KeepsShown F.contents F.faults self.old self.new }
     {
-        if self.may_have_full(flush) {
-            self.compact_each_full(flush);
-            self.most_entries = longest(&self.tablets);
+        if self.may_have_full(limits) {
+            self.compact_each_full(limits);
+            self.most = fullest(&self.tablets);
         }
     }
 

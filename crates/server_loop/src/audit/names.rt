@@ -28,7 +28,7 @@ fn are_family_bytes(bytes: &[u8]) -> bool
 }
 
 /// Whether the bytes are a family's.
-fn is_family(bytes: &[u8]) -> bool
+pub(crate) fn is_family(bytes: &[u8]) -> bool
     ensures { IsTrue result ↔ IsFamily bytes.now }
 {
     !bytes.is_empty() && bytes.len() <= Family::MOST_BYTES && are_family_bytes(bytes)

@@ -74,6 +74,12 @@ impl Audit {
         match *request {
             Request::Begin => self.begin_refusal(),
             Request::Get { start, row, family } => self.get_refusal(start, row, family),
+            Request::Scan {
+                start,
+                range,
+                cells,
+                ..
+            } => self.scan_refusal(start, &range, cells),
             Request::Set {
                 start,
                 row,

@@ -1,15 +1,17 @@
 //! Which refusal of a session's request comes first.
 
-ghost use Rattle.std.specs.Prelude.{◌≡◌, ◌↔◌, IsTrue};
+ghost use Rattle.std.specs.Prelude.{◌≡◌, ◌↔◌, Bool, IsTrue};
 ghost use Rattle.std.specs.BTreeMap as btree;
 ghost use Rattle.std.specs.Ordering.{nat_cmp};
-ghost use Rattle.si_model.specs.Machine.{Begin, Get, Set, Delete, Advance, Stop};
+ghost use Rattle.si_model.specs.Machine.{Begin, Get, ScanFrom, Set, Delete, Advance, Stop};
 ghost use Rattle.si_model.specs.Reads.{cell_of};
+ghost use Rattle.si_model.specs.Replies.{range_of};
 ghost use Rattle.server_loop.specs.AuditRefusals.{HasNoRoom, HasWrittenNothing, RefusesFirst, RefusesUnlessOpen, RefusesUse};
 
 use crate::audit::parts::Phase;
-use crate::audit::{Audit, lists, names};
+use crate::audit::{Audit, lists, names, ranges};
 use cell_key::{Refusal, Stamp};
+use si_model::ScanRange;
 
 /// The most sessions that are active at once.
 const MOST_SESSIONS: usize = 1024;
@@ -36,6 +38,22 @@ impl Audit {
         ensures { RefusesFirst self.now (Get start (cell_of row.now family.now)) result }
     {
         self.use_refusal(start, row, family)
+    }
+
+    /// The first refusal of a Scan of so many cells, or none if it is acceptable.
+    pub(crate) fn scan_refusal(
+        &self,
+        start: Stamp,
+        range: &ScanRange<'_>,
+        cells: u32,
+    ) -> Option<Refusal>
+        ensures { (keys_only : Bool) → RefusesFirst self.now
+            (ScanFrom start (range_of range.now) keys_only cells) result }
+    {
+        if let Some(refusal) = self.open_refusal(start) {
+            return Some(refusal);
+        }
+        ranges::range_refusal(range, cells)
     }
 
     /// The first refusal of a Set, or none if it is acceptable.

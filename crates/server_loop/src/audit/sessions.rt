@@ -80,7 +80,7 @@ impl Audit {
     }
 
     /// Whether the session takes writes.
-    fn is_open(&self, start: Stamp) -> bool
+    pub(crate) fn is_open(&self, start: Stamp) -> bool
         ensures { IsTrue result
             ↔ (btree.get nat_cmp self.now.active start ≡ Some Phase.Open) }
     {

@@ -11,10 +11,20 @@ const SET: &[u8] = b"\x03\0\0\0\0\0\0\0\x01\0\0\0\x01r\0\0\0\x01c\0\0\0\x01v";
 
 const RAW: &[u8] = b"\x11\0\0\0\x01m\0\0\0\x01c\x02\0\0\0\0\0\0\0\0\0\0\0\0\0\0\0\x09";
 
+/// A scan from a cell to a row, of the keys of one family.
+const SCAN: &[u8] = b"\x31\0\0\0\0\0\0\0\x01\x01\x01\0\0\0\x01a\0\0\0\x03bal\
+    \x01\0\0\0\x01z\x01\0\0\0\x01c\0\0\x03\xE8";
+
+/// What a scan found: a value, a lock, and a value that isn't sent.
+const SCANNED: &[u8] = b"\xB1\x02\0\0\0\x01r\0\0\0\x01c\0\0\0\x03\
+    \0\0\0\x03Bob\0\0\0\x03bal\x01\0\0\0\x0210\
+    \0\0\0\x03Joe\0\0\0\x03bal\x02\0\0\0\0\0\0\0\x03\
+    \0\0\0\x01r\0\0\0\x01c\x03";
+
 const RAW_FOUND: &[u8] = b"\x91\x01\0\0\0\0\0\0\0\x01\0\0\0\x06m\0\0c\0\0";
 
 /// A request of each kind.
-const REQUESTS: [&[u8]; 19] = [
+const REQUESTS: [&[u8]; 24] = [
     b"\x01",
     GET,
     SET,
@@ -34,10 +44,15 @@ const REQUESTS: [&[u8]; 19] = [
     RAW,
     b"\x12",
     b"\x13\0\0\0\0\0\0\0\x01\0\0\0\x01r\0\0\0\x01c",
+    SCAN,
+    b"\x31\0\0\0\0\0\0\0\x01\0\0\0\0\0\0\0\0",
+    b"\x31\0\0\0\0\0\0\0\x01\0\x01\0\0\0\0\0\0\0\0\0\0\0\0\0\x01",
+    b"\x31\0\0\0\0\0\0\0\x01\0\0\x01\0\0\0\x01z\0\0\0\0\x01",
+    b"\x31\0\0\0\0\0\0\0\x01\0\0\0\x01\0\0\0\x01c\xFF\xFF\xFF\xFF",
 ];
 
 /// Bodies outside the grammar of requests.
-const NO_REQUESTS: [&[u8]; 25] = [
+const NO_REQUESTS: [&[u8]; 34] = [
     b"",
     b"\0",
     b"\x13",
@@ -63,6 +78,15 @@ const NO_REQUESTS: [&[u8]; 25] = [
     b"\x11\0\0\0\x01m\0\0\0\x01c\x04\0\0\0\0\0\0\0\0\0\0\0\0\0\0\0\x09",
     b"\x11\0\0\0\x01m\0\0\0\x01c\0\0\0\0\0\0\0\0\0\0\0\0\0\0\0\0\x09",
     b"\x11\0\0\0\x01m\0\0\0\x01c\x02\0\0\0\0\0\0\0\0\0\0\0\0\0\0\0",
+    b"\x30",
+    b"\x31",
+    b"\x31\0\0\0\0\0\0\0\x01\x02\0\0\0\0\0\0\x01",
+    b"\x31\0\0\0\0\0\0\0\x01\0\x02\0\0\0\0\0\x01",
+    b"\x31\0\0\0\0\0\0\0\x01\0\0\0\0\0\0\0\x01\0",
+    b"\x31\0\0\0\0\0\0\0\x01\0\0\0\0\0\0\x01",
+    b"\x31\0\0\0\0\0\0\0\x01\0\x01\0\0\0\x01a\0\0\0\0\0\x01",
+    b"\x31\0\0\0\0\0\0\0\x01\0\0\x01\0\0\0\x02z\0\0\0\0\x01",
+    b"\x32\0\0\0\0\0\0\0\x01\0\0\0\0\0\0\0\x01",
 ];
 
 /// Whether a body is that of a request, which is written with the same bytes.
@@ -87,7 +111,7 @@ fn bodies_of_requests(rt: HostRuntime) -> Result<(), Fail> {
 }
 
 /// A reply of each kind.
-const REPLIES: [&[u8]; 34] = [
+const REPLIES: [&[u8]; 37] = [
     b"\x81\0\0\0\0\0\0\0\x01",
     b"\x82\0",
     b"\x82\x01\0\0\0\x0210",
@@ -121,11 +145,14 @@ const REPLIES: [&[u8]; 34] = [
     RAW_FOUND,
     b"\x92",
     b"\x93",
+    b"\xB1\x01\0\0\0\0",
+    b"\xB1\x02\0\0\0\x01r\0\0\0\x01c\0\0\0\0",
+    SCANNED,
     b"\xFF\x16",
 ];
 
 /// Bodies outside the grammar of replies.
-const NO_REPLIES: [&[u8]; 24] = [
+const NO_REPLIES: [&[u8]; 35] = [
     b"",
     b"\x01",
     b"\x82",
@@ -147,6 +174,17 @@ const NO_REPLIES: [&[u8]; 24] = [
     b"\x91\x02",
     b"\x92\0",
     b"\x93\0",
+    b"\xB1",
+    b"\xB1\0\0\0\0\0",
+    b"\xB1\x03\0\0\0\0",
+    b"\xB1\x01\0\0\0\0\0",
+    b"\xB1\x01\0\0\0\x01",
+    b"\xB1\x02\0\0\0\x01r\0\0\0\0",
+    b"\xB1\x02\0\0\0\0\0\0\0\x01c\0\0\0\0",
+    b"\xB1\x01\0\0\0\x01\0\0\0\x01r\0\0\0\x01c\0",
+    b"\xB1\x01\0\0\0\x01\0\0\0\x01r\0\0\0\x01c\x04",
+    b"\xB1\x01\0\0\0\x01\0\0\0\x01r\0\0\0\x01:\x03",
+    b"\xB1\x01\0\0\0\x01\0\0\0\x01r\0\0\0\x01c\x02\0\0\0\0\0\0\0\x01\0",
     b"\xFF\0",
     b"\xFF\x18",
     b"\xFF\x16\0",

@@ -8,7 +8,7 @@ use crate::tests::folders::new_folder;
 use crate::tests::rows::Row;
 use crate::tests::script::{COLLECTED, COLUMNS, MERGED, Run, SPLIT, Watch, served};
 use crate::tests::streams::Holding;
-use crate::tests::{push_frame, stream_of, streams_of};
+use crate::tests::{FLUSH, push_frame, stream_of, streams_of};
 use cell_key::Refusal;
 use file_store::{DirFiles, Fail as How, FailAt};
 use oracle::DirMark;
@@ -84,7 +84,7 @@ fn failing_server(
         Err(_) => return Err(Refusal::Device),
     };
     let config = Config {
-        flush: 10_000,
+        flush: FLUSH,
         file_limit: FILE_LIMIT,
     };
     match Server::open(rt.alloc(), files, marks, config) {
@@ -162,7 +162,7 @@ fn came(rt: &HostRuntime, path: &str, at: u64, how: How) -> Result<(usize, Optio
 }
 
 /// The calls of the files that put a root. The second is the last call of all.
-const ROOTS: [u64; 2] = [9, 65];
+const ROOTS: [u64; 2] = [9, 63];
 
 /// Which checkpoint is to open if a call fails so: the last answered one. If all of a root was put, it is the refused one, and
 /// half a root is damage.

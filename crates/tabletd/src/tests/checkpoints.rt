@@ -6,7 +6,7 @@ use crate::tests::folders::new_folder;
 use crate::tests::places::NEW_ROOT;
 use crate::tests::rows::{COMMITTED, Exchange, Row, TRANSFER};
 use crate::tests::streams::{Holding, Pieces};
-use crate::tests::streams_of;
+use crate::tests::{FLUSH, streams_of};
 use cell_key::Refusal;
 use file_store::DirFiles;
 use oracle::DirMark;
@@ -229,7 +229,7 @@ pub fn opened(rt: &HostRuntime, path: &str) -> Result<DirServer, Refusal> {
         Err(_) => return Err(Refusal::Device),
     };
     let config = Config {
-        flush: 10_000,
+        flush: FLUSH,
         file_limit: FILE_LIMIT,
     };
     match Server::open(rt.alloc(), files, marks, config) {

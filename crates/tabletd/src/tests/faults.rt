@@ -17,7 +17,7 @@ const MARK_CALLS: u64 = 4;
 
 /// Whether the server compacts by itself, and how many calls of the files there are then in the script: those that its
 /// requests make, and those between two requests.
-const FILE_CALLS: [(bool, u64, u64); 2] = [(false, 55, 0), (true, 56, 132)];
+const FILE_CALLS: [(bool, u64, u64); 2] = [(false, 53, 0), (true, 54, 132)];
 
 /// More calls than there are.
 const MOST_CALLS: u64 = 1000;
@@ -33,6 +33,8 @@ impl<F: Files> Files for Watched<'_, F> {
     ghost contents = { λ _. None };
 
     ghost faults = { λ watched. F.faults watched.files };
+
+    ghost replaces = { ⊥ };
 
     fn put(&mut self, name: u64, bytes: &[u8]) -> Result<(), FileFault> {
         let done = self.files.put(name, bytes);

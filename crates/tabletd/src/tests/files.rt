@@ -28,6 +28,8 @@ impl Files for Recorder {
 
     ghost faults = { λ _. 0 };
 
+    ghost replaces = { ⊥ };
+
     fn put(&mut self, name: u64, bytes: &[u8]) -> Result<(), FileFault> {
         self.files.put(name, bytes)
     }

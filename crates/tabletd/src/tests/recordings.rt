@@ -138,6 +138,241 @@ const FREE: [Recording; 5] = [
     (COMMITTED, &[], (b"\x04\0\0\0\0\0\0\0\x03", b"\xFF\x13")),
 ];
 
+/// Runs whose last reply is a wrong one to a scan.
+const WRONG_SCANS: [Recording; 16] = [
+    // A stale value, Scan 5 1000: Bob bal 3; Joe bal 2; End
+    (
+        COMMITTED,
+        &[&SESSION_STOPPED, &BEGUN, &ROLLED_FORWARD],
+        (
+            b"\x31\0\0\0\0\0\0\0\x05\0\0\0\0\0\0\x03\xE8",
+            b"\
+        \xB1\x01\0\0\0\x02\
+        \0\0\0\x03Bob\0\0\0\x03bal\x01\0\0\0\x013\
+        \0\0\0\x03Joe\0\0\0\x03bal\x01\0\0\0\x012",
+        ),
+    ),
+    // A cell that is left out, Scan 5 1000: Bob bal 3; End
+    (
+        COMMITTED,
+        &[&SESSION_STOPPED, &BEGUN, &ROLLED_FORWARD],
+        (
+            b"\x31\0\0\0\0\0\0\0\x05\0\0\0\0\0\0\x03\xE8",
+            b"\xB1\x01\0\0\0\x01\0\0\0\x03Bob\0\0\0\x03bal\x01\0\0\0\x013",
+        ),
+    ),
+    // A cell that has nothing, Scan 5 1000: Bob bal 3; Jim bal Unsent; Joe bal 9; End
+    (
+        COMMITTED,
+        &[&SESSION_STOPPED, &BEGUN, &ROLLED_FORWARD],
+        (
+            b"\x31\0\0\0\0\0\0\0\x05\0\0\0\0\0\0\x03\xE8",
+            b"\
+        \xB1\x01\0\0\0\x03\
+        \0\0\0\x03Bob\0\0\0\x03bal\x01\0\0\0\x013\
+        \0\0\0\x03Jim\0\0\0\x03bal\x03\
+        \0\0\0\x03Joe\0\0\0\x03bal\x01\0\0\0\x019",
+        ),
+    ),
+    // A value behind a lock, Scan 5 1000: Bob bal 3; Joe bal 2; End
+    (
+        COMMITTED,
+        &[&SESSION_STOPPED, &BEGUN],
+        (
+            b"\x31\0\0\0\0\0\0\0\x05\0\0\0\0\0\0\x03\xE8",
+            b"\
+        \xB1\x01\0\0\0\x02\
+        \0\0\0\x03Bob\0\0\0\x03bal\x01\0\0\0\x013\
+        \0\0\0\x03Joe\0\0\0\x03bal\x01\0\0\0\x012",
+        ),
+    ),
+    // A lock that is left out, Scan 5 1000: Bob bal 3; End
+    (
+        COMMITTED,
+        &[&SESSION_STOPPED, &BEGUN],
+        (
+            b"\x31\0\0\0\0\0\0\0\x05\0\0\0\0\0\0\x03\xE8",
+            b"\xB1\x01\0\0\0\x01\0\0\0\x03Bob\0\0\0\x03bal\x01\0\0\0\x013",
+        ),
+    ),
+    // A lock of another session, Scan 5 1000: Bob bal 3; Joe bal Pending 1; End
+    (
+        COMMITTED,
+        &[&SESSION_STOPPED, &BEGUN],
+        (
+            b"\x31\0\0\0\0\0\0\0\x05\0\0\0\0\0\0\x03\xE8",
+            b"\
+        \xB1\x01\0\0\0\x02\
+        \0\0\0\x03Bob\0\0\0\x03bal\x01\0\0\0\x013\
+        \0\0\0\x03Joe\0\0\0\x03bal\x02\0\0\0\0\0\0\0\x01",
+        ),
+    ),
+    // A lock that is gone, Scan 5 1000: Bob bal 3; Joe bal Pending 3; End
+    (
+        COMMITTED,
+        &[&SESSION_STOPPED, &BEGUN, &ROLLED_FORWARD],
+        (
+            b"\x31\0\0\0\0\0\0\0\x05\0\0\0\0\0\0\x03\xE8",
+            b"\
+        \xB1\x01\0\0\0\x02\
+        \0\0\0\x03Bob\0\0\0\x03bal\x01\0\0\0\x013\
+        \0\0\0\x03Joe\0\0\0\x03bal\x02\0\0\0\0\0\0\0\x03",
+        ),
+    ),
+    // Out of order, Scan 5 1000: Joe bal 9; Bob bal 3; End
+    (
+        COMMITTED,
+        &[&SESSION_STOPPED, &BEGUN, &ROLLED_FORWARD],
+        (
+            b"\x31\0\0\0\0\0\0\0\x05\0\0\0\0\0\0\x03\xE8",
+            b"\
+        \xB1\x01\0\0\0\x02\
+        \0\0\0\x03Joe\0\0\0\x03bal\x01\0\0\0\x019\
+        \0\0\0\x03Bob\0\0\0\x03bal\x01\0\0\0\x013",
+        ),
+    ),
+    // A cell twice, Scan 5 1000: Bob bal 3; Bob bal 3; Joe bal 9; End
+    (
+        COMMITTED,
+        &[&SESSION_STOPPED, &BEGUN, &ROLLED_FORWARD],
+        (
+            b"\x31\0\0\0\0\0\0\0\x05\0\0\0\0\0\0\x03\xE8",
+            b"\
+        \xB1\x01\0\0\0\x03\
+        \0\0\0\x03Bob\0\0\0\x03bal\x01\0\0\0\x013\
+        \0\0\0\x03Bob\0\0\0\x03bal\x01\0\0\0\x013\
+        \0\0\0\x03Joe\0\0\0\x03bal\x01\0\0\0\x019",
+        ),
+    ),
+    // A cell before the range, Scan 5 after Bob bal 1000: Bob bal 3; Joe bal 9; End
+    (
+        COMMITTED,
+        &[&SESSION_STOPPED, &BEGUN, &ROLLED_FORWARD],
+        (
+            b"\x31\0\0\0\0\0\0\0\x05\0\x01\0\0\0\x03Bob\0\0\0\x03bal\0\0\0\0\x03\xE8",
+            b"\
+        \xB1\x01\0\0\0\x02\
+        \0\0\0\x03Bob\0\0\0\x03bal\x01\0\0\0\x013\
+        \0\0\0\x03Joe\0\0\0\x03bal\x01\0\0\0\x019",
+        ),
+    ),
+    // A cell of another family, Scan 5 family c 1000: Bob bal 3; End
+    (
+        COMMITTED,
+        &[&SESSION_STOPPED, &BEGUN, &ROLLED_FORWARD],
+        (
+            b"\x31\0\0\0\0\0\0\0\x05\0\0\0\x01\0\0\0\x01c\0\0\x03\xE8",
+            b"\xB1\x01\0\0\0\x01\0\0\0\x03Bob\0\0\0\x03bal\x01\0\0\0\x013",
+        ),
+    ),
+    // A cell after the last one that it went over, Scan 5 1000: Bob bal 3; Joe bal 9; More Bob bal
+    (
+        COMMITTED,
+        &[&SESSION_STOPPED, &BEGUN, &ROLLED_FORWARD],
+        (
+            b"\x31\0\0\0\0\0\0\0\x05\0\0\0\0\0\0\x03\xE8",
+            b"\
+        \xB1\x02\0\0\0\x03Bob\0\0\0\x03bal\0\0\0\x02\
+        \0\0\0\x03Bob\0\0\0\x03bal\x01\0\0\0\x013\
+        \0\0\0\x03Joe\0\0\0\x03bal\x01\0\0\0\x019",
+        ),
+    ),
+    // More cells than are asked for, Scan 5 1: Bob bal 3; Joe bal 9; End
+    (
+        COMMITTED,
+        &[&SESSION_STOPPED, &BEGUN, &ROLLED_FORWARD],
+        (
+            b"\x31\0\0\0\0\0\0\0\x05\0\0\0\0\0\0\0\x01",
+            b"\
+        \xB1\x01\0\0\0\x02\
+        \0\0\0\x03Bob\0\0\0\x03bal\x01\0\0\0\x013\
+        \0\0\0\x03Joe\0\0\0\x03bal\x01\0\0\0\x019",
+        ),
+    ),
+    // A value in place of a key, Scan 5 keys 1000: Bob bal 3; Joe bal Unsent; End
+    (
+        COMMITTED,
+        &[&SESSION_STOPPED, &BEGUN, &ROLLED_FORWARD],
+        (
+            b"\x31\0\0\0\0\0\0\0\x05\x01\0\0\0\0\0\x03\xE8",
+            b"\
+        \xB1\x01\0\0\0\x02\
+        \0\0\0\x03Bob\0\0\0\x03bal\x01\0\0\0\x013\
+        \0\0\0\x03Joe\0\0\0\x03bal\x03",
+        ),
+    ),
+    // Values that aren't sent, Scan 5 1000: Bob bal Unsent; Joe bal Unsent; End
+    (
+        COMMITTED,
+        &[&SESSION_STOPPED, &BEGUN, &ROLLED_FORWARD],
+        (
+            b"\x31\0\0\0\0\0\0\0\x05\0\0\0\0\0\0\x03\xE8",
+            b"\xB1\x01\0\0\0\x02\0\0\0\x03Bob\0\0\0\x03bal\x03\0\0\0\x03Joe\0\0\0\x03bal\x03",
+        ),
+    ),
+    // A scan that doesn't go on, Scan 5 after Joe bal 1000: More Bob bal
+    (
+        COMMITTED,
+        &[&SESSION_STOPPED, &BEGUN, &ROLLED_FORWARD],
+        (
+            b"\x31\0\0\0\0\0\0\0\x05\0\x01\0\0\0\x03Joe\0\0\0\x03bal\0\0\0\0\x03\xE8",
+            b"\xB1\x02\0\0\0\x03Bob\0\0\0\x03bal\0\0\0\0",
+        ),
+    ),
+];
+
+/// Runs whose last reply to a scan may come.
+const FREE_SCANS: [Recording; 5] = [
+    // Fewer cells than are asked for, Scan 5 1000: Bob bal 3; More Bob bal
+    (
+        COMMITTED,
+        &[&SESSION_STOPPED, &BEGUN, &ROLLED_FORWARD],
+        (
+            b"\x31\0\0\0\0\0\0\0\x05\0\0\0\0\0\0\x03\xE8",
+            b"\xB1\x02\0\0\0\x03Bob\0\0\0\x03bal\0\0\0\x01\0\0\0\x03Bob\0\0\0\x03bal\x01\0\0\0\x013",
+        ),
+    ),
+    // Up to a cell that has nothing, Scan 5 1000: Bob bal 3; More Jim bal
+    (
+        COMMITTED,
+        &[&SESSION_STOPPED, &BEGUN, &ROLLED_FORWARD],
+        (
+            b"\x31\0\0\0\0\0\0\0\x05\0\0\0\0\0\0\x03\xE8",
+            b"\xB1\x02\0\0\0\x03Jim\0\0\0\x03bal\0\0\0\x01\0\0\0\x03Bob\0\0\0\x03bal\x01\0\0\0\x013",
+        ),
+    ),
+    // Keys alone, Scan 5 keys 1000: Bob bal Unsent; Joe bal Unsent; End
+    (
+        COMMITTED,
+        &[&SESSION_STOPPED, &BEGUN, &ROLLED_FORWARD],
+        (
+            b"\x31\0\0\0\0\0\0\0\x05\x01\0\0\0\0\0\x03\xE8",
+            b"\xB1\x01\0\0\0\x02\0\0\0\x03Bob\0\0\0\x03bal\x03\0\0\0\x03Joe\0\0\0\x03bal\x03",
+        ),
+    ),
+    // A lock, Scan 5 1000: Bob bal 3; Joe bal Pending 3; End
+    (
+        COMMITTED,
+        &[&SESSION_STOPPED, &BEGUN],
+        (
+            b"\x31\0\0\0\0\0\0\0\x05\0\0\0\0\0\0\x03\xE8",
+            b"\
+        \xB1\x01\0\0\0\x02\
+        \0\0\0\x03Bob\0\0\0\x03bal\x01\0\0\0\x013\
+        \0\0\0\x03Joe\0\0\0\x03bal\x02\0\0\0\0\0\0\0\x03",
+        ),
+    ),
+    // Nothing in a range, Scan 5 after Bob bal end Bob 1000: End
+    (
+        COMMITTED,
+        &[&SESSION_STOPPED, &BEGUN, &ROLLED_FORWARD],
+        (
+            b"\x31\0\0\0\0\0\0\0\x05\0\x01\0\0\0\x03Bob\0\0\0\x03bal\x01\0\0\0\x03Bob\0\0\0\x03\xE8",
+            b"\xB1\x01\0\0\0\0",
+        ),
+    ),
+];
+
 /// What the audit says of an exchange: no, if a body is outside its form.
 fn takes(alloc: Global, audit: &mut Audit, exchange: &Exchange) -> Result<bool, Refusal> {
     let Some(request) = decode_request(exchange.0) else {
@@ -207,6 +442,25 @@ const STOPPED_BY_RESTART: [Exchange; 2] = [
         b"\x86\x01\0\0\0\0\0\0\0\x01\0\0\0\0\0\0\0\x03",
     ),
 ];
+
+#[test]
+fn wrong_and_free_scans(rt: HostRuntime) -> Result<(), Fail> {
+    for recording in WRONG_SCANS {
+        assert!(rt;
+            is_judged(rt.alloc(), &recording, false)?,
+            "{:?}",
+            recording.2
+        );
+    }
+    for recording in FREE_SCANS {
+        assert!(rt;
+            is_judged(rt.alloc(), &recording, true)?,
+            "{:?}",
+            recording.2
+        );
+    }
+    Ok(())
+}
 
 #[test]
 fn reopened_audit(rt: HostRuntime) -> Result<(), Fail> {

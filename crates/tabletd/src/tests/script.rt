@@ -8,7 +8,7 @@ use crate::tests::rows::{COMMITTED, Exchange, TRANSFER};
 use cell_key::Refusal;
 use file_store::{Files, MemFiles};
 use oracle::{MarkStore, MemMark};
-use server_loop::{Config, ServeFault, Server};
+use server_loop::{Config, FlushLimits, ServeFault, Server};
 use std::alloc::{AllocError, Global};
 use std::cell::Cell;
 use std::io;
@@ -39,8 +39,8 @@ pub const MERGED: [Exchange; 2] = [
     (b"\x0B\0\0\0\x01\0\0\0\x02", b"\x8B"),
 ];
 
-/// Old versions are collected, both cells read, and the oracle restarts.
-pub const COLLECTED: [Exchange; 6] = [
+/// Old versions are collected, both cells read, alone and by a scan, and the oracle restarts.
+pub const COLLECTED: [Exchange; 7] = [
     // CollectBegin: 1, floor 5
     (b"\x08", b"\x88\0\0\0\0\0\0\0\x01\0\0\0\0\0\0\0\x05"),
     // CollectStep 1 1000: Collected
@@ -56,6 +56,14 @@ pub const COLLECTED: [Exchange; 6] = [
     (
         b"\x02\0\0\0\0\0\0\0\x05\0\0\0\x03Joe\0\0\0\x03bal",
         b"\x82\x01\0\0\0\x019",
+    ),
+    // Scan 5 1000: Bob bal 3; Joe bal 9; End
+    (
+        b"\x31\0\0\0\0\0\0\0\x05\0\0\0\0\0\0\x03\xE8",
+        b"\
+        \xB1\x01\0\0\0\x02\
+        \0\0\0\x03Bob\0\0\0\x03bal\x01\0\0\0\x013\
+        \0\0\0\x03Joe\0\0\0\x03bal\x01\0\0\0\x019",
     ),
     // OracleRestart: restarted
     (b"\x10", b"\x90"),
@@ -380,7 +388,10 @@ fn made<F: Files + Drop, M: MarkStore + Drop>(
         return Err((Refusal::FileTooLarge, files, marks));
     }
     let config = Config {
-        flush: upkeep.flush,
+        flush: FlushLimits {
+            entries: upkeep.flush,
+            bytes: None,
+        },
         file_limit: FILE_LIMIT,
     };
     let mut server = match Server::new(alloc, files, marks, config) {

@@ -10,6 +10,7 @@ use file_store::{Files, MemFiles, read_whole};
 use memtable::Memtable;
 use sorted_file::{SortedFile, write_file};
 use std::alloc::{AllocError, Global};
+use std::num::NonZeroUsize;
 use std::test::Fail;
 
 /// A file of no entries.
@@ -310,6 +311,75 @@ fn eight_blocks_are_kept(rt: HostRuntime) -> Result<(), Fail> {
     let mut file = SortedFile::open(rt.alloc(), 1, &mut files)?;
     for (stamps, is_read) in NINE_LOOK_UPS {
         assert!(rt; are_read(rt.alloc(), &mut file, &mut files, stamps, is_read)?);
+    }
+    Ok(())
+}
+
+/// How many blocks the file of nine keeps then, and what is read after that.
+const RESIZED: [(usize, &[Stamp], bool); 4] = [
+    (9, &[3], true),
+    (9, &[1, 2, 3, 4, 5, 6, 7, 8, 9], false),
+    (1, &[9], false),
+    (1, &[8, 7], true),
+];
+
+#[test]
+fn as_many_blocks_are_kept(rt: HostRuntime) -> Result<(), Fail> {
+    let mut memory = MemFiles::new(rt.alloc());
+    merge(rt.alloc(), &nine(rt.alloc())?, None, true, 1, &mut memory)?;
+    let bytes = read_whole(rt.alloc(), &mut memory, 1)?.ok_or("no file")?;
+    let mut files = Recorder::new(rt.alloc());
+    files.put(1, &bytes)?;
+    let mut file = SortedFile::open(rt.alloc(), 1, &mut files)?;
+    assert!(rt;
+        are_read(
+            rt.alloc(),
+            &mut file,
+            &mut files,
+            &[1, 2, 4, 5, 6, 7, 8, 9],
+            true
+        )?
+    );
+    for (most, stamps, is_read) in RESIZED {
+        let most = NonZeroUsize::new(most).ok_or("no blocks")?;
+        file.resize_cache(most);
+        assert!(rt; are_read(rt.alloc(), &mut file, &mut files, stamps, is_read)?);
+    }
+    Ok(())
+}
+
+/// A file of locks of `a` and of `c` and an erasure of that of `b`, at the stamp 1.
+const LOCKS: &[u8] = b"TABLET01\
+    \0\0\0\x16a\0\0bal\0\0lock\0\0\xFF\xFF\xFF\xFF\xFF\xFF\xFF\xFE\x01\0\0\0\x0210\
+    \0\0\0\x16b\0\0bal\0\0lock\0\0\xFF\xFF\xFF\xFF\xFF\xFF\xFF\xFE\0\
+    \0\0\0\x16c\0\0bal\0\0lock\0\0\xFF\xFF\xFF\xFF\xFF\xFF\xFF\xFE\x01\0\0\0\x0210\
+    \0\0\0\x08\0\0\0\x5D\0\0\0\x16a\0\0bal\0\0lock\0\0\xFF\xFF\xFF\xFF\xFF\xFF\xFF\xFE\
+    \0\0\0\x65\0\0\0\x01\0\0\0\x03\0\0\0\x9FTABLETZZ";
+
+/// A row, the stamp of its newest lock up to 9, and what is read for it. The file's first lock is known without a read.
+const LOCK_TESTS: [(&[u8], Option<Stamp>, &[(u64, u64, usize)]); 4] = [
+    (b"a", Some(1), &[]),
+    (b"b", None, &[]),
+    (b"bb", None, &[]),
+    (b"c", Some(1), &[(1, 8, 93)]),
+];
+
+#[test]
+fn lock_tests_read_what_is_locked(rt: HostRuntime) -> Result<(), Fail> {
+    let mut files = Recorder::new(rt.alloc());
+    files.put(1, LOCKS)?;
+    let mut file = SortedFile::open(rt.alloc(), 1, &mut files)?;
+    for (row, stamp, reads) in LOCK_TESTS {
+        let key = CellKey {
+            row: Row::new(rt.alloc(), row)?,
+            family: Family::new(rt.alloc(), b"bal")?,
+            qualifier: Qualifier::Lock,
+            stamp: 9,
+        };
+        file.drop_cache();
+        files.reads.clear();
+        assert!(rt; file.newest_stamp(&key, 0, &mut files)? == stamp);
+        assert!(rt; files.reads.as_slice() == reads);
     }
     Ok(())
 }

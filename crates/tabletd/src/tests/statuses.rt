@@ -2,7 +2,7 @@
 
 use cell_key::Refusal;
 use file_store::FileFault;
-use server_loop::{End, ServeFault, end_status, open_status, options};
+use server_loop::{End, Options, ServeFault, end_status, open_status, options};
 use std::test::Fail;
 
 #[test]
@@ -35,33 +35,98 @@ fn statuses(rt: HostRuntime) -> Result<(), Fail> {
     Ok(())
 }
 
-/// Words of the command line, and the folder and the two numbers that they say, if they are taken.
-type Line = (
-    &'static [&'static str],
-    Option<(Option<&'static str>, u32, Option<u32>)>,
-);
+/// What a command line says that has no words.
+const NO_WORDS: Options<'static> = Options {
+    dir: None,
+    flush: 10_000,
+    flush_bytes: None,
+    merge: None,
+    cache: 8,
+};
 
-const LINES: [Line; 15] = [
-    (&["tabletd"], Some((None, 10_000, None))),
-    (&["tabletd", "--flush", "1"], Some((None, 1, None))),
+/// Words of the command line, and what they say, if they are taken.
+type Line = (&'static [&'static str], Option<Options<'static>>);
+
+const LINES: [Line; 23] = [
+    (&["tabletd"], Some(NO_WORDS)),
+    (
+        &["tabletd", "--flush", "1"],
+        Some(Options {
+            flush: 1,
+            ..NO_WORDS
+        }),
+    ),
     (
         &["tabletd", "--flush", "100000"],
-        Some((None, 100_000, None)),
+        Some(Options {
+            flush: 100_000,
+            ..NO_WORDS
+        }),
     ),
-    (&["tabletd", "--flush=7"], Some((None, 7, None))),
+    (
+        &["tabletd", "--flush=7"],
+        Some(Options {
+            flush: 7,
+            ..NO_WORDS
+        }),
+    ),
     (&["tabletd", "--flush", "0"], None),
     (&["tabletd", "--flush", "100001"], None),
     (&["tabletd", "--flush"], None),
-    (&["tabletd", "--merge", "2"], Some((None, 10_000, Some(2)))),
+    (
+        &["tabletd", "--flush-bytes", "1048576"],
+        Some(Options {
+            flush_bytes: Some(1_048_576),
+            ..NO_WORDS
+        }),
+    ),
+    (
+        &["tabletd", "--flush-bytes", "67108864"],
+        Some(Options {
+            flush_bytes: Some(67_108_864),
+            ..NO_WORDS
+        }),
+    ),
+    (&["tabletd", "--flush-bytes", "1048575"], None),
+    (&["tabletd", "--flush-bytes", "67108865"], None),
+    (
+        &["tabletd", "--merge", "2"],
+        Some(Options {
+            merge: Some(2),
+            ..NO_WORDS
+        }),
+    ),
     (
         &["tabletd", "--merge", "64"],
-        Some((None, 10_000, Some(64))),
+        Some(Options {
+            merge: Some(64),
+            ..NO_WORDS
+        }),
     ),
     (&["tabletd", "--merge", "1"], None),
     (&["tabletd", "--merge", "65"], None),
     (
+        &["tabletd", "--cache", "9"],
+        Some(Options {
+            cache: 9,
+            ..NO_WORDS
+        }),
+    ),
+    (
+        &["tabletd", "--cache", "4096"],
+        Some(Options {
+            cache: 4096,
+            ..NO_WORDS
+        }),
+    ),
+    (&["tabletd", "--cache", "7"], None),
+    (&["tabletd", "--cache", "4097"], None),
+    (
         &["tabletd", "--dir", "a b"],
-        Some((Some("a b"), 10_000, None)),
+        Some(Options {
+            dir: Some("a b"),
+            ..NO_WORDS
+        }),
     ),
     (&["tabletd", "--dir"], None),
     (&["tabletd", "more"], None),
@@ -72,7 +137,7 @@ const LINES: [Line; 15] = [
 fn command_lines(rt: HostRuntime) -> Result<(), Fail> {
     for (words, said) in LINES {
         let read = match options(rt.alloc(), words) {
-            Ok(options) => Some((options.dir, options.flush, options.merge)),
+            Ok(options) => Some(options),
             Err(_) => None,
         };
         assert!(rt; read == said);

@@ -580,6 +580,40 @@ pub const NOT_COMPACTED: Row = (
     ],
 );
 
+/// The memtable is written, and the root.
+const CHECKPOINT: [Exchange; 1] = [
+    // Checkpoint: done
+    (b"\x12", b"\x92"),
+];
+
+/// A commit of one cell, with a checkpoint before and after.
+pub const CHECKPOINTED: Row = (
+    0,
+    &[
+        &CELL_HELD,
+        &CHECKPOINT,
+        &CELL_STAMPED,
+        &CELL_COMMITTED,
+        &CHECKPOINT,
+        &MERGED,
+        &TWO_SWEPT,
+    ],
+);
+
+/// The same when two files are merged after the second one.
+pub const CHECKPOINTED_AND_MERGED: Row = (
+    0,
+    &[
+        &CELL_HELD,
+        &CHECKPOINT,
+        &CELL_STAMPED,
+        &CELL_COMMITTED,
+        &CHECKPOINT,
+        &NOT_MERGED,
+        &TWO_SWEPT,
+    ],
+);
+
 /// A tablet is split, and a session commits a cell on each side.
 const BOTH_HALVES: [Exchange; 9] = [
     // Split m: 2

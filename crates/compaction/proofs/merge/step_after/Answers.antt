@@ -1,10 +1,10 @@
-use Rattle.std.proofs.Common.{inl, inr, ◌≡◌, true, false, ◌≤◌, ◌+◌, ◌<◌, length, arith, subst, sym, cond, get_or, refl, ◌∙◌}
+use Rattle.std.proofs.Common.{◌≡◌, true, false, ◌≤◌, ◌+◌, ◌<◌, length, arith, subst, sym, cond, get_or, refl, ◌∙◌}
 use Rattle.std.specs.Prelude.{Option}
 use Rattle.file_store.specs.Store.{Contents}
 use Rattle.cell_key.specs.Entries.{Takes}
 use Rattle.compaction.specs.Ties.{ties}
-use Rattle.compaction.specs.Merging.{cost, StepsTo}
-use Rattle.compaction.proofs.Turns.{first_within, go_on, front_set, rest_set, cost_falls, moves_whole, not_each, paid_whole, steps_whole}
+use Rattle.compaction.specs.Merging.{cost, StepsTo, goes_past, stays_there}
+use Rattle.compaction.proofs.Turns.{breaks_among, first_within, go_on, front_set, rest_set, cost_falls, moves_whole, not_each, paid_whole, steps_whole}
 use Rattle.compaction.specs.MergeLaw.{step_tie, step_same}
 use Rattle.cell_key.specs.declared.refusals.Refusal.TheVariants.{Device}
 use Rattle.cell_key.proofs.Passed.{passed_err, passed_none, passed_on, passed_reason, reason_after}
@@ -34,12 +34,12 @@ loop-source-preserved g c =
           let takes = subst (λ (o : Option Contents). g.S.Source.holds o s → Takes (g.S.Source.lent t) (g.S.Source.remaining o s) (g.S.Source.remaining o t)) same
           (subst (λ s. g.S.Source.holds here_told s → Takes (g.S.Source.lent t) (g.S.Source.remaining here_told s) (g.S.Source.remaining here_told t)) (sym is) w.in_ok-advance.ensures.takes) in
           λ before. step_tie g.S.Source.lent (g.S.Source.remaining told) (g.S.Source.holds told) (g.S.Source.lent c.args.least.now) s t (sym (subst (λ s. true ≡ ties (g.S.Source.lent c.args.least.now) (g.S.Source.lent s)) (sym is) w.if-is_tied.ensures)) (holds before.0) (takes before.0))
-          (inl (subst (λ (o : Option Contents). g.S.Source.steps o s t) same (subst (λ s. g.S.Source.steps here_told s t) (sym is) w.in_ok-advance.ensures.steps))))
+          (goes_past (sym (subst (λ s. true ≡ ties (g.S.Source.lent c.args.least.now) (g.S.Source.lent s)) (sym is) w.if-is_tied.ensures)) (subst (λ (o : Option Contents). g.S.Source.steps o s t) same (subst (λ s. g.S.Source.steps here_told s t) (sym is) w.in_ok-advance.ensures.steps))))
       | else-is_tied w ↦
           rw (w.sources-is, w.files-is) (go_on c.loop-source.invariant c.loop-source.files _ s now l is refl refl
           (front_set c.loop-source.sources i now here) (rest_set c.loop-source.sources i now) (subst (λ t. cost (g.S.Source.left t) (g.S.Source.lent t) + 0 ≤ cost (g.S.Source.left s) (g.S.Source.lent s)) is (omega arith))
           (λ before. subst (λ t. StepsTo g.S.Source.lent (g.S.Source.remaining told) (g.S.Source.holds told) (g.S.Source.lent c.args.least.now) s t) is
-          (step_same g.S.Source.lent (g.S.Source.remaining told) (g.S.Source.holds told) (g.S.Source.lent c.args.least.now) s (sym (subst (λ s. false ≡ ties (g.S.Source.lent c.args.least.now) (g.S.Source.lent s)) (sym is) w.if-is_tied.ensures)) before.0 before.1)) (inr (sym is)))
+          (step_same g.S.Source.lent (g.S.Source.remaining told) (g.S.Source.holds told) (g.S.Source.lent c.args.least.now) s (sym (subst (λ s. false ≡ ties (g.S.Source.lent c.args.least.now) (g.S.Source.lent s)) (sym is) w.if-is_tied.ensures)) before.0 before.1)) (stays_there (sym (subst (λ s. false ≡ ties (g.S.Source.lent c.args.least.now) (g.S.Source.lent s)) (sym is) w.if-is_tied.ensures)) (sym is)))
     ]
 
 pub returns-in_err-advance-clause-files : goal.returns-in_err-advance-clause-files
@@ -85,3 +85,11 @@ returns-in_err-advance-clause-moves g c = passed_none c.from_residual.result c.i
 
 pub returns-clause-moves : goal.returns-clause-moves
 returns-clause-moves g c = moves_whole c.loop-source.invariant c.loop-source-test.false c.loop-source.auto.sources
+
+pub returns-in_err-advance-clause-broken : goal.returns-in_err-advance-clause-broken
+returns-in_err-advance-clause-broken g c = λ is.
+    breaks_among c.loop-source.invariant g.S.Source.breaks (λ s. ties (g.S.Source.lent c.args.least.now) (g.S.Source.lent s) ≡ true) c.source-item.result c.loop-source-test.true
+    (c.in_err-advance.ensures.broken (passed_on c.from_residual.result _ c.in_err-advance.field-0.0 _ c.from_residual.ensures.1 refl is)) (sym c.if-is_tied.ensures)
+
+pub returns-clause-broken : goal.returns-clause-broken
+returns-clause-broken g c = λ is. absurd (not_err _ _ is)

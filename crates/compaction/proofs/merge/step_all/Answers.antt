@@ -2,7 +2,7 @@ use Rattle.std.proofs.Common.{◌≤◌, ◌+◌, ◌<◌, length, arith, subst,
 use Rattle.cell_key.specs.Entries.{Takes}
 use Rattle.std.specs.Prelude.{Option}
 use Rattle.file_store.specs.Store.{Contents}
-use Rattle.compaction.proofs.Turns.{go_on, front_set, rest_set, cost_falls, moves_whole, not_each, paid_whole, steps_whole}
+use Rattle.compaction.proofs.Turns.{breaks_among, go_on, front_set, rest_set, cost_falls, moves_whole, not_each, paid_whole, steps_whole}
 use Rattle.compaction.specs.MergeLaw.{step_none}
 use Rattle.cell_key.specs.declared.refusals.Refusal.TheVariants.{Device}
 use Rattle.cell_key.proofs.Passed.{passed_err, passed_none, passed_on, passed_reason, reason_after}
@@ -68,3 +68,11 @@ returns-in_err-advance-clause-moves g c = passed_none c.from_residual.result c.i
 
 pub returns-clause-moves : goal.returns-clause-moves
 returns-clause-moves g c = moves_whole c.loop-source.invariant c.loop-source-test.false c.loop-source.auto.sources
+
+pub returns-in_err-advance-clause-broken : goal.returns-in_err-advance-clause-broken
+returns-in_err-advance-clause-broken g c = λ is.
+    breaks_among c.loop-source.invariant g.S.Source.breaks (λ _. Unit {0}) c.source-item.result c.loop-source-test.true
+    (c.in_err-advance.ensures.broken (passed_on c.from_residual.result _ c.in_err-advance.field-0.0 _ c.from_residual.ensures.1 refl is)) tt
+
+pub returns-clause-broken : goal.returns-clause-broken
+returns-clause-broken g c = λ is. absurd (not_err _ _ is)

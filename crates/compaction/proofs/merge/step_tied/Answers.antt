@@ -4,7 +4,7 @@ use Rattle.std.specs.List.{AllByRecursion, IsFirstAndRest}
 use Rattle.cell_key.specs.Entries.{Takes}
 use Rattle.file_store.specs.Store.{Contents}
 use Rattle.compaction.specs.Merging.{cost}
-use Rattle.compaction.proofs.Tied.{all_tied_part, cost_tied, lent_there, tied_moves, tied_whole}
+use Rattle.compaction.proofs.Tied.{after_breaks, all_tied_part, cost_tied, least_breaks, lent_there, may_all, tied_moves, tied_past, tied_whole}
 use Rattle.compaction.proofs.Turns.{cost_falls_from}
 use Rattle.cell_key.specs.declared.refusals.Refusal.TheVariants.{Device}
 use Rattle.cell_key.proofs.Passed.{passed_err, passed_none, passed_on, passed_reason, reason_after, reason_of_ok}
@@ -107,10 +107,50 @@ returns-clause-moves g c =
     let first = subst (λ o. MatchOption o (length whole ≡ 0) (λ p. IsFirstAndRest whole p.0.now p.1.now)) c.unwrap.ensures c.split_first_mut.ensures.cases in
     let step = subst (λ (o : Option Contents). g.S.Source.steps o s t) c.step_after.ensures.files c.in_ok-advance.ensures.steps in
     tied_moves (g.S.Source.steps told) s t c.unwrap.result.1.now c.step_after.new.sources c.args.sources.now c.split_at_mut-before.result.0.now
-    (c.split_at_mut-before.ensures.value ∙ ap (λ xs. c.split_at_mut-before.result.0.now ++ xs) first.0) step c.in_ok-step_after.ensures.moves
+    (c.split_at_mut-before.ensures.value ∙ ap (λ xs. c.split_at_mut-before.result.0.now ++ xs) first.0) step (may_all (g.S.Source.steps told) g.S.Source.lent (g.S.Source.lent s) c.unwrap.result.1.now c.step_after.new.sources c.in_ok-step_after.ensures.moves)
 
 pub returns-in_err-step_after-clause-moves : goal.returns-in_err-step_after-clause-moves
 returns-in_err-step_after-clause-moves g c = passed_none c.from_residual.result c.in_err-step_after.field-0.0 _ c.from_residual.ensures.1
 
 pub returns-in_err-advance-clause-moves : goal.returns-in_err-advance-clause-moves
 returns-in_err-advance-clause-moves g c = passed_none c.from_residual-in_err-advance.result c.in_err-advance.field-0.0 _ c.from_residual-in_err-advance.ensures.1
+
+pub returns-clause-past : goal.returns-clause-past
+returns-clause-past g c =
+    let whole = c.split_at_mut-before.result.1.now in
+    let s = c.unwrap.result.0.now in
+    let told = g.F.Files.contents c.args.files.now in
+    let first = subst (λ o. MatchOption o (length whole ≡ 0) (λ p. IsFirstAndRest whole p.0.now p.1.now)) c.unwrap.ensures c.split_first_mut.ensures.cases in
+    let t = c.advance.new.self in
+    let step = subst (λ (o : Option Contents). g.S.Source.steps o s t) c.step_after.ensures.files c.in_ok-advance.ensures.steps in
+    λ least. tied_past (g.S.Source.steps told) g.S.Source.lent s t c.unwrap.result.1.now c.step_after.new.sources c.args.sources.now c.split_at_mut-before.result.0.now c.args.at
+    (c.split_at_mut-before.ensures.value ∙ ap (λ xs. c.split_at_mut-before.result.0.now ++ xs) first.0) c.split_at_mut-before.ensures.front_len step c.in_ok-step_after.ensures.moves least
+
+pub returns-in_err-step_after-clause-past : goal.returns-in_err-step_after-clause-past
+returns-in_err-step_after-clause-past g c = passed_none c.from_residual.result c.in_err-step_after.field-0.0 _ c.from_residual.ensures.1
+
+pub returns-in_err-advance-clause-past : goal.returns-in_err-advance-clause-past
+returns-in_err-advance-clause-past g c = passed_none c.from_residual-in_err-advance.result c.in_err-advance.field-0.0 _ c.from_residual-in_err-advance.ensures.1
+
+pub returns-in_err-step_after-clause-broken : goal.returns-in_err-step_after-clause-broken
+returns-in_err-step_after-clause-broken g c = λ err.
+    let whole = c.split_at_mut-before.result.1.now in
+    let s = c.unwrap.result.0.now in
+    let told = g.F.Files.contents c.args.files.now in
+    let first = subst (λ o. MatchOption o (length whole ≡ 0) (λ p. IsFirstAndRest whole p.0.now p.1.now)) c.unwrap.ensures c.split_first_mut.ensures.cases in
+    after_breaks (g.S.Source.breaks told) g.S.Source.lent s c.split_at_mut-before.result.0.now c.unwrap.result.1.now c.args.sources.now c.args.at
+    (c.split_at_mut-before.ensures.value ∙ ap (λ xs. c.split_at_mut-before.result.0.now ++ xs) first.0) c.split_at_mut-before.ensures.front_len
+    (c.in_err-step_after.ensures.broken (passed_on c.from_residual.result _ c.in_err-step_after.field-0.0 _ c.from_residual.ensures.1 refl err))
+
+pub returns-in_err-advance-clause-broken : goal.returns-in_err-advance-clause-broken
+returns-in_err-advance-clause-broken g c = λ err.
+    let whole = c.split_at_mut-before.result.1.now in
+    let s = c.unwrap.result.0.now in
+    let told = g.F.Files.contents c.args.files.now in
+    let first = subst (λ o. MatchOption o (length whole ≡ 0) (λ p. IsFirstAndRest whole p.0.now p.1.now)) c.unwrap.ensures c.split_first_mut.ensures.cases in
+    least_breaks (g.S.Source.breaks told) g.S.Source.lent s c.split_at_mut-before.result.0.now c.unwrap.result.1.now c.args.sources.now c.args.at
+    (c.split_at_mut-before.ensures.value ∙ ap (λ xs. c.split_at_mut-before.result.0.now ++ xs) first.0) c.split_at_mut-before.ensures.front_len
+    (subst (λ (o : Option Contents). g.S.Source.breaks o s) c.step_after.ensures.files (c.in_err-advance.ensures.broken (passed_on c.from_residual-in_err-advance.result _ c.in_err-advance.field-0.0 _ c.from_residual-in_err-advance.ensures.1 refl err)))
+
+pub returns-clause-broken : goal.returns-clause-broken
+returns-clause-broken g c = λ is. absurd (not_err _ _ is)

@@ -1,7 +1,8 @@
-use Rattle.std.proofs.Common.{rules, length, sym, ap, ◌∙◌, arith, length-append}
+use Rattle.std.proofs.Common.{rules, inl, inr, length, sym, ap, ◌∙◌, arith, length-append}
+use Rattle.std.proofs.lemmas.List.{nil_from_length}
 use Rattle.std.specs.Ordering.{is_le}
 use Rattle.cell_key.specs.Entries.{lent_entry, spelled}
-use Rattle.sorted_file.proofs.Opened.{behind_next, behind_none}
+use Rattle.sorted_file.proofs.Opened.{behind_next, behind_none, not_greater}
 use Rattle.sorted_file.proofs.Results.{as_none}
 use Rattle.sorted_file.proofs.Searched.{past_end, past_entry, past_here, no_front}
 use Rattle.sorted_file.proofs.block.bytes_from.Goals as goal
@@ -32,3 +33,14 @@ below-preserved c =
 
 pub returns-clause-found : goal.returns-clause-found
 returns-clause-found c = λ es rising e. past_end c.args.text.now c.below.rest.now es (c.below.invariant.past es rising e) (search rules)
+
+pub returns-then-is_le-clause-begins : goal.returns-then-is_le-clause-begins
+returns-then-is_le-clause-begins c = inr (
+  lent_entry c.in_ok-entry.entry,
+  c.in_ok-entry.after.now,
+  c.in_ok-entry.ensures.found,
+  not_greater _ (ap is_le (sym c.cmp.ensures) ∙ sym c.is_le.ensures ∙ c.if-is_le.true),
+)
+
+pub returns-clause-begins : goal.returns-clause-begins
+returns-clause-begins c = inl (nil_from_length c.below.rest.now (search rules))

@@ -12,6 +12,7 @@ returns-clause-written g c =
       (
         put ∙ ap (with_file c.args.name image) c.in_ok-image.ensures.same,
         c.in_ok-image.ensures.within,
+        c.in_ok-image.ensures.whole,
         c.in_ok-image.ensures.file,
       ),
     ))

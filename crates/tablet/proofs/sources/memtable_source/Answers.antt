@@ -1,4 +1,4 @@
-use Rattle.std.proofs.Common.{List, Option, sym, ap, subst}
+use Rattle.std.proofs.Common.{List, Option, sym, ap, subst, ◌∙◌}
 use Rattle.std.specs.Option.{option_copied}
 use Rattle.std.specs.Ordering.{is_le}
 use Rattle.cell_key.specs.Keys.{byte_cmp}
@@ -19,3 +19,6 @@ pub returns-clause-list : goal.returns-clause-list
 returns-clause-list c = λ m.
     source_remaining m c.new.result (Memtable c.cursor.result) (option_copied c.args.end) (entries_from c.args.from.now c.args.memtable.now) c.new.ensures.source c.new.ensures.end
     (ap (λ (s : Option Entry × List Entry). s.1) c.cursor.ensures.cursor)
+
+pub returns-clause-of : goal.returns-clause-of
+returns-clause-of c = record { source = c.new.ensures.source ∙ ap Memtable c.cursor.ensures.cursor; ends = c.new.ensures.end }

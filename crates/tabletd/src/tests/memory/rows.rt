@@ -41,6 +41,15 @@ pub fn next<R: Rows>(alloc: Global, rows: &mut R, row: u8) -> Result<u8, Refusal
     }
 }
 
+/// The first bytes of the rows of the next cells from the start on, this many at most.
+fn next_rows<R: Rows>(alloc: Global, rows: &mut R, most: usize) -> Result<Vec<u8>, Refusal> {
+    let mut found = Vec::new(alloc);
+    for (row, _) in rows.next_cells(None, most)? {
+        found.push(row.as_bytes().first().copied().unwrap_or(b' '))?;
+    }
+    Ok(found)
+}
+
 /// The calls of any rows, with `a` and `n`.
 fn rows_answer<R: Rows>(
     alloc: Global,
@@ -51,10 +60,11 @@ fn rows_answer<R: Rows>(
     match number {
         0 => Ok(wanted == [newest(alloc, rows, b'a')?].as_slice()),
         1 => Ok(wanted == [next(alloc, rows, b'a')?].as_slice()),
-        _ => {
+        2 => {
             write(alloc, rows, b'n', 3, b'6')?;
             Ok(wanted.is_empty())
         }
+        _ => Ok(wanted == next_rows(alloc, rows, 9)?.as_slice()),
     }
 }
 
@@ -64,13 +74,15 @@ pub struct Plain {
     rows: PlainRows,
 }
 
-const PLAIN_CALLS: [Call; 3] = [
+const PLAIN_CALLS: [Call; 4] = [
     // newest
     (b"1", b"12"),
     // next_cell
     (b"n", b"12"),
     // apply
     (b"", b"16"),
+    // next_cells
+    (b"an", b"12"),
 ];
 
 pub const PLAIN: Table = (b"12", &PLAIN_CALLS);
@@ -101,7 +113,7 @@ pub struct Clustered {
 }
 
 /// The refusals show whether there is a second tablet.
-const CLUSTER_CALLS: [Call; 10] = [
+const CLUSTER_CALLS: [Call; 11] = [
     // newest
     (b"5", b"54\x0E\x0B"),
     // next_cell
@@ -122,6 +134,8 @@ const CLUSTER_CALLS: [Call; 10] = [
     (b"\x02", b"54\x0E\x0B"),
     // run
     (b"a", b"54\x0E\x0B"),
+    // next_cells
+    (b"an", b"54\x0E\x0B"),
 ];
 
 /// A cluster over files in memory.
@@ -193,6 +207,7 @@ impl Subject for Clustered {
             7 => self.cluster.move_to(1, 3)?,
             8 => return Ok(wanted == [(self.cluster.sweep()? % 256) as u8].as_slice()),
             9 => return is_first(alloc, &mut self.cluster, wanted),
+            10 => return rows_answer(alloc, &mut self.cluster, 3, wanted),
             _ => return rows_answer(alloc, &mut self.cluster, number, wanted),
         }
         Ok(wanted.is_empty())

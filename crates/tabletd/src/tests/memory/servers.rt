@@ -118,7 +118,7 @@ const READS: [&[u8]; 8] = [
 ];
 
 /// The requests that are made with allocations refused.
-const REQUESTS: [&[u8]; 28] = [
+const REQUESTS: [&[u8]; 30] = [
     // Begin: 13
     b"\x01",
     // Get 12 a c: 3
@@ -175,6 +175,10 @@ const REQUESTS: [&[u8]; 28] = [
     b"\x11\0\0\0\x01p\0\0\0\x01c\x02\0\0\0\0\0\0\0\0\0\0\0\0\0\0\0c",
     // Checkpoint
     b"\x12",
+    // Scan 12 after a c 3: b c Pending 9; n c 2; p c Pending 5; More p c
+    b"\x31\0\0\0\0\0\0\0\x0C\0\x01\0\0\0\x01a\0\0\0\x01c\0\0\0\0\0\x03",
+    // Scan 12 keys end a family c 2: a c Unsent; End
+    b"\x31\0\0\0\0\0\0\0\x0C\x01\0\x01\0\0\0\x01a\x01\0\0\0\x01c\0\0\0\x02",
 ];
 
 /// What is read before a call.
@@ -248,7 +252,7 @@ const NO_MEMORY: &[u8] = b"\0\0\0\x02\xFF\x14";
 
 /// The calls: each request by itself, with the number of its refusal or 0, a new server, and then each request as a
 /// frame, with the frame of its reply.
-const CALLS: [Call; 57] = [
+const CALLS: [Call; 61] = [
     // Begin: 13
     (b"\0", STILL),
     // Get 12 a c: 3
@@ -304,6 +308,10 @@ const CALLS: [Call; 57] = [
     // Raw p c lock: stamp 5, 70 00 00 63 00 00 53
     (b"\0", STILL),
     // Checkpoint: done
+    (b"\0", STILL),
+    // Scan 12 after a c 3: b c Pending 9; n c 2; p c Pending 5; More p c
+    (b"\0", STILL),
+    // Scan 12 keys end a family c 2: a c Unsent; End
     (b"\0", STILL),
     // Server::new
     (b"\0", STILL),
@@ -369,6 +377,20 @@ const CALLS: [Call; 57] = [
     ),
     // Checkpoint: done
     (b"\0\0\0\x01\x92", STILL),
+    // Scan 12 after a c 3: b c Pending 9; n c 2; p c Pending 5; More p c
+    (
+        b"\
+        \0\0\0F\xB1\x02\0\0\0\x01p\0\0\0\x01c\0\0\0\x03\
+        \0\0\0\x01b\0\0\0\x01c\x02\0\0\0\0\0\0\0\x09\
+        \0\0\0\x01n\0\0\0\x01c\x01\0\0\0\x012\
+        \0\0\0\x01p\0\0\0\x01c\x02\0\0\0\0\0\0\0\x05",
+        STILL,
+    ),
+    // Scan 12 keys end a family c 2: a c Unsent; End
+    (
+        b"\0\0\0\x11\xB1\x01\0\0\0\x01\0\0\0\x01a\0\0\0\x01c\x03",
+        STILL,
+    ),
 ];
 
 /// The number of the refusal of a request, or 0, unless memory was refused.
@@ -422,7 +444,7 @@ impl Subject for Asked {
         let Some(body) = REQUESTS.get(number.saturating_sub(REQUESTS.len() + 1)) else {
             return Ok(false);
         };
-        let out = Vec::with_capacity(alloc, 64)?;
+        let out = Vec::with_capacity(alloc, 128)?;
         let stream = stream_of(alloc, &[*body])?;
         let reply = written(&mut self.server, &stream, out)?;
         if reply.as_slice() == NO_MEMORY {

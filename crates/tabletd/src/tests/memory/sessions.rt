@@ -5,7 +5,7 @@ use crate::tests::memory::{Call, Subject, Table};
 use cell_key::{Refusal, Stamp};
 use oracle::{MemMark, Oracle};
 use row_atomic::PlainRows;
-use si_model::{Found, Progress};
+use si_model::{Found, Progress, ScanFound, ScanRange, ScanReach};
 use std::alloc::Global;
 use txn_client::Clients;
 
@@ -19,7 +19,7 @@ pub struct Sessions {
 }
 
 /// What is read are `a` and `b` by session 6, the newest data of `a`, `b` and `n`, and the top.
-const CALLS: [Call; 11] = [
+const CALLS: [Call; 13] = [
     // begin
     (b"\x07", b"1L162\x07"),
     // get of a value
@@ -42,6 +42,10 @@ const CALLS: [Call; 11] = [
     (b"", b"1L162\x06"),
     // delete of the same cell
     (b"", b"1L162\x06"),
+    // scan of all cells
+    (b"1L2.", b"1L162\x06"),
+    // scan of two cells
+    (b"1L+", b"1L162\x06"),
 ];
 
 /// An oracle whose mark is in memory, with nothing drawn.
@@ -72,6 +76,34 @@ fn get(clients: &mut Clients, rows: &mut PlainRows, row: &[u8]) -> Result<u8, Re
         Found::Nothing => Ok(b'-'),
         Found::Pending(_) => Ok(b'L'),
     }
+}
+
+/// What a scan of session 6 names: the first byte of a value, L for a lock, and a point at the end of all, or a plus.
+fn scan(
+    alloc: Global,
+    clients: &mut Clients,
+    rows: &mut PlainRows,
+    cells: u32,
+) -> Result<Vec<u8>, Refusal> {
+    let range = ScanRange {
+        after: None,
+        end: None,
+        family: None,
+    };
+    let reply = clients.scan(rows, 6, range, false, cells)?;
+    let mut out = Vec::new(alloc);
+    for item in &reply.items {
+        out.push(match &item.found {
+            ScanFound::Value(value) => value.first().copied().unwrap_or(b' '),
+            ScanFound::Pending(_) => b'L',
+            ScanFound::Unsent => b'U',
+        })?;
+    }
+    out.push(match reply.reach {
+        ScanReach::End => b'.',
+        ScanReach::More(_) => b'+',
+    })?;
+    Ok(out)
 }
 
 /// Sets of the sessions.
@@ -116,7 +148,7 @@ impl Subject for Sessions {
         Ok(sessions)
     }
 
-    fn answers(&mut self, _alloc: Global, number: usize, wanted: &[u8]) -> Result<bool, Refusal> {
+    fn answers(&mut self, alloc: Global, number: usize, wanted: &[u8]) -> Result<bool, Refusal> {
         let start = match number {
             0 => {
                 let start = self.clients.begin(&mut self.oracle)?;
@@ -139,6 +171,11 @@ impl Subject for Sessions {
             10 => {
                 self.clients.delete(4, b"n", b"bal")?;
                 return Ok(wanted.is_empty());
+            }
+            11 | 12 => {
+                let cells = if number == 11 { 10 } else { 2 };
+                let found = scan(alloc, &mut self.clients, &mut self.rows, cells)?;
+                return Ok(wanted == found.as_slice());
             }
             8 => {
                 self.clients.stop(3)?;

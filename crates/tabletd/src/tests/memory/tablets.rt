@@ -6,6 +6,7 @@ use crate::tests::memory::{Call, Subject, Table};
 use cell_key::{Family, Qualifier, Refusal, Row, Stamp};
 use file_store::MemFiles;
 use metadata_table::MetadataTable;
+use sorted_file::few_blocks;
 use std::alloc::Global;
 use tablet::{RowRange, Tablet};
 
@@ -19,7 +20,7 @@ pub struct Served {
 }
 
 /// What is read are the row of the first cell, the values of `a`, `b` and `c`, and how many files and names there are.
-const CALLS: [Call; 11] = [
+const CALLS: [Call; 12] = [
     // newest
     (b"3", b"a345\x02\x01"),
     // next_cell from the start
@@ -42,6 +43,8 @@ const CALLS: [Call; 11] = [
     (b"\x02", b"a345\x02\x01"),
     // push_names
     (b"", b"a345\x02\x03"),
+    // next_cells from the start
+    (b"abc", b"a345\x02\x01"),
 ];
 
 /// A row of one byte forty times, so that it and the texts of its keys take memory.
@@ -104,6 +107,15 @@ fn next(alloc: Global, tablet: &Tablet, files: &mut MemFiles) -> Result<u8, Refu
     }
 }
 
+/// The first bytes of the rows of all cells.
+fn all_rows(alloc: Global, tablet: &Tablet, files: &mut MemFiles) -> Result<Vec<u8>, Refusal> {
+    let mut found = Vec::new(alloc);
+    for (row, _) in tablet.next_cells(None, 9, files)? {
+        found.push(row.as_bytes().first().copied().unwrap_or(b' '))?;
+    }
+    Ok(found)
+}
+
 impl Served {
     /// Calls that may write files.
     fn compact(&mut self, alloc: Global, number: usize, wanted: &[u8]) -> Result<bool, Refusal> {
@@ -133,7 +145,7 @@ fn load(alloc: Global, files: &mut MemFiles) -> Result<u8, Refusal> {
         after: None,
         end: None,
     };
-    let tablet = Tablet::load(alloc, range, &[2, 1], files)?;
+    let tablet = Tablet::load(alloc, range, &[2, 1], few_blocks(), files)?;
     Ok((tablet.file_count() % 256) as u8)
 }
 
@@ -170,6 +182,7 @@ impl Subject for Served {
                 return Ok(wanted.is_empty());
             }
             9 => load(alloc, files)?,
+            11 => return Ok(wanted == all_rows(alloc, &self.tablet, files)?.as_slice()),
             10 => {
                 self.tablet.push_names(&mut self.names)?;
                 return Ok(wanted.is_empty());

@@ -23,3 +23,6 @@ returns-in-File-clause-takes g c = rw c.in-File.is c.advance-in-File.ensures.tak
 
 pub returns-in-File-clause-steps : goal.returns-in-File-clause-steps
 returns-in-File-clause-steps g c = rw c.in-File.is c.advance-in-File.ensures.steps
+
+pub returns-in-File-clause-broken : goal.returns-in-File-clause-broken
+returns-in-File-clause-broken g c = rw c.in-File.is c.advance-in-File.ensures.broken

@@ -38,4 +38,6 @@ pub returns-clause-steps : goal.returns-clause-steps
 returns-clause-steps g c = rw (news_are g c, ← c.deref_mut.ensures.value) (record {
   each = c.in_ok-step.ensures.moves;
   ended = λ none. unmapped g.S.Source.lent c.step.new.sources (none_lent (map g.S.Source.lent c.step.new.sources) c.least-self.result (least_of g c) none);
+  past = c.in_ok-step.ensures.past;
+  least = least_of g c;
 })

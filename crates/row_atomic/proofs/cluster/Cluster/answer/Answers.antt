@@ -53,7 +53,7 @@ pub returns-in-NextCell : goal.returns-in-NextCell
 returns-in-NextCell g c =
     let told = c.next_cell.ensures in
     rw c.in-NextCell.is (read_refused g.F.Files.contents g.F.Files.faults (command.NextCell c.in-NextCell.after) c.next_cell.result c.in-Err-next_cell.refusal c.args.self.now c.next_cell.new.self c.in-Err-next_cell.is told.reads.still
-    (λ order. (read_undamaged _ c.in-Err-next_cell.refusal c.in-Err-next_cell.ensures.refusal order, told.reads.kept)) (is_read_refusal _ c.in-Err-next_cell.refusal c.in-Err-next_cell.ensures.refusal, told.reads.stays) tt told.reads.stays told.reads.room (λ many. record { due = λ is. subst (λ after. MeetsDamage (g.F.Files.contents c.args.self.now.files) after c.args.self.now.places c.args.self.now.tablets) c.lent.ensures (told.damaged (c.in-Err-next_cell.is ∙ err_of _ Damaged is)); barred = λ bars. absurd bars; undone = λ is. absurd (many is) }) (is_read_refusal _ c.in-Err-next_cell.refusal c.in-Err-next_cell.ensures.refusal) told.reason.later told.reason.device told.reason.told)
+    (λ order. (read_undamaged _ c.in-Err-next_cell.refusal c.in-Err-next_cell.ensures.refusal order, told.reads.kept)) (is_read_refusal _ c.in-Err-next_cell.refusal c.in-Err-next_cell.ensures.refusal, told.reads.stays) tt told.reads.stays told.reads.room (λ many. record { due = λ is. subst (λ after. MeetsDamage (g.F.Files.contents c.args.self.now.files) after 1 c.args.self.now.places c.args.self.now.tablets) c.lent.ensures (told.damaged (c.in-Err-next_cell.is ∙ err_of _ Damaged is)); barred = λ bars. absurd bars; undone = λ is. absurd (many is) }) (is_read_refusal _ c.in-Err-next_cell.refusal c.in-Err-next_cell.ensures.refusal) told.reason.later told.reason.device told.reason.told)
 
 pub returns-in-Apply : goal.returns-in-Apply
 returns-in-Apply g c =

@@ -1,9 +1,10 @@
 -- The tablets are flushed, and then the root is put.
+use Rattle.std.proofs.Common.{inl}
 use Rattle.row_atomic.specs.Changes.{IsRefusalOf}
 use Rattle.row_atomic.specs.Commands.{done_of}
 use Rattle.row_atomic.specs.Compactions.{minor}
 use Rattle.row_atomic.proofs.Checkpoints.{both_tell, done_undamaged, flushes_tell, passed_on, put_tells, refused_tells, when_refused}
-use Rattle.row_atomic.proofs.RestedClusters.{are_flushed, flushed_then, rests_after, when_done, when_true}
+use Rattle.row_atomic.proofs.RestedClusters.{are_flushed, flushed_then, on_refused, rests_after, stays_or_rests, when_done, when_refused as if_refused, when_true}
 use Rattle.row_atomic.proofs.RootFlushes.{checkpointed, not_flushed}
 use Rattle.row_atomic.proofs.cluster.Cluster.checkpoint.Goals as goal
 
@@ -56,3 +57,14 @@ returns-clause-undamaged g c =
 
 pub returns-clause-refusal : goal.returns-clause-refusal
 returns-clause-refusal g c = when_refused g.F.Files.contents c.args.top c.args.floor c.flush_each.new.self _ c.put_root.result c.put_root.ensures.puts
+
+pub returns-in_err-flush_each-clause-whole : goal.returns-in_err-flush_each-clause-whole
+returns-in_err-flush_each-clause-whole g c = λ replaces. on_refused c.from_residual.result c.in_err-flush_each.field-0.0 c.from_residual.ensures.1
+    (inl (λ root cells. (c.root_outlasts_flushes.ensures root cells _ _).1 _ _ c.in_err-flush_each.ensures.flushes))
+
+pub returns-clause-whole : goal.returns-clause-whole
+returns-clause-whole g c = λ replaces.
+    if_refused c.put_root.result
+    (stays_or_rests g.F.Files.contents g.F.Files.faults c.root_is_stored.ensures c.root_outlasts_flushes.ensures c.args.top c.args.floor c.args.self.now c.flush_each.new.self c.put_root.new.self
+    c.in_ok-flush_each.ensures.flushes c.put_root.ensures.rest)
+    (c.put_root.ensures.whole replaces)

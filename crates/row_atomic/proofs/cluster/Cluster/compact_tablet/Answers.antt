@@ -8,8 +8,8 @@ use Rattle.metadata_table.specs.Table.{with_files}
 use Rattle.tablet.specs.Views.{names_of, range_of}
 use Rattle.row_atomic.specs.Clusters.{spot_of}
 use Rattle.row_atomic.specs.PlaceCaches.{AreHeld}
-use Rattle.row_atomic.specs.Changes.{FitsLimit, IsCleaned, IsFullTablet, IsMade, IsOutOfOrder, IsTooLarge, MeetsBadCount, MeetsFull, StaysInOrder, WritesNone}
-use Rattle.tablet.specs.Compactions.{Compacts}
+use Rattle.row_atomic.specs.Changes.{CannotRead, FitsLimit, IsCleaned, IsFullTablet, IsMade, IsOutOfOrder, IsTooLarge, MeetsBadCount, MeetsFull, StaysInOrder, WritesNone}
+use Rattle.tablet.specs.Compactions.{Compacts, ReadsTooMuch}
 use Rattle.row_atomic.proofs.RowAnswers.{found_there, undamaged}
 use Rattle.row_atomic.proofs.DamagedTablets.{named_below, stays_ordered}
 use Rattle.row_atomic.proofs.ListedFiles.{flush_lists}
@@ -28,7 +28,7 @@ pub invariant_of-self : goal.invariant_of-self
 invariant_of-self g c =
     let at = rw (← c.self.view_is) at c.position-index.ensures in
     let there = found_there c.self.inside.tablets.items c.position-index.result at.tablet c.index_mut.result.now at.there c.index_mut.ensures.value in
-    (matched_unchanged c.self.inside.file_limit (g.F.Files.contents c.self.inside.files) (g.F.Files.contents c.compact.new.files) c.self.inside.next_name c.compact.new.next_name c.self.inside.table c.self.inside.tablets.items c.position-index.result c.index_mut.result.now c.compact.new.tablet there c.compact.ensures.name c.compact.ensures.named_to c.in_err-compact.ensures.err c.self.invariant.0, c.self.invariant.1, set_same c.self.inside.most_entries c.self.inside.tablets.items c.position-index.result c.self.invariant.2 c.index_mut.result.now c.compact.new.tablet there c.in_err-compact.ensures.err.memory)
+    (matched_unchanged c.self.inside.file_limit (g.F.Files.contents c.self.inside.files) (g.F.Files.contents c.compact.new.files) c.self.inside.next_name c.compact.new.next_name c.self.inside.table c.self.inside.tablets.items c.position-index.result c.index_mut.result.now c.compact.new.tablet there c.compact.ensures.name c.compact.ensures.named_to c.in_err-compact.ensures.err c.self.invariant.0, c.self.invariant.1, set_same c.self.inside.most c.self.inside.tablets.items c.position-index.result c.self.invariant.2 c.index_mut.result.now c.compact.new.tablet there c.in_err-compact.ensures.err.memory)
 
 pub index-requires-2 : goal.index-requires-2
 index-requires-2 g c =
@@ -55,7 +55,7 @@ invariant_of-self-2 g c =
           (placed_names c.self.inside.next_name c.self.inside.tablets.items c.args.tablet c.index_mut.result.now (numbered_at c.self.inside.tablets.items c.args.tablet c.position-index.result c.index_mut.result.now at.number there) None c.self.inside.table c.self.invariant.0.placed c.self.invariant.0.files (rw (← c.self.view_is) at c.requires.known)))
           c.self.invariant.0,
       subst (λ (ps : List PlaceView). AreHeld ps c.self.inside.place_cache.numbers.entries) (sym listed) (held_listed c.self.inside.table c.args.tablet (names_of c.compact.new.tablet) c.self.inside.place_cache.numbers.entries c.self.invariant.1),
-      set_made c.self.inside.most_entries c.self.inside.tablets.items c.position-index.result c.self.invariant.2 c.args.compaction c.self.inside.next_name c.index_mut.result.now c.compact.new.tablet there c.in_ok-compact.ensures.done.made,
+      set_made c.self.inside.most c.self.inside.tablets.items c.position-index.result c.self.invariant.2 c.args.compaction c.self.inside.next_name c.index_mut.result.now c.compact.new.tablet there c.in_ok-compact.ensures.done.made,
     )
 
 pub returns-clause-listed : goal.returns-clause-listed
@@ -128,6 +128,10 @@ returns-in_err-compact-clause-outcome g c =
       exhausted = λ is. ((refused.refused.exhausted is).0, numbered_not c.self.inside.tablets.items c.position-index.result c.index_mut.result.now there (WritesNone c.args.compaction) c.args.tablet at.number ((refused.refused.exhausted is).1));
       large = λ is. numbered_old c.self.inside.tablets.items c.position-index.result c.index_mut.result.now c.compact.new.tablet there (IsTooLarge c.self.inside.file_limit (g.F.Files.contents c.self.inside.files) c.args.compaction) c.args.tablet at.number (refused.refused.large is);
       damaged = λ is. numbered_old c.self.inside.tablets.items c.position-index.result c.index_mut.result.now c.compact.new.tablet there (IsOutOfOrder (g.F.Files.contents c.self.inside.files)) c.args.tablet at.number (refused.refused.damaged is);
+    })
+    (record {
+      large = λ is. numbered_old c.self.inside.tablets.items c.position-index.result c.index_mut.result.now c.compact.new.tablet there (ReadsTooMuch c.args.compaction c.self.inside.file_limit (g.F.Files.contents c.self.inside.files)) c.args.tablet at.number (refused.refused.too_much is);
+      damaged = λ is. numbered_old c.self.inside.tablets.items c.position-index.result c.index_mut.result.now c.compact.new.tablet there (CannotRead (g.F.Files.contents c.self.inside.files) c.args.compaction) c.args.tablet at.number (refused.refused.unread is);
     })
     (known_refusal c.args.compaction e refused.refusal) within
     (λ is. let same = refused.refused.undone is in record { as_before = record { places = refl; tablets = parts_stay c.self.inside.tablets.items c.position-index.result c.index_mut.result.now c.compact.new.tablet there refused.err }; name = same.0; files = same.1 })

@@ -94,7 +94,7 @@ pub invariant_of-self : goal.invariant_of-self
 invariant_of-self g c =
     let at = rw (← c.self.view_is) at c.position-index.ensures in
     let there = found_there c.self.inside.tablets.items c.position-index.result at.tablet c.index_mut.result.now at.there c.index_mut.ensures.value in
-    (matched_unchanged c.self.inside.file_limit (g.F.Files.contents c.self.inside.files) (g.F.Files.contents c.cut.new.files) c.self.inside.next_name c.self.inside.next_name c.self.inside.table c.self.inside.tablets.items c.position-index.result c.index_mut.result.now c.cut.new.self there (inl (refl, c.cut.ensures.same)) (λ within. within) c.in_err-part.ensures.err c.self.invariant.0, c.self.invariant.1, set_same c.self.inside.most_entries c.self.inside.tablets.items c.position-index.result c.self.invariant.2 c.index_mut.result.now c.cut.new.self there c.in_err-part.ensures.err.memory)
+    (matched_unchanged c.self.inside.file_limit (g.F.Files.contents c.self.inside.files) (g.F.Files.contents c.cut.new.files) c.self.inside.next_name c.self.inside.next_name c.self.inside.table c.self.inside.tablets.items c.position-index.result c.index_mut.result.now c.cut.new.self there (inl (refl, c.cut.ensures.same)) (λ within. within) c.in_err-part.ensures.err c.self.invariant.0, c.self.invariant.1, set_same c.self.inside.most c.self.inside.tablets.items c.position-index.result c.self.invariant.2 c.index_mut.result.now c.cut.new.self there c.in_err-part.ensures.err.memory)
 
 pub returns-in_err-part-clause-kept : goal.returns-in_err-part-clause-kept
 returns-in_err-part-clause-kept g c =
@@ -166,9 +166,9 @@ invariant_of-self-2 g c =
           (matched_cut c.self.inside.table c.self.inside.tablets.items c.position-index.result c.index_mut.result.now c.in_ok-part.part c.cut.new.self c.args.row.now (view_of c.locate.result.now) table there holder at.number c.in_ok-part.ensures.left_range c.in_ok-part.ensures.right_range c.self.inside.file_limit (g.F.Files.contents c.self.inside.files) (g.F.Files.contents c.cut.new.files) c.self.inside.next_name c.self.inside.next_name c.list_files-2.new.table c.args.room.left (inl (refl, c.cut.ensures.same)) (λ within. within)
           c.in_ok-part.ensures.left_names c.in_ok-part.ensures.right_names for.number cut c.self.invariant.0),
       none_held c.list_files-2.new.table c.clear.new.self.numbers.entries c.clear.ensures.none,
-      subst (HaveAtMost c.self.inside.most_entries) (sym pushed)
-          (with_emptied c.self.inside.most_entries (set c.self.inside.tablets.items c.position-index.result c.cut.new.self) c.in_ok-part.part c.in_ok-part.ensures.left_memory
-          (set_emptied c.self.inside.most_entries c.self.inside.tablets.items c.position-index.result c.self.invariant.2 c.cut.new.self c.cut.ensures.right_memory)),
+      subst (HaveAtMost c.self.inside.most) (sym pushed)
+          (with_emptied c.self.inside.most (set c.self.inside.tablets.items c.position-index.result c.cut.new.self) c.in_ok-part.part c.in_ok-part.ensures.left_memory
+          (set_emptied c.self.inside.most c.self.inside.tablets.items c.position-index.result c.self.invariant.2 c.cut.new.self c.cut.ensures.right_memory)),
     )
 
 pub returns-clause-kept : goal.returns-clause-kept

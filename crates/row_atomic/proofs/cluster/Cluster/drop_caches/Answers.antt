@@ -15,7 +15,7 @@ invariant_of-self g c =
     let items = with_items_is c.self.inside.tablets c.drop_each.new.tablets (c.drop_each.auto.tablets ∙ ap length c.deref_mut.ensures.value ∙ sym c.self.inside.tablets.ok.0) in
     let all = subst (λ (ts : List Tablet). AllZip (IsSameTablet told) ts c.drop_each.new.tablets) c.deref_mut.ensures.value (c.drop_each.ensures told) in
     let same = subst (λ (ts : List Tablet). AllZip (IsSameTablet told) c.self.inside.tablets.items ts) (sym items) all in
-    (matched_still told c.self.inside.file_limit c.self.inside.next_name c.self.inside.table c.self.inside.tablets.items _ same c.self.invariant.0, none_held c.self.inside.table c.clear.new.self.numbers.entries c.clear.ensures.none, each_same told c.self.inside.most_entries c.self.inside.tablets.items _ same c.self.invariant.2)
+    (matched_still told c.self.inside.file_limit c.self.inside.next_name c.self.inside.table c.self.inside.tablets.items _ same c.self.invariant.0, none_held c.self.inside.table c.clear.new.self.numbers.entries c.clear.ensures.none, each_same told c.self.inside.most c.self.inside.tablets.items _ same c.self.invariant.2)
 
 pub returns : goal.returns
 returns g c =

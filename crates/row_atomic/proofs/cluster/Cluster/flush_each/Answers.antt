@@ -26,7 +26,7 @@ loop-index-preserved g c = record {
 pub returns-in_err-minor-clause-refusal : goal.returns-in_err-minor-clause-refusal
 returns-in_err-minor-clause-refusal g c =
     let is = c.in_err-minor.ensures in
-    passed_on (IsRefusalOf minor) c.from_residual.result c.in_err-minor.field-0.0 c.from_residual.ensures.1 (known_refusal _ is.upholds.0 (λ same. is.cause.due.unknown.0 same c.number_at-tablet.ensures.known))
+    passed_on (IsRefusalOf minor) c.from_residual.result c.in_err-minor.field-0.0 c.from_residual.ensures.1 (known_refusal _ is.upholds.0 (λ same. is.cause.due.0.unknown.0 same c.number_at-tablet.ensures.known))
 
 pub returns-in_err-minor-clause-flushes : goal.returns-in_err-minor-clause-flushes
 returns-in_err-minor-clause-flushes g c =

@@ -1,7 +1,7 @@
--- A memtable that is full has no more entries than the longest may have.
-use Rattle.std.proofs.lemmas.Bool.{le-leb}
+-- A memtable that is full has no more entries and bytes than any may have.
+use Rattle.std.proofs.Common.{sym, subst, IsTrue, Bool}
 use Rattle.row_atomic.proofs.Memtables.{may_be_full}
 use Rattle.row_atomic.proofs.cluster.Cluster.may_have_full.Goals as goal
 
 pub returns : goal.returns
-returns g c = rw (← c.self.view_is) (λ full. le-leb _ _ (may_be_full c.args.flush c.self.inside.most_entries c.self.inside.tablets.items c.self.invariant.2 full))
+returns g c = rw (← c.self.view_is) (λ full. subst IsTrue (sym c.reaches.ensures) (may_be_full c.args.limits c.self.inside.most c.self.inside.tablets.items c.self.invariant.2 full))

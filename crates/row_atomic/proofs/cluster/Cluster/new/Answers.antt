@@ -16,7 +16,7 @@ invariant_of-result g c =
           (subst (λ (ps : List PlaceView). IsMatched c.args.file_limit 1 ps (first.tablet ∷ [])) (sym c.in-Ok-first_tablet.ensures.table)
           (new_matched first.tablet first.memory first.files c.args.file_limit c.requires.limit first.range)),
       none_held c.in-Ok-first_tablet.table c.in-Ok.place_cache.numbers.entries c.in-Ok.ensures.none,
-      subst (HaveAtMost 0) (sym first.alone) (all_emptied 0 (first.tablet ∷ []) (first.memory, tt)),
+      subst (HaveAtMost _) (sym first.alone) (all_emptied _ (first.tablet ∷ []) (first.memory, tt)),
     )
 
 pub returns-in-Ok-first_tablet-clause-cells : goal.returns-in-Ok-first_tablet-clause-cells

@@ -31,7 +31,7 @@ invariant_of-self-2 g c =
       matched_moved c.self.inside.file_limit c.self.inside.next_name c.args.tablet c.args.server c.self.inside.table c.assign.new.self (set c.self.inside.tablets.items c.position-index.result c.in_ok-opened.opened) done
           (matched_set c.self.inside.file_limit c.self.inside.next_name c.self.inside.table c.self.inside.tablets.items c.position-index.result c.index.result.now c.in_ok-opened.opened there c.in_ok-opened.ensures.range c.in_ok-opened.ensures.names c.self.invariant.0),
       none_held c.assign.new.self c.clear.new.self.numbers.entries c.clear.ensures.none,
-      set_emptied c.self.inside.most_entries c.self.inside.tablets.items c.position-index.result c.self.invariant.2 c.in_ok-opened.opened c.in_ok-opened.ensures.memory,
+      set_emptied c.self.inside.most c.self.inside.tablets.items c.position-index.result c.self.invariant.2 c.in_ok-opened.opened c.in_ok-opened.ensures.memory,
     )
 
 pub returns-clause-kept : goal.returns-clause-kept

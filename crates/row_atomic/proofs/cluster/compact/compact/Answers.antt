@@ -29,6 +29,10 @@ none_erased : (o : Option Contents) (next : ℕ) (t : Tablet) → IfSome o (λ m
 none_erased None next t = tt
 none_erased (Some m) next t = λ holds below. tt
 
+both_told : (o : Option Contents) (P Q : Contents → Type 0) → IfSome o P → IfSome o Q → IfSome o (λ m. P m × Q m)
+both_told None P Q p q = tt
+both_told (Some m) P Q p q = (p, q)
+
 any_refusal : {A : Type 0} (r : Result A Refusal) → IfErr r (λ _. Unit {0})
 any_refusal (Ok x) = tt
 any_refusal (Err e) = tt
@@ -79,6 +83,8 @@ returns-in-Minor-clause-refused g c = rw (c.in-Minor.is) (
       exhausted = λ is. let out = by.exhausted (told Exhausted is) in (out.1, out.0);
       large = λ is. (by.large (told FileTooLarge is)).1;
       damaged = λ is. none_says (g.F.Files.contents c.args.files.now) _ (by.damaged (told Damaged is));
+      too_much = λ is. by.too_much (told FileTooLarge is);
+      unread = λ is. none_says (g.F.Files.contents c.args.files.now) _ (by.damaged (told Damaged is));
       undone = λ is. by.unwritten (told TooManyFiles is);
     }) (not_full_written c.minor.result c.args.tablet.now (λ some many. by.full.1 (some, many))))
 
@@ -92,6 +98,8 @@ returns-in-Merge-clause-refused g c = rw (c.in-Merge.is) (
       exhausted = λ is. (by.exhausted (told Exhausted is), λ none. none);
       large = λ is. where_held (Merge c.in-Merge.count) (g.F.Files.contents c.args.files.now) c.args.tablet.now (λ m. ¬ FitsIn c.args.file_limit (compacted_of (Merge c.in-Merge.count) m c.args.tablet.now)) (by.large (told FileTooLarge is));
       damaged = λ is. where_held (Merge c.in-Merge.count) (g.F.Files.contents c.args.files.now) c.args.tablet.now (λ m. ⊥) (by.damaged (told Damaged is));
+      too_much = λ is. by.too_much (told FileTooLarge is);
+      unread = λ is. both_told (g.F.Files.contents c.args.files.now) _ _ (by.damaged (told Damaged is)) (by.broken (told Damaged is));
       undone = λ is. absurd (not_answered IsMergeRefusal c.merge.result TooManyFiles _ by.refusal (told TooManyFiles is) refl);
     }) (any_refusal c.merge.result))
 
@@ -105,6 +113,8 @@ returns-in-Major-clause-refused g c = rw (c.in-Major.is) (
       exhausted = λ is. (by.exhausted (told Exhausted is), λ none. none);
       large = λ is. where_held Major (g.F.Files.contents c.args.files.now) c.args.tablet.now (λ m. ¬ FitsIn c.args.file_limit (compacted_of Major m c.args.tablet.now)) (by.large (told FileTooLarge is));
       damaged = λ is. where_held Major (g.F.Files.contents c.args.files.now) c.args.tablet.now (λ m. ⊥) (by.damaged (told Damaged is));
+      too_much = λ is. by.too_much (told FileTooLarge is);
+      unread = λ is. both_told (g.F.Files.contents c.args.files.now) _ _ (by.damaged (told Damaged is)) (by.broken (told Damaged is));
       undone = λ is. absurd (not_answered IsCompactionRefusal c.major.result TooManyFiles _ by.refusal (told TooManyFiles is) refl);
     }) (any_refusal c.major.result))
 

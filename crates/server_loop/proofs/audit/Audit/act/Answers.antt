@@ -48,3 +48,11 @@ returns-in-Stop-reply c = judged_fit c.args.request.now (lent.Stop c.in-Stop.sta
 
 pub returns-in_default-reply-6 : goal.returns-in_default-reply-6
 returns-in_default-reply-6 c = judged_unfit c.args.request.now (lent.Stop c.in-Stop.start) c.in-Stop.is c.args.reply.now c.args.self.now (c.in_default-reply-6.not-Stop)
+
+pub returns-in-Scan-reply : goal.returns-in-Scan-reply
+returns-in-Scan-reply c =
+    judged_fit c.args.request.now (lent.Scan c.in-Scan.start c.in-Scan.range c.in-Scan.keys_only c.in-Scan.cells) c.in-Scan.is c.args.reply.now (kept.Scan c.in-Scan-reply.found) c.in-Scan-reply.is c.args.self.now c.args.self.now (Ok c.scan.result) c.scan.ensures
+
+pub returns-in_default-reply-7 : goal.returns-in_default-reply-7
+returns-in_default-reply-7 c =
+    judged_unfit c.args.request.now (lent.Scan c.in-Scan.start c.in-Scan.range c.in-Scan.keys_only c.in-Scan.cells) c.in-Scan.is c.args.reply.now c.args.self.now (λ f. c.in_default-reply-7.not-Scan f.0 f.1)

@@ -18,7 +18,7 @@ returns-in-Ok g c = let o = c.in-Ok.ensures in record {
 
 pub returns-in-Err : goal.returns-in-Err
 returns-in-Err g c = let o = c.in-Err.ensures in record {
-  step = record { step = tells_as _ _ _ (λ held. (o.still held, (o.answers held).1)) refl refl refl refl _ _ o.files.1 (λ st shown. refuses (merge_refuses st _ (sym shown.places) _ _ _ o.upholds.0 o.cause.due.unknown.0 (λ is. (o.cause.due.count.0 is).0))) (λ held. name_undamaged _ (o.answers held).0); refusal = o.upholds.0; limits = tt };
+  step = record { step = tells_as _ _ _ (λ held. (o.still held, (o.answers held).1)) refl refl refl refl _ _ o.files.1 (λ st shown. refuses (merge_refuses st _ (sym shown.places) _ _ _ o.upholds.0 o.cause.due.0.unknown.0 (λ is. (o.cause.due.0.count.0 is).0))) (λ held. name_undamaged _ (o.answers held).0); refusal = o.upholds.0; limits = tt };
   stamps = record { last = refl; restarted = tt; exhausted = λ _. tt };
   edits = record { changes = λ held. (o.answers held).1; room = tt };
   sessions = record { told = λ st shown. tt; sessions = record { top = refl; each = λ t. refl }; cleaners = record { next = refl; each = λ i. refl; count = refl }; collectors = record { next = refl; floor = refl; each = λ i. refl; count = refl }; oracle = refl };

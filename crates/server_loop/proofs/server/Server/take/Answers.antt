@@ -12,6 +12,9 @@ returns-in-Set g c = rw c.in-Set.is c.set.ensures
 pub returns-in-Delete : goal.returns-in-Delete
 returns-in-Delete g c = rw c.in-Delete.is c.delete.ensures
 
+pub returns-in-Scan : goal.returns-in-Scan
+returns-in-Scan g c = rw c.in-Scan.is c.scan.ensures
+
 pub returns-in-Step : goal.returns-in-Step
 returns-in-Step g c = rw c.in-Step.is c.step.ensures
 

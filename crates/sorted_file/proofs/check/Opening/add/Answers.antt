@@ -7,12 +7,13 @@ use Rattle.sorted_file.specs.Index.{entries_in, blocks_of, row_head, texts_of, I
 use Rattle.sorted_file.specs.Check.{IsLastOf}
 use Rattle.sorted_file.specs.Block.{file_entry, first_value, entries_of}
 use Rattle.sorted_file.specs.Bounds.{IsBounded}
-use Rattle.sorted_file.specs.Numbers.{IsNumbered}
+use Rattle.sorted_file.specs.Numbers.{IsLockNumbered, IsNumbered}
 use Rattle.sorted_file.specs.declared.block.BlockRow.{BlockRow}
 use Rattle.sorted_file.specs.declared.entry.FileEntry.{FileEntry}
 use Rattle.sorted_file.proofs.Joining.{all_joined, last_joined, map_joined}
 use Rattle.sorted_file.proofs.NextBlocks.{is_added}
 use Rattle.sorted_file.proofs.Bounded.{covered_all}
+use Rattle.sorted_file.proofs.Locked.{locked_on}
 use Rattle.sorted_file.proofs.Numbered.{numbered_on}
 use Rattle.sorted_file.proofs.Spelling.{body-whole}
 use Rattle.sorted_file.proofs.WholeFiles.{few_entries}
@@ -53,6 +54,8 @@ returns-clause-opening c =
     ∙ ap (λ (l : List Entry). option_map (λ (e : Entry). e.0) (first_value l)) (sym was) in
     let numbers = c.push_numbers.new.numbers.items in
     let here = subst (λ (l : List FileEntry). AllByRecursion (IsNumbered numbers) (entries_of l)) c.deref-3.ensures.value c.in_ok-push_numbers.ensures.all in
+    let locks = c.push_locks.new.numbers.items in
+    let held = subst (λ (l : List FileEntry). AllByRecursion (IsLockNumbered locks) (entries_of l)) c.deref-4.ensures.value c.in_ok-push_locks.ensures.all in
     let own = subst (λ (l : List FileEntry). AllByRecursion (IsBounded c.in_ok-bounds.bounds) (entries_of l)) c.deref-2.ensures.value c.in_ok-bounds.ensures.all in
     let many = length-map c.args.block.items file_entry in
     let counted = o.counted in
@@ -72,9 +75,15 @@ returns-clause-opening c =
       numbered = subst (λ (l : List Entry). AllByRecursion (IsNumbered numbers) l) (sym added.whole)
           (all_joined (IsNumbered numbers) (entries_in (blocks_of c.args.self.now.rows.items)) es
           (numbered_on c.args.self.now.numbers.items numbers c.in_ok-push_numbers.ensures.keeps (entries_in (blocks_of c.args.self.now.rows.items)) o.numbered) here);
+      locked = subst (λ (l : List Entry). AllByRecursion (IsLockNumbered locks) l) (sym added.whole)
+          (all_joined (IsLockNumbered locks) (entries_in (blocks_of c.args.self.now.rows.items)) es
+          (locked_on c.args.self.now.locks.items locks c.in_ok-push_locks.ensures.keeps (entries_in (blocks_of c.args.self.now.rows.items)) o.locked) held);
       counted = let len = c.len.ensures in let vec = c.args.block.ok in omega (arith, many, counted, total, len);
       last = subst (λ (b : List (List Entry)). IsLastOf b es) (sym added.blocks) (last_joined (blocks_of c.args.self.now.rows.items) es);
       reached = added.reached;
       within = c.requires.within;
       small = o.small;
     }
+
+pub push_locks-requires : goal.push_locks-requires
+push_locks-requires c = subst (λ (l : List FileEntry). AllByRecursion (IsBounded c.in_ok-bounds.bounds) (entries_of l)) (c.deref-2.ensures.value ∙ sym c.deref-4.ensures.value) c.in_ok-bounds.ensures.all

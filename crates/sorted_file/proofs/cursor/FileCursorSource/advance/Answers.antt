@@ -1,4 +1,4 @@
-use Rattle.std.proofs.Common.{◌≡◌, ◌≤◌, ◌<◌, ◌-◌, ◌^◌, ◌++◌, ℕ, List, [], Option, length, drop, sym, ap, subst, ◌∙◌, arith, length-drop}
+use Rattle.std.proofs.Common.{rules, ◌≡◌, ◌≤◌, ◌<◌, ◌-◌, ◌^◌, ◌++◌, ℕ, List, [], Option, length, drop, sym, ap, subst, ◌∙◌, arith, length-drop}
 use Rattle.std.proofs.lemmas.List.{nil_from_length}
 use Rattle.std.proofs.Math.ListN.{drop_of_length-le}
 use Rattle.std.specs.Option.{option_copied}
@@ -12,6 +12,8 @@ use Rattle.sorted_file.specs.declared.block.BlockRow.{BlockRow}
 use Rattle.sorted_file.specs.declared.cursor.FileCursor.{FileCursor}
 use Rattle.sorted_file.specs.declared.block.EntryExtent.{EntryExtent}
 use Rattle.sorted_file.proofs.CursorSteps.{block_ahead, block_read, block_step, entry_taken, used_up, IsHeld, IsTaken}
+use Rattle.sorted_file.proofs.Breaks.{breaks_behind, breaks_here}
+use Rattle.sorted_file.specs.Cursor.{garbled}
 use Rattle.sorted_file.proofs.Opened.{goes_end, goes_entry, goes_open}
 use Rattle.sorted_file.proofs.Places.{rest_list}
 use Rattle.sorted_file.proofs.Searched.{no_front}
@@ -46,6 +48,7 @@ blocks-2-preserved g c =
       name = i.name;
       from = i.from;
       goes = λ lent later rows h. i.goes lent later rows (goes_open _ told s.name c.args.self.now.name s.from.now c.args.self.now.from.now row rest s.rows.now rows (bytes_ahead s) (drop at block) later lent i.contents i.name i.from c.in_ok-self.ensures.opened (drop_of_length-le s.block.items over) cut h);
+      breaks = λ h. i.breaks (breaks_behind _ told s.name c.args.self.now.name s.from.now c.args.self.now.from.now row rest s.rows.now (bytes_ahead s) (drop at block) i.contents i.name i.from c.in_ok-self.ensures.opened (drop_of_length-le s.block.items over) cut h);
       held = λ h.
           let now = i.held h in
           let used = used_up told s.name s.rows.now (option_copied s.row) s.block.items s.at now.0 over in
@@ -82,7 +85,7 @@ returns-in_default-entry_extent-clause-damaged g c = λ is h.
     let below : s.at < length s.block.items = omega (arith, test, len, s.block.ok.0) in
     let same = c.deref.ensures.value in
     no_front (drop s.at s.block.items) (last_of (length s.block.items - s.at) (option_copied s.row)) (λ z. omega (arith, length-drop s.at s.block.items, z, below))
-    (λ e x is. c.in_default-entry_extent.ensures.none (subst (λ (l : List ℕ). length l < 2 ^ 32) (sym same) now.0.small) e x (ap (drop s.at) same ∙ is)) now.0.ahead
+    (λ e x is. c.in_default-entry_extent.ensures.none (subst (λ (l : List ℕ). length (drop s.at l) < 2 ^ 32) (sym same) (omega (arith, length-drop s.at s.block.items, now.0.small))) e x (ap (drop s.at) same ∙ is)) now.0.ahead
 
 taken : (told : Option Contents) (s : FileCursor) (entry : EntryExtent) (end : ℕ) (bytes : List ℕ) → IsHeld told s.name s.rows.now (option_copied s.row) s.block.items s.at → bytes ≡ s.block.items → drop s.at bytes ≡ spelled (entry_at bytes entry) ++ drop end bytes → IsTaken (option_copied s.row) s.block.items s.at end (entry_at s.block.items entry)
 taken told s entry end bytes h same found =
@@ -133,3 +136,24 @@ returns-clause-steps g c =
       from = i.from;
       goes = i.goes _ _ _ (goes_entry _ _ _ (bytes_ahead s) (drop end s.block.items) s.rows.now (entry_at s.block.items entry) found);
     }
+
+pub returns-in_err-self-clause-broken : goal.returns-in_err-self-clause-broken
+returns-in_err-self-clause-broken g c = λ is.
+    let i = c.blocks-2.invariant in
+    let s = c.blocks-2.self in
+    let told = g.F.Files.contents c.args.files.now in
+    let test = c.blocks-2-test.true in
+    let len = c.len.ensures in
+    let over : length s.block.items ≤ s.at = omega (arith, test, len, s.block.ok.0) in
+    i.breaks (breaks_here _ told s.name c.args.self.now.name c.args.self.now.from.now (bytes_ahead s) c.in-Some.row.now c.in-Some.rest.now s.rows.now i.contents i.name (c.in_err-self.ensures.broken (search rules)) (drop_of_length-le s.block.items over) c.in-Some.ensures.cases.0)
+
+pub returns-in_default-entry_extent-clause-broken :
+    goal.returns-in_default-entry_extent-clause-broken
+returns-in_default-entry_extent-clause-broken g c = λ is.
+    let s = c.blocks-2.self in
+    let test = c.blocks-2-test.false in
+    let len = c.len.ensures in
+    let below : s.at < length s.block.items = omega (arith, test, len, s.block.ok.0) in
+    let same = c.deref.ensures.value in
+    c.blocks-2.invariant.breaks (garbled (λ none. omega (arith, length-drop s.at s.block.items, ap length none, below))
+    (λ small e x is. c.in_default-entry_extent.ensures.none (subst (λ (l : List ℕ). length (drop s.at l) < 2 ^ 32) (sym same) small) e x (ap (drop s.at) same ∙ is)))

@@ -3,15 +3,15 @@ use Rattle.std.specs.Global.{Vec}
 use Rattle.std.specs.Prelude.{option_map}
 use Rattle.file_store.specs.Store.{Contents}
 use Rattle.cell_key.specs.Keys.{text, IsKey}
-use Rattle.cell_key.specs.Entries.{entries_from, value_of}
+use Rattle.cell_key.specs.Entries.{entries_from}
 use Rattle.sorted_file.specs.Newest.{at_stamp, IsFirstIn}
 use Rattle.sorted_file.specs.Numbers.{number_of}
 use Rattle.sorted_file.specs.Block.{first_value}
-use Rattle.sorted_file.specs.File.{IsOpen, listed}
+use Rattle.sorted_file.specs.File.{IsOpen, listed, value_numbers}
 use Rattle.sorted_file.proofs.OpenBlocks.{none_of, some_of}
 use Rattle.sorted_file.proofs.Results.{as_some, if_some}
 use Rattle.sorted_file.proofs.Bounded.{no_value}
-use Rattle.sorted_file.proofs.Numbered.{no_entry}
+use Rattle.sorted_file.proofs.Locked.{no_value_numbered}
 use Rattle.sorted_file.proofs.Stamps.{IsFirstValue, stamp_found, stamp_none, stamp_other, stamp_outside, tells}
 use Rattle.sorted_file.proofs.file.SortedFile.newest_stamp.Goals.{then-stamp-lo-via-then-stamp-lo, then-stamp-lo-via-else-stamp-lo+then-most-stamp}
 use Rattle.sorted_file.proofs.file.SortedFile.newest_stamp.Goals as goal
@@ -21,13 +21,12 @@ returns-then-not-meet_column-clause-found g c =
     as_some (g.F.Files.contents c.args.files.now) _ (λ m o s low high stored.
     no_value c.args.self.now.bounds (at_stamp c.args.key.now s) stored (c.meet_column.ensures c.if-not-meet_column.true s low high) _ o.bounds)
 
-pub returns-then-not-may_have_text-clause-found : goal.returns-then-not-may_have_text-clause-found
-returns-then-not-may_have_text-clause-found g c =
+pub returns-then-not-may_have_value-clause-found : goal.returns-then-not-may_have_value-clause-found
+returns-then-not-may_have_value-clause-found g c =
     as_some (g.F.Files.contents c.args.files.now) _ (λ m o s low high stored.
     let asked = c.deref.ensures.value ∙ c.in_ok-encode.ensures.ok ∙ ap (λ (xs : List ℕ). xs ++ text c.args.key.now) c.new-sought.ensures.items in
-    let numbers = c.args.self.now.numbers.items in
-    let out = subst (λ (t : List ℕ). ¬ (Contains numbers (number_of t))) asked (c.may_have_text.ensures c.if-not-may_have_text.true m o) in
-    ap value_of (no_entry numbers c.args.key.now out _ o.numbered s))
+    let out = subst (λ (t : List ℕ). ¬ (Contains (value_numbers c.args.self.now c.args.key.now.qualifier) (number_of t))) asked (c.may_have_value.ensures c.if-not-may_have_value.true m o) in
+    no_value_numbered c.args.self.now _ o.numbered o.locked c.args.key.now s stored out)
 
 pub returns-in_default-clause-found : goal.returns-in_default-clause-found
 returns-in_default-clause-found g c =
@@ -83,7 +82,7 @@ returns-clause-found g c =
 pub returns-then-not-meet_column-clause-now : goal.returns-then-not-meet_column-clause-now
 returns-then-not-meet_column-clause-now g c = λ m o number row stamp placed at low high may. absurd (c.meet_column.ensures c.if-not-meet_column.true stamp low high may.in_file)
 
-pub returns-then-not-may_have_text-clause-now : goal.returns-then-not-may_have_text-clause-now
-returns-then-not-may_have_text-clause-now g c = λ m o number row stamp placed at low high may.
+pub returns-then-not-may_have_value-clause-now : goal.returns-then-not-may_have_value-clause-now
+returns-then-not-may_have_value-clause-now g c = λ m o number row stamp placed at low high may.
     let asked = c.deref.ensures.value ∙ c.in_ok-encode.ensures.ok ∙ ap (λ (xs : List ℕ). xs ++ text c.args.key.now) c.new-sought.ensures.items in
-    absurd (subst (λ (t : List ℕ). ¬ (Contains c.args.self.now.numbers.items (number_of t))) asked (c.may_have_text.ensures c.if-not-may_have_text.true m o) may.in_column)
+    absurd (subst (λ (t : List ℕ). ¬ (Contains (value_numbers c.args.self.now c.args.key.now.qualifier) (number_of t))) asked (c.may_have_value.ensures c.if-not-may_have_value.true m o) may.in_column)

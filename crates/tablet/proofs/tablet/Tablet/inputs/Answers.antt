@@ -4,7 +4,7 @@ use Rattle.std.specs.List.{AllByRecursion}
 use Rattle.sorted_file.specs.declared.file.SortedFile.{SortedFile}
 use Rattle.tablet.specs.Sources.{IsOpenIn, listed_in}
 use Rattle.tablet.specs.Views.{files_of, memory_of}
-use Rattle.tablet.specs.Compactions.{ReadsOpen, files_read, inputs_of}
+use Rattle.tablet.specs.Compactions.{ReadsOpen, files_read, inputs_of, memory_read}
 use Rattle.tablet.proofs.tablet.Tablet.inputs.Goals as goal
 
 pub returns-in-Minor-clause-lists : goal.returns-in-Minor-clause-lists
@@ -35,3 +35,12 @@ returns-in-Merge-clause-files c = ap (take c.in-Merge.count) c.deref.ensures.val
 
 pub returns-in-Major-clause-files : goal.returns-in-Major-clause-files
 returns-in-Major-clause-files c = c.deref-in-Major.ensures.value ∙ ap (λ (k : _). files_read k (files_of c.args.self.now)) (sym c.in-Major.is)
+
+pub returns-in-Minor-clause-memory : goal.returns-in-Minor-clause-memory
+returns-in-Minor-clause-memory c = ap (λ (k : _). memory_read k (memory_of c.args.self.now)) (sym c.in-Minor.is)
+
+pub returns-in-Merge-clause-memory : goal.returns-in-Merge-clause-memory
+returns-in-Merge-clause-memory c = ap (λ (k : _). memory_read k (memory_of c.args.self.now)) (sym c.in-Merge.is)
+
+pub returns-in-Major-clause-memory : goal.returns-in-Major-clause-memory
+returns-in-Major-clause-memory c = ap (λ (k : _). memory_read k (memory_of c.args.self.now)) (sym c.in-Major.is)

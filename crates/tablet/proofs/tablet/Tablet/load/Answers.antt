@@ -36,7 +36,7 @@ empty_holds (Some m) t none opened = record { memory = subst IsEntryList (sym no
 
 pub names-preserved : goal.names-preserved
 names-preserved g c = record {
-  contents = c.open.ensures.same ∙ c.names.invariant.contents;
+  contents = c.open_with.ensures.same ∙ c.names.invariant.contents;
   quiet = c.in_ok-file.ensures.reason.told (not_err _ Device) ∙ c.names.invariant.quiet;
   named = named_more _ _ _ _ _ c.names-test.true c.in_ok-push.ensures.items c.in_ok-file.ensures.named c.names.invariant.named;
   opened = opened_more _ _ _ _ _ c.names.invariant.contents c.in_ok-push.ensures.items c.in_ok-file.ensures.opened c.names.invariant.opened;
@@ -54,7 +54,7 @@ pub returns-clause-holds : goal.returns-clause-holds
 returns-clause-holds g c = empty_holds (g.F.Files.contents c.args.files.now) _ c.new.ensures c.names.invariant.opened
 
 pub returns-in_err-file-clause-same : goal.returns-in_err-file-clause-same
-returns-in_err-file-clause-same g c = c.open.ensures.same ∙ c.names.invariant.contents
+returns-in_err-file-clause-same g c = c.open_with.ensures.same ∙ c.names.invariant.contents
 
 pub returns-in_err-file-clause-range : goal.returns-in_err-file-clause-range
 returns-in_err-file-clause-range g c = passed_none c.from_residual.result c.in_err-file.field-0.0 _ c.from_residual.ensures.1
@@ -93,7 +93,7 @@ pub returns-in_err-push-clause-refusal : goal.returns-in_err-push-clause-refusal
 returns-in_err-push-clause-refusal g c = passed_err c.from_residual-in_err-push.result NoMemory _ c.from_residual-in_err-push.ensures.1 tt
 
 pub returns-in_err-push-clause-same : goal.returns-in_err-push-clause-same
-returns-in_err-push-clause-same g c = c.open.ensures.same ∙ c.names.invariant.contents
+returns-in_err-push-clause-same g c = c.open_with.ensures.same ∙ c.names.invariant.contents
 
 pub returns-in_err-push-clause-reason : goal.returns-in_err-push-clause-reason
 returns-in_err-push-clause-reason g c = reason_after _ _ _ (c.in_ok-file.ensures.reason.told (not_err _ Device) ∙ c.names.invariant.quiet) (quiet_reason c.from_residual-in_err-push.result _ (λ is. absurd (passed_kind c.from_residual-in_err-push.result NoMemory _ IsNoMemory c.from_residual-in_err-push.ensures.1 tt is)))

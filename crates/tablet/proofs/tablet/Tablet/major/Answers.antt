@@ -18,6 +18,7 @@ use Rattle.tablet.proofs.CompactedCells.{major_cells, no_entries}
 use Rattle.tablet.proofs.Held.{held_lists}
 use Rattle.tablet.proofs.MadeTablets.{has_put, large_of, made_keeps, made_lists, made_of, still_keeps, still_reads}
 use Rattle.tablet.proofs.Passed.{IsNoMemory, inserted, not_err, passed_err, passed_kept, passed_kind, passed_none, passed_on, passed_reason, quiet_reason, reason_of_ok}
+use Rattle.tablet.proofs.Unread.{each_unreadable, still_too_much}
 use Rattle.tablet.proofs.WrittenFiles.{if_some_not, told_written, where_held}
 use Rattle.cell_key.specs.Entries.{cells_of}
 use Rattle.tablet.proofs.Seen.{shown}
@@ -181,3 +182,23 @@ returns-clause-made g c =
           (made_of Major (g.F.Files.contents c.args.files.now) (g.F.Files.contents c.write.new.files) c.args.self.now (record c.args.self.now { files = c.reserve.new.self }) c.in_ok-file.file (λ m. written false (map (seen range) (memory ∷ map (listed m) c.reserve.new.self.items))) (λ m. written false (map (seen range) (memory ∷ map (listed m) old)))
           (record { range = refl; memory = refl; files = c.in_ok-reserve.ensures.items }) (λ m. ap (λ (fs : List SortedFile). written false (map (seen range) (memory ∷ map (listed m) fs))) c.in_ok-reserve.ensures.items) c.in_ok-file.ensures.made);
     }
+
+pub returns-in_err-file-clause-too_much : goal.returns-in_err-file-clause-too_much
+returns-in_err-file-clause-too_much g c = λ is.
+    still_too_much Major (g.F.Files.contents c.args.files.now) c.args.self.now (record c.args.self.now { files = c.reserve.new.self }) (record { range = refl; memory = refl; files = c.in_ok-reserve.ensures.items }) c.args.file_limit (c.in_err-file.ensures.too_much (passed_on c.from_residual-in_err-file.result _ c.in_err-file.field-0.0 _ c.from_residual-in_err-file.ensures.1 refl is))
+
+pub returns-in_err-file-clause-broken : goal.returns-in_err-file-clause-broken
+returns-in_err-file-clause-broken g c = λ is.
+    each_unreadable Major (g.F.Files.contents c.args.files.now) c.args.self.now (record c.args.self.now { files = c.reserve.new.self }) (record { range = refl; memory = refl; files = c.in_ok-reserve.ensures.items }) (c.in_err-file.ensures.broken (passed_on c.from_residual-in_err-file.result _ c.in_err-file.field-0.0 _ c.from_residual-in_err-file.ensures.1 refl is))
+
+pub returns-in_err-reserve-clause-too_much : goal.returns-in_err-reserve-clause-too_much
+returns-in_err-reserve-clause-too_much g c = λ is. absurd (passed_kind c.from_residual.result NoMemory _ IsNoMemory c.from_residual.ensures.1 tt is)
+
+pub returns-clause-too_much : goal.returns-clause-too_much
+returns-clause-too_much g c = λ is. absurd (not_err _ _ is)
+
+pub returns-in_err-reserve-clause-broken : goal.returns-in_err-reserve-clause-broken
+returns-in_err-reserve-clause-broken g c = λ is. absurd (passed_kind c.from_residual.result NoMemory _ IsNoMemory c.from_residual.ensures.1 tt is)
+
+pub returns-clause-broken : goal.returns-clause-broken
+returns-clause-broken g c = λ is. absurd (not_err _ _ is)

@@ -165,3 +165,21 @@ returns-clause-made g c =
       fits = told_written (Merge c.args.count) (g.F.Files.contents c.args.files.now) c.args.self.now (λ lists. FitsIn c.args.file_limit (compacted (Merge c.args.count) (range_of c.args.self.now) (memory_of c.args.self.now) lists)) c.in_ok-file.ensures.fits;
       put = has_put (Merge c.args.count) (g.F.Files.contents c.args.files.now) (g.F.Files.contents c.write.new.files) c.args.self.now (record c.args.self.now { files = c.replace_newest.new.files }) c.in_ok-file.file (λ m. compacted_of (Merge c.args.count) m c.args.self.now) (λ m. compacted_of (Merge c.args.count) m c.args.self.now) c.replace_newest.ensures (λ m. refl) c.in_ok-file.ensures.made;
     }
+
+pub returns-in_err-file-clause-too_much : goal.returns-in_err-file-clause-too_much
+returns-in_err-file-clause-too_much g c = λ is. c.in_err-file.ensures.too_much (passed_on c.from_residual.result _ c.in_err-file.field-0.0 _ c.from_residual.ensures.1 refl is)
+
+pub returns-then-count-lt2-clause-too_much : goal.returns-then-count-lt2-clause-too_much
+returns-then-count-lt2-clause-too_much g c = λ is. absurd (told_kind BadCount _ IsBadCount tt is)
+
+pub returns-clause-too_much : goal.returns-clause-too_much
+returns-clause-too_much g c = λ is. absurd (not_err _ _ is)
+
+pub returns-in_err-file-clause-broken : goal.returns-in_err-file-clause-broken
+returns-in_err-file-clause-broken g c = λ is. c.in_err-file.ensures.broken (passed_on c.from_residual.result _ c.in_err-file.field-0.0 _ c.from_residual.ensures.1 refl is)
+
+pub returns-then-count-lt2-clause-broken : goal.returns-then-count-lt2-clause-broken
+returns-then-count-lt2-clause-broken g c = λ is. absurd (told_kind BadCount _ IsBadCount tt is)
+
+pub returns-clause-broken : goal.returns-clause-broken
+returns-clause-broken g c = λ is. absurd (not_err _ _ is)

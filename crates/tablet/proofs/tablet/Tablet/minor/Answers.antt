@@ -13,6 +13,7 @@ use Rattle.tablet.specs.Views.{files_of, flushed, memory_of, range_of, with_name
 use Rattle.tablet.proofs.CompactedCells.{minor_cells, minor_form, minor_writes, no_entries}
 use Rattle.tablet.proofs.MadeTablets.{has_put, made_keeps, made_lists, made_of, reads_none, still_keeps}
 use Rattle.tablet.proofs.Passed.{IsNoMemory, IsTooManyFiles, inserted, minor_of, not_both, not_empty, not_err, passed_err, passed_kept, passed_kind, passed_none, passed_on, passed_reason, quiet_reason, reason_of_ok, told_kind, too_few, too_many}
+use Rattle.tablet.proofs.Unread.{still_too_much}
 use Rattle.tablet.proofs.WrittenFiles.{none_told, where_held}
 use Rattle.tablet.proofs.tablet.Tablet.minor.Goals as goal
 
@@ -246,3 +247,16 @@ returns-then-is_empty-clause-full g c = (λ is. absurd (not_err _ _ is), λ both
 
 pub returns-then-is_empty-clause-name : goal.returns-then-is_empty-clause-name
 returns-then-is_empty-clause-name g c = record { uses = inl (refl, refl); within = λ most. most }
+
+pub returns-in_err-file-clause-too_much : goal.returns-in_err-file-clause-too_much
+returns-in_err-file-clause-too_much g c = λ is.
+    still_too_much Minor (g.F.Files.contents c.args.files.now) c.args.self.now (record c.args.self.now { files = c.reserve.new.self }) (record { range = refl; memory = refl; files = c.in_ok-reserve.ensures.items }) c.args.file_limit (c.in_err-file.ensures.too_much (passed_on c.from_residual-in_err-file.result _ c.in_err-file.field-0.0 _ c.from_residual-in_err-file.ensures.1 refl is))
+
+pub returns-in_err-reserve-clause-too_much : goal.returns-in_err-reserve-clause-too_much
+returns-in_err-reserve-clause-too_much g c = λ is. absurd (passed_kind c.from_residual.result NoMemory _ IsNoMemory c.from_residual.ensures.1 tt is)
+
+pub returns-then-len-ge-MOST_FILES-clause-too_much : goal.returns-then-len-ge-MOST_FILES-clause-too_much
+returns-then-len-ge-MOST_FILES-clause-too_much g c = λ is. absurd (told_kind TooManyFiles _ IsTooManyFiles tt is)
+
+pub returns-clause-too_much : goal.returns-clause-too_much
+returns-clause-too_much g c = λ is. absurd (not_err _ _ is)

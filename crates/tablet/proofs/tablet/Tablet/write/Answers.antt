@@ -1,12 +1,14 @@
-use Rattle.std.proofs.Common.{Some, List, map, length, refl, sym, subst, inl, ◌∙◌}
+use Rattle.std.proofs.Common.{Some, Bool, ◌⊎◌, List, map, length, refl, sym, subst, inl, ◌∙◌}
 use Rattle.std.proofs.lemmas.List.{length-map}
 use Rattle.std.specs.Option.{option_copied}
 use Rattle.cell_key.specs.Entries.{Entry}
 use Rattle.sorted_file.specs.Grammar.{FitsIn}
 use Rattle.sorted_file.specs.File.{listed}
-use Rattle.tablet.specs.Compactions.{IsCompactionRefusal, ReadsOpen, compacted, files_read}
+use Rattle.tablet.specs.Compactions.{IsCompactionRefusal, MergesNoList, ReadsOpen, compacted, files_read, memory_read}
+use Rattle.compaction.specs.Passing.{MergeBreaks, MergesTooMuch}
 use Rattle.tablet.specs.Ranges.{lower_fence, upper_fence}
-use Rattle.tablet.specs.Sources.{listed_in, lists_over}
+use Rattle.tablet.specs.Sources.{lent_by, listed_in, lists_over, Breaks, Steps}
+use Rattle.tablet.proofs.Unread.{sources_same, told_map}
 use Rattle.tablet.specs.Views.{files_of, memory_of, range_of}
 use Rattle.tablet.proofs.Passed.{IsNoMemory, no_memory, passed_err, passed_kind, passed_none, quiet_reason}
 use Rattle.tablet.proofs.SourceLists.{all_through}
@@ -151,3 +153,37 @@ returns-clause-read g c =
     (all_through disk c.deref.result.now (lower_fence range) (option_copied c.as_deref.result) (upper_fence range) c.in_ok-sources.sources.items c.inputs.result.1.now (files_read c.args.compaction (files_of c.args.self.now))
     (c.deref.ensures.value ∙ c.in_ok-from.ensures.from) (c.as_deref.ensures.value ∙ c.in_ok-from.ensures.end) c.inputs.ensures.files c.in_ok-sources.ensures.of)
     c.write_new.ensures.comes
+
+pub returns-clause-too_much : goal.returns-clause-too_much
+returns-clause-too_much g c = λ err.
+    let range = range_of c.args.self.now in
+    record {
+      sources = c.in_ok-sources.sources.items;
+      of = (sources_same c.deref.result.now (lower_fence range) (option_copied c.as_deref.result) (upper_fence range) (option_copied c.inputs.result.0) (memory_read c.args.compaction (memory_of c.args.self.now)) c.inputs.result.1.now (files_read c.args.compaction (files_of c.args.self.now)) c.in_ok-sources.sources.items
+          (c.deref.ensures.value ∙ c.in_ok-from.ensures.from) (c.as_deref.ensures.value ∙ c.in_ok-from.ensures.end) c.inputs.ensures.memory c.inputs.ensures.files c.in_ok-sources.ensures.each);
+      large = subst (λ (k : Bool). MergesTooMuch (Steps (g.F.Files.contents c.args.files.now)) lent_by k c.args.file_limit c.in_ok-sources.sources.items) c.keeps_erasures-keep_erasures.ensures (c.write_new.ensures.too_much err);
+    }
+
+pub returns-clause-broken : goal.returns-clause-broken
+returns-clause-broken g c = λ err.
+    let range = range_of c.args.self.now in
+    told_map (g.F.Files.contents c.args.files.now) _ _
+    (λ m damage. record {
+      sources = c.in_ok-sources.sources.items;
+      of = (sources_same c.deref.result.now (lower_fence range) (option_copied c.as_deref.result) (upper_fence range) (option_copied c.inputs.result.0) (memory_read c.args.compaction (memory_of c.args.self.now)) c.inputs.result.1.now (files_read c.args.compaction (files_of c.args.self.now)) c.in_ok-sources.sources.items
+          (c.deref.ensures.value ∙ c.in_ok-from.ensures.from) (c.as_deref.ensures.value ∙ c.in_ok-from.ensures.end) c.inputs.ensures.memory c.inputs.ensures.files c.in_ok-sources.ensures.each);
+      damage = subst (λ (k : Bool). MergeBreaks (Steps (Some m)) lent_by (Breaks (Some m)) c.in_ok-sources.sources.items ⊎ MergesNoList (Steps (Some m)) lent_by k c.in_ok-sources.sources.items) c.keeps_erasures-keep_erasures.ensures damage;
+    })
+    (c.write_new.ensures.broken err)
+
+pub returns-in_err-from-clause-too_much : goal.returns-in_err-from-clause-too_much
+returns-in_err-from-clause-too_much g c = λ is. absurd (passed_kind c.from_residual.result c.in_err-from.field-0.0 _ IsNoMemory c.from_residual.ensures.1 (no_memory c.in_err-from.field-0.0 c.in_err-from.ensures.refusal) is)
+
+pub returns-in_err-from-clause-broken : goal.returns-in_err-from-clause-broken
+returns-in_err-from-clause-broken g c = λ is. absurd (passed_kind c.from_residual.result c.in_err-from.field-0.0 _ IsNoMemory c.from_residual.ensures.1 (no_memory c.in_err-from.field-0.0 c.in_err-from.ensures.refusal) is)
+
+pub returns-in_err-sources-clause-too_much : goal.returns-in_err-sources-clause-too_much
+returns-in_err-sources-clause-too_much g c = λ is. absurd (passed_kind c.from_residual-in_err-sources.result c.in_err-sources.field-0.0 _ IsNoMemory c.from_residual-in_err-sources.ensures.1 (no_memory c.in_err-sources.field-0.0 c.in_err-sources.ensures.refusal) is)
+
+pub returns-in_err-sources-clause-broken : goal.returns-in_err-sources-clause-broken
+returns-in_err-sources-clause-broken g c = λ is. absurd (passed_kind c.from_residual-in_err-sources.result c.in_err-sources.field-0.0 _ IsNoMemory c.from_residual-in_err-sources.ensures.1 (no_memory c.in_err-sources.field-0.0 c.in_err-sources.ensures.refusal) is)

@@ -3,7 +3,7 @@ use Rattle.cell_key.specs.declared.refusals.Refusal.TheVariants.{Damaged, Device
 use Rattle.cell_key.proofs.Reasons.{not_refused}
 use Rattle.row_atomic.proofs.Calls.{keeps_then}
 use Rattle.si_model.specs.declared.replies.CollectReply.{CollectReply}
-use Rattle.version_collector.specs.Visits.{Visits, none, then}
+use Rattle.version_collector.specs.Visits.{Visits, none, position_of, then}
 use Rattle.version_collector.proofs.Room.{no_room_then, room_few, room_same, room_then}
 use Rattle.row_atomic.specs.Calls.{OnlyReads, View}
 use Rattle.cell_key.proofs.Passed.{as_err, passed as passed_on}
@@ -22,9 +22,10 @@ no_more k is = omega arith
 reads_since : {R : Type 0} (seen : View R) (a b c : R) → b ≡ a → OnlyReads seen b c → OnlyReads seen a c
 reads_since seen a b c same reads = subst (λ (r : _). OnlyReads seen r c) same reads
 
-pub loop-init : goal.loop-init
-loop-init g c = record {
+pub loop-made-init : goal.loop-made-init
+loop-made-init g c = record {
   visited = λ held st reached store low come. none;
+  ahead = λ held. c.new-ahead.ensures (g.R.Rows.seen.cells c.args.rows.now) (position_of c.args.self.now.after);
   floor = refl;
   none = λ is. (refl, refl);
   below = record { still = λ held. held; stays = refl };
@@ -35,89 +36,90 @@ loop-init g c = record {
 
 pub returns-in_err-visit-clause-undamaged : goal.returns-in_err-visit-clause-undamaged
 returns-in_err-visit-clause-undamaged g c = λ held st reached store low come is.
-    let before = c.loop.invariant in
+    let before = c.loop-made.invariant in
     c.in_err-visit.ensures.undamaged (before.below.still held)
-    (still_shown st reached (g.R.Rows.seen.cells c.args.rows.now) c.args.self.now store low come c.loop.counter (g.R.Rows.seen.cells c.loop.rows) c.loop.self (before.visited held st reached store low come))
+    (still_shown st reached (g.R.Rows.seen.cells c.args.rows.now) c.args.self.now store low come c.loop-made.made (g.R.Rows.seen.cells c.loop-made.rows) c.loop-made.self (before.visited held st reached store low come))
     (passed_on c.from_residual.result c.in_err-visit.field-0.0 Damaged c.from_residual.ensures.1 is)
 
 pub returns-in_err-visit-clause-first : goal.returns-in_err-visit-clause-first
 returns-in_err-visit-clause-first g c = λ one.
-    let none = c.loop.invariant.none (only_one c.loop.counter c.args.visits c.loop-test.true one) in
+    let none = c.loop-made.invariant.none (only_one c.loop-made.made c.args.visits c.loop-made-test.true one) in
     rw (as_err c.from_residual.result c.in_err-visit.field-0.0 c.from_residual.ensures.1)
-    (c.in_err-visit.ensures.err ∙ none.0, reads_since g.R.Rows.seen c.args.rows.now c.loop.rows c.visit.new.rows none.1 c.in_err-visit.ensures.same)
+    (c.in_err-visit.ensures.err ∙ none.0, reads_since g.R.Rows.seen c.args.rows.now c.loop-made.rows c.visit.new.rows none.1 c.in_err-visit.ensures.same)
 
 pub returns-in_err-visit-clause-full : goal.returns-in_err-visit-clause-full
 returns-in_err-visit-clause-full g c = λ is.
-    no_room_then g.R.Rows.seen.overfills c.loop.counter 1 c.args.visits c.args.rows.now c.loop.rows (one_more c.loop.counter c.args.visits c.loop-test.true) c.loop.invariant.room
+    no_room_then g.R.Rows.seen.overfills c.loop-made.made 1 c.args.visits c.args.rows.now c.loop-made.rows (one_more c.loop-made.made c.args.visits c.loop-made-test.true) c.loop-made.invariant.room
     (c.in_err-visit.ensures.full (passed_on c.from_residual.result c.in_err-visit.field-0.0 MemtableFull c.from_residual.ensures.1 is))
 
 pub returns-in-Blocked-clause-visited : goal.returns-in-Blocked-clause-visited
 returns-in-Blocked-clause-visited g c = λ held st reached store low come.
-    let before = c.loop.invariant in
+    let before = c.loop-made.invariant in
     let did = before.visited held st reached store low come in
-    let shown = still_shown st reached (g.R.Rows.seen.cells c.args.rows.now) c.args.self.now store low come c.loop.counter (g.R.Rows.seen.cells c.loop.rows) c.loop.self did in
+    let shown = still_shown st reached (g.R.Rows.seen.cells c.args.rows.now) c.args.self.now store low come c.loop-made.made (g.R.Rows.seen.cells c.loop-made.rows) c.loop-made.self did in
     record {
-      mid = g.R.Rows.seen.cells c.loop.rows;
-      before = c.loop.self;
-      visits = record { count = c.loop.counter; few = c.loop-test.true; visits = did };
-      last = subst (λ (r : CollectReply). Visits (g.R.Rows.seen.cells c.loop.rows) c.loop.self r (g.R.Rows.seen.cells c.visit.new.rows) c.visit.new.self) c.in-Blocked.is
-          (c.in_ok-visit.ensures.visit (before.below.still held) shown);
+      mid = g.R.Rows.seen.cells c.loop-made.rows;
+      before = c.loop-made.self;
+      visits = record { count = c.loop-made.made; few = c.loop-made-test.true; visits = did };
+      last = subst (λ (r : CollectReply). Visits (g.R.Rows.seen.cells c.loop-made.rows) c.loop-made.self r (g.R.Rows.seen.cells c.visit.new.rows) c.visit.new.self) c.in-Blocked.is
+          (c.in_ok-visit.ensures.visit (before.below.still held) shown (before.ahead held));
     }
 
 pub returns-in-Blocked-clause-room : goal.returns-in-Blocked-clause-room
 returns-in-Blocked-clause-room g c =
-    room_few g.R.Rows.seen.overfills (c.loop.counter + 1) c.args.visits c.args.rows.now c.visit.new.rows (one_more c.loop.counter c.args.visits c.loop-test.true)
-    (room_then g.R.Rows.seen.overfills c.loop.counter 1 c.args.rows.now c.loop.rows c.visit.new.rows c.loop.invariant.room c.in_ok-visit.ensures.room)
+    room_few g.R.Rows.seen.overfills (c.loop-made.made + 1) c.args.visits c.args.rows.now c.visit.new.rows (one_more c.loop-made.made c.args.visits c.loop-made-test.true)
+    (room_then g.R.Rows.seen.overfills c.loop-made.made 1 c.args.rows.now c.loop-made.rows c.visit.new.rows c.loop-made.invariant.room c.in_ok-visit.ensures.room)
 
 pub returns-in-Collected-clause-visited : goal.returns-in-Collected-clause-visited
 returns-in-Collected-clause-visited g c = λ held st reached store low come.
-    let before = c.loop.invariant in
+    let before = c.loop-made.invariant in
     let did = before.visited held st reached store low come in
-    let shown = still_shown st reached (g.R.Rows.seen.cells c.args.rows.now) c.args.self.now store low come c.loop.counter (g.R.Rows.seen.cells c.loop.rows) c.loop.self did in
+    let shown = still_shown st reached (g.R.Rows.seen.cells c.args.rows.now) c.args.self.now store low come c.loop-made.made (g.R.Rows.seen.cells c.loop-made.rows) c.loop-made.self did in
     record {
-      mid = g.R.Rows.seen.cells c.loop.rows;
-      before = c.loop.self;
-      visits = record { count = c.loop.counter; few = c.loop-test.true; visits = did };
-      last = subst (λ (r : CollectReply). Visits (g.R.Rows.seen.cells c.loop.rows) c.loop.self r (g.R.Rows.seen.cells c.visit.new.rows) c.visit.new.self) c.in-Collected.is
-          (c.in_ok-visit.ensures.visit (before.below.still held) shown);
+      mid = g.R.Rows.seen.cells c.loop-made.rows;
+      before = c.loop-made.self;
+      visits = record { count = c.loop-made.made; few = c.loop-made-test.true; visits = did };
+      last = subst (λ (r : CollectReply). Visits (g.R.Rows.seen.cells c.loop-made.rows) c.loop-made.self r (g.R.Rows.seen.cells c.visit.new.rows) c.visit.new.self) c.in-Collected.is
+          (c.in_ok-visit.ensures.visit (before.below.still held) shown (before.ahead held));
     }
 
 pub returns-in-Collected-clause-room : goal.returns-in-Collected-clause-room
 returns-in-Collected-clause-room g c =
-    room_few g.R.Rows.seen.overfills (c.loop.counter + 1) c.args.visits c.args.rows.now c.visit.new.rows (one_more c.loop.counter c.args.visits c.loop-test.true)
-    (room_then g.R.Rows.seen.overfills c.loop.counter 1 c.args.rows.now c.loop.rows c.visit.new.rows c.loop.invariant.room c.in_ok-visit.ensures.room)
+    room_few g.R.Rows.seen.overfills (c.loop-made.made + 1) c.args.visits c.args.rows.now c.visit.new.rows (one_more c.loop-made.made c.args.visits c.loop-made-test.true)
+    (room_then g.R.Rows.seen.overfills c.loop-made.made 1 c.args.rows.now c.loop-made.rows c.visit.new.rows c.loop-made.invariant.room c.in_ok-visit.ensures.room)
 
 pub returns-in_err-visit-clause-thins : goal.returns-in_err-visit-clause-thins
 returns-in_err-visit-clause-thins g c = λ held.
-    let before = c.loop.invariant in
-    thins_few (c.loop.counter + 1) c.args.visits (g.R.Rows.seen.cells c.args.rows.now) (g.R.Rows.seen.cells c.visit.new.rows) (one_more c.loop.counter c.args.visits c.loop-test.true)
-    (thins_then c.loop.counter 1 (g.R.Rows.seen.cells c.args.rows.now) (g.R.Rows.seen.cells c.loop.rows) (g.R.Rows.seen.cells c.visit.new.rows) (before.thins held) (c.in_err-visit.ensures.thins (before.below.still held)))
+    let before = c.loop-made.invariant in
+    thins_few (c.loop-made.made + 1) c.args.visits (g.R.Rows.seen.cells c.args.rows.now) (g.R.Rows.seen.cells c.visit.new.rows) (one_more c.loop-made.made c.args.visits c.loop-made-test.true)
+    (thins_then c.loop-made.made 1 (g.R.Rows.seen.cells c.args.rows.now) (g.R.Rows.seen.cells c.loop-made.rows) (g.R.Rows.seen.cells c.visit.new.rows) (before.thins held) (c.in_err-visit.ensures.thins (before.below.still held)))
 
 pub returns-in-Blocked-clause-thins : goal.returns-in-Blocked-clause-thins
 returns-in-Blocked-clause-thins g c = λ held.
-    let before = c.loop.invariant in
-    thins_few (c.loop.counter + 1) c.args.visits (g.R.Rows.seen.cells c.args.rows.now) (g.R.Rows.seen.cells c.visit.new.rows) (one_more c.loop.counter c.args.visits c.loop-test.true)
-    (thins_then c.loop.counter 1 (g.R.Rows.seen.cells c.args.rows.now) (g.R.Rows.seen.cells c.loop.rows) (g.R.Rows.seen.cells c.visit.new.rows) (before.thins held) (c.in_ok-visit.ensures.thins (before.below.still held)))
+    let before = c.loop-made.invariant in
+    thins_few (c.loop-made.made + 1) c.args.visits (g.R.Rows.seen.cells c.args.rows.now) (g.R.Rows.seen.cells c.visit.new.rows) (one_more c.loop-made.made c.args.visits c.loop-made-test.true)
+    (thins_then c.loop-made.made 1 (g.R.Rows.seen.cells c.args.rows.now) (g.R.Rows.seen.cells c.loop-made.rows) (g.R.Rows.seen.cells c.visit.new.rows) (before.thins held) (c.in_ok-visit.ensures.thins (before.below.still held)))
 
 pub returns-in-Collected-clause-thins : goal.returns-in-Collected-clause-thins
 returns-in-Collected-clause-thins g c = λ held.
-    let before = c.loop.invariant in
-    thins_few (c.loop.counter + 1) c.args.visits (g.R.Rows.seen.cells c.args.rows.now) (g.R.Rows.seen.cells c.visit.new.rows) (one_more c.loop.counter c.args.visits c.loop-test.true)
-    (thins_then c.loop.counter 1 (g.R.Rows.seen.cells c.args.rows.now) (g.R.Rows.seen.cells c.loop.rows) (g.R.Rows.seen.cells c.visit.new.rows) (before.thins held) (c.in_ok-visit.ensures.thins (before.below.still held)))
+    let before = c.loop-made.invariant in
+    thins_few (c.loop-made.made + 1) c.args.visits (g.R.Rows.seen.cells c.args.rows.now) (g.R.Rows.seen.cells c.visit.new.rows) (one_more c.loop-made.made c.args.visits c.loop-made-test.true)
+    (thins_then c.loop-made.made 1 (g.R.Rows.seen.cells c.args.rows.now) (g.R.Rows.seen.cells c.loop-made.rows) (g.R.Rows.seen.cells c.visit.new.rows) (before.thins held) (c.in_ok-visit.ensures.thins (before.below.still held)))
 
-pub loop-preserved : goal.loop-preserved
-loop-preserved g c =
-    let before = c.loop.invariant in
+pub loop-made-preserved : goal.loop-made-preserved
+loop-made-preserved g c =
+    let before = c.loop-made.invariant in
     let now = c.in_ok-visit.ensures in
     record {
       visited = λ held st reached store low come.
           let did = before.visited held st reached store low come in
-          let shown = still_shown st reached (g.R.Rows.seen.cells c.args.rows.now) c.args.self.now store low come c.loop.counter (g.R.Rows.seen.cells c.loop.rows) c.loop.self did in
-          then did (subst (λ (r : CollectReply). Visits (g.R.Rows.seen.cells c.loop.rows) c.loop.self r (g.R.Rows.seen.cells c.visit.new.rows) c.visit.new.self) c.in-More.is (now.visit (before.below.still held) shown));
+          let shown = still_shown st reached (g.R.Rows.seen.cells c.args.rows.now) c.args.self.now store low come c.loop-made.made (g.R.Rows.seen.cells c.loop-made.rows) c.loop-made.self did in
+          then did (subst (λ (r : CollectReply). Visits (g.R.Rows.seen.cells c.loop-made.rows) c.loop-made.self r (g.R.Rows.seen.cells c.visit.new.rows) c.visit.new.self) c.in-More.is (now.visit (before.below.still held) shown (before.ahead held)));
+      ahead = λ held. now.ahead (before.below.still held) (before.ahead held) c.in-More.is;
       floor = now.floor ∙ before.floor;
-      none = λ is. absurd (no_more c.loop.counter is);
+      none = λ is. absurd (no_more c.loop-made.made is);
       below = keeps_then before.below now.below;
-      thins = λ held. thins_then c.loop.counter 1 (g.R.Rows.seen.cells c.args.rows.now) (g.R.Rows.seen.cells c.loop.rows) (g.R.Rows.seen.cells c.visit.new.rows) (before.thins held) (now.thins (before.below.still held));
-      room = room_then g.R.Rows.seen.overfills c.loop.counter 1 c.args.rows.now c.loop.rows c.visit.new.rows before.room now.room;
+      thins = λ held. thins_then c.loop-made.made 1 (g.R.Rows.seen.cells c.args.rows.now) (g.R.Rows.seen.cells c.loop-made.rows) (g.R.Rows.seen.cells c.visit.new.rows) (before.thins held) (now.thins (before.below.still held));
+      room = room_then g.R.Rows.seen.overfills c.loop-made.made 1 c.args.rows.now c.loop-made.rows c.visit.new.rows before.room now.room;
       faults = now.reason.told (not_refused _ Device) ∙ before.faults;
     }

@@ -1,9 +1,14 @@
-use Rattle.std.proofs.Common.{Some, sym, subst}
+use Rattle.std.proofs.Common.{Option, Some, sym, subst}
+use Rattle.std.specs.Vec.Iter.{into_iter_items}
 use Rattle.std.proofs.lemmas.Bool.{OnFalse_at, OnTrue_at}
 use Rattle.cell_key.specs.Cells.{Cells}
 use Rattle.cell_key.specs.declared.refusals.Refusal.TheVariants.{MemtableFull}
 use Rattle.si_model.specs.declared.replies.CollectReply.TheVariants.{More}
-use Rattle.version_collector.specs.Visits.{Visits}
+use Rattle.si_model.specs.Collection.{place_at}
+use Rattle.si_model.specs.declared.replies.Cell.{Cell}
+use Rattle.version_collector.specs.Ahead.{AreAhead}
+use Rattle.version_collector.specs.Visits.{Visits, position_of}
+use Rattle.version_collector.proofs.AheadCells.{erased_ahead}
 use Rattle.version_collector.proofs.Room.{no_room_of, room_applied, room_none}
 use Rattle.cell_key.proofs.Passed.{passed as passed_on}
 use Rattle.version_collector.proofs.Thinned.{thins_applied, thins_kept}
@@ -22,6 +27,20 @@ pub returns-then-erased-clause-visit : goal.returns-then-erased-clause-visit
 returns-then-erased-clause-visit g c = λ held shown pass next.
     let made = OnTrue_at c.if-erased.true c.in_ok-erased.ensures.erased in
     collect_erased (g.R.Rows.seen.cells c.args.rows.now) c.args.self.now c.args.cell pass next (g.R.Rows.seen.holds c.args.rows.now) made.row made.edits (g.R.Rows.seen.cells c.erase_old.new.rows) held shown made.such (made.applied.made held)
+
+pub returns-then-erased-clause-ahead : goal.returns-then-erased-clause-ahead
+returns-then-erased-clause-ahead g c = λ held next follow none.
+    let made = OnTrue_at c.if-erased.true c.in_ok-erased.ensures.erased in
+    erased_ahead (g.R.Rows.seen.holds c.args.rows.now) c.args.cell c.args.self.now.floor made.edits (g.R.Rows.seen.cells c.args.rows.now) (g.R.Rows.seen.cells c.args.rows.now) (g.R.Rows.seen.cells c.erase_old.new.rows) made.such.1 (made.applied.made held)
+    (position_of c.args.self.now.after) (into_iter_items c.args.ahead.now.places) c.args.ahead.now.is_end next follow
+
+pub returns-clause-ahead : goal.returns-clause-ahead
+returns-clause-ahead g c = λ held next follow none.
+    let after = Some (place_at c.args.cell) in
+    let places = into_iter_items c.args.ahead.now.places in
+    let is_end = c.args.ahead.now.is_end in
+    subst (λ (m : Cells). AreAhead m after c.args.ahead.now.doubted places is_end) (sym (OnFalse_at c.if-erased.false c.in_ok-erased.ensures.left).kept)
+    (subst (λ (o : Option Cell). AreAhead (g.R.Rows.seen.cells c.args.rows.now) after o places is_end) (sym none) follow)
 
 pub returns-then-erased-clause-room : goal.returns-then-erased-clause-room
 returns-then-erased-clause-room g c =

@@ -2,15 +2,15 @@
 use Rattle.std.proofs.Common.{◌<◌, ℕ, ap, map, max, length, set, sym, subst, ◌∙◌, rules}
 use Rattle.std.proofs.lemmas.Option.{slice_get_within}
 use Rattle.std.proofs.lemmas.Result.{on_err_weaker}
+use Rattle.memtable.specs.Edits.{bytes_of}
 use Rattle.sorted_file.specs.File.{name_of}
 use Rattle.tablet.specs.Views.{memory_of, range_of}
 use Rattle.tablet.specs.declared.tablet.Tablet.{Tablet}
-use Rattle.row_atomic.specs.Memtables.{HaveAtMost}
 use Rattle.row_atomic.proofs.RowAnswers.{apply_answer, apply_still, found_there, index_below, matched_set, over_full, owner_at}
 use Rattle.row_atomic.proofs.ChangedTablets.{is_set, on_ok}
 use Rattle.row_atomic.proofs.Calls.{applied_in, same_tablet}
 use Rattle.row_atomic.proofs.CompactionRoom.{all_kept, not_full, room_after}
-use Rattle.row_atomic.proofs.Memtables.{set_longer}
+use Rattle.row_atomic.proofs.Memtables.{set_fuller}
 use Rattle.row_atomic.proofs.PlaceCaches.{at_kept}
 use Rattle.row_atomic.proofs.cluster.rows.ClusterRows.apply.Goals as goal
 
@@ -28,10 +28,11 @@ invariant_of-self g c =
     let ts = c.self.inside.tablets.items in
     let there = found_there ts c.index_of-index.result at.tablet c.index_mut.result.now at.there c.index_mut.ensures.value in
     let now = is_set ts c.index_of-index.result c.index_mut.result.now c.apply-done.new.self c.index.result.now there c.index.ensures in
-    let most = c.max-self-inside.ensures ∙ ap (λ (n : ℕ). max c.self.inside.most_entries n) (c.len.ensures.len ∙ ap (λ (t : Tablet). length (memory_of t)) now) in (
+    let entries = c.joined-self-inside.ensures.entries ∙ ap (λ (n : ℕ). max c.self.inside.most.entries n) (c.of.ensures.entries ∙ ap (λ (t : Tablet). length (memory_of t)) now) in
+    let bytes = c.joined-self-inside.ensures.bytes ∙ ap (λ (n : ℕ). max c.self.inside.most.bytes n) (c.of.ensures.bytes ∙ ap (λ (t : Tablet). bytes_of (memory_of t)) now) in (
       matched_set c.self.inside.file_limit c.self.inside.next_name c.self.inside.table ts c.index_of-index.result c.index_mut.result.now c.apply-done.new.self there c.apply-done.ensures.range (ap (λ files. map name_of files) c.apply-done.ensures.files) c.self.invariant.0,
       c.index_of-index.ensures.right,
-      subst (λ (n : ℕ). HaveAtMost n (set ts c.index_of-index.result c.apply-done.new.self)) (sym most) (set_longer c.self.inside.most_entries ts c.index_of-index.result c.self.invariant.2 c.apply-done.new.self),
+      set_fuller c.self.inside.most ts c.index_of-index.result c.self.invariant.2 c.joined-self-inside.result c.apply-done.new.self entries bytes,
     )
 
 pub index-requires : goal.index-requires

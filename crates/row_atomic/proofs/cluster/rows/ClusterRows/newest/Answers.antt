@@ -21,7 +21,7 @@ invariant_of-self g c =
     let at = at_kept c.self.inside.table c.self.inside.tablets.items c.args.row.now c.index_of-index.result c.self.invariant.0.placed c.index_of-index.ensures.holder in
     let ts = c.self.inside.tablets.items in
     let there = found_there ts c.index_of-index.result at.tablet c.index_mut.result.now at.there c.index_mut.ensures.value in
-    (matched_set c.self.inside.file_limit c.self.inside.next_name c.self.inside.table ts c.index_of-index.result c.index_mut.result.now c.newest.new.self there c.newest.ensures.stays.range c.newest.ensures.stays.names c.self.invariant.0, c.index_of-index.ensures.right, set_same c.self.inside.most_entries ts c.index_of-index.result c.self.invariant.2 c.index_mut.result.now c.newest.new.self there c.newest.ensures.stays.memory)
+    (matched_set c.self.inside.file_limit c.self.inside.next_name c.self.inside.table ts c.index_of-index.result c.index_mut.result.now c.newest.new.self there c.newest.ensures.stays.range c.newest.ensures.stays.names c.self.invariant.0, c.index_of-index.ensures.right, set_same c.self.inside.most ts c.index_of-index.result c.self.invariant.2 c.index_mut.result.now c.newest.new.self there c.newest.ensures.stays.memory)
 
 pub returns-clause-found : goal.returns-clause-found
 returns-clause-found g c =

@@ -1,0 +1,51 @@
+-- What a merge passes over, whatever its sources stand for.
+use Rattle.std.specs.Prelude.{◌≡◌, ℕ, List, [], ◌∷◌, Bool, Option, Some, None, Contains, map}
+use Rattle.std.specs.List.{AllByRecursion, AllZip}
+use Rattle.cell_key.specs.Entries.{Entry}
+use Rattle.sorted_file.specs.Grammar.{FitsIn, IsFile}
+use Rattle.sorted_file.specs.declared.format.Format.TheVariants.{Two}
+use Rattle.compaction.specs.Least.{IsLeast}
+use Rattle.compaction.specs.Merging.{lent_at, IsMoved, MovesPast}
+use Rattle.compaction.specs.Writing.{only_written}
+
+module _ {S : Type 0} (steps : S → S → Type 0) (lent : S → Option Entry) where
+  -- From an entry on, or from none, a merge of sources passes over these entries, and is at the last of
+  -- them: again and again each source that is at its entry goes on, and it comes to the least entry that
+  -- they are at then, that of the first source if several are at it.
+  pub data IsMergeOf : Option Entry → List S → List Entry → Option Entry → List S → Type 0 where
+    merges_none : {at : Option Entry} {sources : List S} → IsMergeOf at sources [] at sources
+    merges_one : {at end : Option Entry} {sources later last : List S} {e : Entry}
+        {es : List Entry} (place : ℕ) → AllZip (MovesPast steps lent at) sources later
+        → IsLeast (map lent later) place → lent_at lent later place ≡ Some e
+        → IsMergeOf (Some e) later es end last → IsMergeOf at sources (e ∷ es) end last
+
+  module _ (keep_erasures : Bool) where
+    -- what is written of entries that a merge of sources passes over has no file within a limit
+    pub record MergesTooMuch (limit : ℕ) (sources : List S) : Type 0 where
+      pub entries : List Entry
+      pub at : Option Entry
+      pub last : List S
+      pub merge : IsMergeOf None sources entries at last
+      pub large : ¬ FitsIn limit (only_written keep_erasures entries)
+
+    -- the bytes are the file of what is written of all that a merge of sources passes over
+    pub record IsFileOfMerge (sources : List S) (image : List ℕ) : Type 0 where
+      pub entries : List Entry
+      pub at : Option Entry
+      pub last : List S
+      pub merge : IsMergeOf None sources entries at last
+      pub ended : List S
+      pub moves : AllZip (MovesPast steps lent at) last ended
+      pub none : AllByRecursion (λ s. lent s ≡ None) ended
+      pub form : IsFile Two (only_written keep_erasures entries) image
+
+  -- a merge of sources passes over entries, perhaps none, and one that is to go on then breaks off
+  pub record MergeBreaks (breaks : S → Type 0) (sources : List S) : Type 0 where
+    pub entries : List Entry
+    pub at : Option Entry
+    pub last : List S
+    pub merge : IsMergeOf None sources entries at last
+    pub source : S
+    pub among : Contains last source
+    pub moved : IsMoved lent at source
+    pub here : breaks source

@@ -1,0 +1,71 @@
+//! How full memtables are, and how full one is when it is compacted.
+
+ghost use Rattle.std.specs.Prelude.{◌≡◌, length, max};
+ghost use Rattle.memtable.specs.Edits.{bytes_of};
+ghost use Rattle.tablet.specs.Views.{memory_of};
+ghost use Rattle.row_atomic.specs.Memtables.{has_bytes, reaches};
+
+use tablet::Tablet;
+
+/// How full a memtable is when it is compacted: it has as many entries or more, or as many bytes or more.
+#[derive(Clone, Copy, Debug, PartialEq, Eq)]
+pub struct FlushLimits {
+    /// Entries, erasures among them.
+    pub entries: u32,
+    /// Bytes of all entries together, as `Memtable::entry_bytes` counts them. Without a number bytes don't count.
+    pub bytes: Option<u32>,
+}
+
+/// How many entries a memtable has, and how many bytes these have.
+#[derive(Clone, Copy)]
+pub(crate) struct Fill {
+    pub(crate) entries: usize,
+    pub(crate) bytes: usize,
+}
+
+impl Fill {
+    /// No entries.
+    pub(crate) const NONE: Fill = Fill {
+        entries: 0,
+        bytes: 0,
+    };
+
+    /// That of a tablet's memtable.
+    pub(crate) fn of(tablet: &Tablet) -> Fill
+        ensures entries { result.entries ≡ length (memory_of tablet.now) }
+        ensures bytes { result.bytes ≡ bytes_of (memory_of tablet.now) }
+    {
+        Fill {
+            entries: tablet.len(),
+            bytes: tablet.entry_bytes(),
+        }
+    }
+
+    /// The greater number of entries of two, and the greater number of bytes.
+    pub(crate) fn joined(self, other: Fill) -> Fill
+        ensures entries { result.entries ≡ max self.entries other.entries }
+        ensures bytes { result.bytes ≡ max self.bytes other.bytes }
+    {
+        Fill {
+            entries: self.entries.max(other.entries),
+            bytes: self.bytes.max(other.bytes),
+        }
+    }
+
+    /// Whether these are as many entries or bytes as a full memtable has.
+    pub(crate) fn reaches(self, limits: FlushLimits) -> bool
+        ensures { result ≡ reaches limits self.entries self.bytes }
+    {
+        self.entries >= limits.entries as usize || self.has_bytes(limits.bytes)
+    }
+
+    /// Whether a number of bytes is given, and these are as many.
+    fn has_bytes(self, bytes: Option<u32>) -> bool
+        ensures { result ≡ has_bytes bytes self.bytes }
+    {
+        match bytes {
+            Some(most) => self.bytes >= most as usize,
+            None => false,
+        }
+    }
+}

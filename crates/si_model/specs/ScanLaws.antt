@@ -1,0 +1,57 @@
+-- The laws of scans.
+use Rattle.std.specs.Prelude.{◌≡◌, ℕ, ◌≤◌, Bool, List, Option, Some, None}
+use Rattle.cell_key.specs.Cells.{Cells}
+use Rattle.cell_key.specs.Places.{HasCell}
+use Rattle.si_model.specs.Machine.{State, Value, Range, Item, Valued, Locked, Unsent, Reach, Scan, Reply, Get, ScanFrom, Answered, Pending, Scanned, Marked, IsSnapshot, Acts, Step}
+use Rattle.si_model.specs.Scans.{place_at, Covers, Says, IsSo}
+use Rattle.si_model.specs.Sets.{◌∈◌}
+use Rattle.si_model.specs.declared.replies.Cell.{Cell}
+
+-- the scan went over x, and said this of it
+pub record SaysOf (scan : Scan) (x : Cell) (said : Option Item) : Type 0 where
+  pub covers : Covers scan.range scan.reach x
+  pub says : Says scan.items x said
+
+-- what each scan said is so at its session's start, in the commits as they are now
+-- (snapshot isolation)
+abbrev pub ScansSettled : State → Type 0
+ScansSettled st =
+    (scan : Scan) → scan ∈ st.scans → (x : Cell) (said : Option Item) → SaysOf scan x said
+    → IsSo st.commits scan.start x said
+
+-- what two scans of one start say of one cell
+pub record Meet (a b : Scan) (x : Cell) : Type 0 where
+  -- there is one value
+  pub one : (v w : Value) → SaysOf a x (Some (Valued v)) → SaysOf b x (Some (Valued w)) → v ≡ w
+  -- what one leaves unnamed the other can name only as kept back
+  pub unnamed : (item : Item) → SaysOf a x None → SaysOf b x (Some item)
+      → (t : ℕ) × (item ≡ Locked t)
+
+abbrev pub ScansMeet : State → Type 0
+ScansMeet st =
+    (a b : Scan) → a ∈ st.scans → b ∈ st.scans → a.start ≡ b.start → (x : Cell) → Meet a b x
+
+-- a Get may be answered so
+abbrev pub MayGet : State → ℕ → Cell → Reply → Type 0
+MayGet st s x reply = (next : State) × Acts st (Get s x) reply next
+
+-- what is said of x is what a Get of it would answer
+abbrev pub IsAsGet : State → ℕ → Cell → Option Item → Type 0
+IsAsGet st s x None = MayGet st s x (Answered None)
+IsAsGet st s x (Some (Valued value)) = MayGet st s x (Answered (Some value))
+IsAsGet st s x (Some Unsent) = (value : Value) × MayGet st s x (Answered (Some value))
+IsAsGet st s x (Some (Locked t)) = MayGet st s x (Pending t)
+
+abbrev pub ScansAsGets : State → Type 0
+ScansAsGets st =
+    (s cells : ℕ) (range : Range) (keys_only : Bool) (items : List (Cell × Item)) (reach : Reach)
+    (next : State) → Step st (ScanFrom s range keys_only cells) (Scanned items reach) next
+    → (x : Cell) (said : Option Item) → Covers range reach x → Says items x said
+    → IsAsGet st s x said
+
+-- where a cell map shows a state, a cell without a key has no mark, and nothing as of each stamp
+-- from the floor on
+abbrev pub NothingThere : Cells → State → Type 0
+NothingThere cells st =
+    (x : Cell) → ¬ HasCell cells (place_at x)
+    → ((t : ℕ) → ¬ Marked st x t) × ((s : ℕ) → st.floor ≤ s → IsSnapshot st.commits s x None)

@@ -1,0 +1,62 @@
+-- A lock whose column's number isn't among those of locks has no value.
+use Rattle.std.proofs.Common.{◌≡◌, ◌≤◌, ◌<◌, ◌^◌, ◌-◌, ℕ, Bool, true, false, cond, List, [], ◌∷◌, Contains, Option, Some, None, refl, sym, ap, subst, ◌∙◌, arith}
+use Rattle.std.specs.List.{AllByRecursion}
+use Rattle.std.specs.Ordering.{eq_by_cmp}
+use Rattle.std.specs.FinMap.Entries.{find}
+use Rattle.cell_key.specs.Keys.{byte_cmp, text, IsStored}
+use Rattle.cell_key.specs.Entries.{Entry, entry_of_key, value_of}
+use Rattle.cell_key.specs.declared.keys.CellKey.{CellKey}
+use Rattle.cell_key.specs.declared.keys.Qualifier.{Qualifier}
+use Rattle.cell_key.specs.declared.keys.Qualifier.TheVariants.{Data, Lock, Write}
+use Rattle.sorted_file.specs.Bounds.{column_bounds, IsBounded, IsWithin}
+use Rattle.sorted_file.specs.File.{value_numbers}
+use Rattle.sorted_file.specs.Newest.{at_stamp}
+use Rattle.sorted_file.specs.Numbers.{number_of, IsAmong, IsLockNumbered, IsNumbered}
+use Rattle.sorted_file.specs.declared.bounds.ColumnBounds.{ColumnBounds}
+use Rattle.sorted_file.specs.declared.file.SortedFile.{SortedFile}
+use Rattle.sorted_file.proofs.Bounded.{one_text}
+use Rattle.sorted_file.proofs.Numbered.{no_entry, one_number}
+
+pub one_on : (old new : List ℕ) → IsAmong old new → (e : Entry) → IsLockNumbered old e → IsLockNumbered new e
+one_on old new keeps e is key stored named lock some = keeps (number_of e.0) (is key stored named lock some)
+
+pub locked_on : (old new : List ℕ) → IsAmong old new → (es : List Entry) → AllByRecursion (IsLockNumbered old) es → AllByRecursion (IsLockNumbered new) es
+locked_on old new keeps [] all = tt
+locked_on old new keeps (e ∷ es) all = (one_on old new keeps e all.0, locked_on old new keeps es all.1)
+
+-- where no lock is within the bounds there is none
+pub none_locked : (numbers : List ℕ) (bounds : ColumnBounds) → ((row : List ℕ) (s : ℕ) → 1 ≤ s → s ≤ 2 ^ 63 - 1 → ¬ (IsWithin (column_bounds bounds Lock) row s))
+    → (es : List Entry) → AllByRecursion (IsBounded bounds) es → AllByRecursion (IsLockNumbered numbers) es
+none_locked numbers bounds out [] all = tt
+none_locked numbers bounds out (e ∷ es) all = (
+  λ key stored named lock some.
+      let to = stored.to in
+      absurd (out key.row key.stamp stored.from (omega arith) (subst (λ (q : Qualifier). IsWithin (column_bounds bounds q) key.row key.stamp) lock (all.0 key stored named some))),
+  none_locked numbers bounds out es all.1,
+)
+
+module _ (numbers : List ℕ) (key : CellKey) (stored : IsStored key) (lock : key.qualifier ≡ Lock) (out : ¬ Contains numbers (number_of (text key))) where
+  none_here : (name : List ℕ) (value : Option (List ℕ)) → IsLockNumbered numbers (name, value) → name ≡ text key → value ≡ None
+  none_here name None is e = refl
+  none_here name (Some v) is e = absurd (out (subst (λ (t : List ℕ). Contains numbers (number_of t)) e (is key stored e lock refl)))
+
+  no_lock : (es : List Entry) → AllByRecursion (IsLockNumbered numbers) es → value_of (entry_of_key es (text key)) ≡ None
+  no_lock [] all = refl
+  no_lock ((name, value) ∷ es) all = go (no_lock es all.1) (eq_by_cmp byte_cmp (text key) name) refl
+    where
+      go : value_of (entry_of_key es (text key)) ≡ None → (b : Bool) → eq_by_cmp byte_cmp (text key) name ≡ b → value_of (cond b (Some value) (find byte_cmp (text key) es)) ≡ None
+      go more true e = none_here name value all.0 (sym (one_text (text key) name e))
+      go more false e = more
+
+-- a column whose number isn't among those of its kind has no value
+module _ (file : SortedFile) (es : List Entry) (numbered : AllByRecursion (IsNumbered file.numbers.items) es) (locked : AllByRecursion (IsLockNumbered file.locks.items) es) (key : CellKey) (s : ℕ) (stored : IsStored (at_stamp key s)) where
+  by_entry : ¬ Contains file.numbers.items (number_of (text key)) → value_of (entry_of_key es (text (at_stamp key s))) ≡ None
+  by_entry out = ap value_of (no_entry file.numbers.items key out es numbered s)
+
+  by_kind : (q : Qualifier) → key.qualifier ≡ q → ¬ Contains (value_numbers file q) (number_of (text key)) → value_of (entry_of_key es (text (at_stamp key s))) ≡ None
+  by_kind Data kind out = by_entry out
+  by_kind Write kind out = by_entry out
+  by_kind Lock kind out = no_lock file.locks.items (at_stamp key s) stored kind (λ there. out (subst (λ (n : ℕ). Contains file.locks.items n) (one_number key s) there)) es locked
+
+  pub no_value_numbered : ¬ Contains (value_numbers file key.qualifier) (number_of (text key)) → value_of (entry_of_key es (text (at_stamp key s))) ≡ None
+  no_value_numbered out = by_kind key.qualifier refl out

@@ -1,0 +1,32 @@
+use Rattle.std.proofs.Common.{List, ℕ, Option, ap, ◌∙◌}
+use Rattle.std.specs.Global.{Vec}
+use Rattle.sorted_file.specs.Index.{skips}
+use Rattle.sorted_file.proofs.Keeping.{none_kept}
+use Rattle.sorted_file.proofs.Locked.{locked_on}
+use Rattle.sorted_file.proofs.Numbered.{numbered_on}
+use Rattle.sorted_file.proofs.Results.{if_some}
+use Rattle.sorted_file.proofs.file.SortedFile.open_with.Goals as goal
+
+pub returns-clause-opened : goal.returns-clause-opened
+returns-clause-opened g c =
+    let o = c.in_ok-rows.ensures.opening in
+    if_some (g.F.Files.contents c.args.files.now) _ _ (λ m w.
+    record {
+      list = o.list;
+      bounds = o.bounds;
+      bounded = o.bounded;
+      numbered = numbered_on _ _ c.sorted.ensures.keeps _ o.numbered;
+      rising = c.sorted.ensures.rising;
+      locked = locked_on _ _ c.sorted-2.ensures.keeps _ o.locked;
+      locks_rising = c.sorted-2.ensures.rising;
+      heads = o.heads;
+      skips = c.in_ok-skips.ensures.skips ∙ ap (λ (l : List (Option (Vec ℕ))). skips l) c.deref.ensures.value;
+      counted = o.counted;
+      format = _;
+      image = w.image;
+      there = w.there;
+      form = w.form;
+      rows = o.rows_are;
+      blocks = w.blocks;
+      cached = none_kept _ _ c.in_ok-cache.ensures.none;
+    }) c.in_ok-rows.ensures.whole

@@ -1,0 +1,41 @@
+-- What a source passes over, whatever it stands for: entries that stand in the files now.
+use Rattle.std.specs.Prelude.{◌≡◌, ℕ, List, [], ◌∷◌, Option, Some, None}
+use Rattle.cell_key.specs.Entries.{Entry}
+use Rattle.sorted_file.specs.Grammar.{FitsIn, IsFile}
+use Rattle.sorted_file.specs.declared.format.Format.TheVariants.{Two}
+
+-- By one step after the other a source passes over these entries, and is at the last of them.
+pub data PassesOver {S : Type 0} (steps : S → S → Type 0) (lent : S → Option Entry)
+    : S → List Entry → S → Type 0 where
+  passes_none : {s : S} → PassesOver steps lent s [] s
+  passes_one : {s t u : S} {e : Entry} {es : List Entry} → steps s t → lent t ≡ Some e
+      → PassesOver steps lent t es u → PassesOver steps lent s (e ∷ es) u
+
+module _ {S : Type 0} (steps : S → S → Type 0) (lent : S → Option Entry) where
+  -- a source passes over these entries, and then ends
+  pub record EndsAfter (es : List Entry) (s : S) : Type 0 where
+    pub last : S
+    pub passes : PassesOver steps lent s es last
+    pub end : S
+    pub step : steps last end
+    pub none : lent end ≡ None
+
+  -- the bytes are the file of the entries that a source passes over up to its end
+  pub record IsFileOf (s : S) (image : List ℕ) : Type 0 where
+    pub entries : List Entry
+    pub all : EndsAfter entries s
+    pub form : IsFile Two entries image
+
+  -- a source passes over entries, perhaps not all, of which no file has as few bytes as a limit
+  pub record PassesTooMuch (limit : ℕ) (s : S) : Type 0 where
+    pub entries : List Entry
+    pub last : S
+    pub passes : PassesOver steps lent s entries last
+    pub large : ¬ FitsIn limit entries
+
+  -- a source passes over entries, perhaps none, and breaks off after them
+  pub record BreaksAfter (breaks : S → Type 0) (s : S) : Type 0 where
+    pub entries : List Entry
+    pub last : S
+    pub passes : PassesOver steps lent s entries last
+    pub here : breaks last

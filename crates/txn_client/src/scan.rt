@@ -1,0 +1,338 @@
+//! A scan: batches of places, of which each cell is read, or passed by if it is of another family.
+
+ghost use Rattle.std.specs.Prelude.{◌≡◌, ◌+◌, ◌<◌, ◌≤◌, ◌++◌, [], ◌∷◌, ℕ, Some, IsSome, length, map, option_map, IfErr, IfOk, IfSome, OnOk};
+ghost use Rattle.std.specs.Bool.{OnFalse, OnTrue};
+ghost use Rattle.cell_key.specs.Cells.{Cells};
+ghost use Rattle.cell_key.specs.Faults.{HasReason};
+ghost use Rattle.cell_key.specs.Places.{AreNextCells};
+ghost use Rattle.row_atomic.specs.Calls.{OnlyReads};
+ghost use Rattle.row_atomic.specs.Refusals.{IsReadRefusal, IsRefusalOfRead};
+ghost use Rattle.si_model.specs.Machine as machine;
+ghost use Rattle.si_model.specs.declared.replies.Cell.{Cell as CellOf};
+ghost use Rattle.si_model.specs.Replies.{found_item, item_of, reach_of};
+ghost use Rattle.si_model.specs.Scans.{HasFamilies, HasRows, item_length, items_length, most_items, place_at};
+ghost use Rattle.txn_client.specs.Gathering.{Gathers, HasCome, IsInLimits, IsNextIn, items_in};
+ghost use Rattle.txn_client.specs.Ranges.{range_named};
+ghost use Rattle.txn_client.specs.Reads.{IsFound, ReadsValue};
+ghost use Rattle.txn_client.specs.Scans.{DoesNotFit, IsInScanLimits, IsNamed, IsReadAs, IsScanDamaged, IsScanFound};
+
+use crate::cells;
+use crate::range::Range;
+use cell_key::{Family, Refusal, Row, Stamp};
+use row_atomic::Rows;
+use si_model::{Cell, Found, ScanFound, ScanItem, ScanReach, ScanReply};
+use std::alloc::Global;
+
+/// The most places that are asked for at once.
+const MOST_PLACES: usize = 64;
+
+/// The most bytes that the items of a reply take.
+const MOST_BYTES: usize = 61_440;
+
+/// What is scanned: the cells of a range as of the start of a session, or their keys alone.
+#[derive(Drop)]
+pub(crate) struct Scan {
+    pub(crate) start: Stamp,
+    pub(crate) range: Range,
+    pub(crate) keys_only: bool,
+}
+
+/// What a scan has gathered: items, and how many bytes they take in a reply; how many cells it may look
+/// at, and how many it has looked at; and the last of these, which is at first the cell after which the
+/// range begins.
+#[derive(Drop)]
+struct Gathered {
+    items: Vec<ScanItem>,
+    bytes: usize,
+    cells: usize,
+    looked: usize,
+    last: Option<Cell>,
+}
+
+/// What a batch of places came to.
+#[derive(Clone, Copy, Drop)]
+enum Batch {
+    /// Each of its cells was looked at.
+    Done,
+    /// No cell of the range is left.
+    End,
+    /// The next item doesn't fit.
+    Full,
+}
+
+/// Another cell of the same names. Answers `NoMemory` if there is no memory for it.
+fn copy_of(cell: &Cell) -> Result<Cell, Refusal>
+    ensures copy { IfOk result (λ copy. copy ≡ cell.now) }
+    ensures refusal { IfErr result (λ refusal. refusal ≡ Refusal.NoMemory) }
+{
+    Ok(Cell {
+        row: cell.row.clone()?,
+        family: cell.family.clone()?,
+    })
+}
+
+/// How many bytes an item takes in a reply: its names and its value with their lengths, or a stamp, and
+/// a byte for its kind.
+fn item_bytes(cell: &Cell, found: &ScanFound) -> usize
+    ensures bytes { result ≡ item_length (cell.now, found_item found.now) }
+    ensures named { IsNamed cell.now }
+{
+    let names = 9 + cell.row.as_bytes().len() + cell.family.as_bytes().len();
+    match found {
+        ScanFound::Value(value) => names + 4 + value.len(),
+        ScanFound::Pending(_) => names + 8,
+        ScanFound::Unsent => names,
+    }
+}
+
+/// What is said of a cell that has a value. That is left out if keys alone are asked for, or if its item
+/// alone would be too long.
+fn value_said(cell: &Cell, value: Vec<u8>, keys_only: bool) -> ScanFound
+    requires { IsNamed cell.now }
+    ensures said { (cells : Cells) (s : ℕ) → ReadsValue cells cell.now s value.items
+        → IsReadAs cells s keys_only cell.now (Some (found_item result)) }
+    ensures short { item_length (cell.now, found_item result) ≤ most_items }
+{
+    let found = ScanFound::Value(value);
+    if keys_only || item_bytes(cell, &found) > MOST_BYTES {
+        return ScanFound::Unsent;
+    }
+    found
+}
+
+/// What is said of a cell of which a read found this, if it has anything.
+fn said(cell: &Cell, found: Found, keys_only: bool) -> Option<ScanFound>
+    requires { IsNamed cell.now }
+    ensures said { (cells : Cells) (s : ℕ) → IsFound cells cell.now s found
+        → IsReadAs cells s keys_only cell.now (option_map found_item result) }
+    ensures short { IfSome result (λ found. item_length (cell.now, found_item found) ≤ most_items) }
+{
+    match found {
+        Found::Nothing => None,
+        Found::Pending(start) => Some(ScanFound::Pending(start)),
+        Found::Value(value) => Some(value_said(cell, value, keys_only)),
+    }
+}
+
+impl Gathered {
+    /// Nothing yet, before the first cell of the range.
+    fn new(alloc: Global, scan: &Scan, cells: u32) -> Result<Gathered, Refusal>
+        requires rows { HasRows (range_named scan.now.range) }
+        requires families { HasFamilies (range_named scan.now.range) }
+        ensures none { IfOk result (λ gathered. (map : Cells) → Gathers map scan.now gathered) }
+        ensures limits { IfOk result IsInLimits }
+        ensures looked { IfOk result (λ gathered. gathered.looked ≡ 0) }
+        ensures cells { IfOk result (λ gathered. gathered.cells ≡ cells) }
+        ensures refusal { IfErr result (λ refusal. refusal ≡ Refusal.NoMemory) }
+    {
+        let last = match &scan.range.after {
+            Some(cell) => Some(copy_of(cell)?),
+            None => None,
+        };
+        Ok(Gathered {
+            items: Vec::new(alloc),
+            bytes: 0,
+            cells: cells as usize,
+            looked: 0,
+            last,
+        })
+    }
+
+    /// The next places after the last cell.
+    fn next_places<R: Rows>(&self, rows: &mut R, most: usize) -> Result<Vec<(Row, Family)>, Refusal>
+        ensures found { R.seen.holds rows.old → IfOk result (λ found. AreNextCells
+            (R.seen.cells rows.old) (option_map place_at self.now.last) most found.items) }
+        ensures few { IfOk result (λ found. length found.items ≤ most) }
+        ensures reads { OnlyReads R.seen rows.old rows.new }
+        ensures refusal { IfErr result (IsRefusalOfRead (R.seen.holds rows.old)) }
+        ensures reason { HasReason (R.faults rows.old) (R.faults rows.new) result }
+    {
+        match &self.last {
+            Some(cell) => rows.next_cells(Some((&cell.row, &cell.family)), most),
+            None => rows.next_cells(None, most),
+        }
+    }
+
+    /// Goes past a cell of which nothing is said.
+    fn pass(&mut self, cell: Cell)
+        requires limits { IsInLimits self.old }
+        requires room { self.old.looked < self.old.cells }
+        requires named { IsNamed cell }
+        ensures limits { IsInLimits self.new }
+        ensures items { self.new.items ≡ self.old.items }
+        ensures looked { self.new.looked ≡ self.old.looked + 1 }
+        ensures cells { self.new.cells ≡ self.old.cells }
+        ensures last { self.new.last ≡ Some cell }
+    {
+        self.looked += 1;
+        self.last = Some(cell);
+    }
+
+    /// Names a cell, if its item fits.
+    fn name(&mut self, cell: Cell, found: ScanFound) -> Result<bool, Refusal>
+        requires limits { IsInLimits self.old }
+        requires room { self.old.looked < self.old.cells }
+        requires short { item_length (cell, found_item found) ≤ most_items }
+        ensures limits { OnOk result (IsInLimits self.new) }
+        ensures named { IfOk result (λ fits. OnTrue fits
+            ((items_in self.new ≡ items_in self.old ++ ((cell, found_item found) ∷ []))
+            × (self.new.looked ≡ self.old.looked + 1) × (self.new.last ≡ Some cell))) }
+        ensures full { IfOk result (λ fits. OnFalse fits ((self.new ≡ self.old)
+            × (1 ≤ self.old.looked) × (most_items
+            < items_length (items_in self.old) + item_length (cell, found_item found)))) }
+        ensures cells { self.new.cells ≡ self.old.cells }
+        ensures refusal { IfErr result (λ refusal. refusal ≡ Refusal.NoMemory) }
+    {
+        let bytes = self.bytes + item_bytes(&cell, &found);
+        if bytes > MOST_BYTES {
+            return Ok(false);
+        }
+        let last = copy_of(&cell)?;
+        self.items.push(ScanItem { cell, found })?;
+        self.bytes = bytes;
+        self.looked += 1;
+        self.last = Some(last);
+        Ok(true)
+    }
+
+    /// Looks at the next cell. Whether its item fits, if it has one.
+    fn look<R: Rows>(&mut self, rows: &mut R, scan: &Scan, cell: Cell) -> Result<bool, Refusal>
+        requires limits { IsInLimits self.old }
+        requires room { self.old.looked < self.old.cells }
+        requires named { IsNamed cell }
+        ensures looked { R.seen.holds rows.old → Gathers (R.seen.cells rows.old) scan.now self.old
+            → IsNextIn (R.seen.cells rows.old) scan.now self.old cell → IfOk result (λ fits.
+            OnTrue fits (Gathers (R.seen.cells rows.old) scan.now self.new)) }
+        ensures full { R.seen.holds rows.old
+            → IsNextIn (R.seen.cells rows.old) scan.now self.old cell
+            → IfOk result (λ fits. OnFalse fits (DoesNotFit (R.seen.cells rows.old)
+            scan.now.start (range_named scan.now.range) scan.now.keys_only (items_in self.old)
+            self.old.last)) }
+        ensures same { IfOk result (λ fits. OnFalse fits
+            ((self.new ≡ self.old) × (1 ≤ self.old.looked))) }
+        ensures more { IfOk result (λ fits. OnTrue fits ((self.new.looked ≡ self.old.looked + 1)
+            × (self.new.last ≡ Some cell))) }
+        ensures limits { OnOk result (IsInLimits self.new) }
+        ensures cells { self.new.cells ≡ self.old.cells }
+        ensures reads { OnlyReads R.seen rows.old rows.new }
+        ensures refusal { IfErr result IsReadRefusal }
+        ensures damaged { R.seen.holds rows.old → Gathers (R.seen.cells rows.old) scan.now self.old
+            → IsNextIn (R.seen.cells rows.old) scan.now self.old cell
+            → IfErr result (λ refusal. refusal ≡ Refusal.Damaged → IsScanDamaged
+            (R.seen.cells rows.old) (range_named scan.now.range) scan.now.start) }
+        ensures reason { HasReason (R.faults rows.old) (R.faults rows.new) result }
+    {
+        if !scan.range.is_of_family(&cell.family) {
+            self.pass(cell);
+            return Ok(true);
+        }
+        let found = cells::read_cell(rows, &cell, scan.start)?;
+        match said(&cell, found, scan.keys_only) {
+            Some(found) => self.name(cell, found),
+            None => {
+                self.pass(cell);
+                Ok(true)
+            }
+        }
+    }
+
+    /// Looks at the cells of the next places: at most 64, and no more than it may look at.
+    fn take_batch<R: Rows>(&mut self, rows: &mut R, scan: &Scan) -> Result<Batch, Refusal>
+        requires limits { IsInLimits self.old }
+        requires room { self.old.looked < self.old.cells }
+        ensures come { R.seen.holds rows.old → Gathers (R.seen.cells rows.old) scan.now self.old
+            → IfOk result (HasCome (R.seen.cells rows.old) scan.now self.new) }
+        ensures more { IfOk result (λ batch. batch ≡ Batch.Done
+            → self.old.looked < self.new.looked) }
+        ensures full { IfOk result (λ batch. batch ≡ Batch.Full → 1 ≤ self.new.looked) }
+        ensures limits { OnOk result (IsInLimits self.new) }
+        ensures cells { self.new.cells ≡ self.old.cells }
+        ensures reads { OnlyReads R.seen rows.old rows.new }
+        ensures refusal { IfErr result IsReadRefusal }
+        ensures damaged { R.seen.holds rows.old → Gathers (R.seen.cells rows.old) scan.now self.old
+            → IfErr result (λ refusal. refusal ≡ Refusal.Damaged → IsScanDamaged
+            (R.seen.cells rows.old) (range_named scan.now.range) scan.now.start) }
+        ensures reason { HasReason (R.faults rows.old) (R.faults rows.new) result }
+    {
+        let most = MOST_PLACES.min(self.cells - self.looked);
+        let places = self.next_places(rows, most)?;
+        let is_last = places.len() < most;
+        for place in places {
+            let (row, family) = place;
+            if !scan.range.is_up_to(&row) {
+                return Ok(Batch::End);
+            }
+            if !self.look(rows, scan, Cell { row, family })? {
+                return Ok(Batch::Full);
+            }
+        }
+        Ok(if is_last { Batch::End } else { Batch::Done })
+    }
+
+    /// The reply of a scan that went over all of its range.
+    fn ended(self) -> ScanReply
+        requires { IsInLimits self }
+        ensures items { map item_of result.items.items ≡ items_in self }
+        ensures reach { reach_of result.reach ≡ machine.ToEnd }
+        ensures limits { IsInScanLimits (map item_of result.items.items) (reach_of result.reach) }
+    {
+        let Gathered { items, .. } = self;
+        ScanReply {
+            items,
+            reach: ScanReach::End,
+        }
+    }
+
+    /// The reply of a scan that went as far as the last cell.
+    fn stopped(self) -> ScanReply
+        requires limits { IsInLimits self }
+        requires some { IsSome self.last }
+        ensures items { map item_of result.items.items ≡ items_in self }
+        ensures reach { (x : CellOf) → self.last ≡ Some x → reach_of result.reach ≡ machine.UpTo x }
+        ensures limits { IsInScanLimits (map item_of result.items.items) (reach_of result.reach) }
+    {
+        let Gathered { items, last, .. } = self;
+        ScanReply {
+            items,
+            reach: ScanReach::More(last.unwrap()),
+        }
+    }
+}
+
+impl Scan {
+    /// Looks at the cells of the range in order, at most at so many.
+    ///
+    /// # Errors
+    ///
+    /// `Device`, `NoMemory`, or `Damaged` if bytes that were read are outside their form.
+    pub(crate) fn run<R: Rows>(
+        &self,
+        alloc: Global,
+        rows: &mut R,
+        cells: u32,
+    ) -> Result<ScanReply, Refusal>
+        requires rows { HasRows (range_named self.now.range) }
+        requires families { HasFamilies (range_named self.now.range) }
+        requires some { 1 ≤ cells }
+        ensures found { R.seen.holds rows.old → IfOk result (λ reply. IsScanFound
+            (R.seen.cells rows.old) self.now.start (range_named self.now.range) self.now.keys_only
+            cells (map item_of reply.items.items) (reach_of reply.reach)) }
+        ensures limits { IfOk result (λ reply. IsInScanLimits
+            (map item_of reply.items.items) (reach_of reply.reach)) }
+        ensures reads { OnlyReads R.seen rows.old rows.new }
+        ensures refusal { IfErr result IsReadRefusal }
+        ensures damaged { R.seen.holds rows.old → IfErr result (λ refusal. refusal ≡ Refusal.Damaged
+            → IsScanDamaged (R.seen.cells rows.old) (range_named self.now.range) self.now.start) }
+        ensures reason { HasReason (R.faults rows.old) (R.faults rows.new) result }
+    {
+        let mut gathered = Gathered::new(alloc, self, cells)?;
+        while gathered.looked < gathered.cells {
+            match gathered.take_batch(rows, self)? {
+                Batch::Done => {}
+                Batch::End => return Ok(gathered.ended()),
+                Batch::Full => return Ok(gathered.stopped()),
+            }
+        }
+        Ok(gathered.stopped())
+    }
+}

@@ -1,0 +1,204 @@
+//! The cells ahead of a collector, which are found many at a time.
+
+ghost use Rattle.std.specs.Prelude.{◌≡◌, ◌≤◌, ◌↔◌, [], None, Option, Some, true, option_map, IfErr, IfOk, IfSome, IsTrue, OnOk};
+ghost use Rattle.std.specs.Vec.Iter.{into_iter_items};
+ghost use Rattle.cell_key.specs.Cells.{Cells};
+ghost use Rattle.cell_key.specs.Faults.{HasReason};
+ghost use Rattle.cell_key.specs.Places.{IsNextCell, Place, place_named};
+ghost use Rattle.row_atomic.specs.Calls.{OnlyReads};
+ghost use Rattle.row_atomic.specs.Refusals.{IsRefusalOfRead};
+ghost use Rattle.si_model.specs.Collection.{place_at};
+ghost use Rattle.version_collector.specs.Ahead.{Follow, IsAhead, IsStill};
+ghost use Rattle.version_collector.specs.Visits.{position_of};
+
+use cell_key::{Family, Refusal, Row};
+use row_atomic::{Rows, one_next_cell};
+use si_model::Cell;
+use std::alloc::Global;
+use std::vec::IntoIter;
+
+/// The most places that are found at a time.
+const MOST_AHEAD: usize = 64;
+
+/// Cells ahead of a position, as they were found: those that follow it, or that follow the cell there of which
+/// something was erased. Between two requests nothing is kept of them.
+#[derive(Drop)]
+pub(crate) struct Ahead {
+    /// A cell of which something was erased: it is the next one if it still has a key.
+    pub(crate) doubted: Option<Cell>,
+    places: IntoIter<(Row, Family)>,
+    /// No cell lies behind the last of the places.
+    is_end: bool,
+}
+
+fn is_same(cell: &Cell, other: &Cell) -> bool
+    ensures { IsTrue result ↔ (cell.now ≡ other.now) }
+{
+    cell == other
+}
+
+/// The cell of a row and a family, if there is one.
+fn cell_at(place: Option<(Row, Family)>) -> Option<Cell>
+    ensures { position_of result ≡ place }
+{
+    match place {
+        Some((row, family)) => Some(Cell { row, family }),
+        None => None,
+    }
+}
+
+/// The row and the family of a cell, if there is one.
+fn place_after(after: &Option<Cell>) -> Option<(&Row, &Family)>
+    ensures { option_map place_named result ≡ position_of after.now }
+{
+    match after {
+        Some(cell) => Some((&cell.row, &cell.family)),
+        None => None,
+    }
+}
+
+impl Ahead {
+    /// Nothing was found yet.
+    pub(crate) fn new(alloc: Global) -> Ahead
+        ensures { (cells : Cells) (after : Option Place) → IsAhead cells after result }
+    {
+        Ahead {
+            doubted: None,
+            places: Vec::new(alloc).into_iter(),
+            is_end: false,
+        }
+    }
+
+    /// The doubted cell, if there is one and it still has a key. There is none then.
+    fn still_there<R: Rows>(
+        &mut self,
+        rows: &mut R,
+        after: &Option<Cell>,
+    ) -> Result<Option<Cell>, Refusal>
+        ensures found { R.seen.holds rows.old
+            → IsAhead (R.seen.cells rows.old) (position_of after.now) self.old
+            → IfOk result (IsStill (R.seen.cells rows.old) (position_of after.now)
+            (into_iter_items self.new.places) self.new.is_end) }
+        ensures doubted { OnOk result (self.new.doubted ≡ None) }
+        ensures reads { OnlyReads R.seen rows.old rows.new }
+        ensures refusal { IfErr result (IsRefusalOfRead (R.seen.holds rows.old)) }
+        ensures reason { HasReason (R.faults rows.old) (R.faults rows.new) result }
+    {
+        one_next_cell();
+        let Some(cell) = self.doubted.take() else {
+            return Ok(None);
+        };
+        let Some(next) = cell_at(rows.next_cell(place_after(after))?) else {
+            return Ok(None);
+        };
+        if is_same(&next, &cell) {
+            return Ok(Some(next));
+        }
+        Ok(None)
+    }
+
+    /// Finds places, as many as so many visits need.
+    fn find<R: Rows>(
+        &mut self,
+        rows: &mut R,
+        after: &Option<Cell>,
+        visits: usize,
+    ) -> Result<(), Refusal>
+        requires { 1 ≤ visits }
+        ensures found { R.seen.holds rows.old → OnOk result (Follow (R.seen.cells rows.old)
+            (position_of after.now) (into_iter_items self.new.places) self.new.is_end) }
+        ensures some { OnOk result (into_iter_items self.new.places ≡ [] → self.new.is_end ≡ true) }
+        ensures doubted { self.new.doubted ≡ self.old.doubted }
+        ensures reads { OnlyReads R.seen rows.old rows.new }
+        ensures refusal { IfErr result (IsRefusalOfRead (R.seen.holds rows.old)) }
+        ensures reason { HasReason (R.faults rows.old) (R.faults rows.new) result }
+    {
+        let most = visits.min(MOST_AHEAD);
+        let found = rows.next_cells(place_after(after), most)?;
+        self.is_end = found.len() < most;
+        self.places = found.into_iter();
+        Ok(())
+    }
+
+    /// Finds places if there are none, unless no cell is left.
+    fn fill<R: Rows>(
+        &mut self,
+        rows: &mut R,
+        after: &Option<Cell>,
+        visits: usize,
+    ) -> Result<(), Refusal>
+        requires { 1 ≤ visits }
+        ensures found { R.seen.holds rows.old
+            → Follow (R.seen.cells rows.old) (position_of after.now)
+            (into_iter_items self.old.places) self.old.is_end
+            → OnOk result (Follow (R.seen.cells rows.old) (position_of after.now)
+            (into_iter_items self.new.places) self.new.is_end) }
+        ensures some { OnOk result (into_iter_items self.new.places ≡ [] → self.new.is_end ≡ true) }
+        ensures doubted { self.new.doubted ≡ self.old.doubted }
+        ensures reads { OnlyReads R.seen rows.old rows.new }
+        ensures refusal { IfErr result (IsRefusalOfRead (R.seen.holds rows.old)) }
+        ensures reason { HasReason (R.faults rows.old) (R.faults rows.new) result }
+    {
+        if self.is_end {
+            return Ok(());
+        }
+        if self.places.len() > 0 {
+            return Ok(());
+        }
+        self.find(rows, after, visits)
+    }
+
+    /// Takes the first of the places, which are found if there are none.
+    fn first<R: Rows>(
+        &mut self,
+        rows: &mut R,
+        after: &Option<Cell>,
+        visits: usize,
+    ) -> Result<Option<Cell>, Refusal>
+        requires { 1 ≤ visits }
+        ensures found { R.seen.holds rows.old
+            → Follow (R.seen.cells rows.old) (position_of after.now)
+            (into_iter_items self.old.places) self.old.is_end
+            → IfOk result (λ found.
+            IsNextCell (R.seen.cells rows.old) (position_of after.now) (position_of found)) }
+        ensures left { R.seen.holds rows.old
+            → Follow (R.seen.cells rows.old) (position_of after.now)
+            (into_iter_items self.old.places) self.old.is_end
+            → IfOk result (λ found. IfSome found (λ cell. Follow (R.seen.cells rows.old)
+            (Some (place_at cell)) (into_iter_items self.new.places) self.new.is_end)) }
+        ensures doubted { self.new.doubted ≡ self.old.doubted }
+        ensures reads { OnlyReads R.seen rows.old rows.new }
+        ensures refusal { IfErr result (IsRefusalOfRead (R.seen.holds rows.old)) }
+        ensures reason { HasReason (R.faults rows.old) (R.faults rows.new) result }
+    {
+        self.fill(rows, after, visits)?;
+        Ok(cell_at(self.places.next()))
+    }
+
+    /// Takes the next cell after a position. Of what lies ahead so many visits are to be made.
+    pub(crate) fn next<R: Rows>(
+        &mut self,
+        rows: &mut R,
+        after: &Option<Cell>,
+        visits: usize,
+    ) -> Result<Option<Cell>, Refusal>
+        requires { 1 ≤ visits }
+        ensures found { R.seen.holds rows.old
+            → IsAhead (R.seen.cells rows.old) (position_of after.now) self.old
+            → IfOk result (λ found.
+            IsNextCell (R.seen.cells rows.old) (position_of after.now) (position_of found)) }
+        ensures left { R.seen.holds rows.old
+            → IsAhead (R.seen.cells rows.old) (position_of after.now) self.old
+            → IfOk result (λ found. IfSome found (λ cell. Follow (R.seen.cells rows.old)
+            (Some (place_at cell)) (into_iter_items self.new.places) self.new.is_end)) }
+        ensures doubted { OnOk result (self.new.doubted ≡ None) }
+        ensures reads { OnlyReads R.seen rows.old rows.new }
+        ensures refusal { IfErr result (IsRefusalOfRead (R.seen.holds rows.old)) }
+        ensures reason { HasReason (R.faults rows.old) (R.faults rows.new) result }
+    {
+        match self.still_there(rows, after)? {
+            Some(cell) => Ok(Some(cell)),
+            None => self.first(rows, after, visits),
+        }
+    }
+}
