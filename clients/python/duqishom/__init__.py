@@ -31,10 +31,14 @@ from duqishom.answers import (
     Qualifier,
     RolledBack,
     RolledForward,
+    ScanItem,
+    Scanned,
     Stamped,
+    Unsent,
     Value,
     Version,
 )
+from duqishom.cells import Cell
 from duqishom.columns import BadForm, Kind, Lock, Record, read_lock, read_record
 from duqishom.connection import RequestTimedOut
 from duqishom.fields import MalformedReply
@@ -70,7 +74,6 @@ from duqishom.remote import ConnectionLost, Fate
 from duqishom.store import ForkedStore, Store
 from duqishom.tablets import Tablet
 from duqishom.transactions import (
-    Cell,
     Patience,
     StillPending,
     Transaction,
@@ -133,6 +136,8 @@ __all__ = [
     "RequestTimedOut",
     "RolledBack",
     "RolledForward",
+    "ScanItem",
+    "Scanned",
     "Stamped",
     "StillPending",
     "Store",
@@ -149,6 +154,7 @@ __all__ = [
     "UnknownServer",
     "UnknownSession",
     "UnknownTablet",
+    "Unsent",
     "Value",
     "Version",
     "WrongPhase",

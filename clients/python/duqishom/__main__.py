@@ -54,7 +54,9 @@ def parser() -> argparse.ArgumentParser:
     place.add_argument("--dir", help="the folder of the store: a new store in memory where none is named")
     place.add_argument("--socket", metavar="PATH", help="ask the store that a gateway serves there; no program is started")
     made.add_argument("--flush", metavar="N", help="given to the program: how many entries a memtable has before it is compacted")
+    made.add_argument("--flush-bytes", metavar="B", help="given to the program: how many bytes of entries compact a memtable too")
     made.add_argument("--merge", metavar="M", help="given to the program: how many files a tablet has before some are merged")
+    made.add_argument("--cache", metavar="C", help="given to the program: how many blocks of each file stay in memory")
     made.add_argument("--no-checkpoint", action="store_true", help="make no checkpoint of a folder at the end")
     made.add_argument("--record", metavar="FOLDER", help="keep all frames there, for tablet_audit")
     made.add_argument("--version", action="version", version=VERSION)
@@ -74,7 +76,8 @@ def main(given: Sequence[str]) -> int:
     if given[:1] and given[0] in COMMANDS:
         return COMMANDS[given[0]](given[1:])
     options = parser().parse_args(given)
-    words = [word for name in ("flush", "merge") if (value := getattr(options, name)) for word in (f"--{name}", value)]
+    named = ("flush", "flush-bytes", "merge", "cache")
+    words = [word for name in named if (value := getattr(options, name.replace("-", "_"))) for word in (f"--{name}", value)]
     try:
         with Store(
             options.program,

@@ -13,11 +13,11 @@ Many tasks share one store and its connection, each with transactions of its own
 from __future__ import annotations
 
 import asyncio
-from collections.abc import Awaitable, Callable, Sequence
+from collections.abc import AsyncIterator, Awaitable, Callable, Sequence
 from contextlib import suppress
 from os import PathLike, fspath
 from types import TracebackType
-from typing import TYPE_CHECKING, TypeVar, cast
+from typing import TYPE_CHECKING, Literal, TypeVar, cast, overload
 
 from duqishom import transactions
 from duqishom.answers import (
@@ -31,15 +31,18 @@ from duqishom.answers import (
     Decided,
     Found,
     Lost,
-    Nothing,
     Pending,
     Progress,
     Qualifier,
+    Scanned,
+    Unsent,
     Value,
     Version,
 )
+from duqishom.cells import Cell, CellRange, entries_of, range_of
 from duqishom.columns import read_record
 from duqishom.operations import (
+    MOST_CELLS,
     Begin,
     Checkpoint,
     CleanBegin,
@@ -55,6 +58,7 @@ from duqishom.operations import (
     Operation,
     OracleRestart,
     Raw,
+    Scan,
     Set,
     Split,
     Step,
@@ -70,12 +74,12 @@ from duqishom.remote import MOST_TABLETS, Fate
 from duqishom.streams import FrameStream
 from duqishom.transactions import (
     MOST_STAMP,
-    Cell,
     Patience,
     StillPending,
     TransactionConflict,
     TransactionFailed,
     TransactionLost,
+    value_of,
 )
 
 if TYPE_CHECKING:
@@ -125,6 +129,18 @@ class Store:
     async def get(self, start: int, row: bytes, family: bytes) -> Found:
         """Reads a cell as of the session's start."""
         return await self.ask(Get(start, row, family))
+
+    async def scan(
+        self,
+        start: int,
+        after: tuple[bytes, bytes] | None = None,
+        end: bytes | None = None,
+        family: bytes | None = None,
+        keys_only: bool = False,
+        cells: int = MOST_CELLS,
+    ) -> Scanned:
+        """Reads the cells of a range as of the session's start, as `Store.scan` of the other twin does."""
+        return await self.ask(Scan(start, after, end, family, keys_only, cells))
 
     async def set(self, start: int, row: bytes, family: bytes, value: bytes) -> None:
         """Buffers a write in the session."""
@@ -347,24 +363,114 @@ class Transaction:
         cell = Cell(row, family)
         if own and cell in self._plan._writes:
             return self._plan._writes[cell]
-        tries = 0
-        while True:
-            match await self._store.get(self.start, row, family):
-                case Nothing():
-                    return None
-                case Value(value):
-                    return value
-                case Pending(start):
-                    tries += 1
-                    await self._wait(cell, start, tries)
+        found = await self._store.get(self.start, row, family)
+        if isinstance(found, Pending):
+            return (await self._read_locked({cell: found.start}))[cell]
+        return value_of(found)
 
-    async def _wait(self, cell: Cell, start: int, tries: int) -> None:
+    @overload
+    def scan(
+        self,
+        start: bytes | None = None,
+        end: bytes | None = None,
+        *,
+        prefix: bytes | None = None,
+        family: bytes | None = None,
+        keys: Literal[False] = False,
+        own: bool = True,
+    ) -> AsyncIterator[tuple[bytes, bytes, bytes]]: ...
+
+    @overload
+    def scan(
+        self,
+        start: bytes | None = None,
+        end: bytes | None = None,
+        *,
+        prefix: bytes | None = None,
+        family: bytes | None = None,
+        keys: Literal[True],
+        own: bool = True,
+    ) -> AsyncIterator[tuple[bytes, bytes, None]]: ...
+
+    def scan(
+        self,
+        start: bytes | None = None,
+        end: bytes | None = None,
+        *,
+        prefix: bytes | None = None,
+        family: bytes | None = None,
+        keys: bool = False,
+        own: bool = True,
+    ) -> AsyncIterator[tuple[bytes, bytes, bytes | None]]:
+        """The cells that have a value, in order, each as its row, its family and its value, for `async for`: as `scan` of the
+        other twin gives them."""
+        asked = range_of(start, end, prefix, family)
+        writes = {cell: value for cell, value in self._plan._writes.items() if asked.has(cell)} if own else {}
+        return self._entries(asked, keys, writes)
+
+    async def count(
+        self,
+        start: bytes | None = None,
+        end: bytes | None = None,
+        *,
+        prefix: bytes | None = None,
+        family: bytes | None = None,
+        own: bool = True,
+    ) -> int:
+        """How many cells of a range have a value. Their values aren't sent. The range is that of `scan`."""
+        count = 0
+        async for _ in self.scan(start, end, prefix=prefix, family=family, keys=True, own=own):
+            count += 1
+        return count
+
+    async def _entries(
+        self, asked: CellRange, keys: bool, writes: dict[Cell, bytes | None]
+    ) -> AsyncIterator[tuple[bytes, bytes, bytes | None]]:
+        is_done = False
+        while not is_done:
+            scanned = await self._store.scan(self.start, asked.after, asked.end, asked.family, keys)
+            async for entry in self._batch(entries_of(scanned, writes), keys):
+                yield entry
+            is_done = scanned.upto is None
+            asked = asked if scanned.upto is None else asked.behind(Cell(*scanned.upto))
+
+    async def _batch(
+        self, entries: dict[Cell, Value | Pending | Unsent], keys: bool
+    ) -> AsyncIterator[tuple[bytes, bytes, bytes | None]]:
+        read = await self._read_locked({cell: found.start for cell, found in entries.items() if isinstance(found, Pending)})
+        for cell, found in entries.items():
+            if isinstance(found, Unsent):
+                value = None if keys else await self.get(*cell, own=False)
+            else:
+                value = found.value if isinstance(found, Value) else read[cell]
+                if value is None:
+                    continue
+            yield cell.row, cell.family, None if keys else value
+
+    async def _read_locked(self, locks: dict[Cell, int]) -> dict[Cell, bytes | None]:
+        values: dict[Cell, bytes | None] = {}
+        tries = 0
+        while locks:
+            tries += 1
+            await self._wait(locks, tries)
+            cells, locks = list(locks), {}
+            for cell, found in zip(cells, await self._store.ask_each([Get(self.start, *cell) for cell in cells])):
+                if isinstance(found, Refused):
+                    raise found
+                if isinstance(found, Pending):
+                    locks[cell] = found.start
+                else:
+                    values[cell] = value_of(found)
+        return values
+
+    async def _wait(self, locks: dict[Cell, int], tries: int) -> None:
         if tries < self._patience.tries:
             await asyncio.sleep(self._patience.pause)
         elif self._patience.cleans:
-            await self._store.clean(cell.row, cell.family)
+            for cell in locks:
+                await self._store.clean(*cell)
         else:
-            raise StillPending(cell, start)
+            raise StillPending(*next(iter(locks.items())))
 
     def set(self, row: bytes, family: bytes, value: bytes) -> None:
         """Writes a value to a cell, when the transaction commits. The first cell that is written is the primary."""

@@ -4,6 +4,7 @@ from __future__ import annotations
 
 from dataclasses import dataclass
 from enum import IntEnum
+from typing import NamedTuple
 
 from duqishom.fields import FieldReader, MalformedReply
 
@@ -36,6 +37,28 @@ class Pending:
 
 
 Found = Nothing | Value | Pending
+
+
+@dataclass(frozen=True)
+class Unsent:
+    """The cell has a value that isn't sent: keys alone were asked for, or it is too long. A Get reads it."""
+
+
+class ScanItem(NamedTuple):
+    """A cell that a scan names, and what it has there."""
+
+    row: bytes
+    family: bytes
+    found: Value | Pending | Unsent
+
+
+@dataclass(frozen=True)
+class Scanned:
+    """What a scan found: the cells that it names, in order, and the row and the family up to and with which it has gone: None if
+    it has gone over all of its range. A cell that it has gone over and doesn't name has nothing."""
+
+    items: tuple[ScanItem, ...]
+    upto: tuple[bytes, bytes] | None
 
 
 @dataclass(frozen=True)
@@ -167,6 +190,32 @@ def read_found(fields: FieldReader) -> Found:
             return Pending(fields.number(8))
         case tag:
             raise MalformedReply(f"no answer to a Get has the tag {tag}")
+
+
+def read_scanned(fields: FieldReader) -> Scanned:
+    """The answer to a Scan."""
+    match fields.number(1):
+        case 1:
+            upto = None
+        case 2:
+            upto = (fields.counted(), fields.counted())
+        case tag:
+            raise MalformedReply(f"no answer to a Scan has the tag {tag}")
+    return Scanned(tuple([read_item(fields) for _ in range(fields.number(4))]), upto)
+
+
+def read_item(fields: FieldReader) -> ScanItem:
+    """A cell that a scan names."""
+    row, family = fields.counted(), fields.counted()
+    match fields.number(1):
+        case 1:
+            return ScanItem(row, family, Value(fields.counted()))
+        case 2:
+            return ScanItem(row, family, Pending(fields.number(8)))
+        case 3:
+            return ScanItem(row, family, Unsent())
+        case tag:
+            raise MalformedReply(f"no cell of a scan has the tag {tag}")
 
 
 def read_progress(fields: FieldReader) -> Progress:

@@ -111,12 +111,20 @@ class Unsaved:
         return f"what was done {since}, {self._commits:,} commits, is not in the folder"
 
 
+def tuned(words: Sequence[str], has_folder: bool) -> list[str]:
+    """These words of a command line, behind those that a store asks for where they say nothing else: a memtable is compacted at
+    32 MiB too, so that large values don't fill it, and of each file in a folder 256 blocks stay in memory."""
+    wanted = [("--flush-bytes", "33554432"), *([("--cache", "256")] if has_folder else [])]
+    named = {word.partition("=")[0] for word in words}
+    return [*(part for option in wanted if option[0] not in named for part in option), *words]
+
+
 def started(program: str | None, folder: str | None, words: Sequence[str], recording: Recording | None = None) -> Connection:
     """A program that has opened its store, and records its frames. NotOpened where it can't."""
     if folder is not None and (why := why_no_folder(folder)):
         raise NotOpened(4, why)
     placed = () if folder is None else ("--dir", folder)
-    running = Program(program, (*placed, *words), recording)
+    running = Program(program, (*placed, *tuned(words, folder is not None)), recording)
     try:
         # An empty body is refused, and changes nothing
         running.ask([b""])

@@ -18,6 +18,7 @@ from pathlib import Path
 from typing import NamedTuple, TypeVar
 
 from duqishom.answers import Qualifier
+from duqishom.cells import Cell
 from duqishom.columns import BadForm, Kind, Record, read_lock, read_record
 from duqishom.files import (
     ROOT_FILE,
@@ -31,7 +32,6 @@ from duqishom.files import (
 )
 from duqishom.folders import FolderDamaged, holder_of, read_mark, read_root
 from duqishom.texts import bytes_of, text_of
-from duqishom.transactions import Cell
 
 WORDS = ("stats", "files", "tablets", "locks", "cells")
 

@@ -1,4 +1,4 @@
-"""The nineteen operations: how each is asked, and how its answer is read."""
+"""The twenty operations: how each is asked, and how its answer is read."""
 
 from __future__ import annotations
 
@@ -14,18 +14,23 @@ from duqishom.answers import (
     Found,
     Progress,
     Qualifier,
+    Scanned,
     Version,
     read_cleaned,
     read_cleaner,
     read_collection,
     read_found,
     read_progress,
+    read_scanned,
     read_version,
 )
 from duqishom.fields import FieldReader, MalformedReply, counted_argument, number
 from duqishom.refusals import BY_NUMBER, Refused
 
 REFUSED = 0xFF
+
+# As many cells as a scan may look at.
+MOST_CELLS = 1000
 
 Answer = TypeVar("Answer", covariant=True)
 
@@ -298,6 +303,35 @@ class Delete(WithoutAnswer):
 
     def fields(self) -> bytes:
         return number(8, self.start) + counted_argument("row", self.row) + counted_argument("family", self.family)
+
+
+@dataclass(frozen=True)
+class Scan:
+    """Reads the cells of a range as of the session's start: those behind a cell (a row and a family), up to and with a row, of one
+    family or of all. It looks at so many cells, 1 to 1,000, at most."""
+
+    start: int
+    after: tuple[bytes, bytes] | None = None
+    end: bytes | None = None
+    family: bytes | None = None
+    keys_only: bool = False
+    cells: int = MOST_CELLS
+    code: ClassVar[int] = 0x31
+
+    def fields(self) -> bytes:
+        after = () if self.after is None else (("row", self.after[0]), ("family", self.after[1]))
+        end = () if self.end is None else (("end", self.end),)
+        family = () if self.family is None else (("family", self.family),)
+        bounds = b"".join([optional_arguments(*given) for given in (after, end, family)])
+        return number(8, self.start) + number(1, self.keys_only) + bounds + number(4, self.cells)
+
+    def read(self, fields: FieldReader) -> Scanned:
+        return read_scanned(fields)
+
+
+def optional_arguments(*given: tuple[str, bytes]) -> bytes:
+    """A byte 00 if nothing was given; otherwise a byte 01, and what was given for these arguments, each behind its length."""
+    return number(1, bool(given)) + b"".join([counted_argument(name, each) for name, each in given])
 
 
 def request_body(operation: Operation[Answer]) -> bytes:

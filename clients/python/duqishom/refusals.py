@@ -38,7 +38,7 @@ class UnknownSession(Refused):
 
 
 class WrongPhase(Refused):
-    """A Get, a Set or a Delete after the session's first Step."""
+    """A Get, a Scan, a Set or a Delete after the session's first Step."""
 
     number = 2
     limit = "nothing is read or written after the first Step"
@@ -133,11 +133,15 @@ class UnknownServer(Refused):
 
 
 class BadCount(Refused):
-    """A Merge takes at least two files, and no more than the tablet has. A CollectStep makes 1 to 1,000 visits."""
+    """A Merge takes at least two files, and no more than the tablet has. A CollectStep makes 1 to 1,000 visits, and a Scan looks at
+    1 to 1,000 cells."""
 
     number = 14
-    limit = "a Merge takes 2 files or more, and as many as the tablet has; a CollectStep makes 1 to 1,000 visits"
-    speaks_of = ("count", "visits")
+    limit = (
+        "a Merge takes 2 files or more, and as many as the tablet has; a CollectStep makes 1 to 1,000 visits, and a Scan looks at"
+        " 1 to 1,000 cells"
+    )
+    speaks_of = ("count", "visits", "cells")
 
 
 class MemtableFull(Refused):

@@ -26,12 +26,14 @@ from duqishom.answers import (
     Found,
     Progress,
     Qualifier,
+    Scanned,
     Version,
 )
 from duqishom.columns import read_lock
 from duqishom.connection import Connection
 from duqishom.folders import Unsaved, copy_checkpoint, started
 from duqishom.operations import (
+    MOST_CELLS,
     Begin,
     Checkpoint,
     CleanBegin,
@@ -47,6 +49,7 @@ from duqishom.operations import (
     Operation,
     OracleRestart,
     Raw,
+    Scan,
     Set,
     Split,
     Step,
@@ -168,6 +171,20 @@ class Store:
     def get(self, start: int, row: bytes, family: bytes) -> Found:
         """Reads a cell as of the session's start."""
         return self.ask(Get(start, row, family))
+
+    def scan(
+        self,
+        start: int,
+        after: tuple[bytes, bytes] | None = None,
+        end: bytes | None = None,
+        family: bytes | None = None,
+        keys_only: bool = False,
+        cells: int = MOST_CELLS,
+    ) -> Scanned:
+        """Reads the cells of a range as of the session's start: those behind a cell (a row and a family), up to and with a row, of
+        one family or of all. It looks at so many cells, 1 to 1,000, at most; where it ends before the range does, `upto` of
+        the answer is the `after` of the next one. A transaction's `scan` does all that."""
+        return self.ask(Scan(start, after, end, family, keys_only, cells))
 
     def set(self, start: int, row: bytes, family: bytes, value: bytes) -> None:
         """Buffers a write in the session."""

@@ -3,13 +3,12 @@
 from __future__ import annotations
 
 import random
-import re
 import time
-from collections.abc import Sequence
+from collections.abc import Iterator, Sequence
 from contextlib import suppress
 from dataclasses import dataclass
 from types import TracebackType
-from typing import TYPE_CHECKING, NamedTuple
+from typing import TYPE_CHECKING, Literal, overload
 
 from duqishom.answers import (
     Committed,
@@ -21,11 +20,13 @@ from duqishom.answers import (
     Pending,
     Progress,
     Stamped,
+    Unsent,
     Value,
 )
+from duqishom.cells import FAMILY, LONGEST_ROW, Cell, CellRange, entries_of, range_of
 from duqishom.connection import RequestTimedOut
 from duqishom.fields import bytes_argument
-from duqishom.operations import Delete, Set, Step, named
+from duqishom.operations import Delete, Get, Set, Step, named
 from duqishom.program import ProgramEnded
 from duqishom.refusals import (
     BadColumn,
@@ -37,29 +38,16 @@ from duqishom.refusals import (
     UnknownSession,
     WrongPhase,
 )
-from duqishom.texts import text_of
 
 if TYPE_CHECKING:
     from duqishom.store import Store
 
 MOST_STAMP = 9_223_372_036_854_775_807
 MOST_WRITES = 256
-LONGEST_ROW = 4000
 LONGEST_VALUE = 65_536
-FAMILY = re.compile(rb"[!-9;-~]{1,64}")
 
 # The longest pause between two attempts, in seconds.
 LONGEST_PAUSE = 1.0
-
-
-class Cell(NamedTuple):
-    """A row and a family."""
-
-    row: bytes
-    family: bytes
-
-    def __str__(self) -> str:
-        return f"{text_of(self.row)} {text_of(self.family)}"
 
 
 class TransactionFailed(Exception):
@@ -104,6 +92,11 @@ class Patience:
         return random.uniform(0, min(LONGEST_PAUSE, self.pause * 2.0 ** min(attempt, 30)))
 
 
+def value_of(found: Nothing | Value) -> bytes | None:
+    """What a read found: None for nothing."""
+    return found.value if isinstance(found, Value) else None
+
+
 class Transaction:
     """One session, from its begin to its end. Its writes are kept here, and sent when it commits.
 
@@ -132,25 +125,122 @@ class Transaction:
         cell = Cell(row, family)
         if own and cell in self._writes:
             return self._writes[cell]
-        tries = 0
-        while True:
-            match self._store.get(self.start, row, family):
-                case Nothing():
-                    return None
-                case Value(value):
-                    return value
-                case Pending(start):
-                    tries += 1
-                    self._wait(cell, start, tries)
+        found = self._store.get(self.start, row, family)
+        if isinstance(found, Pending):
+            return self._read_locked({cell: found.start})[cell]
+        return value_of(found)
 
-    def _wait(self, cell: Cell, start: int, tries: int) -> None:
-        """Waits for a lock to go, and after so many tries cleans it, or gives up."""
+    @overload
+    def scan(
+        self,
+        start: bytes | None = None,
+        end: bytes | None = None,
+        *,
+        prefix: bytes | None = None,
+        family: bytes | None = None,
+        keys: Literal[False] = False,
+        own: bool = True,
+    ) -> Iterator[tuple[bytes, bytes, bytes]]: ...
+
+    @overload
+    def scan(
+        self,
+        start: bytes | None = None,
+        end: bytes | None = None,
+        *,
+        prefix: bytes | None = None,
+        family: bytes | None = None,
+        keys: Literal[True],
+        own: bool = True,
+    ) -> Iterator[tuple[bytes, bytes, None]]: ...
+
+    def scan(
+        self,
+        start: bytes | None = None,
+        end: bytes | None = None,
+        *,
+        prefix: bytes | None = None,
+        family: bytes | None = None,
+        keys: bool = False,
+        own: bool = True,
+    ) -> Iterator[tuple[bytes, bytes, bytes | None]]:
+        """The cells that have a value, in order, each as its row, its family and its value: what `get` gives for every cell of the
+        range, without those that have nothing. With `keys=True` values aren't sent, and None stands in their places.
+
+        The range goes from the row `start` up to the row `end`, both included, and has the rows that begin with a prefix, and
+        one family, where these are given. It is read in batches as the iterator goes on; all show the transaction's start. What
+        the transaction had written when `scan` was called is shown too, unless `own=False`. The locks of a batch are waited for
+        together, and then cleaned, as `get` does.
+
+        BadRow or BadColumn at once, as the store would refuse it.
+        """
+        asked = range_of(start, end, prefix, family)
+        writes = {cell: value for cell, value in self._writes.items() if asked.has(cell)} if own else {}
+        return self._entries(asked, keys, writes)
+
+    def count(
+        self,
+        start: bytes | None = None,
+        end: bytes | None = None,
+        *,
+        prefix: bytes | None = None,
+        family: bytes | None = None,
+        own: bool = True,
+    ) -> int:
+        """How many cells of a range have a value. Their values aren't sent. The range is that of `scan`."""
+        return sum(1 for _ in self.scan(start, end, prefix=prefix, family=family, keys=True, own=own))
+
+    def _entries(
+        self, asked: CellRange, keys: bool, writes: dict[Cell, bytes | None]
+    ) -> Iterator[tuple[bytes, bytes, bytes | None]]:
+        """The cells of a range, batch by batch."""
+        is_done = False
+        while not is_done:
+            scanned = self._store.scan(self.start, asked.after, asked.end, asked.family, keys)
+            yield from self._batch(entries_of(scanned, writes), keys)
+            is_done = scanned.upto is None
+            asked = asked if scanned.upto is None else asked.behind(Cell(*scanned.upto))
+
+    def _batch(
+        self, entries: dict[Cell, Value | Pending | Unsent], keys: bool
+    ) -> Iterator[tuple[bytes, bytes, bytes | None]]:
+        """The cells of a batch. Those that are locked are read first, and a value that wasn't sent in its turn."""
+        read = self._read_locked({cell: found.start for cell, found in entries.items() if isinstance(found, Pending)})
+        for cell, found in entries.items():
+            if isinstance(found, Unsent):
+                value = None if keys else self.get(*cell, own=False)
+            else:
+                value = found.value if isinstance(found, Value) else read[cell]
+                if value is None:
+                    continue
+            yield cell.row, cell.family, None if keys else value
+
+    def _read_locked(self, locks: dict[Cell, int]) -> dict[Cell, bytes | None]:
+        """What cells hold that are locked by sessions of these starts, once their locks are gone."""
+        values: dict[Cell, bytes | None] = {}
+        tries = 0
+        while locks:
+            tries += 1
+            self._wait(locks, tries)
+            cells, locks = list(locks), {}
+            for cell, found in zip(cells, self._store.ask_each([Get(self.start, *cell) for cell in cells])):
+                if isinstance(found, Refused):
+                    raise found
+                if isinstance(found, Pending):
+                    locks[cell] = found.start
+                else:
+                    values[cell] = value_of(found)
+        return values
+
+    def _wait(self, locks: dict[Cell, int], tries: int) -> None:
+        """Waits for locks to go, and after so many tries cleans them, or gives up."""
         if tries < self._patience.tries:
             time.sleep(self._patience.pause)
         elif self._patience.cleans:
-            self._store.clean(cell.row, cell.family)
+            for cell in locks:
+                self._store.clean(*cell)
         else:
-            raise StillPending(cell, start)
+            raise StillPending(*next(iter(locks.items())))
 
     def set(self, row: bytes, family: bytes, value: bytes) -> None:
         """Writes a value to a cell, when the transaction commits. The first cell that is written is the primary.

@@ -3,10 +3,11 @@
 from __future__ import annotations
 
 import shlex
-from collections.abc import Callable, Iterable
+from collections.abc import Callable, Iterable, Sequence
 from contextlib import suppress
 from dataclasses import dataclass
 from pathlib import Path
+from typing import NamedTuple
 
 from duqishom.answers import (
     Cleaned,
@@ -159,21 +160,60 @@ def text_of_end(end: bytes | None) -> str:
 
 @dataclass(frozen=True)
 class Line:
-    """A line of the command: its words, what it does, and how it is done."""
+    """A line of the command: its words, what it does, how it is done, and whether all words behind the first one are taken as they
+    come."""
 
     usage: str
     help: str
     do: Callable[..., str]
+    is_open: bool = False
 
     def fits(self, words: list[str]) -> bool:
         """Whether these words are such a line: those in small letters as they stand, and any others in their places."""
         form = self.usage.split()
+        if self.is_open:
+            return form[0] == words[0]
         pairs = zip(form, words)
         return len(form) == len(words) and all(name.isupper() or name == word for name, word in pairs)
 
     def arguments(self, words: list[str]) -> list[str]:
         """The words that stand for something."""
+        if self.is_open:
+            return words[1:]
         return [word for name, word in zip(self.usage.split(), words) if name.isupper()]
+
+
+SCAN_HELP = "reads the cells from a row to a row, in a transaction; OPTIONS are --prefix ROW, --family FAMILY and --keys"
+
+
+class RangeWords(NamedTuple):
+    """The words of a range: its first row, its last one, a prefix and a family, where they are named, and whether keys alone are
+    asked for."""
+
+    start: bytes | None
+    end: bytes | None
+    prefix: bytes | None
+    family: bytes | None
+    keys: bool
+
+
+def range_words(words: Sequence[str]) -> RangeWords:
+    """A range, of the words of a line behind the first one."""
+    rows: list[bytes] = []
+    options: dict[str, bytes] = {}
+    left = list(words)
+    while left:
+        word = left.pop(0)
+        if word in ("--prefix", "--family") and left:
+            options[word] = bytes_of(left.pop(0))
+        elif word == "--keys":
+            options[word] = b""
+        elif word.startswith("--") or len(rows) == 2:
+            raise Misspelled("a range is [START [END]] [--prefix ROW] [--family FAMILY] [--keys]")
+        else:
+            rows.append(bytes_of(word))
+    start, end = [*rows, None, None][:2]
+    return RangeWords(start, end, options.get("--prefix"), options.get("--family"), "--keys" in options)
 
 
 class Words:
@@ -185,6 +225,8 @@ class Words:
             Line("set ROW FAMILY VALUE", "sets a cell, in a transaction", self.set),
             Line("get ROW FAMILY", "reads a cell, in a transaction", self.get),
             Line("delete ROW FAMILY", "deletes a cell, in a transaction", self.delete),
+            Line("scan [START [END]] [OPTIONS]", SCAN_HELP, self.scan, is_open=True),
+            Line("count [START [END]] [OPTIONS]", "how many cells such a range has", self.count, is_open=True),
             Line("transfer ROW ROW FAMILY AMOUNT", "moves an amount from one row to the other", self.transfer),
             Line("begin", "begins a session, and names its start", self.begin),
             Line("in START set ROW FAMILY VALUE", "buffers a write in the session", self.session_set),
@@ -273,6 +315,24 @@ class Words:
             return transaction
 
         return f"committed at {self._store.run(work).commit_stamp}"
+
+    def scan(self, *words: str) -> str:
+        """Reads the cells of a range, in a transaction: a line for each."""
+        start, end, prefix, family, keys = range_words(words)
+
+        def work(transaction: Transaction) -> list[str]:
+            if keys:
+                named = transaction.scan(start, end, prefix=prefix, family=family, keys=True)
+                return [f"{text_of(row)} {text_of(column)}" for row, column, _ in named]
+            cells = transaction.scan(start, end, prefix=prefix, family=family)
+            return [f"{text_of(row)} {text_of(column)} {text_of(value)}" for row, column, value in cells]
+
+        return "\n".join(self._store.run(work)) or "nothing"
+
+    def count(self, *words: str) -> str:
+        """How many cells of a range have a value."""
+        start, end, prefix, family, _ = range_words(words)
+        return str(self._store.run(lambda transaction: transaction.count(start, end, prefix=prefix, family=family)))
 
     def transfer(self, giver: str, taker: str, family: str, amount: str) -> str:
         """Moves an amount from one row to the other, in a transaction."""

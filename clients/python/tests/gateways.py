@@ -35,6 +35,11 @@ def get(start: bytes, row: bytes) -> bytes:
     return frame(b"\x02" + start + counted(row) + counted(COLUMN))
 
 
+def scan(start: bytes, bounds: bytes = b"\0\0\0", cells: int = 1000, keys: bytes = b"\0") -> bytes:
+    """A scan, by the bytes of its bounds: the cell behind which it begins, its last row, and its family."""
+    return frame(b"\x31" + start + keys + bounds + number(4, cells))
+
+
 def raw(row: bytes, column: int) -> bytes:
     return frame(b"\x11" + counted(row) + counted(COLUMN) + number(1, column) + number(8, 0) + number(8, (1 << 63) - 1))
 

@@ -11,6 +11,7 @@ import sys
 import threading
 import unittest
 
+from duqishom.gateway.passages import passages
 from tests.gateways import (
     BEGIN,
     COLLECT_BEGIN,
@@ -24,6 +25,7 @@ from tests.gateways import (
     get,
     of_tablet,
     raw,
+    scan,
     set_,
     stand_in,
     step,
@@ -34,6 +36,16 @@ from tests.pages import fenced
 UNKNOWN_SESSION, UNKNOWN_CLEANER, UNKNOWN_COLLECTOR = b"\xff\x01", b"\xff\x09", b"\xff\x0a"
 TOO_MANY, BAD_REQUEST, TOO_LARGE = b"\xff\x07", b"\xff\x16", b"\xff\x17"
 NOTHING = b"\x91\x00"
+
+# Where scans begin and end, and bytes that say no such thing.
+SCAN_BOUNDS = (
+    b"\0\0\0",
+    b"\1\0\0\0\1r\0\0\0\1c\0\0",
+    b"\0\1\0\0\0\1r\0",
+    b"\0\0\1\0\0\0\1c",
+    b"\1\0\0\0\1r\0\0\0\1c\1\0\0\0\1z\1\0\0\0\1c",
+)
+NO_SCAN_BOUNDS = (b"", b"\0\0", b"\0\0\0\0", b"\2\0\0", b"\0\2\0", b"\0\0\2", b"\1\0\0\0\1r\0\0", b"\0\1\0\0\0\2r\0")
 
 
 class Frames(unittest.TestCase):
@@ -123,6 +135,24 @@ class Frames(unittest.TestCase):
         self.assertEqual(gateway.wire().ask(BEGIN)[0], 0x81)
 
 
+class Weights(unittest.TestCase):
+    """What a request weighs before the program."""
+
+    def test_by_count(self) -> None:
+        table, one = passages(notes_reads=False), (1).to_bytes(8, "big")
+        for request, weight in (
+            (BEGIN, 1),
+            (scan(one, cells=1), 2),
+            (scan(one, SCAN_BOUNDS[4], 64), 65),
+            (scan(one, cells=1000), 1001),
+            (scan(one, cells=4_000_000_000), 1001),
+            (frame(b"\x31"), 1),
+            (collect_step(one, 10), 31),
+            (SWEEP, 2048),
+        ):
+            self.assertEqual(table[request[4]].weight_of(request[4:]), weight)
+
+
 class Belongings(unittest.TestCase):
     """Whose sessions, cleaners and collectors are, and how many."""
 
@@ -134,6 +164,11 @@ class Belongings(unittest.TestCase):
         self.assertEqual([wire.reply()[0] for _ in range(2)], [0x83, 0x84])
         for request in (set_(start, b"r", b"v"), get(start, b"r"), step(start), stop(start), self.delete(start, b"r")):
             self.assertEqual(other.ask(request), UNKNOWN_SESSION)
+        for bounds in SCAN_BOUNDS:
+            self.assertEqual(other.ask(scan(start, bounds)), UNKNOWN_SESSION)
+        for bounds in NO_SCAN_BOUNDS:
+            self.assertEqual(other.ask(scan(start, bounds)), BAD_REQUEST)
+        self.assertEqual(other.ask(scan(start, keys=b"\2")), BAD_REQUEST)
         self.assertEqual(other.ask(frame(b"\x04" + start + b"\0")), BAD_REQUEST)
         cleaner = wire.ask(clean_begin(b"r"))[2:10]
         self.assertEqual(other.ask(clean_step(cleaner)), UNKNOWN_CLEANER)

@@ -71,6 +71,29 @@ class Aio(unittest.TestCase):
 
         self.with_store(work)
 
+    def test_scans(self) -> None:
+        async def work(store: Store) -> None:
+            async with store.transaction() as t:
+                for number in range(1200):
+                    if number % 256 == 255:
+                        await t.commit()
+                        await t.begin()
+                    t.set(b"%04d" % number, FAMILY, b"%d" % number)
+            holder = await store.begin()
+            await store.set(holder, b"0001", FAMILY, b"1")
+            await store.step(holder)
+            async with store.transaction() as t:
+                t.delete(b"0002", FAMILY)
+                found = [(row, value) async for row, _, value in t.scan(b"0001", b"1100")]
+                self.assertEqual(found[:2], [(b"0001", b"1"), (b"0003", b"3")])
+                self.assertEqual((len(found), found[-1]), (1099, (b"1100", b"1100")))
+                self.assertEqual(await t.count(own=False), 1200)
+                keys = [entry async for entry in t.scan(prefix=b"000", family=FAMILY, keys=True)]
+                self.assertEqual((len(keys), keys[0]), (9, (b"0000", FAMILY, None)))
+
+        gateway = self.with_store(work)
+        self.assertEqual(gateway.statistics()["requests"]["Scan"], 5)
+
     def test_locks_and_fates(self) -> None:
         async def work(store: Store) -> None:
             start = await store.begin()

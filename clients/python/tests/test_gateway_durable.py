@@ -10,7 +10,7 @@ import time
 import unittest
 from contextlib import suppress
 
-from tests.gateways import Gateway, Wire, folder_of, get, stand_in, step, until
+from tests.gateways import Gateway, Wire, folder_of, get, scan, set_, stand_in, step, stop, until
 
 CLIENTS = 8
 SECONDS = 1.5
@@ -79,6 +79,34 @@ class Durable(unittest.TestCase):
         self.assertEqual(gateway.statistics()["checkpoints"], 1)
         self.assertEqual(writer.reply()[:2], COMMITTED)
         self.assertEqual(reader.reply(), b"\x82\x00")
+
+    def test_a_read_that_is_kept_back_ends_no_session(self) -> None:
+        gateway = Gateway(self, ["--dir", folder_of(self), "--durable"])
+        writer, reader = gateway.wire(), gateway.wire()
+        holder = writer.begin()
+        writer.send(set_(holder, b"r", b"v") + step(holder))
+        self.assertEqual([writer.reply() for _ in range(2)], [b"\x83", b"\x84\x01\0\x01\0\x01"])
+        start = reader.begin()
+        self.assertEqual(reader.ask(get(start, b"r")), b"\x82\x02" + holder)
+        self.assertEqual(gateway.statistics()["open"]["sessions"], 2)
+        self.assertEqual(reader.ask(get(start, b"s")), b"\x82\x00")
+        self.assertEqual(reader.ask(stop(start)), b"\x85")
+
+    def test_a_scan_waits_for_the_commits_that_it_may_show(self) -> None:
+        program = stand_in(
+            self,
+            "return (time.sleep(2) or b'\\x92') if body[0] == 18 else bytes((0xB1, 1, 0, 0, 0, 0)) if body[0] == 49 else"
+            " (time.sleep(1) or bytes((0x84, 4)) + bytes(7) + bytes((9,))) if body[0] == 4 else plain(body)",
+        )
+        gateway = Gateway(self, ["--program", program, "--dir", folder_of(self), "--durable"])
+        writer, reader = gateway.wire(), gateway.wire()
+        starts = [reader.begin() for _ in range(12)]
+        writer.send(step(writer.begin()))
+        self.assertTrue(until(lambda: gateway.statistics()["held"]["asked"] > 0))
+        reader.send(scan(starts[-1]) + stop(starts[-1]))
+        self.assertEqual(reader.reply(), b"\xb1\1\0\0\0\0")
+        self.assertEqual(gateway.statistics()["checkpoints"], 1)
+        self.assertEqual(writer.reply()[:2], COMMITTED)
 
     def test_a_refused_checkpoint_is_no_answer(self) -> None:
         program = stand_in(

@@ -54,6 +54,7 @@ from duqishom import (
     WrongPhase,
     read_record,
 )
+from duqishom.folders import tuned
 from duqishom.refusals import BY_NUMBER
 
 BOB, JOE, BAL = b"Bob", b"Joe", b"bal"
@@ -527,6 +528,8 @@ class Refusals(StoreTest):
         self.assertEqual(self.store.sweep(), 64)
 
     def test_full_memtable(self) -> None:
+        self.assert_ends()
+        self.store = Store(words=("--flush-bytes", "67108864"))
         for number in range(1022):
             self.commit(b"%d" % number, b"v" * 65_536)
         start = self.store.begin()
@@ -566,6 +569,25 @@ class Unasked(unittest.TestCase):
                 transaction.set(b"r", b"c", b"v")
             store.merge(1, 2)
             self.assertEqual(store.sweep(), 2)
+
+    def test_memtables_full_of_bytes(self) -> None:
+        with Store(words=("--flush-bytes", "1048576")) as store:
+            for number in range(32):
+                with store.transaction() as transaction:
+                    transaction.set(b"r%d" % number, b"c", bytes(65536))
+            store.merge(1, 2)
+            self.assertEqual(store.sweep(), 2)
+
+    def test_words_of_a_store(self) -> None:
+        table: list[tuple[list[str], bool, list[str]]] = [
+            ([], False, ["--flush-bytes", "33554432"]),
+            ([], True, ["--flush-bytes", "33554432", "--cache", "256"]),
+            (["--merge", "8"], False, ["--flush-bytes", "33554432", "--merge", "8"]),
+            (["--flush-bytes=1048576"], True, ["--cache", "256", "--flush-bytes=1048576"]),
+            (["--flush-bytes", "1048576", "--cache", "8"], True, ["--flush-bytes", "1048576", "--cache", "8"]),
+        ]
+        for words, has_folder, tuned_words in table:
+            self.assertEqual(tuned(words, has_folder), tuned_words)
 
     def test_many_files(self) -> None:
         with Store(words=("--flush", "2", "--merge", "3")) as store:

@@ -136,7 +136,7 @@ class Words(unittest.TestCase):
 
     def test_help(self) -> None:
         status, lines = answers("help\nquit\nfoo\n")
-        self.assertEqual((status, len(lines)), (0, 25))
+        self.assertEqual((status, len(lines)), (0, 27))
 
     def test_deletions(self) -> None:
         table = [
@@ -150,6 +150,27 @@ class Words(unittest.TestCase):
             ("raw Joe bal lock 0 9", "6: first cell Joe bal, a deletion"),
         ]
         self.assert_answered(table, 0)
+
+    def test_scans(self) -> None:
+        table = [
+            ("scan", "nothing"),
+            ("set Bob bal 10", "committed at 3"),
+            ("set Bob name 'Robert B.'", "committed at 5"),
+            ("set Joe bal 2", "committed at 7"),
+            ("set B\\x00b bal ''", "committed at 9"),
+            ("scan --family bal", "B\\x00b bal \nBob bal 10\nJoe bal 2"),
+            ("scan Bob Bob", "Bob bal 10\nBob name Robert\\x20B."),
+            ("scan --prefix B --keys Bo", "Bob bal\nBob name"),
+            ("count", "4"),
+            ("count C", "1"),
+            ("scan K L", "nothing"),
+            ("in 9 stop", "refused 1: UnknownSession: session 9: it has ended, or never began"),
+            ("scan a b c", "not done: a range is [START [END]] [--prefix ROW] [--family FAMILY] [--keys]"),
+            ("count --prefix", "not done: a range is [START [END]] [--prefix ROW] [--family FAMILY] [--keys]"),
+            ("scan --family a:b", "refused 4: BadColumn: family b'a:b': 1 to 64 bytes of 21 to 7E without ':'"),
+        ]
+        lines = "\n".join(line for line, _ in table)
+        self.assertEqual(answers(lines), (1, "\n".join(answer for _, answer in table).splitlines()))
 
     def test_one_shot(self) -> None:
         with tempfile.TemporaryDirectory() as folder:

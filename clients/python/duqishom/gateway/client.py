@@ -175,7 +175,7 @@ class Client(asyncio.BufferedProtocol):
         if passage.opens is not None:
             self.counts[passage.opens] += 1
         name = bytes(self.waiting[at + HEAD + 1 : at + HEAD + NAME_END])
-        weight = passage.weight if passage.weight_in is None else passage.weight_of(self.body(at, end))
+        weight = passage.weight_of(self.body(at, end)) if passage.weight_each else passage.weight
         return Run(self, passage, name, 1, weight, passage.room)
 
     def _send(self, at: int, runs: list[Run]) -> None:

@@ -43,7 +43,9 @@ def parser() -> argparse.ArgumentParser:
     words.add_argument("--program", help="the tabletd to start")
     words.add_argument("--dir", help="the folder of the store: a new store in memory where none is named")
     words.add_argument("--flush", metavar="N", help="entries of a memtable before it is compacted")
+    words.add_argument("--flush-bytes", metavar="B", help="bytes of a memtable's entries before it is compacted too")
     words.add_argument("--merge", metavar="M", help="files of a tablet before newest ones are merged")
+    words.add_argument("--cache", metavar="C", help="blocks of each file that stay in memory")
     words.add_argument("--durable", action="store_true", help="answer a commit once a checkpoint has it (with --dir)")
     words.add_argument("--checkpoint", metavar="SECONDS", type=float, default=0, help="the time between two checkpoints (none)")
     words.add_argument("--leave", action="store_true", help="leave what a dead client had open as it is")
@@ -60,8 +62,8 @@ def parser() -> argparse.ArgumentParser:
 def service_of(options: argparse.Namespace) -> Service:
     """The gateway that the words ask for."""
     command = [options.program or default_program()]
-    for word in ("dir", "flush", "merge"):
-        given = getattr(options, word)
+    for word in ("dir", "flush", "flush-bytes", "merge", "cache"):
+        given = getattr(options, word.replace("-", "_"))
         command += [] if given is None else [f"--{word}", given]
     rules = Rules(
         has_folder=options.dir is not None,

@@ -8,7 +8,7 @@ import time
 from pathlib import Path
 from typing import TYPE_CHECKING
 
-from duqishom.gateway.passages import STATISTICS, STATISTICS_REPLY, frame
+from duqishom.gateway.passages import SCAN, STATISTICS, STATISTICS_REPLY, frame
 
 if TYPE_CHECKING:
     from duqishom.gateway.exchange import Exchange
@@ -58,6 +58,7 @@ class Counts:
     def by_name(self) -> dict[str, int]:
         """How many requests of each operation clients have sent."""
         known = {name: self.requests[code] for code, name in enumerate(NAMES, start=1)}
+        known["Scan"] = self.requests[SCAN]
         known["Statistics"] = self.requests[STATISTICS]
         known["other"] = sum(self.requests) - sum(known.values())
         return known

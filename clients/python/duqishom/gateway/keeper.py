@@ -8,7 +8,7 @@ from contextlib import suppress
 from typing import TYPE_CHECKING
 
 from duqishom.gateway.household import Household, body_of
-from duqishom.gateway.passages import CHECKPOINT, GET, RAW, SWEEP, TOO_MANY_FILES, frame
+from duqishom.gateway.passages import CHECKPOINT, GET, RAW, SCAN, SWEEP, TOO_MANY_FILES, frame
 from duqishom.gateway.things import CODE, COMMITTED, CONFLICT, FIELDS, FINISHED, TAG
 from duqishom.gateway.upstream import Run
 from duqishom.program import ProgramEnded
@@ -29,7 +29,7 @@ class Keeper:
     The program does one request after the other, so a checkpoint keeps all commits that were answered before it. From an
     answered commit on to the next answered checkpoint there are commits that aren't kept: the first of them is at `unkept`.
     Meanwhile these replies wait, and all that come behind them for the same client: of a commit and its steps after it, of a
-    Conflict, of a cleaner, of a raw read, and of a Get in a session that began after the first commit that isn't kept.
+    Conflict, of a cleaner, of a raw read, and of a Get or a Scan in a session that began after the first commit that isn't kept.
     """
 
     def __init__(self, household: Household, is_durable: bool) -> None:
@@ -64,7 +64,7 @@ class Keeper:
         """Whether a reply shows a commit that isn't kept, or may."""
         if self.unkept is None:
             return False
-        if run.passage.code == GET:
+        if run.passage.code in (GET, SCAN):
             return run.name > self.unkept
         if reply[CODE] == STEP_REPLY:
             return reply[TAG] in (COMMITTED, FINISHED, CONFLICT)

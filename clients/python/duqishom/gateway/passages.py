@@ -14,14 +14,17 @@ HEAD = 4
 NAME = 8
 NAME_END = 1 + NAME
 
-# The most weight that the program may have before it, which one request may exceed: a cheap request weighs 1, a visit of a
-# collector 3, and whatever writes files weighs as much as all. One asker's turn ends with the lesser weight.
+# The most weight that the program may have before it, which one request may exceed: a cheap request and a cell of a scan weigh
+# 1, a visit of a collector 3, and whatever writes files weighs as much as all. One asker's turn ends with the lesser weight.
 MOST_WEIGHT = 2048
 TURN_WEIGHT = 64
 VISIT_WEIGHT = 3
-MOST_VISITS = 1000
+CELL_WEIGHT = 1
 
-# The longest reply frames: of a read, of a collector that is blocked, and of all others.
+# The most visits of a collector's step, and the most cells of a scan.
+MOST_COUNT = 1000
+
+# The longest reply frames: of a read or a scan, of a collector that is blocked, and of all others.
 READ_ROOM = 65_558
 BLOCKED_ROOM = 4_085
 SMALL_ROOM = 32
@@ -42,6 +45,10 @@ BAD_REQUEST, TOO_LARGE, TOO_MANY = refusal(22), refusal(23), refusal(7)
 
 BEGIN, GET, SET, STEP, STOP, CLEAN_BEGIN, CLEAN_STEP, COLLECT_BEGIN, COLLECT_STEP = range(1, 10)
 MINOR, MERGE, MAJOR, SPLIT, MOVE, SWEEP, ORACLE_RESTART, RAW, CHECKPOINT, DELETE = range(10, 20)
+SCAN = 0x31
+
+# The operations whose answers show what was committed, of sessions and of none.
+READS = (GET, RAW, SCAN)
 
 # The one request that the gateway answers itself. The program refuses it as no request.
 STATISTICS = 0x70
@@ -61,9 +68,10 @@ UNKNOWN = (refusal(1), refusal(9), refusal(10))
 
 @dataclass(frozen=True, slots=True)
 class Passage:
-    """An operation as it passes: its number, its weight, the room that its reply may take, what it names or opens, how many
-    counted fields and other bytes stand behind that, where visits stand that it weighs by, whether its reply is looked at,
-    whether it is for the socket of the administrator, and whether the gateway may answer it."""
+    """An operation as it passes: its number, its weight, the room that its reply may take, what it names or opens, what stands
+    behind that (so many counted fields, so many bytes that are 00 or 01, so many counted fields behind each byte 01 in place of
+    a 00, and other bytes), how much each weighs that its last number counts, whether its reply is looked at, whether it is for
+    the socket of the administrator, and whether the gateway may answer it."""
 
     code: int
     weight: int = 1
@@ -71,27 +79,44 @@ class Passage:
     names: Kind | None = None
     opens: Kind | None = None
     counted: int = 0
+    flags: int = 0
+    options: tuple[int, ...] = ()
     tail: int = 0
-    weight_in: int | None = None
+    weight_each: int = 0
     is_noted: bool = False
     is_for_admin: bool = False
     is_judged: bool = False
 
     def has_form(self, body: bytes) -> bool:
         """Whether a body has the fields of this operation, and ends where they end."""
-        at = 1 if self.names is None else NAME_END
-        for _ in range(self.counted):
-            if len(body) < at + HEAD:
-                return False
-            at += HEAD + int(LENGTH.unpack_from(body, at)[0])
+        at = past_counted(body, 1 if self.names is None else NAME_END, self.counted)
+        for _ in range(self.flags):
+            at = at + 1 if body[at : at + 1] in FLAGS else NOWHERE
+        for count in self.options:
+            is_there = body[at : at + 1] in FLAGS
+            at = past_counted(body, at + 1, count * body[at]) if is_there else NOWHERE
         return len(body) == at + self.tail
 
     def weight_of(self, body: bytes) -> int:
         """The weight of a request with this body."""
-        if self.weight_in is None or len(body) < self.weight_in + LENGTH.size:
+        if self.weight_each == 0 or len(body) < NAME_END + LENGTH.size:
             return self.weight
-        visits = int(LENGTH.unpack_from(body, self.weight_in)[0])
-        return 1 + VISIT_WEIGHT * min(visits, MOST_VISITS)
+        count = int(LENGTH.unpack_from(body, len(body) - LENGTH.size)[0])
+        return 1 + self.weight_each * min(count, MOST_COUNT)
+
+
+# What a byte of two values is, and a place behind the end of any body.
+FLAGS = (b"\0", b"\1")
+NOWHERE = 1 << 32
+
+
+def past_counted(body: bytes, at: int, count: int) -> int:
+    """Where so many counted fields of a body end that begin here: behind its end where they aren't there."""
+    for _ in range(count):
+        if len(body) < at + HEAD:
+            return NOWHERE
+        at += HEAD + int(LENGTH.unpack_from(body, at)[0])
+    return at
 
 
 def of_session(code: int, counted: int = 0, room: int = SMALL_ROOM, is_noted: bool = False) -> Passage:
@@ -104,17 +129,31 @@ def of_files(code: int) -> Passage:
     return Passage(code, weight=MOST_WEIGHT, is_for_admin=True, is_noted=True)
 
 
+# Its fields are whether keys alone are asked for, the cell behind which it begins, its last row, its family, and how many cells
+# are looked at.
+SCANNING = Passage(
+    SCAN,
+    room=READ_ROOM,
+    names=Kind.SESSION,
+    flags=1,
+    options=(2, 1, 1),
+    tail=4,
+    weight_each=CELL_WEIGHT,
+    is_noted=True,
+)
+
 KNOWN = (
     Passage(BEGIN, opens=Kind.SESSION, is_noted=True),
     of_session(GET, counted=2, room=READ_ROOM),
     of_session(SET, counted=3),
     of_session(DELETE, counted=2),
+    SCANNING,
     of_session(STEP, is_noted=True),
     of_session(STOP, is_noted=True),
     Passage(CLEAN_BEGIN, opens=Kind.CLEANER, counted=2, is_noted=True),
     Passage(CLEAN_STEP, names=Kind.CLEANER, is_noted=True),
     Passage(COLLECT_BEGIN, opens=Kind.COLLECTOR, is_noted=True),
-    Passage(COLLECT_STEP, names=Kind.COLLECTOR, tail=4, weight_in=NAME_END, room=BLOCKED_ROOM, is_noted=True),
+    Passage(COLLECT_STEP, names=Kind.COLLECTOR, tail=4, weight_each=VISIT_WEIGHT, room=BLOCKED_ROOM, is_noted=True),
     Passage(RAW, room=READ_ROOM),
     *(of_files(code) for code in (MINOR, MERGE, MAJOR, SPLIT, MOVE, SWEEP, ORACLE_RESTART, CHECKPOINT)),
 )
@@ -124,7 +163,7 @@ def passages(notes_reads: bool) -> tuple[Passage, ...]:
     """The passage of each first byte of a body. Replies to reads are looked at where that is asked for."""
     table = [Passage(code) for code in range(256)]
     for passage in KNOWN:
-        is_noted = passage.is_noted or (notes_reads and passage.code in (GET, RAW))
+        is_noted = passage.is_noted or (notes_reads and passage.code in READS)
         is_judged = passage.names is not None or passage.opens is not None or passage.is_for_admin
         table[passage.code] = replace(passage, is_noted=is_noted, is_judged=is_judged)
     table[STATISTICS] = replace(table[STATISTICS], is_judged=True)

@@ -4,7 +4,7 @@ from __future__ import annotations
 
 from typing import Protocol
 
-from duqishom.gateway.passages import HEAD, NAME, PLACES, STOP, Kind, Passage
+from duqishom.gateway.passages import HEAD, NAME, PLACES, STEP, STOP, Kind, Passage
 
 # Where the first byte of a reply's body stands in its frame, its tag or refusal, and the fields behind that.
 CODE, TAG, FIELDS = HEAD, HEAD + 1, HEAD + 2
@@ -80,7 +80,7 @@ class Things:
             return reply[TAG] != DECIDED
         if thing.kind == Kind.COLLECTOR:
             return reply[TAG] == COLLECTED
-        return passage.code == STOP or has_ended_by_step(thing, reply)
+        return passage.code == STOP or (passage.code == STEP and has_ended_by_step(thing, reply))
 
 
 def opened(kind: Kind, reply: bytes) -> bytes | None:

@@ -1,0 +1,96 @@
+"""Cells, the limits of their names, and ranges of cells."""
+
+from __future__ import annotations
+
+import re
+from dataclasses import dataclass, replace
+from typing import NamedTuple
+
+from duqishom.answers import Pending, Scanned, Unsent, Value
+from duqishom.fields import bytes_argument
+from duqishom.operations import named
+from duqishom.refusals import BadColumn, BadRow
+from duqishom.texts import text_of
+
+LONGEST_ROW = 4000
+FAMILY = re.compile(rb"[!-9;-~]{1,64}")
+
+# No family comes behind this one.
+LAST_FAMILY = b"~" * 64
+
+
+class Cell(NamedTuple):
+    """A row and a family. Cells stand in the order of their rows, and those of a row in the order of their families."""
+
+    row: bytes
+    family: bytes
+
+    def __str__(self) -> str:
+        return f"{text_of(self.row)} {text_of(self.family)}"
+
+
+@dataclass(frozen=True)
+class CellRange:
+    """The cells behind a cell, up to and with a row, of one family or of all."""
+
+    after: Cell | None
+    end: bytes | None
+    family: bytes | None
+
+    def has(self, cell: Cell) -> bool:
+        """Whether a cell is in the range."""
+        is_before_end = self.end is None or cell.row <= self.end
+        is_of_family = self.family is None or cell.family == self.family
+        return is_before_end and is_of_family and (self.after is None or self.after < cell)
+
+    def behind(self, cell: Cell) -> CellRange:
+        """What is left of the range behind a cell."""
+        return replace(self, after=cell)
+
+
+def range_of(start: bytes | None, end: bytes | None, prefix: bytes | None, family: bytes | None) -> CellRange:
+    """The range from a row up to another one, both included, of the rows that begin with a prefix, and of a family; what isn't
+    given bounds nothing. A row `start` and a prefix may have no bytes.
+
+    BadRow and BadColumn, as the store would refuse it.
+    """
+    start, end = row_argument("start", start, 0), row_argument("end", end, 1)
+    prefix = row_argument("prefix", prefix, 0)
+    if family is not None and not FAMILY.fullmatch(family := bytes_argument("family", family)):
+        raise BadColumn(named("family", family))
+    if prefix is not None:
+        last = prefix.ljust(LONGEST_ROW, b"\xff")
+        start = prefix if start is None else max(start, prefix)
+        end = last if end is None else min(end, last)
+    return CellRange(None if start is None else last_before(start), end, family)
+
+
+def row_argument(name: str, row: bytes | None, shortest: int) -> bytes | None:
+    """A row that was given for this argument, where one was. BadRow where it is shorter than this, or too long."""
+    if row is None:
+        return None
+    if not shortest <= len(row := bytes_argument(name, row)) <= LONGEST_ROW:
+        raise BadRow(named(name, row))
+    return row
+
+
+def last_before(row: bytes) -> Cell | None:
+    """The last cell that may stand before those of a row: None if none may."""
+    if row == b"" or row == b"\0":
+        return None
+    shorter, last = row[:-1], row[-1]
+    return Cell(shorter if last == 0 else (shorter + bytes([last - 1])).ljust(LONGEST_ROW, b"\xff"), LAST_FAMILY)
+
+
+def entries_of(scanned: Scanned, writes: dict[Cell, bytes | None]) -> dict[Cell, Value | Pending | Unsent]:
+    """What a scan found, in order, as a transaction with these writes in the rest of the range sees it: what it has set in place
+    of what was there, and nothing of what it has deleted. The writes that the scan has gone over are taken out."""
+    found = {Cell(item.row, item.family): item.found for item in scanned.items}
+    mine = [cell for cell in writes if scanned.upto is None or cell <= scanned.upto]
+    for cell in mine:
+        value = writes.pop(cell)
+        if value is None:
+            found.pop(cell, None)
+        else:
+            found[cell] = Value(value)
+    return {cell: found[cell] for cell in sorted(found)} if mine else found
