@@ -11,6 +11,9 @@ Exchange = tuple[bytes, bytes]
 # A row and the value that is set there.
 Write = tuple[bytes, bytes]
 
+# The most cells that a scan looks at, and the most bytes of what it names.
+MOST_CELLS, MOST_BYTES = 1000, 61_440
+
 MINOR: Exchange = b"\x0a\0\0\0\x01", b"\x8a"
 MAJOR: Exchange = b"\x0c\0\0\0\x01", b"\x8c"
 CHECKPOINT: Exchange = b"\x12", b"\x92"
@@ -70,6 +73,43 @@ def stop(start: int) -> Exchange:
 def get(start: int, row: bytes, value: bytes | None) -> Exchange:
     """Reads a cell, which has this value or none."""
     return b"\x02" + stamp(start) + cell(row), b"\x82\0" if value is None else b"\x82\x01" + field(value)
+
+
+def item(write: Write) -> bytes:
+    """What a scan says of a cell that has a value."""
+    row, value = write
+    return cell(row) + b"\x01" + field(value)
+
+
+def scan(start: int, after: bytes | None, found: Sequence[Write], is_last: bool) -> Exchange:
+    """Reads cells behind that of a row, or from the first one on. It finds these, and all that there are if it is the last one."""
+    behind = b"\0" if after is None else b"\x01" + cell(after)
+    reach = b"\x01" if is_last else b"\x02" + cell(found[-1][0])
+    request = b"\x31" + stamp(start) + b"\0" + behind + b"\0\0" + struct.pack(">I", MOST_CELLS)
+    return request, b"\xb1" + reach + struct.pack(">I", len(found)) + b"".join(map(item, found))
+
+
+def scans(start: int, writes: Sequence[Write]) -> Iterator[Exchange]:
+    """Reads all cells, which are these in their order, by as few scans as can be."""
+    at, after, is_last = 0, None, False
+    while not is_last:
+        found = batch(writes, at)
+        at += len(found)
+        is_last = at == len(writes) and len(found) < MOST_CELLS
+        yield scan(start, after, found, is_last)
+        after = found[-1][0] if found else after
+
+
+def batch(writes: Sequence[Write], at: int) -> list[Write]:
+    """What one scan finds of these cells from a place on."""
+    found: list[Write] = []
+    size = 0
+    for write in writes[at : at + MOST_CELLS]:
+        size += len(item(write))
+        if size > MOST_BYTES:
+            break
+        found.append(write)
+    return found
 
 
 def split(row: bytes, tablet: int) -> Exchange:

@@ -10,6 +10,7 @@ from benchmark.requests import (
     MAJOR,
     MINOR,
     Exchange,
+    Write,
     begin,
     begin_clean,
     begin_collect,
@@ -21,6 +22,7 @@ from benchmark.requests import (
     hold,
     put,
     roll_forward,
+    scans,
     split,
     stamps_of,
     stop,
@@ -42,7 +44,8 @@ Found = tuple[bytes, bytes | None]
 
 
 class Shape(NamedTuple):
-    """A stream of requests by its size, and the store that it is sent to."""
+    """A stream of requests by its size, and the store that it is sent to. The figures are those of a request, or of a row, of
+    which the size says how many there are."""
 
     size: int
     what: str
@@ -51,6 +54,7 @@ class Shape(NamedTuple):
     words: tuple[str, ...] = ()
     is_folder: bool = False
     is_opening: bool = False
+    is_by_row: bool = False
 
 
 def short_value(number: int) -> bytes:
@@ -194,6 +198,27 @@ def rows_in_files(count: int) -> Iterator[Exchange]:
             yield MINOR
 
 
+def ordered_writes(count: int) -> list[Write]:
+    """Rows in their order, each with its value."""
+    return [(b"row%06d" % number, short_value(number)) for number in range(count)]
+
+
+def rows_in_one_file(count: int) -> Iterator[Exchange]:
+    """The same rows, set in a random order and in transactions of 100, and then written to one file."""
+    writes = ordered_writes(count)
+    random.Random(1).shuffle(writes)
+    for number, first in enumerate(range(0, count, 100)):
+        yield from transaction(number, writes[first : first + 100])
+    yield MAJOR
+
+
+def all_scans(count: int) -> Iterator[Exchange]:
+    """Reads all these rows in one session."""
+    start = next_start(-(-count // 100))
+    yield begin(start)
+    yield from scans(start, ordered_writes(count))
+
+
 def present(rows: list[bytes], number: int) -> Found:
     """A row that is there, and its value."""
     return rows[number], middle_value(number)
@@ -289,6 +314,20 @@ SHAPES = {
         loaded=rows_in_files,
         words=LARGE_MEMTABLE,
     ),
+    "cached": Shape(
+        48_000,
+        "the same as get48, with --cache 256",
+        lambda size: gets(size, next_start(size), present),
+        loaded=rows_in_files,
+        words=(*LARGE_MEMTABLE, "--cache", "256"),
+    ),
+    "scan": Shape(
+        100_000,
+        "N rows of one file, by scans of 1,000 cells; its figures are those of a row, and not of a request",
+        all_scans,
+        loaded=rows_in_one_file,
+        is_by_row=True,
+    ),
     "folder": Shape(
         48_000,
         "N Gets as those of get48, in a folder",
@@ -305,5 +344,6 @@ SHAPES = {
         words=LARGE_MEMTABLE,
         is_folder=True,
         is_opening=True,
+        is_by_row=True,
     ),
 }

@@ -1,0 +1,86 @@
+// leveldb_scan FOLDER COUNT: writes the rows of the shape scan into a new store of LevelDB, as one sorted run, and reads all of
+// them by an iterator over a snapshot, with checksums. It prints the processor seconds of that one pass.
+#include <cstdio>
+#include <cstdlib>
+#include <ctime>
+#include <memory>
+#include <string>
+
+#include <leveldb/db.h>
+#include <leveldb/write_batch.h>
+
+namespace {
+
+// How many rows are written, or read into one buffer, at once.
+constexpr int kBatch = 1000;
+
+double ProcessorSeconds() {
+  timespec now;
+  clock_gettime(CLOCK_PROCESS_CPUTIME_ID, &now);
+  return now.tv_sec + now.tv_nsec * 1e-9;
+}
+
+void Check(bool is_well, const char* what) {
+  if (!is_well) {
+    std::fprintf(stderr, "leveldb_scan: %s\n", what);
+    std::exit(1);
+  }
+}
+
+std::string Text(const char* form, int number) {
+  char text[32];
+  std::snprintf(text, sizeof text, form, number);
+  return text;
+}
+
+void Write(leveldb::DB* db, int count) {
+  for (int first = 0; first < count; first += kBatch) {
+    leveldb::WriteBatch batch;
+    for (int number = first; number < count && number < first + kBatch; number++) {
+      batch.Put(Text("row%06d", number), Text("%08d", number));
+    }
+    Check(db->Write(leveldb::WriteOptions(), &batch).ok(), "a write failed");
+  }
+  db->CompactRange(nullptr, nullptr);
+}
+
+// Reads all rows, into a buffer for each so many of them, and gives how many there are.
+int Read(leveldb::DB* db) {
+  leveldb::ReadOptions options;
+  options.verify_checksums = true;
+  options.snapshot = db->GetSnapshot();
+  std::unique_ptr<leveldb::Iterator> at(db->NewIterator(options));
+  std::string buffer;
+  int count = 0;
+  for (at->SeekToFirst(); at->Valid(); at->Next()) {
+    if (count % kBatch == 0) buffer.clear();
+    buffer.append(at->key().data(), at->key().size());
+    buffer.append(at->value().data(), at->value().size());
+    count++;
+  }
+  Check(at->status().ok(), "a read failed");
+  const std::string last = Text("row%06d", count - 1) + Text("%08d", count - 1);
+  Check(buffer.size() >= last.size() && buffer.substr(buffer.size() - last.size()) == last, "the last row is another one");
+  at.reset();
+  db->ReleaseSnapshot(options.snapshot);
+  return count;
+}
+
+}  // namespace
+
+int main(int argc, char** argv) {
+  Check(argc == 3, "usage: leveldb_scan FOLDER COUNT");
+  const int count = std::atoi(argv[2]);
+  leveldb::Options options;
+  options.create_if_missing = true;
+  options.error_if_exists = true;
+  leveldb::DB* opened = nullptr;
+  Check(leveldb::DB::Open(options, argv[1], &opened).ok(), "the folder can't be opened");
+  std::unique_ptr<leveldb::DB> db(opened);
+  Write(db.get(), count);
+  const double before = ProcessorSeconds();
+  const int found = Read(db.get());
+  const double after = ProcessorSeconds();
+  Check(found == count, "rows are missing");
+  std::printf("%.9f\n", after - before);
+}
