@@ -4,12 +4,14 @@ pub mod Clusters
 pub mod Commands
 pub mod Compactions
 pub mod Flushes
+pub mod Journals
 pub mod Laws
 pub mod ListRoom
 pub mod Memtables
 pub mod Oldest
 pub mod Open
 pub mod PlaceCaches
+pub mod Recorded
 pub mod Refusals
 pub mod Room
 pub mod Roots
