@@ -10,6 +10,7 @@ pub mod Memtables
 pub mod Oldest
 pub mod Open
 pub mod PlaceCaches
+pub mod ReadableLaw
 pub mod Refusals
 pub mod Room
 pub mod Roots
