@@ -7,14 +7,15 @@ use Rattle.cell_key.specs.declared.refusals.Refusal.{Refusal}
 use Rattle.cell_key.specs.declared.refusals.Refusal.TheVariants.{Damaged, Device, NoMemory}
 use Rattle.file_store.specs.Store.{Contents}
 use Rattle.sorted_file.specs.Source as sources
-use Rattle.tablet.specs.Views.{IsSameTablet}
+use Rattle.tablet.specs.Views.{Holds, IsSameTablet}
 use Rattle.tablet.specs.declared.tablet.Tablet.{Tablet}
-use Rattle.row_atomic.specs.Calls.{Applies, AppliesSuch, KeepsBelow, OnlyReads, View}
-use Rattle.row_atomic.specs.Clusters.{ClusterState, InOrder, Overfills, cells_in, storage_of}
+use Rattle.row_atomic.specs.Calls.{Applies, AppliesSuch, KeepsBelow, OnlyReads, StaysReadable, View, seen_of}
+use Rattle.row_atomic.specs.Clusters.{ClusterState, InOrder, IsReadable, Overfills, cells_in}
 use Rattle.row_atomic.specs.Refusals.{IsReadRefusal, IsRefusalOfRead}
 use Rattle.row_atomic.proofs.RowAnswers.{read_kept, read_still}
 use Rattle.row_atomic.proofs.CompactionRoom.{room_same}
 use Rattle.row_atomic.proofs.PlacedTablets.{set_same}
+use Rattle.row_atomic.proofs.Readable.{over_any, read_stays, readable_set}
 
 module _ {R : Type 0} {seen : View R} where
   pub keeps_then : {a b c : R} → KeepsBelow seen a b → KeepsBelow seen b c → KeepsBelow seen a c
@@ -23,12 +24,13 @@ module _ {R : Type 0} {seen : View R} where
 module _ {R : Type 0} {seen : View R} where
   -- nothing is changed where nothing is called
   pub reads_none : {rows : R} → OnlyReads seen rows rows
-  reads_none = record { still = λ held. held; kept = refl; room = λ row later full. full; stays = refl }
+  reads_none = record { still = λ held. held; readable = λ row whole. whole; kept = refl; room = λ row later full. full; stays = refl }
 
   -- nor by a read after a read
   pub reads_then : {a b c : R} → OnlyReads seen a b → OnlyReads seen b c → OnlyReads seen a c
   reads_then first second = record {
     still = λ held. second.still (first.still held);
+    readable = λ row whole. second.readable row (first.readable row whole);
     kept = second.kept ∙ first.kept;
     room = λ row later full. first.room row later (second.room row later full);
     stays = second.stays ∙ first.stays;
@@ -45,6 +47,7 @@ module _ {R : Type 0} {seen : View R} where
   pub applies_after : {edits : List Edit} {a b c : R} → OnlyReads seen a b → Applies seen edits b c → Applies seen edits a c
   applies_after {edits} reads applies = record {
     still = λ held. applies.still (reads.still held);
+    readable = λ row whole. applies.readable row (reads.readable row whole);
     made = λ held. applies.made (reads.still held) ∙ ap (λ (cs : Cells). after_edits cs edits) reads.kept;
     room = λ row later full. elim (applies.room row later full) [
       | inl before ↦ inl (reads.room row later before)
@@ -102,7 +105,7 @@ module _ {F : Type 0} (contents : F → Option Contents) (state : ClusterState F
   IsOver cluster row edits = Overfills cluster.places cluster.tablets row edits
 
   abbrev shown : View (ClusterState F)
-  shown = record { holds = IsOrdered; cells = cells_shown; overfills = IsOver; storage = storage_of contents }
+  shown = seen_of contents
 
   abbrev with_tablet : ℕ → Tablet → ClusterState F
   with_tablet i u = record state { tablets = set state.tablets i u }
@@ -116,18 +119,25 @@ module _ {F : Type 0} (contents : F → Option Contents) (state : ClusterState F
       → OnlyReads shown state (record state { files = files; tablets = set state.tablets i u })
   tablet_read i t u files there stays same = record {
     still = read_still (contents state.files) (contents files) state.next_name state.tablets i t u there stays same;
+    readable = λ row whole. subst (λ (o : Option Contents). IsReadable o state.places (set state.tablets i u) row) (sym same)
+        (readable_set (contents state.files) state.places state.tablets i t u there (read_stays (contents state.files) t u stays) row whole);
     kept = read_kept (contents state.files) (contents files) state.next_name state.tablets i t u there stays same;
     room = λ row later. room_same state.places state.tablets i t u there stays.range stays.memory row later;
     stays = λ k. record { disk = same k; file_limit = state.file_limit; next_name = state.next_name; places = state.places };
   }
 
+  -- what was readable still is after edits of a tablet
+  pub readable_in : (i : ℕ) (t u : Tablet) → slice_get state.tablets i ≡ Some t → {A : Type 0} (r : Result A Refusal) → OnOk r ((m : Contents) → Holds m t → Holds m u) → OnOk r (StaysReadable shown state (with_tablet i u))
+  readable_in i t u there (Err e) stays = tt
+  readable_in i t u there (Ok x) stays = readable_set (contents state.files) state.places state.tablets i t u there (over_any (contents state.files) t u stays)
+
   -- one in which edits were made
-  pub applied_in : (i : ℕ) (u : Tablet) (edits : List Edit) {A : Type 0} (r : Result A Refusal) → (IsOrdered state → IsOrdered (with_tablet i u))
+  pub applied_in : (i : ℕ) (u : Tablet) (edits : List Edit) {A : Type 0} (r : Result A Refusal) → (IsOrdered state → IsOrdered (with_tablet i u)) → OnOk r (StaysReadable shown state (with_tablet i u))
       → (IsOrdered state → OnOk r (cells_shown (with_tablet i u) ≡ after_edits (cells_shown state) edits))
       → OnOk r ((row : List ℕ) (later : List Edit) → IsOver (with_tablet i u) row later → IsOver state row later ⊎ IsOver state row (edits ++ later))
       → OnOk r (Applies shown edits state (with_tablet i u))
-  applied_in i u edits (Err e) still made room = tt
-  applied_in i u edits (Ok x) still made room = record { still = still; made = made; room = room; stays = refl }
+  applied_in i u edits (Err e) still readable made room = tt
+  applied_in i u edits (Ok x) still readable made room = record { still = still; readable = readable; made = made; room = room; stays = refl }
 
 -- what a tablet's read is refused with, that of the cluster is
 pub refused_read : {A : Type 0} (Holds : Type 0) (r : Result A Refusal) → (Holds → ¬ IsErrOf r Damaged) → IfErr r sources.IsReadRefusal → IfErr r (IsRefusalOfRead Holds)

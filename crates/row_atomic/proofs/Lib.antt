@@ -27,12 +27,14 @@ pub mod Nexts
 pub mod Numbers
 pub mod OpenedRoots
 pub mod Outcomes
+pub mod OutsideRange
 pub mod Owners
 pub mod Parts
 pub mod PassedRefusals
 pub mod PlaceCaches
 pub mod PlacedTablets
 pub mod Places
+pub mod Readable
 pub mod RestedClusters
 pub mod RootFlushes
 pub mod RowAnswers

@@ -18,7 +18,6 @@ use Rattle.tablet.specs.declared.tablet.Tablet.{Tablet}
 use Rattle.metadata_table.specs.Places.{PlaceView, view_of, views}
 use Rattle.metadata_table.specs.Table.{IsTable}
 use Rattle.metadata_table.specs.declared.places.Place.{Place as Spot}
-use Rattle.tablet.specs.Laws.{StaysInRange}
 use Rattle.tablet.specs.Views.{Holds, cells_at, range_of}
 use Rattle.row_atomic.specs.Changes.{HasNoMore, Passes}
 use Rattle.row_atomic.specs.Clusters.{ArePlaced, cells_in, tablet_numbered}
@@ -125,7 +124,7 @@ pub record HasScanned (m : Contents) (ts : List Tablet) (start : Option Place) (
   pub begins : BeginBehind ts (last_or None found) rest
   pub passed : length found < most → AllByRecursion (NoneAfter m ts (last_or start found)) before
 
-module _ (law : StaysInRange) (m : Contents) (ts : List Tablet) (holds : AllByRecursion (Holds m) ts) (pre : List PlaceView) (p : PlaceView) (post : List PlaceView) (t : Tablet) (table : IsTable (pre ++ p ∷ post)) (as_many : length ts ≡ length (pre ++ p ∷ post)) (placed : ArePlaced ts None (pre ++ p ∷ post)) (numbered : tablet_numbered p.tablet ts ≡ Some t) where
+module _ (m : Contents) (ts : List Tablet) (pre : List PlaceView) (p : PlaceView) (post : List PlaceView) (t : Tablet) (table : IsTable (pre ++ p ∷ post)) (as_many : length ts ≡ length (pre ++ p ∷ post)) (placed : ArePlaced ts None (pre ++ p ∷ post)) (numbered : tablet_numbered p.tablet ts ≡ Some t) where
   abbrev whole : Cells
   whole = cells_in (Some m) ts
 
@@ -138,7 +137,7 @@ module _ (law : StaysInRange) (m : Contents) (ts : List Tablet) (holds : AllByRe
   tablet_next most start (f ∷ more) passed next =
       let fewer : length more ≡ length (f ∷ more) - 1 = omega arith in (
         omega arith,
-        found_next law m ts holds pre p post start f t table as_many placed passed numbered next.1,
+        found_next m ts pre p post start f t table as_many placed passed numbered next.1,
         subst (λ n. AreNextCells whole (Some f) n more) fewer (tablet_next (most - 1) (Some f) more (passed_on start f next.1.0 passed) next.2),
       )
 
@@ -146,11 +145,11 @@ module _ (law : StaysInRange) (m : Contents) (ts : List Tablet) (holds : AllByRe
   tablet_begins most start last [] passed next begins = begins
   tablet_begins most start last (f ∷ more) passed next begins =
       tablet_begins (most - 1) (Some f) (Some f) more (passed_on start f next.1.0 passed) next.2
-      (begin_past law m ts holds pre p post start f t table as_many placed passed numbered next.1)
+      (begin_past m ts pre p post start f t table as_many placed passed numbered next.1)
 
   far_behind : (last : Option Place) → BeginBehind ts last (p ∷ post) → (place : Place) → HasCell (cells_at m t) place → IsAfter last place
   far_behind None begins place cell = tt
-  far_behind (Some low) begins place cell = past_row low place (range_of t) (begins.0 t numbered) (in_range law m ts holds (index_of p.tablet) t place (numbered_at ts p.tablet t numbered) cell)
+  far_behind (Some low) begins place cell = past_row low place (range_of t) (begins.0 t numbered) (in_range m ts (index_of p.tablet) t place (numbered_at ts p.tablet t numbered) cell)
 
   goes_on : (start : Option Place) (n k : ℕ) (found more : List Place) → AreNextCells whole start n found → BeginBehind ts (last_or None found) (p ∷ post) → AreNextCells (cells_at m t) start k more → AreNextCells (cells_at m t) (last_or start found) k more
   goes_on start n k [] more some begins next = next

@@ -12,14 +12,14 @@ use Rattle.file_store.specs.Store.{Contents}
 use Rattle.metadata_table.specs.Places.{PlaceView, EndsBefore}
 use Rattle.metadata_table.specs.Table.{EndsRise, IsTable}
 use Rattle.tablet.specs.Ranges.{is_after, is_up_to, has_row}
-use Rattle.tablet.specs.Views.{Holds, cells_at, range_of}
-use Rattle.tablet.specs.Laws.{StaysInRange}
+use Rattle.tablet.specs.Views.{cells_at, range_of}
 use Rattle.tablet.specs.declared.ranges.RowRange.{RowRange}
 use Rattle.tablet.specs.declared.tablet.Tablet.{Tablet}
 use Rattle.row_atomic.specs.Clusters.{tablet_numbered, cells_in, IsPlaced, ArePlaced}
 use Rattle.row_atomic.proofs.Owners.{BeginsPast, OfTablet, begins_past_has, each_placed, index_of, later_begin, numbered_at, same_tablet}
 use Rattle.row_atomic.proofs.Joined.{joined_some, joined_from, same_row}
-use Rattle.row_atomic.proofs.Shares.{each_at, each_map}
+use Rattle.row_atomic.proofs.OutsideRange.{outside_none}
+use Rattle.row_atomic.proofs.Shares.{each_map}
 
 -- the tablet of a place has no cell there
 abbrev pub HasNone : Contents → List Tablet → Place → PlaceView → Type 0
@@ -82,7 +82,7 @@ past_end (Some e) row low h le = by (byte_cmp row low) refl
     by Equal f = subst (λ (r : List ℕ). byte_cmp e r ≡ Less) (same_row row low f) h
     by Greater f = absurd (le f)
 
-module _ (law : StaysInRange) (m : Contents) (ts : List Tablet) (holds : AllByRecursion (Holds m) ts) where
+module _ (m : Contents) (ts : List Tablet) where
   -- a tablet has cells in its range alone
   pub in_range : (i : ℕ) (t : Tablet) (place : Place) → slice_get ts i ≡ Some t → HasCell (cells_at m t) place → has_row (range_of t) place.0 ≡ true
   in_range i t place there cell = by (has_row (range_of t) place.0) refl
@@ -92,7 +92,7 @@ module _ (law : StaysInRange) (m : Contents) (ts : List Tablet) (holds : AllByRe
       by false e =
           let row : cell.key.row ≡ place.0 = ap (λ (p : Place). p.0) cell.at in
           let lacks = subst (λ (r : List ℕ). has_row (range_of t) r ≡ false) (sym row) e in
-          absurd (none_some (get (cells_at m t) cell.key) ((law m t (each_at (Holds m) ts holds i t there)).1 cell.key lacks) cell.some)
+          absurd (none_some (get (cells_at m t) cell.key) (outside_none m t cell.key lacks) cell.some)
 
   pub whole_has : (i : ℕ) (t : Tablet) (place : Place) → slice_get ts i ≡ Some t → HasCell (cells_at m t) place → HasCell (cells_in (Some m) ts) place
   whole_has i t place there cell = record { key = cell.key; at = cell.at; some = joined_some (cells_at m) cell.key ts i t there cell.some }

@@ -224,7 +224,7 @@ module _ (law : StaysInRange) (m n : Contents) (places : List PlaceView) (ts : L
       joined_push (cells_at n) q (set ts i right) left
       ∙ ap (λ (o : Option (List ℕ)). or_else o (get (cells_at n left) q)) (joined_nowhere (cells_at n) q (set ts i right) nowhere)
       ∙ on_left
-      ∙ sym (cells_of_row law m ts q.row i t holds owns q refl)
+      ∙ sym (cells_of_row m ts q.row i t owns q refl)
     where
       owns : OwnsRow ts q.row i t
       owns = owns_if_has places ts q.row i t table placed as_many there has

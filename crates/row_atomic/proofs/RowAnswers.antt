@@ -2,6 +2,7 @@
 use Rattle.std.proofs.Common.{◌≡◌, ◌<◌, ◌≤◌, ◌+◌, ◌-◌, ℕ, zero, suc, List, [], ◌∷◌, map, set, length, Option, Some, None, IfSome, Result, Ok, Err, IfOk, IfErr, OnOk, OnErr, IsTrue, slice_get, slice_index_or, refl, sym, ap, ◌∙◌, subst, arith}
 use Rattle.std.proofs.lemmas.List.{length-set}
 use Rattle.std.proofs.lemmas.Option.{same_Some}
+use Rattle.std.specs.Prelude.{IsSomeAnd}
 use Rattle.std.specs.List.{AllByRecursion}
 use Rattle.cell_key.specs.Cells.{Cells, IsEditOf, IsNewest, after_edits, version}
 use Rattle.cell_key.specs.Entries.{cells_of, merged}
@@ -15,7 +16,6 @@ use Rattle.metadata_table.specs.Table.{IsTable, IsHolder}
 use Rattle.sorted_file.specs.File.{name_of}
 use Rattle.tablet.specs.Ranges.{has_row, seen}
 use Rattle.tablet.specs.Views.{Holds, IsBelow, IsSameTablet, cells_at, lists_of, range_of, files_of, names_of, memory_of}
-use Rattle.tablet.specs.Laws.{StaysInRange}
 use Rattle.tablet.specs.declared.tablet.Tablet.{Tablet}
 use Rattle.row_atomic.specs.Clusters.{tablet_numbered, cells_in, joined, edits_in, InOrder, ArePlaced, IsMatched, Overfills}
 use Rattle.row_atomic.proofs.Owners.{OwnsRow, index_of, holder_owns}
@@ -85,6 +85,27 @@ still_in_order old new next ts e order = subst (λ (o : Option Contents). InOrde
 pub same_cells_in : (old new : Option Contents) (ts : List Tablet) → new ≡ old → cells_in new ts ≡ cells_in old ts
 same_cells_in old new ts e = ap (λ (o : Option Contents). cells_in o ts) e
 
+-- the newest version of the row's tablet is that of the cells
+pub newest_answer : (o : Option Contents) (ts : List Tablet) {A : Type 0} (seen : A → Option (ℕ × List ℕ)) (row family : List ℕ) (qualifier : Qualifier) (lo hi : ℕ) (i : ℕ) (t : Tablet) (r : Result A Refusal) → OwnsRow ts row i t
+    → IsSomeAnd o (λ m. Holds m t)
+    → IfOk r (λ found. IfSome o (λ m. Holds m t → IsTrue (has_row (range_of t) row) → IsNewest (cells_at m t) (version row family qualifier) lo hi (seen found)))
+    → IfOk r (λ found. IsNewest (cells_in o ts) (version row family qualifier) lo hi (seen found))
+newest_answer o ts seen row family qualifier lo hi i t (Err e) owns held h = tt
+newest_answer None ts seen row family qualifier lo hi i t (Ok found) owns held h = absurd held
+newest_answer (Some m) ts seen row family qualifier lo hi i t (Ok found) owns held h =
+    newest_of_row m ts row family qualifier lo hi (seen found) i t owns (h held owns.has)
+
+-- a tablet that is in order isn't answered as damaged
+pub not_damaged : (o : Option Contents) (t : Tablet) (Told : Type 0) → IsSomeAnd o (λ m. Holds m t) → (Told → IfSome o (λ m. ¬ Holds m t)) → ¬ Told
+not_damaged None t Told held h told = held
+not_damaged (Some m) t Told held h told = h told held
+
+-- the place that holds a row has the number of its tablet
+pub holder_numbered : (places : List PlaceView) (ts : List Tablet) (row : List ℕ) (i : ℕ) (t : Tablet) → (at : HasTabletAt places ts row i) → slice_get ts i ≡ Some t → tablet_numbered at.place.tablet ts ≡ Some t
+holder_numbered places ts row i t at there =
+    let number : at.place.tablet ≡ suc i = let number = at.number in omega arith in
+    ap (λ (n : ℕ). tablet_numbered n ts) number ∙ there
+
 module _ (o : Option Contents) (next : ℕ) (ts : List Tablet) (order : InOrder o next ts) where
   -- what is said of told files
   pub of_told : (P : Contents → Type 0) → IfSome o P → P order.contents
@@ -94,31 +115,20 @@ module _ (o : Option Contents) (next : ℕ) (ts : List Tablet) (order : InOrder 
   pub undamaged : (i : ℕ) (t : Tablet) (Told : Type 0) → slice_get ts i ≡ Some t → (Told → IfSome o (λ m. ¬ Holds m t)) → ¬ Told
   undamaged i t Told there h told = of_told (λ m. ¬ Holds m t) (h told) (each_at (Holds order.contents) ts order.each_open i t there)
 
-  -- the newest version of the row's tablet is that of the cells
-  pub newest_answer : StaysInRange → {A : Type 0} → (seen : A → Option (ℕ × List ℕ)) (row family : List ℕ) (qualifier : Qualifier) (lo hi : ℕ) (i : ℕ) (t : Tablet) (r : Result A Refusal) → OwnsRow ts row i t
-      → IfOk r (λ found. IfSome o (λ m. Holds m t → IsTrue (has_row (range_of t) row) → IsNewest (cells_at m t) (version row family qualifier) lo hi (seen found)))
-      → IfOk r (λ found. IsNewest (cells_in o ts) (version row family qualifier) lo hi (seen found))
-  newest_answer law seen row family qualifier lo hi i t (Err e) owns h = tt
-  newest_answer law seen row family qualifier lo hi i t (Ok found) owns h =
-      let m = order.contents in
-      let newest = of_told (λ m. Holds m t → IsTrue (has_row (range_of t) row) → IsNewest (cells_at m t) (version row family qualifier) lo hi (seen found)) h (each_at (Holds m) ts order.each_open i t owns.there) owns.has in
-      subst (λ (c : Cells). IsNewest c (version row family qualifier) lo hi (seen found)) (sym (cells_told o m ts order.on_disk))
-      (newest_of_row law m ts row family qualifier lo hi (seen found) i t order.each_open owns newest)
-
   -- ---- edits
 
   module _ (i : ℕ) (t u : Tablet) (there : slice_get ts i ≡ Some t) where
     -- the tablet's edits are the cells'
-    pub apply_answer : StaysInRange → (row : List ℕ) (edits : List Edit) {A : Type 0} (r : Result A Refusal) → OwnsRow ts row i t → range_of u ≡ range_of t → AllByRecursion (IsEditOf row) edits
+    pub apply_answer : (row : List ℕ) (edits : List Edit) {A : Type 0} (r : Result A Refusal) → OwnsRow ts row i t → range_of u ≡ range_of t → AllByRecursion (IsEditOf row) edits
         → OnOk r ((m : Contents) → Holds m t → IsTrue (has_row (range_of t) row) → cells_at m u ≡ after_edits (cells_at m t) edits)
         → OnOk r ((m : Contents) → Holds m t → Holds m u)
         → OnOk r (cells_in o (set ts i u) ≡ after_edits (cells_in o ts) edits)
-    apply_answer law row edits (Err e) owns same_range under made still = tt
-    apply_answer law row edits (Ok x) owns same_range under made still =
+    apply_answer row edits (Err e) owns same_range under made still = tt
+    apply_answer row edits (Ok x) owns same_range under made still =
         let m = order.contents in
         let holds = each_at (Holds m) ts order.each_open i t there in
         cells_told o m (set ts i u) order.on_disk
-        ∙ applied law m ts row i t u edits order.each_open owns (still m holds) same_range under (made m holds owns.has)
+        ∙ applied m ts row i t u edits owns same_range under (made m holds owns.has)
         ∙ ap (λ (c : Cells). after_edits c edits) (sym (cells_told o m ts order.on_disk))
 
     holds_after : {A : Type 0} (r : Result A Refusal) → OnOk r ((m : Contents) → Holds m t → Holds m u) → OnErr r (u ≡ t) → Holds order.contents u

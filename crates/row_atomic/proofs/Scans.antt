@@ -6,14 +6,12 @@ use Rattle.file_store.specs.Store.{Contents}
 use Rattle.metadata_table.specs.Places.{PlaceView, view_of, views}
 use Rattle.metadata_table.specs.Table.{IsTable}
 use Rattle.metadata_table.specs.declared.places.Place.{Place}
-use Rattle.tablet.specs.Views.{Holds, cells_at}
-use Rattle.tablet.specs.Laws.{StaysInRange}
+use Rattle.tablet.specs.Views.{cells_at}
 use Rattle.tablet.specs.declared.tablet.Tablet.{Tablet}
 use Rattle.row_atomic.specs.Clusters.{tablet_numbered, cells_in, IsPlaced, ArePlaced, PrecedesCell}
 use Rattle.row_atomic.proofs.Owners.{same_tablet}
 use Rattle.row_atomic.proofs.Nexts.{NoneAfter, found_next, none_next, none_after_end}
 use Rattle.row_atomic.proofs.PlacedTablets.{is_placed}
-use Rattle.row_atomic.proofs.Shares.{each_at}
 
 below_next : {A : Type 0} (x : A) (xs : List A) (i : ℕ) → suc i < length (x ∷ xs) → i < length xs
 below_next x xs i h = omega arith
@@ -75,21 +73,16 @@ numbered_index ts (suc i) v e = record {
 pub place_numbered : (ts : List Tablet) (places : List Place) (i : ℕ) (p : Place) → ArePlaced ts None (views places) → i < length places → p ≡ slice_index_or places i p → IsNumbered ts p.tablet
 place_numbered ts places i p placed h e = at_item (λ q. IsNumbered ts q.tablet) places i p (is_placed (λ q. IsNumbered ts q.tablet) ts (λ before q one. numbered_index ts q.tablet one.tablet one.numbered) None (views places) placed) h e
 
--- what holds of each tablet holds of a numbered one
-pub of_each : (P : Tablet → Type 0) (ts : List Tablet) (n : ℕ) (t : Tablet) → AllByRecursion P ts → tablet_numbered n ts ≡ Some t → P t
-of_each P ts zero t all e = cc
-of_each P ts (suc i) t all e = each_at P ts all i t e
-
 -- ---- the scan
 
-module _ (law : StaysInRange) (m : Contents) (ts : List Tablet) (holds : AllByRecursion (Holds m) ts) (places : List Place) (after : Option CellPlace) (placed : ArePlaced ts None (views places)) where
+module _ (m : Contents) (ts : List Tablet) (places : List Place) (after : Option CellPlace) (placed : ArePlaced ts None (views places)) where
   -- a place whose rows all come before the cell's has none after it
   pub scan_skips : (i : ℕ) (p : Place) → i < length places → p ≡ slice_index_or places i p → PrecedesCell (view_of p) after → NoneAfter m ts after (view_of p)
   scan_skips i p h e low = at_item (λ q. PrecedesCell q after → NoneAfter m ts after q) places i p (is_placed (λ q. PrecedesCell q after → NoneAfter m ts after q) ts skip None (views places) placed) h e low
     where
       skip_after : (cell : Option CellPlace) (before : Option (List ℕ)) (p : PlaceView) → IsPlaced ts before p → PrecedesCell p cell → NoneAfter m ts cell p
       skip_after None before p one low = absurd low
-      skip_after (Some cell) before p one low = none_after_end law m ts holds before p cell.0 cell.1 one low
+      skip_after (Some cell) before p one low = none_after_end m ts before p cell.0 cell.1 one low
 
       skip : (before : Option (List ℕ)) (p : PlaceView) → IsPlaced ts before p → PrecedesCell p after → NoneAfter m ts after p
       skip before p one low = skip_after after before p one low
@@ -103,9 +96,9 @@ module _ (law : StaysInRange) (m : Contents) (ts : List Tablet) (holds : AllByRe
     pub scan_finds : (i : ℕ) (p : Place) (t : Tablet) (found : CellPlace) → i < length places → p ≡ slice_index_or places i p → AllByRecursion (NoneAfter m ts after) (views (take i places)) → tablet_numbered p.tablet ts ≡ Some t → IsNextCell (cells_at m t) after (Some found) → IsNextCell (cells_in (Some m) ts) after (Some found)
     scan_finds i p t found h e passed numbered next =
         let whole = parted_at places i p h e in
-        found_next law m ts holds (views (take i places)) (view_of p) (views (drop (suc i) places)) after found t
+        found_next m ts (views (take i places)) (view_of p) (views (drop (suc i) places)) after found t
         (subst IsTable whole table) (subst (λ (ps : List PlaceView). length ts ≡ length ps) whole as_many) (subst (λ (ps : List PlaceView). ArePlaced ts None ps) whole placed) passed numbered next
 
     -- where all were passed, there is none
     pub scan_ends : (i : ℕ) → length places ≤ i → AllByRecursion (NoneAfter m ts after) (views (take i places)) → IsNextCell (cells_in (Some m) ts) after None
-    scan_ends i h passed = none_next law m ts holds (views places) after table as_many (subst (λ (ps : List Place). AllByRecursion (NoneAfter m ts after) (views ps)) (take_all i places h) passed)
+    scan_ends i h passed = none_next m ts (views places) after table as_many (subst (λ (ps : List Place). AllByRecursion (NoneAfter m ts after) (views ps)) (take_all i places h) passed)

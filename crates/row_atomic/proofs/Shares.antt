@@ -14,9 +14,10 @@ use Rattle.cell_key.proofs.KeyLaws.{exact_keys}
 use Rattle.file_store.specs.Store.{Contents}
 use Rattle.tablet.specs.Ranges.{has_row}
 use Rattle.tablet.specs.Views.{Holds, IsBelow, UsesName, Keeps, cells_at, range_of}
-use Rattle.tablet.specs.Laws.{StaysInRange, OthersStay}
+use Rattle.tablet.specs.Laws.{OthersStay}
 use Rattle.tablet.specs.declared.tablet.Tablet.{Tablet}
 use Rattle.row_atomic.specs.Clusters.{joined, cells_in, InOrder}
+use Rattle.row_atomic.proofs.OutsideRange.{outside_none}
 use Rattle.row_atomic.proofs.Owners.{OwnsRow}
 use Rattle.row_atomic.proofs.Joined.{joined_at, joined_set, edits_elsewhere, edits_agree, same_row, row_itself, newest_there}
 
@@ -70,16 +71,16 @@ pub cells_told : (o : Option Contents) (m : Contents) (ts : List Tablet) → o �
 cells_told o m ts e = ap (λ (p : Option Contents). cells_in p ts) e
 
 -- At the keys of a row the cells are those of the row's tablet.
-pub cells_of_row : StaysInRange → (m : Contents) (ts : List Tablet) (row : List ℕ) (i : ℕ) (t : Tablet) → AllByRecursion (Holds m) ts → OwnsRow ts row i t → (q : CellKey) → q.row ≡ row → get (cells_in (Some m) ts) q ≡ get (cells_at m t) q
-cells_of_row law m ts row i t holds owns q e = joined_at (cells_at m) q ts i t owns.there none
+pub cells_of_row : (m : Contents) (ts : List Tablet) (row : List ℕ) (i : ℕ) (t : Tablet) → OwnsRow ts row i t → (q : CellKey) → q.row ≡ row → get (cells_in (Some m) ts) q ≡ get (cells_at m t) q
+cells_of_row m ts row i t owns q e = joined_at (cells_at m) q ts i t owns.there none
   where
     none : (j : ℕ) (u : Tablet) → j ≢ i → slice_get ts j ≡ Some u → get (cells_at m u) q ≡ None
-    none j u other there = (law m u (each_at (Holds m) ts holds j u there)).1 q (subst (λ (r : List ℕ). has_row (range_of u) r ≡ false) (sym e) (owns.others j u other there))
+    none j u other there = outside_none m u q (subst (λ (r : List ℕ). has_row (range_of u) r ≡ false) (sym e) (owns.others j u other there))
 
 -- The newest version in the row's tablet is that of the cluster.
-pub newest_of_row : StaysInRange → (m : Contents) (ts : List Tablet) (row family : List ℕ) (qualifier : Qualifier) (lo hi : ℕ) (found : Option (ℕ × List ℕ)) (i : ℕ) (t : Tablet) → AllByRecursion (Holds m) ts → OwnsRow ts row i t → IsNewest (cells_at m t) (version row family qualifier) lo hi found → IsNewest (cells_in (Some m) ts) (version row family qualifier) lo hi found
-newest_of_row law m ts row family qualifier lo hi found i t holds owns newest =
-    newest_there (cells_at m t) (cells_in (Some m) ts) (version row family qualifier) lo hi found (λ s. cells_of_row law m ts row i t holds owns (version row family qualifier s) refl) newest
+pub newest_of_row : (m : Contents) (ts : List Tablet) (row family : List ℕ) (qualifier : Qualifier) (lo hi : ℕ) (found : Option (ℕ × List ℕ)) (i : ℕ) (t : Tablet) → OwnsRow ts row i t → IsNewest (cells_at m t) (version row family qualifier) lo hi found → IsNewest (cells_in (Some m) ts) (version row family qualifier) lo hi found
+newest_of_row m ts row family qualifier lo hi found i t owns newest =
+    newest_there (cells_at m t) (cells_in (Some m) ts) (version row family qualifier) lo hi found (λ s. cells_of_row m ts row i t owns (version row family qualifier s) refl) newest
 
 -- ---- one tablet is replaced
 
@@ -95,14 +96,14 @@ not_both : (o r : Ordering) → r ≡ o → r ≡ Equal → (o ≡ Equal → ⊥
 not_both o r e f h = h (sym e ∙ f)
 
 -- Edits of a row in its tablet are edits of the cluster's cells.
-pub applied : StaysInRange → (m : Contents) (ts : List Tablet) (row : List ℕ) (i : ℕ) (t u : Tablet) (edits : List Edit) → AllByRecursion (Holds m) ts → OwnsRow ts row i t → Holds m u → range_of u ≡ range_of t → AllByRecursion (IsEditOf row) edits → cells_at m u ≡ after_edits (cells_at m t) edits → cells_in (Some m) (set ts i u) ≡ after_edits (cells_in (Some m) ts) edits
-applied law m ts row i t u edits holds owns open_u same_range under made = same_map key_cmp_total exact_keys (cells_in (Some m) (set ts i u)) (after_edits (cells_in (Some m) ts) edits) at_key
+pub applied : (m : Contents) (ts : List Tablet) (row : List ℕ) (i : ℕ) (t u : Tablet) (edits : List Edit) → OwnsRow ts row i t → range_of u ≡ range_of t → AllByRecursion (IsEditOf row) edits → cells_at m u ≡ after_edits (cells_at m t) edits → cells_in (Some m) (set ts i u) ≡ after_edits (cells_in (Some m) ts) edits
+applied m ts row i t u edits owns same_range under made = same_map key_cmp_total exact_keys (cells_in (Some m) (set ts i u)) (after_edits (cells_in (Some m) ts) edits) at_key
   where
     of_row : (q : CellKey) → q.row ≡ row → get (cells_in (Some m) (set ts i u)) q ≡ get (after_edits (cells_in (Some m) ts) edits) q
     of_row q e =
-        cells_of_row law m (set ts i u) row i u (each_set (Holds m) ts i u holds open_u) (owns_set ts row i t u same_range owns) q e
+        cells_of_row m (set ts i u) row i u (owns_set ts row i t u same_range owns) q e
         ∙ ap (λ (c : Cells). get c q) made
-        ∙ edits_agree (cells_at m t) (cells_in (Some m) ts) edits q (sym (cells_of_row law m ts row i t holds owns q e))
+        ∙ edits_agree (cells_at m t) (cells_in (Some m) ts) edits q (sym (cells_of_row m ts row i t owns q e))
 
     of_another : (q : CellKey) → q.row ≢ row → get (cells_in (Some m) (set ts i u)) q ≡ get (after_edits (cells_in (Some m) ts) edits) q
     of_another q other =

@@ -1,9 +1,13 @@
 -- What is seen of rows, and what a call of them leaves.
-use Rattle.std.specs.Prelude.{◌≡◌, ◌⊎◌, ℕ, List, ◌++◌, Option}
+use Rattle.std.specs.Prelude.{◌≡◌, ◌≢◌, ◌⊎◌, ℕ, List, ◌++◌, Option, None, Some, ⊤}
+use Rattle.std.specs.declared.cmp.Ordering.TheVariants.{Less}
 use Rattle.cell_key.specs.Cells.{Cells, after_edits}
+use Rattle.cell_key.specs.Keys.{byte_cmp}
+use Rattle.cell_key.specs.Places.{Place}
 use Rattle.cell_key.specs.declared.edits.Edit.{Edit}
 use Rattle.file_store.specs.Store.{Contents}
-use Rattle.row_atomic.specs.Clusters.{ClusterState, InOrder, Overfills, Storage, cells_in, storage_of}
+use Rattle.row_atomic.specs.Clusters.{ClusterState, InOrder, IsReadable, Overfills, Storage, cells_in, storage_of}
+use Rattle.row_atomic.specs.ReadableLaw.{all_readable}
 use Rattle.row_atomic.specs.Room.{TakesNoRoom}
 
 -- What is seen of rows, however they are stored.
@@ -11,6 +15,9 @@ pub record View (R : Type 0) : Type 1 where
   -- the premise under which answers have a meaning, as that each file that is named is there and in
   -- its form
   pub holds : R → Type 0
+  -- what a read of a row reads is in order; under the premise that is so of each row
+  pub readable : R → List ℕ → Type 0
+  pub each_readable : (rows : R) → holds rows → (row : List ℕ) → readable rows row
   -- what they hold
   pub cells : R → Cells
   -- whether edits would pass a limit of the memory that keeps a row; edits of rows that are stored
@@ -23,24 +30,42 @@ pub record View (R : Type 0) : Type 1 where
 abbrev pub seen_of : {F : Type 0} → (F → Option Contents) → View (ClusterState F)
 seen_of contents = record {
   holds = λ state. InOrder (contents state.files) state.next_name state.tablets;
+  readable = λ state row. IsReadable (contents state.files) state.places state.tablets row;
+  each_readable = λ state order row.
+      all_readable (contents state.files) state.next_name state.places state.tablets order row;
   cells = λ state. cells_in (contents state.files) state.tablets;
   overfills = λ state row edits. Overfills state.places state.tablets row edits;
   storage = λ state. storage_of contents state;
 }
 
--- Nothing is changed: if they held, they still do; their cells are the same, whatever stands in the
--- files; no room is taken, and what lies below stays.
+-- a row is that of a place, or comes after it; so does each from the start on
+abbrev pub IsRowFrom : Option Place → List ℕ → Type 0
+IsRowFrom None row = ⊤
+IsRowFrom (Some place) row = byte_cmp row place.0 ≢ Less
+
+-- what a scan from a place on reads is in order
+abbrev pub AreReadableFrom : {R : Type 0} → View R → R → Option Place → Type 0
+AreReadableFrom seen rows after = (row : List ℕ) → IsRowFrom after row → seen.readable rows row
+
+-- each row that was readable still is
+abbrev pub StaysReadable : {R : Type 0} → View R → R → R → Type 0
+StaysReadable seen old new = (row : List ℕ) → seen.readable old row → seen.readable new row
+
+-- Nothing is changed: if they held, they still do, and what was readable still is; their cells are the
+-- same, whatever stands in the files; no room is taken, and what lies below stays.
 pub record OnlyReads {R : Type 0} (seen : View R) (old new : R) : Type 0 where
   pub still : seen.holds old → seen.holds new
+  pub readable : StaysReadable seen old new
   pub kept : seen.cells new ≡ seen.cells old
   pub room : TakesNoRoom seen.overfills old new
   pub stays : seen.storage new ≡ seen.storage old
 
--- Edits are made: if they held, they still do, and their cells are those after the edits; the
--- room of the edits is taken and no other, and what lies below stays.
+-- Edits are made: if they held, they still do, and what was readable still is; their cells are those
+-- after the edits; the room of the edits is taken and no other, and what lies below stays.
 pub record Applies {R : Type 0} (seen : View R) (edits : List Edit)
     (old new : R) : Type 0 where
   pub still : seen.holds old → seen.holds new
+  pub readable : StaysReadable seen old new
   pub made : seen.holds old → seen.cells new ≡ after_edits (seen.cells old) edits
   pub room : (row : List ℕ) (later : List Edit) → seen.overfills new row later
       → seen.overfills old row later ⊎ seen.overfills old row (edits ++ later)

@@ -1,5 +1,5 @@
 -- What a cluster of tablets holds and shows.
-use Rattle.std.specs.Prelude.{◌≡◌, ◌≤◌, ◌^◌, ℕ, zero, suc, List, [], ◌∷◌, length, map, filter, flat_map, Option, None, Some, ⊤}
+use Rattle.std.specs.Prelude.{◌≡◌, ◌≤◌, ◌^◌, ℕ, zero, suc, List, [], ◌∷◌, length, map, filter, flat_map, Option, None, Some, IsSomeAnd, ⊤}
 use Rattle.std.specs.List.{AllByRecursion, slice_get}
 use Rattle.std.specs.FinMap.{empty, from_entries, entries, get}
 use Rattle.cell_key.specs.Cells.{Cells, edited_key}
@@ -50,6 +50,13 @@ pub record InOrder (disk : Option Contents) (next : ℕ) (tablets : List Tablet)
   pub each_open : AllByRecursion (Holds contents) tablets
   pub each_below : AllByRecursion (IsBelow next) tablets
 
+-- What a read of a row reads is in order: over files whose bytes are known, those of the tablet that
+-- has the row are open.
+abbrev pub IsReadable : Option Contents → List PlaceView → List Tablet → List ℕ → Type 0
+IsReadable disk places tablets row =
+    (p : PlaceView) (t : Tablet) → IsHolder row places p
+    → tablet_numbered p.tablet tablets ≡ Some t → IsSomeAnd disk (λ m. Holds m t)
+
 -- the end of a tablet's rows, its number and its server
 abbrev pub Spot : Type 0
 Spot = Option (List ℕ) × (ℕ × ℕ)
@@ -58,12 +65,14 @@ abbrev pub spot_of : PlaceView → Spot
 spot_of p = (p.end, (p.tablet, p.server))
 
 -- What lies below the memtables: the bytes of the files, as far as they are known, the most bytes
--- of a sorted file, the next file's name, and the places of the tablets with their files.
+-- of a sorted file, the next file's name, and the places of the tablets with their files; and the
+-- bytes of edits that a log has, where edits are written down.
 pub record Storage : Type 0 where
   pub disk : Option Contents
   pub file_limit : ℕ
   pub next_name : ℕ
   pub places : List PlaceView
+  pub logged : List ℕ
 
 abbrev pub storage_of : {F : Type 0} → (F → Option Contents) → ClusterState F → Storage
 storage_of contents state =
@@ -72,11 +81,12 @@ storage_of contents state =
       file_limit = state.file_limit;
       next_name = state.next_name;
       places = state.places;
+      logged = [];
     }
 
 -- rows that are held in memory alone
 abbrev pub no_storage : Storage
-no_storage = record { disk = None; file_limit = 0; next_name = 0; places = [] }
+no_storage = record { disk = None; file_limit = 0; next_name = 0; places = []; logged = [] }
 
 -- where the tablets are, in the order of their ends
 abbrev pub spots_of : {F : Type 0} → ClusterState F → List Spot
@@ -128,6 +138,11 @@ abbrev pub PrecedesCell : PlaceView → Option Place → Type 0
 PrecedesCell p None = ⊥
 PrecedesCell p (Some cell) = EndsBefore p.end cell.0
 
+-- the files of each tablet are open whose rows don't all come before that cell's
+abbrev pub AreOpenFrom : Contents → List Tablet → Option Place → List PlaceView → Type 0
+AreOpenFrom m tablets after places = AllByRecursion (λ p. ¬ PrecedesCell p after
+    → (t : Tablet) → tablet_numbered p.tablet tablets ≡ Some t → Holds m t) places
+
 -- a tablet of all rows, with no entries and no files, stands alone
 pub record IsFirstTablet (tablets : List Tablet) : Type 0 where
   pub tablet : Tablet
@@ -143,6 +158,6 @@ abbrev pub CellsByTablet : Type 0
 CellsByTablet =
     (m : Contents) (limit next : ℕ) (places : List PlaceView)
     (tablets : List Tablet) (row : List ℕ) (p : PlaceView) (t : Tablet)
-    → IsTable places → IsMatched limit next places tablets → AllByRecursion (Holds m) tablets
+    → IsTable places → IsMatched limit next places tablets
     → IsHolder row places p → tablet_numbered p.tablet tablets ≡ Some t
     → (key : CellKey) → key.row ≡ row → get (cells_in (Some m) tablets) key ≡ get (cells_at m t) key

@@ -11,6 +11,7 @@ pub mod Memtables
 pub mod Oldest
 pub mod Open
 pub mod PlaceCaches
+pub mod ReadableLaw
 pub mod Recorded
 pub mod Refusals
 pub mod Room

@@ -6,7 +6,7 @@ use Rattle.cell_key.specs.Cells.{Cells, after_edits}
 use Rattle.cell_key.specs.declared.edits.Edit.{Edit}
 use Rattle.file_store.specs.Store.{Contents}
 use Rattle.metadata_table.specs.Roots.{RootView}
-use Rattle.row_atomic.specs.Calls.{View}
+use Rattle.row_atomic.specs.Calls.{View, seen_of}
 use Rattle.row_atomic.specs.Changes.{Holds, IsEmptied, ListsAll}
 use Rattle.row_atomic.specs.Clusters.{ClusterState, storage_of}
 use Rattle.row_atomic.specs.Commands.{IsOutcome, OverfillsCluster, cells_shown}
@@ -51,11 +51,16 @@ abbrev pub FollowsListed : {F : Type 0} → (F → Option Contents) → ClusterS
     → Option JournalView → Type 0
 FollowsListed contents state journal = IfWritten (TracksListed contents state) journal
 
--- the bytes that wait for the log, and how many edits and bytes are written down
+-- the bytes of the edits that the log has, and of those that wait for it
+abbrev pub logged_of : Option JournalView → List ℕ
+logged_of None = []
+logged_of (Some journal) = journal.logged
+
 abbrev pub waiting_of : Option JournalView → List ℕ
 waiting_of None = []
 waiting_of (Some journal) = journal.waiting
 
+-- how many edits and bytes are written down
 abbrev pub edits_written : Option JournalView → ℕ
 edits_written None = 0
 edits_written (Some journal) = journal.count
@@ -76,14 +81,16 @@ abbrev pub OverfillsRecorded : {F : Type 0} → Recorded F → List ℕ → List
 OverfillsRecorded rows row edits =
     OverfillsCluster rows.cluster row edits ⊎ OverfillsJournal rows.journal edits
 
--- what is seen of them: that of the cluster, with the journal's limit, and what is written down
--- follows what is shown
+-- What is seen of them is what is seen of the cluster, with the journal's limit and the bytes that
+-- the log has. They hold if the cluster does, and what is written down follows what is shown.
 abbrev pub seen_recorded : {F : Type 0} → (F → Option Contents) → View (Recorded F)
 seen_recorded contents = record {
   holds = λ rows. Holds contents rows.cluster × Follows contents rows.cluster rows.journal;
+  readable = λ rows row. (seen_of contents).readable rows.cluster row;
+  each_readable = λ rows held row. (seen_of contents).each_readable rows.cluster held.0 row;
   cells = λ rows. cells_shown contents rows.cluster;
   overfills = λ rows row edits. OverfillsRecorded rows row edits;
-  storage = λ rows. storage_of contents rows.cluster;
+  storage = λ rows. record (storage_of contents rows.cluster) { logged = logged_of rows.journal };
 }
 
 -- Edits for which the journal has room pass no limit of a memtable: what is written down has all

@@ -16,7 +16,7 @@ IsApplyRefusal MemtableFull = ⊤
 IsApplyRefusal NoMemory = ⊤
 IsApplyRefusal _ = ⊥
 
--- what a read of rows may answer: damage is answered only if they don't hold
+-- what a read may answer: damage is answered only if what it reads isn't in order
 abbrev pub IsRefusalOfRead : Type 0 → Refusal → Type 0
-IsRefusalOfRead Holds Damaged = ¬ Holds
-IsRefusalOfRead Holds refusal = IsReadRefusal refusal
+IsRefusalOfRead Readable Damaged = ¬ Readable
+IsRefusalOfRead Readable refusal = IsReadRefusal refusal

@@ -26,11 +26,12 @@ pub fn oldest<R: Rows>(
     lo: Stamp,
     hi: Stamp,
 ) -> Result<Option<(Stamp, Vec<u8>)>, Refusal>
-    ensures found { R.seen.holds rows.old → IfOk result (λ found. IsOldest (R.seen.cells rows.old)
-        (version row.now family.now qualifier) lo hi (option_map stamped found)) }
+    ensures found { R.seen.readable rows.old row.now → IfOk result (λ found. IsOldest
+        (R.seen.cells rows.old) (version row.now family.now qualifier) lo hi
+        (option_map stamped found)) }
     ensures reads { OnlyReads R.seen rows.old rows.new }
     ensures limits { IfOk result (λ found. IfSome (option_map stamped found) (IsVersionIn lo hi)) }
-    ensures refusal { IfErr result (IsRefusalOfRead (R.seen.holds rows.old)) }
+    ensures refusal { IfErr result (IsRefusalOfRead (R.seen.readable rows.old row.now)) }
     ensures reason { HasReason (R.faults rows.old) (R.faults rows.new) result }
 {
     let Some(mut found) = rows.newest(row, family, qualifier, lo, hi)? else {

@@ -48,6 +48,8 @@ impl PlainRows {
 impl Rows for PlainRows {
     ghost seen = { record {
       holds = λ _. ⊤;
+      readable = λ _ _. ⊤;
+      each_readable = λ _ _ _. tt;
       cells = λ rows. rows;
       overfills = λ _ _ _. ⊥;
       storage = λ _. no_storage;

@@ -6,7 +6,7 @@ ghost use Rattle.cell_key.specs.Cells.{IsNewest, IsEditOf, version};
 ghost use Rattle.cell_key.specs.Faults.{HasReason};
 ghost use Rattle.cell_key.specs.Places.{AreNextCells, IsNextCell, place_named};
 ghost use Rattle.cell_key.specs.Versions.{IsVersionIn, stamped};
-ghost use Rattle.row_atomic.specs.Calls.{Applies, OnlyReads, View};
+ghost use Rattle.row_atomic.specs.Calls.{Applies, AreReadableFrom, OnlyReads, View};
 ghost use Rattle.row_atomic.specs.Refusals.{IsApplyRefusal, IsRefusalOfRead};
 
 use cell_key::{Edit, Family, Qualifier, Refusal, Row, Stamp};
@@ -16,7 +16,7 @@ use cell_key::{Edit, Family, Qualifier, Refusal, Row, Stamp};
 ///
 /// A read changes no cell, even if it is refused. Its refusals are `Device` if a device
 /// failed during the call, `NoMemory` if a growth was refused, and `Damaged` if bytes that
-/// were read are outside their form.
+/// were read are outside their form. Damage elsewhere bars no read, and what a read answers then is right.
 pub trait Rows {
     /// What is seen of them. Each call keeps the premise under which answers have a meaning. A read changes neither
     /// the cells nor the room for edits, and no call changes what lies below the rows that are in memory.
@@ -39,12 +39,13 @@ pub trait Rows {
         lo: Stamp,
         hi: Stamp,
     ) -> Result<Option<(Stamp, Vec<u8>)>, Refusal>
-        ensures found { seen.holds self.old → IfOk result (λ found. IsNewest (seen.cells self.old)
-            (version row.now family.now qualifier) lo hi (option_map stamped found)) }
+        ensures found { seen.readable self.old row.now → IfOk result (λ found. IsNewest
+            (seen.cells self.old) (version row.now family.now qualifier) lo hi
+            (option_map stamped found)) }
         ensures reads { OnlyReads seen self.old self.new }
         ensures limits { IfOk result (λ found.
             IfSome (option_map stamped found) (IsVersionIn lo hi)) }
-        ensures refusal { IfErr result (IsRefusalOfRead (seen.holds self.old)) }
+        ensures refusal { IfErr result (IsRefusalOfRead (seen.readable self.old row.now)) }
         ensures reason { HasReason (faults self.old) (faults self.new) result };
 
     /// The next cell that has any key, in the order of rows and then of families, after the cell
@@ -57,10 +58,11 @@ pub trait Rows {
         &mut self,
         after: Option<(&Row, &Family)>,
     ) -> Result<Option<(Row, Family)>, Refusal>
-        ensures found { seen.holds self.old
+        ensures found { AreReadableFrom seen self.old (option_map place_named after.entry)
             → IfOk result (IsNextCell (seen.cells self.old) (option_map place_named after.entry)) }
         ensures reads { OnlyReads seen self.old self.new }
-        ensures refusal { IfErr result (IsRefusalOfRead (seen.holds self.old)) }
+        ensures refusal { IfErr result (IsRefusalOfRead
+            (AreReadableFrom seen self.old (option_map place_named after.entry))) }
         ensures reason { HasReason (faults self.old) (faults self.new) result };
 
     /// The next cells that have any key, in the order of rows and then of families, after the cell of `after`, or
@@ -75,11 +77,13 @@ pub trait Rows {
         after: Option<(&Row, &Family)>,
         most: usize,
     ) -> Result<Vec<(Row, Family)>, Refusal>
-        ensures found { seen.holds self.old → IfOk result (λ found. AreNextCells
-            (seen.cells self.old) (option_map place_named after.entry) most found.items) }
+        ensures found { AreReadableFrom seen self.old (option_map place_named after.entry)
+            → IfOk result (λ found. AreNextCells (seen.cells self.old)
+            (option_map place_named after.entry) most found.items) }
         ensures few { IfOk result (λ found. length found.items ≤ most) }
         ensures reads { OnlyReads seen self.old self.new }
-        ensures refusal { IfErr result (IsRefusalOfRead (seen.holds self.old)) }
+        ensures refusal { IfErr result (IsRefusalOfRead
+            (AreReadableFrom seen self.old (option_map place_named after.entry))) }
         ensures reason { HasReason (faults self.old) (faults self.new) result };
 
     /// Makes edits under one row in order, all of them or none. No device is touched, and nothing below the rows in

@@ -6,14 +6,12 @@ ghost use Rattle.row_atomic.specs.Roots.{RootIsStored, RootOutlastsFlushes, Root
 
 use cell_key::replays;
 use file_store::Files;
-use tablet::{stays_in_range, unnamed_may_go};
+use tablet::unnamed_may_go;
 
 /// The cells of a row are those of the tablet that holds it.
 pub fn cells_by_tablet()
     ensures { CellsByTablet }
-{
-    stays_in_range();
-}
+{}
 
 /// A command leaves a root and its cells in the files. A sweep does so if the tablets have every
 /// file that the root lists.

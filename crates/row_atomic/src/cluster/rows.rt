@@ -1,7 +1,6 @@
 //! A cluster as rows of cells.
 
 ghost use Rattle.std.specs.Prelude.{◌≡◌, ◌≤◌, ◌↔◌, IfErr, IfOk, IfSome, IsErrOf, IsTrue, None, Some, length, option_map};
-ghost use Rattle.std.specs.List.{AllByRecursion};
 ghost use Rattle.cell_key.specs.Cells.{IsNewest, version};
 ghost use Rattle.cell_key.specs.Places.{AreNextCells, IsNextCell, place_named};
 ghost use Rattle.cell_key.specs.Versions.{IsVersionIn, stamped};
@@ -10,12 +9,11 @@ ghost use Rattle.metadata_table.specs.Places.{view_of, views};
 ghost use Rattle.metadata_table.specs.Table.{IsTable};
 ghost use Rattle.sorted_file.specs.Source.{IsReadRefusal};
 ghost use Rattle.cell_key.specs.Faults.{HasReason};
-ghost use Rattle.tablet.specs.Views.{Holds as HoldsAt};
-ghost use Rattle.row_atomic.specs.Calls.{OnlyReads, seen_of};
-ghost use Rattle.row_atomic.specs.Changes.{Holds, IsOutOfOrder, MeetsDamage, OfHolder};
+ghost use Rattle.row_atomic.specs.Calls.{AreReadableFrom, OnlyReads, seen_of};
+ghost use Rattle.row_atomic.specs.Changes.{IsOutOfOrder, MeetsDamage, OfHolder};
 ghost use Rattle.row_atomic.specs.Commands.{cells_shown};
 ghost use Rattle.row_atomic.specs.Refusals.{IsRefusalOfRead};
-ghost use Rattle.row_atomic.specs.Clusters.{ArePlaced, PrecedesCell, cells_in};
+ghost use Rattle.row_atomic.specs.Clusters.{ArePlaced, AreOpenFrom, IsReadable, PrecedesCell, cells_in};
 
 use crate::cluster::Cluster;
 use crate::fill::Fill;
@@ -25,7 +23,7 @@ use cell_key::{Edit, Family, Qualifier, Refusal, Row, Stamp};
 use file_store::Files;
 use metadata_table::Place;
 use std::alloc::Global;
-use tablet::{Tablet, stays_in_range};
+use tablet::Tablet;
 
 /// Whether all rows of a place come before the row of a cell.
 fn precedes(place: &Place, after: Option<(&Row, &Family)>) -> bool
@@ -52,19 +50,16 @@ fn next_cells_in<F: Files>(
     requires placed { ArePlaced tablets.now None (views places.now) }
     requires as_many { length tablets.now ≡ length (views places.now) }
     ensures found { IfOk result (λ found. (m : Contents) → F.contents files.old ≡ Some m
-        → AllByRecursion (HoldsAt m) tablets.now
+        → AreOpenFrom m tablets.now (option_map place_named after.entry) (views places.now)
         → AreNextCells (cells_in (Some m) tablets.now) (option_map place_named after.entry) most
         found.items) }
     ensures few { IfOk result (λ found. length found.items ≤ most) }
     ensures meets { IsErrOf result Refusal.Damaged → MeetsDamage (F.contents files.old)
         (option_map place_named after.entry) most (views places.now) tablets.now }
-    ensures damaged { IsErrOf result Refusal.Damaged
-        → (m : Contents) → F.contents files.old ≡ Some m → ¬ AllByRecursion (HoldsAt m) tablets.now }
     ensures refusal { IfErr result IsReadRefusal }
     ensures same { F.contents files.new ≡ F.contents files.old }
     ensures reason { HasReason (F.faults files.old) (F.faults files.new) result }
 {
-    stays_in_range();
     let mut found = Vec::new(alloc);
     for place in places {
         if found.len() < most && !precedes(place, after) {
@@ -89,18 +84,18 @@ impl<F: Files> Rows for Cluster<F> {
         lo: Stamp,
         hi: Stamp,
     ) -> Result<Option<(Stamp, Vec<u8>)>, Refusal>
-        ensures found { Holds F.contents self.old → IfOk result (λ found.
-            IsNewest (cells_shown F.contents self.old) (version row.now family.now qualifier) lo hi
-            (option_map stamped found)) }
+        ensures found { IsReadable (F.contents self.old.files) self.old.places self.old.tablets
+            row.now → IfOk result (λ found. IsNewest (cells_shown F.contents self.old)
+            (version row.now family.now qualifier) lo hi (option_map stamped found)) }
         ensures reads { OnlyReads (seen_of F.contents) self.old self.new }
         ensures limits { IfOk result (λ found.
             IfSome (option_map stamped found) (IsVersionIn lo hi)) }
         ensures damaged { IsErrOf result Refusal.Damaged → OfHolder
             (IsOutOfOrder (F.contents self.old.files)) row.now self.old.places self.old.tablets }
-        ensures refusal { IfErr result (IsRefusalOfRead (Holds F.contents self.old)) }
+        ensures refusal { IfErr result (IsRefusalOfRead (IsReadable
+            (F.contents self.old.files) self.old.places self.old.tablets row.now)) }
         ensures reason { HasReason (F.faults self.old.files) (F.faults self.new.files) result }
     {
-        stays_in_range();
         let index = index_of(&self.table, &mut self.place_cache, row);
         self.tablets[index].newest(row, family, qualifier, lo, hi, &mut self.files)
     }
@@ -109,13 +104,15 @@ impl<F: Files> Rows for Cluster<F> {
         &mut self,
         after: Option<(&Row, &Family)>,
     ) -> Result<Option<(Row, Family)>, Refusal>
-        ensures found { Holds F.contents self.old → IfOk result (IsNextCell
+        ensures found { AreReadableFrom (seen_of F.contents) self.old
+            (option_map place_named after.entry) → IfOk result (IsNextCell
             (cells_shown F.contents self.old) (option_map place_named after.entry)) }
         ensures reads { OnlyReads (seen_of F.contents) self.old self.new }
         ensures damaged { IsErrOf result Refusal.Damaged → MeetsDamage
             (F.contents self.old.files) (option_map place_named after.entry) 1
             self.old.places self.old.tablets }
-        ensures refusal { IfErr result (IsRefusalOfRead (Holds F.contents self.old)) }
+        ensures refusal { IfErr result (IsRefusalOfRead (AreReadableFrom
+            (seen_of F.contents) self.old (option_map place_named after.entry))) }
         ensures reason { HasReason (F.faults self.old.files) (F.faults self.new.files) result }
     {
         let mut found = self.next_cells(after, 1)?;
@@ -127,7 +124,8 @@ impl<F: Files> Rows for Cluster<F> {
         after: Option<(&Row, &Family)>,
         most: usize,
     ) -> Result<Vec<(Row, Family)>, Refusal>
-        ensures found { Holds F.contents self.old → IfOk result (λ found. AreNextCells
+        ensures found { AreReadableFrom (seen_of F.contents) self.old
+            (option_map place_named after.entry) → IfOk result (λ found. AreNextCells
             (cells_shown F.contents self.old) (option_map place_named after.entry) most
             found.items) }
         ensures few { IfOk result (λ found. length found.items ≤ most) }
@@ -135,7 +133,8 @@ impl<F: Files> Rows for Cluster<F> {
         ensures damaged { IsErrOf result Refusal.Damaged → MeetsDamage
             (F.contents self.old.files) (option_map place_named after.entry) most
             self.old.places self.old.tablets }
-        ensures refusal { IfErr result (IsRefusalOfRead (Holds F.contents self.old)) }
+        ensures refusal { IfErr result (IsRefusalOfRead (AreReadableFrom
+            (seen_of F.contents) self.old (option_map place_named after.entry))) }
         ensures reason { HasReason (F.faults self.old.files) (F.faults self.new.files) result }
     {
         let places = self.table.places();
@@ -150,7 +149,6 @@ impl<F: Files> Rows for Cluster<F> {
     }
 
     fn apply(&mut self, row: &Row, edits: Vec<Edit>) -> Result<(), Refusal> {
-        stays_in_range();
         let index = index_of(&self.table, &mut self.place_cache, row);
         let done = self.tablets[index].apply(row, edits);
         self.most = self.most.joined(Fill::of(&self.tablets[index]));

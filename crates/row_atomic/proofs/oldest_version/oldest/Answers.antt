@@ -30,8 +30,8 @@ returns-in_err-older-clause-reads g c = reads_then c.loop-low.invariant.reads c.
 
 pub returns-in_err-older-clause-refusal : goal.returns-in_err-older-clause-refusal
 returns-in_err-older-clause-refusal g c =
-    refused_later (g.R.Rows.seen.holds c.args.rows.now) (g.R.Rows.seen.holds c.loop-low.rows) c.from_residual-in_err-older.result c.in_err-older.field-0.0
-    c.loop-low.invariant.reads.still c.from_residual-in_err-older.ensures.1 c.in_err-older.ensures.refusal
+    refused_later (g.R.Rows.seen.readable c.args.rows.now c.args.row.now) (g.R.Rows.seen.readable c.loop-low.rows c.args.row.now) c.from_residual-in_err-older.result c.in_err-older.field-0.0
+    (c.loop-low.invariant.reads.readable c.args.row.now) c.from_residual-in_err-older.ensures.1 c.in_err-older.ensures.refusal
 
 pub returns-in_err-older-clause-reason : goal.returns-in_err-older-clause-reason
 returns-in_err-older-clause-reason g c =
@@ -61,7 +61,7 @@ loop-low-preserved-in-Some-2 g c =
       from = before.from;
       to = older.low;
       rest = λ held.
-          let is = at_some (IsNewest (g.R.Rows.seen.cells c.loop-low.rows) at low middle) c.in_ok-older.field-0 c.in-Some-2.older c.in-Some-2.is (c.in_ok-older.ensures.found (before.reads.still held)) in
+          let is = at_some (IsNewest (g.R.Rows.seen.cells c.loop-low.rows) at low middle) c.in_ok-older.field-0 c.in-Some-2.older c.in-Some-2.is (c.in_ok-older.ensures.found (before.reads.readable c.args.row.now held)) in
           rest_with_older (g.R.Rows.seen.cells c.args.rows.now) at c.args.lo low middle (stamped c.loop-low.found) (stamped c.in-Some-2.older) (before.rest held)
           (subst (λ (cells : Cells). IsNewest cells at low middle (Some (stamped c.in-Some-2.older))) before.reads.kept is);
     }
@@ -83,7 +83,7 @@ loop-low-preserved g c =
       from = omega (arith, before.from);
       to = omega (arith, below);
       rest = λ held.
-          let is = at_none (IsNewest (g.R.Rows.seen.cells c.loop-low.rows) at low middle) c.in_ok-older.field-0 c.in-None.is (c.in_ok-older.ensures.found (before.reads.still held)) in
+          let is = at_none (IsNewest (g.R.Rows.seen.cells c.loop-low.rows) at low middle) c.in_ok-older.field-0 c.in-None.is (c.in_ok-older.ensures.found (before.reads.readable c.args.row.now held)) in
           rest_above (g.R.Rows.seen.cells c.args.rows.now) at c.args.lo low middle (stamped c.loop-low.found) (before.rest held)
           (subst (λ (cells : Cells). IsNewest cells at low middle None) before.reads.kept is);
     }

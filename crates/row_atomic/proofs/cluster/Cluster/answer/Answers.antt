@@ -8,6 +8,7 @@ use Rattle.row_atomic.proofs.ListedFiles.{stored_lists}
 use Rattle.row_atomic.proofs.Outcomes.{applied, err_of, of_done, read_refused, tells_read}
 use Rattle.row_atomic.specs.Changes.{MeetsDamage}
 use Rattle.row_atomic.specs.Commands.{cells_shown}
+use Rattle.row_atomic.specs.ReadableLaw.{all_readable}
 use Rattle.row_atomic.specs.declared.commands.Command.TheVariants as command
 use Rattle.row_atomic.specs.declared.commands.Outcome.TheVariants as outcome
 use Rattle.row_atomic.proofs.cluster.Cluster.answer.Goals as goal
@@ -20,7 +21,7 @@ returns-in-Ok g c =
     let told = c.newest.ensures in
     rw c.in-Newest.is (record {
       still = told.reads.still;
-      answers = λ order. (c.in-Ok.ensures.found order, told.reads.kept);
+      answers = λ order. (c.in-Ok.ensures.found (all_readable _ _ _ _ order _), told.reads.kept);
       upholds = told.reads.stays;
       files = tt;
       lists = λ _. stored_lists g.F.Files.contents c.args.self.now c.newest.new.self told.reads.stays;
@@ -33,14 +34,14 @@ pub returns-in-Newest : goal.returns-in-Newest
 returns-in-Newest g c =
     let told = c.newest.ensures in
     rw c.in-Newest.is (read_refused g.F.Files.contents g.F.Files.faults (command.Newest c.in-Newest.row c.in-Newest.family c.in-Newest.qualifier c.in-Newest.lo c.in-Newest.hi) c.newest.result c.in-Err.refusal c.args.self.now c.newest.new.self c.in-Err.is told.reads.still
-    (λ order. (read_undamaged _ c.in-Err.refusal c.in-Err.ensures.refusal order, told.reads.kept)) (is_read_refusal _ c.in-Err.refusal c.in-Err.ensures.refusal, told.reads.stays) tt told.reads.stays told.reads.room (λ many. record { due = λ is. told.damaged (c.in-Err.is ∙ err_of _ Damaged is); barred = λ bars. absurd bars; undone = λ is. absurd (many is) }) (is_read_refusal _ c.in-Err.refusal c.in-Err.ensures.refusal) told.reason.later told.reason.device told.reason.told)
+    (λ order. (read_undamaged _ c.in-Err.refusal c.in-Err.ensures.refusal (all_readable _ _ _ _ order _), told.reads.kept)) (is_read_refusal _ c.in-Err.refusal c.in-Err.ensures.refusal, told.reads.stays) tt told.reads.stays told.reads.room (λ many. record { due = λ is. told.damaged (c.in-Err.is ∙ err_of _ Damaged is); barred = λ bars. absurd bars; undone = λ is. absurd (many is) }) (is_read_refusal _ c.in-Err.refusal c.in-Err.ensures.refusal) told.reason.later told.reason.device told.reason.told)
 
 pub returns-in-Ok-next_cell : goal.returns-in-Ok-next_cell
 returns-in-Ok-next_cell g c =
     let told = c.next_cell.ensures in
     rw c.in-NextCell.is (record {
       still = told.reads.still;
-      answers = λ order. (subst (λ after. IsNextCell (cells_shown g.F.Files.contents c.args.self.now) after c.in-Ok-next_cell.found) c.lent.ensures (c.in-Ok-next_cell.ensures.found order), told.reads.kept);
+      answers = λ order. (subst (λ after. IsNextCell (cells_shown g.F.Files.contents c.args.self.now) after c.in-Ok-next_cell.found) c.lent.ensures (c.in-Ok-next_cell.ensures.found (λ row from. all_readable _ _ _ _ order row)), told.reads.kept);
       upholds = told.reads.stays;
       files = tt;
       lists = λ _. stored_lists g.F.Files.contents c.args.self.now c.next_cell.new.self told.reads.stays;
@@ -53,7 +54,7 @@ pub returns-in-NextCell : goal.returns-in-NextCell
 returns-in-NextCell g c =
     let told = c.next_cell.ensures in
     rw c.in-NextCell.is (read_refused g.F.Files.contents g.F.Files.faults (command.NextCell c.in-NextCell.after) c.next_cell.result c.in-Err-next_cell.refusal c.args.self.now c.next_cell.new.self c.in-Err-next_cell.is told.reads.still
-    (λ order. (read_undamaged _ c.in-Err-next_cell.refusal c.in-Err-next_cell.ensures.refusal order, told.reads.kept)) (is_read_refusal _ c.in-Err-next_cell.refusal c.in-Err-next_cell.ensures.refusal, told.reads.stays) tt told.reads.stays told.reads.room (λ many. record { due = λ is. subst (λ after. MeetsDamage (g.F.Files.contents c.args.self.now.files) after 1 c.args.self.now.places c.args.self.now.tablets) c.lent.ensures (told.damaged (c.in-Err-next_cell.is ∙ err_of _ Damaged is)); barred = λ bars. absurd bars; undone = λ is. absurd (many is) }) (is_read_refusal _ c.in-Err-next_cell.refusal c.in-Err-next_cell.ensures.refusal) told.reason.later told.reason.device told.reason.told)
+    (λ order. (read_undamaged _ c.in-Err-next_cell.refusal c.in-Err-next_cell.ensures.refusal (λ row from. all_readable _ _ _ _ order row), told.reads.kept)) (is_read_refusal _ c.in-Err-next_cell.refusal c.in-Err-next_cell.ensures.refusal, told.reads.stays) tt told.reads.stays told.reads.room (λ many. record { due = λ is. subst (λ after. MeetsDamage (g.F.Files.contents c.args.self.now.files) after 1 c.args.self.now.places c.args.self.now.tablets) c.lent.ensures (told.damaged (c.in-Err-next_cell.is ∙ err_of _ Damaged is)); barred = λ bars. absurd bars; undone = λ is. absurd (many is) }) (is_read_refusal _ c.in-Err-next_cell.refusal c.in-Err-next_cell.ensures.refusal) told.reason.later told.reason.device told.reason.told)
 
 pub returns-in-Apply : goal.returns-in-Apply
 returns-in-Apply g c =

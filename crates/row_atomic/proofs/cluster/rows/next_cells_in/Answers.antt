@@ -8,11 +8,12 @@ use Rattle.file_store.specs.Store.{Contents}
 use Rattle.metadata_table.specs.Places.{PlaceView, view_of, views}
 use Rattle.metadata_table.specs.Table.{IsTable}
 use Rattle.tablet.specs.Views.{Holds, cells_at}
+use Rattle.tablet.specs.declared.tablet.Tablet.{Tablet}
 use Rattle.row_atomic.specs.Changes.{IsOutOfOrder, Passes}
-use Rattle.row_atomic.specs.Clusters.{ArePlaced, PrecedesCell, cells_in}
+use Rattle.row_atomic.specs.Clusters.{ArePlaced, PrecedesCell, cells_in, tablet_numbered}
 use Rattle.row_atomic.proofs.PassedRefusals.{not_both}
 use Rattle.row_atomic.proofs.Shares.{at_told, each_map}
-use Rattle.row_atomic.proofs.Scans.{of_each, parted_at, passed_more, place_numbered, scan_ends, scan_goes_on, scan_skips}
+use Rattle.row_atomic.proofs.Scans.{at_item, parted_at, passed_more, place_numbered, scan_ends, scan_goes_on, scan_skips}
 use Rattle.row_atomic.proofs.ManyNexts.{BeginBehind, HasScanned, asked_begins, asked_ended, asked_next, asked_passed, asked_passes, begin_fewer, dropped_at, later_none, passes_more}
 use Rattle.row_atomic.proofs.NextLists.{next_all}
 use Rattle.row_atomic.proofs.Nexts.{NoneAfter}
@@ -26,13 +27,13 @@ pub bounds-tablets-place : goal.bounds-tablets-place
 bounds-tablets-place g c = (place_numbered c.args.tablets.now c.args.places.now c.loop-place.place-index c.place-item.result c.requires.placed c.loop-place-test.true c.place-item.is).below
 
 pub returns-clause-found : goal.returns-clause-found
-returns-clause-found g c = λ m told holds.
+returns-clause-found g c = λ m told open_there.
     let i = c.loop-place.invariant in
     let found = c.loop-place.found.items in
     let start = option_map place_named c.args.after in
-    let s = i.told m told holds in
+    let s = i.told m told open_there in
     next_all (IsNextCell (cells_in (Some m) c.args.tablets.now)) (length found) c.args.most start found refl i.few s.next
-    (λ wanted. scan_ends c.stays_in_range.ensures m c.args.tablets.now holds c.args.places.now (last_or start found) c.requires.placed c.requires.table c.requires.as_many c.loop-place.place-index c.loop-place-test.false (s.passed (omega (arith, wanted))))
+    (λ wanted. scan_ends m c.args.tablets.now c.args.places.now (last_or start found) c.requires.placed c.requires.table c.requires.as_many c.loop-place.place-index c.loop-place-test.false (s.passed (omega (arith, wanted))))
 
 pub returns-in_err-more-clause-meets : goal.returns-in_err-more-clause-meets
 returns-in_err-more-clause-meets g c =
@@ -54,17 +55,6 @@ returns-in_err-more-clause-meets g c =
       within = λ low. not_both _ (c.precedes.ensures.1 low) c.if-not-precedes.true;
       out = record { tablet = t; numbered = numbered; such = subst (λ disk. IsOutOfOrder disk t) c.loop-place.invariant.same (c.next_cells.ensures.damaged e) };
     }
-
-pub returns-in_err-more-clause-damaged : goal.returns-in_err-more-clause-damaged
-returns-in_err-more-clause-damaged g c =
-    let p = err_from_is_err_and c.from_residual.result c.from_residual.ensures.1 in
-    let t = c.index-tablets-place.result in
-    let number = place_numbered c.args.tablets.now c.args.places.now c.loop-place.place-index c.place-item.result c.requires.placed c.loop-place-test.true c.place-item.is in
-    let numbered = number.there t ∙ ap Some (sym c.index-tablets-place.is) in
-    λ damaged m told holds.
-    let e : IsErrOf c.next_cells.result Damaged = cc (p.1, p.2, c.in_err-more.was, damaged) in
-    at_told (λ m. ¬ Holds m t) (g.F.Files.contents c.loop-place.files) m (c.loop-place.invariant.same ∙ told) (c.next_cells.ensures.damaged e)
-    (of_each (Holds m) c.args.tablets.now c.place-item.result.tablet t holds numbered)
 
 pub loop-place-preserved : goal.loop-place-preserved
 loop-place-preserved g c =
@@ -99,20 +89,21 @@ loop-place-preserved g c =
             same = w.next_cells.ensures.same ∙ i.same;
             quiet = w.in_ok-more.ensures.reason.told (λ e. cc) ∙ i.quiet;
             few = omega (arith, few, sum, asked, fewer);
-            told = λ m told holds.
-                let open_t = of_each (Holds m) ts p.tablet t holds numbered in
+            told = λ m told open_there.
+                let open_t = at_item (λ q. ¬ PrecedesCell q start → (v : Tablet) → tablet_numbered q.tablet ts ≡ Some v → Holds m v) places at p open_there within is
+                (λ low. not_both _ (w.precedes.ensures.1 low) w.if-not-precedes.true) t numbered in
                 let next = at_told (λ m. Holds m t → AreNextCells (cells_at m t) start (most - length found) more) disk m told found_more open_t in
-                let s = subst (λ (rest : List PlaceView). HasScanned m ts start most found (views (take at places)) rest) left (i.told m told holds) in
+                let s = subst (λ (rest : List PlaceView). HasScanned m ts start most found (views (take at places)) rest) left (i.told m told open_there) in
                 let table = subst IsTable whole c.requires.table in
                 let as_many = subst (λ (ps : List PlaceView). length ts ≡ length ps) whole c.requires.as_many in
                 let placed = subst (λ (ps : List PlaceView). ArePlaced ts None ps) whole c.requires.placed in
                 record {
-                  next = asked_next c.stays_in_range.ensures m ts holds (views (take at places)) (view_of p) (views (drop (at + 1) places)) t table as_many placed numbered start most found more fewer s next;
-                  begins = asked_begins c.stays_in_range.ensures m ts holds (views (take at places)) (view_of p) (views (drop (at + 1) places)) t table as_many placed numbered start most found more fewer s next;
+                  next = asked_next m ts (views (take at places)) (view_of p) (views (drop (at + 1) places)) t table as_many placed numbered start most found more fewer s next;
+                  begins = asked_begins m ts (views (take at places)) (view_of p) (views (drop (at + 1) places)) t table as_many placed numbered start most found more fewer s next;
                   passed = λ wanted. passed_more (NoneAfter m ts (last_or start (found ++ more))) places at p within is
-                      (asked_passed c.stays_in_range.ensures m ts holds (views (take at places)) (view_of p) (views (drop (at + 1) places)) t table as_many placed numbered start most found more fewer s next)
-                      (scan_goes_on c.stays_in_range.ensures m ts holds places (last_or start (found ++ more)) c.requires.placed (view_of p) t numbered
-                      (asked_ended c.stays_in_range.ensures m ts holds (views (take at places)) (view_of p) (views (drop (at + 1) places)) t table as_many placed numbered start most found more fewer s next wanted));
+                      (asked_passed m ts (views (take at places)) (view_of p) (views (drop (at + 1) places)) t table as_many placed numbered start most found more fewer s next)
+                      (scan_goes_on m ts places (last_or start (found ++ more)) c.requires.placed (view_of p) t numbered
+                      (asked_ended m ts (views (take at places)) (view_of p) (views (drop (at + 1) places)) t table as_many placed numbered start most found more fewer s next wanted));
                 };
             left = λ wanted. passed_more (Passes disk ts start (found ++ more)) places at p within is
                 (each_map (Passes disk ts start found) (Passes disk ts start (found ++ more)) (λ q one. passes_more disk ts start found more q one) (views (take at places)) (i.left fewer))
@@ -127,13 +118,13 @@ loop-place-preserved g c =
             same = i.same;
             quiet = i.quiet;
             few = i.few;
-            told = λ m told holds.
-                let s = subst (λ (rest : List PlaceView). HasScanned m ts start most found (views (take at places)) rest) left (i.told m told holds) in
+            told = λ m told open_there.
+                let s = subst (λ (rest : List PlaceView). HasScanned m ts start most found (views (take at places)) rest) left (i.told m told open_there) in
                 record {
                   next = s.next;
                   begins = begin_fewer ts (last_or None found) (view_of p) (views (drop (at + 1) places)) s.begins;
                   passed = λ few. passed_more (NoneAfter m ts (last_or start found)) places at p within is (s.passed few)
-                      (later_none m ts (cells_in (Some m) ts) (length found) start found s.next (view_of p) (scan_skips c.stays_in_range.ensures m ts holds places start c.requires.placed at p within is (low few)));
+                      (later_none m ts (cells_in (Some m) ts) (length found) start found s.next (view_of p) (scan_skips m ts places start c.requires.placed at p within is (low few)));
                 };
             left = λ few. passed_more (Passes disk ts start found) places at p within is (i.left few) (inl (low few));
           }))

@@ -8,7 +8,7 @@ use Rattle.tablet.specs.Views.{memory_of, range_of}
 use Rattle.tablet.specs.declared.tablet.Tablet.{Tablet}
 use Rattle.row_atomic.proofs.RowAnswers.{apply_answer, apply_still, found_there, index_below, matched_set, over_full, owner_at}
 use Rattle.row_atomic.proofs.ChangedTablets.{is_set, on_ok}
-use Rattle.row_atomic.proofs.Calls.{applied_in, same_tablet}
+use Rattle.row_atomic.proofs.Calls.{applied_in, readable_in, same_tablet}
 use Rattle.row_atomic.proofs.CompactionRoom.{all_kept, not_full, room_after}
 use Rattle.row_atomic.proofs.Memtables.{set_fuller}
 use Rattle.row_atomic.proofs.PlaceCaches.{at_kept}
@@ -54,7 +54,8 @@ returns-clause-ok g c =
     let owns = owner_at c.self.inside.table ts row c.index_of-index.result t table c.self.invariant.0.placed c.self.invariant.0.as_many at there in
     rw (← c.self.view_is) (applied_in g.F.Files.contents _ c.index_of-index.result c.apply-done.new.self edits c.apply-done.result
     (λ order. apply_still (g.F.Files.contents c.self.inside.files) c.self.inside.next_name ts order c.index_of-index.result t c.apply-done.new.self there c.apply-done.result c.apply-done.ensures.files c.apply-done.ensures.still c.apply-done.ensures.err)
-    (λ order. apply_answer (g.F.Files.contents c.self.inside.files) c.self.inside.next_name ts order c.index_of-index.result t c.apply-done.new.self there c.stays_in_range.ensures row edits c.apply-done.result owns c.apply-done.ensures.range c.requires c.apply-done.ensures.ok c.apply-done.ensures.still)
+    (readable_in g.F.Files.contents _ c.index_of-index.result t c.apply-done.new.self there c.apply-done.result c.apply-done.ensures.still)
+    (λ order. apply_answer (g.F.Files.contents c.self.inside.files) c.self.inside.next_name ts order c.index_of-index.result t c.apply-done.new.self there row edits c.apply-done.result owns c.apply-done.ensures.range c.requires c.apply-done.ensures.ok c.apply-done.ensures.still)
     (on_ok _ _ c.apply-done.result (room_after c.self.inside.table ts row c.index_of-index.result t c.apply-done.new.self edits there owns.has c.requires c.apply-done.ensures.range) c.apply-done.ensures.memory))
 
 pub returns-clause-err : goal.returns-clause-err

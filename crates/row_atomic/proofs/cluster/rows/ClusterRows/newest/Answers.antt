@@ -1,6 +1,6 @@
 -- The cells of the row are those of its tablet, which stays what it was.
 use Rattle.std.proofs.Common.{◌<◌, ℕ, sym, subst}
-use Rattle.row_atomic.proofs.RowAnswers.{found_there, index_below, matched_set, newest_answer, owner_at, undamaged}
+use Rattle.row_atomic.proofs.RowAnswers.{found_there, holder_numbered, index_below, matched_set, newest_answer, not_damaged, owner_at}
 use Rattle.row_atomic.specs.Changes.{IsOutOfOrder}
 use Rattle.row_atomic.proofs.ChangedTablets.{numbered_old}
 use Rattle.row_atomic.proofs.Calls.{refused_read, tablet_read}
@@ -30,7 +30,8 @@ returns-clause-found g c =
     let ts = c.self.inside.tablets.items in
     let there = found_there ts c.index_of-index.result at.tablet c.index_mut.result.now at.there c.index_mut.ensures.value in
     let owns = owner_at c.self.inside.table ts c.args.row.now c.index_of-index.result c.index_mut.result.now table c.self.invariant.0.placed c.self.invariant.0.as_many at there in
-    rw (← c.self.view_is) (λ order. newest_answer (g.F.Files.contents c.self.inside.files) c.self.inside.next_name ts order c.stays_in_range.ensures _ c.args.row.now c.args.family.now c.args.qualifier c.args.lo c.args.hi c.index_of-index.result c.index_mut.result.now c.newest.result owns c.newest.ensures.found)
+    rw (← c.self.view_is) (λ whole. newest_answer (g.F.Files.contents c.self.inside.files) ts _ c.args.row.now c.args.family.now c.args.qualifier c.args.lo c.args.hi c.index_of-index.result c.index_mut.result.now c.newest.result owns
+    (whole at.place c.index_mut.result.now at.holder (holder_numbered c.self.inside.table ts c.args.row.now c.index_of-index.result c.index_mut.result.now at there)) c.newest.ensures.found)
 
 pub returns-clause-reads : goal.returns-clause-reads
 returns-clause-reads g c =
@@ -56,4 +57,5 @@ returns-clause-refusal g c =
     let at = at_kept c.self.inside.table c.self.inside.tablets.items c.args.row.now c.index_of-index.result c.self.invariant.0.placed c.index_of-index.ensures.holder in
     let ts = c.self.inside.tablets.items in
     let there = found_there ts c.index_of-index.result at.tablet c.index_mut.result.now at.there c.index_mut.ensures.value in
-    rw (← c.self.view_is) (refused_read _ c.newest.result (λ order. undamaged (g.F.Files.contents c.self.inside.files) c.self.inside.next_name ts order c.index_of-index.result c.index_mut.result.now _ there c.newest.ensures.damaged) c.newest.ensures.refusal)
+    rw (← c.self.view_is) (refused_read _ c.newest.result (λ whole. not_damaged (g.F.Files.contents c.self.inside.files) c.index_mut.result.now _
+    (whole at.place c.index_mut.result.now at.holder (holder_numbered c.self.inside.table ts c.args.row.now c.index_of-index.result c.index_mut.result.now at there)) c.newest.ensures.damaged) c.newest.ensures.refusal)
