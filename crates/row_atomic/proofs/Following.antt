@@ -119,7 +119,7 @@ module _ {F : Type 0} (contents : F → Option Contents) (stored : RootIsStored 
     still = λ held. (applies.still held.0, subst (λ (journal : Option JournalView). Follows contents new.cluster journal) (sym still_none) tt);
     made = λ held. applies.made held.0;
     room = λ row later full. elim full [
-      | inl full ↦ elim (applies.room row later full) [ | inl before ↦ inl (inl before) | inr after ↦ inr (inl after) ]
+      | inl full ↦ elim (applies.room row later full) [ inl before ↦ inl (inl before) | inr after ↦ inr (inl after) ]
       | inr full ↦ absurd (subst (λ (journal : Option JournalView). OverfillsJournal journal later) still_none full)
     ];
     stays = applies.stays;
@@ -137,7 +137,7 @@ module _ {F : Type 0} (contents : F → Option Contents) (stored : RootIsStored 
     );
     made = λ held. applies.made held.0;
     room = λ row later full. elim full [
-      | inl full ↦ elim (applies.room row later full) [ | inl before ↦ inl (inl before) | inr after ↦ inr (inl after) ]
+      | inl full ↦ elim (applies.room row later full) [ inl before ↦ inl (inl before) | inr after ↦ inr (inl after) ]
       | inr full ↦ inr (inr (subst (λ (o : Option JournalView). OverfillsJournal o (edits ++ later)) (sym was) (less_room journal edits later (subst (λ (o : Option JournalView). OverfillsJournal o later) is full))))
     ];
     stays = applies.stays;

@@ -1,5 +1,5 @@
 -- What a journal has room for fits an empty memtable.
-use Rattle.std.proofs.Common.{◌≡◌, ◌≤◌, ◌+◌, ℕ, Bool, true, false, cond, List, [], ◌∷◌, ◌++◌, filter, length, Option, refl, sym, ap, subst, ◌∙◌, arith}
+use Rattle.std.proofs.Common.{◌≡◌, ◌≤◌, ◌+◌, ℕ, zero, suc, Bool, true, false, cond, List, [], ◌∷◌, ◌++◌, filter, length, Option, Some, refl, sym, ap, subst, ◌∙◌, arith}
 use Rattle.std.proofs.lemmas.List.{length-append}
 use Rattle.std.specs.List.{AllByRecursion}
 use Rattle.std.specs.declared.cmp.Ordering.{Ordering}
@@ -15,10 +15,11 @@ use Rattle.memtable.specs.Edits.{IsWithinLimits, bytes_of, edit_entry, with_edit
 use Rattle.tablet.specs.Ranges.{has_row}
 use Rattle.tablet.specs.Views.{memory_of, range_of}
 use Rattle.tablet.specs.declared.ranges.RowRange.{RowRange}
+use Rattle.tablet.specs.declared.tablet.Tablet.{Tablet}
 use Rattle.row_atomic.specs.Changes.{IsEmptied}
-use Rattle.row_atomic.specs.Clusters.{ClusterState, Overfills, edits_in}
+use Rattle.row_atomic.specs.Clusters.{ClusterState, Overfills, edits_in, tablet_numbered}
 use Rattle.row_atomic.specs.Journals.{HasRoomFor, JournalView}
-use Rattle.row_atomic.proofs.Scans.{of_each}
+use Rattle.row_atomic.proofs.Shares.{each_at}
 
 -- an entry in the place of another one has no more bytes than both
 in_place : (name : List ℕ) (v : Option (List ℕ)) (e : Entry) → entry_len (e.0, v) ≤ entry_len e + entry_len (name, v)
@@ -88,10 +89,14 @@ fewer range (edit ∷ edits) = go (has_row range (edited_key edit).row) refl (fe
         let bytes = rest.1 in
         rw is (omega (arith, count), omega (arith, bytes, all))
 
+such : (P : Tablet → Type 0) (ts : List Tablet) (n : ℕ) (t : Tablet) → AllByRecursion P ts → tablet_numbered n ts ≡ Some t → P t
+such P ts zero t all is = cc
+such P ts (suc i) t all is = each_at P ts all i t is
+
 -- where all memtables are empty, a journal has no room for edits that would overfill one
 pub empty_fits : {F : Type 0} (state : ClusterState F) (journal : JournalView) → AllByRecursion IsEmptied state.tablets → (row : List ℕ) (edits : List Edit) → Overfills state.places state.tablets row edits → ¬ HasRoomFor journal edits
 empty_fits state journal emptied row edits full room =
-    let empty = of_each IsEmptied state.tablets full.place.tablet full.tablet emptied full.numbered in
+    let empty = such IsEmptied state.tablets full.place.tablet full.tablet emptied full.numbered in
     let most = many_more (memory_of full.tablet) (edits_in (range_of full.tablet) edits) in
     let few = fewer (range_of full.tablet) edits in
     let none : length (memory_of full.tablet) ≡ 0 = ap (λ (es : List Entry). length es) empty in

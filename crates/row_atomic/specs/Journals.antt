@@ -43,9 +43,9 @@ pub record IsWithin (journal : JournalView) : Type 0 where
 
 -- With these edits it has at most as many as a memtable, and at most as many bytes: what is written
 -- down fits an empty memtable.
-pub record HasRoomFor (journal : JournalView) (edits : List Edit) : Type 0 where
-  pub edits : journal.count + length edits ≤ 100000
-  pub bytes : length journal.logged + length journal.waiting + length (spelled_edits edits)
+pub record HasRoomFor (journal : JournalView) (more : List Edit) : Type 0 where
+  pub edits : journal.count + length more ≤ 100000
+  pub bytes : length journal.logged + length journal.waiting + length (spelled_edits more)
       ≤ 67108864
 
 -- The edits that are written down are these, those of the log first. What is true of them all is.

@@ -1,13 +1,13 @@
 //! Journals: the edits that were made since a root was put, as bytes.
 
-ghost use Rattle.std.specs.Prelude.{◌≡◌, ◌≤◌, ◌+◌, ◌-◌, List, ℕ, length, take, IfErr, IsErrOf, OnErr, OnOk};
+ghost use Rattle.std.specs.Prelude.{◌≡◌, ◌≤◌, ◌+◌, ◌-◌, length, take, IfErr, IsErrOf, OnErr, OnOk};
 ghost use Rattle.std.specs.List.{AllByRecursion};
 ghost use Rattle.cell_key.specs.Cells.{IsEditOf};
 ghost use Rattle.commit_log.specs.Edits.{IsStoredEdit};
 ghost use Rattle.row_atomic.specs.Journals.{HasRoomFor, IsWithin, all_logged, empty_journal, with_waiting};
 ghost use Rattle.row_atomic.specs.Refusals.{IsApplyRefusal};
 
-use cell_key::{Edit, Refusal};
+use cell_key::{Edit, Refusal, Row};
 use commit_log::push_edits;
 use std::alloc::Global;
 use std::marker::Model;
@@ -69,7 +69,7 @@ impl Journal {
 
     /// How many bytes they have.
     pub(crate) fn len(&self) -> usize
-        ensures { result ≡ length self.now.logged + length self.now.waiting }
+        ensures len { result ≡ length self.now.logged + length self.now.waiting }
         ensures within { IsWithin self.now }
     {
         self.bytes.len()
@@ -77,7 +77,7 @@ impl Journal {
 
     /// The bytes of the edits that wait for the log.
     pub(crate) fn waiting(&self) -> &[u8]
-        ensures { result.now ≡ self.now.waiting }
+        ensures bytes { result.now ≡ self.now.waiting }
         ensures within { IsWithin self.now }
     {
         &self.bytes[self.settled..]
@@ -99,25 +99,25 @@ impl Journal {
         self.count = 0;
     }
 
-    /// Writes edits down, behind the others.
+    /// Writes edits of a row down, behind the others.
     ///
     /// # Errors
     ///
     /// `MemtableFull` if they would pass a limit, and `NoMemory`. Nothing is written down then.
-    pub(crate) fn push(&mut self, edits: &[Edit]) -> Result<(), Refusal>
+    pub(crate) fn push(&mut self, row: &Row, edits: &[Edit]) -> Result<(), Refusal>
+        requires { AllByRecursion (IsEditOf row.now) edits.now }
         ensures ok { OnOk result (self.new ≡ with_waiting edits.now self.old) }
         ensures err { OnErr result (self.new ≡ self.old) }
         ensures refusal { IfErr result IsApplyRefusal }
         ensures full { IsErrOf result Refusal.MemtableFull → ¬ HasRoomFor self.old edits.now }
         ensures within { OnOk result (HasRoomFor self.old edits.now) }
-        ensures stored { OnOk result ((row : List ℕ) → AllByRecursion (IsEditOf row) edits.now
-            → AllByRecursion IsStoredEdit edits.now) }
+        ensures stored { OnOk result (AllByRecursion IsStoredEdit edits.now) }
     {
         if edits.len() > MOST_EDITS - self.count {
             return Err(Refusal::MemtableFull);
         }
         let before = self.bytes.len();
-        push_edits(&mut self.bytes, edits)?;
+        push_edits(&mut self.bytes, row, edits)?;
         if self.bytes.len() > MOST_BYTES {
             self.bytes.truncate(before);
             return Err(Refusal::MemtableFull);
@@ -128,7 +128,7 @@ impl Journal {
 
     /// Forgets what was written down behind the first `len` bytes, which have `count` edits.
     pub(crate) fn cut(&mut self, len: usize, count: usize)
-        requires { length self.old.logged ≤ len }
+        requires waiting { length self.old.logged ≤ len }
         requires few { count ≤ self.old.count }
         ensures { self.new ≡ record self.old {
           waiting = take (len - length self.old.logged) self.old.waiting;

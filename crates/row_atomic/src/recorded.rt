@@ -52,7 +52,7 @@ impl<F: Files> Recorded<F> {
 
     /// The bytes of the edits that wait for the log: a record of it. None wait where edits aren't recorded.
     pub fn waiting(&self) -> &[u8]
-        ensures { result.now ≡ waiting_of self.now.journal }
+        ensures bytes { result.now ≡ waiting_of self.now.journal }
         ensures within { IfSome self.now.journal IsWithin }
     {
         match &self.journal {
@@ -166,7 +166,7 @@ impl<F: Files> Rows for Recorded<F> {
             return self.cluster.apply(row, edits);
         };
         let (len, count) = (journal.len(), journal.count());
-        journal.push(&edits)?;
+        journal.push(row, &edits)?;
         let done = self.cluster.apply(row, edits);
         if done.is_err() {
             journal.cut(len, count);
