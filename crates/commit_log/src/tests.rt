@@ -1,6 +1,8 @@
 //! Logs by their bytes, over a file that fails, and in a real folder.
 
-ghost use Rattle.std.specs.Prelude.{◌≡◌, ◌≤◌, None, true};
+ghost use Rattle.std.specs.Prelude.{◌≡◌, ◌≤◌, IfOk, None, true};
+ghost use Rattle.std.specs.List.{AllByRecursion};
+ghost use Rattle.cell_key.specs.Cells.{IsEditOf};
 ghost use Rattle.commit_log.specs.Faults.{HasRisen};
 
 use crate::crc32::crc32;
@@ -319,7 +321,9 @@ const EDITS: [u8; 59] = *b"\
 \x00\x00\x00\x16a\0\xFF\0\0f\0\0lock\0\0\x80\0\0\0\0\0\0\0\x00";
 
 /// The edits of `EDITS`, and their row.
-fn two_edits(alloc: Global) -> Result<(Row, Vec<Edit>), Refusal> {
+fn two_edits(alloc: Global) -> Result<(Row, Vec<Edit>), Refusal>
+    ensures { IfOk result (λ made. AllByRecursion (IsEditOf made.0) made.1.items) }
+{
     let row = Row::new(alloc, b"a\0")?;
     let family = Family::new(alloc, b"f")?;
     let put = CellKey::new(&row, &family, Qualifier::Data, 1)?;
