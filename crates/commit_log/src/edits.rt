@@ -1,14 +1,14 @@
 //! Edits of cells in the records of a log: how they are spelled as bytes, and read again.
 
-ghost use Rattle.std.specs.Prelude.{◌≡◌, ◌≢◌, ◌⊎◌, ◌<◌, ◌^◌, ◌++◌, ℕ, List, length, IfErr, IfNone, IfOk, IfSome, IsErrOf, OnErr, OnOk};
+ghost use Rattle.std.specs.Prelude.{◌≡◌, ◌≢◌, ◌⊎◌, ◌<◌, ◌^◌, ◌++◌, ℕ, List, length, take, IfErr, IfNone, IfOk, IfSome, IsErrOf, OnErr, OnOk};
 ghost use Rattle.std.specs.List.{AllByRecursion};
 ghost use Rattle.cell_key.specs.Cells.{IsEditOf, edited_key};
 ghost use Rattle.cell_key.specs.Entries.{Entry, IsEntry, field, lent_entry, spelled};
-ghost use Rattle.cell_key.specs.Names.{IsRow, IsFamily};
 ghost use Rattle.cell_key.specs.declared.edits.Edit.{Edit as CellEdit};
 ghost use Rattle.commit_log.specs.Edits.{HasShortParts, HoldEdits, IsStoredEdit, edit_entry, spelled_edit, spelled_edits};
 ghost use Rattle.commit_log.specs.Frames.{bytes_of};
 
+use crate::frames::length_in;
 use cell_key::{CellKey, Edit, EntryRef, Refusal, Row};
 use std::alloc::Global;
 
@@ -25,9 +25,11 @@ pub fn edited_key(edit: &Edit) -> &CellKey
     }
 }
 
-/// Appends a length and that many bytes.
+/// Appends a length and that many bytes. After an `Err` a part of them may stand there.
 fn push_field(out: &mut Vec<u8>, bytes: &[u8]) -> Result<(), Refusal>
+    requires { length bytes.now < 2 ^ 32 }
     ensures ok { OnOk result (out.new.items ≡ out.old.items ++ field bytes.now) }
+    ensures front { take (length out.old.items) out.new.items ≡ out.old.items }
     ensures refusal { IfErr result (λ refusal. refusal ≡ Refusal.NoMemory) }
 {
     let length = bytes.len() as u32;
@@ -36,17 +38,17 @@ fn push_field(out: &mut Vec<u8>, bytes: &[u8]) -> Result<(), Refusal>
     Ok(())
 }
 
-/// Appends the bytes of an edit. After an `Err` a part of them may stand there.
-fn push_edit(out: &mut Vec<u8>, edit: &Edit) -> Result<(), Refusal>
+/// Appends the bytes of an edit of a row. After an `Err` a part of them may stand there.
+fn push_edit(out: &mut Vec<u8>, row: &Row, edit: &Edit) -> Result<(), Refusal>
+    requires { IsEditOf row.now edit.now }
     ensures ok { OnOk result (out.new.items ≡ out.old.items ++ spelled_edit edit.now) }
-    ensures row { OnOk result (IsRow (edited_key edit.now).row) }
-    ensures family { OnOk result (IsFamily (edited_key edit.now).family) }
-    ensures behind { (more : List ℕ) × (out.new.items ≡ out.old.items ++ more) }
+    ensures stored { OnOk result (IsStoredEdit edit.now) }
+    ensures front { take (length out.old.items) out.new.items ≡ out.old.items }
     ensures refusal { IfErr result (λ refusal. refusal ≡ Refusal.NoMemory) }
 {
     let key = edited_key(edit);
     // These calls show that row and family are within their limits.
-    let _row = key.row.as_bytes();
+    let _row = row.as_bytes();
     let _family = key.family.as_bytes();
     let mut text = Vec::new(*out.allocator());
     key.encode(&mut text)?;
@@ -63,35 +65,34 @@ fn push_edit(out: &mut Vec<u8>, edit: &Edit) -> Result<(), Refusal>
     }
 }
 
-/// Appends the bytes of edits. After an `Err` a part of them may stand there.
-fn push_each(out: &mut Vec<u8>, edits: &[Edit]) -> Result<(), Refusal>
+/// Appends the bytes of edits of a row. After an `Err` a part of them may stand there.
+fn push_each(out: &mut Vec<u8>, row: &Row, edits: &[Edit]) -> Result<(), Refusal>
+    requires { AllByRecursion (IsEditOf row.now) edits.now }
     ensures ok { OnOk result (out.new.items ≡ out.old.items ++ spelled_edits edits.now) }
-    ensures stored { OnOk result ((row : List ℕ) → AllByRecursion (IsEditOf row) edits.now
-        → AllByRecursion IsStoredEdit edits.now) }
-    ensures behind { (more : List ℕ) × (out.new.items ≡ out.old.items ++ more) }
+    ensures stored { OnOk result (AllByRecursion IsStoredEdit edits.now) }
+    ensures front { take (length out.old.items) out.new.items ≡ out.old.items }
     ensures refusal { IfErr result (λ refusal. refusal ≡ Refusal.NoMemory) }
 {
     for edit in edits {
-        push_edit(out, edit)?;
+        push_edit(out, row, edit)?;
     }
     Ok(())
 }
 
-/// Appends the bytes of edits, one behind the other.
+/// Appends the bytes of edits of a row, one behind the other.
 ///
 /// # Errors
 ///
 /// `NoMemory`. Nothing is appended then.
-pub fn push_edits(out: &mut Vec<u8>, edits: &[Edit]) -> Result<(), Refusal>
+pub fn push_edits(out: &mut Vec<u8>, row: &Row, edits: &[Edit]) -> Result<(), Refusal>
+    requires { AllByRecursion (IsEditOf row.now) edits.now }
     ensures ok { OnOk result (out.new.items ≡ out.old.items ++ spelled_edits edits.now) }
+    ensures stored { OnOk result (AllByRecursion IsStoredEdit edits.now) }
     ensures err { OnErr result (out.new.items ≡ out.old.items) }
-    // Edits of a row, whose names are within their limits, are within all limits.
-    ensures stored { OnOk result ((row : List ℕ) → AllByRecursion (IsEditOf row) edits.now
-        → AllByRecursion IsStoredEdit edits.now) }
     ensures refusal { IfErr result (λ refusal. refusal ≡ Refusal.NoMemory) }
 {
     let length = out.len();
-    let pushed = push_each(out, edits);
+    let pushed = push_each(out, row, edits);
     if pushed.is_err() {
         out.truncate(length);
     }
@@ -106,7 +107,7 @@ fn split_field(bytes: &[u8]) -> Option<(&[u8], &[u8])>
         → bytes.now ≢ field part ++ rest) }
 {
     let (length, rest) = bytes.split_first_chunk::<4>()?;
-    let length = u32::from_be_bytes(*length) as usize;
+    let length = length_in(*length) as usize;
     if rest.len() < length {
         return None;
     }
@@ -161,6 +162,7 @@ fn edit_of(alloc: Global, entry: EntryRef<'_>) -> Result<Option<Edit>, Refusal>
 /// `Damaged` if no edit within the limits stands there; `NoMemory`.
 fn first_edit(alloc: Global, bytes: &[u8]) -> Result<(Edit, &[u8]), Refusal>
     ensures found { IfOk result (λ p. bytes.now ≡ spelled_edit p.0 ++ p.1.now) }
+    ensures shorter { IfOk result (λ p. length p.1.now < length bytes.now) }
     ensures stored { IfOk result (λ p. IsStoredEdit p.0) }
     ensures damaged { IsErrOf result Refusal.Damaged → (edit : CellEdit) (rest : List ℕ)
         → IsStoredEdit edit → bytes.now ≢ spelled_edit edit ++ rest }

@@ -6,6 +6,8 @@ ghost use Rattle.commit_log.specs.Crc32.{crc32};
 ghost use Rattle.commit_log.specs.Edits.{LogsEdits};
 ghost use Rattle.commit_log.specs.Frames.{IsLog, IsRecord, IsTail, frame, log_of};
 
+use cell_key::one_key_a_text;
+
 /// The checksum has the check value of CRC-32, which tells it from others.
 pub fn check_value()
     ensures { crc32 (codes "123456789") ≡ 0xCBF43926 }
@@ -45,4 +47,6 @@ pub fn torn_append()
 /// How records hold edits, and that what the same records hold makes the same of cells.
 pub fn logs_edits()
     ensures { LogsEdits }
-{}
+{
+    one_key_a_text();
+}
