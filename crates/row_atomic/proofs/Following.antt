@@ -2,6 +2,7 @@
 use Rattle.std.proofs.Common.{◌≡◌, ◌≢◌, ◌≤◌, ◌+◌, ◌-◌, ◌∙◌, ◌⊎◌, inl, inr, ℕ, List, [], ◌∷◌, ◌++◌, length, take, Option, None, Some, IsSome, option_map, refl, sym, ap, subst, arith}
 use Rattle.std.proofs.lemmas.List.{append_assoc, length-append}
 use Rattle.std.proofs.lemmas.List.Concat.{flat_map-append}
+use Rattle.std.proofs.lemmas.Bool.{false≢true}
 use Rattle.std.specs.FinMap.{get}
 use Rattle.std.specs.List.{AllByRecursion}
 use Rattle.cell_key.specs.Cells.{Cells, after_edits}
@@ -16,7 +17,7 @@ use Rattle.row_atomic.specs.Clusters.{ClusterState, Overfills, Storage, cells_in
 use Rattle.row_atomic.specs.Commands.{AnswersFromCells, cells_shown}
 use Rattle.row_atomic.specs.Journals.{HasRoomFor, HasWritten, JournalView, with_waiting}
 use Rattle.row_atomic.specs.Open.{IsOpenedOf, IsStore, Reopens}
-use Rattle.row_atomic.specs.Recorded.{FitsMemtables, Follows, FollowsListed, IfWritten, IsOfUpkeep, KeepsFollowing, OpensFollowing, OverfillsJournal, OverfillsRecorded, Tracks, TracksListed, seen_recorded}
+use Rattle.row_atomic.specs.Recorded.{FitsMemtables, Follows, FollowsListed, IfWritten, IsOfUpkeep, KeepsFollowing, OpensFollowing, OverfillsJournal, OverfillsRecorded, Tracks, TracksListed, logged_of, seen_recorded}
 use Rattle.row_atomic.specs.Roots.{HasRoot, KeepsRoot, Rests, RootIsStored, RootOutlastsFlushes, RootOutlastsMerges, RootStays, root_at, root_name}
 use Rattle.row_atomic.specs.declared.commands.Command.{Command}
 use Rattle.row_atomic.specs.declared.commands.Command.TheVariants as command
@@ -105,24 +106,26 @@ module _ {F : Type 0} (contents : F → Option Contents) (stored : RootIsStored 
       subst (λ (journal : Option JournalView). Follows contents new.cluster journal) (sym same)
           (each_such (λ edits tracks. tracks_on old.cluster new.cluster reads.stays edits edits (λ base replay. replay ∙ sym reads.kept) tracks) old.journal held.1),
     );
+    readable = reads.readable;
     kept = reads.kept;
     room = λ row later full. elim full [
       | inl full ↦ inl (reads.room row later full)
       | inr full ↦ inr (subst (λ (journal : Option JournalView). OverfillsJournal journal later) same full)
     ];
-    stays = reads.stays;
+    stays = λ i. record (reads.stays i) { logged = logged_of (same i) };
   }
 
   -- where no edits are recorded
   pub applies_plain : (edits : List Edit) (old new : Recorded F) → old.journal ≡ None → new.journal ≡ None → Applies (seen_of contents) edits old.cluster new.cluster → Applies (seen_recorded contents) edits old new
   applies_plain edits old new none still_none applies = record {
     still = λ held. (applies.still held.0, subst (λ (journal : Option JournalView). Follows contents new.cluster journal) (sym still_none) tt);
+    readable = applies.readable;
     made = λ held. applies.made held.0;
     room = λ row later full. elim full [
       | inl full ↦ elim (applies.room row later full) [ inl before ↦ inl (inl before) | inr after ↦ inr (inl after) ]
       | inr full ↦ absurd (subst (λ (journal : Option JournalView). OverfillsJournal journal later) still_none full)
     ];
-    stays = applies.stays;
+    stays = λ i. record (applies.stays i) { logged = logged_of ((still_none ∙ sym none) i) };
   }
 
   pub applies_recorded : Replays → (edits : List Edit) → AllByRecursion IsStoredEdit edits → (old new : Recorded F) (journal : JournalView) → old.journal ≡ Some journal → new.journal ≡ Some (with_waiting edits journal)
@@ -135,13 +138,17 @@ module _ {F : Type 0} (contents : F → Option Contents) (stored : RootIsStored 
           (λ base replay. replays.joined base before edits ∙ (ap (λ (cs : Cells). after_edits cs edits) replay ∙ sym (applies.made held.0))) tracks)
           journal (subst (λ (o : Option JournalView). Follows contents old.cluster o) was held.1)),
     );
+    readable = applies.readable;
     made = λ held. applies.made held.0;
     room = λ row later full. elim full [
       | inl full ↦ elim (applies.room row later full) [ inl before ↦ inl (inl before) | inr after ↦ inr (inl after) ]
       | inr full ↦ inr (inr (subst (λ (o : Option JournalView). OverfillsJournal o (edits ++ later)) (sym was) (less_room journal edits later (subst (λ (o : Option JournalView). OverfillsJournal o later) is full))))
     ];
-    stays = applies.stays;
+    stays = λ i. record (applies.stays i) { logged = logged_is i };
   }
+    where
+      logged_is : logged_of new.journal ≡ logged_of old.journal
+      logged_is = ap logged_of is ∙ ap logged_of (sym was)
 
 -- ---- the room of the memtables
 
@@ -243,7 +250,7 @@ module _ {F : Type 0} (contents : F → Option Contents) where
   }
 
   store_of : (m : Contents) (top floor : ℕ) (state : ClusterState F) → contents state.files ≡ Some m → (o : Option (List ℕ)) → get m root_name ≡ o → IsSome o → IsStore m o top floor state → TracksListed contents state []
-  store_of m top floor state known None there some store = absurd some
+  store_of m top floor state known None there some store = absurd (false≢true some)
   store_of m top floor state known (Some image) there some store = opened_of m top floor state known image there store
 
   pub opens_following : OpensFollowing contents

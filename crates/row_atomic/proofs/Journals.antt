@@ -1,7 +1,9 @@
 -- What a journal's bytes are after a call.
 use Rattle.std.proofs.Common.{◌≡◌, ◌≤◌, ◌+◌, ◌-◌, ℕ, List, [], ◌++◌, drop, length, take, refl, sym, ap, subst, ◌∙◌, arith}
 use Rattle.std.proofs.lemmas.List.{drop-append-le, drop-take, length-append, length-take-le, take-append-drop, take-append-le}
-use Rattle.row_atomic.specs.Journals.{JournalView}
+use Rattle.cell_key.specs.declared.edits.Edit.{Edit}
+use Rattle.commit_log.specs.Edits.{spelled_edits}
+use Rattle.row_atomic.specs.Journals.{JournalView, with_waiting}
 use Rattle.std.proofs.Math.Seq.{drop-length, take-add, take-append_seam, take-length}
 
 -- the bytes that the log has and those that wait are all
@@ -65,3 +67,17 @@ cut_view s n count less bs now is within enough = ap (λ (l : List ℕ). view_at
 
 pub push_view : (s count more : ℕ) (bs bytes now : List ℕ) → now ≡ bs ++ bytes → s ≤ length bs → view_at s now (count + more) ≡ record { logged = take s bs; waiting = drop s bs ++ bytes; count = count + more }
 push_view s count more bs bytes now is within i = record { logged = first_stays s bs bytes now within is i; waiting = rest_grows s bs bytes now within is i; count = count + more }
+
+-- edits that were written down are taken back
+pub taken_back : (edits : List Edit) (journal pushed cut : JournalView) (len count : ℕ) → pushed ≡ with_waiting edits journal → len ≡ length journal.logged + length journal.waiting → count ≡ journal.count
+    → cut ≡ record pushed { waiting = take (len - length pushed.logged) pushed.waiting; count = count } → cut ≡ journal
+taken_back edits journal pushed cut len count is long counted became = became ∙ (ap (λ (j : JournalView). record j { waiting = take (len - length j.logged) j.waiting; count = count }) is ∙ all)
+  where
+    rest : len - length journal.logged ≡ length journal.waiting
+    rest = let long = long in omega (arith, long)
+
+    back : take (len - length journal.logged) (journal.waiting ++ spelled_edits edits) ≡ journal.waiting
+    back = ap (λ (n : ℕ). take n (journal.waiting ++ spelled_edits edits)) rest ∙ take-append_seam journal.waiting (spelled_edits edits)
+
+    all : record (with_waiting edits journal) { waiting = take (len - length journal.logged) (journal.waiting ++ spelled_edits edits); count = count } ≡ journal
+    all i = record { logged = journal.logged; waiting = back i; count = counted i }

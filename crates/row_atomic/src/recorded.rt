@@ -116,7 +116,11 @@ impl<F: Files> Recorded<F> {
 impl<F: Files> Rows for Recorded<F> {
     ghost use Rattle.row_atomic.specs.Calls.{Applies, OnlyReads};
     ghost use Rattle.row_atomic.specs.Journals.{with_waiting};
-    ghost use Rattle.row_atomic.specs.Recorded.{FitsMemtables, seen_recorded};
+    ghost use Rattle.row_atomic.specs.Recorded.{FitsMemtables, OverfillsRecorded, seen_recorded};
+    ghost use Rattle.row_atomic.specs.Refusals.{IsApplyRefusal};
+    ghost use Rattle.std.specs.List.{AllByRecursion};
+    ghost use Rattle.std.specs.Prelude.{IfErr, IsErrOf};
+    ghost use Rattle.cell_key.specs.Cells.{IsEditOf};
 
     ghost seen = { seen_recorded F.contents };
 
@@ -152,8 +156,14 @@ impl<F: Files> Rows for Recorded<F> {
     }
 
     fn apply(&mut self, row: &Row, edits: Vec<Edit>) -> Result<(), Refusal>
+        requires { AllByRecursion (IsEditOf row.now) edits.items }
         ensures ok { OnOk result (Applies (seen_recorded F.contents) edits.items self.old self.new) }
         ensures err { OnErr result (OnlyReads (seen_recorded F.contents) self.old self.new) }
+        ensures refusal { IfErr result IsApplyRefusal }
+        ensures full { IsErrOf result Refusal.MemtableFull
+            → OverfillsRecorded self.old row.now edits.items }
+        ensures within { OnOk result (¬ OverfillsRecorded self.old row.now edits.items) }
+        ensures untouched { F.faults self.new.cluster.files ≡ F.faults self.old.cluster.files }
         ensures written { OnOk result (self.new.journal
             ≡ option_map (with_waiting edits.items) self.old.journal) }
         ensures unwritten { OnErr result (self.new.journal ≡ self.old.journal) }
@@ -162,16 +172,18 @@ impl<F: Files> Rows for Recorded<F> {
     {
         root_is_stored::<F>();
         replays();
-        let Some(journal) = &mut self.journal else {
-            return self.cluster.apply(row, edits);
-        };
-        let (len, count) = (journal.len(), journal.count());
-        journal.push(row, &edits)?;
-        let done = self.cluster.apply(row, edits);
-        if done.is_err() {
-            journal.cut(len, count);
+        match &mut self.journal {
+            None => self.cluster.apply(row, edits),
+            Some(journal) => {
+                let (len, count) = (journal.len(), journal.count());
+                journal.push(row, &edits)?;
+                let done = self.cluster.apply(row, edits);
+                if done.is_err() {
+                    journal.cut(len, count);
+                }
+                done
+            }
         }
-        done
     }
 
     fn faults(&self) -> u64 {
