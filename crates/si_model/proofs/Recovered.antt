@@ -60,7 +60,7 @@ module _ (cells : Cells) where
     marks : next.marks ≡ st.marks
     reads : next.reads ≡ st.reads
     scans : next.scans ≡ st.scans
-    begun : (next.begun ≡ st.begun) ⊎ (next.begun ≡ insert st.begun mark [])
+    begun : (next.begun ≡ st.begun) ⊎ ((st.top < mark) × (next.begun ≡ insert st.begun mark []))
     places : next.places ≡ st.places
     next_tablet : next.next_tablet ≡ st.next_tablet
     top : next.top ≡ mark
@@ -77,7 +77,7 @@ module _ (cells : Cells) where
         marks = refl;
         reads = refl;
         scans = refl;
-        begun = inr refl;
+        begun = inr (less, refl);
         places = refl;
         next_tablet = refl;
         top = refl;

@@ -12,8 +12,9 @@ use Rattle.si_model.specs.ShowsCells.{ShowsCells}
 pub record IsRecovered (mark : ℕ) (st next : State) : Type 0 where
   pub top : next.top ≡ mark
   pub floor : next.floor ≡ mark + 1
-  -- the stamp of the mark may be the start of a session, which wrote nothing
-  pub begun : (next.begun ≡ st.begun) ⊎ (next.begun ≡ insert st.begun mark [])
+  -- a session may have begun at the mark, and wrote nothing
+  pub begun : (next.begun ≡ st.begun)
+      ⊎ ((st.top < mark) × (next.begun ≡ insert st.begun mark []))
   pub active : next.active ≡ empty
   pub commits : next.commits ≡ st.commits
   pub dead : next.dead ≡ st.dead
