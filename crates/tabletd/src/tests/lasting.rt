@@ -1,8 +1,8 @@
 //! A server with a log over devices in memory that can be cut off, and what is read of it.
 
 use crate::FILE_LIMIT;
-use crate::tests::push_frame;
 use crate::tests::stopping::{Life, Stopping};
+use crate::tests::{FLUSH, push_frame};
 use cell_key::Refusal;
 use commit_log::{FileLog, HEAD, LogFile, MemFile};
 use file_store::MemFiles;
@@ -100,13 +100,14 @@ impl Devices {
         let files = Stopping::new(&self.files, &self.life);
         let marks = Stopping::new(&self.marks, &self.life);
         let log = Stopping::new(&self.log, &self.life);
-        let mut server = match LastingServer::open(
-            self.alloc,
-            files,
-            marks,
-            log,
-            config_of(upkeep.flush),
-        ) {
+        let config = Config {
+            flush: FlushLimits {
+                entries: upkeep.flush,
+                bytes: None,
+            },
+            file_limit: FILE_LIMIT,
+        };
+        let mut server = match LastingServer::open(self.alloc, files, marks, log, config) {
             Ok(server) => server,
             Err((refusal, _, _, _)) => return Err(refusal),
         };
@@ -129,17 +130,6 @@ impl Devices {
             Err(ServeFault::NoMemory) => Err(Refusal::NoMemory),
             Err(_) => Err(Refusal::Device),
         }
-    }
-}
-
-/// The limits of a store.
-fn config_of(flush: u32) -> Config {
-    Config {
-        flush: FlushLimits {
-            entries: flush,
-            bytes: None,
-        },
-        file_limit: FILE_LIMIT,
     }
 }
 
@@ -209,7 +199,10 @@ fn reads_between(alloc: Global, requests: &[&[u8]]) -> Result<Vec<u8>, AllocErro
 /// What the reads give after each beginning of some requests, in a store without a log.
 pub fn states(alloc: Global, requests: &[&[u8]]) -> Result<Vec<Vec<u8>>, Refusal> {
     let stream = reads_between(alloc, requests)?;
-    let config = config_of(ON_REQUEST.flush);
+    let config = Config {
+        flush: FLUSH,
+        file_limit: FILE_LIMIT,
+    };
     let made = Server::new(alloc, MemFiles::new(alloc), MemMark::new(), config);
     let Ok(mut server) = made else {
         return Err(Refusal::NoMemory);

@@ -1,6 +1,6 @@
 //! Devices in memory that a kill cuts off: from one of their calls on, counted over all three, each fails and changes nothing.
 
-ghost use Rattle.std.specs.Prelude.{◌≡◌, ◌≤◌, ◌<◌, ◌^◌, IfOk, IsErrOf, None, OnErr, OnOk, false};
+ghost use Rattle.std.specs.Prelude.{◌≡◌, ◌≤◌, ◌<◌, ◌^◌, IfOk, IsErrOf, None, OnErr, OnOk, false, ⊤};
 ghost use Rattle.cell_key.specs.Faults.{HasRisen};
 ghost use Rattle.commit_log.specs.Faults.{HasFaultCause as HasLogCause};
 ghost use Rattle.commit_log.specs.Frames.{IsRecord};
