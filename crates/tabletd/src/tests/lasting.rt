@@ -4,7 +4,7 @@ use crate::FILE_LIMIT;
 use crate::tests::stopping::{Life, Stopping};
 use crate::tests::{FLUSH, push_frame};
 use cell_key::Refusal;
-use commit_log::{FileLog, HEAD, LogFile, MemFile};
+use commit_log::{FileLog, HEAD, LogFault, LogFile, MemFile};
 use file_store::MemFiles;
 use oracle::{MarkStore, MemMark};
 use server_loop::{Config, FlushLimits, LastingServer, ServeFault, Server};
@@ -13,8 +13,7 @@ use std::cell::Cell;
 
 /// A server over devices that can be cut off.
 pub type StoppingServer<'a> = LastingServer<
-    Stopping<'a, MemFiles>,
-    Stopping<'a, MemMark>,
+    Server<Stopping<'a, MemFiles>, Stopping<'a, MemMark>>,
     Stopping<'a, FileLog<MemFile>>,
 >;
 
@@ -66,7 +65,8 @@ impl Devices {
                 self.log.set(Some(log));
                 Ok(())
             }
-            Err(_) => Err(Refusal::Damaged),
+            Err((LogFault::Damaged, _)) => Err(Refusal::Damaged),
+            Err(_) => Err(Refusal::NoMemory),
         }
     }
 

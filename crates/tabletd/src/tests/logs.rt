@@ -1,13 +1,16 @@
 //! Logs by their bytes: what a server writes, and what it opens if they are cut short, garbled or no edits.
 
+use crate::FILE_LIMIT;
 use crate::tests::lasting::{Devices, ON_REQUEST, Upkeep, reads, states};
-use crate::tests::rows::{FIRST_CELL, TRANSFER};
+use crate::tests::rows::{Exchange, FIRST_CELL, Row, TRANSFER};
 use crate::tests::stopping::Written;
-use crate::tests::streams::Pieces;
-use crate::tests::{push_frame, streams_of};
+use crate::tests::streams::{Holding, Pieces};
+use crate::tests::{FLUSH, push_frame, streams_of};
 use cell_key::Refusal;
-use commit_log::HEAD;
-use server_loop::{End, ServeFault, end_status};
+use commit_log::{HEAD, MemLog};
+use file_store::MemFiles;
+use oracle::MemMark;
+use server_loop::{Config, End, LastingServer, ServeFault, Server, end_status};
 use std::alloc::Global;
 use std::num::NonZeroUsize;
 use std::test::Fail;
@@ -64,6 +67,64 @@ fn what_the_log_has(rt: HostRuntime) -> Result<(), Fail> {
     assert!(rt; bytes.as_slice() == HEAD.as_slice());
     let bytes = log_after(rt.alloc(), CHECKPOINTS, 1, b"")?;
     assert!(rt; bytes.as_slice() == HEAD.as_slice());
+    Ok(())
+}
+
+/// A server with a log in memory.
+type MemLasting = LastingServer<Server<MemFiles, MemMark>, MemLog>;
+
+/// A server that is opened over these devices.
+fn opened(
+    alloc: Global,
+    files: MemFiles,
+    marks: MemMark,
+    log: MemLog,
+) -> Result<MemLasting, Refusal> {
+    let config = Config {
+        flush: FLUSH,
+        file_limit: FILE_LIMIT,
+    };
+    match LastingServer::open(alloc, files, marks, log, config) {
+        Ok(server) => Ok(server),
+        Err((refusal, _, _, _)) => Err(refusal),
+    }
+}
+
+/// A cell that is committed, and read when another server has got the devices. Its session is gone.
+const HANDED_ON: [Exchange; 3] = [
+    // Begin: 1001
+    (b"\x01", b"\x81\0\0\0\0\0\0\x03\xE9"),
+    // Get 1001 r c: v
+    (
+        b"\x02\0\0\0\0\0\0\x03\xE9\0\0\0\x01r\0\0\0\x01c",
+        b"\x82\x01\0\0\0\x01v",
+    ),
+    // Step 3: refused 1
+    (b"\x04\0\0\0\0\0\0\0\x03", b"\xFF\x01"),
+];
+
+/// Whether a server ends cleanly and writes the replies of a row.
+fn is_met(alloc: Global, server: &mut MemLasting, row: &Row) -> Result<bool, Refusal> {
+    let (requests, replies) = streams_of(alloc, row)?;
+    let mut reader = requests.as_slice();
+    let mut writer = Holding::new(alloc);
+    let ended = server.serve(&mut reader, &mut writer, u64::MAX);
+    Ok(matches!(ended, Ok(End::Clean)) && writer.out == replies)
+}
+
+#[test]
+fn devices_are_handed_on(rt: HostRuntime) -> Result<(), Fail> {
+    let alloc = rt.alloc();
+    let mut server = opened(
+        alloc,
+        MemFiles::new(alloc),
+        MemMark::new(),
+        MemLog::new(alloc),
+    )?;
+    assert!(rt; is_met(alloc, &mut server, &FIRST_CELL)?);
+    let (files, marks, log) = server.into_devices();
+    let mut server = opened(alloc, files, marks, log)?;
+    assert!(rt; is_met(alloc, &mut server, &(0, &[&HANDED_ON]))?);
     Ok(())
 }
 

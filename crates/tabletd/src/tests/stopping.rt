@@ -10,6 +10,7 @@ use cell_key::Stamp;
 use commit_log::{Log, LogFault};
 use file_store::{FileFault, Files};
 use oracle::{MarkFault, MarkStore};
+use server_loop::WholeFiles;
 use std::cell::Cell;
 use std::io;
 use std::io::Write;
@@ -229,6 +230,10 @@ impl<F: Files + Drop> Files for Stopping<'_, F> {
     fn faults(&self) -> u64 {
         self.faults
     }
+}
+
+impl<F: Files + Drop> WholeFiles for Stopping<'_, F> {
+    ghost whole = { tt };
 }
 
 impl<M: MarkStore + Drop> MarkStore for Stopping<'_, M> {
