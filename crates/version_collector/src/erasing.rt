@@ -123,8 +123,8 @@ pub(crate) fn erase_old<R: Rows>(
 ) -> Result<bool, Refusal>
     ensures erased { IfOk result (λ erased.
         OnTrue erased (AppliesSuch R.seen
-        (CollectsCell (R.seen.readable rows.old cell.now.row) (R.seen.cells rows.old) cell.now floor)
-        rows.old rows.new)) }
+        (CollectsCell (R.seen.readable rows.old cell.now.row) (R.seen.cells rows.old)
+        cell.now floor) rows.old rows.new)) }
     ensures left { IfOk result (λ erased. OnFalse erased (OnlyReads R.seen rows.old rows.new)) }
     ensures tidy { R.seen.readable rows.old cell.now.row
         → AreShown (R.seen.cells rows.old)
@@ -136,7 +136,8 @@ pub(crate) fn erase_old<R: Rows>(
         → ¬ IsErrOf result Refusal.Damaged }
     ensures full { IsErrOf result Refusal.MemtableFull
         → HasNoRoom R.seen.overfills rows.old
-        (CollectsCell (R.seen.readable rows.old cell.now.row) (R.seen.cells rows.old) cell.now floor) }
+        (CollectsCell (R.seen.readable rows.old cell.now.row) (R.seen.cells rows.old)
+        cell.now floor) }
     ensures reason { HasReason (R.faults rows.old) (R.faults rows.new) result }
 {
     let edits = old_edits(alloc, rows, cell, floor)?;
