@@ -157,7 +157,8 @@ impl<F: Files> Rows for Recorded<F> {
 
     fn apply(&mut self, row: &Row, edits: Vec<Edit>) -> Result<(), Refusal>
         requires { AllByRecursion (IsEditOf row.now) edits.items }
-        ensures ok { OnOk result (Applies (seen_recorded F.contents) edits.items self.old self.new) }
+        ensures ok { OnOk result (Applies (seen_recorded F.contents)
+            row.now edits.items self.old self.new) }
         ensures err { OnErr result (OnlyReads (seen_recorded F.contents) self.old self.new) }
         ensures refusal { IfErr result IsApplyRefusal }
         ensures full { IsErrOf result Refusal.MemtableFull
