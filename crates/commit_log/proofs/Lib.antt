@@ -1,4 +1,7 @@
 mod Bits
 mod Cuts
+mod Entries
 mod Fronts
 mod Holding
+mod Logging
+mod Results

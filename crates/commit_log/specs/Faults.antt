@@ -1,11 +1,8 @@
 -- Faults of a log, and their causes.
-use Rattle.std.specs.Prelude.{◌≡◌, ℕ, ◌+◌, ◌-◌, ◌≤◌, ◌^◌, min, List, codes, Result, IsErrOf}
+use Rattle.std.specs.Prelude.{◌≡◌, ℕ, ◌≤◌, List, codes, Result, IsErrOf}
+pub use Rattle.cell_key.specs.Faults.{HasRisen}
 use Rattle.commit_log.specs.declared.faults.LogFault.{LogFault}
 use Rattle.commit_log.specs.declared.faults.LogFault.TheVariants.{Device, Memory, Damaged}
-
--- A count of faults has risen. At the greatest number it stays, and is taken as risen.
-abbrev pub HasRisen : ℕ → ℕ → Type 0
-HasRisen before now = min (before + 1) (2 ^ 64 - 1) ≤ now
 
 -- A count never falls. A device's fault is answered exactly if it has risen.
 pub record HasFaultCause {T : Type 0} (before now : ℕ) (result : Result T LogFault) : Type 0 where

@@ -1,4 +1,5 @@
 pub mod Crc32
+pub mod Edits
 pub mod Faults
 pub mod Files
 pub mod Frames

@@ -48,7 +48,7 @@ fn is_checksum(payload: &[u8], found: [u8; 4]) -> bool
 }
 
 /// The length that four bytes give.
-fn length_in(bytes: [u8; 4]) -> u32
+pub(crate) fn length_in(bytes: [u8; 4]) -> u32
     ensures value { result ≡ from_be_bytes w32 bytes }
     ensures spells { to_be_bytes w32 result ≡ bytes }
 {

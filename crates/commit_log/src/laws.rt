@@ -3,7 +3,10 @@
 ghost use Rattle.std.specs.Prelude.{◌≡◌, ◌≤◌, ◌⊎◌, ◌++◌, ◌∷◌, [], ℕ, List, codes, replicate, take};
 ghost use Rattle.std.specs.List.{AllByRecursion};
 ghost use Rattle.commit_log.specs.Crc32.{crc32};
+ghost use Rattle.commit_log.specs.Edits.{LogsEdits};
 ghost use Rattle.commit_log.specs.Frames.{IsLog, IsRecord, IsTail, frame, log_of};
+
+use cell_key::one_key_a_text;
 
 /// The checksum has the check value of CRC-32, which tells it from others.
 pub fn check_value()
@@ -40,3 +43,10 @@ pub fn torn_append()
         → IsLog (log_of records ++ take n (frame payload)) records (take n (frame payload))
         ⊎ IsLog (log_of records ++ take n (frame payload)) (records ++ payload ∷ []) [] }
 {}
+
+/// How records hold edits, and that what the same records hold makes the same of cells.
+pub fn logs_edits()
+    ensures { LogsEdits }
+{
+    one_key_a_text();
+}

@@ -2,6 +2,7 @@
 #![tactic(auto)]
 
 mod crc32;
+mod edits;
 mod faults;
 mod file_log;
 mod files;
@@ -14,6 +15,7 @@ mod memory;
 #[cfg(test)]
 mod tests;
 
+pub use edits::{edited_key, edits_in, push_edits};
 pub use faults::LogFault;
 pub use file_log::FileLog;
 pub use files::LogFile;

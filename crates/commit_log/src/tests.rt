@@ -1,9 +1,12 @@
 //! Logs by their bytes, over a file that fails, and in a real folder.
 
-ghost use Rattle.std.specs.Prelude.{◌≡◌, ◌≤◌, None, true};
+ghost use Rattle.std.specs.Prelude.{◌≡◌, ◌≤◌, IfOk, None, true};
+ghost use Rattle.std.specs.List.{AllByRecursion};
+ghost use Rattle.cell_key.specs.Cells.{IsEditOf};
 ghost use Rattle.commit_log.specs.Faults.{HasRisen};
 
 use crate::crc32::crc32;
+use crate::edits::{edited_key, edits_in, push_edits};
 use crate::faults::LogFault;
 use crate::file_log::FileLog;
 use crate::files::LogFile;
@@ -12,6 +15,7 @@ use crate::frames::{frame_of, read_log};
 use crate::logs::Log;
 use crate::mem_file::MemFile;
 use crate::memory::MemLog;
+use cell_key::{CellKey, Edit, Family, MOST_STAMP, Qualifier, Refusal, Row};
 use std::alloc::Global;
 use std::test::Fail;
 use std::{fs, io, process};
@@ -308,5 +312,63 @@ fn a_log_in_a_folder(rt: HostRuntime) -> Result<(), Fail> {
     fs::write(&rt, file.as_str(), b"TABLOG02")?;
     assert!(rt; matches!(records_in(&rt, path), Err(LogFault::Damaged)));
     fs::remove_dir_all(&rt, path)?;
+    Ok(())
+}
+
+/// A record of a put and an erasure.
+const EDITS: [u8; 59] = *b"\
+\x00\x00\x00\x16a\0\xFF\0\0f\0\0data\0\0\xFF\xFF\xFF\xFF\xFF\xFF\xFF\xFE\x01\x00\x00\x00\x01v\
+\x00\x00\x00\x16a\0\xFF\0\0f\0\0lock\0\0\x80\0\0\0\0\0\0\0\x00";
+
+/// The edits of `EDITS`, and their row.
+fn two_edits(alloc: Global) -> Result<(Row, Vec<Edit>), Refusal>
+    ensures { IfOk result (λ made. AllByRecursion (IsEditOf made.0) made.1.items) }
+{
+    let row = Row::new(alloc, b"a\0")?;
+    let family = Family::new(alloc, b"f")?;
+    let put = CellKey::new(&row, &family, Qualifier::Data, 1)?;
+    let erased = CellKey::new(&row, &family, Qualifier::Lock, MOST_STAMP)?;
+    let mut edits = Vec::new(alloc);
+    edits.push(Edit::Put(put, Vec::from_slice(alloc, b"v")?))?;
+    edits.push(Edit::Erase(erased))?;
+    Ok((row, edits))
+}
+
+#[test]
+fn a_record_of_a_put_and_an_erasure(rt: HostRuntime) -> Result<(), Fail> {
+    let mut bytes = Vec::new(rt.alloc());
+    let (row, edits) = two_edits(rt.alloc())?;
+    push_edits(&mut bytes, &row, &edits)?;
+    assert!(rt; bytes.as_slice() == EDITS.as_slice());
+    Ok(())
+}
+
+#[test]
+fn edits_of_two_records(rt: HostRuntime) -> Result<(), Fail> {
+    let mut records = Vec::new(rt.alloc());
+    for record in [&EDITS[..32], &EDITS[32..]] {
+        records.push(Vec::from_slice(rt.alloc(), record)?)?;
+    }
+    let (_, written) = two_edits(rt.alloc())?;
+    let read = edits_in(rt.alloc(), &records)?;
+    assert!(rt; read.len() == written.len());
+    for (found, wanted) in read.iter().zip(written.iter()) {
+        assert!(rt; edited_key(found) == edited_key(wanted));
+    }
+    Ok(())
+}
+
+#[test]
+fn records_of_no_edits(rt: HostRuntime) -> Result<(), Fail> {
+    for len in 0..EDITS.len() {
+        let mut records = Vec::new(rt.alloc());
+        records.push(Vec::from_slice(rt.alloc(), &EDITS[..len])?)?;
+        let read = edits_in(rt.alloc(), &records);
+        if len == 0 || len == 32 {
+            assert!(rt; read?.len() == len / 32, "at {len}");
+        } else {
+            assert!(rt; matches!(&read, Err(Refusal::Damaged)), "at {len}");
+        }
+    }
     Ok(())
 }

@@ -1,5 +1,5 @@
 -- Calls of rows one after another.
-use Rattle.std.proofs.Common.{◌≡◌, ◌≢◌, ◌∙◌, ◌⊎◌, inl, inr, ℕ, List, ◌++◌, set, slice_get, Option, Some, Result, Ok, Err, IfErr, OnOk, OnErr, refl, sym, ap, subst}
+use Rattle.std.proofs.Common.{◌≡◌, ◌≢◌, ◌∙◌, ◌⊎◌, inl, inr, ℕ, List, [], ◌++◌, set, slice_get, Option, Some, Result, Ok, Err, IfErr, OnOk, OnErr, refl, sym, ap, subst}
 use Rattle.std.specs.Result.{IsErrAnd}
 use Rattle.cell_key.specs.Cells.{Cells, after_edits}
 use Rattle.cell_key.specs.declared.edits.Edit.{Edit}
@@ -122,7 +122,7 @@ module _ {F : Type 0} (contents : F → Option Contents) (state : ClusterState F
         (readable_set (contents state.files) state.places state.tablets i t u there (read_stays (contents state.files) t u stays) row whole);
     kept = read_kept (contents state.files) (contents files) state.next_name state.tablets i t u there stays same;
     room = λ row later. room_same state.places state.tablets i t u there stays.range stays.memory row later;
-    stays = λ k. record { disk = same k; file_limit = state.file_limit; next_name = state.next_name; places = state.places };
+    stays = λ k. record { disk = same k; file_limit = state.file_limit; next_name = state.next_name; places = state.places; logged = [] };
   }
 
   -- files that tell what they told
@@ -132,7 +132,7 @@ module _ {F : Type 0} (contents : F → Option Contents) (state : ClusterState F
     readable = λ row whole. subst (λ (o : Option Contents). IsReadable o state.places state.tablets row) (sym same) whole;
     kept = ap (λ (o : Option Contents). cells_in o state.tablets) same;
     room = λ row later full. full;
-    stays = λ k. record { disk = same k; file_limit = state.file_limit; next_name = state.next_name; places = state.places };
+    stays = λ k. record { disk = same k; file_limit = state.file_limit; next_name = state.next_name; places = state.places; logged = [] };
   }
 
   -- one in which edits were made

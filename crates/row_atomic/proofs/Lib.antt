@@ -9,9 +9,12 @@ pub mod EmptiedCaches
 pub mod FileNames
 pub mod Firsts
 pub mod Flushes
+pub mod Following
 pub mod Fresh
 pub mod Halves
 pub mod Joined
+pub mod JournalRoom
+pub mod Journals
 pub mod KeptRoots
 pub mod LeftTablets
 pub mod Lengths

@@ -230,7 +230,7 @@ module _ {F : Type 0} (contents : F → Option Contents) (faults : F → ℕ) (s
   same_storage : (mid new : ClusterState F) → new ≡ record mid { files = new.files } → contents new.files ≡ contents mid.files → storage_of contents new ≡ storage_of contents mid
   same_storage mid new rest same =
       ap (storage_of contents) rest
-      ∙ ap (λ (disk : Option Contents). record { disk = disk; file_limit = mid.file_limit; next_name = mid.next_name; places = mid.places }) same
+      ∙ ap (λ (disk : Option Contents). record { disk = disk; file_limit = mid.file_limit; next_name = mid.next_name; places = mid.places; logged = [] }) same
 
   -- the tablets are flushed, and then the root is put or not
   pub stays_or_rests : (old mid new : ClusterState F) → FlushesEach contents faults old (numbers_of old.places) outcome.Done mid → new ≡ record mid { files = new.files } → PutsRootOrNone contents top floor mid new

@@ -65,12 +65,14 @@ abbrev pub spot_of : PlaceView → Spot
 spot_of p = (p.end, (p.tablet, p.server))
 
 -- What lies below the memtables: the bytes of the files, as far as they are known, the most bytes
--- of a sorted file, the next file's name, and the places of the tablets with their files.
+-- of a sorted file, the next file's name, and the places of the tablets with their files; and the
+-- bytes of edits that a log has, where edits are written down.
 pub record Storage : Type 0 where
   pub disk : Option Contents
   pub file_limit : ℕ
   pub next_name : ℕ
   pub places : List PlaceView
+  pub logged : List ℕ
 
 abbrev pub storage_of : {F : Type 0} → (F → Option Contents) → ClusterState F → Storage
 storage_of contents state =
@@ -79,11 +81,12 @@ storage_of contents state =
       file_limit = state.file_limit;
       next_name = state.next_name;
       places = state.places;
+      logged = [];
     }
 
 -- rows that are held in memory alone
 abbrev pub no_storage : Storage
-no_storage = record { disk = None; file_limit = 0; next_name = 0; places = [] }
+no_storage = record { disk = None; file_limit = 0; next_name = 0; places = []; logged = [] }
 
 -- where the tablets are, in the order of their ends
 abbrev pub spots_of : {F : Type 0} → ClusterState F → List Spot

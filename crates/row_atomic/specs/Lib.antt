@@ -4,6 +4,7 @@ pub mod Clusters
 pub mod Commands
 pub mod Compactions
 pub mod Flushes
+pub mod Journals
 pub mod Laws
 pub mod ListRoom
 pub mod Memtables
@@ -11,6 +12,7 @@ pub mod Oldest
 pub mod Open
 pub mod PlaceCaches
 pub mod ReadableLaw
+pub mod Recorded
 pub mod Refusals
 pub mod Room
 pub mod Roots

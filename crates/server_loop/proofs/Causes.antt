@@ -15,14 +15,14 @@ use Rattle.server_loop.proofs.SessionSteps.{IfTold}
 
 module _ {F M : Type 0} (contents : F → Option Contents) (file_faults : F → ℕ) (mark_faults : M → ℕ) (request : Request) where
   pub done_causes : (reply : CodecReply) (outcome : Outcome) (old new : Server F M) → new.oracle ≡ old.oracle → (reply ≡ codec.Refused Device → outcome ≡ Refused Device) → (outcome ≡ Refused Device → reply ≡ codec.Refused Device)
-      → TellsFaults file_faults outcome old.cluster new.cluster → (reply ≡ codec.Refused MemtableFull → LacksRoom contents request old) → TellsCauses contents file_faults mark_faults request reply old new
+      → TellsFaults file_faults outcome old.rows.cluster new.rows.cluster → (reply ≡ codec.Refused MemtableFull → LacksRoom contents request old) → TellsCauses contents file_faults mark_faults request reply old new
   done_causes reply outcome old new same to from told full = record {
     device = λ is. inl (told.device (to is));
     told = λ none. record { files = told.told (λ is. none (from is)); marks = ap (λ oracle. mark_faults oracle.marks) same };
     full = full;
   }
 
-  pub refused_causes : (e : Refusal) (old new : Server F M) → new.oracle ≡ old.oracle → TellsFaults file_faults (Refused e) old.cluster new.cluster
+  pub refused_causes : (e : Refusal) (old new : Server F M) → new.oracle ≡ old.oracle → TellsFaults file_faults (Refused e) old.rows.cluster new.rows.cluster
       → (codec.Refused e ≡ codec.Refused MemtableFull → LacksRoom contents request old) → TellsCauses contents file_faults mark_faults request (codec.Refused e) old new
   refused_causes e old new same told full =
       done_causes (codec.Refused e) (Refused e) old new same
@@ -30,7 +30,7 @@ module _ {F M : Type 0} (contents : F → Option Contents) (file_faults : F → 
       (λ is. let that : e ≡ Device = cc in ap (λ (r : Refusal). codec.Refused r) that) told full
 
   -- no device was met
-  pub unmet_causes : (reply : CodecReply) (old new : Server F M) → new.cluster ≡ old.cluster → new.oracle ≡ old.oracle → ¬ (reply ≡ codec.Refused Device)
+  pub unmet_causes : (reply : CodecReply) (old new : Server F M) → new.rows.cluster ≡ old.rows.cluster → new.oracle ≡ old.oracle → ¬ (reply ≡ codec.Refused Device)
       → (reply ≡ codec.Refused MemtableFull → LacksRoom contents request old) → TellsCauses contents file_faults mark_faults request reply old new
   unmet_causes reply old new same_cluster same_oracle not full = record {
     device = λ is. absurd (not is);

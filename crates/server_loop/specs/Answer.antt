@@ -1,5 +1,5 @@
 -- All that is said of an answer to a request, in eight parts.
-use Rattle.std.specs.Prelude.{◌≡◌, ℕ, Option, IfSome, ⊤}
+use Rattle.std.specs.Prelude.{◌≡◌, ◌≢◌, ℕ, Option, IfSome, ⊤}
 use Rattle.cell_key.specs.declared.refusals.Refusal.{Refusal}
 use Rattle.cell_key.specs.declared.refusals.Refusal.TheVariants.{Device, Exhausted, MemtableFull}
 use Rattle.file_store.specs.Store.{Contents}
@@ -10,9 +10,8 @@ use Rattle.request_codec.specs.Requests.{asked}
 use Rattle.request_codec.specs.declared.replies.Reply.{Reply}
 use Rattle.request_codec.specs.declared.replies.Reply.TheVariants as codec
 use Rattle.request_codec.specs.declared.requests.Request.{Request}
-use Rattle.request_codec.specs.declared.requests.Request.TheVariants.{Begin, Step, CleanBegin, CleanStep, CollectBegin, CollectStep, Checkpoint}
-use Rattle.row_atomic.specs.Changes.{Holds}
-use Rattle.row_atomic.specs.Commands.{OverfillsCluster}
+use Rattle.request_codec.specs.declared.requests.Request.TheVariants.{Begin, Step, CleanBegin, CleanStep, CollectBegin, CollectStep, Sweep, Checkpoint}
+use Rattle.row_atomic.specs.Recorded.{OverfillsRecorded, logged_of}
 use Rattle.row_atomic.specs.Room.{HasNoRoom}
 use Rattle.row_atomic.specs.Roots.{Checkpoints, Rests, StaysOrRests}
 use Rattle.si_model.specs.Machine.{IsReached, State}
@@ -21,7 +20,7 @@ use Rattle.server_loop.specs.Refusals.{IsRefusalOfRequest}
 use Rattle.server_loop.specs.Resting.{KeepsResting}
 use Rattle.server_loop.specs.Runs.{KeepsToLimits, IfRefused, StampsGoOn, StepsAs}
 use Rattle.server_loop.specs.Sessions.{ChangesCells, IsAlwaysTold, KeepsCleaners, KeepsCollectors, KeepsOracle, KeepsSessions, LeavesServerRoom}
-use Rattle.server_loop.specs.Server.{IsFaultSeen, SeesNoFault, Shows, server_cells, cluster_of, floor_of, tending_of, last_of, marks_of, top_of}
+use Rattle.server_loop.specs.Server.{HoldsIn, IsFaultSeen, SeesNoFault, Shows, server_cells, cluster_of, floor_of, journal_of, tending_of, last_of, marks_of, rows_of, top_of}
 use Rattle.server_loop.specs.declared.server.Server.{Server}
 use Rattle.txn_client.specs.Room.{ChangesNext, EditsOfStep}
 use Rattle.txn_client.specs.Shows.{IsAboutToDraw}
@@ -114,18 +113,18 @@ TendsTablets files request reply old new =
 -- A collector's step comes to make edits of its visits.
 abbrev pub LacksRoom : {F M : Type 0} → (F → Option Contents) → Request → Server F M → Type 0
 LacksRoom contents (Step start) old =
-    HasNoRoom OverfillsCluster (cluster_of old)
-    (EditsOfStep (Holds contents (cluster_of old)) (server_cells contents old) old.clients start)
+    HasNoRoom OverfillsRecorded (rows_of old)
+    (EditsOfStep (HoldsIn contents old) (server_cells contents old) old.clients start)
     × ((st : State) → IsReached st → Shows contents old st
-    → HasNoRoom OverfillsCluster (cluster_of old) (ChangesNext st start))
+    → HasNoRoom OverfillsRecorded (rows_of old) (ChangesNext st start))
 LacksRoom contents (CleanStep cleaner) old =
-    HasNoRoom OverfillsCluster (cluster_of old)
-    (clean_up.EditsOfStep (Holds contents (cluster_of old)) (server_cells contents old) old.cleaners
+    HasNoRoom OverfillsRecorded (rows_of old)
+    (clean_up.EditsOfStep (HoldsIn contents old) (server_cells contents old) old.cleaners
     cleaner)
     × ((st : State) → IsReached st → Shows contents old st
-    → HasNoRoom OverfillsCluster (cluster_of old) (clean_up.ChangesNext st cleaner))
+    → HasNoRoom OverfillsRecorded (rows_of old) (clean_up.ChangesNext st cleaner))
 LacksRoom contents (CollectStep collector n) old =
-    HasNoRoom OverfillsCluster (cluster_of old) (AreOfVisitsIn n)
+    HasNoRoom OverfillsRecorded (rows_of old) (AreOfVisitsIn n)
 LacksRoom contents request old = ⊤
 
 -- A device's fault is answered if a count of them rose, and only then. Of a command the outcome
@@ -150,6 +149,9 @@ pub record IsPlainAnswer {F M : Type 0} (files : Files F) (marks : MarkStore M)
   pub causes : TellsCauses files.contents files.faults marks.faults request reply old new
   -- no request changes when a server compacts and merges by itself
   pub tending : tending_of new ≡ tending_of old
+  -- and none but a checkpoint and a sweep changes what it takes to be logged
+  pub logged : request ≢ Checkpoint → request ≢ Sweep
+      → logged_of (journal_of new) ≡ logged_of (journal_of old)
 
 -- What is said of an answer.
 pub record IsAnswer {F M : Type 0} (files : Files F) (marks : MarkStore M)

@@ -27,6 +27,7 @@ pub mod Left
 pub mod Limits
 pub mod NextCells
 pub mod Numbers
+pub mod Recovered
 pub mod Refusals
 pub mod ScanLaws
 pub mod Scannable

@@ -16,3 +16,4 @@ pub mod Kinds
 pub mod Enduring
 pub mod Deciding
 pub mod Collection
+pub mod Recovered

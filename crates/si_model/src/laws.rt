@@ -10,6 +10,7 @@ ghost use Rattle.si_model.specs.Enduring.{Endures, HaveTried};
 ghost use Rattle.si_model.specs.Kinds.{EachLeavesOthers};
 ghost use Rattle.si_model.specs.Laws.{AtEachStep, Bounds, ClearsItsFloor, CommitSeen, FateSeen, FirstCommitterWins, FloorStaysLow, Goes, GoneForGood, IsNeverStuck, IsSettled, Numbers, OneFate, OneMark, OneSnapshot, RefusesFirst, StartsLow, StaysCleared, TellsFate, TellsMarks, WritesWithinLimits};
 ghost use Rattle.si_model.specs.Machine.{IsReached, State, reopened};
+ghost use Rattle.si_model.specs.Recovered.{Recovers};
 ghost use Rattle.si_model.specs.ScanLaws.{NothingThere, ScansAsGets, ScansMeet, ScansSettled};
 ghost use Rattle.si_model.specs.ShowsCells.{ShowsCells, WhereShown};
 ghost use Rattle.si_model.specs.declared.replies.Cell.{Cell};
@@ -178,6 +179,12 @@ pub fn stays_shown()
 pub fn shows_reopened()
     ensures { (cells : Cells) (st : State) → ShowsCells cells st
         → ShowsCells cells (reopened st) }
+{}
+
+/// From each reached state the machine can go, by a session and a collector that begin and by clean restarts, to one
+/// whose top is the oracle's mark, whose floor is one more, and that the same cells show.
+pub fn recovers()
+    ensures { Recovers }
 {}
 
 /// If no mark stands below a floor, a collector may erase the records older than one at or below it, with their data,

@@ -10,7 +10,7 @@ pub use laws::{
     bounded, cleaners_know, clears_its_floor, come_stays, comes_further, commit_seen, endures,
     fate_seen, first_committer, first_tells, floor_stays_low, goes_on, gone_for_good, have_tried,
     leaves_others, left_falls, make_cells, may_erase, names_nearest, never_stuck, nothing_there,
-    numbered, one_fate, one_mark, one_snapshot, refuses_first, scans_as_gets, scans_meet,
+    numbered, one_fate, one_mark, one_snapshot, recovers, refuses_first, scans_as_gets, scans_meet,
     scans_settled, settled, shows_reopened, starts_low, stays_cleared, stays_shown, tells_fate,
     tells_marks, writes_within_limits,
 };

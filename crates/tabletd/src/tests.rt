@@ -21,6 +21,7 @@ mod limits;
 mod memory;
 mod memtables;
 mod places;
+mod recorded;
 mod recordings;
 mod rows;
 mod scan_limits;

@@ -1,8 +1,10 @@
 //! Laws of clusters. Each is the contract of a function that does nothing.
 
 ghost use Rattle.row_atomic.specs.Clusters.{CellsByTablet};
+ghost use Rattle.row_atomic.specs.Recorded.{KeepsFollowing, OpensFollowing};
 ghost use Rattle.row_atomic.specs.Roots.{RootIsStored, RootOutlastsFlushes, RootOutlastsMerges, RootStays};
 
+use cell_key::replays;
 use file_store::Files;
 use tablet::unnamed_may_go;
 
@@ -37,3 +39,19 @@ pub fn root_outlasts_merges<F: Files>()
 {
     unnamed_may_go();
 }
+
+/// What is written down follows what is shown through all that a cluster does but an apply: commands, a sweep if the
+/// tablets have the root's files, compactions and merges that come by themselves, and checkpoints, done or refused.
+pub fn keeps_following<F: Files>()
+    ensures { KeepsFollowing F.contents F.faults }
+{
+    replays();
+    root_stays::<F>();
+    root_outlasts_flushes::<F>();
+    root_outlasts_merges::<F>();
+}
+
+/// A store that was opened from a root shows what that root keeps, and its memtables have nothing else.
+pub fn opens_following<F: Files>()
+    ensures { OpensFollowing F.contents }
+{}

@@ -1,0 +1,18 @@
+-- What holds of a result goes on to what follows from it.
+use Rattle.std.proofs.Common.{◌≡◌, ◌∙◌, sym, ap, subst}
+use Rattle.std.specs.Prelude.{Option, Some, None, IfNone, Result, Ok, Err, IsErrAnd, IsErrOf}
+
+pub of_none : {A : Type 0} (o : Option A) (P : Type 0) → o ≡ None → IfNone o P → P
+of_none o P e h = subst (λ (q : Option _). IfNone q P) e h
+
+pub as_none : {A : Type 0} (o : Option A) {P : Type 0} → P → IfNone o P
+as_none None p = p
+as_none (Some a) p = tt
+
+abbrev pub err_of : {E : Type 0} (T : Type 0) → E → Result T E
+err_of T e = Err e
+
+-- a refusal that is handed on
+pub passed : {T U E : Type 0} (r : Result T E) (e f : E) → IsErrAnd r (λ g. g ≡ e) → r ≡ Err f → IsErrOf (err_of U e) f
+passed (Ok x) e f by is = absurd by
+passed (Err g) e f by is = let s : g ≡ f = cc in ap Err (sym by ∙ s)

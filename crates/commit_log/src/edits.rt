@@ -1,0 +1,221 @@
+//! Edits of cells in the records of a log: how they are spelled as bytes, and read again.
+
+ghost use Rattle.std.specs.Prelude.{◌≡◌, ◌≢◌, ◌⊎◌, ◌<◌, ◌^◌, ◌++◌, ℕ, List, length, take, IfErr, IfNone, IfOk, IfSome, IsErrOf, OnErr, OnOk};
+ghost use Rattle.std.specs.List.{AllByRecursion};
+ghost use Rattle.cell_key.specs.Cells.{IsEditOf, edited_key};
+ghost use Rattle.cell_key.specs.Entries.{Entry, IsEntry, field, lent_entry, spelled};
+ghost use Rattle.cell_key.specs.declared.edits.Edit.{Edit as CellEdit};
+ghost use Rattle.commit_log.specs.Edits.{HasShortParts, HoldEdits, IsStoredEdit, edit_entry, spelled_edit, spelled_edits};
+ghost use Rattle.commit_log.specs.Frames.{bytes_of};
+
+use crate::frames::length_in;
+use cell_key::{CellKey, Edit, EntryRef, Refusal, Row};
+use std::alloc::Global;
+
+/// The most bytes of a value.
+const MOST_VALUE: usize = 65_536;
+
+/// The key of the cell's version that an edit changes.
+pub fn edited_key(edit: &Edit) -> &CellKey
+    ensures { result.now ≡ edited_key edit.now }
+{
+    match edit {
+        Edit::Put(key, _) => key,
+        Edit::Erase(key) => key,
+    }
+}
+
+/// Appends a length and that many bytes. After an `Err` a part of them may stand there.
+fn push_field(out: &mut Vec<u8>, bytes: &[u8]) -> Result<(), Refusal>
+    requires { length bytes.now < 2 ^ 32 }
+    ensures ok { OnOk result (out.new.items ≡ out.old.items ++ field bytes.now) }
+    ensures front { take (length out.old.items) out.new.items ≡ out.old.items }
+    ensures refusal { IfErr result (λ refusal. refusal ≡ Refusal.NoMemory) }
+{
+    let length = bytes.len() as u32;
+    out.extend_from_slice(&length.to_be_bytes())?;
+    out.extend_from_slice(bytes)?;
+    Ok(())
+}
+
+/// Appends the bytes of an edit of a row. After an `Err` a part of them may stand there.
+fn push_edit(out: &mut Vec<u8>, row: &Row, edit: &Edit) -> Result<(), Refusal>
+    requires { IsEditOf row.now edit.now }
+    ensures ok { OnOk result (out.new.items ≡ out.old.items ++ spelled_edit edit.now) }
+    ensures stored { OnOk result (IsStoredEdit edit.now) }
+    ensures front { take (length out.old.items) out.new.items ≡ out.old.items }
+    ensures refusal { IfErr result (λ refusal. refusal ≡ Refusal.NoMemory) }
+{
+    let key = edited_key(edit);
+    // These calls show that row and family are within their limits.
+    let _row = row.as_bytes();
+    let _family = key.family.as_bytes();
+    let mut text = Vec::new(*out.allocator());
+    key.encode(&mut text)?;
+    push_field(out, &text)?;
+    match edit {
+        Edit::Put(_, value) => {
+            out.push(1)?;
+            push_field(out, value)
+        }
+        Edit::Erase(_) => {
+            out.push(0)?;
+            Ok(())
+        }
+    }
+}
+
+/// Appends the bytes of edits of a row. After an `Err` a part of them may stand there.
+fn push_each(out: &mut Vec<u8>, row: &Row, edits: &[Edit]) -> Result<(), Refusal>
+    requires { AllByRecursion (IsEditOf row.now) edits.now }
+    ensures ok { OnOk result (out.new.items ≡ out.old.items ++ spelled_edits edits.now) }
+    ensures stored { OnOk result (AllByRecursion IsStoredEdit edits.now) }
+    ensures front { take (length out.old.items) out.new.items ≡ out.old.items }
+    ensures refusal { IfErr result (λ refusal. refusal ≡ Refusal.NoMemory) }
+{
+    for edit in edits {
+        push_edit(out, row, edit)?;
+    }
+    Ok(())
+}
+
+/// Appends the bytes of edits of a row, one behind the other.
+///
+/// # Errors
+///
+/// `NoMemory`. Nothing is appended then.
+pub fn push_edits(out: &mut Vec<u8>, row: &Row, edits: &[Edit]) -> Result<(), Refusal>
+    requires { AllByRecursion (IsEditOf row.now) edits.now }
+    ensures ok { OnOk result (out.new.items ≡ out.old.items ++ spelled_edits edits.now) }
+    ensures stored { OnOk result (AllByRecursion IsStoredEdit edits.now) }
+    ensures err { OnErr result (out.new.items ≡ out.old.items) }
+    ensures refusal { IfErr result (λ refusal. refusal ≡ Refusal.NoMemory) }
+{
+    let length = out.len();
+    let pushed = push_each(out, row, edits);
+    if pushed.is_err() {
+        out.truncate(length);
+    }
+    pushed
+}
+
+/// The length and as many bytes at the front, and what follows.
+fn split_field(bytes: &[u8]) -> Option<(&[u8], &[u8])>
+    ensures found { IfSome result (λ p. bytes.now ≡ field p.0.now ++ p.1.now) }
+    ensures short { IfSome result (λ p. length p.0.now < 2 ^ 32) }
+    ensures none { IfNone result ((part rest : List ℕ) → length part < 2 ^ 32
+        → bytes.now ≢ field part ++ rest) }
+{
+    let (length, rest) = bytes.split_first_chunk::<4>()?;
+    let length = length_in(*length) as usize;
+    if rest.len() < length {
+        return None;
+    }
+    Some(rest.split_at(length))
+}
+
+/// The entry at the front, and what follows.
+fn split_entry(bytes: &[u8]) -> Option<(EntryRef<'_>, &[u8])>
+    ensures found { IfSome result (λ p. bytes.now ≡ spelled (lent_entry p.0) ++ p.1.now) }
+    ensures short { IfSome result (λ p. HasShortParts (lent_entry p.0)) }
+    ensures none { IfNone result ((entry : Entry) (rest : List ℕ) → HasShortParts entry
+        → bytes.now ≢ spelled entry ++ rest) }
+{
+    let (key, after_key) = split_field(bytes)?;
+    let (kind, after) = after_key.split_first()?;
+    if *kind == 0 {
+        return Some((EntryRef { key, value: None }, after));
+    }
+    if *kind != 1 {
+        return None;
+    }
+    let (value, rest) = split_field(after)?;
+    let value = Some(value);
+    Some((EntryRef { key, value }, rest))
+}
+
+/// The edit that an entry is; none if it is outside the limits.
+fn edit_of(alloc: Global, entry: EntryRef<'_>) -> Result<Option<Edit>, Refusal>
+    ensures found { IfOk result (λ found.
+        IfSome found (λ edit. edit_entry edit ≡ lent_entry entry.entry)) }
+    ensures stored { IfOk result (λ found. IfSome found IsStoredEdit) }
+    ensures none { IfOk result (λ found. IfNone found ((edit : CellEdit) → IsStoredEdit edit
+        → edit_entry edit ≢ lent_entry entry.entry)) }
+    ensures refusal { IfErr result (λ refusal. refusal ≡ Refusal.NoMemory) }
+{
+    let Some(key) = CellKey::decode(alloc, entry.key)? else {
+        return Ok(None);
+    };
+    let Some(value) = entry.value else {
+        return Ok(Some(Edit::Erase(key)));
+    };
+    if value.len() > MOST_VALUE {
+        return Ok(None);
+    }
+    Ok(Some(Edit::Put(key, Vec::from_slice(alloc, value)?)))
+}
+
+/// The edit at the front of bytes, and what follows.
+///
+/// # Errors
+///
+/// `Damaged` if no edit within the limits stands there; `NoMemory`.
+fn first_edit(alloc: Global, bytes: &[u8]) -> Result<(Edit, &[u8]), Refusal>
+    ensures found { IfOk result (λ p. bytes.now ≡ spelled_edit p.0 ++ p.1.now) }
+    ensures shorter { IfOk result (λ p. length p.1.now < length bytes.now) }
+    ensures stored { IfOk result (λ p. IsStoredEdit p.0) }
+    ensures damaged { IsErrOf result Refusal.Damaged → (edit : CellEdit) (rest : List ℕ)
+        → IsStoredEdit edit → bytes.now ≢ spelled_edit edit ++ rest }
+    ensures refusal { IfErr result (λ refusal. (refusal ≡ Refusal.Damaged)
+        ⊎ (refusal ≡ Refusal.NoMemory)) }
+{
+    let Some((entry, rest)) = split_entry(bytes) else {
+        return Err(Refusal::Damaged);
+    };
+    match edit_of(alloc, entry)? {
+        Some(edit) => Ok((edit, rest)),
+        None => Err(Refusal::Damaged),
+    }
+}
+
+/// Reads the edits of a record behind edits that were read.
+///
+/// # Errors
+///
+/// `Damaged` if the bytes are the spelling of no edits within the limits; `NoMemory`. Some may have been read then.
+fn read_edits(alloc: Global, bytes: &[u8], edits: &mut Vec<Edit>) -> Result<(), Refusal>
+    ensures ok { OnOk result ((more : List CellEdit) × (edits.new.items ≡ edits.old.items ++ more)
+        × (bytes.now ≡ spelled_edits more) × AllByRecursion IsStoredEdit more) }
+    ensures damaged { IsErrOf result Refusal.Damaged → (more : List CellEdit)
+        → AllByRecursion IsStoredEdit more → bytes.now ≢ spelled_edits more }
+    ensures refusal { IfErr result (λ refusal. (refusal ≡ Refusal.Damaged)
+        ⊎ (refusal ≡ Refusal.NoMemory)) }
+{
+    let mut rest = bytes;
+    while !rest.is_empty() {
+        let (edit, after) = first_edit(alloc, rest)?;
+        edits.push(edit)?;
+        rest = after;
+    }
+    Ok(())
+}
+
+/// The edits that records hold.
+///
+/// # Errors
+///
+/// `Damaged` if they hold no edits within the limits; `NoMemory`.
+pub fn edits_in(alloc: Global, records: &[Vec<u8>]) -> Result<Vec<Edit>, Refusal>
+    ensures held { IfOk result (λ edits. HoldEdits (bytes_of records.now) edits.items) }
+    ensures stored { IfOk result (λ edits. AllByRecursion IsStoredEdit edits.items) }
+    ensures damaged { IsErrOf result Refusal.Damaged → (edits : List CellEdit)
+        → AllByRecursion IsStoredEdit edits → ¬ HoldEdits (bytes_of records.now) edits }
+    ensures refusal { IfErr result (λ refusal. (refusal ≡ Refusal.Damaged)
+        ⊎ (refusal ≡ Refusal.NoMemory)) }
+{
+    let mut edits = Vec::new(alloc);
+    for record in records {
+        read_edits(alloc, record, &mut edits)?;
+    }
+    Ok(edits)
+}

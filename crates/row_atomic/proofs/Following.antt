@@ -1,0 +1,264 @@
+-- What is written down follows what is shown.
+use Rattle.std.proofs.Common.{◌≡◌, ◌≢◌, ◌≤◌, ◌+◌, ◌-◌, ◌∙◌, ◌⊎◌, inl, inr, ℕ, List, [], ◌∷◌, ◌++◌, length, take, Option, None, Some, IsSome, option_map, refl, sym, ap, subst, arith}
+use Rattle.std.proofs.lemmas.List.{append_assoc, length-append}
+use Rattle.std.proofs.lemmas.List.Concat.{flat_map-append}
+use Rattle.std.proofs.lemmas.Bool.{false≢true}
+use Rattle.std.specs.FinMap.{get}
+use Rattle.std.specs.List.{AllByRecursion}
+use Rattle.cell_key.specs.Cells.{Cells, after_edits}
+use Rattle.cell_key.specs.Replays.{Replays}
+use Rattle.cell_key.specs.declared.edits.Edit.{Edit}
+use Rattle.commit_log.specs.Edits.{IsStoredEdit, spelled_edit, spelled_edits}
+use Rattle.file_store.specs.Store.{Contents}
+use Rattle.metadata_table.specs.Roots.{RootView}
+use Rattle.row_atomic.specs.Calls.{Applies, OnlyReads, seen_of}
+use Rattle.row_atomic.specs.Changes.{Holds, ListsAll}
+use Rattle.row_atomic.specs.Clusters.{ClusterState, Overfills, Storage, cells_in, storage_of}
+use Rattle.row_atomic.specs.Commands.{AnswersFromCells, cells_shown}
+use Rattle.row_atomic.specs.Journals.{HasRoomFor, HasWritten, JournalView, with_waiting}
+use Rattle.row_atomic.specs.Open.{IsOpenedOf, IsStore, Reopens}
+use Rattle.row_atomic.specs.Recorded.{FitsMemtables, Follows, FollowsListed, IfWritten, IsOfUpkeep, KeepsFollowing, OpensFollowing, OverfillsJournal, OverfillsRecorded, Tracks, TracksListed, logged_of, seen_recorded}
+use Rattle.row_atomic.specs.Roots.{HasRoot, KeepsRoot, Rests, RootIsStored, RootOutlastsFlushes, RootOutlastsMerges, RootStays, root_at, root_name}
+use Rattle.row_atomic.specs.declared.commands.Command.{Command}
+use Rattle.row_atomic.specs.declared.commands.Command.TheVariants as command
+use Rattle.row_atomic.specs.declared.commands.Outcome.{Outcome}
+use Rattle.row_atomic.specs.declared.commands.Outcome.TheVariants as outcome
+use Rattle.row_atomic.specs.declared.recorded.Recorded.{Recorded}
+use Rattle.row_atomic.proofs.JournalRoom.{empty_fits}
+
+-- ---- what a journal says of edits
+
+all_both : (P : Edit → Type 0) (xs ys : List Edit) → AllByRecursion P xs → AllByRecursion P ys → AllByRecursion P (xs ++ ys)
+all_both P [] ys first then = then
+all_both P (x ∷ xs) ys first then = (first.0, all_both P xs ys first.1 then)
+
+-- such edits as are written down are such others
+pub each_such : {Such Other : List Edit → Type 0} → ((edits : List Edit) → Such edits → Other edits) → (journal : Option JournalView) → IfWritten Such journal → IfWritten Other journal
+each_such goes None written = tt
+each_such goes (Some journal) written = record {
+  logged = written.logged;
+  waiting = written.waiting;
+  logged_bytes = written.logged_bytes;
+  waiting_bytes = written.waiting_bytes;
+  counted = written.counted;
+  stored = written.stored;
+  such = goes (written.logged ++ written.waiting) written.such;
+}
+
+-- edits that are written down as well
+pub more_written : {Such Other : List Edit → Type 0} (more : List Edit) → AllByRecursion IsStoredEdit more → ((edits : List Edit) → Such edits → Other (edits ++ more)) → (journal : JournalView) → HasWritten Such journal → HasWritten Other (with_waiting more journal)
+more_written {Such} {Other} more stored goes journal written =
+    let behind : (written.logged ++ written.waiting) ++ more ≡ written.logged ++ (written.waiting ++ more) = append_assoc written.logged written.waiting more in
+    let counted : journal.count + length more ≡ length ((written.logged ++ written.waiting) ++ more) = ap (λ (n : ℕ). n + length more) written.counted ∙ sym (length-append (written.logged ++ written.waiting) more) in
+    record {
+      logged = written.logged;
+      waiting = written.waiting ++ more;
+      logged_bytes = written.logged_bytes;
+      waiting_bytes = ap (λ (bs : List ℕ). bs ++ spelled_edits more) written.waiting_bytes ∙ sym (flat_map-append spelled_edit written.waiting more);
+      counted = counted ∙ ap (λ (es : List Edit). length es) behind;
+      stored = subst (λ (es : List Edit). AllByRecursion IsStoredEdit es) behind (all_both IsStoredEdit (written.logged ++ written.waiting) more written.stored stored);
+      such = subst Other behind (goes (written.logged ++ written.waiting) written.such);
+    }
+
+-- the journal's room after edits is that before them
+pub less_room : (journal : JournalView) (edits later : List Edit) → ¬ HasRoomFor (with_waiting edits journal) later → ¬ HasRoomFor journal (edits ++ later)
+less_room journal edits later none room =
+    let e = room.edits in
+    let b = room.bytes in
+    let both = length-append edits later in
+    let bytes = length-append journal.waiting (spelled_edits edits) in
+    let all : length (spelled_edits (edits ++ later)) ≡ length (spelled_edits edits) + length (spelled_edits later) = ap (λ (bs : List ℕ). length bs) (flat_map-append spelled_edit edits later) ∙ length-append (spelled_edits edits) (spelled_edits later) in
+    none (record { edits = omega (arith, e, both); bytes = omega (arith, b, bytes, all) })
+
+less_now : (journal : JournalView) (edits later : List Edit) → ¬ HasRoomFor journal later → ¬ HasRoomFor (with_waiting edits journal) later
+less_now journal edits later none room =
+    let e = room.edits in
+    let b = room.bytes in
+    let bytes = length-append journal.waiting (spelled_edits edits) in
+    none (record { edits = omega (arith, e); bytes = omega (arith, b, bytes) })
+
+more_room : (journal : JournalView) (edits later : List Edit) → ¬ HasRoomFor journal (edits ++ later) → ¬ HasRoomFor (with_waiting edits journal) later
+more_room journal edits later none room =
+    let e = room.edits in
+    let b = room.bytes in
+    let both = length-append edits later in
+    let bytes = length-append journal.waiting (spelled_edits edits) in
+    let all : length (spelled_edits (edits ++ later)) ≡ length (spelled_edits edits) + length (spelled_edits later) = ap (λ (bs : List ℕ). length bs) (flat_map-append spelled_edit edits later) ∙ length-append (spelled_edits edits) (spelled_edits later) in
+    none (record { edits = omega (arith, e, both); bytes = omega (arith, b, bytes, all) })
+
+-- ---- calls of rows
+
+module _ {F : Type 0} (contents : F → Option Contents) (stored : RootIsStored contents) where
+  -- a call that leaves what lies below, and takes the cells where more edits take them
+  tracks_on : (old new : ClusterState F) → storage_of contents new ≡ storage_of contents old → (before after : List Edit) → ((base : Cells) → after_edits base before ≡ cells_shown contents old → after_edits base after ≡ cells_shown contents new)
+      → Tracks contents old before → Tracks contents new after
+  tracks_on old new same before after goes tracks = record {
+    root = tracks.root;
+    base = tracks.base;
+    has = (stored tracks.root tracks.base old new same).0 tracks.has;
+    replay = goes tracks.base tracks.replay;
+  }
+
+  pub reads_recorded : (old new : Recorded F) → new.journal ≡ old.journal → OnlyReads (seen_of contents) old.cluster new.cluster → OnlyReads (seen_recorded contents) old new
+  reads_recorded old new same reads = record {
+    still = λ held. (
+      reads.still held.0,
+      subst (λ (journal : Option JournalView). Follows contents new.cluster journal) (sym same)
+          (each_such (λ edits tracks. tracks_on old.cluster new.cluster reads.stays edits edits (λ base replay. replay ∙ sym reads.kept) tracks) old.journal held.1),
+    );
+    readable = reads.readable;
+    kept = reads.kept;
+    room = λ r later full. elim full [
+      | inl full ↦ inl (reads.room r later full)
+      | inr full ↦ inr (subst (λ (journal : Option JournalView). OverfillsJournal journal later) same full)
+    ];
+    stays = λ i. record (reads.stays i) { logged = logged_of (same i) };
+  }
+
+  -- where no edits are recorded
+  pub applies_plain : (row : List ℕ) (edits : List Edit) (old new : Recorded F) → old.journal ≡ None → new.journal ≡ None → Applies (seen_of contents) row edits old.cluster new.cluster → Applies (seen_recorded contents) row edits old new
+  applies_plain row edits old new none still_none applies = record {
+    still = λ held. (applies.still held.0, subst (λ (journal : Option JournalView). Follows contents new.cluster journal) (sym still_none) tt);
+    readable = applies.readable;
+    made = applies.made;
+    room = λ r later full. elim full [
+      | inl full ↦ elim (applies.room r later full) [ inl before ↦ inl (inl before) | inr after ↦ inr (inl after) ]
+      | inr full ↦ absurd (subst (λ (journal : Option JournalView). OverfillsJournal journal later) still_none full)
+    ];
+    stays = λ i. record (applies.stays i) { logged = logged_of ((still_none ∙ sym none) i) };
+  }
+
+  pub applies_recorded : Replays → (row : List ℕ) (edits : List Edit) → AllByRecursion IsStoredEdit edits → (old new : Recorded F) (journal : JournalView) → old.journal ≡ Some journal → new.journal ≡ Some (with_waiting edits journal)
+      → Applies (seen_of contents) row edits old.cluster new.cluster → Applies (seen_recorded contents) row edits old new
+  applies_recorded replays row edits are_stored old new journal was is applies = record {
+    still = λ held. (
+      applies.still held.0,
+      subst (λ (o : Option JournalView). Follows contents new.cluster o) (sym is)
+          (more_written edits are_stored (λ before tracks. tracks_on old.cluster new.cluster applies.stays before (before ++ edits)
+          (λ base replay. replays.joined base before edits ∙ (ap (λ (cs : Cells). after_edits cs edits) replay ∙ sym (applies.made ((seen_of contents).each_readable old.cluster held.0 row)))) tracks)
+          journal (subst (λ (o : Option JournalView). Follows contents old.cluster o) was held.1)),
+    );
+    readable = applies.readable;
+    made = applies.made;
+    room = λ r later full. elim full [
+      | inl full ↦ elim (applies.room r later full) [ inl before ↦ inl (inl before) | inr after ↦ inr (inl after) ]
+      | inr full ↦ inr (inr (subst (λ (o : Option JournalView). OverfillsJournal o (edits ++ later)) (sym was) (less_room journal edits later (subst (λ (o : Option JournalView). OverfillsJournal o later) is full))))
+    ];
+    stays = λ i. record (applies.stays i) { logged = logged_is i };
+  }
+    where
+      logged_is : logged_of new.journal ≡ logged_of old.journal
+      logged_is = ap logged_of is ∙ ap logged_of (sym was)
+
+-- ---- the room of the memtables
+
+module _ {F : Type 0} (contents : F → Option Contents) where
+  pub fits_plain : (row : List ℕ) (edits : List Edit) (old new : Recorded F) → old.journal ≡ None → Applies (seen_of contents) row edits old.cluster new.cluster → FitsMemtables old → FitsMemtables new
+  fits_plain row edits old new none applies fits = λ r later full. absurd (elim (applies.room r later full) [
+    | inl before ↦ subst (λ (o : Option JournalView). OverfillsJournal o later) none (fits r later before)
+    | inr after ↦ subst (λ (o : Option JournalView). OverfillsJournal o (edits ++ later)) none (fits r (edits ++ later) after)
+  ])
+
+  pub fits_recorded : (row : List ℕ) (edits : List Edit) (old new : Recorded F) (journal : JournalView) → old.journal ≡ Some journal → new.journal ≡ Some (with_waiting edits journal) → Applies (seen_of contents) row edits old.cluster new.cluster → FitsMemtables old → FitsMemtables new
+  fits_recorded row edits old new journal was is applies fits = λ r later full. subst (λ (o : Option JournalView). OverfillsJournal o later) (sym is) (elim (applies.room r later full) [
+    | inl before ↦ less_now journal edits later (subst (λ (o : Option JournalView). OverfillsJournal o later) was (fits r later before))
+    | inr after ↦ more_room journal edits later (subst (λ (o : Option JournalView). OverfillsJournal o (edits ++ later)) was (fits r (edits ++ later) after))
+  ])
+
+-- ---- what a cluster does beside
+
+-- no command of upkeep changes a cell
+unchanged : (old new : Cells) (request : Command) (result : Outcome) → IsOfUpkeep request → AnswersFromCells old request result new → new ≡ old
+unchanged old new (command.Newest row family qualifier lo hi) (outcome.Newest found) of is = is.1
+unchanged old new (command.NextCell after) (outcome.NextCell found) of is = is.1
+unchanged old new (command.Minor tablet) outcome.Done of is = is
+unchanged old new (command.Merge tablet count) outcome.Done of is = is
+unchanged old new (command.Major tablet) outcome.Done of is = is
+unchanged old new (command.Split row) (outcome.Split left) of is = is
+unchanged old new (command.Move tablet server) outcome.Done of is = is
+unchanged old new command.Sweep (outcome.Swept count) of is = is
+unchanged old new command.DropCaches outcome.Done of is = is
+unchanged old new request (outcome.Refused refusal) of is = is.1
+unchanged old new (command.Apply row edits) result of is = absurd of
+unchanged old new request result of is = absurd is
+
+module _ {F : Type 0} (contents : F → Option Contents) (faults : F → ℕ) where
+  on : (old new : ClusterState F) → cells_shown contents new ≡ cells_shown contents old
+      → ((root : RootView) (cells : Cells) → HasRoot contents root cells old → HasRoot contents root cells new)
+      → (edits : List Edit) → Tracks contents old edits → Tracks contents new edits
+  on old new same goes edits tracks = record { root = tracks.root; base = tracks.base; has = goes tracks.root tracks.base tracks.has; replay = tracks.replay ∙ sym same }
+
+  on_listed : (old new : ClusterState F) → cells_shown contents new ≡ cells_shown contents old
+      → ((root : RootView) (cells : Cells) → KeepsRoot contents root cells old → KeepsRoot contents root cells new)
+      → (edits : List Edit) → TracksListed contents old edits → TracksListed contents new edits
+  on_listed old new same goes edits listed =
+      let keeps = goes listed.tracks.root listed.tracks.base (record { has = listed.tracks.has; lists = listed.lists }) in
+      record {
+        tracks = record { root = listed.tracks.root; base = listed.tracks.base; has = keeps.has; replay = listed.tracks.replay ∙ sym same };
+        lists = keeps.lists;
+      }
+
+  -- from a new root all edits lead to what is shown
+  rests_all : Replays → (top floor : ℕ) (old new : ClusterState F) → Rests contents top floor old new → Holds contents old → cells_shown contents new ≡ cells_shown contents old → (edits : List Edit) → Tracks contents old edits → TracksListed contents new edits
+  rests_all replays top floor old new rests holds same edits tracks = record {
+    tracks = record {
+      root = root_at top floor new;
+      base = cells_shown contents old;
+      has = (rests holds).has;
+      replay = ap (λ (cells : Cells). after_edits cells edits) (sym tracks.replay) ∙ (replays.again tracks.base edits ∙ (tracks.replay ∙ sym same));
+    };
+    lists = (rests holds).lists;
+  }
+
+  pub keeps_following : Replays → RootStays contents faults → RootOutlastsFlushes contents faults → RootOutlastsMerges contents faults → KeepsFollowing contents faults
+  keeps_following replays stay outlast_flushes outlast_merges = record {
+    commands = λ request result journal old new is of other holds. each_such
+        (on old new (unchanged _ _ request result of (is.answers holds)) (λ root cells. (stay request result root cells old new is).0 (λ sweep. absurd (other sweep)))) journal;
+    sweeps = λ result journal old new is holds. each_such
+        (on_listed old new (unchanged _ _ command.Sweep result tt (is.answers holds)) (λ root cells. (stay command.Sweep result root cells old new is).1 (λ takes. takes.0))) journal;
+    flushes = λ limits journal old new is keeps holds. each_such (on old new (keeps.kept holds).1 (λ root cells. ((outlast_flushes root cells old new).0 limits is).0)) journal;
+    merges = λ most journal old new is keeps holds. each_such (on old new (keeps.kept holds).1 (λ root cells. outlast_merges root cells old new most is)) journal;
+    checkpoints = λ top floor journal old new rests keeps holds. each_such (rests_all replays top floor old new rests holds (keeps.kept holds).1) journal;
+    rests = λ top floor old new rests keeps holds. record {
+      tracks = record { root = root_at top floor new; base = cells_shown contents old; has = (rests holds).has; replay = sym (keeps.kept holds).1 };
+      lists = (rests holds).lists;
+    };
+    refused = λ top floor journal old new either keeps holds. elim either [
+      | inl goes ↦ each_such (on old new (keeps.kept holds).1 (λ root cells. (goes root cells).0)) journal
+      | inr rests ↦ each_such (λ edits tracks. (rests_all replays top floor old new rests holds (keeps.kept holds).1 edits tracks).tracks) journal
+    ];
+    lists = λ journal state. each_such (λ edits listed. listed.tracks) journal;
+  }
+
+-- ---- opening
+
+module _ {F : Type 0} (contents : F → Option Contents) where
+  opened_of : (m : Contents) (top floor : ℕ) (state : ClusterState F) → contents state.files ≡ Some m → (image : List ℕ) → get m root_name ≡ Some image → IsOpenedOf m top floor image state → TracksListed contents state []
+  opened_of m top floor state known image there opened = record {
+    tracks = record {
+      root = root_at top floor state;
+      base = cells_in (Some m) state.tablets;
+      has = record {
+        kept = m;
+        on_disk = known;
+        keeps = record { image = image; there = there; form = opened.form; measured = opened.measured; tablets = state.tablets; opened = opened.opened; shows = refl };
+        below = omega arith;
+      };
+      replay = ap (λ (disk : Option Contents). cells_in disk state.tablets) (sym known);
+    };
+    lists = λ name listed. listed;
+  }
+
+  store_of : (m : Contents) (top floor : ℕ) (state : ClusterState F) → contents state.files ≡ Some m → (o : Option (List ℕ)) → get m root_name ≡ o → IsSome o → IsStore m o top floor state → TracksListed contents state []
+  store_of m top floor state known None there some store = absurd (false≢true some)
+  store_of m top floor state known (Some image) there some store = opened_of m top floor state known image there store
+
+  pub opens_following : OpensFollowing contents
+  opens_following = record {
+    reopened = λ root cells top floor state is. record {
+      tracks = record { root = root; base = cells; has = is.keeps.has; replay = sym is.shows };
+      lists = is.keeps.lists;
+    };
+    opened = λ m top floor state known some store. store_of m top floor state known (get m root_name) refl some store;
+    fits = λ state journal emptied. empty_fits state journal emptied;
+  }

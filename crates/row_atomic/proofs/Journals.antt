@@ -1,0 +1,83 @@
+-- What a journal's bytes are after a call.
+use Rattle.std.proofs.Common.{◌≡◌, ◌≤◌, ◌+◌, ◌-◌, ℕ, List, [], ◌++◌, drop, length, take, refl, sym, ap, subst, ◌∙◌, arith}
+use Rattle.std.proofs.lemmas.List.{drop-append-le, drop-take, length-append, length-take-le, take-append-drop, take-append-le}
+use Rattle.cell_key.specs.declared.edits.Edit.{Edit}
+use Rattle.commit_log.specs.Edits.{spelled_edits}
+use Rattle.row_atomic.specs.Journals.{JournalView, with_waiting}
+use Rattle.std.proofs.Math.Seq.{drop-length, take-add, take-append_seam, take-length}
+
+-- the bytes that the log has and those that wait are all
+pub both_lengths : (s : ℕ) (bs : List ℕ) → length (take s bs) + length (drop s bs) ≡ length bs
+both_lengths s bs = sym (length-append (take s bs) (drop s bs)) ∙ ap (λ (l : List ℕ). length l) (take-append-drop s bs)
+
+pub all_first : (s : ℕ) (bs : List ℕ) → take (length bs) bs ≡ take s bs ++ drop s bs
+all_first s bs = take-length bs ∙ sym (take-append-drop s bs)
+
+-- more bytes behind
+pub first_stays : (s : ℕ) (bs more now : List ℕ) → s ≤ length bs → now ≡ bs ++ more → take s now ≡ take s bs
+first_stays s bs more now within is = ap (take s) is ∙ take-append-le s bs more within
+
+pub rest_grows : (s : ℕ) (bs more now : List ℕ) → s ≤ length bs → now ≡ bs ++ more → drop s now ≡ drop s bs ++ more
+rest_grows s bs more now within is = ap (drop s) is ∙ drop-append-le s bs more within
+
+-- fewer bytes
+module _ (s n : ℕ) (bs : List ℕ) (less : s ≤ n) (within : s ≤ length bs) where
+  parts : n ≡ s + (n - s)
+  parts = omega arith
+
+  pub first_kept : take s (take n bs) ≡ take s bs
+  first_kept =
+      let rest = take (n - s) (drop s bs) in
+      ap (λ (k : ℕ). take s (take k bs)) parts ∙ (ap (take s) (take-add s (n - s) bs)
+      ∙ subst (λ (k : ℕ). take k (take s bs ++ rest) ≡ take s bs) (length-take-le s bs within) (take-append_seam (take s bs) rest))
+
+  pub rest_cut : drop s (take n bs) ≡ take (n - length (take s bs)) (drop s bs)
+  rest_cut =
+      ap (λ (k : ℕ). drop s (take k bs)) parts
+      ∙ (drop-take s (n - s) bs ∙ ap (λ (k : ℕ). take (n - k) (drop s bs)) (sym (length-take-le s bs within)))
+
+  pub still_within : s ≤ length (take n bs)
+  still_within =
+      let all : length (take s bs) ≡ s = length-take-le s bs within in
+      let both : length (take n bs) ≡ length (take s bs ++ take (n - s) (drop s bs)) = ap (λ (k : ℕ). length (take k bs)) parts ∙ ap (λ (l : List ℕ). length l) (take-add s (n - s) bs) in
+      let sum = length-append (take s bs) (take (n - s) (drop s bs)) in
+      omega (arith, all, both, sum)
+
+pub no_longer : (n : ℕ) (bs : List ℕ) → length (take n bs) ≤ length bs
+no_longer n bs =
+    let both = length-append (take n bs) (drop n bs) in
+    let all : length (take n bs ++ drop n bs) ≡ length bs = ap (λ (l : List ℕ). length l) (take-append-drop n bs) in
+    omega (arith, both, all)
+
+-- what is seen of a journal
+abbrev pub view_at : ℕ → List ℕ → ℕ → JournalView
+view_at s bs count = record { logged = take s bs; waiting = drop s bs; count = count }
+
+pub cut_view : (s n count less : ℕ) (bs now : List ℕ) → now ≡ take n bs → s ≤ length bs → length (take s bs) ≤ n → view_at s now less ≡ record (view_at s bs count) { waiting = take (n - length (take s bs)) (drop s bs); count = less }
+cut_view s n count less bs now is within enough = ap (λ (l : List ℕ). view_at s l less) is ∙ both
+  where
+    long : length (take s bs) ≡ s
+    long = length-take-le s bs within
+
+    below : s ≤ n
+    below = let long = long in omega (arith, long, enough)
+
+    both : view_at s (take n bs) less ≡ record (view_at s bs count) { waiting = take (n - length (take s bs)) (drop s bs); count = less }
+    both i = record { logged = first_kept s n bs below within i; waiting = rest_cut s n bs below within i; count = less }
+
+pub push_view : (s count more : ℕ) (bs bytes now : List ℕ) → now ≡ bs ++ bytes → s ≤ length bs → view_at s now (count + more) ≡ record { logged = take s bs; waiting = drop s bs ++ bytes; count = count + more }
+push_view s count more bs bytes now is within i = record { logged = first_stays s bs bytes now within is i; waiting = rest_grows s bs bytes now within is i; count = count + more }
+
+-- edits that were written down are taken back
+pub taken_back : (edits : List Edit) (journal pushed cut : JournalView) (len count : ℕ) → pushed ≡ with_waiting edits journal → len ≡ length journal.logged + length journal.waiting → count ≡ journal.count
+    → cut ≡ record pushed { waiting = take (len - length pushed.logged) pushed.waiting; count = count } → cut ≡ journal
+taken_back edits journal pushed cut len count is long counted became = became ∙ (ap (λ (j : JournalView). record j { waiting = take (len - length j.logged) j.waiting; count = count }) is ∙ all)
+  where
+    rest : len - length journal.logged ≡ length journal.waiting
+    rest = let long = long in omega (arith, long)
+
+    back : take (len - length journal.logged) (journal.waiting ++ spelled_edits edits) ≡ journal.waiting
+    back = ap (λ (n : ℕ). take n (journal.waiting ++ spelled_edits edits)) rest ∙ take-append_seam journal.waiting (spelled_edits edits)
+
+    all : record (with_waiting edits journal) { waiting = take (len - length journal.logged) (journal.waiting ++ spelled_edits edits); count = count } ≡ journal
+    all i = record { logged = journal.logged; waiting = back i; count = counted i }

@@ -1,0 +1,153 @@
+-- A cluster whose edits are written down: what these are to what its files keep and to what it shows.
+use Rattle.std.specs.Prelude.{◌≡◌, ◌≢◌, ◌⊎◌, ℕ, ◌+◌, List, [], length, Option, None, Some, IfSome, IsSome, ⊤}
+use Rattle.std.specs.FinMap.{get}
+use Rattle.std.specs.List.{AllByRecursion}
+use Rattle.cell_key.specs.Cells.{Cells, after_edits}
+use Rattle.cell_key.specs.declared.edits.Edit.{Edit}
+use Rattle.file_store.specs.Store.{Contents}
+use Rattle.metadata_table.specs.Roots.{RootView}
+use Rattle.row_atomic.specs.Calls.{View, seen_of}
+use Rattle.row_atomic.specs.Changes.{Holds, IsEmptied, ListsAll}
+use Rattle.row_atomic.specs.Clusters.{ClusterState, storage_of}
+use Rattle.row_atomic.specs.Commands.{IsOutcome, OverfillsCluster, cells_shown}
+use Rattle.row_atomic.specs.Flushes.{CompactsFull, KeepsShown, MergesMany}
+use Rattle.row_atomic.specs.Journals.{HasRoomFor, HasWritten, JournalView}
+use Rattle.row_atomic.specs.Open.{IsStore, Reopens}
+use Rattle.row_atomic.specs.Roots.{HasRoot, Rests, StaysOrRests, root_name}
+use Rattle.row_atomic.specs.declared.commands.Command.{Command}
+use Rattle.row_atomic.specs.declared.commands.Command.TheVariants as command
+use Rattle.row_atomic.specs.declared.commands.Outcome.{Outcome}
+use Rattle.row_atomic.specs.declared.fill.FlushLimits.{FlushLimits}
+use Rattle.row_atomic.specs.declared.recorded.Recorded.{Recorded}
+
+-- ---- what is written down follows what is shown
+
+-- The files keep a root and cells, and these edits make of them what the cluster shows.
+pub record Tracks {F : Type 0} (contents : F → Option Contents) (state : ClusterState F)
+    (edits : List Edit) : Type 0 where
+  pub root : RootView
+  pub base : Cells
+  pub has : HasRoot contents root base state
+  pub replay : after_edits base edits ≡ cells_shown contents state
+
+-- They do, and the tablets have every file that the root lists: no sweep removes one.
+pub record TracksListed {F : Type 0} (contents : F → Option Contents) (state : ClusterState F)
+    (edits : List Edit) : Type 0 where
+  pub tracks : Tracks contents state edits
+  pub lists : ListsAll tracks.root.places state.places
+
+-- where a journal is, the edits that are written down in it are such
+abbrev pub IfWritten : (List Edit → Type 0) → Option JournalView → Type 0
+IfWritten Such None = ⊤
+IfWritten Such (Some journal) = HasWritten Such journal
+
+-- The edits that are written down make what the cluster shows of what its files keep.
+abbrev pub Follows : {F : Type 0} → (F → Option Contents) → ClusterState F → Option JournalView
+    → Type 0
+Follows contents state journal = IfWritten (Tracks contents state) journal
+
+-- They do, and no sweep removes a file of the root.
+abbrev pub FollowsListed : {F : Type 0} → (F → Option Contents) → ClusterState F
+    → Option JournalView → Type 0
+FollowsListed contents state journal = IfWritten (TracksListed contents state) journal
+
+-- the bytes of the edits that the log has, and of those that wait for it
+abbrev pub logged_of : Option JournalView → List ℕ
+logged_of None = []
+logged_of (Some journal) = journal.logged
+
+abbrev pub waiting_of : Option JournalView → List ℕ
+waiting_of None = []
+waiting_of (Some journal) = journal.waiting
+
+-- how many edits and bytes are written down
+abbrev pub edits_written : Option JournalView → ℕ
+edits_written None = 0
+edits_written (Some journal) = journal.count
+
+abbrev pub bytes_written : Option JournalView → ℕ
+bytes_written None = 0
+bytes_written (Some journal) = length journal.logged + length journal.waiting
+
+-- ---- rows that are written down
+
+-- where a journal is, it has no room for these edits
+abbrev pub OverfillsJournal : Option JournalView → List Edit → Type 0
+OverfillsJournal None edits = ⊥
+OverfillsJournal (Some journal) edits = ¬ HasRoomFor journal edits
+
+-- Edits of a row would pass a limit of the row's memtable, or of the journal.
+abbrev pub OverfillsRecorded : {F : Type 0} → Recorded F → List ℕ → List Edit → Type 0
+OverfillsRecorded rows row edits =
+    OverfillsCluster rows.cluster row edits ⊎ OverfillsJournal rows.journal edits
+
+-- What is seen of them is what is seen of the cluster, with the journal's limit and the bytes that
+-- the log has. They hold if the cluster does, and what is written down follows what is shown.
+abbrev pub seen_recorded : {F : Type 0} → (F → Option Contents) → View (Recorded F)
+seen_recorded contents = record {
+  holds = λ rows. Holds contents rows.cluster × Follows contents rows.cluster rows.journal;
+  readable = λ rows row. (seen_of contents).readable rows.cluster row;
+  each_readable = λ rows held row. (seen_of contents).each_readable rows.cluster held.0 row;
+  cells = λ rows. cells_shown contents rows.cluster;
+  overfills = λ rows row edits. OverfillsRecorded rows row edits;
+  storage = λ rows. record (storage_of contents rows.cluster) { logged = logged_of rows.journal };
+}
+
+-- Edits for which the journal has room pass no limit of a memtable: what is written down has all
+-- that the memtables have.
+abbrev pub FitsMemtables : {F : Type 0} → Recorded F → Type 0
+FitsMemtables rows =
+    (row : List ℕ) (edits : List Edit) → OverfillsCluster rows.cluster row edits
+    → OverfillsJournal rows.journal edits
+
+-- ---- what leaves it so
+
+-- a command that makes no edit
+abbrev pub IsOfUpkeep : Command → Type 0
+IsOfUpkeep (command.Apply row edits) = ⊥
+IsOfUpkeep _ = ⊤
+
+-- What is written down follows what is shown through all that a cluster does but an apply.
+pub record KeepsFollowing {F : Type 0} (contents : F → Option Contents) (faults : F → ℕ)
+    : Type 0 where
+  -- commands, whatever their outcomes
+  pub commands : (request : Command) (result : Outcome) (journal : Option JournalView)
+      (old new : ClusterState F) → IsOutcome contents faults request result old new
+      → IsOfUpkeep request → request ≢ command.Sweep → Holds contents old
+      → Follows contents old journal → Follows contents new journal
+  -- a sweep, if the tablets have all files of the root
+  pub sweeps : (result : Outcome) (journal : Option JournalView) (old new : ClusterState F)
+      → IsOutcome contents faults command.Sweep result old new → Holds contents old
+      → FollowsListed contents old journal → FollowsListed contents new journal
+  -- what comes by itself between two requests
+  pub flushes : (limits : FlushLimits) (journal : Option JournalView) (old new : ClusterState F)
+      → CompactsFull contents faults limits old new → KeepsShown contents faults old new
+      → Holds contents old → Follows contents old journal → Follows contents new journal
+  pub merges : (most : ℕ) (journal : Option JournalView) (old new : ClusterState F)
+      → MergesMany contents faults most old new → KeepsShown contents faults old new
+      → Holds contents old → Follows contents old journal → Follows contents new journal
+  -- A checkpoint that is done: from its root all edits lead to what is shown, and so do none.
+  pub checkpoints : (top floor : ℕ) (journal : Option JournalView) (old new : ClusterState F)
+      → Rests contents top floor old new → KeepsShown contents faults old new
+      → Holds contents old → Follows contents old journal → FollowsListed contents new journal
+  pub rests : (top floor : ℕ) (old new : ClusterState F)
+      → Rests contents top floor old new → KeepsShown contents faults old new
+      → Holds contents old → TracksListed contents new []
+  -- One that is refused: from the old root or from the new one all edits lead to what is shown.
+  pub refused : (top floor : ℕ) (journal : Option JournalView) (old new : ClusterState F)
+      → StaysOrRests contents top floor old new → KeepsShown contents faults old new
+      → Holds contents old → Follows contents old journal → Follows contents new journal
+  pub lists : (journal : Option JournalView) (state : ClusterState F)
+      → FollowsListed contents state journal → Follows contents state journal
+
+-- A store that was opened from a root shows what its files keep, with no edit; and the memtables
+-- of any that was opened have nothing that isn't written down.
+pub record OpensFollowing {F : Type 0} (contents : F → Option Contents) : Type 0 where
+  pub reopened : (root : RootView) (cells : Cells) (top floor : ℕ) (state : ClusterState F)
+      → Reopens contents root cells top floor state → TracksListed contents state []
+  pub opened : (m : Contents) (top floor : ℕ) (state : ClusterState F)
+      → contents state.files ≡ Some m → IsSome (get m root_name)
+      → IsStore m (get m root_name) top floor state → TracksListed contents state []
+  pub fits : (state : ClusterState F) (journal : JournalView)
+      → AllByRecursion IsEmptied state.tablets
+      → FitsMemtables (record { cluster = state; journal = Some journal })

@@ -1,0 +1,141 @@
+//! Journals: the edits that were made since a root was put, as bytes.
+
+ghost use Rattle.std.specs.Prelude.{◌≡◌, ◌≤◌, ◌+◌, ◌-◌, length, take, IfErr, IsErrOf, OnErr, OnOk};
+ghost use Rattle.std.specs.List.{AllByRecursion};
+ghost use Rattle.cell_key.specs.Cells.{IsEditOf};
+ghost use Rattle.commit_log.specs.Edits.{IsStoredEdit};
+ghost use Rattle.row_atomic.specs.Journals.{HasRoomFor, IsWithin, all_logged, empty_journal, with_waiting};
+ghost use Rattle.row_atomic.specs.Refusals.{IsApplyRefusal};
+
+use cell_key::{Edit, Refusal, Row};
+use commit_log::push_edits;
+use std::alloc::Global;
+use std::marker::Model;
+
+/// The most edits that are written down.
+const MOST_EDITS: usize = 100_000;
+
+/// The most bytes of all of them together.
+const MOST_BYTES: usize = 67_108_864;
+
+/// Edits that were made since a root was put, as the bytes of a log's records: those that the log has, and those that
+/// wait for it. They are at most 100,000, with at most 67,108,864 bytes, as many as a memtable may have.
+#[derive(Drop)]
+pub struct Journal {
+    bytes: Vec<u8>,
+    /// How many of the bytes the log has.
+    settled: usize,
+    /// How many edits are written down.
+    count: usize,
+}
+
+impl Model for Journal {
+    ghost use Rattle.std.specs.Prelude.{◌≤◌, ◌+◌, drop, length, take};
+    ghost use Rattle.row_atomic.specs.Journals.{JournalView, journal_code};
+
+    ghost Value = { JournalView };
+
+    ghost coded = { journal_code };
+
+    ghost view = { λ journal.
+        record {
+          logged = take journal.settled journal.bytes.items;
+          waiting = drop journal.settled journal.bytes.items;
+          count = journal.count;
+        } };
+
+    ghost invariant = { λ journal. (journal.settled ≤ length journal.bytes.items)
+        × (journal.count ≤ 100000) × (length journal.bytes.items ≤ 67108864) };
+}
+
+impl Journal {
+    /// A journal in which nothing is written down. Takes no memory.
+    pub(crate) fn new(alloc: Global) -> Journal
+        ensures { result ≡ empty_journal }
+    {
+        Journal {
+            bytes: Vec::new(alloc),
+            settled: 0,
+            count: 0,
+        }
+    }
+
+    /// How many edits are written down.
+    pub(crate) fn count(&self) -> usize
+        ensures { result ≡ self.now.count }
+    {
+        self.count
+    }
+
+    /// How many bytes they have.
+    pub(crate) fn len(&self) -> usize
+        ensures len { result ≡ length self.now.logged + length self.now.waiting }
+        ensures within { IsWithin self.now }
+    {
+        self.bytes.len()
+    }
+
+    /// The bytes of the edits that wait for the log.
+    pub(crate) fn waiting(&self) -> &[u8]
+        ensures bytes { result.now ≡ self.now.waiting }
+        ensures within { IsWithin self.now }
+    {
+        &self.bytes[self.settled..]
+    }
+
+    /// The log has all that is written down.
+    pub(crate) fn settle(&mut self)
+        ensures { self.new ≡ all_logged self.old }
+    {
+        self.settled = self.bytes.len();
+    }
+
+    /// Forgets what is written down. The memory stays.
+    pub(crate) fn clear(&mut self)
+        ensures { self.new ≡ empty_journal }
+    {
+        self.bytes.clear();
+        self.settled = 0;
+        self.count = 0;
+    }
+
+    /// Writes edits of a row down, behind the others.
+    ///
+    /// # Errors
+    ///
+    /// `MemtableFull` if they would pass a limit, and `NoMemory`. Nothing is written down then.
+    pub(crate) fn push(&mut self, row: &Row, edits: &[Edit]) -> Result<(), Refusal>
+        requires { AllByRecursion (IsEditOf row.now) edits.now }
+        ensures ok { OnOk result (self.new ≡ with_waiting edits.now self.old) }
+        ensures err { OnErr result (self.new ≡ self.old) }
+        ensures refusal { IfErr result IsApplyRefusal }
+        ensures full { IsErrOf result Refusal.MemtableFull → ¬ HasRoomFor self.old edits.now }
+        ensures within { OnOk result (HasRoomFor self.old edits.now) }
+        ensures stored { OnOk result (AllByRecursion IsStoredEdit edits.now) }
+    {
+        if edits.len() > MOST_EDITS - self.count {
+            return Err(Refusal::MemtableFull);
+        }
+        let before = self.bytes.len();
+        push_edits(&mut self.bytes, row, edits)?;
+        if self.bytes.len() > MOST_BYTES {
+            self.bytes.truncate(before);
+            return Err(Refusal::MemtableFull);
+        }
+        self.count += edits.len();
+        Ok(())
+    }
+
+    /// Forgets what was written down behind the first `len` bytes, which have `count` edits.
+    pub(crate) fn cut(&mut self, len: usize, count: usize)
+        requires waiting { length self.old.logged ≤ len }
+        requires few { count ≤ self.old.count }
+        ensures { self.new ≡ record self.old {
+          waiting = take (len - length self.old.logged) self.old.waiting;
+          count = count;
+        } }
+    {
+        self.bytes.truncate(len);
+        self.count = count;
+    }
+}

@@ -1,0 +1,200 @@
+//! A cluster whose edits are written down.
+
+ghost use Rattle.std.specs.Prelude.{◌≡◌, OnErr, OnOk, option_map};
+
+use crate::cluster::Cluster;
+use crate::cluster::laws::root_is_stored;
+use crate::journal::Journal;
+use crate::rows::Rows;
+use cell_key::{Edit, Family, Qualifier, Refusal, Row, Stamp, replays};
+use file_store::Files;
+
+/// A cluster, and where edits are recorded the journal in which each is written down, before an answer says that it was
+/// made. Where none are, an edit costs a test of that more than the cluster's, and nothing is kept.
+///
+/// While the journal is there, what is written down leads from what the files keep to what the cluster shows: that is
+/// part of what holds of these rows. All that a cluster does but `apply` leaves it so (`keeps_following`), and may be
+/// asked of the cluster itself.
+#[derive(Drop)]
+pub struct Recorded<F> {
+    pub cluster: Cluster<F>,
+    pub(crate) journal: Option<Journal>,
+}
+
+impl<F: Files> Recorded<F> {
+    ghost use Rattle.std.specs.Prelude.{◌≡◌, ◌+◌, ◌≤◌, IfSome, None, Some, is_some, option_map};
+    ghost use Rattle.row_atomic.specs.Journals.{IsWithin, all_logged, empty_journal};
+    ghost use Rattle.row_atomic.specs.Recorded.{bytes_written, edits_written, waiting_of};
+
+    /// Rows of a cluster. No edit is recorded.
+    pub fn new(cluster: Cluster<F>) -> Recorded<F>
+        ensures { result ≡ record { cluster = cluster; journal = None } }
+    {
+        Recorded {
+            cluster,
+            journal: None,
+        }
+    }
+
+    /// Records edits from now on. Nothing is written down yet. Takes no memory.
+    pub fn record(&mut self)
+        ensures { self.new ≡ record self.old { journal = Some empty_journal } }
+    {
+        self.journal = Some(Journal::new(self.cluster.alloc));
+    }
+
+    /// Records edits no more: what was written down is forgotten.
+    pub fn forget(&mut self)
+        ensures { self.new ≡ record self.old { journal = None } }
+    {
+        self.journal = None;
+    }
+
+    /// Whether edits are recorded.
+    pub fn is_recording(&self) -> bool
+        ensures { result ≡ is_some self.now.journal }
+    {
+        self.journal.is_some()
+    }
+
+    /// The bytes of the edits that wait for the log: a record of it. None wait where edits aren't recorded.
+    pub fn waiting(&self) -> &[u8]
+        ensures bytes { result.now ≡ waiting_of self.now.journal }
+        ensures within { IfSome self.now.journal IsWithin }
+    {
+        match &self.journal {
+            Some(journal) => journal.waiting(),
+            None => &[],
+        }
+    }
+
+    /// The log has what waited for it.
+    pub fn settled(&mut self)
+        ensures { self.new ≡ record self.old { journal = option_map all_logged self.old.journal } }
+    {
+        if let Some(journal) = &mut self.journal {
+            journal.settle();
+        }
+    }
+
+    /// A root was put that has all that is written down, and the log is empty: nothing is written down any more.
+    pub fn emptied(&mut self)
+        ensures { self.new ≡ record self.old {
+          journal = option_map (λ _. empty_journal) self.old.journal;
+        } }
+    {
+        if let Some(journal) = &mut self.journal {
+            journal.clear();
+        }
+    }
+
+    /// How many edits are written down, of at most 100,000.
+    pub fn written_edits(&self) -> usize
+        ensures { result ≡ edits_written self.now.journal }
+    {
+        match &self.journal {
+            Some(journal) => journal.count(),
+            None => 0,
+        }
+    }
+
+    /// How many bytes they have, of at most 67,108,864.
+    pub fn written_bytes(&self) -> usize
+        ensures { result ≡ bytes_written self.now.journal }
+    {
+        match &self.journal {
+            Some(journal) => journal.len(),
+            None => 0,
+        }
+    }
+
+    /// The files, as they are.
+    pub fn into_files(self) -> F
+        ensures { result ≡ self.cluster.files }
+    {
+        let Recorded {
+            cluster,
+            journal: _,
+        } = self;
+        cluster.into_files()
+    }
+}
+
+impl<F: Files> Rows for Recorded<F> {
+    ghost use Rattle.row_atomic.specs.Calls.{Applies, OnlyReads};
+    ghost use Rattle.row_atomic.specs.Journals.{with_waiting};
+    ghost use Rattle.row_atomic.specs.Recorded.{FitsMemtables, OverfillsRecorded, seen_recorded};
+    ghost use Rattle.row_atomic.specs.Refusals.{IsApplyRefusal};
+    ghost use Rattle.std.specs.List.{AllByRecursion};
+    ghost use Rattle.std.specs.Prelude.{IfErr, IsErrOf};
+    ghost use Rattle.cell_key.specs.Cells.{IsEditOf};
+
+    ghost seen = { seen_recorded F.contents };
+
+    ghost faults = { λ rows. F.faults rows.cluster.files };
+
+    fn newest(
+        &mut self,
+        row: &Row,
+        family: &Family,
+        qualifier: Qualifier,
+        lo: Stamp,
+        hi: Stamp,
+    ) -> Result<Option<(Stamp, Vec<u8>)>, Refusal> {
+        root_is_stored::<F>();
+        self.cluster.newest(row, family, qualifier, lo, hi)
+    }
+
+    fn next_cell(
+        &mut self,
+        after: Option<(&Row, &Family)>,
+    ) -> Result<Option<(Row, Family)>, Refusal> {
+        root_is_stored::<F>();
+        self.cluster.next_cell(after)
+    }
+
+    fn next_cells(
+        &mut self,
+        after: Option<(&Row, &Family)>,
+        most: usize,
+    ) -> Result<Vec<(Row, Family)>, Refusal> {
+        root_is_stored::<F>();
+        self.cluster.next_cells(after, most)
+    }
+
+    fn apply(&mut self, row: &Row, edits: Vec<Edit>) -> Result<(), Refusal>
+        requires { AllByRecursion (IsEditOf row.now) edits.items }
+        ensures ok { OnOk result (Applies (seen_recorded F.contents)
+            row.now edits.items self.old self.new) }
+        ensures err { OnErr result (OnlyReads (seen_recorded F.contents) self.old self.new) }
+        ensures refusal { IfErr result IsApplyRefusal }
+        ensures full { IsErrOf result Refusal.MemtableFull
+            → OverfillsRecorded self.old row.now edits.items }
+        ensures within { OnOk result (¬ OverfillsRecorded self.old row.now edits.items) }
+        ensures untouched { F.faults self.new.cluster.files ≡ F.faults self.old.cluster.files }
+        ensures written { OnOk result (self.new.journal
+            ≡ option_map (with_waiting edits.items) self.old.journal) }
+        ensures unwritten { OnErr result (self.new.journal ≡ self.old.journal) }
+        // What is written down has still all that the memtables have, if it had.
+        ensures fits { OnOk result (FitsMemtables self.old → FitsMemtables self.new) }
+    {
+        root_is_stored::<F>();
+        replays();
+        match &mut self.journal {
+            None => self.cluster.apply(row, edits),
+            Some(journal) => {
+                let (len, count) = (journal.len(), journal.count());
+                journal.push(row, &edits)?;
+                let done = self.cluster.apply(row, edits);
+                if done.is_err() {
+                    journal.cut(len, count);
+                }
+                done
+            }
+        }
+    }
+
+    fn faults(&self) -> u64 {
+        self.cluster.faults()
+    }
+}
