@@ -5,7 +5,7 @@ use Rattle.cell_key.specs.declared.refusals.Refusal.{Refusal}
 use Rattle.cell_key.specs.declared.refusals.Refusal.TheVariants.{Device, UnknownSession, UnknownCleaner, UnknownCollector, BadCount, EmptyCommit, TooManySessions}
 use Rattle.file_store.specs.Store.{Contents}
 use Rattle.row_atomic.specs.Changes.{Holds}
-use Rattle.row_atomic.specs.Recorded.{OverfillsRecorded}
+use Rattle.row_atomic.specs.Recorded.{OverfillsRecorded, seen_recorded}
 use Rattle.row_atomic.specs.Room.{TakesNoRoom}
 use Rattle.si_model.specs.Collection.{Collects}
 use Rattle.si_model.specs.Machine.{IsReached, State}
@@ -23,7 +23,7 @@ use Rattle.server_loop.specs.Runs.{IfRefused}
 use Rattle.server_loop.specs.Server.{HoldsIn, Shows, server_cells, cluster_of, marks_of, rows_of}
 use Rattle.server_loop.specs.declared.server.Server.{Server}
 use Rattle.txn_client.specs.Room.{ChangesNext, Makes, TakesRoom}
-use Rattle.txn_client.specs.Scans.{IsScanFound}
+use Rattle.txn_client.specs.Scans.{IsScanFound, IsScanReadable}
 use Rattle.txn_client.specs.declared.sessions.Clients.{Clients}
 use Rattle.txn_client.specs.Shows.{IsAboutToDraw, IsCrowded, IsInactive, IsUnwritten, SameClients, TouchesFor}
 use Rattle.clean_up.specs.Room as clean_up
@@ -96,8 +96,9 @@ ChangesCells contents (CollectStep collector n) (codec.Refused refusal) old new 
     × (ComesFirst refusal n → server_cells contents new ≡ server_cells contents old)
 ChangesCells contents (Scan start range keys_only cells) (codec.Scan reply) old new =
     (server_cells contents new ≡ server_cells contents old)
-    × (HoldsIn contents old → IsScanFound (server_cells contents old) start
-    (range_of range) keys_only cells (map item_of reply.items.items) (reach_of reply.reach))
+    × (IsScanReadable (seen_recorded contents) (rows_of old) (range_of range)
+    → IsScanFound (server_cells contents old) start (range_of range) keys_only cells
+    (map item_of reply.items.items) (reach_of reply.reach))
 ChangesCells contents (Minor tablet) reply old new = KeepsHeldCells contents old new
 ChangesCells contents (Merge tablet count) reply old new = KeepsHeldCells contents old new
 ChangesCells contents (Major tablet) reply old new = KeepsHeldCells contents old new

@@ -13,7 +13,9 @@ use clean_up::Cleaners;
 use file_store::Files;
 use oracle::{MarkStore, Oracle};
 use request_codec::{Reply, Request};
-use row_atomic::{Cluster, Command, FlushLimits, Outcome, Recorded, keeps_following, root_is_stored, root_stays};
+use row_atomic::{
+    Cluster, Command, FlushLimits, Outcome, Recorded, keeps_following, root_is_stored, root_stays,
+};
 use si_model::shows_reopened;
 use std::alloc::Global;
 use std::io::{Read, Write};

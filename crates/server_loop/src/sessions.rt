@@ -51,10 +51,7 @@ impl<F: Files + Drop, M: MarkStore + Drop> Server<F, M> {
     pub(crate) fn step(&mut self, start: Stamp) -> Reply
         ensures { IsPlainAnswer F.Files M.MarkStore self.old (Request.Step start) result self.new }
     {
-        match self
-            .clients
-            .step(&mut self.rows, &mut self.oracle, start)
-        {
+        match self.clients.step(&mut self.rows, &mut self.oracle, start) {
             Ok(progress) => Reply::Step(progress),
             Err(refusal) => Reply::Refused(refusal),
         }

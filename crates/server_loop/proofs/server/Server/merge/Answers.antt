@@ -13,7 +13,7 @@ returns-in-Ok g c = let o = c.in-Ok.ensures in record {
   edits = record { changes = o.answers; room = tt };
   sessions = record { told = λ st shown. tt; sessions = record { top = refl; each = λ t. refl }; cleaners = record { next = refl; each = λ i. refl; count = refl }; collectors = record { next = refl; floor = refl; each = λ i. refl; count = refl }; oracle = refl };
   tablets = inl o;
-  causes = (done_causes g.F.Files.contents g.F.Files.faults g.M.MarkStore.faults _ _ _ _ _ refl (λ is. absurd (not_done _ _ tt is)) (λ is. cc) o.faults (λ _. tt));
+  causes = (done_causes g.F.Files.contents g.F.Files.faults g.M.MarkStore.faults _ _ _ _ _ refl (λ is. absurd (not_done _ _ tt is)) (λ is. cc) o.faults (λ _. tt) (λ _. tt));
   tending = refl;
   logged = λ _ _. refl;
 }
@@ -25,7 +25,7 @@ returns-in-Err g c = let o = c.in-Err.ensures in record {
   edits = record { changes = λ held. (o.answers held).1; room = tt };
   sessions = record { told = λ st shown. tt; sessions = record { top = refl; each = λ t. refl }; cleaners = record { next = refl; each = λ i. refl; count = refl }; collectors = record { next = refl; floor = refl; each = λ i. refl; count = refl }; oracle = refl };
   tablets = inl o;
-  causes = (refused_causes g.F.Files.contents g.F.Files.faults g.M.MarkStore.faults _ _ _ _ refl o.faults (λ _. tt));
+  causes = (refused_causes g.F.Files.contents g.F.Files.faults g.M.MarkStore.faults _ _ _ _ refl o.faults (λ _. tt) (λ _. tt));
   tending = refl;
   logged = λ _ _. refl;
 }

@@ -13,7 +13,7 @@ returns-in-Ok-clause-plain g c = let o = c.in-Ok.ensures in record {
   edits = record { changes = λ held. (o.keeps.kept held).1; room = tt };
   sessions = record { told = λ st shown. tt; sessions = record { top = refl; each = λ t. refl }; cleaners = record { next = refl; each = λ i. refl; count = refl }; collectors = record { next = refl; floor = refl; each = λ i. refl; count = refl }; oracle = refl };
   tablets = rw (← c.top-top.ensures.top, ← c.greatest_floor-floor.ensures.floor) (o.steps, (λ is. o.rests), λ replaces refusal is. absurd (not_done _ _ tt is));
-  causes = (done_causes g.F.Files.contents g.F.Files.faults g.M.MarkStore.faults _ _ _ _ _ refl (λ is. absurd (not_done _ _ tt is)) (λ is. cc) o.faults (λ _. tt));
+  causes = (done_causes g.F.Files.contents g.F.Files.faults g.M.MarkStore.faults _ _ _ _ _ refl (λ is. absurd (not_done _ _ tt is)) (λ is. cc) o.faults (λ _. tt) (λ _. tt));
   tending = refl;
   logged = λ first. absurd (first refl);
 }
@@ -29,7 +29,7 @@ returns-in-Err-clause-plain g c = let o = c.in-Err.ensures in record {
   edits = record { changes = λ held. (o.keeps.kept held).1; room = tt };
   sessions = record { told = λ st shown. tt; sessions = record { top = refl; each = λ t. refl }; cleaners = record { next = refl; each = λ i. refl; count = refl }; collectors = record { next = refl; floor = refl; each = λ i. refl; count = refl }; oracle = refl };
   tablets = rw (← c.top-top.ensures.top, ← c.greatest_floor-floor.ensures.floor) (o.steps, (λ is. absurd (not_done _ _ tt (sym is))), λ replaces refusal is. o.whole replaces);
-  causes = (refused_causes g.F.Files.contents g.F.Files.faults g.M.MarkStore.faults _ _ _ _ refl o.faults (λ _. tt));
+  causes = (refused_causes g.F.Files.contents g.F.Files.faults g.M.MarkStore.faults _ _ _ _ refl o.faults (λ _. tt) (λ _. tt));
   tending = refl;
   logged = λ first. absurd (first refl);
 }

@@ -15,7 +15,7 @@ returns-in-Err g c = record {
   edits = record { changes = λ held. refl; room = tt };
   sessions = record { told = λ st shown. tt; sessions = record { top = refl; each = λ t. refl }; cleaners = record { next = refl; each = λ i. refl; count = refl }; collectors = record { next = refl; floor = refl; each = λ i. refl; count = refl }; oracle = refl };
   tablets = inr (refused_either _ _ _ c.in-Err.ensures.others, refl);
-  causes = (unmet_causes g.F.Files.contents g.F.Files.faults g.M.MarkStore.faults _ _ _ _ refl refl (λ is. absurd (named_not _ _ row_not_device memory_not_device c.in-Err.ensures.others is)) (λ _. tt));
+  causes = (unmet_causes g.F.Files.contents g.F.Files.faults g.M.MarkStore.faults _ _ _ _ refl refl (λ is. absurd (named_not _ _ row_not_device memory_not_device c.in-Err.ensures.others is)) (λ _. tt) (λ _. tt));
   tending = refl;
   logged = λ _ _. refl;
 }
@@ -30,7 +30,7 @@ returns-in-Ok-split g c =
       edits = record { changes = o.answers; room = tt };
       sessions = record { told = λ st shown. tt; sessions = record { top = refl; each = λ t. refl }; cleaners = record { next = refl; each = λ i. refl; count = refl }; collectors = record { next = refl; floor = refl; each = λ i. refl; count = refl }; oracle = refl };
       tablets = inl o;
-      causes = (done_causes g.F.Files.contents g.F.Files.faults g.M.MarkStore.faults _ _ _ _ _ refl (λ is. absurd (not_done _ _ tt is)) (λ is. cc) o.faults (λ _. tt));
+      causes = (done_causes g.F.Files.contents g.F.Files.faults g.M.MarkStore.faults _ _ _ _ _ refl (λ is. absurd (not_done _ _ tt is)) (λ is. cc) o.faults (λ _. tt) (λ _. tt));
       tending = refl;
       logged = λ _ _. refl;
     })
@@ -45,7 +45,7 @@ returns g c =
       edits = record { changes = λ held. (o.answers held).1; room = tt };
       sessions = record { told = λ st shown. tt; sessions = record { top = refl; each = λ t. refl }; cleaners = record { next = refl; each = λ i. refl; count = refl }; collectors = record { next = refl; floor = refl; each = λ i. refl; count = refl }; oracle = refl };
       tablets = inl o;
-      causes = (refused_causes g.F.Files.contents g.F.Files.faults g.M.MarkStore.faults _ _ _ _ refl o.faults (λ _. tt));
+      causes = (refused_causes g.F.Files.contents g.F.Files.faults g.M.MarkStore.faults _ _ _ _ refl o.faults (λ _. tt) (λ _. tt));
       tending = refl;
       logged = λ _ _. refl;
     })

@@ -14,7 +14,7 @@ returns-in-Ok g c = let told = c.in-Ok.ensures in record {
   edits = record { changes = λ st shown. (told.touched shown.in_order st shown.shows.sessions, λ reached. told.accepted.made shown.in_order st reached shown.shows.store shown.shows.sessions); room = λ st reached shown. told.accepted.room shown.in_order st reached shown.shows.store shown.shows.sessions };
   sessions = record { told = λ st shown. (λ gone. absurd (ok_not _ _ ((told.causes st shown.shows.sessions).unknown gone)), λ empty. absurd (ok_not _ _ ((told.causes st shown.shows.sessions).empty empty)), λ about. progress_told IsDrawRefusal c.in-Ok.progress); sessions = tt; cleaners = record { next = refl; each = λ i. refl; count = refl }; collectors = record { next = refl; floor = refl; each = λ i. refl; count = refl }; oracle = (λ st shown. told.aside st shown.shows.sessions, progress_told _ c.in-Ok.progress) };
   tablets = ap unlogged told.below.stays;
-  causes = record { device = λ is. absurd (not_done _ _ tt is); told = λ _. record { files = first_stays told.reason (ok_not _ _); marks = second_stays told.reason (ok_not _ _) }; full = λ is. absurd (not_done _ _ tt is) };
+  causes = record { device = λ is. absurd (not_done _ _ tt is); told = λ _. record { files = first_stays told.reason (ok_not _ _); marks = second_stays told.reason (ok_not _ _) }; full = λ is. absurd (not_done _ _ tt is); damaged = λ is. absurd (not_done _ _ tt is) };
   tending = refl;
   logged = λ _ _. ap logged_in told.below.stays;
 }
@@ -26,7 +26,7 @@ returns-in-Err g c = let told = c.in-Err.ensures in record {
   edits = record { changes = told.refused.same.kept; room = told.refused.same.room };
   sessions = record { told = λ st shown. (λ gone. as_refused _ _ _ refl ((told.causes st shown.shows.sessions).unknown gone), λ empty. as_refused _ _ _ refl ((told.causes st shown.shows.sessions).empty empty), λ about. (told.causes st shown.shows.sessions).drawing about); sessions = told.err; cleaners = record { next = refl; each = λ i. refl; count = refl }; collectors = record { next = refl; floor = refl; each = λ i. refl; count = refl }; oracle = (λ st shown. told.aside st shown.shows.sessions, (told.refused.mark, record { last = told.refused.stays; range_end = told.refused.range })) };
   tablets = ap unlogged told.below.stays;
-  causes = record { device = λ same. one_rose told.reason (as_err _ _ _ refl same); told = λ none. record { files = first_stays told.reason (λ is. none (as_refused _ _ _ refl is)); marks = second_stays told.reason (λ is. none (as_refused _ _ _ refl is)) }; full = λ same. (told.full (as_err _ _ _ refl same), λ st reached shown. told.full_shown shown.in_order (as_err _ _ _ refl same) st reached shown.shows.store shown.shows.sessions) };
+  causes = record { device = λ same. one_rose told.reason (as_err _ _ _ refl same); told = λ none. record { files = first_stays told.reason (λ is. none (as_refused _ _ _ refl is)); marks = second_stays told.reason (λ is. none (as_refused _ _ _ refl is)) }; full = λ same. (told.full (as_err _ _ _ refl same), λ st reached shown. told.full_shown shown.in_order (as_err _ _ _ refl same) st reached shown.shows.store shown.shows.sessions); damaged = λ is whole. told.undamaged whole (as_err _ _ _ refl is) };
   tending = refl;
   logged = λ _ _. ap logged_in told.below.stays;
 }
