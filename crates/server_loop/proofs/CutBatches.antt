@@ -194,7 +194,7 @@ module _ {S : Type 0} (shows : S → State → Type 0) (says : S → Lent → Co
   abbrev Settled : S → Type 0
   Settled s = IsSettled shows lasts logs s
 
-  pub settled_first : (first : Option Rest) (a e : S) (bytes rest : List ℕ) (h i : Option (List ℕ)) → HandlesFirst shows says between (Ok first) a e bytes rest h i → (Settled a → Settled e) → BatchesFirst shows says between lasts logs (Ok first) a e bytes rest h i
+  pub settled_first : (first : Option Rest) (a e : S) (bytes rest : List ℕ) (h i : Option (List ℕ)) → HandlesFirst shows says between (Ok first) a e bytes rest h i → StaysSettled shows lasts logs a e → BatchesFirst shows says between lasts logs (Ok first) a e bytes rest h i
   settled_first None a e bytes rest h i p stays = (p.0, p.1, stays)
   settled_first (Some rests.Partial) a e bytes rest h i p stays = (p, stays)
   settled_first (Some rests.TooLarge) a e bytes rest h i p stays = (p, stays)
@@ -211,9 +211,6 @@ module _ {S : Type 0} (shows : S → State → Type 0) (says : S → Lent → Co
       × ((old new : S) → between old new → ((st : State) → shows old st → shows new st) × GoesOn shows lasts logs old new)
 
   module _ (laws : Laws) where
-    pub said_logs : (a e : S) (ts : List Taken) (rs : List Reply) → SaysAll says between a ts rs e → logs a → logs e
-    said_logs = SaysAll-keeps says between logs (λ old new request reply is. (laws.0 old new request reply is).1.logged) (λ old new is. (laws.1 old new is).1.logged)
-
     -- one answer: the machine goes on, and what lasts is what did or what is shown
     abbrev One : S → S → Taken → Reply → State → State → Type 0
     One a b t r now st = (next : State) × Answers now t r next × IsReached next × shows b next × logs b × (lasts b st ⊎ (lasts b now ⊎ lasts b next))
@@ -229,8 +226,8 @@ module _ {S : Type 0} (shows : S → State → Type 0) (says : S → Lent → Co
           inl (asked p.0, p.2, subst (λ (q : Reply). Step now (asked p.0) q next) (sym p.3) step),
           reached_step now next (asked p.0) (replied p.1) reached step,
           shows_next,
-          law.1.logged logged,
-          elim (law.1.lasting logged st lasting) [ inl on ↦ inl on | inr other ↦ inr (elim other [ inl was ↦ inl (was now shown) | inr is ↦ inr (is next shows_next) ]) ],
+          law.1.logged now reached shown logged,
+          elim (law.1.lasting now reached shown logged st lasting) [ inl on ↦ inl on | inr other ↦ inr (elim other [ inl was ↦ inl was | inr is ↦ inr (is next shows_next) ]) ],
         )
     one_said a b (Body body) r now st (inr p) reached shown logged lasting = of_same a b (Body body) r now st p.2 (inr (p.0, p.1, refl)) reached shown logged lasting
     one_said a b Oversize r now st p reached shown logged lasting = of_same a b Oversize r now st p.1 (p.0, refl) reached shown logged lasting
@@ -241,12 +238,12 @@ module _ {S : Type 0} (shows : S → State → Type 0) (says : S → Lent → Co
         let law = laws.1 b c tends in
         let (next, answers, reached, shown, logged, lasting) = p in
         let shown_after = law.0 next shown in
-        let last = λ (x : State) (is : lasts b x). elim (law.1.lasting logged x is) as (λ _. lasts c x ⊎ lasts c next) [ inl on ↦ inl on | inr other ↦ inr (elim other [ inl was ↦ was next shown | inr is ↦ is next shown_after ]) ] in (
+        let last = λ (x : State) (is : lasts b x). elim (law.1.lasting next reached shown logged x is) as (λ _. lasts c x ⊎ lasts c next) [ inl on ↦ inl on | inr other ↦ inr (elim other [ inl was ↦ was | inr is ↦ is next shown_after ]) ] in (
           next,
           answers,
           reached,
           shown_after,
-          law.1.logged logged,
+          law.1.logged next reached shown logged,
           elim lasting [
             | inl is ↦ elim (last st is) [ inl on ↦ inl on | inr after ↦ inr (inr after) ]
             | inr other ↦ elim other [
@@ -256,8 +253,13 @@ module _ {S : Type 0} (shows : S → State → Type 0) (says : S → Lent → Co
           ],
         )
 
-    chain_keeps : (a e : S) (ts : List Taken) (rs : List Reply) (now st : State) → SaysAll says between a ts rs e → IsReached now → shows a now → logs a → lasts a st → lasts e st ⊎ KeptIn e now ts rs
-    chain_keeps a e [] [] now st p reached shown logged lasting = inl (subst (λ (s : S). lasts s st) (sym p) lasting)
+    -- a chain of answers ends at a state that is shown, with the log in order
+    abbrev Ends : S → Type 0
+    Ends e = (end : State) × IsReached end × shows e end × logs e
+
+    chain_keeps : (a e : S) (ts : List Taken) (rs : List Reply) (now st : State) → SaysAll says between a ts rs e → IsReached now → shows a now → logs a → lasts a st → Ends e × (lasts e st ⊎ KeptIn e now ts rs)
+    chain_keeps a e [] [] now st p reached shown logged lasting =
+        ((now, reached, subst (λ (s : S). shows s now) (sym p) shown, subst logs (sym p) logged), inl (subst (λ (s : S). lasts s st) (sym p) lasting))
     chain_keeps a e [] (r ∷ rs) now st p reached shown logged lasting = absurd p
     chain_keeps a e (t ∷ ts) [] now st p reached shown logged lasting = absurd p
     chain_keeps a e (t ∷ ts) (r ∷ rs) now st p reached shown logged lasting =
@@ -265,16 +267,19 @@ module _ {S : Type 0} (shows : S → State → Type 0) (says : S → Lent → Co
         let on = λ (x : State) (is : lasts p.1 x). chain_keeps p.1 e ts rs next x p.4 reached_next shows_next logs_next is in
         let later = λ (k : KeptIn e next ts rs). let found : KeptIn e now (t ∷ ts) (r ∷ rs) = (suc k.0, k.1, (next, answers, k.2), k.3, k.4) in found in
         elim kept [
-          | inl is ↦ elim (on st is) [ inl same ↦ inl same | inr k ↦ inr (later k) ]
+          | inl is ↦ ((on st is).0, elim (on st is).1 [ inl same ↦ inl same | inr k ↦ inr (later k) ])
           | inr other ↦ elim other [
-            | inl is ↦ elim (on now is) [ inl same ↦ inr (0, now, refl, reached, same) | inr k ↦ inr (later k) ]
-            | inr is ↦ elim (on next is) [ inl same ↦ inr (later (0, next, refl, reached_next, same)) | inr k ↦ inr (later k) ]
+            | inl is ↦ ((on now is).0, elim (on now is).1 [ inl same ↦ inr (0, now, refl, reached, same) | inr k ↦ inr (later k) ])
+            | inr is ↦ ((on next is).0, elim (on next is).1 [ inl same ↦ inr (later (0, next, refl, reached_next, same)) | inr k ↦ inr (later k) ])
           ]
         ]
 
+    pub chain_ends : (a e : S) (ts : List Taken) (rs : List Reply) → SaysAll says between a ts rs e → IsSettled shows lasts logs a → (before : State) → IsReached before → shows a before → Ends e
+    chain_ends a e ts rs said settled before reached shown = (chain_keeps a e ts rs before before said reached shown settled.0 (settled.1 before shown)).0
+
     pub chain_kept : (a e : S) (ts : List Taken) (rs : List Reply) → SaysAll says between a ts rs e → IsSettled shows lasts logs a → (before : State) → IsReached before → shows a before → KeptIn e before ts rs
     chain_kept a e ts rs said settled before reached shown =
-        elim (chain_keeps a e ts rs before before said reached shown settled.0 (settled.1 before shown)) [ inl same ↦ (0, before, refl, reached, same) | inr k ↦ k ]
+        elim (chain_keeps a e ts rs before before said reached shown settled.0 (settled.1 before shown)).1 [ inl same ↦ (0, before, refl, reached, same) | inr k ↦ k ]
 
   fails_so : (fault : ServeFault) (a e : S) (bytes rest : List ℕ) (h i : Option (List ℕ)) → (fault ≡ faults.Log) ⊎ (fault ≡ faults.Write) → (IsTooLong rest ⊎ (length rest < length bytes)) × CutsBatch shows says between lasts logs a e bytes rest h i → BatchesTo shows says between lasts logs (Err fault) a e bytes rest h i
   fails_so fault a e bytes rest h i (inl is) p = subst (λ (f : ServeFault). BatchesTo shows says between lasts logs (Err f) a e bytes rest h i) (sym is) p
@@ -331,7 +336,7 @@ module _ {S : Type 0} (shows : S → State → Type 0) (says : S → Lent → Co
   few_none xs n is = let size : length xs ≡ 0 = ap length is in omega (arith, size)
 
   pub cut_batch : Laws → (a m e : S) (bytes rest waiting written more : List ℕ) (h i : Option (List ℕ)) → Fills shows says between a m bytes rest waiting → 0 < length waiting → ((first : S) → between first m → between first e) → ((st : State) → shows m st → shows e st)
-      → waiting ≡ written ++ more → Appends h i written → (logs m → (st now : State) → lasts m st → shows m now → ((written ≡ []) × lasts e st) ⊎ lasts e now)
+      → waiting ≡ written ++ more → Appends h i written → ((now : State) → IsReached now → shows m now → logs m → (st : State) → lasts m st → ((written ≡ []) × lasts e st) ⊎ lasts e now)
       → (IsTooLong rest ⊎ (length rest < length bytes)) × CutsBatch shows says between lasts logs a e bytes rest h i
   cut_batch laws a m e bytes rest waiting written more h i fill some joins shown parts appended err =
       let b = fill.0 in
@@ -342,7 +347,7 @@ module _ {S : Type 0} (shows : S → State → Type 0) (says : S → Lent → Co
           behind = bytes;
           sent = h;
           front = Answered-none shows says between a bytes h;
-          settled = λ settled. settled;
+          settled = λ now reached shown settled. settled;
           batch = record {
             bodies = b.bodies;
             whole = b.whole;
@@ -360,20 +365,21 @@ module _ {S : Type 0} (shows : S → State → Type 0) (says : S → Lent → Co
           kept = λ settled before reached shows_before.
               let r = b.run before reached shows_before in
               let k = chain_kept laws a m b.taken b.replies b.said settled before reached shows_before in
-              elim (err (said_logs laws a m b.taken b.replies b.said settled.0) k.1 r.after k.4 r.shows) [
+              let ends = chain_ends laws a m b.taken b.replies b.said settled before reached shows_before in
+              elim (err r.after r.reached r.shows ends.3 k.1 k.4) [
                 | inl p ↦ record { count = k.0; after = k.1; run = k.2; reached = k.3; lasting = p.1; replied = few_none written (length (written_of (take k.0 b.replies))) p.0 }
                 | inr p ↦ whole_kept e before r.after b.taken b.replies written r.run r.reached p (few_first (written_of b.replies) written more (sym fill.1 ∙ parts))
               ];
         },
       )
 
-  pub cut_after : (a b e : S) (bytes behind rest : List ℕ) (h i j : Option (List ℕ)) → Answered shows says between a b bytes behind h i → (Settled a → Settled b) → CutsBatch shows says between lasts logs b e behind rest i j → CutsBatch shows says between lasts logs a e bytes rest h j
+  pub cut_after : (a b e : S) (bytes behind rest : List ℕ) (h i j : Option (List ℕ)) → Answered shows says between a b bytes behind h i → StaysSettled shows lasts logs a b → CutsBatch shows says between lasts logs b e behind rest i j → CutsBatch shows says between lasts logs a e bytes rest h j
   cut_after a b e bytes behind rest h i j front stays c = record {
     mid = c.mid;
     behind = c.behind;
     sent = c.sent;
     front = Answered-then shows says between a b c.mid bytes behind c.behind h i c.sent front c.front;
-    settled = λ settled. c.settled (stays settled);
+    settled = λ now reached shown settled. let one = front.run.run now reached shown in c.settled one.after one.reached one.shows (stays now reached shown settled);
     batch = c.batch;
     written = c.written;
     more = c.more;
@@ -414,7 +420,7 @@ module _ {S : Type 0} (shows : S → State → Type 0) (says : S → Lent → Co
     behind = bytes;
     sent = h;
     front = Answered-none shows says between a bytes h;
-    settled = λ settled. settled;
+    settled = λ now reached shown settled. settled;
     batch = record {
       bodies = [];
       whole = refl;
@@ -446,11 +452,14 @@ module _ {S : Type 0} (shows : S → State → Type 0) (says : S → Lent → Co
 
   -- ---- calls
 
+  pub then_stays : (a b e : S) (ts : List Taken) (rs : List Reply) → RunsAs shows a b ts rs → StaysSettled shows lasts logs a b → StaysSettled shows lasts logs b e → StaysSettled shows lasts logs a e
+  then_stays a b e ts rs run first then now reached shown settled = let one = run now reached shown in then one.after one.reached one.shows (first now reached shown settled)
+
   -- what lasts where all that was answered does
-  all_kept : (a e : S) (ts : List Taken) (rs : List Reply) (written : List ℕ) → RunsAs shows a e ts rs → (Settled a → Settled e) → length written ≤ length (written_of rs) → Settled a → (before : State) → IsReached before → shows a before → KeepsBeginning (lasts e) before ts rs written
+  all_kept : (a e : S) (ts : List Taken) (rs : List Reply) (written : List ℕ) → RunsAs shows a e ts rs → StaysSettled shows lasts logs a e → length written ≤ length (written_of rs) → Settled a → (before : State) → IsReached before → shows a before → KeepsBeginning (lasts e) before ts rs written
   all_kept a e ts rs written run stays few settled before reached shown =
       let r = run before reached shown in
-      whole_kept e before r.after ts rs written r.run r.reached ((stays settled).1 r.after r.shows) few
+      whole_kept e before r.after ts rs written r.run r.reached ((stays before reached shown settled).1 r.after r.shows) few
 
   ended_so : (end : End) (r : ℕ) (read rest : List ℕ) (left h i j k : Option (List ℕ)) → EndsBy (Ok end) r read rest left h i → EndsBy (Ok end) r read rest left j k
   ended_so ends.Clean r read rest left h i j k p = p
@@ -459,7 +468,7 @@ module _ {S : Type 0} (shows : S → State → Type 0) (says : S → Lent → Co
   ended_so ends.ReadsUsedUp r read rest left h i j k p = p
 
   -- all was settled and written
-  pub lasting_ends : (end : End) (a e : S) (l m h i : Option (List ℕ)) (r : ℕ) → (Settled a → Settled e) → ServesOn shows says between [] a e l m h i r (Ok end) → ServesLasting shows says between lasts logs a e l m h i r (Ok end)
+  pub lasting_ends : (end : End) (a e : S) (l m h i : Option (List ℕ)) (r : ℕ) → StaysSettled shows lasts logs a e → ServesOn shows says between [] a e l m h i r (Ok end) → ServesLasting shows says between lasts logs a e l m h i r (Ok end)
   lasting_ends end a e l m h i r stays p = record {
     buffer = written_of p.handled.replies;
     served = record {
@@ -490,7 +499,7 @@ module _ {S : Type 0} (shows : S → State → Type 0) (says : S → Lent → Co
     kept = all_kept a e p.handled.taken p.handled.replies (written_of p.handled.replies) p.handled.run stays (omega arith);
   }
 
-  pub lasting_unread : (a e : S) (l m h i : Option (List ℕ)) (r : ℕ) → (Settled a → Settled e) → ServesOn shows says between [] a e l m h i r (Err faults.Read) → ServesLasting shows says between lasts logs a e l m h i r (Err faults.Read)
+  pub lasting_unread : (a e : S) (l m h i : Option (List ℕ)) (r : ℕ) → StaysSettled shows lasts logs a e → ServesOn shows says between [] a e l m h i r (Err faults.Read) → ServesLasting shows says between lasts logs a e l m h i r (Err faults.Read)
   lasting_unread a e l m h i r stays p = record {
     buffer = written_of p.handled.replies;
     served = record {
@@ -522,7 +531,7 @@ module _ {S : Type 0} (shows : S → State → Type 0) (says : S → Lent → Co
   }
 
   -- the last flush failed
-  pub lasting_unflushed : (end : End) (a e : S) (l m h i j : Option (List ℕ)) (r : ℕ) → Keeps i j → (Settled a → Settled e) → ServesOn shows says between [] a e l m h i r (Ok end) → ServesLasting shows says between lasts logs a e l m h j r (Err faults.Write)
+  pub lasting_unflushed : (end : End) (a e : S) (l m h i j : Option (List ℕ)) (r : ℕ) → Keeps i j → StaysSettled shows lasts logs a e → ServesOn shows says between [] a e l m h i r (Ok end) → ServesLasting shows says between lasts logs a e l m h j r (Err faults.Write)
   lasting_unflushed end a e l m h i j r keeps stays p = record {
     buffer = written_of p.handled.replies;
     served = record {
@@ -588,45 +597,45 @@ module _ {S : Type 0} (shows : S → State → Type 0) (says : S → Lent → Co
         appended = Appends-trans h c.sent i (written_of fr) c.written c.front.appended c.appended;
         kept = λ settled before reached shown.
             let one = c.front.run.run before reached shown in
-            kept_after e before one.after (map Body c.front.bodies) c.batch.taken fr br c.written one.run (c.kept (c.settled settled) one.after one.reached one.shows);
+            kept_after e before one.after (map Body c.front.bodies) c.batch.taken fr br c.written one.run (c.kept (c.settled before reached shown settled) one.after one.reached one.shows);
       }
 
   logged_so : (a e : S) (l m h i : Option (List ℕ)) (r : ℕ) → ServesLasting shows says between lasts logs a e l m h i r (Err faults.Write) → ServesLasting shows says between lasts logs a e l m h i r (Err faults.Log)
   logged_so a e l m h i r p = record { buffer = p.buffer; served = p.served; framed = p.framed; written = p.written; more = p.more; parts = p.parts; whole = tt; appended = p.appended; kept = p.kept }
 
-  lasting_cut : (a b e : S) (hand : List ℕ) (l m n h i j : Option (List ℕ)) (r s : ℕ) → Served shows says between [] hand a b l m h i r s → (Settled a → Settled b) → CutsRead shows says between lasts logs hand b e m n i j → ServesLasting shows says between lasts logs a e l n h j r (Err faults.Write)
+  lasting_cut : (a b e : S) (hand : List ℕ) (l m n h i j : Option (List ℕ)) (r s : ℕ) → Served shows says between [] hand a b l m h i r s → StaysSettled shows lasts logs a b → CutsRead shows says between lasts logs hand b e m n i j → ServesLasting shows says between lasts logs a e l n h j r (Err faults.Write)
   lasting_cut a b e hand l m n h i j r s p stays c =
       cut_so a e (p.read ++ c.read) c.rest l n h j r (Consumes-trans l m n p.read c.read p.consumed c.consumed) c.within
       (cut_after a b e (p.read ++ c.read) (hand ++ c.read) c.rest h i j (joined shows says between a b [] p.read c.read hand h i p.answered) stays c.cut)
 
-  stops_so : (fault : ServeFault) (a b e : S) (hand hand' : List ℕ) (l m n h i j : Option (List ℕ)) (r s t : ℕ) → Served shows says between [] hand a b l m h i r s → (Settled a → Settled b) → ReadsBatches shows says between lasts logs (Err fault) hand hand' b e m n i j s t
+  stops_so : (fault : ServeFault) (a b e : S) (hand hand' : List ℕ) (l m n h i j : Option (List ℕ)) (r s t : ℕ) → Served shows says between [] hand a b l m h i r s → StaysSettled shows lasts logs a b → ReadsBatches shows says between lasts logs (Err fault) hand hand' b e m n i j s t
       → ServesLasting shows says between lasts logs a e l n h j r (Err fault)
   stops_so faults.Read a b e hand hand' l m n h i j r s t p stays q =
-      lasting_unread a e l n h j r (λ settled. q.1 (stays settled)) (Served-ends shows says between (Err faults.Read) a b e [] hand l m n h i j r s (λ is. cc) p q.0)
+      lasting_unread a e l n h j r (then_stays a b e _ _ p.answered.run.run stays q.1) (Served-ends shows says between (Err faults.Read) a b e [] hand l m n h i j r s (λ is. cc) p q.0)
   stops_so faults.Write a b e hand hand' l m n h i j r s t p stays q = lasting_cut a b e hand l m n h i j r s p stays q
   stops_so faults.Log a b e hand hand' l m n h i j r s t p stays q = logged_so a e l n h j r (lasting_cut a b e hand l m n h i j r s p stays q)
   stops_so faults.NoMemory a b e hand hand' l m n h i j r s t p stays q = absurd q
 
-  pub lasting_stops : (result : Result End ServeFault) (fault : ServeFault) (a b e : S) (hand hand' : List ℕ) (l m n h i j : Option (List ℕ)) (r s t : ℕ) → result ≡ Err fault → Served shows says between [] hand a b l m h i r s → (Settled a → Settled b)
+  pub lasting_stops : (result : Result End ServeFault) (fault : ServeFault) (a b e : S) (hand hand' : List ℕ) (l m n h i j : Option (List ℕ)) (r s t : ℕ) → result ≡ Err fault → Served shows says between [] hand a b l m h i r s → StaysSettled shows lasts logs a b
       → ReadsBatches shows says between lasts logs (Err fault) hand hand' b e m n i j s t → ServesLasting shows says between lasts logs a e l n h j r result
   lasting_stops result fault a b e hand hand' l m n h i j r s t is p stays q =
       subst (λ (x : Result End ServeFault). ServesLasting shows says between lasts logs a e l n h j r x) (sym is) (stops_so fault a b e hand hand' l m n h i j r s t p stays q)
 
   -- ---- errors that are passed on
 
-  fails_behind : (fault : ServeFault) (a b e : S) (bytes behind rest : List ℕ) (h i j : Option (List ℕ)) → Answered shows says between a b bytes behind h i → (Settled a → Settled b) → BatchesTo shows says between lasts logs (Err fault) b e behind rest i j
+  fails_behind : (fault : ServeFault) (a b e : S) (bytes behind rest : List ℕ) (h i j : Option (List ℕ)) → Answered shows says between a b bytes behind h i → StaysSettled shows lasts logs a b → BatchesTo shows says between lasts logs (Err fault) b e behind rest i j
       → BatchesTo shows says between lasts logs (Err fault) a e bytes rest h j
   fails_behind fault a b e bytes behind rest h i j front stays p =
       let c = cut_is fault b e behind rest i j p in
       fails_so fault a e bytes rest h j c.0 (fewer_after shows says between front.bodies bytes behind rest front.whole c.1.0, cut_after a b e bytes behind rest h i j front stays c.1.1)
 
-  pub all_fails : (result : Result Rest ServeFault) (fault : ServeFault) (a b e : S) (bytes behind rest : List ℕ) (h i j : Option (List ℕ)) → result ≡ Err fault → Answered shows says between a b bytes behind h i → (Settled a → Settled b)
+  pub all_fails : (result : Result Rest ServeFault) (fault : ServeFault) (a b e : S) (bytes behind rest : List ℕ) (h i j : Option (List ℕ)) → result ≡ Err fault → Answered shows says between a b bytes behind h i → StaysSettled shows lasts logs a b
       → BatchesTo shows says between lasts logs (Err fault) b e behind rest i j → BatchesTo shows says between lasts logs result a e bytes rest h j
   all_fails result fault a b e bytes behind rest h i j is front stays p = subst (λ (r : Result Rest ServeFault). BatchesTo shows says between lasts logs r a e bytes rest h j) (sym is) (fails_behind fault a b e bytes behind rest h i j front stays p)
 
   -- some of a piece was taken, after those before it, and then a batch was cut
   pub piece_cut : (result : Result Rest ServeFault) (fault : ServeFault) (a b e : S) (first piece part hand hand' rest after : List ℕ) (at n : ℕ) (h i j : Option (List ℕ)) → result ≡ Err fault → Answered shows says between a b (first ++ take at piece) hand h i
-      → (Settled a → Settled b) → hand' ≡ hand ++ take n part → take at piece ++ take n part ≡ take (at + n) piece → BatchesTo shows says between lasts logs (Err fault) b e hand' rest i j
+      → StaysSettled shows lasts logs a b → hand' ≡ hand ++ take n part → take at piece ++ take n part ≡ take (at + n) piece → BatchesTo shows says between lasts logs (Err fault) b e hand' rest i j
       → (left : List ℕ) × IsRest result left after × BatchesTo shows says between lasts logs result a e (first ++ piece) left h j
   piece_cut result fault a b e first piece part hand hand' rest after at n h i j is front stays grown more p =
       let all : (first ++ take at piece) ++ take n part ≡ first ++ take (at + n) piece = append_assoc first (take at piece) (take n part) ∙ ap (λ l. first ++ l) more in
@@ -682,7 +691,7 @@ module _ {S : Type 0} (shows : S → State → Type 0) (says : S → Lent → Co
 
   -- ---- the last flush
 
-  pub lasting_finished : (result : Result End ServeFault) (end : End) (a e : S) (l m h i j : Option (List ℕ)) (r : ℕ) → Keeps i j → IfOk result (λ is. is ≡ end) → IfErr result (λ fault. fault ≡ faults.Write) → (Settled a → Settled e)
+  pub lasting_finished : (result : Result End ServeFault) (end : End) (a e : S) (l m h i j : Option (List ℕ)) (r : ℕ) → Keeps i j → IfOk result (λ is. is ≡ end) → IfErr result (λ fault. fault ≡ faults.Write) → StaysSettled shows lasts logs a e
       → ServesOn shows says between [] a e l m h i r (Ok end) → ServesLasting shows says between lasts logs a e l m h j r result
   lasting_finished (Ok is) end a e l m h i j r keeps same fault stays p =
       subst (λ (x : End). ServesLasting shows says between lasts logs a e l m h j r (Ok x)) (sym same) (lasting_ends end a e l m h j r stays (finished shows says between (Ok end) end a e [] l m h i j r keeps refl tt p))
@@ -719,5 +728,5 @@ module _ {S : Type 0} (shows : S → State → Type 0) (says : S → Lent → Co
     parts = refl;
     whole = refl;
     appended = Appends-nil h;
-    kept = all_kept a a [] [] [] (RunsAs-none shows a) (λ settled. settled) (omega arith);
+    kept = all_kept a a [] [] [] (RunsAs-none shows a) (λ now reached shown settled. settled) (omega arith);
   }

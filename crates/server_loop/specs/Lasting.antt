@@ -41,16 +41,17 @@ module _ {S : Type 0} (shows lasts : S → State → Type 0) (logs : S → Type 
   abbrev pub IsSettled : S → Type 0
   IsSettled server = logs server × ((st : State) → shows server st → lasts server st)
 
+  -- a settled server that shows a reached state comes to be a settled one
   abbrev pub StaysSettled : S → S → Type 0
-  StaysSettled old new = IsSettled old → IsSettled new
+  StaysSettled old new = (now : State) → IsReached now → shows old now → IsSettled old → IsSettled new
 
-  -- What lasted goes on to last, or from now on each state that is shown before does, or each one
-  -- that is shown after.
+  -- From a shown state on, its log stays in order, and what lasted goes on to last, or the state that
+  -- was shown does, or each one that is shown now.
   pub record GoesOn (old new : S) : Type 0 where
-    pub logged : logs old → logs new
-    pub lasting : logs old → (st : State) → lasts old st
-        → lasts new st ⊎ (((now : State) → shows old now → lasts new now)
-        ⊎ ((now : State) → shows new now → lasts new now))
+    pub logged : (now : State) → IsReached now → shows old now → logs old → logs new
+    pub lasting : (now : State) → IsReached now → shows old now → logs old → (st : State)
+        → lasts old st
+        → lasts new st ⊎ (lasts new now ⊎ ((next : State) → shows new next → lasts new next))
 
 module _ {S : Type 0} (shows : S → State → Type 0) (says : S → Lent → CodecReply → S → Type 0)
     (between : S → S → Type 0) where

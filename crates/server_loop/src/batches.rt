@@ -2,7 +2,7 @@
 
 ghost use Rattle.std.specs.Prelude.{◌≡◌, ◌≤◌, ◌<◌, ◌+◌, ◌++◌, ◌⊎◌, List, ℕ, [], length, IfErr, OnErr, OnOk, Ok, Some, vec_capacity};
 ghost use Rattle.std.specs.Io.KnownBytes.{Appends};
-ghost use Rattle.si_model.specs.Machine.{State};
+ghost use Rattle.si_model.specs.Machine.{IsReached, State};
 ghost use Rattle.request_codec.specs.Replies.{replied, reply_body};
 ghost use Rattle.request_codec.specs.Requests.{asked};
 ghost use Rattle.request_codec.specs.Stream.{IsPartial, frame};
@@ -38,9 +38,11 @@ pub(crate) trait Lasting: Answering {
     fn settle(&mut self) -> Result<(), ServeFault>
         ensures between { (first : Self) → Self.between first self.old → Self.between first self.new }
         ensures shown { (st : State) → Self.shows self.old st → Self.shows self.new st }
-        ensures ok { OnOk result (logs self.old → IsSettled Self.shows lasts logs self.new) }
-        ensures err { OnErr result (logs self.old → (st now : State) → lasts self.old st
-            → Self.shows self.old now → lasts self.new st ⊎ lasts self.new now) }
+        ensures ok { OnOk result ((now : State) → IsReached now → Self.shows self.old now
+            → logs self.old → IsSettled Self.shows lasts logs self.new) }
+        ensures err { OnErr result ((now : State) → IsReached now → Self.shows self.old now
+            → logs self.old → (st : State) → lasts self.old st
+            → lasts self.new st ⊎ lasts self.new now) }
         ensures fault { IfErr result (λ fault. fault ≡ ServeFault.Log) };
 
     /// What is said is a step of the machine, and keeps what lasts.
@@ -119,14 +121,16 @@ fn release<A: Lasting, W: Write>(
 ) -> Result<(), ServeFault>
     ensures between { (first : A) → A.between first server.old → A.between first server.new }
     ensures shown { (st : State) → A.shows server.old st → A.shows server.new st }
-    ensures ok { OnOk result (A.logs server.old → IsSettled A.shows A.lasts A.logs server.new) }
+    ensures ok { OnOk result ((now : State) → IsReached now → A.shows server.old now
+        → A.logs server.old → IsSettled A.shows A.lasts A.logs server.new) }
     ensures written { OnOk result (Appends (W.contents writer.old) (W.contents writer.new)
         waiting.old.items) }
     ensures none { OnOk result (waiting.new.items ≡ []) }
     ensures err { OnErr result ((written : List ℕ) × (more : List ℕ)
         × (waiting.old.items ≡ written ++ more)
         × Appends (W.contents writer.old) (W.contents writer.new) written
-        × (A.logs server.old → (st now : State) → A.lasts server.old st → A.shows server.old now
+        × ((now : State) → IsReached now → A.shows server.old now → A.logs server.old → (st : State)
+        → A.lasts server.old st
         → ((written ≡ []) × A.lasts server.new st) ⊎ A.lasts server.new now)) }
     ensures fault { IfErr result (λ fault. (fault ≡ ServeFault.Log) ⊎ (fault ≡ ServeFault.Write)) }
     ensures capacity { vec_capacity waiting.old ≤ vec_capacity waiting.new }

@@ -2,7 +2,7 @@ use Rattle.std.proofs.Common.{◌≡◌, ◌==◌, ◌<◌, true, false, List, [
 use Rattle.std.proofs.lemmas.Result.{err_from_is_err_and}
 use Rattle.si_model.specs.Machine.{State}
 use Rattle.server_loop.specs.Lasting.{IsSettled}
-use Rattle.server_loop.proofs.CutBatches.{batch_fails, cut_batch, fills, none_first, said_logs, settled_first, written_first}
+use Rattle.server_loop.proofs.CutBatches.{batch_fails, cut_batch, fills, chain_ends, none_first, settled_first, written_first}
 use Rattle.server_loop.proofs.StreamReads.{none_held, some_held}
 use Rattle.server_loop.proofs.batches.answer_batch.Goals as goal
 
@@ -10,7 +10,7 @@ pub returns-then-is_empty-clause-batches : goal.returns-then-is_empty-clause-bat
 returns-then-is_empty-clause-batches g c =
     let none = none_held c.is_empty.result c.fill-first.new.waiting.items (c.is_empty.ensures ∙ ap (λ (n : ℕ). n == 0) c.fill-first.new.waiting.ok.0) c.if-is_empty.true in
     let p = none_first _ _ _ c.args.server.now c.fill-first.new.server _ _ _ none (g.W.Write.contents c.args.writer.now) c.fill-first.result c.fill-first.ensures.handles in
-    settled_first _ _ _ _ _ c.fill-first.result _ _ _ _ _ _ p.1 (λ settled. subst (λ s. IsSettled g.A.Answering.shows g.A.Lasting.lasts g.A.Lasting.logs s) (sym p.0) settled)
+    settled_first _ _ _ _ _ c.fill-first.result _ _ _ _ _ _ p.1 (λ now reached shown settled. subst (λ s. IsSettled g.A.Answering.shows g.A.Lasting.lasts g.A.Lasting.logs s) (sym p.0) settled)
 
 pub returns-in_err-release-clause-batches : goal.returns-in_err-release-clause-batches
 returns-in_err-release-clause-batches g c =
@@ -29,4 +29,4 @@ returns-clause-batches g c =
     let fill = fills _ _ _ c.fill-first.result _ _ _ _ _ c.fill-first.ensures.handles some in
     settled_first _ _ _ _ _ c.fill-first.result _ _ _ _ _ _
     (written_first _ _ _ c.args.server.now c.fill-first.new.server c.release.new.server c.release.ensures.between c.release.ensures.shown _ _ _ _ _ c.in_ok-release.ensures.written some c.fill-first.result c.fill-first.ensures.handles)
-    (λ settled. c.in_ok-release.ensures.ok (said_logs _ _ _ _ _ (g.met.A.Lasting.answers, g.met.A.Lasting.tends) _ _ _ _ fill.0.said settled.0))
+    (λ now reached shown settled. let ends = chain_ends _ _ _ _ _ (g.met.A.Lasting.answers, g.met.A.Lasting.tends) _ _ _ _ fill.0.said settled now reached shown in c.in_ok-release.ensures.ok ends.0 ends.1 ends.2 ends.3)

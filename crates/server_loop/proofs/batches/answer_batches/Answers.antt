@@ -5,7 +5,7 @@ use Rattle.server_loop.proofs.ServingLemmas.{Answered-none, Answered-then, Handl
 use Rattle.server_loop.proofs.batches.answer_batches.Goals as goal
 
 pub loop-rest-init : goal.loop-rest-init
-loop-rest-init g c = record { none = c.requires.none; room = search rules; grown = search rules; answered = Answered-none _ _ _ _ _ _; settled = λ settled. settled }
+loop-rest-init g c = record { none = c.requires.none; room = search rules; grown = search rules; answered = Answered-none _ _ _ _ _ _; settled = λ now reached shown settled. settled }
 
 pub returns-in_err-answer_batch-clause-batches : goal.returns-in_err-answer_batch-clause-batches
 returns-in_err-answer_batch-clause-batches g c =
@@ -17,7 +17,7 @@ returns-in_err-answer_batch-clause-batches g c =
 pub returns-in-Some-clause-batches : goal.returns-in-Some-clause-batches
 returns-in-Some-clause-batches g c =
     let (handles, stays) = rw c.in-Some.is at c.in_ok-answer_batch.ensures.batches in
-    (HandlesTo-after _ _ _ (Ok c.in-Some.rest) _ _ _ _ _ _ _ _ _ c.loop-rest.invariant.answered handles, λ settled. stays (c.loop-rest.invariant.settled settled))
+    (HandlesTo-after _ _ _ (Ok c.in-Some.rest) _ _ _ _ _ _ _ _ _ c.loop-rest.invariant.answered handles, λ now reached shown settled. let one = c.loop-rest.invariant.answered.run.run now reached shown in stays one.after one.reached one.shows (c.loop-rest.invariant.settled now reached shown settled))
 
 pub loop-rest-preserved : goal.loop-rest-preserved
 loop-rest-preserved g c =
@@ -27,5 +27,5 @@ loop-rest-preserved g c =
       room = search rules;
       grown = search rules;
       answered = Answered-then _ _ _ _ _ _ _ _ _ _ _ _ c.loop-rest.invariant.answered answered;
-      settled = λ settled. stays (c.loop-rest.invariant.settled settled);
+      settled = λ now reached shown settled. let one = c.loop-rest.invariant.answered.run.run now reached shown in stays one.after one.reached one.shows (c.loop-rest.invariant.settled now reached shown settled);
     }

@@ -14,7 +14,7 @@ loop-at-init g c = record {
   within = search rules;
   partial = c.requires.partial;
   answered = Answered-before _ _ _ _ _ _;
-  settled = λ settled. settled;
+  settled = λ now reached shown settled. settled;
 }
 
 pub returns-in_err-answer_batches-clause-batches : goal.returns-in_err-answer_batches-clause-batches
@@ -37,7 +37,7 @@ loop-at-preserved g c =
       within = fits_piece _ _ _ _ c.loop-at.invariant.within c.feed-at.ensures.count;
       partial = so.0;
       answered = so.1;
-      settled = λ settled. stays (c.loop-at.invariant.settled settled);
+      settled = λ now reached shown settled. let one = c.loop-at.invariant.answered.run.run now reached shown in stays one.after one.reached one.shows (c.loop-at.invariant.settled now reached shown settled);
     }
 
 pub returns-in-TooLarge-clause-batches : goal.returns-in-TooLarge-clause-batches
@@ -45,5 +45,5 @@ returns-in-TooLarge-clause-batches g c =
     let more = take-rest-more c.loop-at.at c.feed-at.result c.args.piece.now in
     let (handled, stays) = rw c.in-TooLarge.is at c.in_ok-answer_batches.ensures.batches in
     let p = piece_ends _ _ _ _ _ _ _ c.answer_batches.new.framer _ (c.loop-at.at + c.feed-at.result) _ _
-    (fed _ _ _ (Ok rests.TooLarge) _ _ _ _ _ _ _ _ _ c.loop-at.at c.feed-at.result _ _ _ c.loop-at.invariant.answered c.feed-at.ensures.bytes more handled) in
-    (p.0, p.1, (p.2, λ settled. stays (c.loop-at.invariant.settled settled)))
+        (fed _ _ _ (Ok rests.TooLarge) _ _ _ _ _ _ _ _ _ c.loop-at.at c.feed-at.result _ _ _ c.loop-at.invariant.answered c.feed-at.ensures.bytes more handled) in
+    (p.0, p.1, (p.2, λ now reached shown settled. let one = c.loop-at.invariant.answered.run.run now reached shown in stays one.after one.reached one.shows (c.loop-at.invariant.settled now reached shown settled)))

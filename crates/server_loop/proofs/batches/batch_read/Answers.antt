@@ -19,14 +19,14 @@ pub returns-in-Ok-eq0-clause-reads : goal.returns-in-Ok-eq0-clause-reads
 returns-in-Ok-eq0-clause-reads g c =
     let (consumed, end) = at_its_end c.in-Ok-eq0.field-0 c.read.new.buf _ _ (let test = c.in-Ok-eq0.field-0-test in grind (arith, nat_tests)) (omega (arith, c.requires.piece, c.read.auto.buf)) c.in-Ok-eq0.ensures.bytes in
     let none = none_held _ c.args.framer.now c.is_empty.ensures c.if-is_empty.true in
-    (ServesOn-none _ _ _ (Ok ends.Clean) _ _ _ _ _ _ _ consumed c.requires.partial c.in_ok-flush.ensures.kept (none, end), λ settled. settled)
+    (ServesOn-none _ _ _ (Ok ends.Clean) _ _ _ _ _ _ _ consumed c.requires.partial c.in_ok-flush.ensures.kept (none, end), λ now reached shown settled. settled)
 
 -- nothing was read, and a part of a frame is at hand
 pub returns-in-Ok-eq0-2-clause-reads : goal.returns-in-Ok-eq0-2-clause-reads
 returns-in-Ok-eq0-2-clause-reads g c =
     let (consumed, end) = at_its_end c.in-Ok-eq0.field-0 c.read.new.buf _ _ (let test = c.in-Ok-eq0.field-0-test in grind (arith, nat_tests)) (omega (arith, c.requires.piece, c.read.auto.buf)) c.in-Ok-eq0.ensures.bytes in
     let some = some_held _ c.args.framer.now c.is_empty.ensures c.if-is_empty.false in
-    (ServesOn-none _ _ _ (Ok ends.Truncated) _ _ _ _ _ _ _ consumed c.requires.partial c.in_ok-flush.ensures.kept (some, c.requires.partial, end), λ settled. settled)
+    (ServesOn-none _ _ _ (Ok ends.Truncated) _ _ _ _ _ _ _ consumed c.requires.partial c.in_ok-flush.ensures.kept (some, c.requires.partial, end), λ now reached shown settled. settled)
 
 pub returns-in-TooLarge-clause-reads : goal.returns-in-TooLarge-clause-reads
 returns-in-TooLarge-clause-reads g c =
@@ -37,7 +37,7 @@ returns-in-TooLarge-clause-reads g c =
 
 pub returns-in-Err-clause-reads : goal.returns-in-Err-clause-reads
 returns-in-Err-clause-reads g c =
-    (ServesOn-none _ _ _ (Err faults.Read) _ _ _ _ _ _ _ (reads_none _ _ c.in-Err.ensures.bytes) c.requires.partial c.in_ok-flush.ensures.kept c.requires.partial, λ settled. settled)
+    (ServesOn-none _ _ _ (Err faults.Read) _ _ _ _ _ _ _ (reads_none _ _ c.in-Err.ensures.bytes) c.requires.partial c.in_ok-flush.ensures.kept c.requires.partial, λ now reached shown settled. settled)
 
 pub returns-in-Partial-clause-reads : goal.returns-in-Partial-clause-reads
 returns-in-Partial-clause-reads g c =

@@ -9,5 +9,5 @@ returns-in-Err-clause-err g c =
       drop e.0 c.deref.result.now,
       sym c.deref.ensures.value ∙ sym (take-append-drop e.0 c.deref.result.now),
       e.2,
-      λ logs st now lasting shown. inr ((c.in_ok-settle.ensures.ok logs).1 now (c.settle.ensures.shown now shown)),
+      λ now reached shown logs st lasting. inr ((c.in_ok-settle.ensures.ok now reached shown logs).1 now (c.settle.ensures.shown now shown)),
     )

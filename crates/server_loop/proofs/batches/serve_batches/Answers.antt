@@ -17,7 +17,7 @@ returns-in_default-with_capacity g c = lasting_none _ _ _ _ _ _ _ _ _
 pub loop-reads_left-init : goal.loop-reads_left-init
 loop-reads_left-init g c =
     let empty : c.in-Ok.framer ≡ [] = c.in-Ok.ensures.empty in
-    record { size = search rules; none = search rules; room = search rules; served = none_served _ _ _ _ _ empty _ _ _; settled = λ settled. settled }
+    record { size = search rules; none = search rules; room = search rules; served = none_served _ _ _ _ _ empty _ _ _; settled = λ now reached shown settled. settled }
 
 pub returns-in_err-ended : goal.returns-in_err-ended
 returns-in_err-ended g c =
@@ -35,14 +35,14 @@ loop-reads_left-preserved g c =
       none = c.in_ok-ended.ensures.none;
       room = search rules;
       served = Served-then _ _ _ _ _ _ _ _ _ _ _ _ _ _ _ _ _ _ c.loop-reads_left.invariant.served served;
-      settled = λ settled. stays (c.loop-reads_left.invariant.settled settled);
+      settled = λ now reached shown settled. let one = c.loop-reads_left.invariant.served.answered.run.run now reached shown in stays one.after one.reached one.shows (c.loop-reads_left.invariant.settled now reached shown settled);
     }
 
 pub returns-in-Some : goal.returns-in-Some
 returns-in-Some g c =
     let said = c.finish.ensures in
     let (serves, stays) = rw c.in-Some.is at c.in_ok-ended.ensures.reads in
-    lasting_finished _ _ _ _ _ c.finish.result c.in-Some.end _ _ _ _ _ _ _ _ said.kept said.end said.fault (λ settled. stays (c.loop-reads_left.invariant.settled settled))
+    lasting_finished _ _ _ _ _ c.finish.result c.in-Some.end _ _ _ _ _ _ _ _ said.kept said.end said.fault (λ now reached shown settled. let one = c.loop-reads_left.invariant.served.answered.run.run now reached shown in stays one.after one.reached one.shows (c.loop-reads_left.invariant.settled now reached shown settled))
     (Served-ends _ _ _ (Ok c.in-Some.end) _ _ _ _ _ _ _ _ _ _ _ _ _ (λ is. cc) c.loop-reads_left.invariant.served serves)
 
 -- no read is left

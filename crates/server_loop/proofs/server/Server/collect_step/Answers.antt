@@ -1,6 +1,7 @@
 use Rattle.std.proofs.Common.{ap, inl, inr, refl, subst}
 use Rattle.version_collector.specs.Refusals.{IsStepRefusal}
 use Rattle.server_loop.specs.Runs.{KeepsToLimits}
+use Rattle.row_atomic.specs.Recorded.{seen_recorded}
 use Rattle.server_loop.proofs.CollectSteps.{bad_told, collected_stays, collected_told, collected_undamaged, collects_as, never_bad, same_cells}
 use Rattle.server_loop.proofs.CleanSteps.{logged_in, unlogged}
 use Rattle.server_loop.proofs.SessionSteps.{as_err, as_refused, err_undamaged, not_done, ok_not}
@@ -32,7 +33,7 @@ returns-in-Ok g c = let told = c.in-Ok.ensures in rw c.collected.ensures.reply (
 
 pub returns-in-Err : goal.returns-in-Err
 returns-in-Err g c = let told = c.in-Err.ensures in record {
-  step = record { step = collects_as _ _ _ _ _ tt refl refl refl refl (λ st reached shown. told.step shown.in_order st reached shown.shows.store shown.collectors) told.below.still told.below.stays (λ st reached shown. err_undamaged _ _ refl (told.undamaged shown.in_order st reached shown.shows.store shown.collectors)); refusal = told.refusal; limits = tt };
+  step = record { step = collects_as _ _ _ _ _ tt refl refl refl refl (λ st reached shown. told.step shown.in_order st reached shown.shows.store shown.collectors) told.below.still told.below.stays (λ st reached shown. err_undamaged _ _ refl (told.undamaged (λ c c2 is is2 row from. (seen_recorded g.F.Files.contents).each_readable _ shown.in_order row) st reached shown.shows.store shown.collectors)); refusal = told.refusal; limits = tt };
   stamps = record { last = refl; restarted = tt; exhausted = λ _. tt };
   edits = record {
     changes = (

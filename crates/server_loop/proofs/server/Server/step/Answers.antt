@@ -1,6 +1,7 @@
 use Rattle.std.proofs.Common.{ap, refl}
 use Rattle.oracle.specs.Ranges.{IsDrawRefusal}
 use Rattle.txn_client.specs.Refusals.{IsStepRefusal}
+use Rattle.row_atomic.specs.Recorded.{seen_recorded}
 use Rattle.server_loop.proofs.CellChanges.{step_changes, unchanged_if}
 use Rattle.server_loop.proofs.CleanSteps.{logged_in, unlogged}
 use Rattle.server_loop.proofs.SessionSteps.{as_err, as_refused, err_undamaged, first_stays, not_done, ok_not, one_rose, progress_goes, progress_told, progress_undamaged, second_stays, steps_as}
@@ -20,7 +21,7 @@ returns-in-Ok g c = let told = c.in-Ok.ensures in record {
 
 pub returns-in-Err : goal.returns-in-Err
 returns-in-Err g c = let told = c.in-Err.ensures in record {
-  step = record { step = steps_as _ _ _ _ _ tt refl refl refl (λ st reached shown. unchanged_if _ _ st (told.refused.same.kept)) told.step told.below.still told.below.stays (λ st reached held shown. err_undamaged _ _ refl (told.undamaged held)); refusal = told.refusal; limits = tt };
+  step = record { step = steps_as _ _ _ _ _ tt refl refl refl (λ st reached shown. unchanged_if _ _ st (told.refused.same.kept)) told.step told.below.still told.below.stays (λ st reached held shown. err_undamaged _ _ refl (told.undamaged (λ session is write at. (seen_recorded g.F.Files.contents).each_readable _ held _))); refusal = told.refusal; limits = tt };
   stamps = record { last = told.refused.stays; restarted = tt; exhausted = λ same. let none = told.no_stamp (as_err _ _ _ refl same) in (none.exhausted, λ st shown. none.draw_only st shown.shows.sessions) };
   edits = record { changes = told.refused.same.kept; room = told.refused.same.room };
   sessions = record { told = λ st shown. (λ gone. as_refused _ _ _ refl ((told.causes st shown.shows.sessions).unknown gone), λ empty. as_refused _ _ _ refl ((told.causes st shown.shows.sessions).empty empty), λ about. (told.causes st shown.shows.sessions).drawing about); sessions = told.err; cleaners = record { next = refl; each = λ i. refl; count = refl }; collectors = record { next = refl; floor = refl; each = λ i. refl; count = refl }; oracle = (λ st shown. told.aside st shown.shows.sessions, (told.refused.mark, record { last = told.refused.stays; range_end = told.refused.range })) };
