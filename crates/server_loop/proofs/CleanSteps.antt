@@ -1,5 +1,5 @@
 -- A server's steps, by those of its cleaners.
-use Rattle.std.proofs.Common.{◌≡◌, ◌≤◌, ℕ, List, map, ap, arith, refl}
+use Rattle.std.proofs.Common.{[], ◌≡◌, ◌≤◌, ℕ, List, map, ap, arith, refl}
 use Rattle.file_store.specs.Store.{Contents}
 use Rattle.row_atomic.specs.Recorded.{seen_recorded}
 use Rattle.row_atomic.specs.Clusters.{Spot, Storage, cells_in, spot_of}

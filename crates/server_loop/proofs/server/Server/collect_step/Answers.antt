@@ -43,7 +43,7 @@ returns-in-Err g c = let told = c.in-Err.ensures in record {
         collects = told.leaves shown.in_order st reached shown.shows.store shown.collectors;
       },
       λ first. elim first [
-        | inl early ↦ same_cells g.F.Files.contents _ _ (told.early early).1
+        | inl early ↦ same_cells g.F.Files.contents _ _ (ap (λ rows. rows.cluster) (told.early early).1)
         | inr one ↦ (told.refused.reads one).kept
       ],
     );
