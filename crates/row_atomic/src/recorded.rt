@@ -43,6 +43,13 @@ impl<F: Files> Recorded<F> {
         self.journal = Some(Journal::new(self.cluster.alloc));
     }
 
+    /// Records edits no more: what was written down is forgotten.
+    pub fn forget(&mut self)
+        ensures { self.new ≡ record self.old { journal = None } }
+    {
+        self.journal = None;
+    }
+
     /// Whether edits are recorded.
     pub fn is_recording(&self) -> bool
         ensures { result ≡ is_some self.now.journal }
