@@ -123,5 +123,6 @@ module _ (one_key : OneKeyAText) where
     after = flat_map-append spelled_edit;
     none = record { parts = []; each = refl; joined = refl };
     more = with_record;
-    one = λ records a b h k p q cells. one_replay cells a b p q (sym (held records a h) ∙ held records b k);
+    whole = held;
+    one = λ a b p q same cells. one_replay cells a b p q same;
   }

@@ -44,7 +44,7 @@ pub fn torn_append()
         ⊎ IsLog (log_of records ++ take n (frame payload)) (records ++ payload ∷ []) [] }
 {}
 
-/// How records hold edits, and that what the same records hold makes the same of cells.
+/// How records hold edits, and that edits of one spelling make the same of cells.
 pub fn logs_edits()
     ensures { LogsEdits }
 {

@@ -2,7 +2,9 @@ mod Causes
 mod CellChanges
 mod CleanSteps
 mod CollectSteps
+mod CutBatches
 mod Filled
+mod Following
 mod FrameHeads
 mod JudgedCleaners
 mod JudgedActs

@@ -151,7 +151,7 @@ module _ {F M : Type 0} (files : Files F) (store : MarkStore M) where
           shows = shows;
           root = _;
           cells = _;
-          keeps = plain.tablets.1 refl shown.in_order;
+          keeps = plain.tablets.1 refl shown.in_order.0;
           tells = record {
             top = shown.shows.sessions.top;
             floor = shown.collectors.floor;
@@ -179,7 +179,7 @@ module _ {F M : Type 0} (files : Files F) (store : MarkStore M) where
           | inr rests ↦ inr (record {
             root = _;
             cells = _;
-            has = (rests shown.in_order).has;
+            has = (rests shown.in_order.0).has;
             tells = record {
               top = shown.shows.sessions.top;
               floor = shown.collectors.floor;

@@ -2,6 +2,7 @@
 #![tactic(auto)]
 
 mod audit;
+mod batches;
 mod cleaning;
 mod collecting;
 mod command_line;
