@@ -10,8 +10,8 @@ use Rattle.request_codec.specs.Requests.{asked}
 use Rattle.request_codec.specs.declared.replies.Reply.{Reply as CodecReply}
 use Rattle.request_codec.specs.declared.requests.Request.{Request as Lent}
 use Rattle.request_codec.specs.Stream.{frame, frames, IsBody, IsPartial, IsTooLong}
-use Rattle.server_loop.specs.Lasting.{Batch, BatchesFirst, BatchesTo, CutsBatch, CutsRead, GoesOn, IsSettled, KeepsBeginning, ReadsBatches, ServesLasting, StaysSettled}
-use Rattle.server_loop.specs.Runs.{Taken, Body, Oversize, Answers, RunsAs, RunOver, SaysAll, SaysOf, StepsAs}
+use Rattle.server_loop.specs.Lasting.{Batch, BatchesFirst, BatchesTo, CutsBatch, CutsRead, GoesOn, IsSettled, KeepsBeginning, ReadsBatches, ServesLasting, Settles, StaysSettled}
+use Rattle.server_loop.specs.Runs.{Taken, Body, Oversize, Answers, RunsAs, RunOver, SaysAll, SaysOf}
 use Rattle.server_loop.specs.Serve.{most_left, taken_of, written_of, Answered, EndsBy, Handles, HandlesFirst, HandlesTo, IsRest, Served, ServesOn, TakesBodies}
 use Rattle.server_loop.specs.declared.statuses.End.{End}
 use Rattle.server_loop.specs.declared.statuses.End.TheVariants as ends
@@ -207,8 +207,8 @@ module _ {S : Type 0} (shows : S → State → Type 0) (says : S → Lent → Co
 
   abbrev Laws : Type 0
   Laws =
-      ((old new : S) (request : Lent) (reply : CodecReply) → says old request reply new → StepsAs shows old new (asked request) (replied reply) × GoesOn shows lasts logs old new)
-      × ((old new : S) → between old new → ((st : State) → shows old st → shows new st) × GoesOn shows lasts logs old new)
+      ((old new : S) (request : Lent) (reply : CodecReply) → says old request reply new → GoesOn shows lasts logs (asked request) (replied reply) old new)
+      × ((old new : S) → between old new → Settles shows lasts logs old new)
 
   module _ (laws : Laws) where
     -- one answer: the machine goes on, and what lasts is what did or what is shown
@@ -220,14 +220,13 @@ module _ {S : Type 0} (shows : S → State → Type 0) (says : S → Lent → Co
 
     one_said : (a b : S) (t : Taken) (r : Reply) (now st : State) → SaysOf says a t r b → IsReached now → shows a now → logs a → lasts a st → One a b t r now st
     one_said a b (Body body) r now st (inl p) reached shown logged lasting =
-        let law = laws.0 a b p.0 p.1 p.4 in
-        let (next, step, shows_next, whole) = law.0 now reached shown in (
-          next,
-          inl (asked p.0, p.2, subst (λ (q : Reply). Step now (asked p.0) q next) (sym p.3) step),
-          reached_step now next (asked p.0) (replied p.1) reached step,
-          shows_next,
-          law.1.logged now reached shown logged,
-          elim (law.1.lasting now reached shown logged st lasting) [ inl on ↦ inl on | inr other ↦ inr (elim other [ inl was ↦ inl was | inr is ↦ inr (is next shows_next) ]) ],
+        let on = laws.0 a b p.0 p.1 p.4 now reached shown in (
+          on.next,
+          inl (asked p.0, p.2, subst (λ (q : Reply). Step now (asked p.0) q on.next) (sym p.3) on.step),
+          reached_step now on.next (asked p.0) (replied p.1) reached on.step,
+          on.shown,
+          on.logged logged,
+          on.lasting logged st lasting,
         )
     one_said a b (Body body) r now st (inr p) reached shown logged lasting = of_same a b (Body body) r now st p.2 (inr (p.0, p.1, refl)) reached shown logged lasting
     one_said a b Oversize r now st p reached shown logged lasting = of_same a b Oversize r now st p.1 (p.0, refl) reached shown logged lasting
@@ -237,13 +236,12 @@ module _ {S : Type 0} (shows : S → State → Type 0) (says : S → Lent → Co
     then_tends a b c t r now st tends p =
         let law = laws.1 b c tends in
         let (next, answers, reached, shown, logged, lasting) = p in
-        let shown_after = law.0 next shown in
-        let last = λ (x : State) (is : lasts b x). elim (law.1.lasting next reached shown logged x is) as (λ _. lasts c x ⊎ lasts c next) [ inl on ↦ inl on | inr other ↦ inr (elim other [ inl was ↦ was | inr is ↦ is next shown_after ]) ] in (
+        let last = λ (x : State) (is : lasts b x). law.lasting next reached shown logged x is in (
           next,
           answers,
           reached,
-          shown_after,
-          law.1.logged next reached shown logged,
+          law.shown next shown,
+          law.logged next reached shown logged,
           elim lasting [
             | inl is ↦ elim (last st is) [ inl on ↦ inl on | inr after ↦ inr (inr after) ]
             | inr other ↦ elim other [

@@ -19,6 +19,7 @@ mod JudgedUpkeep
 mod KeptLists
 mod KeptMaps
 mod Lengths
+mod Logged
 mod MachinePlaces
 mod Opened
 mod OthersShown
@@ -26,6 +27,7 @@ mod RawReads
 mod ReachedRuns
 mod RefusedFirst
 mod Rested
+mod Rooted
 mod SamePlaces
 mod Searches
 mod ServingLemmas

@@ -14,11 +14,7 @@ use Rattle.request_codec.specs.declared.replies.Reply.{Reply as CodecReply}
 use Rattle.request_codec.specs.declared.replies.Reply.TheVariants as codec
 use Rattle.request_codec.specs.declared.requests.Request.{Request as Lent}
 use Rattle.request_codec.specs.declared.requests.Request.TheVariants as lent
-use Rattle.row_atomic.specs.Changes.{Holds}
 use Rattle.row_atomic.specs.Clusters.{ClusterState}
-use Rattle.row_atomic.specs.Flushes.{CompactsFull}
-use Rattle.row_atomic.specs.Journals.{JournalView}
-use Rattle.row_atomic.specs.Recorded.{Follows, KeepsFollowing}
 use Rattle.row_atomic.specs.Roots.{KeepsRoot, RootIsStored, RootOutlastsFlushes, RootStays}
 use Rattle.row_atomic.specs.declared.commands.Command.{Command}
 use Rattle.row_atomic.specs.declared.commands.Outcome.TheVariants as outcome
@@ -28,11 +24,10 @@ use Rattle.si_model.specs.ShowsCells.{ShowsCells}
 use Rattle.server_loop.specs.Answer.{IsPlainAnswer, TendsTablets}
 use Rattle.server_loop.specs.Commands.{HasOutcome, command_of}
 use Rattle.server_loop.specs.Resting.{IsSparing, KeepsResting, RestingIsKept, RestsAt, RestsBetween, StoresState, TellsState}
-use Rattle.server_loop.specs.Server.{Shows, cluster_of, journal_of, last_of, marks_of, tending_of}
+use Rattle.server_loop.specs.Server.{Shows, cluster_of, last_of, marks_of}
 use Rattle.server_loop.specs.Sessions.{KeepsOracle, LeavesOracle}
-use Rattle.server_loop.specs.Tending.{IsTended, MergesWhere, is_due}
+use Rattle.server_loop.specs.Tending.{MergesWhere}
 use Rattle.server_loop.specs.declared.server.Server.{Server}
-use Rattle.server_loop.proofs.Tended.{still_shown}
 
 -- ---- the machine's state stays
 
@@ -211,16 +206,9 @@ module _ {F M : Type 0} (files : Files F) (store : MarkStore M) where
   merged_none true (Some most) old new (inl none) merges = cc
   merged_none true (Some most) old new (inr none) merges = cc
 
-  -- without merges what is written down follows what is shown
-  tended_follows : KeepsFollowing files.contents files.faults → (old new : Server F M) → IsTended files.contents files.faults old new → ((tending_of old).merge ≡ None) ⊎ (is_due (tending_of old) (cluster_of old) ≡ false)
-      → Holds files.contents (cluster_of old) → Follows files.contents (cluster_of old) (journal_of old) → Follows files.contents (cluster_of new) (journal_of new)
-  tended_follows law old new tended none held follows =
-      let compacts = subst (λ (state : ClusterState F). CompactsFull files.contents files.faults (tending_of old).flush (cluster_of old) state) (sym (merged_none _ _ _ _ none tended.merges)) tended.compacts in
-      subst (λ (journal : Option JournalView). Follows files.contents (cluster_of new) journal) (sym tended.journal) (law.flushes _ _ _ _ compacts tended.keeps held follows)
-
-  pub rests_between : RootOutlastsFlushes files.contents files.faults → KeepsFollowing files.contents files.faults → RestsBetween files.contents files.faults store.mark
-  rests_between outlasts law old new st tended none rests = record {
-    shows = still_shown files.contents files.faults old new st tended.keeps (tended_follows law old new tended none) tended.sessions tended.cleaners tended.collectors (ap (λ (o : OracleState M). o.last) tended.oracle) rests.shows;
+  pub rests_between : RootOutlastsFlushes files.contents files.faults → RestsBetween files.contents files.faults store.mark
+  rests_between outlasts old new st tended none rests = record {
+    shows = tended.shown st rests.shows;
     root = rests.root;
     cells = rests.cells;
     keeps = subst (λ (state : ClusterState F). KeepsRoot files.contents rests.root rests.cells state) (sym (merged_none _ _ _ _ none tended.merges))

@@ -16,7 +16,7 @@ use Rattle.row_atomic.specs.Refusals.{IsReadRefusal}
 use Rattle.row_atomic.specs.Compactions as compaction
 use Rattle.tablet.specs.declared.tablet.Tablet.{Tablet}
 use Rattle.si_model.specs.Machine.{State, Request, Reply, Refused, Step, Refuses, Minor, MinorDone, Merge, MergeDone, Major, MajorDone, Split, SplitOff, Move, MoveDone, Sweep, Swept, Raw, RawFound, Checkpoint, CheckpointDone, accepts, tells, minors, merges, majors, sweeps, finds_raw, checkpoints}
-use Rattle.si_model.specs.Refusing.{gives_up}
+use Rattle.si_model.specs.Refusing.{IsStorageRefusal, gives_up}
 use Rattle.si_model.specs.declared.replies.Cell.{Cell}
 use Rattle.txn_client.specs.Shows as clients
 use Rattle.clean_up.specs.Shows.{ShowsCleaners}
@@ -113,6 +113,16 @@ checkpoint_refuses st Device u = gives_up tt
 checkpoint_refuses st NoMemory u = gives_up tt
 checkpoint_refuses st Damaged u = gives_up tt
 checkpoint_refuses st _ u = absurd u
+
+-- what a flush is refused for is a refusal of the store
+pub flush_stores : (e : Refusal) → IsFlushRefusal compaction.minor e → IsStorageRefusal e
+flush_stores TooManyFiles u = tt
+flush_stores FileTooLarge u = tt
+flush_stores Exhausted u = tt
+flush_stores Device u = tt
+flush_stores NoMemory u = tt
+flush_stores Damaged u = tt
+flush_stores _ u = absurd u
 
 pub checkpoint_done : (st : State) → Step st Checkpoint CheckpointDone st
 checkpoint_done st = accepts (checkpoint_accepted st) (tells checkpoints)

@@ -2,7 +2,8 @@
 use Rattle.std.specs.Prelude.{◌≡◌, ◌⊎◌, ℕ, ◌<◌, ◌≤◌, List, [], ◌++◌, length, take, map, Option, None, Some, Result, Ok, Err, ⊤}
 use Rattle.std.specs.List.{AllByRecursion}
 use Rattle.std.specs.Io.KnownBytes.{Consumes, Appends}
-use Rattle.si_model.specs.Machine.{State, Reply, IsReached}
+use Rattle.cell_key.specs.declared.refusals.Refusal.TheVariants.{Damaged}
+use Rattle.si_model.specs.Machine.{State, Step, Request, Reply, Refused, IsReached}
 use Rattle.request_codec.specs.declared.replies.Reply.{Reply as CodecReply}
 use Rattle.request_codec.specs.declared.requests.Request.{Request as Lent}
 use Rattle.request_codec.specs.Stream.{frames, IsTooLong, IsBody}
@@ -45,13 +46,27 @@ module _ {S : Type 0} (shows lasts : S → State → Type 0) (logs : S → Type 
   abbrev pub StaysSettled : S → S → Type 0
   StaysSettled old new = (now : State) → IsReached now → shows old now → IsSettled old → IsSettled new
 
-  -- From a shown state on, its log stays in order, and what lasted goes on to last, or the state that
-  -- was shown does, or each one that is shown now.
-  pub record GoesOn (old new : S) : Type 0 where
+  -- From a state that is shown the machine steps to one that is shown. What lasted lasts, or one of
+  -- the two states does.
+  pub record StepsOn (request : Request) (reply : Reply) (old new : S) (now : State) : Type 0 where
+    pub next : State
+    pub step : Step now request reply next
+    pub shown : shows new next
+    pub whole : reply ≡ Refused Damaged → ⊥
+    pub logged : logs old → logs new
+    pub lasting : logs old → (st : State) → lasts old st
+        → lasts new st ⊎ (lasts new now ⊎ lasts new next)
+
+  abbrev pub GoesOn : Request → Reply → S → S → Type 0
+  GoesOn request reply old new =
+      (now : State) → IsReached now → shows old now → StepsOn request reply old new now
+
+  -- Each state that is shown is shown still, and what lasted lasts, or that state does.
+  pub record Settles (old new : S) : Type 0 where
+    pub shown : (st : State) → shows old st → shows new st
     pub logged : (now : State) → IsReached now → shows old now → logs old → logs new
     pub lasting : (now : State) → IsReached now → shows old now → logs old → (st : State)
-        → lasts old st
-        → lasts new st ⊎ (lasts new now ⊎ ((next : State) → shows new next → lasts new next))
+        → lasts old st → lasts new st ⊎ lasts new now
 
 module _ {S : Type 0} (shows : S → State → Type 0) (says : S → Lent → CodecReply → S → Type 0)
     (between : S → S → Type 0) where

@@ -8,8 +8,8 @@ ghost use Rattle.request_codec.specs.Requests.{asked};
 ghost use Rattle.request_codec.specs.Stream.{IsPartial, frame};
 ghost use Rattle.request_codec.specs.declared.replies.Reply.{Reply as CodecReply};
 ghost use Rattle.request_codec.specs.declared.requests.Request.{Request as Lent};
-ghost use Rattle.server_loop.specs.Lasting.{BatchesFirst, BatchesTo, GoesOn, IsSettled, ReadsBatches, ServesLasting};
-ghost use Rattle.server_loop.specs.Runs.{KeepsToLimits, StepsAs};
+ghost use Rattle.server_loop.specs.Lasting.{BatchesFirst, BatchesTo, GoesOn, IsSettled, ReadsBatches, ServesLasting, Settles};
+ghost use Rattle.server_loop.specs.Runs.{KeepsToLimits};
 ghost use Rattle.server_loop.specs.Serve.{HandlesFirst, IsRest};
 
 use crate::frames::{finish, flush, push_frame, write_whole};
@@ -48,13 +48,11 @@ pub(crate) trait Lasting: Answering {
     /// What is said is a step of the machine, and keeps what lasts.
     ghost answers: { (old new : Self) (request : Lent) (reply : CodecReply)
         → Self.says old request reply new
-        → StepsAs Self.shows old new (asked request) (replied reply)
-        × GoesOn Self.shows lasts logs old new };
+        → GoesOn Self.shows lasts logs (asked request) (replied reply) old new };
 
     /// What comes between keeps what is shown and what lasts.
     ghost tends: { (old new : Self) → Self.between old new
-        → ((st : State) → Self.shows old st → Self.shows new st)
-        × GoesOn Self.shows lasts logs old new };
+        → Settles Self.shows lasts logs old new };
 }
 
 /// Lets a reply wait behind the others, and lets the server do what comes after it.
@@ -97,7 +95,11 @@ fn answer_next<A: Answering>(
 }
 
 /// Answers whole frames, one after the other, until enough replies wait. `None` if there may be more of them.
-fn fill<A: Answering>(server: &mut A, framer: &mut Framer, waiting: &mut Vec<u8>) -> Option<Rest>
+fn fill<A: Answering>(
+    server: &mut A,
+    framer: &mut Framer,
+    waiting: &mut Vec<u8>,
+) -> Option<Rest>
     requires none { waiting.old.items ≡ [] }
     requires room { WAITING_ROOM ≤ vec_capacity waiting.old }
     ensures handles { HandlesFirst A.shows A.says A.between (Ok result) server.old server.new

@@ -1,8 +1,11 @@
 //! What a server does for the upkeep of its tablets, and raw reads, one step of the snapshot machine each.
 
-ghost use Rattle.std.specs.Prelude.{◌≡◌, []};
+ghost use Rattle.std.specs.Prelude.{◌≡◌, [], IfErr, OnOk};
 ghost use Rattle.row_atomic.specs.Changes.{Holds};
+ghost use Rattle.row_atomic.specs.Clusters.{spots_of};
 ghost use Rattle.row_atomic.specs.Recorded.{Follows, FollowsListed, TracksListed};
+ghost use Rattle.server_loop.specs.Commands.{checkpointed};
+ghost use Rattle.si_model.specs.Machine.{IsStorageRefusal, State};
 
 use crate::server::Server;
 use cell_key::{Family, Qualifier, Refusal, Row, Stamp};
@@ -13,7 +16,7 @@ use row_atomic::{Rows, keeps_following, root_is_stored};
 
 impl<F: Files + Drop, M: MarkStore + Drop> Server<F, M> {
     ghost use Rattle.server_loop.specs.Answer.{IsPlainAnswer};
-    ghost use Rattle.server_loop.specs.Server.{cluster_of, forgets, journal_of};
+    ghost use Rattle.server_loop.specs.Server.{Shows, cluster_of, forgets, journal_of};
 
     pub(crate) fn minor(&mut self, tablet: u32) -> Reply
         ensures { IsPlainAnswer F.Files M.MarkStore self.old
@@ -100,14 +103,20 @@ impl<F: Files + Drop, M: MarkStore + Drop> Server<F, M> {
     }
 
     /// Puts a root that keeps what is shown. What is written down stays.
-    pub(crate) fn put_root(&mut self) -> Reply
-        ensures plain { IsPlainAnswer F.Files M.MarkStore self.old Request.Checkpoint result
-            (forgets self.new) }
-        ensures done { result ≡ Reply.Checkpoint → Holds F.contents (cluster_of self.old)
-            → Follows F.contents (cluster_of self.old) (journal_of self.old)
-            → FollowsListed F.contents (cluster_of self.new) (journal_of self.new)
-            × TracksListed F.contents (cluster_of self.new) [] }
-        ensures refused { F.replaces → Holds F.contents (cluster_of self.old)
+    ///
+    /// # Errors
+    ///
+    /// Those of a checkpoint.
+    pub(crate) fn put_root(&mut self) -> Result<(), Refusal>
+        ensures plain { IsPlainAnswer F.Files M.MarkStore self.old Request.Checkpoint
+            (checkpointed result) (forgets self.new) }
+        ensures shown { (st : State) → Shows F.contents self.old st
+            → Shows F.contents (forgets self.new) st }
+        ensures refusal { IfErr result IsStorageRefusal }
+        ensures spots { spots_of (cluster_of self.new) ≡ spots_of (cluster_of self.old) }
+        ensures clean { OnOk result (Holds F.contents (cluster_of self.old)
+            → TracksListed F.contents (cluster_of self.new) []) }
+        ensures follows { F.replaces → Holds F.contents (cluster_of self.old)
             → Follows F.contents (cluster_of self.old) (journal_of self.old)
             → Follows F.contents (cluster_of self.new) (journal_of self.new) }
         ensures journal { journal_of self.new ≡ journal_of self.old }
@@ -116,18 +125,22 @@ impl<F: Files + Drop, M: MarkStore + Drop> Server<F, M> {
         let top = self.clients.top();
         let floor = self.collectors.greatest_floor();
         match self.rows.cluster.checkpoint(top, floor) {
-            Ok(()) => Reply::Checkpoint,
-            Err(refusal) => Reply::Refused(refusal),
+            Ok(()) => Ok(()),
+            Err(refusal) => Err(refusal),
         }
     }
 
-    /// The same. What was written down is forgotten: a refused put may leave a root from which it doesn't lead on.
+    /// The same, as an answer. What was written down is forgotten: a refused put may leave a root from which it doesn't
+    /// lead on.
     pub(crate) fn checkpoint(&mut self) -> Reply
         ensures { IsPlainAnswer F.Files M.MarkStore self.old Request.Checkpoint result self.new }
     {
-        let reply = self.put_root();
+        let put = self.put_root();
         self.rows.forget();
-        reply
+        match put {
+            Ok(()) => Reply::Checkpoint,
+            Err(refusal) => Reply::Refused(refusal),
+        }
     }
 
     pub(crate) fn raw(

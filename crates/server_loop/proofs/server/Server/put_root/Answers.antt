@@ -3,7 +3,7 @@ use Rattle.cell_key.specs.declared.refusals.Refusal.{Refusal}
 use Rattle.si_model.specs.Machine.{refuses}
 use Rattle.server_loop.proofs.Causes.{done_causes, refused_causes}
 use Rattle.server_loop.proofs.SessionSteps.{name_undamaged, not_done}
-use Rattle.server_loop.proofs.UpkeepSteps.{checkpoint_done, checkpoint_refuses, checkpoint_whole, tells_as}
+use Rattle.server_loop.proofs.UpkeepSteps.{checkpoint_done, checkpoint_refuses, checkpoint_whole, flush_stores, still_shown, tells_as}
 use Rattle.server_loop.proofs.server.Server.put_root.Goals as goal
 
 pub returns-in-Ok-clause-plain : goal.returns-in-Ok-clause-plain
@@ -34,17 +34,26 @@ returns-in-Err-clause-plain g c = let o = c.in-Err.ensures in record {
   logged = λ first. absurd (first refl);
 }
 
-pub returns-in-Ok-clause-done : goal.returns-in-Ok-clause-done
-returns-in-Ok-clause-done g c = λ is held follows. (
-  c.keeps_following.ensures.checkpoints _ _ _ _ _ c.in-Ok.ensures.rests c.in-Ok.ensures.keeps held follows,
-  c.keeps_following.ensures.rests _ _ _ _ c.in-Ok.ensures.rests c.in-Ok.ensures.keeps held,
-)
+pub returns-in-Ok-clause-shown : goal.returns-in-Ok-clause-shown
+returns-in-Ok-clause-shown g c = λ st shown. let o = c.in-Ok.ensures in still_shown _ _ _ o.keeps.kept (λ held follows. tt) refl refl refl refl st o.keeps.spots shown
 
-pub returns-in-Ok-clause-refused : goal.returns-in-Ok-clause-refused
-returns-in-Ok-clause-refused g c = λ replaces held follows. c.keeps_following.ensures.lists _ _ (c.keeps_following.ensures.checkpoints _ _ _ _ _ c.in-Ok.ensures.rests c.in-Ok.ensures.keeps held follows)
+pub returns-in-Err-clause-shown : goal.returns-in-Err-clause-shown
+returns-in-Err-clause-shown g c = λ st shown. let o = c.in-Err.ensures in still_shown _ _ _ o.keeps.kept (λ held follows. tt) refl refl refl refl st o.keeps.spots shown
 
-pub returns-in-Err-clause-done : goal.returns-in-Err-clause-done
-returns-in-Err-clause-done g c = λ is. absurd (not_done _ _ tt (sym is))
+pub returns-in-Err-clause-refusal : goal.returns-in-Err-clause-refusal
+returns-in-Err-clause-refusal g c = flush_stores c.in-Err.refusal c.in-Err.ensures.refusal
 
-pub returns-in-Err-clause-refused : goal.returns-in-Err-clause-refused
-returns-in-Err-clause-refused g c = λ replaces held follows. c.keeps_following.ensures.refused _ _ _ _ _ (c.in-Err.ensures.whole replaces) c.in-Err.ensures.keeps held follows
+pub returns-in-Ok-clause-spots : goal.returns-in-Ok-clause-spots
+returns-in-Ok-clause-spots g c = c.in-Ok.ensures.keeps.spots
+
+pub returns-in-Err-clause-spots : goal.returns-in-Err-clause-spots
+returns-in-Err-clause-spots g c = c.in-Err.ensures.keeps.spots
+
+pub returns-in-Ok-clause-clean : goal.returns-in-Ok-clause-clean
+returns-in-Ok-clause-clean g c = λ held. c.keeps_following.ensures.rests _ _ _ _ c.in-Ok.ensures.rests c.in-Ok.ensures.keeps held
+
+pub returns-in-Ok-clause-follows : goal.returns-in-Ok-clause-follows
+returns-in-Ok-clause-follows g c = λ replaces held follows. c.keeps_following.ensures.lists _ _ (c.keeps_following.ensures.checkpoints _ _ _ _ _ c.in-Ok.ensures.rests c.in-Ok.ensures.keeps held follows)
+
+pub returns-in-Err-clause-follows : goal.returns-in-Err-clause-follows
+returns-in-Err-clause-follows g c = λ replaces held follows. c.keeps_following.ensures.refused _ _ _ _ _ (c.in-Err.ensures.whole replaces) c.in-Err.ensures.keeps held follows
