@@ -63,7 +63,7 @@ pub struct Server<F, M: MarkStore> {
 
 impl<F: Files + Drop, M: MarkStore + Drop> Server<F, M> {
     ghost use Rattle.server_loop.specs.Answer.{DrawsStamps, IsAnswer, IsMachineStep, IsPlainAnswer, MakesEdits, ServesSessions, TellsCauses, TendsTablets};
-    ghost use Rattle.server_loop.specs.Server.{IsConfig, Shows, ShowsNoSession, cluster_of, rows_of, tending_of, last_of, marks_of, top_of, floor_of};
+    ghost use Rattle.server_loop.specs.Server.{IsConfig, Shows, ShowsNoSession, cluster_of, rows_of, tending_of, last_of, marks_of};
     ghost use Rattle.row_atomic.specs.Flushes.{KeepsShown};
     ghost use Rattle.server_loop.specs.Resting.{KeepsResting};
     ghost use Rattle.row_atomic.specs.Commands.{IsOutcome};
@@ -83,8 +83,6 @@ impl<F: Files + Drop, M: MarkStore + Drop> Server<F, M> {
         ensures shown { (st : State) → ShowsNoSession F.contents rows oracle.last top floor st
             → Shows F.contents result st }
         ensures rows { rows_of result ≡ rows }
-        ensures top { top_of result ≡ top }
-        ensures floor { floor_of result ≡ floor }
         ensures last { last_of result ≡ oracle.last }
         ensures marks { marks_of result ≡ oracle.marks }
         ensures tending { tending_of result
