@@ -33,6 +33,7 @@ mod Searches
 mod ServingLemmas
 mod SessionSteps
 mod SplitSteps
+mod Stored
 mod StreamReads
 mod Tended
 mod UpkeepRefusals

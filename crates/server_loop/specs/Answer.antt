@@ -10,7 +10,8 @@ use Rattle.request_codec.specs.Requests.{asked}
 use Rattle.request_codec.specs.declared.replies.Reply.{Reply}
 use Rattle.request_codec.specs.declared.replies.Reply.TheVariants as codec
 use Rattle.request_codec.specs.declared.requests.Request.{Request}
-use Rattle.request_codec.specs.declared.requests.Request.TheVariants.{Begin, Get, Scan, Step, CleanBegin, CleanStep, CollectBegin, CollectStep, Sweep, Checkpoint}
+use Rattle.request_codec.specs.declared.requests.Request.TheVariants.{Begin, Get, Scan, Step, CleanBegin, CleanStep, CollectBegin, CollectStep, Sweep, Checkpoint, Split, Move}
+use Rattle.row_atomic.specs.Journals.{JournalView}
 use Rattle.row_atomic.specs.Recorded.{OverfillsRecorded, logged_of, seen_recorded}
 use Rattle.row_atomic.specs.Room.{HasNoRoom}
 use Rattle.row_atomic.specs.Roots.{Checkpoints, Rests, StaysOrRests}
@@ -168,6 +169,17 @@ pub record TellsCauses {F M : Type 0} (contents : F → Option Contents) (file_f
   pub full : reply ≡ codec.Refused MemtableFull → LacksRoom contents request old
   pub damaged : reply ≡ codec.Refused Damaged → ReadsDamage contents request old new
 
+-- ---- what is written down
+
+-- What a server takes to be logged stays, where edits are recorded, and where tablets move all that is
+-- written down. A checkpoint and a sweep end the recording.
+abbrev pub KeepsLogged : Request → Option JournalView → Option JournalView → Type 0
+KeepsLogged Checkpoint old new = ⊤
+KeepsLogged Sweep old new = ⊤
+KeepsLogged (Split row) old new = new ≡ old
+KeepsLogged (Move tablet server) old new = new ≡ old
+KeepsLogged request old new = logged_of new ≡ logged_of old
+
 -- ---- all of them
 
 -- What is said of an answer, but for what the server rests at: by what its files and its mark store
@@ -183,8 +195,7 @@ pub record IsPlainAnswer {F M : Type 0} (files : Files F) (marks : MarkStore M)
   -- no request changes when a server compacts and merges by itself
   pub tending : tending_of new ≡ tending_of old
   -- and none but a checkpoint and a sweep changes what it takes to be logged
-  pub logged : request ≢ Checkpoint → request ≢ Sweep
-      → logged_of (journal_of new) ≡ logged_of (journal_of old)
+  pub logged : KeepsLogged request (journal_of old) (journal_of new)
 
 -- What is said of an answer.
 pub record IsAnswer {F M : Type 0} (files : Files F) (marks : MarkStore M)

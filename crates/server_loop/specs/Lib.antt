@@ -4,6 +4,7 @@ pub mod Runs
 pub mod Serve
 pub mod Lasting
 pub mod Lasts
+pub mod Stored
 pub mod Server
 pub mod Commands
 pub mod Sessions

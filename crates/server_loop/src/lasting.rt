@@ -33,8 +33,16 @@ pub struct LastingServer<S, L> {
     pub(crate) is_stopped: bool,
     /// How much is written down before a root is put without a request.
     pub(crate) root_bytes: usize,
-    /// How much was when that was last tried.
+    /// How much was when one was refused, and 0 since one was put.
     pub(crate) tried_bytes: usize,
+}
+
+/// How much was written down when a root was refused, and 0 after one that was put.
+fn tried_after(done: &Result<(), Refusal>, written: usize) -> usize {
+    match done {
+        Ok(()) => 0,
+        Err(_) => written,
+    }
 }
 
 impl<S: Recording, L: Log> LastingServer<S, L> {
@@ -215,7 +223,7 @@ impl<S: Recording, L: Log> LastingServer<S, L> {
     /// Whether it is time for a root that nobody asks for. One that was refused is tried again once much more is written down.
     fn is_root_due(&self, written: usize) -> bool {
         written >= self.root_bytes
-            && (written < self.tried_bytes || written - self.tried_bytes >= BETWEEN_TRIES)
+            && (self.tried_bytes == 0 || written >= self.tried_bytes.saturating_add(BETWEEN_TRIES))
     }
 
     /// Answers a request that needs no root.
@@ -261,8 +269,8 @@ impl<S: Recording, L: Log> Answering for LastingServer<S, L> {
         self.server.tend();
         let written = self.server.written();
         if self.is_root_due(written) {
-            self.tried_bytes = written;
-            let _refused = self.root();
+            let done = self.root();
+            self.tried_bytes = tried_after(&done, written);
         }
     }
 }

@@ -110,6 +110,7 @@ pub(crate) trait Recording: Answering {
             → Follows (stores server) (logged server) (waiting server) (last server) st }
         ensures leaves { (old new : Self) (request : Lent) (reply : CodecReply)
             → ¬ NeedsRoot request → Self.says old request reply new
+            → (now : State) → IsReached now → Self.shows old now
             → StaysRooted stores is_rooted last old new × (logged new ≡ logged old) }
         ensures moves { (old new : Self) (request : Lent) (reply : CodecReply)
             → MovesTablets request → Self.says old request reply new

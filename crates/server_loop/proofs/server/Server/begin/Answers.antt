@@ -13,7 +13,7 @@ returns-in-Ok g c = let told = c.in-Ok.ensures in record {
   tablets = refl;
   causes = record { device = λ is. absurd (not_done _ _ tt is); told = λ _. record { files = refl; marks = told.reason.told (ok_not _ _) }; full = λ _. tt; damaged = λ _. tt };
   tending = refl;
-  logged = λ _ _. refl;
+  logged = refl;
 }
 
 pub returns-in-Err : goal.returns-in-Err
@@ -25,5 +25,5 @@ returns-in-Err g c = let told = c.in-Err.ensures in record {
   tablets = refl;
   causes = record { device = λ is. inr (told.reason.device (as_err _ _ _ refl is)); told = λ none. record { files = refl; marks = told.reason.told (λ is. none (as_refused _ _ _ refl is)) }; full = λ _. tt; damaged = λ _. tt };
   tending = refl;
-  logged = λ _ _. refl;
+  logged = refl;
 }

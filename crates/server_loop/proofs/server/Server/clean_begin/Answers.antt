@@ -16,7 +16,7 @@ returns-in-Ok g c = let told = c.in-Ok.ensures in record {
   tablets = ap unlogged told.reads.stays;
   causes = record { device = λ is. absurd (not_done _ _ tt is); told = λ _. record { files = told.reason.told (ok_not _ _); marks = refl }; full = λ _. tt; damaged = λ is. absurd (not_done _ _ tt is) };
   tending = refl;
-  logged = λ _ _. ap logged_in told.reads.stays;
+  logged = ap logged_in told.reads.stays;
 }
 
 pub returns-in-Err : goal.returns-in-Err
@@ -28,5 +28,5 @@ returns-in-Err g c = let told = c.in-Err.ensures in record {
   tablets = ap unlogged told.reads.stays;
   causes = record { device = λ is. inl (told.reason.device (as_err _ _ _ refl is)); told = λ none. record { files = told.reason.told (λ is. none (as_refused _ _ _ refl is)); marks = refl }; full = λ _. tt; damaged = λ is whole. told.damaged whole (refusal_is _ _ is) };
   tending = refl;
-  logged = λ _ _. ap logged_in told.reads.stays;
+  logged = ap logged_in told.reads.stays;
 }

@@ -15,7 +15,7 @@ returns-in-Ok g c = let o = c.in-Ok.ensures in record {
   tablets = inl o;
   causes = (done_causes g.F.Files.contents g.F.Files.faults g.M.MarkStore.faults _ _ _ _ _ refl (λ is. absurd (not_done _ _ tt is)) (λ is. cc) o.faults (λ _. tt) (λ _. tt));
   tending = refl;
-  logged = λ _ _. refl;
+  logged = refl;
 }
 
 pub returns-in-Err : goal.returns-in-Err
@@ -27,5 +27,5 @@ returns-in-Err g c = let o = c.in-Err.ensures in record {
   tablets = inl o;
   causes = (refused_causes g.F.Files.contents g.F.Files.faults g.M.MarkStore.faults _ _ _ _ refl o.faults (λ _. tt) (λ _. tt));
   tending = refl;
-  logged = λ _ _. refl;
+  logged = refl;
 }

@@ -15,7 +15,7 @@ returns-in-Ok-clause-plain g c = let o = c.in-Ok.ensures in record {
   tablets = rw (← c.top-top.ensures.top, ← c.greatest_floor-floor.ensures.floor) (o.steps, (λ is. o.rests), λ replaces refusal is. absurd (not_done _ _ tt is));
   causes = (done_causes g.F.Files.contents g.F.Files.faults g.M.MarkStore.faults _ _ _ _ _ refl (λ is. absurd (not_done _ _ tt is)) (λ is. cc) o.faults (λ _. tt) (λ _. tt));
   tending = refl;
-  logged = λ first. absurd (first refl);
+  logged = tt;
 }
 
 pub returns-in-Err-clause-plain : goal.returns-in-Err-clause-plain
@@ -31,7 +31,7 @@ returns-in-Err-clause-plain g c = let o = c.in-Err.ensures in record {
   tablets = rw (← c.top-top.ensures.top, ← c.greatest_floor-floor.ensures.floor) (o.steps, (λ is. absurd (not_done _ _ tt (sym is))), λ replaces refusal is. o.whole replaces);
   causes = (refused_causes g.F.Files.contents g.F.Files.faults g.M.MarkStore.faults _ _ _ _ refl o.faults (λ _. tt) (λ _. tt));
   tending = refl;
-  logged = λ first. absurd (first refl);
+  logged = tt;
 }
 
 pub returns-in-Ok-clause-shown : goal.returns-in-Ok-clause-shown

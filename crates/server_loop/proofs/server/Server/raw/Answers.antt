@@ -31,7 +31,7 @@ returns-in-Err g c = record {
   tablets = inr (elim (refused_either _ _ _ c.in-Err.ensures.others) [ inl is ↦ inl is | inr is ↦ inr (inr is) ], refl);
   causes = (unmet_causes g.F.Files.contents g.F.Files.faults g.M.MarkStore.faults _ _ _ _ refl refl (λ is. absurd (named_not _ _ row_not_device memory_not_device c.in-Err.ensures.others is)) (λ _. tt) (λ _. tt));
   tending = refl;
-  logged = λ _ _. refl;
+  logged = refl;
 }
 
 pub returns-in-Err-new : goal.returns-in-Err-new
@@ -43,7 +43,7 @@ returns-in-Err-new g c = record {
   tablets = inr (inr (refused_either _ _ _ c.in-Err-new.ensures.others), refl);
   causes = (unmet_causes g.F.Files.contents g.F.Files.faults g.M.MarkStore.faults _ _ _ _ refl refl (λ is. absurd (named_not _ _ column_not_device memory_not_device c.in-Err-new.ensures.others is)) (λ _. tt) (λ _. tt));
   tending = refl;
-  logged = λ _ _. refl;
+  logged = refl;
 }
 
 pub returns-in-Ok-newest : goal.returns-in-Ok-newest
@@ -57,7 +57,7 @@ returns-in-Ok-newest g c =
       tablets = inl (rw (← c.in-Ok.ensures.ok) (rw (← c.in-Ok-new.ensures.ok) (found_outcome g.F.Files.contents g.F.Files.faults c.in-Ok.row c.in-Ok-new.family c.args.qualifier c.args.lo c.args.hi c.in-Ok-newest.found _ _ told.reads.still (λ held. told.found (all_readable _ _ _ _ held _)) told.reads.kept told.reads.stays told.reads.room (told.reason.told (ok_not _ _)))));
       causes = record { device = λ is. absurd (not_done _ _ tt is); told = λ _. record { files = told.reason.told (ok_not _ _); marks = refl }; full = λ _. tt; damaged = λ _. tt };
       tending = refl;
-      logged = λ _ _. refl;
+      logged = refl;
     }
 
 pub returns : goal.returns
@@ -72,5 +72,5 @@ returns g c =
       tablets = inl (rw (← c.in-Ok.ensures.ok) (rw (← c.in-Ok-new.ensures.ok) (refused_outcome g.F.Files.contents g.F.Files.faults c.in-Ok.row c.in-Ok-new.family c.args.qualifier c.args.lo c.args.hi c.in-Err-newest.refusal _ _ told.reads.still told.reads.kept (λ held. read_undamaged _ _ told.refusal (all_readable _ _ _ _ held _)) told.damaged told.reads.stays told.reads.room refusal told.reason.later told.reason.device told.reason.told)));
       causes = record { device = λ is. inl (told.reason.device (as_err _ _ _ refl is)); told = λ none. record { files = told.reason.told (λ is. none (as_refused _ _ _ refl is)); marks = refl }; full = λ _. tt; damaged = λ _. tt };
       tending = refl;
-      logged = λ _ _. refl;
+      logged = refl;
     }

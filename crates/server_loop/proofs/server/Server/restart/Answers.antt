@@ -27,7 +27,7 @@ returns-in-Ok g c = let told = c.in-Ok.ensures in record {
   tablets = refl;
   causes = record { device = λ is. absurd (not_done _ _ tt is); told = λ _. record { files = refl; marks = told.told }; full = λ _. tt; damaged = λ _. tt };
   tending = refl;
-  logged = λ _ _. refl;
+  logged = refl;
 }
 
 pub returns-in-Err : goal.returns-in-Err
@@ -50,5 +50,5 @@ returns-in-Err g c = let told = c.in-Err.ensures in record {
   tablets = refl;
   causes = record { device = λ _. inr told.device; told = λ none. record { files = refl; marks = absurd (none (ap (λ (r : Refusal). Refused r) told.refusal)) }; full = λ _. tt; damaged = λ _. tt };
   tending = refl;
-  logged = λ _ _. refl;
+  logged = refl;
 }

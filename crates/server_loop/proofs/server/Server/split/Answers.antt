@@ -17,7 +17,7 @@ returns-in-Err g c = record {
   tablets = inr (refused_either _ _ _ c.in-Err.ensures.others, refl);
   causes = (unmet_causes g.F.Files.contents g.F.Files.faults g.M.MarkStore.faults _ _ _ _ refl refl (λ is. absurd (named_not _ _ row_not_device memory_not_device c.in-Err.ensures.others is)) (λ _. tt) (λ _. tt));
   tending = refl;
-  logged = λ _ _. refl;
+  logged = refl;
 }
 
 pub returns-in-Ok-split : goal.returns-in-Ok-split
@@ -32,7 +32,7 @@ returns-in-Ok-split g c =
       tablets = inl o;
       causes = (done_causes g.F.Files.contents g.F.Files.faults g.M.MarkStore.faults _ _ _ _ _ refl (λ is. absurd (not_done _ _ tt is)) (λ is. cc) o.faults (λ _. tt) (λ _. tt));
       tending = refl;
-      logged = λ _ _. refl;
+      logged = refl;
     })
 
 pub returns : goal.returns
@@ -47,5 +47,5 @@ returns g c =
       tablets = inl o;
       causes = (refused_causes g.F.Files.contents g.F.Files.faults g.M.MarkStore.faults _ _ _ _ refl o.faults (λ _. tt) (λ _. tt));
       tending = refl;
-      logged = λ _ _. refl;
+      logged = refl;
     })

@@ -20,7 +20,7 @@ returns-in-Ok g c = let told = c.in-Ok.ensures in record {
   tablets = refl;
   causes = record { device = λ is. absurd (not_done _ _ tt is); told = λ _. record { files = refl; marks = refl }; full = λ _. tt; damaged = λ _. tt };
   tending = refl;
-  logged = λ _ _. refl;
+  logged = refl;
 }
 
 pub returns-in-Err : goal.returns-in-Err
@@ -32,5 +32,5 @@ returns-in-Err g c = let told = c.in-Err.ensures in record {
   tablets = refl;
   causes = record { device = λ is. absurd (never (λ (refusal : Refusal). refusal ≡ UnknownSession) _ _ told.refusal device_not_unknown is); told = λ _. record { files = refl; marks = refl }; full = λ _. tt; damaged = λ _. tt };
   tending = refl;
-  logged = λ _ _. refl;
+  logged = refl;
 }

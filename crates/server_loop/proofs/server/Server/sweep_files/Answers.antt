@@ -14,7 +14,7 @@ returns-in-Ok-clause-plain g c = let o = c.in-Ok.ensures in record {
   tablets = inl o;
   causes = (done_causes g.F.Files.contents g.F.Files.faults g.M.MarkStore.faults _ _ _ _ _ refl (λ is. absurd (not_done _ _ tt is)) (λ is. cc) o.faults (λ _. tt) (λ _. tt));
   tending = refl;
-  logged = λ first other. absurd (other refl);
+  logged = tt;
 }
 
 pub returns-in-Err-clause-plain : goal.returns-in-Err-clause-plain
@@ -26,7 +26,7 @@ returns-in-Err-clause-plain g c = let o = c.in-Err.ensures in record {
   tablets = inl o;
   causes = (refused_causes g.F.Files.contents g.F.Files.faults g.M.MarkStore.faults _ _ _ _ refl o.faults (λ _. tt) (λ _. tt));
   tending = refl;
-  logged = λ first other. absurd (other refl);
+  logged = tt;
 }
 
 pub returns-in-Ok-clause-follows : goal.returns-in-Ok-clause-follows
