@@ -1,5 +1,5 @@
 -- What is written down follows what is shown.
-use Rattle.std.proofs.Common.{◌≡◌, ◌≢◌, ◌≤◌, ◌+◌, ◌-◌, ◌∙◌, ◌⊎◌, inl, inr, ℕ, List, [], ◌∷◌, ◌++◌, length, take, Option, None, Some, IsSome, option_map, refl, sym, ap, subst, arith}
+use Rattle.std.proofs.Common.{◌≡◌, ◌+◌, ◌∙◌, inl, inr, ℕ, List, [], ◌∷◌, ◌++◌, length, Option, None, Some, IsSome, refl, sym, ap, subst, arith}
 use Rattle.std.proofs.lemmas.List.{append_assoc, length-append}
 use Rattle.std.proofs.lemmas.List.Concat.{flat_map-append}
 use Rattle.std.proofs.lemmas.Bool.{false≢true}
@@ -12,12 +12,12 @@ use Rattle.commit_log.specs.Edits.{IsStoredEdit, spelled_edit, spelled_edits}
 use Rattle.file_store.specs.Store.{Contents}
 use Rattle.metadata_table.specs.Roots.{RootView}
 use Rattle.row_atomic.specs.Calls.{Applies, OnlyReads, seen_of}
-use Rattle.row_atomic.specs.Changes.{Holds, ListsAll}
-use Rattle.row_atomic.specs.Clusters.{ClusterState, Overfills, Storage, cells_in, storage_of}
+use Rattle.row_atomic.specs.Changes.{Holds}
+use Rattle.row_atomic.specs.Clusters.{ClusterState, cells_in, storage_of}
 use Rattle.row_atomic.specs.Commands.{AnswersFromCells, cells_shown}
 use Rattle.row_atomic.specs.Journals.{HasRoomFor, HasWritten, JournalView, with_waiting}
-use Rattle.row_atomic.specs.Open.{IsOpenedOf, IsStore, Reopens}
-use Rattle.row_atomic.specs.Recorded.{FitsMemtables, Follows, FollowsListed, IfWritten, IsOfUpkeep, KeepsFollowing, OpensFollowing, OverfillsJournal, OverfillsRecorded, Tracks, TracksListed, logged_of, seen_recorded}
+use Rattle.row_atomic.specs.Open.{IsOpenedOf, IsStore}
+use Rattle.row_atomic.specs.Recorded.{FitsMemtables, Follows, IfWritten, IsOfUpkeep, KeepsFollowing, OpensFollowing, OverfillsJournal, Tracks, TracksListed, logged_of, seen_recorded}
 use Rattle.row_atomic.specs.Roots.{HasRoot, KeepsRoot, Rests, RootIsStored, RootOutlastsFlushes, RootOutlastsMerges, RootStays, root_at, root_name}
 use Rattle.row_atomic.specs.declared.commands.Command.{Command}
 use Rattle.row_atomic.specs.declared.commands.Command.TheVariants as command

@@ -1,11 +1,11 @@
 -- What is written down is made, and what is refused is taken back.
-use Rattle.std.proofs.Common.{◌≡◌, List, Option, Some, refl, sym, ap, subst, ◌∙◌}
+use Rattle.std.proofs.Common.{◌≡◌, List, Some, refl, sym, ap, subst, ◌∙◌}
 use Rattle.std.proofs.lemmas.Result.{on_err_weaker, on_ok_weaker}
 use Rattle.std.specs.List.{AllByRecursion}
 use Rattle.cell_key.specs.Cells.{IsEditOf}
 use Rattle.cell_key.specs.declared.edits.Edit.{Edit}
 use Rattle.commit_log.specs.Edits.{IsStoredEdit}
-use Rattle.row_atomic.specs.Journals.{JournalView, with_waiting}
+use Rattle.row_atomic.specs.Journals.{with_waiting}
 use Rattle.row_atomic.proofs.Following.{applies_plain, applies_recorded, fits_plain, fits_recorded, reads_recorded}
 use Rattle.row_atomic.proofs.Journals.{taken_back}
 use Rattle.row_atomic.proofs.recorded.RecordedRows.apply.Goals as goal
