@@ -89,7 +89,6 @@ module _ {S L : Type 0} (stores : S → Cells → List Place → Type 0) (logged
         all = laws.whole _ _ more ∙ (laws.after edits f.then ∙ (ap (λ (x : List ℕ). x ++ spelled_edits f.then) (sym (laws.whole records edits held) ∙ bytes) ∙ ap (λ (x : List ℕ). logged old ++ x) (sym f.waiting_bytes)));
       }
 
-
   -- a state that a new root has lasts where the log holds nothing
   pub emptied_lasts : (old : S) (new : LastingServer S L) (st : State) → HasNewRoot stores is_rooted last old st → StaysStored stores last old new.server → holds new.log [] → (new.is_stopped ≡ true) ⊎ ([] ≡ logged new.server) → Lasting new st
   emptied_lasts old new st root stays in_log bytes = record {
@@ -129,14 +128,17 @@ module _ {S L : Type 0} (stores : S → Cells → List Place → Type 0) (logged
     shown = λ st s. subst (λ (x : S). shows x st) (sym server) s;
     logged = λ now reached s logs. elim logs [
       | inl stopped ↦ inl (stop ∙ stopped)
-      | inr h ↦ inr (subst is_rooted (sym server) h.0, record {
-        records = h.1.records;
-        in_log = subst (λ (x : L). holds x h.1.records) (sym log) h.1.in_log;
-        edits = h.1.edits;
-        held = h.1.held;
-        stored = h.1.stored;
-        bytes = h.1.bytes ∙ ap logged (sym server);
-      })
+      | inr h ↦ inr (
+        subst is_rooted (sym server) h.0,
+        record {
+          records = h.1.records;
+          in_log = subst (λ (x : L). holds x h.1.records) (sym log) h.1.in_log;
+          edits = h.1.edits;
+          held = h.1.held;
+          stored = h.1.stored;
+          bytes = h.1.bytes ∙ ap logged (sym server);
+        },
+      )
     ];
     lasting = λ now reached s logs st lasts. inl (lasts_on old new st (subst (λ (x : S). StaysStored stores last old.server x) (sym server) (stays_stored stores last old.server)) lasts (subst (λ (x : L). holds x lasts.records) (sym log) lasts.in_log)
         (elim lasts.bytes [ inl stopped ↦ inl (stop ∙ stopped) | inr bytes ↦ inr (bytes ∙ ap logged (sym server)) ]));

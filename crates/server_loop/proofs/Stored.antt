@@ -1,8 +1,12 @@
 -- What a server's files keep under their root, and what leaves it.
-use Rattle.std.proofs.Common.{◌≡◌, ◌≢◌, ◌≤◌, ◌⊎◌, ℕ, Bool, true, false, List, [], length, map, Option, None, Some, inl, inr, refl, sym, ap, ◌∙◌, subst, arith}
-use Rattle.std.specs.Prelude.{IfSome, is_some}
+use Rattle.std.proofs.Common.{◌≡◌, ◌≢◌, ◌≤◌, ◌⊎◌, ℕ, Bool, true, false, List, [], ◌++◌, length, map, Option, None, Some, Result, Ok, Err, OnErr, OnOk, append-nil, inl, inr, refl, sym, ap, ◌∙◌, subst, arith}
+use Rattle.std.specs.Prelude.{IfSome, is_some, option_map}
+use Rattle.std.specs.List.{AllByRecursion}
 use Rattle.std.specs.FinMap.{get}
 use Rattle.cell_key.specs.Cells.{Cells}
+use Rattle.cell_key.specs.declared.edits.Edit.{Edit}
+use Rattle.cell_key.specs.declared.refusals.Refusal.{Refusal}
+use Rattle.commit_log.specs.Edits.{IsStoredEdit, LogsEdits, spelled_edits}
 use Rattle.file_store.specs.Store.{Contents}
 use Rattle.file_store.specs.declared.files.Files.{Ghosts as Files}
 use Rattle.metadata_table.specs.Places.{PlaceView}
@@ -13,23 +17,24 @@ use Rattle.request_codec.specs.Requests.{asked}
 use Rattle.request_codec.specs.declared.replies.Reply.{Reply as CodecReply}
 use Rattle.request_codec.specs.declared.requests.Request.{Request as Lent}
 use Rattle.request_codec.specs.declared.requests.Request.TheVariants as lent
-use Rattle.row_atomic.specs.Changes.{ListsAll}
-use Rattle.row_atomic.specs.Clusters.{ClusterState, Spot, spot_of}
+use Rattle.row_atomic.specs.Changes.{Holds, ListsAll}
+use Rattle.row_atomic.specs.Clusters.{ClusterState, Spot, spot_of, spots_of}
 use Rattle.row_atomic.specs.Commands.{cells_shown}
-use Rattle.row_atomic.specs.Journals.{IsWithin, JournalView}
-use Rattle.row_atomic.specs.Recorded.{Follows, FollowsListed, TracksListed, logged_of, waiting_of}
+use Rattle.row_atomic.specs.Journals.{IsWithin, JournalView, all_logged}
+use Rattle.row_atomic.specs.Recorded.{Follows, FollowsListed, Tracks, TracksListed, logged_of, waiting_of}
+use Rattle.row_atomic.specs.declared.recorded.Recorded.{Recorded}
 use Rattle.row_atomic.specs.Roots.{HasRoot, RootIsStored, RootOutlastsFlushes, RootOutlastsMerges, Rests, RootStays, StaysOrRests, root_at, root_name}
 use Rattle.row_atomic.specs.declared.commands.Command.{Command}
 use Rattle.row_atomic.specs.declared.commands.Command.TheVariants as command
 use Rattle.si_model.specs.Machine as machine
 use Rattle.si_model.specs.Machine.{IsReached, State, reopened}
 use Rattle.si_model.specs.ShowsCells.{ShowsCells}
-use Rattle.server_loop.specs.Answer.{IsAnswer, KeepsLogged, TendsTablets}
-use Rattle.server_loop.specs.Commands.{HasOutcome, command_of, outcome_of}
+use Rattle.server_loop.specs.Answer.{IsAnswer, IsPlainAnswer, KeepsLogged, TendsTablets}
+use Rattle.server_loop.specs.Commands.{HasOutcome, checkpointed, command_of, outcome_of}
 use Rattle.server_loop.specs.Lasts as lasts
 use Rattle.server_loop.specs.Lasts.{HasNewRoot, KeepsRecording, MovesTablets, NeedsRoot, StaysRooted, StaysStored}
 use Rattle.server_loop.specs.Runs.{StampsGoOn}
-use Rattle.server_loop.specs.Server.{Shows, cluster_of, floor_of, journal_of, last_of, machine_place, machine_places, top_of}
+use Rattle.server_loop.specs.Server.{Shows, cluster_of, floor_of, forgets, journal_of, last_of, machine_place, machine_places, top_of}
 use Rattle.server_loop.specs.Stored.{IsClean, IsRooted, StoresCells}
 use Rattle.server_loop.specs.Tending.{IsTended, Merges, MergesWhere}
 use Rattle.server_loop.specs.declared.server.Server.{Server}
@@ -217,3 +222,91 @@ module _ {F : Type 0} (contents : F → Option Contents) (faults : F → ℕ) (f
         ap (λ (j : Option JournalView). logged_of j) tended.journal,
         tended.shown,
       )
+
+-- ---- what is logged
+
+module _ {F : Type 0} (contents : F → Option Contents) (laws : LogsEdits) where
+  -- what waited is logged
+  pub follows_logged : (state : ClusterState F) (journal : Option JournalView) → Follows contents state journal → Follows contents state (option_map all_logged journal)
+  follows_logged state None follows = tt
+  follows_logged state (Some journal) follows =
+      let edits = follows.logged ++ follows.waiting in
+      let same = sym (append-nil edits) in
+      record {
+        logged = edits;
+        waiting = [];
+        logged_bytes = ap (λ (x : List ℕ). x ++ journal.waiting) follows.logged_bytes ∙ (ap (λ (x : List ℕ). spelled_edits follows.logged ++ x) follows.waiting_bytes ∙ sym (laws.after follows.logged follows.waiting));
+        waiting_bytes = refl;
+        counted = follows.counted ∙ ap (λ (es : List Edit). length es) same;
+        stored = subst (λ (es : List Edit). AllByRecursion IsStoredEdit es) same follows.stored;
+        such = subst (λ (es : List Edit). Tracks contents state es) same follows.such;
+      }
+
+module _ {F M : Type 0} (contents : F → Option Contents) where
+  -- the same server with other rows, of the same cluster
+  pub same_cluster : (old : Server F M) (rows : Recorded F) → rows.cluster ≡ cluster_of old → StaysRooted (StoresCells contents) (IsRooted contents) last_of old (record old { rows = rows })
+  same_cluster old rows is = stays_rooted contents old (record old { rows = rows }) (λ root cells has. subst (λ (state : ClusterState F). HasRoot contents root cells state) (sym is) has) (omega arith) (ap (λ (state : ClusterState F). machine_places state.places) is)
+
+  -- what is shown without a journal is shown with one that follows
+  pub remembers : (server : Server F M) (st : State) → Shows contents (forgets server) st → Follows contents (cluster_of server) (journal_of server) → Shows contents server st
+  remembers server st shown follows = record { in_order = (shown.in_order.0, follows); shows = shown.shows; cleaners = shown.cleaners; collectors = shown.collectors; places = shown.places; next = shown.next }
+
+  pub logged_shows : LogsEdits → (server : Server F M) (st : State) (rows : Recorded F) → rows ≡ record { cluster = cluster_of server; journal = option_map all_logged (journal_of server) } → Shows contents server st → Shows contents (record server { rows = rows }) st
+  logged_shows laws server st rows is shown = subst (λ (r : Recorded F). Shows contents (record server { rows = r }) st) (sym is) (record {
+    in_order = (shown.in_order.0, follows_logged contents laws (cluster_of server) (journal_of server) shown.in_order.1);
+    shows = shown.shows;
+    cleaners = shown.cleaners;
+    collectors = shown.collectors;
+    places = shown.places;
+    next = shown.next;
+  })
+
+-- ---- checkpoints
+
+module _ {F M : Type 0} (files : Files F) (marks : MarkStore M) (reopens : (cells : Cells) (st : State) → ShowsCells cells st → ShowsCells cells (reopened st)) (old new : Server F M) (spots : spots_of (cluster_of new) ≡ spots_of (cluster_of old)) where
+  abbrev Checked : Result (Unit {0}) Refusal → Type 0
+  Checked result = IsPlainAnswer files marks old lent.Checkpoint (checkpointed result) (forgets new)
+
+  pub checkpoint_done : (result : Result (Unit {0}) Refusal) → Checked result → OnOk result (Holds files.contents (cluster_of old) → IsClean files.contents new)
+      → OnOk result ((st : State) → Shows files.contents old st → HasNewRoot (StoresCells files.contents) (IsRooted files.contents) last_of new st × IsClean files.contents new)
+  checkpoint_done (Ok done) plain clean = λ st shown. (new_root files.contents reopens old new st (plain.tablets.1 refl) (same_machine_places (cluster_of old).places (cluster_of new).places spots) (ap (λ o. o.last) plain.sessions.oracle) shown, clean shown.in_order.0)
+  checkpoint_done (Err refusal) plain clean = tt
+
+  pub checkpoint_undone : files.replaces → (result : Result (Unit {0}) Refusal) → Checked result
+      → OnErr result (StaysRooted (StoresCells files.contents) (IsRooted files.contents) last_of old new ⊎ ((st : State) → Shows files.contents old st → HasNewRoot (StoresCells files.contents) (IsRooted files.contents) last_of new st))
+  checkpoint_undone replaces (Ok done) plain = tt
+  checkpoint_undone replaces (Err refusal) plain =
+      let places = same_machine_places (cluster_of old).places (cluster_of new).places spots in
+      let last : last_of new ≡ last_of old = ap (λ o. o.last) plain.sessions.oracle in
+      elim (plain.tablets.2 replaces refusal refl) [
+        | inl stays ↦ inl (stays_rooted files.contents old new (λ root cells. (stays root cells).0) (omega (arith, last)) places)
+        | inr rests ↦ inr (λ st shown. new_root files.contents reopens old new st rests places last shown)
+      ]
+
+  pub checkpoint_keeps : (result : Result (Unit {0}) Refusal) → Checked result → journal_of new ≡ journal_of old → KeepsRecording (λ server. is_some (journal_of server)) (λ server. logged_of (journal_of server)) (λ server. waiting_of (journal_of server)) last_of old new
+  checkpoint_keeps result plain same =
+      let last : last_of new ≡ last_of old = stamps_same result plain in
+      record { goes_on = ap (λ (j : Option JournalView). is_some j) same; has = ap (λ (j : Option JournalView). logged_of j) same; waits = ap (λ (j : Option JournalView). waiting_of j) same; later = omega (arith, last) }
+    where
+      stamps_same : (result : Result (Unit {0}) Refusal) → Checked result → last_of new ≡ last_of old
+      stamps_same result plain = ap (λ o. o.last) plain.sessions.oracle
+
+-- ---- sweeps
+
+module _ {F M : Type 0} (files : Files F) (marks : MarkStore M) (one : OneRoot) (stays : RootStays files.contents files.faults) where
+  pub sweep_stays : (old new : Server F M) (reply : CodecReply) → IsPlainAnswer files marks old lent.Sweep reply (forgets new) → spots_of (cluster_of new) ≡ spots_of (cluster_of old) → IsClean files.contents old
+      → StaysRooted (StoresCells files.contents) (IsRooted files.contents) last_of old new
+  sweep_stays old new reply plain spots clean =
+      let last : last_of new ≡ last_of old = ap (λ o. o.last) plain.sessions.oracle in
+      stays_rooted files.contents old new (λ root cells has. by_sweep plain.tablets root cells has) (omega (arith, last)) (same_machine_places (cluster_of old).places (cluster_of new).places spots)
+    where
+      by_sweep : TendsTablets files lent.Sweep reply old (forgets new) → (root : RootView) (cells : Cells) → HasRoot files.contents root cells (cluster_of old) → HasRoot files.contents root cells (cluster_of new)
+      by_sweep (inl is) root cells has =
+          let same = same_root files.contents one clean.tracks.root root clean.tracks.base cells (cluster_of old) clean.tracks.has has in
+          (stays command.Sweep (outcome_of reply) root cells (cluster_of old) (cluster_of new) is).0 (λ sweep. subst (λ (r : RootView). ListsAll r.places (cluster_of old).places) same clean.lists) has
+      by_sweep (inr none) root cells has = absurd none.0
+
+  pub sweep_keeps : (old new : Server F M) (reply : CodecReply) → IsPlainAnswer files marks old lent.Sweep reply (forgets new) → journal_of new ≡ journal_of old → KeepsRecording (λ server. is_some (journal_of server)) (λ server. logged_of (journal_of server)) (λ server. waiting_of (journal_of server)) last_of old new
+  sweep_keeps old new reply plain same =
+      let last : last_of new ≡ last_of old = ap (λ o. o.last) plain.sessions.oracle in
+      record { goes_on = ap (λ (j : Option JournalView). is_some j) same; has = ap (λ (j : Option JournalView). logged_of j) same; waits = ap (λ (j : Option JournalView). waiting_of j) same; later = omega (arith, last) }

@@ -5,6 +5,7 @@ pub mod Serve
 pub mod Lasting
 pub mod Lasts
 pub mod Stored
+pub mod ServesLogged
 pub mod Server
 pub mod Commands
 pub mod Sessions

@@ -95,11 +95,7 @@ fn answer_next<A: Answering>(
 }
 
 /// Answers whole frames, one after the other, until enough replies wait. `None` if there may be more of them.
-fn fill<A: Answering>(
-    server: &mut A,
-    framer: &mut Framer,
-    waiting: &mut Vec<u8>,
-) -> Option<Rest>
+fn fill<A: Answering>(server: &mut A, framer: &mut Framer, waiting: &mut Vec<u8>) -> Option<Rest>
     requires none { waiting.old.items ≡ [] }
     requires room { WAITING_ROOM ≤ vec_capacity waiting.old }
     ensures handles { HandlesFirst A.shows A.says A.between (Ok result) server.old server.new

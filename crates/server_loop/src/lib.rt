@@ -9,6 +9,7 @@ mod command_line;
 mod command_options;
 mod frames;
 mod lasting;
+mod lasting_serving;
 mod laws;
 mod opening;
 mod recorded_server;
@@ -27,6 +28,7 @@ pub use command_options::{
     DEFAULT_FLUSH, LEAST_CACHE, LEAST_FLUSH_BYTES, MOST_CACHE, MOST_FLUSH, MOST_FLUSH_BYTES,
     MOST_MERGE, Options,
 };
+pub use lasting::LastingServer;
 pub use laws::{resting_is_kept, rests_between};
 pub use row_atomic::FlushLimits;
 pub use server::{Config, Server};

@@ -7,6 +7,7 @@ use crate::recording::Recording;
 use crate::server::Server;
 use crate::whole_files::WholeFiles;
 use cell_key::Refusal;
+use commit_log::laws::logs_edits;
 use metadata_table::one_root;
 use oracle::MarkStore;
 use request_codec::Reply;
@@ -59,6 +60,7 @@ impl<F: WholeFiles + Drop, M: MarkStore + Drop> Recording for Server<F, M> {
     }
 
     fn settled(&mut self) {
+        logs_edits();
         self.rows.settled();
     }
 

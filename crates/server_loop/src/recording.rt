@@ -43,6 +43,7 @@ pub(crate) trait Recording: Answering {
 
     /// What is said of a checkpoint, and of a sweep.
     ghost checkpoints: { Self → CodecReply → Self → Type 0 };
+
     ghost sweeps: { Self → CodecReply → Self → Type 0 };
 
     /// How much is written down: as many bytes, or as many as as many edits may have.

@@ -81,6 +81,7 @@ impl<F: Files + Drop, M: MarkStore + Drop> Server<F, M> {
     pub(crate) fn sweep_files(&mut self) -> Reply
         ensures plain { IsPlainAnswer F.Files M.MarkStore self.old Request.Sweep result
             (forgets self.new) }
+        ensures spots { spots_of (cluster_of self.new) ≡ spots_of (cluster_of self.old) }
         ensures follows { Holds F.contents (cluster_of self.old)
             → FollowsListed F.contents (cluster_of self.old) (journal_of self.old)
             → FollowsListed F.contents (cluster_of self.new) (journal_of self.new) }

@@ -45,5 +45,5 @@ returns-in-TooLarge-clause-batches g c =
     let more = take-rest-more c.loop-at.at c.feed-at.result c.args.piece.now in
     let (handled, stays) = rw c.in-TooLarge.is at c.in_ok-answer_batches.ensures.batches in
     let p = piece_ends _ _ _ _ _ _ _ c.answer_batches.new.framer _ (c.loop-at.at + c.feed-at.result) _ _
-        (fed _ _ _ (Ok rests.TooLarge) _ _ _ _ _ _ _ _ _ c.loop-at.at c.feed-at.result _ _ _ c.loop-at.invariant.answered c.feed-at.ensures.bytes more handled) in
+    (fed _ _ _ (Ok rests.TooLarge) _ _ _ _ _ _ _ _ _ c.loop-at.at c.feed-at.result _ _ _ c.loop-at.invariant.answered c.feed-at.ensures.bytes more handled) in
     (p.0, p.1, (p.2, λ now reached shown settled. let one = c.loop-at.invariant.answered.run.run now reached shown in stays one.after one.reached one.shows (c.loop-at.invariant.settled now reached shown settled)))

@@ -30,8 +30,7 @@ returns-in-Ok-eq0-2-clause-reads g c =
 
 pub returns-in-TooLarge-clause-reads : goal.returns-in-TooLarge-clause-reads
 returns-in-TooLarge-clause-reads g c =
-    let b = rw c.in-TooLarge.is at c.in_ok-batch_piece-in-Ok.ensures.batches in
-    (
+    let b = rw c.in-TooLarge.is at c.in_ok-batch_piece-in-Ok.ensures.batches in (
       read_large _ _ _ _ _ _ c.batch_piece.new.framer _ _ _ _ _ _ _ c.in-Ok.ensures.bytes.0 c.requires.partial (taken_within _ c.read.new.buf (omega (arith, c.requires.within, c.read.auto.buf))) c.in_ok-flush.ensures.kept (b.0, b.1, b.2.0),
       b.2.1,
     )

@@ -20,11 +20,11 @@ returns-in-Ok-clause-settles g c =
     let w = c.log_waiting.ensures in
     let p = c.checkpoint_now.ensures in
     let kept = λ (now : State) (shown : g.S.Answering.shows c.args.self.now.server now) (logs : Logs g.S.Recording.stores g.S.Recording.logged g.S.Recording.last g.L.Log.holds g.S.Recording.is_rooted c.args.self.now).
-        let held = w.ok is now shown logs in
-        let mid = w.shown now shown in
-        let done = c.in-Ok.ensures.done now mid in
-        let follows = c.recording_laws.ensures.follows c.checkpoint_now.new.self now (p.keeps.goes_on ∙ w.recording is) done.0.rooted (p.shown now mid) in
-        c.empty_log.ensures.kept now done.0 (root_lasts g.S.Recording.stores g.S.Recording.logged g.S.Recording.waiting g.S.Recording.last g.L.Log.holds g.S.Recording.is_rooted c.logs_edits.ensures c.log_waiting.new.self c.checkpoint_now.new.self now follows held.0.1 p.keeps.has (p.keeps.waits ∙ w.waiting is)) in
+    let held = w.ok is now shown logs in
+    let mid = w.shown now shown in
+    let done = c.in-Ok.ensures.done now mid in
+    let follows = c.recording_laws.ensures.follows c.checkpoint_now.new.self now (p.keeps.goes_on ∙ w.recording is) done.0.rooted (p.shown now mid) in
+    c.empty_log.ensures.kept now done.0 (root_lasts g.S.Recording.stores g.S.Recording.logged g.S.Recording.waiting g.S.Recording.last g.L.Log.holds g.S.Recording.is_rooted c.logs_edits.ensures c.log_waiting.new.self c.checkpoint_now.new.self now follows held.0.1 p.keeps.has (p.keeps.waits ∙ w.waiting is)) in
     record {
       shown = λ st shown. let mid = w.shown st shown in c.empty_log.ensures.shown (c.in-Ok.ensures.done st mid).1 st (p.shown st mid);
       logged = λ now reached shown logs. (kept now shown logs).1;

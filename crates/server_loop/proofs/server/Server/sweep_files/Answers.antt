@@ -34,3 +34,9 @@ returns-in-Ok-clause-follows g c = λ held follows. c.keeps_following.ensures.sw
 
 pub returns-in-Err-clause-follows : goal.returns-in-Err-clause-follows
 returns-in-Err-clause-follows g c = λ held follows. c.keeps_following.ensures.sweeps _ _ _ _ c.in-Err.ensures held follows
+
+pub returns-in-Ok-clause-spots : goal.returns-in-Ok-clause-spots
+returns-in-Ok-clause-spots g c = same_spots c.args.self.now.rows.cluster c.sweep.new.self c.sweep.new.self.files c.in-Ok.ensures.upholds.rest
+
+pub returns-in-Err-clause-spots : goal.returns-in-Err-clause-spots
+returns-in-Err-clause-spots g c = same_spots c.args.self.now.rows.cluster c.sweep.new.self c.sweep.new.self.files c.in-Err.ensures.upholds.1.rest

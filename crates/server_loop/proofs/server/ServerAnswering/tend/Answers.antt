@@ -14,10 +14,10 @@ returns-then-due-clause-between g c = record {
       (sym c.if-due.true ∙ c.is_merge_due-due.ensures) c.merge_files.ensures.merges;
   keeps = keeps_both _ _ _ c.compact_full.new.self _ c.compact_full.ensures.keeps c.merge_files.ensures.keeps;
   shown = λ st shown.
-    still_shown _ _ _ _ st (keeps_both _ _ _ c.compact_full.new.self _ c.compact_full.ensures.keeps c.merge_files.ensures.keeps)
-    (λ held follows. subst (λ (j : Option JournalView). Follows g.F.Files.contents (cluster_of c.merge_files.new.self) j) (sym (ap (λ s. s.rows.journal) c.merge_files.ensures.others))
-    (tends_follow g.F.Files.contents g.F.Files.faults c.keeps_following.ensures _ _ _ _ _ _ c.compact_full.ensures.compacts c.compact_full.ensures.keeps c.merge_files.ensures.merges c.merge_files.ensures.keeps held follows))
-    (ap (λ s. s.clients) c.merge_files.ensures.others) (ap (λ s. s.cleaners) c.merge_files.ensures.others) (ap (λ s. s.collectors) c.merge_files.ensures.others) (ap (λ s. s.oracle.last) c.merge_files.ensures.others) shown;
+      still_shown _ _ _ _ st (keeps_both _ _ _ c.compact_full.new.self _ c.compact_full.ensures.keeps c.merge_files.ensures.keeps)
+      (λ held follows. subst (λ (j : Option JournalView). Follows g.F.Files.contents (cluster_of c.merge_files.new.self) j) (sym (ap (λ s. s.rows.journal) c.merge_files.ensures.others))
+      (tends_follow g.F.Files.contents g.F.Files.faults c.keeps_following.ensures _ _ _ _ _ _ c.compact_full.ensures.compacts c.compact_full.ensures.keeps c.merge_files.ensures.merges c.merge_files.ensures.keeps held follows))
+      (ap (λ s. s.clients) c.merge_files.ensures.others) (ap (λ s. s.cleaners) c.merge_files.ensures.others) (ap (λ s. s.collectors) c.merge_files.ensures.others) (ap (λ s. s.oracle.last) c.merge_files.ensures.others) shown;
   sessions = ap (λ s. s.clients) c.merge_files.ensures.others;
   cleaners = ap (λ s. s.cleaners) c.merge_files.ensures.others;
   collectors = ap (λ s. s.collectors) c.merge_files.ensures.others;
