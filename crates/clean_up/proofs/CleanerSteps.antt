@@ -224,7 +224,7 @@ module _ (cells : Cells) (cleaner : Cleaner) (st : State) (i : ℕ) (reached : I
 module _ {R : Type 0} (seen : View R) (old new : R) (cleaner : Cleaner) (held : seen.holds old) where
   pub decides_so : (f : Fate) → cleaner.fate ≡ Open → Decides seen cleaner.lock f old new → Advances (seen.cells old) cleaner clean.Decided (seen.cells new) (record { cell = cleaner.cell; lock = cleaner.lock; fate = f })
   decides_so f is (inl (made, back)) st i reached store mine =
-      let after = made.applied.made held ∙ (make_cells (seen.cells old) cleaner.lock.first cleaner.lock.start made.edits).erased made.such.2 in
+      let after = made.applied.made (seen.each_readable old held made.row) ∙ (make_cells (seen.cells old) cleaner.lock.first cleaner.lock.start made.edits).erased made.such.2 in
       subst (λ (p : Cells × Fate). Takes st i p.0 (record { cell = cleaner.cell; lock = cleaner.lock; fate = p.1 }) clean.Decided) (λ j. (sym after j, sym back j))
       (kills_at (seen.cells old) cleaner st i reached store mine is (made.such.1 held))
   decides_so f is (inr (reads, told)) st i reached store mine =
@@ -237,11 +237,11 @@ module _ {R : Type 0} (seen : View R) (old new : R) (cleaner : Cleaner) (held : 
 
   pub back_so : cleaner.fate ≡ Back → AppliesSuch seen (ClearsCell (seen.holds old) (seen.cells old) cleaner.cell cleaner.lock.start None) old new → Advances (seen.cells old) cleaner clean.RolledBack (seen.cells new) cleaner
   back_so is made st i reached store mine =
-      let after = made.applied.made held ∙ (make_cells (seen.cells old) cleaner.cell cleaner.lock.start made.edits).erased made.such.2 in
+      let after = made.applied.made (seen.each_readable old held made.row) ∙ (make_cells (seen.cells old) cleaner.cell cleaner.lock.start made.edits).erased made.such.2 in
       subst (λ (cs : Cells). Takes st i cs cleaner clean.RolledBack) (sym after) (back_at (seen.cells old) cleaner st i reached store mine is (made.such.1 held))
 
   pub forward_so : (c : ℕ) → cleaner.fate ≡ Forward c → AppliesSuch seen (ClearsCell (seen.holds old) (seen.cells old) cleaner.cell cleaner.lock.start (Some c)) old new → Advances (seen.cells old) cleaner (clean.RolledForward c) (seen.cells new) cleaner
   forward_so c is made st i reached store mine =
       let kind = made.such.0 in
-      let after = made.applied.made held ∙ (make_cells (seen.cells old) cleaner.cell cleaner.lock.start made.edits).recorded c kind made.such.2.2 in
+      let after = made.applied.made (seen.each_readable old held made.row) ∙ (make_cells (seen.cells old) cleaner.cell cleaner.lock.start made.edits).recorded c kind made.such.2.2 in
       subst (λ (cs : Cells). Takes st i cs cleaner (clean.RolledForward c)) (sym after) (forward_at (seen.cells old) cleaner st i reached store mine c kind is (made.such.2.1 held) (made.such.1 held))

@@ -62,18 +62,18 @@ module _ {R : Type 0} (seen : View R) (old new : R) where
 
   module _ (held : seen.holds old) where
     pub does_make : (P : List ℕ → List Edit → Type 0) (p : CleanReply) → Does seen P p old new → Makes P p (seen.cells old) (seen.cells new)
-    does_make P clean.Decided (inl made) = inl (made.row, made.edits, made.such, made.applied.made held)
+    does_make P clean.Decided (inl made) = inl (made.row, made.edits, made.such, made.applied.made (seen.each_readable old held made.row))
     does_make P clean.Decided (inr reads) = inr reads.kept
-    does_make P (clean.RolledForward c) made = (made.row, made.edits, made.such, made.applied.made held)
-    does_make P clean.RolledBack made = (made.row, made.edits, made.such, made.applied.made held)
+    does_make P (clean.RolledForward c) made = (made.row, made.edits, made.such, made.applied.made (seen.each_readable old held made.row))
+    does_make P clean.RolledBack made = (made.row, made.edits, made.such, made.applied.made (seen.each_readable old held made.row))
     does_make P clean.Gone reads = reads.kept
 
     -- what joins or goes stands where edits such as these touch it
     pub does_touch : (P : List ℕ → List Edit → Type 0) (p : CleanReply) (T : Type 0) → ((row : List ℕ) (edits : List Edit) → P row edits → seen.cells new ≡ after_edits (seen.cells old) edits → T) → (seen.cells new ≡ seen.cells old → T) → Does seen P p old new → T
-    does_touch P clean.Decided T changed kept (inl made) = changed made.row made.edits made.such (made.applied.made held)
+    does_touch P clean.Decided T changed kept (inl made) = changed made.row made.edits made.such (made.applied.made (seen.each_readable old held made.row))
     does_touch P clean.Decided T changed kept (inr reads) = kept reads.kept
-    does_touch P (clean.RolledForward c) T changed kept made = changed made.row made.edits made.such (made.applied.made held)
-    does_touch P clean.RolledBack T changed kept made = changed made.row made.edits made.such (made.applied.made held)
+    does_touch P (clean.RolledForward c) T changed kept made = changed made.row made.edits made.such (made.applied.made (seen.each_readable old held made.row))
+    does_touch P clean.RolledBack T changed kept made = changed made.row made.edits made.such (made.applied.made (seen.each_readable old held made.row))
     does_touch P clean.Gone T changed kept reads = kept reads.kept
 
   made_takes : (P : List ℕ → List Edit → Type 0) → Made P → TakesRoomOf seen.overfills P old new

@@ -25,10 +25,10 @@ abbrev pub IsStepRefusal : Refusal → Type 0
 IsStepRefusal UnknownCleaner = ⊤
 IsStepRefusal refusal = IsAdvanceRefusal refusal
 
--- A row transaction is refused by the rows: damage is answered only if they don't hold.
+-- A row transaction is refused by the rows: damage is answered only if what it reads isn't in order.
 abbrev pub IsRowRefusal : Type 0 → Refusal → Type 0
-IsRowRefusal Holds MemtableFull = ⊤
-IsRowRefusal Holds Device = ⊤
-IsRowRefusal Holds NoMemory = ⊤
-IsRowRefusal Holds Damaged = ¬ Holds
-IsRowRefusal Holds _ = ⊥
+IsRowRefusal Readable MemtableFull = ⊤
+IsRowRefusal Readable Device = ⊤
+IsRowRefusal Readable NoMemory = ⊤
+IsRowRefusal Readable Damaged = ¬ Readable
+IsRowRefusal Readable _ = ⊥

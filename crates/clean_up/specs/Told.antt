@@ -16,6 +16,7 @@ use Rattle.clean_up.specs.Room.{Does, EditsOfStep}
 use Rattle.clean_up.specs.Shows.{is_decided, is_last}
 use Rattle.clean_up.specs.declared.cleaner.Cleaner.{Cleaner}
 use Rattle.clean_up.specs.declared.cleaners.Cleaners.{Cleaners}
+use Rattle.clean_up.specs.declared.fates.Fate.{Fate}
 use Rattle.clean_up.specs.declared.fates.Fate.TheVariants.{Open, Forward, Back}
 use Rattle.clean_up.specs.declared.locks.Lock.{Lock}
 
@@ -50,6 +51,21 @@ abbrev pub TellsAt : {R : Type 0} → View R → ℕ → CleanReply → Cleaners
 TellsAt seen i reply cleaners cleaners' old new =
     (k k' : Cleaner) × (kept_at cleaners i ≡ Some k) × (kept_at cleaners' i ≡ kept_after reply k')
     × IsTold seen k reply k' old new
+
+-- the cell that a cleaner's next step reads: it decides at the first cell that its lock names, and
+-- then clears its own cell
+abbrev pub cell_in : Fate → Cleaner → Cell
+cell_in Open k = k.lock.first
+cell_in (Forward c) k = k.cell
+cell_in Back k = k.cell
+
+abbrev pub cell_read : Cleaner → Cell
+cell_read k = cell_in k.fate k
+
+-- what is read in that cell's row, by the cleaner with this number, is in order
+abbrev pub IsNextReadable : {R : Type 0} → View R → R → Cleaners → ℕ → Type 0
+IsNextReadable seen rows cleaners i =
+    (k : Cleaner) → kept_at cleaners i ≡ Some k → seen.readable rows (cell_read k).row
 
 -- a record of the first cell that the lock of this cleaner names has no start
 abbrev pub MeetsBadRecord : Cells → Cleaners → ℕ → Type 0

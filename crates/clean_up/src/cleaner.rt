@@ -8,7 +8,7 @@ ghost use Rattle.clean_up.specs.Fates.{HasBadRecord};
 ghost use Rattle.clean_up.specs.Refusals.{IsAdvanceRefusal};
 ghost use Rattle.clean_up.specs.Room.{Does, EditsOf};
 ghost use Rattle.clean_up.specs.Shows.{Advances};
-ghost use Rattle.clean_up.specs.Told.{IsTold};
+ghost use Rattle.clean_up.specs.Told.{IsTold, cell_read};
 
 use crate::clearing;
 use crate::fates::{self, Fate};
@@ -43,7 +43,8 @@ impl Cleaner {
         ensures err { OnErr result (self.new ≡ self.old) }
         ensures same { OnErr result (OnlyReads R.seen rows.old rows.new) }
         ensures refusal { IfErr result IsAdvanceRefusal }
-        ensures damaged { R.seen.holds rows.old → IfErr result (λ refusal. refusal ≡ Refusal.Damaged
+        ensures damaged { R.seen.readable rows.old (cell_read self.old).row → IfErr result
+            (λ refusal. refusal ≡ Refusal.Damaged
             → HasBadRecord (R.seen.cells rows.old) self.old.lock.first) }
         ensures full { IsErrOf result Refusal.MemtableFull → HasNoRoom
             R.seen.overfills rows.old

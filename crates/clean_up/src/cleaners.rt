@@ -13,7 +13,7 @@ ghost use Rattle.clean_up.specs.Locks.{LacksPlace};
 ghost use Rattle.clean_up.specs.Refusals.{IsBeginRefusal, IsStepRefusal};
 ghost use Rattle.clean_up.specs.Room.{ChangesNext, EditsOfStep, Makes, TakesRoom};
 ghost use Rattle.clean_up.specs.Shows.{ChangesOne, InEachShown, IsUnopened, IsUsedUp, Opens, SameCleaners, ShowsCleaners, Steps, TouchesFor, is_last};
-ghost use Rattle.clean_up.specs.Told.{BeginsWith, MeetsBadRecord, StepMakes};
+ghost use Rattle.clean_up.specs.Told.{BeginsWith, IsNextReadable, MeetsBadRecord, StepMakes};
 
 use crate::cleaner::Cleaner;
 use crate::fates::Fate;
@@ -90,10 +90,11 @@ impl Cleaners {
             Opens (cell_of row.now family.now) found self.old self.new) }
         ensures reads { OnlyReads R.seen rows.old rows.new }
         // What is shown is never answered as damaged.
-        ensures undamaged { R.seen.holds rows.old
+        ensures undamaged { R.seen.readable rows.old row.now
             → InEachShown (R.seen.cells rows.old) self.old (λ st.
             ¬ IsErrOf result Refusal.Damaged) }
-        ensures damaged { R.seen.holds rows.old → IfErr result (λ refusal. refusal ≡ Refusal.Damaged
+        ensures damaged { R.seen.readable rows.old row.now → IfErr result (λ refusal.
+            refusal ≡ Refusal.Damaged
             → LacksPlace (R.seen.cells rows.old) (cell_of row.now family.now)) }
         ensures refusal { IfErr result IsBeginRefusal }
         ensures err { OnErr result (SameCleaners self.old self.new) }
@@ -150,10 +151,11 @@ impl Cleaners {
             → IfOk result (λ reply. InEachShown (R.seen.cells rows.old) self.old (λ st.
             Makes (ChangesNext st number) reply (R.seen.cells rows.old) (R.seen.cells rows.new))) }
         // What is shown is never answered as damaged.
-        ensures undamaged { R.seen.holds rows.old
+        ensures undamaged { IsNextReadable R.seen rows.old self.old number
             → InEachShown (R.seen.cells rows.old) self.old (λ st.
             ¬ IsErrOf result Refusal.Damaged) }
-        ensures damaged { R.seen.holds rows.old → IfErr result (λ refusal. refusal ≡ Refusal.Damaged
+        ensures damaged { IsNextReadable R.seen rows.old self.old number
+            → IfErr result (λ refusal. refusal ≡ Refusal.Damaged
             → MeetsBadRecord (R.seen.cells rows.old) self.old number) }
         ensures refusal { IfErr result IsStepRefusal }
         ensures err { OnErr result (SameCleaners self.old self.new) }

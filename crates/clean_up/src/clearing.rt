@@ -47,11 +47,11 @@ pub(crate) fn clear<R: Rows>(
     ensures made { IfOk result (λ stood.
         OnTrue stood (AppliesSuch R.seen (ClearsCell
         (R.seen.holds rows.old) (R.seen.cells rows.old) cell.now start commit) rows.old rows.new)) }
-    ensures gone { R.seen.holds rows.old
+    ensures gone { R.seen.readable rows.old cell.now.row
         → IfOk result (λ stood. OnFalse stood (IsGone (R.seen.cells rows.old) cell.now start)) }
     ensures left { IfOk result (λ stood. OnFalse stood (OnlyReads R.seen rows.old rows.new)) }
     ensures err { OnErr result (OnlyReads R.seen rows.old rows.new) }
-    ensures refusal { IfErr result (IsRowRefusal (R.seen.holds rows.old)) }
+    ensures refusal { IfErr result (IsRowRefusal (R.seen.readable rows.old cell.now.row)) }
     ensures full { IsErrOf result Refusal.MemtableFull
         → HasNoRoom R.seen.overfills rows.old
         (ClearsCell (R.seen.holds rows.old) (R.seen.cells rows.old) cell.now start commit) }

@@ -30,12 +30,12 @@ pub(crate) enum Fate {
 /// What the write records of its first cell show of a start whose lock is gone there: the first one
 /// above a start names it, or none does. `Damaged` if that record names no start.
 fn recorded<R: Rows>(rows: &mut R, first: &Cell, start: Moment) -> Result<Fate, Refusal>
-    ensures found { R.seen.holds rows.old
+    ensures found { R.seen.readable rows.old first.now.row
         → IfOk result (IsToldBy (R.seen.cells rows.old) first.now start) }
     ensures reads { OnlyReads R.seen rows.old rows.new }
     ensures refusal { IfErr result IsReadRefusal }
-    ensures damaged { R.seen.holds rows.old → IfErr result (λ refusal. refusal ≡ Refusal.Damaged
-        → HasBadRecord (R.seen.cells rows.old) first.now) }
+    ensures damaged { R.seen.readable rows.old first.now.row → IfErr result (λ refusal.
+        refusal ≡ Refusal.Damaged → HasBadRecord (R.seen.cells rows.old) first.now) }
     ensures reason { HasReason (R.faults rows.old) (R.faults rows.new) result }
 {
     let start = start.stamp();
@@ -66,8 +66,8 @@ pub(crate) fn decide<R: Rows>(alloc: Global, rows: &mut R, lock: &Lock) -> Resul
     ensures decided { IfOk result (λ fate. Decides R.seen lock.now fate rows.old rows.new) }
     ensures err { OnErr result (OnlyReads R.seen rows.old rows.new) }
     ensures refusal { IfErr result IsAdvanceRefusal }
-    ensures damaged { R.seen.holds rows.old → IfErr result (λ refusal. refusal ≡ Refusal.Damaged
-        → HasBadRecord (R.seen.cells rows.old) lock.now.first) }
+    ensures damaged { R.seen.readable rows.old lock.now.first.row → IfErr result (λ refusal.
+        refusal ≡ Refusal.Damaged → HasBadRecord (R.seen.cells rows.old) lock.now.first) }
     ensures full { IsErrOf result Refusal.MemtableFull
         → HasNoRoom R.seen.overfills rows.old
         (ErasesCell (R.seen.holds rows.old) (R.seen.cells rows.old) lock.now.first lock.now.start) }

@@ -24,12 +24,12 @@ pub(crate) fn standing<R: Rows>(
     rows: &mut R,
     cell: &Cell,
 ) -> Result<Option<Lock>, Refusal>
-    ensures found { R.seen.holds rows.old
+    ensures found { R.seen.readable rows.old cell.now.row
         → IfOk result (IsStanding (R.seen.cells rows.old) cell.now) }
     ensures reads { OnlyReads R.seen rows.old rows.new }
     ensures refusal { IfErr result IsReadRefusal }
-    ensures damaged { R.seen.holds rows.old → IfErr result (λ refusal. refusal ≡ Refusal.Damaged
-        → LacksPlace (R.seen.cells rows.old) cell.now) }
+    ensures damaged { R.seen.readable rows.old cell.now.row → IfErr result (λ refusal.
+        refusal ≡ Refusal.Damaged → LacksPlace (R.seen.cells rows.old) cell.now) }
     ensures reason { HasReason (R.faults rows.old) (R.faults rows.new) result }
 {
     let lock = rows.newest(&cell.row, &cell.family, Qualifier::Lock, 0, u64::MAX)?;

@@ -45,7 +45,10 @@ pub record LogsEdits : Type 0 where
   pub none : HoldEdits [] []
   pub more : (records : List (List ℕ)) (edits then : List Edit) → HoldEdits records edits
       → HoldEdits (records ++ spelled_edits then ∷ []) (edits ++ then)
-  -- what the same records hold makes the same of cells
-  pub one : (records : List (List ℕ)) (a b : List Edit) → HoldEdits records a
-      → HoldEdits records b → AllByRecursion IsStoredEdit a → AllByRecursion IsStoredEdit b
+  -- records together are the spelling of the edits that they hold
+  pub whole : (records : List (List ℕ)) (edits : List Edit) → HoldEdits records edits
+      → flat_map (λ bytes. bytes) records ≡ spelled_edits edits
+  -- edits of one spelling make the same of cells
+  pub one : (a b : List Edit) → AllByRecursion IsStoredEdit a → AllByRecursion IsStoredEdit b
+      → spelled_edits a ≡ spelled_edits b
       → (cells : Cells) → after_edits cells a ≡ after_edits cells b

@@ -3,7 +3,7 @@
 ghost use Rattle.std.specs.Prelude.{◌≡◌, ◌≢◌, ◌⊎◌, ◌<◌, ◌^◌, ◌++◌, ℕ, List, length, take, IfErr, IfNone, IfOk, IfSome, IsErrOf, OnErr, OnOk};
 ghost use Rattle.std.specs.List.{AllByRecursion};
 ghost use Rattle.cell_key.specs.Cells.{IsEditOf, edited_key};
-ghost use Rattle.cell_key.specs.Entries.{Entry, IsEntry, field, lent_entry, spelled};
+ghost use Rattle.cell_key.specs.Entries.{Entry, field, lent_entry, spelled};
 ghost use Rattle.cell_key.specs.declared.edits.Edit.{Edit as CellEdit};
 ghost use Rattle.commit_log.specs.Edits.{HasShortParts, HoldEdits, IsStoredEdit, edit_entry, spelled_edit, spelled_edits};
 ghost use Rattle.commit_log.specs.Frames.{bytes_of};

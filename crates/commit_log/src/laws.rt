@@ -1,9 +1,10 @@
 //! What holds of the bytes of all logs.
 
-ghost use Rattle.std.specs.Prelude.{◌≡◌, ◌≤◌, ◌⊎◌, ◌++◌, ◌∷◌, [], ℕ, List, codes, replicate, take};
+ghost use Rattle.std.specs.Prelude.{◌≡◌, ◌≤◌, ◌⊎◌, ◌++◌, ◌∷◌, [], ℕ, List, codes, length, replicate, take};
 ghost use Rattle.std.specs.List.{AllByRecursion};
 ghost use Rattle.commit_log.specs.Crc32.{crc32};
-ghost use Rattle.commit_log.specs.Edits.{LogsEdits};
+ghost use Rattle.cell_key.specs.declared.edits.Edit.{Edit};
+ghost use Rattle.commit_log.specs.Edits.{IsStoredEdit, LogsEdits, spelled_edits};
 ghost use Rattle.commit_log.specs.Frames.{IsLog, IsRecord, IsTail, frame, log_of};
 
 use cell_key::one_key_a_text;
@@ -44,9 +45,15 @@ pub fn torn_append()
         ⊎ IsLog (log_of records ++ take n (frame payload)) (records ++ payload ∷ []) [] }
 {}
 
-/// How records hold edits, and that what the same records hold makes the same of cells.
+/// How records hold edits, and that edits of one spelling make the same of cells.
 pub fn logs_edits()
     ensures { LogsEdits }
 {
     one_key_a_text();
 }
+
+/// Edits of one spelling are as many.
+pub fn as_many_edits()
+    ensures { (a b : List Edit) → AllByRecursion IsStoredEdit a → AllByRecursion IsStoredEdit b
+        → spelled_edits a ≡ spelled_edits b → length a ≡ length b }
+{}

@@ -1,13 +1,12 @@
 -- Calls of rows one after another.
-use Rattle.std.proofs.Common.{◌≡◌, ◌≢◌, ◌∙◌, ◌⊎◌, inl, inr, ℕ, List, [], ◌++◌, set, slice_get, Option, Some, Result, Ok, Err, IfErr, OnOk, OnErr, IsErrOf, refl, sym, ap, subst}
+use Rattle.std.proofs.Common.{◌≡◌, ◌≢◌, ◌∙◌, ◌⊎◌, inl, inr, ℕ, List, [], ◌++◌, set, slice_get, Option, Some, Result, Ok, Err, IfErr, OnOk, OnErr, refl, sym, ap, subst}
 use Rattle.std.specs.Result.{IsErrAnd}
 use Rattle.cell_key.specs.Cells.{Cells, after_edits}
 use Rattle.cell_key.specs.declared.edits.Edit.{Edit}
 use Rattle.cell_key.specs.declared.refusals.Refusal.{Refusal}
 use Rattle.cell_key.specs.declared.refusals.Refusal.TheVariants.{Damaged, Device, NoMemory}
 use Rattle.file_store.specs.Store.{Contents}
-use Rattle.sorted_file.specs.Source as sources
-use Rattle.tablet.specs.Views.{Holds, IsSameTablet}
+use Rattle.tablet.specs.Views.{IsSameTablet}
 use Rattle.tablet.specs.declared.tablet.Tablet.{Tablet}
 use Rattle.row_atomic.specs.Calls.{Applies, AppliesSuch, KeepsBelow, OnlyReads, StaysReadable, View, seen_of}
 use Rattle.row_atomic.specs.Clusters.{ClusterState, InOrder, IsReadable, Overfills, cells_in}
@@ -15,11 +14,11 @@ use Rattle.row_atomic.specs.Refusals.{IsReadRefusal, IsRefusalOfRead}
 use Rattle.row_atomic.proofs.RowAnswers.{read_kept, read_still}
 use Rattle.row_atomic.proofs.CompactionRoom.{room_same}
 use Rattle.row_atomic.proofs.PlacedTablets.{set_same}
-use Rattle.row_atomic.proofs.Readable.{over_any, read_stays, readable_set}
+use Rattle.row_atomic.proofs.Readable.{read_stays, readable_set}
 
 module _ {R : Type 0} {seen : View R} where
   pub keeps_then : {a b c : R} → KeepsBelow seen a b → KeepsBelow seen b c → KeepsBelow seen a c
-  keeps_then first second = record { still = λ held. second.still (first.still held); stays = second.stays ∙ first.stays }
+  keeps_then first second = record { still = λ held. second.still (first.still held); readable = λ row whole. second.readable row (first.readable row whole); stays = second.stays ∙ first.stays }
 
 module _ {R : Type 0} {seen : View R} where
   -- nothing is changed where nothing is called
@@ -38,17 +37,17 @@ module _ {R : Type 0} {seen : View R} where
 
   -- what reads or applies keeps what lies below
   pub reads_keep : {a b : R} → OnlyReads seen a b → KeepsBelow seen a b
-  reads_keep reads = record { still = reads.still; stays = reads.stays }
+  reads_keep reads = record { still = reads.still; readable = reads.readable; stays = reads.stays }
 
-  pub applies_keep : {edits : List Edit} {a b : R} → Applies seen edits a b → KeepsBelow seen a b
-  applies_keep applies = record { still = applies.still; stays = applies.stays }
+  pub applies_keep : {row : List ℕ} {edits : List Edit} {a b : R} → Applies seen row edits a b → KeepsBelow seen a b
+  applies_keep applies = record { still = applies.still; readable = applies.readable; stays = applies.stays }
 
   -- edits are made after a read
-  pub applies_after : {edits : List Edit} {a b c : R} → OnlyReads seen a b → Applies seen edits b c → Applies seen edits a c
-  applies_after {edits} reads applies = record {
+  pub applies_after : {row : List ℕ} {edits : List Edit} {a b c : R} → OnlyReads seen a b → Applies seen row edits b c → Applies seen row edits a c
+  applies_after {row} {edits} reads applies = record {
     still = λ held. applies.still (reads.still held);
     readable = λ row whole. applies.readable row (reads.readable row whole);
-    made = λ held. applies.made (reads.still held) ∙ ap (λ (cs : Cells). after_edits cs edits) reads.kept;
+    made = λ whole. applies.made (reads.readable row whole) ∙ ap (λ (cs : Cells). after_edits cs edits) reads.kept;
     room = λ row later full. elim (applies.room row later full) [
       | inl before ↦ inl (reads.room row later before)
       | inr after ↦ inr (reads.room row (edits ++ later) after)
@@ -126,23 +125,20 @@ module _ {F : Type 0} (contents : F → Option Contents) (state : ClusterState F
     stays = λ k. record { disk = same k; file_limit = state.file_limit; next_name = state.next_name; places = state.places; logged = [] };
   }
 
-  -- what was readable still is after edits of a tablet
-  pub readable_in : (i : ℕ) (t u : Tablet) → slice_get state.tablets i ≡ Some t → {A : Type 0} (r : Result A Refusal) → OnOk r ((m : Contents) → Holds m t → Holds m u) → OnOk r (StaysReadable shown state (with_tablet i u))
-  readable_in i t u there (Err e) stays = tt
-  readable_in i t u there (Ok x) stays = readable_set (contents state.files) state.places state.tablets i t u there (over_any (contents state.files) t u stays)
+  -- files that tell what they told
+  pub files_read : (files : F) → contents files ≡ contents state.files → OnlyReads shown state (record state { files = files })
+  files_read files same = record {
+    still = subst (λ (o : Option Contents). InOrder o state.next_name state.tablets) (sym same);
+    readable = λ row whole. subst (λ (o : Option Contents). IsReadable o state.places state.tablets row) (sym same) whole;
+    kept = ap (λ (o : Option Contents). cells_in o state.tablets) same;
+    room = λ row later full. full;
+    stays = λ k. record { disk = same k; file_limit = state.file_limit; next_name = state.next_name; places = state.places; logged = [] };
+  }
 
   -- one in which edits were made
-  pub applied_in : (i : ℕ) (u : Tablet) (edits : List Edit) {A : Type 0} (r : Result A Refusal) → (IsOrdered state → IsOrdered (with_tablet i u)) → OnOk r (StaysReadable shown state (with_tablet i u))
-      → (IsOrdered state → OnOk r (cells_shown (with_tablet i u) ≡ after_edits (cells_shown state) edits))
-      → OnOk r ((row : List ℕ) (later : List Edit) → IsOver (with_tablet i u) row later → IsOver state row later ⊎ IsOver state row (edits ++ later))
-      → OnOk r (Applies shown edits state (with_tablet i u))
-  applied_in i u edits (Err e) still readable made room = tt
-  applied_in i u edits (Ok x) still readable made room = record { still = still; readable = readable; made = made; room = room; stays = refl }
-
--- what a tablet's read is refused with, that of the cluster is
-pub refused_read : {A : Type 0} (Holds : Type 0) (r : Result A Refusal) → (Holds → ¬ IsErrOf r Damaged) → IfErr r sources.IsReadRefusal → IfErr r (IsRefusalOfRead Holds)
-refused_read Holds (Ok x) undamaged h = tt
-refused_read Holds (Err Damaged) undamaged h = λ held. undamaged held refl
-refused_read Holds (Err Device) undamaged h = tt
-refused_read Holds (Err NoMemory) undamaged h = tt
-refused_read Holds (Err _) undamaged h = h
+  pub applied_in : (i : ℕ) (u : Tablet) (row : List ℕ) (edits : List Edit) {A : Type 0} (r : Result A Refusal) → (IsOrdered state → IsOrdered (with_tablet i u)) → OnOk r (StaysReadable shown state (with_tablet i u))
+      → (shown.readable state row → OnOk r (cells_shown (with_tablet i u) ≡ after_edits (cells_shown state) edits))
+      → OnOk r ((r : List ℕ) (later : List Edit) → IsOver (with_tablet i u) r later → IsOver state r later ⊎ IsOver state r (edits ++ later))
+      → OnOk r (Applies shown row edits state (with_tablet i u))
+  applied_in i u row edits (Err e) still readable made room = tt
+  applied_in i u row edits (Ok x) still readable made room = record { still = still; readable = readable; made = made; room = room; stays = refl }

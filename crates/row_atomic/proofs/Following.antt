@@ -1,5 +1,5 @@
 -- What is written down follows what is shown.
-use Rattle.std.proofs.Common.{◌≡◌, ◌≢◌, ◌≤◌, ◌+◌, ◌-◌, ◌∙◌, ◌⊎◌, inl, inr, ℕ, List, [], ◌∷◌, ◌++◌, length, take, Option, None, Some, IsSome, option_map, refl, sym, ap, subst, arith}
+use Rattle.std.proofs.Common.{◌≡◌, ◌+◌, ◌∙◌, inl, inr, ℕ, List, [], ◌∷◌, ◌++◌, length, Option, None, Some, IsSome, refl, sym, ap, subst, arith}
 use Rattle.std.proofs.lemmas.List.{append_assoc, length-append}
 use Rattle.std.proofs.lemmas.List.Concat.{flat_map-append}
 use Rattle.std.proofs.lemmas.Bool.{false≢true}
@@ -12,12 +12,12 @@ use Rattle.commit_log.specs.Edits.{IsStoredEdit, spelled_edit, spelled_edits}
 use Rattle.file_store.specs.Store.{Contents}
 use Rattle.metadata_table.specs.Roots.{RootView}
 use Rattle.row_atomic.specs.Calls.{Applies, OnlyReads, seen_of}
-use Rattle.row_atomic.specs.Changes.{Holds, ListsAll}
-use Rattle.row_atomic.specs.Clusters.{ClusterState, Overfills, Storage, cells_in, storage_of}
+use Rattle.row_atomic.specs.Changes.{Holds}
+use Rattle.row_atomic.specs.Clusters.{ClusterState, cells_in, storage_of}
 use Rattle.row_atomic.specs.Commands.{AnswersFromCells, cells_shown}
 use Rattle.row_atomic.specs.Journals.{HasRoomFor, HasWritten, JournalView, with_waiting}
-use Rattle.row_atomic.specs.Open.{IsOpenedOf, IsStore, Reopens}
-use Rattle.row_atomic.specs.Recorded.{FitsMemtables, Follows, FollowsListed, IfWritten, IsOfUpkeep, KeepsFollowing, OpensFollowing, OverfillsJournal, OverfillsRecorded, Tracks, TracksListed, logged_of, seen_recorded}
+use Rattle.row_atomic.specs.Open.{IsOpenedOf, IsStore}
+use Rattle.row_atomic.specs.Recorded.{FitsMemtables, Follows, IfWritten, IsOfUpkeep, KeepsFollowing, OpensFollowing, OverfillsJournal, Tracks, TracksListed, logged_of, seen_recorded}
 use Rattle.row_atomic.specs.Roots.{HasRoot, KeepsRoot, Rests, RootIsStored, RootOutlastsFlushes, RootOutlastsMerges, RootStays, root_at, root_name}
 use Rattle.row_atomic.specs.declared.commands.Command.{Command}
 use Rattle.row_atomic.specs.declared.commands.Command.TheVariants as command
@@ -108,40 +108,40 @@ module _ {F : Type 0} (contents : F → Option Contents) (stored : RootIsStored 
     );
     readable = reads.readable;
     kept = reads.kept;
-    room = λ row later full. elim full [
-      | inl full ↦ inl (reads.room row later full)
+    room = λ r later full. elim full [
+      | inl full ↦ inl (reads.room r later full)
       | inr full ↦ inr (subst (λ (journal : Option JournalView). OverfillsJournal journal later) same full)
     ];
     stays = λ i. record (reads.stays i) { logged = logged_of (same i) };
   }
 
   -- where no edits are recorded
-  pub applies_plain : (edits : List Edit) (old new : Recorded F) → old.journal ≡ None → new.journal ≡ None → Applies (seen_of contents) edits old.cluster new.cluster → Applies (seen_recorded contents) edits old new
-  applies_plain edits old new none still_none applies = record {
+  pub applies_plain : (row : List ℕ) (edits : List Edit) (old new : Recorded F) → old.journal ≡ None → new.journal ≡ None → Applies (seen_of contents) row edits old.cluster new.cluster → Applies (seen_recorded contents) row edits old new
+  applies_plain row edits old new none still_none applies = record {
     still = λ held. (applies.still held.0, subst (λ (journal : Option JournalView). Follows contents new.cluster journal) (sym still_none) tt);
     readable = applies.readable;
-    made = λ held. applies.made held.0;
-    room = λ row later full. elim full [
-      | inl full ↦ elim (applies.room row later full) [ inl before ↦ inl (inl before) | inr after ↦ inr (inl after) ]
+    made = applies.made;
+    room = λ r later full. elim full [
+      | inl full ↦ elim (applies.room r later full) [ inl before ↦ inl (inl before) | inr after ↦ inr (inl after) ]
       | inr full ↦ absurd (subst (λ (journal : Option JournalView). OverfillsJournal journal later) still_none full)
     ];
     stays = λ i. record (applies.stays i) { logged = logged_of ((still_none ∙ sym none) i) };
   }
 
-  pub applies_recorded : Replays → (edits : List Edit) → AllByRecursion IsStoredEdit edits → (old new : Recorded F) (journal : JournalView) → old.journal ≡ Some journal → new.journal ≡ Some (with_waiting edits journal)
-      → Applies (seen_of contents) edits old.cluster new.cluster → Applies (seen_recorded contents) edits old new
-  applies_recorded replays edits are_stored old new journal was is applies = record {
+  pub applies_recorded : Replays → (row : List ℕ) (edits : List Edit) → AllByRecursion IsStoredEdit edits → (old new : Recorded F) (journal : JournalView) → old.journal ≡ Some journal → new.journal ≡ Some (with_waiting edits journal)
+      → Applies (seen_of contents) row edits old.cluster new.cluster → Applies (seen_recorded contents) row edits old new
+  applies_recorded replays row edits are_stored old new journal was is applies = record {
     still = λ held. (
       applies.still held.0,
       subst (λ (o : Option JournalView). Follows contents new.cluster o) (sym is)
           (more_written edits are_stored (λ before tracks. tracks_on old.cluster new.cluster applies.stays before (before ++ edits)
-          (λ base replay. replays.joined base before edits ∙ (ap (λ (cs : Cells). after_edits cs edits) replay ∙ sym (applies.made held.0))) tracks)
+          (λ base replay. replays.joined base before edits ∙ (ap (λ (cs : Cells). after_edits cs edits) replay ∙ sym (applies.made ((seen_of contents).each_readable old.cluster held.0 row)))) tracks)
           journal (subst (λ (o : Option JournalView). Follows contents old.cluster o) was held.1)),
     );
     readable = applies.readable;
-    made = λ held. applies.made held.0;
-    room = λ row later full. elim full [
-      | inl full ↦ elim (applies.room row later full) [ inl before ↦ inl (inl before) | inr after ↦ inr (inl after) ]
+    made = applies.made;
+    room = λ r later full. elim full [
+      | inl full ↦ elim (applies.room r later full) [ inl before ↦ inl (inl before) | inr after ↦ inr (inl after) ]
       | inr full ↦ inr (inr (subst (λ (o : Option JournalView). OverfillsJournal o (edits ++ later)) (sym was) (less_room journal edits later (subst (λ (o : Option JournalView). OverfillsJournal o later) is full))))
     ];
     stays = λ i. record (applies.stays i) { logged = logged_is i };
@@ -153,16 +153,16 @@ module _ {F : Type 0} (contents : F → Option Contents) (stored : RootIsStored 
 -- ---- the room of the memtables
 
 module _ {F : Type 0} (contents : F → Option Contents) where
-  pub fits_plain : (edits : List Edit) (old new : Recorded F) → old.journal ≡ None → Applies (seen_of contents) edits old.cluster new.cluster → FitsMemtables old → FitsMemtables new
-  fits_plain edits old new none applies fits = λ row later full. absurd (elim (applies.room row later full) [
-    | inl before ↦ subst (λ (o : Option JournalView). OverfillsJournal o later) none (fits row later before)
-    | inr after ↦ subst (λ (o : Option JournalView). OverfillsJournal o (edits ++ later)) none (fits row (edits ++ later) after)
+  pub fits_plain : (row : List ℕ) (edits : List Edit) (old new : Recorded F) → old.journal ≡ None → Applies (seen_of contents) row edits old.cluster new.cluster → FitsMemtables old → FitsMemtables new
+  fits_plain row edits old new none applies fits = λ r later full. absurd (elim (applies.room r later full) [
+    | inl before ↦ subst (λ (o : Option JournalView). OverfillsJournal o later) none (fits r later before)
+    | inr after ↦ subst (λ (o : Option JournalView). OverfillsJournal o (edits ++ later)) none (fits r (edits ++ later) after)
   ])
 
-  pub fits_recorded : (edits : List Edit) (old new : Recorded F) (journal : JournalView) → old.journal ≡ Some journal → new.journal ≡ Some (with_waiting edits journal) → Applies (seen_of contents) edits old.cluster new.cluster → FitsMemtables old → FitsMemtables new
-  fits_recorded edits old new journal was is applies fits = λ row later full. subst (λ (o : Option JournalView). OverfillsJournal o later) (sym is) (elim (applies.room row later full) [
-    | inl before ↦ less_now journal edits later (subst (λ (o : Option JournalView). OverfillsJournal o later) was (fits row later before))
-    | inr after ↦ more_room journal edits later (subst (λ (o : Option JournalView). OverfillsJournal o (edits ++ later)) was (fits row (edits ++ later) after))
+  pub fits_recorded : (row : List ℕ) (edits : List Edit) (old new : Recorded F) (journal : JournalView) → old.journal ≡ Some journal → new.journal ≡ Some (with_waiting edits journal) → Applies (seen_of contents) row edits old.cluster new.cluster → FitsMemtables old → FitsMemtables new
+  fits_recorded row edits old new journal was is applies fits = λ r later full. subst (λ (o : Option JournalView). OverfillsJournal o later) (sym is) (elim (applies.room r later full) [
+    | inl before ↦ less_now journal edits later (subst (λ (o : Option JournalView). OverfillsJournal o later) was (fits r later before))
+    | inr after ↦ more_room journal edits later (subst (λ (o : Option JournalView). OverfillsJournal o (edits ++ later)) was (fits r (edits ++ later) after))
   ])
 
 -- ---- what a cluster does beside

@@ -1,5 +1,5 @@
 -- What a journal has room for fits an empty memtable.
-use Rattle.std.proofs.Common.{◌≡◌, ◌≤◌, ◌+◌, ℕ, zero, suc, Bool, true, false, cond, List, [], ◌∷◌, ◌++◌, filter, length, Option, Some, refl, sym, ap, subst, ◌∙◌, arith}
+use Rattle.std.proofs.Common.{◌≡◌, ◌≤◌, ◌+◌, ℕ, zero, suc, Bool, true, false, List, [], ◌∷◌, length, Option, Some, refl, ap, subst, arith}
 use Rattle.std.proofs.lemmas.List.{length-append}
 use Rattle.std.specs.List.{AllByRecursion}
 use Rattle.std.specs.declared.cmp.Ordering.{Ordering}
@@ -11,7 +11,7 @@ use Rattle.cell_key.specs.Keys.{byte_cmp}
 use Rattle.cell_key.specs.declared.edits.Edit.{Edit}
 use Rattle.cell_key.specs.declared.edits.Edit.TheVariants.{Put, Erase}
 use Rattle.commit_log.specs.Edits.{spelled_edit, spelled_edits}
-use Rattle.memtable.specs.Edits.{IsWithinLimits, bytes_of, edit_entry, with_edit, with_edits}
+use Rattle.memtable.specs.Edits.{bytes_of, edit_entry, with_edit, with_edits}
 use Rattle.tablet.specs.Ranges.{has_row}
 use Rattle.tablet.specs.Views.{memory_of, range_of}
 use Rattle.tablet.specs.declared.ranges.RowRange.{RowRange}

@@ -1,10 +1,10 @@
 -- What a journal's bytes are after a call.
-use Rattle.std.proofs.Common.{◌≡◌, ◌≤◌, ◌+◌, ◌-◌, ℕ, List, [], ◌++◌, drop, length, take, refl, sym, ap, subst, ◌∙◌, arith}
+use Rattle.std.proofs.Common.{◌≡◌, ◌≤◌, ◌+◌, ◌-◌, ℕ, List, ◌++◌, drop, length, take, sym, ap, subst, ◌∙◌, arith}
 use Rattle.std.proofs.lemmas.List.{drop-append-le, drop-take, length-append, length-take-le, take-append-drop, take-append-le}
 use Rattle.cell_key.specs.declared.edits.Edit.{Edit}
 use Rattle.commit_log.specs.Edits.{spelled_edits}
 use Rattle.row_atomic.specs.Journals.{JournalView, with_waiting}
-use Rattle.std.proofs.Math.Seq.{drop-length, take-add, take-append_seam, take-length}
+use Rattle.std.proofs.Math.Seq.{take-add, take-append_seam, take-length}
 
 -- the bytes that the log has and those that wait are all
 pub both_lengths : (s : ℕ) (bs : List ℕ) → length (take s bs) + length (drop s bs) ≡ length bs

@@ -41,6 +41,7 @@ pub mod Readable
 pub mod RestedClusters
 pub mod RootFlushes
 pub mod RowAnswers
+pub mod RowsFrom
 pub mod Scans
 pub mod Shares
 pub mod SlotLemmas

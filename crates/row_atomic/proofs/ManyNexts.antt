@@ -1,7 +1,7 @@
 -- The next cells of a cluster are those of one tablet after the other.
-use Rattle.std.proofs.Common.{◌≡◌, ◌<◌, ◌≤◌, ◌+◌, ◌-◌, ℕ, zero, add-one, slice_index_or, Bool, true, false, List, [], ◌∷◌, ◌++◌, length, take, drop, suc, inl, inr, Option, Some, None, refl, sym, ap, ◌∙◌, subst, arith, ◌&&◌}
+use Rattle.std.proofs.Common.{◌≡◌, ◌<◌, ◌+◌, ◌-◌, ℕ, zero, add-one, slice_index_or, Bool, true, false, List, [], ◌∷◌, ◌++◌, length, drop, suc, inl, inr, Option, Some, None, refl, sym, ap, ◌∙◌, subst, arith, ◌&&◌}
 use Rattle.std.specs.List.{AllByRecursion, Contains}
-use Rattle.std.specs.Prelude.{IfSome, ◌⊎◌}
+use Rattle.std.specs.Prelude.{IfSome}
 use Rattle.std.proofs.lemmas.List.{length-append}
 use Rattle.std.proofs.lemmas.List.Elements.{Contains-append_left, Contains-append_right}
 use Rattle.std.specs.Ordering.{is_lt, ordering_reverse, ordering_then}

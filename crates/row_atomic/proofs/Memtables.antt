@@ -1,5 +1,5 @@
 -- That no memtable has more entries and bytes than two numbers, after calls that change one tablet, and what follows of full ones.
-use Rattle.std.proofs.Common.{◌≡◌, ◌≤◌, ℕ, zero, suc, Bool, true, false, IsTrue, nat_le, max, List, [], ◌∷◌, ◌++◌, length, map, filter, set, Option, Some, None, slice_get, ◌||◌, refl, sym, ap, subst, ◌∙◌, arith}
+use Rattle.std.proofs.Common.{◌≡◌, ◌≤◌, ℕ, zero, suc, Bool, true, false, IsTrue, nat_le, max, List, [], ◌∷◌, ◌++◌, length, map, filter, set, Option, Some, None, slice_get, ◌||◌, refl, sym, ap, subst, arith}
 use Rattle.std.proofs.lemmas.Bool.{le-leb, leb-true}
 use Rattle.std.specs.List.{AllByRecursion, AllZip}
 use Rattle.file_store.specs.Store.{Contents}

@@ -1,5 +1,5 @@
 -- Which rows are readable: after one tablet was replaced, and from a place on.
-use Rattle.std.proofs.Common.{◌≡◌, ◌≢◌, ℕ, zero, suc, Bool, true, false, nat_eq, List, [], ◌∷◌, ◌++◌, set, slice_get, Option, Some, None, refl, sym, ap, ◌∙◌, subst}
+use Rattle.std.proofs.Common.{◌≡◌, ◌≢◌, ℕ, zero, suc, Bool, true, false, nat_eq, List, [], ◌∷◌, ◌++◌, set, slice_get, Option, Some, None, Result, Ok, Err, IfErr, IfOk, OnOk, IsErrOf, refl, sym, ap, ◌∙◌, subst}
 use Rattle.std.specs.Prelude.{IsSomeAnd}
 use Rattle.std.specs.List.{AllByRecursion}
 use Rattle.std.specs.declared.cmp.Ordering.{Ordering}
@@ -9,15 +9,19 @@ use Rattle.std.specs.Cmp.{nat_cmp_total, tied_itself}
 use Rattle.std.specs.Cmp.Lexicographic.{nat_list_cmp_total}
 use borrow.Author.Tests.{eqb-true, eqb-false}
 use Rattle.cell_key.specs.Keys.{byte_cmp}
-use Rattle.cell_key.specs.Places.{Place}
+use Rattle.cell_key.specs.Places.{AreNextCells, Place}
+use Rattle.cell_key.specs.declared.refusals.Refusal.{Refusal}
+use Rattle.cell_key.specs.declared.refusals.Refusal.TheVariants.{Damaged, Device, NoMemory}
 use Rattle.file_store.specs.Store.{Contents}
 use Rattle.metadata_table.specs.Places.{EndsBefore, IsLower, PlaceView}
 use Rattle.metadata_table.specs.Table.{EndsRise, IsHolder, IsTable}
+use Rattle.sorted_file.specs.Source as sources
 use Rattle.tablet.specs.Views.{Holds, IsSameTablet}
 use Rattle.tablet.specs.declared.tablet.Tablet.{Tablet}
 use Rattle.row_atomic.specs.Calls.{IsRowFrom}
 use Rattle.row_atomic.specs.Changes.{MeetsDamage}
-use Rattle.row_atomic.specs.Clusters.{AreOpenFrom, ArePlaced, IsReadable, PrecedesCell, tablet_numbered}
+use Rattle.row_atomic.specs.Clusters.{AreOpenFrom, ArePlaced, IsReadable, PrecedesCell, cells_in, tablet_numbered}
+use Rattle.row_atomic.specs.Refusals.{IsRefusalOfRead}
 use Rattle.row_atomic.proofs.Parts.{IsNumbered, at_parts, has_holder}
 use Rattle.row_atomic.proofs.PlacedTablets.{is_placed}
 use Rattle.row_atomic.proofs.RowAnswers.{not_damaged}
@@ -59,6 +63,20 @@ read_stays (Some m) t u same held = same.still held
 pub over_any : (o : Option Contents) (t u : Tablet) → ((m : Contents) → Holds m t → Holds m u) → IsSomeAnd o (λ m. Holds m t) → IsSomeAnd o (λ m. Holds m u)
 over_any None t u stays held = held
 over_any (Some m) t u stays held = stays m held
+
+-- what was readable still is after edits of a tablet
+pub readable_in : (o : Option Contents) (places : List PlaceView) (ts : List Tablet) (i : ℕ) (t u : Tablet) → slice_get ts i ≡ Some t → {A : Type 0} (r : Result A Refusal) → OnOk r ((m : Contents) → Holds m t → Holds m u)
+    → OnOk r ((row : List ℕ) → IsReadable o places ts row → IsReadable o places (set ts i u) row)
+readable_in o places ts i t u there (Err e) stays = tt
+readable_in o places ts i t u there (Ok x) stays = readable_set o places ts i t u there (over_any o t u stays)
+
+-- what a tablet's read is refused with, that of the cluster is
+pub refused_read : {A : Type 0} (Holds : Type 0) (r : Result A Refusal) → (Holds → ¬ IsErrOf r Damaged) → IfErr r sources.IsReadRefusal → IfErr r (IsRefusalOfRead Holds)
+refused_read Holds (Ok x) undamaged h = tt
+refused_read Holds (Err Damaged) undamaged h = λ held. undamaged held refl
+refused_read Holds (Err Device) undamaged h = tt
+refused_read Holds (Err NoMemory) undamaged h = tt
+refused_read Holds (Err _) undamaged h = h
 
 -- ---- from a place on
 
@@ -242,3 +260,20 @@ module _ (disk : Option Contents) (places : List PlaceView) (ts : List Tablet) (
       let has = place_row meets.before meets.place meets.rest (subst EndsRise meets.parts table.rising) after meets.within in
       let holder = subst (λ (ps : List PlaceView). IsHolder has.row ps meets.place) (sym meets.parts) has.holder in
       not_damaged disk meets.out.tablet (Unit {0}) (readable has.row has.from meets.place meets.out.tablet holder meets.out.numbered) (λ _. meets.out.such) tt
+
+  -- what a scan of the tablets finds is next in the cells
+  pub next_found : (spots : List PlaceView) (us : List Tablet) → spots ≡ places → us ≡ ts → ArePlaced ts None places → IsFrom → (most : ℕ) {A : Type 0} (found_in : A → List Place) (r : Result A Refusal)
+      → IfOk r (λ found. (m : Contents) → disk ≡ Some m → AreOpenFrom m us after spots → AreNextCells (cells_in (Some m) us) after most (found_in found))
+      → IfOk r (λ found. AreNextCells (cells_in disk ts) after most (found_in found))
+  next_found spots us same_spots same placed readable most found_in (Err e) h = tt
+  next_found spots us same_spots same placed readable most found_in (Ok found) h =
+      let told = told_from placed readable in
+      let open_there = subst (λ (ps : List PlaceView). AreOpenFrom told.0 us after ps) (sym same_spots) (subst (λ (vs : List Tablet). AreOpenFrom told.0 vs after places) (sym same) (open_from readable told.0 told.1)) in
+      subst (λ (o : Option Contents). AreNextCells (cells_in o ts) after most (found_in found)) (sym told.1)
+      (subst (λ (vs : List Tablet). AreNextCells (cells_in (Some told.0) vs) after most (found_in found)) same (h told.0 told.1 open_there))
+
+  -- and it is refused as damaged only if what it reads isn't in order
+  pub next_refused : (spots : List PlaceView) (us : List Tablet) → spots ≡ places → us ≡ ts → (most : ℕ) {A : Type 0} (r : Result A Refusal) → (IsErrOf r Damaged → MeetsDamage disk after most spots us) → IfErr r sources.IsReadRefusal
+      → IfErr r (IsRefusalOfRead IsFrom)
+  next_refused spots us same_spots same most r meets refusal =
+      refused_read IsFrom r (λ readable is. meets_none most (subst (λ (vs : List Tablet). MeetsDamage disk after most places vs) same (subst (λ (ps : List PlaceView). MeetsDamage disk after most ps us) same_spots (meets is))) readable) refusal

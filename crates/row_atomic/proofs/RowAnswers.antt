@@ -19,7 +19,7 @@ use Rattle.tablet.specs.Views.{Holds, IsBelow, IsSameTablet, cells_at, lists_of,
 use Rattle.tablet.specs.declared.tablet.Tablet.{Tablet}
 use Rattle.row_atomic.specs.Clusters.{tablet_numbered, cells_in, joined, edits_in, InOrder, ArePlaced, IsMatched, Overfills}
 use Rattle.row_atomic.proofs.Owners.{OwnsRow, index_of, holder_owns}
-use Rattle.row_atomic.proofs.Shares.{each_at, each_set, at_told, cells_told, newest_of_row, applied}
+use Rattle.row_atomic.proofs.Shares.{each_at, each_set, at_told, newest_of_row, applied}
 use Rattle.row_atomic.proofs.PlacedTablets.{is_placed, placed_set}
 use Rattle.row_atomic.proofs.Parts.{IsNumbered, at_parts}
 
@@ -95,6 +95,14 @@ newest_answer None ts seen row family qualifier lo hi i t (Ok found) owns held h
 newest_answer (Some m) ts seen row family qualifier lo hi i t (Ok found) owns held h =
     newest_of_row m ts row family qualifier lo hi (seen found) i t owns (h held owns.has)
 
+-- the edits of the row's tablet are the cells'
+pub apply_answer : (o : Option Contents) (ts : List Tablet) (row : List ℕ) (i : ℕ) (t u : Tablet) (edits : List Edit) {A : Type 0} (r : Result A Refusal) → OwnsRow ts row i t → IsSomeAnd o (λ m. Holds m t) → range_of u ≡ range_of t → AllByRecursion (IsEditOf row) edits
+    → OnOk r ((m : Contents) → Holds m t → IsTrue (has_row (range_of t) row) → cells_at m u ≡ after_edits (cells_at m t) edits)
+    → OnOk r (cells_in o (set ts i u) ≡ after_edits (cells_in o ts) edits)
+apply_answer o ts row i t u edits (Err e) owns held same_range under made = tt
+apply_answer None ts row i t u edits (Ok x) owns held same_range under made = absurd held
+apply_answer (Some m) ts row i t u edits (Ok x) owns held same_range under made = applied m ts row i t u edits owns same_range under (made m held owns.has)
+
 -- a tablet that is in order isn't answered as damaged
 pub not_damaged : (o : Option Contents) (t : Tablet) (Told : Type 0) → IsSomeAnd o (λ m. Holds m t) → (Told → IfSome o (λ m. ¬ Holds m t)) → ¬ Told
 not_damaged None t Told held h told = held
@@ -118,19 +126,6 @@ module _ (o : Option Contents) (next : ℕ) (ts : List Tablet) (order : InOrder 
   -- ---- edits
 
   module _ (i : ℕ) (t u : Tablet) (there : slice_get ts i ≡ Some t) where
-    -- the tablet's edits are the cells'
-    pub apply_answer : (row : List ℕ) (edits : List Edit) {A : Type 0} (r : Result A Refusal) → OwnsRow ts row i t → range_of u ≡ range_of t → AllByRecursion (IsEditOf row) edits
-        → OnOk r ((m : Contents) → Holds m t → IsTrue (has_row (range_of t) row) → cells_at m u ≡ after_edits (cells_at m t) edits)
-        → OnOk r ((m : Contents) → Holds m t → Holds m u)
-        → OnOk r (cells_in o (set ts i u) ≡ after_edits (cells_in o ts) edits)
-    apply_answer row edits (Err e) owns same_range under made still = tt
-    apply_answer row edits (Ok x) owns same_range under made still =
-        let m = order.contents in
-        let holds = each_at (Holds m) ts order.each_open i t there in
-        cells_told o m (set ts i u) order.on_disk
-        ∙ applied m ts row i t u edits owns same_range under (made m holds owns.has)
-        ∙ ap (λ (c : Cells). after_edits c edits) (sym (cells_told o m ts order.on_disk))
-
     holds_after : {A : Type 0} (r : Result A Refusal) → OnOk r ((m : Contents) → Holds m t → Holds m u) → OnErr r (u ≡ t) → Holds order.contents u
     holds_after (Ok x) still err = still order.contents (each_at (Holds order.contents) ts order.each_open i t there)
     holds_after (Err e) still err = subst (λ (v : Tablet). Holds order.contents v) (sym err) (each_at (Holds order.contents) ts order.each_open i t there)

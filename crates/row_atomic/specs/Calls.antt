@@ -60,15 +60,16 @@ pub record OnlyReads {R : Type 0} (seen : View R) (old new : R) : Type 0 where
   pub room : TakesNoRoom seen.overfills old new
   pub stays : seen.storage new ≡ seen.storage old
 
--- Edits are made: if they held, they still do, and what was readable still is; their cells are those
--- after the edits; the room of the edits is taken and no other, and what lies below stays.
-pub record Applies {R : Type 0} (seen : View R) (edits : List Edit)
+-- Edits of a row are made: if they held, they still do, and what was readable still is; if the row
+-- was, their cells are those after the edits; the room of the edits is taken and no other, and what
+-- lies below stays.
+pub record Applies {R : Type 0} (seen : View R) (row : List ℕ) (edits : List Edit)
     (old new : R) : Type 0 where
   pub still : seen.holds old → seen.holds new
   pub readable : StaysReadable seen old new
-  pub made : seen.holds old → seen.cells new ≡ after_edits (seen.cells old) edits
-  pub room : (row : List ℕ) (later : List Edit) → seen.overfills new row later
-      → seen.overfills old row later ⊎ seen.overfills old row (edits ++ later)
+  pub made : seen.readable old row → seen.cells new ≡ after_edits (seen.cells old) edits
+  pub room : (r : List ℕ) (later : List Edit) → seen.overfills new r later
+      → seen.overfills old r later ⊎ seen.overfills old r (edits ++ later)
   pub stays : seen.storage new ≡ seen.storage old
 
 -- such edits of a row are made
@@ -77,9 +78,10 @@ pub record AppliesSuch {R : Type 0} (seen : View R)
   pub row : List ℕ
   pub edits : List Edit
   pub such : Such row edits
-  pub applied : Applies seen edits old new
+  pub applied : Applies seen row edits old new
 
--- Cells may change: if they held, they still do, and what lies below stays.
+-- Cells may change: if they held, they still do, and what was readable still is; what lies below stays.
 pub record KeepsBelow {R : Type 0} (seen : View R) (old new : R) : Type 0 where
   pub still : seen.holds old → seen.holds new
+  pub readable : StaysReadable seen old new
   pub stays : seen.storage new ≡ seen.storage old

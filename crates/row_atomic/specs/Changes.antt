@@ -1,7 +1,7 @@
 -- What the calls of a cluster do to its tablets and their places. Begin with `IsOutcome` at the end
 -- of Commands.antt, which cites these words: `IsCompacted`, `IsHalved` and `ComesTo` are what a
 -- compaction, a split and a move do, and `IsAsBefore` what a refused one leaves.
-use Rattle.std.specs.Prelude.{◌≡◌, ◌≢◌, ◌<◌, ◌≤◌, ◌+◌, ◌^◌, ◌⊎◌, ℕ, List, [], ◌∷◌, ◌++◌, length, map, drop, Option, None, Some, IsSome, IsSomeAnd, IfSome, ⊤}
+use Rattle.std.specs.Prelude.{◌≡◌, ◌≢◌, ◌<◌, ◌≤◌, ◌+◌, ◌^◌, ◌⊎◌, ℕ, List, [], ◌∷◌, ◌++◌, length, map, drop, Option, Some, IsSome, IsSomeAnd, IfSome, ⊤}
 use Rattle.std.specs.List.{AllByRecursion, AllZip, Contains, slice_get}
 use Rattle.cell_key.specs.Entries.{Entry}
 use Rattle.cell_key.specs.Places.{HasCell, IsAfter, Place}

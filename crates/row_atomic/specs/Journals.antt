@@ -48,7 +48,8 @@ pub record HasRoomFor (journal : JournalView) (more : List Edit) : Type 0 where
   pub bytes : length journal.logged + length journal.waiting + length (spelled_edits more)
       ≤ 67108864
 
--- The edits that are written down are these, those of the log first. What is true of them all is.
+-- These edits are written down, in their order: those that the log has, and behind them those that
+-- wait for it. All of them together are such.
 pub record HasWritten (Such : List Edit → Type 0) (journal : JournalView) : Type 0 where
   pub logged : List Edit
   pub waiting : List Edit

@@ -1,5 +1,5 @@
 -- A cluster whose edits are written down: what these are to what its files keep and to what it shows.
-use Rattle.std.specs.Prelude.{◌≡◌, ◌≢◌, ◌⊎◌, ℕ, ◌+◌, List, [], length, Option, None, Some, IfSome, IsSome, ⊤}
+use Rattle.std.specs.Prelude.{◌≡◌, ◌≢◌, ◌⊎◌, ℕ, ◌+◌, List, [], length, Option, None, Some, IsSome, ⊤}
 use Rattle.std.specs.FinMap.{get}
 use Rattle.std.specs.List.{AllByRecursion}
 use Rattle.cell_key.specs.Cells.{Cells, after_edits}
@@ -30,7 +30,7 @@ pub record Tracks {F : Type 0} (contents : F → Option Contents) (state : Clust
   pub has : HasRoot contents root base state
   pub replay : after_edits base edits ≡ cells_shown contents state
 
--- They do, and the tablets have every file that the root lists: no sweep removes one.
+-- So it is with a root of which the tablets have every file that it lists: no sweep removes one.
 pub record TracksListed {F : Type 0} (contents : F → Option Contents) (state : ClusterState F)
     (edits : List Edit) : Type 0 where
   pub tracks : Tracks contents state edits
@@ -46,7 +46,7 @@ abbrev pub Follows : {F : Type 0} → (F → Option Contents) → ClusterState F
     → Type 0
 Follows contents state journal = IfWritten (Tracks contents state) journal
 
--- They do, and no sweep removes a file of the root.
+-- So it is, and no sweep removes a file of the root.
 abbrev pub FollowsListed : {F : Type 0} → (F → Option Contents) → ClusterState F
     → Option JournalView → Type 0
 FollowsListed contents state journal = IfWritten (TracksListed contents state) journal
@@ -140,8 +140,8 @@ pub record KeepsFollowing {F : Type 0} (contents : F → Option Contents) (fault
   pub lists : (journal : Option JournalView) (state : ClusterState F)
       → FollowsListed contents state journal → Follows contents state journal
 
--- A store that was opened from a root shows what its files keep, with no edit; and the memtables
--- of any that was opened have nothing that isn't written down.
+-- A store that was opened from a root shows what its files keep, with no edit. Where all memtables
+-- are empty, they have nothing that isn't written down.
 pub record OpensFollowing {F : Type 0} (contents : F → Option Contents) : Type 0 where
   pub reopened : (root : RootView) (cells : Cells) (top floor : ℕ) (state : ClusterState F)
       → Reopens contents root cells top floor state → TracksListed contents state []

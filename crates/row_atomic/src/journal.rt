@@ -19,7 +19,8 @@ const MOST_EDITS: usize = 100_000;
 const MOST_BYTES: usize = 67_108_864;
 
 /// Edits that were made since a root was put, as the bytes of a log's records: those that the log has, and those that
-/// wait for it. They are at most 100,000, with at most 67,108,864 bytes, as many as a memtable may have.
+/// wait for it. They are at most 100,000, with at most 67,108,864 bytes, as many as a memtable may have. Those that the
+/// log has stay in memory, since what is promised speaks of all.
 #[derive(Drop)]
 pub struct Journal {
     bytes: Vec<u8>,

@@ -43,6 +43,13 @@ impl<F: Files> Recorded<F> {
         self.journal = Some(Journal::new(self.cluster.alloc));
     }
 
+    /// Records edits no more: what was written down is forgotten.
+    pub fn forget(&mut self)
+        ensures { self.new ≡ record self.old { journal = None } }
+    {
+        self.journal = None;
+    }
+
     /// Whether edits are recorded.
     pub fn is_recording(&self) -> bool
         ensures { result ≡ is_some self.now.journal }
@@ -157,7 +164,8 @@ impl<F: Files> Rows for Recorded<F> {
 
     fn apply(&mut self, row: &Row, edits: Vec<Edit>) -> Result<(), Refusal>
         requires { AllByRecursion (IsEditOf row.now) edits.items }
-        ensures ok { OnOk result (Applies (seen_recorded F.contents) edits.items self.old self.new) }
+        ensures ok { OnOk result (Applies (seen_recorded F.contents)
+            row.now edits.items self.old self.new) }
         ensures err { OnErr result (OnlyReads (seen_recorded F.contents) self.old self.new) }
         ensures refusal { IfErr result IsApplyRefusal }
         ensures full { IsErrOf result Refusal.MemtableFull

@@ -95,7 +95,7 @@ pub trait Rows {
     /// growth was refused. The cells are then as before, and edits would pass a limit only if they did before.
     fn apply(&mut self, row: &Row, edits: Vec<Edit>) -> Result<(), Refusal>
         requires { AllByRecursion (IsEditOf row.now) edits.items }
-        ensures ok { OnOk result (Applies seen edits.items self.old self.new) }
+        ensures ok { OnOk result (Applies seen row.now edits.items self.old self.new) }
         ensures err { OnErr result (OnlyReads seen self.old self.new) }
         ensures refusal { IfErr result IsApplyRefusal }
         ensures full { IsErrOf result Refusal.MemtableFull

@@ -1,8 +1,8 @@
 -- A server's steps, by those of its cleaners.
-use Rattle.std.proofs.Common.{◌≡◌, ◌≤◌, ℕ, List, map, ap, arith, refl}
+use Rattle.std.proofs.Common.{[], ◌≡◌, ◌≤◌, ℕ, List, map, ap, arith, refl}
 use Rattle.file_store.specs.Store.{Contents}
-use Rattle.row_atomic.specs.Changes.{Holds}
-use Rattle.row_atomic.specs.Clusters.{Spot, Storage, cells_in, spot_of, storage_of}
+use Rattle.row_atomic.specs.Recorded.{seen_recorded}
+use Rattle.row_atomic.specs.Clusters.{Spot, Storage, cells_in, spot_of}
 use Rattle.si_model.specs.Collection.{ChangesCells}
 use Rattle.si_model.specs.Kinds.{OfCleaners, kind_of}
 use Rattle.si_model.proofs.ChangedParts.{leaves_others}
@@ -17,7 +17,7 @@ use Rattle.si_model.specs.declared.replies.CleanStart.TheVariants as starts
 use Rattle.clean_up.specs.Shows as open_cleaners
 use Rattle.std.specs.Prelude.{Option}
 use Rattle.server_loop.specs.declared.server.Server.{Server}
-use Rattle.server_loop.specs.Server.{Shows, server_cells}
+use Rattle.server_loop.specs.Server.{HoldsIn, Shows, server_cells}
 use Rattle.server_loop.specs.Runs.{IfRefused, StampsGoOn, StepsAs}
 use Rattle.server_loop.proofs.SamePlaces.{KeepsPlaces}
 use Rattle.server_loop.proofs.OthersShown.{cleaners_not_collectors, cleaners_not_sessions, collectors_stay, not_kind, sessions_stay}
@@ -27,15 +27,22 @@ use Rattle.server_loop.proofs.SplitSteps.{still_placed, still_next}
 abbrev pub spots_in : Storage → List Spot
 spots_in storage = map spot_of storage.places
 
+-- what lies below without what the log has, and what the log has
+abbrev pub unlogged : Storage → Storage
+unlogged storage = record storage { logged = [] }
+
+abbrev pub logged_in : Storage → List ℕ
+logged_in storage = storage.logged
+
 -- ---- whole steps
 
 module _ {F M : Type 0} (contents : F → Option Contents) (old new : Server F M) where
   -- a step of a cleaner, which leaves the tablets where they are, the sessions and the collectors
   pub cleans_as : (request : Request) (reply : Reply) → KeepsPlaces request → kind_of request ≡ OfCleaners → new.clients ≡ old.clients → new.oracle.last ≡ old.oracle.last
       → new.collectors ≡ old.collectors → ((st : State) → IsReached st → Shows contents old st → ChangesCells (server_cells contents old) st (server_cells contents new))
-      → (Holds contents old.cluster → open_cleaners.Steps (cells_in (contents old.cluster.files) old.cluster.tablets) old.cleaners request reply (cells_in (contents new.cluster.files) new.cluster.tablets) new.cleaners)
-      → (Holds contents old.cluster → Holds contents new.cluster) → storage_of contents new.cluster ≡ storage_of contents old.cluster
-      → (Holds contents old.cluster → open_cleaners.InEachShown (cells_in (contents old.cluster.files) old.cluster.tablets) old.cleaners (λ st. reply ≡ Refused Damaged → ⊥))
+      → (HoldsIn contents old → open_cleaners.Steps (cells_in (contents old.rows.cluster.files) old.rows.cluster.tablets) old.cleaners request reply (cells_in (contents new.rows.cluster.files) new.rows.cluster.tablets) new.cleaners)
+      → (HoldsIn contents old → HoldsIn contents new) → (seen_recorded contents).storage new.rows ≡ (seen_recorded contents).storage old.rows
+      → (HoldsIn contents old → open_cleaners.InEachShown (cells_in (contents old.rows.cluster.files) old.rows.cluster.tablets) old.cleaners (λ st. reply ≡ Refused Damaged → ⊥))
       → StepsAs (Shows contents) old new request reply
   cleans_as request reply keeps kind same_clients same_last same_collectors changes step still storage whole = λ before reached shown.
       let (next, taken, cells, cleaners) = step shown.in_order before reached shown.shows.store shown.cleaners in
@@ -49,7 +56,7 @@ module _ {F M : Type 0} (contents : F → Option Contents) (old new : Server F M
         };
         cleaners = cleaners;
         collectors = collectors_stay before next request reply taken _ _ old.collectors new.collectors reached shown.shows.store (not_kind kind cleaners_not_collectors) (changes before reached shown) same_collectors shown.collectors;
-        places = still_placed before next request reply taken keeps old.cluster.places new.cluster.places (ap spots_in storage) shown.places;
+        places = still_placed before next request reply taken keeps old.rows.cluster.places new.rows.cluster.places (ap spots_in storage) shown.places;
         next = still_next before next request reply taken keeps shown.next;
       } in
       (next, taken, after, whole shown.in_order before reached shown.shows.store shown.cleaners)

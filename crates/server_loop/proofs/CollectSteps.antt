@@ -3,8 +3,8 @@ use Rattle.std.proofs.Common.{◌≡◌, ◌≤◌, ◌⊎◌, ℕ, inl, inr, Op
 use Rattle.cell_key.specs.declared.refusals.Refusal.{Refusal}
 use Rattle.cell_key.specs.declared.refusals.Refusal.TheVariants.{Damaged}
 use Rattle.file_store.specs.Store.{Contents}
-use Rattle.row_atomic.specs.Changes.{Holds}
-use Rattle.row_atomic.specs.Clusters.{ClusterState, cells_in, storage_of}
+use Rattle.row_atomic.specs.Recorded.{seen_recorded}
+use Rattle.row_atomic.specs.Clusters.{ClusterState, cells_in}
 use Rattle.si_model.specs.Kinds.{OfCollectors, kind_of}
 use Rattle.si_model.specs.Machine.{State, Request, Reply, Collecting, Refused, IsReached, Step}
 use Rattle.si_model.specs.Replies.{collect_reply}
@@ -15,7 +15,7 @@ use Rattle.si_model.proofs.ChangedParts.{leaves_others}
 use Rattle.request_codec.specs.declared.replies.Reply.TheVariants as codec
 use Rattle.version_collector.specs.Shows.{ShowsCollectors}
 use Rattle.server_loop.specs.declared.server.Server.{Server}
-use Rattle.server_loop.specs.Server.{Shows, server_cells}
+use Rattle.server_loop.specs.Server.{HoldsIn, Shows, server_cells}
 use Rattle.server_loop.specs.Runs.{IfRefused, StampsGoOn, StepsAs}
 use Rattle.server_loop.proofs.CleanSteps.{spots_in}
 use Rattle.server_loop.proofs.SamePlaces.{KeepsPlaces}
@@ -31,7 +31,7 @@ module _ {F M : Type 0} (contents : F → Option Contents) (old new : Server F M
       → new.cleaners ≡ old.cleaners
       → ((st : State) → IsReached st → Shows contents old st
       → (next : State) × Step st request reply next × ShowsCells (server_cells contents new) next × ShowsCollectors (server_cells contents new) new.collectors next)
-      → (Holds contents old.cluster → Holds contents new.cluster) → storage_of contents new.cluster ≡ storage_of contents old.cluster
+      → (HoldsIn contents old → HoldsIn contents new) → (seen_recorded contents).storage new.rows ≡ (seen_recorded contents).storage old.rows
       → ((st : State) → IsReached st → Shows contents old st → reply ≡ Refused Damaged → ⊥)
       → StepsAs (Shows contents) old new request reply
   collects_as request reply keeps kind same_clients same_last same_cleaners step still storage whole = λ before reached shown.
@@ -46,7 +46,7 @@ module _ {F M : Type 0} (contents : F → Option Contents) (old new : Server F M
         };
         cleaners = cleaners_stay before next request reply taken old.cleaners new.cleaners reached (not_kind kind collectors_not_cleaners) same_cleaners shown.cleaners;
         collectors = collectors;
-        places = still_placed before next request reply taken keeps old.cluster.places new.cluster.places (ap spots_in storage) shown.places;
+        places = still_placed before next request reply taken keeps old.rows.cluster.places new.rows.cluster.places (ap spots_in storage) shown.places;
         next = still_next before next request reply taken keeps shown.next;
       } in
       (next, taken, after, whole before reached shown)

@@ -2,7 +2,9 @@ mod Causes
 mod CellChanges
 mod CleanSteps
 mod CollectSteps
+mod CutBatches
 mod Filled
+mod Following
 mod FrameHeads
 mod JudgedCleaners
 mod JudgedActs
@@ -17,6 +19,7 @@ mod JudgedUpkeep
 mod KeptLists
 mod KeptMaps
 mod Lengths
+mod Logged
 mod MachinePlaces
 mod Opened
 mod OthersShown
@@ -24,11 +27,13 @@ mod RawReads
 mod ReachedRuns
 mod RefusedFirst
 mod Rested
+mod Rooted
 mod SamePlaces
 mod Searches
 mod ServingLemmas
 mod SessionSteps
 mod SplitSteps
+mod Stored
 mod StreamReads
 mod Tended
 mod UpkeepRefusals

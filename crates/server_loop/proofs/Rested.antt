@@ -28,7 +28,6 @@ use Rattle.server_loop.specs.Server.{Shows, cluster_of, last_of, marks_of}
 use Rattle.server_loop.specs.Sessions.{KeepsOracle, LeavesOracle}
 use Rattle.server_loop.specs.Tending.{MergesWhere}
 use Rattle.server_loop.specs.declared.server.Server.{Server}
-use Rattle.server_loop.proofs.Tended.{still_shown}
 
 -- ---- the machine's state stays
 
@@ -151,7 +150,7 @@ module _ {F M : Type 0} (files : Files F) (store : MarkStore M) where
           shows = shows;
           root = _;
           cells = _;
-          keeps = plain.tablets.1 refl shown.in_order;
+          keeps = plain.tablets.1 refl shown.in_order.0;
           tells = record {
             top = shown.shows.sessions.top;
             floor = shown.collectors.floor;
@@ -179,7 +178,7 @@ module _ {F M : Type 0} (files : Files F) (store : MarkStore M) where
           | inr rests ↦ inr (record {
             root = _;
             cells = _;
-            has = (rests shown.in_order).has;
+            has = (rests shown.in_order.0).has;
             tells = record {
               top = shown.shows.sessions.top;
               floor = shown.collectors.floor;
@@ -209,7 +208,7 @@ module _ {F M : Type 0} (files : Files F) (store : MarkStore M) where
 
   pub rests_between : RootOutlastsFlushes files.contents files.faults → RestsBetween files.contents files.faults store.mark
   rests_between outlasts old new st tended none rests = record {
-    shows = still_shown files.contents files.faults old new st tended.keeps tended.sessions tended.cleaners tended.collectors (ap (λ (o : OracleState M). o.last) tended.oracle) rests.shows;
+    shows = tended.shown st rests.shows;
     root = rests.root;
     cells = rests.cells;
     keeps = subst (λ (state : ClusterState F). KeepsRoot files.contents rests.root rests.cells state) (sym (merged_none _ _ _ _ none tended.merges))

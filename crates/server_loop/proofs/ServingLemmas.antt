@@ -25,11 +25,11 @@ use Rattle.server_loop.specs.declared.serving.Rest.TheVariants as rests
 
 -- ---- lists
 
-map-join : {A B : Type 0} (f : A → B) (xs ys : List A) → map f (xs ++ ys) ≡ map f xs ++ map f ys
+pub map-join : {A B : Type 0} (f : A → B) (xs ys : List A) → map f (xs ++ ys) ≡ map f xs ++ map f ys
 map-join f [] ys = refl
 map-join f (x ∷ xs) ys = ap (λ l. f x ∷ l) (map-join f xs ys)
 
-each-join : (bs cs : List (List ℕ)) → AllByRecursion IsBody bs → AllByRecursion IsBody cs → AllByRecursion IsBody (bs ++ cs)
+pub each-join : (bs cs : List (List ℕ)) → AllByRecursion IsBody bs → AllByRecursion IsBody cs → AllByRecursion IsBody (bs ++ cs)
 each-join [] cs p q = q
 each-join (b ∷ bs) cs p q = (p.0, each-join bs cs p.1 q)
 
@@ -39,18 +39,18 @@ frames-join bs cs = flat_map-append frame bs cs
 pub written_of-join : (rs qs : List Reply) → written_of (rs ++ qs) ≡ written_of rs ++ written_of qs
 written_of-join rs qs = ap frames (map-join reply_body rs qs) ∙ frames-join (map reply_body rs) (map reply_body qs)
 
-one_written : (reply : Reply) → written_of (reply ∷ []) ≡ frame (reply_body reply)
+pub one_written : (reply : Reply) → written_of (reply ∷ []) ≡ frame (reply_body reply)
 one_written reply = append-nil (frame (reply_body reply))
 
 taken-join : (bs cs : List (List ℕ)) (last : List Taken) → map Body bs ++ (map Body cs ++ last) ≡ map Body (bs ++ cs) ++ last
 taken-join bs cs last = sym (append_assoc (map Body bs) (map Body cs) last) ∙ ap (λ l. l ++ last) (sym (map-join Body bs cs))
 
 -- two cuts, one after the other
-whole-join : (bs cs : List (List ℕ)) (bytes mid rest : List ℕ) → bytes ≡ frames bs ++ mid → mid ≡ frames cs ++ rest → bytes ≡ frames (bs ++ cs) ++ rest
+pub whole-join : (bs cs : List (List ℕ)) (bytes mid rest : List ℕ) → bytes ≡ frames bs ++ mid → mid ≡ frames cs ++ rest → bytes ≡ frames (bs ++ cs) ++ rest
 whole-join bs cs bytes mid rest p q =
     p ∙ ap (λ x. frames bs ++ x) q ∙ sym (append_assoc (frames bs) (frames cs) rest) ∙ ap (λ x. x ++ rest) (sym (frames-join bs cs))
 
-whole-more : (bs : List (List ℕ)) (bytes rest more : List ℕ) → bytes ≡ frames bs ++ rest → bytes ++ more ≡ frames bs ++ (rest ++ more)
+pub whole-more : (bs : List (List ℕ)) (bytes rest more : List ℕ) → bytes ≡ frames bs ++ rest → bytes ++ more ≡ frames bs ++ (rest ++ more)
 whole-more bs bytes rest more p = ap (λ x. x ++ more) p ∙ append_assoc (frames bs) rest more
 
 -- ---- the rest
@@ -64,7 +64,7 @@ BeginsNoFrame-from_large rest p = record { short = λ h k. absurd (omega (arith,
 pub IsPartial-nil : IsPartial []
 IsPartial-nil = record { within = λ h. absurd (omega arith); short = λ h. absurd (omega arith) }
 
-no_oversize : (rest : List ℕ) → IsPartial rest → taken_of [] rest ≡ []
+pub no_oversize : (rest : List ℕ) → IsPartial rest → taken_of [] rest ≡ []
 no_oversize rest p = let w = p.within in grind (arith, nat_tests)
 
 pub oversize : (rest : List ℕ) → IsTooLong rest → taken_of [] rest ≡ Oversize ∷ []
@@ -79,7 +79,7 @@ taken-large bodies rest p = ap (λ l. map Body bodies ++ l) (sym (oversize rest 
 
 -- ---- runs, answers and what is written
 
-frame-long : (body : List ℕ) → 0 < length (frame body)
+pub frame-long : (body : List ℕ) → 0 < length (frame body)
 unfolding frame
 frame-long body = omega arith
 
@@ -87,10 +87,10 @@ pub fewer-one : (body bytes rest : List ℕ) → bytes ≡ frame body ++ rest �
 fewer-one body bytes rest whole = omega (arith, ap length whole, length-append (frame body) rest, frame-long body)
 
 module _ {S : Type 0} (shows : S → State → Type 0) where
-  RunsAs-none : (a : S) → RunsAs shows a a [] []
+  pub RunsAs-none : (a : S) → RunsAs shows a a [] []
   RunsAs-none a = λ before reached shown. record { after = before; run = refl; reached = reached; laws = laws_of before reached; shows = shown }
 
-  RunsAs-append : (a b c : S) (ts us : List Taken) (rs qs : List Reply) → RunsAs shows a b ts rs → RunsAs shows b c us qs → RunsAs shows a c (ts ++ us) (rs ++ qs)
+  pub RunsAs-append : (a b c : S) (ts us : List Taken) (rs qs : List Reply) → RunsAs shows a b ts rs → RunsAs shows b c us qs → RunsAs shows a c (ts ++ us) (rs ++ qs)
   RunsAs-append a b c ts us rs qs first second = λ before reached shown.
       let one = first before reached shown in
       let two = second one.after one.reached one.shows in
@@ -103,7 +103,7 @@ module _ {S : Type 0} (shows : S → State → Type 0) where
       }
 
   -- what is shown stays shown
-  RunsAs-kept : (a b c : S) (ts : List Taken) (rs : List Reply) → RunsAs shows a b ts rs → ((st : State) → shows b st → shows c st) → RunsAs shows a c ts rs
+  pub RunsAs-kept : (a b c : S) (ts : List Taken) (rs : List Reply) → RunsAs shows a b ts rs → ((st : State) → shows b st → shows c st) → RunsAs shows a c ts rs
   RunsAs-kept a b c ts rs first keeps = λ before reached shown.
       let one = first before reached shown in
       record { after = one.after; run = one.run; reached = one.reached; laws = one.laws; shows = keeps one.after one.shows }
@@ -150,13 +150,15 @@ module _ {S : Type 0} (shows : S → State → Type 0) (says : S → Lent → Co
   writes_after (Ok end) a b c ts us rs qs written p q = all_after a b c ts us rs qs written p q
   writes_after (Err faults.Read) a b c ts us rs qs written p q = all_after a b c ts us rs qs written p q
   writes_after (Err faults.NoMemory) a b c ts us rs qs written p q = all_after a b c ts us rs qs written p q
+  writes_after (Err faults.Log) a b c ts us rs qs written p q = all_after a b c ts us rs qs written p q
   writes_after (Err faults.Write) a b c ts us rs qs written p (inl q) = inl (all_after a b c ts us rs qs written p q)
   writes_after (Err faults.Write) a b c ts us rs qs written p (inr q) = inr (cut_after a b c ts us rs qs written p q)
 
-  takes_after : (result : Result End ServeFault) (bs cs : List (List ℕ)) (rest : List ℕ) (us : List Taken) → TakesBodies result cs rest us → TakesBodies result (bs ++ cs) rest (map Body bs ++ us)
+  pub takes_after : (result : Result End ServeFault) (bs cs : List (List ℕ)) (rest : List ℕ) (us : List Taken) → TakesBodies result cs rest us → TakesBodies result (bs ++ cs) rest (map Body bs ++ us)
   takes_after (Ok end) bs cs rest us p = ap (λ l. map Body bs ++ l) p ∙ taken-join bs cs (taken_of [] rest)
   takes_after (Err faults.Read) bs cs rest us p = ap (λ l. map Body bs ++ l) p ∙ taken-join bs cs (taken_of [] rest)
   takes_after (Err faults.NoMemory) bs cs rest us p = ap (λ l. map Body bs ++ l) p ∙ taken-join bs cs (taken_of [] rest)
+  takes_after (Err faults.Log) bs cs rest us p = ap (λ l. map Body bs ++ l) p ∙ taken-join bs cs (taken_of [] rest)
   takes_after (Err faults.Write) bs cs rest us (inl p) = inl (ap (λ l. map Body bs ++ l) p ∙ sym (map-join Body bs cs))
   takes_after (Err faults.Write) bs cs rest us (inr p) = inr (p.0, ap (λ l. map Body bs ++ l) p.1 ∙ taken-join bs cs (Oversize ∷ []))
 
@@ -275,6 +277,7 @@ module _ {S : Type 0} (shows : S → State → Type 0) (says : S → Lent → Co
       → HandlesTo shows says between (Err fault) a c bytes rest h i
   undelivered faults.Read a b c bodies bytes rest t reply h i fewer whole each takes run says_of d = absurd d
   undelivered faults.NoMemory a b c bodies bytes rest t reply h i fewer whole each takes run says_of d = absurd d
+  undelivered faults.Log a b c bodies bytes rest t reply h i fewer whole each takes run says_of d = absurd d
   undelivered faults.Write a b c bodies bytes rest t reply h i fewer whole each takes run says_of d =
       subst (λ (s : S). HandlesTo shows says between (Err faults.Write) a s bytes rest h i) (sym d.0)
       (fewer, Handles-cut a b bodies bytes rest t reply d.1.0 h i whole each takes run says_of d.1.1 d.1.2)
@@ -322,13 +325,13 @@ module _ {S : Type 0} (shows : S → State → Type 0) (says : S → Lent → Co
 
   -- ---- more bytes
 
-  fewer_after : (bodies : List (List ℕ)) (bytes mid rest : List ℕ) → bytes ≡ frames bodies ++ mid → IsTooLong rest ⊎ (length rest < length mid) → IsTooLong rest ⊎ (length rest < length bytes)
+  pub fewer_after : (bodies : List (List ℕ)) (bytes mid rest : List ℕ) → bytes ≡ frames bodies ++ mid → IsTooLong rest ⊎ (length rest < length mid) → IsTooLong rest ⊎ (length rest < length bytes)
   fewer_after bodies bytes mid rest whole (inl large) = inl large
   fewer_after bodies bytes mid rest whole (inr fewer) =
       let size : length bytes ≡ length (frames bodies ++ mid) = ap length whole in
       inr (omega (arith, fewer, size, length-append (frames bodies) mid))
 
-  fewer_more : (bytes rest more : List ℕ) → IsTooLong rest ⊎ (length rest < length bytes) → IsTooLong (rest ++ more) ⊎ (length (rest ++ more) < length (bytes ++ more))
+  pub fewer_more : (bytes rest more : List ℕ) → IsTooLong rest ⊎ (length rest < length bytes) → IsTooLong (rest ++ more) ⊎ (length (rest ++ more) < length (bytes ++ more))
   fewer_more bytes rest more (inl large) = inl (IsTooLong-more rest more large)
   fewer_more bytes rest more (inr fewer) = inr (omega (arith, fewer, length-append rest more, length-append bytes more))
 
@@ -341,6 +344,7 @@ module _ {S : Type 0} (shows : S → State → Type 0) (says : S → Lent → Co
       (fewer_after p.bodies bytes mid rest p.whole q.0, Handles-after (Err faults.Write) a b c bytes mid rest h i j p q.1)
   HandlesTo-after (Err faults.Read) a b c bytes mid rest h i j p q = absurd q
   HandlesTo-after (Err faults.NoMemory) a b c bytes mid rest h i j p q = absurd q
+  HandlesTo-after (Err faults.Log) a b c bytes mid rest h i j p q = absurd q
 
   Handles-more_large : (a b : S) (bytes rest more : List ℕ) (h i : Option (List ℕ)) → IsTooLong rest → Handles shows says between (Ok ends.TooLarge) a b bytes rest h i → Handles shows says between (Ok ends.TooLarge) a b (bytes ++ more) (rest ++ more) h i
   Handles-more_large a b bytes rest more h i large p = record {
@@ -360,6 +364,7 @@ module _ {S : Type 0} (shows : S → State → Type 0) (says : S → Lent → Co
   HandlesTo-more_error faults.Write a c bytes rest more h i p = (fewer_more bytes rest more p.0, Handles-more_cut a c bytes rest more h i p.1)
   HandlesTo-more_error faults.Read a c bytes rest more h i p = absurd p
   HandlesTo-more_error faults.NoMemory a c bytes rest more h i p = absurd p
+  HandlesTo-more_error faults.Log a c bytes rest more h i p = absurd p
 
   -- ---- a piece
 

@@ -18,8 +18,8 @@ use Rattle.si_model.specs.declared.replies.Found.TheVariants as founds
 use Rattle.si_model.specs.declared.replies.Progress.{Progress}
 use Rattle.si_model.specs.declared.replies.Progress.TheVariants as steps
 use Rattle.file_store.specs.Store.{Contents}
-use Rattle.row_atomic.specs.Changes.{Holds}
-use Rattle.row_atomic.specs.Clusters.{cells_in, storage_of}
+use Rattle.row_atomic.specs.Recorded.{seen_recorded}
+use Rattle.row_atomic.specs.Clusters.{cells_in}
 use Rattle.txn_client.specs.Reads.{IsShort}
 use Rattle.oracle.specs.Ranges.{SameNumbers}
 use Rattle.txn_client.specs.Refusals.{HasOneReason, IsBeginRefusal}
@@ -29,7 +29,7 @@ use Rattle.request_codec.specs.Replies.{replied}
 use Rattle.request_codec.specs.declared.replies.Reply.{Reply as CodecReply}
 use Rattle.request_codec.specs.declared.replies.Reply.TheVariants as codec
 use Rattle.server_loop.specs.declared.server.Server.{Server}
-use Rattle.server_loop.specs.Server.{Shows, server_cells}
+use Rattle.server_loop.specs.Server.{HoldsIn, Shows, server_cells}
 use Rattle.server_loop.specs.Sessions.{LeavesMark, LeavesOracle}
 use Rattle.server_loop.specs.Runs.{KeepsToLimits, StampsGoOn, StepsAs, IfRefused}
 use Rattle.server_loop.proofs.CleanSteps.{spots_in}
@@ -41,9 +41,9 @@ module _ {F M : Type 0} (contents : F → Option Contents) (old new : Server F M
   -- a step of a session, which leaves the tablets where they are, the cleaners and the collectors
   pub steps_as : (request : Request) (reply : Reply) → KeepsPlaces request → kind_of request ≡ OfSessions → new.cleaners ≡ old.cleaners
       → new.collectors ≡ old.collectors → ((st : State) → IsReached st → Shows contents old st → ChangesCells (server_cells contents old) st (server_cells contents new))
-      → (Holds contents old.cluster → clients.Steps (cells_in (contents old.cluster.files) old.cluster.tablets) old.clients old.oracle.last request reply (cells_in (contents new.cluster.files) new.cluster.tablets) new.clients new.oracle.last)
-      → (Holds contents old.cluster → Holds contents new.cluster) → storage_of contents new.cluster ≡ storage_of contents old.cluster
-      → ((st : State) → IsReached st → Holds contents old.cluster → clients.Shows (cells_in (contents old.cluster.files) old.cluster.tablets) old.clients old.oracle.last st → reply ≡ Refused Damaged → ⊥)
+      → (HoldsIn contents old → clients.Steps (cells_in (contents old.rows.cluster.files) old.rows.cluster.tablets) old.clients old.oracle.last request reply (cells_in (contents new.rows.cluster.files) new.rows.cluster.tablets) new.clients new.oracle.last)
+      → (HoldsIn contents old → HoldsIn contents new) → (seen_recorded contents).storage new.rows ≡ (seen_recorded contents).storage old.rows
+      → ((st : State) → IsReached st → HoldsIn contents old → clients.Shows (cells_in (contents old.rows.cluster.files) old.rows.cluster.tablets) old.clients old.oracle.last st → reply ≡ Refused Damaged → ⊥)
       → StepsAs (Shows contents) old new request reply
   steps_as request reply keeps kind same_cleaners same_collectors changes step still storage whole = λ before reached shown.
       let (next, taken, shows) = step shown.in_order before reached shown.shows in
@@ -52,7 +52,7 @@ module _ {F M : Type 0} (contents : F → Option Contents) (old new : Server F M
         shows = shows;
         cleaners = cleaners_stay before next request reply taken old.cleaners new.cleaners reached (not_kind kind sessions_not_cleaners) same_cleaners shown.cleaners;
         collectors = collectors_stay before next request reply taken _ _ old.collectors new.collectors reached shown.shows.store (not_kind kind sessions_not_collectors) (changes before reached shown) same_collectors shown.collectors;
-        places = still_placed before next request reply taken keeps old.cluster.places new.cluster.places (ap spots_in storage) shown.places;
+        places = still_placed before next request reply taken keeps old.rows.cluster.places new.rows.cluster.places (ap spots_in storage) shown.places;
         next = still_next before next request reply taken keeps shown.next;
       } in
       (next, taken, after, whole before reached shown.in_order shown.shows)

@@ -38,7 +38,7 @@ keeps_then (Some x) (Some y) (Some z) bs p q = q ∙ ap (λ l. l ++ bs) p
 
 -- ---- what is left
 
-partial_within : (hand : List ℕ) → IsPartial hand → length hand ≤ most_left
+pub partial_within : (hand : List ℕ) → IsPartial hand → length hand ≤ most_left
 partial_within hand partial = let few : length hand < 1048580 = has_room hand partial in omega (arith, few)
 
 -- of a part of a frame and one piece, of which a frame was answered
@@ -57,7 +57,7 @@ dropped_within hand read rest [] partial long each within whole =
 dropped_within hand read rest (b ∷ bodies) partial long each within whole = after_frame hand read rest b bodies partial each.0 within whole
 
 -- or of which fewer bytes are left
-cut_within : (hand read rest : List ℕ) (bodies : List (List ℕ)) → IsPartial hand → AllByRecursion IsBody bodies → length read ≤ 65536 → hand ++ read ≡ frames bodies ++ rest → IsTooLong rest ⊎ (length rest < length (hand ++ read))
+pub cut_within : (hand read rest : List ℕ) (bodies : List (List ℕ)) → IsPartial hand → AllByRecursion IsBody bodies → length read ≤ 65536 → hand ++ read ≡ frames bodies ++ rest → IsTooLong rest ⊎ (length rest < length (hand ++ read))
     → length rest ≤ most_left
 cut_within hand read rest bodies partial each within whole (inl large) = let few = dropped_within hand read rest bodies partial large each within whole in omega (arith, few)
 cut_within hand read rest [] partial each within whole (inr fewer) = let same : length (hand ++ read) ≡ length rest = ap length whole in absurd (omega (arith, fewer, same))
@@ -78,16 +78,17 @@ EndsBy-after (Ok ends.ReadsUsedUp) r s front read rest left h i j k known counte
 EndsBy-after (Err faults.Read) r s front read rest left h i j k known counted p = p
 EndsBy-after (Err faults.Write) r s front read rest left h i j k known counted p = p
 EndsBy-after (Err faults.NoMemory) r s front read rest left h i j k known counted p = absurd (known refl)
+EndsBy-after (Err faults.Log) r s front read rest left h i j k known counted p = absurd p
 
 -- what an end takes is taken too where the last flush fails
-takes_so : (end : End) (bodies : List (List ℕ)) (r : ℕ) (read rest : List ℕ) (left h i : Option (List ℕ)) (taken : List Taken) → EndsBy (Ok end) r read rest left h i → taken ≡ taken_of bodies rest → TakesBodies (Err faults.Write) bodies rest taken
+pub takes_so : (end : End) (bodies : List (List ℕ)) (r : ℕ) (read rest : List ℕ) (left h i : Option (List ℕ)) (taken : List Taken) → EndsBy (Ok end) r read rest left h i → taken ≡ taken_of bodies rest → TakesBodies (Err faults.Write) bodies rest taken
 takes_so ends.Clean bodies r read rest left h i taken p q = inl (q ∙ sym (taken-partial bodies rest (subst IsPartial (sym p.0) IsPartial-nil)))
 takes_so ends.Truncated bodies r read rest left h i taken p q = inl (q ∙ sym (taken-partial bodies rest p.1))
 takes_so ends.TooLarge bodies r read rest left h i taken p q = inr (p.0, q ∙ sym (taken-large bodies rest p.0))
 takes_so ends.ReadsUsedUp bodies r read rest left h i taken p q = inl (q ∙ sym (taken-partial bodies rest p.1))
 
 -- and as much is left
-left_so : (end : End) (r : ℕ) (read rest : List ℕ) (left h i : Option (List ℕ)) → EndsBy (Ok end) r read rest left h i → length rest ≤ most_left
+pub left_so : (end : End) (r : ℕ) (read rest : List ℕ) (left h i : Option (List ℕ)) → EndsBy (Ok end) r read rest left h i → length rest ≤ most_left
 left_so ends.Clean r read rest left h i p = partial_within rest (subst IsPartial (sym p.0) IsPartial-nil)
 left_so ends.Truncated r read rest left h i p = partial_within rest p.1
 left_so ends.TooLarge r read rest left h i p = let few = p.1 in omega (arith, few)
@@ -98,6 +99,7 @@ nothing_taken (Ok end) rest p = taken-partial [] rest p
 nothing_taken (Err faults.Read) rest p = taken-partial [] rest p
 nothing_taken (Err faults.Write) rest p = inl refl
 nothing_taken (Err faults.NoMemory) rest p = taken-partial [] rest p
+nothing_taken (Err faults.Log) rest p = taken-partial [] rest p
 
 module _ {S : Type 0} (shows : S → State → Type 0) (says : S → Lent → CodecReply → S → Type 0) (between : S → S → Type 0) where
   nothing_written : (result : Result End ServeFault) (a : S) → WritesReplies says between result a a [] [] []
@@ -105,6 +107,7 @@ module _ {S : Type 0} (shows : S → State → Type 0) (says : S → Lent → Co
   nothing_written (Err faults.Read) a = (refl, refl)
   nothing_written (Err faults.Write) a = inl (refl, refl)
   nothing_written (Err faults.NoMemory) a = (refl, refl)
+  nothing_written (Err faults.Log) a = (refl, refl)
 
   -- ---- a read that gave nothing
 
@@ -153,7 +156,7 @@ module _ {S : Type 0} (shows : S → State → Type 0) (says : S → Lent → Co
     appended = keeps_then h i j p.written keeps p.appended;
   }
 
-  kept_answered : (a b : S) (bytes rest : List ℕ) (h i j : Option (List ℕ)) → Keeps h i → Answered shows says between a b bytes rest i j → Answered shows says between a b bytes rest h j
+  pub kept_answered : (a b : S) (bytes rest : List ℕ) (h i j : Option (List ℕ)) → Keeps h i → Answered shows says between a b bytes rest i j → Answered shows says between a b bytes rest h j
   kept_answered a b bytes rest h i j keeps p = record { bodies = p.bodies; whole = p.whole; each = p.each; replies = p.replies; run = p.run; appended = keeps_then h i j _ keeps p.appended }
 
   cut_short : (a b : S) (hand read rest : List ℕ) (l m h i j : Option (List ℕ)) (r : ℕ) → Consumes l m read → IsPartial hand → length read ≤ 65536 → Keeps h i → HandlesTo shows says between (Err faults.Write) a b (hand ++ read) rest i j
@@ -172,6 +175,7 @@ module _ {S : Type 0} (shows : S → State → Type 0) (says : S → Lent → Co
   fails_so faults.Write a b hand hand' read rest l m h i j r s consumed partial within keeps p = cut_short a b hand read rest l m h i j r consumed partial within keeps p
   fails_so faults.Read a b hand hand' read rest l m h i j r s consumed partial within keeps p = absurd p
   fails_so faults.NoMemory a b hand hand' read rest l m h i j r s consumed partial within keeps p = absurd p
+  fails_so faults.Log a b hand hand' read rest l m h i j r s consumed partial within keeps p = absurd p
 
   -- the piece was not answered to its end
   pub read_fails : (result : Result (Option End) ServeFault) (fault : ServeFault) (a b : S) (hand hand' read : List ℕ) (l m h i j : Option (List ℕ)) (r s : ℕ) → result ≡ Err fault → Consumes l m read → IsPartial hand → length read ≤ 65536 → Keeps h i
@@ -217,7 +221,7 @@ module _ {S : Type 0} (shows : S → State → Type 0) (says : S → Lent → Co
   pub none_served : (a : S) (hand : List ℕ) (none : hand ≡ []) (l h : Option (List ℕ)) (r : ℕ) → Served shows says between [] hand a a l l h h r r
   none_served a hand none l h r = subst (λ (x : List ℕ). Served shows says between [] x a a l l h h r r) (sym none) (Served-none a l h r)
 
-  joined : (a b : S) (hand first more hand' : List ℕ) (h i : Option (List ℕ)) → Answered shows says between a b (hand ++ first) hand' h i → Answered shows says between a b (hand ++ (first ++ more)) (hand' ++ more) h i
+  pub joined : (a b : S) (hand first more hand' : List ℕ) (h i : Option (List ℕ)) → Answered shows says between a b (hand ++ first) hand' h i → Answered shows says between a b (hand ++ (first ++ more)) (hand' ++ more) h i
   joined a b hand first more hand' h i p = subst (λ (l : List ℕ). Answered shows says between a b l (hand' ++ more) h i) (append_assoc hand first more) (Answered-more shows says between a b (hand ++ first) hand' more h i p)
 
   pub Served-then : (a b c : S) (hand hand' hand'' : List ℕ) (l m n h i j : Option (List ℕ)) (r s t : ℕ) → Served shows says between hand hand' a b l m h i r s → Served shows says between hand' hand'' b c m n i j s t
@@ -246,6 +250,7 @@ module _ {S : Type 0} (shows : S → State → Type 0) (says : S → Lent → Co
   stops_so faults.Read a b c hand hand' hand'' l m n h i j r s t p q = Served-ends (Err faults.Read) a b c hand hand' l m n h i j r s (λ is. cc) p q
   stops_so faults.Write a b c hand hand' hand'' l m n h i j r s t p q = Served-ends (Err faults.Write) a b c hand hand' l m n h i j r s (λ is. cc) p q
   stops_so faults.NoMemory a b c hand hand' hand'' l m n h i j r s t p q = absurd q
+  stops_so faults.Log a b c hand hand' hand'' l m n h i j r s t p q = absurd q
 
   pub stops : (result : Result End ServeFault) (fault : ServeFault) (a b c : S) (hand hand' hand'' : List ℕ) (l m n h i j : Option (List ℕ)) (r s t : ℕ) → result ≡ Err fault → Served shows says between hand hand' a b l m h i r s
       → ReadsOn shows says between (Err fault) hand' hand'' b c m n i j s t → ServesOn shows says between hand a c l n h j r result

@@ -1,9 +1,13 @@
 -- A server that was tended shows what it showed, whether files were merged or not.
-use Rattle.std.proofs.Common.{◌≡◌, ℕ, List, map, Option, refl, arith, ap, sym, subst, ◌∙◌}
+use Rattle.std.proofs.Common.{◌≡◌, ℕ, List, map, None, Option, Some, refl, arith, ap, sym, subst, ◌∙◌}
 use Rattle.cell_key.specs.Cells.{Cells}
 use Rattle.file_store.specs.Store.{Contents}
 use Rattle.row_atomic.specs.Clusters.{ClusterState, Spot}
-use Rattle.row_atomic.specs.Flushes.{KeepsShown}
+use Rattle.row_atomic.specs.Changes.{Holds}
+use Rattle.row_atomic.specs.Flushes.{CompactsFull, KeepsShown}
+use Rattle.row_atomic.specs.Journals.{JournalView}
+use Rattle.row_atomic.specs.Recorded.{Follows, KeepsFollowing}
+use Rattle.row_atomic.specs.declared.fill.FlushLimits.{FlushLimits}
 use Rattle.si_model.specs.Machine.{State}
 use Rattle.txn_client.specs.Shows as clients
 use Rattle.txn_client.specs.declared.sessions.Clients.{Clients}
@@ -11,15 +15,16 @@ use Rattle.clean_up.specs.Shows.{ShowsCleaners}
 use Rattle.clean_up.specs.declared.cleaners.Cleaners.{Cleaners}
 use Rattle.version_collector.specs.Shows.{ShowsCollectors}
 use Rattle.version_collector.specs.declared.collectors.Collectors.{Collectors}
-use Rattle.server_loop.specs.Server.{Shows, server_cells, cluster_of, last_of, machine_place}
+use Rattle.server_loop.specs.Server.{Shows, server_cells, cluster_of, journal_of, last_of, machine_place}
+use Rattle.server_loop.specs.Tending.{Merges}
 use Rattle.server_loop.specs.declared.server.Server.{Server}
 
-pub still_shown : {F M : Type 0} (contents : F → Option Contents) (faults : F → ℕ) (old new : Server F M) (st : State) → KeepsShown contents faults (cluster_of old) (cluster_of new)
+pub still_shown : {F M : Type 0} (contents : F → Option Contents) (faults : F → ℕ) (old new : Server F M) (st : State) → KeepsShown contents faults (cluster_of old) (cluster_of new) → (Holds contents (cluster_of old) → Follows contents (cluster_of old) (journal_of old) → Follows contents (cluster_of new) (journal_of new))
     → new.clients ≡ old.clients → new.cleaners ≡ old.cleaners → new.collectors ≡ old.collectors → last_of new ≡ last_of old → Shows contents old st → Shows contents new st
-still_shown contents faults old new st keeps sessions cleaners collectors last shown =
-    let (held, cells) = keeps.kept shown.in_order in
+still_shown contents faults old new st keeps follows sessions cleaners collectors last shown =
+    let (held, cells) = keeps.kept shown.in_order.0 in
     record {
-      in_order = held;
+      in_order = (held, follows shown.in_order.0 shown.in_order.1);
       shows = subst (λ (c : Cells). clients.Shows c new.clients (last_of new) st) (sym cells)
           (subst (λ (s : Clients). clients.Shows (server_cells contents old) s (last_of new) st) (sym sessions)
           (subst (λ (l : ℕ). clients.Shows (server_cells contents old) old.clients l st) (sym last) shown.shows));
@@ -43,3 +48,13 @@ module _ {F : Type 0} (contents : F → Option Contents) (faults : F → ℕ) wh
     limit = then.limit ∙ first.limit;
     later = let a = first.later in let b = then.later in omega arith;
   }
+
+  merges_follow : KeepsFollowing contents faults → (merge : Option ℕ) (journal : Option JournalView) (old new : ClusterState F) → Merges contents faults merge old new → KeepsShown contents faults old new → Holds contents old → Follows contents old journal → Follows contents new journal
+  merges_follow law None journal old new is keeps holds follows = subst (λ (state : ClusterState F). Follows contents state journal) (sym is) follows
+  merges_follow law (Some most) journal old new is keeps holds follows = law.merges most journal old new is keeps holds follows
+
+  -- what is written down follows what is shown, after compactions and merges
+  pub tends_follow : KeepsFollowing contents faults → (limits : FlushLimits) (merge : Option ℕ) (journal : Option JournalView) (old mid new : ClusterState F) → CompactsFull contents faults limits old mid → KeepsShown contents faults old mid → Merges contents faults merge mid new → KeepsShown contents faults mid new
+      → Holds contents old → Follows contents old journal → Follows contents new journal
+  tends_follow law limits merge journal old mid new compacts first merges then holds follows =
+      merges_follow law merge journal mid new merges then (first.kept holds).0 (law.flushes limits journal old mid compacts first holds follows)

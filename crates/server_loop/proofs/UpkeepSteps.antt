@@ -11,11 +11,12 @@ use Rattle.metadata_table.specs.Places.{PlaceView}
 use Rattle.metadata_table.specs.Table.{BarsSplit, HasTablet, IsTable, most_servers}
 use Rattle.row_atomic.specs.Changes.{ComesTo, Holds, IsBadCount, IsCut, IsMerged, IsMoveRefusal, IsNumberedRefusal, IsRefusalOf as IsFlushRefusal, IsSplitRefusal, KeepsMap, Numbered, Remakes}
 use Rattle.row_atomic.specs.Clusters.{ClusterState, cells_in, spots_of}
+use Rattle.row_atomic.specs.Recorded.{Follows}
 use Rattle.row_atomic.specs.Refusals.{IsReadRefusal}
 use Rattle.row_atomic.specs.Compactions as compaction
 use Rattle.tablet.specs.declared.tablet.Tablet.{Tablet}
 use Rattle.si_model.specs.Machine.{State, Request, Reply, Refused, Step, Refuses, Minor, MinorDone, Merge, MergeDone, Major, MajorDone, Split, SplitOff, Move, MoveDone, Sweep, Swept, Raw, RawFound, Checkpoint, CheckpointDone, accepts, tells, minors, merges, majors, sweeps, finds_raw, checkpoints}
-use Rattle.si_model.specs.Refusing.{gives_up}
+use Rattle.si_model.specs.Refusing.{IsStorageRefusal, gives_up}
 use Rattle.si_model.specs.declared.replies.Cell.{Cell}
 use Rattle.txn_client.specs.Shows as clients
 use Rattle.clean_up.specs.Shows.{ShowsCleaners}
@@ -113,6 +114,16 @@ checkpoint_refuses st NoMemory u = gives_up tt
 checkpoint_refuses st Damaged u = gives_up tt
 checkpoint_refuses st _ u = absurd u
 
+-- what a flush is refused for is a refusal of the store
+pub flush_stores : (e : Refusal) → IsFlushRefusal compaction.minor e → IsStorageRefusal e
+flush_stores TooManyFiles u = tt
+flush_stores FileTooLarge u = tt
+flush_stores Exhausted u = tt
+flush_stores Device u = tt
+flush_stores NoMemory u = tt
+flush_stores Damaged u = tt
+flush_stores _ u = absurd u
+
 pub checkpoint_done : (st : State) → Step st Checkpoint CheckpointDone st
 checkpoint_done st = accepts (checkpoint_accepted st) (tells checkpoints)
 
@@ -138,75 +149,75 @@ same_spots old new files e = ap (λ (cluster : ClusterState _). spots_of cluster
 
 -- ---- whole steps
 
-module _ {F M : Type 0} (contents : F → Option Contents) (old new : Server F M) (kept : KeepsMap contents old.cluster new.cluster) (same_clients : new.clients ≡ old.clients) (same_last : new.oracle.last ≡ old.oracle.last) (same_cleaners : new.cleaners ≡ old.cleaners) (same_collectors : new.collectors ≡ old.collectors) where
+module _ {F M : Type 0} (contents : F → Option Contents) (old new : Server F M) (kept : KeepsMap contents old.rows.cluster new.rows.cluster) (follows : Holds contents old.rows.cluster → Follows contents old.rows.cluster old.rows.journal → Follows contents new.rows.cluster new.rows.journal) (same_clients : new.clients ≡ old.clients) (same_last : new.oracle.last ≡ old.oracle.last) (same_cleaners : new.cleaners ≡ old.cleaners) (same_collectors : new.collectors ≡ old.collectors) where
   -- where cells, sessions and stamps are as before, they show the same
-  shows_kept : (st : State) → Holds contents old.cluster → clients.Shows (cells_in (contents old.cluster.files) old.cluster.tablets) old.clients old.oracle.last st
-      → clients.Shows (cells_in (contents new.cluster.files) new.cluster.tablets) new.clients new.oracle.last st
+  shows_kept : (st : State) → Holds contents old.rows.cluster → clients.Shows (cells_in (contents old.rows.cluster.files) old.rows.cluster.tablets) old.clients old.oracle.last st
+      → clients.Shows (cells_in (contents new.rows.cluster.files) new.rows.cluster.tablets) new.clients new.oracle.last st
   shows_kept st held shows =
       subst (λ (cells : Cells). clients.Shows cells new.clients new.oracle.last st) (sym (kept held).1)
-      (subst (λ (n : ℕ). clients.Shows (cells_in (contents old.cluster.files) old.cluster.tablets) new.clients n st) (sym same_last)
+      (subst (λ (n : ℕ). clients.Shows (cells_in (contents old.rows.cluster.files) old.rows.cluster.tablets) new.clients n st) (sym same_last)
       (rw same_clients shows))
 
   -- and where no tablet has gone anywhere
-  pub still_shown : (st : State) → spots_of new.cluster ≡ spots_of old.cluster → Shows contents old st → Shows contents new st
+  pub still_shown : (st : State) → spots_of new.rows.cluster ≡ spots_of old.rows.cluster → Shows contents old st → Shows contents new st
   still_shown st spots shown = record {
-    in_order = (kept shown.in_order).0;
-    shows = shows_kept st shown.in_order shown.shows;
+    in_order = ((kept shown.in_order.0).0, follows shown.in_order.0 shown.in_order.1);
+    shows = shows_kept st shown.in_order.0 shown.shows;
     cleaners = subst (λ (k : Cleaners). ShowsCleaners k st) (sym same_cleaners) shown.cleaners;
-    collectors = subst (λ (cells : Cells). ShowsCollectors cells new.collectors st) (sym (kept shown.in_order).1)
-        (subst (λ (k : Collectors). ShowsCollectors (cells_in (contents old.cluster.files) old.cluster.tablets) k st) (sym same_collectors) shown.collectors);
+    collectors = subst (λ (cells : Cells). ShowsCollectors cells new.collectors st) (sym (kept shown.in_order.0).1)
+        (subst (λ (k : Collectors). ShowsCollectors (cells_in (contents old.rows.cluster.files) old.rows.cluster.tablets) k st) (sym same_collectors) shown.collectors);
     places = ap (λ spots. map machine_place spots) spots ∙ shown.places;
     next = shown.next;
   }
 
   -- what leaves the machine as it is
-  pub tells_as : (request : Request) (reply : Reply) → spots_of new.cluster ≡ spots_of old.cluster → ((st : State) → Shows contents old st → Step st request reply st)
-      → (Holds contents old.cluster → reply ≡ Refused Damaged → ⊥) → StepsAs (Shows contents) old new request reply
-  tells_as request reply spots step whole = λ before reached shown. (before, step before shown, still_shown before spots shown, whole shown.in_order)
+  pub tells_as : (request : Request) (reply : Reply) → spots_of new.rows.cluster ≡ spots_of old.rows.cluster → ((st : State) → Shows contents old st → Step st request reply st)
+      → (Holds contents old.rows.cluster → reply ≡ Refused Damaged → ⊥) → StepsAs (Shows contents) old new request reply
+  tells_as request reply spots step whole = λ before reached shown. (before, step before shown, still_shown before spots shown, whole shown.in_order.0)
 
   -- a tablet is cut
-  pub splits_as : (row : List ℕ) (left : ℕ) → IsRow row → ¬ BarsSplit row old.cluster.places → left ≡ length old.cluster.places + 1 → IsCut row left old.cluster.places new.cluster.places
+  pub splits_as : (row : List ℕ) (left : ℕ) → IsRow row → ¬ BarsSplit row old.rows.cluster.places → left ≡ length old.rows.cluster.places + 1 → IsCut row left old.rows.cluster.places new.rows.cluster.places
       → StepsAs (Shows contents) old new (Split row) (SplitOff left)
   splits_as row left is free count cut = λ before reached shown.
       let same = sym shown.places in
-      let number : left ≡ before.next_tablet = count ∙ sym (shown.next ∙ ap (λ (n : ℕ). n + 1) (length_so before old.cluster.places same)) in
-      let next = placed before (machine_places new.cluster.places) (left + 1) in
-      let step = splits_so before old.cluster.places same row left cut.place.tablet cut.names new.cluster.places is free number cut.cut in
+      let number : left ≡ before.next_tablet = count ∙ sym (shown.next ∙ ap (λ (n : ℕ). n + 1) (length_so before old.rows.cluster.places same)) in
+      let next = placed before (machine_places new.rows.cluster.places) (left + 1) in
+      let step = splits_so before old.rows.cluster.places same row left cut.place.tablet cut.names new.rows.cluster.places is free number cut.cut in
       let after : Shows contents new next = record {
-        in_order = (kept shown.in_order).0;
+        in_order = ((kept shown.in_order.0).0, follows shown.in_order.0 shown.in_order.1);
         cleaners = cleaners_stay before next (Split row) (SplitOff left) step old.cleaners new.cleaners reached places_not_cleaners same_cleaners shown.cleaners;
-        collectors = collectors_stay before next (Split row) (SplitOff left) step _ _ old.collectors new.collectors reached shown.shows.store places_not_collectors (unchanged_if _ _ before (kept shown.in_order).1) same_collectors shown.collectors;
-        shows = shows_placed before (machine_places new.cluster.places) (left + 1) _ new.clients new.oracle.last (shows_kept before shown.in_order shown.shows);
+        collectors = collectors_stay before next (Split row) (SplitOff left) step _ _ old.collectors new.collectors reached shown.shows.store places_not_collectors (unchanged_if _ _ before (kept shown.in_order.0).1) same_collectors shown.collectors;
+        shows = shows_placed before (machine_places new.rows.cluster.places) (left + 1) _ new.clients new.oracle.last (shows_kept before shown.in_order.0 shown.shows);
         places = refl;
-        next = split_next before old.cluster.places same row left cut.place.tablet cut.names new.cluster.places count cut.cut;
+        next = split_next before old.rows.cluster.places same row left cut.place.tablet cut.names new.rows.cluster.places count cut.cut;
       } in
       (next, step, after, λ e. cc)
 
   -- a tablet is put on a server
-  pub moves_as : (n server : ℕ) → IsTable old.cluster.places → HasTablet n old.cluster.places → server < most_servers → ComesTo n server old.cluster new.cluster
+  pub moves_as : (n server : ℕ) → IsTable old.rows.cluster.places → HasTablet n old.rows.cluster.places → server < most_servers → ComesTo n server old.rows.cluster new.rows.cluster
       → StepsAs (Shows contents) old new (Move n server) MoveDone
   moves_as n server table has near comes = λ before reached shown.
       let same = sym shown.places in
       elim comes [
         | inl stays ↦ (
           before,
-          stays_step before old.cluster.places same n server stays.0.0 table near stays.0.1 stays.0.2 stays.0.3,
+          stays_step before old.rows.cluster.places same n server stays.0.0 table near stays.0.1 stays.0.2 stays.0.3,
           still_shown before (ap (λ (cluster : ClusterState F). spots_of cluster) stays.1) shown,
           λ e. cc,
         )
         | inr put ↦
             let goes = put.moved in
-            let next = placed before (machine_places new.cluster.places) before.next_tablet in
-            let step = moves_step before old.cluster.places same n server goes.names new.cluster.places table has near goes.moved in (
+            let next = placed before (machine_places new.rows.cluster.places) before.next_tablet in
+            let step = moves_step before old.rows.cluster.places same n server goes.names new.rows.cluster.places table has near goes.moved in (
               next,
               step,
               record {
-                in_order = (kept shown.in_order).0;
+                in_order = ((kept shown.in_order.0).0, follows shown.in_order.0 shown.in_order.1);
                 cleaners = cleaners_stay before next (Move n server) MoveDone step old.cleaners new.cleaners reached places_not_cleaners same_cleaners shown.cleaners;
-                collectors = collectors_stay before next (Move n server) MoveDone step _ _ old.collectors new.collectors reached shown.shows.store places_not_collectors (unchanged_if _ _ before (kept shown.in_order).1) same_collectors shown.collectors;
-                shows = shows_placed before (machine_places new.cluster.places) before.next_tablet _ new.clients new.oracle.last (shows_kept before shown.in_order shown.shows);
+                collectors = collectors_stay before next (Move n server) MoveDone step _ _ old.collectors new.collectors reached shown.shows.store places_not_collectors (unchanged_if _ _ before (kept shown.in_order.0).1) same_collectors shown.collectors;
+                shows = shows_placed before (machine_places new.rows.cluster.places) before.next_tablet _ new.clients new.oracle.last (shows_kept before shown.in_order.0 shown.shows);
                 places = refl;
-                next = move_next before old.cluster.places same n server goes.names new.cluster.places shown.next goes.moved;
+                next = move_next before old.rows.cluster.places same n server goes.names new.rows.cluster.places shown.next goes.moved;
               },
               λ e. cc,
             )

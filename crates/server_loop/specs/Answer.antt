@@ -1,7 +1,7 @@
 -- All that is said of an answer to a request, in eight parts.
-use Rattle.std.specs.Prelude.{◌≡◌, ℕ, Option, IfSome, ⊤}
+use Rattle.std.specs.Prelude.{◌≡◌, ◌≢◌, ℕ, Option, IfSome, ⊤}
 use Rattle.cell_key.specs.declared.refusals.Refusal.{Refusal}
-use Rattle.cell_key.specs.declared.refusals.Refusal.TheVariants.{Device, Exhausted, MemtableFull}
+use Rattle.cell_key.specs.declared.refusals.Refusal.TheVariants.{Damaged, Device, Exhausted, MemtableFull}
 use Rattle.file_store.specs.Store.{Contents}
 use Rattle.file_store.specs.declared.files.Files.{Ghosts as Files}
 use Rattle.oracle.specs.declared.marks.MarkStore.{Ghosts as MarkStore}
@@ -10,23 +10,30 @@ use Rattle.request_codec.specs.Requests.{asked}
 use Rattle.request_codec.specs.declared.replies.Reply.{Reply}
 use Rattle.request_codec.specs.declared.replies.Reply.TheVariants as codec
 use Rattle.request_codec.specs.declared.requests.Request.{Request}
-use Rattle.request_codec.specs.declared.requests.Request.TheVariants.{Begin, Step, CleanBegin, CleanStep, CollectBegin, CollectStep, Checkpoint}
-use Rattle.row_atomic.specs.Changes.{Holds}
-use Rattle.row_atomic.specs.Commands.{OverfillsCluster}
+use Rattle.request_codec.specs.declared.requests.Request.TheVariants.{Begin, Get, Scan, Step, CleanBegin, CleanStep, CollectBegin, CollectStep, Sweep, Checkpoint, Split, Move}
+use Rattle.row_atomic.specs.Journals.{JournalView}
+use Rattle.row_atomic.specs.Recorded.{OverfillsRecorded, logged_of, seen_recorded}
 use Rattle.row_atomic.specs.Room.{HasNoRoom}
 use Rattle.row_atomic.specs.Roots.{Checkpoints, Rests, StaysOrRests}
 use Rattle.si_model.specs.Machine.{IsReached, State}
+use Rattle.si_model.specs.Reads.{cell_of}
+use Rattle.si_model.specs.Replies.{range_of}
 use Rattle.server_loop.specs.Commands.{HasOutcome, command_of, outcome_of}
 use Rattle.server_loop.specs.Refusals.{IsRefusalOfRequest}
 use Rattle.server_loop.specs.Resting.{KeepsResting}
 use Rattle.server_loop.specs.Runs.{KeepsToLimits, IfRefused, StampsGoOn, StepsAs}
 use Rattle.server_loop.specs.Sessions.{ChangesCells, IsAlwaysTold, KeepsCleaners, KeepsCollectors, KeepsOracle, KeepsSessions, LeavesServerRoom}
-use Rattle.server_loop.specs.Server.{IsFaultSeen, SeesNoFault, Shows, server_cells, cluster_of, floor_of, tending_of, last_of, marks_of, top_of}
+use Rattle.server_loop.specs.Server.{HoldsIn, IsFaultSeen, SeesNoFault, Shows, server_cells, cluster_of, floor_of, journal_of, tending_of, last_of, marks_of, rows_of, top_of}
 use Rattle.server_loop.specs.declared.server.Server.{Server}
 use Rattle.txn_client.specs.Room.{ChangesNext, EditsOfStep}
+use Rattle.txn_client.specs.Reads.{IsDamaged}
+use Rattle.txn_client.specs.Refusals.{IsNextReadable}
+use Rattle.txn_client.specs.Scans.{IsScanDamaged, IsScanReadable}
 use Rattle.txn_client.specs.Shows.{IsAboutToDraw}
+use Rattle.clean_up.specs.Locks.{LacksPlace}
 use Rattle.clean_up.specs.Room as clean_up
 use Rattle.clean_up.specs.Shows.{IsUsedUp}
+use Rattle.clean_up.specs.Told as cleaner_reads
 use Rattle.version_collector.specs.Room.{AreOfVisitsIn}
 use Rattle.version_collector.specs.Shows as collectors
 
@@ -114,19 +121,44 @@ TendsTablets files request reply old new =
 -- A collector's step comes to make edits of its visits.
 abbrev pub LacksRoom : {F M : Type 0} → (F → Option Contents) → Request → Server F M → Type 0
 LacksRoom contents (Step start) old =
-    HasNoRoom OverfillsCluster (cluster_of old)
-    (EditsOfStep (Holds contents (cluster_of old)) (server_cells contents old) old.clients start)
+    HasNoRoom OverfillsRecorded (rows_of old)
+    (EditsOfStep (HoldsIn contents old) (server_cells contents old) old.clients start)
     × ((st : State) → IsReached st → Shows contents old st
-    → HasNoRoom OverfillsCluster (cluster_of old) (ChangesNext st start))
+    → HasNoRoom OverfillsRecorded (rows_of old) (ChangesNext st start))
 LacksRoom contents (CleanStep cleaner) old =
-    HasNoRoom OverfillsCluster (cluster_of old)
-    (clean_up.EditsOfStep (Holds contents (cluster_of old)) (server_cells contents old) old.cleaners
+    HasNoRoom OverfillsRecorded (rows_of old)
+    (clean_up.EditsOfStep (HoldsIn contents old) (server_cells contents old) old.cleaners
     cleaner)
     × ((st : State) → IsReached st → Shows contents old st
-    → HasNoRoom OverfillsCluster (cluster_of old) (clean_up.ChangesNext st cleaner))
+    → HasNoRoom OverfillsRecorded (rows_of old) (clean_up.ChangesNext st cleaner))
 LacksRoom contents (CollectStep collector n) old =
-    HasNoRoom OverfillsCluster (cluster_of old) (AreOfVisitsIn n)
+    HasNoRoom OverfillsRecorded (rows_of old) (AreOfVisitsIn n)
 LacksRoom contents request old = ⊤
+
+-- What a request that is answered Damaged has met. A Get, a Scan, a beginning of a cleaner and its
+-- steps: if what they read is in order, what stands there isn't. A step of a session: what it reads
+-- isn't in order. So it is with the visits of a collector, if a state is shown.
+abbrev pub ReadsDamage : {F M : Type 0} → (F → Option Contents) → Request → Server F M → Server F M
+    → Type 0
+ReadsDamage contents (Get start row family) old new =
+    (seen_recorded contents).readable (rows_of old) row.now
+    → IsDamaged (server_cells contents old) (cell_of row.now family.now) start
+ReadsDamage contents (Scan start range keys_only cells) old new =
+    IsScanReadable (seen_recorded contents) (rows_of old) (range_of range)
+    → IsScanDamaged (server_cells contents old) (range_of range) start
+ReadsDamage contents (Step start) old new =
+    ¬ IsNextReadable (seen_recorded contents) (rows_of old) old.clients start
+ReadsDamage contents (CleanBegin row family) old new =
+    (seen_recorded contents).readable (rows_of old) row.now
+    → LacksPlace (server_cells contents old) (cell_of row.now family.now)
+ReadsDamage contents (CleanStep cleaner) old new =
+    cleaner_reads.IsNextReadable (seen_recorded contents) (rows_of old) old.cleaners cleaner
+    → cleaner_reads.MeetsBadRecord (server_cells contents old) old.cleaners cleaner
+ReadsDamage contents (CollectStep collector n) old new =
+    collectors.IsStepReadable (seen_recorded contents) (rows_of old)
+    old.collectors new.collectors collector
+    → collectors.InEachShown (server_cells contents old) old.collectors (λ st. ⊥)
+ReadsDamage contents request old new = ⊤
 
 -- A device's fault is answered if a count of them rose, and only then. Of a command the outcome
 -- says why it is refused.
@@ -135,6 +167,18 @@ pub record TellsCauses {F M : Type 0} (contents : F → Option Contents) (file_f
   pub device : reply ≡ codec.Refused Device → IsFaultSeen file_faults mark_faults old new
   pub told : ¬ (reply ≡ codec.Refused Device) → SeesNoFault file_faults mark_faults old new
   pub full : reply ≡ codec.Refused MemtableFull → LacksRoom contents request old
+  pub damaged : reply ≡ codec.Refused Damaged → ReadsDamage contents request old new
+
+-- ---- what is written down
+
+-- What a server takes to be logged stays, where edits are recorded, and where tablets move all that is
+-- written down. A checkpoint and a sweep end the recording.
+abbrev pub KeepsLogged : Request → Option JournalView → Option JournalView → Type 0
+KeepsLogged Checkpoint old new = ⊤
+KeepsLogged Sweep old new = ⊤
+KeepsLogged (Split row) old new = new ≡ old
+KeepsLogged (Move tablet server) old new = new ≡ old
+KeepsLogged request old new = logged_of new ≡ logged_of old
 
 -- ---- all of them
 
@@ -150,6 +194,8 @@ pub record IsPlainAnswer {F M : Type 0} (files : Files F) (marks : MarkStore M)
   pub causes : TellsCauses files.contents files.faults marks.faults request reply old new
   -- no request changes when a server compacts and merges by itself
   pub tending : tending_of new ≡ tending_of old
+  -- and none but a checkpoint and a sweep changes what it takes to be logged
+  pub logged : KeepsLogged request (journal_of old) (journal_of new)
 
 -- What is said of an answer.
 pub record IsAnswer {F M : Type 0} (files : Files F) (marks : MarkStore M)

@@ -1,5 +1,6 @@
 -- The command of a cluster that a request is, and what it did there.
-use Rattle.std.specs.Prelude.{◌≡◌, ◌⊎◌, ℕ, Option, None, Some}
+use Rattle.std.specs.Prelude.{◌≡◌, ◌⊎◌, ℕ, Option, None, Some, Result, Ok, Err}
+use Rattle.cell_key.specs.declared.refusals.Refusal.{Refusal}
 use Rattle.cell_key.specs.declared.refusals.Refusal.TheVariants.{BadRow, BadColumn, NoMemory}
 use Rattle.file_store.specs.Store.{Contents}
 use Rattle.request_codec.specs.declared.replies.Reply.{Reply}
@@ -32,6 +33,11 @@ outcome_of (codec.Sweep count) = outcome.Swept count
 outcome_of (codec.Raw found) = outcome.Newest found
 outcome_of (codec.Refused refusal) = outcome.Refused refusal
 outcome_of reply = outcome.Done
+
+-- the reply to a checkpoint
+abbrev pub checkpointed : Result (Unit {0}) Refusal → Reply
+checkpointed (Ok done) = codec.Checkpoint
+checkpointed (Err refusal) = codec.Refused refusal
 
 -- a name in a request is none, or there is no memory to copy it
 abbrev pub RefusesName : Request → Reply → Type 0

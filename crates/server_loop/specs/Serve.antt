@@ -93,6 +93,7 @@ EndsBy (Ok ends.ReadsUsedUp) most_reads read rest left held held' =
 EndsBy (Err faults.Read) most_reads read rest left held held' = IsPartial rest
 EndsBy (Err faults.Write) most_reads read rest left held held' = length rest ≤ most_left
 EndsBy (Err faults.NoMemory) most_reads read rest left held held' = (read ≡ []) × Keeps held held'
+EndsBy (Err faults.Log) most_reads read rest left held held' = ⊥
 
 -- ---- what was done with bytes
 
@@ -140,6 +141,7 @@ HandlesTo shows says between (Err faults.Write) old new bytes rest held held' =
     × Handles shows says between (Err faults.Write) old new bytes rest held held'
 HandlesTo shows says between (Err faults.Read) old new bytes rest held held' = ⊥
 HandlesTo shows says between (Err faults.NoMemory) old new bytes rest held held' = ⊥
+HandlesTo shows says between (Err faults.Log) old new bytes rest held held' = ⊥
 
 -- the same of the first frame alone: if it was whole, fewer bytes are left
 abbrev pub HandlesFirst : {S : Type 0} → (S → State → Type 0) → (S → Lent → CodecReply → S → Type 0)
@@ -168,6 +170,7 @@ Delivers shows between (Err faults.Write) body old new held held' =
     × Appends held held' (take count (frame body)))
 Delivers shows between (Err faults.Read) body old new held held' = ⊥
 Delivers shows between (Err faults.NoMemory) body old new held held' = ⊥
+Delivers shows between (Err faults.Log) body old new held held' = ⊥
 
 -- ---- a call
 
@@ -238,3 +241,5 @@ ReadsOn shows says between (Err faults.Write) hand hand' old new left left' held
     reads' = ServesOn shows says between hand old new left left' held held' reads (Err faults.Write)
 ReadsOn shows says between (Err faults.NoMemory) hand hand' old new left left' held held' reads
     reads' = ⊥
+ReadsOn shows says between (Err faults.Log) hand hand' old new left left' held held' reads reads' =
+    ⊥

@@ -1,12 +1,15 @@
 -- What it means that a server shows a state of the machine.
-use Rattle.std.specs.Prelude.{◌≡◌, ◌≤◌, ℕ, ◌+◌, ◌⊎◌, List, length, map, Option, IfSome}
+use Rattle.std.specs.Prelude.{◌≡◌, ◌≤◌, ℕ, ◌+◌, ◌⊎◌, List, length, map, Option, None, IfSome}
 use Rattle.std.specs.FinMap.{empty}
 use Rattle.cell_key.specs.Cells.{Cells}
 use Rattle.cell_key.specs.Faults.{HasRisen}
 use Rattle.file_store.specs.Store.{Contents}
 use Rattle.metadata_table.specs.Places.{PlaceView}
 use Rattle.row_atomic.specs.Clusters.{ClusterState, Spot, cells_in, spot_of}
-use Rattle.row_atomic.specs.Changes.{Holds}
+use Rattle.row_atomic.specs.Commands.{cells_shown}
+use Rattle.row_atomic.specs.Journals.{JournalView}
+use Rattle.row_atomic.specs.Recorded.{seen_recorded}
+use Rattle.row_atomic.specs.declared.recorded.Recorded.{Recorded}
 use Rattle.sorted_file.specs.Limits.{IsFileLimit}
 use Rattle.si_model.specs.Machine as machine
 use Rattle.si_model.specs.Machine.{State}
@@ -27,7 +30,23 @@ pub record IsConfig (config : Config) : Type 0 where
 
 -- its cluster, the mark store of its oracle, and the oracle's last stamp
 abbrev pub cluster_of : {F M : Type 0} → Server F M → ClusterState F
-cluster_of server = server.cluster
+cluster_of server = server.rows.cluster
+
+-- its rows: the cluster, and the journal of a server whose edits outlast a kill
+abbrev pub rows_of : {F M : Type 0} → Server F M → Recorded F
+rows_of server = server.rows
+
+abbrev pub journal_of : {F M : Type 0} → Server F M → Option JournalView
+journal_of server = server.rows.journal
+
+-- the same server, whose edits are not recorded
+abbrev pub forgets : {F M : Type 0} → Server F M → Server F M
+forgets server = record server { rows = record (rows_of server) { journal = None } }
+
+-- the files hold; and if edits are recorded, what is written down makes what the cluster shows of
+-- what the files keep
+abbrev pub HoldsIn : {F M : Type 0} → (F → Option Contents) → Server F M → Type 0
+HoldsIn contents server = (seen_recorded contents).holds (rows_of server)
 
 abbrev pub marks_of : {F M : Type 0} → Server F M → M
 marks_of server = server.oracle.marks
@@ -58,23 +77,23 @@ machine_places places = map machine_place (map spot_of places)
 -- next one gets the number after theirs.
 pub record Shows {F M : Type 0} (contents : F → Option Contents) (server : Server F M)
     (st : State) : Type 0 where
-  pub in_order : Holds contents server.cluster
-  pub shows : clients.Shows (cells_in (contents server.cluster.files) server.cluster.tablets)
+  pub in_order : HoldsIn contents server
+  pub shows : clients.Shows (cells_in (contents server.rows.cluster.files) server.rows.cluster.tablets)
       server.clients server.oracle.last st
   pub cleaners : ShowsCleaners server.cleaners st
-  pub collectors : ShowsCollectors (cells_in (contents server.cluster.files) server.cluster.tablets)
+  pub collectors : ShowsCollectors (cells_in (contents server.rows.cluster.files) server.rows.cluster.tablets)
       server.collectors st
-  pub places : machine_places server.cluster.places ≡ st.places
+  pub places : machine_places server.rows.cluster.places ≡ st.places
   pub next : st.next_tablet ≡ length st.places + 1
 
 -- Tablets in order, an oracle's last stamp, the greatest stamp that was answered and the greatest
 -- floor show a state in which nothing is open: it has no session, and no cleaner or collector has
 -- had a number yet.
-pub record ShowsNoSession {F : Type 0} (contents : F → Option Contents) (cluster : ClusterState F)
+pub record ShowsNoSession {F : Type 0} (contents : F → Option Contents) (rows : Recorded F)
     (last top floor : ℕ) (st : State) : Type 0 where
-  pub in_order : Holds contents cluster
-  pub store : ShowsCells (cells_in (contents cluster.files) cluster.tablets) st
-  pub places : machine_places cluster.places ≡ st.places
+  pub in_order : (seen_recorded contents).holds rows
+  pub store : ShowsCells (cells_shown contents rows.cluster) st
+  pub places : machine_places rows.cluster.places ≡ st.places
   pub next : st.next_tablet ≡ length st.places + 1
   pub answered : st.top ≡ top
   pub marked : st.top ≤ last
@@ -88,15 +107,15 @@ pub record ShowsNoSession {F : Type 0} (contents : F → Option Contents) (clust
 -- a device of the files or of the mark store has failed
 abbrev pub IsFaultSeen : {F M : Type 0} → (F → ℕ) → (M → ℕ) → Server F M → Server F M → Type 0
 IsFaultSeen file_faults mark_faults old new =
-    HasRisen (file_faults old.cluster.files) (file_faults new.cluster.files)
+    HasRisen (file_faults old.rows.cluster.files) (file_faults new.rows.cluster.files)
     ⊎ HasRisen (mark_faults old.oracle.marks) (mark_faults new.oracle.marks)
 
 -- no device has failed
 pub record SeesNoFault {F M : Type 0} (file_faults : F → ℕ) (mark_faults : M → ℕ)
     (old new : Server F M) : Type 0 where
-  pub files : file_faults new.cluster.files ≡ file_faults old.cluster.files
+  pub files : file_faults new.rows.cluster.files ≡ file_faults old.rows.cluster.files
   pub marks : mark_faults new.oracle.marks ≡ mark_faults old.oracle.marks
 
 -- all cells
 abbrev pub server_cells : {F M : Type 0} → (F → Option Contents) → Server F M → Cells
-server_cells contents server = cells_in (contents server.cluster.files) server.cluster.tablets
+server_cells contents server = cells_in (contents server.rows.cluster.files) server.rows.cluster.tablets

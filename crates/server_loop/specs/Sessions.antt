@@ -5,7 +5,8 @@ use Rattle.cell_key.specs.declared.refusals.Refusal.{Refusal}
 use Rattle.cell_key.specs.declared.refusals.Refusal.TheVariants.{Device, UnknownSession, UnknownCleaner, UnknownCollector, BadCount, EmptyCommit, TooManySessions}
 use Rattle.file_store.specs.Store.{Contents}
 use Rattle.row_atomic.specs.Changes.{Holds}
-use Rattle.row_atomic.specs.Commands.{IsNoFuller, OverfillsCluster}
+use Rattle.row_atomic.specs.Recorded.{OverfillsRecorded, seen_recorded}
+use Rattle.row_atomic.specs.Room.{TakesNoRoom}
 use Rattle.si_model.specs.Collection.{Collects}
 use Rattle.si_model.specs.Machine.{IsReached, State}
 use Rattle.si_model.specs.Reads.{cell_of}
@@ -19,10 +20,10 @@ use Rattle.request_codec.specs.declared.replies.Reply.TheVariants as codec
 use Rattle.request_codec.specs.declared.requests.Request.{Request}
 use Rattle.request_codec.specs.declared.requests.Request.TheVariants.{Begin, Get, Set, Delete, Scan, Step, Stop, CleanBegin, CleanStep, CollectBegin, CollectStep, Minor, Merge, Major, Split, Move, Sweep, Checkpoint, OracleRestart}
 use Rattle.server_loop.specs.Runs.{IfRefused}
-use Rattle.server_loop.specs.Server.{Shows, server_cells, cluster_of, marks_of}
+use Rattle.server_loop.specs.Server.{HoldsIn, Shows, server_cells, cluster_of, marks_of, rows_of}
 use Rattle.server_loop.specs.declared.server.Server.{Server}
 use Rattle.txn_client.specs.Room.{ChangesNext, Makes, TakesRoom}
-use Rattle.txn_client.specs.Scans.{IsScanFound}
+use Rattle.txn_client.specs.Scans.{IsScanFound, IsScanReadable}
 use Rattle.txn_client.specs.declared.sessions.Clients.{Clients}
 use Rattle.txn_client.specs.Shows.{IsAboutToDraw, IsCrowded, IsInactive, IsUnwritten, SameClients, TouchesFor}
 use Rattle.clean_up.specs.Room as clean_up
@@ -49,7 +50,7 @@ pub record MakesVisits {F M : Type 0} (contents : F → Option Contents) (collec
 abbrev pub ThinsHeldCells : {F M : Type 0} → (F → Option Contents) → ℕ → Server F M → Server F M
     → Type 0
 ThinsHeldCells contents n old new =
-    Holds contents (cluster_of old)
+    HoldsIn contents old
     → Thins n (server_cells contents old) (server_cells contents new)
 
 -- files that hold keep the cells, though they are written anew
@@ -95,8 +96,9 @@ ChangesCells contents (CollectStep collector n) (codec.Refused refusal) old new 
     × (ComesFirst refusal n → server_cells contents new ≡ server_cells contents old)
 ChangesCells contents (Scan start range keys_only cells) (codec.Scan reply) old new =
     (server_cells contents new ≡ server_cells contents old)
-    × (Holds contents (cluster_of old) → IsScanFound (server_cells contents old) start
-    (range_of range) keys_only cells (map item_of reply.items.items) (reach_of reply.reach))
+    × (IsScanReadable (seen_recorded contents) (rows_of old) (range_of range)
+    → IsScanFound (server_cells contents old) start (range_of range) keys_only cells
+    (map item_of reply.items.items) (reach_of reply.reach))
 ChangesCells contents (Minor tablet) reply old new = KeepsHeldCells contents old new
 ChangesCells contents (Merge tablet count) reply old new = KeepsHeldCells contents old new
 ChangesCells contents (Major tablet) reply old new = KeepsHeldCells contents old new
@@ -111,34 +113,34 @@ ChangesCells contents request reply old new =
 -- that of its edits. What a command or a checkpoint takes its outcome says.
 abbrev pub LeavesServerRoom : {F M : Type 0} → (F → Option Contents) → Request → Reply → Server F M
     → Server F M → Type 0
-LeavesServerRoom contents Begin reply old new = IsNoFuller (cluster_of old) (cluster_of new)
+LeavesServerRoom contents Begin reply old new = TakesNoRoom OverfillsRecorded (rows_of old) (rows_of new)
 LeavesServerRoom contents (Get start row family) reply old new =
-    IsNoFuller (cluster_of old) (cluster_of new)
+    TakesNoRoom OverfillsRecorded (rows_of old) (rows_of new)
 LeavesServerRoom contents (Set start row family value) reply old new =
-    IsNoFuller (cluster_of old) (cluster_of new)
+    TakesNoRoom OverfillsRecorded (rows_of old) (rows_of new)
 LeavesServerRoom contents (Delete start row family) reply old new =
-    IsNoFuller (cluster_of old) (cluster_of new)
+    TakesNoRoom OverfillsRecorded (rows_of old) (rows_of new)
 LeavesServerRoom contents (Scan start range keys_only cells) reply old new =
-    IsNoFuller (cluster_of old) (cluster_of new)
+    TakesNoRoom OverfillsRecorded (rows_of old) (rows_of new)
 LeavesServerRoom contents (Step start) (codec.Step progress) old new =
     (st : State) → IsReached st → Shows contents old st
-    → TakesRoom OverfillsCluster (ChangesNext st start) progress (cluster_of old)
-    (cluster_of new)
+    → TakesRoom OverfillsRecorded (ChangesNext st start) progress (rows_of old)
+    (rows_of new)
 LeavesServerRoom contents (Step start) (codec.Refused refusal) old new =
-    IsNoFuller (cluster_of old) (cluster_of new)
-LeavesServerRoom contents (Stop start) reply old new = IsNoFuller (cluster_of old) (cluster_of new)
+    TakesNoRoom OverfillsRecorded (rows_of old) (rows_of new)
+LeavesServerRoom contents (Stop start) reply old new = TakesNoRoom OverfillsRecorded (rows_of old) (rows_of new)
 LeavesServerRoom contents (CleanBegin row family) reply old new =
-    IsNoFuller (cluster_of old) (cluster_of new)
+    TakesNoRoom OverfillsRecorded (rows_of old) (rows_of new)
 LeavesServerRoom contents (CleanStep cleaner) (codec.CleanStep done) old new =
     (st : State) → IsReached st → Shows contents old st
-    → clean_up.TakesRoom OverfillsCluster (clean_up.ChangesNext st cleaner) done (cluster_of old)
-    (cluster_of new)
+    → clean_up.TakesRoom OverfillsRecorded (clean_up.ChangesNext st cleaner) done (rows_of old)
+    (rows_of new)
 LeavesServerRoom contents (CleanStep cleaner) (codec.Refused refusal) old new =
-    IsNoFuller (cluster_of old) (cluster_of new)
-LeavesServerRoom contents CollectBegin reply old new = IsNoFuller (cluster_of old) (cluster_of new)
+    TakesNoRoom OverfillsRecorded (rows_of old) (rows_of new)
+LeavesServerRoom contents CollectBegin reply old new = TakesNoRoom OverfillsRecorded (rows_of old) (rows_of new)
 LeavesServerRoom contents (CollectStep collector n) reply old new =
-    TakesRoomOfVisits OverfillsCluster n (cluster_of old) (cluster_of new)
-LeavesServerRoom contents OracleRestart reply old new = IsNoFuller (cluster_of old) (cluster_of new)
+    TakesRoomOfVisits OverfillsRecorded n (rows_of old) (rows_of new)
+LeavesServerRoom contents OracleRestart reply old new = TakesNoRoom OverfillsRecorded (rows_of old) (rows_of new)
 LeavesServerRoom contents request reply old new = ⊤
 
 -- What takes no memory is answered exactly: that as many sessions are active as there may be, that

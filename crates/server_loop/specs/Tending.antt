@@ -4,7 +4,8 @@ use Rattle.file_store.specs.Store.{Contents}
 use Rattle.row_atomic.specs.Clusters.{ClusterState}
 use Rattle.row_atomic.specs.Flushes.{CompactsFull, KeepsShown, MergesMany}
 use Rattle.row_atomic.specs.Memtables.{is_any_full}
-use Rattle.server_loop.specs.Server.{cluster_of, tending_of}
+use Rattle.si_model.specs.Machine.{State}
+use Rattle.server_loop.specs.Server.{Shows, cluster_of, journal_of, tending_of}
 use Rattle.server_loop.specs.declared.server.Server.{Server}
 use Rattle.server_loop.specs.declared.server.Tending.{Tending}
 
@@ -43,9 +44,11 @@ pub record IsTended {F M : Type 0} (contents : F → Option Contents) (faults : 
   pub merges : MergesWhere (is_due (tending_of old) (cluster_of old)) contents faults
       (tending_of old).merge compacted (cluster_of new)
   pub keeps : KeepsShown contents faults (cluster_of old) (cluster_of new)
+  pub shown : (st : State) → Shows contents old st → Shows contents new st
   pub sessions : new.clients ≡ old.clients
   pub cleaners : new.cleaners ≡ old.cleaners
   pub collectors : new.collectors ≡ old.collectors
   pub oracle : new.oracle ≡ old.oracle
+  pub journal : journal_of new ≡ journal_of old
   pub tending : tending_of new
       ≡ merged_to (is_due (tending_of old) (cluster_of old)) (tending_of old) (cluster_of new).next_name

@@ -13,7 +13,7 @@ impl<F: Files + Drop, M: MarkStore + Drop> Server<F, M> {
         ensures { IsPlainAnswer F.Files M.MarkStore self.old
             (Request.CleanBegin row.entry family.entry) result self.new }
     {
-        match self.cleaners.begin(&mut self.cluster, row, family) {
+        match self.cleaners.begin(&mut self.rows, row, family) {
             Ok(found) => Reply::CleanBegin(found),
             Err(refusal) => Reply::Refused(refusal),
         }
@@ -23,7 +23,7 @@ impl<F: Files + Drop, M: MarkStore + Drop> Server<F, M> {
         ensures { IsPlainAnswer F.Files M.MarkStore self.old
             (Request.CleanStep cleaner) result self.new }
     {
-        match self.cleaners.step(&mut self.cluster, cleaner) {
+        match self.cleaners.step(&mut self.rows, cleaner) {
             Ok(done) => Reply::CleanStep(done),
             Err(refusal) => Reply::Refused(refusal),
         }

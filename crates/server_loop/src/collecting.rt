@@ -40,7 +40,7 @@ impl<F: Files + Drop, M: MarkStore + Drop> Server<F, M> {
         ensures { IsPlainAnswer F.Files M.MarkStore
             self.old (Request.CollectStep collector visits) result self.new }
     {
-        match self.collectors.step(&mut self.cluster, collector, visits) {
+        match self.collectors.step(&mut self.rows, collector, visits) {
             Ok(done) => collected(done),
             Err(refusal) => Reply::Refused(refusal),
         }

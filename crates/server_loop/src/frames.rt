@@ -1,6 +1,6 @@
 //! Frames over a writer.
 
-ghost use Rattle.std.specs.Prelude.{◌≡◌, ℕ, ◌<◌, ◌≤◌, length, take, IfErr, IfOk, OnOk, OnErr, vec_capacity};
+ghost use Rattle.std.specs.Prelude.{◌≡◌, ℕ, ◌+◌, ◌++◌, ◌<◌, ◌≤◌, length, take, IfErr, IfOk, OnOk, OnErr, vec_capacity};
 ghost use Rattle.std.specs.Io.KnownBytes.{Appends, Keeps};
 ghost use Rattle.request_codec.specs.Replies.{replied, reply_body};
 ghost use Rattle.request_codec.specs.Stream.{frame};
@@ -15,7 +15,7 @@ use std::io::Write;
 pub(crate) struct WriteFailed;
 
 /// Writes all of the bytes, however few a write takes. After an `Err` not all of them were written.
-fn write_whole<W: Write>(writer: &mut W, bytes: &[u8]) -> Result<(), WriteFailed>
+pub(crate) fn write_whole<W: Write>(writer: &mut W, bytes: &[u8]) -> Result<(), WriteFailed>
     ensures ok { OnOk result (Appends (W.contents writer.old) (W.contents writer.new) bytes.now) }
     ensures err { OnErr result ((n : ℕ) × (n < length bytes.now)
         × Appends (W.contents writer.old) (W.contents writer.new) (take n bytes.now)) }
@@ -31,8 +31,20 @@ fn write_whole<W: Write>(writer: &mut W, bytes: &[u8]) -> Result<(), WriteFailed
     Ok(())
 }
 
-/// Puts the frame of a reply in place of what the buffer holds.
+/// Appends the frame of a reply to what the buffer holds.
 #[tactic(auto, using(crate::proofs::Lengths::fits_frame), unfolding(request_codec::specs::Stream::frame))]
+pub(crate) fn push_frame(reply: &Reply, out: &mut Vec<u8>)
+    requires room { length out.old.items + LONGEST_REPLY ≤ vec_capacity out.old }
+    requires limits { KeepsToLimits reply.now }
+    ensures items { out.new.items ≡ out.old.items ++ frame (reply_body (replied reply.now)) }
+    ensures capacity { vec_capacity out.old ≤ vec_capacity out.new }
+{
+    let length = reply_length(reply) as u32;
+    out.extend_from_slice(&length.to_be_bytes()).unwrap();
+    encode_reply(reply, out).unwrap();
+}
+
+/// Puts the frame of a reply in place of what the buffer holds.
 fn frame_reply(reply: &Reply, out: &mut Vec<u8>)
     requires room { LONGEST_REPLY ≤ vec_capacity out.old }
     requires limits { KeepsToLimits reply.now }
@@ -40,9 +52,7 @@ fn frame_reply(reply: &Reply, out: &mut Vec<u8>)
     ensures capacity { vec_capacity out.old ≤ vec_capacity out.new }
 {
     out.clear();
-    let length = reply_length(reply) as u32;
-    out.extend_from_slice(&length.to_be_bytes()).unwrap();
-    encode_reply(reply, out).unwrap();
+    push_frame(reply, out);
 }
 
 /// Writes the frame of a reply to its end. After an `Err` not all of it was written.

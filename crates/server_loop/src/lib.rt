@@ -2,19 +2,27 @@
 #![tactic(auto)]
 
 mod audit;
+mod batches;
 mod cleaning;
 mod collecting;
 mod command_line;
 mod command_options;
 mod frames;
+mod lasting;
+mod lasting_opening;
+mod lasting_serving;
 mod laws;
 mod opening;
+mod recorded_server;
+mod recording;
+mod replaying;
 mod scanning;
 mod server;
 mod serving;
 mod sessions;
 mod statuses;
 mod upkeep;
+mod whole_files;
 
 pub use audit::Audit;
 pub use command_line::options;
@@ -22,7 +30,9 @@ pub use command_options::{
     DEFAULT_FLUSH, LEAST_CACHE, LEAST_FLUSH_BYTES, MOST_CACHE, MOST_FLUSH, MOST_FLUSH_BYTES,
     MOST_MERGE, Options,
 };
+pub use lasting::LastingServer;
 pub use laws::{resting_is_kept, rests_between};
 pub use row_atomic::FlushLimits;
 pub use server::{Config, Server};
 pub use statuses::{End, ServeFault, end_status, open_status};
+pub use whole_files::WholeFiles;

@@ -10,7 +10,7 @@ use cell_key::Refusal;
 use file_store::Files;
 use metadata_table::one_root;
 use oracle::{MarkStore, Oracle};
-use row_atomic::Cluster;
+use row_atomic::{Cluster, Recorded};
 use std::alloc::Global;
 
 impl<F: Files + Drop, M: MarkStore + Drop> Server<F, M> {
@@ -81,6 +81,7 @@ impl<F: Files + Drop, M: MarkStore + Drop> Server<F, M> {
         if oracle.last() < top {
             return Err((Refusal::Damaged, cluster.into_files(), oracle.into_mark()));
         }
-        Ok(Server::without_sessions(alloc, cluster, oracle, top, floor, config))
+        let rows = Recorded::new(cluster);
+        Ok(Server::without_sessions(alloc, rows, oracle, top, floor, config))
     }
 }

@@ -22,7 +22,7 @@ impl<F: Files + Drop, M: MarkStore + Drop> Server<F, M> {
     {
         match self
             .clients
-            .scan(&mut self.cluster, start, range, keys_only, cells)
+            .scan(&mut self.rows, start, range, keys_only, cells)
         {
             Ok(reply) => Reply::Scan(reply),
             Err(refusal) => Reply::Refused(refusal),

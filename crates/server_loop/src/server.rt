@@ -13,7 +13,9 @@ use clean_up::Cleaners;
 use file_store::Files;
 use oracle::{MarkStore, Oracle};
 use request_codec::{Reply, Request};
-use row_atomic::{Cluster, Command, FlushLimits, Outcome, root_is_stored, root_stays};
+use row_atomic::{
+    Cluster, Command, FlushLimits, Outcome, Recorded, keeps_following, root_is_stored, root_stays,
+};
 use si_model::shows_reopened;
 use std::alloc::Global;
 use std::io::{Read, Write};
@@ -51,7 +53,7 @@ pub(crate) struct Tending {
 #[derive(Drop)]
 pub struct Server<F, M: MarkStore> {
     pub(crate) alloc: Global,
-    pub(crate) cluster: Cluster<F>,
+    pub(crate) rows: Recorded<F>,
     pub(crate) oracle: Oracle<M>,
     pub(crate) clients: Clients,
     pub(crate) cleaners: Cleaners,
@@ -61,7 +63,7 @@ pub struct Server<F, M: MarkStore> {
 
 impl<F: Files + Drop, M: MarkStore + Drop> Server<F, M> {
     ghost use Rattle.server_loop.specs.Answer.{DrawsStamps, IsAnswer, IsMachineStep, IsPlainAnswer, MakesEdits, ServesSessions, TellsCauses, TendsTablets};
-    ghost use Rattle.server_loop.specs.Server.{IsConfig, Shows, ShowsNoSession, cluster_of, tending_of, last_of, marks_of};
+    ghost use Rattle.server_loop.specs.Server.{IsConfig, Shows, ShowsNoSession, cluster_of, rows_of, tending_of, last_of, marks_of};
     ghost use Rattle.row_atomic.specs.Flushes.{KeepsShown};
     ghost use Rattle.server_loop.specs.Resting.{KeepsResting};
     ghost use Rattle.row_atomic.specs.Commands.{IsOutcome};
@@ -71,16 +73,16 @@ impl<F: Files + Drop, M: MarkStore + Drop> Server<F, M> {
     /// greatest floor that a collector began with.
     pub(crate) fn without_sessions(
         alloc: Global,
-        cluster: Cluster<F>,
+        rows: Recorded<F>,
         oracle: Oracle<M>,
         top: Stamp,
         floor: Stamp,
         config: Config,
     ) -> Server<F, M>
         requires top { top < 2 ^ 63 }
-        ensures shown { (st : State) → ShowsNoSession F.contents cluster oracle.last top floor st
+        ensures shown { (st : State) → ShowsNoSession F.contents rows oracle.last top floor st
             → Shows F.contents result st }
-        ensures cluster { cluster_of result ≡ cluster }
+        ensures rows { rows_of result ≡ rows }
         ensures last { last_of result ≡ oracle.last }
         ensures marks { marks_of result ≡ oracle.marks }
         ensures tending { tending_of result
@@ -88,7 +90,7 @@ impl<F: Files + Drop, M: MarkStore + Drop> Server<F, M> {
     {
         Server {
             alloc,
-            cluster,
+            rows,
             oracle,
             clients: Clients::new(alloc, top),
             cleaners: Cleaners::new(alloc),
@@ -142,7 +144,10 @@ impl<F: Files + Drop, M: MarkStore + Drop> Server<F, M> {
             Err((refusal, files)) => return Err((refusal, files, marks)),
         };
         match Oracle::open(marks) {
-            Ok(oracle) => Ok(Server::without_sessions(alloc, cluster, oracle, 0, 0, config)),
+            Ok(oracle) => {
+                let rows = Recorded::new(cluster);
+                Ok(Server::without_sessions(alloc, rows, oracle, 0, 0, config))
+            }
             Err((refusal, marks)) => Err((refusal, cluster.into_files(), marks)),
         }
     }
@@ -164,9 +169,11 @@ impl<F: Files + Drop, M: MarkStore + Drop> Server<F, M> {
     pub fn cache_blocks(&mut self, most_blocks: NonZeroUsize)
         ensures outcome { IsOutcome F.contents F.faults Command.DropCaches Outcome.Done
             (cluster_of self.old) (cluster_of self.new) }
-        ensures others { self.new ≡ record self.old { cluster = cluster_of self.new } }
+        ensures others { self.new ≡ record self.old {
+          rows = record (rows_of self.old) { cluster = cluster_of self.new };
+        } }
     {
-        self.cluster.resize_caches(most_blocks);
+        self.rows.cluster.resize_caches(most_blocks);
     }
 
     /// Whether files are to be merged: a memtable is full, so that one is written, or one was since files were last
@@ -174,8 +181,8 @@ impl<F: Files + Drop, M: MarkStore + Drop> Server<F, M> {
     fn is_merge_due(&self) -> bool
         ensures { result ≡ is_due (tending_of self.now) (cluster_of self.now) }
     {
-        self.cluster.has_full(self.tending.flush)
-            || self.cluster.next_name() != self.tending.merged_to
+        self.rows.cluster.has_full(self.tending.flush)
+            || self.rows.cluster.next_name() != self.tending.merged_to
     }
 
     /// Merges newest files of the tablets that have many, if that is to be done at all.
@@ -183,10 +190,12 @@ impl<F: Files + Drop, M: MarkStore + Drop> Server<F, M> {
         ensures merges { Merges F.contents F.faults (tending_of self.old).merge
             (cluster_of self.old) (cluster_of self.new) }
         ensures keeps { KeepsShown F.contents F.faults (cluster_of self.old) (cluster_of self.new) }
-        ensures others { self.new ≡ record self.old { cluster = cluster_of self.new } }
+        ensures others { self.new ≡ record self.old {
+          rows = record (rows_of self.old) { cluster = cluster_of self.new };
+        } }
     {
         if let Some(most) = self.tending.merge {
-            self.cluster.merge_many(most);
+            self.rows.cluster.merge_many(most);
         }
     }
 
@@ -196,12 +205,12 @@ impl<F: Files + Drop, M: MarkStore + Drop> Server<F, M> {
             (cluster_of self.old) (cluster_of self.new) }
         ensures keeps { KeepsShown F.contents F.faults (cluster_of self.old) (cluster_of self.new) }
         ensures others { self.new ≡ record self.old {
-          cluster = cluster_of self.new;
+          rows = record (rows_of self.old) { cluster = cluster_of self.new };
           tending = record (tending_of self.old) { merged_to = (cluster_of self.new).next_name };
         } }
     {
         self.merge_newest();
-        self.tending.merged_to = self.cluster.next_name();
+        self.tending.merged_to = self.rows.cluster.next_name();
     }
 
     /// Takes a request to the function that answers it.
@@ -322,8 +331,9 @@ impl<F: Files + Drop, M: MarkStore + Drop> Answering for Server<F, M> {
     }
 
     fn tend(&mut self) {
+        keeps_following::<F>();
         let due = self.is_merge_due();
-        self.cluster.compact_full(self.tending.flush);
+        self.rows.cluster.compact_full(self.tending.flush);
         if due {
             self.merge_files();
         }

@@ -22,7 +22,7 @@ impl<F: Files + Drop, M: MarkStore + Drop> Server<F, M> {
         ensures { IsPlainAnswer F.Files M.MarkStore self.old
             (Request.Get start row.entry family.entry) result self.new }
     {
-        match self.clients.get(&mut self.cluster, start, row, family) {
+        match self.clients.get(&mut self.rows, start, row, family) {
             Ok(found) => Reply::Get(found),
             Err(refusal) => Reply::Refused(refusal),
         }
@@ -51,10 +51,7 @@ impl<F: Files + Drop, M: MarkStore + Drop> Server<F, M> {
     pub(crate) fn step(&mut self, start: Stamp) -> Reply
         ensures { IsPlainAnswer F.Files M.MarkStore self.old (Request.Step start) result self.new }
     {
-        match self
-            .clients
-            .step(&mut self.cluster, &mut self.oracle, start)
-        {
+        match self.clients.step(&mut self.rows, &mut self.oracle, start) {
             Ok(progress) => Reply::Step(progress),
             Err(refusal) => Reply::Refused(refusal),
         }

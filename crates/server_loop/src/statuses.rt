@@ -32,6 +32,9 @@ pub enum ServeFault {
     /// There was no room for the buffers. Nothing was read or written.
     #[error("no memory")]
     NoMemory,
+    /// The log failed. No reply whose edits it may lack was written.
+    #[error("log failed")]
+    Log,
 }
 
 /// The exit status of the program after this end of `serve`, and its line on the standard error, which is empty
@@ -47,6 +50,7 @@ pub fn end_status(ended: &Result<End, ServeFault>) -> (u8, &'static str)
         Ok(End::ReadsUsedUp) => (8, "tabletd: reads used up"),
         Err(ServeFault::Read | ServeFault::Write) => (6, "tabletd: read or write failed"),
         Err(ServeFault::NoMemory) => (7, "tabletd: no memory"),
+        Err(ServeFault::Log) => (4, "tabletd: log failed"),
     }
 }
 

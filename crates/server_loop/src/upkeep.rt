@@ -1,20 +1,29 @@
 //! What a server does for the upkeep of its tablets, and raw reads, one step of the snapshot machine each.
 
+ghost use Rattle.std.specs.Prelude.{◌≡◌, [], IfErr, OnOk};
+ghost use Rattle.row_atomic.specs.Changes.{Holds};
+ghost use Rattle.row_atomic.specs.Clusters.{spots_of};
+ghost use Rattle.row_atomic.specs.Recorded.{Follows, FollowsListed, TracksListed};
+ghost use Rattle.server_loop.specs.Commands.{checkpointed};
+ghost use Rattle.si_model.specs.Machine.{IsStorageRefusal, State};
+
 use crate::server::Server;
 use cell_key::{Family, Qualifier, Refusal, Row, Stamp};
 use file_store::Files;
 use oracle::MarkStore;
 use request_codec::{Reply, Request};
-use row_atomic::Rows;
+use row_atomic::{Rows, keeps_following, root_is_stored};
 
 impl<F: Files + Drop, M: MarkStore + Drop> Server<F, M> {
     ghost use Rattle.server_loop.specs.Answer.{IsPlainAnswer};
+    ghost use Rattle.server_loop.specs.Server.{Shows, cluster_of, forgets, journal_of};
 
     pub(crate) fn minor(&mut self, tablet: u32) -> Reply
         ensures { IsPlainAnswer F.Files M.MarkStore self.old
             (Request.Minor tablet) result self.new }
     {
-        match self.cluster.minor(tablet) {
+        keeps_following::<F>();
+        match self.rows.cluster.minor(tablet) {
             Ok(()) => Reply::Minor,
             Err(refusal) => Reply::Refused(refusal),
         }
@@ -24,7 +33,8 @@ impl<F: Files + Drop, M: MarkStore + Drop> Server<F, M> {
         ensures { IsPlainAnswer F.Files M.MarkStore self.old
             (Request.Merge tablet count) result self.new }
     {
-        match self.cluster.merge(tablet, count) {
+        keeps_following::<F>();
+        match self.rows.cluster.merge(tablet, count) {
             Ok(()) => Reply::Merge,
             Err(refusal) => Reply::Refused(refusal),
         }
@@ -34,7 +44,8 @@ impl<F: Files + Drop, M: MarkStore + Drop> Server<F, M> {
         ensures { IsPlainAnswer F.Files M.MarkStore self.old
             (Request.Major tablet) result self.new }
     {
-        match self.cluster.major(tablet) {
+        keeps_following::<F>();
+        match self.rows.cluster.major(tablet) {
             Ok(()) => Reply::Major,
             Err(refusal) => Reply::Refused(refusal),
         }
@@ -44,11 +55,12 @@ impl<F: Files + Drop, M: MarkStore + Drop> Server<F, M> {
         ensures { IsPlainAnswer F.Files M.MarkStore self.old
             (Request.Split row.entry) result self.new }
     {
+        keeps_following::<F>();
         let row = match Row::new(self.alloc, row) {
             Ok(row) => row,
             Err(refusal) => return Reply::Refused(refusal),
         };
-        match self.cluster.split(&row) {
+        match self.rows.cluster.split(&row) {
             Ok(left) => Reply::Split(left),
             Err(refusal) => Reply::Refused(refusal),
         }
@@ -58,27 +70,75 @@ impl<F: Files + Drop, M: MarkStore + Drop> Server<F, M> {
         ensures { IsPlainAnswer F.Files M.MarkStore self.old
             (Request.Move tablet server) result self.new }
     {
-        match self.cluster.move_to(tablet, server) {
+        keeps_following::<F>();
+        match self.rows.cluster.move_to(tablet, server) {
             Ok(()) => Reply::Move,
             Err(refusal) => Reply::Refused(refusal),
         }
     }
 
-    pub(crate) fn sweep(&mut self) -> Reply
-        ensures { IsPlainAnswer F.Files M.MarkStore self.old Request.Sweep result self.new }
+    /// Removes the files that no tablet has. What is written down stays: no root may name a file that no tablet has.
+    pub(crate) fn sweep_files(&mut self) -> Reply
+        ensures plain { IsPlainAnswer F.Files M.MarkStore self.old Request.Sweep result
+            (forgets self.new) }
+        ensures spots { spots_of (cluster_of self.new) ≡ spots_of (cluster_of self.old) }
+        ensures follows { Holds F.contents (cluster_of self.old)
+            → FollowsListed F.contents (cluster_of self.old) (journal_of self.old)
+            → FollowsListed F.contents (cluster_of self.new) (journal_of self.new) }
+        ensures journal { journal_of self.new ≡ journal_of self.old }
     {
-        match self.cluster.sweep() {
+        keeps_following::<F>();
+        match self.rows.cluster.sweep() {
             Ok(count) => Reply::Sweep(count),
             Err(refusal) => Reply::Refused(refusal),
         }
     }
 
+    /// The same. What was written down may need the files that are gone, and is forgotten.
+    pub(crate) fn sweep(&mut self) -> Reply
+        ensures { IsPlainAnswer F.Files M.MarkStore self.old Request.Sweep result self.new }
+    {
+        let reply = self.sweep_files();
+        self.rows.forget();
+        reply
+    }
+
+    /// Puts a root that keeps what is shown. What is written down stays.
+    ///
+    /// # Errors
+    ///
+    /// Those of a checkpoint.
+    pub(crate) fn put_root(&mut self) -> Result<(), Refusal>
+        ensures plain { IsPlainAnswer F.Files M.MarkStore self.old Request.Checkpoint
+            (checkpointed result) (forgets self.new) }
+        ensures shown { (st : State) → Shows F.contents self.old st
+            → Shows F.contents (forgets self.new) st }
+        ensures refusal { IfErr result IsStorageRefusal }
+        ensures spots { spots_of (cluster_of self.new) ≡ spots_of (cluster_of self.old) }
+        ensures clean { OnOk result (Holds F.contents (cluster_of self.old)
+            → TracksListed F.contents (cluster_of self.new) []) }
+        ensures follows { F.replaces → Holds F.contents (cluster_of self.old)
+            → Follows F.contents (cluster_of self.old) (journal_of self.old)
+            → Follows F.contents (cluster_of self.new) (journal_of self.new) }
+        ensures journal { journal_of self.new ≡ journal_of self.old }
+    {
+        keeps_following::<F>();
+        let top = self.clients.top();
+        let floor = self.collectors.greatest_floor();
+        match self.rows.cluster.checkpoint(top, floor) {
+            Ok(()) => Ok(()),
+            Err(refusal) => Err(refusal),
+        }
+    }
+
+    /// The same, as an answer. What was written down is forgotten: a refused put may leave a root from which it doesn't
+    /// lead on.
     pub(crate) fn checkpoint(&mut self) -> Reply
         ensures { IsPlainAnswer F.Files M.MarkStore self.old Request.Checkpoint result self.new }
     {
-        let top = self.clients.top();
-        let floor = self.collectors.greatest_floor();
-        match self.cluster.checkpoint(top, floor) {
+        let put = self.put_root();
+        self.rows.forget();
+        match put {
             Ok(()) => Reply::Checkpoint,
             Err(refusal) => Reply::Refused(refusal),
         }
@@ -95,6 +155,7 @@ impl<F: Files + Drop, M: MarkStore + Drop> Server<F, M> {
         ensures { IsPlainAnswer F.Files M.MarkStore self.old
             (Request.Raw row.entry family.entry qualifier lo hi) result self.new }
     {
+        keeps_following::<F>();
         let row = match Row::new(self.alloc, row) {
             Ok(row) => row,
             Err(refusal) => return Reply::Refused(refusal),
@@ -103,7 +164,8 @@ impl<F: Files + Drop, M: MarkStore + Drop> Server<F, M> {
             Ok(family) => family,
             Err(refusal) => return Reply::Refused(refusal),
         };
-        match self.cluster.newest(&row, &family, qualifier, lo, hi) {
+        root_is_stored::<F>();
+        match self.rows.cluster.newest(&row, &family, qualifier, lo, hi) {
             Ok(found) => Reply::Raw(found),
             Err(refusal) => Reply::Refused(refusal),
         }

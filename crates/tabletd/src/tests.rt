@@ -24,6 +24,7 @@ mod logs;
 mod memory;
 mod memtables;
 mod places;
+mod recorded;
 mod recordings;
 mod rows;
 mod scan_limits;

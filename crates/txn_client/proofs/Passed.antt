@@ -71,12 +71,12 @@ pub want_row : (Holds : Type 0) (e : Refusal) → e ≡ NoMemory → IsRowRefusa
 want_row H e is = subst (IsRowRefusal H) (sym is) tt
 
 -- that a step on a cell is
-pub row_step : (Holds None : Type 0) (e : Refusal) → IsRowRefusal Holds e → IsCellStepRefusal Holds None e
-row_step H P MemtableFull u = tt
-row_step H P Device u = tt
-row_step H P NoMemory u = tt
-row_step H P Damaged u = u
-row_step H P _ u = absurd u
+pub row_step : (Row At None : Type 0) (e : Refusal) → (At → Row) → IsRowRefusal Row e → IsCellStepRefusal At None e
+row_step R A P MemtableFull so u = tt
+row_step R A P Device so u = tt
+row_step R A P NoMemory so u = tt
+row_step R A P Damaged so u = λ whole. u (so whole)
+row_step R A P _ so u = absurd u
 
 pub advance_step : (Holds None : Type 0) (e : Refusal) → IsAdvanceRefusal Holds None e → IsStepRefusal e
 advance_step H P EmptyCommit u = tt

@@ -72,9 +72,9 @@ module _ {R : Type 0} (seen : View R) (old new : R) where
 
   module _ (held : seen.holds old) where
     pub does_make : (P : List ℕ → List Edit → Type 0) (p : Progress) → Does seen P p old new → Makes P p (seen.cells old) (seen.cells new)
-    does_make P (progress.Held k n) made = (made.row, made.edits, made.such, made.applied.made held)
-    does_make P (progress.Committed c) made = (made.row, made.edits, made.such, made.applied.made held)
-    does_make P (progress.Finished k n) (inl made) = inl (made.row, made.edits, made.such, made.applied.made held)
+    does_make P (progress.Held k n) made = (made.row, made.edits, made.such, made.applied.made (seen.each_readable old held made.row))
+    does_make P (progress.Committed c) made = (made.row, made.edits, made.such, made.applied.made (seen.each_readable old held made.row))
+    does_make P (progress.Finished k n) (inl made) = inl (made.row, made.edits, made.such, made.applied.made (seen.each_readable old held made.row))
     does_make P (progress.Finished k n) (inr reads) = inr reads.kept
     does_make P (progress.Conflict k) reads = reads.kept
     does_make P (progress.Stamped c) reads = reads.kept
@@ -82,9 +82,9 @@ module _ {R : Type 0} (seen : View R) (old new : R) where
 
     -- what joins or goes stands where edits such as these touch it
     pub does_touch : (P : List ℕ → List Edit → Type 0) (p : Progress) (T : Type 0) → ((row : List ℕ) (edits : List Edit) → P row edits → seen.cells new ≡ after_edits (seen.cells old) edits → T) → (seen.cells new ≡ seen.cells old → T) → Does seen P p old new → T
-    does_touch P (progress.Held k n) T changed kept made = changed made.row made.edits made.such (made.applied.made held)
-    does_touch P (progress.Committed c) T changed kept made = changed made.row made.edits made.such (made.applied.made held)
-    does_touch P (progress.Finished k n) T changed kept (inl made) = changed made.row made.edits made.such (made.applied.made held)
+    does_touch P (progress.Held k n) T changed kept made = changed made.row made.edits made.such (made.applied.made (seen.each_readable old held made.row))
+    does_touch P (progress.Committed c) T changed kept made = changed made.row made.edits made.such (made.applied.made (seen.each_readable old held made.row))
+    does_touch P (progress.Finished k n) T changed kept (inl made) = changed made.row made.edits made.such (made.applied.made (seen.each_readable old held made.row))
     does_touch P (progress.Finished k n) T changed kept (inr reads) = kept reads.kept
     does_touch P (progress.Conflict k) T changed kept reads = kept reads.kept
     does_touch P (progress.Stamped c) T changed kept reads = kept reads.kept

@@ -13,6 +13,8 @@ use Rattle.cell_key.specs.Keys.{byte_cmp}
 use Rattle.cell_key.specs.Places.{Place, AreNextCells, HasCell, IsAfter, IsNextCell, place_cmp}
 use Rattle.cell_key.specs.declared.keys.Qualifier.{Qualifier}
 use Rattle.cell_key.specs.declared.keys.Qualifier.TheVariants.{Lock, Write}
+use Rattle.row_atomic.specs.Calls.{IsRowFrom}
+use Rattle.row_atomic.proofs.RowsFrom.{from_later, row_after}
 use Rattle.si_model.specs.Machine.{Range, Item, ToEnd, UpTo}
 use Rattle.si_model.specs.Reads.{cell_of}
 use Rattle.si_model.specs.Scans.{IsAfterCell, IsBetween, IsOfFamily, IsUpToRow, Rise, Says, place_at}
@@ -160,6 +162,12 @@ looked_between cells range n last begins some x is = absurd (omega arith)
 looked_between cells range n last (goes_on {n = m} {last = before} {x = y} looks next up_to) some x is =
     subst (λ (z : Cell). IsBetween range z) (same_Some y x is) (record { after = looks_after cells range m before looks y (as_after before y next.0); up_to = up_to })
 
+-- the rows from the last of them on are rows from the beginning of the range on
+pub looks_from : (cells : Cells) (range : Range) (n : ℕ) (last : Option Cell) → LooksAt cells range n last → (row : List ℕ) → IsRowFrom (option_map place_at last) row → IsRowFrom (option_map place_at range.after) row
+looks_from cells range n last begins row from = from
+looks_from cells range n last (goes_on {n = m} {last = before} {x = x} looks next up_to) row from =
+    from_later (option_map place_at range.after) (place_at x) (after_as range.after x (looks_after cells range m before looks x (as_after before x next.0))) row from
+
 -- ---- one cell more
 
 module _ (cells : Cells) (s : ℕ) (range : Range) (keys_only : Bool) where
@@ -184,6 +192,10 @@ module _ (cells : Cells) (s : ℕ) (range : Range) (keys_only : Bool) where
 
     pub next_between : IsBetween range x
     next_between = record { after = looks_after cells range n last g.looks x later; up_to = up_to }
+
+    -- its row is one from the beginning of the range on
+    pub row_from : IsRowFrom (option_map place_at range.after) x.row
+    row_from = row_after (option_map place_at range.after) (place_at x) (after_as range.after x next_between.after)
 
     -- between the last cell and the next one no cell has anything
     nothing_between : (y : Cell) → IsAfterCell last y → place_cmp (place_at y) (place_at x) ≡ Less → IsFound cells y s Nothing

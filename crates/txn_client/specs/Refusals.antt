@@ -1,5 +1,7 @@
 -- Which refusals a call answers, why a step of a session is refused, and what it leaves then.
-use Rattle.std.specs.Prelude.{◌≡◌, ◌⊎◌, ◌^◌, ◌-◌, ⊤, ℕ, IfErr, IsErrOf, Option, Result}
+use Rattle.std.specs.Prelude.{◌≡◌, ◌⊎◌, ◌^◌, ◌-◌, ⊤, ℕ, IfErr, IsErrOf, Option, Result, Some, slice_get}
+use Rattle.std.specs.BTreeMap as btree
+use Rattle.std.specs.Ordering.{nat_cmp}
 use Rattle.cell_key.specs.Faults.{HasReason}
 use Rattle.cell_key.specs.declared.refusals.Refusal.{Refusal}
 use Rattle.cell_key.specs.declared.refusals.Refusal.TheVariants.{UnknownSession, WrongPhase, BadRow, BadColumn, BadValue, TooManyWrites, TooManySessions, EmptyCommit, BadCount, MemtableFull, Exhausted, Device, NoMemory, Damaged}
@@ -8,6 +10,11 @@ use Rattle.oracle.specs.Ranges.{IsDrawRefusal, OracleState, next_range_end}
 use Rattle.row_atomic.specs.Calls.{OnlyReads, View}
 use Rattle.si_model.specs.Machine.{State}
 use Rattle.txn_client.specs.Shows.{IsAboutToDraw, IsInactive, IsUnwritten}
+use Rattle.txn_client.specs.declared.session.Phase.{Phase}
+use Rattle.txn_client.specs.declared.session.Phase.TheVariants.{Open, Holding, Stamped, Finishing}
+use Rattle.txn_client.specs.declared.session.Session.{Session}
+use Rattle.txn_client.specs.declared.sessions.Clients.{Clients}
+use Rattle.txn_client.specs.declared.writes.Write.{Write}
 
 abbrev pub IsBeginRefusal : Refusal → Type 0
 IsBeginRefusal TooManySessions = ⊤
@@ -66,23 +73,43 @@ IsStepRefusal NoMemory = ⊤
 IsStepRefusal Damaged = ⊤
 IsStepRefusal _ = ⊥
 
--- A row transaction is refused by the rows: damage is answered only if they don't hold.
+-- A row transaction is refused by the rows: damage is answered only if what it reads isn't in order.
 abbrev pub IsRowRefusal : Type 0 → Refusal → Type 0
-IsRowRefusal Holds MemtableFull = ⊤
-IsRowRefusal Holds Device = ⊤
-IsRowRefusal Holds NoMemory = ⊤
-IsRowRefusal Holds Damaged = ¬ Holds
-IsRowRefusal Holds _ = ⊥
+IsRowRefusal Readable MemtableFull = ⊤
+IsRowRefusal Readable Device = ⊤
+IsRowRefusal Readable NoMemory = ⊤
+IsRowRefusal Readable Damaged = ¬ Readable
+IsRowRefusal Readable _ = ⊥
 
 -- So is a step of a session on a cell, or the session has no cell to take.
 abbrev pub IsCellStepRefusal : Type 0 → Type 0 → Refusal → Type 0
-IsCellStepRefusal Holds HasNone EmptyCommit = HasNone
-IsCellStepRefusal Holds HasNone refusal = IsRowRefusal Holds refusal
+IsCellStepRefusal Readable HasNone EmptyCommit = HasNone
+IsCellStepRefusal Readable HasNone refusal = IsRowRefusal Readable refusal
 
 -- A step of a session is refused so, or by the oracle.
 abbrev pub IsAdvanceRefusal : Type 0 → Type 0 → Refusal → Type 0
-IsAdvanceRefusal Holds HasNone Exhausted = ⊤
-IsAdvanceRefusal Holds HasNone refusal = IsCellStepRefusal Holds HasNone refusal
+IsAdvanceRefusal Readable HasNone Exhausted = ⊤
+IsAdvanceRefusal Readable HasNone refusal = IsCellStepRefusal Readable HasNone refusal
+
+-- ---- what a step of a session reads
+
+-- the cell that it is at, counted among the session's writes
+abbrev pub next_cell : Phase → ℕ
+next_cell Open = 0
+next_cell (Holding k) = k
+next_cell Stamped = 0
+next_cell (Finishing k) = k
+
+-- what a read of the row of the session's cell k reads is in order
+abbrev pub IsReadableAt : {R : Type 0} → View R → R → Session → ℕ → Type 0
+IsReadableAt seen rows session k =
+    (write : Write) → slice_get session.writes k ≡ Some write → seen.readable rows write.cell.row
+
+-- so it is with the cell that the session at t is at
+abbrev pub IsNextReadable : {R : Type 0} → View R → R → Clients → ℕ → Type 0
+IsNextReadable seen rows clients t =
+    (session : Session) → btree.get nat_cmp clients.sessions t ≡ Some session
+    → IsReadableAt seen rows session (next_cell session.phase)
 
 -- A device's fault is answered if one of two counts has risen. The other count stays.
 abbrev pub HasOneReason : {T : Type 0} → ℕ → ℕ → ℕ → ℕ → Result T Refusal → Type 0

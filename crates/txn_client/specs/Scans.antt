@@ -5,6 +5,7 @@ use Rattle.cell_key.specs.Cells.{Cells}
 use Rattle.cell_key.specs.Names.{IsRow, IsFamily}
 use Rattle.cell_key.specs.Places.{HasCell, IsNextCell}
 use Rattle.cell_key.specs.declared.keys.Qualifier.TheVariants.{Lock}
+use Rattle.row_atomic.specs.Calls.{AreReadableFrom, View}
 use Rattle.si_model.specs.Machine.{Range, Item, Valued, Locked, Unsent, Reach, ToEnd, UpTo, most_scanned}
 use Rattle.si_model.specs.Scans.{Covers, IsAfterCell, IsBetween, IsOfFamily, IsUpToRow, Rise, Says, item_length, items_length, most_items, place_at}
 use Rattle.si_model.specs.Sets.{◌∈◌}
@@ -81,6 +82,10 @@ pub record IsScanFound (cells : Cells) (s : ℕ) (range : Range) (keys_only : Bo
   pub rises : Rise range.after items
   pub few : length items ≤ count
   pub stops : Stops cells s range keys_only count items reach
+
+-- what is read from the beginning of the range on is in order
+abbrev pub IsScanReadable : {R : Type 0} → View R → R → Range → Type 0
+IsScanReadable seen rows range = AreReadableFrom seen rows (option_map place_at range.after)
 
 -- a cell between the ends of the range is damaged
 abbrev pub IsScanDamaged : Cells → Range → ℕ → Type 0

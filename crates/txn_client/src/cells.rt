@@ -27,13 +27,13 @@ use std::alloc::Global;
 
 /// What a session that began at `start` reads of a cell (Percolator, Get).
 pub(crate) fn read_cell<R: Rows>(rows: &mut R, cell: &Cell, start: Stamp) -> Result<Found, Refusal>
-    ensures found { R.seen.holds rows.old
+    ensures found { R.seen.readable rows.old cell.now.row
         → IfOk result (IsFound (R.seen.cells rows.old) cell.now start) }
     ensures short { IfOk result IsShort }
     ensures reads { OnlyReads R.seen rows.old rows.new }
     ensures refusal { IfErr result IsReadRefusal }
-    ensures damaged { R.seen.holds rows.old → IfErr result (λ refusal. refusal ≡ Refusal.Damaged
-        → IsDamaged (R.seen.cells rows.old) cell.now start) }
+    ensures damaged { R.seen.readable rows.old cell.now.row → IfErr result (λ refusal.
+        refusal ≡ Refusal.Damaged → IsDamaged (R.seen.cells rows.old) cell.now start) }
     ensures reason { HasReason (R.faults rows.old) (R.faults rows.new) result }
 {
     let lock = rows.newest(&cell.row, &cell.family, Qualifier::Lock, 0, start)?;
@@ -66,7 +66,7 @@ pub(crate) fn is_taken<R: Rows>(rows: &mut R, cell: &Cell, start: Stamp) -> Resu
     ensures free { R.seen.holds rows.old
         → IfOk result (λ taken. OnFalse taken (IsFree (R.seen.cells rows.old) cell.now start)) }
     ensures reads { OnlyReads R.seen rows.old rows.new }
-    ensures refusal { IfErr result (IsRefusalOfRead (R.seen.holds rows.old)) }
+    ensures refusal { IfErr result (IsRefusalOfRead (R.seen.readable rows.old cell.now.row)) }
     ensures reason { HasReason (R.faults rows.old) (R.faults rows.new) result }
 {
     let lock = rows.newest(&cell.row, &cell.family, Qualifier::Lock, 0, u64::MAX)?;
@@ -178,7 +178,7 @@ pub(crate) fn record<R: Rows>(
         → IfOk result (λ stood. OnFalse stood (IsGone (R.seen.cells rows.old) cell.now start)) }
     ensures left { IfOk result (λ stood. OnFalse stood (OnlyReads R.seen rows.old rows.new)) }
     ensures err { OnErr result (OnlyReads R.seen rows.old rows.new) }
-    ensures refusal { IfErr result (IsRowRefusal (R.seen.holds rows.old)) }
+    ensures refusal { IfErr result (IsRowRefusal (R.seen.readable rows.old cell.now.row)) }
     ensures full { IsErrOf result Refusal.MemtableFull
         → HasNoRoom R.seen.overfills rows.old
         (RecordsCell (R.seen.holds rows.old) (R.seen.cells rows.old) cell.now start commit kind) }

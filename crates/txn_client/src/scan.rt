@@ -5,7 +5,7 @@ ghost use Rattle.std.specs.Bool.{OnFalse, OnTrue};
 ghost use Rattle.cell_key.specs.Cells.{Cells};
 ghost use Rattle.cell_key.specs.Faults.{HasReason};
 ghost use Rattle.cell_key.specs.Places.{AreNextCells};
-ghost use Rattle.row_atomic.specs.Calls.{OnlyReads};
+ghost use Rattle.row_atomic.specs.Calls.{AreReadableFrom, OnlyReads};
 ghost use Rattle.row_atomic.specs.Refusals.{IsReadRefusal, IsRefusalOfRead};
 ghost use Rattle.si_model.specs.Machine as machine;
 ghost use Rattle.si_model.specs.declared.replies.Cell.{Cell as CellOf};
@@ -14,7 +14,7 @@ ghost use Rattle.si_model.specs.Scans.{HasFamilies, HasRows, item_length, items_
 ghost use Rattle.txn_client.specs.Gathering.{Gathers, HasCome, IsInLimits, IsNextIn, items_in};
 ghost use Rattle.txn_client.specs.Ranges.{range_named};
 ghost use Rattle.txn_client.specs.Reads.{IsFound, ReadsValue};
-ghost use Rattle.txn_client.specs.Scans.{DoesNotFit, IsInScanLimits, IsNamed, IsReadAs, IsScanDamaged, IsScanFound};
+ghost use Rattle.txn_client.specs.Scans.{DoesNotFit, IsInScanLimits, IsNamed, IsReadAs, IsScanDamaged, IsScanFound, IsScanReadable};
 
 use crate::cells;
 use crate::range::Range;
@@ -140,11 +140,13 @@ impl Gathered {
 
     /// The next places after the last cell.
     fn next_places<R: Rows>(&self, rows: &mut R, most: usize) -> Result<Vec<(Row, Family)>, Refusal>
-        ensures found { R.seen.holds rows.old → IfOk result (λ found. AreNextCells
-            (R.seen.cells rows.old) (option_map place_at self.now.last) most found.items) }
+        ensures found { AreReadableFrom R.seen rows.old (option_map place_at self.now.last)
+            → IfOk result (λ found. AreNextCells (R.seen.cells rows.old)
+            (option_map place_at self.now.last) most found.items) }
         ensures few { IfOk result (λ found. length found.items ≤ most) }
         ensures reads { OnlyReads R.seen rows.old rows.new }
-        ensures refusal { IfErr result (IsRefusalOfRead (R.seen.holds rows.old)) }
+        ensures refusal { IfErr result (IsRefusalOfRead
+            (AreReadableFrom R.seen rows.old (option_map place_at self.now.last))) }
         ensures reason { HasReason (R.faults rows.old) (R.faults rows.new) result }
     {
         match &self.last {
@@ -200,10 +202,11 @@ impl Gathered {
         requires limits { IsInLimits self.old }
         requires room { self.old.looked < self.old.cells }
         requires named { IsNamed cell }
-        ensures looked { R.seen.holds rows.old → Gathers (R.seen.cells rows.old) scan.now self.old
+        ensures looked { R.seen.readable rows.old cell.row
+            → Gathers (R.seen.cells rows.old) scan.now self.old
             → IsNextIn (R.seen.cells rows.old) scan.now self.old cell → IfOk result (λ fits.
             OnTrue fits (Gathers (R.seen.cells rows.old) scan.now self.new)) }
-        ensures full { R.seen.holds rows.old
+        ensures full { R.seen.readable rows.old cell.row
             → IsNextIn (R.seen.cells rows.old) scan.now self.old cell
             → IfOk result (λ fits. OnFalse fits (DoesNotFit (R.seen.cells rows.old)
             scan.now.start (range_named scan.now.range) scan.now.keys_only (items_in self.old)
@@ -216,7 +219,8 @@ impl Gathered {
         ensures cells { self.new.cells ≡ self.old.cells }
         ensures reads { OnlyReads R.seen rows.old rows.new }
         ensures refusal { IfErr result IsReadRefusal }
-        ensures damaged { R.seen.holds rows.old → Gathers (R.seen.cells rows.old) scan.now self.old
+        ensures damaged { R.seen.readable rows.old cell.row
+            → Gathers (R.seen.cells rows.old) scan.now self.old
             → IsNextIn (R.seen.cells rows.old) scan.now self.old cell
             → IfErr result (λ refusal. refusal ≡ Refusal.Damaged → IsScanDamaged
             (R.seen.cells rows.old) (range_named scan.now.range) scan.now.start) }
@@ -240,7 +244,8 @@ impl Gathered {
     fn take_batch<R: Rows>(&mut self, rows: &mut R, scan: &Scan) -> Result<Batch, Refusal>
         requires limits { IsInLimits self.old }
         requires room { self.old.looked < self.old.cells }
-        ensures come { R.seen.holds rows.old → Gathers (R.seen.cells rows.old) scan.now self.old
+        ensures come { IsScanReadable R.seen rows.old (range_named scan.now.range)
+            → Gathers (R.seen.cells rows.old) scan.now self.old
             → IfOk result (HasCome (R.seen.cells rows.old) scan.now self.new) }
         ensures more { IfOk result (λ batch. batch ≡ Batch.Done
             → self.old.looked < self.new.looked) }
@@ -249,7 +254,8 @@ impl Gathered {
         ensures cells { self.new.cells ≡ self.old.cells }
         ensures reads { OnlyReads R.seen rows.old rows.new }
         ensures refusal { IfErr result IsReadRefusal }
-        ensures damaged { R.seen.holds rows.old → Gathers (R.seen.cells rows.old) scan.now self.old
+        ensures damaged { IsScanReadable R.seen rows.old (range_named scan.now.range)
+            → Gathers (R.seen.cells rows.old) scan.now self.old
             → IfErr result (λ refusal. refusal ≡ Refusal.Damaged → IsScanDamaged
             (R.seen.cells rows.old) (range_named scan.now.range) scan.now.start) }
         ensures reason { HasReason (R.faults rows.old) (R.faults rows.new) result }
@@ -314,15 +320,17 @@ impl Scan {
         requires rows { HasRows (range_named self.now.range) }
         requires families { HasFamilies (range_named self.now.range) }
         requires some { 1 ≤ cells }
-        ensures found { R.seen.holds rows.old → IfOk result (λ reply. IsScanFound
-            (R.seen.cells rows.old) self.now.start (range_named self.now.range) self.now.keys_only
-            cells (map item_of reply.items.items) (reach_of reply.reach)) }
+        ensures found { IsScanReadable R.seen rows.old (range_named self.now.range)
+            → IfOk result (λ reply. IsScanFound (R.seen.cells rows.old) self.now.start
+            (range_named self.now.range) self.now.keys_only cells
+            (map item_of reply.items.items) (reach_of reply.reach)) }
         ensures limits { IfOk result (λ reply. IsInScanLimits
             (map item_of reply.items.items) (reach_of reply.reach)) }
         ensures reads { OnlyReads R.seen rows.old rows.new }
         ensures refusal { IfErr result IsReadRefusal }
-        ensures damaged { R.seen.holds rows.old → IfErr result (λ refusal. refusal ≡ Refusal.Damaged
-            → IsScanDamaged (R.seen.cells rows.old) (range_named self.now.range) self.now.start) }
+        ensures damaged { IsScanReadable R.seen rows.old (range_named self.now.range)
+            → IfErr result (λ refusal. refusal ≡ Refusal.Damaged → IsScanDamaged
+            (R.seen.cells rows.old) (range_named self.now.range) self.now.start) }
         ensures reason { HasReason (R.faults rows.old) (R.faults rows.new) result }
     {
         let mut gathered = Gathered::new(alloc, self, cells)?;

@@ -19,8 +19,8 @@ ghost use Rattle.si_model.specs.ShowsCells.{ShowsCells};
 ghost use Rattle.si_model.specs.Reads.{cell_of};
 ghost use Rattle.txn_client.specs.Reads.{IsDamaged, IsFound, IsShort};
 ghost use Rattle.txn_client.specs.Ranges.{range_named};
-ghost use Rattle.txn_client.specs.Scans.{IsInScanLimits, IsScanCount, IsScanDamaged, IsScanFound};
-ghost use Rattle.txn_client.specs.Refusals.{HasNoStamp, HasOneReason, IsBeginRefusal, IsDeleteRefusal, IsGetRefusal, IsScanRefusal, IsSetRefusal, IsStepRefusal, StepCauses, StepLeaves};
+ghost use Rattle.txn_client.specs.Scans.{IsInScanLimits, IsScanCount, IsScanDamaged, IsScanFound, IsScanReadable};
+ghost use Rattle.txn_client.specs.Refusals.{HasNoStamp, HasOneReason, IsBeginRefusal, IsDeleteRefusal, IsGetRefusal, IsNextReadable, IsScanRefusal, IsSetRefusal, IsStepRefusal, StepCauses, StepLeaves};
 ghost use Rattle.row_atomic.specs.Calls.{KeepsBelow, OnlyReads};
 ghost use Rattle.row_atomic.specs.Room.{HasNoRoom};
 ghost use Rattle.txn_client.specs.Room.{ChangesNext, EditsOfStep, StepMakes};
@@ -219,13 +219,14 @@ impl Clients {
             (R.seen.cells rows.old) self.now last (machine.Get start (cell_of row.now family.now))
             (result_reply found_reply result) (R.seen.cells rows.new) self.now last }
         // What is answered stands in the cells, whatever they hold.
-        ensures found { R.seen.holds rows.old → IfOk result
+        ensures found { R.seen.readable rows.old row.now → IfOk result
             (IsFound (R.seen.cells rows.old) (cell_of row.now family.now) start) }
         ensures reads { OnlyReads R.seen rows.old rows.new }
         // What is shown is never answered as damaged.
-        ensures undamaged { R.seen.holds rows.old → (st : State) → IsReached st
+        ensures undamaged { R.seen.readable rows.old row.now → (st : State) → IsReached st
             → ShowsCells (R.seen.cells rows.old) st → ¬ (IsErrOf result Refusal.Damaged) }
-        ensures damaged { R.seen.holds rows.old → IfErr result (λ refusal. refusal ≡ Refusal.Damaged
+        ensures damaged { R.seen.readable rows.old row.now → IfErr result (λ refusal.
+            refusal ≡ Refusal.Damaged
             → IsDamaged (R.seen.cells rows.old) (cell_of row.now family.now) start) }
         ensures short { IfOk result IsShort }
         ensures refusal { IfErr result IsGetRefusal }
@@ -300,14 +301,17 @@ impl Clients {
             (machine.ScanFrom start (range_of range.entry) keys_only cells)
             (result_reply scan_reply result) (R.seen.cells rows.new) self.now last }
         // What is answered stands in the cells, whatever they hold.
-        ensures found { R.seen.holds rows.old → IfOk result (λ reply. IsScanFound
-            (R.seen.cells rows.old) start (range_of range.entry) keys_only cells
+        ensures found { IsScanReadable R.seen rows.old (range_of range.entry)
+            → IfOk result (λ reply. IsScanFound (R.seen.cells rows.old) start
+            (range_of range.entry) keys_only cells
             (map item_of reply.items.items) (reach_of reply.reach)) }
         ensures reads { OnlyReads R.seen rows.old rows.new }
         // What is shown is never answered as damaged.
-        ensures undamaged { R.seen.holds rows.old → (st : State) → IsReached st
-            → ShowsCells (R.seen.cells rows.old) st → ¬ (IsErrOf result Refusal.Damaged) }
-        ensures damaged { R.seen.holds rows.old → IfErr result (λ refusal. refusal ≡ Refusal.Damaged
+        ensures undamaged { IsScanReadable R.seen rows.old (range_of range.entry)
+            → (st : State) → IsReached st → ShowsCells (R.seen.cells rows.old) st
+            → ¬ (IsErrOf result Refusal.Damaged) }
+        ensures damaged { IsScanReadable R.seen rows.old (range_of range.entry)
+            → IfErr result (λ refusal. refusal ≡ Refusal.Damaged
             → IsScanDamaged (R.seen.cells rows.old) (range_of range.entry) start) }
         ensures limits { IfOk result (λ reply. IsInScanLimits
             (map item_of reply.items.items) (reach_of reply.reach)) }
@@ -408,7 +412,9 @@ impl Clients {
         ensures drawn { (st : State) → ShowsClients self.old st → IsAboutToDraw st start
             → rows.new ≡ rows.old }
         ensures refusal { IfErr result IsStepRefusal }
-        ensures undamaged { R.seen.holds rows.old → ¬ (IsErrOf result Refusal.Damaged) }
+        // It answers damage only of the row of the cell that it is at.
+        ensures undamaged { IsNextReadable R.seen rows.old self.old start
+            → ¬ (IsErrOf result Refusal.Damaged) }
         ensures causes { (st : State) → ShowsClients self.old st → StepCauses st start result }
         // A step that draws is refused Exhausted after the greatest stamp, and no other one is.
         ensures no_stamp { IsErrOf result Refusal.Exhausted

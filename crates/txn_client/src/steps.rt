@@ -9,7 +9,7 @@ ghost use Rattle.row_atomic.specs.Calls.{OnlyReads};
 ghost use Rattle.row_atomic.specs.Room.{HasNoRoom};
 ghost use Rattle.txn_client.specs.Shows.{Advances, DrawsNext, HasHeldSo, HasNoNext, top_after};
 ghost use Rattle.txn_client.specs.Room.{Does, EditsOf, HoldsAt, IsStamped, RecordsAt};
-ghost use Rattle.txn_client.specs.Refusals.{HasNoStamp, HasOneReason, IsAdvanceRefusal, IsCellStepRefusal, StepLeaves};
+ghost use Rattle.txn_client.specs.Refusals.{HasNoStamp, HasOneReason, IsAdvanceRefusal, IsCellStepRefusal, IsReadableAt, StepLeaves, next_cell};
 ghost use Rattle.txn_client.specs.declared.session.Phase.TheVariants as phase;
 
 use crate::cells;
@@ -43,7 +43,7 @@ impl Session {
             outcome.progress rows.old rows.new) }
         ensures same { OnErr result (OnlyReads R.seen rows.old rows.new) }
         ensures refusal { IfErr result (IsCellStepRefusal
-            (R.seen.holds rows.old) (length self.old.writes ≤ k)) }
+            (IsReadableAt R.seen rows.old self.old k) (length self.old.writes ≤ k)) }
         ensures empty { length self.old.writes ≤ k → IsErrOf result Refusal.EmptyCommit }
         ensures full { IsErrOf result Refusal.MemtableFull → HasNoRoom
             R.seen.overfills rows.old
@@ -117,7 +117,7 @@ impl Session {
             outcome.progress rows.old rows.new) }
         ensures same { OnErr result (OnlyReads R.seen rows.old rows.new) }
         ensures refusal { IfErr result (IsCellStepRefusal
-            (R.seen.holds rows.old) (length self.old.writes ≤ 0)) }
+            (IsReadableAt R.seen rows.old self.old 0) (length self.old.writes ≤ 0)) }
         ensures full { IsErrOf result Refusal.MemtableFull → HasNoRoom
             R.seen.overfills rows.old
             (RecordsAt (R.seen.holds rows.old) (R.seen.cells rows.old) self.old 0) }
@@ -162,7 +162,7 @@ impl Session {
             outcome.progress rows.old rows.new) }
         ensures same { OnErr result (OnlyReads R.seen rows.old rows.new) }
         ensures refusal { IfErr result (IsCellStepRefusal
-            (R.seen.holds rows.old) (length self.old.writes ≤ k)) }
+            (IsReadableAt R.seen rows.old self.old k) (length self.old.writes ≤ k)) }
         ensures full { IsErrOf result Refusal.MemtableFull → HasNoRoom
             R.seen.overfills rows.old
             (RecordsAt (R.seen.holds rows.old) (R.seen.cells rows.old) self.old k) }
@@ -201,7 +201,8 @@ impl Session {
             (R.seen.holds rows.old) (R.seen.cells rows.old) self.old)
             outcome.progress rows.old rows.new) }
         ensures refusal { IfErr result (IsAdvanceRefusal
-            (R.seen.holds rows.old) (HasNoNext self.old.phase (length self.old.writes))) }
+            (IsReadableAt R.seen rows.old self.old (next_cell self.old.phase))
+            (HasNoNext self.old.phase (length self.old.writes))) }
         ensures empty { self.old.phase ≡ phase.Open → length self.old.writes ≤ 0
             → IsErrOf result Refusal.EmptyCommit }
         ensures drawing { self.old.phase ≡ phase.Holding (length self.old.writes)

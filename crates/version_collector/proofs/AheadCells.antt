@@ -1,5 +1,5 @@
 -- What lies ahead of a position, when a place is taken, and when keys of a cell are erased.
-use Rattle.std.proofs.Common.{◌≡◌, ◌≢◌, ◌<◌, ◌≤◌, ◌+◌, ◌-◌, ℕ, Bool, true, false, List, [], ◌∷◌, ◌++◌, length, Option, Some, None, IsSome, ◌⊎◌, inl, inr, refl, sym, ap, ◌∙◌, subst, arith}
+use Rattle.std.proofs.Common.{◌≡◌, ◌≢◌, ◌<◌, ◌≤◌, ◌+◌, ◌-◌, ℕ, Bool, true, false, List, [], ◌∷◌, ◌++◌, length, Option, Some, None, IsSome, inl, inr, refl, sym, ap, ◌∙◌, subst, arith}
 use Rattle.std.specs.Option.{option_to_list}
 use Rattle.std.specs.Prelude.{IfSome, if◌then◌else◌}
 use Rattle.std.specs.Ordering.{ordering_reverse}
@@ -23,7 +23,7 @@ use Rattle.si_model.specs.declared.replies.Cell.{Cell}
 use Rattle.si_model.proofs.ShownAt.{cases_key, erased_at, erased_off}
 use Rattle.version_collector.specs.Ahead.{AreAhead, Follow, IsFirst, IsStill}
 use Rattle.version_collector.specs.Visits.{position_of}
-use Rattle.version_collector.specs.Erasing.{Erases, data_erasures, deletion_erasures, record_erasures}
+use Rattle.version_collector.specs.Erasing.{Erases, data_erasures, record_erasures}
 
 -- ---- the order of places
 

@@ -3,6 +3,7 @@ pub mod Erasures
 pub mod Greatest
 pub mod OneVisit
 pub mod PassedRefusals
+pub mod Reading
 pub mod Room
 pub mod Starts
 pub mod Table

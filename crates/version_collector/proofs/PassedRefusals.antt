@@ -1,25 +1,32 @@
 -- Refusals that are passed on, after reads that changed nothing.
-use Rattle.std.proofs.Common.{◌≡◌, ◌≢◌, ◌∙◌, Result, Ok, Err, IfErr, sym, subst}
+use Rattle.std.proofs.Common.{◌≡◌, ◌≢◌, ◌∙◌, ℕ, List, Result, Ok, Err, IfErr, IsErrOf, sym, subst}
 use Rattle.std.specs.Result.{IsErrAnd}
 use Rattle.cell_key.specs.declared.refusals.Refusal.{Refusal}
 use Rattle.cell_key.specs.declared.refusals.Refusal.TheVariants.{Damaged, Device}
 use Rattle.row_atomic.specs.Calls.{OnlyReads, View}
 use Rattle.row_atomic.specs.Refusals.{IsRefusalOfRead}
+use Rattle.row_atomic.proofs.Calls.{read_undamaged}
+use Rattle.cell_key.proofs.Reasons.{not_refused}
 use Rattle.version_collector.specs.Versions.{AreShown}
 
 pub not_device : (e : Refusal) → e ≡ Damaged → e ≢ Device
 not_device e is other = cc
 
 -- damage is told where something doesn't hold
-pub refused_damaged : {B : Type 0} (Holds : Type 0) (r : Result B Refusal) (e : Refusal) → IsErrAnd r (λ f. f ≡ e) → e ≡ Damaged → ¬ Holds → IfErr r (IsRefusalOfRead Holds)
-refused_damaged Holds (Ok x) e by is none = tt
-refused_damaged Holds (Err f) e by is none = subst (IsRefusalOfRead Holds) (sym (by ∙ is)) none
+pub refused_damaged : {B : Type 0} (Readable : Type 0) (r : Result B Refusal) (e : Refusal) → IsErrAnd r (λ f. f ≡ e) → e ≡ Damaged → ¬ Readable → IfErr r (IsRefusalOfRead Readable)
+refused_damaged Readable (Ok x) e by is none = tt
+refused_damaged Readable (Err f) e by is none = subst (IsRefusalOfRead Readable) (sym (by ∙ is)) none
 
-pub refused_named : {B : Type 0} (Holds None : Type 0) (r : Result B Refusal) → IfErr r (λ e. e ≡ Damaged) → IfErr r (λ e. None) → (None → ¬ Holds) → IfErr r (IsRefusalOfRead Holds)
-refused_named Holds None (Ok x) is none so = tt
-refused_named Holds None (Err f) is none so = subst (IsRefusalOfRead Holds) (sym is) (so none)
+pub refused_named : {B : Type 0} (Readable None : Type 0) (r : Result B Refusal) → IfErr r (λ e. e ≡ Damaged) → IfErr r (λ e. None) → (None → ¬ Readable) → IfErr r (IsRefusalOfRead Readable)
+refused_named Readable None (Ok x) is none so = tt
+refused_named Readable None (Err f) is none so = subst (IsRefusalOfRead Readable) (sym is) (so none)
 
--- what is held and shown before a read is held and shown after it
-pub shown_later : {R : Type 0} {seen : View R} {a b : R}
-    → OnlyReads seen a b → seen.holds a × AreShown (seen.cells a) → seen.holds b × AreShown (seen.cells b)
-shown_later reads was = (reads.still was.0, subst AreShown (sym (reads.kept)) was.1)
+-- what is readable and shown before a read is readable and shown after it
+pub shown_later : {R : Type 0} {seen : View R} {a b : R} (row : List ℕ)
+    → OnlyReads seen a b → seen.readable a row × AreShown (seen.cells a) → seen.readable b row × AreShown (seen.cells b)
+shown_later row reads was = (reads.readable row was.0, subst AreShown (sym (reads.kept)) was.1)
+
+-- what is readable isn't refused as damaged
+pub read_not_damaged : {B : Type 0} (r : Result B Refusal) (Readable : Type 0) → IfErr r (IsRefusalOfRead Readable) → Readable → ¬ IsErrOf r Damaged
+read_not_damaged (Ok x) Readable h whole is = not_refused x Damaged is
+read_not_damaged (Err e) Readable h whole is = read_undamaged Readable e h whole (let same : e ≡ Damaged = cc in same)

@@ -337,17 +337,17 @@ passed_none {Z = Z} found v b is same none (Err e) =
 
 -- ---- a read after others that changed nothing
 
-pub latest_some : {R : Type 0} {seen : View R} {Z : Type 0} {a b : R}
-    → OnlyReads seen a b → seen.holds a → (x : Cell) (q : Qualifier) (below : ℕ) (found : Option (ℕ × Vec ℕ Z)) (v : ℕ × Vec ℕ Z) → found ≡ Some v
-    → (seen.holds b → IsLatestBelow (seen.cells b) x q below (option_map stamped found)) → IsLatestBelow (seen.cells a) x q below (Some (v.0, v.1.items))
-latest_some {seen = seen} {b = b} reads held x q below found v is so =
-    subst (λ (cs : Cells). IsLatestBelow cs x q below (Some (v.0, v.1.items))) reads.kept (at_some (IsLatestBelow (seen.cells b) x q below) found v is (so (reads.still held)))
+pub latest_some : {R : Type 0} {seen : View R} {Z : Type 0} {a b : R} {row : List ℕ}
+    → OnlyReads seen a b → seen.readable a row → (x : Cell) (q : Qualifier) (below : ℕ) (found : Option (ℕ × Vec ℕ Z)) (v : ℕ × Vec ℕ Z) → found ≡ Some v
+    → (seen.readable b row → IsLatestBelow (seen.cells b) x q below (option_map stamped found)) → IsLatestBelow (seen.cells a) x q below (Some (v.0, v.1.items))
+latest_some {seen = seen} {b = b} {row = row} reads held x q below found v is so =
+    subst (λ (cs : Cells). IsLatestBelow cs x q below (Some (v.0, v.1.items))) reads.kept (at_some (IsLatestBelow (seen.cells b) x q below) found v is (so (reads.readable row held)))
 
-pub latest_none : {R : Type 0} {seen : View R} {Z : Type 0} {a b : R}
-    → OnlyReads seen a b → seen.holds a → (x : Cell) (q : Qualifier) (below : ℕ) (found : Option (ℕ × Vec ℕ Z)) → found ≡ None
-    → (seen.holds b → IsLatestBelow (seen.cells b) x q below (option_map stamped found)) → IsLatestBelow (seen.cells a) x q below None
-latest_none {seen = seen} {b = b} reads held x q below found is so =
-    subst (λ (cs : Cells). IsLatestBelow cs x q below None) reads.kept (at_none (IsLatestBelow (seen.cells b) x q below) found is (so (reads.still held)))
+pub latest_none : {R : Type 0} {seen : View R} {Z : Type 0} {a b : R} {row : List ℕ}
+    → OnlyReads seen a b → seen.readable a row → (x : Cell) (q : Qualifier) (below : ℕ) (found : Option (ℕ × Vec ℕ Z)) → found ≡ None
+    → (seen.readable b row → IsLatestBelow (seen.cells b) x q below (option_map stamped found)) → IsLatestBelow (seen.cells a) x q below None
+latest_none {seen = seen} {b = b} {row = row} reads held x q below found is so =
+    subst (λ (cs : Cells). IsLatestBelow cs x q below None) reads.kept (at_none (IsLatestBelow (seen.cells b) x q below) found is (so (reads.readable row held)))
 
 pub lower_some : {Z : Type 0} (found : Option (ℕ × Vec ℕ Z)) (v : ℕ × Vec ℕ Z) (below : ℕ) → found ≡ Some v → IfSome found (λ w. w.0 < below) → v.0 < below
 lower_some {Z} found v below is less = subst (λ (f : Option (ℕ × Vec ℕ Z)). IfSome f (λ w. w.0 < below)) is less

@@ -80,7 +80,7 @@ thins_one x cells cells' leaves = record {
 module _ {R : Type 0} (seen : View R) where
   pub thins_applied : (Holds : Type 0) (x : Cell) (floor : ℕ) (a b : R) → AppliesSuch seen (CollectsCell Holds (seen.cells a) x floor) a b → seen.holds a → Thins 1 (seen.cells a) (seen.cells b)
   thins_applied Holds x floor a b made held =
-      thins_one x (seen.cells a) (seen.cells b) (subst (λ (m : Cells). Leaves x (seen.cells a) m) (sym (made.applied.made held)) (edits_leave Holds (seen.cells a) x floor made.row made.edits made.such))
+      thins_one x (seen.cells a) (seen.cells b) (subst (λ (m : Cells). Leaves x (seen.cells a) m) (sym (made.applied.made (seen.each_readable a held made.row))) (edits_leave Holds (seen.cells a) x floor made.row made.edits made.such))
 
   pub thins_kept : (n : ℕ) (a b : R) → seen.cells b ≡ seen.cells a → Thins n (seen.cells a) (seen.cells b)
   thins_kept n a b kept = subst (λ (m : Cells). Thins n (seen.cells a) m) (sym kept) (thins_none n (seen.cells a))

@@ -23,45 +23,45 @@ abbrev pub deletion_erasures : Cell → Option ℕ → List Edit
 deletion_erasures x None = []
 deletion_erasures x (Some c) = Erase (key_of x Write c) ∷ []
 
--- The edits erase records, each with the data that it names. If the rows hold and show a reached
--- state, these are the old ones.
-pub record ErasesRecords (Holds : Type 0) (cells : Cells) (x : Cell) (floor : ℕ) (edits : List Edit)
+-- The edits erase records, each with the data that it names. If the row is readable and the cells
+-- show a reached state, these are the old ones.
+pub record ErasesRecords (Readable : Type 0) (cells : Cells) (x : Cell) (floor : ℕ) (edits : List Edit)
     : Type 0 where
   pub vs : List (ℕ × ℕ)
   pub are : edits ≡ record_erasures x vs
   pub some : vs ≢ []
   pub few : length vs ≤ 128
-  pub old : Holds → AreShown cells → AreOld cells x floor vs
+  pub old : Readable → AreShown cells → AreOld cells x floor vs
 
--- They erase data. If the rows hold and show a reached state, this is data that no record names,
--- and there are no old records.
-pub record ErasesData (Holds : Type 0) (cells : Cells) (x : Cell) (floor : ℕ) (edits : List Edit)
+-- They erase data. If the row is readable and the cells show a reached state, this is data that no
+-- record names, and there are no old records.
+pub record ErasesData (Readable : Type 0) (cells : Cells) (x : Cell) (floor : ℕ) (edits : List Edit)
     : Type 0 where
   pub ts : List ℕ
   pub are : edits ≡ data_erasures x ts
   pub some : ts ≢ []
   pub few : length ts ≤ 256
-  pub unnamed : Holds → AreShown cells → AreUnnamed cells x floor ts
+  pub unnamed : Readable → AreShown cells → AreUnnamed cells x floor ts
 
--- They erase one record. If the rows hold and show a reached state, it is that of a deletion, and
--- nothing else of the cell is to be erased.
-pub record ErasesDeletion (Holds : Type 0) (cells : Cells) (x : Cell) (floor : ℕ)
+-- They erase one record. If the row is readable and the cells show a reached state, it is that of a
+-- deletion, and nothing else of the cell is to be erased.
+pub record ErasesDeletion (Readable : Type 0) (cells : Cells) (x : Cell) (floor : ℕ)
     (edits : List Edit) : Type 0 where
   pub c : ℕ
   pub are : edits ≡ deletion_erasures x (Some c)
-  pub lone : Holds → AreShown cells → IsLoneDeletion cells x floor c
+  pub lone : Readable → AreShown cells → IsLoneDeletion cells x floor c
 
 -- they erase something of the cell
 abbrev pub Erases : Type 0 → Cells → Cell → ℕ → List Edit → Type 0
-Erases Holds cells x floor edits = ErasesRecords Holds cells x floor edits
-    ⊎ (ErasesData Holds cells x floor edits ⊎ ErasesDeletion Holds cells x floor edits)
+Erases Readable cells x floor edits = ErasesRecords Readable cells x floor edits
+    ⊎ (ErasesData Readable cells x floor edits ⊎ ErasesDeletion Readable cells x floor edits)
 
 -- the row and such edits
 abbrev pub CollectsCell : Type 0 → Cells → Cell → ℕ → List ℕ → List Edit → Type 0
-CollectsCell Holds cells x floor row edits = (row ≡ x.row) × Erases Holds cells x floor edits
+CollectsCell Readable cells x floor row edits = (row ≡ x.row) × Erases Readable cells x floor edits
 
--- the edits erase something, or there are none: if the rows hold and show a reached state, the
--- cell is tidy then
+-- the edits erase something, or there are none: if the row is readable and the cells show a reached
+-- state, the cell is tidy then
 abbrev pub ErasesOrIsTidy : Type 0 → Cells → Cell → ℕ → List Edit → Type 0
-ErasesOrIsTidy Holds cells x floor [] = Holds → AreShown cells → IsTidy cells x floor
-ErasesOrIsTidy Holds cells x floor (edit ∷ edits) = Erases Holds cells x floor (edit ∷ edits)
+ErasesOrIsTidy Readable cells x floor [] = Readable → AreShown cells → IsTidy cells x floor
+ErasesOrIsTidy Readable cells x floor (edit ∷ edits) = Erases Readable cells x floor (edit ∷ edits)

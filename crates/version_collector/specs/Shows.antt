@@ -6,14 +6,14 @@ use Rattle.std.specs.FinMap as finmap
 use Rattle.cell_key.specs.Cells.{Cells}
 use Rattle.cell_key.specs.declared.refusals.Refusal.{Refusal}
 use Rattle.cell_key.specs.declared.refusals.Refusal.TheVariants.{UnknownCollector, BadCount}
-use Rattle.row_atomic.specs.Calls.{OnlyReads, View}
+use Rattle.row_atomic.specs.Calls.{AreReadableFrom, OnlyReads, View}
 use Rattle.si_model.specs.Collection.{ChangesCells}
 use Rattle.si_model.specs.Kinds.{OfCollectors, kind_of}
 use Rattle.si_model.specs.Machine.{State, Request, Reply, CollectBegin, Step, IsReached, end_of_stamps, most_visits}
 use Rattle.si_model.specs.ShowsCells.{ShowsCells}
 use Rattle.si_model.specs.declared.replies.CollectReply.{CollectReply}
 use Rattle.si_model.specs.declared.replies.CollectReply.TheVariants.{Collected}
-use Rattle.version_collector.specs.Visits.{Comes, HasVisited, IsTold}
+use Rattle.version_collector.specs.Visits.{Comes, HasVisited, IsTold, read_from}
 use Rattle.version_collector.specs.declared.collector.Collector.{Collector}
 use Rattle.version_collector.specs.declared.collector.Pass.TheVariants.{First}
 use Rattle.version_collector.specs.declared.collectors.Collectors.{Collectors}
@@ -78,6 +78,13 @@ abbrev pub TellsAt : ℕ → ℕ → CollectReply → Cells → Collectors → C
 TellsAt i n reply cells old cells' new st =
     (c c' : Collector) → kept_at old i ≡ Some c → kept_at new i ≡ kept_after (Ok reply) c'
     → IsTold n reply cells c cells' c' st
+
+-- What the visits of a step read is in order. They leave the collector with this number where the
+-- last of them began.
+abbrev pub IsStepReadable : {R : Type 0} → View R → R → Collectors → Collectors → ℕ → Type 0
+IsStepReadable seen rows old new i =
+    (c c' : Collector) → kept_at old i ≡ Some c → kept_at new i ≡ Some c'
+    → AreReadableFrom seen rows (read_from c c')
 
 -- no collector but the one with this number changes, and none begins
 pub record ChangesOne (i : ℕ) (old new : Collectors) : Type 0 where

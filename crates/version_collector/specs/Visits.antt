@@ -61,6 +61,20 @@ abbrev pub position_of : Option Cell → Option Place
 position_of None = None
 position_of (Some x) = Some (place_at x)
 
+-- a collector stays in its pass, or is in the second one
+abbrev pub GoesOn : Collector → Collector → Type 0
+GoesOn c c' = (c'.pass ≡ c.pass) ⊎ (c'.pass ≡ Second)
+
+-- The place from which on visits read that leave it in the second of these passes. They read from its
+-- position on; if the second pass has begun, they read from the start on.
+abbrev pub read_in : Pass → Pass → Option Place → Option Place
+read_in First Second after = None
+read_in First First after = after
+read_in Second pass after = after
+
+abbrev pub read_from : Collector → Collector → Option Place
+read_from c c' = read_in c.pass c'.pass (position_of c.after)
+
 -- a visit of this collector is answered so, and leaves these cells and it so
 pub record Visits (cells : Cells) (c : Collector) (reply : CollectReply) (cells' : Cells)
     (c' : Collector) : Type 0 where

@@ -5,7 +5,7 @@ ghost use Rattle.std.specs.Vec.Iter.{into_iter_items};
 ghost use Rattle.cell_key.specs.Cells.{Cells};
 ghost use Rattle.cell_key.specs.Faults.{HasReason};
 ghost use Rattle.cell_key.specs.Places.{IsNextCell, Place, place_named};
-ghost use Rattle.row_atomic.specs.Calls.{OnlyReads};
+ghost use Rattle.row_atomic.specs.Calls.{AreReadableFrom, OnlyReads};
 ghost use Rattle.row_atomic.specs.Refusals.{IsRefusalOfRead};
 ghost use Rattle.si_model.specs.Collection.{place_at};
 ghost use Rattle.version_collector.specs.Ahead.{Follow, IsAhead, IsStill};
@@ -75,13 +75,14 @@ impl Ahead {
         rows: &mut R,
         after: &Option<Cell>,
     ) -> Result<Option<Cell>, Refusal>
-        ensures found { R.seen.holds rows.old
+        ensures found { AreReadableFrom R.seen rows.old (position_of after.now)
             → IsAhead (R.seen.cells rows.old) (position_of after.now) self.old
             → IfOk result (IsStill (R.seen.cells rows.old) (position_of after.now)
             (into_iter_items self.new.places) self.new.is_end) }
         ensures doubted { OnOk result (self.new.doubted ≡ None) }
         ensures reads { OnlyReads R.seen rows.old rows.new }
-        ensures refusal { IfErr result (IsRefusalOfRead (R.seen.holds rows.old)) }
+        ensures refusal { IfErr result (IsRefusalOfRead
+            (AreReadableFrom R.seen rows.old (position_of after.now))) }
         ensures reason { HasReason (R.faults rows.old) (R.faults rows.new) result }
     {
         one_next_cell();
@@ -105,12 +106,14 @@ impl Ahead {
         visits: usize,
     ) -> Result<(), Refusal>
         requires { 1 ≤ visits }
-        ensures found { R.seen.holds rows.old → OnOk result (Follow (R.seen.cells rows.old)
+        ensures found { AreReadableFrom R.seen rows.old (position_of after.now)
+            → OnOk result (Follow (R.seen.cells rows.old)
             (position_of after.now) (into_iter_items self.new.places) self.new.is_end) }
         ensures some { OnOk result (into_iter_items self.new.places ≡ [] → self.new.is_end ≡ true) }
         ensures doubted { self.new.doubted ≡ self.old.doubted }
         ensures reads { OnlyReads R.seen rows.old rows.new }
-        ensures refusal { IfErr result (IsRefusalOfRead (R.seen.holds rows.old)) }
+        ensures refusal { IfErr result (IsRefusalOfRead
+            (AreReadableFrom R.seen rows.old (position_of after.now))) }
         ensures reason { HasReason (R.faults rows.old) (R.faults rows.new) result }
     {
         let most = visits.min(MOST_AHEAD);
@@ -128,7 +131,7 @@ impl Ahead {
         visits: usize,
     ) -> Result<(), Refusal>
         requires { 1 ≤ visits }
-        ensures found { R.seen.holds rows.old
+        ensures found { AreReadableFrom R.seen rows.old (position_of after.now)
             → Follow (R.seen.cells rows.old) (position_of after.now)
             (into_iter_items self.old.places) self.old.is_end
             → OnOk result (Follow (R.seen.cells rows.old) (position_of after.now)
@@ -136,7 +139,8 @@ impl Ahead {
         ensures some { OnOk result (into_iter_items self.new.places ≡ [] → self.new.is_end ≡ true) }
         ensures doubted { self.new.doubted ≡ self.old.doubted }
         ensures reads { OnlyReads R.seen rows.old rows.new }
-        ensures refusal { IfErr result (IsRefusalOfRead (R.seen.holds rows.old)) }
+        ensures refusal { IfErr result (IsRefusalOfRead
+            (AreReadableFrom R.seen rows.old (position_of after.now))) }
         ensures reason { HasReason (R.faults rows.old) (R.faults rows.new) result }
     {
         if self.is_end {
@@ -156,19 +160,20 @@ impl Ahead {
         visits: usize,
     ) -> Result<Option<Cell>, Refusal>
         requires { 1 ≤ visits }
-        ensures found { R.seen.holds rows.old
+        ensures found { AreReadableFrom R.seen rows.old (position_of after.now)
             → Follow (R.seen.cells rows.old) (position_of after.now)
             (into_iter_items self.old.places) self.old.is_end
             → IfOk result (λ found.
             IsNextCell (R.seen.cells rows.old) (position_of after.now) (position_of found)) }
-        ensures left { R.seen.holds rows.old
+        ensures left { AreReadableFrom R.seen rows.old (position_of after.now)
             → Follow (R.seen.cells rows.old) (position_of after.now)
             (into_iter_items self.old.places) self.old.is_end
             → IfOk result (λ found. IfSome found (λ cell. Follow (R.seen.cells rows.old)
             (Some (place_at cell)) (into_iter_items self.new.places) self.new.is_end)) }
         ensures doubted { self.new.doubted ≡ self.old.doubted }
         ensures reads { OnlyReads R.seen rows.old rows.new }
-        ensures refusal { IfErr result (IsRefusalOfRead (R.seen.holds rows.old)) }
+        ensures refusal { IfErr result (IsRefusalOfRead
+            (AreReadableFrom R.seen rows.old (position_of after.now))) }
         ensures reason { HasReason (R.faults rows.old) (R.faults rows.new) result }
     {
         self.fill(rows, after, visits)?;
@@ -183,17 +188,18 @@ impl Ahead {
         visits: usize,
     ) -> Result<Option<Cell>, Refusal>
         requires { 1 ≤ visits }
-        ensures found { R.seen.holds rows.old
+        ensures found { AreReadableFrom R.seen rows.old (position_of after.now)
             → IsAhead (R.seen.cells rows.old) (position_of after.now) self.old
             → IfOk result (λ found.
             IsNextCell (R.seen.cells rows.old) (position_of after.now) (position_of found)) }
-        ensures left { R.seen.holds rows.old
+        ensures left { AreReadableFrom R.seen rows.old (position_of after.now)
             → IsAhead (R.seen.cells rows.old) (position_of after.now) self.old
             → IfOk result (λ found. IfSome found (λ cell. Follow (R.seen.cells rows.old)
             (Some (place_at cell)) (into_iter_items self.new.places) self.new.is_end)) }
         ensures doubted { OnOk result (self.new.doubted ≡ None) }
         ensures reads { OnlyReads R.seen rows.old rows.new }
-        ensures refusal { IfErr result (IsRefusalOfRead (R.seen.holds rows.old)) }
+        ensures refusal { IfErr result (IsRefusalOfRead
+            (AreReadableFrom R.seen rows.old (position_of after.now))) }
         ensures reason { HasReason (R.faults rows.old) (R.faults rows.new) result }
     {
         match self.still_there(rows, after)? {

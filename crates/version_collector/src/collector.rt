@@ -5,7 +5,7 @@ ghost use Rattle.std.specs.Vec.Iter.{into_iter_items};
 ghost use Rattle.cell_key.specs.Cells.{Cells};
 ghost use Rattle.cell_key.specs.Faults.{HasReason};
 ghost use Rattle.cell_key.specs.Places.{IsNextCell};
-ghost use Rattle.row_atomic.specs.Calls.{KeepsBelow, OnlyReads};
+ghost use Rattle.row_atomic.specs.Calls.{AreReadableFrom, KeepsBelow, OnlyReads};
 ghost use Rattle.row_atomic.specs.Refusals.{IsRefusalOfRead};
 ghost use Rattle.row_atomic.specs.Room.{HasNoRoom};
 ghost use Rattle.si_model.specs.Collection.{place_at};
@@ -15,7 +15,7 @@ ghost use Rattle.version_collector.specs.Locks.{IsLowLock};
 ghost use Rattle.version_collector.specs.Refusals.{IsVisitRefusal};
 ghost use Rattle.version_collector.specs.Room.{AreOfVisitsIn, TakesRoomOfVisits};
 ghost use Rattle.version_collector.specs.Versions.{AreShown};
-ghost use Rattle.version_collector.specs.Visits.{HasVisited, Thins, Visits, WhereCome, position_of};
+ghost use Rattle.version_collector.specs.Visits.{GoesOn, HasVisited, Thins, Visits, WhereCome, position_of, read_from};
 
 use crate::ahead::Ahead;
 use crate::erasing::erase_old;
@@ -42,10 +42,10 @@ pub(crate) struct Collector {
 
 /// The start of a lock of the cell below the floor, if one stands.
 fn low_lock<R: Rows>(rows: &mut R, cell: &Cell, floor: Stamp) -> Result<Option<Stamp>, Refusal>
-    ensures found { R.seen.holds rows.old
+    ensures found { R.seen.readable rows.old cell.now.row
         → IfOk result (IsLowLock (R.seen.cells rows.old) cell.now floor) }
     ensures reads { OnlyReads R.seen rows.old rows.new }
-    ensures refusal { IfErr result (IsRefusalOfRead (R.seen.holds rows.old)) }
+    ensures refusal { IfErr result (IsRefusalOfRead (R.seen.readable rows.old cell.now.row)) }
     ensures reason { HasReason (R.faults rows.old) (R.faults rows.new) result }
 {
     if floor == 0 {
@@ -61,6 +61,7 @@ impl Collector {
         ensures turned { (cells : Cells)
             → IsNextCell cells (position_of self.old.after) None
             → Visits cells self.old result cells self.new }
+        ensures pass { GoesOn self.old self.new }
         ensures floor { self.new.floor ≡ self.old.floor }
     {
         match self.pass {
@@ -75,17 +76,18 @@ impl Collector {
 
     /// Visits the next cell in the first pass: looks for a lock below the floor.
     fn look<R: Rows>(&mut self, rows: &mut R, cell: Cell) -> Result<CollectReply, Refusal>
-        ensures visit { R.seen.holds rows.old
+        ensures visit { R.seen.readable rows.old cell.row
             → self.old.pass ≡ Pass.First
             → IsNextCell (R.seen.cells rows.old) (position_of self.old.after) (Some (place_at cell))
             → IfOk result (λ reply.
             Visits (R.seen.cells rows.old) self.old reply (R.seen.cells rows.old) self.new) }
         ensures moves { IfOk result (λ reply. reply ≡ CollectReply.More
             → self.new.after ≡ Some cell) }
+        ensures pass { self.new.pass ≡ self.old.pass }
         ensures floor { self.new.floor ≡ self.old.floor }
         ensures reads { OnlyReads R.seen rows.old rows.new }
         ensures err { OnErr result (self.new ≡ self.old) }
-        ensures refusal { IfErr result (IsRefusalOfRead (R.seen.holds rows.old)) }
+        ensures refusal { IfErr result (IsRefusalOfRead (R.seen.readable rows.old cell.row)) }
         ensures reason { HasReason (R.faults rows.old) (R.faults rows.new) result }
     {
         if let Some(start) = low_lock(rows, &cell, self.floor)? {
@@ -103,17 +105,18 @@ impl Collector {
         cell: Cell,
         ahead: &mut Ahead,
     ) -> Result<CollectReply, Refusal>
-        ensures visit { R.seen.holds rows.old
+        ensures visit { R.seen.readable rows.old cell.row
             → AreShown (R.seen.cells rows.old) → self.old.pass ≡ Pass.Second
             → IsNextCell (R.seen.cells rows.old) (position_of self.old.after) (Some (place_at cell))
             → IfOk result (λ reply.
             Visits (R.seen.cells rows.old) self.old reply (R.seen.cells rows.new) self.new) }
-        ensures ahead { R.seen.holds rows.old
+        ensures ahead { R.seen.readable rows.old cell.row
             → IsNextCell (R.seen.cells rows.old) (position_of self.old.after) (Some (place_at cell))
             → Follow (R.seen.cells rows.old) (Some (place_at cell))
             (into_iter_items ahead.old.places) ahead.old.is_end
             → ahead.old.doubted ≡ None
             → OnOk result (IsAhead (R.seen.cells rows.new) (position_of self.new.after) ahead.new) }
+        ensures pass { self.new.pass ≡ self.old.pass }
         ensures floor { self.new.floor ≡ self.old.floor }
         ensures thins { R.seen.holds rows.old
             → Thins 1 (R.seen.cells rows.old) (R.seen.cells rows.new) }
@@ -122,8 +125,8 @@ impl Collector {
         ensures err { OnErr result (self.new ≡ self.old) }
         ensures same { OnErr result (OnlyReads R.seen rows.old rows.new) }
         ensures refusal { IfErr result IsVisitRefusal }
-        ensures undamaged { R.seen.holds rows.old → AreShown (R.seen.cells rows.old)
-            → ¬ IsErrOf result Refusal.Damaged }
+        ensures undamaged { R.seen.readable rows.old cell.row
+            → AreShown (R.seen.cells rows.old) → ¬ IsErrOf result Refusal.Damaged }
         ensures full { IsErrOf result Refusal.MemtableFull
             → HasNoRoom R.seen.overfills rows.old (AreOfVisitsIn 1) }
         ensures reason { HasReason (R.faults rows.old) (R.faults rows.new) result }
@@ -151,17 +154,18 @@ impl Collector {
         visits: usize,
     ) -> Result<CollectReply, Refusal>
         requires { 1 ≤ visits }
-        ensures visit { R.seen.holds rows.old
+        ensures visit { AreReadableFrom R.seen rows.old (position_of self.old.after)
             → AreShown (R.seen.cells rows.old)
             → IsAhead (R.seen.cells rows.old) (position_of self.old.after) ahead.old
             → IfOk result (λ reply.
             Visits (R.seen.cells rows.old) self.old reply (R.seen.cells rows.new) self.new) }
         // What was found ahead is still ahead.
-        ensures ahead { R.seen.holds rows.old
+        ensures ahead { AreReadableFrom R.seen rows.old (position_of self.old.after)
             → IsAhead (R.seen.cells rows.old) (position_of self.old.after) ahead.old
             → IfOk result (λ reply. reply ≡ CollectReply.More
             → IsAhead (R.seen.cells rows.new) (position_of self.new.after) ahead.new) }
         ensures floor { self.new.floor ≡ self.old.floor }
+        ensures pass { GoesOn self.old self.new }
         ensures thins { R.seen.holds rows.old
             → Thins 1 (R.seen.cells rows.old) (R.seen.cells rows.new) }
         ensures below { KeepsBelow R.seen rows.old rows.new }
@@ -170,7 +174,9 @@ impl Collector {
         ensures same { OnErr result (OnlyReads R.seen rows.old rows.new) }
         ensures refusal { IfErr result IsVisitRefusal }
         // What is shown is never answered as damaged.
-        ensures undamaged { R.seen.holds rows.old → AreShown (R.seen.cells rows.old)
+        ensures undamaged { AreReadableFrom R.seen rows.old (position_of self.old.after)
+            → AreShown (R.seen.cells rows.old)
+            → IsAhead (R.seen.cells rows.old) (position_of self.old.after) ahead.old
             → ¬ IsErrOf result Refusal.Damaged }
         ensures full { IsErrOf result Refusal.MemtableFull
             → HasNoRoom R.seen.overfills rows.old (AreOfVisitsIn 1) }
@@ -211,7 +217,7 @@ impl Collector {
         ensures below { KeepsBelow R.seen rows.old rows.new }
         ensures room { TakesRoomOfVisits R.seen.overfills visits rows.old rows.new }
         ensures refusal { IfErr result IsVisitRefusal }
-        ensures undamaged { R.seen.holds rows.old
+        ensures undamaged { AreReadableFrom R.seen rows.old (read_from self.old self.new)
             → (st : State) → WhereCome st (R.seen.cells rows.old) self.old
             (¬ IsErrOf result Refusal.Damaged) }
         ensures full { IsErrOf result Refusal.MemtableFull

@@ -12,7 +12,7 @@ ghost use Rattle.si_model.specs.Replies.{collect_reply, result_reply};
 ghost use Rattle.si_model.specs.ShowsCells.{ShowsCells};
 ghost use Rattle.version_collector.specs.Refusals.{IsBeginRefusal, IsStepRefusal};
 ghost use Rattle.version_collector.specs.Room.{AreOfVisitsIn, TakesRoomOfVisits};
-ghost use Rattle.version_collector.specs.Shows.{Begins, ChangesOne, InEachShown, IsCount, IsEarlyRefusal, IsUnopened, IsUsedUp, Opens, SameCollectors, ShowsCollectors, StepLeaves, Steps, TellsAt, VisitsAt, is_last};
+ghost use Rattle.version_collector.specs.Shows.{Begins, ChangesOne, InEachShown, IsCount, IsEarlyRefusal, IsStepReadable, IsUnopened, IsUsedUp, Opens, SameCollectors, ShowsCollectors, StepLeaves, Steps, TellsAt, VisitsAt, is_last};
 ghost use Rattle.version_collector.specs.Visits.{Thins};
 ghost use Rattle.si_model.specs.Collection.{Collects};
 
@@ -164,7 +164,7 @@ impl Collectors {
         ensures below { KeepsBelow R.seen rows.old rows.new }
         ensures room { TakesRoomOfVisits R.seen.overfills visits rows.old rows.new }
         // What is shown is never answered as damaged.
-        ensures undamaged { R.seen.holds rows.old
+        ensures undamaged { IsStepReadable R.seen rows.old self.old self.new number
             → InEachShown (R.seen.cells rows.old) self.old (λ st.
             ¬ IsErrOf result Refusal.Damaged) }
         ensures refusal { IfErr result IsStepRefusal }

@@ -85,11 +85,12 @@ fn old_edits<R: Rows>(
     floor: Stamp,
 ) -> Result<Vec<Edit>, Refusal>
     ensures old { IfOk result (λ edits.
-        ErasesOrIsTidy (R.seen.holds rows.old) (R.seen.cells rows.old) cell.now floor edits.items) }
+        ErasesOrIsTidy (R.seen.readable rows.old cell.now.row) (R.seen.cells rows.old)
+        cell.now floor edits.items) }
     ensures under { IfOk result (λ edits. AllByRecursion (IsEditOf cell.now.row) edits.items) }
     ensures reads { OnlyReads R.seen rows.old rows.new }
     ensures refusal { IfErr result (IsRefusalOfRead
-        (R.seen.holds rows.old × AreShown (R.seen.cells rows.old))) }
+        (R.seen.readable rows.old cell.now.row × AreShown (R.seen.cells rows.old))) }
     ensures reason { HasReason (R.faults rows.old) (R.faults rows.new) result }
 {
     let records = old_records(alloc, rows, cell, floor)?;
@@ -122,20 +123,21 @@ pub(crate) fn erase_old<R: Rows>(
 ) -> Result<bool, Refusal>
     ensures erased { IfOk result (λ erased.
         OnTrue erased (AppliesSuch R.seen
-        (CollectsCell (R.seen.holds rows.old) (R.seen.cells rows.old) cell.now floor)
-        rows.old rows.new)) }
+        (CollectsCell (R.seen.readable rows.old cell.now.row) (R.seen.cells rows.old)
+        cell.now floor) rows.old rows.new)) }
     ensures left { IfOk result (λ erased. OnFalse erased (OnlyReads R.seen rows.old rows.new)) }
-    ensures tidy { R.seen.holds rows.old
+    ensures tidy { R.seen.readable rows.old cell.now.row
         → AreShown (R.seen.cells rows.old)
         → IfOk result (λ erased. OnFalse erased (IsTidy (R.seen.cells rows.old) cell.now floor)) }
     ensures err { OnErr result (OnlyReads R.seen rows.old rows.new) }
     ensures refusal { IfErr result IsVisitRefusal }
     // What is shown is never answered as damaged.
-    ensures undamaged { R.seen.holds rows.old → AreShown (R.seen.cells rows.old)
+    ensures undamaged { R.seen.readable rows.old cell.now.row → AreShown (R.seen.cells rows.old)
         → ¬ IsErrOf result Refusal.Damaged }
     ensures full { IsErrOf result Refusal.MemtableFull
         → HasNoRoom R.seen.overfills rows.old
-        (CollectsCell (R.seen.holds rows.old) (R.seen.cells rows.old) cell.now floor) }
+        (CollectsCell (R.seen.readable rows.old cell.now.row) (R.seen.cells rows.old)
+        cell.now floor) }
     ensures reason { HasReason (R.faults rows.old) (R.faults rows.new) result }
 {
     let edits = old_edits(alloc, rows, cell, floor)?;

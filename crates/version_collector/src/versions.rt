@@ -28,13 +28,13 @@ fn latest_below<R: Rows>(
     column: Qualifier,
     below: Stamp,
 ) -> Result<Option<(Stamp, Vec<u8>)>, Refusal>
-    ensures found { R.seen.holds rows.old
+    ensures found { R.seen.readable rows.old cell.now.row
         → IfOk result (λ found.
         IsLatestBelow (R.seen.cells rows.old) cell.now column below (option_map stamped found)) }
     ensures lower { IfOk result (λ found. IfSome found (λ version. version.0 < below)) }
     ensures limits { IfOk result (λ found. IfSome found (λ version. IsMoment version.0)) }
     ensures reads { OnlyReads R.seen rows.old rows.new }
-    ensures refusal { IfErr result (IsRefusalOfRead (R.seen.holds rows.old)) }
+    ensures refusal { IfErr result (IsRefusalOfRead (R.seen.readable rows.old cell.now.row)) }
     ensures reason { HasReason (R.faults rows.old) (R.faults rows.new) result }
 {
     if below == 0 {
@@ -74,13 +74,13 @@ pub(crate) fn old_records<R: Rows>(
     cell: &Cell,
     floor: Stamp,
 ) -> Result<Vec<(Moment, Moment)>, Refusal>
-    ensures found { R.seen.holds rows.old
+    ensures found { R.seen.readable rows.old cell.now.row
         → AreShown (R.seen.cells rows.old)
         → IfOk result (λ found. AreFound (R.seen.cells rows.old) cell.now floor found.items) }
     ensures few { IfOk result (λ found. length found.items ≤ 128) }
     ensures reads { OnlyReads R.seen rows.old rows.new }
     ensures refusal { IfErr result (IsRefusalOfRead
-        (R.seen.holds rows.old × AreShown (R.seen.cells rows.old))) }
+        (R.seen.readable rows.old cell.now.row × AreShown (R.seen.cells rows.old))) }
     ensures reason { HasReason (R.faults rows.old) (R.faults rows.new) result }
 {
     let mut found = Vec::with_capacity(alloc, MOST_RECORDS)?;
@@ -131,11 +131,11 @@ fn named_by(found: Option<(Stamp, Vec<u8>)>) -> Result<Option<Stamp>, Refusal>
 
 /// The start that the oldest record above a stamp names, if there is one.
 fn next_start<R: Rows>(rows: &mut R, cell: &Cell, floor: Stamp) -> Result<Option<Stamp>, Refusal>
-    ensures named { R.seen.holds rows.old
+    ensures named { R.seen.readable rows.old cell.now.row
         → IfOk result (NamesNext (R.seen.cells rows.old) cell.now floor) }
     ensures reads { OnlyReads R.seen rows.old rows.new }
     ensures refusal { IfErr result (IsRefusalOfRead
-        (R.seen.holds rows.old × AreShown (R.seen.cells rows.old))) }
+        (R.seen.readable rows.old cell.now.row × AreShown (R.seen.cells rows.old))) }
     ensures reason { HasReason (R.faults rows.old) (R.faults rows.new) result }
 {
     if floor == Stamp::MAX {
@@ -174,14 +174,14 @@ pub(crate) fn near_records<R: Rows>(
     cell: &Cell,
     floor: Stamp,
 ) -> Result<(NearStarts, Option<Moment>), Refusal>
-    ensures named { R.seen.holds rows.old
+    ensures named { R.seen.readable rows.old cell.now.row
         → IfOk result (λ found. AreNear (R.seen.cells rows.old) cell.now floor found.0) }
-    ensures deletion { R.seen.holds rows.old
+    ensures deletion { R.seen.readable rows.old cell.now.row
         → AreShown (R.seen.cells rows.old)
         → IfOk result (λ found. IsLastDeletion (R.seen.cells rows.old) cell.now floor found.1) }
     ensures reads { OnlyReads R.seen rows.old rows.new }
     ensures refusal { IfErr result (IsRefusalOfRead
-        (R.seen.holds rows.old × AreShown (R.seen.cells rows.old))) }
+        (R.seen.readable rows.old cell.now.row × AreShown (R.seen.cells rows.old))) }
     ensures reason { HasReason (R.faults rows.old) (R.faults rows.new) result }
 {
     let last = rows.newest(&cell.row, &cell.family, Qualifier::Write, 0, floor)?;
@@ -210,14 +210,14 @@ pub(crate) fn unnamed_data<R: Rows>(
     floor: Stamp,
     near: NearStarts,
 ) -> Result<Vec<Moment>, Refusal>
-    ensures found { R.seen.holds rows.old
+    ensures found { R.seen.readable rows.old cell.now.row
         → AreShown (R.seen.cells rows.old)
         → HasOneRecord (R.seen.cells rows.old) cell.now floor
         → AreNear (R.seen.cells rows.old) cell.now floor near
         → IfOk result (λ found. AreUnnamed (R.seen.cells rows.old) cell.now floor found.items) }
     ensures few { IfOk result (λ found. length found.items ≤ 256) }
     ensures reads { OnlyReads R.seen rows.old rows.new }
-    ensures refusal { IfErr result (IsRefusalOfRead (R.seen.holds rows.old)) }
+    ensures refusal { IfErr result (IsRefusalOfRead (R.seen.readable rows.old cell.now.row)) }
     ensures reason { HasReason (R.faults rows.old) (R.faults rows.new) result }
 {
     let mut found = Vec::with_capacity(alloc, MOST_DATA)?;

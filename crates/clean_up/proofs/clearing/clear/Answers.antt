@@ -34,7 +34,8 @@ returns-clause-made g c = record {
   row = c.args.cell.now.row;
   edits = c.in_ok-edits.edits.items;
   such = clears (g.R.Rows.seen.cells c.args.rows.now) c.args.cell.now c.stamp-stamp.result c.args.start c.in-Some.field-0-0 c.in_ok-lock.lock c.in-Some.text c.deref.result.now c.kind_of-kind.ensures.0 c.kind_of-kind.result
-      c.in-Some.is c.stamp-stamp.ensures.stamp c.deref.ensures.value c.kind_of-kind.ensures.1 (g.R.Rows.seen.holds c.args.rows.now) c.args.commit c.in_ok-edits.edits.items c.in_ok-lock.ensures.found c.in_ok-edits.ensures.clearing;
+      c.in-Some.is c.stamp-stamp.ensures.stamp c.deref.ensures.value c.kind_of-kind.ensures.1 (g.R.Rows.seen.holds c.args.rows.now) c.args.commit c.in_ok-edits.edits.items
+      (λ held. c.in_ok-lock.ensures.found (g.R.Rows.seen.each_readable c.args.rows.now held c.args.cell.now.row)) c.in_ok-edits.ensures.clearing;
   applied = applies_after c.in_ok-lock.ensures.reads c.in_ok-apply.ensures.ok;
 }
 
@@ -43,6 +44,7 @@ returns-in_err-apply-clause-full g c = λ is. (
   c.args.cell.now.row,
   c.in_ok-edits.edits.items,
   clears (g.R.Rows.seen.cells c.args.rows.now) c.args.cell.now c.stamp-stamp.result c.args.start c.in-Some.field-0-0 c.in_ok-lock.lock c.in-Some.text c.deref.result.now c.kind_of-kind.ensures.0 c.kind_of-kind.result
-      c.in-Some.is c.stamp-stamp.ensures.stamp c.deref.ensures.value c.kind_of-kind.ensures.1 (g.R.Rows.seen.holds c.args.rows.now) c.args.commit c.in_ok-edits.edits.items c.in_ok-lock.ensures.found c.in_ok-edits.ensures.clearing,
+      c.in-Some.is c.stamp-stamp.ensures.stamp c.deref.ensures.value c.kind_of-kind.ensures.1 (g.R.Rows.seen.holds c.args.rows.now) c.args.commit c.in_ok-edits.edits.items
+      (λ held. c.in_ok-lock.ensures.found (g.R.Rows.seen.each_readable c.args.rows.now held c.args.cell.now.row)) c.in_ok-edits.ensures.clearing,
   c.in_ok-lock.ensures.reads.room _ _ (c.in_err-apply.ensures.full (passed_on c.from_residual-in_err-apply.result _ c.in_err-apply.field-0.0 _ c.from_residual-in_err-apply.ensures.1 refl is)),
 )

@@ -13,7 +13,7 @@ invariant-loop-low g l = record {
   limits : IsVersionIn l.lo l.hi (stamped l.found);
   from : l.lo ≤ l.low;
   to : l.low ≤ l.found.0;
-  rest : g.R.Rows.seen.readable l.fn.rows l.row.now → IsRest (g.R.Rows.seen.cells l.fn.rows) (version l.row l.family l.qualifier) l.lo l.low (stamped l.found);
+  rest : g.R.Rows.seen.readable l.fn.rows l.row → IsRest (g.R.Rows.seen.cells l.fn.rows) (version l.row l.family l.qualifier) l.lo l.low (stamped l.found);
 }
 
 abbrev pub decreases-loop-low : goal.decreases-loop-low

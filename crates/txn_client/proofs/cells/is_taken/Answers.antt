@@ -46,7 +46,7 @@ returns-in_err-lock g c =
 pub returns-then-is_some : goal.returns-then-is_some
 returns-then-is_some g c = record {
   taken = λ held.
-      let lock = there (g.R.Rows.seen.cells c.args.rows.now) _ 0 _ c.in_ok-lock.lock (sym c.is_some.ensures ∙ c.if-is_some.true) (c.in_ok-lock.ensures.found held) in
+      let lock = there (g.R.Rows.seen.cells c.args.rows.now) _ 0 _ c.in_ok-lock.lock (sym c.is_some.ensures ∙ c.if-is_some.true) (c.in_ok-lock.ensures.found (g.R.Rows.seen.each_readable c.args.rows.now held c.args.cell.now.row)) in
       inl (lock.0, lock.2);
   free = λ held. tt;
   reads = c.in_ok-lock.ensures.reads;
@@ -65,7 +65,7 @@ returns-in_err-later g c =
       taken = λ held. passed_none r e _ by;
       free = λ held. passed_none r e _ by;
       reads = reads_then first.reads at.reads;
-      refusal = passed_err r e _ by (refusal_after _ _ e first.reads.still at.refusal);
+      refusal = passed_err r e _ by (refusal_after _ _ e (first.reads.readable c.args.cell.now.row) at.refusal);
       reason = reason_then r _ _ _ _ first.reason (reason_passed r e _ _ by at.reason);
     }
 
@@ -76,10 +76,10 @@ returns g c =
     let later = c.in_ok-later.ensures in
     record {
       taken = λ held. on_true c.is_some-2.result (λ some.
-          inr (subst (λ (cells : Cells). (s : ℕ) × (c.args.start ≤ s) × IsThere cells c.args.cell.now Write s) first.reads.kept (there (g.R.Rows.seen.cells c.newest.new.self) _ c.args.start _ c.in_ok-later.later (sym c.is_some-2.ensures ∙ some) (later.found (first.reads.still held)))));
+          inr (subst (λ (cells : Cells). (s : ℕ) × (c.args.start ≤ s) × IsThere cells c.args.cell.now Write s) first.reads.kept (there (g.R.Rows.seen.cells c.newest.new.self) _ c.args.start _ c.in_ok-later.later (sym c.is_some-2.ensures ∙ some) (later.found (first.reads.readable c.args.cell.now.row (g.R.Rows.seen.each_readable c.args.rows.now held c.args.cell.now.row))))));
       free = λ held. on_false c.is_some-2.result (λ none. (
-        nothing cells _ 0 _ c.in_ok-lock.lock (sym c.is_some.ensures ∙ c.if-is_some.false) (first.found held),
-        λ s lo hi. ap (λ (cs : Cells). get cs (key_of c.args.cell.now Write s)) (sym first.reads.kept) ∙ nothing (g.R.Rows.seen.cells c.newest.new.self) _ c.args.start _ c.in_ok-later.later (sym c.is_some-2.ensures ∙ none) (later.found (first.reads.still held)) s lo hi,
+        nothing cells _ 0 _ c.in_ok-lock.lock (sym c.is_some.ensures ∙ c.if-is_some.false) (first.found (g.R.Rows.seen.each_readable c.args.rows.now held c.args.cell.now.row)),
+        λ s lo hi. ap (λ (cs : Cells). get cs (key_of c.args.cell.now Write s)) (sym first.reads.kept) ∙ nothing (g.R.Rows.seen.cells c.newest.new.self) _ c.args.start _ c.in_ok-later.later (sym c.is_some-2.ensures ∙ none) (later.found (first.reads.readable c.args.cell.now.row (g.R.Rows.seen.each_readable c.args.rows.now held c.args.cell.now.row))) s lo hi,
       ));
       reads = reads_then first.reads later.reads;
       refusal = tt;

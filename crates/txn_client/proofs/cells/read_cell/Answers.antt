@@ -109,7 +109,7 @@ returns-in_err-last g c =
       short = passed_none r e _ by;
       reads = reads_then c.in_ok-lock.ensures.reads at.reads;
       refusal = passed_err r e _ by (is_read_refusal _ e at.refusal);
-      damaged = λ held. passed_err r e _ by (λ is. absurd (read_undamaged _ e at.refusal (c.in_ok-lock.ensures.reads.still held) is));
+      damaged = λ held. passed_err r e _ by (λ is. absurd (read_undamaged _ e at.refusal (c.in_ok-lock.ensures.reads.readable c.args.cell.now.row held) is));
       reason = reason_then r _ _ _ _ c.in_ok-lock.ensures.reason (reason_passed r e _ _ by at.reason);
     }
 
@@ -120,7 +120,7 @@ returns-in_default-last g c =
     record {
       found = λ held. (
         nothing (g.R.Rows.seen.cells c.args.rows.now) _ 0 _ c.in_ok-lock.lock c.in_default.is (first.found held),
-        inl (λ s lo hi. ap (λ (cs : Cells). get cs (key_of c.args.cell.now Write s)) (sym first.reads.kept) ∙ nothing (g.R.Rows.seen.cells c.newest.new.self) _ 0 _ c.in_ok-last.last c.in_default-last.is (last.found (first.reads.still held)) s lo hi),
+        inl (λ s lo hi. ap (λ (cs : Cells). get cs (key_of c.args.cell.now Write s)) (sym first.reads.kept) ∙ nothing (g.R.Rows.seen.cells c.newest.new.self) _ 0 _ c.in_ok-last.last c.in_default-last.is (last.found (first.reads.readable c.args.cell.now.row held)) s lo hi),
       );
       short = tt;
       reads = reads_then first.reads last.reads;
@@ -141,7 +141,7 @@ returns-in_default-decode g c =
       damaged = λ held _. (
         c.in-Some-last.field-0-0,
         c.in-Some-last.text.items,
-        last_written (g.R.Rows.seen.cells c.args.rows.now) (g.R.Rows.seen.cells c.newest.new.self) c.args.cell.now c.args.start c.in-Some-last.field-0-0 c.in_ok-last.last c.in-Some-last.text first.reads.kept c.in-Some-last.is (last.found (first.reads.still held)),
+        last_written (g.R.Rows.seen.cells c.args.rows.now) (g.R.Rows.seen.cells c.newest.new.self) c.args.cell.now c.args.start c.in-Some-last.field-0-0 c.in_ok-last.last c.in-Some-last.text first.reads.kept c.in-Some-last.is (last.found (first.reads.readable c.args.cell.now.row held)),
         inl (λ t kind names. c.in_default-decode.ensures.none t kind (subst (λ (bytes : List ℕ). NamesWrite bytes t kind) (sym c.deref.ensures.value) names)),
       );
       reason = reason_then _ _ _ _ _ first.reason (reason_kept _ _ _ _ damaged_no_device last.reason);
@@ -155,7 +155,7 @@ returns-in-Delete g c =
       found = λ held. (
         nothing (g.R.Rows.seen.cells c.args.rows.now) _ 0 _ c.in_ok-lock.lock c.in_default.is (first.found held),
         inr (deletion_found (g.R.Rows.seen.cells c.args.rows.now) (g.R.Rows.seen.cells c.newest.new.self) c.args.cell.now c.args.start c.in-Some-last.field-0-0 c.in-Some-decode.record.start c.in-Some-decode.record.kind c.in_ok-last.last c.in-Some-last.text
-            first.reads.kept c.in-Some-last.is (last.found (first.reads.still held)) (subst (λ (bytes : List ℕ). NamesWrite bytes c.in-Some-decode.record.start c.in-Some-decode.record.kind) c.deref.ensures.value c.in-Some-decode.ensures.named) c.in-Delete.is),
+            first.reads.kept c.in-Some-last.is (last.found (first.reads.readable c.args.cell.now.row held)) (subst (λ (bytes : List ℕ). NamesWrite bytes c.in-Some-decode.record.start c.in-Some-decode.record.kind) c.deref.ensures.value c.in-Some-decode.ensures.named) c.in-Delete.is),
       );
       short = tt;
       reads = reads_then first.reads last.reads;
@@ -175,7 +175,7 @@ returns-in_err-value-in-Set g c =
       short = passed_none r e _ by;
       reads = reads_then c.in_ok-lock.ensures.reads (reads_then c.in_ok-last.ensures.reads at.reads);
       refusal = passed_err r e _ by (is_read_refusal _ e at.refusal);
-      damaged = λ held. passed_err r e _ by (λ is. absurd (read_undamaged _ e at.refusal (c.in_ok-last.ensures.reads.still (c.in_ok-lock.ensures.reads.still held)) is));
+      damaged = λ held. passed_err r e _ by (λ is. absurd (read_undamaged _ e at.refusal (c.in_ok-last.ensures.reads.readable c.args.cell.now.row (c.in_ok-lock.ensures.reads.readable c.args.cell.now.row held)) is));
       reason = reason_then r _ _ _ _ c.in_ok-lock.ensures.reason (reason_then r _ _ _ _ c.in_ok-last.ensures.reason (reason_passed r e _ _ by at.reason));
     }
 
@@ -186,9 +186,9 @@ returns-in-Some-2 g c =
     let third = c.in_ok-value-in-Set.ensures in
     record {
       found = λ held.
-          let still = first.reads.still held in
+          let still = first.reads.readable c.args.cell.now.row held in
           value_found (g.R.Rows.seen.cells c.args.rows.now) (g.R.Rows.seen.cells c.newest.new.self) (g.R.Rows.seen.cells c.newest-2.new.self) c.args.cell.now c.args.start c.in_ok-lock.lock c.in_ok-last.last c.in_ok-value-in-Set.field-0 c.in-Some-last.field-0-0 c.in-Some-decode.record.start c.in-Some-2.field-0-0 c.in-Some-decode.record.kind c.in-Some-last.text c.in-Some-2.value
-          first.reads.kept (last.reads.kept ∙ first.reads.kept) c.in_default.is c.in-Some-last.is c.in-Some-2.is (subst (λ (bytes : List ℕ). NamesWrite bytes c.in-Some-decode.record.start c.in-Some-decode.record.kind) c.deref.ensures.value c.in-Some-decode.ensures.named) c.in-Set.is (first.found held) (last.found still) (third.found (last.reads.still still));
+          first.reads.kept (last.reads.kept ∙ first.reads.kept) c.in_default.is c.in-Some-last.is c.in-Some-2.is (subst (λ (bytes : List ℕ). NamesWrite bytes c.in-Some-decode.record.start c.in-Some-decode.record.kind) c.deref.ensures.value c.in-Some-decode.ensures.named) c.in-Set.is (first.found held) (last.found still) (third.found (last.reads.readable c.args.cell.now.row still));
       short = short_value _ _ _ c.in_ok-value-in-Set.field-0 c.in-Some-2.value c.in-Some-2.is third.limits;
       reads = reads_then first.reads (reads_then last.reads third.reads);
       refusal = tt;
@@ -208,9 +208,9 @@ returns g c =
       refusal = tt;
       damaged = λ held _.
           let cells = g.R.Rows.seen.cells c.args.rows.now in
-          let still = first.reads.still held in
+          let still = first.reads.readable c.args.cell.now.row held in
           no_data cells (g.R.Rows.seen.cells c.newest-2.new.self) c.args.cell.now c.args.start c.in-Some-last.field-0-0 c.in-Some-decode.record.start c.in-Some-decode.record.kind c.in_ok-value-in-Set.field-0 c.in-Some-last.text.items (last.reads.kept ∙ first.reads.kept) c.in-None.is
-          (subst (λ (bytes : List ℕ). NamesWrite bytes c.in-Some-decode.record.start c.in-Some-decode.record.kind) c.deref.ensures.value c.in-Some-decode.ensures.named) c.in-Set.is (third.found (last.reads.still still))
+          (subst (λ (bytes : List ℕ). NamesWrite bytes c.in-Some-decode.record.start c.in-Some-decode.record.kind) c.deref.ensures.value c.in-Some-decode.ensures.named) c.in-Set.is (third.found (last.reads.readable c.args.cell.now.row still))
           (last_written cells (g.R.Rows.seen.cells c.newest.new.self) c.args.cell.now c.args.start c.in-Some-last.field-0-0 c.in_ok-last.last c.in-Some-last.text first.reads.kept c.in-Some-last.is (last.found still));
       reason = reason_then _ _ _ _ _ first.reason (reason_then _ _ _ _ _ last.reason (reason_kept _ _ _ _ damaged_no_device third.reason));
     }

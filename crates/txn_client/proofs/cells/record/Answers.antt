@@ -44,7 +44,7 @@ returns-in_err-lock g c =
 pub returns-then-is_none : goal.returns-then-is_none
 returns-then-is_none g c = record {
   made = tt;
-  gone = λ held. is_gone (g.R.Rows.seen.cells c.args.rows.now) c.args.cell.now c.stamp-stamp.result c.args.start c.in_ok-lock.lock (c.is_none.ensures ∙ ap not c.if-is_none.true) (c.in_ok-lock.ensures.found held) c.stamp-stamp.ensures.stamp;
+  gone = λ held. is_gone (g.R.Rows.seen.cells c.args.rows.now) c.args.cell.now c.stamp-stamp.result c.args.start c.in_ok-lock.lock (c.is_none.ensures ∙ ap not c.if-is_none.true) (c.in_ok-lock.ensures.found (g.R.Rows.seen.each_readable c.args.rows.now held c.args.cell.now.row)) c.stamp-stamp.ensures.stamp;
   left = c.in_ok-lock.ensures.reads;
   err = tt;
   refusal = tt;
@@ -86,7 +86,7 @@ returns-in_err-apply g c =
         c.in_ok-edits.edits.items,
         (
           refl,
-          λ held. stands (g.R.Rows.seen.cells c.args.rows.now) c.args.cell.now c.stamp-stamp.result c.args.start c.in_ok-lock.lock (c.is_none.ensures ∙ ap not c.if-is_none.false) (first.found held) c.stamp-stamp.ensures.stamp,
+          λ held. stands (g.R.Rows.seen.cells c.args.rows.now) c.args.cell.now c.stamp-stamp.result c.args.start c.in_ok-lock.lock (c.is_none.ensures ∙ ap not c.if-is_none.false) (first.found (g.R.Rows.seen.each_readable c.args.rows.now held c.args.cell.now.row)) c.stamp-stamp.ensures.stamp,
           c.in_ok-edits.ensures.recording,
         ),
         first.reads.room _ _ (at.full (passed_on r _ e _ by refl is)),
@@ -103,7 +103,7 @@ returns g c =
         edits = c.in_ok-edits.edits.items;
         such = (
           refl,
-          λ held. stands (g.R.Rows.seen.cells c.args.rows.now) c.args.cell.now c.stamp-stamp.result c.args.start c.in_ok-lock.lock (c.is_none.ensures ∙ ap not c.if-is_none.false) (first.found held) c.stamp-stamp.ensures.stamp,
+          λ held. stands (g.R.Rows.seen.cells c.args.rows.now) c.args.cell.now c.stamp-stamp.result c.args.start c.in_ok-lock.lock (c.is_none.ensures ∙ ap not c.if-is_none.false) (first.found (g.R.Rows.seen.each_readable c.args.rows.now held c.args.cell.now.row)) c.stamp-stamp.ensures.stamp,
           c.in_ok-edits.ensures.recording,
         );
         applied = applies_after first.reads c.in_ok-apply.ensures.ok;

@@ -9,7 +9,7 @@ use Rattle.version_collector.proofs.erasing.erase_old.Goals as goal
 pub returns-then-is_empty-clause-tidy : goal.returns-then-is_empty-clause-tidy
 returns-then-is_empty-clause-tidy g c = λ held shown.
     let es = c.in_ok-edits.edits in
-    tidy_where_empty (g.R.Rows.seen.holds c.args.rows.now) (g.R.Rows.seen.cells c.args.rows.now) c.args.cell.now c.args.floor es.items
+    tidy_where_empty (g.R.Rows.seen.readable c.args.rows.now c.args.cell.now.row) (g.R.Rows.seen.cells c.args.rows.now) c.args.cell.now c.args.floor es.items
     (empty_list es.items es.len c.is_empty.result es.ok.0 c.is_empty.ensures c.if-is_empty.true) c.in_ok-edits.ensures.old held shown
 
 pub returns-clause-erased : goal.returns-clause-erased
@@ -20,7 +20,7 @@ returns-clause-erased g c =
       edits = es.items;
       such = (
         refl,
-        erases_some (g.R.Rows.seen.holds c.args.rows.now) (g.R.Rows.seen.cells c.args.rows.now) c.args.cell.now c.args.floor es.items
+        erases_some (g.R.Rows.seen.readable c.args.rows.now c.args.cell.now.row) (g.R.Rows.seen.cells c.args.rows.now) c.args.cell.now c.args.floor es.items
             (some_list es.items es.len c.is_empty.result es.ok.0 c.is_empty.ensures c.if-is_empty.false) c.in_ok-edits.ensures.old,
       );
       applied = applies_after c.in_ok-edits.ensures.reads c.in_ok-apply.ensures.ok;
@@ -28,16 +28,16 @@ returns-clause-erased g c =
 
 pub returns-in_err-edits-clause-refusal : goal.returns-in_err-edits-clause-refusal
 returns-in_err-edits-clause-refusal g c =
-    read_refused (g.R.Rows.seen.holds c.args.rows.now × AreShown (g.R.Rows.seen.cells c.args.rows.now)) c.from_residual.result c.in_err-edits.field-0.0 c.from_residual.ensures.1 c.in_err-edits.ensures.refusal
+    read_refused (g.R.Rows.seen.readable c.args.rows.now c.args.cell.now.row × AreShown (g.R.Rows.seen.cells c.args.rows.now)) c.from_residual.result c.in_err-edits.field-0.0 c.from_residual.ensures.1 c.in_err-edits.ensures.refusal
 
 pub returns-in_err-edits-clause-undamaged : goal.returns-in_err-edits-clause-undamaged
 returns-in_err-edits-clause-undamaged g c = λ held shown is.
-    read_undamaged (g.R.Rows.seen.holds c.args.rows.now × AreShown (g.R.Rows.seen.cells c.args.rows.now)) c.in_err-edits.field-0.0 c.in_err-edits.ensures.refusal (held, shown)
+    read_undamaged (g.R.Rows.seen.readable c.args.rows.now c.args.cell.now.row × AreShown (g.R.Rows.seen.cells c.args.rows.now)) c.in_err-edits.field-0.0 c.in_err-edits.ensures.refusal (held, shown)
     (same_refusal c.from_residual.result c.in_err-edits.field-0.0 Damaged c.from_residual.ensures.1 is)
 
 pub returns-in_err-edits-clause-full : goal.returns-in_err-edits-clause-full
 returns-in_err-edits-clause-full g c = λ is. absurd (
-    not_full (g.R.Rows.seen.holds c.args.rows.now × AreShown (g.R.Rows.seen.cells c.args.rows.now)) c.in_err-edits.field-0.0 c.in_err-edits.ensures.refusal
+    not_full (g.R.Rows.seen.readable c.args.rows.now c.args.cell.now.row × AreShown (g.R.Rows.seen.cells c.args.rows.now)) c.in_err-edits.field-0.0 c.in_err-edits.ensures.refusal
     (same_refusal c.from_residual.result c.in_err-edits.field-0.0 MemtableFull c.from_residual.ensures.1 is))
 
 pub returns-in_err-apply-clause-refusal : goal.returns-in_err-apply-clause-refusal
@@ -54,7 +54,7 @@ returns-in_err-apply-clause-full g c = λ is.
       es.items,
       (
         refl,
-        erases_some (g.R.Rows.seen.holds c.args.rows.now) (g.R.Rows.seen.cells c.args.rows.now) c.args.cell.now c.args.floor es.items
+        erases_some (g.R.Rows.seen.readable c.args.rows.now c.args.cell.now.row) (g.R.Rows.seen.cells c.args.rows.now) c.args.cell.now c.args.floor es.items
             (some_list es.items es.len c.is_empty.result es.ok.0 c.is_empty.ensures c.if-is_empty.false) c.in_ok-edits.ensures.old,
       ),
       c.in_ok-edits.ensures.reads.room c.args.cell.now.row es.items (c.in_err-apply.ensures.full (passed_on c.from_residual-in_err-apply.result c.in_err-apply.field-0.0 MemtableFull c.from_residual-in_err-apply.ensures.1 is)),

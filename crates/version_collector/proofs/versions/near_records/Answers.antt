@@ -12,23 +12,23 @@ use Rattle.version_collector.proofs.versions.near_records.Goals as goal
 
 pub returns-in_err-next-clause-refusal : goal.returns-in_err-next-clause-refusal
 returns-in_err-next-clause-refusal g c =
-    refused_later (g.R.Rows.seen.holds c.args.rows.now × AreShown (g.R.Rows.seen.cells c.args.rows.now)) (g.R.Rows.seen.holds c.newest.new.self × AreShown (g.R.Rows.seen.cells c.newest.new.self))
-    c.from_residual-in_err-next.result c.in_err-next.field-0.0 (shown_later c.in_ok-last.ensures.reads) c.from_residual-in_err-next.ensures.1 c.in_err-next.ensures.refusal
+    refused_later (g.R.Rows.seen.readable c.args.rows.now c.args.cell.now.row × AreShown (g.R.Rows.seen.cells c.args.rows.now)) (g.R.Rows.seen.readable c.newest.new.self c.args.cell.now.row × AreShown (g.R.Rows.seen.cells c.newest.new.self))
+    c.from_residual-in_err-next.result c.in_err-next.field-0.0 (shown_later c.args.cell.now.row c.in_ok-last.ensures.reads) c.from_residual-in_err-next.ensures.1 c.in_err-next.ensures.refusal
 
 pub returns-in_err-start-clause-refusal : goal.returns-in_err-start-clause-refusal
 returns-in_err-start-clause-refusal g c =
     let cells = g.R.Rows.seen.cells c.args.rows.now in
     let x = c.args.cell.now in
     let same : c.deref.result.now ≡ c.in-Some.text.items = c.deref.ensures.value in
-    refused_damaged (g.R.Rows.seen.holds c.args.rows.now × AreShown cells) c.from_residual-in_err-start.result c.in_err-start.field-0.0 c.from_residual-in_err-start.ensures.1 c.in_err-start.ensures.refusal
+    refused_damaged (g.R.Rows.seen.readable c.args.rows.now c.args.cell.now.row × AreShown cells) c.from_residual-in_err-start.result c.in_err-start.field-0.0 c.from_residual-in_err-start.ensures.1 c.in_err-start.ensures.refusal
     (λ was. not_damaged cells x c.in-Some.commit c.in-Some.text.items
     (at_some (IsNewest cells (key_of x Write) 0 c.args.floor) c.in_ok-last.last (c.in-Some.commit, c.in-Some.text) c.in-Some.is (c.in_ok-last.ensures.found was.0)).2
     (λ t from to names. c.in_err-start.ensures.damaged t from to (subst (λ (b : List ℕ). NamesStart b t) (sym same) names)) was.1)
 
 pub returns-in_err-next-2-clause-refusal : goal.returns-in_err-next-2-clause-refusal
 returns-in_err-next-2-clause-refusal g c =
-    refused_later (g.R.Rows.seen.holds c.args.rows.now × AreShown (g.R.Rows.seen.cells c.args.rows.now)) (g.R.Rows.seen.holds c.newest.new.self × AreShown (g.R.Rows.seen.cells c.newest.new.self))
-    c.from_residual-in_err-next-2.result c.in_err-next-2.field-0.0 (shown_later c.in_ok-last.ensures.reads) c.from_residual-in_err-next-2.ensures.1 c.in_err-next-2.ensures.refusal
+    refused_later (g.R.Rows.seen.readable c.args.rows.now c.args.cell.now.row × AreShown (g.R.Rows.seen.cells c.args.rows.now)) (g.R.Rows.seen.readable c.newest.new.self c.args.cell.now.row × AreShown (g.R.Rows.seen.cells c.newest.new.self))
+    c.from_residual-in_err-next-2.result c.in_err-next-2.field-0.0 (shown_later c.args.cell.now.row c.in_ok-last.ensures.reads) c.from_residual-in_err-next-2.ensures.1 c.in_err-next-2.ensures.refusal
 
 pub returns-clause-named : goal.returns-clause-named
 returns-clause-named g c = λ held.
@@ -39,7 +39,7 @@ returns-clause-named g c = λ held.
     (near_read cells x c.args.floor c.in-Some.commit c.in_ok-start.start c.in-Some.text.items c.in_ok-start.kind c.in_ok-next-2.next
     (at_some (IsNewest cells (key_of x Write) 0 c.args.floor) c.in_ok-last.last (c.in-Some.commit, c.in-Some.text) c.in-Some.is (c.in_ok-last.ensures.found held))
     (subst (λ (b : List ℕ). NamesWrite b c.in_ok-start.start c.in_ok-start.kind) c.deref.ensures.value c.in_ok-start.ensures.named)
-    (subst (λ (cs : Cells). NamesNext cs x c.args.floor c.in_ok-next-2.next) reads.kept (c.in_ok-next-2.ensures.named (reads.still held))))
+    (subst (λ (cs : Cells). NamesNext cs x c.args.floor c.in_ok-next-2.next) reads.kept (c.in_ok-next-2.ensures.named (reads.readable c.args.cell.now.row held))))
 
 pub returns-clause-deletion : goal.returns-clause-deletion
 returns-clause-deletion g c = λ held shown.

@@ -46,7 +46,7 @@ returns-in_err-start-clause-refusal g c =
     let cells = g.R.Rows.seen.cells c.args.rows.now in
     let before = c.loop-rows.invariant in
     let same : c.deref.result.now ≡ c.in-Some-next.text.items = c.deref.ensures.value in
-    refused_damaged (g.R.Rows.seen.holds c.args.rows.now × AreShown cells) c.from_residual-in_err-start.result c.in_err-start.field-0.0 c.from_residual-in_err-start.ensures.1 c.in_err-start.ensures.refusal
+    refused_damaged (g.R.Rows.seen.readable c.args.rows.now c.args.cell.now.row × AreShown cells) c.from_residual-in_err-start.result c.in_err-start.field-0.0 c.from_residual-in_err-start.ensures.1 c.in_err-start.ensures.refusal
     (λ was. not_damaged cells c.args.cell.now c.in-Some-next.commit c.in-Some-next.text.items
     (latest_some before.reads was.0 c.args.cell.now Write c.loop-rows.below c.in_ok-next.next (c.in-Some-next.commit, c.in-Some-next.text) c.in-Some-next.is c.in_ok-next.ensures.found).1
     (λ t from to names. c.in_err-start.ensures.damaged t from to (subst (λ (b : List ℕ). NamesStart b t) (sym same) names)) was.1)

@@ -11,7 +11,7 @@ invariant-loop-rows g l = record {
   faults : g.R.Rows.faults l.rows ≡ g.R.Rows.faults l.fn.rows;
   len : vec_len l.found ≡ length l.found.items;
   few : length l.found.items ≤ 128;
-  old : g.R.Rows.seen.holds l.fn.rows → AreShown (g.R.Rows.seen.cells l.fn.rows) → AreOldFrom (g.R.Rows.seen.cells l.fn.rows) l.cell l.floor l.below l.found.items;
+  old : g.R.Rows.seen.readable l.fn.rows l.cell.row → AreShown (g.R.Rows.seen.cells l.fn.rows) → AreOldFrom (g.R.Rows.seen.cells l.fn.rows) l.cell l.floor l.below l.found.items;
 }
 
 abbrev pub decreases-loop-rows : goal.decreases-loop-rows

@@ -12,7 +12,7 @@ invariant-loop-near g l = record {
   len : vec_len l.found ≡ length l.found.items;
   few : length l.found.items ≤ 256;
   low : l.below ≤ l.floor;
-  all : g.R.Rows.seen.holds l.fn.rows → AreShown (g.R.Rows.seen.cells l.fn.rows) → HasOneRecord (g.R.Rows.seen.cells l.fn.rows) l.cell l.floor
+  all : g.R.Rows.seen.readable l.fn.rows l.cell.row → AreShown (g.R.Rows.seen.cells l.fn.rows) → HasOneRecord (g.R.Rows.seen.cells l.fn.rows) l.cell l.floor
       → AreNear (g.R.Rows.seen.cells l.fn.rows) l.cell l.floor l.near → AreAll (IsUnnamed (g.R.Rows.seen.cells l.fn.rows) l.cell l.floor) l.below l.found.items;
 }
 

@@ -17,7 +17,7 @@ returns-then-branch-clause-step g c = λ held.
 pub returns-else-branch-clause-step : goal.returns-else-branch-clause-step
 returns-else-branch-clause-step g c = λ held.
     gone_so g.R.Rows.seen c.args.rows.now c.clear.new.rows c.args.self.now held (Forward c.in-Forward.commit) c.in-Forward.is refl
-    (OnFalse_at c.if-branch.false (c.in_ok-clear-in-Forward.ensures.gone held)) (OnFalse_at c.if-branch.false c.in_ok-clear-in-Forward.ensures.left)
+    (OnFalse_at c.if-branch.false (c.in_ok-clear-in-Forward.ensures.gone (g.R.Rows.seen.each_readable c.args.rows.now held c.args.self.now.cell.row))) (OnFalse_at c.if-branch.false c.in_ok-clear-in-Forward.ensures.left)
 
 pub returns-then-branch-2-clause-step : goal.returns-then-branch-2-clause-step
 returns-then-branch-2-clause-step g c = λ held.
@@ -26,7 +26,7 @@ returns-then-branch-2-clause-step g c = λ held.
 pub returns-else-branch-2-clause-step : goal.returns-else-branch-2-clause-step
 returns-else-branch-2-clause-step g c = λ held.
     gone_so g.R.Rows.seen c.args.rows.now c.clear-in-Back.new.rows c.args.self.now held Back c.in-Back.is refl
-    (OnFalse_at c.if-branch-2.false (c.in_ok-clear-in-Back.ensures.gone held)) (OnFalse_at c.if-branch-2.false c.in_ok-clear-in-Back.ensures.left)
+    (OnFalse_at c.if-branch-2.false (c.in_ok-clear-in-Back.ensures.gone (g.R.Rows.seen.each_readable c.args.rows.now held c.args.self.now.cell.row))) (OnFalse_at c.if-branch-2.false c.in_ok-clear-in-Back.ensures.left)
 
 pub returns-in_ok-self-in-Open-clause-told : goal.returns-in_ok-self-in-Open-clause-told
 returns-in_ok-self-in-Open-clause-told g c = (c.in-Open.is, refl, c.in_ok-self-in-Open.ensures.decided)
@@ -35,10 +35,10 @@ pub returns-then-branch-clause-told : goal.returns-then-branch-clause-told
 returns-then-branch-clause-told g c = rw c.stamp.ensures.stamp c.in-Forward.is
 
 pub returns-else-branch-clause-told : goal.returns-else-branch-clause-told
-returns-else-branch-clause-told g c = (ap is_decided c.in-Forward.is, λ held. OnFalse_at c.if-branch.false (c.in_ok-clear-in-Forward.ensures.gone held))
+returns-else-branch-clause-told g c = (ap is_decided c.in-Forward.is, λ held. OnFalse_at c.if-branch.false (c.in_ok-clear-in-Forward.ensures.gone (g.R.Rows.seen.each_readable c.args.rows.now held c.args.self.now.cell.row)))
 
 pub returns-then-branch-2-clause-told : goal.returns-then-branch-2-clause-told
 returns-then-branch-2-clause-told g c = c.in-Back.is
 
 pub returns-else-branch-2-clause-told : goal.returns-else-branch-2-clause-told
-returns-else-branch-2-clause-told g c = (ap is_decided c.in-Back.is, λ held. OnFalse_at c.if-branch-2.false (c.in_ok-clear-in-Back.ensures.gone held))
+returns-else-branch-2-clause-told g c = (ap is_decided c.in-Back.is, λ held. OnFalse_at c.if-branch-2.false (c.in_ok-clear-in-Back.ensures.gone (g.R.Rows.seen.each_readable c.args.rows.now held c.args.self.now.cell.row)))

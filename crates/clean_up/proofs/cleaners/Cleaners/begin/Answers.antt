@@ -29,16 +29,16 @@ returns-in_err-lock-clause-step g c = λ held.
 
 pub returns-in_err-lock-clause-undamaged : goal.returns-in_err-lock-clause-undamaged
 returns-in_err-lock-clause-undamaged g c = λ held st reached store shown is.
-    no_lacking (g.R.Rows.seen.cells c.args.rows.now) st reached store c.in_ok-cell.cell (c.in_err-lock.ensures.damaged held (same_refusal c.from_residual-in_err-lock.result c.in_err-lock.field-0.0 Damaged c.from_residual-in_err-lock.ensures.1 is))
+    no_lacking (g.R.Rows.seen.cells c.args.rows.now) st reached store c.in_ok-cell.cell (c.in_err-lock.ensures.damaged (subst (λ (x : Cell). g.R.Rows.seen.readable c.args.rows.now x.row) (sym c.in_ok-cell.ensures.ok) held) (same_refusal c.from_residual-in_err-lock.result c.in_err-lock.field-0.0 Damaged c.from_residual-in_err-lock.ensures.1 is))
 
 pub returns-in_default-clause-step : goal.returns-in_default-clause-step
 returns-in_default-clause-step g c = λ held.
     rw c.in_ok-lock.ensures.reads.kept (no_lock_at (g.R.Rows.seen.cells c.args.rows.now) c.args.self.now (cell_of c.args.row.now c.args.family.now) c.in_ok-cell.ensures.row c.in_ok-cell.ensures.family
-    (standing_none (g.R.Rows.seen.cells c.args.rows.now) c.in_ok-cell.cell (cell_of c.args.row.now c.args.family.now) c.in_ok-lock.field-0 c.in_default.is c.in_ok-cell.ensures.ok (c.in_ok-lock.ensures.found held)))
+    (standing_none (g.R.Rows.seen.cells c.args.rows.now) c.in_ok-cell.cell (cell_of c.args.row.now c.args.family.now) c.in_ok-lock.field-0 c.in_default.is c.in_ok-cell.ensures.ok (c.in_ok-lock.ensures.found (g.R.Rows.seen.each_readable c.args.rows.now held c.in_ok-cell.cell.row))))
 
 pub returns-then-len-ge-MOST_CLEANERS-clause-step : goal.returns-then-len-ge-MOST_CLEANERS-clause-step
 returns-then-len-ge-MOST_CLEANERS-clause-step g c = λ held.
-    let stands = standing_some (g.R.Rows.seen.cells c.args.rows.now) c.in_ok-cell.cell c.in_ok-lock.field-0 c.in-Some.lock c.in-Some.is (c.in_ok-lock.ensures.found held) in
+    let stands = standing_some (g.R.Rows.seen.cells c.args.rows.now) c.in_ok-cell.cell c.in_ok-lock.field-0 c.in-Some.lock c.in-Some.is (c.in_ok-lock.ensures.found (g.R.Rows.seen.each_readable c.args.rows.now held c.in_ok-cell.cell.row)) in
     rw c.in_ok-lock.ensures.reads.kept (full_at (g.R.Rows.seen.cells c.args.rows.now) c.args.self.now (cell_of c.args.row.now c.args.family.now) c.in-Some.lock c.in_ok-cell.ensures.row c.in_ok-cell.ensures.family
     (subst (λ (x : Cell). Stands (g.R.Rows.seen.cells c.args.rows.now) x c.in-Some.lock) c.in_ok-cell.ensures.ok stands) (is_full _ _ c.len.ensures.len c.if-len-ge-MOST_CLEANERS.true))
 
@@ -55,7 +55,7 @@ returns-in_err-insert-clause-step g c = λ held.
 pub returns-clause-step : goal.returns-clause-step
 returns-clause-step g c = λ held.
     let same = c.in_ok-cell.ensures.ok in
-    let stands = standing_some (g.R.Rows.seen.cells c.args.rows.now) c.in_ok-cell.cell c.in_ok-lock.field-0 c.in-Some.lock c.in-Some.is (c.in_ok-lock.ensures.found held) in
+    let stands = standing_some (g.R.Rows.seen.cells c.args.rows.now) c.in_ok-cell.cell c.in_ok-lock.field-0 c.in-Some.lock c.in-Some.is (c.in_ok-lock.ensures.found (g.R.Rows.seen.each_readable c.args.rows.now held c.in_ok-cell.cell.row)) in
     rw (c.in_ok-lock.ensures.reads.kept, c.stamp-start.ensures.stamp)
     (subst (λ (x : Cell). Steps (g.R.Rows.seen.cells c.args.rows.now) c.args.self.now (machine.CleanBegin x) (machine.Cleaning c.args.self.now.next c.in-Some.lock.start) (g.R.Rows.seen.cells c.args.rows.now) (record c.args.self.now { next = c.args.self.now.next + 1; cleaners = c.insert.new.self })) same
     (opens_at (g.R.Rows.seen.cells c.args.rows.now) c.args.self.now (record c.args.self.now { next = c.args.self.now.next + 1; cleaners = c.insert.new.self }) c.in_ok-cell.cell c.in-Some.lock
@@ -77,11 +77,11 @@ returns-in_err-lock-clause-found g c = λ held. passed_none c.from_residual-in_e
 pub returns-in_err-lock-clause-damaged : goal.returns-in_err-lock-clause-damaged
 returns-in_err-lock-clause-damaged g c = λ held.
     passed_err c.from_residual-in_err-lock.result c.in_err-lock.field-0.0 _ c.from_residual-in_err-lock.ensures.1
-    (λ is. subst (λ (x : Cell). LacksPlace (g.R.Rows.seen.cells c.args.rows.now) x) c.in_ok-cell.ensures.ok (c.in_err-lock.ensures.damaged held is))
+    (λ is. subst (λ (x : Cell). LacksPlace (g.R.Rows.seen.cells c.args.rows.now) x) c.in_ok-cell.ensures.ok (c.in_err-lock.ensures.damaged (subst (λ (x : Cell). g.R.Rows.seen.readable c.args.rows.now x.row) (sym c.in_ok-cell.ensures.ok) held) is))
 
 pub returns-in_default-clause-found : goal.returns-in_default-clause-found
 returns-in_default-clause-found g c = λ held.
-    standing_none (g.R.Rows.seen.cells c.args.rows.now) c.in_ok-cell.cell (cell_of c.args.row.now c.args.family.now) c.in_ok-lock.field-0 c.in_default.is c.in_ok-cell.ensures.ok (c.in_ok-lock.ensures.found held)
+    standing_none (g.R.Rows.seen.cells c.args.rows.now) c.in_ok-cell.cell (cell_of c.args.row.now c.args.family.now) c.in_ok-lock.field-0 c.in_default.is c.in_ok-cell.ensures.ok (c.in_ok-lock.ensures.found (g.R.Rows.seen.each_readable c.args.rows.now held c.in_ok-cell.cell.row))
 
 pub returns-in_err-insert-clause-found : goal.returns-in_err-insert-clause-found
 returns-in_err-insert-clause-found g c = λ held. passed_none c.from_residual-in_err-insert.result NoMemory _ c.from_residual-in_err-insert.ensures.1
@@ -91,7 +91,7 @@ returns-in_err-insert-clause-damaged g c = λ held. passed_err c.from_residual-i
 
 pub returns-clause-found : goal.returns-clause-found
 returns-clause-found g c = λ held.
-    let stands = standing_some (g.R.Rows.seen.cells c.args.rows.now) c.in_ok-cell.cell c.in_ok-lock.field-0 c.in-Some.lock c.in-Some.is (c.in_ok-lock.ensures.found held) in
+    let stands = standing_some (g.R.Rows.seen.cells c.args.rows.now) c.in_ok-cell.cell c.in_ok-lock.field-0 c.in-Some.lock c.in-Some.is (c.in_ok-lock.ensures.found (g.R.Rows.seen.each_readable c.args.rows.now held c.in_ok-cell.cell.row)) in
     begins_with (g.R.Rows.seen.cells c.args.rows.now) c.args.self.now (record c.args.self.now { next = c.args.self.now.next + 1; cleaners = c.insert.new.self }) c.in_ok-cell.cell (cell_of c.args.row.now c.args.family.now) c.in-Some.lock _
     c.in_ok-cell.ensures.ok c.stamp-start.ensures.stamp stands c.in_ok-insert.ensures.updates.0
 

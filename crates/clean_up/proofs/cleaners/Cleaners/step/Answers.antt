@@ -28,7 +28,7 @@ returns-in_err-reply-clause-step g c = λ held.
 
 pub returns-in_err-reply-clause-undamaged : goal.returns-in_err-reply-clause-undamaged
 returns-in_err-reply-clause-undamaged g c = λ held st reached store shown is.
-    no_bad_record (g.R.Rows.seen.cells c.args.rows.now) st reached store c.in-Some.cleaner.now.lock.first (c.in_err-reply.ensures.damaged held (same_refusal c.from_residual.result c.in_err-reply.field-0.0 Damaged c.from_residual.ensures.1 is))
+    no_bad_record (g.R.Rows.seen.cells c.args.rows.now) st reached store c.in-Some.cleaner.now.lock.first (c.in_err-reply.ensures.damaged (held c.in-Some.cleaner.now (sym c.in-Some.ensures.value)) (same_refusal c.from_residual.result c.in_err-reply.field-0.0 Damaged c.from_residual.ensures.1 is))
 
 pub returns-in_err-reply-clause-full_shown : goal.returns-in_err-reply-clause-full_shown
 returns-in_err-reply-clause-full_shown g c = λ held is st reached store shown.
@@ -97,7 +97,7 @@ returns-in_err-reply-clause-accepted g c = passed_none c.from_residual.result c.
 pub returns-in_err-reply-clause-damaged : goal.returns-in_err-reply-clause-damaged
 returns-in_err-reply-clause-damaged g c = λ held.
     passed_err c.from_residual.result c.in_err-reply.field-0.0 _ c.from_residual.ensures.1
-    (λ is. (c.in-Some.cleaner.now, sym c.in-Some.ensures.value, c.in_err-reply.ensures.damaged held is))
+    (λ is. (c.in-Some.cleaner.now, sym c.in-Some.ensures.value, c.in_err-reply.ensures.damaged (held c.in-Some.cleaner.now (sym c.in-Some.ensures.value)) is))
 
 pub returns-then-closes-clause-accepted : goal.returns-then-closes-clause-accepted
 returns-then-closes-clause-accepted g c =

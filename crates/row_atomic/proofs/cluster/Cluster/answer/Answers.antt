@@ -61,7 +61,7 @@ returns-in-Apply g c =
     let told = c.apply.ensures in
     rw c.in-Apply.is (of_done g.F.Files.contents g.F.Files.faults _ _ _ _ _ c.done.ensures (applied g.F.Files.contents g.F.Files.faults c.in-Apply.row c.in-Apply.edits c.args.self.now c.apply.new.self c.apply.result
     (either_way c.apply.result (on_ok_weaker c.apply.result (λ made. made.still) told.ok) (on_err_weaker c.apply.result (λ same. same.still) told.err))
-    (λ order. on_ok_weaker c.apply.result (λ made. made.made order) told.ok) (λ order. on_err_weaker c.apply.result (λ same. same.kept) told.err)
+    (λ order. on_ok_weaker c.apply.result (λ made. made.made (all_readable _ _ _ _ order _)) told.ok) (λ order. on_err_weaker c.apply.result (λ same. same.kept) told.err)
     (either_way c.apply.result (on_ok_weaker c.apply.result (λ made. made.stays) told.ok) (on_err_weaker c.apply.result (λ same. same.stays) told.err))
     told.full told.within (on_ok_weaker c.apply.result (λ made. made.room) told.ok) (on_err_weaker c.apply.result (λ same. same.room) told.err) told.refusal told.untouched))
 

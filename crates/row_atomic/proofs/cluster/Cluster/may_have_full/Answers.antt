@@ -1,5 +1,5 @@
 -- A memtable that is full has no more entries and bytes than any may have.
-use Rattle.std.proofs.Common.{sym, subst, IsTrue, Bool}
+use Rattle.std.proofs.Common.{sym, subst, IsTrue}
 use Rattle.row_atomic.proofs.Memtables.{may_be_full}
 use Rattle.row_atomic.proofs.cluster.Cluster.may_have_full.Goals as goal
 

@@ -2,7 +2,7 @@
 use Rattle.std.proofs.Common.{◌≡◌, ◌<◌, ◌+◌, ◌-◌, ◌++◌, ◌∷◌, ℕ, List, ◌∙◌, None, Some, Option, IfSome, IsErrOf, drop, inl, inr, length, refl, suc, take, ap, sym, subst, option_map, arith}
 use Rattle.std.proofs.lemmas.List.{length-append}
 use Rattle.std.proofs.lemmas.Result.{err_from_is_err_and}
-use Rattle.cell_key.specs.Places.{AreNextCells, IsNextCell, Place, last_or, place_named}
+use Rattle.cell_key.specs.Places.{AreNextCells, IsNextCell, last_or, place_named}
 use Rattle.cell_key.specs.declared.refusals.Refusal.TheVariants.{Damaged}
 use Rattle.file_store.specs.Store.{Contents}
 use Rattle.metadata_table.specs.Places.{PlaceView, view_of, views}
@@ -14,7 +14,7 @@ use Rattle.row_atomic.specs.Clusters.{ArePlaced, PrecedesCell, cells_in, tablet_
 use Rattle.row_atomic.proofs.PassedRefusals.{not_both}
 use Rattle.row_atomic.proofs.Shares.{at_told, each_map}
 use Rattle.row_atomic.proofs.Scans.{at_item, parted_at, passed_more, place_numbered, scan_ends, scan_goes_on, scan_skips}
-use Rattle.row_atomic.proofs.ManyNexts.{BeginBehind, HasScanned, asked_begins, asked_ended, asked_next, asked_passed, asked_passes, begin_fewer, dropped_at, later_none, passes_more}
+use Rattle.row_atomic.proofs.ManyNexts.{HasScanned, asked_begins, asked_ended, asked_next, asked_passed, asked_passes, begin_fewer, dropped_at, later_none, passes_more}
 use Rattle.row_atomic.proofs.NextLists.{next_all}
 use Rattle.row_atomic.proofs.Nexts.{NoneAfter}
 use Rattle.row_atomic.proofs.cluster.rows.next_cells_in.Goals as goal

@@ -11,8 +11,9 @@ returns-in-Ok g c = let told = c.in-Ok.ensures in record {
   edits = record { changes = refl; room = λ row edits over. over };
   sessions = record { told = λ st shown many. absurd (ok_not _ _ (told.crowded st shown.shows.sessions many)); sessions = tt; cleaners = record { next = refl; each = λ i. refl; count = refl }; collectors = record { next = refl; floor = refl; each = λ i. refl; count = refl }; oracle = tt };
   tablets = refl;
-  causes = record { device = λ is. absurd (not_done _ _ tt is); told = λ _. record { files = refl; marks = told.reason.told (ok_not _ _) }; full = λ _. tt };
+  causes = record { device = λ is. absurd (not_done _ _ tt is); told = λ _. record { files = refl; marks = told.reason.told (ok_not _ _) }; full = λ _. tt; damaged = λ _. tt };
   tending = refl;
+  logged = refl;
 }
 
 pub returns-in-Err : goal.returns-in-Err
@@ -22,6 +23,7 @@ returns-in-Err g c = let told = c.in-Err.ensures in record {
   edits = record { changes = refl; room = λ row edits over. over };
   sessions = record { told = λ st shown many. as_refused _ _ _ refl (told.crowded st shown.shows.sessions many); sessions = begin_leaves c.in-Err.refusal _ told.refusal (λ is. (told.undrawn is).1); cleaners = record { next = refl; each = λ i. refl; count = refl }; collectors = record { next = refl; floor = refl; each = λ i. refl; count = refl }; oracle = begin_leaves_oracle g.M.MarkStore.mark c.in-Err.refusal _ _ told.refusal (λ is. (told.undrawn is).0) (told.mark, record { last = told.stays; range_end = told.range }) };
   tablets = refl;
-  causes = record { device = λ is. inr (told.reason.device (as_err _ _ _ refl is)); told = λ none. record { files = refl; marks = told.reason.told (λ is. none (as_refused _ _ _ refl is)) }; full = λ _. tt };
+  causes = record { device = λ is. inr (told.reason.device (as_err _ _ _ refl is)); told = λ none. record { files = refl; marks = told.reason.told (λ is. none (as_refused _ _ _ refl is)) }; full = λ _. tt; damaged = λ _. tt };
   tending = refl;
+  logged = refl;
 }

@@ -1,33 +1,7 @@
-use Rattle.std.proofs.Common.{Err, ap, refl, sym}
-use Rattle.cell_key.specs.declared.refusals.Refusal.{Refusal}
-use Rattle.si_model.specs.Machine.{refuses}
-use Rattle.server_loop.proofs.Causes.{done_causes, refused_causes}
-use Rattle.server_loop.proofs.SessionSteps.{name_undamaged, not_done}
-use Rattle.server_loop.proofs.UpkeepSteps.{checkpoint_done, checkpoint_refuses, checkpoint_whole, tells_as}
 use Rattle.server_loop.proofs.server.Server.checkpoint.Goals as goal
 
 pub returns-in-Ok : goal.returns-in-Ok
-returns-in-Ok g c = let o = c.in-Ok.ensures in record {
-  step = record { step = tells_as _ _ _ o.keeps.kept refl refl refl refl _ _ o.keeps.spots (λ st shown. checkpoint_done st) (λ held. checkpoint_whole); refusal = tt; limits = tt };
-  stamps = record { last = refl; restarted = tt; exhausted = λ _. tt };
-  edits = record { changes = λ held. (o.keeps.kept held).1; room = tt };
-  sessions = record { told = λ st shown. tt; sessions = record { top = refl; each = λ t. refl }; cleaners = record { next = refl; each = λ i. refl; count = refl }; collectors = record { next = refl; floor = refl; each = λ i. refl; count = refl }; oracle = refl };
-  tablets = rw (← c.top-top.ensures.top, ← c.greatest_floor-floor.ensures.floor) (o.steps, (λ is. o.rests), λ replaces refusal is. absurd (not_done _ _ tt is));
-  causes = (done_causes g.F.Files.contents g.F.Files.faults g.M.MarkStore.faults _ _ _ _ _ refl (λ is. absurd (not_done _ _ tt is)) (λ is. cc) o.faults (λ _. tt));
-  tending = refl;
-}
+returns-in-Ok g c = rw c.forget.ensures c.in-Ok.ensures.plain
 
 pub returns-in-Err : goal.returns-in-Err
-returns-in-Err g c = let o = c.in-Err.ensures in record {
-  step = record {
-    step = tells_as _ _ _ o.keeps.kept refl refl refl refl _ _ o.keeps.spots (λ st shown. refuses (checkpoint_refuses st _ o.refusal)) (λ held. name_undamaged _ (λ is. o.undamaged held (ap (λ (e : Refusal). Err e) is)));
-    refusal = o.refusal;
-    limits = tt;
-  };
-  stamps = record { last = refl; restarted = tt; exhausted = λ _. tt };
-  edits = record { changes = λ held. (o.keeps.kept held).1; room = tt };
-  sessions = record { told = λ st shown. tt; sessions = record { top = refl; each = λ t. refl }; cleaners = record { next = refl; each = λ i. refl; count = refl }; collectors = record { next = refl; floor = refl; each = λ i. refl; count = refl }; oracle = refl };
-  tablets = rw (← c.top-top.ensures.top, ← c.greatest_floor-floor.ensures.floor) (o.steps, (λ is. absurd (not_done _ _ tt (sym is))), λ replaces refusal is. o.whole replaces);
-  causes = (refused_causes g.F.Files.contents g.F.Files.faults g.M.MarkStore.faults _ _ _ _ refl o.faults (λ _. tt));
-  tending = refl;
-}
+returns-in-Err g c = rw c.forget.ensures c.in-Err.ensures.plain

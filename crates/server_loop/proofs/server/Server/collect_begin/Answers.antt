@@ -11,8 +11,9 @@ returns-in-Ok g c = let told = c.in-Ok.ensures in record {
   edits = record { changes = refl; room = λ row edits over. over };
   sessions = record { told = λ st shown. tt; sessions = record { top = refl; each = λ t. refl }; cleaners = record { next = refl; each = λ i. refl; count = refl }; collectors = told.opens; oracle = refl };
   tablets = refl;
-  causes = record { device = λ is. absurd (not_done _ _ tt is); told = λ _. record { files = refl; marks = refl }; full = λ _. tt };
+  causes = record { device = λ is. absurd (not_done _ _ tt is); told = λ _. record { files = refl; marks = refl }; full = λ _. tt; damaged = λ _. tt };
   tending = refl;
+  logged = refl;
 }
 
 pub returns-in-Err : goal.returns-in-Err
@@ -22,6 +23,7 @@ returns-in-Err g c = let told = c.in-Err.ensures in record {
   edits = record { changes = refl; room = λ row edits over. over };
   sessions = record { told = λ st shown. tt; sessions = record { top = refl; each = λ t. refl }; cleaners = record { next = refl; each = λ i. refl; count = refl }; collectors = told.err; oracle = refl };
   tablets = refl;
-  causes = record { device = λ is. absurd (never IsBeginRefusal _ _ told.refusal (λ h. h) is); told = λ _. record { files = refl; marks = refl }; full = λ _. tt };
+  causes = record { device = λ is. absurd (never IsBeginRefusal _ _ told.refusal (λ h. h) is); told = λ _. record { files = refl; marks = refl }; full = λ _. tt; damaged = λ _. tt };
   tending = refl;
+  logged = refl;
 }

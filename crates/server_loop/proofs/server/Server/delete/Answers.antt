@@ -11,8 +11,9 @@ returns-in-Ok g c = let told = c.in-Ok.ensures in record {
   edits = record { changes = refl; room = λ row edits over. over };
   sessions = record { told = λ st shown gone. absurd (ok_not _ _ (told.unknown st shown.shows.sessions gone)); sessions = tt; cleaners = record { next = refl; each = λ i. refl; count = refl }; collectors = record { next = refl; floor = refl; each = λ i. refl; count = refl }; oracle = refl };
   tablets = refl;
-  causes = record { device = λ is. absurd (not_done _ _ tt is); told = λ _. record { files = refl; marks = refl }; full = λ _. tt };
+  causes = record { device = λ is. absurd (not_done _ _ tt is); told = λ _. record { files = refl; marks = refl }; full = λ _. tt; damaged = λ _. tt };
   tending = refl;
+  logged = refl;
 }
 
 pub returns-in-Err : goal.returns-in-Err
@@ -22,6 +23,7 @@ returns-in-Err g c = let told = c.in-Err.ensures in record {
   edits = record { changes = refl; room = λ row edits over. over };
   sessions = record { told = λ st shown gone. as_refused _ _ _ refl (told.unknown st shown.shows.sessions gone); sessions = told.err; cleaners = record { next = refl; each = λ i. refl; count = refl }; collectors = record { next = refl; floor = refl; each = λ i. refl; count = refl }; oracle = refl };
   tablets = refl;
-  causes = record { device = λ is. absurd (never IsDeleteRefusal _ _ told.refusal (λ h. h) is); told = λ _. record { files = refl; marks = refl }; full = λ _. tt };
+  causes = record { device = λ is. absurd (never IsDeleteRefusal _ _ told.refusal (λ h. h) is); told = λ _. record { files = refl; marks = refl }; full = λ _. tt; damaged = λ _. tt };
   tending = refl;
+  logged = refl;
 }

@@ -13,8 +13,8 @@ two_reasons : (refusal : Refusal) → refusal ≡ NoMemory → refusal ≡ Devic
 two_reasons refusal memory device = cc
 
 pub returns-in-Ok-open-clause-new : goal.returns-in-Ok-open-clause-new
-returns-in-Ok-open-clause-new g c = λ told. c.without_sessions.ensures.shown new_machine (record {
-  in_order = rw c.in-Ok.ensures.files (c.in-Ok.ensures.holds told);
+returns-in-Ok-open-clause-new g c = λ told. c.without_sessions.ensures.shown new_machine (rw c.new-rows.ensures (record {
+  in_order = (rw c.in-Ok.ensures.files (c.in-Ok.ensures.holds told), tt);
   store = rw c.in-Ok.ensures.files (subst (λ (cells : Cells). ShowsCells cells new_machine) (sym c.in-Ok.ensures.cells) new_cells);
   places = ap (λ (places : List PlaceView). machine_places places) c.in-Ok.ensures.places;
   next = refl;
@@ -26,7 +26,7 @@ returns-in-Ok-open-clause-new g c = λ told. c.without_sessions.ensures.shown ne
   cleaners = refl;
   collector = refl;
   collectors = refl;
-})
+}))
 
 pub returns-in-Err-clause-refusal : goal.returns-in-Err-clause-refusal
 returns-in-Err-clause-refusal g c = inl c.in-Err.ensures.refusal

@@ -31,8 +31,8 @@ returns-clause-kept g c = λ st keeps.
     let top : c.in-Ok.opened.1 ≡ st.top = ap (λ (root : RootView). root.top) o.tells ∙ keeps.tells.top in
     let floor : c.in-Ok.opened.2 ≡ st.floor = ap (λ (root : RootView). root.floor) o.tells ∙ keeps.tells.floor in
     record {
-      shows = c.without_sessions.ensures.shown (reopened st) (record {
-        in_order = o.holds;
+      shows = c.without_sessions.ensures.shown (reopened st) (rw c.new-rows.ensures (record {
+        in_order = (o.holds, tt);
         store = subst (λ (cells : Cells). ShowsCells cells (reopened st)) (sym o.shows) keeps.tells.shows;
         places = ap (λ (root : RootView). machine_places root.places) o.tells ∙ keeps.tells.places;
         next = keeps.tells.next;
@@ -44,10 +44,10 @@ returns-clause-kept g c = λ st keeps.
         cleaners = refl;
         collector = refl;
         collectors = refl;
-      });
+      }));
       root = keeps.root;
       cells = keeps.cells;
-      keeps = subst (KeepsRoot g.F.Files.contents keeps.root keeps.cells) (sym c.without_sessions.ensures.cluster) o.keeps;
+      keeps = subst (KeepsRoot g.F.Files.contents keeps.root keeps.cells) (sym (ap (λ r. r.cluster) (c.without_sessions.ensures.rows ∙ c.new-rows.ensures))) o.keeps;
       tells = record {
         top = keeps.tells.top;
         floor = keeps.tells.floor;
@@ -62,8 +62,8 @@ pub returns-clause-new : goal.returns-clause-new
 returns-clause-new g c = λ lacks.
     let s = new_store (g.F.Files.contents c.args.files) (g.M.MarkStore.mark c.args.marks) c.in-Ok.opened.1 c.in-Ok.opened.2 c.in-Ok-open.oracle.last c.in-Ok.opened.0 lacks c.in-Ok.ensures.store in
     let none = ap (cells_in (g.F.Files.contents c.in-Ok.opened.0.files)) s.tablet.alone ∙ none_in s.tablet.tablet s.tablet.memory s.tablet.files (g.F.Files.contents c.in-Ok.opened.0.files) in
-    c.without_sessions.ensures.shown new_machine (record {
-      in_order = where_told _ _ lacks c.in-Ok.ensures.holds;
+    c.without_sessions.ensures.shown new_machine (rw c.new-rows.ensures (record {
+      in_order = (where_told _ _ lacks c.in-Ok.ensures.holds, tt);
       store = subst (λ (cells : Cells). ShowsCells cells new_machine) (sym none) new_cells;
       places = ap (λ (places : List PlaceView). machine_places places) s.places;
       next = refl;
@@ -75,7 +75,7 @@ returns-clause-new g c = λ lacks.
       cleaners = refl;
       collector = refl;
       collectors = refl;
-    })
+    }))
 
 pub returns-clause-whole : goal.returns-clause-whole
 returns-clause-whole g c =

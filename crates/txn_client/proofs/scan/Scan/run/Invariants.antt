@@ -1,6 +1,8 @@
 use Rattle.std.proofs.Common.{◌≡◌, ◌-◌}
 use Rattle.row_atomic.specs.Calls.{OnlyReads}
 use Rattle.txn_client.specs.Gathering.{Gathers, IsInLimits}
+use Rattle.txn_client.specs.Ranges.{range_named}
+use Rattle.txn_client.specs.Scans.{IsScanReadable}
 use Rattle.txn_client.proofs.scan.Scan.run.Given as goal
 
 -- what was gathered stands in the cells
@@ -8,7 +10,7 @@ abbrev pub invariant-loop-gathered : goal.invariant-loop-gathered
 invariant-loop-gathered g l = record {
   limits : IsInLimits l.gathered;
   cells : l.gathered.cells ≡ l.cells;
-  gathers : g.R.Rows.seen.holds l.fn.rows → Gathers (g.R.Rows.seen.cells l.fn.rows) l.fn.self l.gathered;
+  gathers : IsScanReadable g.R.Rows.seen l.fn.rows (range_named l.fn.self.range) → Gathers (g.R.Rows.seen.cells l.fn.rows) l.fn.self l.gathered;
   reads : OnlyReads g.R.Rows.seen l.fn.rows l.rows;
   faults : g.R.Rows.faults l.rows ≡ g.R.Rows.faults l.fn.rows;
 }

@@ -13,9 +13,10 @@ use Rattle.oracle.specs.Ranges.{IsDrawRefusal, OracleState, next_range_end}
 use Rattle.row_atomic.specs.Calls.{OnlyReads, View}
 use Rattle.row_atomic.proofs.Calls.{reads_none}
 use Rattle.txn_client.specs.Shows.{Advances, DrawsNext, HasNoNext, top_after}
-use Rattle.txn_client.specs.Refusals.{IsAdvanceRefusal, IsCellStepRefusal, StepLeaves}
+use Rattle.txn_client.specs.Refusals.{IsAdvanceRefusal, IsCellStepRefusal, IsReadableAt, StepLeaves, next_cell}
 use Rattle.txn_client.specs.declared.session.Phase.{Phase}
 use Rattle.txn_client.specs.declared.session.Phase.TheVariants.{Open, Holding, Stamped, Finishing}
+use Rattle.txn_client.specs.declared.session.Session.{Session}
 use Rattle.txn_client.proofs.Room.{does_so, edits_in, no_room_so, stamped_does}
 use Rattle.txn_client.proofs.SessionSteps.{ok_at}
 use Rattle.txn_client.proofs.session.Session.advance.Goals as goal
@@ -45,12 +46,12 @@ no_next : (p : Phase) (k n m : ℕ) → p ≡ Holding k → (k ≡ n → ⊥) �
 no_next p k n m is other count past = subst (λ (q : Phase). HasNoNext q m) (sym is) (past, λ same. other (same ∙ sym count))
 
 -- what a draw is refused with, a step is
-draw_advance : (Holds P : Type 0) (e : Refusal) → IsDrawRefusal e → IsAdvanceRefusal Holds P e
+draw_advance : (Readable P : Type 0) (e : Refusal) → IsDrawRefusal e → IsAdvanceRefusal Readable P e
 draw_advance H P Exhausted u = tt
 draw_advance H P Device u = tt
 draw_advance H P _ u = absurd u
 
-draw_refused : {A : Type 0} (r : Result A Refusal) (Holds P : Type 0) → IfErr r IsDrawRefusal → IfErr r (IsAdvanceRefusal Holds P)
+draw_refused : {A : Type 0} (r : Result A Refusal) (Readable P : Type 0) → IfErr r IsDrawRefusal → IfErr r (IsAdvanceRefusal Readable P)
 draw_refused (Ok x) H P h = tt
 draw_refused (Err e) H P h = draw_advance H P e h
 
@@ -59,19 +60,20 @@ draw_not (Ok x) n none h is = not_refused x n is
 draw_not (Err e) n none h is = let same : e ≡ n = cc in none (subst IsDrawRefusal same h)
 
 -- so is what a step on a cell is refused with, which isn't Exhausted
-cell_advance : (Holds P Q : Type 0) (e : Refusal) → (P → Q) → IsCellStepRefusal Holds P e → IsAdvanceRefusal Holds Q e
-cell_advance H P Q EmptyCommit so u = so u
-cell_advance H P Q MemtableFull so u = tt
-cell_advance H P Q Device so u = tt
-cell_advance H P Q NoMemory so u = tt
-cell_advance H P Q Damaged so u = u
-cell_advance H P Q _ so u = absurd u
+cell_advance : (Readable P Q : Type 0) (e : Refusal) → (P → Q) → IsCellStepRefusal Readable P e → IsAdvanceRefusal Readable Q e
+cell_advance R P Q EmptyCommit so u = so u
+cell_advance R P Q MemtableFull so u = tt
+cell_advance R P Q Device so u = tt
+cell_advance R P Q NoMemory so u = tt
+cell_advance R P Q Damaged so u = u
+cell_advance R P Q _ so u = absurd u
 
-cell_refused : {A : Type 0} (r : Result A Refusal) (Holds P Q : Type 0) → (P → Q) → IfErr r (IsCellStepRefusal Holds P) → IfErr r (IsAdvanceRefusal Holds Q)
-cell_refused (Ok x) H P Q so h = tt
-cell_refused (Err e) H P Q so h = cell_advance H P Q e so h
+cell_refused : {A R : Type 0} (seen : View R) (rows : R) (session : Session) (p : Phase) (r : Result A Refusal) (P Q : Type 0) → session.phase ≡ p → (P → Q)
+    → IfErr r (IsCellStepRefusal (IsReadableAt seen rows session (next_cell p)) P) → IfErr r (IsAdvanceRefusal (IsReadableAt seen rows session (next_cell session.phase)) Q)
+cell_refused seen rows session p (Ok x) P Q is so h = tt
+cell_refused seen rows session p (Err e) P Q is so h = subst (λ (q : Phase). IsAdvanceRefusal (IsReadableAt seen rows session (next_cell q)) Q e) (sym is) (cell_advance (IsReadableAt seen rows session (next_cell p)) P Q e so h)
 
-not_exhausted : {A : Type 0} (r : Result A Refusal) (Holds P : Type 0) → IfErr r (IsCellStepRefusal Holds P) → IsErrOf r Exhausted → ⊥
+not_exhausted : {A : Type 0} (r : Result A Refusal) (Readable P : Type 0) → IfErr r (IsCellStepRefusal Readable P) → IsErrOf r Exhausted → ⊥
 not_exhausted (Ok x) H P h is = not_refused x Exhausted is
 not_exhausted (Err e) H P h is = let same : e ≡ Exhausted = cc in subst (IsCellStepRefusal H P) same h
 
@@ -118,7 +120,7 @@ returns-in-Open g c =
       err = at.err;
       refused = left_aside _ _ _ _ _ r at.same;
       does = IfOk-weaker r _ _ (λ o. does_so g.R.Rows.seen rows c.hold_next.new.rows o.progress (edits_in holds cells session (Open) c.in-Open.is)) at.does;
-      refusal = cell_refused r holds _ _ (λ none. subst (λ (p : Phase). HasNoNext p (length session.writes)) (sym c.in-Open.is) none) at.refusal;
+      refusal = cell_refused g.R.Rows.seen rows session Open r _ _ c.in-Open.is (λ none. subst (λ (p : Phase). HasNoNext p (length session.writes)) (sym c.in-Open.is) none) at.refusal;
       empty = λ is. at.empty;
       drawing = λ is. absurd (not_held_open _ _ c.in-Open.is is);
       drawn = λ is. absurd (not_held_open _ _ c.in-Open.is is);
@@ -168,7 +170,7 @@ returns-else-k-len g c =
       err = at.err;
       refused = left_aside _ _ _ _ _ r at.same;
       does = IfOk-weaker r _ _ (λ o. does_so g.R.Rows.seen rows c.hold_next-else-k-len.new.rows o.progress (edits_in holds cells session (Holding c.in-Holding.k) c.in-Holding.is)) at.does;
-      refusal = cell_refused r holds _ _ (no_next _ _ _ _ c.in-Holding.is c.if-k-len.false c.len.ensures.len) at.refusal;
+      refusal = cell_refused g.R.Rows.seen rows session (Holding c.in-Holding.k) r _ _ c.in-Holding.is (no_next _ _ _ _ c.in-Holding.is c.if-k-len.false c.len.ensures.len) at.refusal;
       empty = λ is. absurd (not_held_open _ _ is c.in-Holding.is);
       drawing = λ is. absurd (held_some _ _ _ _ c.in-Holding.is c.if-k-len.false c.len.ensures.len is);
       drawn = λ is. absurd (held_some _ _ _ _ c.in-Holding.is c.if-k-len.false c.len.ensures.len is);
@@ -194,7 +196,7 @@ returns-in-Stamped g c =
       err = at.err;
       refused = left_aside _ _ _ _ _ r at.same;
       does = IfOk-weaker r _ _ (λ o. does_so g.R.Rows.seen rows c.commit_first.new.rows o.progress (edits_in holds cells session (Stamped) c.in-Stamped.is)) at.does;
-      refusal = cell_refused r holds _ _ (λ none. subst (λ (p : Phase). HasNoNext p (length session.writes)) (sym c.in-Stamped.is) none) at.refusal;
+      refusal = cell_refused g.R.Rows.seen rows session Stamped r _ _ c.in-Stamped.is (λ none. subst (λ (p : Phase). HasNoNext p (length session.writes)) (sym c.in-Stamped.is) none) at.refusal;
       empty = λ is. absurd (not_open_stamped _ c.in-Stamped.is is);
       drawing = λ is. absurd (not_held_stamped _ _ c.in-Stamped.is is);
       drawn = λ is. absurd (not_held_stamped _ _ c.in-Stamped.is is);
@@ -220,7 +222,7 @@ returns-in-Finishing g c =
       err = at.err;
       refused = left_aside _ _ _ _ _ r at.same;
       does = IfOk-weaker r _ _ (λ o. does_so g.R.Rows.seen rows c.finish_next.new.rows o.progress (edits_in holds cells session (Finishing c.in-Finishing.k) c.in-Finishing.is)) at.does;
-      refusal = cell_refused r holds _ _ (λ none. subst (λ (p : Phase). HasNoNext p (length session.writes)) (sym c.in-Finishing.is) none) at.refusal;
+      refusal = cell_refused g.R.Rows.seen rows session (Finishing c.in-Finishing.k) r _ _ c.in-Finishing.is (λ none. subst (λ (p : Phase). HasNoNext p (length session.writes)) (sym c.in-Finishing.is) none) at.refusal;
       empty = λ is. absurd (not_open_finishing _ _ c.in-Finishing.is is);
       drawing = λ is. absurd (not_held_finishing _ _ _ c.in-Finishing.is is);
       drawn = λ is. absurd (not_held_finishing _ _ _ c.in-Finishing.is is);

@@ -37,7 +37,7 @@ returns-in_err-record g c =
       err = passed_kept r _ refl;
       does = passed_none r e _ by;
       same = passed_kept r _ at.err;
-      refusal = passed_err r e _ by (row_step _ _ e at.refusal);
+      refusal = passed_err r e _ by (row_step _ _ _ e (λ whole. whole c.in-Some.first.now c.in-Some.ensures.found) at.refusal);
       full = λ is. no_room_so g.R.Rows.seen.overfills c.args.rows.now (λ row edits such. (c.in-Some.first.now, c.in-Some.ensures.found, rw c.kind-kind.ensures at such)) (at.full (passed_on r _ e _ by refl is));
       reason = reason_passed r e _ _ by at.reason;
     }
@@ -71,7 +71,7 @@ returns g c =
     record {
       step = λ held last.
           rw c.stamp.ensures.stamp (advance_committed cells session last first (nat_eq 1 c.len.result) c.requires c.in-Some.ensures.found
-          (made.such.1 held) (ap (nat_eq 1) c.len.ensures.len) (g.R.Rows.seen.cells c.record.new.rows) (made.applied.made held ∙ (make_cells cells first.cell session.start made.edits).recorded session.commit (kind_of_change first.value) made.such.2));
+          (made.such.1 held) (ap (nat_eq 1) c.len.ensures.len) (g.R.Rows.seen.cells c.record.new.rows) (made.applied.made (g.R.Rows.seen.each_readable c.args.rows.now held made.row) ∙ (make_cells cells first.cell session.start made.edits).recorded session.commit (kind_of_change first.value) made.such.2));
       draws = λ last. (tt, refl);
       start = refl;
       writes = refl;

@@ -46,7 +46,7 @@ returns-in_err-_stood g c =
       err = passed_kept r _ refl;
       does = passed_none r e _ by;
       same = passed_kept r _ at.err;
-      refusal = passed_err r e _ by (row_step _ _ e at.refusal);
+      refusal = passed_err r e _ by (row_step _ _ _ e (λ whole. whole c.in-Some.write.now c.in-Some.ensures.found) at.refusal);
       full = λ is. no_room_so g.R.Rows.seen.overfills c.args.rows.now (λ row edits such. (c.in-Some.write.now, c.in-Some.ensures.found, rw c.kind-kind.ensures at such)) (at.full (passed_on r _ e _ by refl is));
       reason = reason_passed r e _ _ by at.reason;
     }
@@ -64,7 +64,7 @@ returns g c =
           advance_finished cells session last c.args.k c.len.result write (nat_eq (c.args.k + 1) c.len-2.result) c.requires
           c.in-Some.ensures.found c.len.ensures.len (ap (nat_eq (c.args.k + 1)) (c.len-2.ensures.len ∙ sym c.len.ensures.len)) (g.R.Rows.seen.cells c.record.new.rows)
           (elim (with_gone stood put (at.gone held) at.left) [
-            | inl made ↦ inl (made.such.1 held, made.applied.made held ∙ (make_cells cells write.cell session.start made.edits).recorded session.commit (kind_of_change write.value) made.such.2)
+            | inl made ↦ inl (made.such.1 held, made.applied.made (g.R.Rows.seen.each_readable c.args.rows.now held made.row) ∙ (make_cells cells write.cell session.start made.edits).recorded session.commit (kind_of_change write.value) made.such.2)
             | inr left ↦ inr (left.0, left.1.kept)
           ]);
       draws = λ last. (tt, refl);

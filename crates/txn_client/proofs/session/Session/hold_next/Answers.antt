@@ -52,7 +52,7 @@ returns-in_err-is_taken g c =
       err = passed_kept r _ refl;
       does = passed_none r e _ by;
       same = passed_kept r _ at.reads;
-      refusal = passed_err r e _ by (row_step _ _ e (read_row _ e at.refusal));
+      refusal = passed_err r e _ by (row_step _ _ _ e (λ whole. whole c.in-Some.write.now c.in-Some.ensures.found) (read_row _ e at.refusal));
       empty = λ past. absurd (not_past _ _ c.in-Some.ensures.some past);
       full = λ is. absurd (read_not_full r e _ by at.refusal is);
       reason = reason_passed r e _ _ by at.reason;
@@ -95,7 +95,7 @@ returns-in_err-hold g c =
       err = passed_kept r _ refl;
       does = passed_none r e _ by;
       same = passed_kept r _ (reads_then first.reads at.err);
-      refusal = passed_err r e _ by (row_step _ _ e (apply_row _ e at.refusal));
+      refusal = passed_err r e _ by (row_step _ _ _ e (λ whole. whole c.in-Some.write.now c.in-Some.ensures.found) (apply_row _ e at.refusal));
       empty = λ past. absurd (not_past _ _ c.in-Some.ensures.some past);
       full = λ is.
           let lack = at.full (passed_on r _ e _ by refl is) in (
@@ -127,7 +127,7 @@ returns g c =
           advance_held cells c.args.self.now last c.args.k c.len.result write head c.requires c.in-Some.ensures.found c.in-Some-get.ensures.found
           (subst (λ (n : ℕ). IsFree cells write.cell n) c.stamp-start.ensures.stamp (rw c.if-branch.false at (first.free held)))
           c.len.ensures.len (g.R.Rows.seen.cells c.hold.new.rows)
-          (made.applied.made (first.reads.still held) ∙ (ap (λ (cs : Cells). after_edits cs made.edits) first.reads.kept ∙ holding_makes cells write.cell head.cell start write.value made.edits made.such.1));
+          (made.applied.made (first.reads.readable made.row (g.R.Rows.seen.each_readable c.args.rows.now held made.row)) ∙ (ap (λ (cs : Cells). after_edits cs made.edits) first.reads.kept ∙ holding_makes cells write.cell head.cell start write.value made.edits made.such.1));
       draws = λ last. (tt, refl);
       start = refl;
       writes = refl;

@@ -26,10 +26,12 @@ returns-clause-step g c = λ held last.
     let same = c.in_ok-cell.ensures.ok in
     rw c.read_cell.ensures.reads.kept (subst (λ (x : Cell). Steps (g.R.Rows.seen.cells c.args.rows.now) c.args.self.now last (machine.Get c.args.start x) (result_reply found_reply c.read_cell.result) (g.R.Rows.seen.cells c.args.rows.now) c.args.self.now last) same
     (reads_open_at (g.R.Rows.seen.cells c.args.rows.now) c.args.self.now last c.args.start c.in_ok-cell.cell c.read_cell.result c.in_ok-cell.ensures.open
-    (subst (λ (x : Cell). IsRow x.row) (sym same) c.in_ok-cell.ensures.row) (subst (λ (x : Cell). IsFamily x.family) (sym same) c.in_ok-cell.ensures.family) (c.read_cell.ensures.found held) c.read_cell.ensures.refusal))
+    (subst (λ (x : Cell). IsRow x.row) (sym same) c.in_ok-cell.ensures.row) (subst (λ (x : Cell). IsFamily x.family) (sym same) c.in_ok-cell.ensures.family) (c.read_cell.ensures.found (g.R.Rows.seen.each_readable c.args.rows.now held c.in_ok-cell.cell.row)) c.read_cell.ensures.refusal))
 
 pub returns-clause-undamaged : goal.returns-clause-undamaged
-returns-clause-undamaged g c = λ held. undamaged_at (g.R.Rows.seen.cells c.args.rows.now) c.in_ok-cell.cell c.args.start c.read_cell.result (c.read_cell.ensures.damaged held)
+returns-clause-undamaged g c = λ held.
+    undamaged_at (g.R.Rows.seen.cells c.args.rows.now) c.in_ok-cell.cell c.args.start c.read_cell.result
+    (c.read_cell.ensures.damaged (subst (λ (x : Cell). g.R.Rows.seen.readable c.args.rows.now x.row) (sym c.in_ok-cell.ensures.ok) held))
 
 pub returns-in_err-cell-clause-found : goal.returns-in_err-cell-clause-found
 returns-in_err-cell-clause-found g c = λ held. passed_none c.from_residual.result c.in_err-cell.field-0.0 _ c.from_residual.ensures.1
@@ -41,11 +43,11 @@ returns-in_err-cell-clause-damaged g c = λ held.
 
 pub returns-clause-found : goal.returns-clause-found
 returns-clause-found g c = λ held.
-    subst (λ (x : Cell). IfOk c.read_cell.result (IsFound (g.R.Rows.seen.cells c.args.rows.now) x c.args.start)) c.in_ok-cell.ensures.ok (c.read_cell.ensures.found held)
+    subst (λ (x : Cell). IfOk c.read_cell.result (IsFound (g.R.Rows.seen.cells c.args.rows.now) x c.args.start)) c.in_ok-cell.ensures.ok (c.read_cell.ensures.found (subst (λ (x : Cell). g.R.Rows.seen.readable c.args.rows.now x.row) (sym c.in_ok-cell.ensures.ok) held))
 
 pub returns-clause-damaged : goal.returns-clause-damaged
 returns-clause-damaged g c = λ held.
-    subst (λ (x : Cell). IfErr c.read_cell.result (λ refusal. refusal ≡ Damaged → IsDamaged (g.R.Rows.seen.cells c.args.rows.now) x c.args.start)) c.in_ok-cell.ensures.ok (c.read_cell.ensures.damaged held)
+    subst (λ (x : Cell). IfErr c.read_cell.result (λ refusal. refusal ≡ Damaged → IsDamaged (g.R.Rows.seen.cells c.args.rows.now) x c.args.start)) c.in_ok-cell.ensures.ok (c.read_cell.ensures.damaged (subst (λ (x : Cell). g.R.Rows.seen.readable c.args.rows.now x.row) (sym c.in_ok-cell.ensures.ok) held))
 
 pub returns-in_err-cell-clause-unknown : goal.returns-in_err-cell-clause-unknown
 returns-in_err-cell-clause-unknown g c = λ st shown gone.

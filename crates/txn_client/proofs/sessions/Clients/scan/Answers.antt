@@ -8,7 +8,7 @@ use Rattle.si_model.specs.Machine.{Range}
 use Rattle.si_model.specs.Replies.{item_of, range_of, reach_of}
 use Rattle.si_model.specs.Scans.{HasFamilies, HasRows}
 use Rattle.txn_client.specs.Ranges.{range_named}
-use Rattle.txn_client.specs.Scans.{IsScanDamaged, IsScanFound}
+use Rattle.txn_client.specs.Scans.{IsScanDamaged, IsScanFound, IsScanReadable}
 use Rattle.txn_client.specs.Shows.{IsScanCause}
 use Rattle.txn_client.proofs.Exact.{is_open}
 use Rattle.txn_client.proofs.Passed.{as_err, passed_err, passed_none, refused_not}
@@ -52,7 +52,7 @@ returns-clause-step g c = λ held last.
     let asked = c.in_ok-scan.ensures in
     let scan = c.in_ok-scan.scan in
     let found = as_asked (λ (s : ℕ) (range : Range) (keys_only : Bool). IfOk c.run.result (λ reply. IsScanFound cells s range keys_only c.args.cells (map item_of reply.items.items) (reach_of reply.reach)))
-    c.args.start scan.start (range_of c.args.range) (range_named scan.range) c.args.keys_only scan.keys_only asked.start asked.range asked.keys (c.run.ensures.found held) in
+    c.args.start scan.start (range_of c.args.range) (range_named scan.range) c.args.keys_only scan.keys_only asked.start asked.range asked.keys (c.run.ensures.found (λ row from. g.R.Rows.seen.each_readable c.args.rows.now held row)) in
     rw c.run.ensures.reads.kept (scans_at cells c.args.self.now last c.args.start (range_of c.args.range) c.args.keys_only c.args.cells c.run.result asked.open asked.rows asked.families asked.count found c.run.ensures.refusal)
 
 pub returns-clause-found : goal.returns-clause-found
@@ -60,14 +60,14 @@ returns-clause-found g c = λ held.
     let asked = c.in_ok-scan.ensures in
     let scan = c.in_ok-scan.scan in
     as_asked (λ (s : ℕ) (range : Range) (keys_only : Bool). IfOk c.run.result (λ reply. IsScanFound (g.R.Rows.seen.cells c.args.rows.now) s range keys_only c.args.cells (map item_of reply.items.items) (reach_of reply.reach)))
-    c.args.start scan.start (range_of c.args.range) (range_named scan.range) c.args.keys_only scan.keys_only asked.start asked.range asked.keys (c.run.ensures.found held)
+    c.args.start scan.start (range_of c.args.range) (range_named scan.range) c.args.keys_only scan.keys_only asked.start asked.range asked.keys (c.run.ensures.found (subst (IsScanReadable g.R.Rows.seen c.args.rows.now) (sym asked.range) held))
 
 pub returns-clause-damaged : goal.returns-clause-damaged
 returns-clause-damaged g c = λ held.
     let asked = c.in_ok-scan.ensures in
     let scan = c.in_ok-scan.scan in
     as_asked (λ (s : ℕ) (range : Range) (keys_only : Bool). IfErr c.run.result (λ (e : Refusal). e ≡ Damaged → IsScanDamaged (g.R.Rows.seen.cells c.args.rows.now) range s))
-    c.args.start scan.start (range_of c.args.range) (range_named scan.range) c.args.keys_only scan.keys_only asked.start asked.range asked.keys (c.run.ensures.damaged held)
+    c.args.start scan.start (range_of c.args.range) (range_named scan.range) c.args.keys_only scan.keys_only asked.start asked.range asked.keys (c.run.ensures.damaged (subst (IsScanReadable g.R.Rows.seen c.args.rows.now) (sym asked.range) held))
 
 pub returns-clause-undamaged : goal.returns-clause-undamaged
 returns-clause-undamaged g c = λ held.
@@ -75,7 +75,7 @@ returns-clause-undamaged g c = λ held.
     let scan = c.in_ok-scan.scan in
     scan_undamaged_at (g.R.Rows.seen.cells c.args.rows.now) (range_of c.args.range) c.args.start c.run.result
     (as_asked (λ (s : ℕ) (range : Range) (keys_only : Bool). IfErr c.run.result (λ (e : Refusal). e ≡ Damaged → IsScanDamaged (g.R.Rows.seen.cells c.args.rows.now) range s))
-    c.args.start scan.start (range_of c.args.range) (range_named scan.range) c.args.keys_only scan.keys_only asked.start asked.range asked.keys (c.run.ensures.damaged held))
+    c.args.start scan.start (range_of c.args.range) (range_named scan.range) c.args.keys_only scan.keys_only asked.start asked.range asked.keys (c.run.ensures.damaged (subst (IsScanReadable g.R.Rows.seen c.args.rows.now) (sym asked.range) held)))
 
 pub returns-clause-unknown : goal.returns-clause-unknown
 returns-clause-unknown g c = λ st shown gone. absurd (is_open c.args.self.now c.args.start st shown gone c.in_ok-scan.ensures.open)

@@ -9,7 +9,7 @@ use Rattle.cell_key.specs.declared.refusals.Refusal.{Refusal}
 use Rattle.cell_key.specs.declared.refusals.Refusal.TheVariants.{UnknownSession, MemtableFull, Exhausted, Device, Damaged}
 use Rattle.cell_key.proofs.Reasons.{not_refused, reason_kept, reason_none, reason_passed}
 use Rattle.row_atomic.proofs.Calls.{reads_keep, reads_none}
-use Rattle.txn_client.specs.Refusals.{HasOneReason, IsAdvanceRefusal}
+use Rattle.txn_client.specs.Refusals.{HasOneReason, IsAdvanceRefusal, IsReadableAt, next_cell}
 use Rattle.txn_client.specs.declared.session.Session.{Session}
 use Rattle.txn_client.proofs.Room.{changes_shown, does_below, does_make, does_so, does_take, does_touch, draws_shown, edits_touch, no_room_so, same_touch}
 use Rattle.txn_client.proofs.Passed.{as_err, passed_on, passed_err, passed_none, passed_kept, refused_not, advance_step}
@@ -184,7 +184,8 @@ returns-in_err-outcome-clause-touched g c = λ held.
     (same_touch (g.R.Rows.seen.holds c.args.rows.now) (g.R.Rows.seen.cells c.args.rows.now) session session.phase (g.R.Rows.seen.cells c.advance.new.rows) c.in_err-outcome.ensures.refused.same.kept)
 
 pub returns-in_err-outcome-clause-undamaged : goal.returns-in_err-outcome-clause-undamaged
-returns-in_err-outcome-clause-undamaged g c = λ held is. refused_not c.from_residual.result c.in_err-outcome.field-0.0 Damaged (IsAdvanceRefusal (g.R.Rows.seen.holds c.args.rows.now) _) (λ u. u held) c.from_residual.ensures.1 c.in_err-outcome.ensures.refusal is
+returns-in_err-outcome-clause-undamaged g c = λ held is.
+    refused_not c.from_residual.result c.in_err-outcome.field-0.0 Damaged (IsAdvanceRefusal (IsReadableAt g.R.Rows.seen c.args.rows.now c.in-Some.session.now (next_cell c.in-Some.session.now.phase)) _) (λ u. u (held c.in-Some.session.now (sym c.in-Some.ensures.value))) c.from_residual.ensures.1 c.in_err-outcome.ensures.refusal is
 
 pub returns-in_err-outcome-clause-full : goal.returns-in_err-outcome-clause-full
 returns-in_err-outcome-clause-full g c = λ is. no_room_so g.R.Rows.seen.overfills c.args.rows.now (λ row edits so. (c.in-Some.session.now, sym c.in-Some.ensures.value, so)) (c.in_err-outcome.ensures.full (passed_on c.from_residual.result _ c.in_err-outcome.field-0.0 _ c.from_residual.ensures.1 refl is))
@@ -200,7 +201,7 @@ pub returns-in_default-clause-drawn : goal.returns-in_default-clause-drawn
 returns-in_default-clause-drawn g c = λ st shown about. refl
 
 pub returns-in_default-clause-below : goal.returns-in_default-clause-below
-returns-in_default-clause-below g c = record { still = λ held. held; stays = refl }
+returns-in_default-clause-below g c = record { still = λ held. held; readable = λ row whole. whole; stays = refl }
 
 pub returns-in_default-clause-touched : goal.returns-in_default-clause-touched
 returns-in_default-clause-touched g c = λ held st shown. inl refl

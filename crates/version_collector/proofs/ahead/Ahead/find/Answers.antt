@@ -1,7 +1,7 @@
-use Rattle.std.proofs.Common.{Option, List, nat_lt, option_map, sym, subst, arith}
+use Rattle.std.proofs.Common.{Option, List, nat_lt, sym, subst, arith}
 use Rattle.std.proofs.lemmas.Bool.{ltb-true}
-use Rattle.std.specs.Vec.Iter.{into_iter_items}
 use Rattle.cell_key.specs.Places.{AreNextCells, Place}
+use Rattle.row_atomic.specs.Calls.{AreReadableFrom}
 use Rattle.version_collector.specs.Ahead.{Follow}
 use Rattle.version_collector.specs.Visits.{position_of}
 use Rattle.version_collector.proofs.AheadCells.{follow_found}
@@ -14,6 +14,6 @@ returns-clause-found g c = λ held.
     let most = c.min-most.result in
     let places = c.in_ok-found.found.items in
     let is_end = nat_lt c.len.result most in
-    let next = subst (λ (o : Option Place). AreNextCells cells o most places) c.place_after.ensures (c.in_ok-found.ensures.found held) in
+    let next = subst (λ (o : Option Place). AreNextCells cells o most places) c.place_after.ensures (c.in_ok-found.ensures.found (subst (λ (o : Option Place). AreReadableFrom g.R.Rows.seen c.args.rows.now o) (sym c.place_after.ensures) held)) in
     subst (λ (ps : List Place). Follow cells after ps is_end) (sym c.into_iter.ensures.rest)
     (follow_found cells after most places is_end next (λ less. let fewer = ltb-true c.len.result most less in omega (arith, fewer, c.len.ensures, c.in_ok-found.found.ok.0)))

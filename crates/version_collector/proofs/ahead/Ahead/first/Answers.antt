@@ -1,6 +1,4 @@
-use Rattle.std.proofs.Common.{Option, subst}
 use Rattle.std.specs.Vec.Iter.{into_iter_items}
-use Rattle.cell_key.specs.Places.{IsNextCell, Place}
 use Rattle.version_collector.specs.Visits.{position_of}
 use Rattle.version_collector.proofs.AheadCells.{first_left, first_next, none_left, still_next}
 use Rattle.version_collector.proofs.ahead.Ahead.first.Goals as goal

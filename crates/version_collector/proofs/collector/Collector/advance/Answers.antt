@@ -3,9 +3,11 @@ use Rattle.cell_key.specs.declared.refusals.Refusal.TheVariants.{Damaged, Device
 use Rattle.cell_key.proofs.Reasons.{not_refused}
 use Rattle.row_atomic.proofs.Calls.{keeps_then}
 use Rattle.si_model.specs.declared.replies.CollectReply.{CollectReply}
-use Rattle.version_collector.specs.Visits.{Visits, none, position_of, then}
+use Rattle.version_collector.specs.Visits.{Visits, none, position_of, read_from, then}
+use Rattle.version_collector.specs.declared.collector.Collector.{Collector}
+use Rattle.version_collector.proofs.Reading.{from_earlier, readable_now}
 use Rattle.version_collector.proofs.Room.{no_room_then, room_few, room_same, room_then}
-use Rattle.row_atomic.specs.Calls.{OnlyReads, View}
+use Rattle.row_atomic.specs.Calls.{AreReadableFrom, OnlyReads, View}
 use Rattle.cell_key.proofs.Passed.{as_err, passed as passed_on}
 use Rattle.version_collector.proofs.VisitedCells.{still_shown, thins_few, thins_none, thins_then}
 use Rattle.version_collector.proofs.collector.Collector.advance.Goals as goal
@@ -25,10 +27,10 @@ reads_since seen a b c same reads = subst (λ (r : _). OnlyReads seen r c) same 
 pub loop-made-init : goal.loop-made-init
 loop-made-init g c = record {
   visited = λ held st reached store low come. none;
-  ahead = λ held. c.new-ahead.ensures (g.R.Rows.seen.cells c.args.rows.now) (position_of c.args.self.now.after);
+  ahead = λ held st reached store low come. c.new-ahead.ensures (g.R.Rows.seen.cells c.args.rows.now) (position_of c.args.self.now.after);
   floor = refl;
   none = λ is. (refl, refl);
-  below = record { still = λ held. held; stays = refl };
+  below = record { still = λ held. held; readable = λ row whole. whole; stays = refl };
   thins = λ held. thins_none 0 (g.R.Rows.seen.cells c.args.rows.now);
   room = room_same g.R.Rows.seen.overfills 0 c.args.rows.now;
   faults = refl;
@@ -37,8 +39,11 @@ loop-made-init g c = record {
 pub returns-in_err-visit-clause-undamaged : goal.returns-in_err-visit-clause-undamaged
 returns-in_err-visit-clause-undamaged g c = λ held st reached store low come is.
     let before = c.loop-made.invariant in
-    c.in_err-visit.ensures.undamaged (before.below.still held)
-    (still_shown st reached (g.R.Rows.seen.cells c.args.rows.now) c.args.self.now store low come c.loop-made.made (g.R.Rows.seen.cells c.loop-made.rows) c.loop-made.self (before.visited held st reached store low come))
+    let whole = subst (λ (d : Collector). AreReadableFrom g.R.Rows.seen c.args.rows.now (read_from c.args.self.now d)) c.in_err-visit.ensures.err held in
+    let did = before.visited whole st reached store low come in
+    c.in_err-visit.ensures.undamaged (readable_now g.R.Rows.seen c.args.rows.now c.loop-made.rows before.below did whole)
+    (still_shown st reached (g.R.Rows.seen.cells c.args.rows.now) c.args.self.now store low come c.loop-made.made (g.R.Rows.seen.cells c.loop-made.rows) c.loop-made.self did)
+    (before.ahead whole st reached store low come)
     (passed_on c.from_residual.result c.in_err-visit.field-0.0 Damaged c.from_residual.ensures.1 is)
 
 pub returns-in_err-visit-clause-first : goal.returns-in_err-visit-clause-first
@@ -55,14 +60,15 @@ returns-in_err-visit-clause-full g c = λ is.
 pub returns-in-Blocked-clause-visited : goal.returns-in-Blocked-clause-visited
 returns-in-Blocked-clause-visited g c = λ held st reached store low come.
     let before = c.loop-made.invariant in
-    let did = before.visited held st reached store low come in
+    let whole : AreReadableFrom g.R.Rows.seen c.args.rows.now (read_from c.args.self.now c.loop-made.self) = λ row from. g.R.Rows.seen.each_readable c.args.rows.now held row in
+    let did = before.visited whole st reached store low come in
     let shown = still_shown st reached (g.R.Rows.seen.cells c.args.rows.now) c.args.self.now store low come c.loop-made.made (g.R.Rows.seen.cells c.loop-made.rows) c.loop-made.self did in
     record {
       mid = g.R.Rows.seen.cells c.loop-made.rows;
       before = c.loop-made.self;
       visits = record { count = c.loop-made.made; few = c.loop-made-test.true; visits = did };
       last = subst (λ (r : CollectReply). Visits (g.R.Rows.seen.cells c.loop-made.rows) c.loop-made.self r (g.R.Rows.seen.cells c.visit.new.rows) c.visit.new.self) c.in-Blocked.is
-          (c.in_ok-visit.ensures.visit (before.below.still held) shown (before.ahead held));
+          (c.in_ok-visit.ensures.visit (readable_now g.R.Rows.seen c.args.rows.now c.loop-made.rows before.below did whole) shown (before.ahead whole st reached store low come));
     }
 
 pub returns-in-Blocked-clause-room : goal.returns-in-Blocked-clause-room
@@ -73,14 +79,15 @@ returns-in-Blocked-clause-room g c =
 pub returns-in-Collected-clause-visited : goal.returns-in-Collected-clause-visited
 returns-in-Collected-clause-visited g c = λ held st reached store low come.
     let before = c.loop-made.invariant in
-    let did = before.visited held st reached store low come in
+    let whole : AreReadableFrom g.R.Rows.seen c.args.rows.now (read_from c.args.self.now c.loop-made.self) = λ row from. g.R.Rows.seen.each_readable c.args.rows.now held row in
+    let did = before.visited whole st reached store low come in
     let shown = still_shown st reached (g.R.Rows.seen.cells c.args.rows.now) c.args.self.now store low come c.loop-made.made (g.R.Rows.seen.cells c.loop-made.rows) c.loop-made.self did in
     record {
       mid = g.R.Rows.seen.cells c.loop-made.rows;
       before = c.loop-made.self;
       visits = record { count = c.loop-made.made; few = c.loop-made-test.true; visits = did };
       last = subst (λ (r : CollectReply). Visits (g.R.Rows.seen.cells c.loop-made.rows) c.loop-made.self r (g.R.Rows.seen.cells c.visit.new.rows) c.visit.new.self) c.in-Collected.is
-          (c.in_ok-visit.ensures.visit (before.below.still held) shown (before.ahead held));
+          (c.in_ok-visit.ensures.visit (readable_now g.R.Rows.seen c.args.rows.now c.loop-made.rows before.below did whole) shown (before.ahead whole st reached store low come));
     }
 
 pub returns-in-Collected-clause-room : goal.returns-in-Collected-clause-room
@@ -112,10 +119,14 @@ loop-made-preserved g c =
     let now = c.in_ok-visit.ensures in
     record {
       visited = λ held st reached store low come.
-          let did = before.visited held st reached store low come in
+          let whole = from_earlier g.R.Rows.seen c.args.rows.now c.args.self.now c.loop-made.self c.visit.new.self now.pass held in
+          let did = before.visited whole st reached store low come in
           let shown = still_shown st reached (g.R.Rows.seen.cells c.args.rows.now) c.args.self.now store low come c.loop-made.made (g.R.Rows.seen.cells c.loop-made.rows) c.loop-made.self did in
-          then did (subst (λ (r : CollectReply). Visits (g.R.Rows.seen.cells c.loop-made.rows) c.loop-made.self r (g.R.Rows.seen.cells c.visit.new.rows) c.visit.new.self) c.in-More.is (now.visit (before.below.still held) shown (before.ahead held)));
-      ahead = λ held. now.ahead (before.below.still held) (before.ahead held) c.in-More.is;
+          then did (subst (λ (r : CollectReply). Visits (g.R.Rows.seen.cells c.loop-made.rows) c.loop-made.self r (g.R.Rows.seen.cells c.visit.new.rows) c.visit.new.self) c.in-More.is (now.visit (readable_now g.R.Rows.seen c.args.rows.now c.loop-made.rows before.below did whole) shown (before.ahead whole st reached store low come)));
+      ahead = λ held st reached store low come.
+          let whole = from_earlier g.R.Rows.seen c.args.rows.now c.args.self.now c.loop-made.self c.visit.new.self now.pass held in
+          let did = before.visited whole st reached store low come in
+          now.ahead (readable_now g.R.Rows.seen c.args.rows.now c.loop-made.rows before.below did whole) (before.ahead whole st reached store low come) c.in-More.is;
       floor = now.floor ∙ before.floor;
       none = λ is. absurd (no_more c.loop-made.made is);
       below = keeps_then before.below now.below;

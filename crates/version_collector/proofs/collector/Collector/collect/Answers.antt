@@ -20,18 +20,18 @@ returns-in_err-erased-clause-room g c = room_none g.R.Rows.seen.overfills 1 c.ar
 
 pub returns-in_err-erased-clause-full : goal.returns-in_err-erased-clause-full
 returns-in_err-erased-clause-full g c = λ is.
-    no_room_of g.R.Rows.seen (g.R.Rows.seen.holds c.args.rows.now) c.args.cell c.args.self.now.floor c.args.rows.now
+    no_room_of g.R.Rows.seen (g.R.Rows.seen.readable c.args.rows.now c.args.cell.row) c.args.cell c.args.self.now.floor c.args.rows.now
     (c.in_err-erased.ensures.full (passed_on c.from_residual.result c.in_err-erased.field-0.0 MemtableFull c.from_residual.ensures.1 is))
 
 pub returns-then-erased-clause-visit : goal.returns-then-erased-clause-visit
 returns-then-erased-clause-visit g c = λ held shown pass next.
     let made = OnTrue_at c.if-erased.true c.in_ok-erased.ensures.erased in
-    collect_erased (g.R.Rows.seen.cells c.args.rows.now) c.args.self.now c.args.cell pass next (g.R.Rows.seen.holds c.args.rows.now) made.row made.edits (g.R.Rows.seen.cells c.erase_old.new.rows) held shown made.such (made.applied.made held)
+    collect_erased (g.R.Rows.seen.cells c.args.rows.now) c.args.self.now c.args.cell pass next (g.R.Rows.seen.readable c.args.rows.now c.args.cell.row) made.row made.edits (g.R.Rows.seen.cells c.erase_old.new.rows) held shown made.such (made.applied.made (subst (g.R.Rows.seen.readable c.args.rows.now) (sym made.such.0) held))
 
 pub returns-then-erased-clause-ahead : goal.returns-then-erased-clause-ahead
 returns-then-erased-clause-ahead g c = λ held next follow none.
     let made = OnTrue_at c.if-erased.true c.in_ok-erased.ensures.erased in
-    erased_ahead (g.R.Rows.seen.holds c.args.rows.now) c.args.cell c.args.self.now.floor made.edits (g.R.Rows.seen.cells c.args.rows.now) (g.R.Rows.seen.cells c.args.rows.now) (g.R.Rows.seen.cells c.erase_old.new.rows) made.such.1 (made.applied.made held)
+    erased_ahead (g.R.Rows.seen.readable c.args.rows.now c.args.cell.row) c.args.cell c.args.self.now.floor made.edits (g.R.Rows.seen.cells c.args.rows.now) (g.R.Rows.seen.cells c.args.rows.now) (g.R.Rows.seen.cells c.erase_old.new.rows) made.such.1 (made.applied.made (subst (g.R.Rows.seen.readable c.args.rows.now) (sym made.such.0) held))
     (position_of c.args.self.now.after) (into_iter_items c.args.ahead.now.places) c.args.ahead.now.is_end next follow
 
 pub returns-clause-ahead : goal.returns-clause-ahead
@@ -44,7 +44,7 @@ returns-clause-ahead g c = λ held next follow none.
 
 pub returns-then-erased-clause-room : goal.returns-then-erased-clause-room
 returns-then-erased-clause-room g c =
-    room_applied g.R.Rows.seen (g.R.Rows.seen.holds c.args.rows.now) c.args.cell c.args.self.now.floor c.args.rows.now c.erase_old.new.rows
+    room_applied g.R.Rows.seen (g.R.Rows.seen.readable c.args.rows.now c.args.cell.row) c.args.cell c.args.self.now.floor c.args.rows.now c.erase_old.new.rows
     (OnTrue_at c.if-erased.true c.in_ok-erased.ensures.erased)
 
 pub returns-clause-visit : goal.returns-clause-visit
@@ -60,7 +60,7 @@ returns-in_err-erased-clause-thins g c = λ held. thins_kept g.R.Rows.seen 1 c.a
 
 pub returns-then-erased-clause-thins : goal.returns-then-erased-clause-thins
 returns-then-erased-clause-thins g c = λ held.
-    thins_applied g.R.Rows.seen (g.R.Rows.seen.holds c.args.rows.now) c.args.cell c.args.self.now.floor c.args.rows.now c.erase_old.new.rows (OnTrue_at c.if-erased.true c.in_ok-erased.ensures.erased) held
+    thins_applied g.R.Rows.seen (g.R.Rows.seen.readable c.args.rows.now c.args.cell.row) c.args.cell c.args.self.now.floor c.args.rows.now c.erase_old.new.rows (OnTrue_at c.if-erased.true c.in_ok-erased.ensures.erased) held
 
 pub returns-clause-thins : goal.returns-clause-thins
 returns-clause-thins g c = λ held. thins_kept g.R.Rows.seen 1 c.args.rows.now c.erase_old.new.rows (OnFalse_at c.if-erased.false c.in_ok-erased.ensures.left).kept

@@ -1,15 +1,16 @@
-use Rattle.std.proofs.Common.{Option, None, Some, IfOk, IfSome, OnOk, Result, Ok, Err, ◌≡◌, ◌∙◌, sym, subst}
+use Rattle.std.proofs.Common.{Option, Some, IfOk, IfSome, OnOk, Result, Ok, Err, ◌∙◌, sym, subst}
 use Rattle.std.specs.Vec.Iter.{into_iter_items}
 use Rattle.cell_key.specs.Cells.{Cells}
-use Rattle.cell_key.specs.Places.{IsNextCell, Place}
+use Rattle.cell_key.specs.Places.{IsNextCell}
 use Rattle.cell_key.specs.declared.refusals.Refusal.{Refusal}
 use Rattle.si_model.specs.Collection.{place_at}
 use Rattle.si_model.specs.declared.replies.Cell.{Cell}
 use Rattle.si_model.specs.declared.replies.CollectReply.{CollectReply}
-use Rattle.si_model.specs.declared.replies.CollectReply.TheVariants.{More}
 use Rattle.version_collector.specs.Ahead.{AreAhead, Follow}
 use Rattle.version_collector.specs.Versions.{AreShown}
 use Rattle.version_collector.specs.Visits.{Thins, Visits, position_of}
+use Rattle.row_atomic.proofs.RowsFrom.{row_after}
+use Rattle.version_collector.proofs.PassedRefusals.{read_not_damaged}
 use Rattle.version_collector.proofs.Room.{room_none}
 use Rattle.version_collector.proofs.Thinned.{thins_kept}
 use Rattle.version_collector.proofs.collector.Collector.visit.Goals as goal
@@ -38,7 +39,7 @@ pub returns-in-First-clause-visit : goal.returns-in-First-clause-visit
 returns-in-First-clause-visit g c = λ held shown is.
     let e = c.in_ok-cell.ensures.reads.kept in
     let next = subst (λ (o : Option Cell). IsNextCell (g.R.Rows.seen.cells c.args.rows.now) (position_of c.args.self.now.after) (position_of o)) c.in-Some.is (c.in_ok-cell.ensures.found held is) in
-    each_ok c.look.result (c.look.ensures.visit (c.in_ok-cell.ensures.reads.still held) c.in-First.is (subst (λ (m : Cells). IsNextCell m (position_of c.args.self.now.after) (position_of (Some c.in-Some.cell))) (sym e) next))
+    each_ok c.look.result (c.look.ensures.visit (c.in_ok-cell.ensures.reads.readable c.in-Some.cell.row (held c.in-Some.cell.row (row_after (position_of c.args.self.now.after) (place_at c.in-Some.cell) next.0))) c.in-First.is (subst (λ (m : Cells). IsNextCell m (position_of c.args.self.now.after) (position_of (Some c.in-Some.cell))) (sym e) next))
     (λ reply v. subst (λ (m : Cells). Visits (g.R.Rows.seen.cells c.args.rows.now) c.args.self.now reply m c.look.new.self) (sym c.look.ensures.reads.kept)
     (subst (λ (m : Cells). Visits m c.args.self.now reply (g.R.Rows.seen.cells c.next.new.rows) c.look.new.self) e v))
 
@@ -62,7 +63,7 @@ returns-in-Second-clause-visit g c = λ held shown is.
     let e = c.in_ok-cell.ensures.reads.kept in
     let next = subst (λ (o : Option Cell). IsNextCell (g.R.Rows.seen.cells c.args.rows.now) (position_of c.args.self.now.after) (position_of o)) c.in-Some.is (c.in_ok-cell.ensures.found held is) in
     subst (λ (m : Cells). IfOk c.collect.result (λ reply. Visits m c.args.self.now reply (g.R.Rows.seen.cells c.collect.new.rows) c.collect.new.self)) e
-    (c.collect.ensures.visit (c.in_ok-cell.ensures.reads.still held) (subst (λ (m : Cells). AreShown m) (sym e) shown) c.in-Second.is
+    (c.collect.ensures.visit (c.in_ok-cell.ensures.reads.readable c.in-Some.cell.row (held c.in-Some.cell.row (row_after (position_of c.args.self.now.after) (place_at c.in-Some.cell) next.0))) (subst (λ (m : Cells). AreShown m) (sym e) shown) c.in-Second.is
     (subst (λ (m : Cells). IsNextCell m (position_of c.args.self.now.after) (position_of (Some c.in-Some.cell))) (sym e) next))
 
 pub returns-in-Second-clause-ahead : goal.returns-in-Second-clause-ahead
@@ -74,15 +75,21 @@ returns-in-Second-clause-ahead g c = λ held is.
     let next = subst (λ (o : Option Cell). IsNextCell cells (position_of c.args.self.now.after) (position_of o)) c.in-Some.is (c.in_ok-cell.ensures.found held is) in
     let follow = subst (λ (o : Option Cell). IfSome o (λ cell. Follow cells (Some (place_at cell)) places is_end)) c.in-Some.is (c.in_ok-cell.ensures.left held is) in
     on_ok c.collect.result
-    (c.collect.ensures.ahead (c.in_ok-cell.ensures.reads.still held)
+    (c.collect.ensures.ahead (c.in_ok-cell.ensures.reads.readable c.in-Some.cell.row (held c.in-Some.cell.row (row_after (position_of c.args.self.now.after) (place_at c.in-Some.cell) next.0)))
     (subst (λ (m : Cells). IsNextCell m (position_of c.args.self.now.after) (position_of (Some c.in-Some.cell))) (sym e) next)
     (subst (λ (m : Cells). Follow m (Some (place_at c.in-Some.cell)) places is_end) (sym e) follow)
     c.in_ok-cell.ensures.doubted)
     (λ reply ahead more. ahead)
 
+pub returns-in-First-clause-undamaged : goal.returns-in-First-clause-undamaged
+returns-in-First-clause-undamaged g c = λ held shown is.
+    let next = subst (λ (o : Option Cell). IsNextCell (g.R.Rows.seen.cells c.args.rows.now) (position_of c.args.self.now.after) (position_of o)) c.in-Some.is (c.in_ok-cell.ensures.found held is) in
+    read_not_damaged c.look.result _ c.look.ensures.refusal (c.in_ok-cell.ensures.reads.readable c.in-Some.cell.row (held c.in-Some.cell.row (row_after (position_of c.args.self.now.after) (place_at c.in-Some.cell) next.0)))
+
 pub returns-in-Second-clause-undamaged : goal.returns-in-Second-clause-undamaged
-returns-in-Second-clause-undamaged g c = λ held shown.
-    c.collect.ensures.undamaged (c.in_ok-cell.ensures.reads.still held) (subst (λ (m : Cells). AreShown m) (sym c.in_ok-cell.ensures.reads.kept) shown)
+returns-in-Second-clause-undamaged g c = λ held shown is.
+    let next = subst (λ (o : Option Cell). IsNextCell (g.R.Rows.seen.cells c.args.rows.now) (position_of c.args.self.now.after) (position_of o)) c.in-Some.is (c.in_ok-cell.ensures.found held is) in
+    c.collect.ensures.undamaged (c.in_ok-cell.ensures.reads.readable c.in-Some.cell.row (held c.in-Some.cell.row (row_after (position_of c.args.self.now.after) (place_at c.in-Some.cell) next.0))) (subst (λ (m : Cells). AreShown m) (sym c.in_ok-cell.ensures.reads.kept) shown)
 
 pub returns-in_err-cell-clause-thins : goal.returns-in_err-cell-clause-thins
 returns-in_err-cell-clause-thins g c = λ held. thins_kept g.R.Rows.seen 1 c.args.rows.now c.next.new.rows c.in_err-cell.ensures.reads.kept

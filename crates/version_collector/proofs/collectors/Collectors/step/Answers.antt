@@ -101,8 +101,15 @@ returns-in_err-reply-clause-refused g c =
 
 pub returns-in_err-reply-clause-undamaged : goal.returns-in_err-reply-clause-undamaged
 returns-in_err-reply-clause-undamaged g c = λ held st reached store shown is.
-    let mine = shown_some (g.R.Rows.seen.cells c.args.rows.now) c.args.self.now c.args.number st c.in-Some.collector.now shown (sym c.in-Some.ensures.value) in
-    c.in_err-reply.ensures.undamaged held st reached store (shown_low (g.R.Rows.seen.cells c.args.rows.now) c.in-Some.collector.now c.args.number st reached mine) mine.come
+    let was = sym c.in-Some.ensures.value in
+    let there : IsSome (btree.get nat_cmp c.args.self.now.collectors c.args.number) = subst (λ (o : Option Collector). IsSome o) c.in-Some.ensures.value refl in
+    let w = c.advance.new.self in
+    let lent = c.get_mut.follows.holds w in
+    let new = record c.args.self.now { collectors = c.get_mut.follows.lender w } in
+    let at = (lent.3 there).0 in
+    let mine = shown_some (g.R.Rows.seen.cells c.args.rows.now) c.args.self.now c.args.number st c.in-Some.collector.now shown was in
+    c.in_err-reply.ensures.undamaged (held c.in-Some.collector.now w was (now_at c.args.self.now new c.args.number (Some w) refl refl at)) st reached store
+    (shown_low (g.R.Rows.seen.cells c.args.rows.now) c.in-Some.collector.now c.args.number st reached mine) mine.come
     (passed_on c.from_residual.result c.in_err-reply.field-0.0 Damaged c.from_residual.ensures.1 is)
 
 pub returns-then-closes-clause-step : goal.returns-then-closes-clause-step

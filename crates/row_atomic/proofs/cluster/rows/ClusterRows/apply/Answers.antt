@@ -1,14 +1,15 @@
 -- The edits are made in the row's tablet, and in no other.
-use Rattle.std.proofs.Common.{◌<◌, ℕ, ap, map, max, length, set, sym, subst, ◌∙◌, rules}
+use Rattle.std.proofs.Common.{◌<◌, ℕ, ap, map, max, length, sym, subst, ◌∙◌, rules}
 use Rattle.std.proofs.lemmas.Option.{slice_get_within}
 use Rattle.std.proofs.lemmas.Result.{on_err_weaker}
 use Rattle.memtable.specs.Edits.{bytes_of}
 use Rattle.sorted_file.specs.File.{name_of}
 use Rattle.tablet.specs.Views.{memory_of, range_of}
 use Rattle.tablet.specs.declared.tablet.Tablet.{Tablet}
-use Rattle.row_atomic.proofs.RowAnswers.{apply_answer, apply_still, found_there, index_below, matched_set, over_full, owner_at}
+use Rattle.row_atomic.proofs.RowAnswers.{apply_answer, apply_still, found_there, holder_numbered, index_below, matched_set, over_full, owner_at}
 use Rattle.row_atomic.proofs.ChangedTablets.{is_set, on_ok}
-use Rattle.row_atomic.proofs.Calls.{applied_in, readable_in, same_tablet}
+use Rattle.row_atomic.proofs.Calls.{applied_in, same_tablet}
+use Rattle.row_atomic.proofs.Readable.{readable_in}
 use Rattle.row_atomic.proofs.CompactionRoom.{all_kept, not_full, room_after}
 use Rattle.row_atomic.proofs.Memtables.{set_fuller}
 use Rattle.row_atomic.proofs.PlaceCaches.{at_kept}
@@ -52,10 +53,11 @@ returns-clause-ok g c =
     let t = c.index_mut.result.now in
     let there = found_there ts c.index_of-index.result at.tablet t at.there c.index_mut.ensures.value in
     let owns = owner_at c.self.inside.table ts row c.index_of-index.result t table c.self.invariant.0.placed c.self.invariant.0.as_many at there in
-    rw (← c.self.view_is) (applied_in g.F.Files.contents _ c.index_of-index.result c.apply-done.new.self edits c.apply-done.result
+    rw (← c.self.view_is) (applied_in g.F.Files.contents _ c.index_of-index.result c.apply-done.new.self row edits c.apply-done.result
     (λ order. apply_still (g.F.Files.contents c.self.inside.files) c.self.inside.next_name ts order c.index_of-index.result t c.apply-done.new.self there c.apply-done.result c.apply-done.ensures.files c.apply-done.ensures.still c.apply-done.ensures.err)
-    (readable_in g.F.Files.contents _ c.index_of-index.result t c.apply-done.new.self there c.apply-done.result c.apply-done.ensures.still)
-    (λ order. apply_answer (g.F.Files.contents c.self.inside.files) c.self.inside.next_name ts order c.index_of-index.result t c.apply-done.new.self there row edits c.apply-done.result owns c.apply-done.ensures.range c.requires c.apply-done.ensures.ok c.apply-done.ensures.still)
+    (readable_in (g.F.Files.contents c.self.inside.files) c.self.inside.table ts c.index_of-index.result t c.apply-done.new.self there c.apply-done.result c.apply-done.ensures.still)
+    (λ whole. apply_answer (g.F.Files.contents c.self.inside.files) ts row c.index_of-index.result t c.apply-done.new.self edits c.apply-done.result owns
+    (whole at.place t at.holder (holder_numbered c.self.inside.table ts row c.index_of-index.result t at there)) c.apply-done.ensures.range c.requires c.apply-done.ensures.ok)
     (on_ok _ _ c.apply-done.result (room_after c.self.inside.table ts row c.index_of-index.result t c.apply-done.new.self edits there owns.has c.requires c.apply-done.ensures.range) c.apply-done.ensures.memory))
 
 pub returns-clause-err : goal.returns-clause-err

@@ -3,7 +3,8 @@ use Rattle.std.proofs.Common.{◌<◌, ℕ, sym, subst}
 use Rattle.row_atomic.proofs.RowAnswers.{found_there, holder_numbered, index_below, matched_set, newest_answer, not_damaged, owner_at}
 use Rattle.row_atomic.specs.Changes.{IsOutOfOrder}
 use Rattle.row_atomic.proofs.ChangedTablets.{numbered_old}
-use Rattle.row_atomic.proofs.Calls.{refused_read, tablet_read}
+use Rattle.row_atomic.proofs.Calls.{tablet_read}
+use Rattle.row_atomic.proofs.Readable.{refused_read}
 use Rattle.row_atomic.proofs.Memtables.{set_same}
 use Rattle.row_atomic.proofs.PlaceCaches.{at_kept}
 use Rattle.row_atomic.proofs.cluster.rows.ClusterRows.newest.Goals as goal

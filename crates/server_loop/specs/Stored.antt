@@ -1,0 +1,47 @@
+-- What a server's files keep under their root.
+use Rattle.std.specs.Prelude.{◌≡◌, ◌≤◌, List, [], Option}
+use Rattle.cell_key.specs.Cells.{Cells}
+use Rattle.file_store.specs.Store.{Contents}
+use Rattle.file_store.specs.declared.files.Files.{Ghosts as Files}
+use Rattle.metadata_table.specs.Roots.{RootView}
+use Rattle.oracle.specs.declared.marks.MarkStore.{Ghosts as MarkStore}
+use Rattle.request_codec.specs.declared.replies.Reply.{Reply}
+use Rattle.request_codec.specs.declared.requests.Request.TheVariants.{Sweep, Checkpoint}
+use Rattle.row_atomic.specs.Recorded.{TracksListed}
+use Rattle.row_atomic.specs.Roots.{HasRoot}
+use Rattle.si_model.specs.Machine.{Place}
+use Rattle.server_loop.specs.Answer.{IsPlainAnswer}
+use Rattle.server_loop.specs.Server.{cluster_of, forgets, last_of, machine_places}
+use Rattle.server_loop.specs.declared.server.Server.{Server}
+
+module _ {F M : Type 0} (contents : F → Option Contents) where
+  -- They keep these cells, and the root names these places. No stamp of it is above the oracle's last
+  -- one.
+  pub record StoresCells (server : Server F M) (base : Cells) (places : List Place) : Type 0 where
+    pub root : RootView
+    pub has : HasRoot contents root base (cluster_of server)
+    pub placed : machine_places root.places ≡ places
+    pub low : root.top ≤ last_of server
+
+  -- The root names the places of the server's tablets.
+  pub record IsRooted (server : Server F M) : Type 0 where
+    pub root : RootView
+    pub base : Cells
+    pub has : HasRoot contents root base (cluster_of server)
+    pub placed : machine_places root.places ≡ machine_places (cluster_of server).places
+    pub low : root.top ≤ last_of server
+
+  -- The cells under the root are those that are shown, and no sweep removes a file of it.
+  abbrev pub IsClean : Server F M → Type 0
+  IsClean server = TracksListed contents (cluster_of server) []
+
+-- two servers are the same, whatever is written down
+abbrev pub IsSame : {F M : Type 0} → Server F M → Server F M → Type 0
+IsSame a b = forgets a ≡ forgets b
+
+module _ {F M : Type 0} (files : Files F) (marks : MarkStore M) where
+  abbrev pub AnswersCheckpoint : Server F M → Reply → Server F M → Type 0
+  AnswersCheckpoint old reply new = IsPlainAnswer files marks old Checkpoint reply (forgets new)
+
+  abbrev pub AnswersSweep : Server F M → Reply → Server F M → Type 0
+  AnswersSweep old reply new = IsPlainAnswer files marks old Sweep reply (forgets new)
