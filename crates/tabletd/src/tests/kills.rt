@@ -94,7 +94,7 @@ const CHECKPOINTS: Upkeep = Upkeep {
 const BY_ITSELF: Upkeep = Upkeep {
     flush: 2,
     merge: Some(2),
-    checkpoint: Some(300),
+    checkpoint: Some(3_000),
 };
 
 /// How the script is cut off: how many bytes a read gives at most, whether the call at which the kill comes is made, and whether
@@ -363,13 +363,13 @@ fn is_killed_at(alloc: Global, upkeep: Upkeep, calls: Calls) -> Result<bool, Ref
 
 #[test]
 fn a_server_is_killed(rt: HostRuntime) -> Result<(), Fail> {
-    assert!(rt; is_killed_at(rt.alloc(), ASKED, (103, 111, 9))?);
+    assert!(rt; is_killed_at(rt.alloc(), ASKED, (103, 111, 29))?);
     Ok(())
 }
 
 #[test]
 fn a_server_that_makes_checkpoints_is_killed(rt: HostRuntime) -> Result<(), Fail> {
-    assert!(rt; is_killed_at(rt.alloc(), CHECKPOINTS, (116, 395, 9))?);
+    assert!(rt; is_killed_at(rt.alloc(), CHECKPOINTS, (571, 571, 101))?);
     Ok(())
 }
 

@@ -262,10 +262,13 @@ const NO_EDITS: [&[u8]; 5] = [
     b"TABLOG01\0\0\0\x06\x9C\x91\x2C\x0F\0\0\0\x01r\0",
 ];
 
-/// Whether an open of a store with this log is refused as damaged, and without records it is opened.
-fn is_refused(alloc: Global, log: &[u8]) -> Result<bool, Refusal> {
+/// Whether an open of a store with this log, which is new or was opened before, is refused as damaged, and opened without
+/// records.
+fn is_refused(alloc: Global, log: &[u8], is_new: bool) -> Result<bool, Refusal> {
     let devices = Devices::new(alloc)?;
-    devices.replies(ON_REQUEST, b"")?;
+    if !is_new {
+        devices.replies(ON_REQUEST, b"")?;
+    }
     devices.set_log(log)?;
     let refused = devices.replies(ON_REQUEST, b"");
     devices.set_log(HEAD.as_slice())?;
@@ -275,8 +278,14 @@ fn is_refused(alloc: Global, log: &[u8]) -> Result<bool, Refusal> {
 #[test]
 fn records_that_are_no_edits(rt: HostRuntime) -> Result<(), Fail> {
     for log in NO_EDITS {
-        assert!(rt; is_refused(rt.alloc(), log)?, "{log:?}");
+        assert!(rt; is_refused(rt.alloc(), log, false)?, "{log:?}");
     }
+    Ok(())
+}
+
+#[test]
+fn edits_without_a_root(rt: HostRuntime) -> Result<(), Fail> {
+    assert!(rt; is_refused(rt.alloc(), TWO_RECORDS, true)?);
     Ok(())
 }
 
