@@ -22,12 +22,13 @@ module _ {F M L : Type 0} (files : Files F) (marks : MarkStore M) (log : Log L) 
   -- Its devices keep a state over a kill.
   abbrev pub LastsOver : LastingServer (Server F M) L → State → Type 0
   LastsOver =
-      LastsIn (StoresCells files.contents) (λ server. logged_of (journal_of server)) last_of log.holds
+      LastsIn (StoresCells files.contents) (λ server. logged_of (journal_of server)) last_of
+      log.holds
 
   abbrev pub LogsOver : LastingServer (Server F M) L → Type 0
   LogsOver =
-      Logs (StoresCells files.contents) (λ server. logged_of (journal_of server)) last_of log.holds
-      (IsRooted files.contents)
+      Logs (StoresCells files.contents) (λ server. logged_of (journal_of server)) last_of
+      log.holds (IsRooted files.contents)
 
   -- All that it shows is on its devices.
   abbrev pub IsSettledOver : LastingServer (Server F M) L → Type 0
