@@ -83,6 +83,16 @@ record_at [] i other within all = absurd (omega (arith, within))
 record_at (r ∷ records) zero other within all = all.0
 record_at (r ∷ records) (suc i) other within all = record_at records i other (omega (arith, within)) all.1
 
+-- ---- how many they are
+
+pub as_many : (a b : List Edit) → AllByRecursion IsStoredEdit a → AllByRecursion IsStoredEdit b → spelled_edits a ≡ spelled_edits b → length a ≡ length b
+as_many [] [] p q s = refl
+as_many [] (b ∷ bs) p q s = absurd (no_edits b (spelled_edits bs) s)
+as_many (a ∷ as') [] p q s = absurd (no_edits a (spelled_edits as') (sym s))
+as_many (a ∷ as') (b ∷ bs) p q s =
+    let split = entry_split (edit_entry a) (edit_entry b) (spelled_edits as') (spelled_edits bs) (short_edit a p.0) (short_edit b q.0) s in
+    ap suc (as_many as' bs p.1 q.1 split.1)
+
 -- ---- what they make of cells
 
 stored : (edit : Edit) → IsStoredEdit edit → IsStored (edited_key edit)

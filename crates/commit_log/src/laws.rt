@@ -1,9 +1,10 @@
 //! What holds of the bytes of all logs.
 
-ghost use Rattle.std.specs.Prelude.{◌≡◌, ◌≤◌, ◌⊎◌, ◌++◌, ◌∷◌, [], ℕ, List, codes, replicate, take};
+ghost use Rattle.std.specs.Prelude.{◌≡◌, ◌≤◌, ◌⊎◌, ◌++◌, ◌∷◌, [], ℕ, List, codes, length, replicate, take};
 ghost use Rattle.std.specs.List.{AllByRecursion};
 ghost use Rattle.commit_log.specs.Crc32.{crc32};
-ghost use Rattle.commit_log.specs.Edits.{LogsEdits};
+ghost use Rattle.cell_key.specs.declared.edits.Edit.{Edit};
+ghost use Rattle.commit_log.specs.Edits.{IsStoredEdit, LogsEdits, spelled_edits};
 ghost use Rattle.commit_log.specs.Frames.{IsLog, IsRecord, IsTail, frame, log_of};
 
 use cell_key::one_key_a_text;
@@ -50,3 +51,9 @@ pub fn logs_edits()
 {
     one_key_a_text();
 }
+
+/// Edits of one spelling are as many.
+pub fn as_many_edits()
+    ensures { (a b : List Edit) → AllByRecursion IsStoredEdit a → AllByRecursion IsStoredEdit b
+        → spelled_edits a ≡ spelled_edits b → length a ≡ length b }
+{}

@@ -21,7 +21,7 @@ use Rattle.row_atomic.specs.Changes.{Holds, ListsAll}
 use Rattle.row_atomic.specs.Clusters.{ClusterState, Spot, spot_of, spots_of}
 use Rattle.row_atomic.specs.Commands.{cells_shown}
 use Rattle.row_atomic.specs.Journals.{IsWithin, JournalView, all_logged}
-use Rattle.row_atomic.specs.Recorded.{Follows, FollowsListed, Tracks, TracksListed, logged_of, waiting_of}
+use Rattle.row_atomic.specs.Recorded.{Follows, FollowsListed, Tracks, TracksListed, edits_written, logged_of, waiting_of}
 use Rattle.row_atomic.specs.declared.recorded.Recorded.{Recorded}
 use Rattle.row_atomic.specs.Roots.{HasRoot, RootIsStored, RootOutlastsFlushes, RootOutlastsMerges, Rests, RootStays, StaysOrRests, root_at, root_name}
 use Rattle.row_atomic.specs.declared.commands.Command.{Command}
@@ -46,6 +46,10 @@ pub waits_within : (journal : Option JournalView) (bytes : List ℕ) → bytes �
 waits_within None bytes is within = let size : length bytes ≡ length (waiting_of None) = ap length is in omega (arith, size)
 waits_within (Some journal) bytes is within = let size : length bytes ≡ length journal.waiting = ap length is in let most = within.bytes in omega (arith, size, most)
 
+pub all_within : (journal : Option JournalView) → IfSome journal IsWithin → IsWithin (record { logged = logged_of journal; waiting = waiting_of journal; count = edits_written journal })
+all_within None within = record { edits = omega arith; bytes = omega arith }
+all_within (Some journal) within = record { edits = within.edits; bytes = within.bytes }
+
 -- ---- one root
 
 module _ {F : Type 0} (contents : F → Option Contents) where
@@ -68,7 +72,7 @@ same_machine_places old new is = ap (λ (spots : List Spot). map machine_place s
 module _ {F M : Type 0} (contents : F → Option Contents) where
   -- what is written down follows what is shown
   pub follows_in : OneRoot → ((cells : Cells) (st : State) → ShowsCells cells st → ShowsCells cells (reopened st)) → (server : Server F M) (st : State) (journal : Option JournalView) → is_some journal ≡ true → Follows contents (cluster_of server) journal
-      → IsRooted contents server → Shows contents server st → lasts.Follows (StoresCells contents server) (logged_of journal) (waiting_of journal) (last_of server) st
+      → IsRooted contents server → Shows contents server st → lasts.Follows (StoresCells contents server) (logged_of journal) (waiting_of journal) (edits_written journal) (last_of server) st
   follows_in one reopens server st None is follows rooted shown = cc
   follows_in one reopens server st (Some journal) is follows rooted shown =
       let same = same_root contents one rooted.root follows.such.root rooted.base follows.such.base (cluster_of server) rooted.has follows.such.has in
@@ -84,6 +88,7 @@ module _ {F M : Type 0} (contents : F → Option Contents) where
         then = follows.waiting;
         logged_bytes = follows.logged_bytes;
         waiting_bytes = follows.waiting_bytes;
+        counted = follows.counted;
         stored = follows.stored;
         shows = subst (λ (cells : Cells). ShowsCells cells (reopened st)) (sym follows.such.replay) (reopens _ st shown.shows.store);
         next = shown.next;

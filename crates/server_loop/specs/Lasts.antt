@@ -6,6 +6,7 @@ use Rattle.cell_key.specs.declared.edits.Edit.{Edit}
 use Rattle.cell_key.specs.declared.refusals.Refusal.{Refusal}
 use Rattle.cell_key.specs.declared.refusals.Refusal.TheVariants.{Device}
 use Rattle.commit_log.specs.Edits.{HoldEdits, IsStoredEdit, spelled_edits}
+use Rattle.row_atomic.specs.Journals.{HasRoomFor, empty_journal}
 use Rattle.request_codec.specs.Replies.{replied}
 use Rattle.request_codec.specs.Requests.{asked}
 use Rattle.request_codec.specs.declared.replies.Reply.{Reply}
@@ -14,6 +15,7 @@ use Rattle.request_codec.specs.declared.requests.Request.{Request}
 use Rattle.request_codec.specs.declared.requests.Request.TheVariants.{Split, Move, Sweep, Checkpoint}
 use Rattle.si_model.specs.Machine.{Place, State, reopened}
 use Rattle.si_model.specs.ShowsCells.{ShowsCells}
+use Rattle.server_loop.specs.Devices.{Lasts}
 use Rattle.server_loop.specs.Lasting.{GoesOn, Settles}
 use Rattle.server_loop.specs.declared.lasting.LastingServer.{LastingServer}
 
@@ -34,14 +36,15 @@ NeedsRoot request = ⊥
 
 -- Files keep cells under a root with the places of a state's tablets. The edits that a log has, and
 -- those that wait for it, make cells of them that show the state after a clean restart.
-pub record Follows (stores : Cells → List Place → Type 0) (logged waiting : List ℕ) (last : ℕ)
-    (st : State) : Type 0 where
+pub record Follows (stores : Cells → List Place → Type 0) (logged waiting : List ℕ)
+    (count last : ℕ) (st : State) : Type 0 where
   pub base : Cells
   pub kept : stores base st.places
   pub first : List Edit
   pub then : List Edit
   pub logged_bytes : logged ≡ spelled_edits first
   pub waiting_bytes : waiting ≡ spelled_edits then
+  pub counted : count ≡ length (first ++ then)
   pub stored : AllByRecursion IsStoredEdit (first ++ then)
   pub shows : ShowsCells (after_edits base (first ++ then)) (reopened st)
   pub next : st.next_tablet ≡ length st.places + 1
@@ -82,22 +85,16 @@ pub record KeepsRecording {S : Type 0} (recording : S → Bool) (logged waiting 
 
 module _ {S L : Type 0} (stores : S → Cells → List Place → Type 0) (logged : S → List ℕ)
     (last : S → ℕ) (holds : L → List (List ℕ) → Type 0) where
-  -- Its devices keep a state, whatever it shows itself by now: the files keep cells under a root, and
-  -- what the log holds makes of them cells that show the state after a clean restart.
+  -- The log holds records. Unless it failed, they are those that the server takes to be there.
+  abbrev pub HoldsRecords : LastingServer S L → List (List ℕ) → Type 0
+  HoldsRecords server records =
+      holds server.log records
+      × ((server.is_stopped ≡ true)
+      ⊎ (flat_map (λ bytes. bytes) records ≡ logged server.server))
+
+  -- Its devices keep a state, whatever it shows itself by now.
   pub record LastsIn (server : LastingServer S L) (st : State) : Type 0 where
-    pub base : Cells
-    pub kept : stores server.server base st.places
-    pub records : List (List ℕ)
-    pub in_log : holds server.log records
-    pub edits : List Edit
-    pub held : HoldEdits records edits
-    pub stored : AllByRecursion IsStoredEdit edits
-    pub shows : ShowsCells (after_edits base edits) (reopened st)
-    pub next : st.next_tablet ≡ length st.places + 1
-    pub top : st.top ≤ last server.server
-    -- unless the log failed, these are the records that the server takes to be there
-    pub bytes : (server.is_stopped ≡ true)
-        ⊎ (flat_map (λ bytes. bytes) records ≡ logged server.server)
+    pub kept : Lasts (stores server.server) (HoldsRecords server) (λ top. top ≤ last server.server) st
 
   -- The log holds what the server takes it to have.
   pub record HoldsLogged (server : LastingServer S L) : Type 0 where
@@ -106,6 +103,7 @@ module _ {S L : Type 0} (stores : S → Cells → List Place → Type 0) (logged
     pub edits : List Edit
     pub held : HoldEdits records edits
     pub stored : AllByRecursion IsStoredEdit edits
+    pub room : HasRoomFor empty_journal edits
     pub bytes : flat_map (λ bytes. bytes) records ≡ logged server.server
 
   -- So it does, and the root has the places of the tablets. Or the log failed: then no reply leaves the

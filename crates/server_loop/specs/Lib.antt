@@ -3,6 +3,7 @@ pub mod Refusals
 pub mod Runs
 pub mod Serve
 pub mod Lasting
+pub mod Devices
 pub mod Lasts
 pub mod Stored
 pub mod ServesLogged
@@ -11,6 +12,7 @@ pub mod Commands
 pub mod Sessions
 pub mod Resting
 pub mod Opening
+pub mod Replaying
 pub mod Answer
 pub mod Tending
 pub mod Audits

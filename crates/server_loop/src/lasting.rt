@@ -18,7 +18,7 @@ use crate::serving::Answering;
 use crate::statuses::ServeFault;
 use cell_key::Refusal;
 use commit_log::Log;
-use commit_log::laws::logs_edits;
+use commit_log::laws::{as_many_edits, logs_edits};
 use request_codec::{Reply, Request};
 
 /// How many more bytes are written down before a root that was refused is tried again.
@@ -66,6 +66,7 @@ impl<S: Recording, L: Log> LastingServer<S, L> {
             → LastsIn S.stores S.logged S.last L.holds self.new st
             ⊎ LastsIn S.stores S.logged S.last L.holds self.new now }
     {
+        as_many_edits();
         logs_edits();
         S::recording_laws();
         if self.is_stopped {

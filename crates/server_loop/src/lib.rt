@@ -14,6 +14,7 @@ mod laws;
 mod opening;
 mod recorded_server;
 mod recording;
+mod replaying;
 mod scanning;
 mod server;
 mod serving;

@@ -21,7 +21,7 @@ const BYTES_OF_EDIT: usize = 671;
 
 impl<F: WholeFiles + Drop, M: MarkStore + Drop> Recording for Server<F, M> {
     ghost use Rattle.std.specs.Prelude.{is_some};
-    ghost use Rattle.row_atomic.specs.Recorded.{logged_of, waiting_of};
+    ghost use Rattle.row_atomic.specs.Recorded.{edits_written, logged_of, waiting_of};
     ghost use Rattle.server_loop.specs.Server.{journal_of, last_of};
     ghost use Rattle.server_loop.specs.Stored.{AnswersCheckpoint, AnswersSweep, IsClean, IsRooted, IsSame, StoresCells};
     ghost use Rattle.std.proofs.Common.{refl, ◌∙◌};
@@ -37,6 +37,8 @@ impl<F: WholeFiles + Drop, M: MarkStore + Drop> Recording for Server<F, M> {
     ghost logged = { λ server. logged_of (journal_of server) };
 
     ghost waiting = { λ server. waiting_of (journal_of server) };
+
+    ghost count = { λ server. edits_written (journal_of server) };
 
     ghost last = { last_of };
 

@@ -2,6 +2,7 @@
 
 ghost use Rattle.std.specs.Prelude.{◌≡◌, ◌≢◌, ◌≤◌, ◌⊎◌, ◌++◌, ℕ, List, [], Bool, length, true, IfErr, OnErr, OnOk};
 ghost use Rattle.cell_key.specs.Cells.{Cells};
+ghost use Rattle.row_atomic.specs.Journals.{IsWithin};
 ghost use Rattle.request_codec.specs.Replies.{replied};
 ghost use Rattle.request_codec.specs.declared.replies.Reply.{Reply as CodecReply};
 ghost use Rattle.request_codec.specs.declared.requests.Request.{Request as Lent};
@@ -35,6 +36,9 @@ pub(crate) trait Recording: Answering {
     /// The bytes of those that wait for it.
     ghost waiting: { Self → List ℕ };
 
+    /// How many edits that are in both.
+    ghost count: { Self → ℕ };
+
     /// The oracle's last stamp.
     ghost last: { Self → ℕ };
 
@@ -56,7 +60,12 @@ pub(crate) trait Recording: Answering {
     /// What waits for the log.
     fn waiting(&self) -> &[u8]
         ensures bytes { result.now ≡ waiting self.now }
-        ensures within { length result.now ≤ 67108864 };
+        ensures short { length result.now ≤ 67108864 }
+        ensures within { IsWithin (record {
+          logged = logged self.now;
+          waiting = waiting self.now;
+          count = count self.now;
+        }) };
 
     /// The log has what waited for it.
     fn settled(&mut self)
@@ -108,7 +117,7 @@ pub(crate) trait Recording: Answering {
     fn recording_laws()
         ensures follows { (server : Self) (st : State) → recording server ≡ true
             → is_rooted server → Self.shows server st
-            → Follows (stores server) (logged server) (waiting server) (last server) st }
+            → Follows (stores server) (logged server) (waiting server) (count server) (last server) st }
         ensures leaves { (old new : Self) (request : Lent) (reply : CodecReply)
             → ¬ NeedsRoot request → Self.says old request reply new
             → (now : State) → IsReached now → Self.shows old now

@@ -24,7 +24,7 @@ returns-in-Ok-clause-settles g c =
     let mid = w.shown now shown in
     let done = c.in-Ok.ensures.done now mid in
     let follows = c.recording_laws.ensures.follows c.checkpoint_now.new.self now (p.keeps.goes_on ∙ w.recording is) done.0.rooted (p.shown now mid) in
-    c.empty_log.ensures.kept now done.0 (root_lasts g.S.Recording.stores g.S.Recording.logged g.S.Recording.waiting g.S.Recording.last g.L.Log.holds g.S.Recording.is_rooted c.logs_edits.ensures c.log_waiting.new.self c.checkpoint_now.new.self now follows held.0.1 p.keeps.has (p.keeps.waits ∙ w.waiting is)) in
+    c.empty_log.ensures.kept now done.0 (root_lasts g.S.Recording.stores g.S.Recording.logged g.S.Recording.waiting g.S.Recording.last g.L.Log.holds g.S.Recording.is_rooted c.logs_edits.ensures g.S.Recording.count c.log_waiting.new.self c.checkpoint_now.new.self now follows held.0.1 p.keeps.has (p.keeps.waits ∙ w.waiting is)) in
     record {
       shown = λ st shown. let mid = w.shown st shown in c.empty_log.ensures.shown (c.in-Ok.ensures.done st mid).1 st (p.shown st mid);
       logged = λ now reached shown logs. (kept now shown logs).1;
@@ -42,7 +42,7 @@ returns-in-Ok-clause-kept g c = λ now shown logs.
     let goes = p.keeps.goes_on ∙ w.recording is in
     let none = p.keeps.waits ∙ w.waiting is in
     let follows = c.recording_laws.ensures.follows c.checkpoint_now.new.self now goes done.0.rooted (p.shown now mid) in
-    let kept = c.empty_log.ensures.kept now done.0 (root_lasts g.S.Recording.stores g.S.Recording.logged g.S.Recording.waiting g.S.Recording.last g.L.Log.holds g.S.Recording.is_rooted c.logs_edits.ensures c.log_waiting.new.self c.checkpoint_now.new.self now follows held.0.1 p.keeps.has none) in
+    let kept = c.empty_log.ensures.kept now done.0 (root_lasts g.S.Recording.stores g.S.Recording.logged g.S.Recording.waiting g.S.Recording.last g.L.Log.holds g.S.Recording.is_rooted c.logs_edits.ensures g.S.Recording.count c.log_waiting.new.self c.checkpoint_now.new.self now follows held.0.1 p.keeps.has none) in
     (kept.0, c.empty_log.ensures.recording ∙ goes, c.empty_log.ensures.waiting none)
 
 pub returns-in-Err-clause-step : goal.returns-in-Err-clause-step
@@ -57,16 +57,16 @@ returns-in-Err-clause-settles g c =
       shown = λ st shown. p.shown st (w.shown st shown);
       logged = λ now reached shown logs.
           let held = w.ok is now shown logs in
-          let on = holds_on g.S.Recording.stores g.S.Recording.logged g.S.Recording.waiting g.S.Recording.last g.L.Log.holds g.S.Recording.is_rooted c.logs_edits.ensures c.log_waiting.new.self c.checkpoint_now.new.self held.0.1 p.keeps.has in
+          let on = holds_on g.S.Recording.stores g.S.Recording.logged g.S.Recording.waiting g.S.Recording.last g.L.Log.holds g.S.Recording.is_rooted c.logs_edits.ensures g.S.Recording.count c.log_waiting.new.self c.checkpoint_now.new.self held.0.1 p.keeps.has in
           inr (elim c.in-Err.ensures.undone [ inl stays ↦ (stays.rooted held.0.0, on) | inr put ↦ ((put now (w.shown now shown)).rooted, on) ]);
       lasting = λ now reached shown logs st lasts.
           let held = w.ok is now shown logs in
           let mid = w.shown now shown in
           inr (elim c.in-Err.ensures.undone [
-            | inl stays ↦ still_lasts g.S.Recording.stores g.S.Recording.logged g.S.Recording.waiting g.S.Recording.last g.L.Log.holds g.S.Recording.is_rooted c.logs_edits.ensures c.log_waiting.new.self c.checkpoint_now.new.self now stays.stored p.keeps.has (held.1 now mid)
+            | inl stays ↦ still_lasts g.S.Recording.stores g.S.Recording.logged g.S.Recording.waiting g.S.Recording.last g.L.Log.holds g.S.Recording.is_rooted c.logs_edits.ensures g.S.Recording.count c.log_waiting.new.self c.checkpoint_now.new.self now stays.stored p.keeps.has (held.1 now mid)
             | inr put ↦
                 let follows = c.recording_laws.ensures.follows c.checkpoint_now.new.self now (p.keeps.goes_on ∙ w.recording is) (put now mid).rooted (p.shown now mid) in
-                root_lasts g.S.Recording.stores g.S.Recording.logged g.S.Recording.waiting g.S.Recording.last g.L.Log.holds g.S.Recording.is_rooted c.logs_edits.ensures c.log_waiting.new.self c.checkpoint_now.new.self now follows held.0.1 p.keeps.has (p.keeps.waits ∙ w.waiting is)
+                root_lasts g.S.Recording.stores g.S.Recording.logged g.S.Recording.waiting g.S.Recording.last g.L.Log.holds g.S.Recording.is_rooted c.logs_edits.ensures g.S.Recording.count c.log_waiting.new.self c.checkpoint_now.new.self now follows held.0.1 p.keeps.has (p.keeps.waits ∙ w.waiting is)
           ]);
     }
 

@@ -14,17 +14,17 @@ returns-in-Ok-clause-kept g c = λ before after shown held none goes lasts.
     let p = c.checkpoint_now.ensures in
     let done = c.in-Ok.ensures.done after shown in
     let follows = c.recording_laws.ensures.follows c.checkpoint_now.new.self after (p.keeps.goes_on ∙ goes) done.0.rooted (p.shown after shown) in
-    let kept = c.empty_log.ensures.kept after done.0 (root_lasts g.S.Recording.stores g.S.Recording.logged g.S.Recording.waiting g.S.Recording.last g.L.Log.holds g.S.Recording.is_rooted c.logs_edits.ensures c.args.self.now c.checkpoint_now.new.self after follows held p.keeps.has (p.keeps.waits ∙ none)) in
+    let kept = c.empty_log.ensures.kept after done.0 (root_lasts g.S.Recording.stores g.S.Recording.logged g.S.Recording.waiting g.S.Recording.last g.L.Log.holds g.S.Recording.is_rooted c.logs_edits.ensures g.S.Recording.count c.args.self.now c.checkpoint_now.new.self after follows held p.keeps.has (p.keeps.waits ∙ none)) in
     (inr kept.0, kept.1)
 
 pub returns-in-Err-clause-kept : goal.returns-in-Err-clause-kept
 returns-in-Err-clause-kept g c = λ before after shown held none goes lasts.
     let p = c.checkpoint_now.ensures in (
       elim c.in-Err.ensures.undone [
-        | inl stays ↦ inl (lasts_on g.S.Recording.stores g.S.Recording.logged g.S.Recording.waiting g.S.Recording.last g.L.Log.holds g.S.Recording.is_rooted c.logs_edits.ensures c.args.self.now _ before stays.stored lasts lasts.in_log (inl refl))
+        | inl stays ↦ inl (lasts_on g.S.Recording.stores g.S.Recording.logged g.S.Recording.waiting g.S.Recording.last g.L.Log.holds g.S.Recording.is_rooted c.logs_edits.ensures g.S.Recording.count c.args.self.now _ before stays.stored lasts lasts.kept.in_log.0 (inl refl))
         | inr put ↦
             let follows = c.recording_laws.ensures.follows c.checkpoint_now.new.self after (p.keeps.goes_on ∙ goes) (put after shown).rooted (p.shown after shown) in
-            inr (shown_lasts g.S.Recording.stores g.S.Recording.logged g.S.Recording.waiting g.S.Recording.last g.L.Log.holds g.S.Recording.is_rooted c.logs_edits.ensures c.checkpoint_now.new.self _ after follows (stays_stored _ _ _) held.records held.in_log held.edits held.held held.stored
+            inr (shown_lasts g.S.Recording.stores g.S.Recording.logged g.S.Recording.waiting g.S.Recording.last g.L.Log.holds g.S.Recording.is_rooted c.logs_edits.ensures g.S.Recording.count c.checkpoint_now.new.self _ after follows (stays_stored _ _ _) held.records held.in_log held.edits held.held held.stored held.room
             (none_waits held.records (g.S.Recording.logged c.checkpoint_now.new.self) (g.S.Recording.waiting c.checkpoint_now.new.self) (p.keeps.waits ∙ none) (held.bytes ∙ sym p.keeps.has)) (inl refl))
       ],
       inl refl,

@@ -1,0 +1,50 @@
+-- What files, a log and a mark keep over a kill.
+use Rattle.std.specs.Prelude.{◌≡◌, ◌≤◌, ◌+◌, ℕ, List, length, Option, Some, IsSomeAnd}
+use Rattle.std.specs.List.{AllByRecursion}
+use Rattle.cell_key.specs.Cells.{Cells, after_edits}
+use Rattle.cell_key.specs.declared.edits.Edit.{Edit}
+use Rattle.commit_log.specs.Edits.{HoldEdits, IsStoredEdit}
+use Rattle.file_store.specs.Store.{Contents}
+use Rattle.metadata_table.specs.Roots.{RootView}
+use Rattle.row_atomic.specs.Journals.{HasRoomFor, empty_journal}
+use Rattle.row_atomic.specs.Roots.{KeepsCells}
+use Rattle.si_model.specs.Machine.{Place, State, reopened}
+use Rattle.si_model.specs.ShowsCells.{ShowsCells}
+use Rattle.server_loop.specs.Server.{machine_places}
+
+-- Cells are kept under a root with the places of a state's tablets. The edits in the records of a log
+-- make of them cells that show the state after a clean restart. They are at most as many, with at most
+-- as many bytes, as a server writes down. The state's greatest stamp isn't above the mark.
+pub record Lasts (keeps : Cells → List Place → Type 0) (holds : List (List ℕ) → Type 0)
+    (covers : ℕ → Type 0) (st : State) : Type 0 where
+  pub base : Cells
+  pub kept : keeps base st.places
+  pub records : List (List ℕ)
+  pub in_log : holds records
+  pub edits : List Edit
+  pub held : HoldEdits records edits
+  pub stored : AllByRecursion IsStoredEdit edits
+  pub room : HasRoomFor empty_journal edits
+  pub shows : ShowsCells (after_edits base edits) (reopened st)
+  pub next : st.next_tablet ≡ length st.places + 1
+  pub top : covers st.top
+
+-- a mark that is stored isn't below a stamp
+abbrev pub Covers : Option ℕ → ℕ → Type 0
+Covers mark top = IsSomeAnd mark (λ number. top ≤ number)
+
+-- Files keep cells under a root whose tablets have these places, and whose greatest stamp isn't above
+-- the mark.
+pub record KeepsUnder (disk : Option Contents) (mark : Option ℕ) (cells : Cells)
+    (places : List Place) : Type 0 where
+  pub kept : Contents
+  pub on_disk : disk ≡ Some kept
+  pub root : RootView
+  pub keeps : KeepsCells kept root cells
+  pub placed : machine_places root.places ≡ places
+  pub covered : Covers mark root.top
+
+-- The devices of a server with a log keep a state over a kill, by what the files, the mark and the log
+-- are known to have.
+abbrev pub LastsOn : Option Contents → Option ℕ → (List (List ℕ) → Type 0) → State → Type 0
+LastsOn disk mark holds st = Lasts (KeepsUnder disk mark) holds (Covers mark) st
