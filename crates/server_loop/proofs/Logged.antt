@@ -47,19 +47,21 @@ module _ {S L : Type 0} (stores : S → Cells → List Place → Type 0) (logged
   -- what lasted lasts where the log holds it still
   pub lasts_on : (old new : LastingServer S L) (st : State) → StaysStored stores last old.server new.server → (lasts : Lasting old st) → holds new.log lasts.kept.records
       → (new.is_stopped ≡ true) ⊎ (flat_map (λ bytes. bytes) lasts.kept.records ≡ logged new.server) → Lasting new st
-  lasts_on old new st stays lasts in_log bytes = record { kept = record {
-    base = lasts.kept.base;
-    kept = stays.kept lasts.kept.base st.places lasts.kept.kept;
-    records = lasts.kept.records;
-    in_log = (in_log, bytes);
-    edits = lasts.kept.edits;
-    held = lasts.kept.held;
-    stored = lasts.kept.stored;
-    room = lasts.kept.room;
-    shows = lasts.kept.shows;
-    next = lasts.kept.next;
-    top = let low = lasts.kept.top in let later = stays.later in omega arith;
-  } }
+  lasts_on old new st stays lasts in_log bytes = record {
+    kept = record {
+      base = lasts.kept.base;
+      kept = stays.kept lasts.kept.base st.places lasts.kept.kept;
+      records = lasts.kept.records;
+      in_log = (in_log, bytes);
+      edits = lasts.kept.edits;
+      held = lasts.kept.held;
+      stored = lasts.kept.stored;
+      room = lasts.kept.room;
+      shows = lasts.kept.shows;
+      next = lasts.kept.next;
+      top = let low = lasts.kept.top in let later = stays.later in omega arith;
+    };
+  }
 
   -- a state that is shown lasts, where the log holds all that is written down
   pub shown_lasts : (old : S) (new : LastingServer S L) (st : State) → FollowsIn old st → StaysStored stores last old new.server → (records : List (List ℕ)) → holds new.log records → (edits : List Edit) → HoldEdits records edits
@@ -67,19 +69,21 @@ module _ {S L : Type 0} (stores : S → Cells → List Place → Type 0) (logged
   shown_lasts old new st f stays records in_log edits held stored room all bytes =
       let spelled : spelled_edits (f.first ++ f.then) ≡ logged old ++ waiting old = laws.after f.first f.then ∙ (ap (λ (x : List ℕ). x ++ spelled_edits f.then) (sym f.logged_bytes) ∙ ap (λ (x : List ℕ). logged old ++ x) (sym f.waiting_bytes)) in
       let same : spelled_edits (f.first ++ f.then) ≡ spelled_edits edits = spelled ∙ (sym all ∙ laws.whole records edits held) in
-      record { kept = record {
-        base = f.base;
-        kept = stays.kept f.base st.places f.kept;
-        records = records;
-        in_log = (in_log, bytes);
-        edits = edits;
-        held = held;
-        stored = stored;
-        room = room;
-        shows = subst (λ (cells : Cells). ShowsCells cells (reopened st)) (laws.one (f.first ++ f.then) edits f.stored stored same f.base) f.shows;
-        next = f.next;
-        top = let low = f.top in let later = stays.later in omega arith;
-      } }
+      record {
+        kept = record {
+          base = f.base;
+          kept = stays.kept f.base st.places f.kept;
+          records = records;
+          in_log = (in_log, bytes);
+          edits = edits;
+          held = held;
+          stored = stored;
+          room = room;
+          shows = subst (λ (cells : Cells). ShowsCells cells (reopened st)) (laws.one (f.first ++ f.then) edits f.stored stored same f.base) f.shows;
+          next = f.next;
+          top = let low = f.top in let later = stays.later in omega arith;
+        };
+      }
 
   -- records after what waited was put on the log
   pub record Gained (old : S) (records : List (List ℕ)) : Type 0 where
@@ -109,19 +113,21 @@ module _ {S L : Type 0} (stores : S → Cells → List Place → Type 0) (logged
 
   -- a state that a new root has lasts where the log holds nothing
   pub emptied_lasts : (old : S) (new : LastingServer S L) (st : State) → HasNewRoot stores is_rooted last old st → StaysStored stores last old new.server → holds new.log [] → (new.is_stopped ≡ true) ⊎ ([] ≡ logged new.server) → Lasting new st
-  emptied_lasts old new st root stays in_log bytes = record { kept = record {
-    base = root.base;
-    kept = stays.kept root.base st.places root.kept;
-    records = [];
-    in_log = (in_log, bytes);
-    edits = [];
-    held = laws.none;
-    stored = tt;
-    room = record { edits = omega arith; bytes = omega arith };
-    shows = root.shows;
-    next = root.next;
-    top = let low = root.top in let later = stays.later in omega arith;
-  } }
+  emptied_lasts old new st root stays in_log bytes = record {
+    kept = record {
+      base = root.base;
+      kept = stays.kept root.base st.places root.kept;
+      records = [];
+      in_log = (in_log, bytes);
+      edits = [];
+      held = laws.none;
+      stored = tt;
+      room = record { edits = omega arith; bytes = omega arith };
+      shows = root.shows;
+      next = root.next;
+      top = let low = root.top in let later = stays.later in omega arith;
+    };
+  }
 
   -- what the log holds it holds still, beside a server that takes the same to be logged
   pub holds_on : (mid : LastingServer S L) (next : S) → HoldsLogged stores logged last holds mid → logged next ≡ logged mid.server → HoldsLogged stores logged last holds (record mid { server = next })
@@ -146,15 +152,18 @@ module _ {S L : Type 0} (stores : S → Cells → List Place → Type 0) (logged
     shown = λ st s. subst (λ (x : S). shows x st) (sym server) s;
     logged = λ now reached s logs. elim logs [
       | inl stopped ↦ inl (stop ∙ stopped)
-      | inr h ↦ inr (subst is_rooted (sym server) h.0, record {
-        records = h.1.records;
-        in_log = subst (λ (x : L). holds x h.1.records) (sym log) h.1.in_log;
-        edits = h.1.edits;
-        held = h.1.held;
-        stored = h.1.stored;
-        room = h.1.room;
-        bytes = h.1.bytes ∙ ap logged (sym server);
-      })
+      | inr h ↦ inr (
+        subst is_rooted (sym server) h.0,
+        record {
+          records = h.1.records;
+          in_log = subst (λ (x : L). holds x h.1.records) (sym log) h.1.in_log;
+          edits = h.1.edits;
+          held = h.1.held;
+          stored = h.1.stored;
+          room = h.1.room;
+          bytes = h.1.bytes ∙ ap logged (sym server);
+        },
+      )
     ];
     lasting = λ now reached s logs st lasts. inl (lasts_on old new st (subst (λ (x : S). StaysStored stores last old.server x) (sym server) (stays_stored stores last old.server)) lasts (subst (λ (x : L). holds x lasts.kept.records) (sym log) lasts.kept.in_log.0)
         (elim lasts.kept.in_log.1 [ inl stopped ↦ inl (stop ∙ stopped) | inr bytes ↦ inr (bytes ∙ ap logged (sym server)) ]));

@@ -7,6 +7,7 @@ pub mod Devices
 pub mod Lasts
 pub mod Stored
 pub mod ServesLogged
+pub mod LastingOpening
 pub mod Server
 pub mod Commands
 pub mod Sessions

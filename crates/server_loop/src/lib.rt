@@ -9,6 +9,7 @@ mod command_line;
 mod command_options;
 mod frames;
 mod lasting;
+mod lasting_opening;
 mod lasting_serving;
 mod laws;
 mod opening;
