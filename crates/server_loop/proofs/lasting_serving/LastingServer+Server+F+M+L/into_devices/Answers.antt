@@ -2,7 +2,7 @@ use Rattle.std.proofs.Common.{ℕ, subst}
 use Rattle.oracle.specs.Marks.{IsWithinMark}
 use Rattle.server_loop.specs.Server.{marks_of}
 use Rattle.server_loop.proofs.Kept.{devices_last}
-use Rattle.server_loop.proofs.lasting_serving.«LastingServer+Server+F+M+L».into_devices.Goals as goal
+use Rattle.server_loop.proofs.lasting_serving.LastingServer+Server+F+M+L.into_devices.Goals as goal
 
 pub returns-clause-lasts : goal.returns-clause-lasts
 returns-clause-lasts g c = λ st lasts known.
