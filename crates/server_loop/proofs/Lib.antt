@@ -16,6 +16,7 @@ mod JudgedSessions
 mod JudgedSteps
 mod JudgedTablets
 mod JudgedUpkeep
+mod Kept
 mod KeptLists
 mod KeptMaps
 mod Lengths

@@ -171,8 +171,8 @@ pub record TellsCauses {F M : Type 0} (contents : F → Option Contents) (file_f
 
 -- ---- what is written down
 
--- What a server takes to be logged stays, where edits are recorded, and where tablets move all that is
--- written down. A checkpoint and a sweep end the recording.
+-- What a server takes to be logged stays, and where tablets move all that is written down. A checkpoint
+-- and a sweep end the recording.
 abbrev pub KeepsLogged : Request → Option JournalView → Option JournalView → Type 0
 KeepsLogged Checkpoint old new = ⊤
 KeepsLogged Sweep old new = ⊤

@@ -44,7 +44,8 @@ module _ {S : Type 0} (shows lasts : S → State → Type 0) (logs : S → Type 
 
   -- a settled server that shows a reached state comes to be a settled one
   abbrev pub StaysSettled : S → S → Type 0
-  StaysSettled old new = (now : State) → IsReached now → shows old now → IsSettled old → IsSettled new
+  StaysSettled old new =
+      (now : State) → IsReached now → shows old now → IsSettled old → IsSettled new
 
   -- From a state that is shown the machine steps to one that is shown. What lasted lasts, or one of
   -- the two states does.

@@ -78,10 +78,12 @@ machine_places places = map machine_place (map spot_of places)
 pub record Shows {F M : Type 0} (contents : F → Option Contents) (server : Server F M)
     (st : State) : Type 0 where
   pub in_order : HoldsIn contents server
-  pub shows : clients.Shows (cells_in (contents server.rows.cluster.files) server.rows.cluster.tablets)
+  pub shows : clients.Shows
+      (cells_in (contents server.rows.cluster.files) server.rows.cluster.tablets)
       server.clients server.oracle.last st
   pub cleaners : ShowsCleaners server.cleaners st
-  pub collectors : ShowsCollectors (cells_in (contents server.rows.cluster.files) server.rows.cluster.tablets)
+  pub collectors : ShowsCollectors
+      (cells_in (contents server.rows.cluster.files) server.rows.cluster.tablets)
       server.collectors st
   pub places : machine_places server.rows.cluster.places ≡ st.places
   pub next : st.next_tablet ≡ length st.places + 1
@@ -118,4 +120,5 @@ pub record SeesNoFault {F M : Type 0} (file_faults : F → ℕ) (mark_faults : M
 
 -- all cells
 abbrev pub server_cells : {F M : Type 0} → (F → Option Contents) → Server F M → Cells
-server_cells contents server = cells_in (contents server.rows.cluster.files) server.rows.cluster.tablets
+server_cells contents server =
+    cells_in (contents server.rows.cluster.files) server.rows.cluster.tablets

@@ -18,31 +18,33 @@ use Rattle.server_loop.specs.declared.server.Server.{Server}
 use Rattle.server_loop.specs.declared.statuses.End.{End}
 use Rattle.server_loop.specs.declared.statuses.ServeFault.{ServeFault}
 
-module _ {F M L : Type 0} (files : Files F) (marks : MarkStore M) (log : Log L) where
+module _ {F M L : Type 0} (files : Files F) (log : Log L) where
   -- Its devices keep a state over a kill.
   abbrev pub LastsOver : LastingServer (Server F M) L → State → Type 0
   LastsOver =
-      LastsIn (StoresCells files.contents) (λ server. logged_of (journal_of server)) last_of log.holds
+      LastsIn (StoresCells files.contents) (λ server. logged_of (journal_of server)) last_of
+      log.holds
 
   abbrev pub LogsOver : LastingServer (Server F M) L → Type 0
   LogsOver =
-      Logs (StoresCells files.contents) (λ server. logged_of (journal_of server)) last_of log.holds
-      (IsRooted files.contents)
+      Logs (StoresCells files.contents) (λ server. logged_of (journal_of server)) last_of
+      log.holds (IsRooted files.contents)
 
   -- All that it shows is on its devices.
   abbrev pub IsSettledOver : LastingServer (Server F M) L → Type 0
   IsSettledOver server = IsSettled (shown_by (Shows files.contents)) LastsOver LogsOver server
 
+module _ {F M L : Type 0} (files : Files F) (marks : MarkStore M) (log : Log L) where
   abbrev pub IsAnswerOver : LastingServer (Server F M) L → Request → Reply
       → LastingServer (Server F M) L → Type 0
   IsAnswerOver =
-      IsLastingAnswer (Shows files.contents) LastsOver LogsOver
+      IsLastingAnswer (Shows files.contents) (LastsOver files log) (LogsOver files log)
       (AnswersLasting IsSame (AnswersCheckpoint files marks) (IsAnswer files marks)
       (AnswersSweep files marks))
 
   abbrev pub IsTendedOver : LastingServer (Server F M) L → LastingServer (Server F M) L → Type 0
   IsTendedOver =
-      IsLastingTended (Shows files.contents) LastsOver LogsOver
+      IsLastingTended (Shows files.contents) (LastsOver files log) (LogsOver files log)
       (IsTended files.contents files.faults) IsSame
       (PutsRoot IsSame (AnswersCheckpoint files marks))
 
@@ -50,4 +52,5 @@ module _ {F M L : Type 0} (files : Files F) (marks : MarkStore M) (log : Log L) 
       → Option (List ℕ) → Option (List ℕ) → Option (List ℕ) → Option (List ℕ) → ℕ
       → Result End ServeFault → Type 0
   ServesOver =
-      ServesLasting (shown_by (Shows files.contents)) IsAnswerOver IsTendedOver LastsOver LogsOver
+      ServesLasting (shown_by (Shows files.contents)) IsAnswerOver IsTendedOver
+      (LastsOver files log) (LogsOver files log)

@@ -113,7 +113,8 @@ ChangesCells contents request reply old new =
 -- that of its edits. What a command or a checkpoint takes its outcome says.
 abbrev pub LeavesServerRoom : {F M : Type 0} → (F → Option Contents) → Request → Reply → Server F M
     → Server F M → Type 0
-LeavesServerRoom contents Begin reply old new = TakesNoRoom OverfillsRecorded (rows_of old) (rows_of new)
+LeavesServerRoom contents Begin reply old new =
+    TakesNoRoom OverfillsRecorded (rows_of old) (rows_of new)
 LeavesServerRoom contents (Get start row family) reply old new =
     TakesNoRoom OverfillsRecorded (rows_of old) (rows_of new)
 LeavesServerRoom contents (Set start row family value) reply old new =
@@ -124,11 +125,11 @@ LeavesServerRoom contents (Scan start range keys_only cells) reply old new =
     TakesNoRoom OverfillsRecorded (rows_of old) (rows_of new)
 LeavesServerRoom contents (Step start) (codec.Step progress) old new =
     (st : State) → IsReached st → Shows contents old st
-    → TakesRoom OverfillsRecorded (ChangesNext st start) progress (rows_of old)
-    (rows_of new)
+    → TakesRoom OverfillsRecorded (ChangesNext st start) progress (rows_of old) (rows_of new)
 LeavesServerRoom contents (Step start) (codec.Refused refusal) old new =
     TakesNoRoom OverfillsRecorded (rows_of old) (rows_of new)
-LeavesServerRoom contents (Stop start) reply old new = TakesNoRoom OverfillsRecorded (rows_of old) (rows_of new)
+LeavesServerRoom contents (Stop start) reply old new =
+    TakesNoRoom OverfillsRecorded (rows_of old) (rows_of new)
 LeavesServerRoom contents (CleanBegin row family) reply old new =
     TakesNoRoom OverfillsRecorded (rows_of old) (rows_of new)
 LeavesServerRoom contents (CleanStep cleaner) (codec.CleanStep done) old new =
@@ -137,10 +138,12 @@ LeavesServerRoom contents (CleanStep cleaner) (codec.CleanStep done) old new =
     (rows_of new)
 LeavesServerRoom contents (CleanStep cleaner) (codec.Refused refusal) old new =
     TakesNoRoom OverfillsRecorded (rows_of old) (rows_of new)
-LeavesServerRoom contents CollectBegin reply old new = TakesNoRoom OverfillsRecorded (rows_of old) (rows_of new)
+LeavesServerRoom contents CollectBegin reply old new =
+    TakesNoRoom OverfillsRecorded (rows_of old) (rows_of new)
 LeavesServerRoom contents (CollectStep collector n) reply old new =
     TakesRoomOfVisits OverfillsRecorded n (rows_of old) (rows_of new)
-LeavesServerRoom contents OracleRestart reply old new = TakesNoRoom OverfillsRecorded (rows_of old) (rows_of new)
+LeavesServerRoom contents OracleRestart reply old new =
+    TakesNoRoom OverfillsRecorded (rows_of old) (rows_of new)
 LeavesServerRoom contents request reply old new = ⊤
 
 -- What takes no memory is answered exactly: that as many sessions are active as there may be, that

@@ -15,8 +15,8 @@ use Rattle.server_loop.specs.Server.{cluster_of, forgets, last_of, machine_place
 use Rattle.server_loop.specs.declared.server.Server.{Server}
 
 module _ {F M : Type 0} (contents : F → Option Contents) where
-  -- They keep these cells, and the root names these places. No stamp of it is above the oracle's last
-  -- one.
+  -- They keep these cells, and the root names these places. No stamp of it is above the oracle's
+  -- last one.
   pub record StoresCells (server : Server F M) (base : Cells) (places : List Place) : Type 0 where
     pub root : RootView
     pub has : HasRoot contents root base (cluster_of server)

@@ -36,7 +36,8 @@ pub(crate) trait Lasting: Answering {
 
     /// Has the devices keep what is shown. Whatever comes of it, they keep that, or what they kept before.
     fn settle(&mut self) -> Result<(), ServeFault>
-        ensures between { (first : Self) → Self.between first self.old → Self.between first self.new }
+        ensures between { (first : Self) → Self.between first self.old
+            → Self.between first self.new }
         ensures shown { (st : State) → Self.shows self.old st → Self.shows self.new st }
         ensures ok { OnOk result ((now : State) → IsReached now → Self.shows self.old now
             → logs self.old → IsSettled Self.shows lasts logs self.new) }

@@ -1,9 +1,11 @@
 //! What a server with a log is asked for.
 
-ghost use Rattle.std.specs.Prelude.{◌≡◌, Some};
-ghost use Rattle.server_loop.specs.ServesLogged.{ServesOver};
-ghost use Rattle.server_loop.specs.Server.{cluster_of, rows_of, tending_of};
+ghost use Rattle.std.specs.Prelude.{◌≡◌, IsSome, Some};
+ghost use Rattle.server_loop.specs.Devices.{LastsOn};
+ghost use Rattle.server_loop.specs.ServesLogged.{LastsOver, ServesOver};
+ghost use Rattle.server_loop.specs.Server.{cluster_of, marks_of, rows_of, tending_of};
 ghost use Rattle.row_atomic.specs.Commands.{IsOutcome};
+ghost use Rattle.si_model.specs.Machine.{State};
 
 use crate::batches::serve_batches;
 use crate::lasting::LastingServer;
@@ -68,5 +70,22 @@ impl<F: WholeFiles + Drop, M: MarkStore + Drop, L: Log + Drop> LastingServer<Ser
             (O.contents writer.new) most_reads result }
     {
         serve_batches(self.server.alloc, self, reader, writer, most_reads)
+    }
+
+    /// Its files, its mark store and its log, as they are. If the mark is known, they keep each state that the server's
+    /// devices kept.
+    pub fn into_devices(self) -> (F, M, L)
+        ensures files { result.0 ≡ (cluster_of self.server).files }
+        ensures marks { result.1 ≡ marks_of self.server }
+        ensures log { result.2 ≡ self.log }
+        ensures lasts { (st : State) → LastsOver F.Files L.Log self st
+            → IsSome (M.mark (marks_of self.server))
+            → LastsOn (F.contents result.0) (M.mark result.1) (L.holds result.2) st }
+    {
+        let LastingServer { server, log, .. } = self;
+        let Server { rows, oracle, .. } = server;
+        // This call shows that the last stamp is within the mark.
+        let _last = oracle.last();
+        (rows.into_files(), oracle.into_mark(), log)
     }
 }
