@@ -161,8 +161,8 @@ impl Logged {
     fn new(alloc: Global) -> Result<Logged, Refusal> {
         let mut bodies = Vec::new(alloc);
         let mut requests = Vec::new(alloc);
-        for (request, _) in TRANSFER.iter() {
-            bodies.push(*request)?;
+        for (request, _) in TRANSFER {
+            bodies.push(request)?;
             push_frame(&mut requests, request)?;
         }
         let devices = Devices::new(alloc)?;
