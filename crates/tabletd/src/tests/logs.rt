@@ -91,7 +91,7 @@ fn opened(
 }
 
 /// A cell that is committed, and read when another server has got the devices. Its session is gone.
-const HANDED_ON: [Exchange; 3] = [
+const READ_LATER: [Exchange; 3] = [
     // Begin: 1001
     (b"\x01", b"\x81\0\0\0\0\0\0\x03\xE9"),
     // Get 1001 r c: v
@@ -102,6 +102,8 @@ const HANDED_ON: [Exchange; 3] = [
     // Step 3: refused 1
     (b"\x04\0\0\0\0\0\0\0\x03", b"\xFF\x01"),
 ];
+
+const HANDED_ON: Row = (0, &[&READ_LATER]);
 
 /// Whether a server ends cleanly and writes the replies of a row.
 fn is_met(alloc: Global, server: &mut MemLasting, row: &Row) -> Result<bool, Refusal> {
@@ -124,7 +126,7 @@ fn devices_are_handed_on(rt: HostRuntime) -> Result<(), Fail> {
     assert!(rt; is_met(alloc, &mut server, &FIRST_CELL)?);
     let (files, marks, log) = server.into_devices();
     let mut server = opened(alloc, files, marks, log)?;
-    assert!(rt; is_met(alloc, &mut server, &(0, &[&HANDED_ON]))?);
+    assert!(rt; is_met(alloc, &mut server, &HANDED_ON)?);
     Ok(())
 }
 
