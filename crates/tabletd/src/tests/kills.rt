@@ -312,35 +312,28 @@ impl Trial {
     }
 }
 
+/// So few bytes that a read gives one or two requests.
+const FEW: usize = 30;
+
 /// How the script is cut off: all in one batch, and in batches of one or two requests.
-const CUTS: [Cut; 6] = [
+const CUTS: [Cut; 4] = [
     Cut {
         most: usize::MAX,
         makes_last: false,
         cuts_writer: true,
     },
     Cut {
-        most: usize::MAX,
-        makes_last: true,
-        cuts_writer: true,
-    },
-    Cut {
-        most: 30,
+        most: FEW,
         makes_last: false,
         cuts_writer: true,
     },
     Cut {
-        most: 30,
+        most: FEW,
         makes_last: true,
         cuts_writer: true,
     },
     Cut {
-        most: 30,
-        makes_last: false,
-        cuts_writer: false,
-    },
-    Cut {
-        most: 30,
+        most: FEW,
         makes_last: true,
         cuts_writer: false,
     },
@@ -353,7 +346,7 @@ type Calls = (u64, u64, u64);
 fn is_killed_at(alloc: Global, upkeep: Upkeep, calls: Calls) -> Result<bool, Refusal> {
     let trial = Trial::new(alloc, upkeep)?;
     for cut in CUTS {
-        let wanted = if cut.most == 30 { calls.1 } else { calls.0 };
+        let wanted = if cut.most == FEW { calls.1 } else { calls.0 };
         if trial.calls(cut)? != Ok(wanted) {
             return Ok(false);
         }
@@ -375,6 +368,6 @@ fn a_server_that_makes_checkpoints_is_killed(rt: HostRuntime) -> Result<(), Fail
 
 #[test]
 fn a_server_that_merges_is_killed(rt: HostRuntime) -> Result<(), Fail> {
-    assert!(rt; is_killed_at(rt.alloc(), BY_ITSELF, (318, 351, 9))?);
+    assert!(rt; is_killed_at(rt.alloc(), BY_ITSELF, (354, 359, 17))?);
     Ok(())
 }
