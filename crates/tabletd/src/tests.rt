@@ -17,7 +17,10 @@ mod files;
 mod filling;
 mod folders;
 mod keys;
+mod kills;
+mod lasting;
 mod limits;
+mod logs;
 mod memory;
 mod memtables;
 mod places;
@@ -32,6 +35,7 @@ mod slow_roots;
 mod sorted_files;
 mod stamps;
 mod statuses;
+mod stopping;
 mod streams;
 mod upkeep;
 

@@ -16,7 +16,7 @@ use std::io::{Read, Write};
 use std::test::Fail;
 
 /// What is in the memtable is written to a file.
-const FLUSHED: [Exchange; 1] = [
+pub const FLUSHED: [Exchange; 1] = [
     // Minor 1: done
     (b"\x0A\0\0\0\x01", b"\x8A"),
 ];
