@@ -6,6 +6,7 @@ mod CutBatches
 mod Filled
 mod Following
 mod FrameHeads
+mod FromLogs
 mod JudgedCleaners
 mod JudgedActs
 mod JudgedCleanSteps

@@ -87,6 +87,6 @@ module _ {F M L : Type 0} (files : Files F) (marks : MarkStore M) (log : Log L) 
     pub reached : IsReached next
     pub recovered : IsRecovered (last_of opened.server) st next
     pub shown : Shows files.contents opened.server next
-    pub settled : IsSettledOver files marks log opened
+    pub settled : IsSettledOver files log opened
     pub lasts : LastsOn (files.contents (cluster_of opened.server).files)
         (marks.mark (marks_of opened.server)) (log.holds opened.log) next
