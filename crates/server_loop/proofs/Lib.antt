@@ -28,6 +28,7 @@ mod OthersShown
 mod RawReads
 mod ReachedRuns
 mod RefusedFirst
+mod Replayed
 mod Rested
 mod Rooted
 mod SamePlaces

@@ -12,7 +12,7 @@ use Rattle.commit_log.specs.declared.faults.LogFault.TheVariants as log
 use Rattle.commit_log.specs.declared.logs.Log.{Ghosts as Log}
 use Rattle.file_store.specs.Store.{Contents}
 use Rattle.file_store.specs.declared.files.Files.{Ghosts as Files}
-use Rattle.metadata_table.specs.Roots.{RootView}
+use Rattle.metadata_table.specs.Roots.{IsRoot, RootView}
 use Rattle.oracle.specs.declared.marks.MarkStore.{Ghosts as MarkStore}
 use Rattle.row_atomic.specs.Open.{IsDamaged}
 use Rattle.row_atomic.specs.Roots.{root_name}
@@ -52,6 +52,11 @@ HasRootFile disk = IsSomeAnd disk (λ m. get m root_name ≢ None)
 -- there are edits of a store whose root file isn't there
 abbrev pub LacksBase : Contents → List Edit → Type 0
 LacksBase m edits = (get m root_name ≡ None) × (edits ≢ [])
+
+-- the greatest stamp that a root file names, and 0 without one
+abbrev pub NamesTop : Option (List ℕ) → ℕ → Type 0
+NamesTop None top = top ≡ 0
+NamesTop (Some image) top = (root : RootView) × IsRoot root image × (root.top ≡ top)
 
 -- The rows of a new store, with its root put.
 pub record OpensNew {F : Type 0} (contents : F → Option Contents) (top : ℕ) (edits : List Edit)

@@ -312,69 +312,75 @@ impl Trial {
     }
 }
 
+/// So few bytes that a read gives one or two requests.
+const FEW: usize = 30;
+
 /// How the script is cut off: all in one batch, and in batches of one or two requests.
-const CUTS: [Cut; 6] = [
+const CUTS: [Cut; 4] = [
     Cut {
         most: usize::MAX,
         makes_last: false,
         cuts_writer: true,
     },
     Cut {
-        most: usize::MAX,
-        makes_last: true,
-        cuts_writer: true,
-    },
-    Cut {
-        most: 30,
+        most: FEW,
         makes_last: false,
         cuts_writer: true,
     },
     Cut {
-        most: 30,
+        most: FEW,
         makes_last: true,
         cuts_writer: true,
     },
     Cut {
-        most: 30,
-        makes_last: false,
-        cuts_writer: false,
-    },
-    Cut {
-        most: 30,
+        most: FEW,
         makes_last: true,
         cuts_writer: false,
     },
 ];
 
-/// How many calls there are with all requests in one batch, with batches of one or two, and in an open after the script.
-type Calls = (u64, u64, u64);
-
-/// Whether all is right after a kill at each call, and there are so many.
-fn is_killed_at(alloc: Global, upkeep: Upkeep, calls: Calls) -> Result<bool, Refusal> {
+/// How many calls the devices get with each cut, and in an open after the script, whose last call is not made or made; or the
+/// first call after which something is wrong.
+fn calls_of(alloc: Global, upkeep: Upkeep) -> Result<Vec<Result<u64, u64>>, Refusal> {
     let trial = Trial::new(alloc, upkeep)?;
+    let mut calls = Vec::new(alloc);
     for cut in CUTS {
-        let wanted = if cut.most == 30 { calls.1 } else { calls.0 };
-        if trial.calls(cut)? != Ok(wanted) {
-            return Ok(false);
-        }
+        calls.push(trial.calls(cut)?)?;
     }
-    Ok(trial.open_calls(false)? == Ok(calls.2) && trial.open_calls(true)? == Ok(calls.2))
+    calls.push(trial.open_calls(false)?)?;
+    calls.push(trial.open_calls(true)?)?;
+    Ok(calls)
 }
+
+/// The numbers of calls.
+type Calls = [Result<u64, u64>; 6];
+
+const ASKED_CALLS: Calls = [Ok(103), Ok(111), Ok(111), Ok(111), Ok(29), Ok(29)];
+
+const CHECKPOINT_CALLS: Calls = [Ok(571), Ok(571), Ok(571), Ok(571), Ok(101), Ok(101)];
+
+const OWN_CALLS: Calls = [Ok(354), Ok(359), Ok(359), Ok(359), Ok(17), Ok(17)];
 
 #[test]
 fn a_server_is_killed(rt: HostRuntime) -> Result<(), Fail> {
-    assert!(rt; is_killed_at(rt.alloc(), ASKED, (103, 111, 29))?);
+    let calls = calls_of(rt.alloc(), ASKED)?;
+    assert!(rt; calls.as_slice() == ASKED_CALLS.as_slice(), "{calls:?}");
     Ok(())
 }
 
 #[test]
 fn a_server_that_makes_checkpoints_is_killed(rt: HostRuntime) -> Result<(), Fail> {
-    assert!(rt; is_killed_at(rt.alloc(), CHECKPOINTS, (571, 571, 101))?);
+    let calls = calls_of(rt.alloc(), CHECKPOINTS)?;
+    assert!(rt;
+        calls.as_slice() == CHECKPOINT_CALLS.as_slice(),
+        "{calls:?}"
+    );
     Ok(())
 }
 
 #[test]
 fn a_server_that_merges_is_killed(rt: HostRuntime) -> Result<(), Fail> {
-    assert!(rt; is_killed_at(rt.alloc(), BY_ITSELF, (318, 351, 9))?);
+    let calls = calls_of(rt.alloc(), BY_ITSELF)?;
+    assert!(rt; calls.as_slice() == OWN_CALLS.as_slice(), "{calls:?}");
     Ok(())
 }

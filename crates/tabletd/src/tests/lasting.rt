@@ -213,7 +213,9 @@ pub fn states(alloc: Global, requests: &[&[u8]]) -> Result<Vec<Vec<u8>>, Refusal
     let mut states = Vec::new(alloc);
     let mut rest = written.as_slice();
     for _ in 0..=requests.len() {
-        let (state, after) = rest.split_at(length_of(rest, READ_COUNT));
+        let Some((state, after)) = rest.split_at_checked(length_of(rest, READ_COUNT)) else {
+            return Err(Refusal::Device);
+        };
         states.push(state.to_vec(alloc)?)?;
         rest = after.get(length_of(after, 1)..).unwrap_or_default();
     }

@@ -130,16 +130,17 @@ fn devices_are_handed_on(rt: HostRuntime) -> Result<(), Fail> {
     Ok(())
 }
 
+/// More frames than a log has.
+const MOST_FRAMES: usize = 100;
+
 /// Where the head of a log ends, and each of its frames.
 fn ends_of(alloc: Global, log: &[u8]) -> Result<Vec<usize>, Refusal> {
     let mut ends = Vec::new(alloc);
     let mut end = HEAD.len();
-    while end <= log.len() {
+    for _ in 0..MOST_FRAMES {
         ends.push(end)?;
-        let Some((length, _)) = log
-            .get(end..)
-            .and_then(|frame| frame.split_first_chunk::<4>())
-        else {
+        let frame = log.get(end..).unwrap_or_default();
+        let Some((length, _)) = frame.split_first_chunk::<4>() else {
             break;
         };
         let length = u32::from_be_bytes(*length) as usize;

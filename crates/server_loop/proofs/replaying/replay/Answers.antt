@@ -1,0 +1,18 @@
+use Rattle.std.proofs.Common.{◌≡◌, Some, sym, ap, subst, ◌∙◌}
+use Rattle.std.specs.Prelude.{option_map}
+use Rattle.cell_key.specs.declared.edits.Edit.{Edit}
+use Rattle.row_atomic.specs.Journals.{JournalView, all_logged, empty_journal, with_waiting}
+use Rattle.row_atomic.specs.declared.recorded.Recorded.{Recorded}
+use Rattle.server_loop.specs.Replaying.{FollowsLog, Replays, logged_journal}
+use Rattle.server_loop.proofs.Replayed.{follows_log}
+use Rattle.server_loop.proofs.replaying.replay.Goals as goal
+
+pub returns-clause-ok : goal.returns-clause-ok
+returns-clause-ok g c = λ root base shows.
+    let contents = g.F.Files.contents in
+    let edits = c.args.edits.items in
+    let old = c.args.rows.now.cluster in
+    let mid = c.make_edits.new.rows in
+    let made : Replays contents edits (record { cluster = old; journal = Some empty_journal }) mid = subst (λ (r : Recorded g.row.F.Denot). Replays contents edits r mid) c.record.ensures c.in_ok-make_edits.ensures.ok in
+    let new : c.settled.new.self ≡ record { cluster = mid.cluster; journal = Some (logged_journal edits) } = c.settled.ensures ∙ ap (λ (j : _). record { cluster = mid.cluster; journal = option_map all_logged j }) made.written in
+    subst (λ (r : Recorded g.row.F.Denot). FollowsLog contents root base edits r) (sym new) (follows_log contents c.root_is_stored.ensures old mid edits root base shows c.requires made)
