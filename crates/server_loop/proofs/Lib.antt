@@ -24,6 +24,7 @@ mod Lengths
 mod Logged
 mod MachinePlaces
 mod Opened
+mod OpenedLogs
 mod OpenedRows
 mod OthersShown
 mod RawReads

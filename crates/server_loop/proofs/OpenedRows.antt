@@ -1,5 +1,6 @@
 -- The rows that an opening makes of files and a log's edits.
-use Rattle.std.proofs.Common.{◌≡◌, ◌≤◌, ◌<◌, ◌⊎◌, ℕ, Bool, true, false, not, List, [], ◌∷◌, map, Option, None, Some, inl, inr, refl, sym, ap, ◌∙◌, subst, arith}
+use Rattle.std.proofs.Common.{◌≡◌, ◌≤◌, ◌<◌, ◌⊎◌, ℕ, Bool, true, false, not, List, [], ◌∷◌, ◌==◌, length, map, Option, None, Some, inl, inr, refl, sym, ap, ◌∙◌, subst, arith}
+use Rattle.std.proofs.lemmas.Bool.Decides.{nat_tests}
 use Rattle.std.specs.Prelude.{IfSome, is_some}
 use Rattle.std.specs.FinMap.{empty, get}
 use Rattle.cell_key.specs.Cells.{Cells}
@@ -63,3 +64,11 @@ module _ {F : Type 0} (contents : F → Option Contents) where
         none = s.no_top;
         no_edits = no_edits;
       }
+
+pub no_edits : (b : Bool) (edits : List Edit) → b ≡ (length edits == 0) → b ≡ true → edits ≡ []
+no_edits b [] is told = refl
+no_edits b (x ∷ edits) is told = absurd (grind (arith, nat_tests))
+
+pub never_new : (b : Bool) → not b ≡ true → b ≡ true → {A : Type 0} → A
+never_new true lacks there = cc
+never_new false lacks there = cc
