@@ -24,6 +24,8 @@ mod Lengths
 mod Logged
 mod MachinePlaces
 mod Opened
+mod OpenedLogs
+mod OpenedRows
 mod OthersShown
 mod RawReads
 mod ReachedRuns

@@ -1,6 +1,6 @@
 -- Edits that are made once more, one after the other.
 use Rattle.std.proofs.Common.{◌≡◌, ◌≤◌, ◌+◌, ℕ, List, [], ◌∷◌, ◌++◌, length, Option, None, Some, inl, inr, refl, sym, ap, ◌∙◌, subst, arith, length-append, append_assoc, append-nil}
-use Rattle.std.specs.Prelude.{option_map}
+use Rattle.std.specs.Prelude.{Err, IsErrAnd, IsErrOf, Ok, Result, option_map}
 use Rattle.std.specs.List.{AllByRecursion}
 use Rattle.std.proofs.lemmas.List.Concat.{flat_map-append}
 use Rattle.cell_key.specs.Cells.{Cells, after_edits, edited_key}
@@ -11,7 +11,7 @@ use Rattle.metadata_table.specs.Roots.{RootView}
 use Rattle.row_atomic.specs.Calls.{Applies}
 use Rattle.row_atomic.specs.Clusters.{ClusterState, Storage, storage_of}
 use Rattle.row_atomic.specs.Commands.{cells_shown}
-use Rattle.row_atomic.specs.Journals.{HasRoomFor, JournalView, empty_journal, with_waiting}
+use Rattle.row_atomic.specs.Journals.{HasRoomFor, JournalView, all_logged, empty_journal, with_waiting}
 use Rattle.row_atomic.specs.Recorded.{FitsMemtables, OverfillsJournal, OverfillsRecorded, seen_recorded}
 use Rattle.row_atomic.specs.Roots.{RootIsStored}
 use Rattle.row_atomic.specs.declared.recorded.Recorded.{Recorded}
@@ -32,6 +32,24 @@ written_on first then (Some journal) =
     let bytes : (journal.waiting ++ spelled_edits first) ++ spelled_edits then ≡ journal.waiting ++ spelled_edits (first ++ then) = append_assoc journal.waiting (spelled_edits first) (spelled_edits then) ∙ ap (λ (x : List ℕ). journal.waiting ++ x) (sym (flat_map-append spelled_edit first then)) in
     let count : (journal.count + length first) + length then ≡ journal.count + length (first ++ then) = omega (arith, length-append first then) in
     λ i. Some (record { logged = journal.logged; waiting = bytes i; count = count i })
+
+-- all edits that were written down in an empty journal are logged
+pub all_logged_now : (edits : List Edit) → option_map all_logged (Some (with_waiting edits empty_journal)) ≡ Some (logged_journal edits)
+all_logged_now edits =
+    let count : 0 + length edits ≡ length edits = omega arith in
+    λ i. Some (record { logged = spelled_edits edits; waiting = []; count = count i })
+
+pub none_left : (edits : List Edit) → length edits ≡ 0 → edits ≡ []
+none_left [] is = refl
+none_left (e ∷ es) is = absurd (omega (arith, is))
+
+abbrev pub err_of : {E : Type 0} (T : Type 0) → E → Result T E
+err_of T e = Err e
+
+-- a refusal that is handed on
+pub handed_on : {T U E : Type 0} (r : Result T E) (e f : E) → IsErrAnd r (λ g. g ≡ e) → r ≡ Err f → IsErrOf (err_of U e) f
+handed_on (Ok x) e f by is = absurd by
+handed_on (Err g) e f by is = let s : g ≡ f = cc in ap Err (sym by ∙ s)
 
 module _ {F : Type 0} (contents : F → Option Contents) where
   pub replays_none : (rows : Recorded F) → Replays contents [] rows rows

@@ -1,52 +1,39 @@
-use Rattle.std.proofs.Common.{rules, ◌≡◌, ◌≢◌, ◌≤◌, ◌⊎◌, ◌+◌, ℕ, List, IfErr, IfOk, IfSome, IsErrOf, IsSome, MatchResult, None, OnOk, Some, false, is_some, length, true, [], ◌-◌, ◌*◌, ◌<◌, ◌/◌, ◌%◌, Bool, nat_eq, nat_lt, ◌∷◌, ◌++◌, slice_index_or, slice_set, bit_and, bit_or, Fits, w8, w32, w64, Bor, MutBor}
-use Rattle.std.specs.FinMap.{empty, get}
-use Rattle.std.specs.List.{AllByRecursion}
-use Rattle.cell_key.specs.Cells.{Cells, after_edits}
-use Rattle.cell_key.specs.Faults.{HasReason, HasRisen}
+use Rattle.std.proofs.Common.{◌≡◌, ◌≤◌, ◌<◌, ◌∙◌, ℕ, List, Option, inl, inr, refl, sym, ap, subst, arith}
+use Rattle.std.specs.FinMap.{empty}
+use Rattle.cell_key.specs.Cells.{Cells}
 use Rattle.cell_key.specs.declared.edits.Edit.{Edit as CellEdit}
-use Rattle.commit_log.specs.Edits.{HoldEdits, IsStoredEdit}
-use Rattle.commit_log.specs.Held.{Keeps}
-use Rattle.file_store.specs.Store.{Contents}
-use Rattle.metadata_table.specs.Roots.{RootView}
-use Rattle.row_atomic.specs.Changes.{Holds, IsEmptied}
-use Rattle.row_atomic.specs.Clusters.{spots_of}
-use Rattle.row_atomic.specs.Commands.{cells_shown}
-use Rattle.row_atomic.specs.Journals.{HasRoomFor, empty_journal}
-use Rattle.row_atomic.specs.Open.{IsDamaged}
-use Rattle.row_atomic.specs.Refusals.{IsReadRefusal}
-use Rattle.row_atomic.specs.Roots.{KeepsCells, root_at, root_name}
-use Rattle.si_model.specs.Machine.{IsReached, IsStorageRefusal, State, new_machine, reopened}
-use Rattle.sorted_file.specs.Limits.{IsFileLimit}
-use Rattle.si_model.specs.ShowsCells.{ShowsCells}
-use Rattle.server_loop.specs.Devices.{Covers, KeepsUnder, LastsOn}
-use Rattle.server_loop.specs.Lasting.{IsSettled}
-use Rattle.server_loop.specs.LastingOpening.{HasRootFile, IsLostLog, LacksBase, OpensFrom, OpensNew, ServesFrom, log_refusal, refused_with}
-use Rattle.server_loop.specs.Lasts.{HoldsLogged, LastsIn, Logs, shown_by}
-use Rattle.server_loop.specs.Opening.{IsLost, LacksRoot}
-use Rattle.server_loop.specs.Replaying.{FollowsLog, ShowsRoot}
-use Rattle.server_loop.specs.Server.{IsConfig, cluster_of, last_of, machine_places, marks_of, rows_of, tending_of}
+use Rattle.si_model.specs.Machine.{begins_new, new_machine}
+use Rattle.server_loop.specs.Devices.{Covers}
+use Rattle.server_loop.proofs.Opened.{not_below}
+use Rattle.server_loop.proofs.OpenedLogs.{below_named, covers_none, damage_named, goes_on, new_shown, too_low}
 use Rattle.server_loop.proofs.lasting_opening.open_server.Goals as goal
 
--- src/lasting_opening.rt:257:34
 pub returns-in-Err-clause-kept : goal.returns-in-Err-clause-kept
-returns-in-Err-clause-kept g c = ?
+returns-in-Err-clause-kept g c = λ base st reached keeps shows next top. c.in-Err.ensures.kept keeps.kept keeps.root base keeps.on_disk keeps.keeps
 
--- src/lasting_opening.rt:257:34
 pub returns-in-Err-clause-damaged : goal.returns-in-Err-clause-damaged
-returns-in-Err-clause-damaged g c = ?
+returns-in-Err-clause-damaged g c = λ is. damage_named (g.F.Files.contents c.args.files) (g.M.MarkStore.mark c.args.marks) c.args.edits.items (c.in-Err.ensures.damaged is)
 
--- src/lasting_opening.rt:264:9
 pub returns-then-last-top-clause-kept : goal.returns-then-last-top-clause-kept
-returns-then-last-top-clause-kept g c = ?
+returns-then-last-top-clause-kept g c = λ base st reached keeps shows next top.
+    let o = c.in-Ok.ensures.kept keeps.kept keeps.root base keeps.on_disk keeps.keeps in
+    let low = not_below (g.M.MarkStore.mark c.args.marks) keeps.root.top c.in-Ok-open.oracle.last keeps.covered c.in-Ok-open.ensures.mark in
+    too_low c.last.result c.in-Ok-open.oracle.last keeps.root.top c.in-Ok.opened.1 c.last.ensures.last c.if-last-top.true low o.1
 
--- src/lasting_opening.rt:264:9
 pub returns-then-last-top-clause-damaged : goal.returns-then-last-top-clause-damaged
-returns-then-last-top-clause-damaged g c = ?
+returns-then-last-top-clause-damaged g c = λ is. below_named (g.F.Files.contents c.args.files) (g.M.MarkStore.mark c.args.marks) c.args.edits.items c.in-Ok.opened.1 c.in-Ok-open.oracle.last c.in-Ok.ensures.named c.in-Ok-open.ensures.mark (subst (λ (n : ℕ). n < c.in-Ok.opened.1) c.last.ensures.last c.if-last-top.true)
 
--- src/lasting_opening.rt:212:1
 pub returns-clause-kept : goal.returns-clause-kept
-returns-clause-kept g c = ?
+returns-clause-kept g c = λ base st reached keeps shows next top.
+    let o = c.in-Ok.ensures.kept keeps.kept keeps.root base keeps.on_disk keeps.keeps in
+    let same = sym c.in-Ok-open.ensures.kept in
+    c.server_over.ensures.from keeps.root base c.args.edits.items st o.0 reached keeps.placed (subst (λ (m : Option ℕ). Covers m keeps.root.top) same keeps.covered) shows next (subst (λ (m : Option ℕ). Covers m st.top) same top) (goes_on (g.M.MarkStore.mark c.args.marks) (g.M.MarkStore.mark c.in-Ok-open.oracle.marks) c.in-Ok-open.oracle.last c.in-Ok-open.ensures.kept c.in-Ok-open.ensures.mark)
 
--- src/lasting_opening.rt:212:1
 pub returns-clause-new : goal.returns-clause-new
-returns-clause-new g c = ?
+returns-clause-new g c = λ lacks known.
+    let o = c.in-Ok.ensures.new lacks in
+    let none = covers_none (g.M.MarkStore.mark c.args.marks) (g.M.MarkStore.mark c.in-Ok-open.oracle.marks) c.in-Ok-open.ensures.kept known in
+    (
+      o.no_edits,
+      c.server_over.ensures.from o.root empty c.args.edits.items new_machine o.follows begins_new o.places (subst (Covers (g.M.MarkStore.mark c.in-Ok-open.oracle.marks)) (sym (o.no_top ∙ o.none)) none) (new_shown c.args.edits.items o.no_edits) refl none (goes_on (g.M.MarkStore.mark c.args.marks) (g.M.MarkStore.mark c.in-Ok-open.oracle.marks) c.in-Ok-open.oracle.last c.in-Ok-open.ensures.kept c.in-Ok-open.ensures.mark),
+    )

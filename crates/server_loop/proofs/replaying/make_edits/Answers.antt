@@ -5,7 +5,7 @@ use Rattle.cell_key.specs.declared.edits.Edit.{Edit}
 use Rattle.commit_log.specs.Edits.{IsStoredEdit}
 use Rattle.row_atomic.specs.Journals.{JournalView}
 use Rattle.server_loop.specs.Replaying.{HasRoom, Replays}
-use Rattle.server_loop.proofs.Replayed.{not_full, replays_none, replays_one, room_then}
+use Rattle.server_loop.proofs.Replayed.{none_left, replays_none, replays_one, room_then}
 use Rattle.server_loop.proofs.replaying.make_edits.Goals as goal
 
 pub make_edit-requires : goal.make_edit-requires
@@ -35,5 +35,5 @@ loop-edit-preserved g c =
 
 pub returns-clause-ok : goal.returns-clause-ok
 returns-clause-ok g c =
-    let none : into_iter_items c.loop-edit.edit-iterator ≡ [] = c.in-None.ensures.steps.0 in
+    let none : into_iter_items c.loop-edit.edit-iterator ≡ [] = none_left (into_iter_items c.loop-edit.edit-iterator) (sym c.loop-edit.edit-iterator.rest.ok.0 ∙ c.in-None.ensures.steps.0) in
     c.loop-edit.invariant.leads c.loop-edit.rows (subst (λ (es : List Edit). Replays g.F.Files.contents es c.loop-edit.rows c.loop-edit.rows) (sym none) (replays_none g.F.Files.contents c.loop-edit.rows))
