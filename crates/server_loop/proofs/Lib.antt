@@ -26,6 +26,7 @@ mod MachinePlaces
 mod Opened
 mod OpenedLogs
 mod OpenedRows
+mod OpensLogs
 mod OthersShown
 mod RawReads
 mod ReachedRuns

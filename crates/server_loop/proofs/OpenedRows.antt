@@ -65,9 +65,9 @@ module _ {F : Type 0} (contents : F → Option Contents) where
         no_edits = no_edits;
       }
 
-pub no_edits : (b : Bool) (edits : List Edit) → b ≡ (length edits == 0) → b ≡ true → edits ≡ []
-no_edits b [] is told = refl
-no_edits b (x ∷ edits) is told = absurd (grind (arith, nat_tests))
+pub no_edits : (b : Bool) (n : ℕ) (edits : List Edit) → n ≡ length edits → b ≡ (n == 0) → b ≡ true → edits ≡ []
+no_edits b n [] size is told = refl
+no_edits b n (x ∷ edits) size is told = absurd (grind (arith, nat_tests))
 
 pub never_new : (b : Bool) → not b ≡ true → b ≡ true → {A : Type 0} → A
 never_new true lacks there = cc

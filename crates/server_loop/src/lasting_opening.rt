@@ -34,7 +34,7 @@ use crate::replaying::replay;
 use crate::server::{Config, Server};
 use crate::whole_files::WholeFiles;
 use cell_key::{Edit, Refusal, Stamp};
-use commit_log::laws::logs_edits;
+use commit_log::laws::{as_many_edits, logs_edits};
 use commit_log::{Log, LogFault, edits_in};
 use file_store::Files;
 use metadata_table::one_root;
@@ -347,6 +347,7 @@ impl<F: WholeFiles + Drop, M: MarkStore + Drop, L: Log + Drop> LastingServer<Ser
             ⊎ HasRisen (L.faults log) (L.faults refused.3))) }
     {
         logs_edits();
+        as_many_edits();
         let mut log = log;
         let edits = match edits_on(alloc, &mut log) {
             Ok(edits) => edits,

@@ -40,6 +40,6 @@ returns-in-Ok-fill_rows-clause-new g c = λ lacks.
     let holds : Holds g.F.Files.contents c.in-Ok-open.opened.0 = where_told (g.F.Files.contents c.has_root.new.files) (Holds g.F.Files.contents c.in-Ok-open.opened.0) lacks_now c.in-Ok-open.ensures.holds in
     let cluster : c.new-rows.result.cluster ≡ c.in-Ok-open.opened.0 = ap (λ (r : Recorded g.row.F.Denot). r.cluster) c.new-rows.ensures in
     let follows = c.in-Ok-fill_rows.ensures.new is_new (subst (Holds g.F.Files.contents) (sym cluster) holds) in
-    let none : c.args.edits.items ≡ [] = elim c.else-is_new.branch [ else-is_new-via-then-is_new+else-not-is_empty w ↦ no_edits w.is_empty.result c.args.edits.items w.is_empty.ensures w.if-not-is_empty.false | else-is_new-via-else-is_new w ↦ never_new c.in-Ok.is_there is_new w.if-is_new.false ] in
+    let none : c.args.edits.items ≡ [] = elim c.else-is_new.branch [ else-is_new-via-then-is_new+else-not-is_empty w ↦ no_edits w.is_empty.result c.args.edits.len c.args.edits.items c.args.edits.ok.0 w.is_empty.ensures w.if-not-is_empty.false | else-is_new-via-else-is_new w ↦ never_new c.in-Ok.is_there is_new w.if-is_new.false ] in
     opens_new g.F.Files.contents c.in-Ok-open.opened.0 c.fill_rows.new.rows c.in-Ok-open.opened.1 c.in-Ok-open.opened.2 c.args.edits.items s none (c.in-Ok-fill_rows.ensures.spots ∙ ap (λ (x : ClusterState g.row.F.Denot). spots_of x) cluster)
     (subst (λ (x : ClusterState g.row.F.Denot). FollowsLog g.F.Files.contents (root_at 0 0 c.fill_rows.new.rows.cluster) (cells_shown g.F.Files.contents x) c.args.edits.items c.fill_rows.new.rows) cluster follows)
