@@ -1,11 +1,10 @@
 -- A server that an opening makes of files, a mark and a log.
-use Rattle.std.proofs.Common.{◌≡◌, ◌≢◌, ◌≤◌, ◌<◌, ◌⊎◌, ℕ, List, [], Option, None, Some, inl, inr, refl, sym, ap, ◌∙◌, subst, arith}
+use Rattle.std.proofs.Common.{◌≡◌, ◌≤◌, ◌<◌, ◌⊎◌, ℕ, List, [], Option, None, Some, inl, inr, refl, sym, subst, arith}
 use Rattle.std.specs.Prelude.{IfSome, IsSome}
 use Rattle.std.specs.FinMap.{empty, get}
-use Rattle.cell_key.specs.Cells.{Cells, after_edits}
+use Rattle.cell_key.specs.Cells.{after_edits}
 use Rattle.cell_key.specs.declared.edits.Edit.{Edit}
 use Rattle.file_store.specs.Store.{Contents}
-use Rattle.metadata_table.specs.Roots.{IsRoot, RootView}
 use Rattle.row_atomic.specs.Open.{IsDamaged}
 use Rattle.row_atomic.specs.Roots.{root_name}
 use Rattle.si_model.specs.Machine.{new_machine, reopened}
@@ -13,7 +12,6 @@ use Rattle.si_model.specs.ShowsCells.{ShowsCells}
 use Rattle.server_loop.specs.Devices.{Covers}
 use Rattle.server_loop.specs.LastingOpening.{LacksBase, NamesTop}
 use Rattle.server_loop.specs.Opening.{IsLost, below, damaged}
-use Rattle.server_loop.proofs.Opened.{GoesOnFrom}
 use Rattle.server_loop.proofs.SessionSteps.{new_cells}
 
 pub damage_named : (told : Option Contents) (mark : Option ℕ) (edits : List Edit) → IfSome told (λ m. IsDamaged m ⊎ LacksBase m edits) → IfSome told (λ m. IfSome mark (λ n. IsLost m n ⊎ LacksBase m edits))

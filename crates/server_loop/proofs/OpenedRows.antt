@@ -1,8 +1,8 @@
 -- The rows that an opening makes of files and a log's edits.
-use Rattle.std.proofs.Common.{◌≡◌, ◌≤◌, ◌<◌, ◌⊎◌, ℕ, Bool, true, false, not, List, [], ◌∷◌, ◌==◌, length, map, Option, None, Some, inl, inr, refl, sym, ap, ◌∙◌, subst, arith}
+use Rattle.std.proofs.Common.{◌≡◌, ◌⊎◌, ℕ, Bool, true, false, not, List, [], ◌∷◌, ◌==◌, length, map, Option, None, Some, inl, refl, sym, ap, ◌∙◌, subst, arith}
 use Rattle.std.proofs.lemmas.Bool.Decides.{nat_tests}
 use Rattle.std.specs.Prelude.{IfSome, is_some}
-use Rattle.std.specs.FinMap.{empty, get}
+use Rattle.std.specs.FinMap.{get}
 use Rattle.cell_key.specs.Cells.{Cells}
 use Rattle.cell_key.specs.declared.edits.Edit.{Edit}
 use Rattle.cell_key.specs.declared.refusals.Refusal.{Refusal}
@@ -10,16 +10,14 @@ use Rattle.cell_key.specs.declared.refusals.Refusal.TheVariants.{MemtableFull}
 use Rattle.file_store.specs.Store.{Contents}
 use Rattle.metadata_table.specs.Places.{PlaceView}
 use Rattle.metadata_table.specs.Roots.{RootView}
-use Rattle.row_atomic.specs.Clusters.{ClusterState, Spot, cells_in, spot_of, spots_of}
+use Rattle.row_atomic.specs.Clusters.{ClusterState, Spot, cells_in, spots_of}
 use Rattle.row_atomic.specs.Commands.{cells_shown}
-use Rattle.row_atomic.specs.Open.{IsDamaged, IsNewStore, IsStore, Reopens}
+use Rattle.row_atomic.specs.Open.{IsDamaged, IsNewStore, Reopens}
 use Rattle.row_atomic.specs.Refusals.{IsReadRefusal}
 use Rattle.row_atomic.specs.Roots.{KeepsCells, root_at, root_name}
 use Rattle.row_atomic.specs.declared.recorded.Recorded.{Recorded}
 use Rattle.row_atomic.proofs.Fresh.{new_cells as none_in}
-use Rattle.si_model.specs.Machine as machine
-use Rattle.si_model.specs.Machine.{new_machine}
-use Rattle.server_loop.specs.LastingOpening.{LacksBase, NamesTop, OpensNew}
+use Rattle.server_loop.specs.LastingOpening.{LacksBase, OpensNew}
 use Rattle.server_loop.specs.Opening.{LacksRoot}
 use Rattle.server_loop.specs.Replaying.{FollowsLog, ShowsRoot}
 use Rattle.server_loop.specs.Server.{machine_place, machine_places}

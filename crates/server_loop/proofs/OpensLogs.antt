@@ -1,5 +1,5 @@
 -- A server with a log that an opening makes.
-use Rattle.std.proofs.Common.{◌≡◌, ◌≢◌, ◌≤◌, ◌⊎◌, ◌+◌, ℕ, Bool, true, List, [], ◌∷◌, length, Option, None, Some, inl, inr, refl, sym, ap, ◌∙◌, subst, arith}
+use Rattle.std.proofs.Common.{◌≡◌, ◌⊎◌, ◌+◌, ℕ, true, List, [], ◌∷◌, length, Option, None, Some, inl, inr, refl, sym, ap, ◌∙◌, subst, arith}
 use Rattle.std.specs.Prelude.{IfSome, flat_map, is_some}
 use Rattle.std.specs.List.{AllByRecursion}
 use Rattle.std.specs.FinMap.{get}
@@ -10,16 +10,15 @@ use Rattle.commit_log.specs.declared.logs.Log.{Ghosts as Log}
 use Rattle.file_store.specs.Store.{Contents}
 use Rattle.file_store.specs.declared.files.Files.{Ghosts as Files}
 use Rattle.oracle.specs.declared.marks.MarkStore.{Ghosts as MarkStore}
-use Rattle.row_atomic.specs.Journals.{HasRoomFor, JournalView, empty_journal}
+use Rattle.row_atomic.specs.Journals.{HasRoomFor, empty_journal}
 use Rattle.row_atomic.specs.Recorded.{logged_of, waiting_of}
 use Rattle.row_atomic.specs.Roots.{root_name}
 use Rattle.si_model.specs.Machine.{Place, State, reopened}
 use Rattle.si_model.specs.ShowsCells.{ShowsCells}
-use Rattle.server_loop.specs.Devices.{Covers, KeepsUnder, Lasts, LastsOn}
+use Rattle.server_loop.specs.Devices.{Covers, KeepsUnder, Lasts}
 use Rattle.server_loop.specs.LastingOpening.{HasRootFile, LacksBase, OpensFrom, ServesFrom}
 use Rattle.server_loop.specs.Lasts.{HoldsLogged}
 use Rattle.server_loop.specs.Opening.{IsLost}
-use Rattle.server_loop.specs.Replaying.{logged_journal}
 use Rattle.server_loop.specs.Server.{Shows, cluster_of, journal_of, last_of, marks_of}
 use Rattle.server_loop.specs.ServesLogged.{IsSettledOver}
 use Rattle.server_loop.specs.Stored.{IsRooted, StoresCells}

@@ -1,16 +1,15 @@
 -- Edits that are made once more, one after the other.
-use Rattle.std.proofs.Common.{◌≡◌, ◌≤◌, ◌+◌, ℕ, List, [], ◌∷◌, ◌++◌, length, Option, None, Some, inl, inr, refl, sym, ap, ◌∙◌, subst, arith, length-append, append_assoc, append-nil}
+use Rattle.std.proofs.Common.{◌≡◌, ◌+◌, ℕ, List, [], ◌∷◌, ◌++◌, length, Option, None, Some, inl, inr, refl, sym, ap, ◌∙◌, subst, arith, length-append, append_assoc, append-nil}
 use Rattle.std.specs.Prelude.{Err, IsErrAnd, IsErrOf, Ok, Result, option_map}
 use Rattle.std.specs.List.{AllByRecursion}
 use Rattle.std.proofs.lemmas.List.Concat.{flat_map-append}
-use Rattle.cell_key.specs.Cells.{Cells, after_edits, edited_key}
+use Rattle.cell_key.specs.Cells.{Cells, after_edits}
 use Rattle.cell_key.specs.declared.edits.Edit.{Edit}
 use Rattle.commit_log.specs.Edits.{IsStoredEdit, spelled_edit, spelled_edits}
 use Rattle.file_store.specs.Store.{Contents}
 use Rattle.metadata_table.specs.Roots.{RootView}
 use Rattle.row_atomic.specs.Calls.{Applies}
 use Rattle.row_atomic.specs.Clusters.{ClusterState, Storage, storage_of}
-use Rattle.row_atomic.specs.Commands.{cells_shown}
 use Rattle.row_atomic.specs.Journals.{HasRoomFor, JournalView, all_logged, empty_journal, with_waiting}
 use Rattle.row_atomic.specs.Recorded.{FitsMemtables, OverfillsJournal, OverfillsRecorded, seen_recorded}
 use Rattle.row_atomic.specs.Roots.{RootIsStored}

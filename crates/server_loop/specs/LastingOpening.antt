@@ -1,5 +1,5 @@
 -- What a server with a log opens of its devices.
-use Rattle.std.specs.Prelude.{◌≡◌, ◌⊎◌, ◌≢◌, ℕ, List, [], Option, None, Some, Result, Err, IsSomeAnd}
+use Rattle.std.specs.Prelude.{◌≡◌, ◌≢◌, ℕ, List, [], Option, None, Some, Result, Err, IsSomeAnd}
 use Rattle.std.specs.FinMap.{get, empty}
 use Rattle.std.specs.List.{AllByRecursion}
 use Rattle.cell_key.specs.Cells.{Cells, after_edits}
@@ -14,14 +14,12 @@ use Rattle.file_store.specs.Store.{Contents}
 use Rattle.file_store.specs.declared.files.Files.{Ghosts as Files}
 use Rattle.metadata_table.specs.Roots.{IsRoot, RootView}
 use Rattle.oracle.specs.declared.marks.MarkStore.{Ghosts as MarkStore}
-use Rattle.row_atomic.specs.Open.{IsDamaged}
 use Rattle.row_atomic.specs.Roots.{root_name}
 use Rattle.row_atomic.specs.declared.recorded.Recorded.{Recorded}
 use Rattle.si_model.specs.Machine.{IsReached, State, new_machine, reopened}
 use Rattle.si_model.specs.Recovered.{IsRecovered}
 use Rattle.si_model.specs.ShowsCells.{ShowsCells}
 use Rattle.server_loop.specs.Devices.{Covers, KeepsUnder, LastsOn}
-use Rattle.server_loop.specs.Opening.{IsLost}
 use Rattle.server_loop.specs.Replaying.{FollowsLog, logged_journal}
 use Rattle.server_loop.specs.Server.{Shows, cluster_of, journal_of, last_of, machine_places, marks_of}
 use Rattle.server_loop.specs.ServesLogged.{IsSettledOver}

@@ -1,4 +1,4 @@
-use Rattle.std.proofs.Common.{◌≡◌, OnOk, sym, subst}
+use Rattle.std.proofs.Common.{OnOk, subst}
 use Rattle.cell_key.specs.Cells.{Cells}
 use Rattle.metadata_table.specs.Roots.{RootView}
 use Rattle.row_atomic.specs.declared.recorded.Recorded.{Recorded}

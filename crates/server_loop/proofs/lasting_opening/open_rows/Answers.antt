@@ -1,5 +1,4 @@
-use Rattle.std.proofs.Common.{◌≡◌, ◌∙◌, List, [], Bool, None, true, false, not, refl, sym, ap, subst}
-use Rattle.cell_key.specs.declared.edits.Edit.{Edit as CellEdit}
+use Rattle.std.proofs.Common.{◌≡◌, ◌∙◌, [], None, sym, ap, subst}
 use Rattle.metadata_table.specs.Roots.{RootView}
 use Rattle.row_atomic.specs.Changes.{Holds}
 use Rattle.row_atomic.specs.Clusters.{ClusterState, spots_of}
@@ -26,8 +25,7 @@ returns-in-Err-open-clause-damaged g c = λ is. damage_or (g.F.Files.contents c.
 pub returns-in-Ok-fill_rows-clause-kept : goal.returns-in-Ok-fill_rows-clause-kept
 returns-in-Ok-fill_rows-clause-kept g c = λ m root base disk keeps.
     let o = c.in-Ok-open.ensures.kept m root base (c.in-Ok.ensures.same ∙ disk) keeps in
-    let shows = shows_root g.F.Files.contents root base _ _ c.in-Ok-open.opened.0 o in
-    (
+    let shows = shows_root g.F.Files.contents root base _ _ c.in-Ok-open.opened.0 o in (
       c.in-Ok-fill_rows.ensures.ok (not_new (g.F.Files.contents c.args.files) c.in-Ok.is_there m root base c.in-Ok.ensures.ok disk keeps) root base (rw c.new-rows.ensures shows),
       ap (λ (r : RootView). r.top) o.tells,
     )

@@ -1,7 +1,5 @@
-use Rattle.std.proofs.Common.{◌≡◌, ◌≤◌, ◌<◌, ◌∙◌, ℕ, List, Option, inl, inr, refl, sym, ap, subst, arith}
+use Rattle.std.proofs.Common.{◌<◌, ◌∙◌, ℕ, Option, refl, sym, subst}
 use Rattle.std.specs.FinMap.{empty}
-use Rattle.cell_key.specs.Cells.{Cells}
-use Rattle.cell_key.specs.declared.edits.Edit.{Edit as CellEdit}
 use Rattle.si_model.specs.Machine.{begins_new, new_machine}
 use Rattle.server_loop.specs.Devices.{Covers}
 use Rattle.server_loop.proofs.Opened.{not_below}
@@ -32,8 +30,7 @@ returns-clause-kept g c = λ base st reached keeps shows next top.
 pub returns-clause-new : goal.returns-clause-new
 returns-clause-new g c = λ lacks known.
     let o = c.in-Ok.ensures.new lacks in
-    let none = covers_none (g.M.MarkStore.mark c.args.marks) (g.M.MarkStore.mark c.in-Ok-open.oracle.marks) c.in-Ok-open.ensures.kept known in
-    (
+    let none = covers_none (g.M.MarkStore.mark c.args.marks) (g.M.MarkStore.mark c.in-Ok-open.oracle.marks) c.in-Ok-open.ensures.kept known in (
       o.no_edits,
       c.server_over.ensures.from o.root empty c.args.edits.items new_machine o.follows begins_new o.places (subst (Covers (g.M.MarkStore.mark c.in-Ok-open.oracle.marks)) (sym (o.no_top ∙ o.none)) none) (new_shown c.args.edits.items o.no_edits) refl none (goes_on (g.M.MarkStore.mark c.args.marks) (g.M.MarkStore.mark c.in-Ok-open.oracle.marks) c.in-Ok-open.oracle.last c.in-Ok-open.ensures.kept c.in-Ok-open.ensures.mark),
     )

@@ -1,7 +1,6 @@
 use Rattle.std.proofs.Common.{◌≡◌, Some, sym, ap, subst, ◌∙◌}
 use Rattle.std.specs.Prelude.{option_map}
-use Rattle.cell_key.specs.declared.edits.Edit.{Edit}
-use Rattle.row_atomic.specs.Journals.{JournalView, all_logged, empty_journal, with_waiting}
+use Rattle.row_atomic.specs.Journals.{all_logged, empty_journal}
 use Rattle.row_atomic.specs.Recorded.{FitsMemtables}
 use Rattle.row_atomic.specs.declared.recorded.Recorded.{Recorded}
 use Rattle.server_loop.specs.Replaying.{FollowsLog, HasRoom, Replays, logged_journal}

@@ -1,9 +1,7 @@
-use Rattle.std.proofs.Common.{◌≡◌, ◌≢◌, ◌∙◌, ℕ, List, Option, Err, inl, inr, refl, sym, ap, subst}
-use Rattle.cell_key.specs.Cells.{Cells}
-use Rattle.cell_key.specs.declared.refusals.Refusal.TheVariants.{Damaged, MemtableFull}
+use Rattle.std.proofs.Common.{◌≡◌, ℕ, Option, Err, inl, inr, refl, sym, ap, subst}
 use Rattle.file_store.specs.Store.{Contents}
-use Rattle.si_model.specs.Machine.{Place, reopened}
-use Rattle.server_loop.specs.Devices.{Covers, KeepsUnder, Lasts, LastsOn}
+use Rattle.si_model.specs.Machine.{reopened}
+use Rattle.server_loop.specs.Devices.{Covers, KeepsUnder, LastsOn}
 use Rattle.server_loop.proofs.OpenedRows.{never_full}
 use Rattle.server_loop.proofs.OpensLogs.{damage_of_log, has_root_file, lasts_on_log, no_room_lost, opens_from, same_room, same_shown}
 use Rattle.server_loop.proofs.lasting_opening.LastingServer+Server+F+M+L.open.Goals as goal
@@ -36,8 +34,7 @@ returns-in-Err-open_server-clause-kept g c = λ st reached lasts.
     let r = c.in-Err-open_server.ensures.kept lasts.base st reached lasts.kept (same_shown c.logs_edits.ensures lasts.records lasts.edits c.in-Ok.edits.items lasts.held held lasts.stored c.in-Ok.ensures.stored lasts.base (reopened st) lasts.shows) lasts.next lasts.top in
     let disk : g.F.Files.contents c.in-Err-open_server.files ≡ g.F.Files.contents c.args.files = c.in-Err-open_server.ensures.rooted (has_root_file (g.F.Files.contents c.args.files) (g.M.MarkStore.mark c.args.marks) lasts.base st.places lasts.kept) in
     let mark : g.M.MarkStore.mark c.in-Err-open_server.marks ≡ g.M.MarkStore.mark c.args.marks = c.in-Err-open_server.ensures.mark in
-    let on_log = lasts_on_log (KeepsUnder (g.F.Files.contents c.args.files) (g.M.MarkStore.mark c.args.marks)) (g.L.Log.holds c.args.log) (g.L.Log.holds c.edits_on.new.log) (Covers (g.M.MarkStore.mark c.args.marks)) st c.in-Ok.ensures.same lasts in
-    (
+    let on_log = lasts_on_log (KeepsUnder (g.F.Files.contents c.args.files) (g.M.MarkStore.mark c.args.marks)) (g.L.Log.holds c.args.log) (g.L.Log.holds c.edits_on.new.log) (Covers (g.M.MarkStore.mark c.args.marks)) st c.in-Ok.ensures.same lasts in (
       r.0,
       λ full. r.1 full (same_room c.logs_edits.ensures c.as_many_edits.ensures lasts.records lasts.edits c.in-Ok.edits.items lasts.held held lasts.stored c.in-Ok.ensures.stored lasts.room),
       subst (λ (d : Option Contents). LastsOn d (g.M.MarkStore.mark c.in-Err-open_server.marks) (g.L.Log.holds c.edits_on.new.log) st) (sym disk) (subst (λ (n : Option ℕ). LastsOn (g.F.Files.contents c.args.files) n (g.L.Log.holds c.edits_on.new.log) st) (sym mark) on_log),
