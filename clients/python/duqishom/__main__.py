@@ -53,6 +53,12 @@ def parser() -> argparse.ArgumentParser:
     place = made.add_mutually_exclusive_group()
     place.add_argument("--dir", help="the folder of the store: a new store in memory where none is named")
     place.add_argument("--socket", metavar="PATH", help="ask the store that a gateway serves there; no program is started")
+    made.add_argument(
+        "--log",
+        action=argparse.BooleanOptionalAction,
+        help="have the folder get a log, or a new one get none: a new one gets a log where nothing is said",
+    )
+    made.add_argument("--log-bytes", metavar="L", help="given to the program: bytes of a log before a checkpoint empties it")
     made.add_argument("--flush", metavar="N", help="given to the program: how many entries a memtable has before it is compacted")
     made.add_argument("--flush-bytes", metavar="B", help="given to the program: how many bytes of entries compact a memtable too")
     made.add_argument("--merge", metavar="M", help="given to the program: how many files a tablet has before some are merged")
@@ -75,8 +81,11 @@ def main(given: Sequence[str]) -> int:
     """Runs the command. The status is 0 where each line was done, 1 where one was not, and 2 where the program failed."""
     if given[:1] and given[0] in COMMANDS:
         return COMMANDS[given[0]](given[1:])
-    options = parser().parse_args(given)
-    named = ("flush", "flush-bytes", "merge", "cache")
+    parsing = parser()
+    options = parsing.parse_args(given)
+    if options.log and options.dir is None:
+        parsing.error("--log needs --dir")
+    named = ("log-bytes", "flush", "flush-bytes", "merge", "cache")
     words = [word for name in named if (value := getattr(options, name.replace("-", "_"))) for word in (f"--{name}", value)]
     try:
         with Store(
@@ -86,6 +95,7 @@ def main(given: Sequence[str]) -> int:
             checkpoint_at_close=not options.no_checkpoint,
             socket=options.socket,
             record=options.record,
+            log=options.log,
         ) as store:
             asked = Words(store)
             if options.words:

@@ -237,8 +237,8 @@ class Store:
         await self.ask(Move(tablet, server))
 
     async def sweep(self) -> int:
-        """Removes the files that no tablet names: how many these were. In a folder, the gateway makes a checkpoint right behind
-        it."""
+        """Removes the files that no tablet names: how many these were. In a folder without a log, the gateway makes a checkpoint
+        right behind it."""
         return await self.ask(Sweep())
 
     async def checkpoint(self) -> None:
@@ -260,14 +260,16 @@ class Store:
         return await self.ask(Raw(row, family, qualifier, lo, hi))
 
     async def make_room(self) -> None:
-        """Writes the memtable of each tablet to a file. A gateway whose administrator has a socket refuses that, and has done
-        it itself."""
+        """Writes the memtable of each tablet to a file, and makes a checkpoint, for the log may be what is full. A gateway whose
+        administrator has a socket refuses that, and has done it itself."""
         with suppress(UnknownTablet, BadRequest):
             for tablet in range(1, MOST_TABLETS + 1):
                 try:
                     await self.minor(tablet)
                 except TooManyFiles:
                     await self.major(tablet)
+        with suppress(BadRequest):
+            await self.ask(Checkpoint())
 
     async def fate(self, start: int, row: bytes, family: bytes) -> Fate:
         """What became of a commit whose answer was lost: of the session of this start, by its first cell."""

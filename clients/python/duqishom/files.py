@@ -1,4 +1,4 @@
-"""The forms of the files of a folder: sorted files, the root, the mark. `docs/FORMATS.md` has them in words.
+"""The forms of the files of a folder: sorted files, the root, the log, the mark. `docs/FORMATS.md` has them in words.
 
 Each is read as the program reads it, and what stands outside its form is named by its first wrong byte.
 """
@@ -11,6 +11,7 @@ from collections.abc import Iterator
 from dataclasses import dataclass
 from mmap import mmap
 from typing import NamedTuple
+from zlib import crc32
 
 from duqishom.answers import Qualifier
 from duqishom.columns import BadForm
@@ -27,6 +28,9 @@ FILE_FOOT = b"TABLETZZ"
 ROOT_FOOT = b"TABROOTZ"
 MARK_FILE = "oracle.mark"
 LOCK_FILE = "lock"
+LOG_FILE = "commit.log"
+LOG_HEAD = b"TABLOG01"
+LONGEST_RECORD = 134_217_728
 FAMILY = re.compile(rb"[!-9;-~]{1,64}")
 COLUMNS = {b"data": Qualifier.DATA, b"lock": Qualifier.LOCK, b"write": Qualifier.WRITE}
 
@@ -71,6 +75,7 @@ FORMS = {
 }
 ROOT_HEADS = {b"TABROOT1": 1, b"TABROOT2": 2}
 NUMBER = struct.Struct(">I")
+FRAME = struct.Struct(">II")
 
 
 def first_difference(got: bytes, wanted: bytes) -> int:
@@ -288,6 +293,53 @@ def read_root_tablet(
             raise BadForm("a tablet has this file twice", at)
         files.append(FileRef(name, fields.number(8, 0, 2**64 - 1, "a length") if form == 2 else None))
     return RootTablet(number, end, server, tuple(files))
+
+
+def records_of(data: bytes) -> Iterator[tuple[int, bytes]]:
+    """The records of a log, each with the offset where it begins: those of the whole frames at the front. What a write left that
+    was cut short stands behind these. BadForm where the head is another one."""
+    if not data.startswith(LOG_HEAD):
+        raise BadForm("the head isn't TABLOG01", first_difference(data[:8], LOG_HEAD))
+    at = len(LOG_HEAD) + FRAME.size
+    while at <= len(data):
+        length, check = FRAME.unpack_from(data, at - FRAME.size)
+        record = data[at : at + length]
+        if length > LONGEST_RECORD or len(record) < length or crc32(NUMBER.pack(length) + record) != check:
+            return
+        yield at, record
+        at += length + FRAME.size
+
+
+def edits_of(data: bytes) -> Iterator[Entry]:
+    """The edits in the records of a log, in their order. BadForm at the byte where one isn't in its form."""
+    for begin, record in records_of(data):
+        yield from edits_in(record, begin)
+
+
+def edits_in(record: bytes, begin: int = 0) -> Iterator[Entry]:
+    """The edits of a record that begins at an offset of its log."""
+    at = 0
+    while at < len(record):
+        text, kind = counted_in(record, at, begin)
+        if record[kind : kind + 1] not in (b"\x00", b"\x01"):
+            raise BadForm("this is no kind of an edit", begin + kind)
+        try:
+            key_of(text)
+        except BadForm as bad:
+            raise BadForm(bad.what, begin + at + NUMBER.size + bad.at) from None
+        value, at = counted_in(record, kind + 1, begin) if record[kind] else (None, kind + 1)
+        if value is not None and len(value) > LONGEST_VALUE:
+            raise BadForm("a value has more than 65,536 bytes", begin + kind + 1)
+        yield Entry(text, value)
+
+
+def counted_in(record: bytes, at: int, begin: int) -> tuple[bytes, int]:
+    """Bytes of a record behind their length, and where they end. BadForm where the record ends before."""
+    text = at + NUMBER.size
+    end = text + NUMBER.unpack_from(record, at)[0] if text <= len(record) else text
+    if end > len(record):
+        raise BadForm("the record ends inside an edit", begin + at)
+    return record[text:end], end
 
 
 def mark_of(data: bytes) -> int:

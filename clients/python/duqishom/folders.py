@@ -8,18 +8,23 @@ import shutil
 from collections.abc import Sequence
 from contextlib import suppress
 from datetime import datetime
+from io import BytesIO
 from pathlib import Path
+from typing import BinaryIO
 
 from duqishom.answers import Committed
 from duqishom.columns import BadForm
 from duqishom.connection import Connection
 from duqishom.files import (
     LOCK_FILE,
+    LOG_FILE,
+    LOG_HEAD,
     MARK_FILE,
     NEW_ROOT,
     ROOT_FILE,
     Root,
     SortedFile,
+    edits_of,
     file_name,
     mark_of,
     root_of,
@@ -40,7 +45,7 @@ from duqishom.program import ENDS, Program, ProgramEnded
 from duqishom.recording import Recording
 from duqishom.refusals import Refused
 
-# The operations behind which a folder lacks something until the next checkpoint.
+# The operations behind which a folder without a log lacks something until the next checkpoint.
 CHANGING = {
     Step.code,
     CleanStep.code,
@@ -75,8 +80,9 @@ class FolderDamaged(Exception):
 class Unsaved:
     """What was done to a store since its last checkpoint."""
 
-    def __init__(self, is_kept: bool) -> None:
-        self._is_kept = is_kept
+    def __init__(self, is_kept: bool, is_logged: bool) -> None:
+        """Of a store in a folder or in memory, and of a folder with a log or without one."""
+        self._is_kept, self._is_logged = is_kept, is_logged
         self._lost: str | None = None
         self.forget()
 
@@ -105,6 +111,8 @@ class Unsaved:
 
     def unkept(self) -> str:
         """What isn't in the folder now."""
+        if self._is_logged:
+            return "the folder has all that was answered"
         if not self.is_changed:
             return "the folder has all that was committed"
         since = f"since {self._since:%Y-%m-%d %H:%M:%S}"
@@ -119,11 +127,29 @@ def tuned(words: Sequence[str], has_folder: bool) -> list[str]:
     return [*(part for option in wanted if option[0] not in named for part in option), *words]
 
 
-def started(program: str | None, folder: str | None, words: Sequence[str], recording: Recording | None = None) -> Connection:
+def has_log(folder: str) -> bool:
+    """Whether a folder has a log: whether it has all that was answered, then, and not only what the last checkpoint left."""
+    return os.path.exists(os.path.join(folder, LOG_FILE))
+
+
+def log_words(folder: str, log: bool | None) -> list[str]:
+    """The words that have a folder get a log where it has none: none of them where that isn't asked for. Where nothing is said, a
+    folder without a root gets one, for its store is new."""
+    is_new = not os.path.exists(os.path.join(folder, ROOT_FILE))
+    return ["--log"] if log or (log is None and is_new) else []
+
+
+def started(
+    program: str | None,
+    folder: str | None,
+    words: Sequence[str],
+    recording: Recording | None = None,
+    log: bool | None = None,
+) -> Connection:
     """A program that has opened its store, and records its frames. NotOpened where it can't."""
     if folder is not None and (why := why_no_folder(folder)):
         raise NotOpened(4, why)
-    placed = () if folder is None else ("--dir", folder)
+    placed = [] if folder is None else ["--dir", folder, *log_words(folder, log)]
     running = Program(program, (*placed, *tuned(words, folder is not None)), recording)
     try:
         # An empty body is refused, and changes nothing
@@ -152,7 +178,7 @@ def why_not_opened(folder: str | None, status: int) -> str:
     holder = holder_of(folder)
     if status == 4 and holder is not None:
         return f"{folder} is in use by {holder}"
-    for name in (LOCK_FILE, MARK_FILE, ROOT_FILE):
+    for name in (LOCK_FILE, MARK_FILE, LOG_FILE, ROOT_FILE):
         file = Path(folder) / name
         try:
             data = file.read_bytes()
@@ -223,9 +249,23 @@ def read_mark(folder: Path) -> int:
         raise FolderDamaged(file, bad.what, bad.at) from None
 
 
+def read_log(folder: Path) -> dict[bytes, bytes | None]:
+    """What the log of a folder has put and erased: of each key's text the last value, and None where it was erased last. Nothing
+    where there is no log."""
+    file = folder / LOG_FILE
+    try:
+        return dict(edits_of(file.read_bytes()))
+    except FileNotFoundError:
+        return {}
+    except BadForm as bad:
+        raise FolderDamaged(file, bad.what, bad.at) from None
+
+
 def check_folder(folder: Path) -> Root:
     """Reads all that a program reads when it opens a folder: the root. FolderDamaged where something is outside its form."""
-    root, mark = read_root(folder), read_mark(folder)
+    root, mark, log = read_root(folder), read_mark(folder), read_log(folder)
+    if log and root == NEW_ROOT:
+        raise FolderDamaged(folder / ROOT_FILE, "the log has edits, and there is no root")
     if mark < root.top:
         raise FolderDamaged(folder / MARK_FILE, f"the mark {mark} is below the root's greatest stamp {root.top}")
     for reference in sorted({reference for tablet in root.tablets for reference in tablet.files}):
@@ -244,24 +284,28 @@ def check_folder(folder: Path) -> Root:
 
 
 def copy_checkpoint(source: str, target: str) -> None:
-    """Copies the last checkpoint of a folder into another, which is made where there is none. The mark is first and the root last:
-    so a copy that was cut short is none. ValueError where the other one has files. Nobody may write to the source meanwhile."""
+    """Copies the last checkpoint of a folder into another, which is made where there is none, with an empty log if it has one. The
+    mark is first and the root last: so a copy that was cut short is none. ValueError where the other one has files. Nobody may
+    write to the source meanwhile."""
     place, copy = Path(source), Path(target)
     copy.mkdir(exist_ok=True)
     if any(copy.iterdir()):
         raise ValueError(f"{target} is not empty")
     names = {file_name(reference.name) for tablet in read_root(place).tablets for reference in tablet.files}
+    if has_log(source):
+        write_synced(copy / LOG_FILE, BytesIO(LOG_HEAD))
     for name in (MARK_FILE, *sorted(names), ROOT_FILE):
-        with (place / name).open("rb") as one, (copy / name).open("xb") as other:
-            shutil.copyfileobj(one, other)
-            other.flush()
-            os.fsync(other.fileno())
-        synced(copy)
+        with (place / name).open("rb") as file:
+            write_synced(copy / name, file)
 
 
-def synced(folder: Path) -> None:
-    """Forces the names of a folder to the disk."""
-    descriptor = os.open(folder, os.O_RDONLY)
+def write_synced(path: Path, source: BinaryIO) -> None:
+    """Writes a new file, and forces it and its name to the disk."""
+    with path.open("xb") as file:
+        shutil.copyfileobj(source, file)
+        file.flush()
+        os.fsync(file.fileno())
+    descriptor = os.open(path.parent, os.O_RDONLY)
     try:
         os.fsync(descriptor)
     finally:

@@ -1,6 +1,7 @@
 """`python3 -m duqishom inspect FOLDER [stats | files | tablets | locks | cells [PREFIX]]`: what a folder has, from its files alone.
 
-It is the store as of its last checkpoint, also while a program has the folder. Nothing is written and nothing is locked.
+It is the store as of its last checkpoint with the edits of its log, also while a program has the folder. Nothing is written and
+nothing is locked.
 """
 
 from __future__ import annotations
@@ -13,7 +14,7 @@ from collections import Counter, defaultdict
 from collections.abc import Callable, Iterator, Sequence
 from contextlib import suppress
 from heapq import merge
-from itertools import groupby
+from itertools import chain, groupby
 from pathlib import Path
 from typing import NamedTuple, TypeVar
 
@@ -30,7 +31,7 @@ from duqishom.files import (
     file_name,
     key_of,
 )
-from duqishom.folders import FolderDamaged, holder_of, read_mark, read_root
+from duqishom.folders import FolderDamaged, has_log, holder_of, read_log, read_mark, read_root
 from duqishom.texts import bytes_of, text_of
 
 WORDS = ("stats", "files", "tablets", "locks", "cells")
@@ -51,12 +52,14 @@ class Found(NamedTuple):
 
 
 class Folder:
-    """The last checkpoint of a folder: its root and the files that the root names, all open."""
+    """The last checkpoint of a folder, its root and the files that the root names, all open; and the edits of its log, which are
+    newer than the files. The log is read first: edits that a root has already change nothing."""
 
     def __init__(self, path: Path) -> None:
         """Opens a folder. OSError or FolderDamaged where that can't be done."""
         self.path = path
         self.mark = read_mark(path)
+        self.log = read_log(path)
         for _ in range(TRIES):
             self.root = read_root(path)
             with suppress(FileNotFoundError):
@@ -98,11 +101,13 @@ class Folder:
         return sorted(names - set(self.files) - {0})
 
     def may_have_locks(self) -> bool:
-        """Whether a file has a lock, be it erased in a newer one."""
-        return any(text[-14:-8] == b"lock\x00\x00" for file in self.files.values() for text, _ in file.entries())
+        """Whether the log or a file has a lock, be it erased in a newer one."""
+        texts = (text for file in self.files.values() for text, _ in file.entries())
+        return any(text[-14:-8] == b"lock\x00\x00" for text in chain(self.log, texts))
 
     def versions(self) -> Iterator[Found]:
-        """What counts of all tablets, in the order of keys: of a key, the entry of the newest file, where it is no erasure."""
+        """What counts of all tablets, in the order of keys: of a key, the log's last edit, or the entry of the newest file, where
+        it is no erasure."""
         low = b""
         for tablet in self.root.tablets:
             for key, value in self._live(tablet):
@@ -111,9 +116,10 @@ class Folder:
             low = tablet.end or b""
 
     def _live(self, tablet: RootTablet) -> Iterator[tuple[Key, bytes]]:
-        """The entries of a tablet's files that count, whatever their rows."""
+        """The entries of a tablet's files, and of the log, that count, whatever their rows."""
+        logged = ((text, -1, value) for text, value in sorted(self.log.items(), key=lambda edit: edit[0]))
         aged = (self._aged(name, age) for age, (name, _) in enumerate(tablet.files))
-        for text, same in groupby(merge(*aged), key=lambda entry: entry[0]):
+        for text, same in groupby(merge(logged, *aged), key=lambda entry: entry[0]):
             _, _, value = next(same)
             if value is not None:
                 yield key_of(text), value
@@ -140,7 +146,8 @@ def stats(folder: Folder) -> Iterator[str]:
     numbers = f"greatest stamp {root.top}, floor {root.floor}, mark {folder.mark}, next file {root.next_name:x}"
     yield f"{numbers}, root of format {root.format}"
     sizes = f"{len(root.tablets)} tablets, {len(folder.files)} files, {size:,} bytes"
-    yield f"{sizes}; {len(unnamed)} more files that the root doesn't name"
+    logged = f", {len(folder.log):,} keys in the log" if has_log(str(folder.path)) else ""
+    yield f"{sizes}{logged}; {len(unnamed)} more files that the root doesn't name"
     counts: defaultdict[int, Counter[str]] = defaultdict(Counter)
     for (tablet, (_, _, column, _), value), is_newest in with_newest(folder.versions()):
         count = counts[tablet]
@@ -251,8 +258,8 @@ def main(words: Sequence[str]) -> int:
     """Runs the command. The status is 0, 1 where something is outside its form, and 2 where the folder can't be read."""
     parser = argparse.ArgumentParser(
         prog="duqishom inspect",
-        description="Shows what the last checkpoint of a folder has, from its files alone. It writes nothing. Each file that it"
-        " reads is checked first; the first wrong byte is named.",
+        description="Shows what the last checkpoint of a folder and its log have, from its files alone. It writes nothing. Each"
+        " file that it reads is checked first; the first wrong byte is named.",
     )
     parser.add_argument("folder", metavar="FOLDER")
     parser.add_argument("what", choices=WORDS, nargs="?", default="stats", help="stats where none is named")
@@ -269,7 +276,8 @@ def main(words: Sequence[str]) -> int:
             print(f"inspect: {path} has no checkpoint", file=sys.stderr)
         holder = holder_of(options.folder)
         if holder is not None:
-            print(f"inspect: {path} is in use by {holder}; this is its last checkpoint", file=sys.stderr)
+            kept = "last checkpoint with its log" if has_log(options.folder) else "last checkpoint"
+            print(f"inspect: {path} is in use by {holder}; this is its {kept}", file=sys.stderr)
         folder = Folder(path)
         folder.check()
         for line in looked_at(folder, options.what, options.prefix):

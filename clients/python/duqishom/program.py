@@ -20,7 +20,7 @@ ENDS = {
     1: "the command line is refused",
     2: "the input ended inside a frame",
     3: "a frame was too large",
-    4: "a device failed at open",
+    4: "a device failed, at open or under the log",
     5: "the store is damaged at open",
     6: "a read or a write failed",
     7: "there is no memory",

@@ -147,7 +147,8 @@ class BadCount(Refused):
 class MemtableFull(Refused):
     """The memtable of the row's tablet has no room for the edits of this step. A Minor of the tablet makes room.
 
-    A collector's step doesn't tell the row: a Minor of each tablet makes room for it.
+    A collector's step doesn't tell the row: a Minor of each tablet makes room for it. Where there is a log, that may be what is
+    full, and a Checkpoint makes room in both.
     """
 
     number = 15

@@ -4,11 +4,13 @@ from __future__ import annotations
 
 import socket
 from collections.abc import Iterator, Sequence
+from contextlib import suppress
 from typing import TYPE_CHECKING
 
 from duqishom.answers import Committed, Lost, Pending, Qualifier
 from duqishom.columns import read_record
 from duqishom.connection import LONGEST_BODY, Frames, StreamEnded
+from duqishom.operations import Checkpoint
 from duqishom.program import ProgramEnded
 from duqishom.refusals import BadRequest, FrameTooLarge, TooManyFiles, UnknownTablet
 from duqishom.transactions import Patience
@@ -70,18 +72,19 @@ class Gateway:
 
 
 def write_all(store: Store) -> None:
-    """Writes the memtable of each tablet to a file, whoever has split them. Where a tablet has too many files, all become one.
+    """Writes the memtable of each tablet to a file, whoever has split them, and makes a checkpoint, for the log may be what is
+    full. Where a tablet has too many files, all become one.
 
-    A gateway that has a socket of the administrator refuses this, and has done it itself when a memtable was full.
+    A gateway that has a socket of the administrator refuses this, and has done it itself when there was no room.
     """
-    try:
+    with suppress(UnknownTablet, BadRequest):
         for tablet in range(1, MOST_TABLETS + 1):
             try:
                 store.minor(tablet)
             except TooManyFiles:
                 store.major(tablet)
-    except (UnknownTablet, BadRequest):
-        return
+    with suppress(BadRequest):
+        store.ask(Checkpoint())
 
 
 def fate(store: Store, start: int, row: bytes, family: bytes, patience: Patience) -> Fate:

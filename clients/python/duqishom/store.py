@@ -31,7 +31,7 @@ from duqishom.answers import (
 )
 from duqishom.columns import read_lock
 from duqishom.connection import Connection
-from duqishom.folders import Unsaved, copy_checkpoint, started
+from duqishom.folders import Unsaved, copy_checkpoint, has_log, started
 from duqishom.operations import (
     MOST_CELLS,
     Begin,
@@ -84,7 +84,7 @@ class ForkedStore(Exception):
 
 class Store:
     """A store in a child process that ends with it: a new one in memory, which is lost then, or that of a folder, which lasts
-    as its last checkpoint left it: `close` makes one.
+    as of its last answer where the folder has a log. Where it has none, it lasts as its last checkpoint left it: `close` makes one.
 
     Several threads may use one store, each with transactions of its own; a process that is forked may not. Each method that asks
     the store raises a `Refused` where it refuses, `ProgramEnded` where the program has ended, and `RequestTimedOut` where a
@@ -101,6 +101,7 @@ class Store:
         timeout: float | None = None,
         socket: str | PathLike[str] | None = None,
         record: str | PathLike[str] | None = None,
+        log: bool | None = None,
     ) -> None:
         """Starts the program, that of TABLETD, PATH or the repository where no other is named, with these words of its command
         line.
@@ -108,6 +109,9 @@ class Store:
         With a folder, which must be there, the store is opened of it, or is new where the folder is empty. One program has a
         folder at a time. At the end a checkpoint is made, unless `checkpoint_at_close` is false. With a timeout, no request is
         waited for longer than so many seconds. NotOpened, with the reason, where the store isn't there to be asked.
+
+        With a log, what was answered is in the folder, whatever ends the program. A new folder gets one, unless `log` is false; one
+        that has a store gets one where `log` is true. A folder that has a log is always opened with it.
 
         With a socket, no program is started: the store is the one that a gateway serves there, beside other clients. What of it
         is open when this client ends, the gateway ends. OSError where nobody serves there, and ConnectionLost where the gateway
@@ -121,17 +125,24 @@ class Store:
         self._timeout = timeout
         self.folder = None if folder is None else fspath(folder)
         self._checkpoint_at_close = checkpoint_at_close and folder is not None
-        self._unsaved = Unsaved(folder is not None)
         self._is_closed = True
         self._is_remote = socket is not None
         if self._is_remote and (program is not None or words or folder is not None or record is not None):
             raise ValueError("a store at a socket has its program and folder already, and is recorded by its gateway")
+        if log and folder is None:
+            raise ValueError("a log is in a folder, and none is named")
         self._connection: Connection = Gateway(fspath(socket)) if socket is not None else started(
-            program, self.folder, words, None if record is None else Recording(record)
+            program, self.folder, words, None if record is None else Recording(record), log
         )
         self._is_closed = False
+        self._unsaved = Unsaved(self.folder is not None, self.has_log)
         self._tablets = TabletMap(NEW_STORE if self.folder is None else tablets_of(self.folder))
         OPEN.add(self)
+
+    @property
+    def has_log(self) -> bool:
+        """Whether the store is in a folder that has a log. What is served at a socket doesn't say."""
+        return self.folder is not None and has_log(self.folder)
 
     def ask(self, operation: Operation[Answer]) -> Answer:
         """Asks for an operation, and gives the answer."""
@@ -273,7 +284,7 @@ class Store:
             try:
                 return self.collect_step(collector, visits)
             except MemtableFull:
-                self._write_all()
+                self._make_all_room()
 
     def minor(self, tablet: int) -> None:
         """Writes the memtable of a tablet as a new file."""
@@ -334,12 +345,20 @@ class Store:
             return self._tablets.all()
 
     def make_room(self, row: bytes) -> None:
-        """Makes room in the memtable of the tablet that holds a row. Where that has too many files, all become one."""
+        """Makes room in the memtable of the tablet that holds a row, and in the log where there is one. Where the tablet has too
+        many files, all become one."""
         with self.alone():
-            if self._is_remote:
-                write_all(self)
+            if self._is_remote or self.has_log:
+                self._make_all_room()
             else:
                 self._write(self._tablets.holder(row).number)
+
+    def _make_all_room(self) -> None:
+        """Makes room in all memtables, and in the log where there is one, which a checkpoint empties."""
+        if self.has_log:
+            self.checkpoint()
+        else:
+            self._write_all()
 
     def _write_all(self) -> None:
         """Writes the memtable of each tablet to a file."""
@@ -398,14 +417,16 @@ class Store:
             copy_checkpoint(self.folder, fspath(path))
 
     def kill(self) -> None:
-        """Ends the program at once, whatever it is at. A folder then has what its last checkpoint left."""
+        """Ends the program at once, whatever it is at. A folder then has what was answered, or without a log what its last
+        checkpoint left."""
         self._connection.kill()
         self._unsaved.lost()
         self._unsaved.forget()
 
     def close(self, checkpoint: bool | None = None) -> int:
         """Ends the program, and gives its exit status. A store in a folder makes a checkpoint first, where anything was done since
-        the last one, unless it was opened to make none; `checkpoint` says it for this end alone. It may be called again.
+        the last one, unless it was opened to make none; `checkpoint` says it for this end alone. With a log it is for the next
+        opening, which then has no log to read. It may be called again.
 
         A Refused where that checkpoint is refused: the store stays open. ProgramEnded where the program has ended before. Both
         texts say what isn't in the folder.

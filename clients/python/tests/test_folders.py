@@ -53,8 +53,8 @@ class Folders(FolderTest):
     """What a folder keeps."""
 
     def opened(self, *words: str) -> Store:
-        """The store of the folder. Its end makes no checkpoint."""
-        return Store(folder=self.folder, words=words, checkpoint_at_close=False)
+        """The store of the folder, without a log where it is new. Its end makes no checkpoint."""
+        return Store(folder=self.folder, words=words, checkpoint_at_close=False, log=False)
 
     def counter(self) -> bytes | None:
         """What the folder has in one cell."""
@@ -94,7 +94,7 @@ class Folders(FolderTest):
         def read(transaction: Transaction) -> list[bytes | None]:
             return [transaction.get(row, FAMILY) for row in cells]
 
-        with Store(program=str(program), folder=folder) as store:
+        with Store(program=str(program), folder=folder, log=False) as store:
             store.run(write)
             process = int(number.read_text())
             resource.prlimit(process, resource.RLIMIT_FSIZE, (1_000, resource.RLIM_INFINITY))
@@ -109,7 +109,7 @@ class Folders(FolderTest):
             self.assertEqual(store.run(read), list(cells.values()))
 
     def test_what_is_lost_is_said(self) -> None:
-        store = Store(folder=self.folder)
+        store = Store(folder=self.folder, log=False)
         store.run(lambda transaction: transaction.set(ROW, FAMILY, b"1"))
         store.checkpoint()
         for value in (b"2", b"3"):
@@ -120,7 +120,7 @@ class Folders(FolderTest):
         self.assertEqual(self.counter(), b"1")
 
     def test_a_refused_end_may_be_tried_again(self) -> None:
-        store = Store(folder=self.folder)
+        store = Store(folder=self.folder, log=False)
         store.run(lambda transaction: transaction.set(ROW, FAMILY, b"1"))
         store._connection = Poor(store._connection, Checkpoint.code, 1)
         with self.assertRaisesRegex(NoMemory, "NoMemory: what was done since .*, 1 commits, is not in the folder"):

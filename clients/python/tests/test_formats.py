@@ -9,7 +9,7 @@ from collections.abc import Callable
 from contextlib import redirect_stderr, redirect_stdout
 
 from duqishom import BadForm, Kind, Lock, Patience, Qualifier, Record, Store, read_lock, read_record
-from duqishom.files import FileRef, Key, Root, RootTablet, SortedFile, key_of, mark_of, root_of
+from duqishom.files import FileRef, Key, Root, RootTablet, SortedFile, edits_in, key_of, mark_of, records_of, root_of
 from duqishom.inspection import main
 from duqishom.texts import bytes_of
 from tests.folders import FolderTest
@@ -38,7 +38,7 @@ class Examples(unittest.TestCase):
 
     def test_examples(self) -> None:
         blocks = fenced(PAGE, "form")
-        self.assertEqual(len(blocks), 13)
+        self.assertEqual(len(blocks), 15)
         for block in blocks:
             kind, *words = block.more.split()
             with self.subTest(block.more):
@@ -68,6 +68,18 @@ class Examples(unittest.TestCase):
     def is_root(self, data: bytes, form: str, top: str, floor: str, next_name: str, *tablets: str) -> None:
         wanted = tuple(tablet_of(word, int(form)) for word in tablets or ("1::0:",))
         self.assertEqual(root_of(data), Root(int(form), int(top), int(floor), int(next_name), wanted))
+
+    def is_log(self, data: bytes, *records: str) -> None:
+        for cut in range(8, len(data) + 1):
+            found = [record for _, record in records_of(data[:cut])]
+            self.assertEqual(found, [word.encode() for word in records][: len(found)])
+        self.assertEqual(len(found), len(records))
+
+    def is_edits(self, data: bytes, *words: str) -> None:
+        found = [(key_of(text), value) for text, value in edits_in(data)]
+        wanted = [words[at : at + 5] for at in range(0, len(words), 5)]
+        keys = [Key(bytes_of(row), family.encode(), COLUMNS[column], int(stamp)) for row, family, column, stamp, _ in wanted]
+        self.assertEqual(found, [(key, value.encode() if value != "-" else None) for key, (*_, value) in zip(keys, wanted)])
 
     def is_mark(self, data: bytes, mark: str) -> None:
         self.assertEqual(mark_of(data), int(mark))

@@ -18,17 +18,24 @@ COMMITTED, VALUE = b"\x84\x04", b"\x82\x01"
 
 
 class Durable(unittest.TestCase):
-    """With --durable."""
+    """With --durable. In a folder with a log each answer is durable, and none waits for a checkpoint."""
 
     def test_no_answered_commit_is_lost_to_a_kill(self) -> None:
+        for log in ("--no-log", "--log"):
+            with self.subTest(log):
+                self.kill_among_clients(log)
+
+    def kill_among_clients(self, log: str) -> None:
+        """Kills the program of a folder with a log or without one. With one no checkpoint is made."""
         folder, told, seen = folder_of(self), list[bytes](), list[bytes]()
-        gateway = Gateway(self, ["--dir", folder, "--durable"])
+        gateway = Gateway(self, ["--dir", folder, log, "--durable"])
         program = gateway.program()
         works = [threading.Thread(target=self.write, args=(gateway.wire(), client, told)) for client in range(CLIENTS)]
         works.append(threading.Thread(target=self.read, args=(gateway.wire(), seen)))
         for work in works:
             work.start()
         time.sleep(SECONDS)
+        self.assertEqual(gateway.statistics()["checkpoints"] == 0, log == "--log")
         os.kill(program, signal.SIGKILL)
         for work in works:
             work.join()
@@ -64,7 +71,7 @@ class Durable(unittest.TestCase):
             " bytes((0x84, 4 if asked.count(4) == 1 else 1)) + (9).to_bytes(8, 'big')[: 8 if asked.count(4) == 1 else 4]"
             " if body[0] == 4 else plain(body)",
         )
-        gateway = Gateway(self, ["--program", program, "--dir", folder_of(self), "--durable"])
+        gateway = Gateway(self, ["--program", program, "--dir", folder_of(self), "--no-log", "--durable"])
         writer, reader, late = gateway.wire(), gateway.wire(), gateway.wire()
         early = reader.begin()
         starts = [late.begin() for _ in range(9)]
@@ -81,7 +88,7 @@ class Durable(unittest.TestCase):
         self.assertEqual(reader.reply(), b"\x82\x00")
 
     def test_a_read_that_is_kept_back_ends_no_session(self) -> None:
-        gateway = Gateway(self, ["--dir", folder_of(self), "--durable"])
+        gateway = Gateway(self, ["--dir", folder_of(self), "--no-log", "--durable"])
         writer, reader = gateway.wire(), gateway.wire()
         holder = writer.begin()
         writer.send(set_(holder, b"r", b"v") + step(holder))
@@ -98,7 +105,7 @@ class Durable(unittest.TestCase):
             "return (time.sleep(2) or b'\\x92') if body[0] == 18 else bytes((0xB1, 1, 0, 0, 0, 0)) if body[0] == 49 else"
             " (time.sleep(1) or bytes((0x84, 4)) + bytes(7) + bytes((9,))) if body[0] == 4 else plain(body)",
         )
-        gateway = Gateway(self, ["--program", program, "--dir", folder_of(self), "--durable"])
+        gateway = Gateway(self, ["--program", program, "--dir", folder_of(self), "--no-log", "--durable"])
         writer, reader = gateway.wire(), gateway.wire()
         starts = [reader.begin() for _ in range(12)]
         writer.send(step(writer.begin()))
@@ -114,7 +121,7 @@ class Durable(unittest.TestCase):
             "return bytes((0xFF, 0x13)) if body[0] == 18 else bytes((0x84, 4)) + bytes(7) + bytes((9,)) if body[0] == 4"
             " else plain(body)",
         )
-        gateway = Gateway(self, ["--program", program, "--dir", folder_of(self), "--durable"])
+        gateway = Gateway(self, ["--program", program, "--dir", folder_of(self), "--no-log", "--durable"])
         writer, other = gateway.wire(), gateway.wire()
         start = writer.begin()
         writer.send(step(start))
@@ -124,7 +131,7 @@ class Durable(unittest.TestCase):
 
     def test_more_checkpoints_than_files(self) -> None:
         folder = folder_of(self)
-        gateway = Gateway(self, ["--dir", folder, "--durable"])
+        gateway = Gateway(self, ["--dir", folder, "--no-log", "--durable"])
         wire = gateway.wire()
         for number in range(70):
             self.assertEqual(wire.commit(b"%d" % number, b"v")[:2], COMMITTED)

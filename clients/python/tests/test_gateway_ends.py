@@ -90,9 +90,11 @@ class Ends(unittest.TestCase):
 
     def test_a_refused_last_checkpoint(self) -> None:
         program = stand_in(self, "return bytes((0xFF, 0x13)) if body[0] == 18 else plain(body)")
-        gateway = Gateway(self, ["--program", program, "--dir", folder_of(self)])
-        self.assertEqual(gateway.stop(), 1)
-        self.assertEqual(gateway.line(), "duqishom: a checkpoint was refused: 19")
+        # With a log nothing is lost by it
+        for log, status in (("--no-log", 1), ("--log", 0)):
+            gateway = Gateway(self, ["--program", program, "--dir", folder_of(self), log])
+            self.assertEqual(gateway.stop(), status)
+            self.assertEqual(gateway.line(), "duqishom: a checkpoint was refused: 19")
 
     def test_checkpoints_now_and_then(self) -> None:
         folder = folder_of(self)
@@ -108,7 +110,7 @@ class Ends(unittest.TestCase):
 
     def test_a_checkpoint_goes_right_behind_a_sweep(self) -> None:
         folder = folder_of(self)
-        gateway = Gateway(self, ["--dir", folder])
+        gateway = Gateway(self, ["--dir", folder, "--no-log"])
         wire = gateway.wire()
         for row in (b"a", b"b"):
             self.assertEqual(wire.commit(row, b"v")[:2], b"\x84\x04")
@@ -175,7 +177,7 @@ class Begins(unittest.TestCase):
         gateway = Gateway(self, ["--dir", "/no/such/folder"])
         self.assertEqual(gateway.first, "tabletd: device failed at open")
         self.assertEqual(gateway.process.wait(60), 4)
-        self.assertEqual(gateway.line(), "duqishom: the program has ended with status 4: a device failed at open")
+        self.assertEqual(gateway.line(), "duqishom: the program has ended with status 4: a device failed, at open or under the log")
         self.assertFalse(os.path.exists(gateway.path))
 
     def test_nowhere(self) -> None:
@@ -183,9 +185,10 @@ class Begins(unittest.TestCase):
         self.assertEqual(ran.returncode, 2)
         self.assertEqual(ran.stderr, "duqishom: there is nowhere to listen: name a --socket or a --tcp\n")
 
-    def test_durable_without_a_folder(self) -> None:
-        gateway = Gateway(self, ["--durable"])
-        self.assertEqual(gateway.process.wait(60), 2)
+    def test_durable_or_a_log_without_a_folder(self) -> None:
+        for word in ("--durable", "--log"):
+            gateway = Gateway(self, [word])
+            self.assertEqual(gateway.process.wait(60), 2)
 
     def test_by_a_service_manager(self) -> None:
         folder = folder_of(self)

@@ -173,21 +173,22 @@ class Words(unittest.TestCase):
         self.assertEqual(answers(lines), (1, "\n".join(answer for _, answer in table).splitlines()))
 
     def test_one_shot(self) -> None:
-        with tempfile.TemporaryDirectory() as folder:
-            for words, status, told in (
-                (("set", "Bob", "bal", "two words"), 0, "committed at 2"),
-                (("get", "Bob", "bal"), 0, "two\\x20words"),
-                (("get", "Bob"), 1, "not done: the line is get ROW FAMILY"),
-                (("--no-checkpoint", "set", "Bob", "bal", "3"), 0, "committed at 2002"),
-                (("get", "Bob", "bal"), 0, "two\\x20words"),
-            ):
-                options = [words[0]] if words[0].startswith("--") else []
-                self.assertEqual(answers("", "--dir", folder, *words), (status, [told]), options)
+        for log, last in (("--no-log", "two\\x20words"), ("--log", "3")):
+            with tempfile.TemporaryDirectory() as folder:
+                for words, status, told in (
+                    (("set", "Bob", "bal", "two words"), 0, "committed at 2"),
+                    (("get", "Bob", "bal"), 0, "two\\x20words"),
+                    (("get", "Bob"), 1, "not done: the line is get ROW FAMILY"),
+                    (("--no-checkpoint", "set", "Bob", "bal", "3"), 0, "committed at 2002"),
+                    (("get", "Bob", "bal"), 0, last),
+                ):
+                    self.assertEqual(answers("", "--dir", folder, log, *words), (status, [told]), (log, words))
 
     def test_no_folder(self) -> None:
         status, told = answers("", "--dir", "no/such/folder", "begin")
         self.assertEqual(status, 2)
         self.assertEqual(told, ["duqishom: the store isn't opened (status 4): there is no folder no/such/folder"])
+        self.assertEqual(answers("", "--log", "begin")[0], 2)
 
     def test_another_program(self) -> None:
         self.assertEqual(answers("begin\n", "--program", "true")[0], 2)

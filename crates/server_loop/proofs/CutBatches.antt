@@ -1,7 +1,6 @@
 -- How batches join, and what lasts where one is cut.
 use Rattle.std.proofs.Common.{◌≡◌, ℕ, suc, ◌+◌, ◌<◌, ◌≤◌, List, [], ◌∷◌, ◌++◌, length, take, drop, map, Option, Some, None, Result, Ok, Err, ◌⊎◌, inl, inr, refl, sym, ap, ◌∙◌, subst, arith, append_assoc, append-nil, length-append, take-append-drop, IfErr, IfOk}
 use Rattle.std.proofs.Math.Seq.{take-append-add, take-length}
-use Rattle.std.specs.List.{AllByRecursion}
 use Rattle.std.specs.Io.KnownBytes.{Appends, Consumes, Keeps}
 use Rattle.std.proofs.KnownBytes.{Appends-trans, Appends-nil, Appends-kept, Consumes-trans, Consumes-nil}
 use Rattle.si_model.specs.Machine.{State, Step, Reply, IsReached}
@@ -9,10 +8,10 @@ use Rattle.request_codec.specs.Replies.{replied, reply_body}
 use Rattle.request_codec.specs.Requests.{asked}
 use Rattle.request_codec.specs.declared.replies.Reply.{Reply as CodecReply}
 use Rattle.request_codec.specs.declared.requests.Request.{Request as Lent}
-use Rattle.request_codec.specs.Stream.{frame, frames, IsBody, IsPartial, IsTooLong}
+use Rattle.request_codec.specs.Stream.{frame, frames, IsPartial, IsTooLong}
 use Rattle.server_loop.specs.Lasting.{Batch, BatchesFirst, BatchesTo, CutsBatch, CutsRead, GoesOn, IsSettled, KeepsBeginning, ReadsBatches, ServesLasting, Settles, StaysSettled}
 use Rattle.server_loop.specs.Runs.{Taken, Body, Oversize, Answers, RunsAs, RunOver, SaysAll, SaysOf}
-use Rattle.server_loop.specs.Serve.{most_left, taken_of, written_of, Answered, EndsBy, Handles, HandlesFirst, HandlesTo, IsRest, Served, ServesOn, TakesBodies}
+use Rattle.server_loop.specs.Serve.{most_left, written_of, Answered, EndsBy, HandlesFirst, IsRest, Served, ServesOn, TakesBodies}
 use Rattle.server_loop.specs.declared.statuses.End.{End}
 use Rattle.server_loop.specs.declared.statuses.End.TheVariants as ends
 use Rattle.server_loop.specs.declared.statuses.ServeFault.{ServeFault}
@@ -21,7 +20,7 @@ use Rattle.server_loop.specs.declared.serving.Rest.{Rest}
 use Rattle.server_loop.specs.declared.serving.Rest.TheVariants as rests
 use Rattle.server_loop.proofs.FrameHeads.{IsTooLong-more}
 use Rattle.server_loop.proofs.ReachedRuns.{reached_step, RunOver-append, SaysAll-append}
-use Rattle.server_loop.proofs.ServingLemmas.{BeginsNoFrame-from_partial, IsPartial-nil, no_oversize, Answered-more, Answered-none, Answered-then, each-join, fewer_after, fewer_more, frame-long, map-join, RunsAs-append, RunsAs-kept, RunsAs-none, takes_after, taken-large, whole-join, whole-more, written_of-join}
+use Rattle.server_loop.proofs.ServingLemmas.{BeginsNoFrame-from_partial, IsPartial-nil, no_oversize, Answered-more, Answered-none, Answered-then, each-join, fewer_after, fewer_more, frame-long, RunsAs-append, RunsAs-kept, RunsAs-none, takes_after, taken-large, whole-join, whole-more, written_of-join}
 use Rattle.server_loop.proofs.StreamReads.{Served-ends, cut_within, finished, kept_answered as held_answered, joined, keeps_none, left_so, partial_within, takes_so}
 
 -- ---- lengths

@@ -1,5 +1,5 @@
 -- A server over the rows that a log's edits make.
-use Rattle.std.proofs.Common.{◌≡◌, ◌≤◌, ◌<◌, ◌+◌, ℕ, List, length, Option, None, Some, refl, sym, ap, ◌∙◌, subst, arith}
+use Rattle.std.proofs.Common.{◌≡◌, ◌≤◌, ◌<◌, ◌+◌, ℕ, List, length, Option, None, Some, sym, ap, ◌∙◌, subst, arith}
 use Rattle.std.specs.Prelude.{IfSome}
 use Rattle.cell_key.specs.Cells.{Cells, after_edits}
 use Rattle.cell_key.specs.declared.edits.Edit.{Edit}
@@ -11,10 +11,10 @@ use Rattle.row_atomic.specs.declared.recorded.Recorded.{Recorded}
 use Rattle.si_model.specs.Machine.{IsReached, Place, State, end_of_stamps, reopened, reopens}
 use Rattle.si_model.specs.Recovered.{IsRecovered, Recovers}
 use Rattle.si_model.specs.ShowsCells.{ShowsCells}
-use Rattle.server_loop.specs.Devices.{Covers, KeepsUnder}
+use Rattle.server_loop.specs.Devices.{Covers}
 use Rattle.server_loop.specs.LastingOpening.{ServesFrom}
-use Rattle.server_loop.specs.Replaying.{FollowsLog, logged_journal}
-use Rattle.server_loop.specs.Server.{Shows, ShowsNoSession, cluster_of, journal_of, last_of, machine_places, marks_of, rows_of}
+use Rattle.server_loop.specs.Replaying.{FollowsLog}
+use Rattle.server_loop.specs.Server.{Shows, ShowsNoSession, last_of, machine_places, marks_of, rows_of}
 use Rattle.server_loop.specs.declared.server.Server.{Server}
 use Rattle.server_loop.proofs.Opened.{not_below}
 

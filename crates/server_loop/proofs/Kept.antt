@@ -1,6 +1,6 @@
 -- What a server's devices keep, by themselves.
-use Rattle.std.proofs.Common.{◌≡◌, ◌≤◌, ℕ, List, Option, None, Some, arith}
-use Rattle.std.specs.Prelude.{IsSome, IsSomeAnd}
+use Rattle.std.proofs.Common.{◌≤◌, ℕ, Option, None, Some, arith}
+use Rattle.std.specs.Prelude.{IsSome}
 use Rattle.commit_log.specs.declared.logs.Log.{Ghosts as Log}
 use Rattle.file_store.specs.declared.files.Files.{Ghosts as Files}
 use Rattle.oracle.specs.Marks.{IsWithinMark}

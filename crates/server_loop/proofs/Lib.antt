@@ -24,10 +24,14 @@ mod Lengths
 mod Logged
 mod MachinePlaces
 mod Opened
+mod OpenedLogs
+mod OpenedRows
+mod OpensLogs
 mod OthersShown
 mod RawReads
 mod ReachedRuns
 mod RefusedFirst
+mod Replayed
 mod Rested
 mod Rooted
 mod SamePlaces

@@ -1,7 +1,7 @@
 -- What is on a log makes what is shown.
-use Rattle.std.proofs.Common.{◌≡◌, ◌≤◌, ◌⊎◌, ℕ, Bool, true, false, List, [], ◌∷◌, ◌++◌, ◌+◌, length, length-append, inl, inr, refl, sym, ap, ◌∙◌, subst, arith, append-nil}
+use Rattle.std.proofs.Common.{◌≡◌, ◌⊎◌, ℕ, Bool, true, false, List, [], ◌∷◌, ◌++◌, ◌+◌, length, length-append, inl, inr, sym, ap, ◌∙◌, subst, arith, append-nil}
 use Rattle.std.specs.List.{AllByRecursion, flat_map}
-use Rattle.cell_key.specs.Cells.{Cells, after_edits}
+use Rattle.cell_key.specs.Cells.{Cells}
 use Rattle.cell_key.specs.declared.edits.Edit.{Edit}
 use Rattle.commit_log.specs.Edits.{HoldEdits, IsStoredEdit, LogsEdits, spelled_edits}
 use Rattle.row_atomic.specs.Journals.{HasRoomFor, IsWithin, empty_journal}

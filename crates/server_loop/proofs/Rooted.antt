@@ -1,10 +1,9 @@
 -- What checkpoints and answers leave over a kill, one after the other.
-use Rattle.std.proofs.Common.{◌≡◌, ◌⊎◌, List, inl, inr, sym, ◌∙◌}
-use Rattle.cell_key.specs.Cells.{Cells}
+use Rattle.std.proofs.Common.{inl, inr}
 use Rattle.request_codec.specs.declared.replies.Reply.{Reply}
 use Rattle.request_codec.specs.declared.requests.Request.{Request}
 use Rattle.request_codec.specs.declared.requests.Request.TheVariants.{Split, Move, Sweep, Checkpoint}
-use Rattle.si_model.specs.Machine.{IsReached, State}
+use Rattle.si_model.specs.Machine.{State}
 use Rattle.server_loop.specs.Lasting.{Settles}
 use Rattle.server_loop.specs.Lasts.{AnswersLasting, AnswersRooted, MovesTablets, NeedsRoot, PutsRoot}
 

@@ -1,6 +1,6 @@
 -- What a server's files keep under their root, and what leaves it.
 use Rattle.std.proofs.Common.{◌≡◌, ◌≢◌, ◌≤◌, ◌⊎◌, ℕ, Bool, true, false, List, [], ◌++◌, length, map, Option, None, Some, Result, Ok, Err, OnErr, OnOk, append-nil, inl, inr, refl, sym, ap, ◌∙◌, subst, arith}
-use Rattle.std.specs.Prelude.{IfSome, is_some, option_map}
+use Rattle.std.specs.Prelude.{is_some, option_map}
 use Rattle.std.specs.List.{AllByRecursion}
 use Rattle.std.specs.FinMap.{get}
 use Rattle.cell_key.specs.Cells.{Cells}
@@ -20,10 +20,10 @@ use Rattle.request_codec.specs.declared.requests.Request.TheVariants as lent
 use Rattle.row_atomic.specs.Changes.{Holds, ListsAll}
 use Rattle.row_atomic.specs.Clusters.{ClusterState, Spot, spot_of, spots_of}
 use Rattle.row_atomic.specs.Commands.{cells_shown}
-use Rattle.row_atomic.specs.Journals.{IsWithin, JournalView, all_logged}
-use Rattle.row_atomic.specs.Recorded.{Follows, FollowsListed, Tracks, TracksListed, edits_written, logged_of, waiting_of}
+use Rattle.row_atomic.specs.Journals.{JournalView, all_logged}
+use Rattle.row_atomic.specs.Recorded.{Follows, FollowsListed, Tracks, edits_written, logged_of, waiting_of}
 use Rattle.row_atomic.specs.declared.recorded.Recorded.{Recorded}
-use Rattle.row_atomic.specs.Roots.{HasRoot, RootIsStored, RootOutlastsFlushes, RootOutlastsMerges, Rests, RootStays, StaysOrRests, root_at, root_name}
+use Rattle.row_atomic.specs.Roots.{HasRoot, RootIsStored, RootOutlastsFlushes, RootOutlastsMerges, Rests, RootStays, root_at, root_name}
 use Rattle.row_atomic.specs.declared.commands.Command.{Command}
 use Rattle.row_atomic.specs.declared.commands.Command.TheVariants as command
 use Rattle.si_model.specs.Machine as machine
@@ -36,19 +36,9 @@ use Rattle.server_loop.specs.Lasts.{HasNewRoot, KeepsRecording, MovesTablets, Ne
 use Rattle.server_loop.specs.Runs.{StampsGoOn}
 use Rattle.server_loop.specs.Server.{Shows, cluster_of, floor_of, forgets, journal_of, last_of, machine_place, machine_places, top_of}
 use Rattle.server_loop.specs.Stored.{IsClean, IsRooted, StoresCells}
-use Rattle.server_loop.specs.Tending.{IsTended, Merges, MergesWhere}
+use Rattle.server_loop.specs.Tending.{IsTended, MergesWhere}
 use Rattle.server_loop.specs.declared.server.Server.{Server}
 use Rattle.server_loop.proofs.SamePlaces.{KeepsPlaces, keeps_places}
-
--- ---- what waits
-
-pub waits_within : (journal : Option JournalView) (bytes : List ℕ) → bytes ≡ waiting_of journal → IfSome journal IsWithin → length bytes ≤ 67108864
-waits_within None bytes is within = let size : length bytes ≡ length (waiting_of None) = ap length is in omega (arith, size)
-waits_within (Some journal) bytes is within = let size : length bytes ≡ length journal.waiting = ap length is in let most = within.bytes in omega (arith, size, most)
-
-pub all_within : (journal : Option JournalView) → IfSome journal IsWithin → IsWithin (record { logged = logged_of journal; waiting = waiting_of journal; count = edits_written journal })
-all_within None within = record { edits = omega arith; bytes = omega arith }
-all_within (Some journal) within = record { edits = within.edits; bytes = within.bytes }
 
 -- ---- one root
 
@@ -288,14 +278,6 @@ module _ {F M : Type 0} (files : Files F) (marks : MarkStore M) (reopens : (cell
         | inr rests ↦ inr (λ st shown. new_root files.contents reopens old new st rests places last shown)
       ]
 
-  pub checkpoint_keeps : (result : Result (Unit {0}) Refusal) → Checked result → journal_of new ≡ journal_of old → KeepsRecording (λ server. is_some (journal_of server)) (λ server. logged_of (journal_of server)) (λ server. waiting_of (journal_of server)) last_of old new
-  checkpoint_keeps result plain same =
-      let last : last_of new ≡ last_of old = stamps_same result plain in
-      record { goes_on = ap (λ (j : Option JournalView). is_some j) same; has = ap (λ (j : Option JournalView). logged_of j) same; waits = ap (λ (j : Option JournalView). waiting_of j) same; later = omega (arith, last) }
-    where
-      stamps_same : (result : Result (Unit {0}) Refusal) → Checked result → last_of new ≡ last_of old
-      stamps_same result plain = ap (λ o. o.last) plain.sessions.oracle
-
 -- ---- sweeps
 
 module _ {F M : Type 0} (files : Files F) (marks : MarkStore M) (one : OneRoot) (stays : RootStays files.contents files.faults) where
@@ -310,8 +292,3 @@ module _ {F M : Type 0} (files : Files F) (marks : MarkStore M) (one : OneRoot) 
           let same = same_root files.contents one clean.tracks.root root clean.tracks.base cells (cluster_of old) clean.tracks.has has in
           (stays command.Sweep (outcome_of reply) root cells (cluster_of old) (cluster_of new) is).0 (λ sweep. subst (λ (r : RootView). ListsAll r.places (cluster_of old).places) same clean.lists) has
       by_sweep (inr none) root cells has = absurd none.0
-
-  pub sweep_keeps : (old new : Server F M) (reply : CodecReply) → IsPlainAnswer files marks old lent.Sweep reply (forgets new) → journal_of new ≡ journal_of old → KeepsRecording (λ server. is_some (journal_of server)) (λ server. logged_of (journal_of server)) (λ server. waiting_of (journal_of server)) last_of old new
-  sweep_keeps old new reply plain same =
-      let last : last_of new ≡ last_of old = ap (λ o. o.last) plain.sessions.oracle in
-      record { goes_on = ap (λ (j : Option JournalView). is_some j) same; has = ap (λ (j : Option JournalView). logged_of j) same; waits = ap (λ (j : Option JournalView). waiting_of j) same; later = omega (arith, last) }

@@ -4,7 +4,7 @@ use Rattle.std.specs.Prelude.{slice_get, slice_set}
 use Rattle.std.proofs.lemmas.Bool.{cases_eq}
 use Rattle.std.proofs.lemmas.Option.{none-some, same_Some, slice_get_within}
 use Rattle.si_model.specs.declared.replies.Cell.{Cell}
-use Rattle.si_model.specs.Machine.{Change, Names, Sets, appends, replaces, passes}
+use Rattle.si_model.specs.Machine.{Sets, appends, replaces, passes}
 use Rattle.server_loop.specs.Audits.{IsIndexOf, change_of, write_of}
 use Rattle.server_loop.specs.declared.audit.parts.Write.{Write}
 

@@ -1,5 +1,5 @@
 -- All that is said of an answer to a request, in eight parts.
-use Rattle.std.specs.Prelude.{◌≡◌, ◌≢◌, ℕ, Option, IfSome, ⊤}
+use Rattle.std.specs.Prelude.{◌≡◌, ℕ, Option, IfSome, ⊤}
 use Rattle.cell_key.specs.declared.refusals.Refusal.{Refusal}
 use Rattle.cell_key.specs.declared.refusals.Refusal.TheVariants.{Damaged, Device, Exhausted, MemtableFull}
 use Rattle.file_store.specs.Store.{Contents}

@@ -1,5 +1,5 @@
 -- What outlasts a kill of what a server answered, whose replies wait until their batch is settled.
-use Rattle.std.specs.Prelude.{◌≡◌, ◌⊎◌, ℕ, ◌<◌, ◌≤◌, List, [], ◌++◌, length, take, map, Option, None, Some, Result, Ok, Err, ⊤}
+use Rattle.std.specs.Prelude.{◌≡◌, ◌⊎◌, ℕ, ◌<◌, ◌≤◌, List, [], ◌++◌, length, take, Option, None, Some, Result, Ok, Err, ⊤}
 use Rattle.std.specs.List.{AllByRecursion}
 use Rattle.std.specs.Io.KnownBytes.{Consumes, Appends}
 use Rattle.cell_key.specs.declared.refusals.Refusal.TheVariants.{Damaged}
@@ -13,7 +13,6 @@ use Rattle.server_loop.specs.declared.statuses.End.{End}
 use Rattle.server_loop.specs.declared.statuses.ServeFault.{ServeFault}
 use Rattle.server_loop.specs.declared.statuses.ServeFault.TheVariants as faults
 use Rattle.server_loop.specs.declared.serving.Rest.{Rest}
-use Rattle.server_loop.specs.declared.serving.Rest.TheVariants as rests
 
 -- The machine after a beginning of what was taken lasts, which holds each request of whose reply a
 -- byte was written.

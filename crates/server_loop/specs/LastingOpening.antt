@@ -1,5 +1,5 @@
 -- What a server with a log opens of its devices.
-use Rattle.std.specs.Prelude.{◌≡◌, ◌⊎◌, ◌≢◌, ℕ, List, [], Option, None, Some, Result, Err, IsSomeAnd}
+use Rattle.std.specs.Prelude.{◌≡◌, ◌≢◌, ℕ, List, [], Option, None, Some, Result, Err, IsSomeAnd}
 use Rattle.std.specs.FinMap.{get, empty}
 use Rattle.std.specs.List.{AllByRecursion}
 use Rattle.cell_key.specs.Cells.{Cells, after_edits}
@@ -12,16 +12,14 @@ use Rattle.commit_log.specs.declared.faults.LogFault.TheVariants as log
 use Rattle.commit_log.specs.declared.logs.Log.{Ghosts as Log}
 use Rattle.file_store.specs.Store.{Contents}
 use Rattle.file_store.specs.declared.files.Files.{Ghosts as Files}
-use Rattle.metadata_table.specs.Roots.{RootView}
+use Rattle.metadata_table.specs.Roots.{IsRoot, RootView}
 use Rattle.oracle.specs.declared.marks.MarkStore.{Ghosts as MarkStore}
-use Rattle.row_atomic.specs.Open.{IsDamaged}
 use Rattle.row_atomic.specs.Roots.{root_name}
 use Rattle.row_atomic.specs.declared.recorded.Recorded.{Recorded}
 use Rattle.si_model.specs.Machine.{IsReached, State, new_machine, reopened}
 use Rattle.si_model.specs.Recovered.{IsRecovered}
 use Rattle.si_model.specs.ShowsCells.{ShowsCells}
 use Rattle.server_loop.specs.Devices.{Covers, KeepsUnder, LastsOn}
-use Rattle.server_loop.specs.Opening.{IsLost}
 use Rattle.server_loop.specs.Replaying.{FollowsLog, logged_journal}
 use Rattle.server_loop.specs.Server.{Shows, cluster_of, journal_of, last_of, machine_places, marks_of}
 use Rattle.server_loop.specs.ServesLogged.{IsSettledOver}
@@ -52,6 +50,11 @@ HasRootFile disk = IsSomeAnd disk (λ m. get m root_name ≢ None)
 -- there are edits of a store whose root file isn't there
 abbrev pub LacksBase : Contents → List Edit → Type 0
 LacksBase m edits = (get m root_name ≡ None) × (edits ≢ [])
+
+-- the greatest stamp that a root file names, and 0 without one
+abbrev pub NamesTop : Option (List ℕ) → ℕ → Type 0
+NamesTop None top = top ≡ 0
+NamesTop (Some image) top = (root : RootView) × IsRoot root image × (root.top ≡ top)
 
 -- The rows of a new store, with its root put.
 pub record OpensNew {F : Type 0} (contents : F → Option Contents) (top : ℕ) (edits : List Edit)

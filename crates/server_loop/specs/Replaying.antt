@@ -1,5 +1,5 @@
 -- Edits that are made once more, as a log holds them.
-use Rattle.std.specs.Prelude.{◌≡◌, ℕ, List, [], length, Option, None, Some, option_map, ⊤}
+use Rattle.std.specs.Prelude.{◌≡◌, List, [], length, Option, None, Some, option_map}
 use Rattle.cell_key.specs.Cells.{Cells, after_edits}
 use Rattle.cell_key.specs.declared.edits.Edit.{Edit}
 use Rattle.commit_log.specs.Edits.{spelled_edits}

@@ -22,11 +22,22 @@ pub const LEAST_CACHE: u32 = 8;
 /// The greatest number that `--cache` takes.
 pub const MOST_CACHE: u32 = 4096;
 
+/// The least number that `--log-bytes` takes.
+pub const LEAST_LOG_BYTES: u32 = 4096;
+
+/// At how many bytes of a log a checkpoint is made, where the command line says nothing else, and the greatest number that
+/// `--log-bytes` takes: half of what a log can have.
+pub const MOST_LOG_BYTES: u32 = 33_554_432;
+
 /// What the command line says.
 #[derive(Clone, Copy, Debug, PartialEq, Eq)]
 pub struct Options<'a> {
     /// The folder that the store is in, or memory.
     pub dir: Option<&'a str>,
+    /// Whether a folder that has no log gets one. One that has a log is opened with it whatever this says.
+    pub log: bool,
+    /// How many bytes of edits a log has before a checkpoint empties it: 4,096 to 33,554,432.
+    pub log_bytes: u32,
     /// How many entries a memtable has before it is compacted: 1 to 100,000.
     pub flush: u32,
     /// How many bytes its entries have before it is compacted too: 1,048,576 to 67,108,864, or bytes don't count.

@@ -22,7 +22,7 @@ ghost use Rattle.sorted_file.specs.Limits.{IsFileLimit};
 ghost use Rattle.si_model.specs.ShowsCells.{ShowsCells};
 ghost use Rattle.server_loop.specs.Devices.{Covers, KeepsUnder, LastsOn};
 ghost use Rattle.server_loop.specs.Lasting.{IsSettled};
-ghost use Rattle.server_loop.specs.LastingOpening.{HasRootFile, IsLostLog, LacksBase, OpensFrom, OpensNew, ServesFrom, log_refusal, refused_with};
+ghost use Rattle.server_loop.specs.LastingOpening.{HasRootFile, IsLostLog, LacksBase, NamesTop, OpensFrom, OpensNew, ServesFrom, log_refusal, refused_with};
 ghost use Rattle.server_loop.specs.Lasts.{HoldsLogged, LastsIn, Logs, shown_by};
 ghost use Rattle.server_loop.specs.Opening.{IsLost, LacksRoot};
 ghost use Rattle.server_loop.specs.Replaying.{FollowsLog, ShowsRoot};
@@ -34,7 +34,7 @@ use crate::replaying::replay;
 use crate::server::{Config, Server};
 use crate::whole_files::WholeFiles;
 use cell_key::{Edit, Refusal, Stamp};
-use commit_log::laws::logs_edits;
+use commit_log::laws::{as_many_edits, logs_edits};
 use commit_log::{Log, LogFault, edits_in};
 use file_store::Files;
 use metadata_table::one_root;
@@ -151,6 +151,8 @@ fn open_rows<F: Files>(
         × (refused.0 ≡ Refusal.MemtableFull → ¬ HasRoomFor empty_journal edits.items)) }
     ensures new { LacksRoot (F.contents files) → IfOk result (λ opened.
         OpensNew F.contents opened.1 edits.items opened.0) }
+    ensures named { IfOk result (λ opened. IfSome (F.contents files) (λ m.
+        NamesTop (get m root_name) opened.1)) }
     ensures damaged { IfErr result (λ refused. refused.0 ≡ Refusal.Damaged
         → IfSome (F.contents files) (λ m. IsDamaged m ⊎ LacksBase m edits.items)) }
     ensures rooted { HasRootFile (F.contents files) → MatchResult result
@@ -345,6 +347,7 @@ impl<F: WholeFiles + Drop, M: MarkStore + Drop, L: Log + Drop> LastingServer<Ser
             ⊎ HasRisen (L.faults log) (L.faults refused.3))) }
     {
         logs_edits();
+        as_many_edits();
         let mut log = log;
         let edits = match edits_on(alloc, &mut log) {
             Ok(edits) => edits,

@@ -27,8 +27,8 @@ mod whole_files;
 pub use audit::Audit;
 pub use command_line::options;
 pub use command_options::{
-    DEFAULT_FLUSH, LEAST_CACHE, LEAST_FLUSH_BYTES, MOST_CACHE, MOST_FLUSH, MOST_FLUSH_BYTES,
-    MOST_MERGE, Options,
+    DEFAULT_FLUSH, LEAST_CACHE, LEAST_FLUSH_BYTES, LEAST_LOG_BYTES, MOST_CACHE, MOST_FLUSH,
+    MOST_FLUSH_BYTES, MOST_LOG_BYTES, MOST_MERGE, Options,
 };
 pub use lasting::LastingServer;
 pub use laws::{resting_is_kept, rests_between};

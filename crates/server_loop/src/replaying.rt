@@ -32,7 +32,8 @@ fn make_edit<F: Files>(alloc: Global, rows: &mut Recorded<F>, edit: Edit) -> Res
     let row = edited_key(&edit).row.clone()?;
     let mut edits = Vec::new(alloc);
     edits.push(edit)?;
-    rows.apply(&row, edits)
+    rows.apply(&row, edits)?;
+    Ok(())
 }
 
 /// Makes edits, in their order.

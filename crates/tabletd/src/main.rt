@@ -1,14 +1,19 @@
-//! `tabletd [--dir DIR] [--flush N] [--flush-bytes B] [--merge M] [--cache C]` serves framed requests from the standard
-//! input, and writes a framed reply to each to the standard output. The store is in memory, or in a folder.
+//! `tabletd [--dir DIR [--log]] [--log-bytes L] [--flush N] [--flush-bytes B] [--merge M] [--cache C]` serves framed requests
+//! from the standard input, and writes a framed reply to each to the standard output. The store is in memory, or in a
+//! folder, with a log or without one.
 #![tactic(auto)]
 
 ghost use Rattle.std.specs.Prelude.{◌≡◌, ◌≤◌, IfOk, IfSome};
 
 use cell_key::Refusal;
 use clap::error::ErrorKind;
+use commit_log::{DirLog, Log, LogFault, make_log, open_log};
 use file_store::{DirFiles, FileFault, Files, MemFiles};
 use oracle::{DirMark, MarkStore, MemMark};
-use server_loop::{Config, FlushLimits, Options, Server, end_status, open_status, options};
+use server_loop::{
+    Config, FlushLimits, LastingServer, Options, Server, WholeFiles, end_status, open_status,
+    options,
+};
 use std::alloc::{AllocError, Global};
 use std::fs::File;
 use std::io::BufWriter;
@@ -74,6 +79,29 @@ fn folder_status(fault: &FileFault) -> (u8, &'static str) {
     }
 }
 
+/// What the program says if a folder's log can't be opened or made.
+fn log_status(fault: &LogFault) -> (u8, &'static str) {
+    match fault {
+        LogFault::Device => open_status(&Refusal::Device),
+        LogFault::Memory => open_status(&Refusal::NoMemory),
+        LogFault::Damaged => open_status(&Refusal::Damaged),
+    }
+}
+
+/// The log of a folder, if it has one or is to get one.
+fn log_of<R: AllocGlobal + Folders>(
+    rt: &R,
+    folder: &str,
+    makes: bool,
+) -> Result<Option<DirLog<R::File>>, LogFault> {
+    let found = open_log(rt, folder)?;
+    if found.is_some() || !makes {
+        return Ok(found);
+    }
+    make_log(rt, folder)?;
+    open_log(rt, folder)
+}
+
 /// Serves the standard input with a server that was made or opened, and gives the exit status with its line on the
 /// standard error.
 fn serve<R: AllocGlobal + Input + Print, F: Files + Drop, M: MarkStore + Drop>(
@@ -85,6 +113,36 @@ fn serve<R: AllocGlobal + Input + Print, F: Files + Drop, M: MarkStore + Drop>(
         Ok(server) => server,
         Err((refusal, _, _)) => return open_status(&refusal),
     };
+    if let Some(most) = options.merge {
+        server.merge_at(most);
+    }
+    if let Some(most_blocks) = NonZeroUsize::new(options.cache as usize) {
+        server.cache_blocks(most_blocks);
+    }
+    let mut reader = rt.reader();
+    match BufWriter::with_capacity(rt.alloc(), WAITING, io::writer(rt)) {
+        Ok(mut writer) => end_status(&server.serve(&mut reader, &mut writer, u64::MAX)),
+        Err(_) => (NO_MEMORY, NO_MEMORY_LINE),
+    }
+}
+
+/// Serves the standard input with a server that has opened its log, and gives the exit status with its line on the standard
+/// error.
+fn serve_logged<
+    R: AllocGlobal + Input + Print,
+    F: WholeFiles + Drop,
+    M: MarkStore + Drop,
+    L: Log + Drop,
+>(
+    rt: &R,
+    opened: Result<LastingServer<Server<F, M>, L>, (Refusal, F, M, L)>,
+    options: &Options<'_>,
+) -> (u8, &'static str) {
+    let mut server = match opened {
+        Ok(server) => server,
+        Err((refusal, _, _, _)) => return open_status(&refusal),
+    };
+    server.checkpoint_at(options.log_bytes as usize);
     if let Some(most) = options.merge {
         server.merge_at(most);
     }
@@ -115,7 +173,7 @@ fn serve_memory<R: AllocGlobal + Input + Print>(
     serve(rt, made, options)
 }
 
-/// Serves the store of a folder.
+/// Serves the store of a folder, with its log if it has one.
 fn serve_folder<R: AllocGlobal + Input + Print + Folders<File = File> + Clone + Drop>(
     rt: &R,
     folder: &str,
@@ -135,8 +193,15 @@ fn serve_folder<R: AllocGlobal + Input + Print + Folders<File = File> + Clone + 
     let Ok(marks) = DirMark::open(rt.clone()?, folder) else {
         return Ok(open_status(&Refusal::Device));
     };
-    let opened = Server::open(rt.alloc(), files, marks, config);
-    Ok(serve(rt, opened, options))
+    let alloc = rt.alloc();
+    match log_of(rt, folder, options.log) {
+        Ok(Some(log)) => {
+            let opened = LastingServer::open(alloc, files, marks, log, config);
+            Ok(serve_logged(rt, opened, options))
+        }
+        Ok(None) => Ok(serve(rt, Server::open(alloc, files, marks, config), options)),
+        Err(fault) => Ok(log_status(&fault)),
+    }
 }
 
 /// Serves the store that the command line names.

@@ -6,6 +6,7 @@ import argparse
 import sys
 from collections.abc import Sequence
 
+from duqishom.folders import has_log, log_words
 from duqishom.gateway.bounds import Bounds
 from duqishom.gateway.exchange import Rules
 from duqishom.gateway.service import Places, Service
@@ -42,11 +43,17 @@ def parser() -> argparse.ArgumentParser:
     words.add_argument("--tcp", metavar="PORT", type=port, help="a port of 127.0.0.1, which every user of the machine may open")
     words.add_argument("--program", help="the tabletd to start")
     words.add_argument("--dir", help="the folder of the store: a new store in memory where none is named")
+    words.add_argument(
+        "--log",
+        action=argparse.BooleanOptionalAction,
+        help="have the folder get a log, or a new one get none: a new one gets a log where nothing is said",
+    )
+    words.add_argument("--log-bytes", metavar="L", help="bytes of a log before a checkpoint empties it")
     words.add_argument("--flush", metavar="N", help="entries of a memtable before it is compacted")
     words.add_argument("--flush-bytes", metavar="B", help="bytes of a memtable's entries before it is compacted too")
     words.add_argument("--merge", metavar="M", help="files of a tablet before newest ones are merged")
     words.add_argument("--cache", metavar="C", help="blocks of each file that stay in memory")
-    words.add_argument("--durable", action="store_true", help="answer a commit once a checkpoint has it (with --dir)")
+    words.add_argument("--durable", action="store_true", help="answer a commit once the folder has it: the log, or a checkpoint")
     words.add_argument("--checkpoint", metavar="SECONDS", type=float, default=0, help="the time between two checkpoints (none)")
     words.add_argument("--leave", action="store_true", help="leave what a dead client had open as it is")
     words.add_argument("--shared", action="store_true", help="let clients use each other's sessions, cleaners and collectors")
@@ -62,12 +69,15 @@ def parser() -> argparse.ArgumentParser:
 def service_of(options: argparse.Namespace) -> Service:
     """The gateway that the words ask for."""
     command = [options.program or default_program()]
-    for word in ("dir", "flush", "flush-bytes", "merge", "cache"):
+    for word in ("dir", "log-bytes", "flush", "flush-bytes", "merge", "cache"):
         given = getattr(options, word.replace("-", "_"))
         command += [] if given is None else [f"--{word}", given]
+    command += [] if options.dir is None else log_words(options.dir, options.log)
+    is_logged = options.dir is not None and ("--log" in command or has_log(options.dir))
     rules = Rules(
         has_folder=options.dir is not None,
-        is_durable=options.durable,
+        has_log=is_logged,
+        is_durable=options.durable and not is_logged,
         leaves=options.leave,
         is_shared=options.shared,
         has_admin=options.admin is not None,
@@ -84,8 +94,9 @@ def main(words: Sequence[str]) -> int:
     ended."""
     parsing = parser()
     options = parsing.parse_args(words)
-    if options.durable and options.dir is None:
-        parsing.error("--durable needs --dir")
+    for word in ("durable", "log"):
+        if getattr(options, word) and options.dir is None:
+            parsing.error(f"--{word} needs --dir")
     try:
         return service_of(options).run()
     except (OSError, NoSocket) as failure:

@@ -23,10 +23,12 @@ from duqishom.recording import Recording
 
 @dataclass(frozen=True)
 class Rules:
-    """How clients are served: whether the store is in a folder, whether replies wait for checkpoints, whether what a dead
-    client had open is left, whether clients may use each other's, and whether the administrator has a socket."""
+    """How clients are served: whether the store is in a folder and whether that has a log, whether replies wait for checkpoints,
+    whether what a dead client had open is left, whether clients may use each other's, and whether the administrator has a
+    socket."""
 
     has_folder: bool = False
+    has_log: bool = False
     is_durable: bool = False
     leaves: bool = False
     is_shared: bool = False
@@ -48,7 +50,7 @@ class Exchange:
         self.is_closing = False
         self.upstream = Upstream(self._taken, self._fail, self._eased, recording)
         self.turns = Turns(self.upstream, self._flush)
-        self.household = Household(self.upstream, self.turns, self.things, self.table)
+        self.household = Household(self.upstream, self.turns, self.things, self.table, rules.has_log)
         self.heirs = Heirs(self.household, self.things)
         self.keeper = Keeper(self.household, rules.is_durable)
         self._ended = ended
@@ -86,9 +88,10 @@ class Exchange:
         self.turns.add(client)
 
     def send(self, frames: bytes, runs: Sequence[Run]) -> None:
-        """Sends frames on. In a folder, a checkpoint goes right behind a sweep, for the root names what the sweep removes."""
+        """Sends frames on. In a folder without a log, a checkpoint goes right behind a sweep, for the root names what the sweep
+        removes."""
         self.upstream.send(frames, runs)
-        if self.rules.has_folder and runs[-1].passage.code == SWEEP:
+        if self.rules.has_folder and not self.rules.has_log and runs[-1].passage.code == SWEEP:
             self.household.send_next(bytes((CHECKPOINT,)))
 
     def note(self, client: Client, run: Run, reply: bytes) -> None:
@@ -151,8 +154,8 @@ class Exchange:
         """Takes no new frame, lets all replies out, ends what is open, makes a checkpoint in a folder, and ends the program's
         input.
 
-        Gives whether the store is as it should be: a refused last checkpoint is told. No client holds this up for longer than
-        the seconds of grace.
+        Gives whether the store is kept: a refused last checkpoint is told, and with a log nothing is lost by it. No client holds
+        this up for longer than the seconds of grace.
         """
         self.is_closing = True
         for client in list(self.clients):
@@ -164,7 +167,7 @@ class Exchange:
         await self.leave(grace)
         await self.heirs.settle(grace)
         if self.rules.has_folder:
-            kept = await self.keeper.checkpoint()
+            kept = await self.keeper.checkpoint() or self.rules.has_log
         self.upstream.close_input()
         return kept
 

@@ -6,7 +6,18 @@ import asyncio
 from collections import deque
 from collections.abc import Callable
 
-from duqishom.gateway.passages import HEAD, MAJOR, MINOR, NAME_END, TOO_MANY_FILES, TURN_WEIGHT, UNKNOWN_TABLET, Passage, frame
+from duqishom.gateway.passages import (
+    CHECKPOINT,
+    HEAD,
+    MAJOR,
+    MINOR,
+    NAME_END,
+    TOO_MANY_FILES,
+    TURN_WEIGHT,
+    UNKNOWN_TABLET,
+    Passage,
+    frame,
+)
 from duqishom.gateway.things import Thing, Things
 from duqishom.gateway.turns import Turns
 from duqishom.gateway.upstream import Run, Upstream
@@ -19,7 +30,10 @@ MOST_TABLETS = 1024
 class Household:
     """An asker whose requests are awaited. What dead clients had open is its own."""
 
-    def __init__(self, upstream: Upstream, turns: Turns, things: Things, table: tuple[Passage, ...]) -> None:
+    def __init__(
+        self, upstream: Upstream, turns: Turns, things: Things, table: tuple[Passage, ...], has_log: bool = False
+    ) -> None:
+        self._has_log = has_log
         self.is_queued = self.needs_idle = False
         self.things: set[Thing] = set()
         self.counts = [0, 0, 0]
@@ -82,14 +96,17 @@ class Household:
         self._waiting.clear()
 
     async def make_room(self) -> None:
-        """Writes the memtable of each tablet to a file. Where a tablet has too many files, all of them become one."""
+        """Writes the memtable of each tablet to a file. Where a tablet has too many files, all of them become one. A log is emptied
+        by a checkpoint behind that."""
         async with self._room_lock:
             for tablet in range(1, MOST_TABLETS + 1):
                 reply = await self.ask(of_tablet(MINOR, tablet))
                 if reply == TOO_MANY_FILES:
                     await self.ask(of_tablet(MAJOR, tablet))
                 elif reply == UNKNOWN_TABLET:
-                    return
+                    break
+            if self._has_log:
+                await self.ask(bytes((CHECKPOINT,)))
 
     async def join_files(self) -> None:
         """Makes all files of each tablet one."""

@@ -14,6 +14,7 @@ fn statuses(rt: HostRuntime) -> Result<(), Fail> {
         (Err(ServeFault::Read), 6, "tabletd: read or write failed"),
         (Err(ServeFault::Write), 6, "tabletd: read or write failed"),
         (Err(ServeFault::NoMemory), 7, "tabletd: no memory"),
+        (Err(ServeFault::Log), 4, "tabletd: log failed"),
         (Ok(End::ReadsUsedUp), 8, "tabletd: reads used up"),
     ];
     for (ended, status, line) in &table {
@@ -38,6 +39,8 @@ fn statuses(rt: HostRuntime) -> Result<(), Fail> {
 /// What a command line says that has no words.
 const NO_WORDS: Options<'static> = Options {
     dir: None,
+    log: false,
+    log_bytes: 33_554_432,
     flush: 10_000,
     flush_bytes: None,
     merge: None,
@@ -47,7 +50,7 @@ const NO_WORDS: Options<'static> = Options {
 /// Words of the command line, and what they say, if they are taken.
 type Line = (&'static [&'static str], Option<Options<'static>>);
 
-const LINES: [Line; 23] = [
+const LINES: [Line; 31] = [
     (&["tabletd"], Some(NO_WORDS)),
     (
         &["tabletd", "--flush", "1"],
@@ -129,6 +132,33 @@ const LINES: [Line; 23] = [
         }),
     ),
     (&["tabletd", "--dir"], None),
+    (
+        &["tabletd", "--log", "--dir", "a"],
+        Some(Options {
+            dir: Some("a"),
+            log: true,
+            ..NO_WORDS
+        }),
+    ),
+    (&["tabletd", "--log"], None),
+    (
+        &["tabletd", "--log-bytes", "4096"],
+        Some(Options {
+            log_bytes: 4096,
+            ..NO_WORDS
+        }),
+    ),
+    (
+        &["tabletd", "--log-bytes", "33554432"],
+        Some(Options {
+            log_bytes: 33_554_432,
+            ..NO_WORDS
+        }),
+    ),
+    (&["tabletd", "--log-bytes", "4095"], None),
+    (&["tabletd", "--log-bytes", "33554433"], None),
+    (&["tabletd", "--log=yes", "--dir", "a"], None),
+    (&["tabletd", "--log", "--log", "--dir", "a"], None),
     (&["tabletd", "more"], None),
     (&["tabletd", "--help"], None),
 ];
@@ -151,6 +181,7 @@ fn texts(rt: HostRuntime) -> Result<(), Fail> {
         (ServeFault::Read, "read failed"),
         (ServeFault::Write, "write failed"),
         (ServeFault::NoMemory, "no memory"),
+        (ServeFault::Log, "log failed"),
     ];
     for (fault, text) in &table {
         let told = fault.to_string(rt.alloc())?;

@@ -1,6 +1,5 @@
-use Rattle.std.proofs.Common.{◌≡◌, ◌==◌, ◌<◌, true, false, List, [], ℕ, length, ap, arith, Err, Ok, ◌∙◌, inl, inr, refl, sym, subst, rules}
+use Rattle.std.proofs.Common.{◌≡◌, ◌==◌, ℕ, ap, Err, ◌∙◌, sym, subst}
 use Rattle.std.proofs.lemmas.Result.{err_from_is_err_and}
-use Rattle.si_model.specs.Machine.{State}
 use Rattle.server_loop.specs.Lasting.{IsSettled}
 use Rattle.server_loop.proofs.CutBatches.{batch_fails, cut_batch, fills, chain_ends, none_first, settled_first, written_first}
 use Rattle.server_loop.proofs.StreamReads.{none_held, some_held}

@@ -1,4 +1,3 @@
-use Rattle.std.proofs.Common.{◌≡◌, refl}
 use Rattle.server_loop.proofs.ServingLemmas.{Answered-one, Answered-part, delivered-large, fewer-one}
 use Rattle.server_loop.proofs.batches.answer_next.Goals as goal
 

@@ -1,4 +1,4 @@
-use Rattle.std.proofs.Common.{◌≡◌, ◌<◌, ◌≤◌, ℕ, List, [], ap, arith, length, length-append, Ok, refl, Some, sym, subst, rules}
+use Rattle.std.proofs.Common.{◌≡◌, ℕ, List, [], ap, arith, length, Ok, Some, sym, subst, rules}
 use Rattle.server_loop.specs.Serve.{Answered}
 use Rattle.server_loop.proofs.CutBatches.{no_more_left}
 use Rattle.server_loop.proofs.ServingLemmas.{Answered-none, Answered-then, HandlesTo-after}

@@ -1,4 +1,4 @@
-use Rattle.std.proofs.Common.{◌≡◌, ◌∙◌, ◌++◌, List, drop, take, inr, sym}
+use Rattle.std.proofs.Common.{◌∙◌, drop, take, inr, sym}
 use Rattle.std.proofs.lemmas.List.{take-append-drop}
 use Rattle.server_loop.proofs.batches.release.Goals as goal
 

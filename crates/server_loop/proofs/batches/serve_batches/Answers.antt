@@ -1,4 +1,4 @@
-use Rattle.std.proofs.Common.{◌≡◌, [], length, length-append, length-drop, length-take, Err, Ok, ap, ◌∙◌, arith, refl, rules}
+use Rattle.std.proofs.Common.{◌≡◌, [], length, length-append, length-drop, length-take, Err, Ok, ap, ◌∙◌, arith, rules}
 use Rattle.std.proofs.lemmas.Result.{err_from_is_err_and}
 use Rattle.server_loop.specs.declared.statuses.End.TheVariants as ends
 use Rattle.server_loop.proofs.CutBatches.{lasting_finished, lasting_none, lasting_stops}

@@ -1,6 +1,6 @@
 use Rattle.std.proofs.Common.{◌≡◌, ◌<◌, ◌+◌, ℕ, subst, sym, ap}
-use Rattle.si_model.specs.Machine.{State, end_of_stamps}
-use Rattle.server_loop.specs.Server.{Shows, ShowsNoSession}
+use Rattle.si_model.specs.Machine.{end_of_stamps}
+use Rattle.server_loop.specs.Server.{ShowsNoSession}
 use Rattle.server_loop.proofs.FromLogs.{serves_from}
 use Rattle.server_loop.proofs.lasting_opening.server_over.Goals as goal
 

@@ -1,4 +1,4 @@
-use Rattle.std.proofs.Common.{◌≡◌, inl, inr, refl}
+use Rattle.std.proofs.Common.{inl}
 use Rattle.server_loop.proofs.Logged.{logs_on, still_lasts}
 use Rattle.server_loop.proofs.Rooted.{plain_lasting}
 use Rattle.server_loop.proofs.lasting.LastingServer.answer_plainly.Goals as goal

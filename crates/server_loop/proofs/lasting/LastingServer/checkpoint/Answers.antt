@@ -1,4 +1,4 @@
-use Rattle.std.proofs.Common.{◌≡◌, inl, inr, refl}
+use Rattle.std.proofs.Common.{inl, inr}
 use Rattle.server_loop.proofs.lasting.LastingServer.checkpoint.Goals as goal
 
 pub returns-in-Ok-clause-says : goal.returns-in-Ok-clause-says

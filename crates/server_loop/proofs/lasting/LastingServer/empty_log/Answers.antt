@@ -1,4 +1,4 @@
-use Rattle.std.proofs.Common.{◌≡◌, inl, inr, refl, sym, arith}
+use Rattle.std.proofs.Common.{inl, inr, refl, sym, arith}
 use Rattle.server_loop.proofs.Logged.{emptied_lasts, lasts_on, stays_stored}
 use Rattle.server_loop.proofs.lasting.LastingServer.empty_log.Goals as goal
 

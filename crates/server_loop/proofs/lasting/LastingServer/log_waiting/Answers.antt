@@ -1,4 +1,4 @@
-use Rattle.std.proofs.Common.{◌≡◌, ◌∙◌, ◌==◌, ℕ, List, [], ◌∷◌, ◌++◌, length, true, false, inl, inr, refl, sym, ap, subst}
+use Rattle.std.proofs.Common.{◌≡◌, ◌∙◌, ℕ, List, [], ◌∷◌, ◌++◌, true, inl, inr, refl, sym, subst}
 use Rattle.server_loop.proofs.Logged.{gained, lasts_on, none_waits, shown_lasts, stays_stored, true_not_false}
 use Rattle.server_loop.proofs.StreamReads.{none_held}
 use Rattle.server_loop.proofs.lasting.LastingServer.log_waiting.Goals as goal

@@ -1,4 +1,4 @@
-use Rattle.std.proofs.Common.{◌≡◌, ◌∙◌, [], true, inl, inr, refl, sym}
+use Rattle.std.proofs.Common.{◌∙◌, inl, inr}
 use Rattle.si_model.specs.Machine.{State, refuses}
 use Rattle.si_model.specs.Refusing.{gives_up}
 use Rattle.server_loop.specs.Lasts.{Logs}

@@ -1,4 +1,4 @@
-use Rattle.std.proofs.Common.{◌≡◌, ◌∙◌, inl, inr, refl, sym}
+use Rattle.std.proofs.Common.{◌∙◌, inl, inr, refl, sym}
 use Rattle.request_codec.specs.declared.replies.Reply.TheVariants as codec
 use Rattle.server_loop.proofs.Logged.{lasts_on, none_waits, root_lasts, shown_lasts, stays_stored}
 use Rattle.server_loop.proofs.lasting.LastingServer.root_moved.Goals as goal

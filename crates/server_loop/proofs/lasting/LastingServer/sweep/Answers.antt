@@ -1,4 +1,4 @@
-use Rattle.std.proofs.Common.{◌≡◌, ◌∙◌, inl, inr, refl, sym}
+use Rattle.std.proofs.Common.{inl, inr, refl}
 use Rattle.si_model.specs.Machine.{refuses}
 use Rattle.si_model.specs.Refusing.{gives_up}
 use Rattle.server_loop.proofs.Logged.{logs_on, still_lasts}

@@ -1,7 +1,5 @@
-use Rattle.std.proofs.Common.{◌≡◌, inl, inr, refl}
+use Rattle.std.proofs.Common.{inl, inr, refl}
 use Rattle.server_loop.specs.Commands.{checkpointed}
-use Rattle.server_loop.specs.Lasting.{Settles}
-use Rattle.server_loop.specs.Lasts.{LastsIn, Logs, shown_by}
 use Rattle.server_loop.proofs.Logged.{logs_on, recounted, still_lasts}
 use Rattle.server_loop.proofs.Rooted.{settles_then}
 use Rattle.server_loop.proofs.lasting.LastingServerAnswering.tend.Goals as goal

@@ -1,4 +1,4 @@
-use Rattle.std.proofs.Common.{◌≡◌, inl, inr, refl}
+use Rattle.std.proofs.Common.{inl, inr}
 use Rattle.server_loop.proofs.Rooted.{puts_more, settles_then}
 use Rattle.server_loop.proofs.lasting.LastingServerLasting.settle.Goals as goal
 

@@ -1,4 +1,3 @@
-use Rattle.std.proofs.Common.{true}
 use Rattle.server_loop.specs.Server.{journal_of}
 use Rattle.server_loop.proofs.Stored.{answer_leaves, answer_moves, follows_in, tended_leaves}
 use Rattle.server_loop.proofs.recorded_server.ServerRecording.recording_laws.Goals as goal

@@ -1,0 +1,289 @@
+"""Folders with a log: what was answered is there, however the program ends."""
+
+from __future__ import annotations
+
+import io
+import os
+import random
+import resource
+import signal
+import threading
+import time
+import unittest
+from collections import Counter
+from contextlib import redirect_stderr, redirect_stdout, suppress
+from pathlib import Path
+
+from duqishom import ConnectionLost, Held, NotOpened, Patience, Pending, ProgramEnded, Store, Transaction, TransactionFailed
+from duqishom.folders import has_log
+from duqishom.inspection import main as inspect
+from duqishom.program import default_program
+from tests.folders import FolderTest
+from tests.gateways import Gateway, folder_of, until
+
+# How many times the program of eight clients is killed.
+KILLS = int(os.environ.get("LOG_KILLS", "20"))
+CLIENTS, ACCOUNTS, FIRST = 8, 12, 100
+ROW, FAMILY = b"counter", b"c"
+ROOT, LOG = "t0000000000000000.tab", "commit.log"
+
+
+def put(store: Store, value: bytes) -> None:
+    """Commits a cell."""
+    store.run(lambda t: t.set(ROW, FAMILY, value))
+
+
+class Logs(FolderTest):
+    """The log of a store of one's own."""
+
+    def opened(self, log: bool | None = None, *words: str) -> Store:
+        """The store of the folder. Its end makes no checkpoint."""
+        return Store(folder=self.folder, words=words, checkpoint_at_close=False, log=log)
+
+    def value(self) -> bytes | None:
+        """What the folder has in one cell."""
+        with self.opened() as store:
+            return store.run(lambda t: t.get(ROW, FAMILY))
+
+    def test_who_gets_a_log(self) -> None:
+        self.assertRaises(ValueError, Store, log=True)
+        # What made the folder's store, what opens it then, and whether the folder has a log behind both
+        table: tuple[tuple[bool | None, bool | None, bool, bool], ...] = (
+            (None, None, True, True),
+            (None, False, True, True),
+            (False, None, False, False),
+            (False, False, False, False),
+            (False, True, False, True),
+            (True, None, True, True),
+        )
+        for number, (makes, opens, first, then) in enumerate(table):
+            self.folder = str(self.path / str(number))
+            os.mkdir(self.folder)
+            with Store(folder=self.folder, log=makes) as store:
+                put(store, b"1")
+                self.assertEqual(store.has_log, first)
+            with Store(folder=self.folder, log=opens) as store:
+                self.assertEqual((store.has_log, has_log(self.folder)), (then, then))
+            self.assertEqual(self.value(), b"1")
+
+    def test_what_was_answered_lasts(self) -> None:
+        store = self.opened(None, "--flush", "9")
+        for number in range(10):
+            put(store, b"%d" % number)
+        start = store.begin()
+        for row in (b"a", b"b"):
+            store.set(start, row, FAMILY, b"v")
+        self.assertEqual([store.step(start) for _ in range(2)], [Held(1, 2), Held(2, 2)])
+        store._connection.kill()
+        with self.assertRaisesRegex(ProgramEnded, "status -9; the folder has all that was answered$"):
+            store.begin()
+        store.close()
+        with self.opened() as store:
+            self.assertEqual(store.run(lambda t: t.get(ROW, FAMILY)), b"9")
+            reader = store.begin()
+            self.assertGreater(reader, start)
+            self.assertEqual(store.get(reader, b"a", FAMILY), Pending(start))
+            self.assertIsNone(store.run(lambda t: t.get(b"a", FAMILY)))
+
+    def test_tablets_and_files_last(self) -> None:
+        numbers = [b"%02d" % number for number in range(60)]
+        with self.opened(True, "--flush", "5", "--merge", "3") as store:
+            for number, row in enumerate(numbers):
+                store.run(lambda t: t.set(row, FAMILY, row))
+                if number % 20 == 7:
+                    store.split(numbers[number - 3])
+                    store.major(1)
+                    store.sweep()
+            tablets = store.tablets()
+            store.kill()
+        with self.opened() as store:
+            self.assertEqual(store.tablets(), tablets)
+            self.assertEqual(store.run(lambda t: [t.get(row, FAMILY) for row in numbers]), numbers)
+
+    def test_a_copy_has_a_log(self) -> None:
+        copy = self.path / "copy"
+        with self.opened() as store:
+            put(store, b"1")
+            store.backup(copy)
+            put(store, b"2")
+            store.kill()
+        self.assertEqual(self.value(), b"2")
+        self.folder = str(copy)
+        self.assertTrue(has_log(self.folder))
+        self.assertEqual(self.value(), b"1")
+
+    def test_tails_of_logs(self) -> None:
+        """A log whose last frame isn't whole ends before that frame."""
+        with self.opened() as store:
+            put(store, b"1")
+            short = (self.path / LOG).stat().st_size
+            put(store, b"2")
+        whole = (self.path / LOG).read_bytes()
+        self.assertGreater(len(whole), short)
+        for log, value in (
+            (whole, b"2"),
+            (whole + b"\0" * 100, b"2"),
+            (whole + whole[8 : short - 1], b"2"),
+            (whole[:short], b"1"),
+            (whole[: short + 7], b"1"),
+            (whole[:8], None),
+        ):
+            (self.path / LOG).write_bytes(log)
+            self.assertEqual(self.value(), value, len(log))
+
+    def test_logs_that_are_not_opened(self) -> None:
+        with self.opened() as store:
+            put(store, b"1")
+        log = self.path / LOG
+        whole = log.read_bytes()
+        for wrong, status, why in (
+            (b"TABLOG02" + whole[8:], 5, "commit.log: the head isn't TABLOG01, at byte 7"),
+            (b"TABL", 5, "commit.log: the head isn't TABLOG01, at byte 4"),
+            (None, 4, "commit.log can't be opened: .*symbolic links"),
+        ):
+            log.unlink()
+            if wrong is None:
+                log.symlink_to(LOG)
+            else:
+                log.write_bytes(wrong)
+            with self.assertRaisesRegex(NotOpened, why) as caught:
+                self.opened()
+            self.assertEqual(caught.exception.status, status)
+        log.unlink()
+        log.write_bytes(whole)
+        root = (self.path / ROOT).rename(self.path / "root")
+        with self.assertRaisesRegex(NotOpened, "the log has edits, and there is no root"):
+            self.opened()
+        root.rename(self.path / ROOT)
+        self.assertEqual(self.value(), b"1")
+
+    def test_a_log_that_failed_ends_the_program(self) -> None:
+        """A limit of the size of files stands for a full disk."""
+        number, program, folder = self.path / "number", self.path / "program", self.path / "store"
+        program.write_text(f"""#!/bin/sh\ntrap '' XFSZ\necho $$ >{number}\nexec {default_program()} "$@"\n""")
+        program.chmod(0o755)
+        folder.mkdir()
+        self.folder = str(folder)
+        store = Store(program=str(program), folder=folder)
+        put(store, b"1")
+        size = (folder / LOG).stat().st_size
+        resource.prlimit(int(number.read_text()), resource.RLIMIT_FSIZE, (size + 100, resource.RLIM_INFINITY))
+        with self.assertRaisesRegex(ProgramEnded, "under the log; the folder has all that was answered") as caught:
+            for value in (b"2", b"3"):
+                put(store, value)
+        self.assertEqual(caught.exception.status, 4)
+        store.close()
+        self.assertEqual(self.value(), b"1")
+
+    def test_inspection_shows_the_log(self) -> None:
+        with self.opened() as store:
+            put(store, b"1")
+            store.checkpoint()
+            put(store, b"2")
+            store.run(lambda t: t.set(b"left", FAMILY, b"v"))
+            store.run(lambda t: t.delete(b"left", FAMILY))
+            start = store.begin()
+            store.set(start, b"held", FAMILY, b"v")
+            store.step(start)
+        self.assertEqual(self.inspected("cells"), "counter\tc\t2\n")
+        self.assertEqual(self.inspected("locks"), f"held c: session {start} sets it; its first cell is held c\n")
+        self.assertIn("10 keys in the log", self.inspected("stats"))
+
+    def inspected(self, what: str) -> str:
+        """What `inspect` writes of the folder."""
+        written = io.StringIO()
+        with redirect_stdout(written), redirect_stderr(written):
+            self.assertEqual(inspect([self.folder, what]), 0)
+        return written.getvalue()
+
+
+def account(number: int) -> bytes:
+    """The row of an account."""
+    return b"account %02d" % number
+
+
+def transfer(client: int, number: int) -> tuple[int, int, int]:
+    """A client's transfer of this number: who gives, who takes, and how much."""
+    dice = random.Random(client * 1_000_003 + number)
+    giver, taker = dice.sample(range(ACCOUNTS), 2)
+    return giver, taker, dice.randint(1, 9)
+
+
+class Killed(unittest.TestCase):
+    """Eight clients of a gateway, whose program is killed at any moment.
+
+    A transfer moves money between two accounts, and counts itself in a cell of its client. So what each account must have is known
+    from the counts: one cell of a transfer that is there without the others would show.
+    """
+
+    def setUp(self) -> None:
+        self.folder = folder_of(self)
+        self.answered: Counter[int] = Counter()
+
+    def opened(self) -> Store:
+        """The store of the folder. Its end makes no checkpoint."""
+        return Store(folder=self.folder, patience=Patience(pause=0), checkpoint_at_close=False)
+
+    def pay(self, path: str, client: int) -> None:
+        """Makes transfers, and counts those that are answered, until the connection ends."""
+
+        def move(t: Transaction) -> None:
+            number = int(t.get(b"client %d" % client, FAMILY) or b"0") + 1
+            giver, taker, amount = transfer(client, number)
+            for who, more in ((giver, -amount), (taker, amount)):
+                t.set(account(who), FAMILY, b"%d" % (int(t.get(account(who), FAMILY) or b"0") + more))
+            t.set(b"client %d" % client, FAMILY, b"%d" % number)
+
+        with suppress(ConnectionLost, OSError), Store(socket=path, patience=Patience(tries=5)) as store:
+            while True:
+                with suppress(TransactionFailed):
+                    store.run(move)
+                    self.answered[client] += 1
+
+    def kill_once(self, words: list[str], wait: float) -> None:
+        """Begins a gateway with its clients, and kills its program so many seconds behind the first answer."""
+        gateway = Gateway(self, ["--dir", self.folder, *words])
+        program, before = gateway.program(), self.answered.total()
+        clients = [threading.Thread(target=self.pay, args=(gateway.path, client)) for client in range(CLIENTS)]
+        for client in clients:
+            client.start()
+        self.assertTrue(until(lambda: self.answered.total() > before))
+        time.sleep(wait)
+        os.kill(program, signal.SIGKILL)
+        for client in clients:
+            client.join()
+        self.assertEqual(gateway.process.wait(60), 128 + 9)
+        gateway.end()
+
+    def check(self) -> None:
+        """What is in the folder is what the counts of the clients say, and no count is below what was answered. A transfer that
+        was on its way may be there."""
+        balances = [FIRST] * ACCOUNTS
+        with self.opened() as store, store.transaction() as t:
+            for client in range(CLIENTS):
+                count = int(t.get(b"client %d" % client, FAMILY) or b"0")
+                self.assertIn(count - self.answered[client], (0, 1), f"client {client}")
+                self.answered[client] = count
+                for number in range(1, count + 1):
+                    giver, taker, amount = transfer(client, number)
+                    balances[giver] -= amount
+                    balances[taker] += amount
+            found = [int(t.get(account(number), FAMILY) or b"0") for number in range(ACCOUNTS)]
+        self.assertEqual(found, balances)
+        self.assertEqual(sum(found), ACCOUNTS * FIRST)
+
+    def test_no_answered_commit_is_lost(self) -> None:
+        dice = random.Random(53)
+        with self.opened() as store, store.transaction() as t:
+            for number in range(ACCOUNTS):
+                t.set(account(number), FAMILY, b"%d" % FIRST)
+        ways = ([], ["--flush", "40", "--merge", "3"], ["--log-bytes", "20000", "--merge", "4"], ["--checkpoint", "0.05"])
+        for number in range(KILLS):
+            self.kill_once(ways[number % len(ways)], dice.uniform(0, 0.3))
+            self.check()
+        self.assertGreater(self.answered.total(), KILLS)
+        self.assertGreater(Path(self.folder, LOG).stat().st_size, 0)
+
+
+if __name__ == "__main__":
+    unittest.main()

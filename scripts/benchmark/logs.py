@@ -1,0 +1,228 @@
+"""Stores whose writes are forced to the disk before they are answered: how fast they write, and how fast they open a log."""
+
+from __future__ import annotations
+
+import os
+import random
+import shutil
+import sqlite3
+import subprocess
+import sys
+import time
+from collections.abc import Callable, Iterator
+from pathlib import Path
+
+from benchmark.requests import field
+
+SOURCE = Path(__file__).with_name("leveldb_log.cc")
+HEADER = Path("/usr/include/leveldb/db.h")
+
+VALUE = b"v" * 100
+FAMILY = b"c"
+BEGIN, COMMITTED = b"\x01", b"\x84\x04"
+
+# The bytes of a one-cell commit's edits with such a row and value.
+COMMIT_BYTES = 312
+
+# Entries at which a memtable is compacted, so many that it isn't while a log is filled.
+MANY = "99000"
+
+# How many cells a commit has at the most.
+MOST_CELLS = 256
+
+
+def rows() -> Iterator[bytes]:
+    """New rows of 16 bytes, in random order."""
+    dice = random.Random(53)
+    while True:
+        yield b"%016x" % dice.getrandbits(64)
+
+
+class Program:
+    """A tabletd over a pipe."""
+
+    def __init__(self, program: str, folder: Path, *words: str) -> None:
+        """Starts it, and waits until it has opened its folder."""
+        command = [program, "--dir", str(folder), *words]
+        self.child = subprocess.Popen(command, stdin=subprocess.PIPE, stdout=subprocess.PIPE, bufsize=0)
+        assert self.child.stdin is not None and self.child.stdout is not None
+        self._in, self._out = self.child.stdin.fileno(), self.child.stdout.fileno()
+        os.set_blocking(self._in, False)
+        self._rest = b""
+        self.ask([b""])
+
+    def ask(self, bodies: list[bytes]) -> list[bytes]:
+        """The bodies of the replies to these requests, which are sent in one write where that has room."""
+        data, replies = memoryview(b"".join(map(field, bodies))), list[bytes]()
+        while len(replies) < len(bodies):
+            if data:
+                try:
+                    data = data[os.write(self._in, data) :]
+                    continue
+                except BlockingIOError:
+                    pass
+            came = os.read(self._out, 1 << 20)
+            if not came:
+                sys.exit(f"tabletd has ended with status {self.child.wait()}")
+            self._rest += came
+            at = 0
+            while at + 4 <= len(self._rest) and (end := at + 4 + int.from_bytes(self._rest[at : at + 4], "big")) <= len(self._rest):
+                replies.append(self._rest[at + 4 : end])
+                at = end
+            self._rest = self._rest[at:]
+        return replies
+
+    def end(self) -> None:
+        """Kills it."""
+        self.child.kill()
+        self.child.wait()
+        for pipe in (self.child.stdin, self.child.stdout):
+            assert pipe is not None
+            pipe.close()
+
+
+def set_in(start: bytes, row: bytes) -> bytes:
+    """The body of a Set."""
+    return b"\x03" + start + field(row) + field(FAMILY) + field(VALUE)
+
+
+def commits(program: Program, new: Iterator[bytes], count: int) -> None:
+    """Commits so many rows, each in a session of its own: all begin in one trip, and commit in the next one."""
+    starts = [reply[1:] for reply in program.ask([BEGIN] * count)]
+    bodies = [body for start in starts for body in (set_in(start, next(new)), *[b"\x04" + start] * 3)]
+    check(program.ask(bodies)[3::4])
+
+
+def commit(program: Program, new: Iterator[bytes], count: int) -> None:
+    """Commits so many rows in one session."""
+    [reply] = program.ask([BEGIN])
+    start = reply[1:]
+    bodies = [*(set_in(start, next(new)) for _ in range(count)), *[b"\x04" + start] * (2 * count + 1)]
+    check([program.ask(bodies)[2 * count + 1]])
+
+
+def check(replies: list[bytes]) -> None:
+    """Ends the script where a commit isn't answered as it must be."""
+    if any(reply[:2] != COMMITTED for reply in replies):
+        sys.exit("not the replies that are wanted")
+
+
+def rate(write: Callable[[int], None], count: int, seconds: float) -> float:
+    """How many rows a second are written, so many at once."""
+    began, written = time.monotonic(), 0
+    while (took := time.monotonic() - began) < seconds:
+        write(count)
+        written += count
+    return written / took
+
+
+def tabletd_rate(
+    way: Callable[[Program, Iterator[bytes], int], None], program: str, folder: Path, count: int, seconds: float, *words: str
+) -> float:
+    """The rate of tabletd, one way or the other."""
+    running, new = Program(program, folder, *words), rows()
+    try:
+        return rate(lambda count: way(running, new, count), count, seconds)
+    finally:
+        running.end()
+
+
+def opened_sqlite(folder: Path) -> sqlite3.Connection:
+    """A database in WAL mode, synced fully."""
+    database = sqlite3.connect(folder / "database", isolation_level=None)
+    database.execute("PRAGMA journal_mode = WAL")
+    database.execute("PRAGMA synchronous = FULL")
+    database.execute("CREATE TABLE IF NOT EXISTS cells (row BLOB PRIMARY KEY, value BLOB) WITHOUT ROWID")
+    return database
+
+
+def insert(database: sqlite3.Connection, new: Iterator[bytes], count: int) -> None:
+    """Inserts so many rows in one transaction."""
+    database.execute("BEGIN")
+    database.executemany("INSERT INTO cells VALUES (?, ?)", [(next(new), VALUE) for _ in range(count)])
+    database.execute("COMMIT")
+
+
+def sqlite_rate(folder: Path, count: int, seconds: float) -> float:
+    """The rate of SQLite."""
+    database, new = opened_sqlite(folder), rows()
+    try:
+        return rate(lambda count: insert(database, new, count), count, seconds)
+    finally:
+        database.close()
+
+
+def file_rate(folder: Path, count: int, seconds: float) -> float:
+    """The rate of a file to which the bytes of so many commits are added at once, each time forced to the disk."""
+    with (folder / "file").open("ab", buffering=0) as file:
+
+        def add(count: int) -> None:
+            file.write(bytes(COMMIT_BYTES * count))
+            os.fdatasync(file.fileno())
+
+        return rate(add, count, seconds)
+
+
+def compiled_leveldb(place: Path) -> str | None:
+    """The program that drives LevelDB: none if its header or a compiler isn't here."""
+    compiler = shutil.which("c++")
+    if compiler is None or not HEADER.exists():
+        return None
+    program = str(place / "leveldb_log")
+    subprocess.run([compiler, "-O2", "-std=c++17", str(SOURCE), "-o", program, "-lleveldb"], check=True)
+    return program
+
+
+def leveldb(program: str, what: str, folder: Path, *words: object) -> float:
+    """What the program that drives LevelDB measures."""
+    ran = subprocess.run([program, what, str(folder), *map(str, words)], check=True, capture_output=True, text=True)
+    return float(ran.stdout or "0")
+
+
+def tabletd_opening(program: str, folder: Path, edits: int) -> tuple[float, int]:
+    """The seconds in which tabletd opens a folder whose log has so many edits, or as many as it lets stand there, and the bytes of
+    that log."""
+    running, new = Program(program, folder, "--log", "--flush", MANY), rows()
+    left = edits // 4
+    while left > 0:
+        commits(running, new, min(left, MOST_CELLS))
+        left -= MOST_CELLS
+    running.end()
+    size = (folder / "commit.log").stat().st_size
+    began = time.monotonic()
+    running = Program(program, folder)
+    took = time.monotonic() - began
+    running.end()
+    return took, size
+
+
+FILL_SQLITE = """
+import os, sqlite3, sys
+from pathlib import Path
+from benchmark.logs import insert, opened_sqlite, rows
+database, new = opened_sqlite(Path(sys.argv[1])), rows()
+database.execute("PRAGMA wal_autocheckpoint = 0")
+for _ in range(int(sys.argv[2]) // 250):
+    insert(database, new, 250)
+os._exit(0)
+"""
+
+
+def sqlite_opening(folder: Path, count: int) -> tuple[float, int]:
+    """The same of SQLite, with so many rows in its log, and the first read."""
+    place = {**os.environ, "PYTHONPATH": str(SOURCE.parents[1])}
+    subprocess.run([sys.executable, "-B", "-c", FILL_SQLITE, str(folder), str(count)], check=True, env=place)
+    size = (folder / "database-wal").stat().st_size
+    began = time.monotonic()
+    database = sqlite3.connect(folder / "database")
+    database.execute("SELECT * FROM cells LIMIT 1").fetchone()
+    took = time.monotonic() - began
+    database.close()
+    return took, size
+
+
+def leveldb_opening(program: str, folder: Path, count: int) -> tuple[float, int]:
+    """The same of LevelDB."""
+    leveldb(program, "fill", folder, count)
+    size = sum(log.stat().st_size for log in folder.glob("*.log"))
+    return leveldb(program, "open", folder), size
