@@ -3,7 +3,6 @@
 
 pub mod files;
 mod keys;
-pub mod lasting;
 pub mod rows;
 mod servers;
 pub mod sessions;
@@ -96,6 +95,5 @@ fn calls_of_all_crates(rt: HostRuntime) -> Result<(), Fail> {
     assert!(rt; are_answered::<rows::Clustered>(rt.alloc(), rows::CLUSTERED)?);
     assert!(rt; are_answered::<sessions::Sessions>(rt.alloc(), sessions::SESSIONS)?);
     assert!(rt; are_answered::<servers::Asked>(rt.alloc(), servers::ASKED)?);
-    assert!(rt; are_answered::<lasting::Kept>(rt.alloc(), lasting::KEPT)?);
     Ok(())
 }
