@@ -83,6 +83,13 @@ const SECOND_PART: [&[Exchange]; 2] = [&COLLECTED, &THREE_CELLS];
 /// A server that compacts and checkpoints on request.
 const ASKED: Upkeep = ON_REQUEST;
 
+/// One that makes a checkpoint whenever something was written down.
+const CHECKPOINTS: Upkeep = Upkeep {
+    flush: 10_000,
+    merge: None,
+    checkpoint: Some(1),
+};
+
 /// One that compacts memtables of two entries and merges two files, and makes checkpoints now and then.
 const BY_ITSELF: Upkeep = Upkeep {
     flush: 2,
@@ -359,12 +366,32 @@ type Calls = [Result<u64, u64>; 7];
 
 const ASKED_CALLS: Calls = [Ok(105), Ok(103), Ok(111), Ok(111), Ok(111), Ok(29), Ok(29)];
 
+const CHECKPOINT_CALLS: Calls = [
+    Ok(571),
+    Ok(571),
+    Ok(571),
+    Ok(571),
+    Ok(571),
+    Ok(101),
+    Ok(101),
+];
+
 const OWN_CALLS: Calls = [Ok(355), Ok(354), Ok(359), Ok(359), Ok(359), Ok(17), Ok(17)];
 
 #[test]
 fn a_server_is_killed(rt: HostRuntime) -> Result<(), Fail> {
     let calls = calls_of(rt.alloc(), ASKED)?;
     assert!(rt; calls.as_slice() == ASKED_CALLS.as_slice(), "{calls:?}");
+    Ok(())
+}
+
+#[test]
+fn a_server_that_makes_checkpoints_is_killed(rt: HostRuntime) -> Result<(), Fail> {
+    let calls = calls_of(rt.alloc(), CHECKPOINTS)?;
+    assert!(rt;
+        calls.as_slice() == CHECKPOINT_CALLS.as_slice(),
+        "{calls:?}"
+    );
     Ok(())
 }
 

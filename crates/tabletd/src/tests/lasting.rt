@@ -143,8 +143,8 @@ const RANGES: [(u64, u64); 3] = [(0, 2), (3, 1000), (1001, 3000)];
 /// How many reads there are.
 const READ_COUNT: usize = 28;
 
-/// Whether there is a second tablet: a Merge of nine of its files is refused 14 if there is, and 11 if there is none.
-const SECOND_TABLET: &[u8] = b"\x0B\0\0\0\x02\0\0\0\x09";
+/// Whether there is a second tablet: a Merge of one of its files is refused 14 if there is, and 11 if there is none.
+const SECOND_TABLET: &[u8] = b"\x0B\0\0\0\x02\0\0\0\x01";
 
 /// The raw read of a column between two stamps.
 fn raw(alloc: Global, row: &[u8], column: u8, range: (u64, u64)) -> Result<Vec<u8>, AllocError> {
