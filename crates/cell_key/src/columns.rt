@@ -81,9 +81,10 @@ impl Lock {
     {
         let row = row.as_bytes();
         let family = family.as_bytes();
-        let len = escapes::escaped_len(row) + family.len() + 5;
+        let row_len = escapes::escaped_len(row);
+        let len = row_len + family.len() + 5;
         let mut text = Vec::with_capacity(alloc, len)?;
-        escapes::push_escaped(&mut text, row);
+        escapes::push_escaped(&mut text, row, row_len);
         escapes::push_bytes(&mut text, b"\0\0");
         escapes::push_bytes(&mut text, family);
         escapes::push_bytes(&mut text, b"\0\0");

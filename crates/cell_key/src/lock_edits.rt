@@ -30,7 +30,7 @@ pub fn record_lock(
 {
     let start = start.stamp();
     let commit = commit.stamp();
-    let mut edits = Vec::new(alloc);
+    let mut edits = Vec::with_capacity(alloc, 2)?;
     let record = CellKey::new(row, family, Qualifier::Write, commit)?;
     let lock = CellKey::new(row, family, Qualifier::Lock, start)?;
     let text = Record { start, kind }.encode(alloc)?;
@@ -52,7 +52,7 @@ pub fn erase_lock(
     ensures refusal { IfErr result (λ refusal. refusal ≡ Refusal.NoMemory) }
 {
     let start = start.stamp();
-    let mut edits = Vec::new(alloc);
+    let mut edits = Vec::with_capacity(alloc, 1)?;
     let lock = CellKey::new(row, family, Qualifier::Lock, start)?;
     edits.push(Edit::Erase(lock))?;
     Ok(edits)

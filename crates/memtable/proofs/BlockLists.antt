@@ -200,6 +200,23 @@ module _ {X : Type 0} (f : X → List Entry) where
       block_point xs i (omega arith) (λ k d a b. p (suc k) d (omega (arith, a)) (omega (arith, b))) (λ k d a b. q (suc k) d (omega (arith, a)) (omega (arith, b))),
     )
 
+    -- so the first that doesn't is known by the one before it
+    pub first_point : (xs : List X) (i : ℕ) → IsRising (flat_map f xs) → AreSome xs → i < length xs → ((d : X) → is_passed (get_or xs i d) ≡ false) → ((j : ℕ) (d : X) → suc j ≡ i → is_passed (get_or xs j d) ≡ true) → IsBlockIndex name (map f xs) i
+    first_point xs i r some lt stays ends = block_point xs i (omega arith) (λ k d a b. front i refl k d b) (λ k d a b. back k d a b (is_passed (get_or xs k d)) refl)
+      where
+        front : (m : ℕ) → m ≡ i → (k : ℕ) (d : X) → k < i → is_passed (get_or xs k d) ≡ true
+        front zero e k d b = absurd (omega (arith, e, b))
+        front (suc j) e k d b = parted_blocks xs r some k j d (omega (arith, e, b)) (omega (arith, e, lt)) (ends j d e)
+
+        back : (k : ℕ) (d : X) → i ≤ k → k < length xs → (t : Bool) → is_passed (get_or xs k d) ≡ t → is_passed (get_or xs k d) ≡ false
+        back k d a b true e = absurd (clash _ (parted_blocks xs r some i k d a b e) (stays d))
+        back k d a b false e = e
+
+    -- and where the last one ends below, none is left
+    pub end_point : (xs : List X) (i : ℕ) → IsRising (flat_map f xs) → AreSome xs → suc i ≡ length xs → ((d : X) → is_passed (get_or xs i d) ≡ true) → IsBlockIndex name (map f xs) (length xs)
+    end_point xs i r some e ends =
+        block_point xs (length xs) (omega arith) (λ k d a b. parted_blocks xs r some k i d (omega (arith, e, b)) (omega (arith, e)) (ends d)) (λ k d a b. absurd (omega (arith, a, b)))
+
     -- what the block at the place has, all have
     pub found_in : (xs : List X) (i : ℕ) (x : X) → IsRising (flat_map f xs) → AreSome xs → IsBlockIndex name (map f xs) i → i < length xs → x ≡ get_or xs i x → entry_of_key (flat_map f xs) name ≡ entry_of_key (f x) name
     found_in [] i x r some p lt g = absurd (omega arith)

@@ -2,9 +2,9 @@ mod BlockFacts
 mod BlockLists
 mod EntryLists
 mod Newest
-mod OrderLemmas
 mod Places
 mod Sizes
+mod StackTexts
 mod Values
 mod Versions
 mod Words

@@ -33,7 +33,7 @@ name_len Data = omega arith
 name_len Lock = omega arith
 name_len Write = omega arith
 
-text_len : (key : CellKey) → length key.row ≤ 4000 → length key.family ≤ 64 → length (text key) ≤ 8083
+pub text_len : (key : CellKey) → length key.row ≤ 4000 → length key.family ≤ 64 → length (text key) ≤ 8083
 text_len key row family =
     let row_len = escaped_len key.row in
     let name = name_len key.qualifier in
@@ -126,3 +126,10 @@ kept blocks staged base size made list limits is within are =
       bytes = is.bytes ∙ ap bytes_of (sym made);
       blocks = are;
     }
+
+-- two entries over others, within the limits whatever they replace
+pub two_within : (first last : Entry) (base : List Entry) → IsRising base → IsEntry first → IsEntry last → length base + 2 ≤ 100000 → bytes_of base + 2 ^ 19 ≤ 67108864 → IsWithinLimits (over (last ∷ first ∷ []) base)
+two_within first last base r one two few small =
+    let len = over_len (last ∷ first ∷ []) base r in
+    let bytes = over_bytes (last ∷ first ∷ []) base r (two, (one, tt)) in
+    record { entries = omega (arith, len, few); bytes = omega (arith, bytes, small) }

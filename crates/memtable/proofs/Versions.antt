@@ -1,48 +1,23 @@
 -- Texts of the versions of a column.
-use Rattle.std.proofs.Common.{◌≡◌, ◌≢◌, ℕ, List, [], ◌++◌, length, length-append, take-append-drop, take, drop, ◌-◌, refl, sym, ap, ◌∙◌, arith, append_assoc}
-use Rattle.std.specs.declared.cmp.Ordering.{Ordering}
-use Rattle.std.specs.declared.cmp.Ordering.TheVariants.{Equal}
+use Rattle.std.proofs.Common.{◌≡◌, ℕ, List, ◌++◌, length, length-append, take-append-drop, take, drop, ◌-◌, refl, sym, ap, ◌∙◌, arith, append_assoc}
 use Rattle.std.specs.Prelude.{Option, Some, None, IfSome, IfNone}
-use Rattle.std.specs.Cmp.{tied_itself}
-use Rattle.std.specs.Cmp.Lexicographic.{nat_list_cmp_total}
 use Rattle.std.proofs.Math.Seq.{take-append_seam}
-use Rattle.cell_key.specs.Keys.{byte_cmp, qualifier_name, text}
+use Rattle.cell_key.specs.Keys.{qualifier_name, text}
 use Rattle.cell_key.specs.Texts.{escaped, ended, stamp_text}
-use Rattle.cell_key.proofs.TextPlaces.{one_text}
-use Rattle.memtable.specs.Order.{ComparesAs, ComparesTo, at_stamp, column_text, key_of}
+use Rattle.cell_key.specs.declared.keys.CellKey.{CellKey}
+use Rattle.memtable.specs.Order.{at_stamp, key_of}
 use Rattle.memtable.specs.declared.sought.Version.{Version}
 
-module _ (v : Version) (bytes : List ℕ) where
-  abbrev front : List ℕ
-  front = column_text (key_of v)
+-- what the text of a key has before its stamp
+abbrev pub column_text : CellKey → List ℕ
+column_text key =
+    ended (escaped key.row) ++ (ended key.family ++ ended (qualifier_name key.qualifier))
 
-  -- the text of a version is the column's front and the stamp's text
-  pub in_parts : (s : ℕ) → front ++ stamp_text s ≡ text (at_stamp v s)
-  in_parts s =
-      append_assoc (ended (escaped v.row.now)) (ended v.family.now ++ ended (qualifier_name v.qualifier)) (stamp_text s)
-      ∙ ap (λ (xs : List ℕ). ended (escaped v.row.now) ++ xs) (append_assoc (ended v.family.now) (ended (qualifier_name v.qualifier)) (stamp_text s))
-
-  equal_at : (s : ℕ) → bytes ≡ text (at_stamp v s) → byte_cmp (front ++ stamp_text s) bytes ≡ Equal
-  equal_at s e = ap (λ (xs : List ℕ). byte_cmp xs bytes) (in_parts s ∙ sym e) ∙ tied_itself nat_list_cmp_total bytes
-
-  -- what doesn't begin with the front isn't the text of a version
-  pub no_front : (o : Ordering) → ComparesTo front bytes o → (s : ℕ) → bytes ≡ text (at_stamp v s) → ⊥
-  no_front o h s e =
-      let short : front ++ [] ≡ bytes = one_text (front ++ []) bytes (h [] ∙ sym (h (stamp_text s)) ∙ equal_at s e) in
-      let lens = ap length (short ∙ e ∙ sym (in_parts s)) in
-      let stamp : length (stamp_text s) ≡ 8 = refl in
-      let whole = length-append front (stamp_text s) in
-      let part = length-append front [] in
-      omega (arith, lens, stamp, whole, part)
-
-  -- nor is what ends in other than eight bytes
-  pub no_stamp : (rest : List ℕ) → ComparesAs front bytes rest → length rest ≢ 8 → (s : ℕ) → bytes ≡ text (at_stamp v s) → ⊥
-  no_stamp rest h other s e = other (sym (ap length (one_text (stamp_text s) rest (sym (h (stamp_text s)) ∙ equal_at s e))))
-
-  pub has_stamp : (rest : List ℕ) → ComparesAs front bytes rest → (s : ℕ) → rest ≡ stamp_text s → bytes ≡ text (at_stamp v s)
-  has_stamp rest h s e =
-      let same : byte_cmp (stamp_text s) rest ≡ Equal = ap (byte_cmp (stamp_text s)) e ∙ tied_itself nat_list_cmp_total (stamp_text s) in
-      sym (one_text (front ++ stamp_text s) bytes (h (stamp_text s) ∙ same)) ∙ in_parts s
+-- the text of a version is the column's front and the stamp's text
+pub in_parts : (v : Version) (s : ℕ) → column_text (key_of v) ++ stamp_text s ≡ text (at_stamp v s)
+in_parts v s =
+    append_assoc (ended (escaped v.row.now)) (ended v.family.now ++ ended (qualifier_name v.qualifier)) (stamp_text s)
+    ∙ ap (λ (xs : List ℕ). ended (escaped v.row.now) ++ xs) (append_assoc (ended v.family.now) (ended (qualifier_name v.qualifier)) (stamp_text s))
 
 pub if_some : {A : Type 0} (o : Option A) (P Q : A → Type 0) → ((x : A) → P x → Q x) → IfSome o P → IfSome o Q
 if_some None P Q f h = tt

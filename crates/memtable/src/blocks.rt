@@ -4,17 +4,15 @@
 ghost use Rattle.std.specs.Prelude.{◌≡◌, ℕ, ◌+◌, ◌≤◌, ◌<◌, ◌^◌, [], ◌∷◌, ◌++◌, IfSome, OnOk, option_map, length, vec_len, vec_capacity};
 ghost use Rattle.std.specs.List.{AllByRecursion};
 ghost use Rattle.std.specs.FinMap.Entries.{put as put_entry};
-ghost use Rattle.cell_key.specs.Keys.{byte_cmp, text};
+ghost use Rattle.cell_key.specs.Keys.{byte_cmp};
 ghost use Rattle.cell_key.specs.Entries.{IsEntry, IsRising, entries_from, entry_of_key};
 ghost use Rattle.memtable.specs.Slots.{slot_entry, slot_entries, first_value, over};
-ghost use Rattle.memtable.specs.Order.{key_of};
 ghost use Rattle.memtable.specs.Sizes.{IsSizeOf, stood_bytes};
 ghost use Rattle.memtable.specs.Blocks.{block_entries, lists_of, list_of, ends_below, IsBlockIndex, IsCounted, IsEntryBlock, IsSpare, IsFullAt, AreEntryBlocks, HasRoom};
 
 use crate::entries::{self, Slot};
-use crate::key_text::ShortText;
 use crate::size::Size;
-use crate::sought::{Sought, Version};
+use crate::sought::Sought;
 use std::alloc::{AllocError, Global};
 
 /// How many entries a block has room for. It has at least one, and fewer than these.
@@ -33,6 +31,8 @@ pub(crate) struct Block {
 pub(crate) struct Blocks {
     pub(crate) filled: Vec<Block>,
     pub(crate) spare: Vec<Vec<Box<Slot>>>,
+    /// Where an entry was put last, or any other number. A search tries this block first.
+    pub(crate) near: usize,
 }
 
 /// Whether all texts of a block are below what is sought.
@@ -55,6 +55,33 @@ pub(crate) fn index_of<S: Sought>(blocks: &[Block], sought: S) -> usize
     blocks.partition_point(|block| ends_below(block, sought))
 }
 
+/// The index of the first block that doesn't end below what is sought. The one at `near` is tried first, and if that is
+/// the last one, the end behind it.
+fn index_near<S: Sought>(blocks: &[Block], sought: S, near: usize) -> usize
+    requires rising { IsRising (block_entries blocks.now) }
+    requires blocks { AllByRecursion IsEntryBlock blocks.now }
+    ensures bound { result ≤ length blocks.now }
+    ensures index { IsBlockIndex (S.name sought) (lists_of blocks.now) result }
+{
+    let Some(block) = blocks.get(near) else {
+        return index_of(blocks, sought);
+    };
+    let is_past = ends_below(block, sought);
+    if is_past && near + 1 == blocks.len() {
+        return near + 1;
+    }
+    if is_past {
+        return index_of(blocks, sought);
+    }
+    if near == 0 {
+        return 0;
+    }
+    if ends_below(&blocks[near - 1], sought) {
+        return near;
+    }
+    index_of(blocks, sought)
+}
+
 /// The entry that is sought.
 pub(crate) fn find<S: Sought>(blocks: &[Block], sought: S) -> Option<&Slot>
     requires rising { IsRising (block_entries blocks.now) }
@@ -65,25 +92,6 @@ pub(crate) fn find<S: Sought>(blocks: &[Block], sought: S) -> Option<&Slot>
 {
     let block = blocks.get(index_of(blocks, sought))?;
     entries::find(&block.slots, sought)
-}
-
-/// The entry at the text of a version. A short text is the version's own.
-pub(crate) fn find_at<'a>(
-    blocks: &'a [Block],
-    sought: Version<'_>,
-    short: Option<&ShortText>,
-) -> Option<&'a Slot>
-    requires rising { IsRising (block_entries blocks.now) }
-    requires blocks { AllByRecursion IsEntryBlock blocks.now }
-    requires short { IfSome short (λ made. made.now ≡ text (key_of sought)) }
-    ensures found { option_map (λ slot. (slot_entry slot.now).1) result
-        ≡ entry_of_key (block_entries blocks.now) (text (key_of sought.entry)) }
-    ensures named { IfSome result (λ slot. slot.now.text ≡ text (key_of sought.entry)) }
-{
-    match short {
-        Some(text) => find(blocks, text),
-        None => find(blocks, sought),
-    }
 }
 
 /// How many bytes the entry of a text has, if there is one.
@@ -98,15 +106,20 @@ pub(crate) fn stood_bytes(blocks: &[Block], text: &[u8]) -> Option<u128>
     }
 }
 
-/// What isn't below what is sought: the rest of one block, and the blocks after that.
-pub(crate) fn rest_from<S: Sought>(blocks: &[Block], sought: S) -> (&[Box<Slot>], &[Block])
+/// What isn't below what is sought: the rest of one block, and the blocks after that. The block at `near` is tried
+/// first.
+pub(crate) fn rest_from<S: Sought>(
+    blocks: &[Block],
+    sought: S,
+    near: usize,
+) -> (&[Box<Slot>], &[Block])
     requires rising { IsRising (block_entries blocks.now) }
     requires blocks { AllByRecursion IsEntryBlock blocks.now }
     ensures entries { slot_entries result.0.now ++ block_entries result.1.now
         ≡ entries_from (S.name sought) (block_entries blocks.now) }
     ensures blocks { AllByRecursion IsEntryBlock result.1.now }
 {
-    let at = index_of(blocks, sought);
+    let at = index_near(blocks, sought, near);
     match blocks.split_at(at).1.split_first() {
         Some((block, later)) => {
             let at = entries::first_from(&block.slots, sought);
@@ -143,35 +156,17 @@ fn first_value(blocks: &[Block]) -> Option<&Slot>
     None
 }
 
-/// The first entry that isn't below what is sought and has a value.
-pub(crate) fn first_value_from<S: Sought>(blocks: &[Block], sought: S) -> Option<&Slot>
+/// The first entry that isn't below what is sought and has a value. The block at `near` is tried first.
+pub(crate) fn first_value_from<S: Sought>(blocks: &[Block], sought: S, near: usize) -> Option<&Slot>
     requires rising { IsRising (block_entries blocks.now) }
     requires blocks { AllByRecursion IsEntryBlock blocks.now }
     ensures { option_map (λ slot. slot_entry slot.now) result
         ≡ first_value (entries_from (S.name sought) (block_entries blocks.now)) }
 {
-    let (rest, later) = rest_from(blocks, sought);
+    let (rest, later) = rest_from(blocks, sought, near);
     match entries::first_value(rest) {
         Some(slot) => Some(slot),
         None => first_value(later),
-    }
-}
-
-/// The first entry that isn't below the text of a version and has a value. A short text is the version's own.
-pub(crate) fn first_value_at<'a>(
-    blocks: &'a [Block],
-    sought: Version<'_>,
-    short: Option<&ShortText>,
-) -> Option<&'a Slot>
-    requires rising { IsRising (block_entries blocks.now) }
-    requires blocks { AllByRecursion IsEntryBlock blocks.now }
-    requires short { IfSome short (λ made. made.now ≡ text (key_of sought)) }
-    ensures { option_map (λ slot. slot_entry slot.now) result
-        ≡ first_value (entries_from (text (key_of sought.entry)) (block_entries blocks.now)) }
-{
-    match short {
-        Some(text) => first_value_from(blocks, text),
-        None => first_value_from(blocks, sought),
     }
 }
 
@@ -302,12 +297,34 @@ pub(crate) fn put(blocks: &mut Blocks, slot: Box<Slot>) -> Option<u128>
         open(blocks, slot);
         return None;
     }
-    let at = index_of(&blocks.filled, &slot.text).min(count - 1);
+    let at = index_near(&blocks.filled, &slot.text, blocks.near).min(count - 1);
+    blocks.near = at;
     let replaced = put_in(&mut blocks.filled[at], slot);
     if blocks.filled[at].slots.len() == BLOCK_ROOM {
         split(blocks, at);
     }
     replaced
+}
+
+/// Puts an entry at its place. There is room for one more. Returns the size of all.
+pub(crate) fn put_counted(blocks: &mut Blocks, slot: Box<Slot>, before: Size) -> Size
+    requires rising { IsRising (block_entries blocks.old.filled.items) }
+    requires blocks { AreEntryBlocks blocks.old }
+    requires room { HasRoom 1 blocks.old }
+    requires limits { IsEntry (slot_entry slot.value) }
+    requires before { IsSizeOf before (block_entries blocks.old.filled.items) }
+    requires few { before.entries ≤ 2 ^ 65 }
+    requires small { before.bytes ≤ 2 ^ 83 }
+    ensures size { IsSizeOf result (put_entry byte_cmp (slot_entry slot.value).0
+        (slot_entry slot.value).1 (block_entries blocks.old.filled.items)) }
+    ensures entries { block_entries blocks.new.filled.items
+        ≡ put_entry byte_cmp (slot_entry slot.value).0 (slot_entry slot.value).1
+        (block_entries blocks.old.filled.items) }
+    ensures blocks { AreEntryBlocks blocks.new }
+    ensures room { (n : ℕ) → HasRoom (n + 1) blocks.old → HasRoom n blocks.new }
+{
+    let added = slot.len();
+    before.with(added, put(blocks, slot))
 }
 
 /// Puts entries over others. There is room for all of them. Returns the size of all.

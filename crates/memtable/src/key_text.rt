@@ -1,12 +1,11 @@
-//! Texts of keys, in an entry and on the stack, with the number that their first eight bytes are, which mostly decides how
-//! two of them compare.
+//! Texts of keys, in an entry and lent, with the number that their first eight bytes are, which mostly decides how two
+//! of them compare.
 
-ghost use Rattle.std.specs.Prelude.{◌≡◌, ◌≤◌, ◌<◌, List, ℕ, length, IfSome, IfNone};
+ghost use Rattle.std.specs.Prelude.{◌≡◌, ◌≤◌, List, ℕ, length};
 ghost use Rattle.cell_key.specs.Keys.{byte_cmp};
 ghost use Rattle.memtable.specs.Order.{IsFront};
 
 use crate::sought::{Sought, compare_texts};
-use arrayvec::ArrayVec;
 use byteorder::{BigEndian, ByteOrder};
 use smallvec::SmallVec;
 use std::cmp::Ordering;
@@ -20,7 +19,7 @@ fn front_of(bytes: &[u8]) -> u64
     BigEndian::read_u64(bytes)
 }
 
-/// The text of an entry's key. One of at most 48 bytes takes no memory beside its own, unless its row has a byte 0.
+/// The text of an entry's key. One of at most 48 bytes takes no memory beside its own.
 pub(crate) struct EntryText {
     front: u64,
     bytes: SmallVec<u8, 48>,
@@ -63,6 +62,7 @@ impl EntryText {
     }
 
     /// The byte order of some bytes, whose front is given, and this text.
+    #[inline(always)]
     fn compare_with(&self, front: u64, bytes: &[u8]) -> Ordering
         requires { IsFront front bytes.now }
         ensures { result ≡ byte_cmp bytes.now self.now }
@@ -79,56 +79,52 @@ impl EntryText {
 impl Sought for &EntryText {
     ghost name = { λ sought. sought.now };
 
+    #[inline(always)]
     fn compare(&self, text: &EntryText) -> Ordering {
         text.compare_with(self.front, self.as_slice())
     }
 }
 
-/// Bytes that stand on the stack.
-pub(crate) type StackBytes = ArrayVec<u8, 96>;
-
-/// The text of a key that stands on the stack.
+/// The text of a key, lent.
 #[derive(Drop)]
-pub(crate) struct ShortText {
+pub(crate) struct KeyText<'a> {
     front: u64,
-    bytes: StackBytes,
+    bytes: &'a [u8],
 }
 
-impl Model for ShortText {
+impl<'a> Model for KeyText<'a> {
     ghost use Rattle.std.specs.Prelude.{List, ℕ};
     ghost use Rattle.memtable.specs.Order.{IsFront};
 
     ghost Value = { List ℕ };
 
-    ghost view = { λ text. text.bytes.items };
+    ghost view = { λ text. text.bytes.now };
 
-    ghost invariant = { λ text. IsFront text.front text.bytes.items };
+    ghost invariant = { λ text. IsFront text.front text.bytes.now };
 }
 
-impl ShortText {
-    /// The text of these bytes, if there are eight of them.
-    pub(crate) fn of(bytes: StackBytes) -> Option<ShortText>
-        ensures some { IfSome result (λ text. text ≡ bytes.items) }
-        ensures none { IfNone result (length bytes.items < 8) }
+impl<'a> KeyText<'a> {
+    /// The text of these bytes.
+    pub(crate) fn of(bytes: &'a [u8]) -> KeyText<'a>
+        requires { 8 ≤ length bytes.now }
+        ensures { result ≡ bytes.now }
     {
-        if bytes.len() < 8 {
-            return None;
-        }
-        let front = front_of(bytes.as_slice());
-        Some(ShortText { front, bytes })
+        let front = front_of(bytes);
+        KeyText { front, bytes }
     }
 
     /// The bytes.
     pub(crate) fn as_slice(&self) -> &[u8]
         ensures { result.now ≡ self.now }
     {
-        self.bytes.as_slice()
+        self.bytes
     }
 }
 
-impl Sought for &ShortText {
+impl Sought for &KeyText<'_> {
     ghost name = { λ sought. sought.now };
 
+    #[inline(always)]
     fn compare(&self, text: &EntryText) -> Ordering {
         text.compare_with(self.front, self.as_slice())
     }

@@ -5,8 +5,10 @@ mod blocks;
 mod cursor;
 mod entries;
 mod key_text;
+mod searches;
 mod size;
 mod sought;
+mod stack_text;
 mod staging;
 mod table;
 

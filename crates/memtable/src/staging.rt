@@ -4,7 +4,6 @@ ghost use Rattle.std.specs.Prelude.{◌≡◌, ◌≤◌, ◌^◌, List, length,
 ghost use Rattle.std.specs.List.{AllByRecursion};
 ghost use Rattle.cell_key.specs.Keys.{text};
 ghost use Rattle.cell_key.specs.Names.{IsRow, IsFamily};
-ghost use Rattle.cell_key.specs.Texts.{IsPlain};
 ghost use Rattle.cell_key.specs.Cells.{IsEditOf};
 ghost use Rattle.cell_key.specs.Entries.{Entry, IsRising, IsEntry};
 ghost use Rattle.memtable.specs.Slots.{slot_entry, slot_entries, over};
@@ -17,14 +16,16 @@ use crate::entries::{self, Slot};
 use crate::key_text::EntryText;
 use crate::size::Size;
 use crate::sought::version_of;
+use crate::stack_text::ShortBytes;
 use cell_key::{CellKey, Edit, Refusal, Row};
 use smallvec::SmallVec;
 use std::alloc::Global;
 
 /// The text of a key.
+#[inline(always)]
 fn text_of(alloc: Global, key: &CellKey) -> Result<EntryText, Refusal>
     ensures text { IfOk result (λ made. made ≡ text key.now) }
-    ensures short { AllByRecursion IsPlain key.now.row → length (text key.now) ≤ 48 → IsOk result }
+    ensures short { length (text key.now) ≤ 48 → IsOk result }
     ensures row { IsRow key.now.row }
     ensures family { IsFamily key.now.family }
     ensures refusal { IfErr result (λ refusal. refusal ≡ Refusal.NoMemory) }
@@ -32,7 +33,8 @@ fn text_of(alloc: Global, key: &CellKey) -> Result<EntryText, Refusal>
     // These calls show that row and family are within their limits.
     let _row = key.row.as_bytes();
     let _family = key.family.as_bytes();
-    if let Some(short) = version_of(key).short_text() {
+    let mut short = ShortBytes::new();
+    if version_of(key).push_text(&mut short).is_ok() {
         let bytes = SmallVec::from_slice(alloc, short.as_slice())?;
         return Ok(EntryText::new(bytes));
     }
@@ -42,7 +44,7 @@ fn text_of(alloc: Global, key: &CellKey) -> Result<EntryText, Refusal>
 }
 
 /// An edit as an entry.
-fn slot_of(alloc: Global, row: &Row, edit: Edit) -> Result<Box<Slot>, Refusal>
+pub(crate) fn slot_of(alloc: Global, row: &Row, edit: Edit) -> Result<Box<Slot>, Refusal>
     requires { IsEditOf row.now edit }
     ensures entry { IfOk result (λ slot. slot_entry slot.value ≡ edit_entry edit) }
     ensures limits { IfOk result (λ slot. IsEntry (slot_entry slot.value)) }

@@ -1,6 +1,6 @@
 //! The memtable: recent writes, in the order of their keys.
 
-ghost use Rattle.std.specs.Prelude.{◌≡◌, ◌↔◌, ◌≤◌, ◌^◌, [], length, IsTrue, OnOk, OnErr, IfErr, IfSome, IsErrOf, option_map, None, ◌⊎◌};
+ghost use Rattle.std.specs.Prelude.{◌≡◌, ◌↔◌, ◌+◌, ◌≤◌, ◌^◌, [], length, vec_len, IsTrue, OnOk, OnErr, IfErr, IfSome, IsErrOf, option_map, None, ◌⊎◌};
 ghost use Rattle.std.specs.List.{AllByRecursion};
 ghost use Rattle.cell_key.specs.Keys.{text};
 ghost use Rattle.cell_key.specs.Cells.{IsEditOf, IsNewest, version};
@@ -16,7 +16,7 @@ use crate::cursor::Cursor;
 use crate::entries::Slot;
 use crate::size::{self, Size};
 use crate::sought::{Version, version_of};
-use crate::staging;
+use crate::{searches, staging};
 use cell_key::{CellKey, Edit, EntryRef, Family, Qualifier, Refusal, Row, Stamp};
 use std::alloc::Global;
 use std::marker::Model;
@@ -79,6 +79,7 @@ impl Memtable {
             blocks: Blocks {
                 filled: Vec::new(alloc),
                 spare: Vec::new(alloc),
+                near: 0,
             },
             len: 0,
             bytes: 0,
@@ -116,10 +117,7 @@ impl Memtable {
         ensures named { IfSome result (λ lent. lent.key.now ≡ text key.now) }
         ensures list { IsEntryList self.now }
     {
-        let sought = version_of(key);
-        let text = sought.short_text();
-        let slot = blocks::find_at(&self.blocks.filled, sought, text.as_ref())?;
-        Some(slot.lend())
+        searches::find_version(&self.blocks.filled, version_of(key))
     }
 
     /// The entries whose texts aren't below some bytes, in order. Takes no memory.
@@ -127,7 +125,7 @@ impl Memtable {
         ensures cursor { result ≡ (None, entries_from from.now self.now) }
         ensures list { IsEntryList self.now }
     {
-        let (rest, later) = blocks::rest_from(&self.blocks.filled, from);
+        let (rest, later) = blocks::rest_from(&self.blocks.filled, from, self.blocks.near);
         Cursor::new(rest, later)
     }
 
@@ -146,25 +144,13 @@ impl Memtable {
         ensures limits { IfSome result (λ found. IsVersion found.0 found.1.now) }
         ensures list { IsEntryList self.now }
     {
-        // These calls show that row and family are within their limits.
-        let _row = row.as_bytes();
-        let _family = family.as_bytes();
         let sought = Version {
             row,
             family,
             qualifier,
             stamp: hi,
         };
-        let text = sought.short_text();
-        let slot = blocks::first_value_at(&self.blocks.filled, sought, text.as_ref())?;
-        let stamp = sought.stamp_in(text.as_ref(), slot.text.as_slice())?;
-        if stamp < lo {
-            return None;
-        }
-        match &slot.value {
-            Some(value) => Some((stamp, value.as_slice())),
-            None => None,
-        }
+        searches::newest(&self.blocks.filled, self.blocks.near, sought, lo)
     }
 
     /// Makes edits under one row in order, all of them or none: a put sets the entry of its key to the
@@ -190,12 +176,41 @@ impl Memtable {
             entries: self.len as u128,
             bytes: self.bytes as u128,
         };
+        if edits.len() == 2 && before.has_room(2) {
+            return self.put_two(row, edits, before);
+        }
         let staged = staging::stage(self.alloc, row, edits)?;
         if !fit(&self.blocks.filled, before, &staged) {
             return Err(Refusal::MemtableFull);
         }
         blocks::make_room(self.alloc, &mut self.blocks, staged.len())?;
         let size = blocks::put_all(&mut self.blocks, staged, before);
+        self.len = size.entries as usize;
+        self.bytes = size.bytes as usize;
+        Ok(())
+    }
+
+    /// Makes two edits in order. There is room for them, whatever they replace.
+    fn put_two(&mut self, row: &Row, mut edits: Vec<Edit>, before: Size) -> Result<(), Refusal>
+        requires two { vec_len edits ≡ 2 }
+        requires edits { AllByRecursion (IsEditOf row.now) edits.items }
+        requires before { IsSizeOf before self.old }
+        requires entries { length self.old + 2 ≤ 100000 }
+        requires bytes { bytes_of self.old + 2 ^ 19 ≤ 67108864 }
+        ensures ok { OnOk result (self.new ≡ with_edits self.old edits.items) }
+        ensures within { OnOk result (IsWithinLimits (with_edits self.old edits.items)) }
+        ensures keys { OnOk result (AllByRecursion HasStoredKey edits.items) }
+        ensures list { IsEntryList self.new }
+        ensures err { OnErr result (self.new ≡ self.old) }
+        ensures refusal { IfErr result (λ refusal. refusal ≡ Refusal.NoMemory) }
+    {
+        let last = edits.pop().unwrap();
+        let first = edits.pop().unwrap();
+        let first = staging::slot_of(self.alloc, row, first)?;
+        let last = staging::slot_of(self.alloc, row, last)?;
+        blocks::make_room(self.alloc, &mut self.blocks, 2)?;
+        let half = blocks::put_counted(&mut self.blocks, first, before);
+        let size = blocks::put_counted(&mut self.blocks, last, half);
         self.len = size.entries as usize;
         self.bytes = size.bytes as usize;
         Ok(())

@@ -47,9 +47,16 @@ impl Model for Writes {
     ghost invariant = { λ writes. length writes.entries.items ≤ 256 };
 }
 
+/// Whether two cells are the same. Of those that aren't, most differ in how long the row is or in its last byte.
+#[inline(always)]
 fn is_same(cell: &Cell, other: &Cell) -> bool
     ensures { IsTrue result ↔ (cell.now ≡ other.now) }
 {
+    let row = cell.row.as_bytes();
+    let other_row = other.row.as_bytes();
+    if row.len() != other_row.len() || row[row.len() - 1] != other_row[row.len() - 1] {
+        return false;
+    }
     cell == other
 }
 

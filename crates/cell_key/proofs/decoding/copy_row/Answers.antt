@@ -1,8 +1,18 @@
-use Rattle.std.proofs.Common.{sym, ◌∙◌}
-use Rattle.cell_key.proofs.PartEnds.{row_end}
+use Rattle.std.proofs.Common.{List, ℕ, ◌++◌, Result, Ok, Err, IfOk, sym, ap, ◌∙◌}
+use Rattle.cell_key.specs.Texts.{ended}
+use Rattle.cell_key.proofs.EscapedParts.{escaped-all_plain}
+use Rattle.cell_key.proofs.Order.{row_rest}
 use Rattle.cell_key.proofs.decoding.copy_row.Goals as goal
 
-pub returns : goal.returns
-returns c = record {
-  row = λ row rest e. (row_end c.loop-byte.row.items c.loop-byte.left.now row rest c.in_default.ensures.none (sym c.loop-byte.invariant ∙ e)).0;
-}
+if_ok : {A E : Type 0} (r : Result A E) (P Q : A → Type 0) → ((x : A) → P x → Q x) → IfOk r P → IfOk r Q
+if_ok (Ok x) P Q f h = f x h
+if_ok (Err e) P Q f h = tt
+
+pub returns-in-Some : goal.returns-in-Some
+returns-in-Some c =
+    let part = c.in-Some.row.now in
+    let after = c.in-Some.field-0-1.now in
+    let whole = c.in-Some.ensures.found ∙ ap (λ (t : List ℕ). ended t ++ after) (sym (escaped-all_plain part c.in-Some.ensures.whole)) in
+    record {
+      row = if_ok c.from_slice.result _ _ (λ copy same row rest e. same ∙ (row_rest part row after rest (sym whole ∙ e)).0) c.from_slice.ensures.items;
+    }

@@ -1,11 +1,15 @@
-use Rattle.std.proofs.Common.{◌≡◌, ◌+◌, ◌*◌, ◌≤◌, length, drop}
+use Rattle.std.proofs.Common.{◌≡◌, ◌+◌, ◌*◌, ◌≤◌, length}
 use Rattle.cell_key.specs.Texts.{escaped}
 use Rattle.cell_key.proofs.escapes.escaped_len.Given as goal
 
--- what was counted and what is left are the whole
-abbrev pub invariant-loop-byte : goal.invariant-loop-byte
-invariant-loop-byte l =
+-- the zeros that were counted, and what is left, are the whole
+abbrev pub invariant-chunks : goal.invariant-chunks
+invariant-chunks l =
     record {
-      counted : l.len + length (escaped (drop l.byte-index l.bytes)) ≡ length (escaped l.bytes);
-      bound : l.len ≤ 2 * l.byte-index;
+      counted : l.len + length (escaped l.left) ≡ length (escaped l.bytes) + length l.left;
+      bound : l.len + length l.left ≤ 2 * length l.bytes;
+      shorter : length l.left ≤ length l.bytes;
     }
+
+abbrev pub decreases-chunks : goal.decreases-chunks
+decreases-chunks l = length l.left

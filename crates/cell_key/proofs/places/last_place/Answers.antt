@@ -1,4 +1,4 @@
-use Rattle.std.proofs.Common.{◌≡◌, ◌+◌, ◌-◌, ℕ, suc, List, [], ◌∷◌, length, Option, Some, None, slice_get, option_map, sym, ap, ◌∙◌, arith}
+use Rattle.std.proofs.Common.{◌≡◌, ◌-◌, suc, List, [], ◌∷◌, length, Option, Some, slice_get, option_map, ap, ◌∙◌, arith}
 use Rattle.cell_key.specs.Places.{Place, last_or, place_named}
 use Rattle.cell_key.proofs.places.last_place.Goals as goal
 

@@ -24,16 +24,16 @@ pub returns-else-len-eq-BLOCK_ROOM-clause-entries : goal.returns-else-len-eq-BLO
 returns-else-len-eq-BLOCK_ROOM-clause-entries c =
     let xs = c.args.blocks.now.filled.items in
     let name = ap (λ (s : Slot). s.text) c.deref-2.ensures in
-    let place = rw (name, c.deref.ensures.value) at c.index_of.ensures.index in
-    put_chosen c.args.slot.value.text (slot_entry c.args.slot.value).1 c.index_mut.result.now c.put_in-replaced.new.block c.put_in-replaced.ensures.entries xs c.index_of.result c.min-at.result c.requires.rising c.requires.blocks.filled place (omega (arith, c.if-count-eq0.false)) (λ other. (omega (arith, other, c.if-count-eq0.false), omega (arith, other, c.if-count-eq0.false))) c.index_mut.ensures.value
+    let place = rw (name, c.deref.ensures.value) at c.index_near.ensures.index in
+    put_chosen c.args.slot.value.text (slot_entry c.args.slot.value).1 c.index_mut.result.now c.put_in-replaced.new.block c.put_in-replaced.ensures.entries xs c.index_near.result c.min-at.result c.requires.rising c.requires.blocks.filled place (omega (arith, c.if-count-eq0.false)) (λ other. (omega (arith, other, c.if-count-eq0.false), omega (arith, other, c.if-count-eq0.false))) c.index_mut.ensures.value
 
 pub returns-then-len-eq-BLOCK_ROOM-clause-entries : goal.returns-then-len-eq-BLOCK_ROOM-clause-entries
 returns-then-len-eq-BLOCK_ROOM-clause-entries c =
     let xs = c.args.blocks.now.filled.items in
     let name = ap (λ (s : Slot). s.text) c.deref-2.ensures in
-    let place = rw (name, c.deref.ensures.value) at c.index_of.ensures.index in
+    let place = rw (name, c.deref.ensures.value) at c.index_near.ensures.index in
     c.split.ensures.same
-    ∙ put_chosen c.args.slot.value.text (slot_entry c.args.slot.value).1 c.index_mut.result.now c.put_in-replaced.new.block c.put_in-replaced.ensures.entries xs c.index_of.result c.min-at.result c.requires.rising c.requires.blocks.filled place (omega (arith, c.if-count-eq0.false)) (λ other. (omega (arith, other, c.if-count-eq0.false), omega (arith, other, c.if-count-eq0.false))) c.index_mut.ensures.value
+    ∙ put_chosen c.args.slot.value.text (slot_entry c.args.slot.value).1 c.index_mut.result.now c.put_in-replaced.new.block c.put_in-replaced.ensures.entries xs c.index_near.result c.min-at.result c.requires.rising c.requires.blocks.filled place (omega (arith, c.if-count-eq0.false)) (λ other. (omega (arith, other, c.if-count-eq0.false), omega (arith, other, c.if-count-eq0.false))) c.index_mut.ensures.value
 
 pub returns-then-len-eq-BLOCK_ROOM-clause-room : goal.returns-then-len-eq-BLOCK_ROOM-clause-room
 returns-then-len-eq-BLOCK_ROOM-clause-room c n room = c.split.ensures.room n (record { filled = room.filled; spare = room.spare })
@@ -42,16 +42,16 @@ pub returns-then-len-eq-BLOCK_ROOM-clause-replaced : goal.returns-then-len-eq-BL
 returns-then-len-eq-BLOCK_ROOM-clause-replaced c =
     let xs = c.args.blocks.now.filled.items in
     let name = ap (λ (s : Slot). s.text) c.deref-2.ensures in
-    let place = rw (name, c.deref.ensures.value) at c.index_of.ensures.index in
+    let place = rw (name, c.deref.ensures.value) at c.index_near.ensures.index in
     let text = c.args.slot.value.text in
     c.put_in-replaced.ensures.replaced
-    ∙ ap (stood_bytes text) (sym (found_chosen text c.index_mut.result.now xs c.index_of.result c.min-at.result c.requires.rising c.requires.blocks.filled place (omega (arith, c.if-count-eq0.false)) (λ other. (omega (arith, other, c.if-count-eq0.false), omega (arith, other, c.if-count-eq0.false))) c.index_mut.ensures.value))
+    ∙ ap (stood_bytes text) (sym (found_chosen text c.index_mut.result.now xs c.index_near.result c.min-at.result c.requires.rising c.requires.blocks.filled place (omega (arith, c.if-count-eq0.false)) (λ other. (omega (arith, other, c.if-count-eq0.false), omega (arith, other, c.if-count-eq0.false))) c.index_mut.ensures.value))
 
 pub returns-else-len-eq-BLOCK_ROOM-clause-replaced : goal.returns-else-len-eq-BLOCK_ROOM-clause-replaced
 returns-else-len-eq-BLOCK_ROOM-clause-replaced c =
     let xs = c.args.blocks.now.filled.items in
     let name = ap (λ (s : Slot). s.text) c.deref-2.ensures in
-    let place = rw (name, c.deref.ensures.value) at c.index_of.ensures.index in
+    let place = rw (name, c.deref.ensures.value) at c.index_near.ensures.index in
     let text = c.args.slot.value.text in
     c.put_in-replaced.ensures.replaced
-    ∙ ap (stood_bytes text) (sym (found_chosen text c.index_mut.result.now xs c.index_of.result c.min-at.result c.requires.rising c.requires.blocks.filled place (omega (arith, c.if-count-eq0.false)) (λ other. (omega (arith, other, c.if-count-eq0.false), omega (arith, other, c.if-count-eq0.false))) c.index_mut.ensures.value))
+    ∙ ap (stood_bytes text) (sym (found_chosen text c.index_mut.result.now xs c.index_near.result c.min-at.result c.requires.rising c.requires.blocks.filled place (omega (arith, c.if-count-eq0.false)) (λ other. (omega (arith, other, c.if-count-eq0.false), omega (arith, other, c.if-count-eq0.false))) c.index_mut.ensures.value))

@@ -12,7 +12,7 @@ pub first_from-at-requires : goal.first_from-at-requires
 first_from-at-requires g c =
     let tail = sym c.split_at.ensures.back ∙ c.in-Some.ensures.cases.0 in
     subst (λ (ys : _). IsRising (slot_entries ys)) (sym c.deref.ensures.value)
-    (rising_first list_of c.args.blocks.now c.index_of-at.result c.in-Some.block.now c.in-Some.later.now c.requires.rising tail)
+    (rising_first list_of c.args.blocks.now c.index_near-at.result c.in-Some.block.now c.in-Some.later.now c.requires.rising tail)
 
 pub returns-in-Some-clause-entries : goal.returns-in-Some-clause-entries
 returns-in-Some-clause-entries g c =
@@ -27,8 +27,8 @@ returns-in-Some-clause-entries g c =
     let place_in = rw c.deref.ensures.value at c.first_from-at.ensures.place in
     let rest = c.split_at-in-Some.ensures.back ∙ ap (drop at) c.deref-in-Some.ensures.value in
     let part = ap slot_entries rest ∙ sym (drop-map (λ (s : _). slot_entry s.value) at block.slots.items)
-    ∙ sym (from_place name (list_of block) at (rising_first entries xs c.index_of-at.result block later rising tail) place_in) in
-    let all = from_block entries name xs c.index_of-at.result rising (blocks_some xs c.requires.blocks) c.index_of-at.ensures.index ∙ ap (from_first entries name) tail in
+    ∙ sym (from_place name (list_of block) at (rising_first entries xs c.index_near-at.result block later rising tail) place_in) in
+    let all = from_block entries name xs c.index_near-at.result rising (blocks_some xs c.requires.blocks) c.index_near-at.ensures.index ∙ ap (from_first entries name) tail in
     ap (λ (es : List Entry). es ++ block_entries later) part ∙ sym all
 
 pub returns-in-None-clause-entries : goal.returns-in-None-clause-entries
@@ -37,4 +37,4 @@ returns-in-None-clause-entries g c =
     let xs = c.args.blocks.now in
     let name = g.S.Sought.name c.args.sought in
     let tail = sym c.split_at.ensures.back ∙ nil_from_length c.split_at.result.1.now c.in-None.ensures.cases in
-    sym (from_block entries name xs c.index_of-at.result c.requires.rising (blocks_some xs c.requires.blocks) c.index_of-at.ensures.index ∙ ap (from_first entries name) tail)
+    sym (from_block entries name xs c.index_near-at.result c.requires.rising (blocks_some xs c.requires.blocks) c.index_near-at.ensures.index ∙ ap (from_first entries name) tail)

@@ -1,6 +1,6 @@
 use Rattle.std.proofs.Common.{◌≡◌, ◌++◌, length}
 use Rattle.cell_key.specs.Texts.{escaped}
-use Rattle.cell_key.proofs.decoding.copy_row.Given as goal
+use Rattle.cell_key.proofs.decoding.copy_escaped.Given as goal
 
 -- what was read is the text of the row so far
 abbrev pub invariant-loop-byte : goal.invariant-loop-byte

@@ -1,0 +1,11 @@
+use Rattle.std.proofs.Common.{◌≡◌, ◌+◌, ◌≤◌, length, drop}
+use Rattle.cell_key.specs.Texts.{escaped}
+use Rattle.cell_key.proofs.escapes.zero_count.Given as goal
+
+-- what was counted and what is left are the whole
+abbrev pub invariant-loop-byte : goal.invariant-loop-byte
+invariant-loop-byte l =
+    record {
+      counted : (l.byte-index + l.count) + length (escaped (drop l.byte-index l.chunk)) ≡ length (escaped l.chunk);
+      bound : l.count ≤ l.byte-index;
+    }

@@ -1,0 +1,136 @@
+//! Keys that are lent as their texts, read one after the other.
+
+ghost use Rattle.std.specs.Prelude.{◌≡◌, ◌≢◌, ◌≤◌, ◌<◌, ◌^◌, ◌++◌, ◌↔◌, List, ℕ, length, take, drop, IsTrue, IfSome, IfNone};
+ghost use Rattle.std.specs.Ordering.{nat_cmp, ordering_then};
+ghost use Rattle.std.specs.declared.cmp.Ordering.TheVariants.{Less};
+ghost use Rattle.cell_key.specs.Keys.{byte_cmp, qualifier_name, IsKeyText};
+ghost use Rattle.cell_key.specs.Texts.{ended, stamp_text};
+ghost use Rattle.cell_key.specs.LentKeys.{IsLentKey};
+ghost use Rattle.cell_key.specs.declared.keys.Qualifier.{Qualifier as Names};
+
+use crate::decoding::{split_place, stored_stamp_of};
+use crate::keys::{Qualifier, Stamp};
+
+/// A key that is lent as its text, with what the text says behind the row and the family.
+#[derive(Clone, Copy, Debug)]
+pub struct KeyRef<'a> {
+    /// The text of the key.
+    pub text: &'a [u8],
+    /// How many bytes of the text name the row and the family.
+    pub place_len: usize,
+    pub qualifier: Qualifier,
+    pub stamp: Stamp,
+}
+
+/// The qualifier whose name is at the front, and what follows the name's end.
+fn split_name(bytes: &[u8]) -> Option<(Qualifier, &[u8])>
+    ensures found { IfSome result (λ p. bytes.now ≡ ended (qualifier_name p.0) ++ p.1.now) }
+    ensures none { IfNone result ((qualifier : Names) (rest : List ℕ)
+        → bytes.now ≢ ended (qualifier_name qualifier) ++ rest) }
+{
+    if let Some(rest) = bytes.strip_prefix(b"data\0\0") {
+        return Some((Qualifier::Data, rest));
+    }
+    if let Some(rest) = bytes.strip_prefix(b"lock\0\0") {
+        return Some((Qualifier::Lock, rest));
+    }
+    let rest = bytes.strip_prefix(b"write\0\0")?;
+    Some((Qualifier::Write, rest))
+}
+
+/// The qualifier and the stamp that follow the place in a key's text.
+#[inline(always)]
+fn split_version(bytes: &[u8]) -> Option<(Qualifier, Stamp)>
+    ensures found { IfSome result (λ p.
+        bytes.now ≡ ended (qualifier_name p.0) ++ stamp_text p.1) }
+    ensures from { IfSome result (λ p. 1 ≤ p.1) }
+    ensures to { IfSome result (λ p. p.1 < 2 ^ 63) }
+    ensures none { IfNone result ((qualifier : Names) (stamp : ℕ) → 1 ≤ stamp → stamp < 2 ^ 63
+        → bytes.now ≢ ended (qualifier_name qualifier) ++ stamp_text stamp) }
+{
+    let (qualifier, falling) = split_name(bytes)?;
+    let stamp = stored_stamp_of(falling)?;
+    Some((qualifier, stamp))
+}
+
+/// The key whose text the bytes are.
+fn lend_key(bytes: &[u8]) -> Option<KeyRef<'_>>
+    ensures found { IfSome result IsLentKey }
+    ensures text { IfSome result (λ key. key.text.now ≡ bytes.now) }
+    ensures none { IfNone result (¬ IsKeyText bytes.now) }
+{
+    let (_, _, tail) = split_place(bytes)?;
+    let (qualifier, stamp) = split_version(tail)?;
+    Some(KeyRef {
+        text: bytes,
+        place_len: bytes.len() - tail.len(),
+        qualifier,
+        stamp,
+    })
+}
+
+/// Whether in one place a version of the first qualifier and stamp comes before one of the second.
+fn is_before(first: (Qualifier, Stamp), second: (Qualifier, Stamp)) -> bool
+    ensures { IsTrue result ↔ (ordering_then
+        (byte_cmp (qualifier_name first.0) (qualifier_name second.0))
+        (nat_cmp second.1 first.1) ≡ Less) }
+{
+    match (first.0, second.0) {
+        (Qualifier::Data, Qualifier::Data)
+        | (Qualifier::Lock, Qualifier::Lock)
+        | (Qualifier::Write, Qualifier::Write) => second.1 < first.1,
+        (Qualifier::Data, _) | (Qualifier::Lock, Qualifier::Write) => true,
+        (Qualifier::Lock, Qualifier::Data) | (Qualifier::Write, _) => false,
+    }
+}
+
+/// The key behind a place that stands in the text of another key too, if it comes after that one.
+#[inline(always)]
+fn in_place<'a>(last: KeyRef<'_>, bytes: &'a [u8], tail: &[u8]) -> Option<KeyRef<'a>>
+    requires last { IsLentKey last }
+    requires place { bytes.now ≡ take last.place_len last.text.now ++ tail.now }
+    ensures found { IfSome result IsLentKey }
+    ensures text { IfSome result (λ key. key.text.now ≡ bytes.now) }
+    ensures above { IfSome result (λ key. byte_cmp last.entry.text.now bytes.now ≡ Less) }
+    ensures none { IfNone result (IsKeyText bytes.now
+        → byte_cmp last.entry.text.now bytes.now ≢ Less) }
+{
+    let (qualifier, stamp) = split_version(tail)?;
+    if !is_before((last.qualifier, last.stamp), (qualifier, stamp)) {
+        return None;
+    }
+    Some(KeyRef {
+        text: bytes,
+        place_len: last.place_len,
+        qualifier,
+        stamp,
+    })
+}
+
+/// The key whose text the bytes are, if it is within all limits and comes after the last one; `None` if they are no
+/// such text. If the bytes begin as the text of the last one does, up to the end of the place, only what follows the
+/// place is looked at. Takes no memory.
+#[inline(always)]
+pub fn next_key<'a>(last: Option<KeyRef<'_>>, bytes: &'a [u8]) -> Option<KeyRef<'a>>
+    requires { IfSome last IsLentKey }
+    ensures found { IfSome result IsLentKey }
+    ensures text { IfSome result (λ key. key.text.now ≡ bytes.now) }
+    ensures above { IfSome result (λ key. IfSome last.entry (λ before.
+        byte_cmp before.text.now bytes.now ≡ Less)) }
+    ensures none { IfNone result (IsKeyText bytes.now
+        → ¬ IfSome last.entry (λ before. byte_cmp before.text.now bytes.now ≡ Less)) }
+{
+    let Some(last) = last else {
+        return lend_key(bytes);
+    };
+    let (place, _) = last.text.split_at(last.place_len);
+    if let Some(tail) = bytes.strip_prefix(place) {
+        return in_place(last, bytes, tail);
+    }
+    let key = lend_key(bytes)?;
+    if last.text.cmp(&bytes).is_lt() {
+        Some(key)
+    } else {
+        None
+    }
+}

@@ -1,0 +1,125 @@
+//! Searches of blocks for a key and for the newest version of a column. They take no memory.
+
+ghost use Rattle.std.specs.Prelude.{◌≡◌, IfSome, option_map};
+ghost use Rattle.std.specs.List.{AllByRecursion};
+ghost use Rattle.cell_key.specs.Cells.{IsNewest};
+ghost use Rattle.cell_key.specs.Entries.{IsEntryList, cells_of, lent_entry, entry_of_key};
+ghost use Rattle.cell_key.specs.Keys.{text};
+ghost use Rattle.cell_key.specs.Versions.{IsVersion};
+ghost use Rattle.memtable.specs.Blocks.{block_entries, IsEntryBlock};
+ghost use Rattle.memtable.specs.Order.{at_stamp, key_of};
+ghost use Rattle.memtable.specs.Slots.{lent_version};
+
+use crate::blocks::{self, Block};
+use crate::key_text::KeyText;
+use crate::sought::Version;
+use crate::stack_text::{LongBytes, ShortBytes};
+use cell_key::{EntryRef, Stamp};
+
+/// The entry of a text.
+fn find<'a>(blocks: &'a [Block], name: &KeyText<'_>) -> Option<EntryRef<'a>>
+    requires list { IsEntryList (block_entries blocks.now) }
+    requires blocks { AllByRecursion IsEntryBlock blocks.now }
+    ensures found { option_map (λ lent. (lent_entry lent).1) result
+        ≡ entry_of_key (block_entries blocks.now) name.now }
+    ensures named { IfSome result (λ lent. lent.key.now ≡ name.now) }
+{
+    let slot = blocks::find(blocks, name)?;
+    Some(slot.lend())
+}
+
+/// The entry of a version whose text is a long one.
+fn find_long<'a>(blocks: &'a [Block], sought: Version<'_>) -> Option<EntryRef<'a>>
+    requires list { IsEntryList (block_entries blocks.now) }
+    requires blocks { AllByRecursion IsEntryBlock blocks.now }
+    ensures found { option_map (λ lent. (lent_entry lent).1) result
+        ≡ entry_of_key (block_entries blocks.now) (text (key_of sought.entry)) }
+    ensures named { IfSome result (λ lent. lent.key.now ≡ text (key_of sought.entry)) }
+{
+    let mut long = LongBytes::new();
+    sought.push_long_text(&mut long);
+    find(blocks, &KeyText::of(long.as_slice()))
+}
+
+/// The entry of a version.
+pub(crate) fn find_version<'a>(blocks: &'a [Block], sought: Version<'_>) -> Option<EntryRef<'a>>
+    requires list { IsEntryList (block_entries blocks.now) }
+    requires blocks { AllByRecursion IsEntryBlock blocks.now }
+    ensures found { option_map (λ lent. (lent_entry lent).1) result
+        ≡ entry_of_key (block_entries blocks.now) (text (key_of sought.entry)) }
+    ensures named { IfSome result (λ lent. lent.key.now ≡ text (key_of sought.entry)) }
+{
+    let mut short = ShortBytes::new();
+    if sought.push_text(&mut short).is_ok() {
+        return find(blocks, &KeyText::of(short.as_slice()));
+    }
+    find_long(blocks, sought)
+}
+
+/// The version with the greatest stamp from `lo` to that of a version of the same column, whose own text is given.
+fn newest_of<'a>(
+    blocks: &'a [Block],
+    near: usize,
+    sought: Version<'_>,
+    own: &KeyText<'_>,
+    lo: Stamp,
+) -> Option<(Stamp, &'a [u8])>
+    requires list { IsEntryList (block_entries blocks.now) }
+    requires blocks { AllByRecursion IsEntryBlock blocks.now }
+    requires own { own.now ≡ text (key_of sought) }
+    ensures found { IsNewest (cells_of (block_entries blocks.now)) (at_stamp sought.entry)
+        lo sought.entry.stamp (option_map lent_version result) }
+    ensures limits { IfSome result (λ found. IsVersion found.0 found.1.now) }
+{
+    // These calls show that row and family are within their limits.
+    let _row = sought.row.as_bytes();
+    let _family = sought.family.as_bytes();
+    let slot = blocks::first_value_from(blocks, own, near)?;
+    let stamp = sought.stamp_in(own, slot.text.as_slice())?;
+    if stamp < lo {
+        return None;
+    }
+    match &slot.value {
+        Some(value) => Some((stamp, value.as_slice())),
+        None => None,
+    }
+}
+
+/// The same if the text is a long one.
+fn newest_of_long<'a>(
+    blocks: &'a [Block],
+    near: usize,
+    sought: Version<'_>,
+    lo: Stamp,
+) -> Option<(Stamp, &'a [u8])>
+    requires list { IsEntryList (block_entries blocks.now) }
+    requires blocks { AllByRecursion IsEntryBlock blocks.now }
+    ensures found { IsNewest (cells_of (block_entries blocks.now)) (at_stamp sought.entry)
+        lo sought.entry.stamp (option_map lent_version result) }
+    ensures limits { IfSome result (λ found. IsVersion found.0 found.1.now) }
+{
+    let mut long = LongBytes::new();
+    sought.push_long_text(&mut long);
+    newest_of(blocks, near, sought, &KeyText::of(long.as_slice()), lo)
+}
+
+/// The version with the greatest stamp from `lo` to that of a version of the same column. The block at `near` is tried
+/// first.
+pub(crate) fn newest<'a>(
+    blocks: &'a [Block],
+    near: usize,
+    sought: Version<'_>,
+    lo: Stamp,
+) -> Option<(Stamp, &'a [u8])>
+    requires list { IsEntryList (block_entries blocks.now) }
+    requires blocks { AllByRecursion IsEntryBlock blocks.now }
+    ensures found { IsNewest (cells_of (block_entries blocks.now)) (at_stamp sought.entry)
+        lo sought.entry.stamp (option_map lent_version result) }
+    ensures limits { IfSome result (λ found. IsVersion found.0 found.1.now) }
+{
+    let mut short = ShortBytes::new();
+    if sought.push_text(&mut short).is_ok() {
+        return newest_of(blocks, near, sought, &KeyText::of(short.as_slice()), lo);
+    }
+    newest_of_long(blocks, near, sought, lo)
+}
