@@ -1,5 +1,5 @@
 -- Blocks and texts that go on.
-use Rattle.std.proofs.Common.{◌≡◌, ◌+◌, ℕ, Bool, true, false, T, ◌&&◌, List, [], ◌∷◌, ◌++◌, length, map, refl, sym, ap, subst, arith, length-append, append_assoc, ◌∙◌}
+use Rattle.std.proofs.Common.{◌≡◌, ◌+◌, ℕ, Bool, true, false, T, ◌&&◌, List, [], ◌∷◌, ◌++◌, length, map, refl, sym, ap, subst, arith, length-append}
 use Rattle.std.specs.List.{AllByRecursion}
 use Rattle.std.specs.Ordering.{is_lt}
 use Rattle.std.specs.declared.cmp.Ordering.{Ordering}
@@ -10,8 +10,9 @@ use Rattle.cell_key.specs.Keys.{byte_cmp}
 use Rattle.cell_key.specs.Entries.{Entry, IsRising}
 use Rattle.cell_key.proofs.TextPlaces.{first, second, less}
 use Rattle.sorted_file.specs.Grammar.{block_bytes, body, Fits, IsFullBlock, AreBlocks}
-use Rattle.sorted_file.specs.Index.{block_of, blocks_of, entries_in, AreRows, IsRowAt}
-use Rattle.sorted_file.specs.Check.{IsFollowed, IsLastOf}
+use Rattle.sorted_file.specs.Index.{block_of, blocks_of, AreRows, IsRowAt}
+use Rattle.sorted_file.specs.Block.{IsLastText}
+use Rattle.sorted_file.specs.Check.{IsFollowed}
 use Rattle.sorted_file.specs.declared.block.BlockRow.{BlockRow}
 
 pub both : (a b : Bool) → T a → T b → T (a && b)
@@ -128,39 +129,23 @@ pub last_row : (at : ℕ) (rows : List BlockRow) (row : BlockRow) → AreRows at
 last_row at [] row h = h.0.length
 last_row at (r ∷ rows) row h = last_row (at + length (block_bytes (block_of r))) rows row h.1
 
--- ---- the last block
+-- ---- the last text
 
-pub last_joined : (blocks : List (List Entry)) (es : List Entry) → IsLastOf (blocks ++ es ∷ []) es
-last_joined [] es = refl
-last_joined (b ∷ []) es = refl
-last_joined (b ∷ c ∷ blocks) es = last_joined (c ∷ blocks) es
+rise : (d e : Entry) (more : List Entry) → byte_cmp d.0 e.0 ≡ Less → IsRising (e ∷ more) → IsRising (d ∷ e ∷ more)
+rise d e more p h = both _ _ (below_rest d.0 e more h p) h
 
-below_after : (name : List ℕ) (xs ys : List Entry) → T (below_all byte_cmp name (xs ++ ys)) → T (below_all byte_cmp name ys)
-below_after name [] ys h = h
-below_after name (x ∷ xs) ys h = below_after name xs ys (second _ _ h)
+-- a list whose first entry comes after the last text of another goes on behind it
+pub rises_behind : (es : List Entry) (e : Entry) (more : List Entry) (last : List ℕ) → IsLastText es last → IsRising es → IsRising (e ∷ more) → byte_cmp last e.0 ≡ Less → IsRising (es ++ e ∷ more)
+rises_behind [] e more last is r h p = h
+rises_behind (d ∷ []) e more last is r h p = rise d e more (subst (λ (t : List ℕ). byte_cmp t e.0 ≡ Less) is p) h
+rises_behind (d ∷ f ∷ es) e more last is r h p = rise d f (es ++ e ∷ more) (less _ (first _ _ (first _ _ r))) (rises_behind (f ∷ es) e more last is (second _ _ r) h p)
 
--- a list rises where its front and its back do, and these have an entry in common
-rising_over : (xs : List Entry) (r : Entry) (rs ys : List Entry) → IsRising (xs ++ r ∷ rs) → IsRising ((r ∷ rs) ++ ys) → IsRising (xs ++ ((r ∷ rs) ++ ys))
-rising_over [] r rs ys h k = k
-rising_over (x ∷ xs) r rs ys h k =
-    let low : byte_cmp x.0 r.0 ≡ Less = less _ (first _ _ (below_after x.0 xs (r ∷ rs) (first _ _ h))) in
-    let behind = below_less x.0 r.0 ys low (below_after r.0 rs ys (first _ _ k)) in
-    both _ _ (subst (λ (l : List Entry). T (below_all byte_cmp x.0 l)) (append_assoc xs (r ∷ rs) ys) (below_joined x.0 (xs ++ r ∷ rs) ys (first _ _ h) behind)) (rising_over xs r rs ys (second _ _ h) k)
+-- the last text of two lists is that of the second
+pub last_behind : (es : List Entry) (e : Entry) (more : List Entry) (last : List ℕ) → IsLastText (e ∷ more) last → IsLastText (es ++ e ∷ more) last
+last_behind [] e more last h = h
+last_behind (d ∷ []) e more last h = h
+last_behind (d ∷ f ∷ es) e more last h = last_behind (f ∷ es) e more last h
 
-pub last_rises : (blocks : List (List Entry)) (last es : List Entry) → AreBlocks blocks → IsLastOf blocks last → IsRising (entries_in blocks) → IsRising (last ++ es) → IsRising (entries_in blocks ++ es)
-last_rises [] last es g is r h = subst (λ (l : List Entry). IsRising (l ++ es)) is h
-last_rises (b ∷ []) last es g is r h = subst (λ (l : List Entry). IsRising (l ++ es)) (is ∙ sym (append-nil b)) h
-last_rises (b ∷ [] ∷ blocks) last es g is r h = absurd g.2.0
-last_rises (b ∷ (c ∷ cs) ∷ blocks) last es g is r h =
-    let rest = last_rises ((c ∷ cs) ∷ blocks) last es g.2 is (rising_back b _ r) h in
-    subst (λ (l : List Entry). IsRising l) (sym (append_assoc b (c ∷ (cs ++ entries_in blocks)) es)) (rising_over b c (cs ++ entries_in blocks) es r rest)
-
-pub rises_last : (blocks : List (List Entry)) (last es : List Entry) → IsLastOf blocks last → IsRising (entries_in blocks ++ es) → IsRising (last ++ es)
-rises_last [] last es is h = subst (λ (l : List Entry). IsRising (l ++ es)) (sym is) h
-rises_last (b ∷ []) last es is h = subst (λ (l : List Entry). IsRising (l ++ es)) (sym (is ∙ sym (append-nil b))) h
-rises_last (b ∷ c ∷ blocks) last es is h = rises_last (c ∷ blocks) last es is (rising_back b _ (subst (λ (l : List Entry). IsRising l) (append_assoc b (entries_in (c ∷ blocks)) es) h))
-
-pub last_list : (blocks : List (List Entry)) (last : List Entry) → IsLastOf blocks last → IsRising (entries_in blocks) → IsRising last
-last_list [] last is r = subst (λ (l : List Entry). IsRising l) (sym is) tt
-last_list (b ∷ []) last is r = subst (λ (l : List Entry). IsRising l) (sym is) (rising_front b [] r)
-last_list (b ∷ c ∷ blocks) last is r = last_list (c ∷ blocks) last is (rising_back b _ r)
+pub last_fits : (es fs : List Entry) (last : List ℕ) → Fits fs → IsLastText fs last → IsLastText (es ++ fs) last
+last_fits es [] last fits h = absurd fits
+last_fits es (f ∷ fs) last fits h = last_behind es f fs last h

@@ -1,5 +1,7 @@
+mod AcceptedBlocks
 mod Behind
 mod Breaks
+mod ColumnsOf
 mod Counting
 mod CursorSteps
 mod EntryParts
@@ -16,11 +18,13 @@ mod Numbered
 mod Opened
 mod OpenBlocks
 mod OpenFiles
+mod Parsed
 mod Passed
 mod Places
 mod Reading
 mod Rest
 mod Results
+mod RowFronts
 mod Rows
 mod Searched
 mod Seams

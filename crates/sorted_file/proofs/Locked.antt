@@ -1,5 +1,5 @@
 -- A lock whose column's number isn't among those of locks has no value.
-use Rattle.std.proofs.Common.{◌≡◌, ◌≤◌, ◌<◌, ◌^◌, ◌-◌, ℕ, Bool, true, false, cond, List, [], ◌∷◌, Contains, Option, Some, None, refl, sym, ap, subst, ◌∙◌, arith}
+use Rattle.std.proofs.Common.{◌≡◌, ℕ, Bool, true, false, cond, List, [], ◌∷◌, Contains, Option, Some, None, refl, sym, ap, subst}
 use Rattle.std.specs.List.{AllByRecursion}
 use Rattle.std.specs.Ordering.{eq_by_cmp}
 use Rattle.std.specs.FinMap.Entries.{find}
@@ -8,11 +8,9 @@ use Rattle.cell_key.specs.Entries.{Entry, entry_of_key, value_of}
 use Rattle.cell_key.specs.declared.keys.CellKey.{CellKey}
 use Rattle.cell_key.specs.declared.keys.Qualifier.{Qualifier}
 use Rattle.cell_key.specs.declared.keys.Qualifier.TheVariants.{Data, Lock, Write}
-use Rattle.sorted_file.specs.Bounds.{column_bounds, IsBounded, IsWithin}
 use Rattle.sorted_file.specs.File.{value_numbers}
 use Rattle.sorted_file.specs.Newest.{at_stamp}
 use Rattle.sorted_file.specs.Numbers.{number_of, IsAmong, IsLockNumbered, IsNumbered}
-use Rattle.sorted_file.specs.declared.bounds.ColumnBounds.{ColumnBounds}
 use Rattle.sorted_file.specs.declared.file.SortedFile.{SortedFile}
 use Rattle.sorted_file.proofs.Bounded.{one_text}
 use Rattle.sorted_file.proofs.Numbered.{no_entry, one_number}
@@ -23,17 +21,6 @@ one_on old new keeps e is key stored named lock some = keeps (number_of e.0) (is
 pub locked_on : (old new : List ℕ) → IsAmong old new → (es : List Entry) → AllByRecursion (IsLockNumbered old) es → AllByRecursion (IsLockNumbered new) es
 locked_on old new keeps [] all = tt
 locked_on old new keeps (e ∷ es) all = (one_on old new keeps e all.0, locked_on old new keeps es all.1)
-
--- where no lock is within the bounds there is none
-pub none_locked : (numbers : List ℕ) (bounds : ColumnBounds) → ((row : List ℕ) (s : ℕ) → 1 ≤ s → s ≤ 2 ^ 63 - 1 → ¬ (IsWithin (column_bounds bounds Lock) row s))
-    → (es : List Entry) → AllByRecursion (IsBounded bounds) es → AllByRecursion (IsLockNumbered numbers) es
-none_locked numbers bounds out [] all = tt
-none_locked numbers bounds out (e ∷ es) all = (
-  λ key stored named lock some.
-      let to = stored.to in
-      absurd (out key.row key.stamp stored.from (omega arith) (subst (λ (q : Qualifier). IsWithin (column_bounds bounds q) key.row key.stamp) lock (all.0 key stored named some))),
-  none_locked numbers bounds out es all.1,
-)
 
 module _ (numbers : List ℕ) (key : CellKey) (stored : IsStored key) (lock : key.qualifier ≡ Lock) (out : ¬ Contains numbers (number_of (text key))) where
   none_here : (name : List ℕ) (value : Option (List ℕ)) → IsLockNumbered numbers (name, value) → name ≡ text key → value ≡ None

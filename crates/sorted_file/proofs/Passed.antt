@@ -1,12 +1,12 @@
 -- What a source has passed over is written.
-use Rattle.std.proofs.Common.{◌≡◌, ℕ, ◌+◌, ◌<◌, ◌≤◌, ◌^◌, ◌⊎◌, false, List, [], ◌∷◌, ◌++◌, length, refl, sym, subst}
+use Rattle.std.proofs.Common.{◌≡◌, ℕ, ◌+◌, ◌<◌, ◌≤◌, ◌^◌, ◌⊎◌, false, List, [], ◌∷◌, ◌++◌, length, refl, subst}
 use Rattle.std.specs.Prelude.{Option, Some, None, is_some}
 use Rattle.cell_key.specs.Entries.{Entry, entry_len}
 use Rattle.file_store.specs.Store.{Contents}
 use Rattle.sorted_file.specs.Builder.{State, IsBuilt}
 use Rattle.sorted_file.specs.Grammar.{FitsIn, IsFile}
 use Rattle.sorted_file.specs.declared.format.Format.TheVariants.{Two}
-use Rattle.sorted_file.specs.Passing.{BreaksAfter, EndsAfter, IsFileOf, PassesOver, PassesTooMuch, passes_none, passes_one}
+use Rattle.sorted_file.specs.Passing.{BreaksAfter, IsFileOf, PassesOver, PassesTooMuch, passes_none, passes_one}
 use Rattle.sorted_file.proofs.Rest.{too_large}
 
 -- a file so far is that of the entries that a source has passed over

@@ -1,5 +1,5 @@
 -- The entries of a file from a place on.
-use Rattle.std.proofs.Common.{◌≡◌, List, [], ◌∷◌, length, map, Option, Some, None, refl, arith}
+use Rattle.std.proofs.Common.{List, Option, Some, None}
 use Rattle.cell_key.specs.Entries.{Entry, IsEntryList}
 use Rattle.cell_key.proofs.TextPlaces.{second}
 use Rattle.sorted_file.specs.Source.{pending}
@@ -7,7 +7,3 @@ use Rattle.sorted_file.specs.Source.{pending}
 pub rest_list : (o : Option Entry) (es : List Entry) → IsEntryList (pending o es) → IsEntryList es
 rest_list None es h = h
 rest_list (Some e) es h = record { rising = second _ _ h.rising; each = h.each.1 }
-
-pub empty_map : {X : Type 0} (f : X → Entry) (xs : List X) → length xs ≡ 0 → map f xs ≡ []
-empty_map f [] e = refl
-empty_map f (x ∷ xs) e = absurd (omega (arith, e))

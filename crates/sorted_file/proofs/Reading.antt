@@ -1,6 +1,6 @@
 -- What the front of some bytes can be.
 use Rattle.std.proofs.Common.{◌≡◌, ◌≢◌, ℕ, zero, ◌+◌, ◌-◌, ◌≤◌, ◌<◌, ◌^◌, Bool, true, false, ◌&&◌, T, List, [], ◌∷◌, ◌++◌, length, drop, refl, sym, ap, subst, ◌∙◌, arith, length-append, append_assoc}
-use Rattle.std.specs.Prelude.{flat_map, Option, Some, None, ◌↔◌}
+use Rattle.std.specs.Prelude.{flat_map, Option, Some, None}
 use Rattle.std.specs.List.{AllByRecursion}
 use Rattle.std.specs.declared.cmp.Ordering.{Ordering}
 use Rattle.std.specs.declared.cmp.Ordering.TheVariants.{Less, Equal, Greater}
@@ -11,7 +11,7 @@ use Rattle.cell_key.specs.Keys.{byte_cmp}
 use Rattle.cell_key.specs.Entries.{Entry, IsEntry, IsRising, spelled, spelled_value, field}
 use Rattle.sorted_file.specs.Grammar.{foot_len, most, number_bytes, IsFile}
 use Rattle.sorted_file.specs.declared.format.Format.{Format}
-use Rattle.sorted_file.proofs.Spelling.{one_spelling, field_split, field_length, spelled_split, spelled_length, short, goes_on, is_cut, number_split}
+use Rattle.sorted_file.proofs.Spelling.{field_split, field_length, short, is_cut, number_split}
 use Rattle.sorted_file.proofs.EntryParts.{index_cut}
 
 -- ---- an entry
@@ -60,32 +60,6 @@ all_at (d ∷ done) more e h = all_at done more e h.1
 pub rest_small : (bytes front rest : List ℕ) → length bytes < 2 ^ 32 → bytes ≡ front ++ rest → length rest < 2 ^ 32
 rest_small bytes front rest small s = omega (arith, small, ap length s, length-append front rest)
 
--- bytes that go on with no entry are those of no list
-pub stuck : (done es : List Entry) (bytes rest : List ℕ) → length bytes < 2 ^ 32 → bytes ≡ flat_map spelled done ++ rest → length rest ≢ 0 → ((e : Entry) (x : List ℕ) → rest ≢ spelled e ++ x) → bytes ≡ flat_map spelled es → ⊥
-stuck done es bytes rest small s some h t =
-    let on = goes_on done es bytes rest small s t in
-    go on.more on.bytes
-  where
-    go : (more : List Entry) → rest ≡ flat_map spelled more → ⊥
-    go [] r = some (ap length r)
-    go (e ∷ more) r = h e (flat_map spelled more) r
-
--- nor those that go on with an entry outside the limits
-pub outside : (done es : List Entry) (bytes rest after : List ℕ) (b : Entry) → length bytes < 2 ^ 32 → bytes ≡ flat_map spelled done ++ rest → rest ≡ spelled b ++ after → ¬ IsEntry b → AllByRecursion IsEntry es → bytes ≡ flat_map spelled es → ⊥
-outside done es bytes rest after b small s r bad all t =
-    let on = goes_on done es bytes rest small s t in
-    go on.more on.list on.bytes
-  where
-    go : (more : List Entry) → es ≡ done ++ more → rest ≡ flat_map spelled more → ⊥
-    go [] l q =
-        let n : length rest ≡ length (spelled b) + length after = ap length r ∙ length-append (spelled b) after in
-        let z : length rest ≡ 0 = ap length q in
-        omega (arith, n, z, spelled_length b)
-    go (e ∷ more) l q =
-        let less = rest_small bytes (flat_map spelled done) rest small s in
-        let same = spelled_split b e after (flat_map spelled more) (short b after rest r less) (short e (flat_map spelled more) rest q less) (sym r ∙ q) in
-        bad (subst IsEntry (sym same.0) (all_at done more e (subst (AllByRecursion IsEntry) l all)))
-
 -- ---- the order
 
 both : (a b : Bool) → T a → T b → T (a && b)
@@ -119,12 +93,6 @@ below_less x y (e ∷ es) p h =
 rise : (l n : Entry) (after : List Entry) → byte_cmp l.0 n.0 ≡ Less → IsRising (n ∷ after) → IsRising (l ∷ n ∷ after)
 rise l n after p h = both _ _ (both _ _ (subst (λ (o : Ordering). T (is_lt o)) (sym p) tt) (below_less l.0 n.0 after p (first _ _ h))) h
 
--- a list rises from an entry on if it rises from the next one
-pub rise_step : (all : Type 0) (l n : Entry) (rest after : List Entry) → rest ≡ n ∷ after → byte_cmp l.0 n.0 ≡ Less → (all ↔ IsRising (l ∷ rest)) → (all ↔ IsRising (n ∷ after))
-rise_step all l n rest after r p i =
-    let h : all ↔ IsRising (l ∷ n ∷ after) = subst (λ (es : List Entry). all ↔ IsRising (l ∷ es)) r i in
-    (λ a. second _ _ (h.0 a), λ q. h.1 (rise l n after p q))
-
 -- ---- the place of the index
 
 pub record IsIndexPlace (f : Format) (n : ℕ) (es : List Entry) (image : List ℕ) : Type 0 where
@@ -138,8 +106,3 @@ place_of f es image last rest n small is d s =
     let all = is.small in
     let exact = (number_split f n (8 + length (flat_map spelled es)) rest c.numbers small (omega (arith, size, all)) (sym s ∙ d ∙ index_cut f es image c)).0 in
     record { exact = exact; within = omega (arith, exact, size) }
-
--- the entries that were read are those of each list of this image
-pub same_list : (es got : List Entry) (part : List ℕ) → length part < 2 ^ 32 → part ≡ flat_map spelled got → part ≡ flat_map spelled es → es ≡ got
-same_list es got part small g e =
-    one_spelling got es (omega (arith, small, ap length g)) (sym g ∙ e)

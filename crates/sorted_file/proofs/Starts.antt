@@ -1,5 +1,7 @@
 -- Where the entries of a block begin, and the list that bytes are read as.
-use Rattle.std.proofs.Common.{◌≡◌, ◌≢◌, ◌+◌, ◌-◌, ◌≤◌, ◌<◌, ◌^◌, ℕ, zero, suc, T, List, [], ◌∷◌, ◌++◌, length, drop, slice_get, Some, None, refl, sym, ap, subst, ◌∙◌, arith, length-append, length-drop, append_assoc}
+use Rattle.std.proofs.Common.{◌≡◌, ◌≢◌, ◌+◌, ◌-◌, ◌≤◌, ◌<◌, ◌^◌, ℕ, zero, suc, T, List, [], ◌∷◌, ◌++◌, length, drop, slice_get, Option, Some, None, refl, sym, ap, subst, ◌∙◌, arith, length-append, length-drop, append_assoc}
+use Rattle.std.specs.Prelude.{IfSome}
+use Rattle.std.proofs.lemmas.List.{append-nil, nil_from_length}
 use Rattle.std.specs.List.{AllByRecursion}
 use Rattle.std.specs.Ordering.{is_lt}
 use Rattle.std.specs.declared.cmp.Ordering.{Ordering}
@@ -11,10 +13,11 @@ use Rattle.cell_key.specs.Texts.{ended, escaped, stamp_text}
 use Rattle.cell_key.specs.Entries.{Entry, IsEntry, IsEntryList, IsRising, spelled}
 use Rattle.cell_key.proofs.TextPlaces.{first, less, second}
 use Rattle.sorted_file.specs.Grammar.{block_bytes}
-use Rattle.sorted_file.specs.Block.{starts_from, IsParsed}
+use Rattle.sorted_file.specs.Block.{last_text, starts_from, IsLastText, IsParsed}
+use Rattle.cell_key.specs.declared.lent_keys.KeyRef.{KeyRef}
 use Rattle.sorted_file.specs.declared.block.Block.{Block}
 use Rattle.sorted_file.proofs.Joining.{all_joined, both}
-use Rattle.sorted_file.proofs.Spelling.{goes_on, one_spelling, short, spelled_length, spelled_split}
+use Rattle.sorted_file.proofs.Spelling.{goes_on, one_spelling, short, spelled_split}
 
 -- ---- the entry that begins at a place
 
@@ -22,7 +25,7 @@ pub starts_length : (at : ℕ) (es : List Entry) → length (starts_from at es) 
 starts_length at [] = refl
 starts_length at (e ∷ es) = ap suc (starts_length (at + length (spelled e)) es)
 
-starts_joined : (at : ℕ) (es : List Entry) (e : Entry) → starts_from at (es ++ e ∷ []) ≡ starts_from at es ++ (at + length (block_bytes es)) ∷ []
+pub starts_joined : (at : ℕ) (es : List Entry) (e : Entry) → starts_from at (es ++ e ∷ []) ≡ starts_from at es ++ (at + length (block_bytes es)) ∷ []
 starts_joined at [] e = let same : at ≡ at + 0 = omega arith in ap (λ (n : ℕ). n ∷ []) same
 starts_joined at (d ∷ es) e =
     let same : at + length (spelled d) + length (block_bytes es) ≡ at + length (block_bytes (d ∷ es)) = omega (arith, length-append (spelled d) (block_bytes es)) in
@@ -77,12 +80,6 @@ no_entry_at (d ∷ es) (suc i) from e = no_entry_at es i (from + length (spelled
 
 -- ---- bytes that are read as a list
 
--- this is the last text of entries, or there is none
-abbrev pub IsLastText : List Entry → List ℕ → Type 0
-IsLastText [] name = name ≡ []
-IsLastText (e ∷ []) name = name ≡ e.0
-IsLastText (e ∷ f ∷ es) name = IsLastText (f ∷ es) name
-
 -- these bytes were read as entries, and this is left
 pub record IsDone (bytes rest last starts : List ℕ) : Type 0 where
   pub done : List Entry
@@ -102,25 +99,25 @@ below_on : (name : List ℕ) (es : List Entry) (e : Entry) → T (below_all byte
 below_on name [] e h p = both _ _ (is_less _ p) tt
 below_on name (d ∷ es) e h p = both _ _ (first _ _ h) (below_on name es e (second _ _ h) p)
 
-rising_on : (es : List Entry) (e : Entry) (last : List ℕ) → IsRising es → IsLastText es last → byte_cmp last e.0 ≡ Less → IsRising (es ++ e ∷ [])
+pub rising_on : (es : List Entry) (e : Entry) (last : List ℕ) → IsRising es → IsLastText es last → byte_cmp last e.0 ≡ Less → IsRising (es ++ e ∷ [])
 rising_on [] e last r is p = tt
 rising_on (d ∷ []) e last r is p = both _ _ (both _ _ (is_less _ (subst (λ (t : List ℕ). byte_cmp t e.0 ≡ Less) is p)) tt) tt
 rising_on (d ∷ f ∷ es) e last r is p =
     let low = nat_list_cmp_total.trans d.0 last e.0 (below_last d.0 last f es (first _ _ r) is) p in
     both _ _ (below_on d.0 (f ∷ es) e (first _ _ r) low) (rising_on (f ∷ es) e last (second _ _ r) is p)
 
-last_on : (es : List Entry) (e : Entry) → IsLastText (es ++ e ∷ []) e.0
+pub last_on : (es : List Entry) (e : Entry) → IsLastText (es ++ e ∷ []) e.0
 last_on [] e = refl
 last_on (d ∷ []) e = refl
 last_on (d ∷ f ∷ es) e = last_on (f ∷ es) e
 
-bytes_on : (es : List Entry) (e : Entry) (rest after : List ℕ) → rest ≡ spelled e ++ after → block_bytes es ++ rest ≡ block_bytes (es ++ e ∷ []) ++ after
+pub bytes_on : (es : List Entry) (e : Entry) (rest after : List ℕ) → rest ≡ spelled e ++ after → block_bytes es ++ rest ≡ block_bytes (es ++ e ∷ []) ++ after
 bytes_on [] e rest after r = r ∙ sym (append_assoc (spelled e) [] after)
 bytes_on (d ∷ es) e rest after r =
     append_assoc (spelled d) (block_bytes es) rest ∙ ap (λ (l : List ℕ). spelled d ++ l) (bytes_on es e rest after r)
     ∙ sym (append_assoc (spelled d) (block_bytes (es ++ e ∷ [])) after)
 
-pub next_done : (bytes rest last starts after : List ℕ) (e : Entry) → IsDone bytes rest last starts → rest ≡ spelled e ++ after → IsEntry e → byte_cmp last e.0 ≡ Less → IsDone bytes after e.0 (starts ++ (length bytes - length rest) ∷ [])
+unfoldable pub next_done : (bytes rest last starts after : List ℕ) (e : Entry) → IsDone bytes rest last starts → rest ≡ spelled e ++ after → IsEntry e → byte_cmp last e.0 ≡ Less → IsDone bytes after e.0 (starts ++ (length bytes - length rest) ∷ [])
 next_done bytes rest last starts after e d r is p =
     let at : length bytes - length rest ≡ 0 + length (block_bytes d.done) = omega (arith, ap length d.read, length-append (block_bytes d.done) rest) in
     record {
@@ -131,16 +128,16 @@ next_done bytes rest last starts after e d r is p =
       last_is = last_on d.done e;
     }
 
-none_below : (xs : List ℕ) → 0 < length xs → byte_cmp [] xs ≡ Less
+pub none_below : (xs : List ℕ) → 0 < length xs → byte_cmp [] xs ≡ Less
 none_below [] h = absurd (omega (arith, h))
 none_below (x ∷ xs) h = refl
 
-seam : (es : List Entry) (e : Entry) (more : List Entry) (last : List ℕ) → 0 < length e.0 → IsRising (es ++ e ∷ more) → IsLastText es last → byte_cmp last e.0 ≡ Less
+pub seam : (es : List Entry) (e : Entry) (more : List Entry) (last : List ℕ) → 0 < length e.0 → IsRising (es ++ e ∷ more) → IsLastText es last → byte_cmp last e.0 ≡ Less
 seam [] e more last some r is = subst (λ (t : List ℕ). byte_cmp t e.0 ≡ Less) (sym is) (none_below e.0 some)
 seam (d ∷ []) e more last some r is = subst (λ (t : List ℕ). byte_cmp t e.0 ≡ Less) (sym is) (less _ (first _ _ (first _ _ r)))
 seam (d ∷ f ∷ es) e more last some r is = seam (f ∷ es) e more last some (second _ _ r) is
 
-some_text : (e : Entry) → IsEntry e → 0 < length e.0
+pub some_text : (e : Entry) → IsEntry e → 0 < length e.0
 some_text e is =
     let key = is.key in
     let named = ap length is.named in
@@ -153,35 +150,57 @@ all_at [] more e h = h.0
 all_at (d ∷ done) more e h = all_at done more e h.1
 
 module _ (bytes rest last starts : List ℕ) (d : IsDone bytes rest last starts) (small : length bytes < 2 ^ 32) (es : List Entry) (list : IsEntryList es) (are : bytes ≡ block_bytes es) where
-  -- bytes that go on with no entry are those of no list
-  pub stuck_here : length rest ≢ 0 → ((e : Entry) (x : List ℕ) → rest ≢ spelled e ++ x) → ⊥
-  stuck_here some none = let on = goes_on d.done es bytes rest small d.read are in go on.more on.bytes
-    where
-      go : (more : List Entry) → rest ≡ block_bytes more → ⊥
-      go [] q = some (ap length q)
-      go (f ∷ more) q = none f (block_bytes more) q
-
-  -- nor those that go on with one that can't be the next
-  pub wrong_next : (after : List ℕ) (e : Entry) → rest ≡ spelled e ++ after → ¬ (IsEntry e × (byte_cmp last e.0 ≡ Less)) → ⊥
-  wrong_next after e r bad = let on = goes_on d.done es bytes rest small d.read are in go on.more on.list on.bytes
+  -- bytes that go on with no entry that can be the next are those of no list
+  pub stuck_next : length rest ≢ 0 → ((e : Entry) (x : List ℕ) → IsEntry e → byte_cmp last e.0 ≡ Less → rest ≢ spelled e ++ x) → ⊥
+  stuck_next some none = let on = goes_on d.done es bytes rest small d.read are in go on.more on.list on.bytes
     where
       go : (more : List Entry) → es ≡ d.done ++ more → rest ≡ block_bytes more → ⊥
-      go [] l q =
-          let n = ap length r ∙ length-append (spelled e) after in
-          let z : length rest ≡ 0 = ap length q in
-          omega (arith, n, z, spelled_length e)
+      go [] l q = some (ap length q)
       go (f ∷ more) l q =
-          let few : length rest < 2 ^ 32 = omega (arith, small, ap length d.read, length-append (block_bytes d.done) rest) in
-          let same = spelled_split e f after (block_bytes more) (short e after rest r few) (short f (block_bytes more) rest q few) (sym r ∙ q) in
-          let cut = subst (λ (g : Entry). es ≡ d.done ++ g ∷ more) (sym same.0) l in
-          let is = all_at d.done more e (subst (AllByRecursion IsEntry) cut list.each) in
-          bad (is, seam d.done e more last (some_text e is) (subst (λ (l : List Entry). IsRising l) cut list.rising) d.last_is)
+          let is = all_at d.done more f (subst (AllByRecursion IsEntry) l list.each) in
+          none f (block_bytes more) is (seam d.done f more last (some_text f is) (subst (λ (l : List Entry). IsRising l) l list.rising) d.last_is) q
 
-append-nil : {A : Type 0} (xs : List A) → xs ++ [] ≡ xs
-append-nil [] = refl
-append-nil (x ∷ xs) = ap (λ (l : List _). x ∷ l) (append-nil xs)
+-- a text comes after the last key where it comes after its text
+pub above_some : (last : Option KeyRef) (name : List ℕ) → byte_cmp (last_text last) name ≡ Less → IfSome last (λ before. byte_cmp before.text.now name ≡ Less)
+above_some None name p = tt
+above_some (Some key) name p = p
 
-pub nothing_read : (bytes : List ℕ) → IsDone bytes bytes [] []
+-- the same, by other names of what was read
+unfoldable pub done_as : (bytes rest last starts last' starts' : List ℕ) → IsDone bytes rest last starts → last ≡ last' → starts ≡ starts' → IsDone bytes rest last' starts'
+done_as bytes rest last starts last' starts' d e f = record {
+  done = d.done;
+  list = d.list;
+  read = d.read;
+  starts_are = sym f ∙ d.starts_are;
+  last_is = subst (IsLastText d.done) e d.last_is;
+}
+
+-- where nothing is left all was read
+pub all_read : (bytes rest last starts : List ℕ) (d : IsDone bytes rest last starts) → length rest ≡ 0 → bytes ≡ block_bytes d.done
+all_read bytes rest last starts d e = d.read ∙ ap (λ (l : List ℕ). block_bytes d.done ++ l) (nil_from_length rest e) ∙ append-nil (block_bytes d.done)
+
+-- the last text of a list is that of its last entry
+pub last_at : (es : List Entry) (n : ℕ) (e : Entry) → suc n ≡ length es → slice_get es n ≡ Some e → IsLastText es e.0
+last_at [] n e is g = cc
+last_at (d ∷ []) zero e is g = let same : d ≡ e = cc in ap (λ (x : Entry). x.0) (sym same)
+last_at (d ∷ []) (suc n) e is g = absurd (omega (arith, is))
+last_at (d ∷ f ∷ es) zero e is g = absurd (omega (arith, is))
+last_at (d ∷ f ∷ es) (suc n) e is g = last_at (f ∷ es) n e (omega (arith, is)) g
+
+some_at : (es : List Entry) (n : ℕ) → n < length es → slice_get es n ≡ None → ⊥
+some_at [] n low g = absurd (omega (arith, low))
+some_at (d ∷ es) zero low g = cc
+some_at (d ∷ es) (suc n) low g = some_at es n (omega (arith, low)) g
+
+pub none_last : (es : List Entry) (n : ℕ) → n ≡ length es - 1 → slice_get es n ≡ None → IsLastText es []
+none_last [] n is g = refl
+none_last (d ∷ es) n is g = absurd (some_at (d ∷ es) n (omega (arith, is)) g)
+
+pub some_last : (es : List Entry) (n : ℕ) (e : Entry) → n ≡ length es - 1 → slice_get es n ≡ Some e → IsLastText es e.0
+some_last [] n e is g = cc
+some_last (d ∷ es) n e is g = last_at (d ∷ es) n e (omega (arith, is)) g
+
+unfoldable pub nothing_read : (bytes : List ℕ) → IsDone bytes bytes [] []
 nothing_read bytes = record { done = []; list = record { rising = tt; each = tt }; read = refl; starts_are = refl; last_is = refl }
 
 -- a block that is that of one list is so of each list with these bytes

@@ -1,22 +1,34 @@
 -- Blocks of entries: their bytes, and what is found there.
-use Rattle.std.specs.Prelude.{List, map, option_map, ◌≡◌, ◌≢◌, ◌⊎◌, None, ℕ, ◌+◌, ◌<◌, [], ◌∷◌, ◌++◌, length, Option, Some, ◌^◌}
+use Rattle.std.specs.Prelude.{List, map, option_map, ◌≡◌, ◌≢◌, ◌⊎◌, None, ℕ, ◌+◌, ◌<◌, [], ◌∷◌, ◌++◌, length, take, drop, zero, suc, Option, Some, ◌^◌}
+use Rattle.std.specs.Int.{w32, from_be_bytes}
 use Rattle.std.specs.List.{AllByRecursion}
 use Rattle.std.specs.declared.cmp.Ordering.TheVariants.{Greater}
 use Rattle.cell_key.specs.Keys.{byte_cmp}
 use Rattle.cell_key.specs.Entries.{Entry, IsEntryList, spelled}
 use Rattle.file_store.specs.Store.{part}
 use Rattle.sorted_file.specs.Grammar.{block_bytes, Fits}
-use Rattle.sorted_file.specs.declared.entry.FileEntry.{FileEntry}
+use Rattle.cell_key.specs.declared.lent_keys.KeyRef.{KeyRef}
 use Rattle.sorted_file.specs.declared.block.Block.{Block}
 use Rattle.sorted_file.specs.declared.block.EntryExtent.{EntryExtent}
 use Rattle.sorted_file.specs.declared.block.Extent.{Extent}
 
--- an entry in memory, and several
-abbrev pub file_entry : FileEntry → Entry
-file_entry entry = (entry.text.items, option_map (λ value. value.items) entry.value)
+-- what stands behind a length of four bytes at the front, as much as the length says
+abbrev pub field_in : List ℕ → List ℕ
+field_in bytes = take (from_be_bytes w32 (take 4 bytes)) (drop 4 bytes)
 
-abbrev pub entries_of : List FileEntry → List Entry
-entries_of entries = map file_entry entries
+-- the value at the front: none behind a byte 0, and else a field behind a byte
+abbrev pub value_in : List ℕ → Option (List ℕ)
+value_in [] = None
+value_in (zero ∷ bytes) = None
+value_in (suc kind ∷ bytes) = Some (field_in bytes)
+
+-- the entry at the front of bytes
+abbrev pub entry_in : List ℕ → Entry
+entry_in bytes = (field_in bytes, value_in (drop (4 + length (field_in bytes)) bytes))
+
+-- the entries of a block: those that begin where it says
+unfoldable pub entries_of : Block → List Entry
+entries_of block = map (λ start. entry_in (drop start block.bytes.items)) block.starts.items
 
 -- the bytes are a block: those of an entry list that fits into one
 pub record IsBlock (es : List Entry) (bytes : List ℕ) : Type 0 where
@@ -42,6 +54,17 @@ pub record IsParsed (es : List Entry) (block : Block) : Type 0 where
   pub bytes : block.bytes.items ≡ block_bytes es
   pub starts : block.starts.items ≡ starts_from 0 es
   pub small : length (block_bytes es) < 2 ^ 32
+
+-- this is the last text of entries, or there is none
+abbrev pub IsLastText : List Entry → List ℕ → Type 0
+IsLastText [] name = name ≡ []
+IsLastText (e ∷ []) name = name ≡ e.0
+IsLastText (e ∷ f ∷ es) name = IsLastText (f ∷ es) name
+
+-- the text of the last key, if there is one
+abbrev pub last_text : Option KeyRef → List ℕ
+last_text None = []
+last_text (Some key) = key.text.now
 
 -- the first entry has this text
 abbrev pub BeginsWith : List ℕ → List Entry → Type 0

@@ -6,9 +6,8 @@ use Rattle.cell_key.specs.Entries.{Entry, IsEntryList, IsRising}
 use Rattle.file_store.specs.Store.{Contents, part}
 use Rattle.sorted_file.specs.Index.{IsFirstText, blocks_of, entries_in, AreRows, IsBoundedRow, row_head, texts_of, Tells}
 use Rattle.sorted_file.specs.Grammar.{body, foot_len, head, index, most, number_bytes, IsFullBlock, AreBlocks, IsFile}
-use Rattle.sorted_file.specs.Block.{entries_of}
-use Rattle.sorted_file.specs.Bounds.{IsBounded}
-use Rattle.sorted_file.specs.Numbers.{IsLockNumbered, IsNumbered}
+use Rattle.sorted_file.specs.Block.{IsLastText}
+use Rattle.sorted_file.specs.Columns.{AreColumnsOf}
 use Rattle.sorted_file.specs.declared.format.RowRef.{RowRef}
 use Rattle.sorted_file.specs.declared.format.Format.{Format}
 use Rattle.sorted_file.specs.declared.check.Opening.{Opening}
@@ -37,24 +36,16 @@ IsFollowed [] next = Unit {0}
 IsFollowed (es ∷ []) next = IsFullBlock es (next ∷ [])
 IsFollowed (es ∷ fs ∷ blocks) next = IsFollowed (fs ∷ blocks) next
 
--- the entries are those of the last block, or there is no block
-abbrev pub IsLastOf : List (List Entry) → List Entry → Type 0
-IsLastOf [] last = last ≡ []
-IsLastOf (es ∷ []) last = last ≡ es
-IsLastOf (es ∷ fs ∷ blocks) last = IsLastOf (fs ∷ blocks) last
-
--- an opening has read blocks so far, and keeps of them what an open file keeps, and the last one
+-- an opening has read blocks so far, and keeps of them what an open file keeps, and the last text
 pub record IsOpening (o : Opening) : Type 0 where
   pub rows_are : AreRows 8 o.rows.items
   pub grammar : AreBlocks (blocks_of o.rows.items)
   pub list : IsEntryList (entries_in (blocks_of o.rows.items))
   pub heads : texts_of o.heads.items ≡ map row_head o.rows.items
-  pub bounds : AllByRecursion (IsBounded o.bounds) (entries_in (blocks_of o.rows.items))
   pub bounded : AllByRecursion IsBoundedRow o.rows.items
-  pub numbered : AllByRecursion (IsNumbered o.numbers.items) (entries_in (blocks_of o.rows.items))
-  pub locked : AllByRecursion (IsLockNumbered o.locks.items) (entries_in (blocks_of o.rows.items))
+  pub columns : AreColumnsOf o.columns (entries_in (blocks_of o.rows.items))
   pub counted : o.count ≡ length (entries_in (blocks_of o.rows.items))
-  pub last : IsLastOf (blocks_of o.rows.items) (entries_of o.last.items)
+  pub last : IsLastText (entries_in (blocks_of o.rows.items)) o.last.items
   pub reached : o.end ≡ 8 + length (body (blocks_of o.rows.items))
   pub within : o.end ≤ o.size
   pub small : o.size < most o.format

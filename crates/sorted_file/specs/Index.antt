@@ -21,7 +21,7 @@ row_bytes format row =
 
 -- the entries of a row's block, as they were when the file was opened
 abbrev pub block_of : BlockRow → List Entry
-block_of row = entries_of row.was.value.items
+block_of row = entries_of row.was.value
 
 abbrev pub blocks_of : List BlockRow → List (List Entry)
 blocks_of rows = map block_of rows

@@ -5,6 +5,7 @@ pub mod Block
 pub mod Bounds
 pub mod Builder
 pub mod Check
+pub mod Columns
 pub mod Cursor
 pub mod File
 pub mod Index

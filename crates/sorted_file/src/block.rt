@@ -1,38 +1,55 @@
 //! Blocks in memory: their bytes, and what is found there.
 
 ghost use Rattle.std.specs.Option.{option_copied};
-ghost use Rattle.std.specs.Prelude.{◌≡◌, ◌↔◌, IsTrue, ◌≢◌, ◌<◌, ◌^◌, List, length, IfOk, IfErr, IfSome, IfNone, true, false, drop, slice_get, option_map, IsSomeAnd, ◌≤◌, ◌⊎◌, IsErrOf, map, ◌++◌, ℕ};
+ghost use Rattle.std.specs.Prelude.{◌≡◌, ◌↔◌, IsTrue, ◌≢◌, ◌<◌, ◌^◌, List, length, IfOk, IfErr, IfSome, IfNone, true, false, drop, slice_get, option_map, IsSomeAnd, ◌≤◌, ◌⊎◌, IsErrOf, map, ◌++◌, ◌∷◌, [], ℕ};
 ghost use Rattle.std.specs.declared.cmp.Ordering.TheVariants.{Less, Greater};
 ghost use Rattle.cell_key.specs.Entries.{IsEntry, lent_entry, Entry, IsEntryList, entries_from, entry_of_key, IsRising, spelled};
 ghost use Rattle.cell_key.specs.Keys.{byte_cmp};
+ghost use Rattle.cell_key.specs.LentKeys.{IsLentKey};
 ghost use Rattle.sorted_file.specs.Index.{first_of, IsRowPosition, blocks_of, AreRows};
 ghost use Rattle.sorted_file.specs.Check.{IsFollowed};
 ghost use Rattle.sorted_file.specs.Grammar.{block_bytes, Fits};
-ghost use Rattle.sorted_file.specs.Block.{entries_of, BeginsFrom, IsBehind, IsSpelling, BeginsWith, IsParsed, bytes_at, entry_at, first_value};
+ghost use Rattle.sorted_file.specs.Block.{last_text, BeginsFrom, IsLastText, IsBehind, IsSpelling, BeginsWith, IsParsed, bytes_at, entry_at, first_value};
 ghost use Rattle.sorted_file.specs.File.{IsShortValue, value_bytes};
 ghost use Rattle.sorted_file.specs.Source.{IsReadRefusal};
 
 use crate::bounds::ColumnBounds;
-use crate::entry::{FileEntry, is_below};
-use crate::format::{BLOCK_LIMIT, LENGTH, MOST_VALUE, is_entry, is_same, read_entry, spelled_len};
-use cell_key::{EntryRef, Refusal};
+use crate::format::{BLOCK_LIMIT, LENGTH, MOST_VALUE, is_same, is_short, read_entry, spelled_len};
+use cell_key::{EntryRef, KeyRef, Refusal, next_key};
 use std::alloc::Global;
 use std::snapshot::Snapshot;
 
 /// A block in its bytes, whose form was checked.
 #[derive(Drop)]
 pub(crate) struct Block {
-    bytes: Vec<u8>,
+    pub(crate) bytes: Vec<u8>,
     /// Where each entry begins.
-    starts: Vec<u32>,
+    pub(crate) starts: Vec<u32>,
 }
 
-/// Whether an entry can be the next one of a list whose last text is this one, which is empty before the first.
-fn goes_on(last: &[u8], entry: EntryRef<'_>) -> bool
-    ensures { IsTrue result
-        ↔ (IsEntry (lent_entry entry.entry) × (byte_cmp last.now entry.entry.key.now ≡ Less)) }
+/// The entry at the front, if it can be the next of a list behind the one of the last key, with its key, and what
+/// follows.
+#[inline(always)]
+pub(crate) fn next_entry<'a>(
+    last: Option<KeyRef<'_>>,
+    bytes: &'a [u8],
+) -> Option<(EntryRef<'a>, KeyRef<'a>, &'a [u8])>
+    requires { IfSome last IsLentKey }
+    ensures found { IfSome result (λ p. bytes.now ≡ spelled (lent_entry p.0) ++ p.2.now) }
+    ensures entry { IfSome result (λ p. IsEntry (lent_entry p.0)) }
+    ensures key { IfSome result (λ p. IsLentKey p.1) }
+    ensures text { IfSome result (λ p. p.1.text.now ≡ p.0.key.now) }
+    ensures above { IfSome result (λ p.
+        byte_cmp (last_text last.entry) p.0.key.now ≡ Less) }
+    ensures none { IfNone result (length bytes.now < 2 ^ 32 → (e : Entry) (rest : List ℕ)
+        → IsEntry e → byte_cmp (last_text last.entry) e.0 ≡ Less → bytes.now ≢ spelled e ++ rest) }
 {
-    is_entry(entry) && is_below(last, entry.key)
+    let (entry, rest) = read_entry(bytes)?;
+    if !is_short(entry.value) {
+        return None;
+    }
+    let key = next_key(last, entry.key)?;
+    Some((entry, key, rest))
 }
 
 /// Where the entries begin that have these bytes; `None` if no entry list has them. Answers `NoMemory` if there is no
@@ -45,22 +62,27 @@ fn starts_of(alloc: Global, bytes: &[u8]) -> Result<Option<Vec<u32>>, Refusal>
         → bytes.now ≢ block_bytes es)) }
     ensures refusal { IfErr result (λ refusal. refusal ≡ Refusal.NoMemory) }
 {
-    // Room for the entries of a block of short values.
-    let mut starts = Vec::with_capacity(alloc, (bytes.len() / 32).min(128))?;
-    let mut last: &[u8] = &[];
+    let mut starts = room_for_starts(alloc, bytes.len())?;
+    let mut last = None;
     let mut rest = bytes;
     'entries: while !rest.is_empty() {
-        let Some((entry, after)) = read_entry(rest) else {
+        let Some((_, key, after)) = next_entry(last, rest) else {
             return Ok(None);
         };
-        if !goes_on(last, entry) {
-            return Ok(None);
-        }
         starts.push((bytes.len() - rest.len()) as u32)?;
-        last = entry.key;
+        last = Some(key);
         rest = after;
     }
     Ok(Some(starts))
+}
+
+/// Room for the starts of the entries of a block of so many bytes, if their values are short.
+pub(crate) fn room_for_starts(alloc: Global, len: usize) -> Result<Vec<u32>, Refusal>
+    ensures none { IfOk result (λ starts. starts.items ≡ []) }
+    ensures refusal { IfErr result (λ refusal. refusal ≡ Refusal.NoMemory) }
+{
+    let starts = Vec::with_capacity(alloc, (len / 32).min(128))?;
+    Ok(starts)
 }
 
 impl Block {
@@ -77,6 +99,24 @@ impl Block {
             return Ok(None);
         };
         Ok(Some(Block { bytes, starts }))
+    }
+
+    /// How many entries there are.
+    pub(crate) fn len(&self) -> usize
+        ensures { (es : List Entry) → IsParsed es self.now → result ≡ length es }
+    {
+        self.starts.len()
+    }
+
+    /// Whether the entries fit into a block.
+    pub(crate) fn fits(&self) -> bool
+        ensures { (es : List Entry) → IsParsed es self.now → (IsTrue result ↔ Fits es) }
+    {
+        match self.starts.len() {
+            0 => false,
+            1 => true,
+            _ => self.bytes.len() as u128 <= BLOCK_LIMIT,
+        }
     }
 
     /// The entry of an index.
@@ -145,7 +185,26 @@ impl Block {
         ensures { (es : List Entry) → IsParsed es self.now
             → option_map lent_entry result ≡ first_value (entries_from text.now es) }
     {
-        let mut at = self.position(text);
+        self.first_value_from(self.position(text))
+    }
+
+    /// The text of the last entry, or no bytes if there is none.
+    pub(crate) fn last_text(&self) -> &[u8]
+        ensures { (es : List Entry) → IsParsed es self.now → IsLastText es result.now }
+    {
+        let last = self.starts.len().saturating_sub(1);
+        match self.entry(last) {
+            Some(entry) => entry.key,
+            None => &[],
+        }
+    }
+
+    /// The first value at this index or a later one.
+    pub(crate) fn first_value_from(&self, from: usize) -> Option<EntryRef<'_>>
+        ensures { (es : List Entry) → IsParsed es self.now
+            → option_map lent_entry result ≡ first_value (drop from es) }
+    {
+        let mut at = from;
         'erasures: while at < self.starts.len() {
             let entry = self.entry(at)?;
             if entry.value.is_some() {
@@ -221,8 +280,8 @@ pub(crate) struct BlockRow {
     pub(crate) first: Vec<u8>,
     /// The bounds of its values.
     pub(crate) bounds: ColumnBounds,
-    /// Its entries when the file was opened. They take no room.
-    pub(crate) was: Snapshot<Vec<FileEntry>>,
+    /// The block when the file was opened. It takes no room.
+    pub(crate) was: Snapshot<Block>,
 }
 
 /// How many of the rows have a first text that isn't above this one.
@@ -233,19 +292,15 @@ pub(crate) fn rows_to(rows: &[BlockRow], text: &[u8]) -> usize
     rows.partition_point(|row| text.cmp(&row.first.as_slice()).is_ge())
 }
 
-/// Whether a block can follow the last of the blocks that rows name.
-pub(crate) fn is_followed(rows: &[BlockRow], block: &[FileEntry]) -> bool
-    requires { Fits (entries_of block.now) }
-    ensures { AreRows 8 rows.now
-        → (IsTrue result ↔ IsFollowed (blocks_of rows.now) (entries_of block.now)) }
+/// Whether a block with this first entry can follow the last of the blocks that rows name.
+pub(crate) fn is_followed(rows: &[BlockRow], first: EntryRef<'_>) -> bool
+    ensures { AreRows 8 rows.now → (es : List Entry)
+        → (IsTrue result ↔ IsFollowed (blocks_of rows.now) (lent_entry first.entry ∷ es)) }
 {
     let Some((row, _)) = rows.split_last() else {
         return true;
     };
-    let Some((first, _)) = block.split_first() else {
-        return true;
-    };
-    row.length as u128 + spelled_len(first.lend()) > BLOCK_LIMIT
+    row.length as u128 + spelled_len(first) > BLOCK_LIMIT
 }
 
 /// What stands in a block from the first entry on whose text isn't below this one; `None` if the bytes are no

@@ -2,18 +2,20 @@
 
 ghost use Rattle.std.specs.List.{AllByRecursion};
 ghost use Rattle.std.specs.Option.{option_copied};
-ghost use Rattle.std.specs.Prelude.{◌≡◌, get_or, ◌≤◌, ℕ, List, false, IfOk, IfErr, drop, option_map, ◌≢◌, ◌<◌, ◌^◌, length, IfSome, IfNone};
+ghost use Rattle.std.specs.Prelude.{◌≡◌, get_or, ◌≤◌, ℕ, List, false, IfOk, IfErr, drop, option_map, ◌≢◌, ◌<◌, ◌^◌, length, IfSome, IfNone, ◌++◌, Option};
 ghost use Rattle.cell_key.specs.Keys.{text};
-ghost use Rattle.cell_key.specs.Texts.{stamp_text};
+ghost use Rattle.cell_key.specs.Texts.{escaped_byte, stamp_text};
+ghost use Rattle.cell_key.specs.Entries.{Entry};
+ghost use Rattle.cell_key.specs.LentKeys.{IsLentKey};
 ghost use Rattle.cell_key.specs.declared.keys.CellKey.{CellKey as KeyOf};
-ghost use Rattle.sorted_file.specs.Block.{file_entry, entries_of, first_value};
+ghost use Rattle.sorted_file.specs.Block.{first_value, IsParsed};
 ghost use Rattle.sorted_file.specs.Newest.{at_stamp};
 ghost use Rattle.sorted_file.specs.Index.{first_some, skips};
 ghost use Rattle.sorted_file.specs.Bounds.{front, IsWithin, column_bounds, Covers, IsBounded};
 
-use crate::entry::FileEntry;
+use crate::block::Block;
 use crate::format::is_same;
-use cell_key::{CellKey, Qualifier, Refusal, Stamp, stamp_of};
+use cell_key::{CellKey, KeyRef, Qualifier, Refusal, Stamp, stamp_of};
 use std::alloc::Global;
 
 /// The byte of a row at an index, or 0 behind its end.
@@ -37,6 +39,36 @@ fn front_of(row: &[u8]) -> u64
         byte_at(row, 6),
         byte_at(row, 7),
     ])
+}
+
+/// The byte of a row at the front of a text, and what follows it; `None` where the row ends.
+fn split_byte(text: &[u8]) -> Option<(u8, &[u8])>
+    ensures found { IfSome result (λ p. text.now ≡ escaped_byte p.0 ++ p.1.now) }
+    ensures none { IfNone result ((byte : ℕ) (rest : List ℕ)
+        → text.now ≢ escaped_byte byte ++ rest) }
+{
+    let (byte, after) = text.split_first()?;
+    if *byte != 0 {
+        return Some((*byte, after));
+    }
+    let rest = after.strip_prefix(b"\xFF")?;
+    Some((0, rest))
+}
+
+/// The number of the first eight bytes of the row of the key with this text, a row of fewer filled up with zeros.
+fn front_in(bytes: &[u8]) -> u64
+    ensures { (key : KeyOf) → bytes.now ≡ text key → result ≡ front key.row }
+{
+    let mut front = [0u8; 8];
+    let mut left = bytes;
+    for at in 0..8 {
+        let Some((byte, after)) = split_byte(left) else {
+            return u64::from_be_bytes(front);
+        };
+        front[at] = byte;
+        left = after;
+    }
+    u64::from_be_bytes(front)
 }
 
 /// Bounds of values: their stamps from the least to the greatest, and the fronts of their rows from the first to the
@@ -172,52 +204,26 @@ impl ColumnBounds {
         bounds.meets(lo, key.stamp) && bounds.has_front(front_of(key.row.as_bytes()))
     }
 
-    /// These bounds, widened to an entry if it is a value.
-    fn with_entry(self, alloc: Global, entry: &FileEntry) -> Result<ColumnBounds, Refusal>
-        ensures has { IfOk result (λ bounds. IsBounded bounds (file_entry entry.now)) }
-        ensures keeps { IfOk result (λ bounds. Covers self bounds) }
-        ensures refusal { IfErr result (λ refusal. refusal ≡ Refusal.NoMemory) }
+    /// These bounds, widened to a value at this key.
+    pub(crate) fn with_key(self, key: KeyRef<'_>) -> ColumnBounds
+        requires { IsLentKey key }
+        ensures has { (value : Option (List ℕ)) → IsBounded result (key.entry.text.now, value) }
+        ensures keeps { Covers self result }
     {
-        if entry.value.is_none() {
-            return Ok(self);
-        }
-        match CellKey::decode(alloc, &entry.text)? {
-            Some(key) => Ok(self.with(key.qualifier, front_of(key.row.as_bytes()), key.stamp)),
-            None => Ok(self),
-        }
+        self.with(key.qualifier, front_in(key.text), key.stamp)
     }
-}
-
-/// The bounds of the values among entries. Answers `NoMemory` if there is no memory.
-pub(crate) fn bounds_of(alloc: Global, entries: &[FileEntry]) -> Result<ColumnBounds, Refusal>
-    ensures all { IfOk result (λ bounds.
-        AllByRecursion (IsBounded bounds) (entries_of entries.now)) }
-    ensures refusal { IfErr result (λ refusal. refusal ≡ Refusal.NoMemory) }
-{
-    let mut bounds = ColumnBounds::NONE;
-    let mut rest = entries;
-    'entries: while let Some((entry, after)) = rest.split_first() {
-        bounds = bounds.with_entry(alloc, entry)?;
-        rest = after;
-    }
-    Ok(bounds)
 }
 
 /// The text of the first value of a block, if it has a value. Answers `NoMemory` if there is no memory.
-pub(crate) fn head_of(alloc: Global, block: &[FileEntry]) -> Result<Option<Vec<u8>>, Refusal>
-    ensures head { IfOk result (λ head. option_map (λ text. text.items) head
-        ≡ option_map (λ e. e.0) (first_value (entries_of block.now))) }
+pub(crate) fn head_of(alloc: Global, block: &Block) -> Result<Option<Vec<u8>>, Refusal>
+    ensures head { IfOk result (λ head. (es : List Entry) → IsParsed es block.now
+        → option_map (λ text. text.items) head ≡ option_map (λ e. e.0) (first_value es)) }
     ensures refusal { IfErr result (λ refusal. refusal ≡ Refusal.NoMemory) }
 {
-    let mut rest = block;
-    'erasures: while let Some((entry, after)) = rest.split_first() {
-        if entry.value.is_some() {
-            let text = Vec::from_slice(alloc, &entry.text)?;
-            return Ok(Some(text));
-        }
-        rest = after;
+    match block.first_value_from(0) {
+        Some(entry) => Ok(Some(Vec::from_slice(alloc, entry.key)?)),
+        None => Ok(None),
     }
-    Ok(None)
 }
 
 /// How many heads are missing before the next that is there, from each on. Answers `NoMemory` if there is no memory.

@@ -8,17 +8,18 @@ ghost use Rattle.file_store.specs.Store.{part};
 ghost use Rattle.sorted_file.specs.Grammar.{IsNoFile, foot_len, head, most, block_bytes, foot, Fits};
 ghost use Rattle.sorted_file.specs.Index.{Tells, blocks_of, entries_in};
 ghost use Rattle.sorted_file.specs.Check.{IsFramed, IsNext, IsOpening, IsReading, IsWhole};
-ghost use Rattle.sorted_file.specs.Block.{IsBlock, entries_of};
+ghost use Rattle.sorted_file.specs.Block.{IsBlock, IsParsed, entries_of};
+ghost use Rattle.sorted_file.specs.Columns.{AreColumnsOf};
 ghost use Rattle.sorted_file.specs.File.{HasFile};
 ghost use Rattle.sorted_file.specs.Source.{IsReadRefusal};
 
-use crate::block::{BlockRow, is_followed};
-use crate::bounds::{ColumnBounds, bounds_of, head_of};
-use crate::entry::{FileEntry, read_block, rises_on};
+use crate::block::{Block, BlockRow, is_followed};
+use crate::bounds::head_of;
 use crate::format::{
-    Format, HEAD, LONGEST_BLOCK, RowRef, format_of, index_offset, is_same, push_foot, read_row,
+    Format, HEAD, LONGEST_BLOCK, RowRef, format_of, index_offset, is_below, is_same, push_foot,
+    read_row,
 };
-use crate::numbers::{push_locks, push_numbers};
+use crate::gathering::{Columns, ReadBlock, read_block};
 use crate::source::{read_part, refusal_of};
 use cell_key::Refusal;
 use file_store::Files;
@@ -139,16 +140,11 @@ pub(crate) struct Opening {
     pub(crate) rows: Vec<BlockRow>,
     /// The text of the first value of each block that has one.
     pub(crate) heads: Vec<Option<Vec<u8>>>,
-    /// The bounds of the values.
-    pub(crate) bounds: ColumnBounds,
-    /// A number of each column that has an entry.
-    pub(crate) numbers: Vec<u64>,
-    /// A number of each column of a lock that has a value.
-    pub(crate) locks: Vec<u64>,
+    pub(crate) columns: Columns,
     /// How many entries there are.
     pub(crate) count: u64,
-    /// The entries of the last block.
-    last: Vec<FileEntry>,
+    /// The text of the last entry, or no bytes before the first.
+    last: Vec<u8>,
     /// Where the next block begins.
     end: u64,
 }
@@ -171,31 +167,26 @@ impl Opening {
             size,
             rows: Vec::new(alloc),
             heads: Vec::new(alloc),
-            bounds: ColumnBounds::NONE,
-            numbers: Vec::new(alloc),
-            locks: Vec::new(alloc),
+            columns: Columns::new(alloc),
             count: 0,
             last: Vec::new(alloc),
             end: HEAD,
         }
     }
 
-    /// The entries of the next block, whose row this is. Answers `Damaged` if no block of this length is
-    /// there, `Device` if a device fails, and `NoMemory` if there is no memory.
-    fn next_block<F: Files>(
-        &self,
-        row: RowRef<'_>,
-        files: &mut F,
-    ) -> Result<Vec<FileEntry>, Refusal>
+    /// The next block, whose row this is. Answers `Damaged` if no block of this length is there, `Device` if a device
+    /// fails, and `NoMemory` if there is no memory.
+    fn next_block<F: Files>(&self, row: RowRef<'_>, files: &mut F) -> Result<ReadBlock, Refusal>
         requires { self.now.end ≤ self.now.size }
-        ensures list { IfOk result (λ block. IsEntryList (entries_of block.items)) }
-        ensures fits { IfOk result (λ block. Fits (entries_of block.items)) }
-        ensures length { IfOk result (λ block. length (block_bytes (entries_of block.items))
+        ensures parsed { IfOk result (λ read. IsParsed (entries_of read.block) read.block) }
+        ensures columns { IfOk result (λ read. AreColumnsOf read.columns (entries_of read.block)) }
+        ensures fits { IfOk result (λ read. Fits (entries_of read.block)) }
+        ensures length { IfOk result (λ read. length (block_bytes (entries_of read.block))
             ≡ row.entry.length) }
-        ensures within { IfOk result (λ block. self.now.end + row.entry.length ≤ self.now.size) }
-        ensures read { IfOk result (λ block. (image : List ℕ)
+        ensures within { IfOk result (λ read. self.now.end + row.entry.length ≤ self.now.size) }
+        ensures read { IfOk result (λ read. (image : List ℕ)
             → Tells (F.contents files.old) self.now.name image
-            → part image self.now.end row.entry.length ≡ block_bytes (entries_of block.items)) }
+            → part image self.now.end row.entry.length ≡ block_bytes (entries_of read.block)) }
         ensures damaged { IsErrOf result Refusal.Damaged → (image : List ℕ)
             → Tells (F.contents files.old) self.now.name image → length image ≡ self.now.size
             → (es : List Entry) → length (block_bytes es) ≡ row.entry.length
@@ -208,71 +199,67 @@ impl Opening {
             return Err(Refusal::Damaged);
         }
         let bytes = read_part(self.alloc, self.name, self.end, row.length, files)?;
-        let Some(block) = read_block(self.alloc, &bytes)? else {
+        let Some(read) = read_block(self.alloc, bytes)? else {
             return Err(Refusal::Damaged);
         };
-        Ok(block)
-    }
-
-    /// Whether the texts go on to rise in a block.
-    fn rises_on(&self, block: &[FileEntry]) -> bool
-        requires opening { IsOpening self.now }
-        requires rising { IsRising (entries_of block.now) }
-        ensures { IsTrue result
-            ↔ IsRising (entries_in (blocks_of self.now.rows.items) ++ entries_of block.now) }
-    {
-        rises_on(&self.last, block)
+        Ok(read)
     }
 
     /// Whether a block can be the next one, and the row names it.
-    fn accepts(&self, row: RowRef<'_>, block: &[FileEntry]) -> bool
+    fn accepts(&self, row: RowRef<'_>, block: &Block) -> bool
         requires opening { IsOpening self.now }
-        requires rising { IsRising (entries_of block.now) }
+        requires parsed { IsParsed (entries_of block.now) block.now }
         requires fits { Fits (entries_of block.now) }
         ensures { IsTrue result ↔ IsNext self.now row.entry (entries_of block.now) }
     {
-        let Some((first, _)) = block.split_first() else {
+        let Some(first) = block.entry(0) else {
             return false;
         };
-        row.offset == self.end
-            && is_same(row.first, &first.text)
-            && is_followed(&self.rows, block)
-            && self.rises_on(block)
+        if row.offset != self.end {
+            return false;
+        }
+        if !is_same(row.first, first.key) {
+            return false;
+        }
+        if !is_followed(&self.rows, first) {
+            return false;
+        }
+        is_below(&self.last, first.key)
     }
 
     /// Adds a block. Answers `NoMemory` if there is no memory.
-    fn add(&mut self, row: RowRef<'_>, block: Vec<FileEntry>) -> Result<(), Refusal>
+    fn add(&mut self, row: RowRef<'_>, read: ReadBlock) -> Result<(), Refusal>
         requires opening { IsOpening self.old }
-        requires next { IsNext self.old row (entries_of block.items) }
-        requires list { IsEntryList (entries_of block.items) }
-        requires fits { Fits (entries_of block.items) }
-        requires length { length (block_bytes (entries_of block.items)) ≡ row.length }
+        requires next { IsNext self.old row (entries_of read.block) }
+        requires parsed { IsParsed (entries_of read.block) read.block }
+        requires columns { AreColumnsOf read.columns (entries_of read.block) }
+        requires fits { Fits (entries_of read.block) }
+        requires length { length (block_bytes (entries_of read.block)) ≡ row.length }
         requires within { self.old.end + row.length ≤ self.old.size }
         ensures opening { OnOk result (IsOpening self.new) }
         ensures name { self.new.name ≡ self.old.name }
         ensures format { self.new.format ≡ self.old.format }
         ensures size { self.new.size ≡ self.old.size }
         ensures rows { OnOk result (blocks_of self.new.rows.items
-            ≡ blocks_of self.old.rows.items ++ entries_of block.items ∷ []) }
+            ≡ blocks_of self.old.rows.items ++ entries_of read.block ∷ []) }
         ensures refusal { IfErr result (λ refusal. refusal ≡ Refusal.NoMemory) }
     {
+        let ReadBlock { block, columns } = read;
         let first = Vec::from_slice(self.alloc, row.first)?;
         let head = head_of(self.alloc, &block)?;
-        let bounds = bounds_of(self.alloc, &block)?;
-        push_numbers(&mut self.numbers, &block)?;
-        push_locks(self.alloc, &mut self.locks, bounds, &block)?;
+        let last = Vec::from_slice(self.alloc, block.last_text())?;
+        self.columns.join(&columns)?;
         let was = Snapshot::of(&block);
         self.rows.push(BlockRow {
             offset: row.offset,
             length: row.length as u32,
             first,
-            bounds,
+            bounds: columns.bounds,
             was,
         })?;
         self.heads.push(head)?;
-        self.bounds = self.bounds.joined(bounds);
+        self.last = last;
         self.count += block.len() as u64;
-        self.last = block;
         self.end += row.length;
         Ok(())
     }
@@ -301,11 +288,11 @@ impl Opening {
         let Some((row, rest)) = read_row(self.format, left) else {
             return Err(Refusal::Damaged);
         };
-        let block = self.next_block(row, files)?;
-        if !self.accepts(row, &block) {
+        let read = self.next_block(row, files)?;
+        if !self.accepts(row, &read.block) {
             return Err(Refusal::Damaged);
         }
-        self.add(row, block)?;
+        self.add(row, read)?;
         Ok(rest)
     }
 

@@ -9,7 +9,6 @@ ghost use Rattle.sorted_file.specs.Grammar.{block_bytes};
 ghost use Rattle.sorted_file.specs.Source.{IsReadRefusal};
 
 use crate::block::{BlockRow, EntryExtent, bytes_from, entry_extent};
-use crate::entry::read_block;
 use crate::source::{Source, read_part};
 use cell_key::{EntryRef, Refusal};
 use file_store::Files;

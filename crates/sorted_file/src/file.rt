@@ -18,6 +18,7 @@ use crate::bounds::{ColumnBounds, next_head, skips_of, stamp_in};
 use crate::cache::{few_blocks, keep, no_blocks, promote, resize};
 use crate::check::{Opening, read_file};
 use crate::cursor::FileCursor;
+use crate::gathering::Columns;
 use crate::numbers::{column_number, has_number, sorted};
 use crate::source::read_part;
 use cell_key::{CellKey, Qualifier, Refusal, Stamp};
@@ -91,11 +92,14 @@ impl SortedFile {
             rows,
             heads,
             count,
+            columns,
+            ..
+        } = read_file(alloc, name, files)?;
+        let Columns {
             bounds,
             numbers,
             locks,
-            ..
-        } = read_file(alloc, name, files)?;
+        } = columns;
         let skips = skips_of(alloc, &heads)?;
         let cache = no_blocks(alloc, most_blocks)?;
         Ok(SortedFile {

@@ -2,11 +2,14 @@
 
 ghost use Rattle.std.specs.Int.{w32, to_be_bytes, w64};
 ghost use Rattle.std.specs.Prelude.{◌≡◌, IsTrue, ◌↔◌, ◌≢◌, IfSome, IfNone, ◌≤◌, ◌<◌, ◌+◌, ◌^◌, ◌++◌, length, OnOk, IsOkUnless, ℕ, List, ◌-◌, take, drop};
-ghost use Rattle.cell_key.specs.Entries.{field, Entry, lent_entry, spelled, entry_len, IsEntry};
+ghost use Rattle.cell_key.specs.Entries.{field, Entry, lent_entry, spelled, entry_len};
+ghost use Rattle.cell_key.specs.Keys.{byte_cmp};
+ghost use Rattle.std.specs.Option.{option_copied};
+ghost use Rattle.std.specs.Ordering.{is_lt};
 ghost use Rattle.sorted_file.specs.Index.{row_bytes};
 ghost use Rattle.sorted_file.specs.Grammar.{IsNoFile, head, foot_len, most, number_bytes, number_len, foot};
 
-use cell_key::{EntryRef, Refusal, is_key_text};
+use cell_key::{EntryRef, Refusal};
 
 /// How many bytes the head has.
 pub(crate) const HEAD: u64 = 8;
@@ -82,6 +85,13 @@ pub(crate) fn is_same(first: &[u8], second: &[u8]) -> bool
     ensures { IsTrue result ↔ (first.now ≡ second.now) }
 {
     first == second
+}
+
+/// Whether a text is below another.
+pub(crate) fn is_below(first: &[u8], second: &[u8]) -> bool
+    ensures { result ≡ is_lt (byte_cmp first.now second.now) }
+{
+    first.cmp(&second).is_lt()
 }
 
 /// The number of four bytes at the front, and what follows.
@@ -229,16 +239,15 @@ pub(crate) fn spelled_len(entry: EntryRef<'_>) -> u128
     }
 }
 
-/// Whether an entry has the text of a key within the limits, and a value that is not too long.
-pub(crate) fn is_entry(entry: EntryRef<'_>) -> bool
-    ensures { IsTrue result ↔ IsEntry (lent_entry entry.entry) }
+/// Whether the value is no longer than a value may be; an erasure has none.
+pub(crate) fn is_short(value: Option<&[u8]>) -> bool
+    ensures { IsTrue result
+        ↔ IfSome (option_copied value.entry) (λ bytes. length bytes ≤ 65536) }
 {
-    if let Some(value) = entry.value {
-        if value.len() > MOST_VALUE {
-            return false;
-        }
+    match value {
+        Some(bytes) => bytes.len() <= MOST_VALUE,
+        None => true,
     }
-    is_key_text(entry.key)
 }
 
 /// A row of the index, lent.

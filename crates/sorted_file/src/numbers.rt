@@ -1,16 +1,10 @@
 //! Numbers of columns, by which a read passes by a file that has no entry of its column, or no lock.
 
-ghost use Rattle.std.specs.List.{AllByRecursion};
 ghost use Rattle.std.specs.List.Sorted.{IsNonDecreasing};
 ghost use Rattle.std.specs.Prelude.{◌≡◌, ◌↔◌, IsTrue, OnOk, IfErr, Contains};
-ghost use Rattle.sorted_file.specs.Block.{entries_of, file_entry};
-ghost use Rattle.sorted_file.specs.Bounds.{IsBounded};
-ghost use Rattle.sorted_file.specs.Numbers.{number_of, IsLockNumbered, IsNumbered, IsAmong};
+ghost use Rattle.sorted_file.specs.Numbers.{number_of, IsAmong};
 
-use crate::bounds::ColumnBounds;
-use crate::entry::FileEntry;
-use cell_key::{CellKey, MOST_STAMP, Qualifier, Refusal};
-use std::alloc::Global;
+use cell_key::Refusal;
 use std::hash::{FoldHasher, Hasher};
 
 /// How many bytes of a key's text its stamp has.
@@ -27,7 +21,7 @@ pub(crate) fn column_number(text: &[u8]) -> u64
 }
 
 /// Adds a number, if it isn't the last one. Answers `NoMemory` if there is no memory.
-fn push_number(numbers: &mut Vec<u64>, number: u64) -> Result<(), Refusal>
+pub(crate) fn push_number(numbers: &mut Vec<u64>, number: u64) -> Result<(), Refusal>
     ensures has { OnOk result (Contains numbers.new.items number) }
     ensures keeps { IsAmong numbers.old.items numbers.new.items }
     ensures refusal { IfErr result (λ refusal. refusal ≡ Refusal.NoMemory) }
@@ -38,64 +32,6 @@ fn push_number(numbers: &mut Vec<u64>, number: u64) -> Result<(), Refusal>
         }
     }
     numbers.push(number)?;
-    Ok(())
-}
-
-/// Adds the numbers of the columns of entries, erasures among them. Answers `NoMemory` if there is no memory.
-pub(crate) fn push_numbers(numbers: &mut Vec<u64>, entries: &[FileEntry]) -> Result<(), Refusal>
-    ensures all { OnOk result
-        (AllByRecursion (IsNumbered numbers.new.items) (entries_of entries.now)) }
-    ensures keeps { OnOk result (IsAmong numbers.old.items numbers.new.items) }
-    ensures refusal { IfErr result (λ refusal. refusal ≡ Refusal.NoMemory) }
-{
-    let mut rest = entries;
-    'entries: while let Some((entry, after)) = rest.split_first() {
-        push_number(numbers, column_number(&entry.text))?;
-        rest = after;
-    }
-    Ok(())
-}
-
-/// Adds the number of an entry's column, if the entry is the value of a lock. Answers `NoMemory` if there is no memory.
-fn push_lock(alloc: Global, numbers: &mut Vec<u64>, entry: &FileEntry) -> Result<(), Refusal>
-    ensures has { OnOk result (IsLockNumbered numbers.new.items (file_entry entry.now)) }
-    ensures keeps { IsAmong numbers.old.items numbers.new.items }
-    ensures refusal { IfErr result (λ refusal. refusal ≡ Refusal.NoMemory) }
-{
-    if entry.value.is_none() {
-        return Ok(());
-    }
-    let Some(key) = CellKey::decode(alloc, &entry.text)? else {
-        return Ok(());
-    };
-    if key.qualifier != Qualifier::Lock {
-        return Ok(());
-    }
-    push_number(numbers, column_number(&entry.text))
-}
-
-/// Adds the numbers of the columns of locks that have a value among the entries of a block with these bounds. Answers
-/// `NoMemory` if there is no memory.
-pub(crate) fn push_locks(
-    alloc: Global,
-    numbers: &mut Vec<u64>,
-    bounds: ColumnBounds,
-    entries: &[FileEntry],
-) -> Result<(), Refusal>
-    requires { AllByRecursion (IsBounded bounds) (entries_of entries.now) }
-    ensures all { OnOk result
-        (AllByRecursion (IsLockNumbered numbers.new.items) (entries_of entries.now)) }
-    ensures keeps { OnOk result (IsAmong numbers.old.items numbers.new.items) }
-    ensures refusal { IfErr result (λ refusal. refusal ≡ Refusal.NoMemory) }
-{
-    if !bounds.meet(Qualifier::Lock, 1, MOST_STAMP) {
-        return Ok(());
-    }
-    let mut rest = entries;
-    'entries: while let Some((entry, after)) = rest.split_first() {
-        push_lock(alloc, numbers, entry)?;
-        rest = after;
-    }
     Ok(())
 }
 

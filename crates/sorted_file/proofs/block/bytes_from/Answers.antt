@@ -2,7 +2,7 @@ use Rattle.std.proofs.Common.{rules, inl, inr, length, sym, ap, ◌∙◌, arith
 use Rattle.std.proofs.lemmas.List.{nil_from_length}
 use Rattle.std.specs.Ordering.{is_le}
 use Rattle.cell_key.specs.Entries.{lent_entry, spelled}
-use Rattle.sorted_file.proofs.Opened.{behind_next, behind_none, not_greater}
+use Rattle.sorted_file.proofs.Opened.{behind_next, not_greater}
 use Rattle.sorted_file.proofs.Results.{as_none}
 use Rattle.sorted_file.proofs.Searched.{past_end, past_entry, past_here, no_front}
 use Rattle.sorted_file.proofs.block.bytes_from.Goals as goal

@@ -13,11 +13,11 @@ returns-clause-opened g c =
     if_some (g.F.Files.contents c.args.files.now) _ _ (λ m w.
     record {
       list = o.list;
-      bounds = o.bounds;
+      bounds = o.columns.bounded;
       bounded = o.bounded;
-      numbered = numbered_on _ _ c.sorted.ensures.keeps _ o.numbered;
+      numbered = numbered_on _ _ c.sorted.ensures.keeps _ o.columns.numbered;
       rising = c.sorted.ensures.rising;
-      locked = locked_on _ _ c.sorted-2.ensures.keeps _ o.locked;
+      locked = locked_on _ _ c.sorted-2.ensures.keeps _ o.columns.locked;
       locks_rising = c.sorted-2.ensures.rising;
       heads = o.heads;
       skips = c.in_ok-skips.ensures.skips ∙ ap (λ (l : List (Option (Vec ℕ))). skips l) c.deref.ensures.value;

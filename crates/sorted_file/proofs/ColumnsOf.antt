@@ -1,0 +1,59 @@
+-- What is gathered of the columns of entries.
+use Rattle.std.proofs.Common.{◌≡◌, ◌<◌, ◌^◌, ℕ, Contains, List, [], ◌∷◌, ◌++◌, length, sym, ap, subst, ◌∙◌}
+use Rattle.std.proofs.lemmas.List.Elements.{Contains-append_left, Contains-append_right}
+use Rattle.cell_key.specs.Entries.{Entry, key_of_text}
+use Rattle.cell_key.specs.Keys.{text, IsStored}
+use Rattle.cell_key.specs.LentKeys.{IsLentKey}
+use Rattle.cell_key.specs.declared.keys.CellKey.{CellKey}
+use Rattle.cell_key.specs.declared.lent_keys.KeyRef.{KeyRef}
+use Rattle.cell_key.proofs.EntryLaws.{key_of_text-text}
+use Rattle.sorted_file.specs.Block.{entries_of, IsParsed}
+use Rattle.sorted_file.specs.Bounds.{Covers, IsBounded}
+use Rattle.sorted_file.specs.Columns.{AreColumnsOf, IsGathered}
+use Rattle.sorted_file.specs.Numbers.{IsAmong, IsLockNumbered, IsNumbered}
+use Rattle.sorted_file.specs.declared.block.Block.{Block}
+use Rattle.sorted_file.specs.declared.gathering.Columns.{Columns}
+use Rattle.sorted_file.proofs.Bounded.{covered_all}
+use Rattle.sorted_file.proofs.Joining.{all_joined}
+use Rattle.sorted_file.proofs.Locked.{locked_on}
+use Rattle.sorted_file.proofs.Numbered.{numbered_on}
+use Rattle.sorted_file.proofs.Parsed.{parsed_is}
+
+-- a lent key is the key of its text
+pub lent_is : (lent : KeyRef) (k : IsLentKey lent) (key : CellKey) → IsStored key → lent.text.now ≡ text key → k.key ≡ key
+lent_is lent k key stored e = sym (key_of_text-text k.key k.stored) ∙ ap key_of_text (sym k.is ∙ e) ∙ key_of_text-text key stored
+
+-- one entry more
+pub columns_on : (old new : Columns) (es : List Entry) (e : Entry) → Covers old.bounds new.bounds → IsBounded new.bounds e → IsAmong old.numbers.items new.numbers.items → IsNumbered new.numbers.items e
+    → IsAmong old.locks.items new.locks.items → IsLockNumbered new.locks.items e → AreColumnsOf old es → AreColumnsOf new (es ++ e ∷ [])
+columns_on old new es e covers bounded among numbered held locked k = record {
+  bounded = all_joined (IsBounded new.bounds) es (e ∷ []) (covered_all old.bounds new.bounds es covers k.bounded) (bounded, tt);
+  numbered = all_joined (IsNumbered new.numbers.items) es (e ∷ []) (numbered_on old.numbers.items new.numbers.items among es k.numbered) (numbered, tt);
+  locked = all_joined (IsLockNumbered new.locks.items) es (e ∷ []) (locked_on old.locks.items new.locks.items held es k.locked) (locked, tt);
+}
+
+-- those of two lists
+pub columns_joined : (old more new : Columns) (es fs : List Entry) → Covers old.bounds new.bounds → Covers more.bounds new.bounds → new.numbers.items ≡ old.numbers.items ++ more.numbers.items
+    → new.locks.items ≡ old.locks.items ++ more.locks.items → AreColumnsOf old es → AreColumnsOf more fs → AreColumnsOf new (es ++ fs)
+columns_joined old more new es fs first second numbers locks k m =
+    let front : IsAmong old.numbers.items new.numbers.items = λ n there. subst (λ (l : List ℕ). Contains l n) (sym numbers) (Contains-append_left old.numbers.items more.numbers.items n there) in
+    let back : IsAmong more.numbers.items new.numbers.items = λ n there. subst (λ (l : List ℕ). Contains l n) (sym numbers) (Contains-append_right old.numbers.items more.numbers.items n there) in
+    let held : IsAmong old.locks.items new.locks.items = λ n there. subst (λ (l : List ℕ). Contains l n) (sym locks) (Contains-append_left old.locks.items more.locks.items n there) in
+    let added : IsAmong more.locks.items new.locks.items = λ n there. subst (λ (l : List ℕ). Contains l n) (sym locks) (Contains-append_right old.locks.items more.locks.items n there) in
+    record {
+      bounded = all_joined (IsBounded new.bounds) es fs (covered_all old.bounds new.bounds es first k.bounded) (covered_all more.bounds new.bounds fs second m.bounded);
+      numbered = all_joined (IsNumbered new.numbers.items) es fs (numbered_on old.numbers.items new.numbers.items front es k.numbered) (numbered_on more.numbers.items new.numbers.items back fs m.numbered);
+      locked = all_joined (IsLockNumbered new.locks.items) es fs (locked_on old.locks.items new.locks.items held es k.locked) (locked_on more.locks.items new.locks.items added fs m.locked);
+    }
+
+-- what was gathered of a block is so of its entries
+pub record IsReadAs (block : Block) (kept : Columns) : Type 0 where
+  pub parsed : IsParsed (entries_of block) block
+  pub columns : AreColumnsOf kept (entries_of block)
+
+pub read_as : (block : Block) (kept : Columns) → IsGathered block.bytes.items block.starts.items kept → length block.bytes.items < 2 ^ 32 → IsReadAs block kept
+read_as block kept g small =
+    let s = g.spelling in
+    let p : IsParsed s.entries block = record { list = s.list; bytes = s.bytes_are; starts = s.starts_are; small = subst (λ (l : List _). length l < 2 ^ 32) s.bytes_are small } in
+    let same = sym (parsed_is s.entries block p) in
+    record { parsed = subst (λ (es : List Entry). IsParsed es block) same p; columns = subst (λ (es : List Entry). AreColumnsOf kept es) same g.columns }

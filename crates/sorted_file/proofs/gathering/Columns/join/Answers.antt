@@ -1,0 +1,9 @@
+use Rattle.std.proofs.Common.{◌++◌, List, ℕ, ap, ◌∙◌}
+use Rattle.sorted_file.proofs.ColumnsOf.{columns_joined}
+use Rattle.sorted_file.proofs.gathering.Columns.join.Goals as goal
+
+pub returns-clause-joined : goal.returns-clause-joined
+returns-clause-joined c = λ es fs k m.
+    columns_joined c.args.self.now c.args.more.now _ es fs c.joined-self.ensures.first c.joined-self.ensures.second
+    (c.in_ok-extend_from_slice.ensures.items ∙ ap (λ (l : List ℕ). c.args.self.now.numbers.items ++ l) c.deref.ensures.value)
+    (c.in_ok-extend_from_slice-2.ensures.items ∙ ap (λ (l : List ℕ). c.args.self.now.locks.items ++ l) c.deref-2.ensures.value) k m

@@ -1,0 +1,143 @@
+//! What an opening gathers of the entries of blocks as it checks them.
+
+ghost use Rattle.std.specs.Prelude.{◌≡◌, ◌≢◌, ◌<◌, ◌^◌, ◌++◌, ◌∷◌, [], ℕ, List, Option, length, IfOk, IfErr, IfSome, IfNone, OnOk};
+ghost use Rattle.sorted_file.specs.Numbers.{number_of, IsAmong, IsLockNumbered};
+ghost use Rattle.cell_key.specs.Entries.{Entry, IsEntryList, lent_entry};
+ghost use Rattle.cell_key.specs.LentKeys.{IsLentKey};
+ghost use Rattle.sorted_file.specs.Block.{IsBlock, IsParsed, entries_of};
+ghost use Rattle.sorted_file.specs.Columns.{AreColumnsOf, IsGathered};
+ghost use Rattle.sorted_file.specs.Grammar.{block_bytes};
+
+use crate::block::{Block, next_entry, room_for_starts};
+use crate::bounds::ColumnBounds;
+use crate::numbers::{column_number, push_number};
+use cell_key::{EntryRef, KeyRef, Qualifier, Refusal};
+use std::alloc::Global;
+
+/// What a file keeps of the columns of entries.
+#[derive(Drop)]
+pub(crate) struct Columns {
+    /// The bounds of the values.
+    pub(crate) bounds: ColumnBounds,
+    /// A number of each column that has an entry.
+    pub(crate) numbers: Vec<u64>,
+    /// A number of each column of a lock that has a value.
+    pub(crate) locks: Vec<u64>,
+}
+
+impl Columns {
+    ghost use Rattle.sorted_file.specs.Columns.{AreColumnsOf};
+
+    /// Those of no entries.
+    pub(crate) fn new(alloc: Global) -> Columns
+        ensures { AreColumnsOf result [] }
+    {
+        Columns {
+            bounds: ColumnBounds::NONE,
+            numbers: Vec::new(alloc),
+            locks: Vec::new(alloc),
+        }
+    }
+
+    /// Adds those of an entry at this key. Answers `NoMemory` if there is no memory.
+    fn add(&mut self, entry: EntryRef<'_>, key: KeyRef<'_>) -> Result<(), Refusal>
+        requires key { IsLentKey key }
+        requires text { key.text.now ≡ entry.key.now }
+        ensures added { OnOk result ((es : List Entry) → AreColumnsOf self.old es
+            → AreColumnsOf self.new (es ++ lent_entry entry.entry ∷ [])) }
+        ensures refusal { IfErr result (λ refusal. refusal ≡ Refusal.NoMemory) }
+    {
+        let number = column_number(key.text);
+        push_number(&mut self.numbers, number)?;
+        let Some(_) = entry.value else {
+            return Ok(());
+        };
+        push_lock(&mut self.locks, key, number)?;
+        self.bounds = self.bounds.with_key(key);
+        Ok(())
+    }
+
+    /// Adds those of more entries. Answers `NoMemory` if there is no memory.
+    pub(crate) fn join(&mut self, more: &Columns) -> Result<(), Refusal>
+        ensures joined { OnOk result ((es fs : List Entry) → AreColumnsOf self.old es
+            → AreColumnsOf more.now fs → AreColumnsOf self.new (es ++ fs)) }
+        ensures refusal { IfErr result (λ refusal. refusal ≡ Refusal.NoMemory) }
+    {
+        self.numbers.extend_from_slice(&more.numbers)?;
+        self.locks.extend_from_slice(&more.locks)?;
+        self.bounds = self.bounds.joined(more.bounds);
+        Ok(())
+    }
+}
+
+/// Adds the number of a key's column, if it is a lock's. Answers `NoMemory` if there is no memory.
+fn push_lock(locks: &mut Vec<u64>, key: KeyRef<'_>, number: u64) -> Result<(), Refusal>
+    requires key { IsLentKey key }
+    requires number { number ≡ number_of key.text.now }
+    ensures has { OnOk result ((value : Option (List ℕ))
+        → IsLockNumbered locks.new.items (key.entry.text.now, value)) }
+    ensures keeps { OnOk result (IsAmong locks.old.items locks.new.items) }
+    ensures refusal { IfErr result (λ refusal. refusal ≡ Refusal.NoMemory) }
+{
+    if key.qualifier != Qualifier::Lock {
+        return Ok(());
+    }
+    push_number(locks, number)?;
+    Ok(())
+}
+
+/// Where the entries begin that have these bytes, and their columns; `None` if no entry list has the bytes. Answers
+/// `NoMemory` if there is no memory.
+fn gather(alloc: Global, bytes: &[u8]) -> Result<Option<(Vec<u32>, Columns)>, Refusal>
+    requires { length bytes.now < 2 ^ 32 }
+    ensures found { IfOk result (λ found.
+        IfSome found (λ gathered. IsGathered bytes.now gathered.0.items gathered.1)) }
+    ensures none { IfOk result (λ found. IfNone found ((es : List Entry) → IsEntryList es
+        → bytes.now ≢ block_bytes es)) }
+    ensures refusal { IfErr result (λ refusal. refusal ≡ Refusal.NoMemory) }
+{
+    let mut starts = room_for_starts(alloc, bytes.len())?;
+    let mut columns = Columns::new(alloc);
+    let mut last = None;
+    let mut rest = bytes;
+    'entries: while !rest.is_empty() {
+        let Some((entry, key, after)) = next_entry(last, rest) else {
+            return Ok(None);
+        };
+        starts.push((bytes.len() - rest.len()) as u32)?;
+        columns.add(entry, key)?;
+        last = Some(key);
+        rest = after;
+    }
+    Ok(Some((starts, columns)))
+}
+
+/// A block that was read, and its columns.
+#[derive(Drop)]
+pub(crate) struct ReadBlock {
+    pub(crate) block: Block,
+    pub(crate) columns: Columns,
+}
+
+/// The block that the bytes are, and its columns; `None` if they are no block. Answers `NoMemory` if there is no memory.
+pub(crate) fn read_block(alloc: Global, bytes: Vec<u8>) -> Result<Option<ReadBlock>, Refusal>
+    requires { length bytes.items < 2 ^ 32 }
+    ensures found { IfOk result (λ found.
+        IfSome found (λ read. IsBlock (entries_of read.block) bytes.items)) }
+    ensures parsed { IfOk result (λ found.
+        IfSome found (λ read. IsParsed (entries_of read.block) read.block)) }
+    ensures columns { IfOk result (λ found.
+        IfSome found (λ read. AreColumnsOf read.columns (entries_of read.block))) }
+    ensures none { IfOk result (λ found. IfNone found ((es : List Entry)
+        → ¬ IsBlock es bytes.items)) }
+    ensures refusal { IfErr result (λ refusal. refusal ≡ Refusal.NoMemory) }
+{
+    let Some((starts, columns)) = gather(alloc, &bytes)? else {
+        return Ok(None);
+    };
+    let block = Block { bytes, starts };
+    if !block.fits() {
+        return Ok(None);
+    }
+    Ok(Some(ReadBlock { block, columns }))
+}
