@@ -6,6 +6,7 @@ ghost use Rattle.std.specs.IoError.{error_kind};
 ghost use Rattle.file_store.specs.Store.{HasFaultCause};
 
 use crate::files::{FileFault, Files};
+use crate::open_files::OpenFiles;
 use std::alloc::{Allocator, Global};
 use std::fs::{DirEntry, File, Metadata, OpenFile};
 use std::io::{ErrorKind, Read, Seek, SeekFrom, Write};
@@ -17,7 +18,8 @@ const DIGITS: usize = 16;
 
 /// Files in one folder: `t`, 16 lower-case hexadecimal digits of the name, and `.tab`. Other names in the folder aren't
 /// listed. Nothing is known of the bytes. The folder's file `lock` is locked as long as the folder is open, so that one
-/// program has it at a time; the system unlocks it when the program ends, however it does.
+/// program has it at a time; the system unlocks it when the program ends, however it does. The 128 files that were read
+/// last are kept open.
 ///
 /// A file is written beside its place, under the same digits and `.new`, forced to the disk, and then put in its place,
 /// and the folder is forced to the disk too: if the machine stops between, the old bytes stand or the new ones. If the
@@ -28,6 +30,7 @@ pub struct DirFiles<R> {
     alloc: Global,
     folder: String,
     _lock: File,
+    open_files: OpenFiles,
     faults: u64,
 }
 
@@ -160,40 +163,55 @@ fn read_full<S: Read>(file: &mut S, out: &mut [u8]) -> io::Result<usize>
     Ok(at)
 }
 
-/// Reads from an offset of a file that was opened to the front of a buffer, and answers how many bytes it read: none
-/// if there is no such file.
-fn read_part<S: Read + Seek + Drop>(
-    opened: io::Result<S>,
-    offset: u64,
-    out: &mut [u8],
-) -> io::Result<usize>
-    ensures within { IfOk result (λ n. n ≤ length out.old) }
-    ensures failed { IfErr opened (λ error.
-        error_kind error ≢ ErrorKind.NotFound → result ≡ Err error) }
+/// Reads from an offset of an open file to the front of a buffer, and answers how many bytes it read.
+fn read_part<S: Read + Seek>(file: &mut S, offset: u64, out: &mut [u8]) -> io::Result<usize>
+    ensures { IfOk result (λ n. n ≤ length out.old) }
 {
-    let Some(mut file) = if_there(opened)? else {
-        return Ok(0);
-    };
     if offset > i64::MAX as u64 {
         return Ok(0);
     }
     file.seek(SeekFrom::Start(offset))?;
-    read_full(&mut file, out)
+    read_full(file, out)
 }
 
-/// The same of a file by its name.
-fn read_from<R: Folders>(
+/// Reads so of a file that was opened, and answers the file too, if there is one.
+fn read_opened<S: Read + Seek + Drop>(
+    opened: io::Result<S>,
+    offset: u64,
+    out: &mut [u8],
+) -> io::Result<(usize, Option<S>)>
+    ensures within { IfOk result (λ found. found.0 ≤ length out.old) }
+    ensures failed { IfErr opened (λ error.
+        error_kind error ≢ ErrorKind.NotFound → result ≡ Err error) }
+{
+    let Some(mut file) = if_there(opened)? else {
+        return Ok((0, None));
+    };
+    let count = read_part(&mut file, offset, out)?;
+    Ok((count, Some(file)))
+}
+
+/// Reads so of a file by its name: nothing if there is no such file. The file is kept open.
+fn read_from<R: Folders<File = File>>(
     rt: &R,
     alloc: Global,
     folder: &str,
+    open_files: &mut OpenFiles,
     name: u64,
     offset: u64,
     out: &mut [u8],
 ) -> io::Result<usize>
     ensures { IfOk result (λ n. n ≤ length out.old) }
 {
+    if let Some(file) = open_files.get(name) {
+        return read_part(file, offset, out);
+    }
     let path = path_of(alloc, folder, name, "tab")?;
-    read_part(File::open(rt, path.as_str()), offset, out)
+    let (count, file) = read_opened(File::open(rt, path.as_str()), offset, out)?;
+    if let Some(file) = file {
+        open_files.keep(name, file);
+    }
+    Ok(count)
 }
 
 /// How many bytes a file has by what is known of it. It may be missing; any other failure is passed on.
@@ -301,7 +319,7 @@ impl<R: Folders<File = File> + AllocGlobal + Clone + Drop> DirFiles<R> {
     }
 }
 
-impl<R: Folders + AllocGlobal + Clone + Drop> DirFiles<R> {
+impl<R: Folders<File = File> + AllocGlobal + Clone + Drop> DirFiles<R> {
     /// What a call answered, or its fault, which is counted if it is a device's.
     fn count_fault<T: Drop>(&mut self, called: io::Result<T>) -> Result<T, FileFault>
         ensures cause { HasFaultCause self.old.faults self.new.faults result }
@@ -333,16 +351,18 @@ fn open_folder<R: Folders<File = File> + AllocGlobal + Clone + Drop>(
     let lock = lock_folder(&rt, alloc, folder)?;
     remove_unplaced(&rt, folder)?;
     let folder = String::from_str(alloc, folder)?;
+    let open_files = OpenFiles::new(alloc)?;
     Ok(DirFiles {
         rt,
         alloc,
         folder,
         _lock: lock,
+        open_files,
         faults: 0,
     })
 }
 
-impl<R: Folders + AllocGlobal + Clone + Drop> Files for DirFiles<R> {
+impl<R: Folders<File = File> + AllocGlobal + Clone + Drop> Files for DirFiles<R> {
     ghost contents = { λ _. None };
 
     ghost faults = { λ files. files.faults };
@@ -350,6 +370,7 @@ impl<R: Folders + AllocGlobal + Clone + Drop> Files for DirFiles<R> {
     ghost replaces = { ⊤ };
 
     fn put(&mut self, name: u64, bytes: &[u8]) -> Result<(), FileFault> {
+        self.open_files.close(name);
         let called = write_file(&self.rt, self.alloc, self.folder.as_str(), name, bytes);
         self.count_fault(called)
     }
@@ -364,6 +385,7 @@ impl<R: Folders + AllocGlobal + Clone + Drop> Files for DirFiles<R> {
             &self.rt,
             self.alloc,
             self.folder.as_str(),
+            &mut self.open_files,
             name,
             offset,
             out,
@@ -379,6 +401,7 @@ impl<R: Folders + AllocGlobal + Clone + Drop> Files for DirFiles<R> {
     }
 
     fn remove(&mut self, name: u64) -> Result<(), FileFault> {
+        self.open_files.close(name);
         let called = remove_file(&self.rt, self.alloc, self.folder.as_str(), name);
         self.count_fault(called)
     }

@@ -5,6 +5,7 @@ mod fail;
 mod files;
 mod folder;
 mod memory;
+mod open_files;
 mod whole;
 
 pub use fail::{Fail, FailAt};

@@ -1,6 +1,7 @@
 //! Files that a put replaces as a whole.
 
 use file_store::{DirFiles, Files, MemFiles};
+use std::fs::File;
 use std::rt::Files as Folders;
 
 /// Files of which a put that failed leaves the old file or the new one. What is to outlast a kill stands in such files.
@@ -12,6 +13,6 @@ impl WholeFiles for MemFiles {
     ghost whole = { tt };
 }
 
-impl<R: Folders + AllocGlobal + Clone + Drop> WholeFiles for DirFiles<R> {
+impl<R: Folders<File = File> + AllocGlobal + Clone + Drop> WholeFiles for DirFiles<R> {
     ghost whole = { tt };
 }

@@ -177,3 +177,32 @@ fn files_are_put_in_place_whole(rt: HostRuntime) -> Result<(), Fail> {
     fs::remove_dir_all(&rt, path)?;
     Ok(())
 }
+
+/// How many files are read: more than are kept open.
+const MANY: u64 = 200;
+
+/// A file that was read is kept open. Once it is replaced or removed, its old bytes are read no more; and if more files
+/// are read than are kept open, each is read as it is.
+#[test]
+fn open_files_are_read_as_they_are(rt: HostRuntime) -> Result<(), Fail> {
+    let folder = new_folder(&rt, "open")?;
+    let path = folder.as_str();
+    let mut files = DirFiles::open(rt, path)?;
+    for (bytes, read) in [("old", "old"), ("newer bytes", "newer by")] {
+        files.put(5, bytes.as_bytes())?;
+        assert!(rt; part(&rt, &mut files, 5, 0)?.as_slice() == read.as_bytes());
+        assert!(rt; part(&rt, &mut files, 5, 0)?.as_slice() == read.as_bytes());
+    }
+    files.remove(5)?;
+    assert!(rt; part(&rt, &mut files, 5, 0)?.is_empty());
+    for name in 1..MANY {
+        files.put(name, &name.to_be_bytes())?;
+        assert!(rt; part(&rt, &mut files, name, 0)?.as_slice() == name.to_be_bytes().as_slice());
+    }
+    for name in 1..MANY {
+        assert!(rt; part(&rt, &mut files, name, 0)?.as_slice() == name.to_be_bytes().as_slice());
+    }
+    assert!(rt; files.faults() == 0);
+    fs::remove_dir_all(&rt, path)?;
+    Ok(())
+}
