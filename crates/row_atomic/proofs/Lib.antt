@@ -23,6 +23,7 @@ pub mod ListRoom
 pub mod ListedFiles
 pub mod LoadedTablets
 pub mod ManyNexts
+pub mod ManyVersions
 pub mod Memtables
 pub mod MovedTablets
 pub mod NextLists

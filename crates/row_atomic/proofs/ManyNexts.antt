@@ -132,7 +132,7 @@ module _ (m : Contents) (ts : List Tablet) (pre : List PlaceView) (p : PlaceView
   passed_on start f far passed = each_map (NoneAfter m ts start) (NoneAfter m ts (Some f)) (λ q none place behind. none place (after_after start f place far behind)) pre passed
 
   -- what the tablet answers is next in the cluster
-  tablet_next : (most : ℕ) (start : Option Place) (more : List Place) → AllByRecursion (NoneAfter m ts start) pre → AreNextCells (cells_at m t) start most more → AreNextCells whole start (length more) more
+  pub tablet_next : (most : ℕ) (start : Option Place) (more : List Place) → AllByRecursion (NoneAfter m ts start) pre → AreNextCells (cells_at m t) start most more → AreNextCells whole start (length more) more
   tablet_next most start [] passed next = λ wanted. absurd (omega (arith, wanted))
   tablet_next most start (f ∷ more) passed next =
       let fewer : length more ≡ length (f ∷ more) - 1 = omega arith in (
@@ -141,7 +141,7 @@ module _ (m : Contents) (ts : List Tablet) (pre : List PlaceView) (p : PlaceView
         subst (λ n. AreNextCells whole (Some f) n more) fewer (tablet_next (most - 1) (Some f) more (passed_on start f next.1.0 passed) next.2),
       )
 
-  tablet_begins : (most : ℕ) (start last : Option Place) (more : List Place) → AllByRecursion (NoneAfter m ts start) pre → AreNextCells (cells_at m t) start most more → BeginBehind ts last post → BeginBehind ts (last_or last more) post
+  pub tablet_begins : (most : ℕ) (start last : Option Place) (more : List Place) → AllByRecursion (NoneAfter m ts start) pre → AreNextCells (cells_at m t) start most more → BeginBehind ts last post → BeginBehind ts (last_or last more) post
   tablet_begins most start last [] passed next begins = begins
   tablet_begins most start last (f ∷ more) passed next begins =
       tablet_begins (most - 1) (Some f) (Some f) more (passed_on start f next.1.0 passed) next.2
@@ -151,7 +151,7 @@ module _ (m : Contents) (ts : List Tablet) (pre : List PlaceView) (p : PlaceView
   far_behind None begins place cell = tt
   far_behind (Some low) begins place cell = past_row low place (range_of t) (begins.0 t numbered) (in_range m ts (index_of p.tablet) t place (numbered_at ts p.tablet t numbered) cell)
 
-  goes_on : (start : Option Place) (n k : ℕ) (found more : List Place) → AreNextCells whole start n found → BeginBehind ts (last_or None found) (p ∷ post) → AreNextCells (cells_at m t) start k more → AreNextCells (cells_at m t) (last_or start found) k more
+  pub goes_on : (start : Option Place) (n k : ℕ) (found more : List Place) → AreNextCells whole start n found → BeginBehind ts (last_or None found) (p ∷ post) → AreNextCells (cells_at m t) start k more → AreNextCells (cells_at m t) (last_or start found) k more
   goes_on start n k [] more some begins next = next
   goes_on start n k (f ∷ found) more some begins next =
       begin_later (cells_at m t) start (last_or (Some f) found) (behind_last whole n start (f ∷ found) some) (far_behind (last_or (Some f) found) begins) k more next

@@ -10,6 +10,7 @@ use cell_key::{Edit, Family, Qualifier, Refusal, Row, Stamp};
 use std::alloc::Global;
 use std::collections::BTreeMap;
 use std::marker::Model;
+use tablet::{BatchLimits, VersionBatch};
 
 /// Rows of cells in one ordered map in memory, which is never full and never damaged. A read looks
 /// at one entry of the map, and that of the next cells at one for each of them. Edits first make room for each of their keys, and an erased key leaves
@@ -81,6 +82,15 @@ impl Rows for PlainRows {
         most: usize,
     ) -> Result<Vec<(Row, Family)>, Refusal> {
         Ok(slots::next_cells(self.alloc, &self.slots, after, most)?)
+    }
+
+    fn next_versions(
+        &mut self,
+        after: Option<(&Row, &Family)>,
+        limits: BatchLimits,
+        hi: Stamp,
+    ) -> Result<VersionBatch, Refusal> {
+        Ok(slots::next_versions(self.alloc, &self.slots, after, limits, hi)?)
     }
 
     fn apply(&mut self, _row: &Row, edits: Vec<Edit>) -> Result<(), Refusal> {

@@ -8,6 +8,7 @@ use crate::journal::Journal;
 use crate::rows::Rows;
 use cell_key::{Edit, Family, Qualifier, Refusal, Row, Stamp, replays};
 use file_store::Files;
+use tablet::{BatchLimits, VersionBatch};
 
 /// A cluster, and where edits are recorded the journal in which each is written down, before an answer says that it was
 /// made. Where none are, an edit costs a test of that more than the cluster's, and nothing is kept.
@@ -160,6 +161,16 @@ impl<F: Files> Rows for Recorded<F> {
     ) -> Result<Vec<(Row, Family)>, Refusal> {
         root_is_stored::<F>();
         self.cluster.next_cells(after, most)
+    }
+
+    fn next_versions(
+        &mut self,
+        after: Option<(&Row, &Family)>,
+        limits: BatchLimits,
+        hi: Stamp,
+    ) -> Result<VersionBatch, Refusal> {
+        root_is_stored::<F>();
+        self.cluster.next_versions(after, limits, hi)
     }
 
     fn apply(&mut self, row: &Row, edits: Vec<Edit>) -> Result<(), Refusal>

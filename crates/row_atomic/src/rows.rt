@@ -1,15 +1,18 @@
 //! Rows of cells: what each kind of them can do, and what each call leaves.
 
 ghost use Rattle.std.specs.Prelude.{◌≡◌, ◌≤◌, ℕ, length, IfOk, OnOk, OnErr, IfErr, IsErrOf, IfSome, option_map};
+ghost use Rattle.std.specs.Bool.{OnFalse};
 ghost use Rattle.std.specs.List.{AllByRecursion};
 ghost use Rattle.cell_key.specs.Cells.{IsNewest, IsEditOf, version};
 ghost use Rattle.cell_key.specs.Faults.{HasReason};
 ghost use Rattle.cell_key.specs.Places.{AreNextCells, IsNextCell, place_named};
 ghost use Rattle.cell_key.specs.Versions.{IsVersionIn, stamped};
+ghost use Rattle.tablet.specs.Batches.{AreNextVersions, IsFull};
 ghost use Rattle.row_atomic.specs.Calls.{Applies, AreReadableFrom, OnlyReads, View};
 ghost use Rattle.row_atomic.specs.Refusals.{IsApplyRefusal, IsRefusalOfRead};
 
 use cell_key::{Edit, Family, Qualifier, Refusal, Row, Stamp};
+use tablet::{BatchLimits, VersionBatch};
 
 /// Rows of cells. What is read or changed under one row is read or changed at once
 /// (Bigtable: reads and writes under a single row are atomic).
@@ -81,6 +84,30 @@ pub trait Rows {
             → IfOk result (λ found. AreNextCells (seen.cells self.old)
             (option_map place_named after.entry) most found.items) }
         ensures few { IfOk result (λ found. length found.items ≤ most) }
+        ensures reads { OnlyReads seen self.old self.new }
+        ensures refusal { IfErr result (IsRefusalOfRead
+            (AreReadableFrom seen self.old (option_map place_named after.entry))) }
+        ensures reason { HasReason (faults self.old) (faults self.new) result };
+
+    /// The next cells that have any key, as `next_cells` gives them, each with the newest versions at or below `hi` of its
+    /// columns: until they are as many as `limits` says or their values have as many bytes, or no more are left. They
+    /// cost one pass over what lies before the last of them, in which no other version is copied.
+    ///
+    /// # Errors
+    ///
+    /// `Device`, `NoMemory` or `Damaged`, as for every read.
+    fn next_versions(
+        &mut self,
+        after: Option<(&Row, &Family)>,
+        limits: BatchLimits,
+        hi: Stamp,
+    ) -> Result<VersionBatch, Refusal>
+        ensures found { AreReadableFrom seen self.old (option_map place_named after.entry)
+            → IfOk result (AreNextVersions (seen.cells self.old)
+            (option_map place_named after.entry) hi) }
+        ensures full { IfOk result (λ batch. OnFalse batch.is_last
+            (IsFull limits batch.cells.items)) }
+        ensures few { IfOk result (λ batch. length batch.cells.items ≤ limits.cells) }
         ensures reads { OnlyReads seen self.old self.new }
         ensures refusal { IfErr result (IsRefusalOfRead
             (AreReadableFrom seen self.old (option_map place_named after.entry))) }

@@ -12,12 +12,15 @@ ghost use Rattle.cell_key.specs.Cells.{after_edit, after_edits, edited_key, IsNe
 ghost use Rattle.cell_key.specs.declared.keys.CellKey.{CellKey as Key};
 ghost use Rattle.cell_key.specs.Places.{AreNextCells, IsNextCell, place_named};
 ghost use Rattle.cell_key.specs.Versions.{stamped};
+ghost use Rattle.std.specs.Bool.{OnFalse};
+ghost use Rattle.tablet.specs.Batches.{place_in, AreNextVersions, HasNewest, IsFull};
 ghost use Rattle.row_atomic.specs.Slots.{slot_cells, slot_at, keyed, HasSlot, KeepsSlots, EmptiesNone, AreFilled, IsFullBut, IsFirstKey, past, HasEdited};
 
 use cell_key::{CellKey, Edit, Family, Qualifier, Row, Stamp, last_place};
 use std::alloc::{AllocError, Global};
 use std::collections::BTreeMap;
 use std::ops::Bound;
+use tablet::{BatchLimits, CellVersions, VersionBatch};
 
 pub(crate) type Slots = BTreeMap<CellKey, Option<Vec<u8>>>;
 
@@ -105,6 +108,52 @@ pub(crate) fn next_cells(
         }
     }
     Ok(found)
+}
+
+/// A cell with the newest versions at or below `hi` of its columns.
+fn versions_of(
+    slots: &Slots,
+    row: &Row,
+    family: &Family,
+    hi: Stamp,
+) -> Result<CellVersions, AllocError>
+    requires { AreFilled slots.now.entries }
+    ensures place { IfOk result (λ found. place_in found ≡ (row.now, family.now)) }
+    ensures newest { IfOk result (HasNewest (slot_cells slots.now.entries) hi) }
+{
+    Ok(CellVersions {
+        row: row.clone()?,
+        family: family.clone()?,
+        data: newest(slots, row, family, Qualifier::Data, 0, hi)?,
+        lock: newest(slots, row, family, Qualifier::Lock, 0, hi)?,
+        write: newest(slots, row, family, Qualifier::Write, 0, hi)?,
+    })
+}
+
+/// The next cells after a place, each with the newest versions at or below `hi` of its columns: as many as `limits` says,
+/// or fewer if no more are left.
+pub(crate) fn next_versions(
+    alloc: Global,
+    slots: &Slots,
+    after: Option<(&Row, &Family)>,
+    limits: BatchLimits,
+    hi: Stamp,
+) -> Result<VersionBatch, AllocError>
+    requires { AreFilled slots.now.entries }
+    ensures found { IfOk result (AreNextVersions (slot_cells slots.now.entries)
+        (option_map place_named after.entry) hi) }
+    ensures full { IfOk result (λ batch. OnFalse batch.is_last (IsFull limits batch.cells.items)) }
+    ensures few { IfOk result (λ batch. length batch.cells.items ≤ limits.cells) }
+{
+    let places = next_cells(alloc, slots, after, limits.cells)?;
+    let mut cells = Vec::new(alloc);
+    for place in &places {
+        let (row, family) = place;
+        let versions = versions_of(slots, row, family, hi)?;
+        cells.push(versions)?;
+    }
+    let is_last = cells.len() < limits.cells;
+    Ok(VersionBatch { cells, is_last })
 }
 
 /// The key of an edit.

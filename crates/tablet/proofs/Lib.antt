@@ -3,6 +3,8 @@ pub mod Fences
 pub mod Filters
 pub mod FirstValues
 pub mod Found
+pub mod GatheredCells
+pub mod GatheredEntries
 pub mod Held
 pub mod InMemory
 pub mod KeptCells
@@ -13,6 +15,7 @@ pub mod Newer
 pub mod NextCells
 pub mod NextLists
 pub mod NextPlaces
+pub mod NextVersions
 pub mod ReadPlaces
 pub mod Passed
 pub mod SameFiles

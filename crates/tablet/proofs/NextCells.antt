@@ -79,12 +79,12 @@ same_text x = go (byte_cmp x x) (total.antisymm x x)
     go Greater e = cc
 
 module _ (key : CellKey) (stored : IsStored key) where
-  past_after : (place : Place) → IsStoredPlace place → is_le (byte_cmp (past_place (Some place)) (text key)) ≡ true → place_cmp place (place_of key) ≡ Less
+  pub past_after : (place : Place) → IsStoredPlace place → is_le (byte_cmp (past_place (Some place)) (text key)) ≡ true → place_cmp place (place_of key) ≡ Less
   past_after place is e =
       only_two (byte_cmp place.0 key.row) (byte_cmp place.1 key.family) _ (last_of_place key.qualifier key.stamp stored.from)
       (ap is_le (sym (text_order (version place.0 place.1 Write 0) key (last_key place is) (stored_key key stored))) ∙ e)
 
-  after_past : (place : Place) → IsStoredPlace place → place_cmp place (place_of key) ≡ Less → is_le (byte_cmp (past_place (Some place)) (text key)) ≡ true
+  pub after_past : (place : Place) → IsStoredPlace place → place_cmp place (place_of key) ≡ Less → is_le (byte_cmp (past_place (Some place)) (text key)) ≡ true
   after_past place is e =
       ap is_le (text_order (version place.0 place.1 Write 0) key (last_key place is) (stored_key key stored))
       ∙ two_first (byte_cmp place.0 key.row) (byte_cmp place.1 key.family) _ e

@@ -14,7 +14,7 @@ use Rattle.cell_key.proofs.TextPlaces.{first, less, second}
 use Rattle.sorted_file.specs.Source.{pending}
 use Rattle.std.proofs.lemmas.List.{length-append}
 use Rattle.tablet.proofs.NextLists.{last_append, next_all, next_append, next_one}
-use Rattle.tablet.specs.Reads.{HasLeft, IsNextIn, IsOfPlace, NamesPlace, first_value, past_place}
+use Rattle.tablet.specs.Reads.{HasLeft, IsNextIn, IsOfPlace, first_value, past_place}
 use Rattle.tablet.proofs.NextCells.{below_past, le_trans}
 
 -- ---- one entry
@@ -105,7 +105,7 @@ below_middle : (low : List ℕ) (before : List Entry) (e : Entry) (rest : List E
 below_middle low [] e rest h = less _ (first _ _ h)
 below_middle low (x ∷ before) e rest h = below_middle low before e rest (second _ _ h)
 
-left_after : (past : List ℕ) (before : List Entry) (e : Entry) (rest : List Entry) → IsRising (before ++ e ∷ rest) → byte_cmp e.0 past ≡ Less → HasLeft past (before ++ e ∷ rest) rest
+pub left_after : (past : List ℕ) (before : List Entry) (e : Entry) (rest : List Entry) → IsRising (before ++ e ∷ rest) → byte_cmp e.0 past ≡ Less → HasLeft past (before ++ e ∷ rest) rest
 left_after past [] e rest rising up = sym (ap (λ (b : Bool). cond b (e ∷ entries_from past rest) (entries_from past rest)) (passed e.0 past up))
 left_after past (x ∷ before) e rest rising up =
     left_after past before e rest (second _ _ rising) up

@@ -1,4 +1,6 @@
+pub mod Batches
 pub mod Compactions
+pub mod Gathering
 pub mod Laws
 pub mod Ranges
 pub mod Reads

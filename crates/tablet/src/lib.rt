@@ -2,8 +2,10 @@
 //! (Bigtable, tablet serving).
 #![tactic(auto)]
 
+mod batches;
 mod caches;
 mod compactions;
+mod gathering;
 mod laws;
 mod lookup;
 mod merge_policy;
@@ -14,6 +16,7 @@ mod sources;
 mod split;
 mod tablet;
 
+pub use batches::{BatchLimits, CellVersions, VersionBatch};
 pub use compactions::Compaction;
 pub use laws::{
     files_are_there, others_stay, same_cells, shows_its_lists, stays_in_range, unnamed_may_go,

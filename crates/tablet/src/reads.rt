@@ -1,4 +1,4 @@
-//! What a tablet answers: the newest version of a column, and the next cells.
+//! What a tablet answers: the newest version of a column, and the next cells, alone or with their newest versions.
 
 ghost use Rattle.std.specs.Prelude.{◌≡◌, ℕ, ◌≤◌, ◌<◌, ◌^◌, length, [], false, IsTrue, option_map, map, IfOk, IfErr, IfSome, IsErrOf};
 ghost use Rattle.cell_key.specs.Cells.{IsNewest, version};
@@ -9,11 +9,14 @@ ghost use Rattle.cell_key.specs.Versions.{IsVersion, IsVersionIn, stamped};
 ghost use Rattle.memtable.specs.Slots.{lent_version};
 ghost use Rattle.sorted_file.specs.File.{listed};
 ghost use Rattle.sorted_file.specs.Source.{IsReadRefusal};
+ghost use Rattle.std.specs.Bool.{OnFalse};
+ghost use Rattle.tablet.specs.Batches.{AreNextVersions, IsFull};
 ghost use Rattle.tablet.specs.Ranges.{has_row};
 ghost use Rattle.tablet.specs.Reads.{HasNoLater, IsAsked, IsLater};
 
+use crate::batches::{BatchLimits, VersionBatch};
 use crate::lookup::{asked, lookup, newest_stamp};
-use crate::scan::{later, merged_places, past_place};
+use crate::scan::{later, merged_places, merged_versions, past_place};
 use crate::sources::fences;
 use crate::tablet::Tablet;
 use cell_key::{CellKey, Family, MOST_STAMP, Qualifier, Refusal, Row, Stamp};
@@ -264,6 +267,48 @@ impl Tablet {
             from,
             end.as_deref(),
             most,
+            files,
+        )
+    }
+    /// The first cells of the tablet that have any version, after the cell of `after`, which may lie outside
+    /// the tablet's range, or from its start, each with the newest versions at or below `hi` of its columns: until they
+    /// are as many as `limits` says or their values have as many bytes, or no more are left. The memtable and the
+    /// files are read once, up to the first value after the last of these cells. No older version is copied, nor one
+    /// above `hi`.
+    ///
+    /// # Errors
+    ///
+    /// `Damaged` only if a file is no longer what was opened, `Device` and `NoMemory`.
+    pub fn next_versions<F: Files>(
+        &self,
+        after: Option<(&Row, &Family)>,
+        limits: BatchLimits,
+        hi: Stamp,
+        files: &mut F,
+    ) -> Result<VersionBatch, Refusal>
+        ensures found { IfOk result (λ batch. IfSome (F.contents files.old) (λ m. Holds m self.now
+            → AreNextVersions (cells_at m self.now) (option_map place_named after.entry) hi
+            batch)) }
+        ensures full { IfOk result (λ batch. OnFalse batch.is_last
+            (IsFull limits batch.cells.items)) }
+        ensures few { IfOk result (λ batch. length batch.cells.items ≤ limits.cells) }
+        ensures damaged { IsErrOf result Refusal.Damaged
+            → IfSome (F.contents files.old) (λ m. ¬ Holds m self.now) }
+        ensures refusal { IfErr result IsReadRefusal }
+        ensures same { F.contents files.new ≡ F.contents files.old }
+        ensures reason { HasReason (F.faults files.old) (F.faults files.new) result }
+    {
+        let (fence, end) = fences(self.alloc, &self.range)?;
+        let past = past_place(self.alloc, after)?;
+        let from = later(&fence, &past);
+        merged_versions(
+            self.alloc,
+            &self.memtable,
+            &self.files,
+            from,
+            end.as_deref(),
+            limits,
+            hi,
             files,
         )
     }

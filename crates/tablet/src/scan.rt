@@ -1,20 +1,25 @@
-//! The merged scan: the places of the values that a memtable and files show together from a text on (Bigtable, tablet
-//! serving).
+//! The merged scan: the places of the values that a memtable and files show together from a text on, and the cells there
+//! with their newest versions (Bigtable, tablet serving).
 
-ghost use Rattle.std.specs.Prelude.{◌≡◌, ◌≤◌, ◌⊎◌, length, [], ◌∷◌, None, Some, option_map, map, IfOk, OnOk, IfErr, IfSome, IsErrOf};
+ghost use Rattle.std.specs.Prelude.{◌≡◌, ◌≤◌, ◌⊎◌, ◌++◌, List, false, length, [], ◌∷◌, None, Some, option_map, map, IfOk, OnOk, IfErr, IfSome, IsErrOf};
+ghost use Rattle.std.specs.Bool.{OnFalse, OnTrue};
 ghost use Rattle.std.specs.Option.{option_copied, option_to_list};
 ghost use Rattle.std.specs.List.{AllByRecursion};
 ghost use Rattle.cell_key.specs.Cells.{version};
-ghost use Rattle.cell_key.specs.Entries.{IsEntry, entries_from, lent_entry};
+ghost use Rattle.cell_key.specs.Entries.{Entry, IsEntry, IsEntryList, entries_from, lent_entry};
 ghost use Rattle.cell_key.specs.Faults.{HasReason};
 ghost use Rattle.cell_key.specs.Keys.{text};
 ghost use Rattle.cell_key.specs.Names.{IsRow, IsFamily};
 ghost use Rattle.cell_key.specs.Places.{AreNext, place_named};
 ghost use Rattle.sorted_file.specs.File.{IsOpen, listed};
 ghost use Rattle.sorted_file.specs.Source.{IsReadRefusal};
+ghost use Rattle.tablet.specs.Batches.{IsFull};
+ghost use Rattle.tablet.specs.Gathering.{AreVersionsIn, Gathers, IsWithin, KeepsLimits};
 ghost use Rattle.tablet.specs.Reads.{first_value, later, past_place, HasLeft, IsNextIn, IsPlaceOrNone, NamesPlace};
 ghost use Rattle.tablet.specs.Sources.{part};
 
+use crate::batches::{BatchLimits, VersionBatch};
+use crate::gathering::Gathering;
 use crate::sources::sources;
 use cell_key::{CellKey, EntryRef, Family, Qualifier, Refusal, Row, Stamp, last_place};
 use compaction::Merge;
@@ -145,6 +150,93 @@ pub(crate) fn merged_places<F: Files>(
     let sources = sources::<F>(alloc, Some(memtable), files, from, end)?;
     let mut merge = Merge::new::<F>(sources);
     next_places(alloc, &mut merge, most, store)
+}
+
+/// Takes the entry that a source is at, if it is at one, unless the batch is full. Whether it did.
+fn take_at<F: Files, S: Source<F>>(
+    alloc: Global,
+    gathering: &mut Gathering,
+    source: &S,
+) -> Result<bool, Refusal>
+    requires { IsWithin gathering.old }
+    ensures gathers { (es : List Entry) → IsEntryList (es ++ option_to_list (S.lent source.now))
+        → Gathers es gathering.old → IfOk result (λ taken. OnTrue taken
+        (Gathers (es ++ option_to_list (S.lent source.now)) gathering.new)) }
+    ensures stops { (es more : List Entry)
+        → IsEntryList (es ++ (option_to_list (S.lent source.now) ++ more))
+        → Gathers es gathering.old → IfOk result (λ taken. OnFalse taken
+        (AreVersionsIn (es ++ (option_to_list (S.lent source.now) ++ more))
+        gathering.old.hi gathering.new.cells.items false)) }
+    ensures full { IfOk result (λ taken. OnFalse taken
+        (IsFull gathering.old.limits gathering.new.cells.items)) }
+    ensures within { OnOk result (IsWithin gathering.new) }
+    ensures limits { KeepsLimits gathering.old gathering.new }
+    ensures damaged { (es : List Entry) → Gathers es gathering.old
+        → IsErrOf result Refusal.Damaged → ¬ IfSome (S.lent source.now) IsEntry }
+    ensures refusal { IfErr result (λ refusal.
+        (refusal ≡ Refusal.NoMemory) ⊎ (refusal ≡ Refusal.Damaged)) }
+{
+    match source.current() {
+        Some(entry) => gathering.take(alloc, entry),
+        None => Ok(true),
+    }
+}
+
+/// The cells that a source comes to, with their newest versions at or below `hi`: until the batch is full, or no
+/// more are left. Reads up to the first value after the last of them and not further.
+fn next_versions<F: Files, S: Source<F>>(
+    alloc: Global,
+    source: &mut S,
+    limits: BatchLimits,
+    hi: Stamp,
+    store: &mut F,
+) -> Result<VersionBatch, Refusal>
+    ensures found { IfOk result (λ batch. S.holds (F.contents store.old) source.old → AreVersionsIn
+        (S.remaining (F.contents store.old) source.old) hi batch.cells.items batch.is_last) }
+    ensures full { IfOk result (λ batch. OnFalse batch.is_last (IsFull limits batch.cells.items)) }
+    ensures few { IfOk result (λ batch. length batch.cells.items ≤ limits.cells) }
+    ensures damaged { IsErrOf result Refusal.Damaged → ¬ S.holds (F.contents store.old) source.old }
+    ensures refusal { IfErr result IsReadRefusal }
+    ensures same { F.contents store.new ≡ F.contents store.old }
+    ensures reason { HasReason (F.faults store.old) (F.faults store.new) result }
+{
+    let mut gathering = Gathering::new(alloc, limits, hi);
+    while source.advance(store)? {
+        if !take_at::<F, S>(alloc, &mut gathering, source)? {
+            return Ok(gathering.stopped());
+        }
+    }
+    gathering.ended()
+}
+
+/// The cells that a memtable and files have together, the newest first, with their newest versions at or below `hi`:
+/// those with texts from `from` on and below `end`, if there is one, until the batch is full, or no more are left.
+/// One pass over that range.
+pub(crate) fn merged_versions<F: Files>(
+    alloc: Global,
+    memtable: &Memtable,
+    files: &[SortedFile],
+    from: &[u8],
+    end: Option<&[u8]>,
+    limits: BatchLimits,
+    hi: Stamp,
+    store: &mut F,
+) -> Result<VersionBatch, Refusal>
+    ensures found { IfOk result (λ batch.
+        IfSome (F.contents store.old) (λ m. AllByRecursion (IsOpen m) files.now → AreVersionsIn
+        (part from.now (option_copied end.entry) (memtable.now ∷ map (listed m) files.now))
+        hi batch.cells.items batch.is_last)) }
+    ensures full { IfOk result (λ batch. OnFalse batch.is_last (IsFull limits batch.cells.items)) }
+    ensures few { IfOk result (λ batch. length batch.cells.items ≤ limits.cells) }
+    ensures damaged { IsErrOf result Refusal.Damaged
+        → IfSome (F.contents store.old) (λ m. ¬ AllByRecursion (IsOpen m) files.now) }
+    ensures refusal { IfErr result IsReadRefusal }
+    ensures same { F.contents store.new ≡ F.contents store.old }
+    ensures reason { HasReason (F.faults store.old) (F.faults store.new) result }
+{
+    let inputs = sources::<F>(alloc, Some(memtable), files, from, end)?;
+    let mut merge = Merge::new::<F>(inputs);
+    next_versions(alloc, &mut merge, limits, hi, store)
 }
 
 /// The text of the key of a version. Answers `NoMemory` if there is no memory.

@@ -3,6 +3,7 @@ pub mod Exact
 pub mod GatheredItems
 pub mod Passed
 pub mod ShownReads
+pub mod ReadCells
 pub mod Refused
 pub mod Room
 pub mod ScanSteps

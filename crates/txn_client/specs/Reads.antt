@@ -1,15 +1,17 @@
 -- What a read and a test of a cell find in the cell map.
-use Rattle.std.specs.Prelude.{◌≡◌, ⊤, ℕ, ◌≤◌, ◌^◌, ◌-◌, ◌⊎◌, List, length, Some, None}
-use Rattle.cell_key.specs.Cells.{Cells}
+use Rattle.std.specs.Prelude.{◌≡◌, ⊤, ℕ, ◌≤◌, ◌^◌, ◌-◌, ◌⊎◌, List, length, Some, None, option_map}
+use Rattle.cell_key.specs.Cells.{Cells, IsNewest}
+use Rattle.cell_key.specs.Versions.{stamped}
 use Rattle.cell_key.specs.declared.keys.Qualifier.TheVariants.{Data, Lock, Write}
 use Rattle.cell_key.specs.Columns.{NamesWrite}
 use Rattle.cell_key.specs.declared.columns.WriteKind.{WriteKind}
 use Rattle.cell_key.specs.declared.columns.WriteKind.TheVariants as write
 use Rattle.si_model.specs.Reads.{IsClear, IsLast}
-use Rattle.si_model.specs.ShowsCells.{at, IsThere}
+use Rattle.si_model.specs.ShowsCells.{at, key_of, IsThere}
 use Rattle.si_model.specs.declared.replies.Cell.{Cell}
 use Rattle.si_model.specs.declared.replies.Found.{Found}
 use Rattle.si_model.specs.declared.replies.Found.TheVariants.{Value, Nothing, Pending}
+use Rattle.txn_client.specs.declared.newest_read.Newest.{Newest}
 
 -- what a session that began at s finds of x (Percolator, Get): the last record is a set's
 pub record ReadsValue (cells : Cells) (x : Cell) (s : ℕ) (value : List ℕ) : Type 0 where
@@ -28,6 +30,12 @@ pub record ReadsDeletion (cells : Cells) (x : Cell) (s : ℕ) : Type 0 where
   pub is_last : IsLast cells x s stamp text
   pub start : ℕ
   pub names : NamesWrite text start write.Delete
+
+-- the newest versions of the columns of x at or below s
+pub record AreNewest (cells : Cells) (x : Cell) (s : ℕ) (newest : Newest) : Type 0 where
+  pub of_data : IsNewest cells (key_of x Data) 0 s (option_map stamped newest.data)
+  pub of_lock : IsNewest cells (key_of x Lock) 0 s (option_map stamped newest.lock)
+  pub of_write : IsNewest cells (key_of x Write) 0 s (option_map stamped newest.write)
 
 abbrev pub IsFound : Cells → Cell → ℕ → Found → Type 0
 IsFound cells x s (Pending t) = (t ≤ s) × IsThere cells x Lock t

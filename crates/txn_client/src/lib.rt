@@ -3,6 +3,7 @@
 
 mod cells;
 mod laws;
+mod newest_read;
 mod range;
 mod scan;
 mod session;

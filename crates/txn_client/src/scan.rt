@@ -1,30 +1,35 @@
-//! A scan: batches of places, of which each cell is read, or passed by if it is of another family.
+//! A scan: batches of cells with their newest versions, each of which is read, or passed by if it is of another family.
 
-ghost use Rattle.std.specs.Prelude.{◌≡◌, ◌+◌, ◌<◌, ◌≤◌, ◌++◌, [], ◌∷◌, ℕ, Some, IsSome, length, map, option_map, IfErr, IfOk, IfSome, OnOk};
+ghost use Rattle.std.specs.Prelude.{◌≡◌, ◌+◌, ◌-◌, ◌<◌, ◌≤◌, ◌++◌, [], ◌∷◌, ℕ, Option, Some, IsSome, length, map, option_map, IfErr, IfOk, IfSome, OnOk};
 ghost use Rattle.std.specs.Bool.{OnFalse, OnTrue};
 ghost use Rattle.cell_key.specs.Cells.{Cells};
 ghost use Rattle.cell_key.specs.Faults.{HasReason};
-ghost use Rattle.cell_key.specs.Places.{AreNextCells};
+ghost use Rattle.cell_key.specs.Places.{Place};
 ghost use Rattle.row_atomic.specs.Calls.{AreReadableFrom, OnlyReads};
 ghost use Rattle.row_atomic.specs.Refusals.{IsReadRefusal, IsRefusalOfRead};
 ghost use Rattle.si_model.specs.Machine as machine;
 ghost use Rattle.si_model.specs.declared.replies.Cell.{Cell as CellOf};
 ghost use Rattle.si_model.specs.Replies.{found_item, item_of, reach_of};
 ghost use Rattle.si_model.specs.Scans.{HasFamilies, HasRows, item_length, items_length, most_items, place_at};
+ghost use Rattle.tablet.specs.Batches.{AreNextVersions, IsFull};
 ghost use Rattle.txn_client.specs.Gathering.{Gathers, HasCome, IsInLimits, IsNextIn, items_in};
 ghost use Rattle.txn_client.specs.Ranges.{range_named};
-ghost use Rattle.txn_client.specs.Reads.{IsFound, ReadsValue};
+ghost use Rattle.txn_client.specs.Reads.{AreNewest, IsFound, ReadsValue};
 ghost use Rattle.txn_client.specs.Scans.{DoesNotFit, IsInScanLimits, IsNamed, IsReadAs, IsScanDamaged, IsScanFound, IsScanReadable};
 
-use crate::cells;
+use crate::newest_read::{Newest, read_newest};
 use crate::range::Range;
-use cell_key::{Family, Refusal, Row, Stamp};
+use cell_key::{Refusal, Stamp};
 use row_atomic::Rows;
 use si_model::{Cell, Found, ScanFound, ScanItem, ScanReach, ScanReply};
 use std::alloc::Global;
+use tablet::{BatchLimits, CellVersions, VersionBatch};
 
-/// The most places that are asked for at once.
-const MOST_PLACES: usize = 64;
+/// How many cells are asked for at first: a short range has no more.
+const LEAST_CELLS: usize = 16;
+
+/// The most cells that are asked for at once.
+const MOST_CELLS: usize = 256;
 
 /// The most bytes that the items of a reply take.
 const MOST_BYTES: usize = 61_440;
@@ -49,7 +54,7 @@ struct Gathered {
     last: Option<Cell>,
 }
 
-/// What a batch of places came to.
+/// What a batch of cells came to.
 #[derive(Clone, Copy, Drop)]
 enum Batch {
     /// Each of its cells was looked at.
@@ -114,6 +119,24 @@ fn said(cell: &Cell, found: Found, keys_only: bool) -> Option<ScanFound>
     }
 }
 
+/// The same batch, which is the last one only if it has fewer cells than were asked for.
+fn last_if_fewer(batch: VersionBatch, limits: BatchLimits) -> VersionBatch
+    ensures next { (map : Cells) (after : Option Place) (s : ℕ) → AreNextVersions map after s batch
+        → AreNextVersions map after s result }
+    ensures full { OnFalse batch.is_last (IsFull limits batch.cells.items)
+        → OnFalse result.is_last (IsFull limits result.cells.items) }
+    ensures cells { result.cells ≡ batch.cells }
+{
+    let VersionBatch { cells, is_last } = batch;
+    if cells.len() < limits.cells {
+        return VersionBatch { cells, is_last };
+    }
+    VersionBatch {
+        cells,
+        is_last: false,
+    }
+}
+
 impl Gathered {
     /// Nothing yet, before the first cell of the range.
     fn new(alloc: Global, scan: &Scan, cells: u32) -> Result<Gathered, Refusal>
@@ -138,21 +161,48 @@ impl Gathered {
         })
     }
 
-    /// The next places after the last cell.
-    fn next_places<R: Rows>(&self, rows: &mut R, most: usize) -> Result<Vec<(Row, Family)>, Refusal>
+    /// How many cells are asked for, and how many bytes of values: as many as it has looked at, but 16 to 256 and no more
+    /// than it may look at; and what is left in a reply and one more.
+    fn limits(&self) -> BatchLimits
+        requires limits { IsInLimits self.now }
+        requires room { self.now.looked < self.now.cells }
+        ensures cells { 1 ≤ result.cells }
+        ensures few { result.cells ≤ self.now.cells - self.now.looked }
+        ensures bytes { 1 ≤ result.bytes }
+    {
+        BatchLimits {
+            cells: self
+                .looked
+                .clamp(LEAST_CELLS, MOST_CELLS)
+                .min(self.cells - self.looked),
+            bytes: MOST_BYTES - self.bytes + 1,
+        }
+    }
+
+    /// The next cells after the last one, with their newest versions at or below the start of the scan.
+    fn next_versions<R: Rows>(
+        &self,
+        rows: &mut R,
+        start: Stamp,
+        limits: BatchLimits,
+    ) -> Result<VersionBatch, Refusal>
         ensures found { AreReadableFrom R.seen rows.old (option_map place_at self.now.last)
-            → IfOk result (λ found. AreNextCells (R.seen.cells rows.old)
-            (option_map place_at self.now.last) most found.items) }
-        ensures few { IfOk result (λ found. length found.items ≤ most) }
+            → IfOk result (AreNextVersions (R.seen.cells rows.old)
+            (option_map place_at self.now.last) start) }
+        ensures full { IfOk result (λ batch. OnFalse batch.is_last
+            (IsFull limits batch.cells.items)) }
+        ensures few { IfOk result (λ batch. length batch.cells.items ≤ limits.cells) }
         ensures reads { OnlyReads R.seen rows.old rows.new }
         ensures refusal { IfErr result (IsRefusalOfRead
             (AreReadableFrom R.seen rows.old (option_map place_at self.now.last))) }
         ensures reason { HasReason (R.faults rows.old) (R.faults rows.new) result }
     {
-        match &self.last {
-            Some(cell) => rows.next_cells(Some((&cell.row, &cell.family)), most),
-            None => rows.next_cells(None, most),
-        }
+        let after = match &self.last {
+            Some(cell) => Some((&cell.row, &cell.family)),
+            None => None,
+        };
+        let batch = rows.next_versions(after, limits, start)?;
+        Ok(last_if_fewer(batch, limits))
     }
 
     /// Goes past a cell of which nothing is said.
@@ -197,16 +247,24 @@ impl Gathered {
         Ok(true)
     }
 
-    /// Looks at the next cell. Whether its item fits, if it has one.
-    fn look<R: Rows>(&mut self, rows: &mut R, scan: &Scan, cell: Cell) -> Result<bool, Refusal>
+    /// Looks at the next cell, whose newest versions are these. Whether its item fits, if it has one.
+    fn look<R: Rows>(
+        &mut self,
+        rows: &mut R,
+        scan: &Scan,
+        cell: Cell,
+        newest: Newest,
+    ) -> Result<bool, Refusal>
         requires limits { IsInLimits self.old }
         requires room { self.old.looked < self.old.cells }
         requires named { IsNamed cell }
         ensures looked { R.seen.readable rows.old cell.row
+            → AreNewest (R.seen.cells rows.old) cell scan.now.start newest
             → Gathers (R.seen.cells rows.old) scan.now self.old
             → IsNextIn (R.seen.cells rows.old) scan.now self.old cell → IfOk result (λ fits.
             OnTrue fits (Gathers (R.seen.cells rows.old) scan.now self.new)) }
         ensures full { R.seen.readable rows.old cell.row
+            → AreNewest (R.seen.cells rows.old) cell scan.now.start newest
             → IsNextIn (R.seen.cells rows.old) scan.now self.old cell
             → IfOk result (λ fits. OnFalse fits (DoesNotFit (R.seen.cells rows.old)
             scan.now.start (range_named scan.now.range) scan.now.keys_only (items_in self.old)
@@ -220,6 +278,7 @@ impl Gathered {
         ensures reads { OnlyReads R.seen rows.old rows.new }
         ensures refusal { IfErr result IsReadRefusal }
         ensures damaged { R.seen.readable rows.old cell.row
+            → AreNewest (R.seen.cells rows.old) cell scan.now.start newest
             → Gathers (R.seen.cells rows.old) scan.now self.old
             → IsNextIn (R.seen.cells rows.old) scan.now self.old cell
             → IfErr result (λ refusal. refusal ≡ Refusal.Damaged → IsScanDamaged
@@ -230,7 +289,7 @@ impl Gathered {
             self.pass(cell);
             return Ok(true);
         }
-        let found = cells::read_cell(rows, &cell, scan.start)?;
+        let found = read_newest(rows, &cell, newest, scan.start)?;
         match said(&cell, found, scan.keys_only) {
             Some(found) => self.name(cell, found),
             None => {
@@ -240,7 +299,7 @@ impl Gathered {
         }
     }
 
-    /// Looks at the cells of the next places: at most 64, and no more than it may look at.
+    /// Looks at the cells of the next batch: at most 256, and no more than it may look at.
     fn take_batch<R: Rows>(&mut self, rows: &mut R, scan: &Scan) -> Result<Batch, Refusal>
         requires limits { IsInLimits self.old }
         requires room { self.old.looked < self.old.cells }
@@ -260,15 +319,22 @@ impl Gathered {
             (R.seen.cells rows.old) (range_named scan.now.range) scan.now.start) }
         ensures reason { HasReason (R.faults rows.old) (R.faults rows.new) result }
     {
-        let most = MOST_PLACES.min(self.cells - self.looked);
-        let places = self.next_places(rows, most)?;
-        let is_last = places.len() < most;
-        for place in places {
-            let (row, family) = place;
+        let limits = self.limits();
+        let batch = self.next_versions(rows, scan.start, limits)?;
+        let VersionBatch { cells, is_last } = batch;
+        for versions in cells {
+            let CellVersions {
+                row,
+                family,
+                data,
+                lock,
+                write,
+            } = versions;
             if !scan.range.is_up_to(&row) {
                 return Ok(Batch::End);
             }
-            if !self.look(rows, scan, Cell { row, family })? {
+            let newest = Newest { data, lock, write };
+            if !self.look(rows, scan, Cell { row, family }, newest)? {
                 return Ok(Batch::Full);
             }
         }

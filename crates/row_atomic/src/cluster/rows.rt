@@ -8,7 +8,9 @@ ghost use Rattle.file_store.specs.Store.{Contents};
 ghost use Rattle.metadata_table.specs.Places.{view_of, views};
 ghost use Rattle.metadata_table.specs.Table.{IsTable};
 ghost use Rattle.sorted_file.specs.Source.{IsReadRefusal};
+ghost use Rattle.std.specs.Bool.{OnFalse};
 ghost use Rattle.cell_key.specs.Faults.{HasReason};
+ghost use Rattle.tablet.specs.Batches.{AreNextVersions, IsFull};
 ghost use Rattle.row_atomic.specs.Calls.{AreReadableFrom, OnlyReads, seen_of};
 ghost use Rattle.row_atomic.specs.Changes.{IsOutOfOrder, MeetsDamage, OfHolder};
 ghost use Rattle.row_atomic.specs.Commands.{cells_shown};
@@ -23,7 +25,7 @@ use cell_key::{Edit, Family, Qualifier, Refusal, Row, Stamp};
 use file_store::Files;
 use metadata_table::Place;
 use std::alloc::Global;
-use tablet::Tablet;
+use tablet::{BatchLimits, Tablet, VersionBatch};
 
 /// Whether all rows of a place come before the row of a cell.
 fn precedes(place: &Place, after: Option<(&Row, &Family)>) -> bool
@@ -69,6 +71,55 @@ fn next_cells_in<F: Files>(
         }
     }
     Ok(found)
+}
+
+/// The next cells that have any key in these tablets, in the order of their rows, each with the newest versions at or below
+/// `hi` of its columns: until the batch is full, or no more are left. A tablet is asked only if those before it have no
+/// more.
+fn next_versions_in<F: Files>(
+    alloc: Global,
+    places: &[Place],
+    tablets: &[Tablet],
+    after: Option<(&Row, &Family)>,
+    limits: BatchLimits,
+    hi: Stamp,
+    files: &mut F,
+) -> Result<VersionBatch, Refusal>
+    requires table { IsTable (views places.now) }
+    requires placed { ArePlaced tablets.now None (views places.now) }
+    requires as_many { length tablets.now ≡ length (views places.now) }
+    ensures found { IfOk result (λ batch. (m : Contents) → F.contents files.old ≡ Some m
+        → AreOpenFrom m tablets.now (option_map place_named after.entry) (views places.now)
+        → AreNextVersions (cells_in (Some m) tablets.now) (option_map place_named after.entry) hi
+        batch) }
+    ensures full { IfOk result (λ batch. OnFalse batch.is_last (IsFull limits batch.cells.items)) }
+    ensures few { IfOk result (λ batch. length batch.cells.items ≤ limits.cells) }
+    ensures damaged { IsErrOf result Refusal.Damaged → (m : Contents)
+        → F.contents files.old ≡ Some m
+        → ¬ AreOpenFrom m tablets.now (option_map place_named after.entry) (views places.now) }
+    ensures refusal { IfErr result IsReadRefusal }
+    ensures same { F.contents files.new ≡ F.contents files.old }
+    ensures reason { HasReason (F.faults files.old) (F.faults files.new) result }
+{
+    let mut found = Vec::new(alloc);
+    let mut is_last = true;
+    for place in places {
+        if is_last && !precedes(place, after) {
+            let tablet = &tablets[place.tablet as usize - 1];
+            let left = limits.after(&found);
+            let more = tablet.next_versions(after, left, hi, files)?;
+            let VersionBatch {
+                mut cells,
+                is_last: none_left,
+            } = more;
+            found.append(&mut cells)?;
+            is_last = none_left;
+        }
+    }
+    Ok(VersionBatch {
+        cells: found,
+        is_last,
+    })
 }
 
 impl<F: Files> Rows for Cluster<F> {
@@ -144,6 +195,24 @@ impl<F: Files> Rows for Cluster<F> {
             &self.tablets,
             after,
             most,
+            &mut self.files,
+        )
+    }
+
+    fn next_versions(
+        &mut self,
+        after: Option<(&Row, &Family)>,
+        limits: BatchLimits,
+        hi: Stamp,
+    ) -> Result<VersionBatch, Refusal> {
+        let places = self.table.places();
+        next_versions_in(
+            self.alloc,
+            places,
+            &self.tablets,
+            after,
+            limits,
+            hi,
             &mut self.files,
         )
     }

@@ -4,39 +4,19 @@ use Rattle.std.specs.FinMap.{get}
 use Rattle.std.specs.declared.vec.Vec.{Vec}
 use Rattle.std.specs.Option.{IfSome}
 use Rattle.cell_key.specs.Cells.{Cells, IsNewest}
-use Rattle.cell_key.specs.declared.keys.CellKey.{CellKey}
 use Rattle.cell_key.specs.declared.keys.Qualifier.TheVariants.{Data, Lock, Write}
 use Rattle.cell_key.specs.Versions.{stamped, IsVersionIn}
-use Rattle.si_model.specs.ShowsCells.{key_of, IsThere}
+use Rattle.si_model.specs.ShowsCells.{key_of}
 use Rattle.si_model.specs.declared.replies.Cell.{Cell}
-use Rattle.si_model.specs.Reads.{IsLast}
-use Rattle.txn_client.specs.Reads.{ReadsValue, ReadsDeletion, IsDamaged}
+use Rattle.txn_client.specs.Reads.{ReadsValue}
 use Rattle.cell_key.specs.declared.columns.WriteKind.{WriteKind}
 use Rattle.cell_key.specs.declared.columns.WriteKind.TheVariants as write
 use Rattle.cell_key.specs.Columns.{NamesWrite}
 use Rattle.cell_key.proofs.Reasons.{not_refused, reason_kept, reason_passed, reason_then}
 use Rattle.row_atomic.proofs.Calls.{is_read_refusal, read_undamaged, reads_then}
 use Rattle.txn_client.proofs.Passed.{passed_err, passed_none, damaged_no_device}
+use Rattle.txn_client.proofs.ReadCells.{deletion_found, last_written, locked, no_data, nothing}
 use Rattle.txn_client.proofs.cells.read_cell.Goals as goal
-
-nothing : {Z : Type 0} (cells : Cells) (at : ℕ → CellKey) (lo hi : ℕ) (found : Option (ℕ × Vec ℕ Z)) → found ≡ None → IsNewest cells at lo hi (option_map stamped found) → (s : ℕ) → lo ≤ s → s ≤ hi → get cells (at s) ≡ None
-nothing cells at lo hi found e is = subst (λ (f : Option (ℕ × Vec ℕ _)). IsNewest cells at lo hi (option_map stamped f)) e is
-
-last_written : {Z : Type 0} (cells cells2 : Cells) (x : Cell) (s c : ℕ) (last : Option (ℕ × Vec ℕ Z)) (text : Vec ℕ Z) → cells2 ≡ cells → last ≡ Some (c, text) → IsNewest cells2 (key_of x Write) 0 s (option_map stamped last)
-    → IsLast cells x s c text.items
-last_written {Z} cells cells2 x s c last text same is found =
-    let written : IsNewest cells (key_of x Write) 0 s (Some (c, text.items)) = subst (λ (f : Option (ℕ × Vec ℕ Z)). IsNewest cells (key_of x Write) 0 s (option_map stamped f)) is (subst (λ (cs : Cells). IsNewest cs (key_of x Write) 0 s (option_map stamped last)) same found) in
-    record { low = written.1; there = written.2; last = written.3 }
-
-deletion_found : {Z : Type 0} (cells cells2 : Cells) (x : Cell) (s c n : ℕ) (kind : WriteKind) (last : Option (ℕ × Vec ℕ Z)) (text : Vec ℕ Z) → cells2 ≡ cells → last ≡ Some (c, text) → IsNewest cells2 (key_of x Write) 0 s (option_map stamped last)
-    → NamesWrite text.items n kind → kind ≡ write.Delete → ReadsDeletion cells x s
-deletion_found cells cells2 x s c n kind last text same is found names deletes = record {
-  stamp = c;
-  text = text.items;
-  is_last = last_written cells cells2 x s c last text same is found;
-  start = n;
-  names = subst (λ (k : WriteKind). NamesWrite text.items n k) deletes names;
-}
 
 value_found : {Z : Type 0} (cells cells2 cells3 : Cells) (x : Cell) (s : ℕ) (lock last value : Option (ℕ × Vec ℕ Z)) (c n m : ℕ) (kind : WriteKind) (text v : Vec ℕ Z) → cells2 ≡ cells → cells3 ≡ cells → lock ≡ None → last ≡ Some (c, text) → value ≡ Some (m, v)
     → NamesWrite text.items n kind → kind ≡ write.Set → IsNewest cells (key_of x Lock) 0 s (option_map stamped lock) → IsNewest cells2 (key_of x Write) 0 s (option_map stamped last) → IsNewest cells3 (key_of x Data) n n (option_map stamped value)
@@ -53,20 +33,6 @@ value_found {Z} cells cells2 cells3 x s lock last value c n m kind text v same2 
       names = subst (λ (k : WriteKind). NamesWrite text.items n k) kept names;
       data_is = subst (λ (k : ℕ). get cells (key_of x Data k) ≡ Some v.items) at named_there.2;
     }
-
-locked : {Z : Type 0} (cells : Cells) (x : Cell) (s p : ℕ) (lock : Option (ℕ × Vec ℕ Z)) (text : Vec ℕ Z) → lock ≡ Some (p, text) → IsNewest cells (key_of x Lock) 0 s (option_map stamped lock) → (p ≤ s) × IsThere cells x Lock p
-locked {Z} cells x s p lock text is found =
-    let there : IsNewest cells (key_of x Lock) 0 s (Some (p, text.items)) = subst (λ (f : Option (ℕ × Vec ℕ Z)). IsNewest cells (key_of x Lock) 0 s (option_map stamped f)) is found in
-    (there.1, (text.items, there.2))
-
-at_itself : (n : ℕ) → n ≤ n
-at_itself n = omega arith
-
-no_data : {Z : Type 0} (cells cells3 : Cells) (x : Cell) (s c n : ℕ) (kind : WriteKind) (value : Option (ℕ × Vec ℕ Z)) (text : List ℕ) → cells3 ≡ cells → value ≡ None → NamesWrite text n kind → kind ≡ write.Set
-    → IsNewest cells3 (key_of x Data) n n (option_map stamped value) → IsLast cells x s c text → IsDamaged cells x s
-no_data cells cells3 x s c n kind value text same is names kept found last =
-    let gone = nothing cells (key_of x Data) n n value is (subst (λ (cs : Cells). IsNewest cs (key_of x Data) n n (option_map stamped value)) same found) in
-    (c, text, last, inr (n, subst (λ (k : WriteKind). NamesWrite text n k) kept names, gone n (at_itself n) (at_itself n)))
 
 short_value : {Z : Type 0} (lo hi n : ℕ) (value : Option (ℕ × Vec ℕ Z)) (text : Vec ℕ Z) → value ≡ Some (n, text) → IfSome (option_map stamped value) (IsVersionIn lo hi) → length text.items ≤ 65536
 short_value {Z} lo hi n value text is limits =

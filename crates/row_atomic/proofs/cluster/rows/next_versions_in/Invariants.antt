@@ -1,0 +1,21 @@
+-- So far the cells that were found are the next ones, with their newest versions; if they are the last of the tablets that
+-- were passed, these have no more; and the files tell what they told.
+use Rattle.std.proofs.Common.{◌≡◌, ◌≤◌, length, take, drop, option_map, Some}
+use Rattle.std.specs.Bool.{OnFalse}
+use Rattle.cell_key.specs.Places.{place_named}
+use Rattle.file_store.specs.Store.{Contents}
+use Rattle.metadata_table.specs.Places.{views}
+use Rattle.tablet.specs.Batches.{IsFull}
+use Rattle.row_atomic.specs.Clusters.{AreOpenFrom}
+use Rattle.row_atomic.proofs.ManyVersions.{HasFound}
+use Rattle.row_atomic.proofs.cluster.rows.next_versions_in.Given as goal
+
+abbrev pub invariant-loop-place : goal.invariant-loop-place
+invariant-loop-place g l = record {
+  same : g.F.Files.contents l.files ≡ g.F.Files.contents l.initial.files;
+  quiet : g.F.Files.faults l.files ≡ g.F.Files.faults l.initial.files;
+  few : length l.found.items ≤ l.limits.cells;
+  full : OnFalse l.is_last (IsFull l.limits l.found.items);
+  told : (m : Contents) → g.F.Files.contents l.initial.files ≡ Some m → AreOpenFrom m l.tablets (option_map place_named l.after) (views l.places)
+      → HasFound m l.tablets (option_map place_named l.after) l.hi l.found.items l.is_last (views (take l.place-index l.places)) (views (drop l.place-index l.places));
+}

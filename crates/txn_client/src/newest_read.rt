@@ -1,0 +1,86 @@
+//! Reads of a cell of which the newest versions are known.
+
+ghost use Rattle.std.specs.Prelude.{◌≡◌, ℕ, IfErr, IfOk, option_map};
+ghost use Rattle.cell_key.specs.Cells.{IsNewest};
+ghost use Rattle.cell_key.specs.Faults.{HasReason};
+ghost use Rattle.cell_key.specs.Versions.{stamped};
+ghost use Rattle.cell_key.specs.declared.keys.Qualifier.TheVariants.{Data};
+ghost use Rattle.row_atomic.specs.Calls.{OnlyReads};
+ghost use Rattle.row_atomic.specs.Refusals.{IsReadRefusal, IsRefusalOfRead};
+ghost use Rattle.si_model.specs.ShowsCells.{at, key_of};
+ghost use Rattle.txn_client.specs.Reads.{AreNewest, IsDamaged, IsFound};
+
+use cell_key::{Qualifier, Record, Refusal, Stamp, WriteKind};
+use row_atomic::Rows;
+use si_model::{Cell, Found};
+
+/// The newest versions of a cell's columns at or below a stamp.
+#[derive(Drop)]
+pub(crate) struct Newest {
+    pub(crate) data: Option<(Stamp, Vec<u8>)>,
+    pub(crate) lock: Option<(Stamp, Vec<u8>)>,
+    pub(crate) write: Option<(Stamp, Vec<u8>)>,
+}
+
+/// The data of a cell at a stamp. It is looked up only if `newest`, the newest data up to some stamp, isn't it.
+fn data_at<R: Rows>(
+    rows: &mut R,
+    cell: &Cell,
+    newest: Option<(Stamp, Vec<u8>)>,
+    stamp: Stamp,
+) -> Result<Option<Vec<u8>>, Refusal>
+    ensures found { R.seen.readable rows.old cell.now.row → (hi : ℕ)
+        → IsNewest (R.seen.cells rows.old) (key_of cell.now Data) 0 hi (option_map stamped newest)
+        → IfOk result (λ found. option_map (λ value. value.items) found
+        ≡ at (R.seen.cells rows.old) cell.now Data stamp) }
+    ensures reads { OnlyReads R.seen rows.old rows.new }
+    ensures refusal { IfErr result (IsRefusalOfRead (R.seen.readable rows.old cell.now.row)) }
+    ensures reason { HasReason (R.faults rows.old) (R.faults rows.new) result }
+{
+    if let Some((last, value)) = newest {
+        if last == stamp {
+            return Ok(Some(value));
+        }
+    }
+    match rows.newest(&cell.row, &cell.family, Qualifier::Data, stamp, stamp)? {
+        Some((_, value)) => Ok(Some(value)),
+        None => Ok(None),
+    }
+}
+
+/// What a session that began at `start` reads of a cell of which the newest versions at or below `start` are these
+/// (Percolator, Get). Only data that isn't the newest is looked up.
+pub(crate) fn read_newest<R: Rows>(
+    rows: &mut R,
+    cell: &Cell,
+    newest: Newest,
+    start: Stamp,
+) -> Result<Found, Refusal>
+    ensures found { R.seen.readable rows.old cell.now.row
+        → AreNewest (R.seen.cells rows.old) cell.now start newest
+        → IfOk result (IsFound (R.seen.cells rows.old) cell.now start) }
+    ensures reads { OnlyReads R.seen rows.old rows.new }
+    ensures refusal { IfErr result IsReadRefusal }
+    ensures damaged { R.seen.readable rows.old cell.now.row
+        → AreNewest (R.seen.cells rows.old) cell.now start newest → IfErr result (λ refusal.
+        refusal ≡ Refusal.Damaged → IsDamaged (R.seen.cells rows.old) cell.now start) }
+    ensures reason { HasReason (R.faults rows.old) (R.faults rows.new) result }
+{
+    let Newest { data, lock, write } = newest;
+    if let Some((pending, _)) = lock {
+        return Ok(Found::Pending(pending));
+    }
+    let Some((_, text)) = write else {
+        return Ok(Found::Nothing);
+    };
+    let Some(record) = Record::decode(&text) else {
+        return Err(Refusal::Damaged);
+    };
+    match record.kind {
+        WriteKind::Delete => Ok(Found::Nothing),
+        WriteKind::Set => match data_at(rows, cell, data, record.start)? {
+            Some(value) => Ok(Found::Value(value)),
+            None => Err(Refusal::Damaged),
+        },
+    }
+}
