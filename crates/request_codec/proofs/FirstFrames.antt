@@ -1,8 +1,8 @@
 -- What stands first among bytes, by the length that their first four give.
-use Rattle.std.proofs.Common.{◌≡◌, ℕ, ◌+◌, ◌<◌, ◌≤◌, List, ◌++◌, length, take, drop, arith, sym, ap, ◌∙◌, append_assoc, length-take-le}
+use Rattle.std.proofs.Common.{◌≡◌, ℕ, ◌+◌, ◌<◌, ◌≤◌, ◌⊎◌, List, ◌++◌, length, take, drop, inl, inr, arith, sym, ap, ◌∙◌, append_assoc, length-take-le}
 use Rattle.std.proofs.lemmas.List.{take-append-drop, length-drop, drop-drop}
 use Rattle.std.specs.Int.{from_be_bytes, to_be_bytes, w32}
-use Rattle.request_codec.specs.Stream.{longest, frame, announced, IsPartial, IsTooLong}
+use Rattle.request_codec.specs.Stream.{longest, frame, announced, BeginsNoFrame, IsPartial, IsTooLong}
 
 announced-header : (bytes header : List ℕ) (n : ℕ) → take 4 bytes ≡ header → n ≡ from_be_bytes w32 header → announced bytes ≡ n
 unfolding announced
@@ -35,3 +35,25 @@ frame-from_header bytes header buffer left n first spells whole body rest =
     ∙ ap (λ (l : List ℕ). take 4 bytes ++ l) after
     ∙ take-append-drop 4 bytes
     )
+
+-- the same, if the body and those that are left stand one after the other behind the header
+pub frame-from_parts : (bytes header after body left : List ℕ) (n : ℕ) → take 4 bytes ≡ header → to_be_bytes w32 n ≡ header → after ≡ drop 4 bytes
+    → length body ≡ n → body ++ left ≡ after → bytes ≡ frame body ++ left
+unfolding frame
+frame-from_parts bytes header after body left n first spells behind size parts =
+    sym (
+    append_assoc (to_be_bytes w32 (length body)) body left
+    ∙ ap (λ (l : List ℕ). l ++ (body ++ left)) (ap (to_be_bytes w32) size ∙ spells ∙ sym first)
+    ∙ ap (λ (l : List ℕ). take 4 bytes ++ l) (parts ∙ behind)
+    ∙ take-append-drop 4 bytes
+    )
+
+-- They begin with no whole frame, if the length that their first four give is past the limit, or more than there are.
+pub BeginsNoFrame-from_header : (bytes header : List ℕ) (n : ℕ) → take 4 bytes ≡ header → n ≡ from_be_bytes w32 header
+    → (longest < n) ⊎ (length bytes < 4 + n) → BeginsNoFrame bytes
+BeginsNoFrame-from_header bytes header n first value (inl past) = record {
+  short = λ _ within. absurd (omega (arith, past, within, announced-header bytes header n first value));
+}
+BeginsNoFrame-from_header bytes header n first value (inr less) = record {
+  short = λ _ _. omega (arith, less, announced-header bytes header n first value);
+}

@@ -74,7 +74,7 @@ fn header_of(ring: &HeapCircularBuffer<u8>) -> Option<[u8; 4]>
 }
 
 /// The length that a header gives.
-fn length_in(header: [u8; 4]) -> u32
+pub(crate) fn length_in(header: [u8; 4]) -> u32
     ensures value { result ≡ from_be_bytes w32 header }
     ensures spells { to_be_bytes w32 result ≡ header }
     ensures four { length header ≡ 4 }

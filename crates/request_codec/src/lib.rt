@@ -4,6 +4,7 @@
 mod decode_replies;
 mod encode_replies;
 mod framer;
+mod frames;
 mod laws;
 mod qualifiers;
 mod read_bodies;
@@ -18,6 +19,7 @@ mod write_scans;
 pub use decode_replies::decode_reply;
 pub use encode_replies::{encode_reply, reply_length};
 pub use framer::{Framer, LONGEST_BODY, Next};
+pub use frames::split_frame;
 pub use laws::{
     cut_goes_on, has_cut, limits, no_frame_begins_another, one_cut, one_reply_a_body,
     one_request_a_body, raw_is_longest, replies_fit,

@@ -391,6 +391,28 @@ module _ {S : Type 0} (shows : S → State → Type 0) (says : S → Lent → Co
             (HandlesTo-more_error fault a c (first ++ take m piece) rest (drop m piece) h i p),
       )
 
+  -- Nothing was at hand, and the whole frames that the piece begins with were answered.
+  pub piece_after : (result : Result Rest ServeFault) (a b c : S) (hand piece behind hand' : List ℕ) (h i j : Option (List ℕ)) → hand ≡ [] → Answered shows says between a b piece behind h i
+      → ((rest : List ℕ) × IsRest result rest hand' × HandlesTo shows says between result b c (hand ++ behind) rest i j)
+      → (rest : List ℕ) × IsRest result rest hand' × HandlesTo shows says between result a c (hand ++ piece) rest h j
+  piece_after result a b c hand piece behind hand' h i j none p (rest, left, q) = (
+    rest,
+    left,
+    subst (λ (l : List ℕ). HandlesTo shows says between result a c (l ++ piece) rest h j) (sym none)
+        (HandlesTo-after result a b c piece behind rest h i j p (subst (λ (l : List ℕ). HandlesTo shows says between result b c (l ++ behind) rest i j) none q)),
+  )
+
+  -- Nothing was at hand, and a write failed at one of them.
+  pub piece_stops : (result : Result Rest ServeFault) (fault : ServeFault) (a c : S) (hand piece hand' : List ℕ) (h i : Option (List ℕ)) → hand ≡ [] → result ≡ Err fault
+      → ((rest : List ℕ) × HandlesTo shows says between (Err fault) a c piece rest h i)
+      → (rest : List ℕ) × IsRest result rest hand' × HandlesTo shows says between result a c (hand ++ piece) rest h i
+  piece_stops result fault a c hand piece hand' h i none is (rest, p) =
+      subst (λ (r : Result Rest ServeFault). (left : List ℕ) × IsRest r left hand' × HandlesTo shows says between r a c (hand ++ piece) left h i) (sym is) (
+        rest,
+        tt,
+        subst (λ (l : List ℕ). HandlesTo shows says between (Err fault) a c (l ++ piece) rest h i) (sym none) p,
+      )
+
   pub piece_ends : (a c : S) (first piece hand rest : List ℕ) (m : ℕ) (h i : Option (List ℕ)) → HandlesTo shows says between (Ok rests.TooLarge) a c (first ++ take m piece) rest h i
       → (left : List ℕ) × IsRest (Ok rests.TooLarge) left hand × HandlesTo shows says between (Ok rests.TooLarge) a c (first ++ piece) left h i
   piece_ends a c first piece hand rest m h i p = (

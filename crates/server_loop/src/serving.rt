@@ -1,19 +1,19 @@
 //! The loop of a server, over whatever answers as the snapshot machine does.
 
-ghost use Rattle.std.specs.Prelude.{◌≡◌, ◌≤◌, ◌<◌, ◌++◌, ◌∷◌, List, ℕ, [], length, IfOk, vec_capacity};
+ghost use Rattle.std.specs.Prelude.{◌≡◌, ◌≤◌, ◌<◌, ◌++◌, ◌∷◌, List, ℕ, [], length, Err, IfErr, IfOk, OnOk, vec_capacity};
 ghost use Rattle.si_model.specs.Machine.{State};
 ghost use Rattle.request_codec.specs.Replies.{replied, reply_body};
-ghost use Rattle.request_codec.specs.Stream.{IsPartial};
+ghost use Rattle.request_codec.specs.Stream.{frame, IsBody, IsPartial};
 ghost use Rattle.request_codec.specs.declared.replies.Reply.{Reply as CodecReply};
 ghost use Rattle.request_codec.specs.declared.requests.Request.{Request as Lent};
 ghost use Rattle.request_codec.specs.Requests.{asked};
 ghost use Rattle.server_loop.specs.Runs.{StepsAs, RunsAs, SaysOf, Body, KeepsToLimits};
-ghost use Rattle.server_loop.specs.Serve.{Serves, Delivers, HandlesFirst, HandlesTo, IsRest, ReadsOn};
+ghost use Rattle.server_loop.specs.Serve.{Answered, Serves, Delivers, HandlesFirst, HandlesTo, IsRest, ReadsOn};
 
 use crate::frames::{finish, flush, send};
 use crate::statuses::{End, ServeFault};
 use cell_key::Refusal;
-use request_codec::{Framer, LONGEST_REPLY, Next, Reply, Request, decode_request};
+use request_codec::{Framer, LONGEST_REPLY, Next, Reply, Request, decode_request, split_frame};
 use std::alloc::{AllocError, Global};
 use std::io::{Read, Write};
 
@@ -93,6 +93,27 @@ fn deliver<A: Answering, W: Write>(
     }
 }
 
+/// Answers the body of a frame, and writes the reply to its end.
+fn answer_body<A: Answering, W: Write>(
+    server: &mut A,
+    body: &[u8],
+    writer: &mut W,
+    out: &mut Vec<u8>,
+) -> Result<(), ServeFault>
+    requires out { LONGEST_REPLY ≤ vec_capacity out.old }
+    ensures answered { OnOk result ((bytes rest : List ℕ) → IsBody body.now
+        → bytes ≡ frame body.now ++ rest → Answered A.shows A.says A.between server.old server.new
+        bytes rest (W.contents writer.old) (W.contents writer.new)) }
+    ensures failed { IfErr result (λ fault. (bytes rest : List ℕ) → IsBody body.now
+        → bytes ≡ frame body.now ++ rest → HandlesTo A.shows A.says A.between (Err fault) server.old
+        server.new bytes rest (W.contents writer.old) (W.contents writer.new)) }
+    ensures room { vec_capacity out.old ≤ vec_capacity out.new }
+{
+    let reply = reply_to_body(server, body);
+    deliver(server, writer, &reply, out)?;
+    Ok(())
+}
+
 /// Answers what stands first among the bytes taken, and writes the reply to its end. `None` if that was a whole frame.
 fn answer_first<A: Answering, W: Write>(
     server: &mut A,
@@ -108,8 +129,7 @@ fn answer_first<A: Answering, W: Write>(
     match framer.next() {
         Next::More => Ok(Some(Rest::Partial)),
         Next::Frame(body) => {
-            let reply = reply_to_body(server, body);
-            deliver(server, writer, &reply, out)?;
+            answer_body(server, body, writer, out)?;
             Ok(None)
         }
         Next::TooLarge => {
@@ -139,8 +159,8 @@ fn answer_frames<A: Answering, W: Write>(
     }
 }
 
-/// Takes a piece of the input, and answers each whole frame. Less than a frame may be at hand before it.
-fn serve_piece<A: Answering, W: Write>(
+/// Takes a piece of the input into the framer, and answers each whole frame. Less than a frame may be at hand before it.
+fn feed_piece<A: Answering, W: Write>(
     server: &mut A,
     framer: &mut Framer,
     piece: &[u8],
@@ -163,6 +183,52 @@ fn serve_piece<A: Answering, W: Write>(
         }
     }
     Ok(Rest::Partial)
+}
+
+/// Answers the whole frames that a piece begins with, where they stand, and gives what follows them.
+fn answer_whole<'p, A: Answering, W: Write>(
+    server: &mut A,
+    piece: &'p [u8],
+    writer: &mut W,
+    out: &mut Vec<u8>,
+) -> Result<&'p [u8], ServeFault>
+    requires out { LONGEST_REPLY ≤ vec_capacity out.old }
+    ensures answered { IfOk result (λ rest. Answered A.shows A.says A.between server.old server.new
+        piece.now rest.now (W.contents writer.old) (W.contents writer.new)) }
+    ensures failed { IfErr result (λ fault. (rest : List ℕ) × HandlesTo A.shows A.says A.between
+        (Err fault) server.old server.new piece.now rest (W.contents writer.old)
+        (W.contents writer.new)) }
+    ensures room { vec_capacity out.old ≤ vec_capacity out.new }
+{
+    let mut rest = piece;
+    'frames: while let Some((body, after)) = split_frame(rest) {
+        answer_body(server, body, writer, out)?;
+        rest = after;
+    }
+    Ok(rest)
+}
+
+/// Takes a piece of the input, and answers each whole frame. Less than a frame may be at hand before it. If nothing is,
+/// only what follows the piece's whole frames is taken into the framer.
+fn serve_piece<A: Answering, W: Write>(
+    server: &mut A,
+    framer: &mut Framer,
+    piece: &[u8],
+    writer: &mut W,
+    out: &mut Vec<u8>,
+) -> Result<Rest, ServeFault>
+    requires out { LONGEST_REPLY ≤ vec_capacity out.old }
+    requires partial { IsPartial framer.old }
+    ensures handles { (rest : List ℕ) × IsRest result rest framer.new
+        × HandlesTo A.shows A.says A.between result server.old server.new (framer.old ++ piece.now)
+        rest (W.contents writer.old) (W.contents writer.new) }
+    ensures room { vec_capacity out.old ≤ vec_capacity out.new }
+{
+    if !framer.is_empty() {
+        return feed_piece(server, framer, piece, writer, out);
+    }
+    let rest = answer_whole(server, piece, writer, out)?;
+    feed_piece(server, framer, rest, writer, out)
 }
 
 /// Reads once, after what was written has left the writer, and answers each whole frame. `None` if the input goes on.

@@ -1,7 +1,7 @@
 use Rattle.std.proofs.Common.{◌-◌, ◌≤◌, ◌++◌, length, take, vec_capacity}
 use Rattle.request_codec.specs.Stream.{IsPartial}
 use Rattle.server_loop.specs.Serve.{Answered}
-use Rattle.server_loop.proofs.serving.serve_piece.Given as goal
+use Rattle.server_loop.proofs.serving.feed_piece.Given as goal
 
 -- the whole frames among the bytes taken so far were answered
 abbrev pub invariant-loop-at : goal.invariant-loop-at
