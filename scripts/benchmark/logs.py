@@ -30,6 +30,12 @@ MANY = "99000"
 # How many cells a commit has at the most.
 MOST_CELLS = 256
 
+# Edits of a log that no checkpoint has emptied yet.
+MOST_EDITS = 49_500
+
+# The bytes before the records of a log.
+HEAD_LENGTH = 8
+
 
 def rows() -> Iterator[bytes]:
     """New rows of 16 bytes, in random order."""
@@ -179,16 +185,31 @@ def leveldb(program: str, what: str, folder: Path, *words: object) -> float:
     return float(ran.stdout or "0")
 
 
-def tabletd_opening(program: str, folder: Path, edits: int) -> tuple[float, int]:
-    """The seconds in which tabletd opens a folder whose log has so many edits, or as many as it lets stand there, and the bytes of
-    that log."""
-    running, new = Program(program, folder, "--log", "--flush", MANY), rows()
+def fill_log(program: str, folder: Path, new: Iterator[bytes], edits: int) -> None:
+    """Makes a store whose log has so many edits, or a few more: four of each commit."""
+    running = Program(program, folder, "--log", "--flush", MANY)
     left = edits // 4
     while left > 0:
         commits(running, new, min(left, MOST_CELLS))
         left -= MOST_CELLS
     running.end()
-    size = (folder / "commit.log").stat().st_size
+
+
+def tabletd_opening(program: str, folder: Path, edits: int) -> tuple[float, int]:
+    """The seconds in which tabletd opens a folder whose log has so many edits, up to some 99,000, and the bytes of that log.
+
+    A checkpoint empties a log before it has so many. So the records of a second store, with other rows, are added to it.
+    """
+    new, log = rows(), folder / "commit.log"
+    fill_log(program, folder, new, min(edits, MOST_EDITS))
+    if edits > MOST_EDITS:
+        other = folder / "other"
+        other.mkdir()
+        fill_log(program, other, new, min(edits - MOST_EDITS, MOST_EDITS))
+        with log.open("ab") as joined:
+            joined.write((other / log.name).read_bytes()[HEAD_LENGTH:])
+        shutil.rmtree(other)
+    size = log.stat().st_size
     began = time.monotonic()
     running = Program(program, folder)
     took = time.monotonic() - began

@@ -3,6 +3,7 @@
 
 pub mod files;
 mod keys;
+mod logs;
 pub mod rows;
 mod servers;
 pub mod sessions;
@@ -95,5 +96,6 @@ fn calls_of_all_crates(rt: HostRuntime) -> Result<(), Fail> {
     assert!(rt; are_answered::<rows::Clustered>(rt.alloc(), rows::CLUSTERED)?);
     assert!(rt; are_answered::<sessions::Sessions>(rt.alloc(), sessions::SESSIONS)?);
     assert!(rt; are_answered::<servers::Asked>(rt.alloc(), servers::ASKED)?);
+    assert!(rt; are_answered::<logs::Logged>(rt.alloc(), logs::LOGGED)?);
     Ok(())
 }
