@@ -131,7 +131,7 @@ def measured(program: str, meter: Meter, shape: Shape, size: int) -> Figures | N
         without, whole = two_runs(meter, shape, size)
     if without is None or whole is None:
         return None
-    return Figures(whole.cost - without.cost, size if shape.is_by_row else whole.count - without.count)
+    return Figures(whole.cost - without.cost, size * shape.passes or whole.count - without.count)
 
 
 def timed(program: str, shape: Shape, size: int) -> Figures:

@@ -43,9 +43,13 @@ Stream = Callable[[int], Iterable[Exchange]]
 Found = tuple[bytes, bytes | None]
 
 
+# How often the shape scan reads its rows.
+PASSES = 10
+
+
 class Shape(NamedTuple):
-    """A stream of requests by its size, and the store that it is sent to. The figures are those of a request, or of a row, of
-    which the size says how many there are."""
+    """A stream of requests by its size, and the store that it is sent to. The figures are those of a request, or of a row that
+    is gone over: the size says how many rows there are, and `passes` how often each is gone over, or 0."""
 
     size: int
     what: str
@@ -54,7 +58,7 @@ class Shape(NamedTuple):
     words: tuple[str, ...] = ()
     is_folder: bool = False
     is_opening: bool = False
-    is_by_row: bool = False
+    passes: int = 0
 
 
 def short_value(number: int) -> bytes:
@@ -198,6 +202,12 @@ def rows_in_files(count: int) -> Iterator[Exchange]:
             yield MINOR
 
 
+def rows_in_one(count: int) -> Iterator[Exchange]:
+    """The same, and then one file of these."""
+    yield from rows_in_files(count)
+    yield MAJOR
+
+
 def ordered_writes(count: int) -> list[Write]:
     """Rows in their order, each with its value."""
     return [(b"row%06d" % number, short_value(number)) for number in range(count)]
@@ -213,10 +223,11 @@ def rows_in_one_file(count: int) -> Iterator[Exchange]:
 
 
 def all_scans(count: int) -> Iterator[Exchange]:
-    """Reads all these rows in one session."""
+    """Reads all these rows in one session, several times."""
     start = next_start(-(-count // 100))
     yield begin(start)
-    yield from scans(start, ordered_writes(count))
+    for _ in range(PASSES):
+        yield from scans(start, ordered_writes(count))
 
 
 def present(rows: list[bytes], number: int) -> Found:
@@ -314,6 +325,20 @@ SHAPES = {
         loaded=rows_in_files,
         words=LARGE_MEMTABLE,
     ),
+    "get1": Shape(
+        48_000,
+        "the same as get48, once a Major has made one file of all",
+        lambda size: gets(size, next_start(size), present),
+        loaded=rows_in_one,
+        words=LARGE_MEMTABLE,
+    ),
+    "missing1": Shape(
+        48_000,
+        "the same as missing, once a Major has made one file of all",
+        lambda size: gets(size, next_start(size), missing),
+        loaded=rows_in_one,
+        words=LARGE_MEMTABLE,
+    ),
     "cached": Shape(
         48_000,
         "the same as get48, with --cache 256",
@@ -323,10 +348,10 @@ SHAPES = {
     ),
     "scan": Shape(
         100_000,
-        "N rows of one file, by scans of 1,000 cells; its figures are those of a row, and not of a request",
+        "N rows of one file, ten times, by scans of 1,000 cells; its figures are those of a row, and not of a request",
         all_scans,
         loaded=rows_in_one_file,
-        is_by_row=True,
+        passes=PASSES,
     ),
     "folder": Shape(
         48_000,
@@ -344,6 +369,6 @@ SHAPES = {
         words=LARGE_MEMTABLE,
         is_folder=True,
         is_opening=True,
-        is_by_row=True,
+        passes=1,
     ),
 }
