@@ -119,7 +119,7 @@ class Fairness(unittest.TestCase):
         heavy.socket.shutdown(socket.SHUT_RDWR)
         taking.join()
         for began, ended in asked:
-            self.assertLess(sum(began < time_of < ended for time_of in came), 4)
+            self.assertLess(sum(began < time_of < ended for time_of in came), 8)
 
     def take(self, wire: Wire, came: list[float]) -> None:
         """Notes when each reply comes, up to the connection's end."""
