@@ -10,6 +10,7 @@ pub mod Cursor
 pub mod File
 pub mod Index
 pub mod Limits
+pub mod LookupKey
 pub mod Newest
 pub mod Numbers
 pub use Rattle.cell_key.specs.Entries

@@ -19,7 +19,8 @@ use crate::cache::{few_blocks, keep, no_blocks, promote, resize};
 use crate::check::{Opening, read_file};
 use crate::cursor::FileCursor;
 use crate::gathering::Columns;
-use crate::numbers::{column_number, has_number, sorted};
+use crate::lookup_key::LookupKey;
+use crate::numbers::{has_number, sorted};
 use crate::source::read_part;
 use cell_key::{CellKey, Qualifier, Refusal, Stamp};
 use file_store::Files;
@@ -53,7 +54,7 @@ impl SortedFile {
     ghost use Rattle.sorted_file.specs.Cursor.{cursor_lent, cursor_remaining, CursorHolds};
     ghost use Rattle.sorted_file.specs.Newest.{IsFirstIn, IsNewestStamp};
     ghost use Rattle.sorted_file.specs.Bounds.{column_bounds, HasNoValue, IsWithin};
-    ghost use Rattle.sorted_file.specs.Numbers.{number_of, HasNoEntry};
+    ghost use Rattle.sorted_file.specs.Numbers.{HasNoEntry};
     ghost use Rattle.sorted_file.specs.File.{HasBlockNow, HasFile, IsCursorOf, IsFoundNow, IsOpen, IsReadFrom, IsReadNow, IsSameFile, IsSearchedNow, KeepsWhatItRead, listed, name_of, value_numbers};
 
     /// Opens a file that caches 8 blocks at most. Answers `Damaged` if it isn't there or is the file of no entry list,
@@ -139,40 +140,33 @@ impl SortedFile {
         self.bounds.meet(qualifier, lo, hi)
     }
 
-    /// Whether the column of the key with this text may have an entry.
-    fn may_have_text(&self, text: &[u8]) -> bool
+    /// Whether the column with this number may have an entry.
+    fn may_have_number(&self, number: u64) -> bool
         ensures { result ≡ false → (m : Contents) → IsOpen m self.now
-            → ¬ Contains self.now.numbers.items (number_of text.now) }
+            → ¬ Contains self.now.numbers.items number }
     {
-        has_number(&self.numbers, column_number(text))
+        has_number(&self.numbers, number)
     }
 
-    /// Whether the column of this kind of the key with this text may have a value: of a lock's, whether it may have one
-    /// that stands in the file, and of another, whether it may have an entry.
-    fn may_have_value(&self, qualifier: Qualifier, text: &[u8]) -> bool
+    /// Whether the column of this kind with this number may have a value: of a lock's, whether it may have one
+    /// anywhere, and of any other, whether it may have an entry.
+    fn may_have_value(&self, qualifier: Qualifier, number: u64) -> bool
         ensures { result ≡ false → (m : Contents) → IsOpen m self.now
-            → ¬ Contains (value_numbers self.now qualifier) (number_of text.now) }
+            → ¬ Contains (value_numbers self.now qualifier) number }
     {
-        let number = column_number(text);
         match qualifier {
             Qualifier::Lock => has_number(&self.locks, number),
             Qualifier::Data | Qualifier::Write => has_number(&self.numbers, number),
         }
     }
 
-    /// Whether the file may have an entry of the key's column, a value or an erasure, at any stamp. Reads nothing.
-    ///
-    /// # Errors
-    ///
-    /// `NoMemory`.
-    pub fn may_have_column(&self, key: &CellKey) -> Result<bool, Refusal>
-        ensures none { IfOk result (λ may. may ≡ false → (m : Contents) → IsOpen m self.now
-            → HasNoEntry key.now (listed m self.now)) }
-        ensures refusal { IfErr result (λ refusal. refusal ≡ Refusal.NoMemory) }
+    /// Whether the file may have an entry of the key's column, a value or an erasure, at any stamp. Takes no memory and
+    /// reads nothing.
+    pub fn may_have_column(&self, key: &LookupKey<'_>) -> bool
+        ensures none { result ≡ false → (m : Contents) → IsOpen m self.now
+            → HasNoEntry key.now (listed m self.now) }
     {
-        let mut text = Vec::new(self.alloc);
-        key.encode(&mut text)?;
-        Ok(self.may_have_text(&text))
+        self.may_have_number(key.number())
     }
 
     /// What the file has of a key: a value, of at most 65,536 bytes, `Some(None)` if it is an erasure, and
@@ -200,11 +194,36 @@ impl SortedFile {
         ensures same { F.contents files.new ≡ F.contents files.old }
         ensures reason { HasReason (F.faults files.old) (F.faults files.new) result }
     {
-        let mut text = Vec::new(self.alloc);
-        key.encode(&mut text)?;
-        match rows_to(&self.rows, &text) {
+        let key = LookupKey::new(self.alloc, key)?;
+        self.find(&key, files)
+    }
+
+    /// What the file has of a key, as `lookup` says it, whose text is made.
+    ///
+    /// # Errors
+    ///
+    /// `Device`, `NoMemory`, and `Damaged` only if the file is no longer what was opened.
+    pub fn find<F: Files>(
+        &mut self,
+        key: &LookupKey<'_>,
+        files: &mut F,
+    ) -> Result<Option<Option<Vec<u8>>>, Refusal>
+        ensures found { IfOk result (λ found. IfSome (F.contents files.old) (λ m. IsOpen m self.old
+            → option_map value_bytes found ≡ entry_of_key (listed m self.old) (text key.now))) }
+        ensures now { IfOk result (λ found. IsFoundNow (F.contents files.old) self.old
+            (text key.now) (option_map value_bytes found)) }
+        ensures short { IfOk result (λ found. IfSome found IsShortValue) }
+        ensures stays { IsSameFile (F.contents files.old) self.old self.new }
+        ensures kept { KeepsWhatItRead (F.contents files.old) self.old self.new }
+        ensures damaged { IsErrOf result Refusal.Damaged
+            → IfSome (F.contents files.old) (λ m. ¬ IsOpen m self.old) }
+        ensures refusal { IfErr result IsReadRefusal }
+        ensures same { F.contents files.new ≡ F.contents files.old }
+        ensures reason { HasReason (F.faults files.old) (F.faults files.new) result }
+    {
+        match rows_to(&self.rows, key.text()) {
             0 => Ok(None),
-            to => self.value_in(to - 1, &text, files),
+            to => self.value_in(to - 1, key.text(), files),
         }
     }
 
@@ -286,7 +305,7 @@ impl SortedFile {
     /// `Device`, `NoMemory`, and `Damaged` only if the file is no longer what was opened.
     pub fn newest_stamp<F: Files>(
         &mut self,
-        key: &CellKey,
+        key: &LookupKey<'_>,
         lo: Stamp,
         files: &mut F,
     ) -> Result<Option<Stamp>, Refusal>
@@ -303,25 +322,20 @@ impl SortedFile {
         ensures same { F.contents files.new ≡ F.contents files.old }
         ensures reason { HasReason (F.faults files.old) (F.faults files.new) result }
     {
-        if !self.bounds.meet_column(key, lo) {
+        let own = key.key();
+        if !self.bounds.meet_column(own, lo) {
             return Ok(None);
         }
-        // These calls show that row and family are within their limits.
-        let _row = key.row.as_bytes();
-        let _family = key.family.as_bytes();
-        let most = key.stamp;
-        let mut sought = Vec::new(self.alloc);
-        key.encode(&mut sought)?;
-        if !self.may_have_value(key.qualifier, &sought) {
+        if !self.may_have_value(own.qualifier, key.number()) {
             return Ok(None);
         }
-        let Some(text) = self.first_text(key, lo, &sought, files)? else {
+        let Some(text) = self.first_text(own, lo, key.text(), files)? else {
             return Ok(None);
         };
-        let Some(stamp) = stamp_in(&sought, &text) else {
+        let Some(stamp) = stamp_in(key.text(), &text) else {
             return Ok(None);
         };
-        if stamp < lo || most < stamp {
+        if stamp < lo || own.stamp < stamp {
             return Ok(None);
         }
         Ok(Some(stamp))

@@ -11,6 +11,7 @@ mod file;
 mod format;
 mod gathering;
 mod laws;
+mod lookup_key;
 mod numbers;
 mod source;
 mod writer;
@@ -22,5 +23,6 @@ pub use laws::{
     one_image, one_list, one_listing, open_is_there, rest_is_list, stays_open, written_is_listed,
     written_is_there,
 };
+pub use lookup_key::LookupKey;
 pub use source::{Source, refusal_of};
 pub use writer::write_file;

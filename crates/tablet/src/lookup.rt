@@ -15,7 +15,7 @@ ghost use Rattle.tablet.specs.Reads.{HasNoLater, IsAfterStamp, IsAsked, IsValue}
 use cell_key::{CellKey, Family, Qualifier, Refusal, Row, Stamp};
 use file_store::Files;
 use memtable::Memtable;
-use sorted_file::SortedFile;
+use sorted_file::{LookupKey, SortedFile};
 use std::alloc::Global;
 
 /// The most bytes of a value.
@@ -78,7 +78,7 @@ pub(crate) fn first_after(found: Option<Stamp>, lo: Stamp) -> Stamp
 /// column. The files stay what they were.
 pub(crate) fn newest_stamp<F: Files>(
     files: &mut [SortedFile],
-    key: &CellKey,
+    key: &LookupKey<'_>,
     lo: Stamp,
     store: &mut F,
 ) -> Result<Option<Stamp>, Refusal>
@@ -107,7 +107,7 @@ pub(crate) fn newest_stamp<F: Files>(
 /// What a file has of a key. No block is read if the file has no entry of the key's column. The file stays what it was.
 fn find_in_file<F: Files>(
     file: &mut SortedFile,
-    key: &CellKey,
+    key: &LookupKey<'_>,
     store: &mut F,
 ) -> Result<Option<Option<Vec<u8>>>, Refusal>
     ensures found { IfOk result (λ found. IfSome (F.contents store.old) (λ m. IsOpen m file.old
@@ -120,16 +120,16 @@ fn find_in_file<F: Files>(
     ensures same { F.contents store.new ≡ F.contents store.old }
     ensures reason { HasReason (F.faults store.old) (F.faults store.new) result }
 {
-    if !file.may_have_column(key)? {
+    if !file.may_have_column(key) {
         return Ok(None);
     }
-    file.lookup(key, store)
+    file.find(key, store)
 }
 
 /// What the first of some files that names a key has of it. The files stay what they were.
 fn find_in_files<F: Files>(
     files: &mut [SortedFile],
-    key: &CellKey,
+    key: &LookupKey<'_>,
     store: &mut F,
 ) -> Result<Option<Option<Vec<u8>>>, Refusal>
     ensures found { IfOk result (λ found.
@@ -175,7 +175,8 @@ pub(crate) fn lookup<F: Files>(
     if let Some(newest) = memtable.lookup(key) {
         return copy_value(alloc, newest.value);
     }
-    match find_in_files(files, key, store)? {
+    let key = LookupKey::new(alloc, key)?;
+    match find_in_files(files, &key, store)? {
         Some(value) => Ok(value),
         None => Ok(None),
     }

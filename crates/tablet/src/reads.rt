@@ -21,6 +21,7 @@ use crate::sources::fences;
 use crate::tablet::Tablet;
 use cell_key::{CellKey, Family, MOST_STAMP, Qualifier, Refusal, Row, Stamp};
 use file_store::Files;
+use sorted_file::LookupKey;
 use std::alloc::Global;
 
 /// A copy of a version that is lent, if there is one. Answers `NoMemory` if there is no memory.
@@ -163,7 +164,8 @@ impl Tablet {
         ensures same { F.contents files.new ≡ F.contents files.old }
         ensures reason { HasReason (F.faults files.old) (F.faults files.new) result }
     {
-        let key = CellKey::new(row, family, qualifier, hi)?;
+        let last = CellKey::new(row, family, qualifier, hi)?;
+        let key = LookupKey::new(self.alloc, &last)?;
         newest_stamp(&mut self.files, &key, lo, files)
     }
 

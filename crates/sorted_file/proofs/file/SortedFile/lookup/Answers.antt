@@ -1,47 +1,11 @@
-use Rattle.std.proofs.Common.{◌≡◌, ◌+◌, ◌-◌, ◌<◌, ◌++◌, List, ℕ, slice_get, length, sym, ap, subst, ◌∙◌, arith}
-use Rattle.cell_key.specs.Entries.{entry_of_key}
+use Rattle.std.proofs.Common.{subst}
+use Rattle.std.specs.Prelude.{IfOk, option_map}
 use Rattle.cell_key.specs.Keys.{text}
-use Rattle.sorted_file.specs.Index.{block_of}
-use Rattle.sorted_file.specs.File.{IsUncached}
-use Rattle.sorted_file.proofs.Behind.{in_block, in_none, place_in, place_unique}
-use Rattle.sorted_file.proofs.LookUps.{some_row}
-use Rattle.sorted_file.proofs.Results.{as_told, if_ok, of_told}
+use Rattle.cell_key.specs.declared.keys.CellKey.{CellKey}
+use Rattle.sorted_file.specs.File.{IsFoundNow, value_bytes}
 use Rattle.sorted_file.proofs.file.SortedFile.lookup.Goals as goal
-
-pub returns-in-0-clause-found : goal.returns-in-0-clause-found
-returns-in-0-clause-found g c =
-    as_told (g.F.Files.contents c.args.files.now) _ (λ m e o.
-    let sought = c.deref-2.ensures.value ∙ c.in_ok-encode.ensures.ok ∙ ap (λ (xs : List ℕ). xs ++ text c.args.key.now) c.new-text.ensures.items in
-    let place = place_in m c.args.self.now o c.deref-2.result.now (text c.args.key.now) c.deref.result.now c.rows_to.result c.deref.ensures.value sought c.rows_to.ensures.position in
-    sym (in_none m c.args.self.now o (text c.args.key.now) c.rows_to.result place c.in-0.is))
-
-pub returns-in-0-clause-now : goal.returns-in-0-clause-now
-returns-in-0-clause-now g c = λ m o number row image placed at uncached tells.
-    let sought = c.deref-2.ensures.value ∙ c.in_ok-encode.ensures.ok ∙ ap (λ (xs : List ℕ). xs ++ text c.args.key.now) c.new-text.ensures.items in
-    let place = place_in m c.args.self.now o c.deref-2.result.now (text c.args.key.now) c.deref.result.now c.rows_to.result c.deref.ensures.value sought c.rows_to.ensures.position in
-    absurd (omega (arith, c.in-0.is, place_unique (text c.args.key.now) c.args.self.now.rows.items c.rows_to.result (number + 1) place placed))
-
-pub returns-clause-found : goal.returns-clause-found
-returns-clause-found g c =
-    if_ok c.value_in.result _ _ (λ found h.
-    as_told (g.F.Files.contents c.args.files.now) _ (λ m e o.
-    let sought = c.deref-2.ensures.value ∙ c.in_ok-encode.ensures.ok ∙ ap (λ (xs : List ℕ). xs ++ text c.args.key.now) c.new-text.ensures.items in
-    let asked = c.deref-in_default.ensures.value ∙ c.in_ok-encode.ensures.ok ∙ ap (λ (xs : List ℕ). xs ++ text c.args.key.now) c.new-text.ensures.items in
-    let place = place_in m c.args.self.now o c.deref-2.result.now (text c.args.key.now) c.deref.result.now c.rows_to.result c.deref.ensures.value sought c.rows_to.ensures.position in
-    let some : 0 < c.rows_to.result = omega (arith, c.in_default) in
-    let row = some_row c.args.self.now.rows.items (c.rows_to.result - 1) (omega (arith, c.rows_to.ensures.bound, some, ap length c.deref.ensures.value)) in
-    of_told (g.F.Files.contents c.args.files.now) m _ e h o row.0 row.1 ∙ ap (entry_of_key (block_of row.0)) asked
-    ∙ sym (in_block m c.args.self.now o (text c.args.key.now) c.rows_to.result row.0 place some row.1)))
-    c.value_in.ensures.found
 
 pub returns-clause-now : goal.returns-clause-now
 returns-clause-now g c =
-    if_ok c.value_in.result _ _ (λ found h m o number row image placed at uncached tells.
-    let sought = c.deref-2.ensures.value ∙ c.in_ok-encode.ensures.ok ∙ ap (λ (xs : List ℕ). xs ++ text c.args.key.now) c.new-text.ensures.items in
-    let asked = c.deref-in_default.ensures.value ∙ c.in_ok-encode.ensures.ok ∙ ap (λ (xs : List ℕ). xs ++ text c.args.key.now) c.new-text.ensures.items in
-    let place = place_in m c.args.self.now o c.deref-2.result.now (text c.args.key.now) c.deref.result.now c.rows_to.result c.deref.ensures.value sought c.rows_to.ensures.position in
-    let n = place_unique (text c.args.key.now) c.args.self.now.rows.items c.rows_to.result (number + 1) place placed in
-    let one : number ≡ c.rows_to.result - 1 = omega (arith, n) in
-    let r = h row image (ap (slice_get c.args.self.now.rows.items) (sym one) ∙ at) (subst (λ (k : ℕ). IsUncached k c.args.self.now.cache.entries) one uncached) tells in
-    (r.0, r.1, r.2 ∙ ap (entry_of_key r.0) asked))
-    c.value_in.ensures.now
+    subst (λ (k : CellKey). IfOk c.find.result (λ found. IsFoundNow (g.F.Files.contents c.args.files.now) c.args.self.now (text k) (option_map value_bytes found)))
+    c.in_ok-key.ensures.key c.find.ensures.now
