@@ -19,7 +19,7 @@ use crate::cache::{few_blocks, keep, no_blocks, promote, resize};
 use crate::check::{Opening, read_file};
 use crate::cursor::FileCursor;
 use crate::gathering::Columns;
-use crate::numbers::{column_number, has_number, sorted};
+use crate::numbers::{Numbers, column_number};
 use crate::source::read_part;
 use cell_key::{CellKey, Qualifier, Refusal, Stamp};
 use file_store::Files;
@@ -41,10 +41,10 @@ pub struct SortedFile {
     /// How many entries there are.
     count: u64,
     bounds: ColumnBounds,
-    /// A number of each column that has an entry, in rising order.
-    numbers: Vec<u64>,
-    /// A number of each column of a lock that has a value, in rising order. Mostly there is none.
-    locks: Vec<u64>,
+    /// A number of each column that has an entry.
+    numbers: Numbers,
+    /// A number of each column of a lock that has a value. Mostly there is none.
+    locks: Numbers,
     /// The blocks that were looked into last, by their numbers.
     cache: LruCache<usize, Block>,
 }
@@ -102,6 +102,8 @@ impl SortedFile {
         } = columns;
         let skips = skips_of(alloc, &heads)?;
         let cache = no_blocks(alloc, most_blocks)?;
+        let numbers = Numbers::new(alloc, numbers)?;
+        let locks = Numbers::new(alloc, locks)?;
         Ok(SortedFile {
             alloc,
             name,
@@ -110,8 +112,8 @@ impl SortedFile {
             skips,
             count,
             bounds,
-            numbers: sorted(numbers),
-            locks: sorted(locks),
+            numbers,
+            locks,
             cache,
         })
     }
@@ -142,9 +144,9 @@ impl SortedFile {
     /// Whether the column of the key with this text may have an entry.
     fn may_have_text(&self, text: &[u8]) -> bool
         ensures { result ≡ false → (m : Contents) → IsOpen m self.now
-            → ¬ Contains self.now.numbers.items (number_of text.now) }
+            → ¬ Contains self.now.numbers (number_of text.now) }
     {
-        has_number(&self.numbers, column_number(text))
+        self.numbers.has(column_number(text))
     }
 
     /// Whether the column of this kind of the key with this text may have a value: of a lock's, whether it may have one
@@ -155,8 +157,8 @@ impl SortedFile {
     {
         let number = column_number(text);
         match qualifier {
-            Qualifier::Lock => has_number(&self.locks, number),
-            Qualifier::Data | Qualifier::Write => has_number(&self.numbers, number),
+            Qualifier::Lock => self.locks.has(number),
+            Qualifier::Data | Qualifier::Write => self.numbers.has(number),
         }
     }
 

@@ -44,23 +44,6 @@ pub(crate) fn push_number(numbers: &mut Vec<u64>, number: u64) -> Result<(), Ref
     Ok(())
 }
 
-/// The same numbers in rising order.
-pub(crate) fn sorted(numbers: Vec<u64>) -> Vec<u64>
-    ensures keeps { IsAmong numbers.items result.items }
-    ensures rising { IsNonDecreasing result.items }
-{
-    let mut sorted = numbers;
-    sorted.sort_unstable();
-    sorted
-}
-
-/// Whether a number is among numbers in rising order.
-pub(crate) fn has_number(numbers: &[u64], number: u64) -> bool
-    ensures { IsNonDecreasing numbers.now → (IsTrue result ↔ Contains numbers.now number) }
-{
-    numbers.binary_search(&number).is_ok()
-}
-
 /// How many words the filter of so many numbers has: a power of two, with at least 8 bits for each number, and at most
 /// 16 for each and 64 more.
 fn words_for(count: usize) -> usize

@@ -7,5 +7,5 @@ use Rattle.sorted_file.proofs.file.SortedFile.may_have_column.Goals as goal
 pub returns-clause-none : goal.returns-clause-none
 returns-clause-none c = λ no m o.
     let asked = c.deref.ensures.value ∙ c.in_ok-encode.ensures.ok ∙ ap (λ (xs : List ℕ). xs ++ text c.args.key.now) c.new-text.ensures.items in
-    let numbers = c.args.self.now.numbers.items in
+    let numbers = c.args.self.now.numbers in
     no_entry numbers c.args.key.now (subst (λ (t : List ℕ). ¬ (Contains numbers (number_of t))) asked (c.may_have_text.ensures no m o)) _ o.numbered
