@@ -6,6 +6,7 @@ mod Counting
 mod CursorSteps
 mod EntryParts
 mod Framing
+mod Filtered
 mod Fronts
 mod Growth
 mod Halves

@@ -36,14 +36,14 @@ module _ (numbers : List ℕ) (key : CellKey) (stored : IsStored key) (lock : ke
       go more false e = more
 
 -- a column whose number isn't among those of its kind has no value
-module _ (file : SortedFile) (es : List Entry) (numbered : AllByRecursion (IsNumbered file.numbers.items) es) (locked : AllByRecursion (IsLockNumbered file.locks.items) es) (key : CellKey) (s : ℕ) (stored : IsStored (at_stamp key s)) where
-  by_entry : ¬ Contains file.numbers.items (number_of (text key)) → value_of (entry_of_key es (text (at_stamp key s))) ≡ None
-  by_entry out = ap value_of (no_entry file.numbers.items key out es numbered s)
+module _ (file : SortedFile) (es : List Entry) (numbered : AllByRecursion (IsNumbered file.numbers) es) (locked : AllByRecursion (IsLockNumbered file.locks) es) (key : CellKey) (s : ℕ) (stored : IsStored (at_stamp key s)) where
+  by_entry : ¬ Contains file.numbers (number_of (text key)) → value_of (entry_of_key es (text (at_stamp key s))) ≡ None
+  by_entry out = ap value_of (no_entry file.numbers key out es numbered s)
 
   by_kind : (q : Qualifier) → key.qualifier ≡ q → ¬ Contains (value_numbers file q) (number_of (text key)) → value_of (entry_of_key es (text (at_stamp key s))) ≡ None
   by_kind Data kind out = by_entry out
   by_kind Write kind out = by_entry out
-  by_kind Lock kind out = no_lock file.locks.items (at_stamp key s) stored kind (λ there. out (subst (λ (n : ℕ). Contains file.locks.items n) (one_number key s) there)) es locked
+  by_kind Lock kind out = no_lock file.locks (at_stamp key s) stored kind (λ there. out (subst (λ (n : ℕ). Contains file.locks n) (one_number key s) there)) es locked
 
   pub no_value_numbered : ¬ Contains (value_numbers file key.qualifier) (number_of (text key)) → value_of (entry_of_key es (text (at_stamp key s))) ≡ None
   no_value_numbered out = by_kind key.qualifier refl out

@@ -49,7 +49,7 @@ same_file (Some m) file cache h = record {
   name = refl;
   lists = λ m. refl;
   still = λ o.
-      record { list = o.list; bounds = o.bounds; bounded = o.bounded; numbered = o.numbered; rising = o.rising; locked = o.locked; locks_rising = o.locks_rising; heads = o.heads; skips = o.skips; counted = o.counted; format = o.format; image = o.image; there = o.there; form = o.form; rows = o.rows; blocks = o.blocks; cached = h o };
+      record { list = o.list; bounds = o.bounds; bounded = o.bounded; numbered = o.numbered; locked = o.locked; heads = o.heads; skips = o.skips; counted = o.counted; format = o.format; image = o.image; there = o.there; form = o.form; rows = o.rows; blocks = o.blocks; cached = h o };
 }
 
 -- a block that is kept after one was read was kept before or is that one

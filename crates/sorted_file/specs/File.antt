@@ -3,7 +3,6 @@ use Rattle.std.specs.Prelude.{◌≡◌, ℕ, nat_eq, List, Some, None, slice_ge
 use Rattle.std.specs.Map.{lookup}
 use Rattle.std.specs.FinMap as map
 use Rattle.std.specs.List.{AllByRecursion}
-use Rattle.std.specs.List.Sorted.{IsNonDecreasing}
 use Rattle.std.specs.declared.vec.Vec.{Vec}
 use Rattle.cell_key.specs.Entries.{Entry, IsEntryList, IsRising, entry_of_key}
 use Rattle.cell_key.specs.Keys.{text}
@@ -56,10 +55,8 @@ pub record IsOpen (m : Contents) (file : SortedFile) : Type 0 where
   pub list : IsEntryList (listed m file)
   pub bounds : AllByRecursion (IsBounded file.bounds) (listed m file)
   pub bounded : AllByRecursion IsBoundedRow file.rows.items
-  pub numbered : AllByRecursion (IsNumbered file.numbers.items) (listed m file)
-  pub rising : IsNonDecreasing file.numbers.items
-  pub locked : AllByRecursion (IsLockNumbered file.locks.items) (listed m file)
-  pub locks_rising : IsNonDecreasing file.locks.items
+  pub numbered : AllByRecursion (IsNumbered file.numbers) (listed m file)
+  pub locked : AllByRecursion (IsLockNumbered file.locks) (listed m file)
   pub heads : texts_of file.heads.items ≡ map row_head file.rows.items
   pub skips : file.skips.items ≡ skips file.heads.items
   pub counted : file.count ≡ length (listed m file)
@@ -126,9 +123,9 @@ HasBlockNow disk file number =
 
 -- the numbers of the columns of this kind that may have a value in an open file
 abbrev pub value_numbers : SortedFile → Qualifier → List ℕ
-value_numbers file Data = file.numbers.items
-value_numbers file Lock = file.locks.items
-value_numbers file Write = file.numbers.items
+value_numbers file Data = file.numbers
+value_numbers file Lock = file.locks
+value_numbers file Write = file.numbers
 
 -- By what an open file knows without a read, the block of a row may have a value of the key's column
 -- at this stamp.

@@ -20,7 +20,7 @@ use crate::check::{Opening, read_file};
 use crate::cursor::FileCursor;
 use crate::gathering::Columns;
 use crate::lookup_key::LookupKey;
-use crate::numbers::{has_number, sorted};
+use crate::numbers::Numbers;
 use crate::source::read_part;
 use cell_key::{CellKey, Qualifier, Refusal, Stamp};
 use file_store::Files;
@@ -42,10 +42,10 @@ pub struct SortedFile {
     /// How many entries there are.
     count: u64,
     bounds: ColumnBounds,
-    /// A number of each column that has an entry, in rising order.
-    numbers: Vec<u64>,
-    /// A number of each column of a lock that has a value, in rising order. Mostly there is none.
-    locks: Vec<u64>,
+    /// A number of each column that has an entry.
+    numbers: Numbers,
+    /// A number of each column of a lock that has a value. Mostly there is none.
+    locks: Numbers,
     /// The blocks that were looked into last, by their numbers.
     cache: LruCache<usize, Block>,
 }
@@ -103,6 +103,8 @@ impl SortedFile {
         } = columns;
         let skips = skips_of(alloc, &heads)?;
         let cache = no_blocks(alloc, most_blocks)?;
+        let numbers = Numbers::new(alloc, numbers)?;
+        let locks = Numbers::new(alloc, locks)?;
         Ok(SortedFile {
             alloc,
             name,
@@ -111,8 +113,8 @@ impl SortedFile {
             skips,
             count,
             bounds,
-            numbers: sorted(numbers),
-            locks: sorted(locks),
+            numbers,
+            locks,
             cache,
         })
     }
@@ -140,14 +142,6 @@ impl SortedFile {
         self.bounds.meet(qualifier, lo, hi)
     }
 
-    /// Whether the column with this number may have an entry.
-    fn may_have_number(&self, number: u64) -> bool
-        ensures { result ≡ false → (m : Contents) → IsOpen m self.now
-            → ¬ Contains self.now.numbers.items number }
-    {
-        has_number(&self.numbers, number)
-    }
-
     /// Whether the column of this kind with this number may have a value: of a lock's, whether it may have one
     /// anywhere, and of any other, whether it may have an entry.
     fn may_have_value(&self, qualifier: Qualifier, number: u64) -> bool
@@ -155,8 +149,8 @@ impl SortedFile {
             → ¬ Contains (value_numbers self.now qualifier) number }
     {
         match qualifier {
-            Qualifier::Lock => has_number(&self.locks, number),
-            Qualifier::Data | Qualifier::Write => has_number(&self.numbers, number),
+            Qualifier::Lock => self.locks.has(number),
+            Qualifier::Data | Qualifier::Write => self.numbers.has(number),
         }
     }
 
@@ -166,7 +160,7 @@ impl SortedFile {
         ensures none { result ≡ false → (m : Contents) → IsOpen m self.now
             → HasNoEntry key.now (listed m self.now) }
     {
-        self.may_have_number(key.number())
+        self.numbers.has(key.number())
     }
 
     /// What the file has of a key: a value, of at most 65,536 bytes, `Some(None)` if it is an erasure, and
