@@ -8,7 +8,7 @@ use crate::tests::slow::found_at;
 use cell_key::{CellKey, Family, Qualifier, Refusal, Row, Stamp};
 use file_store::{Files, MemFiles, read_whole};
 use memtable::Memtable;
-use sorted_file::{SortedFile, write_file};
+use sorted_file::{LookupKey, SortedFile, write_file};
 use std::alloc::{AllocError, Global};
 use std::num::NonZeroUsize;
 use std::test::Fail;
@@ -376,6 +376,7 @@ fn lock_tests_read_what_is_locked(rt: HostRuntime) -> Result<(), Fail> {
             qualifier: Qualifier::Lock,
             stamp: 9,
         };
+        let key = LookupKey::new(rt.alloc(), &key)?;
         file.drop_cache();
         files.reads.clear();
         assert!(rt; file.newest_stamp(&key, 0, &mut files)? == stamp);
