@@ -151,6 +151,28 @@ fn find_in_files<F: Files>(
     Ok(None)
 }
 
+/// What the first of some files that names a key has of it. The key's text is made once. The files stay what they were.
+fn find_key<F: Files>(
+    alloc: Global,
+    files: &mut [SortedFile],
+    key: &CellKey,
+    store: &mut F,
+) -> Result<Option<Option<Vec<u8>>>, Refusal>
+    ensures found { IfOk result (λ found.
+        IfSome (F.contents store.old) (λ m. AllByRecursion (IsOpen m) files.old
+        → option_map value_bytes found ≡ first_naming (map (listed m) files.old) (text key.now))) }
+    ensures short { IfOk result (λ found. IfSome found IsShortValue) }
+    ensures stay { AllZip (IsSameFile (F.contents store.old)) files.old files.new }
+    ensures damaged { IsErrOf result Refusal.Damaged
+        → IfSome (F.contents store.old) (λ m. ¬ AllByRecursion (IsOpen m) files.old) }
+    ensures refusal { IfErr result IsReadRefusal }
+    ensures same { F.contents store.new ≡ F.contents store.old }
+    ensures reason { HasReason (F.faults store.old) (F.faults store.new) result }
+{
+    let key = LookupKey::new(alloc, key)?;
+    find_in_files(files, &key, store)
+}
+
 /// The value of a key in a memtable, or else in the first of some files that names it. An erasure is no
 /// value. The files stay what they were.
 pub(crate) fn lookup<F: Files>(
@@ -175,8 +197,7 @@ pub(crate) fn lookup<F: Files>(
     if let Some(newest) = memtable.lookup(key) {
         return copy_value(alloc, newest.value);
     }
-    let key = LookupKey::new(alloc, key)?;
-    match find_in_files(files, &key, store)? {
+    match find_key(alloc, files, key, store)? {
         Some(value) => Ok(value),
         None => Ok(None),
     }
