@@ -10,7 +10,7 @@ use Rattle.cell_key.specs.declared.keys.Qualifier.{Qualifier}
 use Rattle.cell_key.specs.declared.keys.Qualifier.TheVariants.{Data, Lock, Write}
 use Rattle.sorted_file.specs.File.{value_numbers}
 use Rattle.sorted_file.specs.Newest.{at_stamp}
-use Rattle.sorted_file.specs.Numbers.{number_of, IsAmong, IsLockNumbered, IsNumbered}
+use Rattle.sorted_file.specs.Numbers.{number_of, text_number, IsAmong, IsLockKeyNumbered, IsLockNumbered, IsNumbered}
 use Rattle.sorted_file.specs.declared.file.SortedFile.{SortedFile}
 use Rattle.sorted_file.proofs.Bounded.{one_text}
 use Rattle.sorted_file.proofs.Numbered.{no_entry, one_number}
@@ -21,6 +21,22 @@ one_on old new keeps e is key stored named lock some = keeps (number_of e.0) (is
 pub locked_on : (old new : List ℕ) → IsAmong old new → (es : List Entry) → AllByRecursion (IsLockNumbered old) es → AllByRecursion (IsLockNumbered new) es
 locked_on old new keeps [] all = tt
 locked_on old new keeps (e ∷ es) all = (one_on old new keeps e all.0, locked_on old new keeps es all.1)
+
+pub keyed_on : (old new : List ℕ) → IsAmong old new → (es : List Entry) → AllByRecursion (IsLockKeyNumbered old) es → AllByRecursion (IsLockKeyNumbered new) es
+keyed_on old new keeps [] all = tt
+keyed_on old new keeps (e ∷ es) all = ((λ key stored named lock. keeps (text_number e.0) (all.0 key stored named lock)), keyed_on old new keeps es all.1)
+
+-- a lock whose text has no number has no entry
+module _ (numbers : List ℕ) (key : CellKey) (stored : IsStored key) (lock : key.qualifier ≡ Lock) (out : ¬ Contains numbers (text_number (text key))) where
+  pub no_lock_entry : (es : List Entry) → AllByRecursion (IsLockKeyNumbered numbers) es → entry_of_key es (text key) ≡ None
+  no_lock_entry [] all = refl
+  no_lock_entry ((name, value) ∷ es) all = go (no_lock_entry es all.1) (eq_by_cmp byte_cmp (text key) name) refl
+    where
+      go : entry_of_key es (text key) ≡ None → (b : Bool) → eq_by_cmp byte_cmp (text key) name ≡ b → cond b (Some value) (find byte_cmp (text key) es) ≡ None
+      go more true e =
+          let same = one_text (text key) name e in
+          absurd (out (subst (λ (t : List ℕ). Contains numbers (text_number t)) (sym same) (all.0 key stored (sym same) lock)))
+      go more false e = more
 
 module _ (numbers : List ℕ) (key : CellKey) (stored : IsStored key) (lock : key.qualifier ≡ Lock) (out : ¬ Contains numbers (number_of (text key))) where
   none_here : (name : List ℕ) (value : Option (List ℕ)) → IsLockNumbered numbers (name, value) → name ≡ text key → value ≡ None

@@ -8,7 +8,7 @@ use Rattle.cell_key.specs.Keys.{byte_cmp, text}
 use Rattle.cell_key.specs.Entries.{Entry, entry_of_key}
 use Rattle.cell_key.specs.declared.keys.CellKey.{CellKey}
 use Rattle.sorted_file.specs.Newest.{at_stamp}
-use Rattle.sorted_file.specs.Numbers.{number_of, HasNoEntry, IsAmong, IsNumbered}
+use Rattle.sorted_file.specs.Numbers.{number_of, IsAmong, IsNumbered}
 use Rattle.sorted_file.proofs.Bounded.{one_text}
 use Rattle.sorted_file.proofs.Fronts.{before}
 
@@ -24,7 +24,8 @@ module _ (numbers name : List ℕ) (out : ¬ Contains numbers (number_of name)) 
       go more true e = absurd (out (subst (λ (t : List ℕ). Contains numbers (number_of t)) (sym (one_text name n e)) all.0))
       go more false e = more
 
-pub no_entry : (numbers : List ℕ) (key : CellKey) → ¬ Contains numbers (number_of (text key)) → (es : List Entry) → AllByRecursion (IsNumbered numbers) es → HasNoEntry key es
+pub no_entry : (numbers : List ℕ) (key : CellKey) → ¬ Contains numbers (number_of (text key)) → (es : List Entry) → AllByRecursion (IsNumbered numbers) es
+    → (s : ℕ) → entry_of_key es (text (at_stamp key s)) ≡ None
 no_entry numbers key out es all s = none_here numbers (text (at_stamp key s)) (λ there. out (subst (λ (n : ℕ). Contains numbers n) (one_number key s) there)) es all
 
 pub numbered_on : (old new : List ℕ) → IsAmong old new → (es : List Entry) → AllByRecursion (IsNumbered old) es → AllByRecursion (IsNumbered new) es

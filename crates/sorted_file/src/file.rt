@@ -1,6 +1,6 @@
 //! A file of entries that is open for reading.
 
-ghost use Rattle.std.specs.Prelude.{OnOk, ◌≡◌, ◌≤◌, ◌<◌, ◌-◌, List, ℕ, drop, Option, Some, None, true, false, length, slice_get, take, option_map, IfOk, IfErr, IfSome, IsErrOf, Contains};
+ghost use Rattle.std.specs.Prelude.{OnOk, ◌≡◌, ◌≤◌, ◌<◌, ◌^◌, ◌-◌, List, ℕ, drop, Option, Some, None, true, false, length, slice_get, take, option_map, IfOk, IfErr, IfSome, IsErrOf, Contains};
 ghost use Rattle.std.specs.NonZero.{non_zero_usize_get};
 ghost use Rattle.cell_key.specs.Entries.{Entry, entry_of_key, entries_from};
 ghost use Rattle.cell_key.specs.Faults.{HasReason};
@@ -20,7 +20,7 @@ use crate::check::{Opening, read_file};
 use crate::cursor::FileCursor;
 use crate::gathering::Columns;
 use crate::lookup_key::LookupKey;
-use crate::numbers::Numbers;
+use crate::numbers::{Numbers, text_number};
 use crate::source::read_part;
 use cell_key::{CellKey, Qualifier, Refusal, Stamp};
 use file_store::Files;
@@ -46,6 +46,8 @@ pub struct SortedFile {
     numbers: Numbers,
     /// A number of each column of a lock that has a value. Mostly there is none.
     locks: Numbers,
+    /// A number of the text of each lock's key, of a value or an erasure.
+    lock_keys: Numbers,
     /// The blocks that were looked into last, by their numbers.
     cache: LruCache<usize, Block>,
 }
@@ -54,7 +56,6 @@ impl SortedFile {
     ghost use Rattle.sorted_file.specs.Cursor.{cursor_lent, cursor_remaining, CursorHolds};
     ghost use Rattle.sorted_file.specs.Newest.{IsFirstIn, IsNewestStamp};
     ghost use Rattle.sorted_file.specs.Bounds.{column_bounds, HasNoValue, IsWithin};
-    ghost use Rattle.sorted_file.specs.Numbers.{HasNoEntry};
     ghost use Rattle.sorted_file.specs.File.{HasBlockNow, HasFile, IsCursorOf, IsFoundNow, IsOpen, IsReadFrom, IsReadNow, IsSameFile, IsSearchedNow, KeepsWhatItRead, listed, name_of, value_numbers};
 
     /// Opens a file that caches 8 blocks at most. Answers `Damaged` if it isn't there or is the file of no entry list,
@@ -100,11 +101,13 @@ impl SortedFile {
             bounds,
             numbers,
             locks,
+            lock_keys,
         } = columns;
         let skips = skips_of(alloc, &heads)?;
         let cache = no_blocks(alloc, most_blocks)?;
         let numbers = Numbers::new(alloc, numbers)?;
         let locks = Numbers::new(alloc, locks)?;
+        let lock_keys = Numbers::new(alloc, lock_keys)?;
         Ok(SortedFile {
             alloc,
             name,
@@ -115,6 +118,7 @@ impl SortedFile {
             bounds,
             numbers,
             locks,
+            lock_keys,
             cache,
         })
     }
@@ -154,13 +158,18 @@ impl SortedFile {
         }
     }
 
-    /// Whether the file may have an entry of the key's column, a value or an erasure, at any stamp. Takes no memory and
-    /// reads nothing.
-    pub fn may_have_column(&self, key: &LookupKey<'_>) -> bool
+    /// Whether the file may have an entry of a key, a value or an erasure: of a lock's, whether it may have one of this
+    /// very key, and of any other, whether it may have one of the key's column. Takes no memory and reads nothing.
+    pub fn may_have_key(&self, key: &LookupKey<'_>) -> bool
+        requires from { 1 ≤ key.now.stamp }
+        requires to { key.now.stamp < 2 ^ 63 }
         ensures none { result ≡ false → (m : Contents) → IsOpen m self.now
-            → HasNoEntry key.now (listed m self.now) }
+            → entry_of_key (listed m self.now) (text key.now) ≡ None }
     {
-        self.numbers.has(key.number())
+        match key.key().qualifier {
+            Qualifier::Lock => self.lock_keys.has(text_number(key.text())),
+            Qualifier::Data | Qualifier::Write => self.numbers.has(key.number()),
+        }
     }
 
     /// What the file has of a key: a value, of at most 65,536 bytes, `Some(None)` if it is an erasure, and

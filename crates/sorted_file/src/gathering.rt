@@ -1,7 +1,7 @@
 //! What an opening gathers of the entries of blocks as it checks them.
 
 ghost use Rattle.std.specs.Prelude.{◌≡◌, ◌≢◌, ◌<◌, ◌^◌, ◌++◌, ◌∷◌, [], ℕ, List, Option, length, IfOk, IfErr, IfSome, IfNone, OnOk};
-ghost use Rattle.sorted_file.specs.Numbers.{number_of, IsAmong, IsLockNumbered};
+ghost use Rattle.sorted_file.specs.Numbers.{number_of, IsAmong, IsLockKeyNumbered, IsLockNumbered};
 ghost use Rattle.cell_key.specs.Entries.{Entry, IsEntryList, lent_entry};
 ghost use Rattle.cell_key.specs.LentKeys.{IsLentKey};
 ghost use Rattle.sorted_file.specs.Block.{IsBlock, IsParsed, entries_of};
@@ -10,7 +10,7 @@ ghost use Rattle.sorted_file.specs.Grammar.{block_bytes};
 
 use crate::block::{Block, next_entry, room_for_starts};
 use crate::bounds::ColumnBounds;
-use crate::numbers::{column_number, push_number};
+use crate::numbers::{column_number, push_number, text_number};
 use cell_key::{EntryRef, KeyRef, Qualifier, Refusal};
 use std::alloc::Global;
 
@@ -23,6 +23,8 @@ pub(crate) struct Columns {
     pub(crate) numbers: Vec<u64>,
     /// A number of each column of a lock that has a value.
     pub(crate) locks: Vec<u64>,
+    /// A number of the text of each lock's key.
+    pub(crate) lock_keys: Vec<u64>,
 }
 
 impl Columns {
@@ -36,6 +38,7 @@ impl Columns {
             bounds: ColumnBounds::NONE,
             numbers: Vec::new(alloc),
             locks: Vec::new(alloc),
+            lock_keys: Vec::new(alloc),
         }
     }
 
@@ -49,6 +52,7 @@ impl Columns {
     {
         let number = column_number(key.text);
         push_number(&mut self.numbers, number)?;
+        push_lock_key(&mut self.lock_keys, key)?;
         let Some(_) = entry.value else {
             return Ok(());
         };
@@ -65,6 +69,7 @@ impl Columns {
     {
         self.numbers.extend_from_slice(&more.numbers)?;
         self.locks.extend_from_slice(&more.locks)?;
+        self.lock_keys.extend_from_slice(&more.lock_keys)?;
         self.bounds = self.bounds.joined(more.bounds);
         Ok(())
     }
@@ -83,6 +88,20 @@ fn push_lock(locks: &mut Vec<u64>, key: KeyRef<'_>, number: u64) -> Result<(), R
         return Ok(());
     }
     push_number(locks, number)?;
+    Ok(())
+}
+
+/// Adds the number of a key's text, if it is a lock's. Answers `NoMemory` if there is no memory.
+fn push_lock_key(keys: &mut Vec<u64>, key: KeyRef<'_>) -> Result<(), Refusal>
+    requires { IsLentKey key }
+    ensures has { OnOk result ((value : Option (List ℕ))
+        → IsLockKeyNumbered keys.new.items (key.entry.text.now, value)) }
+    ensures keeps { OnOk result (IsAmong keys.old.items keys.new.items) }
+    ensures refusal { IfErr result (λ refusal. refusal ≡ Refusal.NoMemory) }
+{
+    if key.qualifier == Qualifier::Lock {
+        push_number(keys, text_number(key.text))?;
+    }
     Ok(())
 }
 

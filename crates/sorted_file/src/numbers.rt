@@ -3,7 +3,7 @@
 ghost use Rattle.std.specs.Int.{IsPowerOfTwo};
 ghost use Rattle.std.specs.List.Sorted.{IsNonDecreasing};
 ghost use Rattle.std.specs.Prelude.{◌≡◌, ◌↔◌, ◌+◌, ◌*◌, ◌≤◌, ℕ, All, Contains, IfErr, IfOk, IsTrue, OnOk, length};
-ghost use Rattle.sorted_file.specs.Numbers.{number_of, word_place, HasBit, IsAmong};
+ghost use Rattle.sorted_file.specs.Numbers.{number_of, text_number, word_place, HasBit, IsAmong};
 
 use cell_key::Refusal;
 use std::alloc::Global;
@@ -19,14 +19,21 @@ const NUMBERS_A_WORD: usize = 8;
 /// How far down a number's top six bits are shifted, which say which bit of a word is its own.
 const BIT_SHIFT: u64 = 58;
 
+/// The number of a text.
+pub(crate) fn text_number(text: &[u8]) -> u64
+    ensures { result ≡ text_number text.now }
+{
+    let mut hasher = FoldHasher::default();
+    hasher.write(text);
+    hasher.finish()
+}
+
 /// The number of the column of the key with this text. Keys of one column have one number.
 pub(crate) fn column_number(text: &[u8]) -> u64
     ensures { result ≡ number_of text.now }
 {
     let (column, _) = text.split_at(text.len().saturating_sub(STAMP));
-    let mut hasher = FoldHasher::default();
-    hasher.write(column);
-    hasher.finish()
+    text_number(column)
 }
 
 /// Adds a number, if it isn't the last one. Answers `NoMemory` if there is no memory.

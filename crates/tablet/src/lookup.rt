@@ -104,12 +104,14 @@ pub(crate) fn newest_stamp<F: Files>(
     Ok(found)
 }
 
-/// What a file has of a key. No block is read if the file has no entry of the key's column. The file stays what it was.
+/// What a file has of a key. No block is read if the file says that it has none. The file stays what it was.
 fn find_in_file<F: Files>(
     file: &mut SortedFile,
     key: &LookupKey<'_>,
     store: &mut F,
 ) -> Result<Option<Option<Vec<u8>>>, Refusal>
+    requires from { 1 ≤ key.now.stamp }
+    requires to { key.now.stamp < 2 ^ 63 }
     ensures found { IfOk result (λ found. IfSome (F.contents store.old) (λ m. IsOpen m file.old
         → option_map value_bytes found ≡ entry_of_key (listed m file.old) (text key.now))) }
     ensures short { IfOk result (λ found. IfSome found IsShortValue) }
@@ -120,7 +122,7 @@ fn find_in_file<F: Files>(
     ensures same { F.contents store.new ≡ F.contents store.old }
     ensures reason { HasReason (F.faults store.old) (F.faults store.new) result }
 {
-    if !file.may_have_column(key) {
+    if !file.may_have_key(key) {
         return Ok(None);
     }
     file.find(key, store)
@@ -132,6 +134,8 @@ fn find_in_files<F: Files>(
     key: &LookupKey<'_>,
     store: &mut F,
 ) -> Result<Option<Option<Vec<u8>>>, Refusal>
+    requires from { 1 ≤ key.now.stamp }
+    requires to { key.now.stamp < 2 ^ 63 }
     ensures found { IfOk result (λ found.
         IfSome (F.contents store.old) (λ m. AllByRecursion (IsOpen m) files.old
         → option_map value_bytes found ≡ first_naming (map (listed m) files.old) (text key.now))) }
@@ -158,6 +162,8 @@ fn find_key<F: Files>(
     key: &CellKey,
     store: &mut F,
 ) -> Result<Option<Option<Vec<u8>>>, Refusal>
+    requires from { 1 ≤ key.now.stamp }
+    requires to { key.now.stamp < 2 ^ 63 }
     ensures found { IfOk result (λ found.
         IfSome (F.contents store.old) (λ m. AllByRecursion (IsOpen m) files.old
         → option_map value_bytes found ≡ first_naming (map (listed m) files.old) (text key.now))) }
@@ -182,6 +188,8 @@ pub(crate) fn lookup<F: Files>(
     key: &CellKey,
     store: &mut F,
 ) -> Result<Option<Vec<u8>>, Refusal>
+    requires from { 1 ≤ key.now.stamp }
+    requires to { key.now.stamp < 2 ^ 63 }
     ensures found { IfOk result (λ found.
         IfSome (F.contents store.old) (λ m. AllByRecursion (IsOpen m) files.old
         → option_map (λ bytes. bytes.items) found

@@ -1,4 +1,4 @@
-use Rattle.std.proofs.Common.{◌≡◌, ◌+◌, ◌-◌, ◌<◌, ◌++◌, List, ℕ, slice_get, length, sym, ap, subst, ◌∙◌, arith}
+use Rattle.std.proofs.Common.{◌≡◌, ◌+◌, ◌-◌, ◌<◌, ℕ, slice_get, length, sym, ap, subst, ◌∙◌, arith}
 use Rattle.cell_key.specs.Entries.{entry_of_key}
 use Rattle.cell_key.specs.Keys.{text}
 use Rattle.sorted_file.specs.Index.{block_of}

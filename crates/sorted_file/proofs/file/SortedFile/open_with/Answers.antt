@@ -2,7 +2,7 @@ use Rattle.std.proofs.Common.{List, ℕ, Option, ap, ◌∙◌}
 use Rattle.std.specs.Global.{Vec}
 use Rattle.sorted_file.specs.Index.{skips}
 use Rattle.sorted_file.proofs.Keeping.{none_kept}
-use Rattle.sorted_file.proofs.Locked.{locked_on}
+use Rattle.sorted_file.proofs.Locked.{keyed_on, locked_on}
 use Rattle.sorted_file.proofs.Numbered.{numbered_on}
 use Rattle.sorted_file.proofs.Results.{if_some}
 use Rattle.sorted_file.proofs.file.SortedFile.open_with.Goals as goal
@@ -17,6 +17,7 @@ returns-clause-opened g c =
       bounded = o.bounded;
       numbered = numbered_on _ _ c.in_ok-numbers.ensures.keeps _ o.columns.numbered;
       locked = locked_on _ _ c.in_ok-locks.ensures.keeps _ o.columns.locked;
+      keyed = keyed_on _ _ c.in_ok-lock_keys.ensures.keeps _ o.columns.keyed;
       heads = o.heads;
       skips = c.in_ok-skips.ensures.skips ∙ ap (λ (l : List (Option (Vec ℕ))). skips l) c.deref.ensures.value;
       counted = o.counted;
