@@ -25,7 +25,7 @@ use Rattle.cell_key.proofs.EntryLists.{total}
 use Rattle.cell_key.proofs.Order.{after_place, one_place, plain_family, stored_plain, text_exact, text_of_place, text_order}
 use Rattle.cell_key.proofs.TextPlaces.{one_text}
 use Rattle.tablet.specs.Batches.{HasNewest, Keeps, of_column, place_in, places_in}
-use Rattle.tablet.specs.Gathering.{all_cells, cell_in, AreVersionsIn, BeginsWith, Gathers, HasPlaceText, IsEmpty, IsShown, IsShownSoFar, IsTextOf, IsWhole}
+use Rattle.tablet.specs.Gathering.{all_cells, cell_in, AreVersionsIn, BeginsWith, Gathers, HasPlaceText, IsShown, IsShownSoFar, IsTextOf, IsWhole}
 use Rattle.tablet.specs.Reads.{IsNextIn, IsOfPlace, IsStoredPlace, first_value, past_place}
 use Rattle.tablet.specs.declared.batches.CellVersions.{CellVersions}
 use Rattle.tablet.specs.declared.gathering.Gathering.{Gathering}
@@ -459,8 +459,12 @@ module _ (o : OpenCell) (is : HasPlaceText o) (name rest : List ℕ) (begins : n
         go p (inr other) = subst (λ (found : Option (ℕ × List ℕ)). IsNewest after (version row family p) 0 hi found) (sym (keeps.others p other))
             (newest_beside es row family q s (is_stored list) value (texts list) hi p other (of_column (cell_in o) p) (h p))
 
+-- no version was found yet
+abbrev IsEmpty : CellVersions → Type 0
+IsEmpty found = (qualifier : Qualifier) → of_column found qualifier ≡ None
+
 -- a cell of which entries have no key has no version
-pub newest_empty : (es : List Entry) (hi : ℕ) (found : CellVersions) → IsEmpty found → ¬ HasCell (cells_of es) (place_in found) → HasNewest (cells_of es) hi found
+newest_empty : (es : List Entry) (hi : ℕ) (found : CellVersions) → IsEmpty found → ¬ HasCell (cells_of es) (place_in found) → HasNewest (cells_of es) hi found
 newest_empty es hi found empty none p =
     subst (λ (x : Option (ℕ × List ℕ)). IsNewest (cells_of es) (version found.row found.family p) 0 hi x) (sym (empty p))
     (λ s low high. go (version found.row found.family p s) refl (get (cells_of es) (version found.row found.family p s)) refl)
@@ -468,6 +472,54 @@ newest_empty es hi found empty none p =
     go : (q : CellKey) → place_of q ≡ place_in found → (x : Option (List ℕ)) → get (cells_of es) q ≡ x → get (cells_of es) q ≡ None
     go q at None e = e
     go q at (Some v) e = absurd (none (record { key = q; at = at; some = subst (λ (o : Option (List ℕ)). IsSome o) (sym e) refl }))
+
+-- a key's cell, before it gets its value
+abbrev pub bare_cell : CellKey → CellVersions
+bare_cell key = record { row = key.row; family = key.family; «data» = None; lock = None; write = None }
+
+bare_empty : (key : CellKey) → IsEmpty (bare_cell key)
+bare_empty key Data = refl
+bare_empty key Lock = refl
+bare_empty key Write = refl
+
+-- the cell that is opened for a key
+module _ (o : OpenCell) (key : CellKey) (stored : IsStored key) (bare : cell_in o ≡ bare_cell key) (place : o.place.items ≡ place_text key.row key.family) where
+  at : place_in (cell_in o) ≡ place_of key
+  at = ap place_in bare
+
+  pub opened_text : HasPlaceText o
+  opened_text = record {
+    place = subst IsStoredPlace (sym at) (record { row = stored.row; family = stored.family });
+    text = place ∙ sym (ap (λ (x : Place). place_text x.0 x.1) at);
+  }
+
+  pub opened_kept_text : (new : CellVersions) → place_in new ≡ place_in (cell_in o) → HasPlaceText (record o { cell = new })
+  opened_kept_text new same = record {
+    place = subst IsStoredPlace (sym same) opened_text.place;
+    text = opened_text.text ∙ sym (ap (λ (x : Place). place_text x.0 x.1) same);
+  }
+
+  module _ (name : List ℕ) (named : name ≡ text key) (es : List Entry) (value : List ℕ) (hi : ℕ) (list : IsEntryList (es ++ (name, Some value) ∷ [])) where
+    abbrev rest : List ℕ
+    rest = ended (qualifier_name key.qualifier) ++ stamp_text key.stamp
+
+    begins : name ≡ o.place.items ++ rest
+    begins = named ∙ text_of_place key ∙ ap (λ (start : List ℕ). start ++ rest) (sym place)
+
+    small : key.stamp < 2 ^ 64
+    small = omega (arith, stored.to)
+
+    none_before : ¬ HasCell (cells_of es) (place_in (cell_in o)) → HasNewest (cells_of es) hi (cell_in o)
+    none_before = newest_empty es hi (cell_in o) (subst IsEmpty (sym bare) (bare_empty key))
+
+    -- its value is above the stamp
+    pub opened_above : hi < key.stamp → ¬ HasCell (cells_of es) (place_in (cell_in o)) → HasNewest (cells_of (es ++ (name, Some value) ∷ [])) hi (cell_in o)
+    opened_above up none = above_newest o opened_text name rest begins key.qualifier key.stamp refl small es value hi list up (none_before none)
+
+    -- or it is kept
+    pub opened_kept : key.stamp ≤ hi → (new : CellVersions) → Keeps key.qualifier (key.stamp, value) (cell_in o) new → ¬ HasCell (cells_of es) (place_in new) → HasNewest (cells_of (es ++ (name, Some value) ∷ [])) hi new
+    opened_kept within new keeps none = kept_newest o opened_text name rest begins key.qualifier key.stamp refl small es value hi list within new keeps
+        (none_before (subst (λ (p : Place). ¬ HasCell (cells_of es) p) keeps.place none))
 
 -- the text of a place, out of that of a key
 pub place_part : (bytes : List ℕ) (k : CellKey) (name : List ℕ) → bytes ≡ text k → name ≡ qualifier_name k.qualifier → take (length bytes - length name - 10) bytes ≡ place_text k.row k.family
@@ -488,10 +540,6 @@ ok_true (Ok true) a b c f = f a b c
 ok_true (Ok false) a b c f = tt
 ok_true (Err e) a b c f = tt
 
-pub on_true : {A B : Type 0} (X : Type 0) (b : Bool) → OnTrue b A → OnFalse b (X × ¬ B) → B → A
-on_true X true a f h = a
-on_true X false a f h = absurd (f.1 h)
-
 pub on_false : {A : Type 0} (b : Bool) → b ≡ false → OnFalse b A → A
 on_false true e a = cc
 on_false false e a = a
@@ -499,8 +547,3 @@ on_false false e a = a
 pub if_both : {A : Type 0} {P Q : A → Type 0} {D : Type 0} (x : Option A) → IsSome x → IfSome x P → IfSome x Q → ((a : A) → x ≡ Some a → P a → Q a → D) → D
 if_both None some p q f = absurd (let no : false ≡ true = some in cc)
 if_both (Some a) some p q f = f a refl p q
-
-pub text_begins : (o : OpenCell) (name : List ℕ) → HasPlaceText o → IsTextOf name (place_in (cell_in o)) → BeginsWith o.place.items name
-text_begins o name is of =
-    let begins = place_begins of.key (place_in (cell_in o)) of.at in
-    (begins.0, of.is ∙ begins.1 ∙ ap (λ (start : List ℕ). start ++ begins.0) (sym is.text))

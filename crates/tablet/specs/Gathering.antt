@@ -7,8 +7,7 @@ use Rattle.cell_key.specs.Keys.{text, IsStored}
 use Rattle.cell_key.specs.Places.{AreNext, HasCell, Place, last_or, place_of}
 use Rattle.cell_key.specs.Texts.{place_text}
 use Rattle.cell_key.specs.declared.keys.CellKey.{CellKey}
-use Rattle.cell_key.specs.declared.keys.Qualifier.{Qualifier}
-use Rattle.tablet.specs.Batches.{HasNewest, bytes_in, of_column, place_in, places_in}
+use Rattle.tablet.specs.Batches.{HasNewest, bytes_in, place_in, places_in}
 use Rattle.tablet.specs.Reads.{IsNextIn, IsStoredPlace}
 use Rattle.tablet.specs.declared.batches.CellVersions.{CellVersions}
 use Rattle.tablet.specs.declared.gathering.Gathering.{Gathering}
@@ -33,10 +32,6 @@ pub record IsTextOf (bytes : List ℕ) (place : Place) : Type 0 where
   pub stored : IsStored key
   pub at : place_of key ≡ place
   pub is : bytes ≡ text key
-
--- no version was found yet
-abbrev pub IsEmpty : CellVersions → Type 0
-IsEmpty found = (qualifier : Qualifier) → of_column found qualifier ≡ None
 
 -- the text of the cell's place is kept beside it
 pub record HasPlaceText (cell : OpenCell) : Type 0 where

@@ -8,11 +8,12 @@ ghost use Rattle.cell_key.specs.Places.{HasCell};
 ghost use Rattle.cell_key.specs.Texts.{ended, stamp_text};
 ghost use Rattle.cell_key.specs.declared.keys.Qualifier.{Qualifier as Names};
 ghost use Rattle.tablet.specs.Batches.{place_in, HasNewest, IsFull};
-ghost use Rattle.tablet.specs.Gathering.{all_cells, AreVersionsIn, BeginsWith, Gathers, HasPlaceText, IsEmpty, IsTextOf, IsWithin, KeepsLimits};
+ghost use Rattle.tablet.specs.Gathering.{all_cells, AreVersionsIn, BeginsWith, Gathers, HasPlaceText, IsTextOf, IsWithin, KeepsLimits};
 
 use crate::batches::{BatchLimits, CellVersions, VersionBatch};
 use cell_key::{CellKey, EntryRef, Qualifier, Refusal, Stamp, stamp_of};
 use std::alloc::Global;
+use std::mem;
 
 /// The qualifier and the stamp whose texts the bytes are, which follow the place in the text of a key.
 fn version_of(bytes: &[u8]) -> Option<(Qualifier, Stamp)>
@@ -40,12 +41,21 @@ struct OpenCell {
 }
 
 impl OpenCell {
-    /// The cell of a key, with no version yet. Answers `Damaged` if the bytes are the text of no key, and `NoMemory` if
-    /// there is no memory.
-    fn new(alloc: Global, text: &[u8]) -> Result<OpenCell, Refusal>
+    /// The cell of a key, with the key's value if its stamp is at or below `hi`. The text of the cell's place is written
+    /// into the buffer `place`, over what that held. Answers `Damaged` if the bytes are the text of no key, and
+    /// `NoMemory` if there is no memory.
+    fn new(
+        alloc: Global,
+        mut place: Vec<u8>,
+        text: &[u8],
+        value: &[u8],
+        hi: Stamp,
+    ) -> Result<OpenCell, Refusal>
         ensures of { IfOk result (λ cell. IsTextOf text.now (place_in cell.cell)) }
         ensures place { IfOk result HasPlaceText }
-        ensures empty { IfOk result (λ cell. IsEmpty cell.cell) }
+        ensures newest { (es : List Entry) → IsEntryList (es ++ (text.now, Some value.now) ∷ [])
+            → IfOk result (λ cell. ¬ HasCell (cells_of es) (place_in cell.cell)
+            → HasNewest (cells_of (es ++ (text.now, Some value.now) ∷ [])) hi cell.cell) }
         ensures damaged { IsErrOf result Refusal.Damaged → ¬ IsKeyText text.now }
         ensures refusal { IfErr result (λ refusal.
             (refusal ≡ Refusal.NoMemory) ⊎ (refusal ≡ Refusal.Damaged)) }
@@ -54,14 +64,18 @@ impl OpenCell {
             return Err(Refusal::Damaged);
         };
         let len = text.len() - key.qualifier.name().len() - 10;
-        let place = Vec::from_slice(alloc, &text[..len])?;
-        let cell = CellVersions {
+        place.clear();
+        place.extend_from_slice(&text[..len])?;
+        let mut cell = CellVersions {
             row: key.row,
             family: key.family,
             data: None,
             lock: None,
             write: None,
         };
+        if key.stamp <= hi {
+            cell.keep(alloc, key.qualifier, key.stamp, value)?;
+        }
         Ok(OpenCell { place, cell })
     }
 
@@ -105,6 +119,8 @@ pub(crate) struct Gathering {
     current: Option<OpenCell>,
     /// For how many bytes of values there is room.
     room: usize,
+    /// The buffer of the last place, for the next one.
+    spare: Vec<u8>,
 }
 
 impl Gathering {
@@ -121,6 +137,7 @@ impl Gathering {
             cells: Vec::new(alloc),
             current: None,
             room: limits.bytes,
+            spare: Vec::new(alloc),
         }
     }
 
@@ -163,7 +180,8 @@ impl Gathering {
         ensures limits { KeepsLimits self.old self.new }
         ensures refusal { IfErr result (λ refusal. refusal ≡ Refusal.NoMemory) }
     {
-        if let Some(OpenCell { place: _, cell }) = self.current.take() {
+        if let Some(OpenCell { place, cell }) = self.current.take() {
+            self.spare = place;
             self.room = cell.bytes_after(self.room);
             self.cells.push(cell)?;
         }
@@ -186,9 +204,8 @@ impl Gathering {
         ensures refusal { IfErr result (λ refusal.
             (refusal ≡ Refusal.NoMemory) ⊎ (refusal ≡ Refusal.Damaged)) }
     {
-        let mut open = OpenCell::new(alloc, text)?;
-        let _is_its_own = open.take(alloc, text, value, self.hi)?;
-        self.current = Some(open);
+        let place = mem::replace(&mut self.spare, Vec::new(alloc));
+        self.current = Some(OpenCell::new(alloc, place, text, value, self.hi)?);
         Ok(())
     }
 
