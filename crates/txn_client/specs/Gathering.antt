@@ -1,6 +1,7 @@
 -- What a scan has gathered, and how far it has come.
-use Rattle.std.specs.Prelude.{◌≡◌, ℕ, ◌≤◌, Bool, List, length, map, Option, Some, IsSome, option_map}
-use Rattle.std.specs.List.{AllByRecursion}
+use Rattle.std.specs.Prelude.{◌≡◌, ℕ, ◌≤◌, Bool, List, length, map, Option, Some, None, IsSome, option_map}
+use Rattle.std.specs.List.{AllByRecursion, last_or}
+use Rattle.std.specs.Option.{option_or}
 use Rattle.cell_key.specs.Cells.{Cells}
 use Rattle.cell_key.specs.Places.{IsNextCell}
 use Rattle.si_model.specs.Machine.{Range, Item}
@@ -18,6 +19,11 @@ use Rattle.txn_client.specs.declared.scan.Scan.{Scan}
 abbrev pub items_in : Gathered → List (Cell × Item)
 items_in gathered = map item_of gathered.items.items
 
+-- the last cell: the one that was passed by since the last item, or else the last item's
+abbrev pub last_of : Gathered → Option Cell
+last_of gathered =
+    option_or gathered.passed (option_map (λ item. item.0) (last_or None (items_in gathered)))
+
 -- its counts are right, and no limit is passed
 pub record IsInLimits (gathered : Gathered) : Type 0 where
   pub bytes : gathered.bytes ≡ items_length (items_in gathered)
@@ -25,8 +31,8 @@ pub record IsInLimits (gathered : Gathered) : Type 0 where
   pub names : AllByRecursion (λ item. IsNamed item.0) (items_in gathered)
   pub few : length (items_in gathered) ≤ gathered.looked
   pub looked : gathered.looked ≤ gathered.cells
-  pub begun : 1 ≤ gathered.looked → IsSome gathered.last
-  pub last : (x : Cell) → gathered.last ≡ Some x → IsNamed x
+  pub begun : 1 ≤ gathered.looked → IsSome (last_of gathered)
+  pub last : (x : Cell) → last_of gathered ≡ Some x → IsNamed x
 
 -- the cells of the range up to the last one were looked at, and are named as reads find them
 pub record HasGathered (cells : Cells) (s : ℕ) (range : Range) (keys_only : Bool)
@@ -44,19 +50,19 @@ pub record HasGathered (cells : Cells) (s : ℕ) (range : Range) (keys_only : Bo
 abbrev pub Gathers : Cells → Scan → Gathered → Type 0
 Gathers cells scan gathered =
     HasGathered cells scan.start (range_named scan.range) scan.keys_only (items_in gathered)
-    gathered.looked gathered.last
+    gathered.looked (last_of gathered)
 
 -- the cell is the next one, and doesn't come after the end of the range
 pub record IsNextIn (cells : Cells) (scan : Scan) (gathered : Gathered) (x : Cell) : Type 0 where
-  pub next : IsNextCell cells (option_map place_at gathered.last) (Some (place_at x))
+  pub next : IsNextCell cells (option_map place_at (last_of gathered)) (Some (place_at x))
   pub up_to : IsUpToRow scan.range.end x.row
 
 -- what a batch came to
 abbrev pub HasCome : Cells → Scan → Gathered → Batch → Type 0
 HasCome cells scan gathered Done = Gathers cells scan gathered
 HasCome cells scan gathered End =
-    Gathers cells scan gathered × IsLastCell cells (range_named scan.range) gathered.last
+    Gathers cells scan gathered × IsLastCell cells (range_named scan.range) (last_of gathered)
 HasCome cells scan gathered Full =
     Gathers cells scan gathered
     × DoesNotFit cells scan.start (range_named scan.range) scan.keys_only (items_in gathered)
-    gathered.last
+    (last_of gathered)

@@ -1,6 +1,6 @@
 //! A scan: batches of cells with their newest versions, each of which is read, or passed by if it is of another family.
 
-ghost use Rattle.std.specs.Prelude.{◌≡◌, ◌+◌, ◌-◌, ◌<◌, ◌≤◌, ◌++◌, [], ◌∷◌, ℕ, Option, Some, IsSome, length, map, option_map, IfErr, IfOk, IfSome, OnOk};
+ghost use Rattle.std.specs.Prelude.{◌≡◌, ◌+◌, ◌-◌, ◌<◌, ◌≤◌, ◌++◌, [], ◌∷◌, ℕ, Option, Some, IsSome, length, map, option_copied, option_map, IfErr, IfOk, IfSome, OnOk};
 ghost use Rattle.std.specs.Bool.{OnFalse, OnTrue};
 ghost use Rattle.cell_key.specs.Cells.{Cells};
 ghost use Rattle.cell_key.specs.Faults.{HasReason};
@@ -12,7 +12,7 @@ ghost use Rattle.si_model.specs.declared.replies.Cell.{Cell as CellOf};
 ghost use Rattle.si_model.specs.Replies.{found_item, item_of, reach_of};
 ghost use Rattle.si_model.specs.Scans.{HasFamilies, HasRows, item_length, items_length, most_items, place_at};
 ghost use Rattle.tablet.specs.Batches.{AreNextVersions, IsFull};
-ghost use Rattle.txn_client.specs.Gathering.{Gathers, HasCome, IsInLimits, IsNextIn, items_in};
+ghost use Rattle.txn_client.specs.Gathering.{Gathers, HasCome, IsInLimits, IsNextIn, items_in, last_of};
 ghost use Rattle.txn_client.specs.Ranges.{range_named};
 ghost use Rattle.txn_client.specs.Reads.{AreNewest, IsFound, ReadsValue};
 ghost use Rattle.txn_client.specs.Scans.{DoesNotFit, IsInScanLimits, IsNamed, IsReadAs, IsScanDamaged, IsScanFound, IsScanReadable};
@@ -43,15 +43,15 @@ pub(crate) struct Scan {
 }
 
 /// What a scan has gathered: items, and how many bytes they take in a reply; how many cells it may look
-/// at, and how many it has looked at; and the last of these, which is at first the cell after which the
-/// range begins.
+/// at, and how many it has looked at; and the cell that was passed by since the last item, if there is
+/// one, which is at first the cell after which the range begins.
 #[derive(Drop)]
 struct Gathered {
     items: Vec<ScanItem>,
     bytes: usize,
     cells: usize,
     looked: usize,
-    last: Option<Cell>,
+    passed: Option<Cell>,
 }
 
 /// What a batch of cells came to.
@@ -148,7 +148,7 @@ impl Gathered {
         ensures cells { IfOk result (λ gathered. gathered.cells ≡ cells) }
         ensures refusal { IfErr result (λ refusal. refusal ≡ Refusal.NoMemory) }
     {
-        let last = match &scan.range.after {
+        let passed = match &scan.range.after {
             Some(cell) => Some(copy_of(cell)?),
             None => None,
         };
@@ -157,8 +157,21 @@ impl Gathered {
             bytes: 0,
             cells: cells as usize,
             looked: 0,
-            last,
+            passed,
         })
+    }
+
+    /// The last cell: the one that was passed by since the last item, or else the last item's.
+    fn last(&self) -> Option<&Cell>
+        ensures { option_copied result ≡ last_of self.now }
+    {
+        if let Some(cell) = &self.passed {
+            return Some(cell);
+        }
+        match self.items.last() {
+            Some(item) => Some(&item.cell),
+            None => None,
+        }
     }
 
     /// How many cells are asked for, and how many bytes of values: as many as it has looked at, but 16 to 256 and no more
@@ -186,18 +199,18 @@ impl Gathered {
         start: Stamp,
         limits: BatchLimits,
     ) -> Result<VersionBatch, Refusal>
-        ensures found { AreReadableFrom R.seen rows.old (option_map place_at self.now.last)
+        ensures found { AreReadableFrom R.seen rows.old (option_map place_at (last_of self.now))
             → IfOk result (AreNextVersions (R.seen.cells rows.old)
-            (option_map place_at self.now.last) start) }
+            (option_map place_at (last_of self.now)) start) }
         ensures full { IfOk result (λ batch. OnFalse batch.is_last
             (IsFull limits batch.cells.items)) }
         ensures few { IfOk result (λ batch. length batch.cells.items ≤ limits.cells) }
         ensures reads { OnlyReads R.seen rows.old rows.new }
         ensures refusal { IfErr result (IsRefusalOfRead
-            (AreReadableFrom R.seen rows.old (option_map place_at self.now.last))) }
+            (AreReadableFrom R.seen rows.old (option_map place_at (last_of self.now)))) }
         ensures reason { HasReason (R.faults rows.old) (R.faults rows.new) result }
     {
-        let after = match &self.last {
+        let after = match self.last() {
             Some(cell) => Some((&cell.row, &cell.family)),
             None => None,
         };
@@ -214,10 +227,10 @@ impl Gathered {
         ensures items { self.new.items ≡ self.old.items }
         ensures looked { self.new.looked ≡ self.old.looked + 1 }
         ensures cells { self.new.cells ≡ self.old.cells }
-        ensures last { self.new.last ≡ Some cell }
+        ensures last { last_of self.new ≡ Some cell }
     {
         self.looked += 1;
-        self.last = Some(cell);
+        self.passed = Some(cell);
     }
 
     /// Names a cell, if its item fits.
@@ -228,7 +241,7 @@ impl Gathered {
         ensures limits { OnOk result (IsInLimits self.new) }
         ensures named { IfOk result (λ fits. OnTrue fits
             ((items_in self.new ≡ items_in self.old ++ ((cell, found_item found) ∷ []))
-            × (self.new.looked ≡ self.old.looked + 1) × (self.new.last ≡ Some cell))) }
+            × (self.new.looked ≡ self.old.looked + 1) × (last_of self.new ≡ Some cell))) }
         ensures full { IfOk result (λ fits. OnFalse fits ((self.new ≡ self.old)
             × (1 ≤ self.old.looked) × (most_items
             < items_length (items_in self.old) + item_length (cell, found_item found)))) }
@@ -239,11 +252,10 @@ impl Gathered {
         if bytes > MOST_BYTES {
             return Ok(false);
         }
-        let last = copy_of(&cell)?;
         self.items.push(ScanItem { cell, found })?;
         self.bytes = bytes;
         self.looked += 1;
-        self.last = Some(last);
+        self.passed = None;
         Ok(true)
     }
 
@@ -268,11 +280,11 @@ impl Gathered {
             → IsNextIn (R.seen.cells rows.old) scan.now self.old cell
             → IfOk result (λ fits. OnFalse fits (DoesNotFit (R.seen.cells rows.old)
             scan.now.start (range_named scan.now.range) scan.now.keys_only (items_in self.old)
-            self.old.last)) }
+            (last_of self.old))) }
         ensures same { IfOk result (λ fits. OnFalse fits
             ((self.new ≡ self.old) × (1 ≤ self.old.looked))) }
         ensures more { IfOk result (λ fits. OnTrue fits ((self.new.looked ≡ self.old.looked + 1)
-            × (self.new.last ≡ Some cell))) }
+            × (last_of self.new ≡ Some cell))) }
         ensures limits { OnOk result (IsInLimits self.new) }
         ensures cells { self.new.cells ≡ self.old.cells }
         ensures reads { OnlyReads R.seen rows.old rows.new }
@@ -355,19 +367,23 @@ impl Gathered {
         }
     }
 
-    /// The reply of a scan that went as far as the last cell.
-    fn stopped(self) -> ScanReply
+    /// The reply of a scan that went as far as the last cell. Answers `NoMemory` if there is no memory for a copy of it.
+    fn stopped(self) -> Result<ScanReply, Refusal>
         requires limits { IsInLimits self }
-        requires some { IsSome self.last }
-        ensures items { map item_of result.items.items ≡ items_in self }
-        ensures reach { (x : CellOf) → self.last ≡ Some x → reach_of result.reach ≡ machine.UpTo x }
-        ensures limits { IsInScanLimits (map item_of result.items.items) (reach_of result.reach) }
+        requires some { IsSome (last_of self) }
+        ensures items { IfOk result (λ reply. map item_of reply.items.items ≡ items_in self) }
+        ensures reach { IfOk result (λ reply. (x : CellOf) → last_of self ≡ Some x
+            → reach_of reply.reach ≡ machine.UpTo x) }
+        ensures limits { IfOk result (λ reply. IsInScanLimits
+            (map item_of reply.items.items) (reach_of reply.reach)) }
+        ensures refusal { IfErr result (λ refusal. refusal ≡ Refusal.NoMemory) }
     {
-        let Gathered { items, last, .. } = self;
-        ScanReply {
+        let last = copy_of(self.last().unwrap())?;
+        let Gathered { items, .. } = self;
+        Ok(ScanReply {
             items,
-            reach: ScanReach::More(last.unwrap()),
-        }
+            reach: ScanReach::More(last),
+        })
     }
 }
 
@@ -404,9 +420,9 @@ impl Scan {
             match gathered.take_batch(rows, self)? {
                 Batch::Done => {}
                 Batch::End => return Ok(gathered.ended()),
-                Batch::Full => return Ok(gathered.stopped()),
+                Batch::Full => return gathered.stopped(),
             }
         }
-        Ok(gathered.stopped())
+        gathered.stopped()
     }
 }

@@ -18,7 +18,7 @@ use Rattle.si_model.specs.Scans.{place_at}
 use Rattle.si_model.specs.declared.replies.Cell.{Cell}
 use Rattle.tablet.specs.Batches.{HasNewest, place_in, places_in}
 use Rattle.tablet.specs.declared.batches.CellVersions.{CellVersions}
-use Rattle.txn_client.specs.Gathering.{Gathers, IsNextIn, items_in}
+use Rattle.txn_client.specs.Gathering.{Gathers, IsNextIn, items_in, last_of}
 use Rattle.txn_client.specs.Ranges.{range_named}
 use Rattle.txn_client.specs.Reads.{AreNewest}
 use Rattle.txn_client.specs.Scans.{DoesNotFit, IsScanDamaged, IsScanReadable}
@@ -72,13 +72,13 @@ none_ends cells after [] none ends = ends
 none_ends cells after (v ∷ all) none ends = absurd (omega (arith, none))
 
 -- what is read from the last cell on is in order, where what is read from the beginning of the range on is
-last_readable : {R : Type 0} (seen : View R) (rows : R) (cells : Cells) (scan : Scan) (gathered : Gathered) → IsScanReadable seen rows (range_named scan.range) → Gathers cells scan gathered → AreReadableFrom seen rows (option_map place_at gathered.last)
-last_readable seen rows cells scan gathered held gathers row from = held row (looks_from cells (range_named scan.range) gathered.looked gathered.last gathers.looks row from)
+last_readable : {R : Type 0} (seen : View R) (rows : R) (cells : Cells) (scan : Scan) (gathered : Gathered) → IsScanReadable seen rows (range_named scan.range) → Gathers cells scan gathered → AreReadableFrom seen rows (option_map place_at (last_of gathered))
+last_readable seen rows cells scan gathered held gathers row from = held row (looks_from cells (range_named scan.range) gathered.looked (last_of gathered) gathers.looks row from)
 
 pub loop-versions-init : goal.loop-versions-init
 loop-versions-init g c =
     let cells = g.R.Rows.seen.cells c.args.rows.now in
-    let last = option_map place_at c.args.self.now.last in
+    let last = option_map place_at (last_of c.args.self.now) in
     let gives : into_iter_items c.into_iter-versions-iterator.result ≡ c.in_ok-batch.batch.cells.items = c.into_iter-versions-iterator.ensures.into_iter_gives.0 in
     let found = λ (held : IsScanReadable g.R.Rows.seen c.args.rows.now (range_named c.args.scan.now.range)) (gathers : Gathers cells c.args.scan.now c.args.self.now). c.in_ok-batch.ensures.found (last_readable g.R.Rows.seen c.args.rows.now cells c.args.scan.now c.args.self.now held gathers) in
     record {
@@ -113,16 +113,16 @@ loop-versions-preserved g c =
       count = count_on c.loop-versions.self.looked c.look.new.self.looked (length all) (length rest) _ before.count (one_fewer all rest v first) more.0;
       grows = grown c.loop-versions.self.looked c.look.new.self.looked c.args.self.now.looked before.grows more.0;
       gathers = λ held gathers.
-          let next = first_of cells (option_map place_at c.loop-versions.self.last) all rest v first (before.next held gathers) in
+          let next = first_of cells (option_map place_at (last_of c.loop-versions.self)) all rest v first (before.next held gathers) in
           let newest = first_newest cells scan.start all v rest first (before.newest held gathers) in
           let up_to = c.if-not-is_up_to.ensures.0 refl in
           OnTrue_at fits (at_call cells (g.R.Rows.seen.cells c.loop-versions.rows) scan c.loop-versions.self x (λ (m : Cells). OnTrue c.in_ok-look.field-0 (Gathers m scan c.look.new.self)) before.reads.kept
-          (now.looked (before.reads.readable v.row (held v.row (row_from cells scan.start (range_named scan.range) scan.keys_only (items_in c.loop-versions.self) c.loop-versions.self.looked c.loop-versions.self.last x (before.gathers held gathers) next.0 up_to)))
+          (now.looked (before.reads.readable v.row (held v.row (row_from cells scan.start (range_named scan.range) scan.keys_only (items_in c.loop-versions.self) c.loop-versions.self.looked (last_of c.loop-versions.self) x (before.gathers held gathers) next.0 up_to)))
           (are_newest cells (g.R.Rows.seen.cells c.loop-versions.rows) scan.start v before.reads.kept newest.0)) (before.gathers held gathers)
           (record { next = next.0; up_to = up_to }));
-      next = λ held gathers. next_on cells rest v c.look.new.self.last more.1 (first_of cells (option_map place_at c.loop-versions.self.last) all rest v first (before.next held gathers)).1;
+      next = λ held gathers. next_on cells rest v (last_of c.look.new.self) more.1 (first_of cells (option_map place_at (last_of c.loop-versions.self)) all rest v first (before.next held gathers)).1;
       newest = λ held gathers. (first_newest cells scan.start all v rest first (before.newest held gathers)).1;
-      ends = λ held gathers is. ends_on cells (option_map place_at c.loop-versions.self.last) all rest v c.look.new.self.last first more.1 (before.ends held gathers is);
+      ends = λ held gathers is. ends_on cells (option_map place_at (last_of c.loop-versions.self)) all rest v (last_of c.look.new.self) first more.1 (before.ends held gathers is);
       reads = reads_then before.reads now.reads;
       faults = now.reason.told (not_refused _ Device) ∙ before.faults;
     }
@@ -132,9 +132,9 @@ returns-then-not-is_up_to-clause-come g c = λ held gathers.
     let cells = g.R.Rows.seen.cells c.args.rows.now in
     let v = c.in-Some.versions in
     let before = c.loop-versions.invariant in
-    let next = first_of cells (option_map place_at c.loop-versions.self.last) _ (into_iter_items c.next.new.self) v c.in-Some.ensures.steps.0 (before.next held gathers) in (
+    let next = first_of cells (option_map place_at (last_of c.loop-versions.self)) _ (into_iter_items c.next.new.self) v c.in-Some.ensures.steps.0 (before.next held gathers) in (
       before.gathers held gathers,
-      past_end cells (range_named c.args.scan.now.range) c.loop-versions.self.last (cell_in v) next.0 (λ up. not_true (c.if-not-is_up_to.ensures.1 up)),
+      past_end cells (range_named c.args.scan.now.range) (last_of c.loop-versions.self) (cell_in v) next.0 (λ up. not_true (c.if-not-is_up_to.ensures.1 up)),
     )
 
 pub returns-in_err-look-clause-damaged : goal.returns-in_err-look-clause-damaged
@@ -146,12 +146,12 @@ returns-in_err-look-clause-damaged g c = λ held gathers.
     let before = c.loop-versions.invariant in
     let all = into_iter_items c.loop-versions.versions-iterator in
     let rest = into_iter_items c.next.new.self in
-    let next = first_of cells (option_map place_at c.loop-versions.self.last) all rest v c.in-Some.ensures.steps.0 (before.next held gathers) in
+    let next = first_of cells (option_map place_at (last_of c.loop-versions.self)) all rest v c.in-Some.ensures.steps.0 (before.next held gathers) in
     let newest = first_newest cells scan.start all v rest c.in-Some.ensures.steps.0 (before.newest held gathers) in
     let up_to = c.if-not-is_up_to.ensures.0 refl in
     passed_err c.from_residual-in_err-look.result c.in_err-look.field-0.0 (λ (e : Refusal). e ≡ Damaged → IsScanDamaged cells (range_named scan.range) scan.start) c.from_residual-in_err-look.ensures.1
     (at_call cells (g.R.Rows.seen.cells c.loop-versions.rows) scan c.loop-versions.self x (λ (m : Cells). c.in_err-look.field-0.0 ≡ Damaged → IsScanDamaged m (range_named scan.range) scan.start) before.reads.kept
-    (c.in_err-look.ensures.damaged (before.reads.readable v.row (held v.row (row_from cells scan.start (range_named scan.range) scan.keys_only (items_in c.loop-versions.self) c.loop-versions.self.looked c.loop-versions.self.last x (before.gathers held gathers) next.0 up_to)))
+    (c.in_err-look.ensures.damaged (before.reads.readable v.row (held v.row (row_from cells scan.start (range_named scan.range) scan.keys_only (items_in c.loop-versions.self) c.loop-versions.self.looked (last_of c.loop-versions.self) x (before.gathers held gathers) next.0 up_to)))
     (are_newest cells (g.R.Rows.seen.cells c.loop-versions.rows) scan.start v before.reads.kept newest.0)) (before.gathers held gathers) (record { next = next.0; up_to = up_to }))
 
 pub returns-then-is_last-clause-come : goal.returns-then-is_last-clause-come
@@ -160,8 +160,8 @@ returns-then-is_last-clause-come g c = λ held gathers.
     let before = c.loop-versions.invariant in
     let none : length (into_iter_items c.loop-versions.versions-iterator) ≡ 0 = sym c.loop-versions.versions-iterator.rest.ok.0 ∙ c.in-None.ensures.steps.0 in (
       before.gathers held gathers,
-      none_left cells (range_named c.args.scan.now.range) c.loop-versions.self.last
-          (none_ends cells (option_map place_at c.loop-versions.self.last) (into_iter_items c.loop-versions.versions-iterator) none (before.ends held gathers c.if-is_last.true)),
+      none_left cells (range_named c.args.scan.now.range) (last_of c.loop-versions.self)
+          (none_ends cells (option_map place_at (last_of c.loop-versions.self)) (into_iter_items c.loop-versions.versions-iterator) none (before.ends held gathers c.if-is_last.true)),
     )
 
 pub returns-in_err-batch-clause-damaged : goal.returns-in_err-batch-clause-damaged
@@ -179,11 +179,11 @@ returns-then-not-branch-clause-come g c = λ held gathers.
     let now = c.in_ok-look.ensures in
     let all = into_iter_items c.loop-versions.versions-iterator in
     let rest = into_iter_items c.next.new.self in
-    let next = first_of cells (option_map place_at c.loop-versions.self.last) all rest v c.in-Some.ensures.steps.0 (before.next held gathers) in
+    let next = first_of cells (option_map place_at (last_of c.loop-versions.self)) all rest v c.in-Some.ensures.steps.0 (before.next held gathers) in
     let newest = first_newest cells scan.start all v rest c.in-Some.ensures.steps.0 (before.newest held gathers) in
     let up_to = c.if-not-is_up_to.ensures.0 refl in
-    let from = row_from cells scan.start (range_named scan.range) scan.keys_only (items_in c.loop-versions.self) c.loop-versions.self.looked c.loop-versions.self.last x (before.gathers held gathers) next.0 up_to in
-    let full = subst (λ (m : Cells). IsNextIn m scan c.loop-versions.self x → OnFalse c.in_ok-look.field-0 (DoesNotFit m scan.start (range_named scan.range) scan.keys_only (items_in c.loop-versions.self) c.loop-versions.self.last)) before.reads.kept
+    let from = row_from cells scan.start (range_named scan.range) scan.keys_only (items_in c.loop-versions.self) c.loop-versions.self.looked (last_of c.loop-versions.self) x (before.gathers held gathers) next.0 up_to in
+    let full = subst (λ (m : Cells). IsNextIn m scan c.loop-versions.self x → OnFalse c.in_ok-look.field-0 (DoesNotFit m scan.start (range_named scan.range) scan.keys_only (items_in c.loop-versions.self) (last_of c.loop-versions.self))) before.reads.kept
     (now.full (before.reads.readable v.row (held v.row from)) (are_newest cells (g.R.Rows.seen.cells c.loop-versions.rows) scan.start v before.reads.kept newest.0)) in
-    subst (λ (s : Gathered). Gathers cells scan s × DoesNotFit cells scan.start (range_named scan.range) scan.keys_only (items_in s) s.last) (sym (OnFalse_at c.if-not-branch.true now.same).0)
+    subst (λ (s : Gathered). Gathers cells scan s × DoesNotFit cells scan.start (range_named scan.range) scan.keys_only (items_in s) (last_of s)) (sym (OnFalse_at c.if-not-branch.true now.same).0)
     (before.gathers held gathers, OnFalse_at c.if-not-branch.true (full (record { next = next.0; up_to = up_to })))

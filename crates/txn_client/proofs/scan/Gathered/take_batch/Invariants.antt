@@ -6,7 +6,7 @@ use Rattle.cell_key.specs.Places.{AreNextCells, IsNextCell, last_or}
 use Rattle.row_atomic.specs.Calls.{OnlyReads}
 use Rattle.si_model.specs.Scans.{place_at}
 use Rattle.tablet.specs.Batches.{HasNewest, places_in}
-use Rattle.txn_client.specs.Gathering.{Gathers, IsInLimits}
+use Rattle.txn_client.specs.Gathering.{Gathers, IsInLimits, last_of}
 use Rattle.txn_client.specs.Ranges.{range_named}
 use Rattle.txn_client.specs.Scans.{IsScanReadable}
 use Rattle.txn_client.proofs.scan.Gathered.take_batch.Given as goal
@@ -20,11 +20,11 @@ invariant-loop-versions g l = record {
   grows : l.fn.self.looked ≤ l.self.looked;
   gathers : IsScanReadable g.R.Rows.seen l.fn.rows (range_named l.fn.scan.range) → Gathers (g.R.Rows.seen.cells l.fn.rows) l.fn.scan l.fn.self → Gathers (g.R.Rows.seen.cells l.fn.rows) l.fn.scan l.self;
   next : IsScanReadable g.R.Rows.seen l.fn.rows (range_named l.fn.scan.range) → Gathers (g.R.Rows.seen.cells l.fn.rows) l.fn.scan l.fn.self
-      → AreNextCells (g.R.Rows.seen.cells l.fn.rows) (option_map place_at l.self.last) (length (into_iter_items l.versions-iterator)) (places_in (into_iter_items l.versions-iterator));
+      → AreNextCells (g.R.Rows.seen.cells l.fn.rows) (option_map place_at (last_of l.self)) (length (into_iter_items l.versions-iterator)) (places_in (into_iter_items l.versions-iterator));
   newest : IsScanReadable g.R.Rows.seen l.fn.rows (range_named l.fn.scan.range) → Gathers (g.R.Rows.seen.cells l.fn.rows) l.fn.scan l.fn.self
       → AllByRecursion (HasNewest (g.R.Rows.seen.cells l.fn.rows) l.fn.scan.start) (into_iter_items l.versions-iterator);
   ends : IsScanReadable g.R.Rows.seen l.fn.rows (range_named l.fn.scan.range) → Gathers (g.R.Rows.seen.cells l.fn.rows) l.fn.scan l.fn.self → l.is_last ≡ true
-      → IsNextCell (g.R.Rows.seen.cells l.fn.rows) (last_or (option_map place_at l.self.last) (places_in (into_iter_items l.versions-iterator))) None;
+      → IsNextCell (g.R.Rows.seen.cells l.fn.rows) (last_or (option_map place_at (last_of l.self)) (places_in (into_iter_items l.versions-iterator))) None;
   reads : OnlyReads g.R.Rows.seen l.fn.rows l.rows;
   faults : g.R.Rows.faults l.rows ≡ g.R.Rows.faults l.fn.rows;
 }

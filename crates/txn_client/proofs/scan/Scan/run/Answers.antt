@@ -1,7 +1,7 @@
 use Rattle.std.proofs.Common.{inl, inr, refl, ◌∙◌, arith}
 use Rattle.row_atomic.proofs.Calls.{reads_none}
 use Rattle.txn_client.specs.declared.scan.Batch.TheVariants.{End, Full}
-use Rattle.txn_client.proofs.GatheredItems.{come_at, ended_found, stopped_found}
+use Rattle.txn_client.proofs.GatheredItems.{come_at, ended_found, stopped_ok}
 use Rattle.txn_client.proofs.scan.Scan.run.Goals as goal
 
 pub loop-gathered-init : goal.loop-gathered-init
@@ -27,7 +27,7 @@ returns-in-Full-clause-found g c = λ held.
     let before = c.loop-gathered.invariant in
     let now = c.in_ok-take_batch.ensures in
     let come = come_at cells (g.R.Rows.seen.cells c.loop-gathered.rows) c.args.self.now c.loop-gathered.gathered c.take_batch.new.self c.in_ok-take_batch.field-0 Full before.reads.kept c.in-Full.is (now.come (λ row from. before.reads.readable row (held row from))) (before.gathers held) in
-    stopped_found cells c.args.self.now c.take_batch.new.self c.args.cells _ _ now.limits (now.cells ∙ before.cells) come.0 (now.full c.in-Full.is) (inr come.1) c.stopped.ensures.items c.stopped.ensures.reach
+    stopped_ok cells c.args.self.now c.take_batch.new.self c.args.cells c.stopped.result now.limits (now.cells ∙ before.cells) come.0 (now.full c.in-Full.is) (inr come.1) c.stopped.ensures.items c.stopped.ensures.reach
 
 pub returns-clause-found : goal.returns-clause-found
 returns-clause-found g c = λ held.
@@ -35,4 +35,4 @@ returns-clause-found g c = λ held.
     let looked = before.limits.looked in
     let same = before.cells in
     let done = c.loop-gathered-test.false in
-    stopped_found (g.R.Rows.seen.cells c.args.rows.now) c.args.self.now c.loop-gathered.gathered c.args.cells _ _ before.limits same (before.gathers held) (omega (arith, looked, same, done, c.requires.some)) (inl (omega (arith, looked, same, done))) c.stopped-2.ensures.items c.stopped-2.ensures.reach
+    stopped_ok (g.R.Rows.seen.cells c.args.rows.now) c.args.self.now c.loop-gathered.gathered c.args.cells c.stopped-2.result before.limits same (before.gathers held) (omega (arith, looked, same, done, c.requires.some)) (inl (omega (arith, looked, same, done))) c.stopped-2.ensures.items c.stopped-2.ensures.reach
