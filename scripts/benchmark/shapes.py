@@ -43,7 +43,7 @@ Stream = Callable[[int], Iterable[Exchange]]
 Found = tuple[bytes, bytes | None]
 
 
-# How often the shape scan reads its rows.
+# How often the shapes scan, missing and missing1 read their rows.
 PASSES = 10
 
 
@@ -240,12 +240,12 @@ def missing(rows: list[bytes], number: int) -> Found:
     return rows[number] + b"x", None
 
 
-def gets(count: int, start: int, found: Callable[[list[bytes], int], Found]) -> Iterator[Exchange]:
-    """Reads in one session, drawn at random, where as many rows are in files."""
+def gets(count: int, start: int, found: Callable[[list[bytes], int], Found], passes: int = 1) -> Iterator[Exchange]:
+    """Reads in one session, drawn at random, over as many rows in files: one read a row and pass."""
     rows = shuffled_rows(count)
     draws = random.Random(2)
     yield begin(start)
-    for _ in range(count):
+    for _ in range(passes * count):
         yield get(start, *found(rows, draws.randrange(count)))
 
 
@@ -320,8 +320,8 @@ SHAPES = {
     ),
     "missing": Shape(
         48_000,
-        "N Gets of rows that aren't there, between the same N rows",
-        lambda size: gets(size, next_start(size), missing),
+        "10 N Gets of rows that aren't there, between the same N rows",
+        lambda size: gets(size, next_start(size), missing, PASSES),
         loaded=rows_in_files,
         words=LARGE_MEMTABLE,
     ),
@@ -335,7 +335,7 @@ SHAPES = {
     "missing1": Shape(
         48_000,
         "the same as missing, once a Major has made one file of all",
-        lambda size: gets(size, next_start(size), missing),
+        lambda size: gets(size, next_start(size), missing, PASSES),
         loaded=rows_in_one,
         words=LARGE_MEMTABLE,
     ),
