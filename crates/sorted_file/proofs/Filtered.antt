@@ -7,7 +7,7 @@ use Rattle.std.proofs.lemmas.Nat.{one_shl, pow_pos, shr_below}
 use Rattle.std.proofs.lemmas.Nat.Bits.{and_pow, bit_at_set_same, bit_at_set_other}
 use Rattle.std.proofs.lemmas.List.{get_or-set_same, get_or-set_other, length-set}
 use Rattle.std.proofs.lemmas.Option.{slice_get-get_or, slice_get_past}
-use Rattle.sorted_file.specs.Numbers.{HasBit, bit_place, word_place}
+use Rattle.sorted_file.specs.Filters.{HasBit, bit_place, word_place}
 
 -- a number of 64 bits says which of 64 bits is its own
 pub bit_within : (number : ℕ) → number < 2 ^ 64 → bit_place number < 64

@@ -3,6 +3,7 @@ mod Behind
 mod Breaks
 mod ColumnsOf
 mod Counting
+mod Covered
 mod CursorSteps
 mod EntryParts
 mod Framing

@@ -8,7 +8,9 @@ pub mod Check
 pub mod Columns
 pub mod Cursor
 pub mod File
+pub mod Filters
 pub mod Index
+pub mod KeyFilters
 pub mod Limits
 pub mod LookupKey
 pub mod Newest

@@ -1,6 +1,5 @@
--- The numbers of the columns of which there are entries, and the filter of a set of them.
-use Rattle.std.specs.Prelude.{◌≡◌, ◌-◌, ◌/◌, ◌^◌, ℕ, List, length, take, bit_and, slice_get, Contains, IfSome, IsSome}
-use Rattle.std.specs.Int.{bit_at}
+-- The numbers of the columns of which there are entries.
+use Rattle.std.specs.Prelude.{◌≡◌, ◌-◌, ℕ, List, length, take, Contains, IsSome}
 use Rattle.std.specs.Hash.FoldHasher as folding
 use Rattle.cell_key.specs.Keys.{text, IsStored}
 use Rattle.cell_key.specs.Entries.{Entry}
@@ -38,16 +37,3 @@ IsLockKeyNumbered numbers entry =
 -- each of the first numbers is among the second
 abbrev pub IsAmong : List ℕ → List ℕ → Type 0
 IsAmong old new = (number : ℕ) → Contains old number → Contains new number
-
--- which of so many words of a filter has a number's bit
-abbrev pub word_place : ℕ → ℕ → ℕ
-word_place words number = bit_and number (words - 1)
-
--- which of the 64 bits of its word is a number's: its top six bits say so
-abbrev pub bit_place : ℕ → ℕ
-bit_place number = number / 2 ^ 58
-
--- a number's bit is set in the words of a filter, or there is no word for it
-abbrev pub HasBit : List ℕ → ℕ → Type 0
-HasBit words number =
-    IfSome (slice_get words (word_place (length words) number)) (λ word. bit_at word (bit_place number) ≡ 1)

@@ -43,11 +43,11 @@ pub struct SortedFile {
     count: u64,
     bounds: ColumnBounds,
     /// A number of each column that has an entry.
-    numbers: Numbers,
+    pub(crate) numbers: Numbers,
     /// A number of each column of a lock that has a value. Mostly there is none.
-    locks: Numbers,
+    pub(crate) locks: Numbers,
     /// A number of the text of each lock's key, of a value or an erasure.
-    lock_keys: Numbers,
+    pub(crate) lock_keys: Numbers,
     /// The blocks that were looked into last, by their numbers.
     cache: LruCache<usize, Block>,
 }
@@ -326,10 +326,10 @@ impl SortedFile {
         ensures reason { HasReason (F.faults files.old) (F.faults files.new) result }
     {
         let own = key.key();
-        if !self.bounds.meet_column(own, lo) {
+        if !self.may_have_value(own.qualifier, key.number()) {
             return Ok(None);
         }
-        if !self.may_have_value(own.qualifier, key.number()) {
+        if !self.bounds.meet_column(own, lo) {
             return Ok(None);
         }
         let Some(text) = self.first_text(own, lo, key.text(), files)? else {

@@ -1,5 +1,6 @@
 //! Laws of the form of files, of open files, and of sources. Each is the contract of a function that does nothing.
 
+ghost use Rattle.sorted_file.specs.KeyFilters.{StaysCovered};
 ghost use Rattle.sorted_file.specs.Grammar.{OneImage, OneList};
 ghost use Rattle.sorted_file.specs.Source.{RestIsList};
 ghost use Rattle.sorted_file.specs.File.{StaysOpen, OneListing, OpenIsThere, WrittenIsThere, WrittenIsListed};
@@ -17,6 +18,11 @@ pub fn one_list()
 /// An open file stays open, and stands for the same entries, while the bytes under its name stay.
 pub fn stays_open()
     ensures { StaysOpen }
+{}
+
+/// A file that a filter of keys covers is still covered when only its cache has changed.
+pub fn stays_covered()
+    ensures { StaysCovered }
 {}
 
 /// Two open files of one name stand for the same entries.

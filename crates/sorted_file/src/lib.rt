@@ -8,8 +8,10 @@ mod cache;
 mod check;
 mod cursor;
 mod file;
+mod filter;
 mod format;
 mod gathering;
+mod key_filter;
 mod laws;
 mod lookup_key;
 mod numbers;
@@ -19,9 +21,10 @@ mod writer;
 pub use cache::few_blocks;
 pub use cursor::FileCursor;
 pub use file::SortedFile;
+pub use key_filter::KeyFilter;
 pub use laws::{
-    one_image, one_list, one_listing, open_is_there, rest_is_list, stays_open, written_is_listed,
-    written_is_there,
+    one_image, one_list, one_listing, open_is_there, rest_is_list, stays_covered, stays_open,
+    written_is_listed, written_is_there,
 };
 pub use lookup_key::LookupKey;
 pub use source::{Source, refusal_of};

@@ -1,0 +1,20 @@
+-- What a filter of the keys of several files covers.
+use Rattle.std.specs.Prelude.{All, Option}
+use Rattle.file_store.specs.Store.{Contents}
+use Rattle.sorted_file.specs.File.{IsSameFile}
+use Rattle.sorted_file.specs.Filters.{HasBit}
+use Rattle.sorted_file.specs.declared.file.SortedFile.{SortedFile}
+use Rattle.sorted_file.specs.declared.key_filter.KeyFilter.{KeyFilter}
+
+-- A filter of keys covers a file: it has the numbers that the file keeps of its columns, of those of locks with a
+-- value, and of locks' keys.
+pub record Covers (filter : KeyFilter) (file : SortedFile) : Type 0 where
+  pub numbers : All (HasBit filter.numbers.words.items) file.numbers
+  pub locks : All (HasBit filter.locks.words.items) file.locks
+  pub lock_keys : All (HasBit filter.lock_keys.words.items) file.lock_keys
+
+-- a file that is what it was but for its cache is still covered
+abbrev pub StaysCovered : Type 0
+StaysCovered =
+    (disk : Option Contents) (filter : KeyFilter) (old new : SortedFile) → IsSameFile disk old new
+    → Covers filter old → Covers filter new

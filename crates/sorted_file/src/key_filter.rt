@@ -1,0 +1,154 @@
+//! A filter of the keys of several files, by which a read passes by all of them at once.
+
+ghost use Rattle.std.specs.Prelude.{◌≡◌, ◌≤◌, ◌<◌, ◌^◌, ℕ, None, false, All, IfErr, IfOk, OnErr, OnOk};
+ghost use Rattle.cell_key.specs.Entries.{entry_of_key};
+ghost use Rattle.cell_key.specs.Keys.{text};
+ghost use Rattle.file_store.specs.Store.{Contents};
+ghost use Rattle.sorted_file.specs.File.{IsOpen, listed};
+ghost use Rattle.sorted_file.specs.KeyFilters.{Covers};
+ghost use Rattle.sorted_file.specs.Newest.{IsNewestStamp};
+ghost use Rattle.sorted_file.specs.declared.file.SortedFile.{SortedFile as FileOf};
+
+use crate::file::SortedFile;
+use crate::filter::Filter;
+use crate::lookup_key::LookupKey;
+use crate::numbers::text_number;
+use cell_key::{Qualifier, Refusal};
+use std::alloc::Global;
+
+/// For how many numbers of each kind a filter has room.
+#[derive(Clone, Copy)]
+struct Room {
+    numbers: usize,
+    locks: usize,
+    lock_keys: usize,
+}
+
+impl Room {
+    /// Room for those of a file, twice.
+    fn with_file(self, file: &SortedFile) -> Room {
+        Room {
+            numbers: self
+                .numbers
+                .saturating_add(file.numbers.len().saturating_mul(2)),
+            locks: self
+                .locks
+                .saturating_add(file.locks.len().saturating_mul(2)),
+            lock_keys: self
+                .lock_keys
+                .saturating_add(file.lock_keys.len().saturating_mul(2)),
+        }
+    }
+
+    /// Room for those of some files, twice, so that a filter isn't made anew at each file, and for `more` entries.
+    fn for_files(files: &[SortedFile], more: usize) -> Room {
+        let mut room = Room {
+            numbers: more,
+            locks: more,
+            lock_keys: more,
+        };
+        for file in files {
+            room = room.with_file(file);
+        }
+        room
+    }
+}
+
+/// What several files have of keys: a file that a filter covers has no entry of a key if the filter says that none may
+/// have one.
+#[derive(Drop)]
+pub struct KeyFilter {
+    alloc: Global,
+    /// Of the numbers of columns that have an entry.
+    numbers: Filter,
+    /// Of those of a lock's columns that have a value.
+    locks: Filter,
+    /// Of the numbers of the texts of locks' keys.
+    lock_keys: Filter,
+}
+
+impl KeyFilter {
+    /// A filter that covers every file, and says of each key that there may be an entry. Takes no memory.
+    pub fn all(alloc: Global) -> KeyFilter
+        ensures { (file : FileOf) → Covers result file }
+    {
+        KeyFilter {
+            alloc,
+            numbers: Filter::all(alloc),
+            locks: Filter::all(alloc),
+            lock_keys: Filter::all(alloc),
+        }
+    }
+
+    /// A filter that covers these files, with room for twice their keys and `more`. Answers `NoMemory` if there is no
+    /// memory.
+    pub fn new(alloc: Global, files: &[SortedFile], more: usize) -> Result<KeyFilter, Refusal>
+        ensures covers { IfOk result (λ filter. All (Covers filter) files.now) }
+        ensures refusal { IfErr result (λ refusal. refusal ≡ Refusal.NoMemory) }
+    {
+        let room = Room::for_files(files, more);
+        let mut filter = KeyFilter {
+            alloc,
+            numbers: Filter::with_room(alloc, room.numbers)?,
+            locks: Filter::with_room(alloc, room.locks)?,
+            lock_keys: Filter::with_room(alloc, room.lock_keys)?,
+        };
+        for file in files {
+            filter.add(file);
+        }
+        Ok(filter)
+    }
+
+    /// Whether there is room for `more` entries.
+    fn has_room(&self, more: usize) -> bool {
+        self.numbers.has_room(more) && self.locks.has_room(more) && self.lock_keys.has_room(more)
+    }
+
+    /// Makes room for a file of `more` entries, if there isn't: the filter is then made anew of these files. It covers
+    /// them as before, also after an `Err`, which is `NoMemory`.
+    pub fn reserve(&mut self, files: &[SortedFile], more: usize) -> Result<(), Refusal>
+        requires { All (Covers self.old) files.now }
+        ensures covers { All (Covers self.new) files.now }
+        ensures refusal { IfErr result (λ refusal. refusal ≡ Refusal.NoMemory) }
+    {
+        if !self.has_room(more) {
+            *self = KeyFilter::new(self.alloc, files, more)?;
+        }
+        Ok(())
+    }
+
+    /// Adds the keys of a file. Takes no memory: what there is no room for makes the filter say more often that there may
+    /// be an entry.
+    pub fn add(&mut self, file: &SortedFile)
+        ensures covers { Covers self.new file.now }
+        ensures keeps { (other : FileOf) → Covers self.old other → Covers self.new other }
+    {
+        file.numbers.add_to(&mut self.numbers);
+        file.locks.add_to(&mut self.locks);
+        file.lock_keys.add_to(&mut self.lock_keys);
+    }
+
+    /// Whether a file that the filter covers may have a value of a key's column. Takes no memory.
+    pub fn may_have_value(&self, key: &LookupKey<'_>) -> bool
+        ensures { result ≡ false → (file : FileOf) → Covers self.now file → (m : Contents)
+            → IsOpen m file → (lo : ℕ) → IsNewestStamp (listed m file) key.now lo None }
+    {
+        match key.key().qualifier {
+            Qualifier::Lock => self.locks.has(key.number()),
+            Qualifier::Data | Qualifier::Write => self.numbers.has(key.number()),
+        }
+    }
+
+    /// Whether a file that the filter covers may have an entry of a key, a value or an erasure. Takes no memory.
+    pub fn may_have_key(&self, key: &LookupKey<'_>) -> bool
+        requires from { 1 ≤ key.now.stamp }
+        requires to { key.now.stamp < 2 ^ 63 }
+        ensures none { result ≡ false → (file : FileOf) → Covers self.now file → (m : Contents)
+            → IsOpen m file → entry_of_key (listed m file) (text key.now) ≡ None }
+    {
+        match key.key().qualifier {
+            Qualifier::Lock => self.lock_keys.has(text_number(key.text())),
+            Qualifier::Data | Qualifier::Write => self.numbers.has(key.number()),
+        }
+    }
+}
