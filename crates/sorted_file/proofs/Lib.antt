@@ -14,6 +14,7 @@ mod Halves
 mod Joining
 mod Keeping
 mod Locked
+mod LockTimes
 mod LookUps
 mod NextBlocks
 mod Numbered

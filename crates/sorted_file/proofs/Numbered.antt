@@ -1,5 +1,5 @@
 -- A column whose number isn't among those of entries has none of them.
-use Rattle.std.proofs.Common.{◌≡◌, ℕ, Bool, true, false, cond, List, [], ◌∷◌, Contains, Some, None, refl, sym, ap, subst, ◌∙◌}
+use Rattle.std.proofs.Common.{◌≡◌, ℕ, T, IsTrue, Bool, true, false, cond, List, [], ◌∷◌, Contains, Some, None, refl, sym, ap, subst, ◌∙◌}
 use Rattle.std.specs.List.{AllByRecursion}
 use Rattle.std.specs.Ordering.{eq_by_cmp}
 use Rattle.std.specs.FinMap.Entries.{find}
@@ -31,3 +31,7 @@ no_entry numbers key out es all s = none_here numbers (text (at_stamp key s)) (�
 pub numbered_on : (old new : List ℕ) → IsAmong old new → (es : List Entry) → AllByRecursion (IsNumbered old) es → AllByRecursion (IsNumbered new) es
 numbered_on old new keeps [] all = tt
 numbered_on old new keeps (e ∷ es) all = (keeps (number_of e.0) all.0, numbered_on old new keeps es all.1)
+
+-- a number that isn't said to be there isn't
+pub absent : (numbers : List ℕ) (number other : ℕ) (has : Bool) → (Contains numbers number → IsTrue has) → has ≡ false → number ≡ other → ¬ (Contains numbers other)
+absent numbers number other has says not same = λ there. subst T (sym (says (subst (Contains numbers) (sym same) there)) ∙ not) tt

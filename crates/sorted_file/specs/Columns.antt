@@ -4,14 +4,15 @@ use Rattle.std.specs.List.{AllByRecursion}
 use Rattle.cell_key.specs.Entries.{Entry}
 use Rattle.sorted_file.specs.Block.{IsSpelling}
 use Rattle.sorted_file.specs.Bounds.{IsBounded}
-use Rattle.sorted_file.specs.Numbers.{IsLockKeyNumbered, IsLockNumbered, IsNumbered}
+use Rattle.sorted_file.specs.Numbers.{IsLockKeyNumbered, IsLockStamped, IsNumbered}
 use Rattle.sorted_file.specs.declared.gathering.Columns.{Columns}
 
--- the values of entries are within the bounds, and the numbers of columns and of locks' keys are there
+-- the values of entries are within the bounds, and the numbers of columns, the stamps of locks and the numbers of
+-- locks' keys are there
 pub record AreColumnsOf (columns : Columns) (es : List Entry) : Type 0 where
   pub bounded : AllByRecursion (IsBounded columns.bounds) es
   pub numbered : AllByRecursion (IsNumbered columns.numbers.items) es
-  pub locked : AllByRecursion (IsLockNumbered columns.locks.items) es
+  pub locked : AllByRecursion (IsLockStamped columns.locks.items) es
   pub keyed : AllByRecursion (IsLockKeyNumbered columns.lock_keys.items) es
 
 -- the bytes are those of an entry list, whose entries begin at these offsets and have these columns

@@ -15,7 +15,7 @@ use Rattle.sorted_file.specs.Index.{block_of, blocks_of, entries_in, first_of, r
 use Rattle.sorted_file.specs.Block.{IsParsed, BeginsWith}
 use Rattle.sorted_file.specs.Grammar.{block_bytes, IsFile}
 use Rattle.sorted_file.specs.Bounds.{IsBounded, IsWithin, column_bounds}
-use Rattle.sorted_file.specs.Numbers.{IsLockKeyNumbered, IsLockNumbered, IsNumbered, number_of}
+use Rattle.sorted_file.specs.Numbers.{IsLockKeyNumbered, IsLockStamped, IsNumbered, lock_stamp, number_of}
 use Rattle.sorted_file.specs.declared.block.BlockRow.{BlockRow}
 use Rattle.sorted_file.specs.declared.block.Block.{Block}
 use Rattle.sorted_file.specs.declared.format.Format.{Format}
@@ -56,7 +56,7 @@ pub record IsOpen (m : Contents) (file : SortedFile) : Type 0 where
   pub bounds : AllByRecursion (IsBounded file.bounds) (listed m file)
   pub bounded : AllByRecursion IsBoundedRow file.rows.items
   pub numbered : AllByRecursion (IsNumbered file.numbers) (listed m file)
-  pub locked : AllByRecursion (IsLockNumbered file.locks) (listed m file)
+  pub locked : AllByRecursion (IsLockStamped file.locks) (listed m file)
   pub keyed : AllByRecursion (IsLockKeyNumbered file.lock_keys) (listed m file)
   pub heads : texts_of file.heads.items ≡ map row_head file.rows.items
   pub skips : file.skips.items ≡ skips file.heads.items
@@ -122,16 +122,16 @@ HasBlockNow disk file number =
     → IsUncached number file.cache.entries → Tells disk (name_of file) image
     → (es : List Entry) × IsReadFrom image row es
 
--- the numbers of the columns of this kind that may have a value in an open file
-abbrev pub value_numbers : SortedFile → Qualifier → List ℕ
-value_numbers file Data = file.numbers
-value_numbers file Lock = file.locks
-value_numbers file Write = file.numbers
+-- by what an open file keeps, the column of this kind with this number may have a value at a stamp
+abbrev pub MayHaveIn : SortedFile → Qualifier → ℕ → ℕ → Type 0
+MayHaveIn file Data number stamp = Contains file.numbers number
+MayHaveIn file Lock number stamp = Contains file.locks (lock_stamp number stamp)
+MayHaveIn file Write number stamp = Contains file.numbers number
 
 -- By what an open file knows without a read, the block of a row may have a value of the key's column
 -- at this stamp.
 pub record MayHaveAt (file : SortedFile) (row : BlockRow) (key : CellKey) (stamp : ℕ) : Type 0 where
-  pub in_column : Contains (value_numbers file key.qualifier) (number_of (text key))
+  pub in_column : MayHaveIn file key.qualifier (number_of (text key)) stamp
   pub in_file : IsWithin (column_bounds file.bounds key.qualifier) key.row stamp
   pub in_block : IsWithin (column_bounds row.bounds key.qualifier) key.row stamp
 

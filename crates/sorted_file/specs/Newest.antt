@@ -14,6 +14,16 @@ at_stamp key stamp = version key.row key.family key.qualifier stamp
 abbrev pub HasNoneAt : List Entry → CellKey → Type 0
 HasNoneAt es key = IsStored key → value_of (entry_of_key es (text key)) ≡ None
 
+-- a stamp that comes after one that was found, or from the least one on if none was
+abbrev pub IsAfterStamp : ℕ → ℕ → Option ℕ → Type 0
+IsAfterStamp s lo None = lo ≤ s
+IsAfterStamp s lo (Some found) = found < s
+
+-- at no stamp after the one found, up to that of the key, have entries a value of the key's column
+abbrev pub HasNoneAfter : List Entry → CellKey → ℕ → Option ℕ → Type 0
+HasNoneAfter es key lo found =
+    (s : ℕ) → IsAfterStamp s lo found → s ≤ key.stamp → HasNoneAt es (at_stamp key s)
+
 -- found is the greatest stamp, from lo up to that of the key, at which entries have a value of the
 -- key's column
 abbrev pub IsNewestStamp : List Entry → CellKey → ℕ → Option ℕ → Type 0

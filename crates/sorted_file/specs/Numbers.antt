@@ -5,6 +5,7 @@ use Rattle.cell_key.specs.Keys.{text, IsStored}
 use Rattle.cell_key.specs.Entries.{Entry}
 use Rattle.cell_key.specs.declared.keys.CellKey.{CellKey}
 use Rattle.cell_key.specs.declared.keys.Qualifier.TheVariants.{Lock}
+use Rattle.sorted_file.specs.declared.lock_stamps.LockStamp.{LockStamp}
 
 -- a key's text without its stamp, which is the text of the key's column
 abbrev pub column_of : List ℕ → List ℕ
@@ -22,18 +23,22 @@ number_of name = text_number (column_of name)
 abbrev pub IsNumbered : List ℕ → Entry → Type 0
 IsNumbered numbers entry = Contains numbers (number_of entry.0)
 
--- so it is if the entry is the value of a lock
-abbrev pub IsLockNumbered : List ℕ → Entry → Type 0
-IsLockNumbered numbers entry =
-    (key : CellKey) → IsStored key → entry.0 ≡ text key → key.qualifier ≡ Lock → IsSome entry.1
-    → Contains numbers (number_of entry.0)
+-- a stamp of a lock's column with this number
+abbrev pub lock_stamp : ℕ → ℕ → LockStamp
+lock_stamp column stamp = record { column = column; stamp = stamp }
 
--- so is the number of its text, if the entry is a lock's, a value or an erasure
+-- if the entry is the value of a lock, its stamp is among these, by its column's number
+abbrev pub IsLockStamped : List LockStamp → Entry → Type 0
+IsLockStamped locks entry =
+    (key : CellKey) → IsStored key → entry.0 ≡ text key → key.qualifier ≡ Lock → IsSome entry.1
+    → Contains locks (lock_stamp (number_of entry.0) key.stamp)
+
+-- if the entry is a lock's, a value or an erasure, the number of its text is among these
 abbrev pub IsLockKeyNumbered : List ℕ → Entry → Type 0
 IsLockKeyNumbered numbers entry =
     (key : CellKey) → IsStored key → entry.0 ≡ text key → key.qualifier ≡ Lock
     → Contains numbers (text_number entry.0)
 
--- each of the first numbers is among the second
-abbrev pub IsAmong : List ℕ → List ℕ → Type 0
-IsAmong old new = (number : ℕ) → Contains old number → Contains new number
+-- each of the first is among the second
+abbrev pub IsAmong : {X : Type 0} → List X → List X → Type 0
+IsAmong {X} old new = (x : X) → Contains old x → Contains new x

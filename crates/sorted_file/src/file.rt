@@ -7,6 +7,7 @@ ghost use Rattle.cell_key.specs.Faults.{HasReason};
 ghost use Rattle.cell_key.specs.Keys.{text};
 ghost use Rattle.file_store.specs.Store.{Contents};
 ghost use Rattle.lru.specs.LruCache.{lru_cache};
+ghost use Rattle.cell_key.specs.declared.keys.Qualifier.TheVariants.{Lock};
 ghost use Rattle.sorted_file.specs.Index.{block_of, blocks_of, entries_in, Tells};
 ghost use Rattle.sorted_file.specs.File.{IsUncached, IsShortValue, value_bytes};
 ghost use Rattle.sorted_file.specs.Block.{IsParsed, first_value};
@@ -19,6 +20,7 @@ use crate::cache::{few_blocks, keep, no_blocks, promote, resize};
 use crate::check::{Opening, read_file};
 use crate::cursor::FileCursor;
 use crate::gathering::Columns;
+use crate::lock_stamps::LockStamps;
 use crate::lookup_key::LookupKey;
 use crate::numbers::{Numbers, text_number};
 use crate::source::read_part;
@@ -44,8 +46,8 @@ pub struct SortedFile {
     bounds: ColumnBounds,
     /// A number of each column that has an entry.
     pub(crate) numbers: Numbers,
-    /// A number of each column of a lock that has a value. Mostly there is none.
-    pub(crate) locks: Numbers,
+    /// The stamps of the locks that have a value. Mostly there is none.
+    pub(crate) locks: LockStamps,
     /// A number of the text of each lock's key, of a value or an erasure.
     pub(crate) lock_keys: Numbers,
     /// The blocks that were looked into last, by their numbers.
@@ -54,9 +56,11 @@ pub struct SortedFile {
 
 impl SortedFile {
     ghost use Rattle.sorted_file.specs.Cursor.{cursor_lent, cursor_remaining, CursorHolds};
-    ghost use Rattle.sorted_file.specs.Newest.{IsFirstIn, IsNewestStamp};
+    ghost use Rattle.sorted_file.specs.LockStamps.{IsLatest};
+    ghost use Rattle.sorted_file.specs.Newest.{HasNoneAfter, IsFirstIn, IsNewestStamp};
+    ghost use Rattle.sorted_file.specs.Numbers.{number_of};
     ghost use Rattle.sorted_file.specs.Bounds.{column_bounds, HasNoValue, IsWithin};
-    ghost use Rattle.sorted_file.specs.File.{HasBlockNow, HasFile, IsCursorOf, IsFoundNow, IsOpen, IsReadFrom, IsReadNow, IsSameFile, IsSearchedNow, KeepsWhatItRead, listed, name_of, value_numbers};
+    ghost use Rattle.sorted_file.specs.File.{HasBlockNow, HasFile, IsCursorOf, IsFoundNow, IsOpen, IsReadFrom, IsReadNow, IsSameFile, IsSearchedNow, KeepsWhatItRead, listed, name_of, MayHaveIn};
 
     /// Opens a file that caches 8 blocks at most. Answers `Damaged` if it isn't there or is the file of no entry list,
     /// `Device` if a device fails, and `NoMemory` if there is no memory.
@@ -106,7 +110,7 @@ impl SortedFile {
         let skips = skips_of(alloc, &heads)?;
         let cache = no_blocks(alloc, most_blocks)?;
         let numbers = Numbers::new(alloc, numbers)?;
-        let locks = Numbers::new(alloc, locks)?;
+        let locks = LockStamps::new(locks);
         let lock_keys = Numbers::new(alloc, lock_keys)?;
         Ok(SortedFile {
             alloc,
@@ -146,16 +150,32 @@ impl SortedFile {
         self.bounds.meet(qualifier, lo, hi)
     }
 
-    /// Whether the column of this kind with this number may have a value: of a lock's, whether it may have one
-    /// anywhere, and of any other, whether it may have an entry.
-    fn may_have_value(&self, qualifier: Qualifier, number: u64) -> bool
-        ensures { result ≡ false → (m : Contents) → IsOpen m self.now
-            → ¬ Contains (value_numbers self.now qualifier) number }
+    /// Whether the key's column may have a value at a stamp from `lo` up to the key's: of a lock's, whether there is one
+    /// of its number, and of any other, whether the column may have an entry.
+    fn may_have_value(&self, key: &LookupKey<'_>, lo: Stamp) -> bool
+        ensures { result ≡ false → (s : ℕ) → lo ≤ s → s ≤ key.now.stamp
+            → ¬ MayHaveIn self.now key.now.qualifier (number_of (text key.now)) s }
     {
-        match qualifier {
-            Qualifier::Lock => self.locks.has(number),
-            Qualifier::Data | Qualifier::Write => self.numbers.has(number),
+        match key.key().qualifier {
+            Qualifier::Lock => self
+                .locks
+                .latest(key.number(), lo, key.key().stamp)
+                .is_some(),
+            Qualifier::Data | Qualifier::Write => self.numbers.has(key.number()),
         }
+    }
+
+    /// The greatest stamp, from `lo` up to that of the key, at which the file may have a value of the key's column, which
+    /// is a lock's: one at which it has a lock of a column with the same number. Later it has none. Takes no memory and
+    /// reads nothing.
+    pub fn latest_lock(&self, key: &LookupKey<'_>, lo: Stamp) -> Option<Stamp>
+        requires { key.now.qualifier ≡ Lock }
+        ensures latest { IsLatest
+            self.now.locks (number_of (text key.now)) lo key.now.stamp result }
+        ensures none { (m : Contents) → IsOpen m self.now
+            → HasNoneAfter (listed m self.now) key.now lo result }
+    {
+        self.locks.latest(key.number(), lo, key.key().stamp)
     }
 
     /// Whether the file may have an entry of a key, a value or an erasure: of a lock's, whether it may have one of this
@@ -300,8 +320,8 @@ impl SortedFile {
 
     /// The greatest stamp, from `lo` up to that of the key, at which the file has a value of the key's
     /// column. It reads one block at most, and none that can't have such a value, nor any if the column is a lock's and no
-    /// value of it stands in the file; if `may_have` says that there is none it takes no memory. The file stays what it
-    /// was, also after an `Err`.
+    /// value of it stands in the file; if `may_have` says that there is none it takes no memory. Of a lock `latest_lock`
+    /// says as much as is mostly wanted, and reads nothing. The file stays what it was, also after an `Err`.
     ///
     /// # Errors
     ///
@@ -326,7 +346,7 @@ impl SortedFile {
         ensures reason { HasReason (F.faults files.old) (F.faults files.new) result }
     {
         let own = key.key();
-        if !self.may_have_value(own.qualifier, key.number()) {
+        if !self.may_have_value(key, lo) {
             return Ok(None);
         }
         if !self.bounds.meet_column(own, lo) {

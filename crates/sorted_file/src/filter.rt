@@ -95,8 +95,18 @@ impl Filter {
         self.count.saturating_add(more) <= self.words.len().saturating_mul(NUMBERS_A_WORD)
     }
 
+    /// Adds a number.
+    pub(crate) fn add(&mut self, number: u64)
+        ensures has { HasBit self.new.words.items number }
+        ensures keeps { (other : ℕ) → HasBit self.old.words.items other
+            → HasBit self.new.words.items other }
+    {
+        set_bit(&mut self.words, number);
+        self.count = self.count.saturating_add(1);
+    }
+
     /// Adds numbers.
-    pub(crate) fn add(&mut self, numbers: &[u64])
+    pub(crate) fn add_all(&mut self, numbers: &[u64])
         ensures each { All (HasBit self.new.words.items) numbers.now }
         ensures keeps { (other : ℕ) → HasBit self.old.words.items other
             → HasBit self.new.words.items other }

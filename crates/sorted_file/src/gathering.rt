@@ -1,7 +1,7 @@
 //! What an opening gathers of the entries of blocks as it checks them.
 
 ghost use Rattle.std.specs.Prelude.{◌≡◌, ◌≢◌, ◌<◌, ◌^◌, ◌++◌, ◌∷◌, [], ℕ, List, Option, length, IfOk, IfErr, IfSome, IfNone, OnOk};
-ghost use Rattle.sorted_file.specs.Numbers.{number_of, IsAmong, IsLockKeyNumbered, IsLockNumbered};
+ghost use Rattle.sorted_file.specs.Numbers.{number_of, IsAmong, IsLockKeyNumbered, IsLockStamped};
 ghost use Rattle.cell_key.specs.Entries.{Entry, IsEntryList, lent_entry};
 ghost use Rattle.cell_key.specs.LentKeys.{IsLentKey};
 ghost use Rattle.sorted_file.specs.Block.{IsBlock, IsParsed, entries_of};
@@ -10,6 +10,7 @@ ghost use Rattle.sorted_file.specs.Grammar.{block_bytes};
 
 use crate::block::{Block, next_entry, room_for_starts};
 use crate::bounds::ColumnBounds;
+use crate::lock_stamps::LockStamp;
 use crate::numbers::{column_number, push_number, text_number};
 use cell_key::{EntryRef, KeyRef, Qualifier, Refusal};
 use std::alloc::Global;
@@ -21,8 +22,8 @@ pub(crate) struct Columns {
     pub(crate) bounds: ColumnBounds,
     /// A number of each column that has an entry.
     pub(crate) numbers: Vec<u64>,
-    /// A number of each column of a lock that has a value.
-    pub(crate) locks: Vec<u64>,
+    /// The stamp of each lock that has a value.
+    pub(crate) locks: Vec<LockStamp>,
     /// A number of the text of each lock's key.
     pub(crate) lock_keys: Vec<u64>,
 }
@@ -75,19 +76,22 @@ impl Columns {
     }
 }
 
-/// Adds the number of a key's column, if it is a lock's. Answers `NoMemory` if there is no memory.
-fn push_lock(locks: &mut Vec<u64>, key: KeyRef<'_>, number: u64) -> Result<(), Refusal>
+/// Adds the stamp of a key, if it is a lock's. Answers `NoMemory` if there is no memory.
+fn push_lock(locks: &mut Vec<LockStamp>, key: KeyRef<'_>, number: u64) -> Result<(), Refusal>
     requires key { IsLentKey key }
     requires number { number ≡ number_of key.text.now }
     ensures has { OnOk result ((value : Option (List ℕ))
-        → IsLockNumbered locks.new.items (key.entry.text.now, value)) }
+        → IsLockStamped locks.new.items (key.entry.text.now, value)) }
     ensures keeps { OnOk result (IsAmong locks.old.items locks.new.items) }
     ensures refusal { IfErr result (λ refusal. refusal ≡ Refusal.NoMemory) }
 {
     if key.qualifier != Qualifier::Lock {
         return Ok(());
     }
-    push_number(locks, number)?;
+    locks.push(LockStamp {
+        column: number,
+        stamp: key.stamp,
+    })?;
     Ok(())
 }
 

@@ -13,6 +13,7 @@ mod format;
 mod gathering;
 mod key_filter;
 mod laws;
+mod lock_stamps;
 mod lookup_key;
 mod numbers;
 mod source;

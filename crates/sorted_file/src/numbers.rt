@@ -86,7 +86,7 @@ impl Numbers {
         let mut sorted = numbers;
         sorted.sort_unstable();
         let mut filter = Filter::with_room(alloc, sorted.len())?;
-        filter.add(&sorted);
+        filter.add_all(&sorted);
         Ok(Numbers { sorted, filter })
     }
 
@@ -104,12 +104,12 @@ impl Numbers {
         self.sorted.len()
     }
 
-    /// Sets the bit of each in a filter.
+    /// Adds each to a filter.
     pub(crate) fn add_to(&self, filter: &mut Filter)
         ensures each { All (HasBit filter.new.words.items) self.now }
         ensures keeps { (other : ℕ) → HasBit filter.old.words.items other
             → HasBit filter.new.words.items other }
     {
-        filter.add(&self.sorted);
+        filter.add_all(&self.sorted);
     }
 }

@@ -1,15 +1,10 @@
-use Rattle.std.proofs.Common.{◌≡◌, ◌∙◌, ℕ, T, List, Contains, Bool, false, ap, subst, sym}
-use Rattle.std.specs.Bool.{IsTrue}
+use Rattle.std.proofs.Common.{◌∙◌, ap, sym}
 use Rattle.cell_key.specs.Keys.{IsStored}
 use Rattle.cell_key.specs.declared.keys.CellKey.{CellKey}
 use Rattle.sorted_file.specs.Numbers.{text_number}
 use Rattle.sorted_file.proofs.Locked.{no_lock_entry}
-use Rattle.sorted_file.proofs.Numbered.{no_entry}
+use Rattle.sorted_file.proofs.Numbered.{absent, no_entry}
 use Rattle.sorted_file.proofs.file.SortedFile.may_have_key.Goals as goal
-
--- a number that isn't said to be there isn't
-absent : (numbers : List ℕ) (number other : ℕ) (has : Bool) → (Contains numbers number → IsTrue has) → has ≡ false → number ≡ other → ¬ (Contains numbers other)
-absent numbers number other has says not same = λ there. subst T (sym (says (subst (Contains numbers) (sym same) there)) ∙ not) tt
 
 pub returns-in-Lock : goal.returns-in-Lock
 returns-in-Lock c = record {

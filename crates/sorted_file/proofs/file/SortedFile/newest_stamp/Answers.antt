@@ -1,4 +1,4 @@
-use Rattle.std.proofs.Common.{◌≡◌, ◌≤◌, ◌<◌, Contains, inl, inr, ℕ, Option, Some, None, sym, ap, subst, ◌∙◌}
+use Rattle.std.proofs.Common.{◌≡◌, ◌≤◌, ◌<◌, inl, inr, ℕ, Option, Some, None, sym, ap, subst, ◌∙◌}
 use Rattle.std.specs.Global.{Vec}
 use Rattle.std.specs.Prelude.{IfSome, option_map}
 use Rattle.std.specs.declared.vec.Vec.{Vec as VecOf}
@@ -9,9 +9,8 @@ use Rattle.file_store.specs.Store.{Contents}
 use Rattle.cell_key.specs.Keys.{text}
 use Rattle.cell_key.specs.Entries.{entries_from}
 use Rattle.sorted_file.specs.Newest.{at_stamp, IsFirstIn}
-use Rattle.sorted_file.specs.Numbers.{number_of}
 use Rattle.sorted_file.specs.Block.{first_value}
-use Rattle.sorted_file.specs.File.{IsOpen, IsSearchedNow, listed, value_numbers}
+use Rattle.sorted_file.specs.File.{IsOpen, IsSearchedNow, listed}
 use Rattle.sorted_file.proofs.OpenBlocks.{none_of, some_of}
 use Rattle.sorted_file.proofs.Results.{as_some, if_some}
 use Rattle.sorted_file.proofs.Bounded.{no_value}
@@ -23,11 +22,6 @@ use Rattle.sorted_file.proofs.file.SortedFile.newest_stamp.Goals as goal
 -- a file has no value of a key's column from lo up to its stamp, by the file's bounds
 abbrev HasNone : SortedFile → ℕ → CellKey → Type 0
 HasNone file lo key = (s : ℕ) → lo ≤ s → s ≤ key.stamp → ¬ (IsWithin (column_bounds file.bounds key.qualifier) key.row s)
-
-outside : (file : SortedFile) (own key : CellKey) (number : ℕ) → own ≡ key → number ≡ number_of (text key)
-    → ¬ (Contains (value_numbers file own.qualifier) number) → ¬ (Contains (value_numbers file key.qualifier) (number_of (text key)))
-outside file own key number same is out =
-    subst (λ (n : ℕ). ¬ (Contains (value_numbers file key.qualifier) n)) is (subst (λ (k : CellKey). ¬ (Contains (value_numbers file k.qualifier) number)) same out)
 
 first_of : {Z : Type 0} (disk : Option Contents) (file : SortedFile) (lo : ℕ) (found : Option (VecOf ℕ Z)) (own key : CellKey) → own ≡ key
     → IfSome disk (λ m. IsOpen m file → IsFirstIn (listed m file) own lo (option_map (λ bytes. bytes.items) found))
@@ -44,8 +38,7 @@ returns-then-not-meet_column-clause-found g c =
 pub returns-then-not-may_have_value-clause-found : goal.returns-then-not-may_have_value-clause-found
 returns-then-not-may_have_value-clause-found g c =
     as_some (g.F.Files.contents c.args.files.now) _ (λ m o s low high stored.
-    let out = outside c.args.self.now c.key-own.result.now c.args.key.now c.number.result c.key-own.ensures.key c.number.ensures (c.may_have_value.ensures c.if-not-may_have_value.true m o) in
-    no_value_numbered c.args.self.now _ o.numbered o.locked c.args.key.now s stored out)
+    no_value_numbered c.args.self.now _ o.numbered o.locked c.args.key.now s stored (c.may_have_value.ensures c.if-not-may_have_value.true s low high))
 
 pub returns-in_default-clause-found : goal.returns-in_default-clause-found
 returns-in_default-clause-found g c =
@@ -101,7 +94,7 @@ returns-then-not-meet_column-clause-now g c = λ m o number row stamp placed at 
 
 pub returns-then-not-may_have_value-clause-now : goal.returns-then-not-may_have_value-clause-now
 returns-then-not-may_have_value-clause-now g c = λ m o number row stamp placed at low high may.
-    absurd (outside c.args.self.now c.key-own.result.now c.args.key.now c.number.result c.key-own.ensures.key c.number.ensures (c.may_have_value.ensures c.if-not-may_have_value.true m o) may.in_column)
+    absurd (c.may_have_value.ensures c.if-not-may_have_value.true stamp low high may.in_column)
 
 pub returns-in_default-clause-now : goal.returns-in_default-clause-now
 returns-in_default-clause-now g c = subst (λ (k : CellKey). IsSearchedNow (g.F.Files.contents c.args.files.now) c.args.self.now k c.args.lo) c.key-own.ensures.key c.in_ok-text.ensures.now

@@ -3,7 +3,7 @@ use Rattle.std.specs.Option.{option_copied, IsSome}
 use Rattle.cell_key.specs.Entries.{lent_entry}
 use Rattle.cell_key.proofs.TextPlaces.{clash}
 use Rattle.sorted_file.specs.Bounds.{IsBounded}
-use Rattle.sorted_file.specs.Numbers.{number_of, IsLockKeyNumbered, IsLockNumbered}
+use Rattle.sorted_file.specs.Numbers.{number_of, IsLockKeyNumbered, IsLockStamped}
 use Rattle.sorted_file.proofs.ColumnsOf.{columns_on}
 use Rattle.sorted_file.proofs.gathering.Columns.add.Goals as goal
 
@@ -28,7 +28,7 @@ returns-clause-added c = λ es k.
     columns_on c.args.self.now _ es (lent_entry c.args.entry) c.with_key-self.ensures.keeps
     (subst (λ (name : List ℕ). IsBounded c.with_key-self.result (name, value)) c.requires.text (c.with_key-self.ensures.has value))
     c.in_ok-push_number.ensures.keeps here c.in_ok-push_lock.ensures.keeps
-    (subst (λ (name : List ℕ). IsLockNumbered c.push_lock.new.locks.items (name, value)) c.requires.text (c.in_ok-push_lock.ensures.has value))
+    (subst (λ (name : List ℕ). IsLockStamped c.push_lock.new.locks.items (name, value)) c.requires.text (c.in_ok-push_lock.ensures.has value))
     c.in_ok-push_lock_key.ensures.keeps
     (subst (λ (name : List ℕ). IsLockKeyNumbered c.push_lock_key.new.keys.items (name, value)) c.requires.text (c.in_ok-push_lock_key.ensures.has value))
     k

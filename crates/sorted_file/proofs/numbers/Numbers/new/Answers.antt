@@ -7,7 +7,7 @@ use Rattle.sorted_file.proofs.numbers.Numbers.new.Goals as goal
 pub invariant_of-result : goal.invariant_of-result
 invariant_of-result c = (
   IsNonDecreasingBy-from_sort (λ n. n) _ c.sort_unstable.ensures.sorted,
-  subst (λ (l : List ℕ). All (HasBit c.add.new.self.words.items) l) c.deref.ensures.value c.add.ensures.each,
+  subst (λ (l : List ℕ). All (HasBit c.add_all.new.self.words.items) l) c.deref.ensures.value c.add_all.ensures.each,
 )
 
 pub returns-clause-keeps : goal.returns-clause-keeps

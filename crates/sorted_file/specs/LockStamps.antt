@@ -1,0 +1,17 @@
+-- The stamps of locks, by the numbers of their columns.
+use Rattle.std.specs.Prelude.{◌≡◌, ◌≤◌, ℕ, List, Option, All, Contains, IfSome}
+use Rattle.sorted_file.specs.Newest.{IsAfterStamp}
+use Rattle.sorted_file.specs.Numbers.{lock_stamp}
+use Rattle.sorted_file.specs.declared.lock_stamps.LockStamp.{LockStamp}
+
+-- found is the greatest stamp, from lo up to hi, of locks of the column with this number
+pub record IsLatest (locks : List LockStamp) (column lo hi : ℕ) (found : Option ℕ) : Type 0 where
+  pub within : IfSome found (λ stamp. (lo ≤ stamp) × (stamp ≤ hi))
+  pub there : IfSome found (λ stamp. Contains locks (lock_stamp column stamp))
+  pub none : (s : ℕ) → IsAfterStamp s lo found → s ≤ hi → ¬ Contains locks (lock_stamp column s)
+
+-- the same of locks of any columns
+pub record IsLatestOf (locks : List LockStamp) (lo hi : ℕ) (found : Option ℕ) : Type 0 where
+  pub within : IfSome found (λ stamp. (lo ≤ stamp) × (stamp ≤ hi))
+  pub there : IfSome found (λ stamp. (lock : LockStamp) × Contains locks lock × (lock.stamp ≡ stamp))
+  pub none : All (λ (lock : LockStamp). IsAfterStamp lock.stamp lo found → ¬ (lock.stamp ≤ hi)) locks

@@ -1,0 +1,107 @@
+//! The stamps of locks that have a value, by which a lock test passes by a file without reading it.
+
+ghost use Rattle.std.specs.List.Sorted.{IsNonDecreasingBy};
+ghost use Rattle.std.specs.Prelude.{◌≡◌, ◌≤◌, ◌⊎◌, ℕ, Some, All, IfSome, length};
+ghost use Rattle.sorted_file.specs.Filters.{HasBit};
+ghost use Rattle.sorted_file.specs.LockStamps.{IsLatest, IsLatestOf};
+ghost use Rattle.sorted_file.specs.Newest.{IsAfterStamp};
+ghost use Rattle.sorted_file.specs.Numbers.{IsAmong};
+ghost use Rattle.sorted_file.specs.declared.lock_stamps.LockStamp.{LockStamp as StampOf};
+
+use crate::filter::Filter;
+use cell_key::Stamp;
+use std::marker::Model;
+
+/// The stamp of a lock that has a value, by the number of its column.
+#[derive(Clone, Copy, Drop)]
+pub(crate) struct LockStamp {
+    pub(crate) column: u64,
+    pub(crate) stamp: Stamp,
+}
+
+/// The later of a stamp that was found, if one was, and another one, if that is in `lo..=hi`.
+fn later(found: Option<Stamp>, stamp: Stamp, lo: Stamp, hi: Stamp) -> Option<Stamp>
+    requires { IfSome found (λ last. (lo ≤ last) × (last ≤ hi)) }
+    ensures within { IfSome result (λ last. (lo ≤ last) × (last ≤ hi)) }
+    ensures one { (result ≡ found) ⊎ (result ≡ Some stamp) }
+    ensures after { (s : ℕ) → IsAfterStamp s lo result
+        → IsAfterStamp s lo found × (s ≡ stamp → ¬ (s ≤ hi)) }
+{
+    if stamp < lo || hi < stamp {
+        return found;
+    }
+    match found {
+        Some(last) if last >= stamp => found,
+        _ => Some(stamp),
+    }
+}
+
+/// The greatest stamp in `lo..=hi` of locks.
+fn latest_of(locks: &[LockStamp], lo: Stamp, hi: Stamp) -> Option<Stamp>
+    ensures { IsLatestOf locks.now lo hi result }
+{
+    let mut latest = None;
+    for lock in locks {
+        latest = later(latest, lock.stamp, lo, hi);
+    }
+    latest
+}
+
+/// The stamps of locks.
+#[derive(Drop)]
+pub(crate) struct LockStamps {
+    /// In the order of their columns' numbers.
+    sorted: Vec<LockStamp>,
+}
+
+impl Model for LockStamps {
+    ghost use Rattle.std.specs.List.Sorted.{IsNonDecreasingBy};
+    ghost use Rattle.std.specs.Prelude.{List};
+    ghost use Rattle.sorted_file.specs.declared.lock_stamps.LockStamp.{LockStamp as StampOf};
+
+    ghost Value = { List StampOf };
+
+    ghost view = { λ locks. locks.sorted.items };
+
+    ghost invariant = { λ locks. IsNonDecreasingBy (λ (lock : StampOf). lock.column) locks.sorted.items };
+}
+
+impl LockStamps {
+    /// These stamps.
+    pub(crate) fn new(locks: Vec<LockStamp>) -> LockStamps
+        ensures keeps { IsAmong locks.items result }
+        ensures only { IsAmong result locks.items }
+    {
+        let mut sorted = locks;
+        sorted.sort_unstable_by_key(|lock| lock.column);
+        LockStamps { sorted }
+    }
+
+    /// How many they are.
+    pub(crate) fn len(&self) -> usize
+        ensures { result ≡ length self.now }
+    {
+        self.sorted.len()
+    }
+
+    /// The greatest stamp in `lo..=hi` of a lock of this column.
+    pub(crate) fn latest(&self, column: u64, lo: Stamp, hi: Stamp) -> Option<Stamp>
+        ensures { IsLatest self.now column lo hi result }
+    {
+        let to = self.sorted.partition_point(|lock| lock.column <= column);
+        let up_to = self.sorted.split_at(to).0;
+        let from = up_to.partition_point(|lock| lock.column < column);
+        latest_of(up_to.split_at(from).1, lo, hi)
+    }
+
+    /// Adds the number of each column to a filter.
+    pub(crate) fn add_to(&self, filter: &mut Filter)
+        ensures each { All (λ (lock : StampOf). HasBit filter.new.words.items lock.column) self.now }
+        ensures keeps { (other : ℕ) → HasBit filter.old.words.items other
+            → HasBit filter.new.words.items other }
+    {
+        for lock in &self.sorted {
+            filter.add(lock.column);
+        }
+    }
+}
