@@ -3,7 +3,7 @@
 ghost use Rattle.std.specs.Prelude.{◌≡◌, IfErr, IfOk};
 
 use crate::numbers::column_number;
-use cell_key::{CellKey, Refusal};
+use cell_key::{CellKey, Qualifier, Refusal};
 use std::alloc::Global;
 use std::marker::Model;
 
@@ -51,6 +51,13 @@ impl<'k> LookupKey<'k> {
         ensures limits { IsKey self.now }
     {
         self.key
+    }
+
+    /// The qualifier of the key.
+    pub fn qualifier(&self) -> Qualifier
+        ensures { result ≡ self.now.qualifier }
+    {
+        self.key.qualifier
     }
 
     /// The text of the key.
