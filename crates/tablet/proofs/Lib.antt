@@ -16,6 +16,7 @@ pub mod NextCells
 pub mod NextLists
 pub mod NextPlaces
 pub mod NextVersions
+pub mod OpenFiles
 pub mod ReadPlaces
 pub mod Passed
 pub mod SameFiles

@@ -1,8 +1,8 @@
 -- An error that is passed on.
 use Rattle.std.proofs.Common.{rules, ap, ◌∙◌, ◌≡◌, ℕ, ◌<◌, ◌≤◌, Bool, false, List, [], map, length, ◌⊎◌, inl, inr, sym, subst, arith}
 use Rattle.std.proofs.lemmas.List.{length-map}
-use Rattle.std.specs.Prelude.{◌≢◌, ◌↔◌, IsTrue, Option, Some, None, IfSome, if◌then◌else◌}
-use Rattle.std.specs.Result.{IfErr, IsErrAnd, IsErrOf, is_ok}
+use Rattle.std.specs.Prelude.{◌≢◌, ◌↔◌, IsTrue, Option, Some, None, IfSome}
+use Rattle.std.specs.Result.{IfErr, IsErrAnd, IsErrOf}
 use Rattle.std.specs.declared.result.Result.{Result}
 use Rattle.std.specs.declared.result.Result.TheVariants.{Ok, Err}
 use Rattle.cell_key.specs.Entries.{Entry}
@@ -62,10 +62,6 @@ IsBadCount _ = ⊥
 pub merge_of : (e : Refusal) → IsCompactionRefusal e → IsMergeRefusal e
 merge_of BadCount h = tt
 merge_of _ h = h
-
-pub inserted : {A E : Type 0} (r : Result A E) (x : A) (more less : List SortedFile) {new : List SortedFile} → new ≡ (if is_ok r then more else less) → r ≡ Ok x → new ≡ more
-inserted (Ok y) x more less is was = is
-inserted (Err e) x more less is was = absurd (let no : Err e ≡ Ok x = was in cc)
 
 -- what a refusal of what is held is
 abbrev pub IsHeldRefusal : Refusal → Type 0

@@ -178,7 +178,3 @@ same_tablet o t u range memory files = record {
 
 pub same_itself : (o : Option Contents) (t : Tablet) → IsSameTablet o t t
 same_itself o t = same_tablet o t t refl refl (same_files o (files_of t))
-
-pub same_looked : (o : Option Contents) (t u : Tablet) (xs ys : List SortedFile) → range_of u ≡ range_of t → memory_of u ≡ memory_of t → xs ≡ files_of t → files_of u ≡ ys → AllZip (IsSameFile o) xs ys → IsSameTablet o t u
-same_looked o t u xs ys range memory old new files =
-    same_tablet o t u range memory (subst (λ (fs : List SortedFile). AllZip (IsSameFile o) fs (files_of u)) old (subst (λ (fs : List SortedFile). AllZip (IsSameFile o) xs fs) (sym new) files))

@@ -21,7 +21,7 @@ abbrev pub memory_of : Tablet → List Entry
 memory_of t = t.memtable
 
 abbrev pub files_of : Tablet → List SortedFile
-files_of t = t.files.items
+files_of t = t.files
 
 abbrev pub names_of : Tablet → List ℕ
 names_of t = map name_of (files_of t)

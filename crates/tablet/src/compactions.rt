@@ -1,9 +1,9 @@
 //! Compactions (Bigtable, tablet serving): what stands in several places is written as one file. Room in the tablet's
-//! list of files is made before the file is written, and the file is opened before the tablet changes: once it is open
-//! nothing is refused. The calls of laws of lower crates, as `stays_open()`, do nothing: what is ensured here rests on
-//! them.
+//! list of files is made before the file is written, unless it comes in the place of another, and the file is opened
+//! before the tablet changes: once it is open no memory is taken, and nothing is refused. The calls of laws of lower
+//! crates, as `stays_open()`, do nothing: what is ensured here rests on them.
 
-ghost use Rattle.std.specs.Prelude.{◌≡◌, ◌≢◌, ◌≤◌, ◌<◌, ◌+◌, ◌^◌, ◌∷◌, ◌↔◌, ◌⊎◌, [], Option, Some, length, map, drop, take, false, nat_lt, option_map, vec_len, IfOk, IfErr, OnOk, OnErr, IfSome, IsNone, IsOk, IsSomeAnd, IsErrOf};
+ghost use Rattle.std.specs.Prelude.{◌≡◌, ◌≢◌, ◌≤◌, ◌<◌, ◌+◌, ◌^◌, ◌↔◌, ◌⊎◌, [], Option, Some, length, map, take, false, nat_lt, option_map, IfOk, IfErr, OnOk, OnErr, IfSome, IsNone, IsOk, IsSomeAnd, IsErrOf};
 ghost use Rattle.std.specs.Option.{option_copied};
 ghost use Rattle.std.specs.List.{AllByRecursion};
 ghost use Rattle.file_store.specs.Store.{Contents, KeepsOthers};
@@ -111,18 +111,6 @@ fn write_new<F: Files, S: Source<F> + Drop>(
     SortedFile::open_with(alloc, name, most_blocks, files)
 }
 
-/// Puts a file in the place of the first `count` ones.
-fn replace_newest(files: &mut Vec<SortedFile>, count: usize, file: SortedFile)
-    requires some { 1 ≤ count }
-    requires within { count ≤ vec_len files.old }
-    ensures { files.new.items ≡ file ∷ drop count files.old.items }
-{
-    'newest: for _ in 0..count - 1 {
-        let _ = files.remove(0);
-    }
-    files[0] = file;
-}
-
 impl Tablet {
     /// The memtable, if a compaction writes it, and the files that it writes.
     fn inputs(&self, compaction: Compaction) -> (Option<&Memtable>, &[SortedFile])
@@ -137,8 +125,8 @@ impl Tablet {
     {
         match compaction {
             Compaction::Minor => (Some(&self.memtable), &[]),
-            Compaction::Merge(count) => (None, &self.files[..count as usize]),
-            Compaction::Major => (Some(&self.memtable), &self.files),
+            Compaction::Merge(count) => (None, &self.files.as_slice()[..count as usize]),
+            Compaction::Major => (Some(&self.memtable), self.files.as_slice()),
         }
     }
 
@@ -258,10 +246,9 @@ impl Tablet {
         if self.files.len() >= Tablet::MOST_FILES {
             return Err(Refusal::TooManyFiles);
         }
-        let _ = self.memtable.len();
-        self.files.reserve(1)?;
+        self.files.reserve(self.memtable.len())?;
         let file = self.write(Compaction::Minor, file_limit, next_name, files)?;
-        self.files.insert(0, file).unwrap();
+        self.files.replace_newest(0, file)?;
         self.memtable = Memtable::new(self.alloc);
         Ok(())
     }
@@ -318,7 +305,7 @@ impl Tablet {
             return Err(Refusal::BadCount);
         }
         let file = self.write(compaction, file_limit, next_name, files)?;
-        replace_newest(&mut self.files, count, file);
+        self.files.replace_newest(count, file)?;
         Ok(())
     }
 
@@ -362,10 +349,9 @@ impl Tablet {
     {
         stays_open();
         names_first();
-        self.files.reserve(1)?;
+        self.files.reserve(self.memtable.len())?;
         let file = self.write(Compaction::Major, file_limit, next_name, files)?;
-        self.files.clear();
-        self.files.push(file).unwrap();
+        self.files.replace_newest(self.files.len(), file)?;
         self.memtable = Memtable::new(self.alloc);
         Ok(())
     }

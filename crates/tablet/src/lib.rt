@@ -9,6 +9,7 @@ mod gathering;
 mod laws;
 mod lookup;
 mod merge_policy;
+mod open_files;
 mod ranges;
 mod reads;
 mod scan;

@@ -12,6 +12,7 @@ ghost use Rattle.sorted_file.specs.File.{IsOpen, IsSameFile, IsShortValue, liste
 ghost use Rattle.sorted_file.specs.Source.{IsReadRefusal};
 ghost use Rattle.tablet.specs.Reads.{HasNoLater, IsAfterStamp, IsAsked, IsValue};
 
+use crate::open_files::OpenFiles;
 use cell_key::{CellKey, Family, Qualifier, Refusal, Row, Stamp};
 use file_store::Files;
 use memtable::Memtable;
@@ -129,7 +130,7 @@ fn find_in_file<F: Files>(
 }
 
 /// What the first of some files that names a key has of it. The files stay what they were.
-fn find_in_files<F: Files>(
+pub(crate) fn find_in_files<F: Files>(
     files: &mut [SortedFile],
     key: &LookupKey<'_>,
     store: &mut F,
@@ -155,36 +156,12 @@ fn find_in_files<F: Files>(
     Ok(None)
 }
 
-/// What the first of some files that names a key has of it. The key's text is made once. The files stay what they were.
-fn find_key<F: Files>(
-    alloc: Global,
-    files: &mut [SortedFile],
-    key: &CellKey,
-    store: &mut F,
-) -> Result<Option<Option<Vec<u8>>>, Refusal>
-    requires from { 1 ≤ key.now.stamp }
-    requires to { key.now.stamp < 2 ^ 63 }
-    ensures found { IfOk result (λ found.
-        IfSome (F.contents store.old) (λ m. AllByRecursion (IsOpen m) files.old
-        → option_map value_bytes found ≡ first_naming (map (listed m) files.old) (text key.now))) }
-    ensures short { IfOk result (λ found. IfSome found IsShortValue) }
-    ensures stay { AllZip (IsSameFile (F.contents store.old)) files.old files.new }
-    ensures damaged { IsErrOf result Refusal.Damaged
-        → IfSome (F.contents store.old) (λ m. ¬ AllByRecursion (IsOpen m) files.old) }
-    ensures refusal { IfErr result IsReadRefusal }
-    ensures same { F.contents store.new ≡ F.contents store.old }
-    ensures reason { HasReason (F.faults store.old) (F.faults store.new) result }
-{
-    let key = LookupKey::new(alloc, key)?;
-    find_in_files(files, &key, store)
-}
-
 /// The value of a key in a memtable, or else in the first of some files that names it. An erasure is no
-/// value. The files stay what they were.
+/// value. No file is asked if the filter of their keys says that none names it. The files stay what they were.
 pub(crate) fn lookup<F: Files>(
     alloc: Global,
     memtable: &Memtable,
-    files: &mut [SortedFile],
+    files: &mut OpenFiles,
     key: &CellKey,
     store: &mut F,
 ) -> Result<Option<Vec<u8>>, Refusal>
@@ -205,7 +182,7 @@ pub(crate) fn lookup<F: Files>(
     if let Some(newest) = memtable.lookup(key) {
         return copy_value(alloc, newest.value);
     }
-    match find_key(alloc, files, key, store)? {
+    match files.find(key, store)? {
         Some(value) => Ok(value),
         None => Ok(None),
     }

@@ -36,6 +36,6 @@ impl Tablet {
         ensures within { result ≤ length (names_of self.now) }
         ensures enough { length (names_of self.now) + 2 ≤ most + result }
     {
-        merged_count(&self.files, self.files.len() - most + 2)
+        merged_count(self.files.as_slice(), self.files.len() - most + 2)
     }
 }

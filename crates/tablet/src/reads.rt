@@ -15,7 +15,7 @@ ghost use Rattle.tablet.specs.Ranges.{has_row};
 ghost use Rattle.tablet.specs.Reads.{HasNoLater, IsAsked, IsLater};
 
 use crate::batches::{BatchLimits, VersionBatch};
-use crate::lookup::{asked, lookup, newest_stamp};
+use crate::lookup::{asked, lookup};
 use crate::scan::{later, merged_places, merged_versions, past_place};
 use crate::sources::fences;
 use crate::tablet::Tablet;
@@ -63,10 +63,11 @@ impl Tablet {
     fn may_be_in_files(&self, qualifier: Qualifier, lo: Stamp, hi: Stamp) -> bool
         ensures { result ≡ false → lo ≤ hi → IsAsked qualifier lo hi (files_of self.now) [] }
     {
-        lo <= hi && !asked(&self.files, qualifier, lo, hi).is_empty()
+        lo <= hi && !asked(self.files.as_slice(), qualifier, lo, hi).is_empty()
     }
 
-    /// The value of a version, if the tablet has it, by lookups.
+    /// The value of a version, if the tablet has it, by lookups. No file is asked if the memtable names the version, or
+    /// the filter of the files' keys says that none of them does.
     fn version_at<F: Files>(
         &mut self,
         row: &Row,
@@ -141,7 +142,8 @@ impl Tablet {
         Ok(None)
     }
 
-    /// The greatest stamp in `lo..=hi` at which a file has a value of a cell's column.
+    /// The greatest stamp in `lo..=hi` at which a file has a value of a cell's column. No file is asked if the filter
+    /// of their keys says that none has one.
     fn newest_file_stamp<F: Files>(
         &mut self,
         row: &Row,
@@ -166,14 +168,14 @@ impl Tablet {
     {
         let last = CellKey::new(row, family, qualifier, hi)?;
         let key = LookupKey::new(self.alloc, &last)?;
-        newest_stamp(&mut self.files, &key, lo, files)
+        self.files.newest_stamp(&key, lo, files)
     }
 
     /// The version of a cell's column with the greatest stamp in `lo..=hi` (Bigtable, timestamps), or
     /// nothing. The memtable is searched first, and no file is asked if it decides: then only the value takes
-    /// memory. Else each file is asked for the stamp of its newest value that is later than the memtable's, and the
-    /// version there is looked up, or as many more as newer erasures hide. The tablet stays what it was, also after an
-    /// `Err`.
+    /// memory. No file is asked either if the filter of their keys says that none has such a version. Else each
+    /// file is asked for the stamp of its newest value that is later than the memtable's, and the version there is
+    /// looked up, or as many more as newer erasures hide. The tablet stays what it was, also after an `Err`.
     ///
     /// # Errors
     ///
@@ -265,7 +267,7 @@ impl Tablet {
         merged_places(
             self.alloc,
             &self.memtable,
-            &self.files,
+            self.files.as_slice(),
             from,
             end.as_deref(),
             most,
@@ -306,7 +308,7 @@ impl Tablet {
         merged_versions(
             self.alloc,
             &self.memtable,
-            &self.files,
+            self.files.as_slice(),
             from,
             end.as_deref(),
             limits,

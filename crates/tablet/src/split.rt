@@ -14,6 +14,7 @@ ghost use Rattle.tablet.specs.Splits.{Cuts, MakesParts};
 ghost use Rattle.tablet.specs.declared.compactions.Compaction.TheVariants.{Minor};
 ghost use Rattle.tablet.specs.Compactions.{Compacts, Flushes, IsMinorRefusal, LeavesFlushed, TakesName, WritesMemory};
 
+use crate::open_files::OpenFiles;
 use crate::ranges::RowRange;
 use crate::tablet::Tablet;
 use cell_key::{Refusal, Row};
@@ -57,7 +58,7 @@ impl Tablet {
             alloc,
             range,
             memtable: Memtable::new(alloc),
-            files: open,
+            files: OpenFiles::of(alloc, open)?,
             most_blocks,
         })
     }

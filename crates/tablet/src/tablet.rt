@@ -6,10 +6,11 @@ ghost use Rattle.cell_key.specs.Cells.{IsEditOf, after_edits};
 ghost use Rattle.file_store.specs.Store.{Contents};
 ghost use Rattle.memtable.specs.Edits.{bytes_of, with_edits, IsWithinLimits};
 
+use crate::open_files::OpenFiles;
 use crate::ranges::RowRange;
 use cell_key::{Edit, Refusal, Row};
 use memtable::Memtable;
-use sorted_file::{SortedFile, few_blocks};
+use sorted_file::few_blocks;
 use std::alloc::Global;
 use std::num::NonZeroUsize;
 
@@ -21,7 +22,7 @@ pub struct Tablet {
     pub(crate) range: RowRange,
     pub(crate) memtable: Memtable,
     /// The newest first.
-    pub(crate) files: Vec<SortedFile>,
+    pub(crate) files: OpenFiles,
     /// How many blocks a file that is opened caches at most.
     pub(crate) most_blocks: NonZeroUsize,
 }
@@ -47,7 +48,7 @@ impl Tablet {
                 end: None,
             },
             memtable: Memtable::new(alloc),
-            files: Vec::new(alloc),
+            files: OpenFiles::new(alloc),
             most_blocks: few_blocks(),
         }
     }
@@ -105,7 +106,7 @@ impl Tablet {
             → IsOk result }
     {
         out.reserve(self.file_count())?;
-        for file in &self.files {
+        for file in self.files.as_slice() {
             out.push_reserved(file.name());
         }
         Ok(())

@@ -1,4 +1,4 @@
-use Rattle.std.proofs.Common.{◌∷◌, ◌∙◌, None, ap, map, subst, List}
+use Rattle.std.proofs.Common.{◌∷◌, ◌∙◌, None, ap, subst, List}
 use Rattle.std.specs.Option.{option_copied}
 use Rattle.cell_key.specs.Entries.{Entry, merged}
 use Rattle.cell_key.specs.Places.{AreNext}

@@ -5,4 +5,4 @@ use Rattle.tablet.specs.Views.{files_of}
 use Rattle.tablet.proofs.tablet.Tablet.file_count.Goals as goal
 
 pub returns : goal.returns
-returns c = c.len.ensures ∙ c.args.self.now.files.ok.0 ∙ sym (length-map (files_of c.args.self.now) name_of)
+returns c = c.len.ensures ∙ sym (length-map (files_of c.args.self.now) name_of)

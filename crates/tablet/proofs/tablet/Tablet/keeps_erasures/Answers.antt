@@ -5,4 +5,4 @@ use Rattle.tablet.specs.Views.{files_of}
 use Rattle.tablet.proofs.tablet.Tablet.keeps_erasures.Goals as goal
 
 pub returns-in-Merge : goal.returns-in-Merge
-returns-in-Merge c = ap (nat_lt c.in-Merge.count) (c.len.ensures ∙ c.args.self.now.files.ok.0) ∙ ap (λ (k : _). keeps_erasures k (length (files_of c.args.self.now))) (sym c.in-Merge.is)
+returns-in-Merge c = ap (nat_lt c.in-Merge.count) c.len.ensures ∙ ap (λ (k : _). keeps_erasures k (length (files_of c.args.self.now))) (sym c.in-Merge.is)

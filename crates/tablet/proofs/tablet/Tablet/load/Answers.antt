@@ -1,4 +1,4 @@
-use Rattle.std.proofs.Common.{◌≡◌, ℕ, ◌+◌, ◌<◌, List, [], ◌∷◌, ◌++◌, map, take, length, get_or, sym, subst, ◌∙◌, refl}
+use Rattle.std.proofs.Common.{◌≡◌, ℕ, ◌+◌, ◌<◌, List, [], ◌∷◌, ◌++◌, map, take, length, get_or, sym, subst, ap, ◌∙◌, refl}
 use Rattle.std.proofs.lemmas.List.{map-append, take_all, take_more}
 use Rattle.std.specs.Prelude.{Option, Some, None, IfSome}
 use Rattle.std.specs.List.{AllByRecursion}
@@ -6,12 +6,13 @@ use Rattle.cell_key.specs.Entries.{IsEntryList}
 use Rattle.cell_key.specs.declared.refusals.Refusal.TheVariants.{Device, NoMemory}
 use Rattle.file_store.specs.Store.{Contents}
 use Rattle.sorted_file.specs.File.{IsOpen, name_of}
+use Rattle.sorted_file.specs.Source.{IsReadRefusal}
 use Rattle.sorted_file.specs.declared.file.SortedFile.{SortedFile}
 use Rattle.tablet.specs.Views.{Holds, files_of, memory_of}
 use Rattle.tablet.specs.declared.tablet.Tablet.{Tablet}
 use Rattle.tablet.proofs.CompactedCells.{no_entries}
 use Rattle.tablet.proofs.MadeTablets.{missing_one}
-use Rattle.tablet.proofs.Passed.{IsNoMemory, not_err, passed_err, passed_kind, passed_none, passed_on, passed_reason, quiet_reason, reason_after}
+use Rattle.tablet.proofs.Passed.{IsNoMemory, no_memory, not_err, passed_err, passed_kind, passed_none, passed_on, passed_reason, quiet_reason, reason_after}
 use Rattle.tablet.proofs.tablet.Tablet.load.Goals as goal
 
 named_more : (names : List ℕ) (files new : List SortedFile) (file : SortedFile) (i : ℕ) → i < length names → new ≡ files ++ file ∷ [] → name_of file ≡ get_or names i 0 → map name_of files ≡ take i names → map name_of new ≡ take (i + 1) names
@@ -48,10 +49,12 @@ returns-in_err-file-clause-damaged g c = λ err.
     (c.in_err-file.ensures.damaged (passed_on c.from_residual.result _ c.in_err-file.field-0.0 _ c.from_residual.ensures.1 refl err))
 
 pub returns-clause-names : goal.returns-clause-names
-returns-clause-names g c = c.names.invariant.named ∙ take_all c.names.name-index c.args.names.now c.names-test.false
+returns-clause-names g c = ap (map name_of) c.in_ok-of.ensures.files ∙ c.names.invariant.named ∙ take_all c.names.name-index c.args.names.now c.names-test.false
 
 pub returns-clause-holds : goal.returns-clause-holds
-returns-clause-holds g c = empty_holds (g.F.Files.contents c.args.files.now) _ c.new.ensures c.names.invariant.opened
+returns-clause-holds g c =
+    let told = g.F.Files.contents c.args.files.now in
+    empty_holds told _ c.new.ensures (subst (λ (files : List SortedFile). IfSome told (λ m. AllByRecursion (IsOpen m) files)) (sym c.in_ok-of.ensures.files) c.names.invariant.opened)
 
 pub returns-in_err-file-clause-same : goal.returns-in_err-file-clause-same
 returns-in_err-file-clause-same g c = c.open_with.ensures.same ∙ c.names.invariant.contents
@@ -97,6 +100,30 @@ returns-in_err-push-clause-same g c = c.open_with.ensures.same ∙ c.names.invar
 
 pub returns-in_err-push-clause-reason : goal.returns-in_err-push-clause-reason
 returns-in_err-push-clause-reason g c = reason_after _ _ _ (c.in_ok-file.ensures.reason.told (not_err _ Device) ∙ c.names.invariant.quiet) (quiet_reason c.from_residual-in_err-push.result _ (λ is. absurd (passed_kind c.from_residual-in_err-push.result NoMemory _ IsNoMemory c.from_residual-in_err-push.ensures.1 tt is)))
+
+pub returns-in_err-of-clause-range : goal.returns-in_err-of-clause-range
+returns-in_err-of-clause-range g c = passed_none c.from_residual-in_err-of.result c.in_err-of.field-0.0 _ c.from_residual-in_err-of.ensures.1
+
+pub returns-in_err-of-clause-memory : goal.returns-in_err-of-clause-memory
+returns-in_err-of-clause-memory g c = passed_none c.from_residual-in_err-of.result c.in_err-of.field-0.0 _ c.from_residual-in_err-of.ensures.1
+
+pub returns-in_err-of-clause-names : goal.returns-in_err-of-clause-names
+returns-in_err-of-clause-names g c = passed_none c.from_residual-in_err-of.result c.in_err-of.field-0.0 _ c.from_residual-in_err-of.ensures.1
+
+pub returns-in_err-of-clause-holds : goal.returns-in_err-of-clause-holds
+returns-in_err-of-clause-holds g c = passed_none c.from_residual-in_err-of.result c.in_err-of.field-0.0 _ c.from_residual-in_err-of.ensures.1
+
+pub returns-in_err-of-clause-damaged : goal.returns-in_err-of-clause-damaged
+returns-in_err-of-clause-damaged g c = λ is. absurd (passed_kind c.from_residual-in_err-of.result c.in_err-of.field-0.0 _ IsNoMemory c.from_residual-in_err-of.ensures.1 (no_memory _ c.in_err-of.ensures.refusal) is)
+
+pub returns-in_err-of-clause-refusal : goal.returns-in_err-of-clause-refusal
+returns-in_err-of-clause-refusal g c = passed_err c.from_residual-in_err-of.result c.in_err-of.field-0.0 _ c.from_residual-in_err-of.ensures.1 (subst IsReadRefusal (sym c.in_err-of.ensures.refusal) tt)
+
+pub returns-in_err-of-clause-same : goal.returns-in_err-of-clause-same
+returns-in_err-of-clause-same g c = c.names.invariant.contents
+
+pub returns-in_err-of-clause-reason : goal.returns-in_err-of-clause-reason
+returns-in_err-of-clause-reason g c = reason_after _ _ _ c.names.invariant.quiet (quiet_reason c.from_residual-in_err-of.result _ (λ is. absurd (passed_kind c.from_residual-in_err-of.result c.in_err-of.field-0.0 _ IsNoMemory c.from_residual-in_err-of.ensures.1 (no_memory _ c.in_err-of.ensures.refusal) is)))
 
 pub returns-clause-range : goal.returns-clause-range
 returns-clause-range g c = refl

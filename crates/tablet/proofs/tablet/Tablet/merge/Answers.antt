@@ -1,4 +1,4 @@
-use Rattle.std.proofs.Common.{◌≡◌, ℕ, ◌≤◌, ◌∷◌, List, map, take, drop, length, refl, ap, sym, ◌∙◌, inl, inr, arith}
+use Rattle.std.proofs.Common.{◌≡◌, ℕ, ◌≤◌, ◌∷◌, List, map, take, drop, length, refl, ap, sym, subst, ◌∙◌, inl, inr, arith}
 use Rattle.std.proofs.lemmas.List.{drop-map, length-map}
 use Rattle.std.specs.Prelude.{nat_lt, IsSomeAnd}
 use Rattle.cell_key.specs.declared.refusals.Refusal.TheVariants.{BadCount, Device}
@@ -7,13 +7,13 @@ use Rattle.sorted_file.specs.File.{listed, name_of}
 use Rattle.sorted_file.specs.declared.file.SortedFile.{SortedFile}
 use Rattle.compaction.specs.Writing.{written}
 use Rattle.tablet.specs.Ranges.{seen}
-use Rattle.tablet.specs.Compactions.{IsCompactionRefusal, IsNewFile, compacted, compacted_of}
+use Rattle.tablet.specs.Compactions.{IsCompactionRefusal, IsMergeRefusal, IsNewFile, compacted, compacted_of}
 use Rattle.tablet.specs.declared.compactions.Compaction.TheVariants.{Merge}
 use Rattle.tablet.specs.Views.{files_of, memory_of, range_of}
 use Rattle.tablet.proofs.CompactedCells.{merge_cells}
 use Rattle.tablet.proofs.Held.{held_lists}
 use Rattle.tablet.proofs.MadeTablets.{has_put, made_keeps, made_lists, still_keeps}
-use Rattle.tablet.proofs.Passed.{IsBadCount, merge_of, not_err, passed_err, passed_kept, passed_kind, passed_none, passed_on, passed_reason, quiet_reason, reason_of_ok, told_kind}
+use Rattle.tablet.proofs.Passed.{IsNoMemory, no_memory, reason_after, IsBadCount, merge_of, not_err, passed_err, passed_kept, passed_kind, passed_none, passed_on, passed_reason, quiet_reason, reason_of_ok, told_kind}
 use Rattle.tablet.proofs.WrittenFiles.{told_written, where_held}
 use Rattle.tablet.proofs.tablet.Tablet.merge.Goals as goal
 
@@ -30,9 +30,9 @@ returns-clause-lists g c =
     let range = range_of c.args.self.now in
     let memory = memory_of c.args.self.now in
     let old = files_of c.args.self.now in
-    made_lists c.stays_open.ensures (g.F.Files.contents c.args.files.now) (g.F.Files.contents c.write.new.files) c.args.next_name.now c.write.new.next_name c.args.self.now (record c.args.self.now { files = c.replace_newest.new.files }) c.in_ok-file.file c.args.count memory (λ m. written (nat_lt c.args.count (length (map (listed m) old))) (map (seen range) (take c.args.count (map (listed m) old))))
+    made_lists c.stays_open.ensures (g.F.Files.contents c.args.files.now) (g.F.Files.contents c.write.new.files) c.args.next_name.now c.write.new.next_name c.args.self.now (record c.args.self.now { files = c.replace_newest.new.self }) c.in_ok-file.file c.args.count memory (λ m. written (nat_lt c.args.count (length (map (listed m) old))) (map (seen range) (take c.args.count (map (listed m) old))))
     (λ memory lists. memory ∷ written (nat_lt c.args.count (length lists)) (map (seen (range_of c.args.self.now)) (take c.args.count lists)) ∷ drop c.args.count lists)
-    (record { range = refl; memory = refl; files = c.replace_newest.ensures; named = c.in_ok-file.ensures.named }) c.in_ok-file.ensures.used.1 c.in_ok-file.ensures.others
+    (record { range = refl; memory = refl; files = c.in_ok-replace_newest.ensures.ok; named = c.in_ok-file.ensures.named }) c.in_ok-file.ensures.used.1 c.in_ok-file.ensures.others
     (where_held (Merge c.args.count) (g.F.Files.contents c.args.files.now) c.args.self.now (λ m. IsSomeAnd (g.F.Files.contents c.write.new.files) (λ n. IsNewFile n c.in_ok-file.file (written (nat_lt c.args.count (length (map (listed m) old))) (map (seen range) (take c.args.count (map (listed m) old)))))) c.in_ok-file.ensures.made)
     (λ m h. h.memory) (λ m h. refl)
 
@@ -42,7 +42,7 @@ returns-clause-keeps g c =
     let memory = memory_of c.args.self.now in
     let old = files_of c.args.self.now in
     made_keeps c.stays_open.ensures (g.F.Files.contents c.args.files.now) (g.F.Files.contents c.write.new.files) c.args.next_name.now c.write.new.next_name c.args.self.now _ c.in_ok-file.file c.args.count memory (λ m. written (nat_lt c.args.count (length (map (listed m) old))) (map (seen range) (take c.args.count (map (listed m) old))))
-    (record { range = refl; memory = refl; files = c.replace_newest.ensures; named = c.in_ok-file.ensures.named }) c.in_ok-file.ensures.used.1 c.in_ok-file.ensures.others
+    (record { range = refl; memory = refl; files = c.in_ok-replace_newest.ensures.ok; named = c.in_ok-file.ensures.named }) c.in_ok-file.ensures.used.1 c.in_ok-file.ensures.others
     (where_held (Merge c.args.count) (g.F.Files.contents c.args.files.now) c.args.self.now (λ m. IsSomeAnd (g.F.Files.contents c.write.new.files) (λ n. IsNewFile n c.in_ok-file.file (written (nat_lt c.args.count (length (map (listed m) old))) (map (seen range) (take c.args.count (map (listed m) old)))))) c.in_ok-file.ensures.made)
     (λ m h. h.memory) (λ m h list. merge_cells c.names_first.ensures range memory (map (listed m) old) c.args.count (held_lists m c.args.self.now h) (nat_lt c.args.count (length (map (listed m) old))) refl list)
 
@@ -59,7 +59,7 @@ pub returns-in_err-file-clause-name : goal.returns-in_err-file-clause-name
 returns-in_err-file-clause-name g c = record { uses = c.in_err-file.ensures.name; within = c.in_err-file.ensures.limit }
 
 pub returns-in_err-file-clause-count : goal.returns-in_err-file-clause-count
-returns-in_err-file-clause-count g c = (λ is. absurd (passed_kind c.from_residual.result c.in_err-file.field-0.0 BadCount IsCompactionRefusal c.from_residual.ensures.1 c.in_err-file.ensures.refusal is), λ no. absurd (no (c.if-count-lt2.false, within (files_of c.args.self.now) _ c.args.count (c.len.ensures ∙ c.args.self.now.files.ok.0) c.if-count-len.false)))
+returns-in_err-file-clause-count g c = (λ is. absurd (passed_kind c.from_residual.result c.in_err-file.field-0.0 BadCount IsCompactionRefusal c.from_residual.ensures.1 c.in_err-file.ensures.refusal is), λ no. absurd (no (c.if-count-lt2.false, within (files_of c.args.self.now) _ c.args.count c.len.ensures c.if-count-len.false)))
 
 pub returns-in_err-file-clause-unwritten : goal.returns-in_err-file-clause-unwritten
 returns-in_err-file-clause-unwritten g c = λ is. absurd (passed_kind c.from_residual.result c.in_err-file.field-0.0 BadCount IsCompactionRefusal c.from_residual.ensures.1 c.in_err-file.ensures.refusal is)
@@ -129,7 +129,7 @@ pub returns-clause-name : goal.returns-clause-name
 returns-clause-name g c = record { uses = inr (c.in_ok-file.ensures.used.1, c.in_ok-file.ensures.others); within = c.in_ok-file.ensures.limit }
 
 pub returns-clause-count : goal.returns-clause-count
-returns-clause-count g c = (λ is. absurd (not_err _ _ is), λ no. absurd (no (c.if-count-lt2.false, within (files_of c.args.self.now) _ c.args.count (c.len.ensures ∙ c.args.self.now.files.ok.0) c.if-count-len.false)))
+returns-clause-count g c = (λ is. absurd (not_err _ _ is), λ no. absurd (no (c.if-count-lt2.false, within (files_of c.args.self.now) _ c.args.count c.len.ensures c.if-count-len.false)))
 
 pub returns-clause-exhausted : goal.returns-clause-exhausted
 returns-clause-exhausted g c = λ is. absurd (not_err _ _ is)
@@ -156,14 +156,14 @@ pub returns-clause-made : goal.returns-clause-made
 returns-clause-made g c =
     record {
       names =
-          ap (map name_of) c.replace_newest.ensures
+          ap (map name_of) c.in_ok-replace_newest.ensures.ok
           ∙ (λ i. c.in_ok-file.ensures.named i ∷ sym (drop-map name_of c.args.count (files_of c.args.self.now)) i);
       memory = refl;
       left = c.in_ok-file.ensures.used.0;
       used = c.in_ok-file.ensures.used.1;
       read = c.in_ok-file.ensures.read;
       fits = told_written (Merge c.args.count) (g.F.Files.contents c.args.files.now) c.args.self.now (λ lists. FitsIn c.args.file_limit (compacted (Merge c.args.count) (range_of c.args.self.now) (memory_of c.args.self.now) lists)) c.in_ok-file.ensures.fits;
-      put = has_put (Merge c.args.count) (g.F.Files.contents c.args.files.now) (g.F.Files.contents c.write.new.files) c.args.self.now (record c.args.self.now { files = c.replace_newest.new.files }) c.in_ok-file.file (λ m. compacted_of (Merge c.args.count) m c.args.self.now) (λ m. compacted_of (Merge c.args.count) m c.args.self.now) c.replace_newest.ensures (λ m. refl) c.in_ok-file.ensures.made;
+      put = has_put (Merge c.args.count) (g.F.Files.contents c.args.files.now) (g.F.Files.contents c.write.new.files) c.args.self.now (record c.args.self.now { files = c.replace_newest.new.self }) c.in_ok-file.file (λ m. compacted_of (Merge c.args.count) m c.args.self.now) (λ m. compacted_of (Merge c.args.count) m c.args.self.now) c.in_ok-replace_newest.ensures.ok (λ m. refl) c.in_ok-file.ensures.made;
     }
 
 pub returns-in_err-file-clause-too_much : goal.returns-in_err-file-clause-too_much
@@ -183,3 +183,50 @@ returns-then-count-lt2-clause-broken g c = λ is. absurd (told_kind BadCount _ I
 
 pub returns-clause-broken : goal.returns-clause-broken
 returns-clause-broken g c = λ is. absurd (not_err _ _ is)
+
+pub returns-in_err-replace_newest-clause-made : goal.returns-in_err-replace_newest-clause-made
+returns-in_err-replace_newest-clause-made g c = passed_none c.from_residual-in_err-replace_newest.result c.in_err-replace_newest.field-0.0 _ c.from_residual-in_err-replace_newest.ensures.1
+
+pub returns-in_err-replace_newest-clause-lists : goal.returns-in_err-replace_newest-clause-lists
+returns-in_err-replace_newest-clause-lists g c = passed_none c.from_residual-in_err-replace_newest.result c.in_err-replace_newest.field-0.0 _ c.from_residual-in_err-replace_newest.ensures.1
+
+pub returns-in_err-replace_newest-clause-keeps : goal.returns-in_err-replace_newest-clause-keeps
+returns-in_err-replace_newest-clause-keeps g c =
+    still_keeps c.stays_open.ensures (g.F.Files.contents c.args.files.now) (g.F.Files.contents c.write.new.files) c.args.next_name.now c.write.new.next_name c.args.self.now _
+    (record { range = refl; memory = refl; files = c.in_err-replace_newest.ensures.err }) c.in_ok-file.ensures.name
+
+pub returns-in_err-replace_newest-clause-range : goal.returns-in_err-replace_newest-clause-range
+returns-in_err-replace_newest-clause-range g c = refl
+
+pub returns-in_err-replace_newest-clause-err : goal.returns-in_err-replace_newest-clause-err
+returns-in_err-replace_newest-clause-err g c = passed_kept c.from_residual-in_err-replace_newest.result _ (record { range = refl; memory = refl; files = c.in_err-replace_newest.ensures.err })
+
+pub returns-in_err-replace_newest-clause-name : goal.returns-in_err-replace_newest-clause-name
+returns-in_err-replace_newest-clause-name g c = record { uses = c.in_ok-file.ensures.name; within = c.in_ok-file.ensures.limit }
+
+pub returns-in_err-replace_newest-clause-exhausted : goal.returns-in_err-replace_newest-clause-exhausted
+returns-in_err-replace_newest-clause-exhausted g c = λ is. absurd (passed_kind c.from_residual-in_err-replace_newest.result c.in_err-replace_newest.field-0.0 _ IsNoMemory c.from_residual-in_err-replace_newest.ensures.1 (no_memory _ c.in_err-replace_newest.ensures.refusal) is)
+
+pub returns-in_err-replace_newest-clause-large : goal.returns-in_err-replace_newest-clause-large
+returns-in_err-replace_newest-clause-large g c = λ is. absurd (passed_kind c.from_residual-in_err-replace_newest.result c.in_err-replace_newest.field-0.0 _ IsNoMemory c.from_residual-in_err-replace_newest.ensures.1 (no_memory _ c.in_err-replace_newest.ensures.refusal) is)
+
+pub returns-in_err-replace_newest-clause-too_much : goal.returns-in_err-replace_newest-clause-too_much
+returns-in_err-replace_newest-clause-too_much g c = λ is. absurd (passed_kind c.from_residual-in_err-replace_newest.result c.in_err-replace_newest.field-0.0 _ IsNoMemory c.from_residual-in_err-replace_newest.ensures.1 (no_memory _ c.in_err-replace_newest.ensures.refusal) is)
+
+pub returns-in_err-replace_newest-clause-damaged : goal.returns-in_err-replace_newest-clause-damaged
+returns-in_err-replace_newest-clause-damaged g c = λ is. absurd (passed_kind c.from_residual-in_err-replace_newest.result c.in_err-replace_newest.field-0.0 _ IsNoMemory c.from_residual-in_err-replace_newest.ensures.1 (no_memory _ c.in_err-replace_newest.ensures.refusal) is)
+
+pub returns-in_err-replace_newest-clause-broken : goal.returns-in_err-replace_newest-clause-broken
+returns-in_err-replace_newest-clause-broken g c = λ is. absurd (passed_kind c.from_residual-in_err-replace_newest.result c.in_err-replace_newest.field-0.0 _ IsNoMemory c.from_residual-in_err-replace_newest.ensures.1 (no_memory _ c.in_err-replace_newest.ensures.refusal) is)
+
+pub returns-in_err-replace_newest-clause-unwritten : goal.returns-in_err-replace_newest-clause-unwritten
+returns-in_err-replace_newest-clause-unwritten g c = λ is. absurd (passed_kind c.from_residual-in_err-replace_newest.result c.in_err-replace_newest.field-0.0 _ IsNoMemory c.from_residual-in_err-replace_newest.ensures.1 (no_memory _ c.in_err-replace_newest.ensures.refusal) is)
+
+pub returns-in_err-replace_newest-clause-count : goal.returns-in_err-replace_newest-clause-count
+returns-in_err-replace_newest-clause-count g c = (λ is. absurd (passed_kind c.from_residual-in_err-replace_newest.result c.in_err-replace_newest.field-0.0 _ IsNoMemory c.from_residual-in_err-replace_newest.ensures.1 (no_memory _ c.in_err-replace_newest.ensures.refusal) is), λ no. absurd (no (c.if-count-lt2.false, within (files_of c.args.self.now) _ c.args.count c.len.ensures c.if-count-len.false)))
+
+pub returns-in_err-replace_newest-clause-refusal : goal.returns-in_err-replace_newest-clause-refusal
+returns-in_err-replace_newest-clause-refusal g c = passed_err c.from_residual-in_err-replace_newest.result c.in_err-replace_newest.field-0.0 _ c.from_residual-in_err-replace_newest.ensures.1 (subst IsMergeRefusal (sym c.in_err-replace_newest.ensures.refusal) tt)
+
+pub returns-in_err-replace_newest-clause-reason : goal.returns-in_err-replace_newest-clause-reason
+returns-in_err-replace_newest-clause-reason g c = reason_after _ _ _ (c.in_ok-file.ensures.reason.told (not_err _ Device)) (quiet_reason c.from_residual-in_err-replace_newest.result _ (λ is. absurd (passed_kind c.from_residual-in_err-replace_newest.result c.in_err-replace_newest.field-0.0 _ IsNoMemory c.from_residual-in_err-replace_newest.ensures.1 (no_memory _ c.in_err-replace_newest.ensures.refusal) is)))

@@ -1,18 +1,18 @@
-use Rattle.std.proofs.Common.{◌≡◌, ℕ, List, [], ◌∷◌, map, refl, true, ap, subst, ◌∙◌, inl, inr}
+use Rattle.std.proofs.Common.{◌≡◌, ℕ, List, [], ◌∷◌, map, refl, true, ap, subst, sym, ◌∙◌, inl, inr}
 use Rattle.std.specs.Prelude.{◌≢◌, IsSomeAnd}
 use Rattle.sorted_file.specs.Grammar.{FitsIn}
 use Rattle.cell_key.specs.Entries.{Entry}
-use Rattle.cell_key.specs.declared.refusals.Refusal.TheVariants.{Device, NoMemory, TooManyFiles}
+use Rattle.cell_key.specs.declared.refusals.Refusal.TheVariants.{Device, TooManyFiles}
 use Rattle.sorted_file.specs.File.{listed, name_of}
 use Rattle.sorted_file.specs.declared.file.SortedFile.{SortedFile}
 use Rattle.compaction.specs.Writing.{written}
 use Rattle.tablet.specs.Ranges.{seen}
-use Rattle.tablet.specs.Compactions.{IsCompactionRefusal, IsNewFile}
+use Rattle.tablet.specs.Compactions.{IsCompactionRefusal, IsMinorRefusal, IsNewFile}
 use Rattle.tablet.specs.declared.compactions.Compaction.TheVariants.{Minor}
 use Rattle.tablet.specs.Views.{files_of, flushed, memory_of, range_of, with_name}
 use Rattle.tablet.proofs.CompactedCells.{minor_cells, minor_form, minor_writes, no_entries}
 use Rattle.tablet.proofs.MadeTablets.{has_put, made_keeps, made_lists, made_of, reads_none, still_keeps}
-use Rattle.tablet.proofs.Passed.{IsNoMemory, IsTooManyFiles, inserted, minor_of, not_both, not_empty, not_err, passed_err, passed_kept, passed_kind, passed_none, passed_on, passed_reason, quiet_reason, reason_of_ok, told_kind, too_few, too_many}
+use Rattle.tablet.proofs.Passed.{reason_after, IsNoMemory, IsTooManyFiles, minor_of, no_memory, not_both, not_empty, not_err, passed_err, passed_kept, passed_kind, passed_none, passed_on, passed_reason, quiet_reason, reason_of_ok, told_kind, too_few, too_many}
 use Rattle.tablet.proofs.Unread.{still_too_much}
 use Rattle.tablet.proofs.WrittenFiles.{none_told, where_held}
 use Rattle.tablet.proofs.tablet.Tablet.minor.Goals as goal
@@ -28,7 +28,7 @@ names_more next (e ∷ es) file old new some is named = cc
 pub returns-in_err-file-clause-keeps : goal.returns-in_err-file-clause-keeps
 returns-in_err-file-clause-keeps g c =
     still_keeps c.stays_open.ensures (g.F.Files.contents c.args.files.now) (g.F.Files.contents c.write.new.files) c.args.next_name.now c.write.new.next_name c.args.self.now _
-    (record { range = refl; memory = refl; files = c.in_ok-reserve.ensures.items }) c.in_err-file.ensures.name
+    (record { range = refl; memory = refl; files = c.in_ok-reserve.ensures.same }) c.in_err-file.ensures.name
 
 pub returns-in_err-file-clause-large : goal.returns-in_err-file-clause-large
 returns-in_err-file-clause-large g c = λ err.
@@ -44,23 +44,23 @@ returns-clause-lists g c =
     let range = range_of c.args.self.now in
     let memory = memory_of c.args.self.now in
     let some = not_empty _ _ c.is_empty.ensures c.if-is_empty.false in
-    let files = inserted c.insert.result _ (c.in_ok-file.file ∷ c.reserve.new.self.items) c.reserve.new.self.items c.insert.ensures.items c.unwrap.ensures ∙ ap (λ fs. c.in_ok-file.file ∷ fs) c.in_ok-reserve.ensures.items in
-    made_lists c.stays_open.ensures (g.F.Files.contents c.args.files.now) (g.F.Files.contents c.write.new.files) c.args.next_name.now c.write.new.next_name c.args.self.now (record c.args.self.now { memtable = c.new.result; files = c.insert.new.self }) c.in_ok-file.file 0 [] (λ m. written true (seen range memory ∷ []))
+    let files = c.in_ok-replace_newest.ensures.ok ∙ ap (λ fs. c.in_ok-file.file ∷ fs) c.in_ok-reserve.ensures.same in
+    made_lists c.stays_open.ensures (g.F.Files.contents c.args.files.now) (g.F.Files.contents c.write.new.files) c.args.next_name.now c.write.new.next_name c.args.self.now (record c.args.self.now { memtable = c.new.result; files = c.replace_newest.new.self }) c.in_ok-file.file 0 [] (λ m. written true (seen range memory ∷ []))
     (λ memory lists. [] ∷ flushed (range_of c.args.self.now) memory lists)
     (record { range = refl; memory = c.new.ensures; files = files; named = c.in_ok-file.ensures.named }) c.in_ok-file.ensures.used.1 c.in_ok-file.ensures.others
     (where_held Minor (g.F.Files.contents c.args.files.now) c.args.self.now (λ m. IsSomeAnd (g.F.Files.contents c.write.new.files) (λ n. IsNewFile n c.in_ok-file.file (written true (seen range memory ∷ [])))) (made_of Minor (g.F.Files.contents c.args.files.now) (g.F.Files.contents c.write.new.files) c.args.self.now (record c.args.self.now { files = c.reserve.new.self }) c.in_ok-file.file (λ m. written true (seen range memory ∷ [])) (λ m. written true (seen range memory ∷ []))
-    (record { range = refl; memory = refl; files = c.in_ok-reserve.ensures.items }) (λ m. refl) c.in_ok-file.ensures.made))
+    (record { range = refl; memory = refl; files = c.in_ok-reserve.ensures.same }) (λ m. refl) c.in_ok-file.ensures.made))
     (λ m h. no_entries) (λ m h. minor_form c.keeps_one_list.ensures range memory (map (listed m) (files_of c.args.self.now)) some h.memory)
 
 pub returns-clause-keeps : goal.returns-clause-keeps
 returns-clause-keeps g c =
     let range = range_of c.args.self.now in
     let memory = memory_of c.args.self.now in
-    let files = inserted c.insert.result _ (c.in_ok-file.file ∷ c.reserve.new.self.items) c.reserve.new.self.items c.insert.ensures.items c.unwrap.ensures ∙ ap (λ fs. c.in_ok-file.file ∷ fs) c.in_ok-reserve.ensures.items in
+    let files = c.in_ok-replace_newest.ensures.ok ∙ ap (λ fs. c.in_ok-file.file ∷ fs) c.in_ok-reserve.ensures.same in
     made_keeps c.stays_open.ensures (g.F.Files.contents c.args.files.now) (g.F.Files.contents c.write.new.files) c.args.next_name.now c.write.new.next_name c.args.self.now _ c.in_ok-file.file 0 [] (λ m. written true (seen range memory ∷ []))
     (record { range = refl; memory = c.new.ensures; files = files; named = c.in_ok-file.ensures.named }) c.in_ok-file.ensures.used.1 c.in_ok-file.ensures.others
     (where_held Minor (g.F.Files.contents c.args.files.now) c.args.self.now (λ m. IsSomeAnd (g.F.Files.contents c.write.new.files) (λ n. IsNewFile n c.in_ok-file.file (written true (seen range memory ∷ [])))) (made_of Minor (g.F.Files.contents c.args.files.now) (g.F.Files.contents c.write.new.files) c.args.self.now (record c.args.self.now { files = c.reserve.new.self }) c.in_ok-file.file (λ m. written true (seen range memory ∷ [])) (λ m. written true (seen range memory ∷ []))
-    (record { range = refl; memory = refl; files = c.in_ok-reserve.ensures.items }) (λ m. refl) c.in_ok-file.ensures.made))
+    (record { range = refl; memory = refl; files = c.in_ok-reserve.ensures.same }) (λ m. refl) c.in_ok-file.ensures.made))
     (λ m h. no_entries) (λ m h list. minor_cells c.keeps_one_list.ensures range memory (map (listed m) (files_of c.args.self.now)) h.memory)
 
 pub returns-then-len-ge-MOST_FILES-clause-unwritten : goal.returns-then-len-ge-MOST_FILES-clause-unwritten
@@ -84,13 +84,13 @@ pub returns-in_err-file-clause-range : goal.returns-in_err-file-clause-range
 returns-in_err-file-clause-range g c = refl
 
 pub returns-in_err-file-clause-err : goal.returns-in_err-file-clause-err
-returns-in_err-file-clause-err g c = passed_kept c.from_residual-in_err-file.result _ (record { range = refl; memory = refl; files = c.in_ok-reserve.ensures.items })
+returns-in_err-file-clause-err g c = passed_kept c.from_residual-in_err-file.result _ (record { range = refl; memory = refl; files = c.in_ok-reserve.ensures.same })
 
 pub returns-in_err-file-clause-name : goal.returns-in_err-file-clause-name
 returns-in_err-file-clause-name g c = record { uses = c.in_err-file.ensures.name; within = c.in_err-file.ensures.limit }
 
 pub returns-in_err-file-clause-full : goal.returns-in_err-file-clause-full
-returns-in_err-file-clause-full g c = (λ is. absurd (passed_kind c.from_residual-in_err-file.result c.in_err-file.field-0.0 TooManyFiles IsCompactionRefusal c.from_residual-in_err-file.ensures.1 c.in_err-file.ensures.refusal is), λ both. absurd (not_both _ _ (too_few c.args.self.now.files.items _ 64 (c.len.ensures ∙ c.args.self.now.files.ok.0) c.if-len-ge-MOST_FILES.false) both.1))
+returns-in_err-file-clause-full g c = (λ is. absurd (passed_kind c.from_residual-in_err-file.result c.in_err-file.field-0.0 TooManyFiles IsCompactionRefusal c.from_residual-in_err-file.ensures.1 c.in_err-file.ensures.refusal is), λ both. absurd (not_both _ _ (too_few c.args.self.now.files _ 64 c.len.ensures c.if-len-ge-MOST_FILES.false) both.1))
 
 pub returns-in_err-file-clause-unwritten : goal.returns-in_err-file-clause-unwritten
 returns-in_err-file-clause-unwritten g c = λ is. absurd (passed_kind c.from_residual-in_err-file.result c.in_err-file.field-0.0 TooManyFiles IsCompactionRefusal c.from_residual-in_err-file.ensures.1 c.in_err-file.ensures.refusal is)
@@ -109,7 +109,7 @@ pub returns-in_err-file-clause-reason : goal.returns-in_err-file-clause-reason
 returns-in_err-file-clause-reason g c = passed_reason c.from_residual-in_err-file.result _ c.in_err-file.field-0.0 _ _ c.from_residual-in_err-file.ensures.1 refl c.in_err-file.ensures.reason
 
 pub returns-in_err-reserve-clause-lists : goal.returns-in_err-reserve-clause-lists
-returns-in_err-reserve-clause-lists g c = passed_none c.from_residual.result NoMemory _ c.from_residual.ensures.1
+returns-in_err-reserve-clause-lists g c = passed_none c.from_residual.result c.in_err-reserve.field-0.0 _ c.from_residual.ensures.1
 
 pub returns-in_err-reserve-clause-empty : goal.returns-in_err-reserve-clause-empty
 returns-in_err-reserve-clause-empty g c = λ none. absurd (not_empty _ _ c.is_empty.ensures c.if-is_empty.false none)
@@ -119,34 +119,34 @@ returns-in_err-reserve-clause-range g c = refl
 
 pub returns-in_err-reserve-clause-keeps : goal.returns-in_err-reserve-clause-keeps
 returns-in_err-reserve-clause-keeps g c = still_keeps c.stays_open.ensures (g.F.Files.contents c.args.files.now) (g.F.Files.contents c.args.files.now) c.args.next_name.now c.args.next_name.now c.args.self.now _
-    (record { range = refl; memory = refl; files = c.in_err-reserve.ensures.items }) (inl (refl, refl))
+    (record { range = refl; memory = refl; files = c.in_err-reserve.ensures.same }) (inl (refl, refl))
 
 pub returns-in_err-reserve-clause-err : goal.returns-in_err-reserve-clause-err
-returns-in_err-reserve-clause-err g c = passed_kept c.from_residual.result _ (record { range = refl; memory = refl; files = c.in_err-reserve.ensures.items })
+returns-in_err-reserve-clause-err g c = passed_kept c.from_residual.result _ (record { range = refl; memory = refl; files = c.in_err-reserve.ensures.same })
 
 pub returns-in_err-reserve-clause-name : goal.returns-in_err-reserve-clause-name
 returns-in_err-reserve-clause-name g c = record { uses = inl (refl, refl); within = λ most. most }
 
 pub returns-in_err-reserve-clause-full : goal.returns-in_err-reserve-clause-full
-returns-in_err-reserve-clause-full g c = (λ is. absurd (passed_kind c.from_residual.result NoMemory _ IsNoMemory c.from_residual.ensures.1 tt is), λ both. absurd (not_both _ _ (too_few c.args.self.now.files.items _ 64 (c.len.ensures ∙ c.args.self.now.files.ok.0) c.if-len-ge-MOST_FILES.false) both.1))
+returns-in_err-reserve-clause-full g c = (λ is. absurd (passed_kind c.from_residual.result c.in_err-reserve.field-0.0 _ IsNoMemory c.from_residual.ensures.1 (no_memory _ c.in_err-reserve.ensures.refusal) is), λ both. absurd (not_both _ _ (too_few c.args.self.now.files _ 64 c.len.ensures c.if-len-ge-MOST_FILES.false) both.1))
 
 pub returns-in_err-reserve-clause-exhausted : goal.returns-in_err-reserve-clause-exhausted
-returns-in_err-reserve-clause-exhausted g c = λ is. absurd (passed_kind c.from_residual.result NoMemory _ IsNoMemory c.from_residual.ensures.1 tt is)
+returns-in_err-reserve-clause-exhausted g c = λ is. absurd (passed_kind c.from_residual.result c.in_err-reserve.field-0.0 _ IsNoMemory c.from_residual.ensures.1 (no_memory _ c.in_err-reserve.ensures.refusal) is)
 
 pub returns-in_err-reserve-clause-large : goal.returns-in_err-reserve-clause-large
-returns-in_err-reserve-clause-large g c = λ is. absurd (passed_kind c.from_residual.result NoMemory _ IsNoMemory c.from_residual.ensures.1 tt is)
+returns-in_err-reserve-clause-large g c = λ is. absurd (passed_kind c.from_residual.result c.in_err-reserve.field-0.0 _ IsNoMemory c.from_residual.ensures.1 (no_memory _ c.in_err-reserve.ensures.refusal) is)
 
 pub returns-in_err-reserve-clause-damaged : goal.returns-in_err-reserve-clause-damaged
-returns-in_err-reserve-clause-damaged g c = λ is. absurd (passed_kind c.from_residual.result NoMemory _ IsNoMemory c.from_residual.ensures.1 tt is)
+returns-in_err-reserve-clause-damaged g c = λ is. absurd (passed_kind c.from_residual.result c.in_err-reserve.field-0.0 _ IsNoMemory c.from_residual.ensures.1 (no_memory _ c.in_err-reserve.ensures.refusal) is)
 
 pub returns-in_err-reserve-clause-unwritten : goal.returns-in_err-reserve-clause-unwritten
 returns-in_err-reserve-clause-unwritten g c = λ is. (refl, refl)
 
 pub returns-in_err-reserve-clause-refusal : goal.returns-in_err-reserve-clause-refusal
-returns-in_err-reserve-clause-refusal g c = passed_err c.from_residual.result NoMemory _ c.from_residual.ensures.1 tt
+returns-in_err-reserve-clause-refusal g c = passed_err c.from_residual.result c.in_err-reserve.field-0.0 _ c.from_residual.ensures.1 (subst IsMinorRefusal (sym c.in_err-reserve.ensures.refusal) tt)
 
 pub returns-in_err-reserve-clause-reason : goal.returns-in_err-reserve-clause-reason
-returns-in_err-reserve-clause-reason g c = quiet_reason c.from_residual.result _ (λ is. absurd (passed_kind c.from_residual.result NoMemory _ IsNoMemory c.from_residual.ensures.1 tt is))
+returns-in_err-reserve-clause-reason g c = quiet_reason c.from_residual.result _ (λ is. absurd (passed_kind c.from_residual.result c.in_err-reserve.field-0.0 _ IsNoMemory c.from_residual.ensures.1 (no_memory _ c.in_err-reserve.ensures.refusal) is))
 
 pub returns-then-len-ge-MOST_FILES-clause-lists : goal.returns-then-len-ge-MOST_FILES-clause-lists
 returns-then-len-ge-MOST_FILES-clause-lists g c = tt
@@ -161,7 +161,7 @@ pub returns-then-len-ge-MOST_FILES-clause-err : goal.returns-then-len-ge-MOST_FI
 returns-then-len-ge-MOST_FILES-clause-err g c = record { range = refl; memory = refl; files = refl }
 
 pub returns-then-len-ge-MOST_FILES-clause-full : goal.returns-then-len-ge-MOST_FILES-clause-full
-returns-then-len-ge-MOST_FILES-clause-full g c = (λ is. (not_empty _ _ c.is_empty.ensures c.if-is_empty.false, too_many c.args.self.now.files.items _ 64 (c.len.ensures ∙ c.args.self.now.files.ok.0) c.if-len-ge-MOST_FILES.true), λ both. refl)
+returns-then-len-ge-MOST_FILES-clause-full g c = (λ is. (not_empty _ _ c.is_empty.ensures c.if-is_empty.false, too_many c.args.self.now.files _ 64 c.len.ensures c.if-len-ge-MOST_FILES.true), λ both. refl)
 
 pub returns-then-len-ge-MOST_FILES-clause-exhausted : goal.returns-then-len-ge-MOST_FILES-clause-exhausted
 returns-then-len-ge-MOST_FILES-clause-exhausted g c = λ is. absurd (told_kind TooManyFiles _ IsTooManyFiles tt is)
@@ -191,7 +191,7 @@ pub returns-clause-name : goal.returns-clause-name
 returns-clause-name g c = record { uses = inr (c.in_ok-file.ensures.used.1, c.in_ok-file.ensures.others); within = c.in_ok-file.ensures.limit }
 
 pub returns-clause-full : goal.returns-clause-full
-returns-clause-full g c = (λ is. absurd (not_err _ _ is), λ both. absurd (not_both _ _ (too_few c.args.self.now.files.items _ 64 (c.len.ensures ∙ c.args.self.now.files.ok.0) c.if-len-ge-MOST_FILES.false) both.1))
+returns-clause-full g c = (λ is. absurd (not_err _ _ is), λ both. absurd (not_both _ _ (too_few c.args.self.now.files _ 64 c.len.ensures c.if-len-ge-MOST_FILES.false) both.1))
 
 pub returns-clause-exhausted : goal.returns-clause-exhausted
 returns-clause-exhausted g c = λ is. absurd (not_err _ _ is)
@@ -215,7 +215,7 @@ pub returns-in_err-file-clause-flushed : goal.returns-in_err-file-clause-flushed
 returns-in_err-file-clause-flushed g c = passed_none c.from_residual-in_err-file.result c.in_err-file.field-0.0 _ c.from_residual-in_err-file.ensures.1
 
 pub returns-in_err-reserve-clause-flushed : goal.returns-in_err-reserve-clause-flushed
-returns-in_err-reserve-clause-flushed g c = passed_none c.from_residual.result NoMemory _ c.from_residual.ensures.1
+returns-in_err-reserve-clause-flushed g c = passed_none c.from_residual.result c.in_err-reserve.field-0.0 _ c.from_residual.ensures.1
 
 pub returns-then-len-ge-MOST_FILES-clause-flushed : goal.returns-then-len-ge-MOST_FILES-clause-flushed
 returns-then-len-ge-MOST_FILES-clause-flushed g c = tt
@@ -224,19 +224,19 @@ pub returns-clause-flushed : goal.returns-clause-flushed
 returns-clause-flushed g c =
     let range = range_of c.args.self.now in
     let memory = memory_of c.args.self.now in
-    let files = inserted c.insert.result _ (c.in_ok-file.file ∷ c.reserve.new.self.items) c.reserve.new.self.items c.insert.ensures.items c.unwrap.ensures ∙ ap (λ fs. c.in_ok-file.file ∷ fs) c.in_ok-reserve.ensures.items in
+    let files = c.in_ok-replace_newest.ensures.ok ∙ ap (λ fs. c.in_ok-file.file ∷ fs) c.in_ok-reserve.ensures.same in
     record {
       names = names_more c.args.next_name.now _ c.in_ok-file.file _ _ (not_empty _ _ c.is_empty.ensures c.if-is_empty.false) files c.in_ok-file.ensures.named;
       memory = c.new.ensures;
       written = λ some. record {
-        room = too_few c.args.self.now.files.items _ 64 (c.len.ensures ∙ c.args.self.now.files.ok.0) c.if-len-ge-MOST_FILES.false;
+        room = too_few c.args.self.now.files _ 64 c.len.ensures c.if-len-ge-MOST_FILES.false;
         left = c.in_ok-file.ensures.used.0;
         used = c.in_ok-file.ensures.used.1;
         fits = subst (λ (es : List Entry). FitsIn c.args.file_limit es) (minor_writes c.keeps_one_list.ensures range memory c.len-2.ensures.list) (c.in_ok-file.ensures.fits tt);
       };
-      put = λ some. reads_none (g.F.Files.contents c.args.files.now) _ (has_put Minor (g.F.Files.contents c.args.files.now) (g.F.Files.contents c.write.new.files) c.args.self.now (record c.args.self.now { memtable = c.new.result; files = c.insert.new.self }) c.in_ok-file.file (λ m. written true (seen range memory ∷ [])) (λ m. seen range memory) files (λ m. minor_writes c.keeps_one_list.ensures range memory c.len-2.ensures.list)
+      put = λ some. reads_none (g.F.Files.contents c.args.files.now) _ (has_put Minor (g.F.Files.contents c.args.files.now) (g.F.Files.contents c.write.new.files) c.args.self.now (record c.args.self.now { memtable = c.new.result; files = c.replace_newest.new.self }) c.in_ok-file.file (λ m. written true (seen range memory ∷ [])) (λ m. seen range memory) files (λ m. minor_writes c.keeps_one_list.ensures range memory c.len-2.ensures.list)
           (made_of Minor (g.F.Files.contents c.args.files.now) (g.F.Files.contents c.write.new.files) c.args.self.now (record c.args.self.now { files = c.reserve.new.self }) c.in_ok-file.file (λ m. written true (seen range memory ∷ [])) (λ m. written true (seen range memory ∷ []))
-          (record { range = refl; memory = refl; files = c.in_ok-reserve.ensures.items }) (λ m. refl) c.in_ok-file.ensures.made));
+          (record { range = refl; memory = refl; files = c.in_ok-reserve.ensures.same }) (λ m. refl) c.in_ok-file.ensures.made));
     }
 
 pub returns-then-is_empty-clause-flushed : goal.returns-then-is_empty-clause-flushed
@@ -250,13 +250,60 @@ returns-then-is_empty-clause-name g c = record { uses = inl (refl, refl); within
 
 pub returns-in_err-file-clause-too_much : goal.returns-in_err-file-clause-too_much
 returns-in_err-file-clause-too_much g c = λ is.
-    still_too_much Minor (g.F.Files.contents c.args.files.now) c.args.self.now (record c.args.self.now { files = c.reserve.new.self }) (record { range = refl; memory = refl; files = c.in_ok-reserve.ensures.items }) c.args.file_limit (c.in_err-file.ensures.too_much (passed_on c.from_residual-in_err-file.result _ c.in_err-file.field-0.0 _ c.from_residual-in_err-file.ensures.1 refl is))
+    still_too_much Minor (g.F.Files.contents c.args.files.now) c.args.self.now (record c.args.self.now { files = c.reserve.new.self }) (record { range = refl; memory = refl; files = c.in_ok-reserve.ensures.same }) c.args.file_limit (c.in_err-file.ensures.too_much (passed_on c.from_residual-in_err-file.result _ c.in_err-file.field-0.0 _ c.from_residual-in_err-file.ensures.1 refl is))
 
 pub returns-in_err-reserve-clause-too_much : goal.returns-in_err-reserve-clause-too_much
-returns-in_err-reserve-clause-too_much g c = λ is. absurd (passed_kind c.from_residual.result NoMemory _ IsNoMemory c.from_residual.ensures.1 tt is)
+returns-in_err-reserve-clause-too_much g c = λ is. absurd (passed_kind c.from_residual.result c.in_err-reserve.field-0.0 _ IsNoMemory c.from_residual.ensures.1 (no_memory _ c.in_err-reserve.ensures.refusal) is)
 
 pub returns-then-len-ge-MOST_FILES-clause-too_much : goal.returns-then-len-ge-MOST_FILES-clause-too_much
 returns-then-len-ge-MOST_FILES-clause-too_much g c = λ is. absurd (told_kind TooManyFiles _ IsTooManyFiles tt is)
 
 pub returns-clause-too_much : goal.returns-clause-too_much
 returns-clause-too_much g c = λ is. absurd (not_err _ _ is)
+
+pub returns-in_err-replace_newest-clause-flushed : goal.returns-in_err-replace_newest-clause-flushed
+returns-in_err-replace_newest-clause-flushed g c = passed_none c.from_residual-in_err-replace_newest.result c.in_err-replace_newest.field-0.0 _ c.from_residual-in_err-replace_newest.ensures.1
+
+pub returns-in_err-replace_newest-clause-lists : goal.returns-in_err-replace_newest-clause-lists
+returns-in_err-replace_newest-clause-lists g c = passed_none c.from_residual-in_err-replace_newest.result c.in_err-replace_newest.field-0.0 _ c.from_residual-in_err-replace_newest.ensures.1
+
+pub returns-in_err-replace_newest-clause-keeps : goal.returns-in_err-replace_newest-clause-keeps
+returns-in_err-replace_newest-clause-keeps g c =
+    still_keeps c.stays_open.ensures (g.F.Files.contents c.args.files.now) (g.F.Files.contents c.write.new.files) c.args.next_name.now c.write.new.next_name c.args.self.now _
+    (record { range = refl; memory = refl; files = c.in_err-replace_newest.ensures.err ∙ c.in_ok-reserve.ensures.same }) c.in_ok-file.ensures.name
+
+pub returns-in_err-replace_newest-clause-range : goal.returns-in_err-replace_newest-clause-range
+returns-in_err-replace_newest-clause-range g c = refl
+
+pub returns-in_err-replace_newest-clause-err : goal.returns-in_err-replace_newest-clause-err
+returns-in_err-replace_newest-clause-err g c = passed_kept c.from_residual-in_err-replace_newest.result _ (record { range = refl; memory = refl; files = c.in_err-replace_newest.ensures.err ∙ c.in_ok-reserve.ensures.same })
+
+pub returns-in_err-replace_newest-clause-name : goal.returns-in_err-replace_newest-clause-name
+returns-in_err-replace_newest-clause-name g c = record { uses = c.in_ok-file.ensures.name; within = c.in_ok-file.ensures.limit }
+
+pub returns-in_err-replace_newest-clause-exhausted : goal.returns-in_err-replace_newest-clause-exhausted
+returns-in_err-replace_newest-clause-exhausted g c = λ is. absurd (passed_kind c.from_residual-in_err-replace_newest.result c.in_err-replace_newest.field-0.0 _ IsNoMemory c.from_residual-in_err-replace_newest.ensures.1 (no_memory _ c.in_err-replace_newest.ensures.refusal) is)
+
+pub returns-in_err-replace_newest-clause-large : goal.returns-in_err-replace_newest-clause-large
+returns-in_err-replace_newest-clause-large g c = λ is. absurd (passed_kind c.from_residual-in_err-replace_newest.result c.in_err-replace_newest.field-0.0 _ IsNoMemory c.from_residual-in_err-replace_newest.ensures.1 (no_memory _ c.in_err-replace_newest.ensures.refusal) is)
+
+pub returns-in_err-replace_newest-clause-too_much : goal.returns-in_err-replace_newest-clause-too_much
+returns-in_err-replace_newest-clause-too_much g c = λ is. absurd (passed_kind c.from_residual-in_err-replace_newest.result c.in_err-replace_newest.field-0.0 _ IsNoMemory c.from_residual-in_err-replace_newest.ensures.1 (no_memory _ c.in_err-replace_newest.ensures.refusal) is)
+
+pub returns-in_err-replace_newest-clause-damaged : goal.returns-in_err-replace_newest-clause-damaged
+returns-in_err-replace_newest-clause-damaged g c = λ is. absurd (passed_kind c.from_residual-in_err-replace_newest.result c.in_err-replace_newest.field-0.0 _ IsNoMemory c.from_residual-in_err-replace_newest.ensures.1 (no_memory _ c.in_err-replace_newest.ensures.refusal) is)
+
+pub returns-in_err-replace_newest-clause-unwritten : goal.returns-in_err-replace_newest-clause-unwritten
+returns-in_err-replace_newest-clause-unwritten g c = λ is. absurd (passed_kind c.from_residual-in_err-replace_newest.result c.in_err-replace_newest.field-0.0 _ IsNoMemory c.from_residual-in_err-replace_newest.ensures.1 (no_memory _ c.in_err-replace_newest.ensures.refusal) is)
+
+pub returns-in_err-replace_newest-clause-empty : goal.returns-in_err-replace_newest-clause-empty
+returns-in_err-replace_newest-clause-empty g c = λ none. absurd (not_empty _ _ c.is_empty.ensures c.if-is_empty.false none)
+
+pub returns-in_err-replace_newest-clause-full : goal.returns-in_err-replace_newest-clause-full
+returns-in_err-replace_newest-clause-full g c = (λ is. absurd (passed_kind c.from_residual-in_err-replace_newest.result c.in_err-replace_newest.field-0.0 _ IsNoMemory c.from_residual-in_err-replace_newest.ensures.1 (no_memory _ c.in_err-replace_newest.ensures.refusal) is), λ both. absurd (not_both _ _ (too_few c.args.self.now.files _ 64 c.len.ensures c.if-len-ge-MOST_FILES.false) both.1))
+
+pub returns-in_err-replace_newest-clause-refusal : goal.returns-in_err-replace_newest-clause-refusal
+returns-in_err-replace_newest-clause-refusal g c = passed_err c.from_residual-in_err-replace_newest.result c.in_err-replace_newest.field-0.0 _ c.from_residual-in_err-replace_newest.ensures.1 (subst IsMinorRefusal (sym c.in_err-replace_newest.ensures.refusal) tt)
+
+pub returns-in_err-replace_newest-clause-reason : goal.returns-in_err-replace_newest-clause-reason
+returns-in_err-replace_newest-clause-reason g c = reason_after _ _ _ (c.in_ok-file.ensures.reason.told (not_err _ Device)) (quiet_reason c.from_residual-in_err-replace_newest.result _ (λ is. absurd (passed_kind c.from_residual-in_err-replace_newest.result c.in_err-replace_newest.field-0.0 _ IsNoMemory c.from_residual-in_err-replace_newest.ensures.1 (no_memory _ c.in_err-replace_newest.ensures.refusal) is)))

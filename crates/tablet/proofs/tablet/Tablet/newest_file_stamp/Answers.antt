@@ -1,9 +1,18 @@
-use Rattle.std.proofs.Common.{length, refl, sym, ap, ◌∙◌}
-use Rattle.std.proofs.lemmas.List.{with_items_is}
-use Rattle.tablet.proofs.SameFiles.{same_looked}
+use Rattle.std.proofs.Common.{map, refl, subst, ◌∙◌}
+use Rattle.cell_key.specs.declared.keys.CellKey.{CellKey}
+use Rattle.sorted_file.specs.File.{listed}
+use Rattle.tablet.specs.Reads.{HasNoLater}
+use Rattle.tablet.specs.Views.{files_of}
+use Rattle.tablet.proofs.Lookups.{if_one, ok_map}
+use Rattle.tablet.proofs.SameFiles.{same_tablet}
 use Rattle.tablet.proofs.tablet.Tablet.newest_file_stamp.Goals as goal
 
+pub returns-clause-found : goal.returns-clause-found
+returns-clause-found g c =
+    ok_map c.newest_stamp.result c.newest_stamp.ensures.found (λ found h.
+    if_one (g.F.Files.contents c.args.files.now) h (λ m later held.
+    subst (λ (key : CellKey). HasNoLater key c.args.lo found (map (listed m) (files_of c.args.self.now)))
+    (c.in_ok-key.ensures.key ∙ c.in_ok-last.ensures.key) (later held.files)))
+
 pub returns-clause-stays : goal.returns-clause-stays
-returns-clause-stays g c =
-    same_looked (g.F.Files.contents c.args.files.now) c.args.self.now _ c.deref_mut.result.now c.newest_stamp.new.files refl refl c.deref_mut.ensures.value
-    (with_items_is c.args.self.now.files c.newest_stamp.new.files (c.newest_stamp.auto.files ∙ ap length c.deref_mut.ensures.value ∙ sym c.args.self.now.files.ok.0)) c.newest_stamp.ensures.stay
+returns-clause-stays g c = same_tablet (g.F.Files.contents c.args.files.now) c.args.self.now _ refl refl c.newest_stamp.ensures.stay

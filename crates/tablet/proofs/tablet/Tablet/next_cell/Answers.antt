@@ -1,7 +1,7 @@
 use Rattle.std.proofs.Common.{◌≡◌, ◌<◌, ◌-◌, ℕ, List, [], ◌∷◌, length, Option, Some, None, IsSome, slice_index_or, option_map, refl, sym, subst, arith}
 use Rattle.cell_key.specs.Cells.{Cells}
 use Rattle.cell_key.specs.Places.{AreNextCells, IsNextCell, Place, place_named}
-use Rattle.tablet.specs.Views.{Holds, cells_at}
+use Rattle.tablet.specs.Views.{cells_at}
 use Rattle.tablet.proofs.Lookups.{if_one}
 use Rattle.tablet.proofs.tablet.Tablet.next_cell.Goals as goal
 

@@ -9,6 +9,6 @@ use Rattle.tablet.proofs.tablet.Tablet.next_versions.Goals as goal
 pub returns-clause-found : goal.returns-clause-found
 returns-clause-found g c =
     ok_map c.merged_versions.result c.merged_versions.ensures.found (λ batch h.
-    versions_found c.args.self.now c.deref-3.result.now c.deref-3.ensures.value (option_map place_named c.args.after) c.past_place.ensures.names
+    versions_found c.args.self.now c.as_slice.result.now c.as_slice.ensures (option_map place_named c.args.after) c.past_place.ensures.names
     c.later-from.result.now (option_copied c.as_deref.result) (c.later-from.ensures ∙ (λ i. later ((c.deref.ensures.value ∙ c.in_ok-fence.ensures.from) i) ((c.deref-2.ensures.value ∙ c.in_ok-past.ensures.past) i))) (c.as_deref.ensures.value ∙ c.in_ok-fence.ensures.end)
     (g.F.Files.contents c.args.files.now) c.args.hi batch h)

@@ -13,7 +13,7 @@ one_more start out new files items i name file h same is named before after =
 
 pub loop-file-preserved : goal.loop-file-preserved
 loop-file-preserved c = record {
-  names = one_more _ _ _ _ _ _ _ _ c.loop-file-test.true c.deref-file-items.ensures.value c.file-item.is c.name.ensures c.loop-file.invariant.names c.push_reserved.ensures.items;
+  names = one_more _ _ _ _ _ _ _ _ c.loop-file-test.true c.as_slice-file-items.ensures c.file-item.is c.name.ensures c.loop-file.invariant.names c.push_reserved.ensures.items;
   count = (let a = c.push_reserved.ensures.len in let b = c.loop-file.invariant.count in omega arith);
   room = (let a = c.push_reserved.ensures.capacity in let b = c.loop-file.invariant.room in omega arith);
 }

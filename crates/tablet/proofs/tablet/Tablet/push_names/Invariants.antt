@@ -4,7 +4,7 @@ use Rattle.tablet.proofs.tablet.Tablet.push_names.Given as goal
 
 abbrev pub invariant-loop-file : goal.invariant-loop-file
 invariant-loop-file l = record {
-  names : l.out.items ≡ l.initial.out.items ++ map name_of (take l.file-index l.self.files.items);
+  names : l.out.items ≡ l.initial.out.items ++ map name_of (take l.file-index l.self.files);
   count : vec_len l.out ≡ vec_len l.initial.out + l.file-index;
-  room : vec_len l.initial.out + length l.self.files.items ≤ vec_capacity l.out;
+  room : vec_len l.initial.out + length l.self.files ≤ vec_capacity l.out;
 }

@@ -1,22 +1,21 @@
-use Rattle.std.proofs.Common.{length, refl, sym, ap, subst, ◌∙◌}
-use Rattle.std.proofs.lemmas.List.{with_items_is}
+use Rattle.std.proofs.Common.{refl}
 use Rattle.std.specs.List.{AllByRecursion}
 use Rattle.sorted_file.specs.File.{IsOpen}
 use Rattle.tablet.specs.Views.{Holds}
 use Rattle.tablet.proofs.Lookups.{one_none, one_some}
 use Rattle.tablet.proofs.Passed.{not_err, passed_err, passed_none, passed_on, passed_reason, reason_of_ok}
-use Rattle.tablet.proofs.SameFiles.{same_itself, same_looked}
+use Rattle.tablet.proofs.SameFiles.{same_itself, same_tablet}
 use Rattle.tablet.proofs.WrittenFiles.{if_some_not}
 use Rattle.tablet.proofs.tablet.Tablet.version_at.Goals as goal
 
 pub returns-in-Some-clause-found : goal.returns-in-Some-clause-found
 returns-in-Some-clause-found g c =
-    one_some c.args.self.now c.deref_mut.result.now c.deref_mut.ensures.value c.args.row.now c.args.family.now c.args.qualifier c.args.stamp c.in_ok-key.ensures.row c.in_ok-key.ensures.family c.requires.from c.requires.to c.in_ok-key.key c.in_ok-key.ensures.key
+    one_some c.args.self.now c.args.self.now.files refl c.args.row.now c.args.family.now c.args.qualifier c.args.stamp c.in_ok-key.ensures.row c.in_ok-key.ensures.family c.requires.from c.requires.to c.in_ok-key.key c.in_ok-key.ensures.key
     (g.F.Files.contents c.args.files.now) c.in-Some.value.items (rw c.in-Some.is at c.in_ok-value.ensures.found)
 
 pub returns-clause-found : goal.returns-clause-found
 returns-clause-found g c =
-    one_none c.args.self.now c.deref_mut.result.now c.deref_mut.ensures.value c.args.row.now c.args.family.now c.args.qualifier c.args.stamp c.in_ok-key.ensures.row c.in_ok-key.ensures.family c.requires.from c.requires.to c.in_ok-key.key c.in_ok-key.ensures.key
+    one_none c.args.self.now c.args.self.now.files refl c.args.row.now c.args.family.now c.args.qualifier c.args.stamp c.in_ok-key.ensures.row c.in_ok-key.ensures.family c.requires.from c.requires.to c.in_ok-key.key c.in_ok-key.ensures.key
     (g.F.Files.contents c.args.files.now) (rw c.in-None.is at c.in_ok-value.ensures.found)
 
 pub returns-in_err-key-clause-same : goal.returns-in_err-key-clause-same
@@ -30,7 +29,7 @@ returns-in_err-value-clause-limits g c = passed_none c.from_residual-in_err-valu
 
 pub returns-in_err-value-clause-damaged : goal.returns-in_err-value-clause-damaged
 returns-in_err-value-clause-damaged g c = λ is.
-    if_some_not (g.F.Files.contents c.args.files.now) (λ m. AllByRecursion (IsOpen m) c.deref_mut.result.now) (λ m. Holds m c.args.self.now) (λ m h. subst (AllByRecursion (IsOpen m)) (sym c.deref_mut.ensures.value) h.files)
+    if_some_not (g.F.Files.contents c.args.files.now) (λ m. AllByRecursion (IsOpen m) c.args.self.now.files) (λ m. Holds m c.args.self.now) (λ m h. h.files)
     (c.in_err-value.ensures.damaged (passed_on c.from_residual-in_err-value.result _ c.in_err-value.field-0.0 _ c.from_residual-in_err-value.ensures.1 refl is))
 
 pub returns-in_err-value-clause-refusal : goal.returns-in_err-value-clause-refusal
@@ -73,10 +72,10 @@ pub returns-in_err-key-clause-stays : goal.returns-in_err-key-clause-stays
 returns-in_err-key-clause-stays g c = same_itself (g.F.Files.contents c.args.files.now) c.args.self.now
 
 pub returns-in_err-value-clause-stays : goal.returns-in_err-value-clause-stays
-returns-in_err-value-clause-stays g c = same_looked (g.F.Files.contents c.args.files.now) c.args.self.now _ c.deref_mut.result.now c.lookup.new.files refl refl c.deref_mut.ensures.value (with_items_is c.args.self.now.files c.lookup.new.files (c.lookup.auto.files ∙ ap length c.deref_mut.ensures.value ∙ sym c.args.self.now.files.ok.0)) c.lookup.ensures.stay
+returns-in_err-value-clause-stays g c = same_tablet (g.F.Files.contents c.args.files.now) c.args.self.now _ refl refl c.lookup.ensures.stay
 
 pub returns-in-Some-clause-stays : goal.returns-in-Some-clause-stays
-returns-in-Some-clause-stays g c = same_looked (g.F.Files.contents c.args.files.now) c.args.self.now _ c.deref_mut.result.now c.lookup.new.files refl refl c.deref_mut.ensures.value (with_items_is c.args.self.now.files c.lookup.new.files (c.lookup.auto.files ∙ ap length c.deref_mut.ensures.value ∙ sym c.args.self.now.files.ok.0)) c.lookup.ensures.stay
+returns-in-Some-clause-stays g c = same_tablet (g.F.Files.contents c.args.files.now) c.args.self.now _ refl refl c.lookup.ensures.stay
 
 pub returns-clause-stays : goal.returns-clause-stays
-returns-clause-stays g c = same_looked (g.F.Files.contents c.args.files.now) c.args.self.now _ c.deref_mut.result.now c.lookup.new.files refl refl c.deref_mut.ensures.value (with_items_is c.args.self.now.files c.lookup.new.files (c.lookup.auto.files ∙ ap length c.deref_mut.ensures.value ∙ sym c.args.self.now.files.ok.0)) c.lookup.ensures.stay
+returns-clause-stays g c = same_tablet (g.F.Files.contents c.args.files.now) c.args.self.now _ refl refl c.lookup.ensures.stay

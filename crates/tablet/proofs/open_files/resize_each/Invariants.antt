@@ -3,7 +3,7 @@ use Rattle.std.proofs.Common.{Option}
 use Rattle.std.specs.List.{AllZip}
 use Rattle.file_store.specs.Store.{Contents}
 use Rattle.sorted_file.specs.File.{IsSameFile}
-use Rattle.tablet.proofs.caches.resize_each.Given as goal
+use Rattle.tablet.proofs.open_files.resize_each.Given as goal
 
 abbrev pub invariant-loop-file : goal.invariant-loop-file
 invariant-loop-file l = record {

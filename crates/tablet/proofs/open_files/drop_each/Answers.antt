@@ -1,7 +1,7 @@
 -- One file after the other stays what it was.
 use Rattle.std.proofs.Common.{◌<◌, length, refl, arith}
 use Rattle.tablet.proofs.SameFiles.{same_files, same_set}
-use Rattle.tablet.proofs.caches.drop_each.Goals as goal
+use Rattle.tablet.proofs.open_files.drop_each.Goals as goal
 
 pub loop-file-init : goal.loop-file-init
 loop-file-init c = record { same = λ told. same_files told c.args.files.now }

@@ -1,5 +1,5 @@
 use Rattle.std.proofs.Common.{◌≡◌, ◌+◌, drop, vec_len}
-use Rattle.tablet.proofs.compactions.replace_newest.Given as goal
+use Rattle.tablet.proofs.open_files.replace_newest.Given as goal
 
 abbrev pub invariant-newest : goal.invariant-newest
 invariant-newest l = record {

@@ -2,7 +2,7 @@ use Rattle.std.proofs.Common.{◌≡◌, ℕ, ◌+◌, ◌-◌, ◌<◌, ◌≤�
 use Rattle.std.proofs.lemmas.List.{drop-drop}
 use Rattle.std.proofs.Math.ListN.{set}
 use Rattle.std.specs.List.{remove}
-use Rattle.tablet.proofs.compactions.replace_newest.Goals as goal
+use Rattle.tablet.proofs.open_files.replace_newest.Goals as goal
 
 one_fewer : {A : Type 0} (new old all : List A) (i : ℕ) → new ≡ remove old 0 → old ≡ drop i all → new ≡ drop (i + 1) all
 one_fewer new old all i e f = e ∙ ap (λ xs. remove xs 0) f ∙ drop-drop 1 i all

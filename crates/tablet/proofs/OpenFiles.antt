@@ -1,0 +1,56 @@
+-- Files that a filter of their keys covers.
+use Rattle.std.proofs.Common.{◌≡◌, ◌∙◌, ℕ, List, [], ◌∷◌, map, drop, length, Option, None, refl, sym, ap}
+use Rattle.std.proofs.lemmas.List.{with_items_is}
+use Rattle.std.proofs.lemmas.List.Elements.{All-cons, All-drop, All-head, All-nil, All-same, All-tail, All-weaker}
+use Rattle.std.specs.List.{AllByRecursion, AllZip}
+use Rattle.std.specs.Prelude.{All}
+use Rattle.std.specs.Vec.{with_items}
+use Rattle.std.specs.declared.vec.Vec.{Vec}
+use Rattle.cell_key.specs.Keys.{text}
+use Rattle.cell_key.specs.Entries.{entry_of_key, first_naming, or_else}
+use Rattle.cell_key.specs.declared.keys.CellKey.{CellKey}
+use Rattle.file_store.specs.Store.{Contents}
+use Rattle.sorted_file.specs.File.{IsOpen, IsSameFile, listed}
+use Rattle.sorted_file.specs.KeyFilters.{Covers, StaysCovered}
+use Rattle.sorted_file.specs.Newest.{IsNewestStamp, at_stamp}
+use Rattle.sorted_file.specs.declared.file.SortedFile.{SortedFile}
+use Rattle.sorted_file.specs.declared.key_filter.KeyFilter.{KeyFilter}
+use Rattle.tablet.specs.Reads.{HasNoLater}
+use Rattle.tablet.proofs.LeftOut.{value_or}
+
+-- files that are what they were are still covered
+still_covered : StaysCovered → (o : Option Contents) (filter : KeyFilter) (xs ys : List SortedFile) → AllZip (IsSameFile o) xs ys → All (Covers filter) xs → All (Covers filter) ys
+still_covered stays o filter [] [] same all = All-nil (Covers filter)
+still_covered stays o filter [] (y ∷ ys) same all = absurd same
+still_covered stays o filter (x ∷ xs) [] same all = absurd same
+still_covered stays o filter (x ∷ xs) (y ∷ ys) same all =
+    All-cons (Covers filter) y ys (stays o filter x y same.0 (All-head (Covers filter) x xs all))
+    (still_covered stays o filter xs ys same.1 (All-tail (Covers filter) x xs all))
+
+-- also where they were lent as a slice
+pub covered_after : {Z : Type 0} → StaysCovered → (o : Option Contents) (filter : KeyFilter) (files : Vec SortedFile Z) (lent now : List SortedFile) → lent ≡ files.items → length now ≡ length lent → AllZip (IsSameFile o) lent now
+    → All (Covers filter) files.items → All (Covers filter) (with_items files now).items
+covered_after stays o filter files lent now is size same all =
+    All-same (Covers filter) _ now (with_items_is files now (size ∙ ap length is ∙ sym files.ok.0)) (still_covered stays o filter lent now same (All-same (Covers filter) lent files.items is all))
+
+-- a file more, in the place of the first ones
+pub covered_more : (old new : KeyFilter) (count : ℕ) (file : SortedFile) (xs : List SortedFile) → Covers new file → ((other : SortedFile) → Covers old other → Covers new other) → All (Covers old) xs → All (Covers new) (file ∷ drop count xs)
+covered_more old new count file xs covers keeps all =
+    All-cons (Covers new) file (drop count xs) covers (All-drop (Covers new) count xs (All-weaker (Covers old) (Covers new) keeps xs all))
+
+module _ (m : Contents) (filter : KeyFilter) where
+  -- no file has what the filter says that none has
+  pub none_named : (name : List ℕ) → ((file : SortedFile) → Covers filter file → (n : Contents) → IsOpen n file → entry_of_key (listed n file) name ≡ None)
+      → (xs : List SortedFile) → All (Covers filter) xs → AllByRecursion (IsOpen m) xs → None ≡ first_naming (map (listed m) xs) name
+  none_named name none [] all each = refl
+  none_named name none (x ∷ xs) all each =
+      none_named name none xs (All-tail (Covers filter) x xs all) each.1
+      ∙ ap (λ e. or_else e (first_naming (map (listed m) xs) name)) (sym (none x (All-head (Covers filter) x xs all) m each.0))
+
+  pub none_later : (key : CellKey) (lo : ℕ) → ((file : SortedFile) → Covers filter file → (n : Contents) → IsOpen n file → (least : ℕ) → IsNewestStamp (listed n file) key least None)
+      → (xs : List SortedFile) → All (Covers filter) xs → AllByRecursion (IsOpen m) xs → HasNoLater key lo None (map (listed m) xs)
+  none_later key lo none [] all each = λ s low high stored. refl
+  none_later key lo none (x ∷ xs) all each = λ s low high stored.
+      let rest = none_later key lo none xs (All-tail (Covers filter) x xs all) each.1 s low high stored in
+      value_or (entry_of_key (listed m x) (text (at_stamp key s))) (first_naming (map (listed m) xs) (text (at_stamp key s))) rest
+      ∙ none x (All-head (Covers filter) x xs all) m each.0 lo s low high stored

@@ -1,0 +1,29 @@
+use Rattle.std.proofs.Common.{map, sym, ap, ◌∙◌}
+use Rattle.std.proofs.lemmas.List.Elements.{All-same}
+use Rattle.cell_key.specs.Keys.{text}
+use Rattle.cell_key.specs.Entries.{first_naming}
+use Rattle.cell_key.specs.declared.keys.CellKey.{CellKey}
+use Rattle.sorted_file.specs.File.{listed}
+use Rattle.sorted_file.specs.KeyFilters.{Covers}
+use Rattle.tablet.proofs.OpenFiles.{covered_after, none_named}
+use Rattle.tablet.proofs.Passed.{over_any}
+use Rattle.tablet.proofs.SameFiles.{same_files}
+use Rattle.tablet.proofs.open_files.OpenFiles.find.Goals as goal
+
+pub returns-in_err-key-clause-stay : goal.returns-in_err-key-clause-stay
+returns-in_err-key-clause-stay g c = same_files (g.F.Files.contents c.args.store.now) c.args.self.now
+
+pub returns-then-not-may_have_key-clause-found : goal.returns-then-not-may_have_key-clause-found
+returns-then-not-may_have_key-clause-found g c =
+    let filter = c.self.inside.filter in
+    let files = c.args.self.now in
+    let all = All-same (Covers filter) files _ (sym c.self.view_is) c.self.invariant in
+    over_any (g.F.Files.contents c.args.store.now) _ (λ m each.
+    none_named m filter (text c.in_ok-key.key) (c.may_have_key.ensures.none c.if-not-may_have_key.true) files all each
+    ∙ ap (λ (key : CellKey). first_naming (map (listed m) files) (text key)) c.in_ok-key.ensures.key)
+
+pub returns-then-not-may_have_key-clause-stay : goal.returns-then-not-may_have_key-clause-stay
+returns-then-not-may_have_key-clause-stay g c = same_files (g.F.Files.contents c.args.store.now) c.args.self.now
+
+pub invariant_of-self : goal.invariant_of-self
+invariant_of-self g c = covered_after c.stays_covered.ensures (g.F.Files.contents c.args.store.now) c.self.inside.filter c.self.inside.files c.deref_mut.result.now c.find_in_files.new.files c.deref_mut.ensures.value c.find_in_files.auto.files c.find_in_files.ensures.stay c.self.invariant

@@ -1,0 +1,210 @@
+//! The open files of a tablet, with a filter of their keys.
+
+ghost use Rattle.std.specs.Prelude.{◌≡◌, ◌≤◌, ◌<◌, ◌^◌, ◌∷◌, [], Option, option_map, map, drop, length, vec_len, IfOk, IfErr, IfSome, IsErrOf, OnOk, OnErr};
+ghost use Rattle.std.specs.List.{AllByRecursion, AllZip};
+ghost use Rattle.cell_key.specs.Entries.{first_naming};
+ghost use Rattle.cell_key.specs.Faults.{HasReason};
+ghost use Rattle.cell_key.specs.Keys.{text};
+ghost use Rattle.file_store.specs.Store.{Contents};
+ghost use Rattle.sorted_file.specs.File.{IsOpen, IsSameFile, IsShortValue, listed, value_bytes};
+ghost use Rattle.sorted_file.specs.Source.{IsReadRefusal};
+ghost use Rattle.tablet.specs.Reads.{HasNoLater};
+
+use crate::lookup::{find_in_files, newest_stamp};
+use cell_key::{CellKey, Refusal, Stamp};
+use file_store::Files;
+use sorted_file::{KeyFilter, LookupKey, SortedFile, stays_covered};
+use std::alloc::Global;
+use std::marker::Model;
+use std::num::NonZeroUsize;
+
+/// Puts a file in the place of the first `count` ones.
+fn replace_newest(files: &mut Vec<SortedFile>, count: usize, file: SortedFile)
+    requires some { 1 ≤ count }
+    requires within { count ≤ vec_len files.old }
+    ensures { files.new.items ≡ file ∷ drop count files.old.items }
+{
+    'newest: for _ in 0..count - 1 {
+        let _ = files.remove(0);
+    }
+    files[0] = file;
+}
+
+/// Empties the caches of some files. The files stay what they were.
+fn drop_each(files: &mut [SortedFile])
+    ensures { (disk : Option Contents) → AllZip (IsSameFile disk) files.old files.new }
+{
+    for file in files.iter_mut() {
+        file.drop_cache();
+    }
+}
+
+/// Lets each of some files cache this many blocks at most. The files stay what they were.
+fn resize_each(files: &mut [SortedFile], most_blocks: NonZeroUsize)
+    ensures { (disk : Option Contents) → AllZip (IsSameFile disk) files.old files.new }
+{
+    for file in files.iter_mut() {
+        file.resize_cache(most_blocks);
+    }
+}
+
+/// The open files of a tablet, the newest first.
+#[derive(Drop)]
+pub(crate) struct OpenFiles {
+    alloc: Global,
+    files: Vec<SortedFile>,
+    /// It covers each file.
+    filter: KeyFilter,
+}
+
+impl Model for OpenFiles {
+    ghost use Rattle.std.specs.Prelude.{List, All};
+    ghost use Rattle.sorted_file.specs.KeyFilters.{Covers};
+    ghost use Rattle.sorted_file.specs.declared.file.SortedFile.{SortedFile as FileOf};
+
+    ghost Value = { List FileOf };
+
+    ghost view = { λ opened. opened.files.items };
+
+    ghost invariant = { λ opened. All (Covers opened.filter) opened.files.items };
+}
+
+impl OpenFiles {
+    /// No files. Takes no memory.
+    pub(crate) fn new(alloc: Global) -> OpenFiles
+        ensures { result ≡ [] }
+    {
+        OpenFiles {
+            alloc,
+            files: Vec::new(alloc),
+            filter: KeyFilter::all(alloc),
+        }
+    }
+
+    /// These files. Answers `NoMemory` if there is no memory for the filter.
+    pub(crate) fn of(alloc: Global, files: Vec<SortedFile>) -> Result<OpenFiles, Refusal>
+        ensures files { IfOk result (λ opened. opened ≡ files.items) }
+        ensures refusal { IfErr result (λ refusal. refusal ≡ Refusal.NoMemory) }
+    {
+        let filter = KeyFilter::new(alloc, &files, 0)?;
+        Ok(OpenFiles {
+            alloc,
+            files,
+            filter,
+        })
+    }
+
+    /// The files.
+    pub(crate) fn as_slice(&self) -> &[SortedFile]
+        ensures { result.now ≡ self.now }
+    {
+        &self.files
+    }
+
+    /// How many files there are.
+    pub(crate) fn len(&self) -> usize
+        ensures { result ≡ length self.now }
+    {
+        self.files.len()
+    }
+
+    /// Makes room for a file more, of so many entries at most. Answers `NoMemory` if there is no memory. The files stay,
+    /// also after an `Err`.
+    pub(crate) fn reserve(&mut self, entries: usize) -> Result<(), Refusal>
+        ensures same { self.new ≡ self.old }
+        ensures refusal { IfErr result (λ refusal. refusal ≡ Refusal.NoMemory) }
+    {
+        self.filter.reserve(&self.files, entries)?;
+        self.files.reserve(1)?;
+        Ok(())
+    }
+
+    /// Puts a file in the place of the first `count` ones. Takes no memory if `count` isn't 0 or room was made before.
+    /// Else it answers `NoMemory` if there is none, and the files are then as they were.
+    pub(crate) fn replace_newest(&mut self, count: usize, file: SortedFile) -> Result<(), Refusal>
+        requires { count ≤ length self.old }
+        ensures ok { OnOk result (self.new ≡ file ∷ drop count self.old) }
+        ensures err { OnErr result (self.new ≡ self.old) }
+        ensures refusal { IfErr result (λ refusal. refusal ≡ Refusal.NoMemory) }
+    {
+        self.filter.add(&file);
+        if count == 0 {
+            self.files.insert(0, file)?;
+        } else {
+            replace_newest(&mut self.files, count, file);
+        }
+        Ok(())
+    }
+
+    /// The greatest stamp, from `lo` up to that of the key, at which any of the files has a value of the key's column.
+    /// No file is asked if the filter says that none has one. The files stay what they were.
+    pub(crate) fn newest_stamp<F: Files>(
+        &mut self,
+        key: &LookupKey<'_>,
+        lo: Stamp,
+        store: &mut F,
+    ) -> Result<Option<Stamp>, Refusal>
+        requires { key.now.stamp < 2 ^ 63 }
+        ensures found { IfOk result (λ found. IfSome (F.contents store.old) (λ m.
+            AllByRecursion (IsOpen m) self.old
+            → HasNoLater key.now lo found (map (listed m) self.old))) }
+        ensures within { IfOk result (λ found.
+            IfSome found (λ stamp. (lo ≤ stamp) × (stamp ≤ key.now.stamp))) }
+        ensures stay { AllZip (IsSameFile (F.contents store.old)) self.old self.new }
+        ensures damaged { IsErrOf result Refusal.Damaged → IfSome (F.contents store.old)
+            (λ m. ¬ AllByRecursion (IsOpen m) self.old) }
+        ensures refusal { IfErr result IsReadRefusal }
+        ensures same { F.contents store.new ≡ F.contents store.old }
+        ensures reason { HasReason (F.faults store.old) (F.faults store.new) result }
+    {
+        stays_covered();
+        if !self.filter.may_have_value(key) {
+            return Ok(None);
+        }
+        newest_stamp(&mut self.files, key, lo, store)
+    }
+
+    /// What the first of the files that names a key has of it. The key's text is made once, and no file is asked if the
+    /// filter says that none names the key. The files stay what they were.
+    pub(crate) fn find<F: Files>(
+        &mut self,
+        key: &CellKey,
+        store: &mut F,
+    ) -> Result<Option<Option<Vec<u8>>>, Refusal>
+        requires from { 1 ≤ key.now.stamp }
+        requires to { key.now.stamp < 2 ^ 63 }
+        ensures found { IfOk result (λ found. IfSome (F.contents store.old) (λ m.
+            AllByRecursion (IsOpen m) self.old → option_map value_bytes found
+            ≡ first_naming (map (listed m) self.old) (text key.now))) }
+        ensures short { IfOk result (λ found. IfSome found IsShortValue) }
+        ensures stay { AllZip (IsSameFile (F.contents store.old)) self.old self.new }
+        ensures damaged { IsErrOf result Refusal.Damaged
+            → IfSome (F.contents store.old) (λ m. ¬ AllByRecursion (IsOpen m) self.old) }
+        ensures refusal { IfErr result IsReadRefusal }
+        ensures same { F.contents store.new ≡ F.contents store.old }
+        ensures reason { HasReason (F.faults store.old) (F.faults store.new) result }
+    {
+        stays_covered();
+        let key = LookupKey::new(self.alloc, key)?;
+        if !self.filter.may_have_key(&key) {
+            return Ok(None);
+        }
+        find_in_files(&mut self.files, &key, store)
+    }
+
+    /// Empties the caches of the files. The files stay what they were. Takes no memory.
+    pub(crate) fn drop_caches(&mut self)
+        ensures { (disk : Option Contents) → AllZip (IsSameFile disk) self.old self.new }
+    {
+        stays_covered();
+        drop_each(&mut self.files);
+    }
+
+    /// Lets each file cache this many blocks at most. The files stay what they were.
+    pub(crate) fn resize_caches(&mut self, most_blocks: NonZeroUsize)
+        ensures { (disk : Option Contents) → AllZip (IsSameFile disk) self.old self.new }
+    {
+        stays_covered();
+        resize_each(&mut self.files, most_blocks);
+    }
+}
