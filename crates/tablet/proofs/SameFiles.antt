@@ -6,12 +6,17 @@ use Rattle.cell_key.specs.Keys.{text, IsStored}
 use Rattle.cell_key.specs.Entries.{Entry, IsEntryList, first_naming, entry_of_key, or_else, value_of}
 use Rattle.cell_key.specs.declared.keys.CellKey.{CellKey}
 use Rattle.file_store.specs.Store.{Contents}
-use Rattle.sorted_file.specs.Newest.{at_stamp, IsNewestStamp}
+use Rattle.sorted_file.specs.Newest.{at_stamp, HasNoneAfter, IsAfterStamp, IsNewestStamp}
 use Rattle.sorted_file.specs.File.{IsOpen, IsSameFile, listed, name_of}
 use Rattle.sorted_file.specs.declared.file.SortedFile.{SortedFile}
-use Rattle.tablet.specs.Reads.{HasNoLater, IsAfterStamp}
+use Rattle.tablet.specs.Reads.{HasNoLater}
 use Rattle.tablet.specs.Views.{range_of, memory_of, files_of, Holds, IsSameTablet}
 use Rattle.tablet.specs.declared.tablet.Tablet.{Tablet}
+
+-- after the newest stamp there is none
+pub none_after : (es : List Entry) (key : CellKey) (lo : ℕ) (found : Option ℕ) → IsNewestStamp es key lo found → HasNoneAfter es key lo found
+none_after es key lo None newest s later high = newest s later high
+none_after es key lo (Some found) newest s later high = newest.3 s later high
 
 -- facts over the files, which tell the same
 pub told_both : (o now : Option Contents) → now ≡ o → (P Q R : Contents → Type 0) → ((m : Contents) → o ≡ Some m → P m → Q m → R m) → IfSome o P → IfSome now Q → IfSome o R
@@ -124,16 +129,16 @@ module _ (o now : Option Contents) (same : now ≡ o) (xs ys : List SortedFile) 
     later_still None (Some n) is within low s h = let a = within.0 in omega (arith, a, low, h)
     later_still (Some f) (Some n) is within low s h = let a = within.0 in omega (arith, a, low, h)
 
-    none_in_it : (es : List Entry) (n : Option ℕ) → IsNewestStamp es key from n → (s : ℕ) → IsAfterStamp s lo (or_else n found) → s ≤ key.stamp → IsStored (at_stamp key s) → value_of (entry_of_key es (text (at_stamp key s))) ≡ None
+    none_in_it : (es : List Entry) (n : Option ℕ) → HasNoneAfter es key from n → (s : ℕ) → IsAfterStamp s lo (or_else n found) → s ≤ key.stamp → IsStored (at_stamp key s) → value_of (entry_of_key es (text (at_stamp key s))) ≡ None
     none_in_it es None is s h high stored = is s (starts s h) high stored
-    none_in_it es (Some n) is s h high stored = is.3 s h high stored
+    none_in_it es (Some n) is s h high stored = is s h high stored
 
     none_in_both : (x y : Option (Option (List ℕ))) → value_of x ≡ None → value_of y ≡ None → value_of (or_else x y) ≡ None
     none_in_both None y p q = q
     none_in_both (Some v) y p q = p
 
-    pub newest_here : IfSome new (λ s. (from ≤ s) × (s ≤ key.stamp)) → Shows i found → IfSome now (λ m. IsOpen m (get_or ys i d) → IsNewestStamp (listed m (get_or ys i d)) key from new) → Shows (i + 1) (or_else new found)
-    newest_here within shows finds = subst (λ (k : ℕ). Shows k (or_else new found)) next (told_both o now same _ (λ m. IsOpen m (get_or ys i d) → IsNewestStamp (listed m (get_or ys i d)) key from new) _
+    pub newest_here : IfSome new (λ s. (from ≤ s) × (s ≤ key.stamp)) → Shows i found → IfSome now (λ m. IsOpen m (get_or ys i d) → HasNoneAfter (listed m (get_or ys i d)) key from new) → Shows (i + 1) (or_else new found)
+    newest_here within shows finds = subst (λ (k : ℕ). Shows k (or_else new found)) next (told_both o now same _ (λ m. IsOpen m (get_or ys i d) → HasNoneAfter (listed m (get_or ys i d)) key from new) _
         (λ m is before here each s h high stored rest.
         let still = still_at m (text (at_stamp key s)) is each in
         before each s (later_still found new refl within after s h) high stored

@@ -11,7 +11,7 @@ use Rattle.cell_key.specs.declared.keys.CellKey.{CellKey}
 use Rattle.cell_key.specs.declared.keys.Qualifier.{Qualifier}
 use Rattle.cell_key.specs.declared.keys.Qualifier.TheVariants.{Write}
 use Rattle.file_store.specs.Store.{Contents}
-use Rattle.sorted_file.specs.Newest.{at_stamp}
+use Rattle.sorted_file.specs.Newest.{at_stamp, IsAfterStamp}
 use Rattle.sorted_file.specs.File.{IsOpen, listed}
 use Rattle.sorted_file.specs.Bounds.{HasNoValue}
 use Rattle.sorted_file.specs.declared.file.SortedFile.{SortedFile}
@@ -58,11 +58,6 @@ pub record IsAsked (qualifier : Qualifier) (lo hi : ℕ)
 abbrev pub IsLater : ℕ → ℕ → Option (ℕ × List ℕ) → Type 0
 IsLater s lo None = lo ≤ s
 IsLater s lo (Some found) = found.0 < s
-
--- a stamp that comes after one that was found, or from the least one on if none was
-abbrev pub IsAfterStamp : ℕ → ℕ → Option ℕ → Type 0
-IsAfterStamp s lo None = lo ≤ s
-IsAfterStamp s lo (Some found) = found < s
 
 -- Up to that of the key, at no stamp after the one found do lists show a value of the key's column.
 abbrev pub HasNoLater : CellKey → ℕ → Option ℕ → List (List Entry) → Type 0

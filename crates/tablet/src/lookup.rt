@@ -10,7 +10,8 @@ ghost use Rattle.cell_key.specs.Keys.{text};
 ghost use Rattle.cell_key.specs.Names.{IsRow, IsFamily};
 ghost use Rattle.sorted_file.specs.File.{IsOpen, IsSameFile, IsShortValue, listed, value_bytes};
 ghost use Rattle.sorted_file.specs.Source.{IsReadRefusal};
-ghost use Rattle.tablet.specs.Reads.{HasNoLater, IsAfterStamp, IsAsked, IsValue};
+ghost use Rattle.sorted_file.specs.Newest.{HasNoneAfter, IsAfterStamp};
+ghost use Rattle.tablet.specs.Reads.{HasNoLater, IsAsked, IsValue};
 
 use crate::open_files::OpenFiles;
 use cell_key::{CellKey, Family, Qualifier, Refusal, Row, Stamp};
@@ -75,8 +76,33 @@ pub(crate) fn first_after(found: Option<Stamp>, lo: Stamp) -> Stamp
     }
 }
 
-/// The greatest stamp, from `lo` up to that of the key, at which any of some files has a value of the key's
-/// column. The files stay what they were.
+/// The greatest stamp, from `lo` up to that of the key, at which a file may have a value of the key's column: later it has
+/// none. Of a lock the file says so without a read. The file stays what it was.
+fn newest_in_file<F: Files>(
+    file: &mut SortedFile,
+    key: &LookupKey<'_>,
+    lo: Stamp,
+    store: &mut F,
+) -> Result<Option<Stamp>, Refusal>
+    ensures none { IfOk result (λ found. IfSome (F.contents store.old) (λ m. IsOpen m file.old
+        → HasNoneAfter (listed m file.old) key.now lo found)) }
+    ensures within { IfOk result (λ found.
+        IfSome found (λ stamp. (lo ≤ stamp) × (stamp ≤ key.now.stamp))) }
+    ensures stays { IsSameFile (F.contents store.old) file.old file.new }
+    ensures damaged { IsErrOf result Refusal.Damaged
+        → IfSome (F.contents store.old) (λ m. ¬ IsOpen m file.old) }
+    ensures refusal { IfErr result IsReadRefusal }
+    ensures same { F.contents store.new ≡ F.contents store.old }
+    ensures reason { HasReason (F.faults store.old) (F.faults store.new) result }
+{
+    match key.qualifier() {
+        Qualifier::Lock => Ok(file.latest_lock(key, lo)),
+        Qualifier::Data | Qualifier::Write => file.newest_stamp(key, lo, store),
+    }
+}
+
+/// The greatest stamp, from `lo` up to that of the key, at which any of some files may have a value of the key's
+/// column: later none has one. The files stay what they were.
 pub(crate) fn newest_stamp<F: Files>(
     files: &mut [SortedFile],
     key: &LookupKey<'_>,
@@ -99,7 +125,7 @@ pub(crate) fn newest_stamp<F: Files>(
     let mut found = None;
     for file in files.iter_mut() {
         let from = first_after(found, lo);
-        let later = file.newest_stamp(key, from, store)?;
+        let later = newest_in_file(file, key, from, store)?;
         found = later.or(found);
     }
     Ok(found)

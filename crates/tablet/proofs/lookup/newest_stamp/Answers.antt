@@ -15,21 +15,21 @@ loop-file-preserved g c =
     let below : c.loop-file.file-index < length c.loop-file.files = omega arith in
     let i = c.loop-file.invariant in
     record {
-      same = c.newest_stamp.ensures.same ∙ i.same;
+      same = c.newest_in_file.ensures.same ∙ i.same;
       quiet = c.in_ok-later.ensures.reason.told (not_err _ Device) ∙ i.quiet;
       within = subst (λ (o : Option ℕ). IfSome o (λ stamp. (c.args.lo ≤ stamp) × (stamp ≤ c.args.key.now.stamp))) (sym c.or-found.ensures)
           (within_still told now i.same c.args.files.now c.loop-file.files c.loop-file.file-index c.file-item.result below i.stay c.args.key.now c.args.lo c.first_after-from.result c.loop-file.found c.in_ok-later.later c.first_after-from.ensures.after c.first_after-from.ensures.first
           c.loop-file.found c.in_ok-later.later i.within c.in_ok-later.ensures.within c.first_after-from.ensures.after);
-      stay = same_set told now i.same c.args.files.now c.loop-file.files c.loop-file.file-index c.file-item.result below i.stay c.newest_stamp.new.self c.newest_stamp.ensures.stays;
+      stay = same_set told now i.same c.args.files.now c.loop-file.files c.loop-file.file-index c.file-item.result below i.stay c.newest_in_file.new.file c.newest_in_file.ensures.stays;
       told = subst (Shows told now i.same c.args.files.now c.loop-file.files c.loop-file.file-index c.file-item.result below i.stay c.args.key.now c.args.lo c.first_after-from.result c.loop-file.found c.in_ok-later.later c.first_after-from.ensures.after c.first_after-from.ensures.first (c.loop-file.file-index + 1)) (sym c.or-found.ensures)
           (newest_here told now i.same c.args.files.now c.loop-file.files c.loop-file.file-index c.file-item.result below i.stay c.args.key.now c.args.lo c.first_after-from.result c.loop-file.found c.in_ok-later.later c.first_after-from.ensures.after c.first_after-from.ensures.first
-          c.in_ok-later.ensures.within i.told c.in_ok-later.ensures.found);
+          c.in_ok-later.ensures.within i.told c.in_ok-later.ensures.none);
     }
 
 pub returns-in_err-later-clause-stay : goal.returns-in_err-later-clause-stay
 returns-in_err-later-clause-stay g c =
     let below : c.loop-file.file-index < length c.loop-file.files = omega arith in
-    same_set (g.F.Files.contents c.args.store.now) (g.F.Files.contents c.loop-file.store) c.loop-file.invariant.same c.args.files.now c.loop-file.files c.loop-file.file-index c.file-item.result below c.loop-file.invariant.stay c.newest_stamp.new.self c.newest_stamp.ensures.stays
+    same_set (g.F.Files.contents c.args.store.now) (g.F.Files.contents c.loop-file.store) c.loop-file.invariant.same c.args.files.now c.loop-file.files c.loop-file.file-index c.file-item.result below c.loop-file.invariant.stay c.newest_in_file.new.file c.newest_in_file.ensures.stays
 
 pub returns-in_err-later-clause-damaged : goal.returns-in_err-later-clause-damaged
 returns-in_err-later-clause-damaged g c = λ is.

@@ -3,9 +3,8 @@ use Rattle.std.specs.Prelude.{IfSome}
 use Rattle.std.specs.List.{AllByRecursion, AllZip}
 use Rattle.cell_key.specs.Keys.{text, IsStored}
 use Rattle.cell_key.specs.Entries.{first_naming, value_of}
-use Rattle.sorted_file.specs.Newest.{at_stamp}
+use Rattle.sorted_file.specs.Newest.{at_stamp, IsAfterStamp}
 use Rattle.sorted_file.specs.File.{IsOpen, IsSameFile, listed}
-use Rattle.tablet.specs.Reads.{IsAfterStamp}
 use Rattle.tablet.proofs.lookup.newest_stamp.Given as goal
 
 -- what the files that are left show after the stamp that was found is what all of them show there
