@@ -15,6 +15,9 @@ use cell_key::{CellKey, EntryRef, Qualifier, Refusal, Stamp, stamp_of};
 use std::alloc::Global;
 use std::mem;
 
+/// For how many cells, at most, there is room from the start.
+const ROOM: usize = 256;
+
 /// The qualifier and the stamp whose texts the bytes are, which follow the place in the text of a key.
 fn version_of(bytes: &[u8]) -> Option<(Qualifier, Stamp)>
     ensures found { IfSome result (λ found.
@@ -124,21 +127,23 @@ pub(crate) struct Gathering {
 }
 
 impl Gathering {
-    /// Nothing yet.
-    pub(crate) fn new(alloc: Global, limits: BatchLimits, hi: Stamp) -> Gathering
-        ensures limits { result.limits ≡ limits }
-        ensures hi { result.hi ≡ hi }
-        ensures within { IsWithin result }
-        ensures none { Gathers [] result }
+    /// Nothing yet, with room for as many cells as it may have, but no more than 256. Answers `NoMemory` if there is no
+    /// memory.
+    pub(crate) fn new(alloc: Global, limits: BatchLimits, hi: Stamp) -> Result<Gathering, Refusal>
+        ensures limits { IfOk result (λ gathering. gathering.limits ≡ limits) }
+        ensures hi { IfOk result (λ gathering. gathering.hi ≡ hi) }
+        ensures within { IfOk result IsWithin }
+        ensures none { IfOk result (Gathers []) }
+        ensures refusal { IfErr result (λ refusal. refusal ≡ Refusal.NoMemory) }
     {
-        Gathering {
+        Ok(Gathering {
             limits,
             hi,
-            cells: Vec::new(alloc),
+            cells: Vec::with_capacity(alloc, limits.cells.min(ROOM))?,
             current: None,
             room: limits.bytes,
             spare: Vec::new(alloc),
-        }
+        })
     }
 
     /// Whether it has as many cells as it may, or their values have as many bytes.

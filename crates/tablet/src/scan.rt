@@ -200,7 +200,7 @@ fn next_versions<F: Files, S: Source<F>>(
     ensures same { F.contents store.new ≡ F.contents store.old }
     ensures reason { HasReason (F.faults store.old) (F.faults store.new) result }
 {
-    let mut gathering = Gathering::new(alloc, limits, hi);
+    let mut gathering = Gathering::new(alloc, limits, hi)?;
     while source.advance(store)? {
         if !take_at::<F, S>(alloc, &mut gathering, source)? {
             return Ok(gathering.stopped());

@@ -33,7 +33,7 @@ ok_both (Ok x) p q f = f x p q
 ok_both (Err e) p q f = tt
 
 pub loop-gathering-init : goal.loop-gathering-init
-loop-gathering-init g c = record { same = refl; quiet = refl; within = c.new-gathering.ensures.within; limits = c.new-gathering.ensures.limits; hi = c.new-gathering.ensures.hi; told = λ h. (h, gone_none _ _ c.new-gathering.ensures.none) }
+loop-gathering-init g c = record { same = refl; quiet = refl; within = c.in_ok-gathering.ensures.within; limits = c.in_ok-gathering.ensures.limits; hi = c.in_ok-gathering.ensures.hi; told = λ h. (h, gone_none _ _ c.in_ok-gathering.ensures.none) }
 
 pub loop-gathering-preserved : goal.loop-gathering-preserved
 loop-gathering-preserved g c =
@@ -70,13 +70,13 @@ ended-requires g c = c.loop-gathering.invariant.within
 pub returns-in_err-advance-clause-damaged : goal.returns-in_err-advance-clause-damaged
 returns-in_err-advance-clause-damaged g c = λ is start.
     let i = c.loop-gathering.invariant in
-    subst (λ (o : Option Contents). ¬ g.S.Source.holds o c.loop-gathering.source) i.same (c.in_err-advance.ensures.damaged (passed_on c.from_residual.result _ c.in_err-advance.field-0.0 _ c.from_residual.ensures.1 refl is)) (i.told start).0
+    subst (λ (o : Option Contents). ¬ g.S.Source.holds o c.loop-gathering.source) i.same (c.in_err-advance.ensures.damaged (passed_on c.from_residual-in_err-advance.result _ c.in_err-advance.field-0.0 _ c.from_residual-in_err-advance.ensures.1 refl is)) (i.told start).0
 
 pub returns-in_err-advance-clause-same : goal.returns-in_err-advance-clause-same
 returns-in_err-advance-clause-same g c = c.advance.ensures.files ∙ c.loop-gathering.invariant.same
 
 pub returns-in_err-advance-clause-reason : goal.returns-in_err-advance-clause-reason
-returns-in_err-advance-clause-reason g c = reason_after _ _ _ c.loop-gathering.invariant.quiet (passed_reason c.from_residual.result _ c.in_err-advance.field-0.0 _ _ c.from_residual.ensures.1 refl c.in_err-advance.ensures.reason)
+returns-in_err-advance-clause-reason g c = reason_after _ _ _ c.loop-gathering.invariant.quiet (passed_reason c.from_residual-in_err-advance.result _ c.in_err-advance.field-0.0 _ _ c.from_residual-in_err-advance.ensures.1 refl c.in_err-advance.ensures.reason)
 
 pub returns-in_err-take_at-clause-damaged : goal.returns-in_err-take_at-clause-damaged
 returns-in_err-take_at-clause-damaged g c = λ is start.
