@@ -221,7 +221,7 @@ impl SortedFile {
         self.find(&key, files)
     }
 
-    /// What the file has of a key, as `lookup` says it, whose text is made.
+    /// What `lookup` answers of this key, whose text was made once, however many files are asked.
     ///
     /// # Errors
     ///
