@@ -11,13 +11,18 @@ SOURCE = Path(__file__).with_name("leveldb_scan.cc")
 HEADER = Path("/usr/include/leveldb/db.h")
 
 
-def scan_seconds(count: int) -> float | None:
-    """The processor seconds in which LevelDB reads so many rows: none if its header or a compiler isn't here."""
+def compiled(place: Path) -> str | None:
+    """The program that drives LevelDB's iterator: none if LevelDB's header or a compiler isn't here."""
     compiler = shutil.which("c++")
     if compiler is None or not HEADER.exists():
         return None
+    program = str(place / "leveldb_scan")
+    subprocess.run([compiler, "-O2", "-std=c++17", str(SOURCE), "-o", program, "-lleveldb"], check=True)
+    return program
+
+
+def scan_seconds(program: str, count: int, passes: int) -> float:
+    """The processor seconds in which LevelDB reads so many rows so often."""
     with tempfile.TemporaryDirectory() as place:
-        program = f"{place}/leveldb_scan"
-        subprocess.run([compiler, "-O2", "-std=c++17", str(SOURCE), "-o", program, "-lleveldb"], check=True)
-        ran = subprocess.run([program, f"{place}/store", str(count)], check=True, capture_output=True, text=True)
-    return float(ran.stdout)
+        words = [program, f"{place}/store", str(count), str(passes)]
+        return float(subprocess.run(words, check=True, capture_output=True, text=True).stdout)

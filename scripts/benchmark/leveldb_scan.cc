@@ -1,5 +1,6 @@
-// leveldb_scan FOLDER COUNT: writes the rows of the shape scan into a new store of LevelDB, as one sorted run, and reads all of
-// them by an iterator over a snapshot, with checksums. It prints the processor seconds of that one pass.
+// leveldb_scan FOLDER COUNT PASSES: writes the rows of the shape scan into a new store of LevelDB, as one sorted run, and reads
+// all of them so often by an iterator over a snapshot, with checksums and no block from a cache. It prints the processor seconds
+// of all passes.
 #include <cstdio>
 #include <cstdlib>
 #include <ctime>
@@ -44,10 +45,11 @@ void Write(leveldb::DB* db, int count) {
   db->CompactRange(nullptr, nullptr);
 }
 
-// Reads all rows, into a buffer for each so many of them, and gives how many there are.
+// Reads all rows, into a buffer for each kBatch of them, and gives how many there are.
 int Read(leveldb::DB* db) {
   leveldb::ReadOptions options;
   options.verify_checksums = true;
+  options.fill_cache = false;
   options.snapshot = db->GetSnapshot();
   std::unique_ptr<leveldb::Iterator> at(db->NewIterator(options));
   std::string buffer;
@@ -69,8 +71,9 @@ int Read(leveldb::DB* db) {
 }  // namespace
 
 int main(int argc, char** argv) {
-  Check(argc == 3, "usage: leveldb_scan FOLDER COUNT");
+  Check(argc == 4, "usage: leveldb_scan FOLDER COUNT PASSES");
   const int count = std::atoi(argv[2]);
+  const int passes = std::atoi(argv[3]);
   leveldb::Options options;
   options.create_if_missing = true;
   options.error_if_exists = true;
@@ -79,8 +82,9 @@ int main(int argc, char** argv) {
   std::unique_ptr<leveldb::DB> db(opened);
   Write(db.get(), count);
   const double before = ProcessorSeconds();
-  const int found = Read(db.get());
+  for (int pass = 0; pass < passes; pass++) {
+    Check(Read(db.get()) == count, "rows are missing");
+  }
   const double after = ProcessorSeconds();
-  Check(found == count, "rows are missing");
   std::printf("%.9f\n", after - before);
 }

@@ -8,7 +8,7 @@ use crate::tests::slow::found_at;
 use cell_key::{CellKey, Family, Qualifier, Refusal, Row, Stamp};
 use file_store::{Files, MemFiles, read_whole};
 use memtable::Memtable;
-use sorted_file::{LookupKey, SortedFile, write_file};
+use sorted_file::{KeyFilter, LookupKey, SortedFile, write_file};
 use std::alloc::{AllocError, Global};
 use std::num::NonZeroUsize;
 use std::test::Fail;
@@ -369,6 +369,8 @@ fn lock_tests_read_what_is_locked(rt: HostRuntime) -> Result<(), Fail> {
     let mut files = Recorder::new(rt.alloc());
     files.put(1, LOCKS)?;
     let mut file = SortedFile::open(rt.alloc(), 1, &mut files)?;
+    let again = vec![in rt.alloc(); SortedFile::open(rt.alloc(), 1, &mut files)?]?;
+    let filter = KeyFilter::new(rt.alloc(), &again, 0)?;
     for (row, stamp, reads) in LOCK_TESTS {
         let key = CellKey {
             row: Row::new(rt.alloc(), row)?,
@@ -379,6 +381,8 @@ fn lock_tests_read_what_is_locked(rt: HostRuntime) -> Result<(), Fail> {
         let key = LookupKey::new(rt.alloc(), &key)?;
         file.drop_cache();
         files.reads.clear();
+        assert!(rt; filter.may_have_value(&key) == stamp.is_some());
+        assert!(rt; file.latest_lock(&key, 0) == stamp);
         assert!(rt; file.newest_stamp(&key, 0, &mut files)? == stamp);
         assert!(rt; files.reads.as_slice() == reads);
     }

@@ -19,32 +19,34 @@ pub struct Served {
     names: Vec<u64>,
 }
 
-/// What is read are the row of the first cell, the values of `a`, `b` and `c`, and how many files and names there are.
+/// What is read are the row of the first cell, the values of `a`, `b` and `c`, how many lists there are (files, and the
+/// memtable if it has entries) and how many names. So it is as before if a split or an unload that is refused has written
+/// the memtable.
 const CALLS: [Call; 12] = [
     // newest
-    (b"3", b"a345\x02\x01"),
+    (b"3", b"a345\x03\x01"),
     // next_cell from the start
-    (b"a", b"a345\x02\x01"),
+    (b"a", b"a345\x03\x01"),
     // next_cell after `a`
-    (b"b", b"a345\x02\x01"),
+    (b"b", b"a345\x03\x01"),
     // apply
-    (b"", b"a365\x02\x01"),
-    // minor
-    (b"", b"a345\x03\x01"),
+    (b"", b"a365\x03\x01"),
+    // minor: how many files there are, as of the next two
+    (b"\x03", b"a345\x03\x01"),
     // merge
-    (b"", b"a345\x01\x01"),
+    (b"\x01", b"a345\x02\x01"),
     // major
-    (b"", b"a345\x01\x01"),
+    (b"\x01", b"a345\x01\x01"),
     // split: how many files the left part has
     (b"\x03", b"c5\x03\x01"),
     // unload
     (b"\x03", b"a345\x03\x01"),
     // load
-    (b"\x02", b"a345\x02\x01"),
+    (b"\x02", b"a345\x03\x01"),
     // push_names
-    (b"", b"a345\x02\x03"),
+    (b"", b"a345\x03\x03"),
     // next_cells from the start
-    (b"abc", b"a345\x02\x01"),
+    (b"abc", b"a345\x03\x01"),
 ];
 
 /// A row of one byte forty times, so that it and the texts of its keys take memory.
@@ -135,7 +137,7 @@ impl Served {
                 return Ok(wanted == [(names.len() % 256) as u8].as_slice());
             }
         }
-        Ok(wanted.is_empty())
+        Ok(wanted == [(self.tablet.file_count() % 256) as u8].as_slice())
     }
 }
 
@@ -149,7 +151,7 @@ fn load(alloc: Global, files: &mut MemFiles) -> Result<u8, Refusal> {
     Ok((tablet.file_count() % 256) as u8)
 }
 
-pub const SERVED: Table = (b"a345\x02\x01", &CALLS);
+pub const SERVED: Table = (b"a345\x03\x01", &CALLS);
 
 impl Subject for Served {
     fn set_up(alloc: Global) -> Result<Served, Refusal> {
@@ -200,7 +202,8 @@ impl Subject for Served {
             out.push(newest(alloc, &mut self.tablet, files, b'b')?)?;
         }
         out.push(newest(alloc, &mut self.tablet, files, b'c')?)?;
-        out.push((self.tablet.file_count() % 256) as u8)?;
+        let lists = self.tablet.file_count() % 64 + usize::from(!self.tablet.is_empty());
+        out.push(lists as u8)?;
         out.push((self.names.len() % 256) as u8)?;
         Ok(out)
     }
