@@ -1,6 +1,6 @@
 //! A cluster as rows of cells.
 
-ghost use Rattle.std.specs.Prelude.{◌≡◌, ◌≤◌, ◌↔◌, IfErr, IfOk, IfSome, IsErrOf, IsTrue, None, Some, length, option_map};
+ghost use Rattle.std.specs.Prelude.{◌≡◌, ◌≤◌, ◌↔◌, ◌++◌, IfErr, IfOk, IfSome, IsErrOf, IsTrue, None, Some, length, option_map};
 ghost use Rattle.cell_key.specs.Cells.{IsNewest, version};
 ghost use Rattle.cell_key.specs.Places.{AreNextCells, IsNextCell, place_named};
 ghost use Rattle.cell_key.specs.Versions.{IsVersionIn, stamped};
@@ -25,7 +25,7 @@ use cell_key::{Edit, Family, Qualifier, Refusal, Row, Stamp};
 use file_store::Files;
 use metadata_table::Place;
 use std::alloc::Global;
-use tablet::{BatchLimits, Tablet, VersionBatch};
+use tablet::{BatchLimits, CellVersions, Tablet, VersionBatch};
 
 /// Whether all rows of a place come before the row of a cell.
 fn precedes(place: &Place, after: Option<(&Row, &Family)>) -> bool
@@ -73,6 +73,22 @@ fn next_cells_in<F: Files>(
     Ok(found)
 }
 
+/// Some cells and those that come after them. Answers `NoMemory` if there is no memory. Takes none if there are none before
+/// the others.
+fn joined(
+    mut found: Vec<CellVersions>,
+    mut more: Vec<CellVersions>,
+) -> Result<Vec<CellVersions>, Refusal>
+    ensures ok { IfOk result (λ all. all.items ≡ found.items ++ more.items) }
+    ensures refusal { IfErr result (λ refusal. refusal ≡ Refusal.NoMemory) }
+{
+    if found.is_empty() {
+        return Ok(more);
+    }
+    found.append(&mut more)?;
+    Ok(found)
+}
+
 /// The next cells that have any key in these tablets, in the order of their rows, each with the newest versions at or below
 /// `hi` of its columns: until the batch is full, or no more are left. A tablet is asked only if those before it have no
 /// more.
@@ -109,10 +125,10 @@ fn next_versions_in<F: Files>(
             let left = limits.after(&found);
             let more = tablet.next_versions(after, left, hi, files)?;
             let VersionBatch {
-                mut cells,
+                cells,
                 is_last: none_left,
             } = more;
-            found.append(&mut cells)?;
+            found = joined(found, cells)?;
             is_last = none_left;
         }
     }

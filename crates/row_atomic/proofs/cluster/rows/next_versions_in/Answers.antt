@@ -22,7 +22,7 @@ use Rattle.row_atomic.proofs.ManyNexts.{begin_fewer, dropped_at, later_none}
 use Rattle.row_atomic.proofs.ManyVersions.{HasFound, more_begins, more_ended, more_newest, more_next, more_passed}
 use Rattle.row_atomic.proofs.Nexts.{NoneAfter}
 use Rattle.row_atomic.proofs.cluster.rows.next_versions_in.Goals as goal
-use Rattle.row_atomic.proofs.cluster.rows.next_versions_in.Goals.{then-is_last+then-not-precedes+in_ok-more+in_ok-append, else-is_last, else-is_last-via-then-is_last+else-not-precedes, else-is_last-via-else-is_last}
+use Rattle.row_atomic.proofs.cluster.rows.next_versions_in.Goals.{then-is_last+then-not-precedes+in_ok-more+in_ok-found, else-is_last, else-is_last-via-then-is_last+else-not-precedes, else-is_last-via-else-is_last}
 
 -- cells that fill what is left of limits fill these with those before them
 full_more : (b : Bool) (limits left : BatchLimits) (found more : List CellVersions) → left.cells ≡ limits.cells - length found → left.bytes ≡ limits.bytes - bytes_in found → OnFalse b (IsFull left more) → OnFalse b (IsFull limits (found ++ more))
@@ -76,12 +76,12 @@ loop-place-preserved g c =
     let is = c.place-item.is in
     let left = dropped_at places at p within is in
     elim c.if-is_last.branch [
-      | then-is_last+then-not-precedes+in_ok-more+in_ok-append w ↦
+      | then-is_last+then-not-precedes+in_ok-more+in_ok-found w ↦
           let t = w.index-tablets-place.result in
           let more = w.in_ok-more.more in
           let number = place_numbered ts places at p c.requires.placed within is in
           let numbered = number.there t ∙ ap Some (sym w.index-tablets-place.is) in
-          let items : w.append.new.self.items ≡ found ++ more.cells.items = w.in_ok-append.ensures.items in
+          let items : w.in_ok-found.found.items ≡ found ++ more.cells.items = w.in_ok-found.ensures.ok in
           let plus : suc at ≡ at + 1 = omega arith in
           let whole = subst (λ (n : ℕ). views places ≡ views (take at places) ++ view_of p ∷ views (drop n places)) plus (parted_at places at p within is) in
           let found_more = subst (λ (o : Option Contents). IfSome o (λ m. Holds m t → AreNextVersions (cells_at m t) start hi more)) i.same w.in_ok-more.ensures.found in
