@@ -14,5 +14,5 @@ returns-in-Some c =
     let after = c.in-Some.field-0-1.now in
     let whole = c.in-Some.ensures.found ∙ ap (λ (t : List ℕ). ended t ++ after) (sym (escaped-all_plain part c.in-Some.ensures.whole)) in
     record {
-      row = if_ok c.from_slice.result _ _ (λ copy same row rest e. same ∙ (row_rest part row after rest (sym whole ∙ e)).0) c.from_slice.ensures.items;
+      row = if_ok c.from_slice.result _ _ (λ copy same row rest e. same ∙ (row_rest part row after rest (sym whole ∙ e)).0) c.from_slice.ensures.ok;
     }
