@@ -1,5 +1,5 @@
 -- What is kept of the rows that were located last.
-use Rattle.std.proofs.Common.{◌≡◌, ◌≤◌, ◌+◌, ◌-◌, inl, inr, ℕ, Bool, true, false, nat_eq, List, [], ◌∷◌, length, Option, Some, None, ⊎_elim, option_map, is_some, slice_get, Result, Ok, Err, OnOk, OnErr, refl, sym, ap, ◌∙◌, subst, arith, cond}
+use Rattle.std.proofs.Common.{◌≡◌, ◌≤◌, ◌+◌, ◌-◌, inl, inr, ℕ, Bool, true, false, nat_eq, List, [], ◌∷◌, length, Option, Some, None, option_map, is_some, slice_get, Result, Ok, Err, OnOk, OnErr, refl, sym, ap, ◌∙◌, subst, arith, cond}
 use Rattle.std.specs.Cmp.Lexicographic.{pointwise, bytes_decides}
 use Rattle.std.specs.List.{AllByRecursion}
 use Rattle.std.specs.Map.{lookup, lookup_entry, remove_entry}
@@ -11,7 +11,7 @@ use Rattle.metadata_table.specs.Places.{PlaceView}
 use Rattle.metadata_table.specs.Table.{IsNumbered, IsTable, naming, with_files}
 use Rattle.tablet.specs.declared.tablet.Tablet.{Tablet}
 use Rattle.row_atomic.specs.Clusters.{ArePlaced}
-use Rattle.row_atomic.specs.PlaceCaches.{AddsOnly, AreHeld, IsLocatedLast, IsHeldBy, KeepsOnly, is_key_of, number_kept}
+use Rattle.row_atomic.specs.PlaceCaches.{AddsOnly, AreHeld, IsLocatedLast, IsHeldBy, is_key_of, number_kept}
 use Rattle.row_atomic.proofs.RowAnswers.{HasTabletAt, holder_index}
 use Rattle.row_atomic.proofs.Parts.{at_parts}
 use Rattle.row_atomic.proofs.SplitClusters.{holder_listed, same_tablet}
@@ -104,10 +104,6 @@ module _ {Z : Type 0} where
   pub added_by : {A B : Type 0} (r : Result A B) (new old : LruCache (Vec ℕ Z) ℕ) (key : Vec ℕ Z) (n : ℕ) → OnOk r (new ≡ lru_cache (put_entries same_bytes old key n) old.cap) → OnErr r (new ≡ old) → AddsOnly key.items n old.entries new.entries
   added_by (Ok x) new old key n ok err = subst (λ (c : LruCache (Vec ℕ Z) ℕ). AddsOnly key.items n old.entries c.entries) (sym ok) (added old key n)
   added_by (Err x) new old key n ok err = subst (λ (c : LruCache (Vec ℕ Z) ℕ). AddsOnly key.items n old.entries c.entries) (sym err) (λ entry there. inl there)
-
--- so it is if rows were forgotten first
-pub added_after : {Z : Type 0} (row : List ℕ) (n : ℕ) (old kept new : List (Vec ℕ Z × ℕ)) → KeepsOnly old kept → AddsOnly row n kept new → AddsOnly row n old new
-added_after row n old kept new only adds entry there = ⊎_elim (λ was. inl (only entry was)) (λ own. inr own) (adds entry there)
 
 -- ---- the tablet at the index
 

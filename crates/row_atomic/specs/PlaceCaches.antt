@@ -30,10 +30,6 @@ abbrev pub IsLocatedLast : {Z : Type 0} → List ℕ → List (Vec ℕ Z × ℕ)
 IsLocatedLast {Z} row kept n =
     (key : Vec ℕ Z) × (slice_get kept 0 ≡ Some (key, n)) × (key.items ≡ row)
 
--- no row is stored that wasn't before
-abbrev pub KeepsOnly : {Z : Type 0} → List (Vec ℕ Z × ℕ) → List (Vec ℕ Z × ℕ) → Type 0
-KeepsOnly {Z} old new = (entry : Vec ℕ Z × ℕ) → Contains new entry → Contains old entry
-
 -- No row is stored that wasn't before, but this one, with this number.
 abbrev pub AddsOnly : {Z : Type 0} → List ℕ → ℕ → List (Vec ℕ Z × ℕ) → List (Vec ℕ Z × ℕ) → Type 0
 AddsOnly {Z} row n old new = (entry : Vec ℕ Z × ℕ) → Contains new entry

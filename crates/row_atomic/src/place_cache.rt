@@ -3,7 +3,7 @@
 ghost use Rattle.std.specs.Prelude.{◌≡◌, ◌+◌, [], IfErr, IfOk, IfSome, option_map, slice_get};
 ghost use Rattle.metadata_table.specs.Table.{IsTable};
 ghost use Rattle.lru.specs.LruCache.{promoted};
-ghost use Rattle.row_atomic.specs.PlaceCaches.{AddsOnly, AreHeld, IsLocatedLast, IsHeldBy, KeepsOnly, hits_after, is_key_of, number_kept};
+ghost use Rattle.row_atomic.specs.PlaceCaches.{AddsOnly, AreHeld, IsLocatedLast, IsHeldBy, hits_after, is_key_of, number_kept};
 
 use cell_key::{Refusal, Row};
 use lru::LruCache;
@@ -107,26 +107,6 @@ impl PlaceCache {
         Some(number)
     }
 
-    /// An empty buffer for the bytes of a row. If there are 128 rows it is that of the row that was located the longest ago,
-    /// which is forgotten.
-    fn buffer(&mut self) -> Vec<u8>
-        ensures empty { result.items ≡ [] }
-        ensures only { KeepsOnly self.old.numbers.entries self.new.numbers.entries }
-        ensures rows { self.new.numbers.cap ≡ self.old.numbers.cap }
-        ensures hits { self.new.hits ≡ self.old.hits }
-    {
-        if self.numbers.len() < ROWS {
-            return Vec::new(self.alloc);
-        }
-        match self.numbers.pop_lru() {
-            Some((mut bytes, _)) => {
-                bytes.clear();
-                bytes
-            }
-            None => Vec::new(self.alloc),
-        }
-    }
-
     /// Keeps a number with a row, in place of the row that was located the longest ago if there are 128. If there is no
     /// memory for it nothing is stored.
     fn keep(&mut self, row: &Row, number: u32)
@@ -134,8 +114,7 @@ impl PlaceCache {
         ensures rows { self.new.numbers.cap ≡ self.old.numbers.cap }
         ensures hits { self.new.hits ≡ self.old.hits }
     {
-        let mut bytes = self.buffer();
-        if let Ok(()) = bytes.extend_from_slice(row.as_bytes()) {
+        if let Ok(bytes) = Vec::from_slice(self.alloc, row.as_bytes()) {
             let _told: Result<_, _> = self.numbers.put(bytes, number);
         }
     }
