@@ -4,7 +4,7 @@ use Rattle.std.proofs.lemmas.List.{take-append-drop, length-drop, drop-drop}
 use Rattle.std.specs.Int.{from_be_bytes, to_be_bytes, w32}
 use Rattle.request_codec.specs.Stream.{longest, frame, announced, BeginsNoFrame, IsPartial, IsTooLong}
 
-announced-header : (bytes header : List ℕ) (n : ℕ) → take 4 bytes ≡ header → n ≡ from_be_bytes w32 header → announced bytes ≡ n
+pub announced-header : (bytes header : List ℕ) (n : ℕ) → take 4 bytes ≡ header → n ≡ from_be_bytes w32 header → announced bytes ≡ n
 unfolding announced
 announced-header bytes header n first value = ap (from_be_bytes w32) first ∙ sym value
 

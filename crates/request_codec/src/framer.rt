@@ -4,7 +4,7 @@ ghost use Rattle.std.specs.Prelude.{◌≡◌, ◌==◌, ◌≤◌, ◌<◌, ◌
 ghost use Rattle.std.specs.Borrow.{sem, follows_so};
 ghost use Rattle.std.specs.Int.{from_be_bytes, to_be_bytes, w32};
 ghost use Rattle.request_codec.specs.Framing.{IsAtFirst, IsReady, HandsOut, longest_frame};
-ghost use Rattle.request_codec.specs.Stream.{longest};
+ghost use Rattle.request_codec.specs.Stream.{announced, longest, IsPartial};
 ghost use mathlib.Core.Option.{none};
 
 use cell_key::Refusal;
@@ -169,6 +169,22 @@ impl Framer {
         ensures { result ≡ (length self.now == 0) }
     {
         self.ring.is_empty()
+    }
+
+    /// How many bytes of the first frame are wanted, at least: those of its length, or else of its body. It is 1 or more.
+    pub fn wanted(&self) -> usize
+        ensures some { 1 ≤ result }
+        ensures of_length { length self.now < 4 → length self.now + result ≡ 4 }
+        ensures of_body { 4 ≤ length self.now → IsPartial self.now
+            → length self.now + result ≡ 4 + announced self.now }
+    {
+        match header_of(&self.ring) {
+            Some(header) => {
+                let len = 4 + length_in(header) as usize;
+                len.saturating_sub(self.ring.len()).max(1)
+            }
+            None => 4 - self.ring.len(),
+        }
     }
 
     /// The body of the next frame, if a whole one was taken, or that the next frame is too large, or that more bytes are

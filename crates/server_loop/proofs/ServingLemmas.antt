@@ -425,6 +425,17 @@ module _ {S : Type 0} (shows : S → State → Type 0) (says : S → Lent → Co
     ),
   )
 
+  -- The front of the piece was taken, and less than a frame is at hand.
+  pub piece_goes_on : (result : Result Rest ServeFault) (a b c : S) (first piece hand hand' : List ℕ) (m : ℕ) (h i j : Option (List ℕ))
+      → ((mid : List ℕ) × IsRest (Ok rests.Partial) mid hand × HandlesTo shows says between (Ok rests.Partial) a b (first ++ take m piece) mid h i)
+      → ((rest : List ℕ) × IsRest result rest hand' × HandlesTo shows says between result b c (hand ++ drop m piece) rest i j)
+      → (rest : List ℕ) × IsRest result rest hand' × HandlesTo shows says between result a c (first ++ piece) rest h j
+  piece_goes_on result a b c first piece hand hand' m h i j (mid, same, p) (rest, left, q) =
+      let held = subst (λ (l : List ℕ). Answered shows says between a b (first ++ take m piece) l h i) (sym same) p.1 in
+      let more = Answered-more a b (first ++ take m piece) hand (drop m piece) h i held in
+      let whole = subst (λ (l : List ℕ). Answered shows says between a b l (hand ++ drop m piece) h i) (rest_of_piece first piece m) more in
+      (rest, left, HandlesTo-after result a b c (first ++ piece) (hand ++ drop m piece) rest h i j whole q)
+
 -- less than a frame leaves room for a byte
 pub has_room : (hand : List ℕ) → IsPartial hand → length hand < longest_frame
 has_room hand p = if_few (nat_le 4 (length hand)) refl where

@@ -210,7 +210,7 @@ fn answer_whole<'p, A: Answering, W: Write>(
 
 /// Takes a piece of the input, and answers each whole frame. Less than a frame may be at hand before it. If nothing is,
 /// only what follows the piece's whole frames is taken into the framer.
-fn serve_piece<A: Answering, W: Write>(
+fn serve_whole<A: Answering, W: Write>(
     server: &mut A,
     framer: &mut Framer,
     piece: &[u8],
@@ -229,6 +229,32 @@ fn serve_piece<A: Answering, W: Write>(
     }
     let rest = answer_whole(server, piece, writer, out)?;
     feed_piece(server, framer, rest, writer, out)
+}
+
+/// Takes a piece of the input, and answers each whole frame. If less than a frame is at hand before it, what that one
+/// lacks is taken into the framer first.
+fn serve_piece<A: Answering, W: Write>(
+    server: &mut A,
+    framer: &mut Framer,
+    piece: &[u8],
+    writer: &mut W,
+    out: &mut Vec<u8>,
+) -> Result<Rest, ServeFault>
+    requires out { LONGEST_REPLY ≤ vec_capacity out.old }
+    requires partial { IsPartial framer.old }
+    ensures handles { (rest : List ℕ) × IsRest result rest framer.new
+        × HandlesTo A.shows A.says A.between result server.old server.new (framer.old ++ piece.now)
+        rest (W.contents writer.old) (W.contents writer.new) }
+    ensures room { vec_capacity out.old ≤ vec_capacity out.new }
+{
+    if framer.is_empty() {
+        return serve_whole(server, framer, piece, writer, out);
+    }
+    let (front, after) = piece.split_at(framer.wanted().min(piece.len()));
+    match feed_piece(server, framer, front, writer, out)? {
+        Rest::Partial => serve_whole(server, framer, after, writer, out),
+        Rest::TooLarge => Ok(Rest::TooLarge),
+    }
 }
 
 /// Reads once, after what was written has left the writer, and answers each whole frame. `None` if the input goes on.

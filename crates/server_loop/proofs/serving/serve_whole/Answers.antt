@@ -2,7 +2,7 @@ use Rattle.std.proofs.Common.{◌≡◌, Err, ap, ◌∙◌}
 use Rattle.std.proofs.lemmas.Result.{err_from_is_err_and}
 use Rattle.server_loop.proofs.ServingLemmas.{piece_after, piece_stops}
 use Rattle.server_loop.proofs.StreamReads.{none_held}
-use Rattle.server_loop.proofs.serving.serve_piece.Goals as goal
+use Rattle.server_loop.proofs.serving.serve_whole.Goals as goal
 
 pub returns-in_err-rest-clause-handles : goal.returns-in_err-rest-clause-handles
 returns-in_err-rest-clause-handles g c =
