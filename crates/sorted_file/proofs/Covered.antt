@@ -9,7 +9,7 @@ use Rattle.cell_key.specs.declared.keys.Qualifier.{Qualifier}
 use Rattle.cell_key.specs.declared.keys.Qualifier.TheVariants.{Lock}
 use Rattle.file_store.specs.Store.{Contents}
 use Rattle.sorted_file.specs.File.{IsOpen, MayHaveIn, listed}
-use Rattle.sorted_file.specs.Filters.{HasBit}
+use Rattle.sorted_file.specs.Filters.{HasBits}
 use Rattle.sorted_file.specs.KeyFilters.{StaysCovered}
 use Rattle.sorted_file.specs.Newest.{IsNewestStamp}
 use Rattle.sorted_file.specs.Numbers.{lock_stamp, number_of}
@@ -19,23 +19,23 @@ use Rattle.sorted_file.proofs.Locked.{no_value_numbered}
 use Rattle.sorted_file.proofs.Numbered.{no_entry}
 
 -- a number that a filter hasn't isn't among those that it has
-pub unset : (words numbers : List ℕ) (number other : ℕ) (has : Bool) → (IsTrue has ↔ HasBit words number) → has ≡ false → number ≡ other
-    → All (HasBit words) numbers → ¬ Contains numbers other
+pub unset : (words numbers : List ℕ) (number other : ℕ) (has : Bool) → (IsTrue has ↔ HasBits words number) → has ≡ false → number ≡ other
+    → All (HasBits words) numbers → ¬ Contains numbers other
 unset words numbers number other has says not same each there =
-    subst T (sym (says.1 (subst (HasBit words) (sym same) (All-contains (HasBit words) numbers other each there))) ∙ not) tt
+    subst T (sym (says.1 (subst (HasBits words) (sym same) (All-contains (HasBits words) numbers other each there))) ∙ not) tt
 
 -- nor is a stamp of a column whose number a filter hasn't
-pub unset_lock : (words : List ℕ) (locks : List LockStamp) (number column : ℕ) (has : Bool) → (IsTrue has ↔ HasBit words number) → has ≡ false → number ≡ column
-    → All (λ (lock : LockStamp). HasBit words lock.column) locks → (s : ℕ) → ¬ Contains locks (lock_stamp column s)
+pub unset_lock : (words : List ℕ) (locks : List LockStamp) (number column : ℕ) (has : Bool) → (IsTrue has ↔ HasBits words number) → has ≡ false → number ≡ column
+    → All (λ (lock : LockStamp). HasBits words lock.column) locks → (s : ℕ) → ¬ Contains locks (lock_stamp column s)
 unset_lock words locks number column has says not same each s there =
-    subst T (sym (says.1 (subst (HasBit words) (sym same) (All-contains (λ (lock : LockStamp). HasBit words lock.column) locks (lock_stamp column s) each there))) ∙ not) tt
+    subst T (sym (says.1 (subst (HasBits words) (sym same) (All-contains (λ (lock : LockStamp). HasBits words lock.column) locks (lock_stamp column s) each there))) ∙ not) tt
 
 -- a file that is what it was but for its cache has the numbers that it had
 pub stays_covered : StaysCovered
 stays_covered disk filter old new same covers = record {
-  numbers = subst (All (HasBit filter.numbers.words.items)) (ap (λ (f : SortedFile). f.numbers) (sym (same.rest old.cache))) covers.numbers;
-  locks = subst (All (λ (lock : LockStamp). HasBit filter.locks.words.items lock.column)) (ap (λ (f : SortedFile). f.locks) (sym (same.rest old.cache))) covers.locks;
-  lock_keys = subst (All (HasBit filter.lock_keys.words.items)) (ap (λ (f : SortedFile). f.lock_keys) (sym (same.rest old.cache))) covers.lock_keys;
+  numbers = subst (All (HasBits filter.numbers.words.items)) (ap (λ (f : SortedFile). f.numbers) (sym (same.rest old.cache))) covers.numbers;
+  locks = subst (All (λ (lock : LockStamp). HasBits filter.locks.words.items lock.column)) (ap (λ (f : SortedFile). f.locks) (sym (same.rest old.cache))) covers.locks;
+  lock_keys = subst (All (HasBits filter.lock_keys.words.items)) (ap (λ (f : SortedFile). f.lock_keys) (sym (same.rest old.cache))) covers.lock_keys;
 }
 
 -- a column without an entry has no value

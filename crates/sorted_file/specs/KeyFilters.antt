@@ -2,7 +2,7 @@
 use Rattle.std.specs.Prelude.{All, Option}
 use Rattle.file_store.specs.Store.{Contents}
 use Rattle.sorted_file.specs.File.{IsSameFile}
-use Rattle.sorted_file.specs.Filters.{HasBit}
+use Rattle.sorted_file.specs.Filters.{HasBits}
 use Rattle.sorted_file.specs.declared.file.SortedFile.{SortedFile}
 use Rattle.sorted_file.specs.declared.lock_stamps.LockStamp.{LockStamp}
 use Rattle.sorted_file.specs.declared.key_filter.KeyFilter.{KeyFilter}
@@ -10,9 +10,9 @@ use Rattle.sorted_file.specs.declared.key_filter.KeyFilter.{KeyFilter}
 -- A filter of keys covers a file: it has the numbers that the file keeps of its columns, of those of locks with a
 -- value, and of locks' keys.
 pub record Covers (filter : KeyFilter) (file : SortedFile) : Type 0 where
-  pub numbers : All (HasBit filter.numbers.words.items) file.numbers
-  pub locks : All (λ (lock : LockStamp). HasBit filter.locks.words.items lock.column) file.locks
-  pub lock_keys : All (HasBit filter.lock_keys.words.items) file.lock_keys
+  pub numbers : All (HasBits filter.numbers.words.items) file.numbers
+  pub locks : All (λ (lock : LockStamp). HasBits filter.locks.words.items lock.column) file.locks
+  pub lock_keys : All (HasBits filter.lock_keys.words.items) file.lock_keys
 
 -- a file that is what it was but for its cache is still covered
 abbrev pub StaysCovered : Type 0

@@ -1,5 +1,6 @@
 -- The stamps of locks, by the numbers of their columns.
 use Rattle.std.specs.Prelude.{◌≡◌, ◌≤◌, ℕ, List, Option, All, Contains, IfSome}
+use Rattle.std.specs.List.Sorted.{IsNonDecreasingBy}
 use Rattle.sorted_file.specs.Newest.{IsAfterStamp}
 use Rattle.sorted_file.specs.Numbers.{lock_stamp}
 use Rattle.sorted_file.specs.declared.lock_stamps.LockStamp.{LockStamp}
@@ -15,3 +16,7 @@ pub record IsLatestOf (locks : List LockStamp) (lo hi : ℕ) (found : Option ℕ
   pub within : IfSome found (λ stamp. (lo ≤ stamp) × (stamp ≤ hi))
   pub there : IfSome found (λ stamp. (lock : LockStamp) × Contains locks lock × (lock.stamp ≡ stamp))
   pub none : All (λ (lock : LockStamp). IsAfterStamp lock.stamp lo found → ¬ (lock.stamp ≤ hi)) locks
+
+-- locks are in the order of their columns' numbers
+abbrev pub InColumnOrder : List LockStamp → Type 0
+InColumnOrder locks = IsNonDecreasingBy (λ (lock : LockStamp). lock.column) locks

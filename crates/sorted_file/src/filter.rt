@@ -1,8 +1,8 @@
-//! A filter of numbers (a Bloom filter of one probe): one bit says that a number was not added.
+//! A filter of numbers (a Bloom filter of two probes in one word): a number without both its bits was not added.
 
-ghost use Rattle.std.specs.Int.{IsPowerOfTwo};
-ghost use Rattle.std.specs.Prelude.{◌≡◌, ◌↔◌, ◌+◌, ◌*◌, ◌≤◌, ℕ, [], All, IfErr, IsTrue, length};
-ghost use Rattle.sorted_file.specs.Filters.{word_place, HasBit};
+ghost use Rattle.std.specs.Int.{bit_at, IsPowerOfTwo};
+ghost use Rattle.std.specs.Prelude.{◌≡◌, ◌↔◌, ◌+◌, ◌*◌, ◌<◌, ◌≤◌, ℕ, [], All, IfErr, IsTrue, length};
+ghost use Rattle.sorted_file.specs.Filters.{first_bit, second_bit, word_place, HasBits};
 
 use cell_key::Refusal;
 use std::alloc::Global;
@@ -10,8 +10,11 @@ use std::alloc::Global;
 /// For how many numbers, at most, a filter has a word.
 const NUMBERS_A_WORD: usize = 8;
 
-/// How far down a number's top six bits are shifted, which say which bit of a word is its own.
-const BIT_SHIFT: u64 = 58;
+/// How far down a number's top six bits are shifted, which say which bit of a word is its first.
+const FIRST_SHIFT: u64 = 58;
+
+/// How far down the six bits below those are shifted, which say which bit is its second.
+const SECOND_SHIFT: u64 = 52;
 
 /// How many words the filter of so many numbers has: a power of two, with at least 8 bits for each number, and at most
 /// 16 for each and 64 more.
@@ -23,43 +26,83 @@ fn words_for(count: usize) -> usize
     count.div_ceil(NUMBERS_A_WORD).next_power_of_two()
 }
 
-/// The place of the word that has a number's bit, among so many words.
+/// The place of the word that has a number's bits, among so many words.
+#[inline(always)]
 fn place_of(count: usize, number: u64) -> usize
     ensures { result ≡ word_place count number }
 {
     number as usize & count.saturating_sub(1)
 }
 
-/// Whether the bit of a number is set, or there is no word for it.
-fn has_bit(words: &[u64], number: u64) -> bool
-    ensures { IsTrue result ↔ HasBit words.now number }
+/// Which bit of its word is a number's first.
+#[inline(always)]
+fn first_bit(number: u64) -> u64
+    ensures value { result ≡ first_bit number }
+    ensures within { result < 64 }
+{
+    number >> FIRST_SHIFT
+}
+
+/// Which bit of its word is a number's second, maybe the same one.
+#[inline(always)]
+fn second_bit(number: u64) -> u64
+    ensures value { result ≡ second_bit number }
+    ensures within { result < 64 }
+{
+    (number >> SECOND_SHIFT) % 64
+}
+
+/// Whether a bit of a word is set.
+#[inline(always)]
+fn is_set(word: u64, bit: u64) -> bool
+    requires { bit < 64 }
+    ensures { IsTrue result ↔ (bit_at word bit ≡ 1) }
+{
+    word & (1 << bit) != 0
+}
+
+/// A word with one more bit set.
+#[inline(always)]
+fn with_bit(word: u64, bit: u64) -> u64
+    requires { bit < 64 }
+    ensures has { bit_at result bit ≡ 1 }
+    ensures keeps { (other : ℕ) → bit_at word other ≡ 1 → bit_at result other ≡ 1 }
+{
+    word | (1 << bit)
+}
+
+/// Whether both bits of a number are set, or there is no word for them.
+#[inline(always)]
+fn has_bits(words: &[u64], number: u64) -> bool
+    ensures { IsTrue result ↔ HasBits words.now number }
 {
     match words.get(place_of(words.len(), number)) {
-        Some(word) => word & (1 << (number >> BIT_SHIFT)) != 0,
+        Some(word) => is_set(*word, first_bit(number)) && is_set(*word, second_bit(number)),
         None => true,
     }
 }
 
-/// Sets the bit of a number, if there is a word for it.
-fn set_bit(words: &mut [u64], number: u64)
-    ensures has { HasBit words.new number }
-    ensures keeps { (other : ℕ) → HasBit words.old other → HasBit words.new other }
+/// Sets both bits of a number, if there is a word for them.
+fn set_bits(words: &mut [u64], number: u64)
+    ensures has { HasBits words.new number }
+    ensures keeps { (other : ℕ) → HasBits words.old other → HasBits words.new other }
     ensures length { length words.new ≡ length words.old }
 {
     let place = place_of(words.len(), number);
     if place < words.len() {
-        words[place] |= 1 << (number >> BIT_SHIFT);
+        let first = with_bit(words[place], first_bit(number));
+        words[place] = with_bit(first, second_bit(number));
     }
 }
 
-/// Sets the bit of each of some numbers, if there is a word for it.
-fn set_bits(words: &mut [u64], numbers: &[u64])
-    ensures each { All (HasBit words.new) numbers.now }
-    ensures keeps { (other : ℕ) → HasBit words.old other → HasBit words.new other }
+/// Sets both bits of each of some numbers, if there is a word for them.
+fn set_each(words: &mut [u64], numbers: &[u64])
+    ensures each { All (HasBits words.new) numbers.now }
+    ensures keeps { (other : ℕ) → HasBits words.old other → HasBits words.new other }
     ensures length { length words.new ≡ length words.old }
 {
     for number in numbers {
-        set_bit(words, *number);
+        set_bits(words, *number);
     }
 }
 
@@ -97,28 +140,29 @@ impl Filter {
 
     /// Adds a number.
     pub(crate) fn add(&mut self, number: u64)
-        ensures has { HasBit self.new.words.items number }
-        ensures keeps { (other : ℕ) → HasBit self.old.words.items other
-            → HasBit self.new.words.items other }
+        ensures has { HasBits self.new.words.items number }
+        ensures keeps { (other : ℕ) → HasBits self.old.words.items other
+            → HasBits self.new.words.items other }
     {
-        set_bit(&mut self.words, number);
+        set_bits(&mut self.words, number);
         self.count = self.count.saturating_add(1);
     }
 
     /// Adds numbers.
     pub(crate) fn add_all(&mut self, numbers: &[u64])
-        ensures each { All (HasBit self.new.words.items) numbers.now }
-        ensures keeps { (other : ℕ) → HasBit self.old.words.items other
-            → HasBit self.new.words.items other }
+        ensures each { All (HasBits self.new.words.items) numbers.now }
+        ensures keeps { (other : ℕ) → HasBits self.old.words.items other
+            → HasBits self.new.words.items other }
     {
-        set_bits(&mut self.words, numbers);
+        set_each(&mut self.words, numbers);
         self.count = self.count.saturating_add(numbers.len());
     }
 
     /// Whether a number may have been added.
+    #[inline(always)]
     pub(crate) fn has(&self, number: u64) -> bool
-        ensures { IsTrue result ↔ HasBit self.now.words.items number }
+        ensures { IsTrue result ↔ HasBits self.now.words.items number }
     {
-        has_bit(&self.words, number)
+        has_bits(&self.words, number)
     }
 }

@@ -1,9 +1,8 @@
 //! The stamps of locks that have a value, by which a lock test passes by a file without reading it.
 
-ghost use Rattle.std.specs.List.Sorted.{IsNonDecreasingBy};
 ghost use Rattle.std.specs.Prelude.{◌≡◌, ◌≤◌, ◌⊎◌, ℕ, Some, All, IfSome, length};
-ghost use Rattle.sorted_file.specs.Filters.{HasBit};
-ghost use Rattle.sorted_file.specs.LockStamps.{IsLatest, IsLatestOf};
+ghost use Rattle.sorted_file.specs.Filters.{HasBits};
+ghost use Rattle.sorted_file.specs.LockStamps.{InColumnOrder, IsLatest, IsLatestOf};
 ghost use Rattle.sorted_file.specs.Newest.{IsAfterStamp};
 ghost use Rattle.sorted_file.specs.Numbers.{IsAmong};
 ghost use Rattle.sorted_file.specs.declared.lock_stamps.LockStamp.{LockStamp as StampOf};
@@ -55,15 +54,15 @@ pub(crate) struct LockStamps {
 }
 
 impl Model for LockStamps {
-    ghost use Rattle.std.specs.List.Sorted.{IsNonDecreasingBy};
     ghost use Rattle.std.specs.Prelude.{List};
+    ghost use Rattle.sorted_file.specs.LockStamps.{InColumnOrder};
     ghost use Rattle.sorted_file.specs.declared.lock_stamps.LockStamp.{LockStamp as StampOf};
 
     ghost Value = { List StampOf };
 
     ghost view = { λ locks. locks.sorted.items };
 
-    ghost invariant = { λ locks. IsNonDecreasingBy (λ (lock : StampOf). lock.column) locks.sorted.items };
+    ghost invariant = { λ locks. InColumnOrder locks.sorted.items };
 }
 
 impl LockStamps {
@@ -96,9 +95,10 @@ impl LockStamps {
 
     /// Adds the number of each column to a filter.
     pub(crate) fn add_to(&self, filter: &mut Filter)
-        ensures each { All (λ (lock : StampOf). HasBit filter.new.words.items lock.column) self.now }
-        ensures keeps { (other : ℕ) → HasBit filter.old.words.items other
-            → HasBit filter.new.words.items other }
+        ensures each { All (λ (lock : StampOf). HasBits filter.new.words.items lock.column)
+            self.now }
+        ensures keeps { (other : ℕ) → HasBits filter.old.words.items other
+            → HasBits filter.new.words.items other }
     {
         for lock in &self.sorted {
             filter.add(lock.column);

@@ -2,7 +2,7 @@
 
 ghost use Rattle.std.specs.List.Sorted.{IsNonDecreasing};
 ghost use Rattle.std.specs.Prelude.{◌≡◌, ◌↔◌, ℕ, All, Contains, IfErr, IfOk, IsTrue, OnOk, length};
-ghost use Rattle.sorted_file.specs.Filters.{HasBit};
+ghost use Rattle.sorted_file.specs.Filters.{HasBits};
 ghost use Rattle.sorted_file.specs.Numbers.{number_of, text_number, IsAmong};
 
 use crate::filter::Filter;
@@ -59,21 +59,21 @@ fn is_among(sorted: &[u64], number: u64) -> bool
 pub(crate) struct Numbers {
     /// In rising order.
     sorted: Vec<u64>,
-    /// Each of them has its bit set in it.
+    /// Each of them has its bits set in it.
     filter: Filter,
 }
 
 impl Model for Numbers {
     ghost use Rattle.std.specs.List.Sorted.{IsNonDecreasing};
     ghost use Rattle.std.specs.Prelude.{ℕ, List, All};
-    ghost use Rattle.sorted_file.specs.Filters.{HasBit};
+    ghost use Rattle.sorted_file.specs.Filters.{HasBits};
 
     ghost Value = { List ℕ };
 
     ghost view = { λ numbers. numbers.sorted.items };
 
     ghost invariant = { λ numbers. IsNonDecreasing numbers.sorted.items
-        × All (HasBit numbers.filter.words.items) numbers.sorted.items };
+        × All (HasBits numbers.filter.words.items) numbers.sorted.items };
 }
 
 impl Numbers {
@@ -106,9 +106,9 @@ impl Numbers {
 
     /// Adds each to a filter.
     pub(crate) fn add_to(&self, filter: &mut Filter)
-        ensures each { All (HasBit filter.new.words.items) self.now }
-        ensures keeps { (other : ℕ) → HasBit filter.old.words.items other
-            → HasBit filter.new.words.items other }
+        ensures each { All (HasBits filter.new.words.items) self.now }
+        ensures keeps { (other : ℕ) → HasBits filter.old.words.items other
+            → HasBits filter.new.words.items other }
     {
         filter.add_all(&self.sorted);
     }

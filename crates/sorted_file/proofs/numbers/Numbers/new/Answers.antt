@@ -1,13 +1,13 @@
 use Rattle.std.proofs.Common.{List, ℕ, subst}
 use Rattle.std.specs.Prelude.{All}
 use Rattle.std.proofs.lemmas.List.Sorted.{Contains-permutation, IsNonDecreasingBy-from_sort, IsPermutation-sym}
-use Rattle.sorted_file.specs.Filters.{HasBit}
+use Rattle.sorted_file.specs.Filters.{HasBits}
 use Rattle.sorted_file.proofs.numbers.Numbers.new.Goals as goal
 
 pub invariant_of-result : goal.invariant_of-result
 invariant_of-result c = (
   IsNonDecreasingBy-from_sort (λ n. n) _ c.sort_unstable.ensures.sorted,
-  subst (λ (l : List ℕ). All (HasBit c.add_all.new.self.words.items) l) c.deref.ensures.value c.add_all.ensures.each,
+  subst (λ (l : List ℕ). All (HasBits c.add_all.new.self.words.items) l) c.deref.ensures.value c.add_all.ensures.each,
 )
 
 pub returns-clause-keeps : goal.returns-clause-keeps
