@@ -1,9 +1,8 @@
 -- What was gathered, as one entry after the other comes.
-use Rattle.std.proofs.Common.{◌≡◌, ◌≢◌, ◌<◌, ◌≤◌, ◌+◌, ◌-◌, ℕ, Bool, true, false, cond, List, [], ◌∷◌, ◌++◌, ◌⊎◌, inl, inr, Option, Some, None, refl, sym, ap, subst, ◌∙◌, append_assoc, length, option_map, take, ◌^◌, arith}
-use Rattle.std.specs.Prelude.{IfOk, IfSome, IsSome, OnOk, Result, Ok, Err}
-use Rattle.std.specs.Bool.{OnFalse, OnTrue}
-use Rattle.std.specs.Option.{option_to_list}
-use Rattle.std.specs.List.{AllByRecursion}
+use Rattle.std.proofs.Common.{◌≡◌, ◌≢◌, ◌<◌, ◌≤◌, ◌+◌, ◌-◌, ℕ, Bool, true, false, cond, List, [], ◌∷◌, ◌++◌, ◌⊎◌, inl, inr, Option, Some, None, refl, sym, ap, subst, ◌∙◌, append_assoc, length, get_or, set, take, ◌^◌, arith}
+use Rattle.std.specs.Prelude.{IfSome, IsSome}
+use Rattle.std.specs.Bool.{OnFalse}
+use Rattle.std.specs.List.{slice_get, AllByRecursion}
 use Rattle.std.specs.declared.cmp.Ordering.{Ordering}
 use Rattle.std.specs.declared.cmp.Ordering.TheVariants.{Less, Equal, Greater}
 use Rattle.std.specs.Ordering.{is_le, ordering_then}
@@ -11,7 +10,7 @@ use Rattle.std.specs.Cmp.{alike_right}
 use Rattle.std.specs.FinMap.{get}
 use Rattle.std.proofs.lemmas.List.{append-nil, length-append, length-map, map-append}
 use Rattle.std.proofs.lemmas.List.Elements.{filter-append}
-use Rattle.std.proofs.Math.Seq.{take-append_seam}
+use Rattle.std.proofs.Math.Seq.{get_or-append_seam, set-append_seam, take-append_seam}
 use Rattle.cell_key.specs.Keys.{byte_cmp, text, qualifier_name, IsKeyText, IsStored}
 use Rattle.cell_key.specs.Cells.{Cells, IsNewest, version}
 use Rattle.cell_key.specs.Entries.{Entry, IsEntry, IsEntryList, cells_of, entries_from, entry_of_key, or_else, value_of}
@@ -25,11 +24,10 @@ use Rattle.cell_key.proofs.EntryLists.{total}
 use Rattle.cell_key.proofs.Order.{after_place, one_place, plain_family, stored_plain, text_exact, text_of_place, text_order}
 use Rattle.cell_key.proofs.TextPlaces.{one_text}
 use Rattle.tablet.specs.Batches.{HasNewest, Keeps, of_column, place_in, places_in}
-use Rattle.tablet.specs.Gathering.{all_cells, cell_in, AreVersionsIn, BeginsWith, Gathers, HasPlaceText, IsShown, IsShownSoFar, IsTextOf, IsWhole}
+use Rattle.tablet.specs.Gathering.{before_last, last_of, AreVersionsIn, Begins, BeginsWith, Gathers, HasPlaceText, IsShown, IsShownSoFar, IsWhole}
 use Rattle.tablet.specs.Reads.{IsNextIn, IsOfPlace, IsStoredPlace, first_value, past_place}
 use Rattle.tablet.specs.declared.batches.CellVersions.{CellVersions}
 use Rattle.tablet.specs.declared.gathering.Gathering.{Gathering}
-use Rattle.tablet.specs.declared.gathering.OpenCell.{OpenCell}
 use Rattle.tablet.proofs.Filters.{find-filter}
 use Rattle.tablet.proofs.FirstValues.{first_none}
 use Rattle.tablet.proofs.GatheredEntries.{get_added, get_erased, get_unnamed, list_back, list_front, lower_text, newest_above, newest_beside, newest_kept, newest_same, none_behind}
@@ -137,140 +135,193 @@ below_later q stored place at name up =
     less_le (text q) (past_place (Some place)) name
     (subst (λ (p : Place). byte_cmp (text q) (past_place (Some p)) ≡ Less) at (below_past q stored)) up
 
--- ---- one entry more
+-- ---- the last of some cells
 
 last_all : (cells : List CellVersions) (found : CellVersions) → last_or None (places_in (cells ++ found ∷ [])) ≡ Some (place_in found)
 last_all cells found = ap (last_or None) (map-append place_in cells (found ∷ [])) ∙ last_append None (places_in cells) (place_in found)
 
-all_open : (g : Gathering) (o : OpenCell) → g.current ≡ Some o → all_cells g ≡ g.cells.items ++ cell_in o ∷ []
-all_open g o is = ap (λ (x : Option OpenCell). g.cells.items ++ option_to_list (option_map cell_in x)) is
+one_less : (front : List CellVersions) (last : CellVersions) → length (front ++ last ∷ []) - 1 ≡ length front
+one_less front last = let both = length-append front (last ∷ []) in omega (arith, both)
+
+get_last : (front : List CellVersions) (last : CellVersions) → slice_get (front ++ last ∷ []) (length front) ≡ Some last
+get_last [] last = refl
+get_last (found ∷ front) last = get_last front last
+
+last_at : (front : List CellVersions) (last : CellVersions) → last_of (front ++ last ∷ []) ≡ Some last
+last_at front last = ap (slice_get (front ++ last ∷ [])) (one_less front last) ∙ get_last front last
+
+front_at : (front : List CellVersions) (last : CellVersions) → before_last (front ++ last ∷ []) ≡ front
+front_at front last = ap (λ (n : ℕ). take n (front ++ last ∷ [])) (one_less front last) ∙ take-append_seam front (last ∷ [])
+
+-- there is none, or they end with one
+pub record HasLast (cells : List CellVersions) : Type 0 where
+  pub front : List CellVersions
+  pub last : CellVersions
+  pub is : cells ≡ front ++ last ∷ []
+
+pub split_last : (cells : List CellVersions) → (cells ≡ []) ⊎ HasLast cells
+split_last [] = inl refl
+split_last (found ∷ cells) = go (split_last cells)
+  where
+    go : (cells ≡ []) ⊎ HasLast cells → (found ∷ cells ≡ []) ⊎ HasLast (found ∷ cells)
+    go (inl none) = inr (record { front = []; last = found; is = ap (λ (xs : List CellVersions). found ∷ xs) none })
+    go (inr s) = inr (record { front = found ∷ s.front; last = s.last; is = ap (λ (xs : List CellVersions). found ∷ xs) s.is })
+
+pub has_last : (cells : List CellVersions) → 0 < length cells → HasLast cells
+has_last cells some = go (split_last cells)
+  where
+    go : (cells ≡ []) ⊎ HasLast cells → HasLast cells
+    go (inl none) = let empty = ap length none in absurd (omega (arith, some, empty))
+    go (inr s) = s
+
+module _ (cells : List CellVersions) (s : HasLast cells) (n : ℕ) (len : n ≡ length cells) (found : CellVersions) where
+  at_front : n - 1 ≡ length s.front
+  at_front = ap (λ (k : ℕ). k - 1) (len ∙ ap length s.is) ∙ one_less s.front s.last
+
+  pub read_last : found ≡ get_or cells (n - 1) found → found ≡ s.last
+  read_last is = is ∙ ap (λ (k : ℕ). get_or cells k found) at_front ∙ ap (λ (xs : List CellVersions). get_or xs (length s.front) found) s.is ∙ get_or-append_seam s.front s.last [] found
+
+  pub write_last : set cells (n - 1) found ≡ s.front ++ found ∷ []
+  write_last = ap (λ (k : ℕ). set cells k found) at_front ∙ ap (λ (xs : List CellVersions). set xs (length s.front) found) s.is ∙ set-append_seam s.front s.last [] found
 
 if_map : {A : Type 0} {P Q : A → Type 0} (o : Option A) → ((x : A) → P x → Q x) → IfSome o P → IfSome o Q
 if_map None f h = tt
 if_map (Some x) f h = f x h
 
+-- ---- one entry more
+
 -- an erasure changes nothing
 pub gathers_erased : (es : List Entry) (name : List ℕ) (g : Gathering) → IsEntryList (es ++ (name, None) ∷ []) → Gathers es g → Gathers (es ++ (name, None) ∷ []) g
 gathers_erased es name g list h = record {
-  next = cells_next es ((name, None) ∷ []) (all_cells g) h.next;
+  next = cells_next es ((name, None) ∷ []) g.cells.items h.next;
   none = none_more _ es ((name, None) ∷ []) h.none (none_erased _ name);
-  whole = whole_more es ((name, None) ∷ []) g.hi g.cells.items h.whole;
-  begun = h.begun;
-  current = if_map g.current (λ o was. record { text = was.text; shown = cell_shown es (es ++ (name, None) ∷ []) g.hi o.cell (λ q at. get_erased es name list q) was.shown }) h.current;
+  whole = whole_more es ((name, None) ∷ []) g.hi (before_last g.cells.items) h.whole;
+  last = if_map (last_of g.cells.items) (λ o was. record { text = was.text; shown = cell_shown es (es ++ (name, None) ∷ []) g.hi o (λ q at. get_erased es name list q) was.shown }) h.last;
 }
+
+-- out of entries these cells were gathered, the last of which has this text of its place
+gathers_at : (es : List Entry) (hi : ℕ) (bytes : List ℕ) (front : List CellVersions) (last : CellVersions) → AreNext (IsNextIn es) None (length (front ++ last ∷ [])) (places_in (front ++ last ∷ [])) → IsNextIn es (Some (place_in last)) None
+    → AllByRecursion (IsWhole es hi) front → IsShownSoFar es hi bytes last → (new : Gathering) → new.cells.items ≡ front ++ last ∷ [] → new.place.items ≡ bytes → new.hi ≡ hi → Gathers es new
+gathers_at es hi bytes front last next none whole shown new cells place stamp = record {
+  next = subst (λ (xs : List CellVersions). AreNext (IsNextIn es) None (length xs) (places_in xs)) (sym cells) next;
+  none = subst (λ (p : Option Place). IsNextIn es p None) (sym (ap (λ (xs : List CellVersions). last_or None (places_in xs)) cells ∙ last_all front last)) none;
+  whole = subst (λ (x : ℕ). AllByRecursion (IsWhole es x) (before_last new.cells.items)) (sym stamp) (subst (AllByRecursion (IsWhole es hi)) (sym (ap before_last cells ∙ front_at front last)) whole);
+  last = subst (λ (x : Option CellVersions). IfSome x (IsShownSoFar es new.hi new.place.items)) (sym (ap last_of cells ∙ last_at front last))
+      (subst (λ (x : ℕ). IsShownSoFar es x new.place.items last) (sym stamp) (subst (λ (start : List ℕ). IsShownSoFar es hi start last) (sym place) shown));
+}
+
+module _ (es : List Entry) (g : Gathering) (h : Gathers es g) (s : HasLast g.cells.items) where
+  pub was_last : IsShownSoFar es g.hi g.place.items s.last
+  was_last = subst (λ (x : Option CellVersions). IfSome x (IsShownSoFar es g.hi g.place.items)) (ap last_of s.is ∙ last_at s.front s.last) h.last
+
+  was_whole : AllByRecursion (IsWhole es g.hi) s.front
+  was_whole = subst (AllByRecursion (IsWhole es g.hi)) (ap before_last s.is ∙ front_at s.front s.last) h.whole
+
+  last_place : last_or None (places_in g.cells.items) ≡ Some (place_in s.last)
+  last_place = ap (λ (cells : List CellVersions). last_or None (places_in cells)) s.is ∙ last_all s.front s.last
 
 module _ (es : List Entry) (k : CellKey) (stored : IsStored k) (value : List ℕ) (g : Gathering) (h : Gathers es g) where
   abbrev now : List Entry
   now = es ++ (text k, Some value) ∷ []
 
-  was_open : (o : OpenCell) → g.current ≡ Some o → IsShownSoFar es g.hi o
-  was_open o is = subst (λ (x : Option OpenCell). IfSome x (IsShownSoFar es g.hi)) is h.current
-
-  last_open : (o : OpenCell) → g.current ≡ Some o → last_or None (places_in (all_cells g)) ≡ Some (place_in (cell_in o))
-  last_open o is = ap (λ (cells : List CellVersions). last_or None (places_in cells)) (all_open g o is) ∙ last_all g.cells.items (cell_in o)
-
-  -- a value of the open cell
-  pub gathers_taken : IsEntryList now → (o p : OpenCell) → g.current ≡ Some o → place_in (cell_in p) ≡ place_in (cell_in o) → p.place.items ≡ o.place.items → BeginsWith o.place.items (text k)
-      → (HasPlaceText o → HasNewest (cells_of es) g.hi (cell_in o) → HasNewest (cells_of now) g.hi (cell_in p)) → (new : Gathering) → new ≡ record g { current = Some p } → Gathers now new
-  gathers_taken list o p is same place begins newest new made = subst (Gathers now) (sym made) (record {
-    next = subst (λ (ps : List Place). AreNext (IsNextIn now) None (length (g.cells.items ++ cell_in p ∷ [])) ps) (sym places)
-        (subst (λ (n : ℕ). AreNext (IsNextIn now) None n (places_in (all_cells g))) lengths (cells_next es ((text k, Some value) ∷ []) (all_cells g) h.next));
-    none = subst (λ (o : Option Place). IsNextIn now o None) (sym (last_all g.cells.items (cell_in p) ∙ ap (λ x. Some x) same))
-        (none_more _ es ((text k, Some value) ∷ []) (subst (λ (o : Option Place). IsNextIn es o None) (last_open o is) h.none)
-        (none_below _ (text k) (Some value) (subst (λ (at : Place). byte_cmp (text k) (past_place (Some at)) ≡ Less) at (below_past k stored))));
-    whole = whole_more es ((text k, Some value) ∷ []) g.hi g.cells.items h.whole;
-    begun = λ none. absurd (let no : Some p ≡ None = none in cc);
-    current = record {
-      text = record { place = subst IsStoredPlace (sym same) before.text.place; text = place ∙ before.text.text ∙ sym (ap (λ (x : Place). place_text x.0 x.1) same) };
-      shown = record {
-        some = record { key = k; at = at ∙ sym same; some = subst (λ (x : Option (List ℕ)). IsSome x) (sym (get_added es k stored value list)) refl };
-        newest = newest before.text before.shown.newest;
-      };
-    };
-  })
+  -- a value of the last cell
+  pub gathers_taken : IsEntryList now → (s : HasLast g.cells.items) (p : CellVersions) → place_in p ≡ place_in s.last → BeginsWith g.place.items (text k)
+      → HasNewest (cells_of now) g.hi p → (new : Gathering) → new.cells.items ≡ s.front ++ p ∷ [] → new.place.items ≡ g.place.items → new.hi ≡ g.hi → Gathers now new
+  gathers_taken list s p same begins newest new = gathers_at now g.hi g.place.items s.front p
+      (subst (λ (ps : List Place). AreNext (IsNextIn now) None (length (s.front ++ p ∷ [])) ps) (sym places)
+      (subst (λ (n : ℕ). AreNext (IsNextIn now) None n (places_in g.cells.items)) lengths (cells_next es ((text k, Some value) ∷ []) g.cells.items h.next)))
+      (subst (λ (o : Option Place). IsNextIn now o None) (sym (ap (λ x. Some x) same))
+      (none_more _ es ((text k, Some value) ∷ []) (subst (λ (o : Option Place). IsNextIn es o None) (last_place es g h s) h.none)
+      (none_below _ (text k) (Some value) (subst (λ (at : Place). byte_cmp (text k) (past_place (Some at)) ≡ Less) at (below_past k stored)))))
+      (whole_more es ((text k, Some value) ∷ []) g.hi s.front (was_whole es g h s))
+      (record {
+        text = record { place = subst IsStoredPlace (sym same) before.text.place; text = before.text.text ∙ sym (ap (λ (x : Place). place_text x.0 x.1) same) };
+        shown = record {
+          some = record { key = k; at = at ∙ sym same; some = subst (λ (x : Option (List ℕ)). IsSome x) (sym (get_added es k stored value list)) refl };
+          newest = newest;
+        };
+      }) new
     where
-      before : IsShownSoFar es g.hi o
-      before = was_open o is
+      before : IsShownSoFar es g.hi g.place.items s.last
+      before = was_last es g h s
 
-      at : place_of k ≡ place_in (cell_in o)
-      at = begins_place k stored (place_in (cell_in o)) before.text.place (subst (λ (start : List ℕ). BeginsWith start (text k)) before.text.text begins)
+      at : place_of k ≡ place_in s.last
+      at = begins_place k stored (place_in s.last) before.text.place (subst (λ (start : List ℕ). BeginsWith start (text k)) before.text.text begins)
 
-      places : places_in (g.cells.items ++ cell_in p ∷ []) ≡ places_in (all_cells g)
+      places : places_in (s.front ++ p ∷ []) ≡ places_in g.cells.items
       places =
-          map-append place_in g.cells.items (cell_in p ∷ [])
-          ∙ ap (λ (x : Place). places_in g.cells.items ++ x ∷ []) same
-          ∙ sym (map-append place_in g.cells.items (cell_in o ∷ []))
-          ∙ sym (ap places_in (all_open g o is))
+          map-append place_in s.front (p ∷ [])
+          ∙ ap (λ (x : Place). places_in s.front ++ x ∷ []) same
+          ∙ sym (map-append place_in s.front (s.last ∷ []))
+          ∙ sym (ap places_in s.is)
 
-      lengths : length (all_cells g) ≡ length (g.cells.items ++ cell_in p ∷ [])
+      lengths : length g.cells.items ≡ length (s.front ++ p ∷ [])
       lengths =
-          ap length (all_open g o is)
-          ∙ length-append g.cells.items (cell_in o ∷ [])
-          ∙ sym (length-append g.cells.items (cell_in p ∷ []))
+          ap length s.is
+          ∙ length-append s.front (s.last ∷ [])
+          ∙ sym (length-append s.front (p ∷ []))
 
-  module _ (other : IfSome g.current (λ o. ¬ BeginsWith o.place.items (text k))) where
+  module _ (other : IfSome (last_of g.cells.items) (λ o. ¬ BeginsWith g.place.items (text k))) where
     -- a value of another cell lies behind the last one
-    pub behind_open : IsEntryList now → (o : OpenCell) → g.current ≡ Some o → is_le (byte_cmp (past_place (Some (place_in (cell_in o)))) (text k)) ≡ true
-    behind_open list o is = go (stored_or_none es (list_front es _ list).each was.shown.some.key)
+    behind_last : IsEntryList now → (s : HasLast g.cells.items) → is_le (byte_cmp (past_place (Some (place_in s.last))) (text k)) ≡ true
+    behind_last list s = go (stored_or_none es (list_front es _ list).each was.shown.some.key)
       where
-        was : IsShownSoFar es g.hi o
-        was = was_open o is
+        was : IsShownSoFar es g.hi g.place.items s.last
+        was = was_last es g h s
 
-        others : ¬ BeginsWith o.place.items (text k)
-        others = subst (λ (x : Option OpenCell). IfSome x (λ o. ¬ BeginsWith o.place.items (text k))) is other
+        others : ¬ BeginsWith g.place.items (text k)
+        others = subst (λ (x : Option CellVersions). IfSome x (λ o. ¬ BeginsWith g.place.items (text k))) (ap last_of s.is ∙ last_at s.front s.last) other
 
-        apart : place_of k ≡ place_in (cell_in o) → ⊥
-        apart same = others (subst (λ (start : List ℕ). BeginsWith start (text k)) (sym was.text.text) (place_begins k (place_in (cell_in o)) same))
+        apart : place_of k ≡ place_in s.last → ⊥
+        apart same = others (subst (λ (start : List ℕ). BeginsWith start (text k)) (sym was.text.text) (place_begins k (place_in s.last) same))
 
-        at_key : (x : Option (List ℕ)) → get (cells_of es) was.shown.some.key ≡ x → IsSome x → is_le (byte_cmp (past_place (Some (place_in (cell_in o)))) (text k)) ≡ true
+        at_key : (x : Option (List ℕ)) → get (cells_of es) was.shown.some.key ≡ x → IsSome x → is_le (byte_cmp (past_place (Some (place_in s.last))) (text k)) ≡ true
         at_key None e some = absurd (let no : false ≡ true = some in cc)
         at_key (Some v) e some =
             let low = lower_text es k stored value list was.shown.some.key v e in
-            after_past k stored (place_in (cell_in o)) was.text.place
+            after_past k stored (place_in s.last) was.text.place
             (subst (λ (p : Place). place_cmp p (place_of k) ≡ Less) was.shown.some.at
             (later_place was.shown.some.key k low.0 stored low.1 (λ same. apart (same ∙ was.shown.some.at))))
 
-        go : IsStored was.shown.some.key ⊎ (get (cells_of es) was.shown.some.key ≡ None) → is_le (byte_cmp (past_place (Some (place_in (cell_in o)))) (text k)) ≡ true
+        go : IsStored was.shown.some.key ⊎ (get (cells_of es) was.shown.some.key ≡ None) → is_le (byte_cmp (past_place (Some (place_in s.last))) (text k)) ≡ true
         go either = at_key (get (cells_of es) was.shown.some.key) refl was.shown.some.some
 
     -- so does each key of that cell
-    at_last : (q : CellKey) → IsStored q → place_of q ≡ place_of k → IsEntryList now → is_le (byte_cmp (past_place (last_or None (places_in (all_cells g)))) (text q)) ≡ true
-    at_last q s at list = go g.current refl
+    at_last : (q : CellKey) → IsStored q → place_of q ≡ place_of k → IsEntryList now → is_le (byte_cmp (past_place (last_or None (places_in g.cells.items))) (text q)) ≡ true
+    at_last q stored_q at list = go (split_last g.cells.items)
       where
-        go : (x : Option OpenCell) → g.current ≡ x → is_le (byte_cmp (past_place (last_or None (places_in (all_cells g)))) (text q)) ≡ true
-        go None is =
-            let none : all_cells g ≡ [] = ap (λ (x : Option OpenCell). g.cells.items ++ option_to_list (option_map cell_in x)) is ∙ append-nil g.cells.items ∙ h.begun is in
-            ap (λ (cells : List CellVersions). is_le (byte_cmp (past_place (last_or None (places_in cells))) (text q))) none ∙ from_none (text q)
-        go (Some o) is =
-            let place = (was_open o is).text.place in
-            ap (λ (x : Option Place). is_le (byte_cmp (past_place x) (text q))) (last_open o is)
-            ∙ after_past q s (place_in (cell_in o)) place
-            (subst (λ (p : Place). place_cmp (place_in (cell_in o)) p ≡ Less) (sym at) (past_after k stored (place_in (cell_in o)) place (behind_open list o is)))
+        go : (g.cells.items ≡ []) ⊎ HasLast g.cells.items → is_le (byte_cmp (past_place (last_or None (places_in g.cells.items))) (text q)) ≡ true
+        go (inl none) = ap (λ (cells : List CellVersions). is_le (byte_cmp (past_place (last_or None (places_in cells))) (text q))) none ∙ from_none (text q)
+        go (inr s) =
+            let place = (was_last es g h s).text.place in
+            ap (λ (x : Option Place). is_le (byte_cmp (past_place x) (text q))) (last_place es g h s)
+            ∙ after_past q stored_q (place_in s.last) place
+            (subst (λ (p : Place). place_cmp (place_in s.last) p ≡ Less) (sym at) (past_after k stored (place_in s.last) place (behind_last list s)))
 
-    -- then the open cell is whole
-    open_whole : (more : List Entry) → IsEntryList (es ++ (text k, Some value) ∷ more) → (o : OpenCell) → g.current ≡ Some o → is_le (byte_cmp (past_place (Some (place_in (cell_in o)))) (text k)) ≡ true → IsShown (es ++ (text k, Some value) ∷ more) g.hi (cell_in o)
-    open_whole more list o is up =
-        cell_shown es (es ++ (text k, Some value) ∷ more) g.hi (cell_in o)
-        (λ q at. get_unnamed es ((text k, Some value) ∷ more) list q (λ s. none_behind (text k, Some value) more (text q) (list_back es ((text k, Some value) ∷ more) list).rising (below_later q s (place_in (cell_in o)) at (text k) up)))
-        (was_open o is).shown
-
-    open_shown : (more : List Entry) → IsEntryList (es ++ (text k, Some value) ∷ more) → IsEntryList now → (x : Option OpenCell) → g.current ≡ x → AllByRecursion (IsShown (es ++ (text k, Some value) ∷ more) g.hi) (option_to_list (option_map cell_in x))
-    open_shown more list short None is = tt
-    open_shown more list short (Some o) is = (open_whole more list o is (behind_open short o is), tt)
+    -- then the last cell is whole
+    last_whole : (more : List Entry) → IsEntryList (es ++ (text k, Some value) ∷ more) → IsEntryList now → (s : HasLast g.cells.items) → IsShown (es ++ (text k, Some value) ∷ more) g.hi s.last
+    last_whole more list short s =
+        cell_shown es (es ++ (text k, Some value) ∷ more) g.hi s.last
+        (λ q at. get_unnamed es ((text k, Some value) ∷ more) list q (λ stored_q. none_behind (text k, Some value) more (text q) (list_back es ((text k, Some value) ∷ more) list).rising (below_later q stored_q (place_in s.last) at (text k) (behind_last short s))))
+        (was_last es g h s).shown
 
     -- the cells that were gathered are whole before it
-    pub all_shown : (more : List Entry) → IsEntryList (es ++ (text k, Some value) ∷ more) → AllByRecursion (IsShown (es ++ (text k, Some value) ∷ more) g.hi) (all_cells g)
-    all_shown more list =
-        each-join (IsShown (es ++ (text k, Some value) ∷ more) g.hi) g.cells.items (option_to_list (option_map cell_in g.current))
-        (whole_now es ((text k, Some value) ∷ more) g.hi g.cells.items list h.whole)
-        (open_shown more list short g.current refl)
+    all_shown : (more : List Entry) → IsEntryList (es ++ (text k, Some value) ∷ more) → AllByRecursion (IsShown (es ++ (text k, Some value) ∷ more) g.hi) g.cells.items
+    all_shown more list = go (split_last g.cells.items)
       where
         short : IsEntryList now
         short = list_front now more (subst IsEntryList (sym (append_assoc es ((text k, Some value) ∷ []) more)) list)
 
-    pub gathers_stopped : (more : List Entry) → IsEntryList (es ++ (text k, Some value) ∷ more) → AreVersionsIn (es ++ (text k, Some value) ∷ more) g.hi (all_cells g) false
+        go : (g.cells.items ≡ []) ⊎ HasLast g.cells.items → AllByRecursion (IsShown (es ++ (text k, Some value) ∷ more) g.hi) g.cells.items
+        go (inl none) = subst (AllByRecursion (IsShown (es ++ (text k, Some value) ∷ more) g.hi)) (sym none) tt
+        go (inr s) = subst (AllByRecursion (IsShown (es ++ (text k, Some value) ∷ more) g.hi)) (sym s.is)
+            (each-join (IsShown (es ++ (text k, Some value) ∷ more) g.hi) s.front (s.last ∷ [])
+            (whole_now es ((text k, Some value) ∷ more) g.hi s.front list (was_whole es g h s))
+            (last_whole more list short s, tt))
+
+    pub gathers_stopped : (more : List Entry) → IsEntryList (es ++ (text k, Some value) ∷ more) → AreVersionsIn (es ++ (text k, Some value) ∷ more) g.hi g.cells.items false
     gathers_stopped more list = record {
-      next = cells_next es ((text k, Some value) ∷ more) (all_cells g) h.next;
+      next = cells_next es ((text k, Some value) ∷ more) g.cells.items h.next;
       shown = all_shown more list;
       last = λ e. absurd (let no : false ≡ true = e in cc);
     }
@@ -279,9 +330,9 @@ module _ (es : List Entry) (k : CellKey) (stored : IsStored k) (value : List ℕ
     whole_each [] f = tt
     whole_each (found ∷ cells) f = (λ more list. (f more list).0, whole_each cells (λ more list. (f more list).1))
 
-    all_whole : AllByRecursion (IsWhole now g.hi) (all_cells g)
-    all_whole = whole_each (all_cells g) (λ more list.
-        subst (λ (xs : List Entry). AllByRecursion (IsShown xs g.hi) (all_cells g)) (sym (append_assoc es ((text k, Some value) ∷ []) more))
+    all_whole : AllByRecursion (IsWhole now g.hi) g.cells.items
+    all_whole = whole_each g.cells.items (λ more list.
+        subst (λ (xs : List Entry). AllByRecursion (IsShown xs g.hi) g.cells.items) (sym (append_assoc es ((text k, Some value) ∷ []) more))
         (all_shown more (subst IsEntryList (append_assoc es ((text k, Some value) ∷ []) more) list)))
 
     -- no key of its cell came before
@@ -289,7 +340,7 @@ module _ (es : List Entry) (k : CellKey) (stored : IsStored k) (value : List ℕ
     none_there list cell = go (stored_or_none es (list_front es _ list).each cell.key)
       where
         past : List ℕ
-        past = past_place (last_or None (places_in (all_cells g)))
+        past = past_place (last_or None (places_in g.cells.items))
 
         hidden : (b : Bool) (x : Option (Option (List ℕ))) → b ≡ true → value_of (cond b x None) ≡ value_of x
         hidden true x e = refl
@@ -310,28 +361,19 @@ module _ (es : List Entry) (k : CellKey) (stored : IsStored k) (value : List ℕ
             cell.some
 
     -- and it is the next one
-    pub gathers_begun : IsEntryList now → (o : OpenCell) → HasPlaceText o → place_of k ≡ place_in (cell_in o)
-        → (¬ HasCell (cells_of es) (place_in (cell_in o)) → HasNewest (cells_of now) g.hi (cell_in o))
-        → (new : Gathering) → new.current ≡ Some o → new.cells.items ≡ all_cells g → new.hi ≡ g.hi → Gathers now new
-    gathers_begun list o text_of at newest new opened cells hi = record {
-      next = subst (λ (xs : List CellVersions). AreNext (IsNextIn now) None (length xs) (places_in xs)) (sym all) next;
-      none = subst (λ (p : Option Place). IsNextIn now p None) (sym (ap (λ (xs : List CellVersions). last_or None (places_in xs)) all ∙ last_all (all_cells g) (cell_in o) ∙ ap (λ x. Some x) (sym at))) none_left;
-      whole = subst (λ (stamp : ℕ). AllByRecursion (IsWhole now stamp) new.cells.items) (sym hi) (subst (AllByRecursion (IsWhole now g.hi)) (sym cells) (all_whole));
-      begun = λ none. absurd (let no : Some o ≡ None = sym opened ∙ none in cc);
-      current = subst (λ (x : Option OpenCell). IfSome x (IsShownSoFar now new.hi)) (sym opened) (subst (λ (stamp : ℕ). IsShownSoFar now stamp o) (sym hi) (record {
-        text = text_of;
-        shown = record {
-          some = record { key = k; at = at; some = subst (λ (x : Option (List ℕ)). IsSome x) (sym (get_added es k stored value list)) refl };
-          newest = newest (subst (λ (p : Place). ¬ HasCell (cells_of es) p) at (none_there list));
-        };
-      }));
-    }
+    pub gathers_begun : IsEntryList now → (o : CellVersions) (start : List ℕ) → HasPlaceText o start → place_of k ≡ place_in o
+        → (¬ HasCell (cells_of es) (place_in o) → HasNewest (cells_of now) g.hi o)
+        → (new : Gathering) → new.cells.items ≡ g.cells.items ++ o ∷ [] → new.place.items ≡ start → new.hi ≡ g.hi → Gathers now new
+    gathers_begun list o start text_of at newest = gathers_at now g.hi start g.cells.items o next (subst (λ (p : Place). IsNextIn now (Some p) None) at none_left) all_whole (record {
+      text = text_of;
+      shown = record {
+        some = record { key = k; at = at; some = subst (λ (x : Option (List ℕ)). IsSome x) (sym (get_added es k stored value list)) refl };
+        newest = newest (subst (λ (p : Place). ¬ HasCell (cells_of es) p) at (none_there list));
+      };
+    })
       where
-        all : all_cells new ≡ all_cells g ++ cell_in o ∷ []
-        all = all_open new o opened ∙ ap (λ (xs : List CellVersions). xs ++ cell_in o ∷ []) cells
-
         past : List ℕ
-        past = past_place (last_or None (places_in (all_cells g)))
+        past = past_place (last_or None (places_in g.cells.items))
 
         first_now : first_value (entries_from past now) ≡ Some (text k, value)
         first_now =
@@ -339,16 +381,16 @@ module _ (es : List Entry) (k : CellKey) (stored : IsStored k) (value : List ℕ
             ∙ ap (λ (x : Option (List ℕ × List ℕ)). or_else x (first_value (entries_from past ((text k, Some value) ∷ [])))) h.none
             ∙ some_from past (text k) value (at_last k stored refl list)
 
-        named : IsNextIn now (last_or None (places_in (all_cells g))) (Some (place_in (cell_in o)))
+        named : IsNextIn now (last_or None (places_in g.cells.items)) (Some (place_in o))
         named = record { key = k; value = value; stored = stored; at = at; is = first_now }
 
-        next : AreNext (IsNextIn now) None (length (all_cells g ++ cell_in o ∷ [])) (places_in (all_cells g ++ cell_in o ∷ []))
+        next : AreNext (IsNextIn now) None (length (g.cells.items ++ o ∷ [])) (places_in (g.cells.items ++ o ∷ []))
         next =
-            subst (λ (ps : List Place). AreNext (IsNextIn now) None (length (all_cells g ++ cell_in o ∷ [])) ps) (sym (map-append place_in (all_cells g) (cell_in o ∷ [])))
-            (next_append (IsNextIn now) (length (all_cells g)) 1 (length (all_cells g ++ cell_in o ∷ [])) None (places_in (all_cells g)) (place_in (cell_in o) ∷ [])
-            (length-map (all_cells g) place_in) (length-append (all_cells g) (cell_in o ∷ []))
-            (cells_next es ((text k, Some value) ∷ []) (all_cells g) h.next)
-            (next_one (IsNextIn now) (last_or None (places_in (all_cells g))) (place_in (cell_in o)) named))
+            subst (λ (ps : List Place). AreNext (IsNextIn now) None (length (g.cells.items ++ o ∷ [])) ps) (sym (map-append place_in g.cells.items (o ∷ [])))
+            (next_append (IsNextIn now) (length g.cells.items) 1 (length (g.cells.items ++ o ∷ [])) None (places_in g.cells.items) (place_in o ∷ [])
+            (length-map g.cells.items place_in) (length-append g.cells.items (o ∷ []))
+            (cells_next es ((text k, Some value) ∷ []) g.cells.items h.next)
+            (next_one (IsNextIn now) (last_or None (places_in g.cells.items)) (place_in o) named))
 
         none_left : first_value (entries_from (past_place (Some (place_of k))) now) ≡ None
         none_left = ap first_value (sym (left_after (past_place (Some (place_of k))) es (text k, Some value) [] list.rising (below_past k stored)))
@@ -356,10 +398,10 @@ module _ (es : List Entry) (k : CellKey) (stored : IsStored k) (value : List ℕ
 -- ---- the end
 
 -- after the last entry
-pub gathers_ended : (es : List Entry) (g : Gathering) → IsEntryList es → Gathers es g → AreVersionsIn es g.hi (all_cells g) true
+pub gathers_ended : (es : List Entry) (g : Gathering) → IsEntryList es → Gathers es g → AreVersionsIn es g.hi g.cells.items true
 gathers_ended es g list h = record {
   next = h.next;
-  shown = each-join (IsShown es g.hi) g.cells.items (option_to_list (option_map cell_in g.current)) (now_shown g.cells.items h.whole) (open_now g.current h.current);
+  shown = go (split_last g.cells.items);
   last = λ e. h.none;
 }
   where
@@ -367,9 +409,9 @@ gathers_ended es g list h = record {
     now_shown [] all = tt
     now_shown (found ∷ cells) all = (subst (λ (xs : List Entry). IsShown xs g.hi found) (append-nil es) (all.0 [] (subst IsEntryList (sym (append-nil es)) list)), now_shown cells all.1)
 
-    open_now : (x : Option OpenCell) → IfSome x (IsShownSoFar es g.hi) → AllByRecursion (IsShown es g.hi) (option_to_list (option_map cell_in x))
-    open_now None was = tt
-    open_now (Some o) was = (was.shown, tt)
+    go : (g.cells.items ≡ []) ⊎ HasLast g.cells.items → AllByRecursion (IsShown es g.hi) g.cells.items
+    go (inl none) = subst (AllByRecursion (IsShown es g.hi)) (sym none) tt
+    go (inr s) = subst (AllByRecursion (IsShown es g.hi)) (sym s.is) (each-join (IsShown es g.hi) s.front (s.last ∷ []) (now_shown s.front (was_whole es g h s)) ((was_last es g h s).shown, tt))
 
 -- ---- entries by their texts
 
@@ -377,27 +419,25 @@ last_entry : (es : List Entry) (e : Entry) (more : List Entry) → IsEntryList (
 last_entry es e more list = (list_back es (e ∷ more) list).each.0
 
 module _ (es : List Entry) (name value : List ℕ) (g : Gathering) (h : Gathers es g) where
-  pub taken_named : IsEntryList (es ++ (name, Some value) ∷ []) → (o p : OpenCell) → g.current ≡ Some o → place_in (cell_in p) ≡ place_in (cell_in o) → p.place.items ≡ o.place.items → BeginsWith o.place.items name
-      → (HasPlaceText o → HasNewest (cells_of es) g.hi (cell_in o) → HasNewest (cells_of (es ++ (name, Some value) ∷ [])) g.hi (cell_in p)) → (new : Gathering) → new ≡ record g { current = Some p } → Gathers (es ++ (name, Some value) ∷ []) new
-  taken_named list o p is same place begins newest new made =
+  pub taken_named : IsEntryList (es ++ (name, Some value) ∷ []) → (s : HasLast g.cells.items) (p : CellVersions) → place_in p ≡ place_in s.last → BeginsWith g.place.items name
+      → HasNewest (cells_of (es ++ (name, Some value) ∷ [])) g.hi p → (new : Gathering) → new.cells.items ≡ s.front ++ p ∷ [] → new.place.items ≡ g.place.items → new.hi ≡ g.hi → Gathers (es ++ (name, Some value) ∷ []) new
+  taken_named list s p same begins newest new cells place hi =
       let last = last_entry es (name, Some value) [] list in
-      subst (λ (n : List ℕ). IsEntryList (es ++ (n, Some value) ∷ []) → BeginsWith o.place.items n
-      → (HasPlaceText o → HasNewest (cells_of es) g.hi (cell_in o) → HasNewest (cells_of (es ++ (n, Some value) ∷ [])) g.hi (cell_in p)) → Gathers (es ++ (n, Some value) ∷ []) new) (sym last.named)
-      (λ list begins newest. gathers_taken es last.key last.stored value g h list o p is same place begins newest new made) list begins newest
+      subst (λ (n : List ℕ). IsEntryList (es ++ (n, Some value) ∷ []) → BeginsWith g.place.items n → HasNewest (cells_of (es ++ (n, Some value) ∷ [])) g.hi p → Gathers (es ++ (n, Some value) ∷ []) new) (sym last.named)
+      (λ list begins newest. gathers_taken es last.key last.stored value g h list s p same begins newest new cells place hi) list begins newest
 
-  pub stopped_named : (more : List Entry) → IfSome g.current (λ o. ¬ BeginsWith o.place.items name) → IsEntryList (es ++ (name, Some value) ∷ more) → AreVersionsIn (es ++ (name, Some value) ∷ more) g.hi (all_cells g) false
+  pub stopped_named : (more : List Entry) → IfSome (last_of g.cells.items) (λ o. ¬ BeginsWith g.place.items name) → IsEntryList (es ++ (name, Some value) ∷ more) → AreVersionsIn (es ++ (name, Some value) ∷ more) g.hi g.cells.items false
   stopped_named more other list =
       let last = last_entry es (name, Some value) more list in
-      subst (λ (n : List ℕ). IfSome g.current (λ o. ¬ BeginsWith o.place.items n) → IsEntryList (es ++ (n, Some value) ∷ more) → AreVersionsIn (es ++ (n, Some value) ∷ more) g.hi (all_cells g) false) (sym last.named)
+      subst (λ (n : List ℕ). IfSome (last_of g.cells.items) (λ o. ¬ BeginsWith g.place.items n) → IsEntryList (es ++ (n, Some value) ∷ more) → AreVersionsIn (es ++ (n, Some value) ∷ more) g.hi g.cells.items false) (sym last.named)
       (λ other list. gathers_stopped es last.key last.stored value g h other more list) other list
 
-  pub begun_named : IfSome g.current (λ o. ¬ BeginsWith o.place.items name) → IsEntryList (es ++ (name, Some value) ∷ []) → (o : OpenCell) → HasPlaceText o → IsTextOf name (place_in (cell_in o))
-      → (¬ HasCell (cells_of es) (place_in (cell_in o)) → HasNewest (cells_of (es ++ (name, Some value) ∷ [])) g.hi (cell_in o))
-      → (new : Gathering) → new.current ≡ Some o → new.cells.items ≡ all_cells g → new.hi ≡ g.hi → Gathers (es ++ (name, Some value) ∷ []) new
-  begun_named other list o text_of at newest new opened cells hi =
-      subst (λ (n : List ℕ). IfSome g.current (λ o. ¬ BeginsWith o.place.items n) → IsEntryList (es ++ (n, Some value) ∷ [])
-      → (¬ HasCell (cells_of es) (place_in (cell_in o)) → HasNewest (cells_of (es ++ (n, Some value) ∷ [])) g.hi (cell_in o)) → Gathers (es ++ (n, Some value) ∷ []) new) (sym at.is)
-      (λ other list newest. gathers_begun es at.key at.stored value g h other list o text_of at.at newest new opened cells hi) other list newest
+  pub begun_named : IfSome (last_of g.cells.items) (λ o. ¬ BeginsWith g.place.items name) → IsEntryList (es ++ (name, Some value) ∷ []) → (new : Gathering) → Begins name value g new → new.hi ≡ g.hi → Gathers (es ++ (name, Some value) ∷ []) new
+  begun_named other list new begun hi =
+      subst (λ (n : List ℕ). IfSome (last_of g.cells.items) (λ o. ¬ BeginsWith g.place.items n) → IsEntryList (es ++ (n, Some value) ∷ [])
+      → (¬ HasCell (cells_of es) (place_in begun.cell) → HasNewest (cells_of (es ++ (n, Some value) ∷ [])) g.hi begun.cell) → Gathers (es ++ (n, Some value) ∷ []) new) (sym begun.of.is)
+      (λ other list newest. gathers_begun es begun.of.key begun.of.stored value g h other list begun.cell new.place.items begun.text begun.of.at newest new begun.after refl hi) other list
+      (subst (λ (stamp : ℕ). ¬ HasCell (cells_of es) (place_in begun.cell) → HasNewest (cells_of (es ++ (name, Some value) ∷ [])) stamp begun.cell) hi (begun.newest es list))
 
 -- ---- one cell
 
@@ -412,12 +452,12 @@ same_or_other Write Data = inr (λ e. cc)
 same_or_other Write Lock = inr (λ e. cc)
 same_or_other Write Write = inl refl
 
-module _ (o : OpenCell) (is : HasPlaceText o) (name rest : List ℕ) (begins : name ≡ o.place.items ++ rest) where
+module _ (start : List ℕ) (o : CellVersions) (is : HasPlaceText o start) (name rest : List ℕ) (begins : name ≡ start ++ rest) where
   abbrev row : List ℕ
-  row = (cell_in o).row
+  row = o.row
 
   abbrev family : List ℕ
-  family = (cell_in o).family
+  family = o.family
 
   -- what follows the place in a key's text
   pub not_key : ((q : Qualifier) (s : ℕ) → rest ≢ ended (qualifier_name q) ++ stamp_text s) → ¬ IsKeyText name
@@ -438,12 +478,12 @@ module _ (o : OpenCell) (is : HasPlaceText o) (name rest : List ℕ) (begins : n
     texts list = subst (λ (n : List ℕ). IsEntryList (es ++ (n, Some value) ∷ [])) named list
 
     -- a version above the stamp is passed by
-    pub above_newest : IsEntryList (es ++ (name, Some value) ∷ []) → hi < s → HasNewest (cells_of es) hi (cell_in o) → HasNewest (cells_of (es ++ (name, Some value) ∷ [])) hi (cell_in o)
-    above_newest list up h = subst (λ (n : List ℕ). HasNewest (cells_of (es ++ (n, Some value) ∷ [])) hi (cell_in o)) (sym named)
-        (λ p. newest_above es row family q s (is_stored list) value (texts list) hi up p (of_column (cell_in o) p) (h p))
+    pub above_newest : IsEntryList (es ++ (name, Some value) ∷ []) → hi < s → HasNewest (cells_of es) hi o → HasNewest (cells_of (es ++ (name, Some value) ∷ [])) hi o
+    above_newest list up h = subst (λ (n : List ℕ). HasNewest (cells_of (es ++ (n, Some value) ∷ [])) hi o) (sym named)
+        (λ p. newest_above es row family q s (is_stored list) value (texts list) hi up p (of_column o p) (h p))
 
     -- and another one kept, if it is the first of its column
-    pub kept_newest : IsEntryList (es ++ (name, Some value) ∷ []) → s ≤ hi → (new : CellVersions) → Keeps q (s, value) (cell_in o) new → HasNewest (cells_of es) hi (cell_in o) → HasNewest (cells_of (es ++ (name, Some value) ∷ [])) hi new
+    pub kept_newest : IsEntryList (es ++ (name, Some value) ∷ []) → s ≤ hi → (new : CellVersions) → Keeps q (s, value) o new → HasNewest (cells_of es) hi o → HasNewest (cells_of (es ++ (name, Some value) ∷ [])) hi new
     kept_newest list within new keeps h = subst (λ (n : List ℕ). HasNewest (cells_of (es ++ (n, Some value) ∷ [])) hi new) (sym named) (λ p. at_place p (go p (same_or_other p q)))
       where
         after : Cells
@@ -455,9 +495,9 @@ module _ (o : OpenCell) (is : HasPlaceText o) (name rest : List ℕ) (begins : n
         go : (p : Qualifier) → (p ≡ q) ⊎ (p ≢ q) → IsNewest after (version row family p) 0 hi (of_column new p)
         go p (inl same) = subst (λ (x : Qualifier). IsNewest after (version row family x) 0 hi (of_column new x)) (sym same)
             (subst (λ (found : Option (ℕ × List ℕ)). IsNewest after (version row family q) 0 hi found) (sym keeps.column)
-            (newest_kept es row family q s (is_stored list) value (texts list) hi within (of_column (cell_in o) q) (h q)))
+            (newest_kept es row family q s (is_stored list) value (texts list) hi within (of_column o q) (h q)))
         go p (inr other) = subst (λ (found : Option (ℕ × List ℕ)). IsNewest after (version row family p) 0 hi found) (sym (keeps.others p other))
-            (newest_beside es row family q s (is_stored list) value (texts list) hi p other (of_column (cell_in o) p) (h p))
+            (newest_beside es row family q s (is_stored list) value (texts list) hi p other (of_column o p) (h p))
 
 -- no version was found yet
 abbrev IsEmpty : CellVersions → Type 0
@@ -483,17 +523,17 @@ bare_empty key Lock = refl
 bare_empty key Write = refl
 
 -- the cell that is opened for a key
-module _ (o : OpenCell) (key : CellKey) (stored : IsStored key) (bare : cell_in o ≡ bare_cell key) (place : o.place.items ≡ place_text key.row key.family) where
-  at : place_in (cell_in o) ≡ place_of key
+module _ (start : List ℕ) (o : CellVersions) (key : CellKey) (stored : IsStored key) (bare : o ≡ bare_cell key) (place : start ≡ place_text key.row key.family) where
+  at : place_in o ≡ place_of key
   at = ap place_in bare
 
-  pub opened_text : HasPlaceText o
+  pub opened_text : HasPlaceText o start
   opened_text = record {
     place = subst IsStoredPlace (sym at) (record { row = stored.row; family = stored.family });
     text = place ∙ sym (ap (λ (x : Place). place_text x.0 x.1) at);
   }
 
-  pub opened_kept_text : (new : CellVersions) → place_in new ≡ place_in (cell_in o) → HasPlaceText (record o { cell = new })
+  pub opened_kept_text : (new : CellVersions) → place_in new ≡ place_in o → HasPlaceText new start
   opened_kept_text new same = record {
     place = subst IsStoredPlace (sym same) opened_text.place;
     text = opened_text.text ∙ sym (ap (λ (x : Place). place_text x.0 x.1) same);
@@ -503,23 +543,43 @@ module _ (o : OpenCell) (key : CellKey) (stored : IsStored key) (bare : cell_in 
     abbrev rest : List ℕ
     rest = ended (qualifier_name key.qualifier) ++ stamp_text key.stamp
 
-    begins : name ≡ o.place.items ++ rest
+    begins : name ≡ start ++ rest
     begins = named ∙ text_of_place key ∙ ap (λ (start : List ℕ). start ++ rest) (sym place)
 
     small : key.stamp < 2 ^ 64
     small = omega (arith, stored.to)
 
-    none_before : ¬ HasCell (cells_of es) (place_in (cell_in o)) → HasNewest (cells_of es) hi (cell_in o)
-    none_before = newest_empty es hi (cell_in o) (subst IsEmpty (sym bare) (bare_empty key))
+    none_before : ¬ HasCell (cells_of es) (place_in o) → HasNewest (cells_of es) hi o
+    none_before = newest_empty es hi o (subst IsEmpty (sym bare) (bare_empty key))
 
     -- its value is above the stamp
-    pub opened_above : hi < key.stamp → ¬ HasCell (cells_of es) (place_in (cell_in o)) → HasNewest (cells_of (es ++ (name, Some value) ∷ [])) hi (cell_in o)
-    opened_above up none = above_newest o opened_text name rest begins key.qualifier key.stamp refl small es value hi list up (none_before none)
+    pub opened_above : hi < key.stamp → ¬ HasCell (cells_of es) (place_in o) → HasNewest (cells_of (es ++ (name, Some value) ∷ [])) hi o
+    opened_above up none = above_newest start o opened_text name rest begins key.qualifier key.stamp refl small es value hi list up (none_before none)
 
     -- or it is kept
-    pub opened_kept : key.stamp ≤ hi → (new : CellVersions) → Keeps key.qualifier (key.stamp, value) (cell_in o) new → ¬ HasCell (cells_of es) (place_in new) → HasNewest (cells_of (es ++ (name, Some value) ∷ [])) hi new
-    opened_kept within new keeps none = kept_newest o opened_text name rest begins key.qualifier key.stamp refl small es value hi list within new keeps
+    pub opened_kept : key.stamp ≤ hi → (new : CellVersions) → Keeps key.qualifier (key.stamp, value) o new → ¬ HasCell (cells_of es) (place_in new) → HasNewest (cells_of (es ++ (name, Some value) ∷ [])) hi new
+    opened_kept within new keeps none = kept_newest start o opened_text name rest begins key.qualifier key.stamp refl small es value hi list within new keeps
         (none_before (subst (λ (p : Place). ¬ HasCell (cells_of es) p) keeps.place none))
+
+-- it begins with its value, or without it if that is above the stamp
+module _ (bytes value : List ℕ) (old new : Gathering) (key : CellKey) (stored : IsStored key) (named : bytes ≡ text key) (place : new.place.items ≡ place_text key.row key.family) where
+  pub begins_above : new.hi < key.stamp → new.cells.items ≡ old.cells.items ++ bare_cell key ∷ [] → Begins bytes value old new
+  begins_above up after = record {
+    cell = bare_cell key;
+    after = after;
+    text = opened_text new.place.items (bare_cell key) key stored refl place;
+    of = record { key = key; stored = stored; at = refl; is = named };
+    newest = λ es list none. opened_above new.place.items (bare_cell key) key stored refl place bytes named es value new.hi list up none;
+  }
+
+  pub begins_kept : key.stamp ≤ new.hi → (cell : CellVersions) → Keeps key.qualifier (key.stamp, value) (bare_cell key) cell → new.cells.items ≡ old.cells.items ++ cell ∷ [] → Begins bytes value old new
+  begins_kept within cell keeps after = record {
+    cell = cell;
+    after = after;
+    text = opened_kept_text new.place.items (bare_cell key) key stored refl place cell keeps.place;
+    of = record { key = key; stored = stored; at = sym keeps.place; is = named };
+    newest = λ es list none. opened_kept new.place.items (bare_cell key) key stored refl place bytes named es value new.hi list within cell keeps none;
+  }
 
 -- the text of a place, out of that of a key
 pub place_part : (bytes : List ℕ) (k : CellKey) (name : List ℕ) → bytes ≡ text k → name ≡ qualifier_name k.qualifier → take (length bytes - length name - 10) bytes ≡ place_text k.row k.family
@@ -535,15 +595,6 @@ place_part bytes k name is names =
 
 -- ---- what a call answers
 
-pub ok_true : {E : Type 0} {A B C D : Type 0} (r : Result Bool E) → IfOk r (λ t. OnTrue t A) → IfOk r (λ t. OnTrue t B) → OnOk r C → (A → B → C → D) → IfOk r (λ t. OnTrue t D)
-ok_true (Ok true) a b c f = f a b c
-ok_true (Ok false) a b c f = tt
-ok_true (Err e) a b c f = tt
-
 pub on_false : {A : Type 0} (b : Bool) → b ≡ false → OnFalse b A → A
 on_false true e a = cc
 on_false false e a = a
-
-pub if_both : {A : Type 0} {P Q : A → Type 0} {D : Type 0} (x : Option A) → IsSome x → IfSome x P → IfSome x Q → ((a : A) → x ≡ Some a → P a → Q a → D) → D
-if_both None some p q f = absurd (let no : false ≡ true = some in cc)
-if_both (Some a) some p q f = f a refl p q

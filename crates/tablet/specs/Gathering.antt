@@ -1,7 +1,6 @@
 -- Cells that are gathered out of entries which come one after the other.
-use Rattle.std.specs.Prelude.{◌≡◌, ◌<◌, ◌≤◌, ◌-◌, ℕ, Bool, true, List, ◌++◌, [], length, None, IfSome, IsSome, option_map}
-use Rattle.std.specs.Option.{option_to_list}
-use Rattle.std.specs.List.{AllByRecursion}
+use Rattle.std.specs.Prelude.{◌≡◌, ◌≤◌, ◌-◌, ℕ, Bool, true, List, ◌++◌, ◌∷◌, [], length, take, Option, None, Some, IfSome}
+use Rattle.std.specs.List.{slice_get, AllByRecursion}
 use Rattle.cell_key.specs.Entries.{Entry, IsEntryList, cells_of}
 use Rattle.cell_key.specs.Keys.{text, IsStored}
 use Rattle.cell_key.specs.Places.{AreNext, HasCell, Place, last_or, place_of}
@@ -11,7 +10,6 @@ use Rattle.tablet.specs.Batches.{HasNewest, bytes_in, place_in, places_in}
 use Rattle.tablet.specs.Reads.{IsNextIn, IsStoredPlace}
 use Rattle.tablet.specs.declared.batches.CellVersions.{CellVersions}
 use Rattle.tablet.specs.declared.gathering.Gathering.{Gathering}
-use Rattle.tablet.specs.declared.gathering.OpenCell.{OpenCell}
 
 -- entries have a key of the cell, and its versions are the newest at or below a stamp
 pub record IsShown (es : List Entry) (hi : ℕ) (found : CellVersions) : Type 0 where
@@ -33,10 +31,10 @@ pub record IsTextOf (bytes : List ℕ) (place : Place) : Type 0 where
   pub at : place_of key ≡ place
   pub is : bytes ≡ text key
 
--- the text of the cell's place is kept beside it
-pub record HasPlaceText (cell : OpenCell) : Type 0 where
-  pub place : IsStoredPlace (place_in cell.cell)
-  pub text : cell.place.items ≡ place_text cell.cell.row cell.cell.family
+-- the bytes are the text of the cell's place
+pub record HasPlaceText (cell : CellVersions) (bytes : List ℕ) : Type 0 where
+  pub place : IsStoredPlace (place_in cell)
+  pub text : bytes ≡ place_text cell.row cell.family
 
 -- the bytes are another text and what follows it
 abbrev pub BeginsWith : List ℕ → List ℕ → Type 0
@@ -46,31 +44,42 @@ BeginsWith start bytes = (rest : List ℕ) × (bytes ≡ start ++ rest)
 abbrev pub IsWhole : List Entry → ℕ → CellVersions → Type 0
 IsWhole es hi found = (more : List Entry) → IsEntryList (es ++ more) → IsShown (es ++ more) hi found
 
--- a cell is shown by the entries up to now
-pub record IsShownSoFar (es : List Entry) (hi : ℕ) (cell : OpenCell) : Type 0 where
-  pub text : HasPlaceText cell
-  pub shown : IsShown es hi cell.cell
+-- a cell is shown by the entries up to now, and these bytes are the text of its place
+pub record IsShownSoFar (es : List Entry) (hi : ℕ) (bytes : List ℕ) (cell : CellVersions) : Type 0 where
+  pub text : HasPlaceText cell bytes
+  pub shown : IsShown es hi cell
 
--- all cells that were gathered
-abbrev pub cell_in : OpenCell → CellVersions
-cell_in cell = cell.cell
+-- the last of some cells, and those before it
+abbrev pub last_of : List CellVersions → Option CellVersions
+last_of found = slice_get found (length found - 1)
 
-abbrev pub all_cells : Gathering → List CellVersions
-all_cells gathered = gathered.cells.items ++ option_to_list (option_map cell_in gathered.current)
+abbrev pub before_last : List CellVersions → List CellVersions
+before_last found = take (length found - 1) found
 
--- Out of these entries it gathered their cells in order; each but the one that is open is whole.
+-- Out of these entries it gathered their cells in order. Each but the last is whole. The last one
+-- is shown by these entries, and the text of its place is kept.
 pub record Gathers (es : List Entry) (gathered : Gathering) : Type 0 where
-  pub next : AreNext (IsNextIn es) None (length (all_cells gathered)) (places_in (all_cells gathered))
-  pub none : IsNextIn es (last_or None (places_in (all_cells gathered))) None
-  pub whole : AllByRecursion (IsWhole es gathered.hi) gathered.cells.items
-  pub begun : gathered.current ≡ None → gathered.cells.items ≡ []
-  pub current : IfSome gathered.current (IsShownSoFar es gathered.hi)
+  pub next : AreNext (IsNextIn es) None (length gathered.cells.items) (places_in gathered.cells.items)
+  pub none : IsNextIn es (last_or None (places_in gathered.cells.items)) None
+  pub whole : AllByRecursion (IsWhole es gathered.hi) (before_last gathered.cells.items)
+  pub last : IfSome (last_of gathered.cells.items)
+      (IsShownSoFar es gathered.hi gathered.place.items)
+
+-- The cell of a text now comes after the others, and the text of its place is kept. If no entry
+-- before had a key of the cell, its versions are the newest of those entries and this value.
+pub record Begins (bytes value : List ℕ) (old new : Gathering) : Type 0 where
+  pub cell : CellVersions
+  pub after : new.cells.items ≡ old.cells.items ++ cell ∷ []
+  pub text : HasPlaceText cell new.place.items
+  pub of : IsTextOf bytes (place_in cell)
+  pub newest : (es : List Entry) → IsEntryList (es ++ (bytes, Some value) ∷ [])
+      → ¬ HasCell (cells_of es) (place_in cell)
+      → HasNewest (cells_of (es ++ (bytes, Some value) ∷ [])) new.hi cell
 
 -- it has no more cells than it may, and knows for how many bytes there is room
 pub record IsWithin (gathered : Gathering) : Type 0 where
   pub cells : length gathered.cells.items ≤ gathered.limits.cells
-  pub current : IsSome gathered.current → length gathered.cells.items < gathered.limits.cells
-  pub room : gathered.room ≡ gathered.limits.bytes - bytes_in gathered.cells.items
+  pub room : gathered.room ≡ gathered.limits.bytes - bytes_in (before_last gathered.cells.items)
 
 -- what it was asked for stays
 pub record KeepsLimits (old new : Gathering) : Type 0 where

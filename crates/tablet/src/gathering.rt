@@ -1,19 +1,17 @@
 //! The gathering of cells with their newest versions out of entries that come one after the other.
 
-ghost use Rattle.std.specs.Prelude.{◌≡◌, ◌≢◌, ◌≤◌, ◌<◌, ◌^◌, ◌++◌, ◌∷◌, ◌⊎◌, [], List, ℕ, length, false, true, None, IfErr, IfNone, IfOk, IfSome, IsErrOf, IsSome, OnOk};
+ghost use Rattle.std.specs.Prelude.{◌≡◌, ◌≢◌, ◌≤◌, ◌<◌, ◌-◌, ◌^◌, ◌++◌, ◌∷◌, ◌⊎◌, [], List, ℕ, length, false, true, Some, IfErr, IfNone, IfOk, IfSome, IsErrOf, OnOk};
 ghost use Rattle.std.specs.Bool.{OnFalse, OnTrue};
-ghost use Rattle.cell_key.specs.Entries.{Entry, IsEntry, IsEntryList, cells_of, lent_entry};
+ghost use Rattle.cell_key.specs.Entries.{Entry, IsEntry, IsEntryList, lent_entry};
 ghost use Rattle.cell_key.specs.Keys.{qualifier_name, IsKeyText};
-ghost use Rattle.cell_key.specs.Places.{HasCell};
 ghost use Rattle.cell_key.specs.Texts.{ended, stamp_text};
 ghost use Rattle.cell_key.specs.declared.keys.Qualifier.{Qualifier as Names};
-ghost use Rattle.tablet.specs.Batches.{place_in, HasNewest, IsFull};
-ghost use Rattle.tablet.specs.Gathering.{all_cells, AreVersionsIn, BeginsWith, Gathers, HasPlaceText, IsTextOf, IsWithin, KeepsLimits};
+ghost use Rattle.tablet.specs.Batches.{bytes_in, IsFull};
+ghost use Rattle.tablet.specs.Gathering.{last_of, AreVersionsIn, Begins, BeginsWith, Gathers, IsWithin, KeepsLimits};
 
 use crate::batches::{BatchLimits, CellVersions, VersionBatch};
 use cell_key::{CellKey, EntryRef, Qualifier, Refusal, Stamp, stamp_of};
 use std::alloc::Global;
-use std::mem;
 
 /// For how many cells, at most, there is room from the start.
 const ROOM: usize = 256;
@@ -36,94 +34,16 @@ fn version_of(bytes: &[u8]) -> Option<(Qualifier, Stamp)>
     Some((Qualifier::Write, stamp_of(stamp)?))
 }
 
-/// A cell that is being gathered, and the text of its place.
-#[derive(Drop)]
-struct OpenCell {
-    place: Vec<u8>,
-    cell: CellVersions,
-}
-
-impl OpenCell {
-    /// The cell of a key, with the key's value if its stamp is at or below `hi`. The text of the cell's place is written
-    /// into the buffer `place`, over what that held. Answers `Damaged` if the bytes are the text of no key, and
-    /// `NoMemory` if there is no memory.
-    fn new(
-        alloc: Global,
-        mut place: Vec<u8>,
-        text: &[u8],
-        value: &[u8],
-        hi: Stamp,
-    ) -> Result<OpenCell, Refusal>
-        ensures of { IfOk result (λ cell. IsTextOf text.now (place_in cell.cell)) }
-        ensures place { IfOk result HasPlaceText }
-        ensures newest { (es : List Entry) → IsEntryList (es ++ (text.now, Some value.now) ∷ [])
-            → IfOk result (λ cell. ¬ HasCell (cells_of es) (place_in cell.cell)
-            → HasNewest (cells_of (es ++ (text.now, Some value.now) ∷ [])) hi cell.cell) }
-        ensures damaged { IsErrOf result Refusal.Damaged → ¬ IsKeyText text.now }
-        ensures refusal { IfErr result (λ refusal.
-            (refusal ≡ Refusal.NoMemory) ⊎ (refusal ≡ Refusal.Damaged)) }
-    {
-        let Some(key) = CellKey::decode(alloc, text)? else {
-            return Err(Refusal::Damaged);
-        };
-        let len = text.len() - key.qualifier.name().len() - 10;
-        place.clear();
-        place.extend_from_slice(&text[..len])?;
-        let mut cell = CellVersions {
-            row: key.row,
-            family: key.family,
-            data: None,
-            lock: None,
-            write: None,
-        };
-        if key.stamp <= hi {
-            cell.keep(alloc, key.qualifier, key.stamp, value)?;
-        }
-        Ok(OpenCell { place, cell })
-    }
-
-    /// Takes a value, if it is of the cell, and keeps it if it is the newest of its column at or below `hi`. Whether it
-    /// is of the cell.
-    fn take(&mut self, alloc: Global, text: &[u8], value: &[u8], hi: Stamp) -> Result<bool, Refusal>
-        ensures newest { (es : List Entry) → IsEntryList (es ++ (text.now, Some value.now) ∷ [])
-            → HasPlaceText self.old → HasNewest (cells_of es) hi self.old.cell
-            → IfOk result (λ taken. OnTrue taken
-            (HasNewest (cells_of (es ++ (text.now, Some value.now) ∷ [])) hi self.new.cell)) }
-        ensures of { IfOk result (λ taken. OnTrue taken
-            (BeginsWith self.old.place.items text.now)) }
-        ensures other { IfOk result (λ taken. OnFalse taken
-            ((self.new ≡ self.old) × ¬ BeginsWith self.old.place.items text.now)) }
-        ensures cell { OnOk result (place_in self.new.cell ≡ place_in self.old.cell) }
-        ensures place { self.new.place.items ≡ self.old.place.items }
-        ensures damaged { HasPlaceText self.old → IsErrOf result Refusal.Damaged
-            → ¬ IsKeyText text.now }
-        ensures refusal { IfErr result (λ refusal.
-            (refusal ≡ Refusal.NoMemory) ⊎ (refusal ≡ Refusal.Damaged)) }
-    {
-        let Some(rest) = text.strip_prefix(self.place.as_slice()) else {
-            return Ok(false);
-        };
-        let Some((qualifier, stamp)) = version_of(rest) else {
-            return Err(Refusal::Damaged);
-        };
-        if stamp <= hi {
-            self.cell.keep(alloc, qualifier, stamp, value)?;
-        }
-        Ok(true)
-    }
-}
-
-/// Cells that are gathered: those that are whole, and the one whose values come now.
+/// Cells that are gathered: the last of them is the one whose values come now, and those before it are whole.
 #[derive(Drop)]
 pub(crate) struct Gathering {
     limits: BatchLimits,
     hi: Stamp,
     cells: Vec<CellVersions>,
-    current: Option<OpenCell>,
-    /// For how many bytes of values there is room.
+    /// The text of the place of the last cell, if there is one.
+    place: Vec<u8>,
+    /// For how many bytes of values there is room beside those of the cells before the last.
     room: usize,
-    /// The buffer of the last place, for the next one.
-    spare: Vec<u8>,
 }
 
 impl Gathering {
@@ -140,77 +60,80 @@ impl Gathering {
             limits,
             hi,
             cells: Vec::with_capacity(alloc, limits.cells.min(ROOM))?,
-            current: None,
+            place: Vec::new(alloc),
             room: limits.bytes,
-            spare: Vec::new(alloc),
         })
     }
 
-    /// Whether it has as many cells as it may, or their values have as many bytes.
-    fn is_full(&self) -> bool
+    /// For how many bytes of values there is room beside those of all cells.
+    fn room_left(&self) -> usize
         requires { IsWithin self.now }
-        ensures full { OnTrue result (IsFull self.now.limits self.now.cells.items) }
-        ensures free { OnFalse result (length self.now.cells.items < self.now.limits.cells) }
+        ensures { result ≡ self.now.limits.bytes - bytes_in self.now.cells.items }
     {
-        self.cells.len() >= self.limits.cells || self.room == 0
+        match self.cells.last() {
+            Some(last) => last.bytes_after(self.room),
+            None => self.room,
+        }
     }
 
-    /// Takes a value, if it is of the open cell. Whether it is.
-    fn take_open(&mut self, alloc: Global, text: &[u8], value: &[u8]) -> Result<bool, Refusal>
+    /// Takes a value if it is of the last cell, and keeps it if it is the newest of its column at or below `hi`.
+    /// Whether it is of that cell.
+    fn take_last(&mut self, alloc: Global, text: &[u8], value: &[u8]) -> Result<bool, Refusal>
         requires { IsWithin self.old }
         ensures within { IsWithin self.new }
         ensures taken { (es : List Entry) → IsEntryList (es ++ (text.now, Some value.now) ∷ [])
             → Gathers es self.old → IfOk result (λ taken. OnTrue taken
             (Gathers (es ++ (text.now, Some value.now) ∷ []) self.new)) }
         ensures other { IfOk result (λ taken. OnFalse taken ((self.new ≡ self.old)
-            × IfSome self.old.current (λ cell. ¬ BeginsWith cell.place.items text.now))) }
+            × IfSome (last_of self.old.cells.items)
+            (λ last. ¬ BeginsWith self.old.place.items text.now))) }
         ensures limits { KeepsLimits self.old self.new }
         ensures damaged { (es : List Entry) → Gathers es self.old
             → IsErrOf result Refusal.Damaged → ¬ IsKeyText text.now }
         ensures refusal { IfErr result (λ refusal.
             (refusal ≡ Refusal.NoMemory) ⊎ (refusal ≡ Refusal.Damaged)) }
     {
-        match &mut self.current {
-            Some(open) => open.take(alloc, text, value, self.hi),
-            None => Ok(false),
+        let Some(rest) = text.strip_prefix(self.place.as_slice()) else {
+            return Ok(false);
+        };
+        let Some(last) = self.cells.last_mut() else {
+            return Ok(false);
+        };
+        let Some((qualifier, stamp)) = version_of(rest) else {
+            return Err(Refusal::Damaged);
+        };
+        if stamp <= self.hi {
+            last.keep(alloc, qualifier, stamp, value)?;
         }
+        Ok(true)
     }
 
-    /// Makes the open cell, if there is one, one of those that are whole.
-    fn close(&mut self) -> Result<(), Refusal>
-        requires { IsWithin self.old }
-        ensures cells { OnOk result (self.new.cells.items ≡ all_cells self.old) }
-        ensures current { OnOk result (self.new.current ≡ None) }
-        ensures within { OnOk result (IsWithin self.new) }
-        ensures limits { KeepsLimits self.old self.new }
-        ensures refusal { IfErr result (λ refusal. refusal ≡ Refusal.NoMemory) }
-    {
-        if let Some(OpenCell { place, cell }) = self.current.take() {
-            self.spare = place;
-            self.room = cell.bytes_after(self.room);
-            self.cells.push(cell)?;
-        }
-        Ok(())
-    }
-
-    /// Opens the cell of a value.
+    /// Makes the cell of a value the last one, with the value if its stamp is at or below `hi`. Answers `Damaged` if
+    /// `text` is the text of no key, and `NoMemory` if there is no memory.
     fn begin(&mut self, alloc: Global, text: &[u8], value: &[u8]) -> Result<(), Refusal>
-        ensures cells { self.new.cells ≡ self.old.cells }
-        ensures room { self.new.room ≡ self.old.room }
+        ensures begins { OnOk result (Begins text.now value.now self.old self.new) }
         ensures limits { KeepsLimits self.old self.new }
-        ensures current { OnOk result (IfSome self.new.current (λ cell. HasPlaceText cell
-            × IsTextOf text.now (place_in cell.cell))) }
-        ensures some { OnOk result (IsSome self.new.current) }
-        ensures newest { (es : List Entry) → IsEntryList (es ++ (text.now, Some value.now) ∷ [])
-            → OnOk result (IfSome self.new.current (λ cell.
-            ¬ HasCell (cells_of es) (place_in cell.cell)
-            → HasNewest (cells_of (es ++ (text.now, Some value.now) ∷ [])) self.old.hi cell.cell)) }
         ensures damaged { IsErrOf result Refusal.Damaged → ¬ IsKeyText text.now }
         ensures refusal { IfErr result (λ refusal.
             (refusal ≡ Refusal.NoMemory) ⊎ (refusal ≡ Refusal.Damaged)) }
     {
-        let place = mem::replace(&mut self.spare, Vec::new(alloc));
-        self.current = Some(OpenCell::new(alloc, place, text, value, self.hi)?);
+        let Some(key) = CellKey::decode(alloc, text)? else {
+            return Err(Refusal::Damaged);
+        };
+        let len = text.len() - key.qualifier.name().len() - 10;
+        self.place.clear();
+        self.place.extend_from_slice(&text[..len])?;
+        let mut cell = CellVersions {
+            row: key.row,
+            family: key.family,
+            data: None,
+            lock: None,
+            write: None,
+        };
+        if key.stamp <= self.hi {
+            cell.keep(alloc, key.qualifier, key.stamp, value)?;
+        }
+        self.cells.push(cell)?;
         Ok(())
     }
 
@@ -235,18 +158,19 @@ impl Gathering {
         let Some(value) = entry.value else {
             return Ok(true);
         };
-        if self.take_open(alloc, entry.key, value)? {
+        if self.take_last(alloc, entry.key, value)? {
             return Ok(true);
         }
-        self.close()?;
-        if self.is_full() {
+        let room = self.room_left();
+        if self.cells.len() >= self.limits.cells || room == 0 {
             return Ok(false);
         }
         self.begin(alloc, entry.key, value)?;
+        self.room = room;
         Ok(true)
     }
 
-    /// The batch of the cells that are whole, which isn't the last.
+    /// The batch of the cells, after an entry that was not taken: it isn't the last batch.
     pub(crate) fn stopped(self) -> VersionBatch
         ensures cells { result.cells.items ≡ self.cells.items }
         ensures more { result.is_last ≡ false }
@@ -258,20 +182,18 @@ impl Gathering {
         }
     }
 
-    /// The batch of all cells, after the last entry.
-    pub(crate) fn ended(mut self) -> Result<VersionBatch, Refusal>
+    /// The batch of the cells, after the last entry.
+    pub(crate) fn ended(self) -> VersionBatch
         requires { IsWithin self }
-        ensures versions { IfOk result (λ batch. (es : List Entry) → IsEntryList es
-            → Gathers es self → AreVersionsIn es self.hi batch.cells.items true) }
-        ensures last { IfOk result (λ batch. batch.is_last ≡ true) }
-        ensures few { IfOk result (λ batch. length batch.cells.items ≤ self.limits.cells) }
-        ensures refusal { IfErr result (λ refusal. refusal ≡ Refusal.NoMemory) }
+        ensures versions { (es : List Entry) → IsEntryList es → Gathers es self
+            → AreVersionsIn es self.hi result.cells.items true }
+        ensures last { result.is_last ≡ true }
+        ensures few { length result.cells.items ≤ self.limits.cells }
     {
-        self.close()?;
         let Gathering { cells, .. } = self;
-        Ok(VersionBatch {
+        VersionBatch {
             cells,
             is_last: true,
-        })
+        }
     }
 }

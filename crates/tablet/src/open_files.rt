@@ -136,8 +136,8 @@ impl OpenFiles {
         Ok(())
     }
 
-    /// The greatest stamp, from `lo` up to that of the key, at which any of the files has a value of the key's column.
-    /// No file is asked if the filter says that none has one. The files stay what they were.
+    /// The greatest stamp, from `lo` up to that of the key, at which any of the files may have a value of the key's
+    /// column: later none has one. No file is asked if the filter says that none has one. The files stay what they were.
     pub(crate) fn newest_stamp<F: Files>(
         &mut self,
         key: &LookupKey<'_>,

@@ -142,8 +142,8 @@ impl Tablet {
         Ok(None)
     }
 
-    /// The greatest stamp in `lo..=hi` at which a file has a value of a cell's column. No file is asked if the filter
-    /// of their keys says that none has one.
+    /// The greatest stamp in `lo..=hi` at which a file may have a value of a cell's column: later none has one. No file
+    /// is asked if the filter of their keys says that none has one.
     fn newest_file_stamp<F: Files>(
         &mut self,
         row: &Row,

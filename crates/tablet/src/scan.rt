@@ -206,7 +206,7 @@ fn next_versions<F: Files, S: Source<F>>(
             return Ok(gathering.stopped());
         }
     }
-    gathering.ended()
+    Ok(gathering.ended())
 }
 
 /// The cells that a memtable and files have together, the newest first, with their newest versions at or below `hi`:

@@ -1,8 +1,8 @@
 use Rattle.std.proofs.Common.{◌≡◌, ℕ, ◌+◌, ◌<◌, ◌≤◌, ◌∙◌, Bool, true, false, List, length, refl, sym, subst, arith}
 use Rattle.std.specs.Bool.{OnFalse, OnTrue}
-use Rattle.std.specs.Prelude.{Option, Some, None, IfOk, IfSome, Result, Ok, Err, if◌then◌else◌}
+use Rattle.std.specs.Prelude.{Option, Some, None, IfSome, if◌then◌else◌}
 use Rattle.cell_key.specs.Entries.{Entry, IsEntry, IsEntryList, Takes}
-use Rattle.cell_key.specs.declared.refusals.Refusal.TheVariants.{Device, NoMemory}
+use Rattle.cell_key.specs.declared.refusals.Refusal.TheVariants.{Device}
 use Rattle.file_store.specs.Store.{Contents}
 use Rattle.sorted_file.specs.Source.{pending}
 use Rattle.tablet.specs.Batches.{IsFull}
@@ -10,10 +10,9 @@ use Rattle.tablet.specs.Gathering.{AreVersionsIn}
 use Rattle.tablet.specs.declared.batches.BatchLimits.{BatchLimits}
 use Rattle.tablet.specs.declared.batches.CellVersions.{CellVersions}
 use Rattle.tablet.proofs.GatheredCells.{on_false}
-use Rattle.tablet.proofs.Lookups.{ok_map}
 use Rattle.tablet.proofs.NextVersions.{gone_all, gone_more, gone_none, gone_stops}
 use Rattle.tablet.proofs.ReadPlaces.{rest_of}
-use Rattle.tablet.proofs.Passed.{IsHeldRefusal, err_kind, held_refusal, not_err, passed_kind, passed_on, passed_reason, quiet_reason, reason_after, reason_of_ok}
+use Rattle.tablet.proofs.Passed.{IsHeldRefusal, held_refusal, not_err, passed_kind, passed_on, passed_reason, quiet_reason, reason_after, reason_of_ok}
 use Rattle.tablet.proofs.scan.next_versions.Goals as goal
 
 lent_listed : (lent : Option Entry) (es : List Entry) → IsEntryList (pending lent es) → IfSome lent IsEntry
@@ -27,10 +26,6 @@ one_fewer false new old is fewer = absurd (let no : false ≡ true = is in cc)
 on_so : {A : Type 0} (b : Bool) → b ≡ true → OnTrue b A → A
 on_so true e a = a
 on_so false e a = cc
-
-ok_both : {T E : Type 0} {P Q R : T → Type 0} (r : Result T E) → IfOk r P → IfOk r Q → ((x : T) → P x → Q x → R x) → IfOk r R
-ok_both (Ok x) p q f = f x p q
-ok_both (Err e) p q f = tt
 
 pub loop-gathering-init : goal.loop-gathering-init
 loop-gathering-init g c = record { same = refl; quiet = refl; within = c.in_ok-gathering.ensures.within; limits = c.in_ok-gathering.ensures.limits; hi = c.in_ok-gathering.ensures.hi; told = λ h. (h, gone_none _ _ c.in_ok-gathering.ensures.none) }
@@ -131,25 +126,24 @@ pub returns-then-not-branch-clause-reason : goal.returns-then-not-branch-clause-
 returns-then-not-branch-clause-reason g c = reason_of_ok _ _ _ _ (reason_after _ _ _ c.loop-gathering.invariant.quiet c.in_ok-advance.ensures.reason)
 
 pub returns-clause-found : goal.returns-clause-found
-returns-clause-found g c =
+returns-clause-found g c = λ start.
     let i = c.loop-gathering.invariant in
     let s = c.loop-gathering.source in
     let t = c.advance.new.self in
     let disk = g.F.Files.contents c.args.store.now in
     let takes = subst (λ (o : Option Contents). g.S.Source.holds o s → Takes (g.S.Source.lent t) (g.S.Source.remaining o s) (g.S.Source.remaining o t)) i.same c.in_ok-advance.ensures.takes in
     let all = g.S.Source.remaining disk c.args.source.now in
-    ok_both c.ended.result c.ended.ensures.versions c.ended.ensures.last (λ batch versions last start.
     let before = i.told start in
-    subst (λ (b : Bool). AreVersionsIn all c.args.hi batch.cells.items b) (sym last)
-    (subst (λ (hi : ℕ). AreVersionsIn all hi batch.cells.items true) i.hi
-    (versions all (rest_of _ _ (g.met.S.Source.list disk c.args.source.now start))
-    (gone_all all (g.S.Source.lent t) (g.S.Source.remaining disk s) (g.S.Source.remaining disk t) c.loop-gathering.gathering before.1 (takes before.0) (sym c.if-branch.false ∙ c.in_ok-advance.ensures.more)))))
+    subst (λ (b : Bool). AreVersionsIn all c.args.hi c.ended.result.cells.items b) (sym c.ended.ensures.last)
+    (subst (λ (hi : ℕ). AreVersionsIn all hi c.ended.result.cells.items true) i.hi
+    (c.ended.ensures.versions all (rest_of _ _ (g.met.S.Source.list disk c.args.source.now start))
+    (gone_all all (g.S.Source.lent t) (g.S.Source.remaining disk s) (g.S.Source.remaining disk t) c.loop-gathering.gathering before.1 (takes before.0) (sym c.if-branch.false ∙ c.in_ok-advance.ensures.more))))
 
 pub returns-clause-few : goal.returns-clause-few
-returns-clause-few g c = ok_map c.ended.result c.ended.ensures.few (λ batch few. subst (λ (limits : BatchLimits). length batch.cells.items ≤ limits.cells) c.loop-gathering.invariant.limits few)
+returns-clause-few g c = subst (λ (limits : BatchLimits). length c.ended.result.cells.items ≤ limits.cells) c.loop-gathering.invariant.limits c.ended.ensures.few
 
 pub returns-clause-same : goal.returns-clause-same
 returns-clause-same g c = c.advance.ensures.files ∙ c.loop-gathering.invariant.same
 
 pub returns-clause-reason : goal.returns-clause-reason
-returns-clause-reason g c = reason_after _ _ _ (c.in_ok-advance.ensures.reason.told (not_err _ Device) ∙ c.loop-gathering.invariant.quiet) (quiet_reason c.ended.result _ (λ is. absurd (let no : Device ≡ NoMemory = err_kind c.ended.result Device (λ e. e ≡ NoMemory) c.ended.ensures.refusal is in cc)))
+returns-clause-reason g c = reason_of_ok _ _ _ _ (reason_after _ _ _ c.loop-gathering.invariant.quiet c.in_ok-advance.ensures.reason)
