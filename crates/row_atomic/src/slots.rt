@@ -20,7 +20,7 @@ use cell_key::{CellKey, Edit, Family, Qualifier, Row, Stamp, last_place};
 use std::alloc::{AllocError, Global};
 use std::collections::BTreeMap;
 use std::ops::Bound;
-use tablet::{BatchLimits, CellVersions, VersionBatch};
+use tablet::{BatchLimits, CellVersion, CellVersions, VersionBatch};
 
 pub(crate) type Slots = BTreeMap<CellKey, Option<Vec<u8>>>;
 
@@ -110,6 +110,24 @@ pub(crate) fn next_cells(
     Ok(found)
 }
 
+/// The version of a cell's column with the greatest stamp at or below `hi`.
+fn newest_version(
+    slots: &Slots,
+    row: &Row,
+    family: &Family,
+    qualifier: Qualifier,
+    hi: Stamp,
+) -> Result<Option<CellVersion>, AllocError>
+    requires { AreFilled slots.now.entries }
+    ensures { IfOk result (IsNewest (slot_cells slots.now.entries)
+        (version row.now family.now qualifier) 0 hi) }
+{
+    match newest(slots, row, family, qualifier, 0, hi)? {
+        Some((stamp, value)) => Ok(Some(CellVersion::from_vec(stamp, value))),
+        None => Ok(None),
+    }
+}
+
 /// A cell with the newest versions at or below `hi` of its columns.
 fn versions_of(
     slots: &Slots,
@@ -124,9 +142,9 @@ fn versions_of(
     Ok(CellVersions {
         row: row.clone()?,
         family: family.clone()?,
-        data: newest(slots, row, family, Qualifier::Data, 0, hi)?,
-        lock: newest(slots, row, family, Qualifier::Lock, 0, hi)?,
-        write: newest(slots, row, family, Qualifier::Write, 0, hi)?,
+        data: newest_version(slots, row, family, Qualifier::Data, hi)?,
+        lock: newest_version(slots, row, family, Qualifier::Lock, hi)?,
+        write: newest_version(slots, row, family, Qualifier::Write, hi)?,
     })
 }
 

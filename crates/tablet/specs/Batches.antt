@@ -1,10 +1,9 @@
 -- Cells with the newest versions of their columns, and batches of them.
-use Rattle.std.specs.Prelude.{◌≡◌, ◌≢◌, ◌⊎◌, ◌≤◌, ◌+◌, ℕ, true, List, length, map, sum_by, Option, Some, None, option_map}
+use Rattle.std.specs.Prelude.{◌≡◌, ◌≢◌, ◌⊎◌, ◌≤◌, ◌+◌, ℕ, true, List, length, map, sum_by, Option, Some, None}
 use Rattle.std.specs.List.{AllByRecursion}
 use Rattle.cell_key.specs.Cells.{Cells, IsNewest, version}
 use Rattle.cell_key.specs.Entries.{or_else}
 use Rattle.cell_key.specs.Places.{AreNextCells, IsNextCell, Place, last_or}
-use Rattle.cell_key.specs.Versions.{stamped}
 use Rattle.cell_key.specs.declared.keys.Qualifier.{Qualifier}
 use Rattle.cell_key.specs.declared.keys.Qualifier.TheVariants.{Data, Lock, Write}
 use Rattle.tablet.specs.declared.batches.BatchLimits.{BatchLimits}
@@ -20,9 +19,9 @@ places_in found = map place_in found
 
 -- the version of a column, if it has one
 abbrev pub of_column : CellVersions → Qualifier → Option (ℕ × List ℕ)
-of_column found Data = option_map stamped found.data
-of_column found Lock = option_map stamped found.lock
-of_column found Write = option_map stamped found.write
+of_column found Data = found.data
+of_column found Lock = found.lock
+of_column found Write = found.write
 
 -- each column has its newest version at or below a stamp
 abbrev pub HasNewest : Cells → ℕ → CellVersions → Type 0

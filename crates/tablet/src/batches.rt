@@ -1,22 +1,21 @@
 //! Cells with the newest versions of their columns, and batches of them.
 
-ghost use Rattle.std.specs.Prelude.{◌≡◌, ◌-◌, length, option_map, OnOk, OnErr, IfErr, Some};
+ghost use Rattle.std.specs.Prelude.{◌≡◌, ◌-◌, length, OnOk, OnErr, IfErr, Some};
 ghost use Rattle.cell_key.specs.Entries.{or_else};
-ghost use Rattle.cell_key.specs.Versions.{stamped};
 ghost use Rattle.tablet.specs.Batches.{bytes_in, bytes_of, value_bytes, Keeps};
 
+use crate::cell_version::CellVersion;
 use cell_key::{Family, Qualifier, Refusal, Row, Stamp};
 use std::alloc::Global;
 
-/// A cell and, of each of its columns, the newest version at or below a stamp: its stamp and its value, or `None` if
-/// the column has none there.
+/// A cell and, of each of its columns, the newest version at or below a stamp: or `None` if it has none there.
 #[derive(Drop)]
 pub struct CellVersions {
     pub row: Row,
     pub family: Family,
-    pub data: Option<(Stamp, Vec<u8>)>,
-    pub lock: Option<(Stamp, Vec<u8>)>,
-    pub write: Option<(Stamp, Vec<u8>)>,
+    pub data: Option<CellVersion>,
+    pub lock: Option<CellVersion>,
+    pub write: Option<CellVersion>,
 }
 
 /// Cells in their order, and whether no cell is left after them.
@@ -53,27 +52,25 @@ impl BatchLimits {
 /// Takes a version for that of a column which has none.
 fn keep_newest(
     alloc: Global,
-    newest: &mut Option<(Stamp, Vec<u8>)>,
+    newest: &mut Option<CellVersion>,
     stamp: Stamp,
     value: &[u8],
 ) -> Result<(), Refusal>
-    ensures ok { OnOk result (option_map stamped newest.new
-        ≡ or_else (option_map stamped newest.old) (Some (stamp, value.now))) }
+    ensures ok { OnOk result (newest.new ≡ or_else newest.old (Some (stamp, value.now))) }
     ensures refusal { IfErr result (λ refusal. refusal ≡ Refusal.NoMemory) }
 {
     if newest.is_none() {
-        let copy = Vec::from_slice(alloc, value)?;
-        *newest = Some((stamp, copy));
+        *newest = Some(CellVersion::new(alloc, stamp, value)?);
     }
     Ok(())
 }
 
 /// A number of bytes without those of a value, or 0 if the value has more.
-fn bytes_after(bytes: usize, found: &Option<(Stamp, Vec<u8>)>) -> usize
-    ensures { result ≡ bytes - value_bytes (option_map stamped found.now) }
+fn bytes_after(bytes: usize, found: &Option<CellVersion>) -> usize
+    ensures { result ≡ bytes - value_bytes found.now }
 {
     match found {
-        Some((_, value)) => bytes.saturating_sub(value.len()),
+        Some(version) => bytes.saturating_sub(version.value().len()),
         None => bytes,
     }
 }

@@ -4,6 +4,7 @@
 
 mod batches;
 mod caches;
+mod cell_version;
 mod compactions;
 mod gathering;
 mod laws;
@@ -18,6 +19,7 @@ mod split;
 mod tablet;
 
 pub use batches::{BatchLimits, CellVersions, VersionBatch};
+pub use cell_version::CellVersion;
 pub use compactions::Compaction;
 pub use laws::{
     files_are_there, others_stay, same_cells, shows_its_lists, stays_in_range, unnamed_may_go,

@@ -1,0 +1,67 @@
+//! A version of a cell's column. A short value stands in it, and takes no memory of its own.
+
+ghost use Rattle.std.specs.Prelude.{◌≡◌, IfErr, IfOk};
+
+use cell_key::{Refusal, Stamp};
+use smallvec::SmallVec;
+use std::alloc::Global;
+use std::marker::Model;
+
+/// A version of a cell's column: its stamp and its value. A value of at most 16 bytes, as that of a write record, takes no
+/// memory beside its own.
+#[derive(Debug, Drop)]
+pub struct CellVersion {
+    stamp: Stamp,
+    value: SmallVec<u8, 16>,
+}
+
+impl Model for CellVersion {
+    ghost use Rattle.std.specs.Prelude.{List, ℕ};
+
+    ghost Value = { ℕ × List ℕ };
+
+    ghost view = { λ version. (version.stamp, version.value.items) };
+}
+
+impl CellVersion {
+    /// The version of this stamp and value. Answers `NoMemory` if there is no memory for a copy of the value.
+    pub(crate) fn new(alloc: Global, stamp: Stamp, value: &[u8]) -> Result<CellVersion, Refusal>
+        ensures ok { IfOk result (λ version. version ≡ (stamp, value.now)) }
+        ensures refusal { IfErr result (λ refusal. refusal ≡ Refusal.NoMemory) }
+    {
+        let value = SmallVec::from_slice(alloc, value)?;
+        Ok(CellVersion { stamp, value })
+    }
+
+    /// The version of this stamp and value.
+    pub fn from_vec(stamp: Stamp, value: Vec<u8>) -> CellVersion
+        ensures { result ≡ (stamp, value.items) }
+    {
+        CellVersion {
+            stamp,
+            value: SmallVec::from(value),
+        }
+    }
+
+    /// The stamp.
+    pub fn stamp(&self) -> Stamp
+        ensures { result ≡ self.now.0 }
+    {
+        self.stamp
+    }
+
+    /// The bytes of the value.
+    pub fn value(&self) -> &[u8]
+        ensures { result.now ≡ self.now.1 }
+    {
+        self.value.as_slice()
+    }
+
+    /// The value. Answers `NoMemory` if there is no memory for it.
+    pub fn into_value(self) -> Result<Vec<u8>, Refusal>
+        ensures ok { IfOk result (λ value. value.items ≡ self.1) }
+        ensures refusal { IfErr result (λ refusal. refusal ≡ Refusal.NoMemory) }
+    {
+        Ok(self.value.into_vec()?)
+    }
+}
