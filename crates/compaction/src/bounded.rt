@@ -41,6 +41,9 @@ impl<'a, S> Bounded<'a, S> {
         S: Source<F>,
         ensures { result ≡ is_at_end (end_of self.now) (S.lent (source_of self.now)) }
     {
+        if self.end.is_none() {
+            return false;
+        }
         match self.source.current() {
             Some(entry) => !is_below(self.end, entry.key),
             None => false,
@@ -68,8 +71,8 @@ impl<F: Files, S: Source<F>> Source<F> for Bounded<'_, S> {
         if self.is_at_end::<F>() {
             return Ok(false);
         }
-        let _ = self.source.advance(files)?;
-        Ok(Source::<F>::current(self).is_some())
+        let came = self.source.advance(files)?;
+        Ok(came && !self.is_at_end::<F>())
     }
 
     fn current(&self) -> Option<EntryRef<'_>> {

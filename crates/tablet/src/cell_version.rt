@@ -9,7 +9,7 @@ use std::marker::Model;
 
 /// A version of a cell's column: its stamp and its value. A value of at most 16 bytes, as that of a write record, takes no
 /// memory beside its own.
-#[derive(Debug, Drop)]
+#[derive(Debug)]
 pub struct CellVersion {
     stamp: Stamp,
     value: SmallVec<u8, 16>,
@@ -21,6 +21,14 @@ impl Model for CellVersion {
     ghost Value = { ℕ × List ℕ };
 
     ghost view = { λ version. (version.stamp, version.value.items) };
+}
+
+impl Drop for CellVersion {
+    /// A call of its own, so that what drops a version doesn't branch by where its value stands.
+    fn drop(self) {
+        let CellVersion { stamp: _, value } = self;
+        drop(value);
+    }
 }
 
 impl CellVersion {
@@ -62,6 +70,7 @@ impl CellVersion {
         ensures ok { IfOk result (λ value. value.items ≡ self.1) }
         ensures refusal { IfErr result (λ refusal. refusal ≡ Refusal.NoMemory) }
     {
-        Ok(self.value.into_vec()?)
+        let CellVersion { stamp: _, value } = self;
+        Ok(value.into_vec()?)
     }
 }

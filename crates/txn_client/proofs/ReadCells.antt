@@ -1,5 +1,5 @@
 -- What a read finds of a cell, by the newest versions of its columns.
-use Rattle.std.proofs.Common.{◌≡◌, ℕ, ◌≤◌, List, Option, Some, None, inr, arith, refl, subst}
+use Rattle.std.proofs.Common.{ap, ◌≡◌, ℕ, ◌≤◌, List, Option, Some, None, inr, arith, refl, subst}
 use Rattle.std.specs.Prelude.{option_map}
 use Rattle.std.specs.FinMap.{get}
 use Rattle.std.specs.declared.vec.Vec.{Vec}
@@ -18,11 +18,16 @@ use Rattle.txn_client.specs.Reads.{IsDamaged, ReadsDeletion, ReadsValue}
 pub nothing : {Z : Type 0} (cells : Cells) (at : ℕ → CellKey) (lo hi : ℕ) (found : Option (ℕ × Vec ℕ Z)) → found ≡ None → IsNewest cells at lo hi (option_map stamped found) → (s : ℕ) → lo ≤ s → s ≤ hi → get cells (at s) ≡ None
 nothing cells at lo hi found e is = subst (λ (f : Option (ℕ × Vec ℕ _)). IsNewest cells at lo hi (option_map stamped f)) e is
 
+-- the newest record of a cell up to a stamp is its last there
+pub last_record : (cells : Cells) (x : Cell) (s c : ℕ) (last : Option (ℕ × List ℕ)) (text : List ℕ) → last ≡ Some (c, text) → IsNewest cells (key_of x Write) 0 s last → IsLast cells x s c text
+last_record cells x s c last text is found =
+    let written : IsNewest cells (key_of x Write) 0 s (Some (c, text)) = subst (λ (f : Option (ℕ × List ℕ)). IsNewest cells (key_of x Write) 0 s f) is found in
+    record { low = written.1; there = written.2; last = written.3 }
+
 pub last_written : {Z : Type 0} (cells cells2 : Cells) (x : Cell) (s c : ℕ) (last : Option (ℕ × Vec ℕ Z)) (text : Vec ℕ Z) → cells2 ≡ cells → last ≡ Some (c, text) → IsNewest cells2 (key_of x Write) 0 s (option_map stamped last)
     → IsLast cells x s c text.items
-last_written {Z} cells cells2 x s c last text same is found =
-    let written : IsNewest cells (key_of x Write) 0 s (Some (c, text.items)) = subst (λ (f : Option (ℕ × Vec ℕ Z)). IsNewest cells (key_of x Write) 0 s (option_map stamped f)) is (subst (λ (cs : Cells). IsNewest cs (key_of x Write) 0 s (option_map stamped last)) same found) in
-    record { low = written.1; there = written.2; last = written.3 }
+last_written cells cells2 x s c last text same is found =
+    last_record cells x s c (option_map stamped last) text.items (ap (option_map stamped) is) (subst (λ (cs : Cells). IsNewest cs (key_of x Write) 0 s (option_map stamped last)) same found)
 
 pub deletion_found : {Z : Type 0} (cells cells2 : Cells) (x : Cell) (s c n : ℕ) (kind : WriteKind) (last : Option (ℕ × Vec ℕ Z)) (text : Vec ℕ Z) → cells2 ≡ cells → last ≡ Some (c, text) → IsNewest cells2 (key_of x Write) 0 s (option_map stamped last)
     → NamesWrite text.items n kind → kind ≡ write.Delete → ReadsDeletion cells x s
@@ -34,10 +39,14 @@ deletion_found cells cells2 x s c n kind last text same is found names deletes =
   names = subst (λ (k : WriteKind). NamesWrite text.items n k) deletes names;
 }
 
+-- the newest lock up to a stamp is there
+pub newest_lock : (cells : Cells) (x : Cell) (s p : ℕ) (lock : Option (ℕ × List ℕ)) (text : List ℕ) → lock ≡ Some (p, text) → IsNewest cells (key_of x Lock) 0 s lock → (p ≤ s) × IsThere cells x Lock p
+newest_lock cells x s p lock text is found =
+    let there : IsNewest cells (key_of x Lock) 0 s (Some (p, text)) = subst (λ (f : Option (ℕ × List ℕ)). IsNewest cells (key_of x Lock) 0 s f) is found in
+    (there.1, (text, there.2))
+
 pub locked : {Z : Type 0} (cells : Cells) (x : Cell) (s p : ℕ) (lock : Option (ℕ × Vec ℕ Z)) (text : Vec ℕ Z) → lock ≡ Some (p, text) → IsNewest cells (key_of x Lock) 0 s (option_map stamped lock) → (p ≤ s) × IsThere cells x Lock p
-locked {Z} cells x s p lock text is found =
-    let there : IsNewest cells (key_of x Lock) 0 s (Some (p, text.items)) = subst (λ (f : Option (ℕ × Vec ℕ Z)). IsNewest cells (key_of x Lock) 0 s (option_map stamped f)) is found in
-    (there.1, (text.items, there.2))
+locked cells x s p lock text is found = newest_lock cells x s p (option_map stamped lock) text.items (ap (option_map stamped) is) found
 
 at_itself : (n : ℕ) → n ≤ n
 at_itself n = omega arith
@@ -49,36 +58,20 @@ no_data cells cells3 x s c n kind value text same is names kept found last =
     (c, text, last, inr (n, subst (λ (k : WriteKind). NamesWrite text n k) kept names, gone n (at_itself n) (at_itself n)))
 
 -- the data at the start that the last record names is the value
-pub data_found : {Z : Type 0} (cells : Cells) (x : Cell) (s c n : ℕ) (lock last : Option (ℕ × Vec ℕ Z)) (kind : WriteKind) (text : Vec ℕ Z) (value : List ℕ) → lock ≡ None → last ≡ Some (c, text) → NamesWrite text.items n kind → kind ≡ write.Set
-    → IsNewest cells (key_of x Lock) 0 s (option_map stamped lock) → IsNewest cells (key_of x Write) 0 s (option_map stamped last) → at cells x Data n ≡ Some value → ReadsValue cells x s value
+pub data_found : (cells : Cells) (x : Cell) (s c n : ℕ) (lock last : Option (ℕ × List ℕ)) (kind : WriteKind) (text value : List ℕ) → lock ≡ None → last ≡ Some (c, text) → NamesWrite text n kind → kind ≡ write.Set
+    → IsNewest cells (key_of x Lock) 0 s lock → IsNewest cells (key_of x Write) 0 s last → at cells x Data n ≡ Some value → ReadsValue cells x s value
 data_found cells x s c n lock last kind text value unlocked is names kept found found2 there = record {
-  unlocked = nothing cells (key_of x Lock) 0 s lock unlocked found;
+  unlocked = subst (λ (f : Option (ℕ × List ℕ)). IsNewest cells (key_of x Lock) 0 s f) unlocked found;
   stamp = c;
-  text = text.items;
-  is_last = last_written cells cells x s c last text refl is found2;
+  text = text;
+  is_last = last_record cells x s c last text is found2;
   start = n;
-  names = subst (λ (k : WriteKind). NamesWrite text.items n k) kept names;
+  names = subst (λ (k : WriteKind). NamesWrite text n k) kept names;
   data_is = there;
 }
 
 -- and without it the cell is damaged
-pub data_missing : {Z : Type 0} (cells : Cells) (x : Cell) (s c n : ℕ) (last : Option (ℕ × Vec ℕ Z)) (kind : WriteKind) (text : Vec ℕ Z) → last ≡ Some (c, text) → NamesWrite text.items n kind → kind ≡ write.Set
-    → IsNewest cells (key_of x Write) 0 s (option_map stamped last) → at cells x Data n ≡ None → IsDamaged cells x s
+pub data_missing : (cells : Cells) (x : Cell) (s c n : ℕ) (last : Option (ℕ × List ℕ)) (kind : WriteKind) (text : List ℕ) → last ≡ Some (c, text) → NamesWrite text n kind → kind ≡ write.Set
+    → IsNewest cells (key_of x Write) 0 s last → at cells x Data n ≡ None → IsDamaged cells x s
 data_missing cells x s c n last kind text is names kept found none =
-    (c, text.items, last_written cells cells x s c last text refl is found, inr (n, subst (λ (k : WriteKind). NamesWrite text.items n k) kept names, none))
-
--- the newest data is that at its stamp
-pub newest_data : {Z : Type 0} (cells : Cells) (x : Cell) (hi m n : ℕ) (newest : Option (ℕ × Vec ℕ Z)) (v : Vec ℕ Z) → newest ≡ Some (m, v) → m ≡ n → IsNewest cells (key_of x Data) 0 hi (option_map stamped newest) → at cells x Data n ≡ Some v.items
-newest_data {Z} cells x hi m n newest v is same found =
-    let there : IsNewest cells (key_of x Data) 0 hi (Some (m, v.items)) = subst (λ (f : Option (ℕ × Vec ℕ Z)). IsNewest cells (key_of x Data) 0 hi (option_map stamped f)) is found in
-    subst (λ (k : ℕ). get cells (key_of x Data k) ≡ Some v.items) same there.2
-
--- and what is looked up at one stamp is what stands there
-pub data_looked : {Z : Type 0} (cells : Cells) (x : Cell) (n m : ℕ) (value : Option (ℕ × Vec ℕ Z)) (v : Vec ℕ Z) → value ≡ Some (m, v) → IsNewest cells (key_of x Data) n n (option_map stamped value) → at cells x Data n ≡ Some v.items
-data_looked {Z} cells x n m value v is found =
-    let there : IsNewest cells (key_of x Data) n n (Some (m, v.items)) = subst (λ (f : Option (ℕ × Vec ℕ Z)). IsNewest cells (key_of x Data) n n (option_map stamped f)) is found in
-    let same : m ≡ n = omega (arith, there.0, there.1) in
-    subst (λ (k : ℕ). get cells (key_of x Data k) ≡ Some v.items) same there.2
-
-pub data_none : {Z : Type 0} (cells : Cells) (x : Cell) (n : ℕ) (value : Option (ℕ × Vec ℕ Z)) → value ≡ None → IsNewest cells (key_of x Data) n n (option_map stamped value) → at cells x Data n ≡ None
-data_none cells x n value is found = nothing cells (key_of x Data) n n value is found n (at_itself n) (at_itself n)
+    (c, text, last_record cells x s c last text is found, inr (n, subst (λ (k : WriteKind). NamesWrite text n k) kept names, none))

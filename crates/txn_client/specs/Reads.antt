@@ -33,9 +33,9 @@ pub record ReadsDeletion (cells : Cells) (x : Cell) (s : ℕ) : Type 0 where
 
 -- the newest versions of the columns of x at or below s
 pub record AreNewest (cells : Cells) (x : Cell) (s : ℕ) (newest : Newest) : Type 0 where
-  pub of_data : IsNewest cells (key_of x Data) 0 s (option_map stamped newest.data)
-  pub of_lock : IsNewest cells (key_of x Lock) 0 s (option_map stamped newest.lock)
-  pub of_write : IsNewest cells (key_of x Write) 0 s (option_map stamped newest.write)
+  pub of_data : IsNewest cells (key_of x Data) 0 s newest.data
+  pub of_lock : IsNewest cells (key_of x Lock) 0 s newest.lock
+  pub of_write : IsNewest cells (key_of x Write) 0 s newest.write
 
 abbrev pub IsFound : Cells → Cell → ℕ → Found → Type 0
 IsFound cells x s (Pending t) = (t ≤ s) × IsThere cells x Lock t

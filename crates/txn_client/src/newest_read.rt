@@ -3,7 +3,6 @@
 ghost use Rattle.std.specs.Prelude.{◌≡◌, ℕ, IfErr, IfOk, option_map};
 ghost use Rattle.cell_key.specs.Cells.{IsNewest};
 ghost use Rattle.cell_key.specs.Faults.{HasReason};
-ghost use Rattle.cell_key.specs.Versions.{stamped};
 ghost use Rattle.cell_key.specs.declared.keys.Qualifier.TheVariants.{Data};
 ghost use Rattle.row_atomic.specs.Calls.{OnlyReads};
 ghost use Rattle.row_atomic.specs.Refusals.{IsReadRefusal, IsRefusalOfRead};
@@ -13,33 +12,34 @@ ghost use Rattle.txn_client.specs.Reads.{AreNewest, IsDamaged, IsFound};
 use cell_key::{Qualifier, Record, Refusal, Stamp, WriteKind};
 use row_atomic::Rows;
 use si_model::{Cell, Found};
+use tablet::CellVersion;
 
 /// The newest versions of a cell's columns at or below a stamp.
 #[derive(Drop)]
 pub(crate) struct Newest {
-    pub(crate) data: Option<(Stamp, Vec<u8>)>,
-    pub(crate) lock: Option<(Stamp, Vec<u8>)>,
-    pub(crate) write: Option<(Stamp, Vec<u8>)>,
+    pub(crate) data: Option<CellVersion>,
+    pub(crate) lock: Option<CellVersion>,
+    pub(crate) write: Option<CellVersion>,
 }
 
 /// The data of a cell at a stamp. It is looked up only if `newest`, the newest data up to some stamp, isn't it.
 fn data_at<R: Rows>(
     rows: &mut R,
     cell: &Cell,
-    newest: Option<(Stamp, Vec<u8>)>,
+    newest: Option<CellVersion>,
     stamp: Stamp,
 ) -> Result<Option<Vec<u8>>, Refusal>
     ensures found { R.seen.readable rows.old cell.now.row → (hi : ℕ)
-        → IsNewest (R.seen.cells rows.old) (key_of cell.now Data) 0 hi (option_map stamped newest)
+        → IsNewest (R.seen.cells rows.old) (key_of cell.now Data) 0 hi newest
         → IfOk result (λ found. option_map (λ value. value.items) found
         ≡ at (R.seen.cells rows.old) cell.now Data stamp) }
     ensures reads { OnlyReads R.seen rows.old rows.new }
     ensures refusal { IfErr result (IsRefusalOfRead (R.seen.readable rows.old cell.now.row)) }
     ensures reason { HasReason (R.faults rows.old) (R.faults rows.new) result }
 {
-    if let Some((last, value)) = newest {
-        if last == stamp {
-            return Ok(Some(value));
+    if let Some(version) = newest {
+        if version.stamp() == stamp {
+            return Ok(Some(version.into_value()?));
         }
     }
     match rows.newest(&cell.row, &cell.family, Qualifier::Data, stamp, stamp)? {
@@ -67,13 +67,13 @@ pub(crate) fn read_newest<R: Rows>(
     ensures reason { HasReason (R.faults rows.old) (R.faults rows.new) result }
 {
     let Newest { data, lock, write } = newest;
-    if let Some((pending, _)) = lock {
-        return Ok(Found::Pending(pending));
+    if let Some(pending) = lock {
+        return Ok(Found::Pending(pending.stamp()));
     }
-    let Some((_, text)) = write else {
+    let Some(last) = write else {
         return Ok(Found::Nothing);
     };
-    let Some(record) = Record::decode(&text) else {
+    let Some(record) = Record::decode(last.value()) else {
         return Err(Refusal::Damaged);
     };
     match record.kind {

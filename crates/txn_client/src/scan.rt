@@ -138,7 +138,7 @@ fn last_if_fewer(batch: VersionBatch, limits: BatchLimits) -> VersionBatch
 }
 
 impl Gathered {
-    /// Nothing yet, before the first cell of the range.
+    /// Nothing yet, before the first cell of the range, with room for as many items as it may have, but no more than 256.
     fn new(alloc: Global, scan: &Scan, cells: u32) -> Result<Gathered, Refusal>
         requires rows { HasRows (range_named scan.now.range) }
         requires families { HasFamilies (range_named scan.now.range) }
@@ -152,8 +152,9 @@ impl Gathered {
             Some(cell) => Some(copy_of(cell)?),
             None => None,
         };
+        let items = Vec::with_capacity(alloc, (cells as usize).min(MOST_CELLS))?;
         Ok(Gathered {
-            items: Vec::new(alloc),
+            items,
             bytes: 0,
             cells: cells as usize,
             looked: 0,

@@ -22,11 +22,11 @@ pub returns-clause-none : goal.returns-clause-none
 returns-clause-none c = λ cells.
     let scan = c.args.scan.now in
     let range = range_named scan.range in
-    let empty : map item_of c.new.result.items ≡ [] = ap (map item_of) c.new.ensures.items in
+    let empty : map item_of c.in_ok-items.items.items ≡ [] = ap (map item_of) c.in_ok-items.ensures.items in
     let passed : range.after ≡ c.match-scan.passed = elim c.match-scan.branch [
       | in-Some+in_ok-copy_of-in-Some w ↦ let copy = w.in_ok-copy_of-in-Some.ensures.copy in let is = w.in-Some.is in let set = w.passed-is in cc
       | in-None w ↦ let is = w.in-None.is in let set = w.passed-is in cc
     ] in
-    subst (λ (o : Option Cell). HasGathered cells scan.start range scan.keys_only (map item_of c.new.result.items) 0 (last_after o (map item_of c.new.result.items))) passed
+    subst (λ (o : Option Cell). HasGathered cells scan.start range scan.keys_only (map item_of c.in_ok-items.items.items) 0 (last_after o (map item_of c.in_ok-items.items.items))) passed
     (subst (λ (is : List (Cell × Item)). HasGathered cells scan.start range scan.keys_only is 0 (last_after range.after is)) (sym empty)
     (rw (or_none range.after) (gathers_none cells scan.start range scan.keys_only)))
