@@ -1,14 +1,14 @@
 //! A version of a cell's column. A short value stands in it, and takes no memory of its own.
 
-ghost use Rattle.std.specs.Prelude.{◌≡◌, IfErr, IfOk};
+ghost use Rattle.std.specs.Prelude.{◌≡◌, ◌≤◌, length, IfErr, IfOk, IsOk};
 
 use cell_key::{Refusal, Stamp};
 use smallvec::SmallVec;
 use std::alloc::Global;
 use std::marker::Model;
 
-/// A version of a cell's column: its stamp and its value. A value of at most 16 bytes, as that of a write record, takes no
-/// memory beside its own.
+/// A version of a cell's column: its stamp and its value. A copy of at most 16 bytes, as of a write record, takes no memory
+/// beside its own.
 #[derive(Debug)]
 pub struct CellVersion {
     stamp: Stamp,
@@ -36,12 +36,14 @@ impl CellVersion {
     pub(crate) fn new(alloc: Global, stamp: Stamp, value: &[u8]) -> Result<CellVersion, Refusal>
         ensures ok { IfOk result (λ version. version ≡ (stamp, value.now)) }
         ensures refusal { IfErr result (λ refusal. refusal ≡ Refusal.NoMemory) }
+        // A short one takes no memory.
+        ensures short { length value.now ≤ 16 → IsOk result }
     {
         let value = SmallVec::from_slice(alloc, value)?;
         Ok(CellVersion { stamp, value })
     }
 
-    /// The version of this stamp and value.
+    /// The version of this stamp and value. Takes no memory.
     pub fn from_vec(stamp: Stamp, value: Vec<u8>) -> CellVersion
         ensures { result ≡ (stamp, value.items) }
     {

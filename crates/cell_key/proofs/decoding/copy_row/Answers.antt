@@ -1,4 +1,4 @@
-use Rattle.std.proofs.Common.{List, ℕ, ◌++◌, Result, Ok, Err, IfOk, sym, ap, ◌∙◌}
+use Rattle.std.proofs.Common.{List, ℕ, ◌≤◌, ◌++◌, length, Result, Ok, Err, IfOk, subst, sym, ap, ◌∙◌}
 use Rattle.cell_key.specs.Texts.{ended}
 use Rattle.cell_key.proofs.EscapedParts.{escaped-all_plain}
 use Rattle.cell_key.proofs.Order.{row_rest}
@@ -15,4 +15,5 @@ returns-in-Some c =
     let whole = c.in-Some.ensures.found ∙ ap (λ (t : List ℕ). ended t ++ after) (sym (escaped-all_plain part c.in-Some.ensures.whole)) in
     record {
       row = if_ok c.from_slice.result _ _ (λ copy same row rest e. same ∙ (row_rest part row after rest (sym whole ∙ e)).0) c.from_slice.ensures.ok;
+      short = λ row rest e short few. c.from_slice.ensures.succeeds (subst (λ (t : List ℕ). length t ≤ 32) (sym (row_rest part row after rest (sym whole ∙ e)).0) short);
     }
