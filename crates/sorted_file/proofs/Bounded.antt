@@ -11,7 +11,7 @@ use Rattle.cell_key.specs.declared.keys.Qualifier.TheVariants.{Data, Lock, Write
 use Rattle.std.specs.declared.cmp.Ordering.{Ordering}
 use Rattle.std.specs.declared.cmp.Ordering.TheVariants.{Less, Equal, Greater}
 use Rattle.std.specs.Ordering.{is_eq}
-use Rattle.sorted_file.specs.Bounds.{column_bounds, Covers, IsBounded, IsWithin}
+use Rattle.sorted_file.specs.Bounds.{column_bounds, AreWithin, IsBounded, IsWithin}
 use Rattle.sorted_file.specs.declared.bounds.ColumnBounds.{ColumnBounds}
 
 equal : (o : Ordering) → is_eq o ≡ true → o ≡ Equal
@@ -35,16 +35,16 @@ module _ (bounds : ColumnBounds) (key : CellKey) (stored : IsStored key) (out : 
       go more true e = none_here name value all.0 (sym (one_text (text key) name e))
       go more false e = more
 
-pub covered : (old new : ColumnBounds) (entry : Entry) → Covers old new → IsBounded old entry → IsBounded new entry
+pub covered : (old new : ColumnBounds) (entry : Entry) → AreWithin old new → IsBounded old entry → IsBounded new entry
 covered old new entry keeps is = λ key stored named some. keeps key.qualifier key.row key.stamp (is key stored named some)
 
-pub covered_all : (old new : ColumnBounds) (es : List Entry) → Covers old new → AllByRecursion (IsBounded old) es → AllByRecursion (IsBounded new) es
+pub covered_all : (old new : ColumnBounds) (es : List Entry) → AreWithin old new → AllByRecursion (IsBounded old) es → AllByRecursion (IsBounded new) es
 covered_all old new [] keeps all = tt
 covered_all old new (e ∷ es) keeps all = (covered old new e keeps all.0, covered_all old new es keeps all.1)
 
 pub by_kind : (old new : ColumnBounds) → ((r : List ℕ) (s : ℕ) → IsWithin old.data r s → IsWithin new.data r s)
     → ((r : List ℕ) (s : ℕ) → IsWithin old.lock r s → IsWithin new.lock r s)
-    → ((r : List ℕ) (s : ℕ) → IsWithin old.write r s → IsWithin new.write r s) → Covers old new
+    → ((r : List ℕ) (s : ℕ) → IsWithin old.write r s → IsWithin new.write r s) → AreWithin old new
 by_kind old new d l w Data = d
 by_kind old new d l w Lock = l
 by_kind old new d l w Write = w

@@ -8,7 +8,7 @@ use Rattle.cell_key.specs.declared.keys.CellKey.{CellKey}
 use Rattle.cell_key.specs.declared.lent_keys.KeyRef.{KeyRef}
 use Rattle.cell_key.proofs.EntryLaws.{key_of_text-text}
 use Rattle.sorted_file.specs.Block.{entries_of, IsParsed}
-use Rattle.sorted_file.specs.Bounds.{Covers, IsBounded}
+use Rattle.sorted_file.specs.Bounds.{AreWithin, IsBounded}
 use Rattle.sorted_file.specs.Columns.{AreColumnsOf, IsGathered}
 use Rattle.sorted_file.specs.Numbers.{IsAmong, IsLockKeyNumbered, IsLockStamped, IsNumbered}
 use Rattle.sorted_file.specs.declared.block.Block.{Block}
@@ -25,7 +25,7 @@ pub lent_is : (lent : KeyRef) (k : IsLentKey lent) (key : CellKey) → IsStored 
 lent_is lent k key stored e = sym (key_of_text-text k.key k.stored) ∙ ap key_of_text (sym k.is ∙ e) ∙ key_of_text-text key stored
 
 -- one entry more
-pub columns_on : (old new : Columns) (es : List Entry) (e : Entry) → Covers old.bounds new.bounds → IsBounded new.bounds e → IsAmong old.numbers.items new.numbers.items → IsNumbered new.numbers.items e
+pub columns_on : (old new : Columns) (es : List Entry) (e : Entry) → AreWithin old.bounds new.bounds → IsBounded new.bounds e → IsAmong old.numbers.items new.numbers.items → IsNumbered new.numbers.items e
     → IsAmong old.locks.items new.locks.items → IsLockStamped new.locks.items e → IsAmong old.lock_keys.items new.lock_keys.items → IsLockKeyNumbered new.lock_keys.items e → AreColumnsOf old es → AreColumnsOf new (es ++ e ∷ [])
 columns_on old new es e covers bounded among numbered held locked has keyed k = record {
   bounded = all_joined (IsBounded new.bounds) es (e ∷ []) (covered_all old.bounds new.bounds es covers k.bounded) (bounded, tt);
@@ -35,7 +35,7 @@ columns_on old new es e covers bounded among numbered held locked has keyed k = 
 }
 
 -- those of two lists
-pub columns_joined : (old more new : Columns) (es fs : List Entry) → Covers old.bounds new.bounds → Covers more.bounds new.bounds → new.numbers.items ≡ old.numbers.items ++ more.numbers.items
+pub columns_joined : (old more new : Columns) (es fs : List Entry) → AreWithin old.bounds new.bounds → AreWithin more.bounds new.bounds → new.numbers.items ≡ old.numbers.items ++ more.numbers.items
     → new.locks.items ≡ old.locks.items ++ more.locks.items → new.lock_keys.items ≡ old.lock_keys.items ++ more.lock_keys.items → AreColumnsOf old es → AreColumnsOf more fs → AreColumnsOf new (es ++ fs)
 columns_joined old more new es fs first second numbers locks keys k m =
     let front : IsAmong old.numbers.items new.numbers.items = λ n there. subst (λ (l : List ℕ). Contains l n) (sym numbers) (Contains-append_left old.numbers.items more.numbers.items n there) in

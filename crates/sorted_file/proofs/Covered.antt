@@ -8,11 +8,13 @@ use Rattle.cell_key.specs.declared.keys.CellKey.{CellKey}
 use Rattle.cell_key.specs.declared.keys.Qualifier.{Qualifier}
 use Rattle.cell_key.specs.declared.keys.Qualifier.TheVariants.{Lock}
 use Rattle.file_store.specs.Store.{Contents}
+use Rattle.sorted_file.specs.Bounds.{AreWithin}
 use Rattle.sorted_file.specs.File.{IsOpen, MayHaveIn, listed}
 use Rattle.sorted_file.specs.Filters.{HasBits}
 use Rattle.sorted_file.specs.KeyFilters.{StaysCovered}
 use Rattle.sorted_file.specs.Newest.{IsNewestStamp}
 use Rattle.sorted_file.specs.Numbers.{lock_stamp, number_of}
+use Rattle.sorted_file.specs.declared.bounds.ColumnBounds.{ColumnBounds}
 use Rattle.sorted_file.specs.declared.file.SortedFile.{SortedFile}
 use Rattle.sorted_file.specs.declared.lock_stamps.LockStamp.{LockStamp}
 use Rattle.sorted_file.proofs.Locked.{no_value_numbered}
@@ -36,6 +38,7 @@ stays_covered disk filter old new same covers = record {
   numbers = subst (All (HasBits filter.numbers.words.items)) (ap (λ (f : SortedFile). f.numbers) (sym (same.rest old.cache))) covers.numbers;
   locks = subst (All (λ (lock : LockStamp). HasBits filter.locks.words.items lock.column)) (ap (λ (f : SortedFile). f.locks) (sym (same.rest old.cache))) covers.locks;
   lock_keys = subst (All (HasBits filter.lock_keys.words.items)) (ap (λ (f : SortedFile). f.lock_keys) (sym (same.rest old.cache))) covers.lock_keys;
+  bounds = subst (λ (b : ColumnBounds). AreWithin b filter.bounds) (ap (λ (f : SortedFile). f.bounds) (sym (same.rest old.cache))) covers.bounds;
 }
 
 -- a column without an entry has no value

@@ -1,5 +1,5 @@
 -- A column whose number isn't among those of entries has none of them.
-use Rattle.std.proofs.Common.{◌≡◌, ℕ, T, IsTrue, Bool, true, false, cond, List, [], ◌∷◌, Contains, Some, None, refl, sym, ap, subst, ◌∙◌}
+use Rattle.std.proofs.Common.{◌≡◌, ℕ, T, IsTrue, Bool, true, false, cond, List, [], ◌∷◌, Contains, ◌⊎◌, inl, inr, Some, None, refl, sym, ap, subst, ◌∙◌}
 use Rattle.std.specs.List.{AllByRecursion}
 use Rattle.std.specs.Ordering.{eq_by_cmp}
 use Rattle.std.specs.FinMap.Entries.{find}
@@ -7,6 +7,9 @@ use Rattle.std.specs.Hash.FoldHasher as folding
 use Rattle.cell_key.specs.Keys.{byte_cmp, text}
 use Rattle.cell_key.specs.Entries.{Entry, entry_of_key}
 use Rattle.cell_key.specs.declared.keys.CellKey.{CellKey}
+use Rattle.cell_key.specs.declared.keys.Qualifier.{Qualifier}
+use Rattle.cell_key.specs.declared.keys.Qualifier.TheVariants.{Data, Write}
+use Rattle.sorted_file.specs.LookupKey.{entry_number}
 use Rattle.sorted_file.specs.Newest.{at_stamp}
 use Rattle.sorted_file.specs.Numbers.{number_of, IsAmong, IsNumbered}
 use Rattle.sorted_file.proofs.Bounded.{one_text}
@@ -31,6 +34,11 @@ no_entry numbers key out es all s = none_here numbers (text (at_stamp key s)) (�
 pub numbered_on : (old new : List ℕ) → IsAmong old new → (es : List Entry) → AllByRecursion (IsNumbered old) es → AllByRecursion (IsNumbered new) es
 numbered_on old new keeps [] all = tt
 numbered_on old new keeps (e ∷ es) all = (keeps (number_of e.0) all.0, numbered_on old new keeps es all.1)
+
+-- but for a lock's, an entry is asked for by the number of its column
+pub of_column : (q : Qualifier) (name : List ℕ) → (q ≡ Data) ⊎ (q ≡ Write) → entry_number q name ≡ number_of name
+of_column q name (inl e) = ap (λ (k : Qualifier). entry_number k name) e
+of_column q name (inr e) = ap (λ (k : Qualifier). entry_number k name) e
 
 -- a number that isn't said to be there isn't
 pub absent : (numbers : List ℕ) (number other : ℕ) (has : Bool) → (Contains numbers number → IsTrue has) → has ≡ false → number ≡ other → ¬ (Contains numbers other)

@@ -27,8 +27,8 @@ column_bounds bounds Lock = bounds.lock
 column_bounds bounds Write = bounds.write
 
 -- the bounds of the first are within those of the second
-abbrev pub Covers : ColumnBounds → ColumnBounds → Type 0
-Covers old new =
+abbrev pub AreWithin : ColumnBounds → ColumnBounds → Type 0
+AreWithin old new =
     (q : Qualifier) (row : List ℕ) (stamp : ℕ) → IsWithin (column_bounds old q) row stamp
     → IsWithin (column_bounds new q) row stamp
 

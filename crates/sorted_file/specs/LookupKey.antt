@@ -2,10 +2,19 @@
 use Rattle.std.specs.Prelude.{◌≡◌, ℕ, List}
 use Rattle.cell_key.specs.Keys.{text, IsKey}
 use Rattle.cell_key.specs.declared.keys.CellKey.{CellKey}
-use Rattle.sorted_file.specs.Numbers.{number_of}
+use Rattle.cell_key.specs.declared.keys.Qualifier.{Qualifier}
+use Rattle.cell_key.specs.declared.keys.Qualifier.TheVariants.{Data, Lock, Write}
+use Rattle.sorted_file.specs.Numbers.{number_of, text_number}
 
--- the text of a key, and the number of its column; the key is within its limits
-pub record IsLookupKey (key : CellKey) (name : List ℕ) (column : ℕ) : Type 0 where
+-- by which number the entry at a text is asked for: of a lock's by its own, and of any other by its column's
+abbrev pub entry_number : Qualifier → List ℕ → ℕ
+entry_number Data name = number_of name
+entry_number Lock name = text_number name
+entry_number Write name = number_of name
+
+-- the text of a key, the number of its column, and that of its entry; the key is within its limits
+pub record IsLookupKey (key : CellKey) (name : List ℕ) (column entry : ℕ) : Type 0 where
   pub limits : IsKey key
   pub named : name ≡ text key
   pub numbered : column ≡ number_of (text key)
+  pub asked : entry ≡ entry_number key.qualifier (text key)

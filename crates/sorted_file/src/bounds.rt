@@ -11,7 +11,7 @@ ghost use Rattle.cell_key.specs.declared.keys.CellKey.{CellKey as KeyOf};
 ghost use Rattle.sorted_file.specs.Block.{first_value, IsParsed};
 ghost use Rattle.sorted_file.specs.Newest.{at_stamp};
 ghost use Rattle.sorted_file.specs.Index.{first_some, skips};
-ghost use Rattle.sorted_file.specs.Bounds.{front, IsWithin, column_bounds, Covers, IsBounded};
+ghost use Rattle.sorted_file.specs.Bounds.{front, IsWithin, column_bounds, AreWithin, IsBounded};
 
 use crate::block::Block;
 use crate::format::is_same;
@@ -164,7 +164,7 @@ impl ColumnBounds {
     fn with(self, qualifier: Qualifier, number: u64, stamp: Stamp) -> ColumnBounds
         ensures has { (row : List ℕ) → number ≡ front row
             → IsWithin (column_bounds result qualifier) row stamp }
-        ensures keeps { Covers self result }
+        ensures keeps { AreWithin self result }
     {
         let mut bounds = self;
         match qualifier {
@@ -177,8 +177,8 @@ impl ColumnBounds {
 
     /// Bounds of the values of both.
     pub(crate) fn joined(self, other: ColumnBounds) -> ColumnBounds
-        ensures first { Covers self result }
-        ensures second { Covers other result }
+        ensures first { AreWithin self result }
+        ensures second { AreWithin other result }
     {
         ColumnBounds {
             data: self.data.joined(other.data),
@@ -208,7 +208,7 @@ impl ColumnBounds {
     pub(crate) fn with_key(self, key: KeyRef<'_>) -> ColumnBounds
         requires { IsLentKey key }
         ensures has { (value : Option (List ℕ)) → IsBounded result (key.entry.text.now, value) }
-        ensures keeps { Covers self result }
+        ensures keeps { AreWithin self result }
     {
         self.with(key.qualifier, front_in(key.text), key.stamp)
     }

@@ -22,7 +22,7 @@ use crate::cursor::FileCursor;
 use crate::gathering::Columns;
 use crate::lock_stamps::LockStamps;
 use crate::lookup_key::LookupKey;
-use crate::numbers::{Numbers, text_number};
+use crate::numbers::Numbers;
 use crate::source::read_part;
 use cell_key::{CellKey, Qualifier, Refusal, Stamp};
 use file_store::Files;
@@ -43,7 +43,7 @@ pub struct SortedFile {
     skips: Vec<usize>,
     /// How many entries there are.
     count: u64,
-    bounds: ColumnBounds,
+    pub(crate) bounds: ColumnBounds,
     /// A number of each column that has an entry.
     pub(crate) numbers: Numbers,
     /// The stamps of the locks that have a value. Mostly there is none.
@@ -152,43 +152,43 @@ impl SortedFile {
 
     /// Whether the key's column may have a value at a stamp from `lo` up to the key's: of a lock's, whether there is one
     /// of its number, and of any other, whether the column may have an entry.
-    fn may_have_value(&self, key: &LookupKey<'_>, lo: Stamp) -> bool
+    fn may_have_value(&self, key: &LookupKey, lo: Stamp) -> bool
         ensures { result ≡ false → (s : ℕ) → lo ≤ s → s ≤ key.now.stamp
             → ¬ MayHaveIn self.now key.now.qualifier (number_of (text key.now)) s }
     {
         match key.key().qualifier {
             Qualifier::Lock => self
                 .locks
-                .latest(key.number(), lo, key.key().stamp)
+                .latest(key.column_number(), lo, key.key().stamp)
                 .is_some(),
-            Qualifier::Data | Qualifier::Write => self.numbers.has(key.number()),
+            Qualifier::Data | Qualifier::Write => self.numbers.has(key.column_number()),
         }
     }
 
     /// The greatest stamp, from `lo` up to that of the key, at which the file may have a value of the key's column, which
     /// is a lock's: one at which it has a lock of a column with the same number. Later it has none. Takes no memory and
     /// reads nothing.
-    pub fn latest_lock(&self, key: &LookupKey<'_>, lo: Stamp) -> Option<Stamp>
+    pub fn latest_lock(&self, key: &LookupKey, lo: Stamp) -> Option<Stamp>
         requires { key.now.qualifier ≡ Lock }
         ensures latest { IsLatest
             self.now.locks (number_of (text key.now)) lo key.now.stamp result }
         ensures none { (m : Contents) → IsOpen m self.now
             → HasNoneAfter (listed m self.now) key.now lo result }
     {
-        self.locks.latest(key.number(), lo, key.key().stamp)
+        self.locks.latest(key.column_number(), lo, key.key().stamp)
     }
 
     /// Whether the file may have an entry of a key, a value or an erasure: of a lock's, whether it may have one of this
     /// very key, and of any other, whether it may have one of the key's column. Takes no memory and reads nothing.
-    pub fn may_have_key(&self, key: &LookupKey<'_>) -> bool
+    pub fn may_have_key(&self, key: &LookupKey) -> bool
         requires from { 1 ≤ key.now.stamp }
         requires to { key.now.stamp < 2 ^ 63 }
         ensures none { result ≡ false → (m : Contents) → IsOpen m self.now
             → entry_of_key (listed m self.now) (text key.now) ≡ None }
     {
         match key.key().qualifier {
-            Qualifier::Lock => self.lock_keys.has(text_number(key.text())),
-            Qualifier::Data | Qualifier::Write => self.numbers.has(key.number()),
+            Qualifier::Lock => self.lock_keys.has(key.entry_number()),
+            Qualifier::Data | Qualifier::Write => self.numbers.has(key.entry_number()),
         }
     }
 
@@ -217,18 +217,18 @@ impl SortedFile {
         ensures same { F.contents files.new ≡ F.contents files.old }
         ensures reason { HasReason (F.faults files.old) (F.faults files.new) result }
     {
-        let key = LookupKey::new(self.alloc, key)?;
+        let key = LookupKey::new(self.alloc, key.clone()?)?;
         self.find(&key, files)
     }
 
-    /// What `lookup` answers of this key, whose text was made once, however many files are asked.
+    /// What `lookup` answers of this key. Its text was made once, however many files are asked.
     ///
     /// # Errors
     ///
     /// `Device`, `NoMemory`, and `Damaged` only if the file is no longer what was opened.
     pub fn find<F: Files>(
         &mut self,
-        key: &LookupKey<'_>,
+        key: &LookupKey,
         files: &mut F,
     ) -> Result<Option<Option<Vec<u8>>>, Refusal>
         ensures found { IfOk result (λ found. IfSome (F.contents files.old) (λ m. IsOpen m self.old
@@ -328,7 +328,7 @@ impl SortedFile {
     /// `Device`, `NoMemory`, and `Damaged` only if the file is no longer what was opened.
     pub fn newest_stamp<F: Files>(
         &mut self,
-        key: &LookupKey<'_>,
+        key: &LookupKey,
         lo: Stamp,
         files: &mut F,
     ) -> Result<Option<Stamp>, Refusal>

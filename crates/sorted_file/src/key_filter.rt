@@ -4,16 +4,17 @@ ghost use Rattle.std.specs.Prelude.{◌≡◌, ◌≤◌, ◌<◌, ◌^◌, ℕ,
 ghost use Rattle.cell_key.specs.Entries.{entry_of_key};
 ghost use Rattle.cell_key.specs.Keys.{text};
 ghost use Rattle.file_store.specs.Store.{Contents};
+ghost use Rattle.sorted_file.specs.Bounds.{HasNoValue};
 ghost use Rattle.sorted_file.specs.File.{IsOpen, listed};
 ghost use Rattle.sorted_file.specs.KeyFilters.{Covers};
 ghost use Rattle.sorted_file.specs.Newest.{IsNewestStamp};
 ghost use Rattle.sorted_file.specs.declared.file.SortedFile.{SortedFile as FileOf};
 
+use crate::bounds::ColumnBounds;
 use crate::file::SortedFile;
 use crate::filter::Filter;
 use crate::lookup_key::LookupKey;
-use crate::numbers::text_number;
-use cell_key::{Qualifier, Refusal};
+use cell_key::{Qualifier, Refusal, Stamp};
 use std::alloc::Global;
 
 /// For how many numbers of each kind a filter has room.
@@ -65,18 +66,20 @@ pub struct KeyFilter {
     locks: Filter,
     /// Of the numbers of the texts of locks' keys.
     lock_keys: Filter,
+    /// Of the values.
+    bounds: ColumnBounds,
 }
 
 impl KeyFilter {
-    /// A filter that covers every file, and says of each key that there may be an entry. Takes no memory.
-    pub fn all(alloc: Global) -> KeyFilter
-        ensures { (file : FileOf) → Covers result file }
-    {
+    /// A filter without room for a key: of each file that is added it says that there may be an entry of any key. Takes no
+    /// memory.
+    pub fn without_room(alloc: Global) -> KeyFilter {
         KeyFilter {
             alloc,
             numbers: Filter::all(alloc),
             locks: Filter::all(alloc),
             lock_keys: Filter::all(alloc),
+            bounds: ColumnBounds::NONE,
         }
     }
 
@@ -92,6 +95,7 @@ impl KeyFilter {
             numbers: Filter::with_room(alloc, room.numbers)?,
             locks: Filter::with_room(alloc, room.locks)?,
             lock_keys: Filter::with_room(alloc, room.lock_keys)?,
+            bounds: ColumnBounds::NONE,
         };
         for file in files {
             filter.add(file);
@@ -126,29 +130,39 @@ impl KeyFilter {
         file.numbers.add_to(&mut self.numbers);
         file.locks.add_to(&mut self.locks);
         file.lock_keys.add_to(&mut self.lock_keys);
+        self.bounds = self.bounds.joined(file.bounds);
+    }
+
+    /// Whether a file that the filter covers may have a value of a column of this kind at a stamp in `lo..=hi`. Takes no
+    /// memory.
+    pub fn may_have(&self, qualifier: Qualifier, lo: Stamp, hi: Stamp) -> bool
+        ensures { result ≡ false → (file : FileOf) → Covers self.now file → (m : Contents)
+            → IsOpen m file → HasNoValue qualifier lo hi (listed m file) }
+    {
+        self.bounds.meet(qualifier, lo, hi)
     }
 
     /// Whether a file that the filter covers may have a value of a key's column. Takes no memory.
-    pub fn may_have_value(&self, key: &LookupKey<'_>) -> bool
+    pub fn may_have_value(&self, key: &LookupKey) -> bool
         ensures { result ≡ false → (file : FileOf) → Covers self.now file → (m : Contents)
             → IsOpen m file → (lo : ℕ) → IsNewestStamp (listed m file) key.now lo None }
     {
         match key.key().qualifier {
-            Qualifier::Lock => self.locks.has(key.number()),
-            Qualifier::Data | Qualifier::Write => self.numbers.has(key.number()),
+            Qualifier::Lock => self.locks.has(key.column_number()),
+            Qualifier::Data | Qualifier::Write => self.numbers.has(key.column_number()),
         }
     }
 
     /// Whether a file that the filter covers may have an entry of a key, a value or an erasure. Takes no memory.
-    pub fn may_have_key(&self, key: &LookupKey<'_>) -> bool
+    pub fn may_have_key(&self, key: &LookupKey) -> bool
         requires from { 1 ≤ key.now.stamp }
         requires to { key.now.stamp < 2 ^ 63 }
         ensures none { result ≡ false → (file : FileOf) → Covers self.now file → (m : Contents)
             → IsOpen m file → entry_of_key (listed m file) (text key.now) ≡ None }
     {
         match key.key().qualifier {
-            Qualifier::Lock => self.lock_keys.has(text_number(key.text())),
-            Qualifier::Data | Qualifier::Write => self.numbers.has(key.number()),
+            Qualifier::Lock => self.lock_keys.has(key.entry_number()),
+            Qualifier::Data | Qualifier::Write => self.numbers.has(key.entry_number()),
         }
     }
 }

@@ -1,38 +1,53 @@
 //! A key that is looked up in files, with what each of them is asked by.
 
 ghost use Rattle.std.specs.Prelude.{◌≡◌, IfErr, IfOk};
+ghost use Rattle.sorted_file.specs.LookupKey.{entry_number};
+ghost use Rattle.sorted_file.specs.Numbers.{number_of};
 
-use crate::numbers::column_number;
-use cell_key::{CellKey, Qualifier, Refusal};
+use crate::numbers::{column_number, text_number};
+use cell_key::{CellKey, Qualifier, Refusal, Stamp, set_stamp};
 use std::alloc::Global;
 use std::marker::Model;
 
-/// A key that is looked up in files. Its text and the number of its column are made once, however many files are asked.
+/// A key that is looked up in files. Its text and its numbers are made once, however many files are asked.
 #[derive(Drop)]
-pub struct LookupKey<'k> {
-    key: &'k CellKey,
+pub struct LookupKey {
+    key: CellKey,
     text: Vec<u8>,
-    number: u64,
+    column: u64,
+    entry: u64,
 }
 
-impl<'k> Model for LookupKey<'k> {
+impl Model for LookupKey {
     ghost use Rattle.cell_key.specs.declared.keys.CellKey.{CellKey as KeyOf};
     ghost use Rattle.sorted_file.specs.LookupKey.{IsLookupKey};
 
     ghost Value = { KeyOf };
 
-    ghost view = { λ lookup. lookup.key.now };
+    ghost view = { λ lookup. lookup.key };
 
-    ghost invariant = { λ lookup. IsLookupKey lookup.key.now lookup.text.items lookup.number };
+    ghost invariant = { λ lookup.
+        IsLookupKey lookup.key lookup.text.items lookup.column lookup.entry };
 }
 
-impl<'k> LookupKey<'k> {
+/// The number by which the entry of a key with this text is asked for: of a lock's its own, and of any other its column's.
+fn entry_number(qualifier: Qualifier, text: &[u8], column: u64) -> u64
+    requires { column ≡ number_of text.now }
+    ensures { result ≡ entry_number qualifier text.now }
+{
+    match qualifier {
+        Qualifier::Lock => text_number(text),
+        Qualifier::Data | Qualifier::Write => column,
+    }
+}
+
+impl LookupKey {
     ghost use Rattle.cell_key.specs.Keys.{text, IsKey};
-    ghost use Rattle.sorted_file.specs.Numbers.{number_of};
+    ghost use Rattle.sorted_file.specs.Newest.{at_stamp};
 
     /// The lookup key of a key. Answers `NoMemory` if there is no memory.
-    pub fn new(alloc: Global, key: &'k CellKey) -> Result<LookupKey<'k>, Refusal>
-        ensures key { IfOk result (λ lookup. lookup ≡ key.now) }
+    pub fn new(alloc: Global, key: CellKey) -> Result<LookupKey, Refusal>
+        ensures key { IfOk result (λ lookup. lookup ≡ key) }
         ensures refusal { IfErr result (λ refusal. refusal ≡ Refusal.NoMemory) }
     {
         // These show that row, family and stamp are within their limits.
@@ -41,23 +56,31 @@ impl<'k> LookupKey<'k> {
         let _stamp = key.stamp;
         let mut text = Vec::new(alloc);
         key.encode(&mut text)?;
-        let number = column_number(&text);
-        Ok(LookupKey { key, text, number })
+        let column = column_number(&text);
+        let entry = entry_number(key.qualifier, &text, column);
+        Ok(LookupKey {
+            key,
+            text,
+            column,
+            entry,
+        })
+    }
+
+    /// Makes it that of the same column at another stamp. Takes no memory.
+    pub fn set_stamp(&mut self, stamp: Stamp)
+        ensures { self.new ≡ at_stamp self.old stamp }
+    {
+        self.key.stamp = stamp;
+        set_stamp(&mut self.text, stamp);
+        self.entry = entry_number(self.key.qualifier, &self.text, self.column);
     }
 
     /// The key.
-    pub(crate) fn key(&self) -> &CellKey
+    pub fn key(&self) -> &CellKey
         ensures key { result.now ≡ self.now }
         ensures limits { IsKey self.now }
     {
-        self.key
-    }
-
-    /// The qualifier of the key.
-    pub fn qualifier(&self) -> Qualifier
-        ensures { result ≡ self.now.qualifier }
-    {
-        self.key.qualifier
+        &self.key
     }
 
     /// The text of the key.
@@ -68,9 +91,16 @@ impl<'k> LookupKey<'k> {
     }
 
     /// The number of the key's column.
-    pub(crate) fn number(&self) -> u64
+    pub(crate) fn column_number(&self) -> u64
         ensures { result ≡ number_of (text self.now) }
     {
-        self.number
+        self.column
+    }
+
+    /// The number by which the entry of the key is asked for.
+    pub(crate) fn entry_number(&self) -> u64
+        ensures { result ≡ entry_number self.now.qualifier (text self.now) }
+    {
+        self.entry
     }
 }

@@ -1,5 +1,5 @@
 -- What the memtable alone tells of a column.
-use Rattle.std.proofs.Common.{◌≡◌, ◌≤◌, ◌<◌, ◌^◌, ℕ, Bool, true, cond, List, [], ◌∷◌, ◌++◌, ◌⊎◌, inl, inr, map, Option, Some, None, refl, sym, ap, subst, ◌∙◌, arith}
+use Rattle.std.proofs.Common.{◌≡◌, ◌≤◌, ◌<◌, ◌^◌, ℕ, Bool, true, cond, List, [], ◌∷◌, ◌⊎◌, inl, inr, map, Option, Some, None, refl, sym, ap, subst, ◌∙◌, arith}
 use Rattle.std.specs.List.{AllByRecursion}
 use Rattle.std.specs.Prelude.{IfSome, IsTrue, option_map}
 use Rattle.std.specs.Option.{option_or}
@@ -14,10 +14,9 @@ use Rattle.cell_key.specs.declared.keys.Qualifier.{Qualifier}
 use Rattle.cell_key.proofs.EntryLaws.{get-cells_of}
 use Rattle.file_store.specs.Store.{Contents}
 use Rattle.sorted_file.specs.File.{IsOpen, listed}
-use Rattle.sorted_file.specs.Bounds.{HasNoValue}
 use Rattle.sorted_file.specs.declared.file.SortedFile.{SortedFile}
 use Rattle.tablet.specs.Ranges.{has_row}
-use Rattle.tablet.specs.Reads.{IsAsked, IsLater}
+use Rattle.tablet.specs.Reads.{HaveNoValue, IsLater}
 use Rattle.tablet.specs.Views.{range_of, memory_of, files_of, lists_of, cells_at, Holds}
 use Rattle.tablet.specs.declared.tablet.Tablet.{Tablet}
 use Rattle.tablet.proofs.Lookups.{if_one}
@@ -26,19 +25,11 @@ use Rattle.tablet.proofs.LeftOut.{none_named, value_or}
 use Rattle.tablet.proofs.Passed.{over_any}
 use Rattle.tablet.proofs.Shown.{first_at, shown, stored_or_hidden, stored_or_none}
 
--- files that have no value of a column of this kind at these stamps
-abbrev pub HaveNone : Qualifier → ℕ → ℕ → List SortedFile → Type 0
-HaveNone q lo hi files = AllByRecursion (λ file. (m : Contents) → IsOpen m file → HasNoValue q lo hi (listed m file)) files
-
--- where none is asked, none has a value
-pub none_asked : (q : Qualifier) (lo hi : ℕ) (files asked : List SortedFile) → IsAsked q lo hi files asked → asked ≡ [] → HaveNone q lo hi files
-none_asked q lo hi files asked is e = subst (λ (xs : List SortedFile). HaveNone q lo hi xs) (sym (is.parts ∙ ap (λ (xs : List SortedFile). xs ++ is.rest) e)) is.none
-
 value_front : (x y : Option (Option (List ℕ))) (v : List ℕ) → value_of x ≡ Some v → value_of (or_else x y) ≡ Some v
 value_front None y v e = let no : None ≡ Some v = e in cc
 value_front (Some o) y v e = e
 
-no_values : (q : Qualifier) (lo hi : ℕ) (m : Contents) (files : List SortedFile) → AllByRecursion (IsOpen m) files → HaveNone q lo hi files → (key : CellKey) → IsStored key → key.qualifier ≡ q → lo ≤ key.stamp → key.stamp ≤ hi → AllByRecursion (λ es. value_of (entry_of_key es (text key)) ≡ None) (map (listed m) files)
+no_values : (q : Qualifier) (lo hi : ℕ) (m : Contents) (files : List SortedFile) → AllByRecursion (IsOpen m) files → HaveNoValue q lo hi files → (key : CellKey) → IsStored key → key.qualifier ≡ q → lo ≤ key.stamp → key.stamp ≤ hi → AllByRecursion (λ es. value_of (entry_of_key es (text key)) ≡ None) (map (listed m) files)
 no_values q lo hi m [] opened none key stored kind low high = tt
 no_values q lo hi m (file ∷ files) opened none key stored kind low high = (none.0 m opened.0 key stored kind low high, no_values q lo hi m files opened.1 none.1 key stored kind low high)
 
@@ -77,7 +68,7 @@ module _ (m : Contents) (t : Tablet) (held : Holds m t) (row family : List ℕ) 
         go (Some v) newest low = newest.3 s (omega (arith, low, a)) (omega (arith, b, high))
 
     -- nor has the tablet, where the files have no value there
-    pub none_in_all : (from ≤ to → HaveNone q from to (files_of t)) → IsNewest (cells_at m t) at from to None
+    pub none_in_all : (from ≤ to → HaveNoValue q from to (files_of t)) → IsNewest (cells_at m t) at from to None
     none_in_all none s a b = go (stored_or_hidden (range_of t) (lists_of m t) (held_lists m t held) (at s))
       where
         go : IsStored (at s) ⊎ (get (cells_at m t) (at s) ≡ None) → get (cells_at m t) (at s) ≡ None
@@ -121,7 +112,7 @@ module _ (o : Option Contents) (t : Tablet) (row family : List ℕ) (q : Qualifi
   abbrev Answered : Option (ℕ × List ℕ) → Type 0
   Answered answer = IfSome o (λ m. Holds m t → IsTrue (has_row (range_of t) row) → IsNewest (cells_at m t) (version row family q) lo hi answer)
 
-  pub by_memory : {Z : Type 0} (in_memory : Option (ℕ × Vec ℕ Z)) → option_map stamped in_memory ≡ found → (from ≤ to → HaveNone q from to (files_of t)) → Answered (option_map stamped in_memory)
+  pub by_memory : {Z : Type 0} (in_memory : Option (ℕ × Vec ℕ Z)) → option_map stamped in_memory ≡ found → (from ≤ to → HaveNoValue q from to (files_of t)) → Answered (option_map stamped in_memory)
   by_memory in_memory copy none =
       over_any o _ (λ m held has.
       subst (λ (f : Option (ℕ × List ℕ)). IsNewest (cells_at m t) (version row family q) lo hi f) (sym copy)

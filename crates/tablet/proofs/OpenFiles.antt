@@ -10,12 +10,14 @@ use Rattle.cell_key.specs.Keys.{text}
 use Rattle.cell_key.specs.Entries.{entry_of_key, first_naming, or_else}
 use Rattle.cell_key.specs.declared.keys.CellKey.{CellKey}
 use Rattle.file_store.specs.Store.{Contents}
+use Rattle.cell_key.specs.declared.keys.Qualifier.{Qualifier}
+use Rattle.sorted_file.specs.Bounds.{HasNoValue}
 use Rattle.sorted_file.specs.File.{IsOpen, IsSameFile, listed}
 use Rattle.sorted_file.specs.KeyFilters.{Covers, StaysCovered}
 use Rattle.sorted_file.specs.Newest.{IsNewestStamp, at_stamp}
 use Rattle.sorted_file.specs.declared.file.SortedFile.{SortedFile}
 use Rattle.sorted_file.specs.declared.key_filter.KeyFilter.{KeyFilter}
-use Rattle.tablet.specs.Reads.{HasNoLater}
+use Rattle.tablet.specs.Reads.{HasNoLater, HaveNoValue}
 use Rattle.tablet.proofs.LeftOut.{value_or}
 
 -- files that are what they were are still covered
@@ -37,6 +39,13 @@ covered_after stays o filter files lent now is size same all =
 pub covered_more : (old new : KeyFilter) (count : ℕ) (file : SortedFile) (xs : List SortedFile) → Covers new file → ((other : SortedFile) → Covers old other → Covers new other) → All (Covers old) xs → All (Covers new) (file ∷ drop count xs)
 covered_more old new count file xs covers keeps all =
     All-cons (Covers new) file (drop count xs) covers (All-drop (Covers new) count xs (All-weaker (Covers old) (Covers new) keeps xs all))
+
+-- no covered file has a value that the filter says none has
+pub none_valued : (filter : KeyFilter) (q : Qualifier) (lo hi : ℕ) → ((file : SortedFile) → Covers filter file → (m : Contents) → IsOpen m file → HasNoValue q lo hi (listed m file))
+    → (xs : List SortedFile) → All (Covers filter) xs → HaveNoValue q lo hi xs
+none_valued filter q lo hi none [] all = tt
+none_valued filter q lo hi none (x ∷ xs) all =
+    (none x (All-head (Covers filter) x xs all), none_valued filter q lo hi none xs (All-tail (Covers filter) x xs all))
 
 module _ (m : Contents) (filter : KeyFilter) where
   -- no file has what the filter says that none has

@@ -1,5 +1,5 @@
 -- What a read finds.
-use Rattle.std.specs.Prelude.{◌≡◌, ℕ, ◌≤◌, ◌<◌, length, List, [], ◌∷◌, ◌++◌, Option, Some, None, if◌then◌else◌}
+use Rattle.std.specs.Prelude.{◌≡◌, ℕ, ◌≤◌, ◌<◌, length, List, [], ◌∷◌, Option, Some, None, if◌then◌else◌}
 use Rattle.std.specs.List.{AllByRecursion}
 use Rattle.std.specs.Ordering.{is_le}
 use Rattle.cell_key.specs.Names.{IsRow, IsFamily}
@@ -45,14 +45,11 @@ abbrev pub NamesPlace : Option (List ℕ × List ℕ) → Option Place → Type 
 NamesPlace found None = found ≡ None
 NamesPlace found (Some place) = IsOfPlace found place
 
--- Of some files, the newest first, these come first, and those after them have no value of a column
--- of this kind at these stamps.
-pub record IsAsked (qualifier : Qualifier) (lo hi : ℕ)
-    (files asked : List SortedFile) : Type 0 where
-  pub rest : List SortedFile
-  pub parts : files ≡ asked ++ rest
-  pub none : AllByRecursion
-      (λ file. (m : Contents) → IsOpen m file → HasNoValue qualifier lo hi (listed m file)) rest
+-- files have no value of a column of this kind at these stamps
+abbrev pub HaveNoValue : Qualifier → ℕ → ℕ → List SortedFile → Type 0
+HaveNoValue qualifier lo hi files =
+    AllByRecursion
+    (λ file. (m : Contents) → IsOpen m file → HasNoValue qualifier lo hi (listed m file)) files
 
 -- a stamp that comes after that of a version, or from the least one on if there is none
 abbrev pub IsLater : ℕ → ℕ → Option (ℕ × List ℕ) → Type 0

@@ -3,18 +3,18 @@
 ghost use Rattle.std.specs.Prelude.{◌≡◌, ℕ, ◌⊎◌, ◌≤◌, ◌<◌, ◌^◌, ◌∷◌, option_map, map, length, IfOk, IfErr, IfSome, IsErrOf};
 ghost use Rattle.std.specs.Option.{option_copied};
 ghost use Rattle.std.specs.List.{AllByRecursion, AllZip};
-ghost use Rattle.cell_key.specs.Cells.{version};
 ghost use Rattle.cell_key.specs.Entries.{entry_of_key, first_naming, value_of};
 ghost use Rattle.cell_key.specs.Faults.{HasReason};
 ghost use Rattle.cell_key.specs.Keys.{text};
-ghost use Rattle.cell_key.specs.Names.{IsRow, IsFamily};
+ghost use Rattle.cell_key.specs.declared.keys.Qualifier.TheVariants.{Lock};
+ghost use Rattle.file_store.specs.Store.{Contents};
 ghost use Rattle.sorted_file.specs.File.{IsOpen, IsSameFile, IsShortValue, listed, value_bytes};
 ghost use Rattle.sorted_file.specs.Source.{IsReadRefusal};
 ghost use Rattle.sorted_file.specs.Newest.{HasNoneAfter, IsAfterStamp};
-ghost use Rattle.tablet.specs.Reads.{HasNoLater, IsAsked, IsValue};
+ghost use Rattle.tablet.specs.Reads.{HasNoLater, IsValue};
 
 use crate::open_files::OpenFiles;
-use cell_key::{CellKey, Family, Qualifier, Refusal, Row, Stamp};
+use cell_key::{Qualifier, Refusal, Stamp};
 use file_store::Files;
 use memtable::Memtable;
 use sorted_file::{LookupKey, SortedFile};
@@ -44,26 +44,6 @@ pub(crate) fn copy_value(alloc: Global, value: Option<&[u8]>) -> Result<Option<V
     Ok(Some(copy))
 }
 
-/// The newest of some files, up to the oldest one that may have a value of a column of this kind at a stamp in
-/// `lo..=hi`. What is older hides nothing, so those after it needn't be asked.
-pub(crate) fn asked(
-    files: &[SortedFile],
-    qualifier: Qualifier,
-    lo: Stamp,
-    hi: Stamp,
-) -> &[SortedFile]
-    ensures { IsAsked qualifier lo hi files.now result.now }
-{
-    let mut asked = files;
-    'newer: while let Some((oldest, newer)) = asked.split_last() {
-        if oldest.may_have(qualifier, lo, hi) {
-            return asked;
-        }
-        asked = newer;
-    }
-    asked
-}
-
 /// The first stamp after one that was found, or `lo` if none was.
 pub(crate) fn first_after(found: Option<Stamp>, lo: Stamp) -> Stamp
     requires { IfSome found (λ stamp. stamp < 2 ^ 63) }
@@ -76,11 +56,25 @@ pub(crate) fn first_after(found: Option<Stamp>, lo: Stamp) -> Stamp
     }
 }
 
+/// The greatest stamp, from `lo` up to that of the key, at which a file may have a value of the key's column, which is a
+/// lock's: later it has none. The stamps of its locks aren't searched if all of them are outside this range.
+fn latest_lock_in(file: &SortedFile, key: &LookupKey, lo: Stamp) -> Option<Stamp>
+    requires { key.now.qualifier ≡ Lock }
+    ensures none { (m : Contents) → IsOpen m file.now
+        → HasNoneAfter (listed m file.now) key.now lo result }
+    ensures within { IfSome result (λ stamp. (lo ≤ stamp) × (stamp ≤ key.now.stamp)) }
+{
+    if !file.may_have(Qualifier::Lock, lo, key.key().stamp) {
+        return None;
+    }
+    file.latest_lock(key, lo)
+}
+
 /// The greatest stamp, from `lo` up to that of the key, at which a file may have a value of the key's column: later it has
 /// none. Of a lock the file says so without a read. The file stays what it was.
 fn newest_in_file<F: Files>(
     file: &mut SortedFile,
-    key: &LookupKey<'_>,
+    key: &LookupKey,
     lo: Stamp,
     store: &mut F,
 ) -> Result<Option<Stamp>, Refusal>
@@ -95,8 +89,8 @@ fn newest_in_file<F: Files>(
     ensures same { F.contents store.new ≡ F.contents store.old }
     ensures reason { HasReason (F.faults store.old) (F.faults store.new) result }
 {
-    match key.qualifier() {
-        Qualifier::Lock => Ok(file.latest_lock(key, lo)),
+    match key.key().qualifier {
+        Qualifier::Lock => Ok(latest_lock_in(file, key, lo)),
         Qualifier::Data | Qualifier::Write => file.newest_stamp(key, lo, store),
     }
 }
@@ -105,7 +99,7 @@ fn newest_in_file<F: Files>(
 /// column: later none has one. The files stay what they were.
 pub(crate) fn newest_stamp<F: Files>(
     files: &mut [SortedFile],
-    key: &LookupKey<'_>,
+    key: &LookupKey,
     lo: Stamp,
     store: &mut F,
 ) -> Result<Option<Stamp>, Refusal>
@@ -134,7 +128,7 @@ pub(crate) fn newest_stamp<F: Files>(
 /// What a file has of a key. No block is read if the file says that it has none. The file stays what it was.
 fn find_in_file<F: Files>(
     file: &mut SortedFile,
-    key: &LookupKey<'_>,
+    key: &LookupKey,
     store: &mut F,
 ) -> Result<Option<Option<Vec<u8>>>, Refusal>
     requires from { 1 ≤ key.now.stamp }
@@ -158,7 +152,7 @@ fn find_in_file<F: Files>(
 /// What the first of some files that names a key has of it. The files stay what they were.
 pub(crate) fn find_in_files<F: Files>(
     files: &mut [SortedFile],
-    key: &LookupKey<'_>,
+    key: &LookupKey,
     store: &mut F,
 ) -> Result<Option<Option<Vec<u8>>>, Refusal>
     requires from { 1 ≤ key.now.stamp }
@@ -188,7 +182,7 @@ pub(crate) fn lookup<F: Files>(
     alloc: Global,
     memtable: &Memtable,
     files: &mut OpenFiles,
-    key: &CellKey,
+    key: &LookupKey,
     store: &mut F,
 ) -> Result<Option<Vec<u8>>, Refusal>
     requires from { 1 ≤ key.now.stamp }
@@ -205,7 +199,7 @@ pub(crate) fn lookup<F: Files>(
     ensures same { F.contents store.new ≡ F.contents store.old }
     ensures reason { HasReason (F.faults store.old) (F.faults store.new) result }
 {
-    if let Some(newest) = memtable.lookup(key) {
+    if let Some(newest) = memtable.lookup(key.key()) {
         return copy_value(alloc, newest.value);
     }
     match files.find(key, store)? {

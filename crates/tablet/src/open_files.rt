@@ -1,6 +1,6 @@
 //! The open files of a tablet, with a filter of their keys.
 
-ghost use Rattle.std.specs.Prelude.{◌≡◌, ◌≤◌, ◌<◌, ◌^◌, ◌∷◌, [], Option, option_map, map, drop, length, vec_len, IfOk, IfErr, IfSome, IsErrOf, OnOk, OnErr};
+ghost use Rattle.std.specs.Prelude.{◌≡◌, ◌≤◌, ◌<◌, ◌^◌, ◌∷◌, [], false, Option, option_map, map, drop, length, vec_len, IfOk, IfErr, IfSome, IsErrOf, OnOk, OnErr};
 ghost use Rattle.std.specs.List.{AllByRecursion, AllZip};
 ghost use Rattle.cell_key.specs.Entries.{first_naming};
 ghost use Rattle.cell_key.specs.Faults.{HasReason};
@@ -8,10 +8,10 @@ ghost use Rattle.cell_key.specs.Keys.{text};
 ghost use Rattle.file_store.specs.Store.{Contents};
 ghost use Rattle.sorted_file.specs.File.{IsOpen, IsSameFile, IsShortValue, listed, value_bytes};
 ghost use Rattle.sorted_file.specs.Source.{IsReadRefusal};
-ghost use Rattle.tablet.specs.Reads.{HasNoLater};
+ghost use Rattle.tablet.specs.Reads.{HasNoLater, HaveNoValue};
 
 use crate::lookup::{find_in_files, newest_stamp};
-use cell_key::{CellKey, Refusal, Stamp};
+use cell_key::{Qualifier, Refusal, Stamp};
 use file_store::Files;
 use sorted_file::{KeyFilter, LookupKey, SortedFile, stays_covered};
 use std::alloc::Global;
@@ -77,7 +77,7 @@ impl OpenFiles {
         OpenFiles {
             alloc,
             files: Vec::new(alloc),
-            filter: KeyFilter::all(alloc),
+            filter: KeyFilter::without_room(alloc),
         }
     }
 
@@ -106,6 +106,14 @@ impl OpenFiles {
         ensures { result ≡ length self.now }
     {
         self.files.len()
+    }
+
+    /// Whether a file may have a value of a column of this kind at a stamp in `lo..=hi`. Takes no memory and reads no
+    /// file.
+    pub(crate) fn may_have(&self, qualifier: Qualifier, lo: Stamp, hi: Stamp) -> bool
+        ensures { result ≡ false → HaveNoValue qualifier lo hi self.now }
+    {
+        self.filter.may_have(qualifier, lo, hi)
     }
 
     /// Makes room for a file more, of so many entries at most. Answers `NoMemory` if there is no memory. The files stay,
@@ -140,7 +148,7 @@ impl OpenFiles {
     /// column: later none has one. No file is asked if the filter says that none has one. The files stay what they were.
     pub(crate) fn newest_stamp<F: Files>(
         &mut self,
-        key: &LookupKey<'_>,
+        key: &LookupKey,
         lo: Stamp,
         store: &mut F,
     ) -> Result<Option<Stamp>, Refusal>
@@ -164,11 +172,11 @@ impl OpenFiles {
         newest_stamp(&mut self.files, key, lo, store)
     }
 
-    /// What the first of the files that names a key has of it. The key's text is made once, and no file is asked if the
-    /// filter says that none names the key. The files stay what they were.
+    /// What the first of the files that names a key has of it. No file is asked if the filter says that none names the
+    /// key. The files stay what they were.
     pub(crate) fn find<F: Files>(
         &mut self,
-        key: &CellKey,
+        key: &LookupKey,
         store: &mut F,
     ) -> Result<Option<Option<Vec<u8>>>, Refusal>
         requires from { 1 ≤ key.now.stamp }
@@ -185,11 +193,10 @@ impl OpenFiles {
         ensures reason { HasReason (F.faults store.old) (F.faults store.new) result }
     {
         stays_covered();
-        let key = LookupKey::new(self.alloc, key)?;
-        if !self.filter.may_have_key(&key) {
+        if !self.filter.may_have_key(key) {
             return Ok(None);
         }
-        find_in_files(&mut self.files, &key, store)
+        find_in_files(&mut self.files, key, store)
     }
 
     /// Empties the caches of the files. The files stay what they were. Takes no memory.

@@ -8,14 +8,15 @@ ghost use Rattle.cell_key.specs.Places.{AreNextCells, IsNextCell, place_named};
 ghost use Rattle.cell_key.specs.Versions.{IsVersion, IsVersionIn, stamped};
 ghost use Rattle.memtable.specs.Slots.{lent_version};
 ghost use Rattle.sorted_file.specs.File.{listed};
+ghost use Rattle.sorted_file.specs.Newest.{at_stamp};
 ghost use Rattle.sorted_file.specs.Source.{IsReadRefusal};
 ghost use Rattle.std.specs.Bool.{OnFalse};
 ghost use Rattle.tablet.specs.Batches.{AreNextVersions, IsFull};
 ghost use Rattle.tablet.specs.Ranges.{has_row};
-ghost use Rattle.tablet.specs.Reads.{HasNoLater, IsAsked, IsLater};
+ghost use Rattle.tablet.specs.Reads.{HasNoLater, HaveNoValue, IsLater};
 
 use crate::batches::{BatchLimits, VersionBatch};
-use crate::lookup::{asked, lookup};
+use crate::lookup::lookup;
 use crate::scan::{later, merged_places, merged_versions, past_place};
 use crate::sources::fences;
 use crate::tablet::Tablet;
@@ -61,30 +62,27 @@ impl Tablet {
     /// Whether a file may have a value of a column of this kind at a stamp in `lo..=hi`. Takes no memory and reads no
     /// file.
     fn may_be_in_files(&self, qualifier: Qualifier, lo: Stamp, hi: Stamp) -> bool
-        ensures { result ≡ false → lo ≤ hi → IsAsked qualifier lo hi (files_of self.now) [] }
+        ensures { result ≡ false → lo ≤ hi → HaveNoValue qualifier lo hi (files_of self.now) }
     {
-        lo <= hi && !asked(self.files.as_slice(), qualifier, lo, hi).is_empty()
+        lo <= hi && self.files.may_have(qualifier, lo, hi)
     }
 
     /// The value of a version, if the tablet has it, by lookups. No file is asked if the memtable names the version, or
     /// the filter of the files' keys says that none of them does.
     fn version_at<F: Files>(
         &mut self,
-        row: &Row,
-        family: &Family,
-        qualifier: Qualifier,
-        stamp: Stamp,
+        key: &LookupKey,
         files: &mut F,
     ) -> Result<Option<(Stamp, Vec<u8>)>, Refusal>
-        requires from { 1 ≤ stamp }
-        requires to { stamp < 2 ^ 63 }
+        requires from { 1 ≤ key.now.stamp }
+        requires to { key.now.stamp < 2 ^ 63 }
         ensures found { IfOk result (λ found.
             IfSome (F.contents files.old) (λ m. Holds m self.old
-            → IsTrue (has_row (range_of self.old) row.now)
-            → IsNewest (cells_at m self.old) (version row.now family.now qualifier) stamp stamp
+            → IsTrue (has_row (range_of self.old) key.now.row)
+            → IsNewest (cells_at m self.old) (at_stamp key.now) key.now.stamp key.now.stamp
             (option_map stamped found))) }
         ensures limits { IfOk result (λ found.
-            IfSome (option_map stamped found) (IsVersionIn stamp stamp)) }
+            IfSome (option_map stamped found) (IsVersionIn key.now.stamp key.now.stamp)) }
         ensures stays { IsSameTablet (F.contents files.old) self.old self.new }
         ensures damaged { IsErrOf result Refusal.Damaged
             → IfSome (F.contents files.old) (λ m. ¬ Holds m self.old) }
@@ -92,8 +90,8 @@ impl Tablet {
         ensures same { F.contents files.new ≡ F.contents files.old }
         ensures reason { HasReason (F.faults files.old) (F.faults files.new) result }
     {
-        let key = CellKey::new(row, family, qualifier, stamp)?;
-        match lookup(self.alloc, &self.memtable, &mut self.files, &key, files)? {
+        let stamp = key.key().stamp;
+        match lookup(self.alloc, &self.memtable, &mut self.files, key, files)? {
             Some(value) => Ok(Some((stamp, value))),
             None => Ok(None),
         }
@@ -127,38 +125,34 @@ impl Tablet {
         ensures same { F.contents files.new ≡ F.contents files.old }
         ensures reason { HasReason (F.faults files.old) (F.faults files.new) result }
     {
+        let last = CellKey::new(row, family, qualifier, hi)?;
+        let mut key = LookupKey::new(self.alloc, last)?;
         if lo == hi {
-            return self.version_at(row, family, qualifier, hi, files);
+            return self.version_at(&key, files);
         }
-        let mut to = hi;
-        'hidden: while let Some(stamp) = self.newest_file_stamp(
-            row, family, qualifier, lo, to, files,
-        )? {
-            if let Some(found) = self.version_at(row, family, qualifier, stamp, files)? {
+        'hidden: while let Some(stamp) = self.newest_file_stamp(&key, lo, files)? {
+            key.set_stamp(stamp);
+            if let Some(found) = self.version_at(&key, files)? {
                 return Ok(Some(found));
             }
-            to = stamp - 1;
+            key.set_stamp(stamp - 1);
         }
         Ok(None)
     }
 
-    /// The greatest stamp in `lo..=hi` at which a file may have a value of a cell's column: later none has one. No file
-    /// is asked if the filter of their keys says that none has one.
+    /// The greatest stamp, from `lo` up to that of the key, at which a file may have a value of the key's column: later
+    /// none has one. No file is asked if the filter of their keys says that none has one.
     fn newest_file_stamp<F: Files>(
         &mut self,
-        row: &Row,
-        family: &Family,
-        qualifier: Qualifier,
+        key: &LookupKey,
         lo: Stamp,
-        hi: Stamp,
         files: &mut F,
     ) -> Result<Option<Stamp>, Refusal>
-        requires { hi < 2 ^ 63 }
+        requires { key.now.stamp < 2 ^ 63 }
         ensures found { IfOk result (λ found. IfSome (F.contents files.old) (λ m. Holds m self.old
-            → HasNoLater (version row.now family.now qualifier hi) lo found
-            (map (listed m) (files_of self.old)))) }
+            → HasNoLater key.now lo found (map (listed m) (files_of self.old)))) }
         ensures within { IfOk result (λ found.
-            IfSome found (λ stamp. (lo ≤ stamp) × (stamp ≤ hi))) }
+            IfSome found (λ stamp. (lo ≤ stamp) × (stamp ≤ key.now.stamp))) }
         ensures stays { IsSameTablet (F.contents files.old) self.old self.new }
         ensures damaged { IsErrOf result Refusal.Damaged → IfSome (F.contents files.old)
             (λ m. ¬ Holds m self.old) }
@@ -166,9 +160,7 @@ impl Tablet {
         ensures same { F.contents files.new ≡ F.contents files.old }
         ensures reason { HasReason (F.faults files.old) (F.faults files.new) result }
     {
-        let last = CellKey::new(row, family, qualifier, hi)?;
-        let key = LookupKey::new(self.alloc, &last)?;
-        self.files.newest_stamp(&key, lo, files)
+        self.files.newest_stamp(key, lo, files)
     }
 
     /// The version of a cell's column with the greatest stamp in `lo..=hi` (Bigtable, timestamps), or

@@ -378,7 +378,7 @@ fn lock_tests_read_what_is_locked(rt: HostRuntime) -> Result<(), Fail> {
             qualifier: Qualifier::Lock,
             stamp: 9,
         };
-        let key = LookupKey::new(rt.alloc(), &key)?;
+        let key = LookupKey::new(rt.alloc(), key)?;
         file.drop_cache();
         files.reads.clear();
         assert!(rt; filter.may_have_value(&key) == stamp.is_some());

@@ -9,7 +9,7 @@ use Rattle.tablet.proofs.Passed.{IsHeldRefusal, err_kind, err_map, held_read, he
 use Rattle.tablet.proofs.lookup.lookup.Goals as goal
 
 pub returns-in-Some-clause-damaged : goal.returns-in-Some-clause-damaged
-returns-in-Some-clause-damaged g c = λ e. absurd (long_of_none c.args.memtable.now c.lookup.ensures.list (text c.args.key.now) (option_copied c.in-Some.newest.value) (rw c.in-Some.is at c.lookup.ensures.found) (c.copy_value.ensures.damaged e))
+returns-in-Some-clause-damaged g c = λ e. absurd (long_of_none c.args.memtable.now c.lookup.ensures.list (text c.key.result.now) (option_copied c.in-Some.newest.value) (rw c.in-Some.is at c.lookup.ensures.found) (c.copy_value.ensures.damaged e))
 
 pub returns-in-Some-clause-short : goal.returns-in-Some-clause-short
 returns-in-Some-clause-short g c = c.copy_value.ensures.short

@@ -20,7 +20,7 @@ after_newest None file key lo found newest = tt
 after_newest (Some m) file key lo found newest = λ opened. none_after (listed m file) key lo found (newest opened)
 
 pub returns-in-Lock-clause-none : goal.returns-in-Lock-clause-none
-returns-in-Lock-clause-none g c = over_all (g.F.Files.contents c.args.store.now) (λ m. IsOpen m c.args.file.now → HasNoneAfter (listed m c.args.file.now) c.args.key.now c.args.lo c.latest_lock.result) c.latest_lock.ensures.none
+returns-in-Lock-clause-none g c = over_all (g.F.Files.contents c.args.store.now) (λ m. IsOpen m c.args.file.now → HasNoneAfter (listed m c.args.file.now) c.args.key.now c.args.lo c.latest_lock_in.result) c.latest_lock_in.ensures.none
 
 pub returns-in-Data : goal.returns-in-Data
 returns-in-Data g c = record {

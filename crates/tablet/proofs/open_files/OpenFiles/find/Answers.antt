@@ -1,17 +1,11 @@
-use Rattle.std.proofs.Common.{map, sym, ap, ◌∙◌}
+use Rattle.std.proofs.Common.{sym}
 use Rattle.std.proofs.lemmas.List.Elements.{All-same}
 use Rattle.cell_key.specs.Keys.{text}
-use Rattle.cell_key.specs.Entries.{first_naming}
-use Rattle.cell_key.specs.declared.keys.CellKey.{CellKey}
-use Rattle.sorted_file.specs.File.{listed}
 use Rattle.sorted_file.specs.KeyFilters.{Covers}
 use Rattle.tablet.proofs.OpenFiles.{covered_after, none_named}
 use Rattle.tablet.proofs.Passed.{over_any}
 use Rattle.tablet.proofs.SameFiles.{same_files}
 use Rattle.tablet.proofs.open_files.OpenFiles.find.Goals as goal
-
-pub returns-in_err-key-clause-stay : goal.returns-in_err-key-clause-stay
-returns-in_err-key-clause-stay g c = same_files (g.F.Files.contents c.args.store.now) c.args.self.now
 
 pub returns-then-not-may_have_key-clause-found : goal.returns-then-not-may_have_key-clause-found
 returns-then-not-may_have_key-clause-found g c =
@@ -19,8 +13,7 @@ returns-then-not-may_have_key-clause-found g c =
     let files = c.args.self.now in
     let all = All-same (Covers filter) files _ (sym c.self.view_is) c.self.invariant in
     over_any (g.F.Files.contents c.args.store.now) _ (λ m each.
-    none_named m filter (text c.in_ok-key.key) (c.may_have_key.ensures.none c.if-not-may_have_key.true) files all each
-    ∙ ap (λ (key : CellKey). first_naming (map (listed m) files) (text key)) c.in_ok-key.ensures.key)
+    none_named m filter (text c.args.key.now) (c.may_have_key.ensures.none c.if-not-may_have_key.true) files all each)
 
 pub returns-then-not-may_have_key-clause-stay : goal.returns-then-not-may_have_key-clause-stay
 returns-then-not-may_have_key-clause-stay g c = same_files (g.F.Files.contents c.args.store.now) c.args.self.now

@@ -1,12 +1,12 @@
-use Rattle.std.proofs.Common.{◌<◌, ◌≤◌, ◌^◌, ℕ, [], option_map, refl, sym, subst, arith}
+use Rattle.std.proofs.Common.{◌<◌, ◌≤◌, ◌^◌, ℕ, option_map, sym, subst, arith}
 use Rattle.std.specs.Prelude.{IfSome, IsTrue}
 use Rattle.cell_key.specs.Cells.{IsNewest, version}
 use Rattle.cell_key.specs.Versions.{stamped}
 use Rattle.memtable.specs.Slots.{lent_version}
 use Rattle.tablet.specs.Reads.{IsLater}
 use Rattle.tablet.specs.Ranges.{has_row}
-use Rattle.tablet.specs.Views.{range_of, files_of, cells_at, Holds}
-use Rattle.tablet.proofs.InMemory.{HaveNone, by_files, by_memory, later_still, none_asked}
+use Rattle.tablet.specs.Views.{range_of, cells_at, Holds}
+use Rattle.tablet.proofs.InMemory.{by_files, by_memory, later_still}
 use Rattle.tablet.proofs.tablet.Tablet.newest.Goals as goal
 
 pub returns-then-not-may_be_in_files-clause-found : goal.returns-then-not-may_be_in_files-clause-found
@@ -17,8 +17,7 @@ returns-then-not-may_be_in_files-clause-found g c =
     let after = later_still c.stamp_after.result c.max-from.result c.args.lo found (omega arith) c.stamp_after.ensures.after in
     let first : (s : ℕ) → 1 ≤ s → IsLater s c.args.lo found → c.max-from.result ≤ s = λ s one later. (let least = c.stamp_after.ensures.first s later in omega (arith, least, one)) in
     let last : (s : ℕ) → s < 2 ^ 63 → s ≤ c.args.hi → s ≤ c.min-to.result = λ s small high. omega (arith, small, high) in
-    let none : c.max-from.result ≤ c.min-to.result → HaveNone c.args.qualifier c.max-from.result c.min-to.result (files_of c.args.self.now) = λ within.
-    none_asked c.args.qualifier c.max-from.result c.min-to.result (files_of c.args.self.now) [] (c.may_be_in_files.ensures c.if-not-may_be_in_files.true within) refl in
+    let none = c.may_be_in_files.ensures c.if-not-may_be_in_files.true in
     by_memory (g.F.Files.contents c.args.files.now) c.args.self.now c.args.row.now c.args.family.now c.args.qualifier c.args.lo c.args.hi found c.newest-found.ensures.found
     c.max-from.result c.min-to.result after first (omega arith) last c.in_ok-in_memory.in_memory c.in_ok-in_memory.ensures.copy none
 
