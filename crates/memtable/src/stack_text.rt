@@ -1,13 +1,14 @@
 //! Texts of keys on the stack, so that a search takes no memory.
 
 ghost use Rattle.std.specs.Prelude.{◌≡◌, ◌<◌, ◌≤◌, ◌++◌, [], length, OnErr, OnOk};
-ghost use Rattle.cell_key.specs.Keys.{text};
+ghost use Rattle.cell_key.specs.Keys.{qualifier_name, text};
 ghost use Rattle.cell_key.specs.Texts.{escaped, ended};
 ghost use Rattle.memtable.specs.Order.{key_of};
 
 use crate::sought::Version;
 use arrayvec::{ArrayVec, CapacityError};
 use byteorder::{BigEndian, ByteOrder};
+use cell_key::Qualifier;
 
 /// Room for a short text.
 pub(crate) type ShortBytes = ArrayVec<u8, 96>;
@@ -96,6 +97,23 @@ fn push_ended<const CAP: usize>(
     out.try_extend_from_slice(b"\0\0")
 }
 
+/// Appends a qualifier's name and its end, of which the length is known. Fails if there is no room.
+fn push_name<const CAP: usize>(
+    out: &mut ArrayVec<u8, CAP>,
+    qualifier: Qualifier,
+) -> Result<(), CapacityError>
+    ensures ok { OnOk result (out.new.items
+        ≡ out.old.items ++ ended (qualifier_name qualifier)) }
+    ensures full { OnErr result
+        (CAP < length (out.old.items ++ ended (qualifier_name qualifier))) }
+{
+    match qualifier {
+        Qualifier::Data => out.try_extend_from_slice(b"data\0\0"),
+        Qualifier::Lock => out.try_extend_from_slice(b"lock\0\0"),
+        Qualifier::Write => out.try_extend_from_slice(b"write\0\0"),
+    }
+}
+
 impl Version<'_> {
     /// Appends the text. Fails if there is no room.
     pub(crate) fn push_text<const CAP: usize>(
@@ -111,7 +129,7 @@ impl Version<'_> {
         push_escaped(out, self.row.as_bytes())?;
         out.try_extend_from_slice(b"\0\0")?;
         push_ended(out, self.family.as_bytes())?;
-        push_ended(out, self.qualifier.name().as_bytes())?;
+        push_name(out, self.qualifier)?;
         out.try_extend_from_slice(falling.as_slice())
     }
 
